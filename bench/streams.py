@@ -6,6 +6,11 @@ import sys
 
 SYNC = b"\xaa\x99\x55\x66"
 WORDS = 13_893_632
+# A part of one row: so many columns of so many frames each, of 101 words.
+COLUMNS, MINORS, WIDTH = 1024, 64, 101
+IDCODE = 0x0362D093
+FAR, FDRI, CMD, MFWR, IDCODE_REGISTER = 1, 2, 4, 10, 12
+WCFG, MFW = 1, 2
 
 
 def words(count, seed):
@@ -20,6 +25,37 @@ def words(count, seed):
     return whole[: 4 * count]
 
 
+def write(register, *values):
+    """A packet that writes words to a register."""
+    return struct.pack(f">{1 + len(values)}I", 0x3000_0000 + 0x2000 * register + len(values), *values)
+
+
+def addresses():
+    """The part's frame addresses in order."""
+    return [column * 128 + minor for column in range(COLUMNS) for minor in range(MINORS)]
+
+
+def frames():
+    """Each frame of a plan written in order, and once more: a vendor's stream that isn't compressed."""
+    count = (COLUMNS * MINORS + 1) * WIDTH
+    begin = write(CMD, WCFG) + write(FAR, 0) + struct.pack(">2I", 0x3000_4000, 0x5000_0000 + count)
+    return SYNC + write(IDCODE_REGISTER, IDCODE) + 2 * (begin + words(count, 7))
+
+
+def compressed():
+    """One frame of a plan written, and four words of MFWR at each address of the part: a vendor's compressed stream."""
+    places = b"".join(write(FAR, far) + write(MFWR, 0, 0, 0, 0) for far in addresses())
+    one = write(CMD, WCFG) + write(FAR, 0) + struct.pack(">I", 0x3000_4000 + WIDTH)
+    rounds = 4 * WORDS // len(places)
+    return SYNC + write(IDCODE_REGISTER, IDCODE) + b"".join(one + words(WIDTH, 8 + n) + write(CMD, MFW) + places for n in range(rounds))
+
+
+def part():
+    """The part file of these."""
+    minors = ", ".join([str(MINORS)] * COLUMNS)
+    return f'name = "bench"\nidcode = 0x{IDCODE:08X}\nmode = 1\n\n[[row]]\nblock = 0\nhalf = 0\nrow = 0\nminors = [{minors}]\n'
+
+
 def streams():
     """Each stream by its name."""
     count = WORDS - 10
@@ -30,6 +66,8 @@ def streams():
     axss_and_cor1 = b"\x30\x01\xa0\x01" + words(1, 4) + b"\x30\x01\xc0\x01" + words(1, 5)
     yield "registers", SYNC + axss_and_cor1 * (WORDS // 4)
     yield "payload", SYNC + (b"\x30\x01\xa7\xff" + words(0x7FF, 6)) * (WORDS // 0x800)
+    yield "frames", frames()
+    yield "compressed", compressed()
     yield "gap", words(WORDS, 3).replace(SYNC, b"\x00\x00\x00\x00")
 
 
@@ -37,6 +75,7 @@ def main():
     folder = pathlib.Path(sys.argv[1])
     for name, stream in streams():
         (folder / f"{name}.bin").write_bytes(stream)
+    (folder / "bench.part").write_text(part())
 
 
 main()

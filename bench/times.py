@@ -41,10 +41,11 @@ def list_times(folder):
         )
 
 
-def play_times(folder, part):
+def play_times(folder, tiny):
     print("play       x7 s    md5sum s  x7/md5sum  x7 MiB")
-    for name in ["registers", "payload", "nops", "gap"]:
+    for name in ["registers", "payload", "frames", "compressed", "nops", "gap"]:
         stream = str(folder / f"{name}.bin")
+        part = str(folder / "bench.part") if name in ("frames", "compressed") else tiny
         command = [str(folder / "x7"), "play", part, stream]
         ours = cost(command)
         md5sum = cost(["md5sum", stream])

@@ -1,15 +1,21 @@
 //! The program `x7`: the real objects of the system, and the command over them.
 #![tactic(auto)]
 
-ghost use Rattle.std.specs.Prelude.{◌≡◌};
+ghost use Rattle.std.specs.Prelude.{◌≡◌, map, string_bytes};
 ghost use Rattle.std.specs.Process.{exit_status};
+ghost use Rattle.x7.specs.Command.{ProgramEnds, WritesPage};
 ghost use Rattle.x7_forms.specs.Message.{number_of};
+ghost use Rattle.x7_tool.specs.Outside.{outside};
 
+mod page;
+
+use crate::page::page_of;
+use std::alloc::Global;
 use std::io::{self, ErrorKind};
 use std::process::ExitCode;
 use std::{env, fs};
 use x7_tool::{Status, run};
-use x7_words::{FileFlash, FileInputs, StdSink};
+use x7_words::{FileFlash, FileInputs, Flash, Inputs, Sink, StdSink, write_all};
 
 /// The program's end where the system gives no list of words, as where one of them isn't UTF-8.
 const NO_WORDS: u8 = 12;
@@ -33,6 +39,34 @@ fn end_of(status: Status) -> ExitCode
     ExitCode::from(status.number())
 }
 
+/// Writes a page, and answers the program's end.
+fn show<O: Sink>(out: &mut O, page: &str) -> ExitCode
+    ensures { WritesPage page.now (O.state out.old) (O.state out.new) (exit_status result) }
+{
+    match write_all(out, page.as_bytes()) {
+        Ok(()) => end_of(Status::Done),
+        Err(_) => end_of(Status::WriteFault),
+    }
+}
+
+/// Does what the words ask for, of the program itself or of the command, and answers the program's end.
+fn command<I: Inputs, O: Sink, E: Sink, F: Flash>(
+    alloc: Global,
+    words: &Vec<String>,
+    inputs: &mut I,
+    flash: &mut F,
+    out: &mut O,
+    err: &mut E,
+) -> ExitCode
+    ensures { ProgramEnds (map string_bytes words.now.items) (outside (I.state inputs.old) (F.state flash.old) (O.state out.old) (E.state err.old))
+        (outside (I.state inputs.new) (F.state flash.new) (O.state out.new) (E.state err.new)) (exit_status result) }
+{
+    match page_of(words) {
+        Some(page) => show(out, page),
+        None => end_of(run(alloc, words, inputs, flash, out, err)),
+    }
+}
+
 fn main(rt: HostRuntime) -> ExitCode {
     // The system gives a new file the lowest number that is free: that of a standard file which the caller closed. So /dev/null
     // takes these numbers before an input or the flash may: what is written there fails.
@@ -50,13 +84,12 @@ fn main(rt: HostRuntime) -> ExitCode {
     let mut flash = FileFlash::new(&rt);
     let mut out = StdSink::new(rt.stdout());
     let mut err = StdSink::new(rt.stderr());
-    let status = run(
+    command(
         rt.alloc(),
         &words,
         &mut inputs,
         &mut flash,
         &mut out,
         &mut err,
-    );
-    end_of(status)
+    )
 }

@@ -6,7 +6,6 @@ use Rattle.std.proofs.Math.Seq.{take-append-add, take-append_seam}
 use Rattle.x7_words.specs.Flash.{IfKnown}
 use Rattle.x7_words.specs.Word.{AreBytes}
 use Rattle.x7_words.proofs.ListLemmas.{all_back, all_front}
-use Rattle.x7_packets.specs.History.{history_of}
 use Rattle.x7_part.specs.Part.{PartData}
 use Rattle.x7_regs.specs.declared.boot_status.Cause.TheVariants.{Wrap}
 use Rattle.x7_regs.specs.declared.boot_status.Kind.TheVariants.{Bench}
@@ -14,16 +13,13 @@ use Rattle.x7_engine.specs.declared.kept.Kept.{Kept}
 use Rattle.x7_engine.specs.declared.regs.Regs.{Regs}
 use Rattle.x7_engine.specs.declared.stop.Stop.{Stop}
 use Rattle.x7_engine.specs.declared.stop.Stop.TheVariants as stop
-use Rattle.x7_engine.specs.FirstGap.{IsInFirstGap}
-use Rattle.x7_engine.specs.Kept.{is_fallback}
 use Rattle.x7_engine.specs.Standing.{DeviceState, DeviceStandsFor, MayWrap, NoWordDue}
 use Rattle.x7_engine.specs.State.{why_of, state_of, stop_in, taken_of, taken_by}
 use Rattle.x7_engine.specs.Stops.{Stopped, fault_of, stopped_at}
 use Rattle.x7_engine.specs.Values.{cause_of}
 use Rattle.x7_engine.proofs.BootLemmas.{may_wrap, none_due_at_first}
-use Rattle.x7_engine.proofs.GapLemmas.{fewer_ask_nothing, gap_goes_on, gap_phase}
 use Rattle.x7_engine.proofs.StateLemmas.{stop_is_final-state, stop_is_final-stop}
-use Rattle.x7_boot.specs.Attempt.{Feeds, IsReady, Leaves, NoneBefore, StepsTo, Took, Trial, Tries, attempt_at, ending_at, ending_by, failed_by, past_of}
+use Rattle.x7_boot.specs.Attempt.{Feeds, IsReady, NoneBefore, StepsTo, Took, Trial, Tries, attempt_at, ending_at, ending_by, failed_by, past_of}
 use Rattle.x7_boot.specs.Image.{flash_limit}
 use Rattle.x7_boot.specs.declared.attempt.Ending.{Ending}
 use Rattle.x7_boot.specs.declared.attempt.Ending.TheVariants.{Started, Iprog, Failed}
@@ -301,71 +297,3 @@ pub stops_here : (part : PartData) (kept : Kept) (d : DeviceState) (bytes page :
 stops_here part kept d bytes page step boots t is =
     let steps : StepsTo part kept (bytes ++ take t.count page) Stops = subst (λ (s : Step). StepsTo part kept (bytes ++ take t.count page) s) is t.steps in
     ends_here part kept d (bytes ++ take t.count page) boots t.stands steps.1 t.due
-
--- ---- a gap that is not read again
-
--- a fallback over bytes that ask nothing is ended by none of them
-gap_open : (part : PartData) (kept : Kept) (bytes : List ℕ) → is_fallback kept.kind ≡ true → history_of bytes ≡ [] → ending_at part kept bytes ≡ None
-gap_open part kept bytes e f =
-    let phase : ((state_of part kept false bytes).phase == 7) ≡ false = ap (λ (n : ℕ). n == 7) (gap_phase part kept false bytes e f) in
-    ends_by_stop part kept bytes phase ∙ ap (λ (o : Option Stopped). ending_by (why_of o)) (gap_goes_on part kept bytes e f)
-
--- the device of the attempt before, reset to a fallback over the same bytes, as if they had been fed again
-pub feeds_gap : (keep : Kept) (address taken : ℕ) (known : Option (List ℕ)) (d new : DeviceState) → (l : Leaves address known d) → IsInFirstGap d → is_fallback keep.kind ≡ true → taken ≡ d.taken
-    → ((part : PartData) (kept : Kept) (wrapped : Bool) (bytes : List ℕ) → DeviceStandsFor part kept wrapped d bytes → DeviceStandsFor part keep false new bytes) → NoWordDue new
-    → Feeds (attempt_at d.part keep address) known new (address + taken)
-feeds_gap keep address taken known d new l gap fallback count again due =
-    let nothing : history_of l.bytes ≡ [] = (gap l.part l.kept l.wrapped l.bytes l.stands).nothing in
-    let here : l.part ≡ d.part = sym l.stands.part_is in
-    let long : taken ≡ length l.bytes = count ∙ l.stands.taken_is in
-    let fits : AreBytes l.bytes = l.stands.fits in
-    record {
-      bytes = l.bytes;
-      stands = subst (λ (p : PartData). DeviceStandsFor p keep false new l.bytes) here (again l.part l.kept l.wrapped l.bytes l.stands);
-      going = gap_goes_on d.part keep l.bytes fallback nothing;
-      open_end = gap_open d.part keep l.bytes fallback nothing;
-      due = due;
-      count = ap (λ (n : ℕ). address + n) (sym long);
-      few = l.few;
-      read = subst (λ (n : ℕ). IfKnown known (λ all. l.bytes ≡ slice_range all address (address + n))) (sym long) l.read;
-      none = λ k m. gap_open d.part keep (take k l.bytes) fallback (fewer_ask_nothing l.bytes k fits nothing);
-    }
-
--- so does one where the flash has ended
-pub leaves_out : (part : PartData) (kept : Kept) (address : ℕ) (known : Option (List ℕ)) (d new : DeviceState) (at : ℕ) → (f : Feeds (attempt_at part kept address) known d at) → DeviceStandsFor part kept true new f.bytes → Leaves address known new
-leaves_out part kept address known d new at f s = record {
-  part = part;
-  kept = kept;
-  wrapped = true;
-  bytes = f.bytes;
-  stands = s;
-  few = f.few;
-  read = subst (λ (n : ℕ). IfKnown known (λ all. f.bytes ≡ slice_range all address n)) (sym f.count) f.read;
-}
-
-front_told : (known : Option (List ℕ)) (page : List ℕ) (at n : ℕ) → n ≤ length page → IfKnown known (λ all. page ≡ slice_range all at (at + length page)) → IfKnown known (λ all. take n page ≡ slice_range all at (at + n))
-front_told None page at n l e = tt
-front_told (Some all) page at n l e =
-    let long : at + length page - at ≡ length page = omega arith in
-    let short : at + n - at ≡ n = omega arith in
-    ap (take n) e ∙ ap (λ (m : ℕ). take n (take m (drop at all))) long ∙ take-take n (length page) (drop at all) l ∙ sym (ap (λ (m : ℕ). take m (drop at all)) short)
-
--- and one that took bytes of a page
-pub leaves_page : (part : PartData) (kept : Kept) (wrapped : Bool) (address : ℕ) (known : Option (List ℕ)) (d new last : DeviceState) (page : List ℕ) (at : ℕ) (step : Step) → (f : Feeds (attempt_at part kept address) known d at)
-    → IfKnown known (λ all. page ≡ slice_range all at (at + length page)) → at + length page ≤ flash_limit → (t : Took (past_of part kept f.bytes) new page step) → DeviceStandsFor part kept wrapped last (f.bytes ++ take t.count page) → Leaves address known last
-leaves_page part kept wrapped address known d new last page at step f told limit t s =
-    let count : address + length f.bytes ≡ at = f.count in
-    let within : t.count ≤ length page = t.within in
-    let cut : length (take t.count page) ≡ t.count = length-take-le t.count page within in
-    let long : length (f.bytes ++ take t.count page) ≡ length f.bytes + t.count = length-append f.bytes (take t.count page) ∙ ap (λ (n : ℕ). length f.bytes + n) cut in
-    let end : at + t.count ≡ address + length (f.bytes ++ take t.count page) = omega (arith, count, long) in
-    record {
-      part = part;
-      kept = kept;
-      wrapped = wrapped;
-      bytes = f.bytes ++ take t.count page;
-      stands = s;
-      few = omega (arith, long, count, within, limit);
-      read = subst (λ (n : ℕ). IfKnown known (λ all. f.bytes ++ take t.count page ≡ slice_range all address n)) end
-          (joined_told known f.bytes (take t.count page) address at (at + t.count) (omega (arith, count)) (omega arith) f.read (front_told known page at t.count within told));
-    }

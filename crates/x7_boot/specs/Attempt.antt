@@ -143,13 +143,3 @@ pub record Feeds (a : Attempting) (known : Option (List ℕ)) (d : DeviceState) 
   pub few : length bytes ≤ flash_limit
   pub read : IfKnown known (λ all. bytes ≡ slice_range all a.address at)
   pub none : (k : ℕ) → k < length bytes → ending_at a.part a.kept (take k bytes) ≡ None
-
--- an attempt left a device that stands for the bytes of a flash from an address on, as many as it took, where these are known
-pub record Leaves (address : ℕ) (known : Option (List ℕ)) (d : DeviceState) : Type 0 where
-  pub part : PartData
-  pub kept : Kept
-  pub wrapped : Bool
-  pub bytes : List ℕ
-  pub stands : DeviceStandsFor part kept wrapped d bytes
-  pub few : length bytes ≤ flash_limit
-  pub read : IfKnown known (λ all. bytes ≡ slice_range all address (address + length bytes))

@@ -119,10 +119,10 @@ pub fn boot<F: Flash>(alloc: Global, part: &Part, flash: &mut F) -> Result<Boote
         return Err(BootFault::NoMemory);
     };
     let mut keep = AT_POWER;
-    let (mut address, mut last_address) = (0, 0);
+    let mut address = 0;
     let mut number = 0;
     'attempts: loop {
-        let ending = try_once(&mut device, flash, &mut pages, keep, address, last_address)?;
+        let ending = try_once(&mut device, flash, &mut pages, keep, address)?;
         let Ok(()) = attempts.push(Tried {
             kind: keep.kind,
             address,
@@ -137,7 +137,6 @@ pub fn boot<F: Flash>(alloc: Global, part: &Part, flash: &mut F) -> Result<Boote
                 address: place,
             } => {
                 keep = kept;
-                last_address = address;
                 address = place;
             }
             Next::Ends(end) => return Ok(Booted {

@@ -3,9 +3,9 @@
 
 use std::alloc::Global;
 use std::{fs, io};
+use x7_in_memory::{MemoryFlash, MemoryInputs, MemorySink};
 use x7_runner::{Command, Named, has_name, report_cases, report_page};
 use x7_tool::run;
-use x7_words::{MemoryFlash, MemoryInputs, MemorySink};
 
 /// The files of cases, each with the end `.txt`.
 const SUBJECTS: [&str; 19] = [

@@ -1,7 +1,7 @@
 -- Positions: from one to another, and the least later one where something holds.
 use Rattle.std.proofs.lemmas.Bool.{cases_lt, cases_order}
 use Rattle.std.proofs.lemmas.Option.{none-some}
-use Rattle.std.proofs.Common.{◌≡◌, inl, inr, ℕ, zero, suc, ◌+◌, ◌-◌, ◌<◌, ◌≤◌, Bool, true, false, if◌then◌else◌, List, ◌++◌, length, take, drop, min, cond, Option, Some, None, refl, ap, sym, subst, ◌∙◌, arith}
+use Rattle.std.proofs.Common.{◌≡◌, inl, inr, ℕ, zero, suc, ◌+◌, ◌-◌, ◌<◌, ◌≤◌, ◌==◌, Bool, true, false, if◌then◌else◌, List, ◌++◌, length, take, drop, min, cond, Option, Some, None, refl, ap, sym, subst, ◌∙◌, arith}
 use Rattle.std.specs.Prelude.{unwrap_or}
 use Rattle.std.specs.List.{find, range_with_len}
 use Rattle.std.proofs.lemmas.List.{length-take-le, take-append-drop, take-take}
@@ -14,14 +14,15 @@ use Rattle.x7_engine.specs.declared.stop.Stop.TheVariants as stops
 use Rattle.x7_engine.specs.FirstStop.{why_at_byte, why_at_newest}
 use Rattle.x7_engine.specs.Kept.{on_the_bench}
 use Rattle.x7_engine.specs.Standing.{DeviceState, DeviceStandsFor, NoWordDue}
-use Rattle.x7_engine.specs.State.{state_of, stop_in, taken_of}
+use Rattle.x7_engine.specs.State.{stop_in, taken_of}
 use Rattle.x7_engine.specs.Stops.{Stopped}
 use Rattle.x7_engine.specs.Watching.{fires}
 use Rattle.x7_engine.proofs.FirstStopLemmas.{no_stop_none, stop_is_first}
-use Rattle.x7_engine.proofs.StateLemmas.{stop_is_final-stop, stop_place}
+use Rattle.x7_engine.proofs.StateLemmas.{stop_is_final-stop, stop_place, taken_is}
 use Rattle.x7_debug.specs.declared.order.Stop.{Stop}
-use Rattle.x7_engine.specs.declared.regs.Regs.{Regs}
-use Rattle.x7_debug.specs.Position.{holds_at, holds_in, last_of, until_of}
+use Rattle.x7_engine.specs.declared.regs.End.{End}
+use Rattle.x7_debug.specs.declared.order.Stop.TheVariants as stops-to
+use Rattle.x7_debug.specs.Position.{BeginsAtSoonest, holds_at, holds_in, last_of, state_at, until_of}
 use Rattle.x7_debug.specs.Session.{StandsAt}
 use Rattle.x7_debug.proofs.FeedLemmas.{taken-all, taken-stopped, taken-within}
 
@@ -72,6 +73,12 @@ taken-first part stream n fits few = by (stop_in part on_the_bench (take n strea
         let here : taken_of part on_the_bench (take n stream) ≡ s.place = taken-stopped part on_the_bench (take n stream) s e in
         let place = stop_place part on_the_bench (take n stream) s (all_front (λ b. b < 256) (take n stream) (drop n stream) fit) e in
         omega (arith, last, here, place.1, long)
+
+-- a device that took the first bytes of a stream stands there
+pub stands-first-bytes : (part : PartData) (stream : List ℕ) (d : DeviceState) (n : ℕ) → AreBytes stream → n ≤ length stream → DeviceStandsFor part on_the_bench false d (take n stream) → NoWordDue d → StandsAt part stream d n
+stands-first-bytes part stream d n fits few s due =
+    let long : length (take n stream) ≡ n = length-take-le n stream few in
+    record { stands = s; taken = s.taken_is ∙ long; within = omega (arith, taken-first part stream n fits few, taken_is part on_the_bench false d (take n stream) s, long); none_due = due }
 
 -- a device that was fed the bytes from one position to another stands there, or at the last position where that is less
 pub moved : (part : PartData) (stream piece : List ℕ) (d : DeviceState) (from to : ℕ) → AreBytes stream → from ≤ to → to ≤ length stream → piece ≡ take (to - from) (drop from stream)
@@ -135,6 +142,56 @@ module _ (part : PartData) (stream : List ℕ) (stop : Stop) (from : ℕ) where
         | inr (inr above) ↦ absurd (omega arith)
       ]
 
--- what a test of the registers says of the position
-pub holds-is : (part : PartData) (stream : List ℕ) (stop : Stop) (n : ℕ) (regs : Regs) (b : Bool) → regs ≡ state_of part on_the_bench false (take n stream) → b ≡ holds_in stop regs → holds_at part stream stop n ≡ b
-holds-is part stream stop n regs b e h = ap (holds_in stop) (sym e) ∙ sym h
+-- what a test of the end and the phase says of the position
+pub holds-is : (part : PartData) (stream : List ℕ) (stop : Stop) (n : ℕ) (end : End) (phase : ℕ) (b : Bool) → end ≡ (state_at part stream n).end → phase ≡ (state_at part stream n).phase → b ≡ holds_in stop end phase → holds_at part stream stop n ≡ b
+holds-is part stream stop n end phase b e f h = ap (λ (x : End). holds_in stop x (state_at part stream n).phase) (sym e) ∙ ap (holds_in stop end) (sym f) ∙ sym h
+
+-- ---- positions that are passed over
+
+find-behind : (p : ℕ → Bool) (count from n last : ℕ) → from ≤ n → n ≤ from + count → ((k : ℕ) → from < k → k ≤ n → p k ≡ false)
+    → unwrap_or (find p (range_with_len (from + 1) count)) last ≡ unwrap_or (find p (range_with_len (n + 1) (from + count - n))) last
+find-behind p zero from n last l m none =
+    let same : n ≡ from = omega (arith, l, m) in
+    subst (λ (k : ℕ). unwrap_or (find p (range_with_len (from + 1) 0)) last ≡ unwrap_or (find p (range_with_len (k + 1) (from + 0 - k))) last) (sym same)
+    (ap (λ (c : ℕ). unwrap_or (find p (range_with_len (from + 1) c)) last) (let z : 0 ≡ from + 0 - from = omega arith in z))
+find-behind p (suc count) from n last l m none =
+    elim (cases_order n from) [
+      | inl same ↦
+          subst (λ (k : ℕ). unwrap_or (find p (range_with_len (from + 1) (suc count))) last ≡ unwrap_or (find p (range_with_len (k + 1) (from + suc count - k))) last) (sym same)
+          (ap (λ (c : ℕ). unwrap_or (find p (range_with_len (from + 1) c)) last) (let z : suc count ≡ from + suc count - from = omega arith in z))
+      | inr (inl below) ↦ absurd (omega (arith, l, below))
+      | inr (inr above) ↦
+          let here : p (from + 1) ≡ false = none (from + 1) (omega arith) (omega (arith, above)) in
+          let sum : from + 1 + count - n ≡ from + suc count - n = omega arith in
+          ap (λ (b : Bool). unwrap_or (cond b (Some (from + 1)) (find p (range_with_len (from + 1 + 1) count))) last) here
+          ∙ find-behind p count (from + 1) n last (omega (arith, above)) (omega (arith, m)) (λ k h j. none k (omega (arith, h)) j)
+          ∙ ap (λ (c : ℕ). unwrap_or (find p (range_with_len (n + 1) c)) last) sum
+    ]
+
+found-behind : (p : ℕ → Bool) (count from low last : ℕ) → low ≤ last → ((k : ℕ) → from < k → k < low → p k ≡ false) → low ≤ unwrap_or (find p (range_with_len (from + 1) count)) last
+found-behind p zero from low last l none = l
+found-behind p (suc count) from low last l none = by (p (from + 1)) refl (found-behind p count (from + 1) low last l (λ k h j. none k (omega (arith, h)) j))
+  where
+    at_first : p (from + 1) ≡ true → low ≤ from + 1
+    at_first e = elim (cases_lt (from + 1) low) [
+      | inl less ↦ absurd (let both : true ≡ false = sym e ∙ none (from + 1) (omega arith) less in cc)
+      | inr more ↦ more
+    ]
+
+    by : (b : Bool) → p (from + 1) ≡ b → low ≤ unwrap_or (find p (range_with_len (from + 1 + 1) count)) last → low ≤ unwrap_or (cond (p (from + 1)) (Some (from + 1)) (find p (range_with_len (from + 1 + 1) count))) last
+    by true e later = subst (λ (b : Bool). low ≤ unwrap_or (cond b (Some (from + 1)) (find p (range_with_len (from + 1 + 1) count))) last) (sym e) (at_first e)
+    by false e later = subst (λ (b : Bool). low ≤ unwrap_or (cond b (Some (from + 1)) (find p (range_with_len (from + 1 + 1) count))) last) (sym e) later
+
+module _ (part : PartData) (stream : List ℕ) (phase : ℕ) (begins : ℕ) (b : BeginsAtSoonest part stream begins) (some : 0 < phase) where
+  none-unbegun : (k : ℕ) → k < begins → holds_at part stream (stops-to.Phase phase) k ≡ false
+  none-unbegun k l = ap (λ (q : ℕ). q == phase) (b.zero k l) ∙ grind (arith, some)
+
+  -- a position that is passed over changes nothing of where `until` leads
+  pub until-near : (from n : ℕ) → from ≤ n → n ≤ last_of part stream → ((k : ℕ) → from < k → k ≤ n → k < begins) → until_of part stream (stops-to.Phase phase) from ≡ until_of part stream (stops-to.Phase phase) n
+  until-near from n l m few =
+      let sum : from + (last_of part stream - from) - n ≡ last_of part stream - n = omega (arith, l, m) in
+      find-behind (holds_at part stream (stops-to.Phase phase)) (last_of part stream - from) from n (last_of part stream) l (omega (arith, l, m)) (λ k h j. none-unbegun k (few k h j))
+      ∙ ap (λ (c : ℕ). unwrap_or (find (holds_at part stream (stops-to.Phase phase)) (range_with_len (n + 1) c)) (last_of part stream)) sum
+
+  pub until-begun : (n : ℕ) → begins ≤ until_of part stream (stops-to.Phase phase) n
+  until-begun n = found-behind (holds_at part stream (stops-to.Phase phase)) (last_of part stream - n) n begins (last_of part stream) b.within (λ k h j. none-unbegun k j)

@@ -1,7 +1,6 @@
 pub mod Position
 pub mod Script
 pub mod Session
-pub mod Ahead
 pub mod Journal
 pub mod Kept
 pub mod Transcript

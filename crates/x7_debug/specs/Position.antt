@@ -37,15 +37,20 @@ has_stopped (at_end.Iprog wbstar) = true
 has_stopped (at_end.Fault fault) = true
 has_stopped _ = false
 
--- a session that goes forward to this stops in this state
-abbrev pub holds_in : Stop → Regs → Bool
-holds_in stop.Synced r = is_synced r.end
-holds_in stop.Searching r = is_searching r.end
-holds_in stop.Stopped r = has_stopped r.end
-holds_in (stop.Phase phase) r = r.phase == phase
+-- a session that goes forward to this stops where the bytes end so, in this phase of startup
+abbrev pub holds_in : Stop → End → ℕ → Bool
+holds_in stop.Synced end phase = is_synced end
+holds_in stop.Searching end phase = is_searching end
+holds_in stop.Stopped end phase = has_stopped end
+holds_in (stop.Phase wanted) end phase = phase == wanted
 
 abbrev pub holds_at : PartData → List ℕ → Stop → ℕ → Bool
-holds_at part stream stop n = holds_in stop (state_at part stream n)
+holds_at part stream stop n = holds_in stop (state_at part stream n).end (state_at part stream n).phase
+
+-- startup begins at this position at the soonest: the phase is 0 before it
+pub record BeginsAtSoonest (part : PartData) (stream : List ℕ) (n : ℕ) : Type 0 where
+  pub within : n ≤ last_of part stream
+  pub zero : (k : ℕ) → k < n → (state_at part stream k).phase ≡ 0
 
 -- the least position after this one where it holds
 pub record IsLeastAfter (part : PartData) (stream : List ℕ) (stop : Stop) (at n : ℕ) : Type 0 where

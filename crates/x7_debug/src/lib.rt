@@ -1,13 +1,13 @@
 //! Forwards and backwards through a stream: a script of orders, and a session that follows it.
 #![tactic(auto)]
 
-mod ahead;
 mod fault;
 mod journal;
 mod law;
 mod line;
 mod moving;
 mod order;
+mod outline;
 mod script;
 mod session;
 mod showing;

@@ -49,7 +49,7 @@ pub(crate) fn advance(device: &mut Device, stream: &[u8], to: u64)
 }
 
 /// Feeds a device up to four bytes of the stream, up to what stops it, with a record.
-pub(crate) fn feed_recorded(device: &mut Device, journal: &mut Journal, stream: &[u8], to: u64)
+fn feed_recorded(device: &mut Device, journal: &mut Journal, stream: &[u8], to: u64)
     requires on { IsOn device.old.part stream.now device.old journal.old }
     requires within { to ≤ length stream.now }
     requires forward { device.old.taken ≤ to }
@@ -100,7 +100,7 @@ fn go_by_words(device: &mut Device, journal: &mut Journal, stream: &[u8], to: u6
 }
 
 /// Brings a device forward by one piece, and forgets the records.
-fn leap(device: &mut Device, journal: &mut Journal, stream: &[u8], to: u64)
+pub(crate) fn leap(device: &mut Device, journal: &mut Journal, stream: &[u8], to: u64)
     requires on { IsOn device.old.part stream.now device.old journal.old }
     requires within { to ≤ last_of device.old.part stream.now }
     requires forward { device.old.taken ≤ to }

@@ -1,14 +1,14 @@
 //! A session: forwards and backwards through a stream.
-ghost use Rattle.std.specs.Prelude.{◌≡◌, ◌≤◌, ◌+◌, ◌-◌, IfOk, IsTrue, false, min};
+ghost use Rattle.std.specs.Prelude.{◌≡◌, ◌≤◌, ◌+◌, ◌-◌, IfOk, min};
 ghost use Rattle.x7_engine.specs.Standing.{fed_of};
 ghost use Rattle.x7_debug.specs.Journal.{GoesWith};
 ghost use Rattle.x7_debug.specs.Position.{last_of, until_of};
 ghost use Rattle.x7_debug.specs.Session.{MovesTo, StandsAt};
 
-use crate::ahead::Ahead;
 use crate::journal::Journal;
 use crate::moving::move_to;
 use crate::order::Stop;
+use crate::outline::Outline;
 use crate::until::go_until;
 use std::alloc::Global;
 use std::marker::Model;
@@ -21,17 +21,13 @@ use x7_words::NoMemory;
 pub struct Session {
     stream: Vec<u8>,
     device: Device,
-    // the bytes that the device takes of the whole stream
-    last: u64,
+    // what one play of it told
+    outline: Outline,
     // what leads the device back
     journal: Journal,
-    // one that stands at the last position, until `jump` takes it or lets it go
-    ahead: Option<Ahead>,
 }
 
 impl Model for Session {
-    ghost use Rattle.std.specs.Prelude.{IfSome};
-    ghost use Rattle.x7_debug.specs.Ahead.{HasEnded};
     ghost use Rattle.x7_debug.specs.Kept.{IsSession, session_of};
     ghost use Rattle.x7_debug.specs.Session.{SessionState};
 
@@ -39,17 +35,21 @@ impl Model for Session {
 
     ghost view = { λ s. session_of s.device s.stream.items s.journal };
 
-    ghost invariant = { λ s. IsSession s.device s.stream.items s.last s.journal × IfSome s.ahead (λ a. HasEnded s.device.part s.stream.items a.device a.journal) };
+    ghost invariant = { λ s. IsSession s.device s.stream.items s.outline.last s.outline.begins s.journal };
 }
 
 impl Session {
-    /// A session at position 0 of a stream, on a new device of the part. Another one plays the stream once, to learn the last
-    /// position, and stays there: the first move to that position puts it in the place of the session's, where it may be.
+    /// A session at position 0 of a stream, on a new device of the part. Another one plays the stream once before, to learn
+    /// the last position and how far startup hasn't begun.
     pub fn new(alloc: Global, part: &Part, stream: Vec<u8>) -> Result<Session, NoMemory>
         ensures begins { IfOk result (λ s. (s.part ≡ part.now) × (s.stream ≡ stream.items) × (s.at ≡ 0)) }
         ensures oldest { IfOk result (λ s. s.oldest ≡ 0) }
         ensures fed { IfOk result (λ s. s.fed ≡ 0) }
     {
+        let outline = match Outline::new(alloc, part, &stream) {
+            Ok(outline) => outline,
+            Err(NoMemory) => return Err(NoMemory),
+        };
         let device = match Device::new(alloc, part) {
             Ok(device) => device,
             Err(NoMemory) => return Err(NoMemory),
@@ -58,16 +58,11 @@ impl Session {
             Ok(journal) => journal,
             Err(NoMemory) => return Err(NoMemory),
         };
-        let ahead = match Ahead::new(alloc, part, &stream) {
-            Ok(ahead) => ahead,
-            Err(NoMemory) => return Err(NoMemory),
-        };
         Ok(Session {
             stream,
             device,
-            last: ahead.device.taken(),
+            outline,
             journal,
-            ahead: Some(ahead),
         })
     }
 
@@ -82,7 +77,7 @@ impl Session {
     pub fn last(&self) -> u64
         ensures { result ≡ last_of self.now.part self.now.stream }
     {
-        self.last
+        self.outline.last
     }
 
     /// The least position to which a move back needs no replay.
@@ -102,33 +97,12 @@ impl Session {
         &self.device
     }
 
-    /// Puts the device that is ahead in the place of the session's, where it may be. Nothing is ahead from then on.
-    fn jump(&mut self) -> bool
-        ensures moves { IsTrue result → MovesTo self.old self.new (last_of self.old.part self.old.stream) }
-        ensures until { IsTrue result → until_of self.old.part self.old.stream Stop.Stopped self.old.at ≡ last_of self.old.part self.old.stream }
-        ensures goes { IsTrue result → GoesWith self.old self.new }
-        ensures stays { result ≡ false → self.new ≡ self.old }
-    {
-        let Some(ahead) = self.ahead.take() else {
-            return false;
-        };
-        if !ahead.may_replace(&self.device) {
-            return false;
-        }
-        self.device = ahead.device;
-        self.journal = ahead.journal;
-        true
-    }
-
     /// Goes to a position that is not behind the last one.
     fn move_to(&mut self, to: u64)
         requires { to ≤ last_of self.old.part self.old.stream }
         ensures moves { MovesTo self.old self.new to }
         ensures goes { GoesWith self.old self.new }
     {
-        if to == self.last && self.jump() {
-            return;
-        }
         move_to(&mut self.device, &mut self.journal, &self.stream, to);
     }
 
@@ -137,7 +111,7 @@ impl Session {
         ensures moves { MovesTo self.old self.new (min to (last_of self.old.part self.old.stream)) }
         ensures goes { GoesWith self.old self.new }
     {
-        let last = self.last;
+        let last = self.outline.last;
         self.move_to(to.min(last));
     }
 
@@ -147,7 +121,7 @@ impl Session {
         ensures goes { GoesWith self.old self.new }
     {
         let at = self.device.taken();
-        let left = self.last - at;
+        let left = self.outline.last - at;
         self.move_to(at + count.min(left));
     }
 
@@ -165,16 +139,11 @@ impl Session {
         ensures moves { MovesTo self.old self.new (until_of self.old.part self.old.stream stop self.old.at) }
         ensures goes { GoesWith self.old self.new }
     {
-        if let Stop::Stopped = stop
-            && self.jump()
-        {
-            return;
-        }
         go_until(
             &mut self.device,
             &mut self.journal,
             &self.stream,
-            self.last,
+            self.outline,
             stop,
         );
     }

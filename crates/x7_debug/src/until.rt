@@ -3,23 +3,25 @@ ghost use Rattle.std.specs.Prelude.{◌≡◌, ◌≤◌, ◌<◌, ◌+◌, ◌-
 ghost use Rattle.x7_engine.specs.Undo.{UndoState};
 ghost use Rattle.x7_debug.specs.Journal.{GoesWith, IsFed, IsOn, oldest_by, records_of};
 ghost use Rattle.x7_debug.specs.Kept.{session_of};
-ghost use Rattle.x7_debug.specs.Position.{holds_at, holds_in, last_of, until_of};
+ghost use Rattle.x7_debug.specs.Position.{BeginsAtSoonest, holds_at, holds_in, last_of, until_of};
+ghost use Rattle.x7_debug.specs.declared.order.Stop.TheVariants as to;
 
 use crate::journal::Journal;
-use crate::moving::{advance, move_to, record_to};
+use crate::moving::{REACH, advance, leap, move_to, record_to};
 use crate::order::Stop;
-use x7_engine::{Device, End, Regs};
+use crate::outline::Outline;
+use x7_engine::{Device, End};
 
-/// Whether a device with these registers is where a session goes forward to.
-fn holds(stop: Stop, regs: &Regs) -> bool
-    ensures { result ≡ holds_in stop regs.now }
+/// Whether bytes that end so, in this phase of startup, are where a session goes forward to.
+fn holds(stop: Stop, end: End, phase: u8) -> bool
+    ensures { result ≡ holds_in stop end phase }
 {
-    match (stop, regs.end) {
+    match (stop, end) {
         (Stop::Synced, End::Synced) => true,
         (Stop::Searching, End::Searching) => true,
         (Stop::Stopped, End::Iprog(_)) => true,
         (Stop::Stopped, End::Fault(_)) => true,
-        (Stop::Phase(phase), _) => regs.phase == phase,
+        (Stop::Phase(wanted), _) => phase == wanted,
         _ => false,
     }
 }
@@ -41,7 +43,7 @@ fn seek(device: &mut Device, journal: &Journal, stream: &[u8], end: u64, stop: S
     ensures none_at_end { result ≡ false → holds_at device.old.part stream.now stop end ≡ false }
 {
     loop {
-        if holds(stop, &device.state()) {
+        if holds(stop, device.end(), device.phase()) {
             return true;
         }
         let at = device.taken();
@@ -98,27 +100,95 @@ fn forward_until(device: &mut Device, journal: &mut Journal, stream: &[u8], last
     }
 }
 
+/// Brings a device that is farther before where startup may begin than records reach up to there, by one piece.
+fn leap_near(device: &mut Device, journal: &mut Journal, stream: &[u8], begins: u64)
+    requires on { IsOn device.old.part stream.now device.old journal.old }
+    requires within { begins ≤ last_of device.old.part stream.now }
+    ensures on { IsOn device.new.part stream.now device.new journal.new }
+    ensures part { device.new.part ≡ device.old.part }
+    ensures fed { IsFed device.old device.new (device.new.taken - device.old.taken) }
+    ensures forward { device.old.taken ≤ device.new.taken }
+    ensures near { device.new.taken ≤ max device.old.taken (begins - 254) }
+{
+    let near = begins.saturating_sub(REACH + 1);
+    if device.taken() < near {
+        leap(device, journal, stream, near);
+    }
+}
+
+/// Brings a device forward to the first later position in this phase of startup, which isn't 0, or else to the last one.
+/// Positions at which startup hasn't begun are passed over.
+fn forward_to_phase(
+    device: &mut Device,
+    journal: &mut Journal,
+    stream: &[u8],
+    outline: Outline,
+    phase: u8,
+)
+    requires on { IsOn device.old.part stream.now device.old journal.old }
+    requires last { outline.last ≡ last_of device.old.part stream.now }
+    requires begins { BeginsAtSoonest device.old.part stream.now outline.begins }
+    requires before { device.old.taken < outline.last }
+    requires some { 0 < phase }
+    ensures on { IsOn device.new.part stream.now device.new journal.new }
+    ensures part { device.new.part ≡ device.old.part }
+    ensures fed { IsFed device.old device.new (device.new.taken - device.old.taken) }
+    ensures taken { device.new.taken ≡ until_of device.old.part stream.now (to.Phase phase) device.old.taken }
+    ensures forward { device.old.taken < device.new.taken }
+    ensures oldest { oldest_by device.new.taken (records_of journal.new) ≤ max device.old.taken (device.new.taken - 253) }
+{
+    leap_near(device, journal, stream, outline.begins);
+    forward_until(device, journal, stream, outline.last, Stop::Phase(phase));
+}
+
+/// Brings a device forward to the first later position in this phase of startup, or else to the last one.
+fn go_to_phase(
+    device: &mut Device,
+    journal: &mut Journal,
+    stream: &[u8],
+    outline: Outline,
+    phase: u8,
+)
+    requires on { IsOn device.old.part stream.now device.old journal.old }
+    requires last { outline.last ≡ last_of device.old.part stream.now }
+    requires begins { BeginsAtSoonest device.old.part stream.now outline.begins }
+    requires before { device.old.taken < outline.last }
+    ensures on { IsOn device.new.part stream.now device.new journal.new }
+    ensures part { device.new.part ≡ device.old.part }
+    ensures fed { IsFed device.old device.new (device.new.taken - device.old.taken) }
+    ensures taken { device.new.taken ≡ until_of device.old.part stream.now (to.Phase phase) device.old.taken }
+    ensures forward { device.old.taken < device.new.taken }
+    ensures oldest { oldest_by device.new.taken (records_of journal.new) ≤ max device.old.taken (device.new.taken - 253) }
+{
+    if phase == 0 {
+        return forward_until(device, journal, stream, outline.last, Stop::Phase(phase));
+    }
+    forward_to_phase(device, journal, stream, outline, phase);
+}
+
 /// Brings a device forward to the first later position where it holds, or else to the last one. What stops a device comes
 /// at the last position alone.
 pub(crate) fn go_until(
     device: &mut Device,
     journal: &mut Journal,
     stream: &[u8],
-    last: u64,
+    outline: Outline,
     stop: Stop,
 )
     requires on { IsOn device.old.part stream.now device.old journal.old }
-    requires last { last ≡ last_of device.old.part stream.now }
+    requires last { outline.last ≡ last_of device.old.part stream.now }
+    requires begins { BeginsAtSoonest device.old.part stream.now outline.begins }
     ensures on { IsOn device.new.part stream.now device.new journal.new }
     ensures part { device.new.part ≡ device.old.part }
     ensures taken { device.new.taken ≡ until_of device.old.part stream.now stop device.old.taken }
     ensures goes { GoesWith (session_of device.old stream.now journal.old) (session_of device.new stream.now journal.new) }
 {
-    if device.taken() >= last {
+    if device.taken() >= outline.last {
         return;
     }
     match stop {
-        Stop::Stopped => move_to(device, journal, stream, last),
-        _ => forward_until(device, journal, stream, last, stop),
+        Stop::Stopped => move_to(device, journal, stream, outline.last),
+        Stop::Phase(phase) => go_to_phase(device, journal, stream, outline, phase),
+        _ => forward_until(device, journal, stream, outline.last, stop),
     }
 }

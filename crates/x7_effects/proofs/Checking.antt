@@ -79,11 +79,6 @@ abbrev pub pieces_length : List Piece → ℕ
 pieces_length [] = 0
 pieces_length (p ∷ pieces) = piece_length p + pieces_length pieces
 
--- each word written to CRC is the running check before it
-abbrev pub AgreesWith : ℕ → Access → Type 0
-AgreesWith check (access.Write register w) = register ≡ 0 → w ≡ check
-AgreesWith check _ = Unit {0}
-
 -- the piece can be written, and no item writes CRC by itself
 abbrev pub IsPiece : Piece → Type 0
 IsPiece Check = Unit {0}

@@ -1,12 +1,11 @@
 -- The running check of items that are entered.
 use Rattle.std.proofs.Common.{◌≡◌, ℕ, ◌+◌, ◌*◌, ◌%◌, ◌^◌, ◌<◌, ◌==◌, Bool, true, false, if◌then◌else◌, List, [], ◌∷◌, ◌++◌, length, refl, ap, sym, ◌∙◌, arith, lit<}
-use Rattle.std.proofs.lemmas.Bool.Decides.{nat_tests}
 use Rattle.x7_packets.specs.History as access
 use Rattle.x7_packets.specs.History.{History, entry, command_held, last_word, history_of, entered, entered_all}
 use Rattle.x7_packets.specs.RunningCheck.{RegisterWrite, open_writes, clears}
-use Rattle.x7_crc.specs.RunningCheck.{check_after, check_of, writes_to}
+use Rattle.x7_crc.specs.RunningCheck.{check_after, check_of}
 use Rattle.x7_crc.specs.OpenWrites.{in_order}
-use Rattle.x7_crc.proofs.CheckLemmas.{check_after-none, check_after_fits, check_after-append, check_of-more}
+use Rattle.x7_crc.proofs.CheckLemmas.{check_after-none, check_after_fits, check_of-more}
 use Rattle.x7_effects.proofs.Items.{Item, Noop, Dummy, Write, WriteLong, Read, ReadLong, item_words, IsItem, AreItems, writes_entered, item_entered, items_entered}
 use Rattle.x7_effects.proofs.Checking.{Checking, clears_by, after_write, after_writes, after_item, after_items, checking_of, Piece, Put, Check, piece_item, with_checks, IsPiece, ArePieces}
 
@@ -45,21 +44,6 @@ item_checked place (ReadLong r n) h = refl
 pub items_checked : (place : ℕ) (items : List Item) (h : History) → checking_of (items_entered place items h) ≡ after_items (checking_of h) items
 items_checked place [] h = refl
 items_checked place (i ∷ items) h = items_checked (place + 4 * length (item_words i)) items (item_entered place i h) ∙ ap (λ (c : Checking). after_items c items) (item_checked place i h)
-
--- words to a register that neither clears the check, holds a command nor is left out
-other : (n r : ℕ) → (r ≡ n → ⊥) → (r == n) ≡ false
-other n r e = grind (arith, nat_tests, e)
-
-one_at_once : (c : Checking) (r w : ℕ) → (r ≡ 0 → ⊥) → (r ≡ 1 → ⊥) → (r ≡ 4 → ⊥) → (r ≡ 8 → ⊥) → after_write c r w ≡ record { check = check_after c.check ((r, w) ∷ []); held = c.held }
-one_at_once c r w a b d e = rw (other 4 r d, other 1 r b, other 0 r a, other 8 r e) refl
-
-pub at_once : (c : Checking) (r : ℕ) (ws : List ℕ) → c.check < 2 ^ 32 → (r ≡ 0 → ⊥) → (r ≡ 1 → ⊥) → (r ≡ 4 → ⊥) → (r ≡ 8 → ⊥) → after_writes c r ws ≡ record { check = check_after c.check (writes_to r ws); held = c.held }
-at_once c r [] f a b d e = checking_is c (record { check = check_after c.check []; held = c.held }) (sym (check_after-none c.check f)) refl
-at_once c r (w ∷ ws) f a b d e =
-    let n : Checking = record { check = check_after c.check ((r, w) ∷ []); held = c.held } in
-    ap (λ (x : Checking). after_writes x r ws) (one_at_once c r w a b d e)
-    ∙ at_once n r ws (check_after_fits c.check ((r, w) ∷ [])) a b d e
-    ∙ ap (λ (x : ℕ). record { check = x; held = c.held }) (sym (check_after-append c.check ((r, w) ∷ []) (writes_to r ws) f))
 
 -- a check has 32 bits
 write_fits : (c : Checking) (r w : ℕ) → c.check < 2 ^ 32 → (after_write c r w).check < 2 ^ 32

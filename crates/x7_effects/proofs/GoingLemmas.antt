@@ -4,7 +4,7 @@ use Rattle.x7_packets.specs.History as access
 use Rattle.x7_packets.specs.History.{Access, History, command_held, entry, executes, last_word}
 use Rattle.x7_crc.specs.OpenWrites.{running_check}
 use Rattle.x7_part.specs.Part.{PartData}
-use Rattle.x7_startup.specs.Calls.{Call}
+use Rattle.x7_startup.specs.Calls.{Call, StartupProgress}
 use Rattle.x7_startup.specs.Calls as call
 use Rattle.x7_engine.specs.declared.kept.Kept.{Kept}
 use Rattle.x7_flow.specs.Controls.{ctl0_held, is_matched, mask_held, masked_word}
@@ -43,13 +43,13 @@ written_append place (p ∷ xs) ys h =
 
 -- ---- nothing stops the device, and startup stays as it is
 
-pub record IsGoing (part : PartData) (kept : Kept) (phase : ℕ) (h : History) (n : ℕ) : Type 0 where
+pub record IsGoing (part : PartData) (kept : Kept) (startup : StartupProgress) (h : History) (n : ℕ) : Type 0 where
   pub calm : IsCalm part kept h n
-  pub still : IsStill part phase h n
+  pub still : IsStill part startup h n
   pub pending : is_pending h ≡ false
 
-pub going_bytes : (part : PartData) (kept : Kept) (phase : ℕ) (h : History) (n m : ℕ) → n ≤ m → IsGoing part kept phase h n → IsGoing part kept phase h m
-going_bytes part kept phase h n m l g = record { calm = calm_bytes part kept h n m l g.calm; still = still_bytes part phase h n m g.calm.newest l g.still; pending = g.pending }
+pub going_bytes : (part : PartData) (kept : Kept) (startup : StartupProgress) (h : History) (n m : ℕ) → n ≤ m → IsGoing part kept startup h n → IsGoing part kept startup h m
+going_bytes part kept startup h n m l g = record { calm = calm_bytes part kept h n m l g.calm; still = still_bytes part startup h n m g.calm.newest l g.still; pending = g.pending }
 
 -- an access that executes neither START, SHUTDOWN nor DESYNC
 pub record IsQuiet (h : History) (access : Access) : Type 0 where
@@ -75,13 +75,13 @@ pending_by false false pending e f = f
 pub still_none_pending : (h : History) (access : Access) (place : ℕ) → is_pending h ≡ false → executes 11 h access ≡ false → is_pending (entry access place ∷ h) ≡ false
 still_none_pending h access place e f = pending_by (clears_check h access) (executes 11 h access) (is_pending h) f e
 
-pub going_access : (part : PartData) (kept : Kept) (phase : ℕ) (h : History) (access : Access) (n place : ℕ) → n ≤ place → IsGoing part kept phase h n
-    → IsQuiet h access → why_at part kept h access ≡ None → IsOff kept (entry access place ∷ h) → IsGoing part kept phase (entry access place ∷ h) place
-going_access part kept phase h access n place l g q none off =
-    let before : IsGoing part kept phase h place = going_bytes part kept phase h n place l g in
+pub going_access : (part : PartData) (kept : Kept) (startup : StartupProgress) (h : History) (access : Access) (n place : ℕ) → n ≤ place → IsGoing part kept startup h n
+    → IsQuiet h access → why_at part kept h access ≡ None → IsOff kept (entry access place ∷ h) → IsGoing part kept startup (entry access place ∷ h) place
+going_access part kept startup h access n place l g q none off =
+    let before : IsGoing part kept startup h place = going_bytes part kept startup h n place l g in
     record {
       calm = calm_access part kept h access n place l g.calm none off;
-      still = still_none part phase h access place (quiet_call h access g.pending q) before.still;
+      still = still_none part startup h access place (quiet_call h access g.pending q) before.still;
       pending = still_none_pending h access place g.pending q.shutdown;
     }
 
@@ -89,13 +89,13 @@ going_access part kept phase h access n place l g q none off =
 desync_call : (h : History) → startup_call h (access.Write 4 13) ≡ call.Desync (last_word 9 0 h) ∷ []
 desync_call h = refl
 
-pub going_desync : (part : PartData) (kept : Kept) (phase : ℕ) (h : History) (n place : ℕ) → n ≤ place → IsGoing part kept phase h n
-    → why_at part kept h (access.Write 4 13) ≡ None → IsGoing part kept phase (entry (access.Write 4 13) place ∷ h) place
-going_desync part kept phase h n place l g none =
-    let before : IsGoing part kept phase h place = going_bytes part kept phase h n place l g in
+pub going_desync : (part : PartData) (kept : Kept) (startup : StartupProgress) (h : History) (n place : ℕ) → n ≤ place → IsGoing part kept startup h n
+    → why_at part kept h (access.Write 4 13) ≡ None → IsGoing part kept startup (entry (access.Write 4 13) place ∷ h) place
+going_desync part kept startup h n place l g none =
+    let before : IsGoing part kept startup h place = going_bytes part kept startup h n place l g in
     record {
       calm = calm_access part kept h (access.Write 4 13) n place l g.calm none g.calm.off;
-      still = still_desynced part phase h (access.Write 4 13) place (last_word 9 0 h) (desync_call h) before.still;
+      still = still_desynced part startup h (access.Write 4 13) place (last_word 9 0 h) (desync_call h) before.still;
       pending = still_none_pending h (access.Write 4 13) place g.pending refl;
     }
 

@@ -91,9 +91,7 @@ opened leading items = leading ++ sync_word ∷ items_words items
 abbrev pub closed : List ℕ → List Item → ℕ → List ℕ
 closed leading items noops = opened leading (items ++ desync ∷ []) ++ replicate noops 0x20000000
 
--- the first byte of the sync word is not among these bytes
-
--- words that may lead
+-- words that may lead: the first byte of the sync word is not among their bytes
 pub record MayLead (leading : List ℕ) : Type 0 where
   pub fits : AreWords leading
   pub lacks : LacksFirst (bytes_of_words leading)

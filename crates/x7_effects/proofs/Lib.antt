@@ -21,6 +21,7 @@ pub mod PlanLemmas
 pub mod ReadLemmas
 pub mod EndLemmas
 pub mod SilentLemmas
+pub mod KeptLemmas
 pub mod PartialLemmas
 pub mod ReadbackLemmas
 pub mod FullLemmas

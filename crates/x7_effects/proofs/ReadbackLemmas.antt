@@ -9,6 +9,7 @@ use Rattle.x7_packets.specs.History as access
 use Rattle.x7_packets.specs.History.{History, entry, history_of}
 use Rattle.x7_part.specs.AddressOrder.{addresses_in}
 use Rattle.x7_part.specs.Part.{PartData, frame_words}
+use Rattle.x7_startup.specs.Calls.{StartupProgress}
 use Rattle.x7_part.specs.PartRange.{IsPart}
 use Rattle.x7_part.specs.Slots.{slots_in}
 use Rattle.x7_part.specs.declared.slot.Slot.{Slot}
@@ -29,7 +30,7 @@ use Rattle.x7_flow.proofs.FlowLemmas.{flow_more}
 use Rattle.x7_engine.specs.Course.{course_at}
 use Rattle.x7_engine.specs.declared.kept.Kept.{Kept}
 use Rattle.x7_engine.specs.Rest.{AtRest}
-use Rattle.x7_engine.specs.Startup.{phase_of}
+use Rattle.x7_engine.specs.Startup.{startup_progress}
 use Rattle.x7_engine.specs.State.{reads_of}
 use Rattle.x7_engine.specs.Stops.{why_at}
 use Rattle.x7_engine.specs.Values.{answer_of, read_out, read_value, words_read}
@@ -37,11 +38,12 @@ use Rattle.x7_engine.proofs.UntilLemmas.{phase_going}
 use Rattle.x7_effects.proofs.Checking.{Piece, pieces_length}
 use Rattle.x7_effects.specs.Played.{PlaysRead, resting_after, slot_words, words_along}
 use Rattle.x7_effects.proofs.Streams.{read_pieces, read_stream, stream_of}
-use Rattle.x7_effects.proofs.EndLemmas.{HasPlayed, memory_all, played, reads_all}
+use Rattle.x7_effects.proofs.EndLemmas.{HasPlayed, lines_going, memory_all, played, reads_all}
 use Rattle.x7_effects.proofs.FormLemmas.{read_clears, read_fits}
 use Rattle.x7_effects.proofs.FrameLemmas.{address_small}
 use Rattle.x7_effects.proofs.GoingLemmas.{IsGoing, far_passes, going_access, going_bytes, why_none, quiet_far, quiet_rcrc}
 use Rattle.x7_flow.proofs.InsideLemmas.{memory_has}
+use Rattle.x7_effects.proofs.KeptLemmas.{read_apart, settings_stay}
 use Rattle.x7_effects.proofs.PlanLemmas.{target}
 use Rattle.x7_effects.proofs.ReadLemmas as reading
 use Rattle.x7_effects.proofs.RestingLemmas.{going_at_rest, going_closed, stream_history}
@@ -101,37 +103,37 @@ pub read_plays : (part : PartData) (kept : Kept) (bytes : List ℕ) (far n : ℕ
 read_plays part kept bytes far n f r is has l =
     let h : History = history_of bytes in
     let place : ℕ = length bytes + 36 in
-    let phase : ℕ = phase_of part h (length bytes) in
+    let startup : StartupProgress = startup_progress h (length bytes) in
     let count : ℕ = frame_words part * (n + 1) in
     let product : count ≡ frame_words part * n + frame_words part = grind arith in
     let some : 0 < count = omega (arith, product, is.words) in
     let room : count < 2 ^ 27 = read_room part far n is has l in
     let t : IsTarget part far = target part far is has in
-    let going : IsGoing part kept phase h (place + 4) = going_bytes part kept phase h (length bytes) (place + 4) (omega arith) (going_at_rest part kept bytes f r) in
+    let going : IsGoing part kept startup h (place + 4) = going_bytes part kept startup h (length bytes) (place + 4) (omega arith) (going_at_rest part kept bytes f r) in
     let a : History = entry (access.Write 4 7) (place + 4 + 4 + 4) ∷ h in
-    let cleared : IsGoing part kept phase a (place + 4 + 8) = going_one part kept phase h (place + 4) 4 7 (quiet_rcrc h) refl refl going.calm.off going in
+    let cleared : IsGoing part kept startup a (place + 4 + 8) = going_one part kept startup h (place + 4) 4 7 (quiet_rcrc h) refl refl going.calm.off going in
     let b : History = entry (access.Write 4 4) (place + 4 + 8 + 4 + 4 + 4) ∷ a in
-    let ordered : IsGoing part kept phase b (place + 4 + 8 + 4 + 8) =
-    going_one part kept phase a (place + 4 + 8 + 4) 4 4 (record { start = refl; shutdown = refl; desync = refl }) refl refl cleared.calm.off (going_bytes part kept phase a (place + 4 + 8) (place + 4 + 8 + 4) (omega arith) cleared) in
+    let ordered : IsGoing part kept startup b (place + 4 + 8 + 4 + 8) =
+    going_one part kept startup a (place + 4 + 8 + 4) 4 4 (record { start = refl; shutdown = refl; desync = refl }) refl refl cleared.calm.off (going_bytes part kept startup a (place + 4 + 8) (place + 4 + 8 + 4) (omega arith) cleared) in
     let at : ℕ = place + 4 + 8 + 4 + 8 + 8 in
     let c : History = entry (access.Write 1 far) (place + 4 + 8 + 4 + 8 + 4 + 4) ∷ b in
-    let loaded : IsGoing part kept phase c at = going_one part kept phase b (place + 4 + 8 + 4 + 8) 1 far (quiet_far b far 4 refl refl refl refl refl) (far_passes part kept b far 4 refl refl refl refl) refl ordered.calm.off ordered in
+    let loaded : IsGoing part kept startup c at = going_one part kept startup b (place + 4 + 8 + 4 + 8) 1 far (quiet_far b far 4 refl refl refl refl refl) (far_passes part kept b far 4 refl refl refl refl) refl ordered.calm.off ordered in
     let flow = flow_more part (entry (access.Write 1 far) (place + 4 + 8 + 4 + 8 + 4 + 4)) b in
     let base : base_of part c ≡ far = ap (λ (x : Flow). x.base) flow ∙ t.0 in
     let given : given_of part c ≡ 0 = ap (λ (x : Flow). x.given) flow in
     let asks : reads_frame_data c (access.Read 3 count) ≡ true = gives part c count some refl r.sbits in
     let none : why_at part kept c (access.Read 3 count) ≡ None = why_none part kept c (access.Read 3 count) refl (read_none part c count asks (ap (has_frame_at part) base ∙ t.1)) in
     let d : History = entry (access.Read 3 count) (at + 8) ∷ c in
-    let read : IsGoing part kept phase d (at + 8) = going_access part kept phase c (access.Read 3 count) at (at + 8) (omega arith) loaded (record { start = refl; shutdown = refl; desync = refl }) none loaded.calm.off in
+    let read : IsGoing part kept startup d (at + 8) = going_access part kept startup c (access.Read 3 count) at (at + 8) (omega arith) loaded (record { start = refl; shutdown = refl; desync = refl }) none loaded.calm.off in
     let same : AreSame (memory_of part c) (memory_of part h) =
     quiet_one part b (access.Write 1 far) _ (memory_of part h) refl (quiet_one part a (access.Write 4 4) _ (memory_of part h) refl (quiet_one part h (access.Write 4 7) _ (memory_of part h) refl (λ x. refl))) in
     let memory : AreSame (memory_of part d) (memory_of part h) = quiet_one part c (access.Read 3 count) (at + 8) (memory_of part h) refl same in
     let pieces : List Piece = read_pieces part far n in
     let fits = read_fits part far n (omega (arith, is.words)) (address_small part far is has) room in
     let last : at + 8 ≡ place + 4 * pieces_length pieces = omega arith in
-    let all : HasPlayed part kept phase bytes (stream_of pieces 4) (memory_of part h) =
-    played part kept phase bytes pieces 4 (memory_of part h) f r.searching fits (read_clears part far n)
-    (going_closed part kept phase d (place + 4 * pieces_length pieces) 4 (subst (λ (k : ℕ). IsGoing part kept phase d k) last read)) r.sbits memory in
+    let all : HasPlayed part kept startup bytes (stream_of pieces 4) (memory_of part h) =
+    played part kept startup bytes pieces 4 (memory_of part h) f r.searching fits (read_clears part far n)
+    (going_closed part kept startup d (place + 4 * pieces_length pieces) 4 (subst (λ (k : ℕ). IsGoing part kept startup d k) last read)) r.sbits memory in
     let words : frames_read part c count ≡ words_along part (memory_of part h) far n =
     ap (λ (x : ℕ). words_from part x (memory_of part c) (given_of part c) count) base
     ∙ ap (λ (x : ℕ). words_from part far (memory_of part c) x count) given
@@ -147,6 +149,8 @@ read_plays part kept bytes far n f r is has l =
           ∙ ap (λ x. x ++ words_along part (memory_of part h) far n) (sym (reads_all part kept bytes r.no_stop))
           ∙ ap (λ (m : FrameMap). reads_of part kept bytes ++ words_along part m far n) (sym (memory_all part kept bytes r.no_stop));
       memory = λ x. all.memory x ∙ ap (λ (m : FrameMap). m x) (sym (memory_all part kept bytes r.no_stop));
+      registers = settings_stay part kept bytes pieces 4 f r.searching fits (read_clears part far n) r.no_stop all.rests_again.no_stop (read_apart far count);
       phase = λ wrapped. all.phase_is wrapped ∙ sym (phase_going part kept wrapped bytes r.no_stop);
+      lines = λ wrapped. all.lines_are wrapped ∙ sym (lines_going part kept wrapped bytes r.no_stop);
       rests = all.rests_again;
     }

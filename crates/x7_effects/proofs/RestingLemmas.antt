@@ -10,13 +10,13 @@ use Rattle.x7_packets.specs.Reading.{is_synced}
 use Rattle.x7_packets.proofs.EndedLemmas.{has_ended}
 use Rattle.x7_packets.proofs.GrowthLemmas.{placed_of}
 use Rattle.x7_part.specs.Part.{PartData}
-use Rattle.x7_startup.specs.Calls.{NotBegun, is_armed, since_taking}
+use Rattle.x7_startup.specs.Calls.{NotBegun, StartupProgress, is_armed, since_taking}
 use Rattle.x7_startup.specs.Calls as call
 use Rattle.x7_flow.specs.Controls.{ctl0_held, forbids_reading}
 use Rattle.x7_engine.specs.declared.kept.Kept.{Kept}
 use Rattle.x7_engine.specs.Clock.{newest_place}
 use Rattle.x7_engine.specs.Rest.{AtRest}
-use Rattle.x7_engine.specs.Startup.{phase_by, phase_of, startup_call, startup_calls, startup_progress}
+use Rattle.x7_engine.specs.Startup.{phase_of, startup_call, startup_calls, startup_progress}
 use Rattle.x7_engine.proofs.TurnLemmas.{newest_within}
 use Rattle.x7_effects.proofs.Items.{items_entered}
 use Rattle.x7_effects.proofs.Checking.{ArePieces, ClearFirst, Piece, at_first, checking_of, pieces_length, with_checks}
@@ -48,11 +48,11 @@ not_armed h n l (inl e) = subst (λ (x : History). is_armed false (since_taking 
 not_armed [] n l (inr e) = absurd (cc)
 not_armed (e ∷ h) n l (inr d) = disarmed h e.access e.place n (last_word 9 0 h) (desync_asks h e.access d) l
 
-still_at_rest : (part : PartData) (h : History) (n : ℕ) → newest_place h ≤ n → HasEnded h → (startup_progress h n ≡ NotBegun) ⊎ (phase_of part h n ≡ 7) → IsStill part (phase_of part h n) h n
-still_at_rest part h n l d (inl e) = inl (record { armed_is = not_armed h n l d; progress_is = e }, ap (phase_by part) e)
-still_at_rest part h n l d (inr e) = inr (e, e)
+still_at_rest : (part : PartData) (h : History) (n : ℕ) → newest_place h ≤ n → HasEnded h → (startup_progress h n ≡ NotBegun) ⊎ (phase_of part h n ≡ 7) → IsStill part (startup_progress h n) h n
+still_at_rest part h n l d (inl e) = inl (record { armed_is = not_armed h n l d; progress_is = e }, e)
+still_at_rest part h n l d (inr e) = inr (record { seven = e; before = e; same = refl })
 
-pub going_at_rest : (part : PartData) (kept : Kept) (bytes : List ℕ) → AreBytes bytes → AtRest part kept bytes → IsGoing part kept (phase_of part (history_of bytes) (length bytes)) (history_of bytes) (length bytes)
+pub going_at_rest : (part : PartData) (kept : Kept) (bytes : List ℕ) → AreBytes bytes → AtRest part kept bytes → IsGoing part kept (startup_progress (history_of bytes) (length bytes)) (history_of bytes) (length bytes)
 going_at_rest part kept bytes f r =
     let newest : newest_place (history_of bytes) ≤ length bytes = newest_within (length bytes) (history_of bytes) (placed_of bytes f) in
     record {
@@ -80,21 +80,21 @@ stream_count bytes pieces noops = length-append bytes (stream_of pieces noops) �
 
 -- ---- the end
 
-pub rests : (part : PartData) (kept : Kept) (phase : ℕ) (bytes : List ℕ) (h : History) (n : ℕ) → history_of bytes ≡ h → length bytes ≡ n → is_synced (reading_of bytes).place ≡ false
-    → IsGoing part kept phase h n → forbids_reading (ctl0_held h) ≡ false → AtRest part kept bytes
-rests part kept phase bytes h n e l s g c =
-    let all : IsGoing part kept phase (history_of bytes) (length bytes) = subst (λ (x : History). IsGoing part kept phase x (length bytes)) (sym e) (subst (λ (k : ℕ). IsGoing part kept phase h k) (sym l) g) in
+pub rests : (part : PartData) (kept : Kept) (startup : StartupProgress) (bytes : List ℕ) (h : History) (n : ℕ) → history_of bytes ≡ h → length bytes ≡ n → is_synced (reading_of bytes).place ≡ false
+    → IsGoing part kept startup h n → forbids_reading (ctl0_held h) ≡ false → AtRest part kept bytes
+rests part kept startup bytes h n e l s g c =
+    let all : IsGoing part kept startup (history_of bytes) (length bytes) = subst (λ (x : History). IsGoing part kept startup x (length bytes)) (sym e) (subst (λ (k : ℕ). IsGoing part kept startup h k) (sym l) g) in
     record {
       no_stop = all.calm.no_stop;
       searching = s;
-      startup = still_rests part phase (history_of bytes) (length bytes) all.still;
+      startup = still_rests part startup (history_of bytes) (length bytes) all.still;
       sbits = ap (λ (x : History). forbids_reading (ctl0_held x)) e ∙ c;
       no_shutdown = all.pending;
       no_watchdog = all.calm.off;
     }
 
 -- pieces that leave startup as it is, DESYNC and the no-ops
-pub going_closed : (part : PartData) (kept : Kept) (phase : ℕ) (h : History) (n noops : ℕ) → IsGoing part kept phase h n → IsGoing part kept phase (entry (access.Write 4 13) (n + 8) ∷ h) (n + 8 + 4 * noops)
-going_closed part kept phase h n noops g =
-    going_bytes part kept phase (entry (access.Write 4 13) (n + 8) ∷ h) (n + 8) (n + 8 + 4 * noops) (omega arith)
-    (going_desync part kept phase h n (n + 8) (omega arith) g (why_none part kept h (access.Write 4 13) refl refl))
+pub going_closed : (part : PartData) (kept : Kept) (startup : StartupProgress) (h : History) (n noops : ℕ) → IsGoing part kept startup h n → IsGoing part kept startup (entry (access.Write 4 13) (n + 8) ∷ h) (n + 8 + 4 * noops)
+going_closed part kept startup h n noops g =
+    going_bytes part kept startup (entry (access.Write 4 13) (n + 8) ∷ h) (n + 8) (n + 8 + 4 * noops) (omega arith)
+    (going_desync part kept startup h n (n + 8) (omega arith) g (why_none part kept h (access.Write 4 13) refl refl))

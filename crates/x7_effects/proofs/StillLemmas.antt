@@ -1,14 +1,17 @@
 -- Startup over a history that grows: what it is after each access, by what that asks of it.
-use Rattle.std.proofs.Common.{◌≡◌, ◌/◌, ◌+◌, ◌-◌, ◌≤◌, ◌⊎◌, inl, inr, ℕ, Bool, true, false, List, [], ◌∷◌, ◌++◌, refl, sym, ap, subst, ◌∙◌, append-nil, arith}
+use Rattle.std.proofs.Common.{◌≡◌, ◌/◌, ◌+◌, ◌-◌, ◌≤◌, ◌⊎◌, inl, inr, ℕ, Bool, true, false, Option, List, [], ◌∷◌, ◌++◌, refl, sym, ap, ap₂, subst, ◌∙◌, append-nil, arith}
 use Rattle.x7_packets.specs.History.{Access, History, entry}
 use Rattle.x7_part.specs.Part.{PartData}
 use Rattle.x7_startup.specs.Arrivals.{IsPhase, arrival, wait_of}
-use Rattle.x7_startup.specs.Calls.{Begun, Call, NotBegun, StartupProgress, is_armed, progress_of, since_taking}
+use Rattle.x7_startup.specs.Calls.{Begun, Call, NotBegun, StartupProgress, cor0_of, is_armed, progress_of, since_taking}
 use Rattle.x7_startup.specs.Calls as call
+use Rattle.x7_startup.specs.Lines.{done_line, gts_line, gwe_line}
+use Rattle.x7_startup.specs.declared.lines.Lines.{Lines}
 use Rattle.x7_startup.proofs.CallLemmas.{first_place, further, is_armed-arm, is_armed-bytes, is_armed-desync, is_armed-drop, progress_arm, progress_bytes, progress_desync, progress_drop}
 use Rattle.x7_startup.proofs.PhaseLemmas.{one_phase}
 use Rattle.x7_engine.specs.Clock.{newest_place}
 use Rattle.x7_engine.specs.Startup.{phase_by, phase_of, startup_call, startup_calls, startup_progress}
+use Rattle.x7_engine.specs.Values.{lines_by}
 use Rattle.x7_engine.proofs.ClockLemmas.{last_of, phase_rises, startup_entered, startup_more}
 use Rattle.x7_engine.proofs.StartupLemmas.{phase_is}
 
@@ -28,9 +31,6 @@ startup_bytes h n m armed progress l k s =
 -- the calls with those of an access
 entered_by : (h : History) (access : Access) (place : ℕ) (calls : List Call) → startup_call h access ≡ calls → startup_calls (entry access place ∷ h) place ≡ startup_calls h place ++ calls
 entered_by h access place calls e = startup_entered h access place ∙ ap (λ (t : List Call). startup_calls h place ++ t) e
-
-armed_by : (h : History) (place : ℕ) (armed b : Bool) (calls : List Call) → startup_calls h place ≡ calls → is_armed false (since_taking calls) ≡ b → is_armed false (since_taking (startup_calls h place)) ≡ b
-armed_by h place armed b calls e f = ap (λ (t : List Call). is_armed false (since_taking t)) e ∙ f
 
 -- an access that asks nothing of startup
 pub startup_none : (h : History) (access : Access) (place : ℕ) (armed : Bool) (progress : StartupProgress) → startup_call h access ≡ [] → HasStartup h place armed progress → HasStartup (entry access place ∷ h) place armed progress
@@ -81,20 +81,34 @@ disarmed h access place n cor0 e l =
     startup_desynced h access place cor0 (is_armed false (since_taking (startup_calls h place))) (startup_progress h place) e (record { armed_is = refl; progress_is = refl }) in
     (startup_bytes (entry access place ∷ h) place n false _ (omega arith) l here).armed_is
 
--- ---- startup that hasn't begun and isn't armed, or has ended
+-- ---- startup that hasn't begun and isn't armed, or has ended, as in a progress: the phase and the COR0 that it began with
 
-abbrev pub IsStill : PartData → ℕ → History → ℕ → Type 0
-IsStill part phase h n = (HasStartup h n false NotBegun × (phase ≡ 0)) ⊎ ((phase_of part h n ≡ 7) × (phase ≡ 7))
+-- it has ended in both, with one COR0
+pub record HasEndedAs (part : PartData) (startup : StartupProgress) (h : History) (n : ℕ) : Type 0 where
+  pub seven : phase_of part h n ≡ 7
+  pub before : phase_by part startup ≡ 7
+  pub same : cor0_of (startup_progress h n) ≡ cor0_of startup
 
-pub still_phase : (part : PartData) (phase : ℕ) (h : History) (n : ℕ) → IsStill part phase h n → phase_of part h n ≡ phase
-still_phase part phase h n (inl s) = ap (phase_by part) s.0.progress_is ∙ sym s.1
-still_phase part phase h n (inr s) = s.0 ∙ sym s.1
+abbrev pub IsStill : PartData → StartupProgress → History → ℕ → Type 0
+IsStill part startup h n = (HasStartup h n false NotBegun × (startup ≡ NotBegun)) ⊎ HasEndedAs part startup h n
 
-pub still_rests : (part : PartData) (phase : ℕ) (h : History) (n : ℕ) → IsStill part phase h n → (startup_progress h n ≡ NotBegun) ⊎ (phase_of part h n ≡ 7)
-still_rests part phase h n (inl s) = inl s.0.progress_is
-still_rests part phase h n (inr s) = inr s.0
+pub still_phase : (part : PartData) (startup : StartupProgress) (h : History) (n : ℕ) → IsStill part startup h n → phase_of part h n ≡ phase_by part startup
+still_phase part startup h n (inl s) = ap (phase_by part) (s.0.progress_is ∙ sym s.1)
+still_phase part startup h n (inr s) = s.seven ∙ sym s.before
 
-pub ended_bytes : (part : PartData) (h : History) (n m : ℕ) → newest_place h ≤ n → n ≤ m → phase_of part h n ≡ 7 → phase_of part h m ≡ 7
+-- the lines by COR0 and the phase
+abbrev pub lines_at : Option ℕ → ℕ → Lines
+lines_at cor0 phase = record { done = done_line cor0 phase; gts = gts_line cor0 phase; gwe = gwe_line cor0 phase }
+
+pub still_lines : (part : PartData) (startup : StartupProgress) (h : History) (n : ℕ) → IsStill part startup h n → lines_by part (startup_progress h n) ≡ lines_by part startup
+still_lines part startup h n (inl s) = ap (lines_by part) (s.0.progress_is ∙ sym s.1)
+still_lines part startup h n (inr s) = ap₂ lines_at s.same (s.seven ∙ sym s.before)
+
+pub still_rests : (part : PartData) (startup : StartupProgress) (h : History) (n : ℕ) → IsStill part startup h n → (startup_progress h n ≡ NotBegun) ⊎ (phase_of part h n ≡ 7)
+still_rests part startup h n (inl s) = inl s.0.progress_is
+still_rests part startup h n (inr s) = inr s.seven
+
+ended_bytes : (part : PartData) (h : History) (n m : ℕ) → newest_place h ≤ n → n ≤ m → phase_of part h n ≡ 7 → phase_of part h m ≡ 7
 ended_bytes part h n m l k e =
     let sum : n + (m - n) ≡ m = omega (arith, k) in
     let rises : phase_of part h n ≤ phase_of part h (n + (m - n)) = phase_rises part h n (m - n) l in
@@ -102,26 +116,45 @@ ended_bytes part h n m l k e =
     let end : phase_of part h (n + (m - n)) ≡ 7 = omega (arith, rises, most, e) in
     subst (λ (x : ℕ). phase_of part h x ≡ 7) sum end
 
-pub still_bytes : (part : PartData) (phase : ℕ) (h : History) (n m : ℕ) → newest_place h ≤ n → n ≤ m → IsStill part phase h n → IsStill part phase h m
-still_bytes part phase h n m l k (inl s) = inl (startup_bytes h n m false NotBegun l k s.0, s.1)
-still_bytes part phase h n m l k (inr s) = inr (ended_bytes part h n m l k s.0, s.1)
+further_cor0 : (n : ℕ) (p : StartupProgress) → cor0_of (further n p) ≡ cor0_of p
+further_cor0 n NotBegun = refl
+further_cor0 n (Begun c bytes) = refl
 
-pub still_none : (part : PartData) (phase : ℕ) (h : History) (access : Access) (place : ℕ) → startup_call h access ≡ [] → IsStill part phase h place → IsStill part phase (entry access place ∷ h) place
-still_none part phase h access place e (inl s) = inl (startup_none h access place false NotBegun e s.0, s.1)
-still_none part phase h access place e (inr s) =
+cor0_bytes : (h : History) (n m : ℕ) → newest_place h ≤ n → n ≤ m → cor0_of (startup_progress h m) ≡ cor0_of (startup_progress h n)
+cor0_bytes h n m l k =
+    let sum : n + (m - n) ≡ m = omega (arith, k) in
+    ap (λ (x : ℕ). cor0_of (startup_progress h x)) (sym sum)
+    ∙ ap (λ (t : List Call). cor0_of (progress_of t)) (startup_more h n (m - n) l)
+    ∙ ap cor0_of (progress_bytes (startup_calls h n) (m - n))
+    ∙ further_cor0 (m - n) (startup_progress h n)
+
+pub still_bytes : (part : PartData) (startup : StartupProgress) (h : History) (n m : ℕ) → newest_place h ≤ n → n ≤ m → IsStill part startup h n → IsStill part startup h m
+still_bytes part startup h n m l k (inl s) = inl (startup_bytes h n m false NotBegun l k s.0, s.1)
+still_bytes part startup h n m l k (inr s) = inr (record { seven = ended_bytes part h n m l k s.seven; before = s.before; same = cor0_bytes h n m l k ∙ s.same })
+
+pub still_none : (part : PartData) (startup : StartupProgress) (h : History) (access : Access) (place : ℕ) → startup_call h access ≡ [] → IsStill part startup h place → IsStill part startup (entry access place ∷ h) place
+still_none part startup h access place e (inl s) = inl (startup_none h access place false NotBegun e s.0, s.1)
+still_none part startup h access place e (inr s) =
     let same : startup_calls (entry access place ∷ h) place ≡ startup_calls h place = entered_by h access place [] e ∙ append-nil (startup_calls h place) in
-    inr (ap (λ (t : List Call). phase_by part (progress_of t)) same ∙ s.0, s.1)
+    inr (record {
+      seven = ap (λ (t : List Call). phase_by part (progress_of t)) same ∙ s.seven;
+      before = s.before;
+      same = ap (λ (t : List Call). cor0_of (progress_of t)) same ∙ s.same;
+    })
 
-goes_on : (part : PartData) (progress : StartupProgress) (armed : Bool) (cor0 : ℕ) → phase_by part progress ≡ 7 → phase_by part (first_place progress armed cor0) ≡ 7
+-- startup that has begun goes on
+goes_on : (part : PartData) (progress : StartupProgress) (armed : Bool) (cor0 : ℕ) → phase_by part progress ≡ 7 → first_place progress armed cor0 ≡ progress
 goes_on part NotBegun armed cor0 e = absurd (omega (arith, e))
-goes_on part (Begun c bytes) armed cor0 e = e
+goes_on part (Begun c bytes) armed cor0 e = refl
 
-pub still_desynced : (part : PartData) (phase : ℕ) (h : History) (access : Access) (place cor0 : ℕ) → startup_call h access ≡ call.Desync cor0 ∷ [] → IsStill part phase h place → IsStill part phase (entry access place ∷ h) place
-still_desynced part phase h access place cor0 e (inl s) = inl (startup_desynced h access place cor0 false NotBegun e s.0, s.1)
-still_desynced part phase h access place cor0 e (inr s) =
+pub still_desynced : (part : PartData) (startup : StartupProgress) (h : History) (access : Access) (place cor0 : ℕ) → startup_call h access ≡ call.Desync cor0 ∷ [] → IsStill part startup h place → IsStill part startup (entry access place ∷ h) place
+still_desynced part startup h access place cor0 e (inl s) = inl (startup_desynced h access place cor0 false NotBegun e s.0, s.1)
+still_desynced part startup h access place cor0 e (inr s) =
     let calls : startup_calls (entry access place ∷ h) place ≡ startup_calls h place ++ call.Desync cor0 ∷ [] = entered_by h access place (call.Desync cor0 ∷ []) e in
     let armed : Bool = is_armed false (since_taking (startup_calls h place)) in
-    inr (ap (λ (t : List Call). phase_by part (progress_of t)) calls ∙ ap (phase_by part) (progress_desync (startup_calls h place) cor0) ∙ goes_on part (startup_progress h place) armed cor0 s.0, s.1)
+    let progress : startup_progress (entry access place ∷ h) place ≡ startup_progress h place =
+    ap progress_of calls ∙ progress_desync (startup_calls h place) cor0 ∙ goes_on part (startup_progress h place) armed cor0 s.seven in
+    inr (record { seven = ap (phase_by part) progress ∙ s.seven; before = s.before; same = ap cor0_of progress ∙ s.same })
 
 -- ---- the startup of a full stream: COR0 waits in no phase, so seven ticks end it
 

@@ -53,9 +53,6 @@ stretches_pieces part stretches = flat_map (stretch_pieces part) stretches
 abbrev pub partial_pieces : PartData → List Stretch → List Piece
 partial_pieces part stretches = Put Noop ∷ command Rcrc ∷ Put Noop ∷ one Idcode part.idcode ∷ (stretches_pieces part stretches ++ Check ∷ [])
 
-abbrev pub partial_stream : PartData → List Stretch → List ℕ
-partial_stream part stretches = stream_of (partial_pieces part stretches) 4
-
 -- a readback of so many words, and of n slots, from an address on
 abbrev pub read_with : ℕ → ℕ → List Piece
 read_with far count = Put Noop ∷ command Rcrc ∷ Put Noop ∷ command Rcfg ∷ one Far far ∷ Put (ReadLong (number_of Fdro) count) ∷ []

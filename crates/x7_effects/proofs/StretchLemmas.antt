@@ -6,6 +6,7 @@ use Rattle.x7_regs.specs.declared.command.Command.TheVariants.{Mfw, Wcfg}
 use Rattle.x7_regs.specs.declared.register.Reg.TheVariants.{Far}
 use Rattle.x7_packets.specs.History as access
 use Rattle.x7_packets.specs.History.{History, command_held, entry}
+use Rattle.x7_startup.specs.Calls.{StartupProgress}
 use Rattle.x7_part.specs.Part.{PartData, frame_words}
 use Rattle.x7_memory.specs.FrameMap.{AreSame, FrameMap}
 use Rattle.x7_memory.specs.Planned.{PlanRow, planned_addresses}
@@ -40,19 +41,19 @@ use Rattle.x7_effects.proofs.WalkLemmas.{HasWritten, IsLoaded, IsReady, allows_w
 -- ---- copies
 
 -- after MFW with this source
-record IsCopying (part : PartData) (kept : Kept) (phase : ℕ) (words : List ℕ) (h : History) (n : ℕ) (m : FrameMap) : Type 0 where
-  ready : IsReady part kept phase h n m
+record IsCopying (part : PartData) (kept : Kept) (startup : StartupProgress) (words : List ℕ) (h : History) (n : ℕ) (m : FrameMap) : Type 0 where
+  ready : IsReady part kept startup h n m
   held_is : command_held h ≡ 2
   source_is : source_of part h ≡ Some words
 
 -- MFW after the words of one frame
-begins_copies : (part : PartData) (kept : Kept) (phase far : ℕ) (words : List ℕ) (h : History) (n : ℕ) (m : FrameMap) → 0 < frame_words part → length words ≡ frame_words part → HasWritten part kept phase far words h n m
-    → written_frames part far (onto words []) ≡ [] → IsCopying part kept phase words (written n (command Mfw ∷ []) h) (n + 8) m
-begins_copies part kept phase far words h n m some wide w none =
+begins_copies : (part : PartData) (kept : Kept) (startup : StartupProgress) (far : ℕ) (words : List ℕ) (h : History) (n : ℕ) (m : FrameMap) → 0 < frame_words part → length words ≡ frame_words part → HasWritten part kept startup far words h n m
+    → written_frames part far (onto words []) ≡ [] → IsCopying part kept startup words (written n (command Mfw ∷ []) h) (n + 8) m
+begins_copies part kept startup far words h n m some wide w none =
     let run : run_of part h ≡ onto (flat_map (λ frame. frame) ([] ++ words ∷ [])) [] = w.run_is ∙ ap (λ t. onto t []) (sym (append-nil words)) in
     record {
       ready = record {
-        going = going_one part kept phase h n 4 2 (record { start = refl; shutdown = refl; desync = refl }) refl refl w.ready.going.calm.off w.ready.going;
+        going = going_one part kept startup h n 4 2 (record { start = refl; shutdown = refl; desync = refl }) refl refl w.ready.going.calm.off w.ready.going;
         matched = w.ready.matched;
         allows = w.ready.allows;
         memory = quiet_one part h (access.Write 4 2) (n + 4 + 4) m refl (λ a. w.ready.memory a ∙ put_none (written_frames part far (onto words [])) m none a);
@@ -70,13 +71,13 @@ copy_none : (part : PartData) (held : Command) (base : ℕ) (words : List ℕ) (
 unfolding copy_fault address_fault
 copy_none part held base words source e f a = rw (e, f, a) refl
 
-copy_one : (part : PartData) (kept : Kept) (phase far : ℕ) (words : List ℕ) (h : History) (n : ℕ) (m : FrameMap) → IsCopying part kept phase words h n m → IsTarget part far
-    → IsCopying part kept phase words (written n (copy_pieces far) h) (n + 8 + 8) (put_over (record { far = far; words = words } ∷ []) m)
-copy_one part kept phase far words h n m c t =
+copy_one : (part : PartData) (kept : Kept) (startup : StartupProgress) (far : ℕ) (words : List ℕ) (h : History) (n : ℕ) (m : FrameMap) → IsCopying part kept startup words h n m → IsTarget part far
+    → IsCopying part kept startup words (written n (copy_pieces far) h) (n + 8 + 8) (put_over (record { far = far; words = words } ∷ []) m)
+copy_one part kept startup far words h n m c t =
     let place : ℕ = n + 4 + 4 in
     let g : History = entry (access.Write 1 far) place ∷ h in
-    let first : IsGoing part kept phase g (n + 8) =
-    going_one part kept phase h n 1 far (quiet_far h far 2 c.held_is refl refl refl refl) (far_passes part kept h far 2 c.held_is refl refl refl) refl c.ready.going.calm.off c.ready.going in
+    let first : IsGoing part kept startup g (n + 8) =
+    going_one part kept startup h n 1 far (quiet_far h far 2 c.held_is refl refl refl refl) (far_passes part kept h far 2 c.held_is refl refl refl) refl c.ready.going.calm.off c.ready.going in
     let allowed : takes_copies (settings_of part.idcode h) ≡ true = rw (c.ready.matched, allows_writing (ctl0_held h) c.ready.allows) refl in
     let loaded = flow_more part (entry (access.Write 1 far) place) h in
     let base : base_of part g ≡ far = ap (λ (f : Flow). f.base) loaded ∙ t.0 in
@@ -86,8 +87,8 @@ copy_one part kept phase far words h n m c t =
     let fault : frame_fault part g (access.Write 10 0) ≡ None =
     ap (λ (b : Bool). fault_by part (if b then Copies else Other) (flow_of part g)) allowed
     ∙ copy_none part (flow_of part g).command (base_of part g) words (source_of part g) mfw source (ap (has_frame_at part) base ∙ t.1) in
-    let second : IsGoing part kept phase (item_entered (n + 8) (Write 10 (0 ∷ [])) g) (n + 8 + 8) =
-    going_one part kept phase g (n + 8) 10 0 (record { start = refl; shutdown = refl; desync = refl }) (copy_passes part kept g 0 c.ready.matched) fault first.calm.off first in
+    let second : IsGoing part kept startup (item_entered (n + 8) (Write 10 (0 ∷ [])) g) (n + 8 + 8) =
+    going_one part kept startup g (n + 8) 10 0 (record { start = refl; shutdown = refl; desync = refl }) (copy_passes part kept g 0 c.ready.matched) fault first.calm.off first in
     let puts : AreSame (memory_of part (item_entered (n + 8) (Write 10 (0 ∷ [])) g)) (put_over (record { far = loaded_base part far; words = words } ∷ []) (memory_of part h)) =
     copies_put part h far place (n + 8 + 4) 0 [] words allowed (ap (λ (k : ℕ). is_mfw (command_with k)) c.held_is ∙ mfw_with 2) c.source_is (ap (has_frame_at part) t.0 ∙ t.1) in
     let keeps = copies_keep part h far place (n + 8 + 4) (0 ∷ []) in
@@ -109,22 +110,22 @@ copies_length : (fars : List ℕ) → pieces_length (flat_map copy_pieces fars) 
 copies_length [] = refl
 copies_length (far ∷ fars) = omega (arith, copies_length fars)
 
-copy_all : (part : PartData) (kept : Kept) (phase : ℕ) (words fars : List ℕ) (h : History) (n : ℕ) (m : FrameMap) → IsCopying part kept phase words h n m → AllByRecursion (IsTarget part) fars
-    → IsCopying part kept phase words (written n (flat_map copy_pieces fars) h) (n + 16 * length fars) (put_over (reverse (Pairs words fars)) m)
-copy_all part kept phase words [] h n m c a =
+copy_all : (part : PartData) (kept : Kept) (startup : StartupProgress) (words fars : List ℕ) (h : History) (n : ℕ) (m : FrameMap) → IsCopying part kept startup words h n m → AllByRecursion (IsTarget part) fars
+    → IsCopying part kept startup words (written n (flat_map copy_pieces fars) h) (n + 16 * length fars) (put_over (reverse (Pairs words fars)) m)
+copy_all part kept startup words [] h n m c a =
     let same : n ≡ n + 16 * length {A = ℕ} [] = omega arith in
-    subst (λ (k : ℕ). IsCopying part kept phase words h k (put_over (reverse (Pairs words [])) m)) same (record {
+    subst (λ (k : ℕ). IsCopying part kept startup words h k (put_over (reverse (Pairs words [])) m)) same (record {
       ready = record { going = c.ready.going; matched = c.ready.matched; allows = c.ready.allows; memory = λ x. c.ready.memory x ∙ sym (put_none [] m refl x) };
       held_is = c.held_is;
       source_is = c.source_is;
     })
-copy_all part kept phase words (far ∷ fars) h n m c a =
+copy_all part kept startup words (far ∷ fars) h n m c a =
     let pair : PlanRow = record { far = far; words = words } in
-    let once : IsCopying part kept phase words (written n (copy_pieces far) h) (n + 8 + 8) (put_over (pair ∷ []) m) = copy_one part kept phase far words h n m c a.0 in
-    let rest : IsCopying part kept phase words (written (n + 8 + 8) (flat_map copy_pieces fars) (written n (copy_pieces far) h)) (n + 8 + 8 + 16 * length fars) (put_over (reverse (Pairs words fars)) (put_over (pair ∷ []) m)) =
-    copy_all part kept phase words fars (written n (copy_pieces far) h) (n + 8 + 8) (put_over (pair ∷ []) m) once a.1 in
+    let once : IsCopying part kept startup words (written n (copy_pieces far) h) (n + 8 + 8) (put_over (pair ∷ []) m) = copy_one part kept startup far words h n m c a.0 in
+    let rest : IsCopying part kept startup words (written (n + 8 + 8) (flat_map copy_pieces fars) (written n (copy_pieces far) h)) (n + 8 + 8 + 16 * length fars) (put_over (reverse (Pairs words fars)) (put_over (pair ∷ []) m)) =
+    copy_all part kept startup words fars (written n (copy_pieces far) h) (n + 8 + 8) (put_over (pair ∷ []) m) once a.1 in
     let end : n + 8 + 8 + 16 * length fars ≡ n + 16 * length (far ∷ fars) = omega arith in
-    subst (λ (k : ℕ). IsCopying part kept phase words (written (n + 8 + 8) (flat_map copy_pieces fars) (written n (copy_pieces far) h)) k (put_over (reverse (Pairs words (far ∷ fars))) m)) end (record {
+    subst (λ (k : ℕ). IsCopying part kept startup words (written (n + 8 + 8) (flat_map copy_pieces fars) (written n (copy_pieces far) h)) k (put_over (reverse (Pairs words (far ∷ fars))) m)) end (record {
       ready = record {
         going = rest.ready.going;
         matched = rest.ready.matched;
@@ -149,58 +150,58 @@ abbrev pub Stands : PartData → Stretch → Type 0
 Stands part (stretch.Copies words fars) = IsStretchOf part (get_or fars 0 0) fars words × (length words ≡ frame_words part)
 Stands part (Rows rows) = IsStretchOf part (get_or (planned_addresses rows) 0 0) [] (joined (row_frames rows ++ zero_frame part ∷ []))
 
-rows_ready : (part : PartData) (kept : Kept) (phase : ℕ) (rows : List PlanRow) (h : History) (n : ℕ) (m : FrameMap) → IsReady part kept phase h n m → LandsAs part (Rows rows) → Stands part (Rows rows)
-    → IsReady part kept phase (written n (stretch_pieces part (Rows rows)) h) (n + 4 * pieces_length (stretch_pieces part (Rows rows))) (put_over (reverse rows) m)
-rows_ready part kept phase rows h n m r l s =
+rows_ready : (part : PartData) (kept : Kept) (startup : StartupProgress) (rows : List PlanRow) (h : History) (n : ℕ) (m : FrameMap) → IsReady part kept startup h n m → LandsAs part (Rows rows) → Stands part (Rows rows)
+    → IsReady part kept startup (written n (stretch_pieces part (Rows rows)) h) (n + 4 * pieces_length (stretch_pieces part (Rows rows))) (put_over (reverse rows) m)
+rows_ready part kept startup rows h n m r l s =
     let far : ℕ = get_or (planned_addresses rows) 0 0 in
     let ws : List ℕ = joined (row_frames rows ++ zero_frame part ∷ []) in
-    let loaded : IsLoaded part kept phase 1 far (written n (command Wcfg ∷ one Far far ∷ []) h) (n + 8 + 8) m = ready_load part kept phase far h n m r s.begins.0 in
-    let w : HasWritten part kept phase far ws (written (n + 8 + 8) (Put (WriteLong 2 ws) ∷ []) (written n (command Wcfg ∷ one Far far ∷ []) h)) (n + 8 + 8 + 4 * piece_length (Put (WriteLong 2 ws))) m =
-    loaded_words part kept phase far (written n (command Wcfg ∷ one Far far ∷ []) h) (n + 8 + 8) m ws loaded s.begins.1 s.few in
+    let loaded : IsLoaded part kept startup 1 far (written n (command Wcfg ∷ one Far far ∷ []) h) (n + 8 + 8) m = ready_load part kept startup far h n m r s.begins.0 in
+    let w : HasWritten part kept startup far ws (written (n + 8 + 8) (Put (WriteLong 2 ws) ∷ []) (written n (command Wcfg ∷ one Far far ∷ []) h)) (n + 8 + 8 + 4 * piece_length (Put (WriteLong 2 ws))) m =
+    loaded_words part kept startup far (written n (command Wcfg ∷ one Far far ∷ []) h) (n + 8 + 8) m ws loaded s.begins.1 s.few in
     let end : n + 8 + 8 + 4 * piece_length (Put (WriteLong 2 ws)) ≡ n + 4 * pieces_length (stretch_pieces part (Rows rows)) = omega arith in
-    subst (λ (k : ℕ). IsReady part kept phase (written n (stretch_pieces part (Rows rows)) h) k (put_over (reverse rows) m)) end (record {
+    subst (λ (k : ℕ). IsReady part kept startup (written n (stretch_pieces part (Rows rows)) h) k (put_over (reverse rows) m)) end (record {
       going = w.ready.going;
       matched = w.ready.matched;
       allows = w.ready.allows;
       memory = λ a. w.ready.memory a ∙ put_same (written_frames part far (onto ws [])) (reverse rows) m m l (λ x. refl) a;
     })
 
-copies_ready : (part : PartData) (kept : Kept) (phase : ℕ) (words fars : List ℕ) (h : History) (n : ℕ) (m : FrameMap) → 0 < frame_words part → IsReady part kept phase h n m → LandsAs part (stretch.Copies words fars) → Stands part (stretch.Copies words fars)
-    → IsReady part kept phase (written n (stretch_pieces part (stretch.Copies words fars)) h) (n + 4 * pieces_length (stretch_pieces part (stretch.Copies words fars))) (put_over (reverse (Pairs words fars)) m)
-copies_ready part kept phase words fars h n m some r l s =
+copies_ready : (part : PartData) (kept : Kept) (startup : StartupProgress) (words fars : List ℕ) (h : History) (n : ℕ) (m : FrameMap) → 0 < frame_words part → IsReady part kept startup h n m → LandsAs part (stretch.Copies words fars) → Stands part (stretch.Copies words fars)
+    → IsReady part kept startup (written n (stretch_pieces part (stretch.Copies words fars)) h) (n + 4 * pieces_length (stretch_pieces part (stretch.Copies words fars))) (put_over (reverse (Pairs words fars)) m)
+copies_ready part kept startup words fars h n m some r l s =
     let far : ℕ = get_or fars 0 0 in
     let prefix : History = written n (command Wcfg ∷ one Far far ∷ []) h in
-    let loaded : IsLoaded part kept phase 1 far prefix (n + 8 + 8) m = ready_load part kept phase far h n m r s.0.begins.0 in
+    let loaded : IsLoaded part kept startup 1 far prefix (n + 8 + 8) m = ready_load part kept startup far h n m r s.0.begins.0 in
     let k : ℕ = n + 8 + 8 + 4 * piece_length (Put (WriteLong 2 words)) in
     let data_in : History = written (n + 8 + 8) (Put (WriteLong 2 words) ∷ []) prefix in
-    let w : HasWritten part kept phase far words data_in k m = loaded_words part kept phase far prefix (n + 8 + 8) m words loaded s.0.begins.1 s.0.few in
-    let copying : IsCopying part kept phase words (written k (command Mfw ∷ []) data_in) (k + 8) m = begins_copies part kept phase far words data_in k m some s.1 w l.0 in
-    let all : IsCopying part kept phase words (written (k + 8) (flat_map copy_pieces fars) (written k (command Mfw ∷ []) data_in)) (k + 8 + 16 * length fars) (put_over (reverse (Pairs words fars)) m) =
-    copy_all part kept phase words fars (written k (command Mfw ∷ []) data_in) (k + 8) m copying s.0.targets in
+    let w : HasWritten part kept startup far words data_in k m = loaded_words part kept startup far prefix (n + 8 + 8) m words loaded s.0.begins.1 s.0.few in
+    let copying : IsCopying part kept startup words (written k (command Mfw ∷ []) data_in) (k + 8) m = begins_copies part kept startup far words data_in k m some s.1 w l.0 in
+    let all : IsCopying part kept startup words (written (k + 8) (flat_map copy_pieces fars) (written k (command Mfw ∷ []) data_in)) (k + 8 + 16 * length fars) (put_over (reverse (Pairs words fars)) m) =
+    copy_all part kept startup words fars (written k (command Mfw ∷ []) data_in) (k + 8) m copying s.0.targets in
     let end : k + 8 + 16 * length fars ≡ n + 4 * pieces_length (stretch_pieces part (stretch.Copies words fars)) = omega (arith, copies_length fars) in
-    subst (λ (x : ℕ). IsReady part kept phase (written (k + 8) (flat_map copy_pieces fars) (written k (command Mfw ∷ []) data_in)) x (put_over (reverse (Pairs words fars)) m)) end all.ready
+    subst (λ (x : ℕ). IsReady part kept startup (written (k + 8) (flat_map copy_pieces fars) (written k (command Mfw ∷ []) data_in)) x (put_over (reverse (Pairs words fars)) m)) end all.ready
 
-stretch_ready : (part : PartData) (kept : Kept) (phase : ℕ) (s : Stretch) (h : History) (n : ℕ) (m : FrameMap) → 0 < frame_words part → IsReady part kept phase h n m → LandsAs part s → Stands part s
-    → IsReady part kept phase (written n (stretch_pieces part s) h) (n + 4 * pieces_length (stretch_pieces part s)) (put_over (reverse (pairs_of s)) m)
-stretch_ready part kept phase (stretch.Copies words fars) h n m some r l t = copies_ready part kept phase words fars h n m some r l t
-stretch_ready part kept phase (Rows rows) h n m some r l t = rows_ready part kept phase rows h n m r l t
+stretch_ready : (part : PartData) (kept : Kept) (startup : StartupProgress) (s : Stretch) (h : History) (n : ℕ) (m : FrameMap) → 0 < frame_words part → IsReady part kept startup h n m → LandsAs part s → Stands part s
+    → IsReady part kept startup (written n (stretch_pieces part s) h) (n + 4 * pieces_length (stretch_pieces part s)) (put_over (reverse (pairs_of s)) m)
+stretch_ready part kept startup (stretch.Copies words fars) h n m some r l t = copies_ready part kept startup words fars h n m some r l t
+stretch_ready part kept startup (Rows rows) h n m some r l t = rows_ready part kept startup rows h n m r l t
 
 pub pieces_sum : (xs ys : List Piece) → pieces_length (xs ++ ys) ≡ pieces_length xs + pieces_length ys
 pieces_sum [] ys = omega arith
 pieces_sum (x ∷ xs) ys = omega (arith, pieces_sum xs ys)
 
-pub stretches_ready : (part : PartData) (kept : Kept) (phase : ℕ) (stretches : List Stretch) (h : History) (n : ℕ) (m : FrameMap) → 0 < frame_words part → IsReady part kept phase h n m → AllByRecursion (LandsAs part) stretches → AllByRecursion (Stands part) stretches
-    → IsReady part kept phase (written n (stretches_pieces part stretches) h) (n + 4 * pieces_length (stretches_pieces part stretches)) (put_stretches m stretches)
-stretches_ready part kept phase [] h n m some r l t =
+pub stretches_ready : (part : PartData) (kept : Kept) (startup : StartupProgress) (stretches : List Stretch) (h : History) (n : ℕ) (m : FrameMap) → 0 < frame_words part → IsReady part kept startup h n m → AllByRecursion (LandsAs part) stretches → AllByRecursion (Stands part) stretches
+    → IsReady part kept startup (written n (stretches_pieces part stretches) h) (n + 4 * pieces_length (stretches_pieces part stretches)) (put_stretches m stretches)
+stretches_ready part kept startup [] h n m some r l t =
     let same : n ≡ n + 4 * pieces_length [] = omega arith in
-    subst (λ (k : ℕ). IsReady part kept phase h k m) same r
-stretches_ready part kept phase (s ∷ stretches) h n m some r l t =
+    subst (λ (k : ℕ). IsReady part kept startup h k m) same r
+stretches_ready part kept startup (s ∷ stretches) h n m some r l t =
     let pieces : List Piece = stretch_pieces part s in
     let rest : List Piece = stretches_pieces part stretches in
     let k : ℕ = n + 4 * pieces_length pieces in
-    let first : IsReady part kept phase (written n pieces h) k (put_over (reverse (pairs_of s)) m) = stretch_ready part kept phase s h n m some r l.0 t.0 in
-    let all : IsReady part kept phase (written k rest (written n pieces h)) (k + 4 * pieces_length rest) (put_stretches (put_over (reverse (pairs_of s)) m) stretches) =
-    stretches_ready part kept phase stretches (written n pieces h) k (put_over (reverse (pairs_of s)) m) some first l.1 t.1 in
+    let first : IsReady part kept startup (written n pieces h) k (put_over (reverse (pairs_of s)) m) = stretch_ready part kept startup s h n m some r l.0 t.0 in
+    let all : IsReady part kept startup (written k rest (written n pieces h)) (k + 4 * pieces_length rest) (put_stretches (put_over (reverse (pairs_of s)) m) stretches) =
+    stretches_ready part kept startup stretches (written n pieces h) k (put_over (reverse (pairs_of s)) m) some first l.1 t.1 in
     let end : k + 4 * pieces_length rest ≡ n + 4 * pieces_length (pieces ++ rest) = omega (arith, pieces_sum pieces rest) in
-    subst (λ (x : History). IsReady part kept phase x (n + 4 * pieces_length (pieces ++ rest)) (put_stretches (put_over (reverse (pairs_of s)) m) stretches)) (sym (written_append n pieces rest h))
-    (subst (λ (x : ℕ). IsReady part kept phase (written k rest (written n pieces h)) x (put_stretches (put_over (reverse (pairs_of s)) m) stretches)) end all)
+    subst (λ (x : History). IsReady part kept startup x (n + 4 * pieces_length (pieces ++ rest)) (put_stretches (put_over (reverse (pairs_of s)) m) stretches)) (sym (written_append n pieces rest h))
+    (subst (λ (x : ℕ). IsReady part kept startup (written k rest (written n pieces h)) x (put_stretches (put_over (reverse (pairs_of s)) m) stretches)) end all)

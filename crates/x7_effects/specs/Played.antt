@@ -1,5 +1,5 @@
 -- What planned streams do on a device at rest (this project's choice).
-use Rattle.std.specs.Prelude.{◌≡◌, ℕ, Bool, List, ◌++◌, replicate, take, unwrap_or}
+use Rattle.std.specs.Prelude.{◌≡◌, ℕ, Bool, true, List, ◌++◌, replicate, take, unwrap_or}
 use Rattle.std.specs.List.{flat_map}
 use Rattle.x7_words.specs.Word.{AreBytes}
 use Rattle.x7_part.specs.Part.{PartData, frame_words}
@@ -9,7 +9,9 @@ use Rattle.x7_part.specs.declared.slot.Slot.TheVariants.{Frame, Pad, End}
 use Rattle.x7_memory.specs.FrameMap.{AreSame, FrameMap, override}
 use Rattle.x7_memory.specs.Planned.{IsPlanFor, PlanData, planned, total}
 use Rattle.x7_pipeline.specs.Runs.{slots_from}
+use Rattle.x7_startup.specs.declared.lines.Lines.{Lines}
 use Rattle.x7_engine.specs.declared.kept.Kept.{Kept}
+use Rattle.x7_engine.specs.declared.regs.Regs.{Regs}
 use Rattle.x7_engine.specs.Rest.{AtRest}
 use Rattle.x7_engine.specs.State.{memory_in, reads_of, state_of}
 use Rattle.x7_planner.specs.Full.{full_stream}
@@ -64,25 +66,51 @@ slot_words part memory End = replicate (frame_words part) 0
 abbrev pub words_along : PartData → FrameMap → ℕ → ℕ → List ℕ
 words_along part memory far n = replicate (frame_words part) 0 ++ flat_map (slot_words part memory) (take n (slots_from part far))
 
--- After a full stream the memory is the plan over zeros and startup has ended. It reads nothing out, there is no stop, and the device is at rest again.
+-- DONE, GTS and GWE are 1: the device is configured, drives its outputs, and may write its memories
+abbrev pub all_high : Lines
+all_high = record { done = true; gts = true; gwe = true }
+
+-- the registers that no planned stream writes are as they were
+pub record KeepsUnwritten (old new : Regs) : Type 0 where
+  pub cor1 : new.cor1 ≡ old.cor1
+  pub ctl1 : new.ctl1 ≡ old.ctl1
+  pub axss : new.axss ≡ old.axss
+  pub wbstar : new.wbstar ≡ old.wbstar
+  pub timer : new.timer ≡ old.timer
+  pub bspi : new.bspi ≡ old.bspi
+
+-- so are the settings that a full stream writes: all but CRC, FAR, CMD and what shows the device's state
+pub record KeepsSettings (old new : Regs) : Type 0 where
+  pub ctl0 : new.ctl0 ≡ old.ctl0
+  pub mask : new.mask ≡ old.mask
+  pub cor0 : new.cor0 ≡ old.cor0
+  pub unwritten : KeepsUnwritten old new
+
+-- After a full stream the memory is the plan over zeros, startup has ended, and its lines are 1. It reads nothing out, there is no stop, and the device is at rest again.
 pub record PlaysFull (r : Resting) (stream : List ℕ) (plan : PlanData) : Type 0 where
   pub memory : AreSame (memory_in r.part r.kept (r.bytes ++ stream)) (total r.part plan)
   pub phase : (wrapped : Bool) → (state_of r.part r.kept wrapped (r.bytes ++ stream)).phase ≡ 7
+  pub lines : (wrapped : Bool) → (state_of r.part r.kept wrapped (r.bytes ++ stream)).lines ≡ all_high
+  pub registers : (wrapped : Bool) → KeepsUnwritten (state_of r.part r.kept wrapped r.bytes) (state_of r.part r.kept wrapped (r.bytes ++ stream))
   pub reads : reads_of r.part r.kept (r.bytes ++ stream) ≡ reads_of r.part r.kept r.bytes
   pub rests : AtRest r.part r.kept (r.bytes ++ stream)
 
--- After a partial stream the memory is that before it, overridden by the plan, and the phase stays. It reads nothing out, there is no stop, and the device is at rest again.
+-- After a partial stream the memory is that before it, overridden by the plan, and phase, lines and settings stay. It reads nothing out, there is no stop, and the device is at rest again.
 pub record PlaysPartial (r : Resting) (stream : List ℕ) (plan : PlanData) : Type 0 where
   pub memory : AreSame (memory_in r.part r.kept (r.bytes ++ stream)) (override (memory_in r.part r.kept r.bytes) (planned plan.rows))
   pub phase : (wrapped : Bool) → (state_of r.part r.kept wrapped (r.bytes ++ stream)).phase ≡ (state_of r.part r.kept wrapped r.bytes).phase
+  pub lines : (wrapped : Bool) → (state_of r.part r.kept wrapped (r.bytes ++ stream)).lines ≡ (state_of r.part r.kept wrapped r.bytes).lines
+  pub registers : (wrapped : Bool) → KeepsSettings (state_of r.part r.kept wrapped r.bytes) (state_of r.part r.kept wrapped (r.bytes ++ stream))
   pub reads : reads_of r.part r.kept (r.bytes ++ stream) ≡ reads_of r.part r.kept r.bytes
   pub rests : AtRest r.part r.kept (r.bytes ++ stream)
 
--- A read stream reads out the words of n slots from an address on; memory and phase stay. There is no stop, and the device is at rest again.
+-- A read stream reads out the words of n slots from an address on; memory, phase, lines and settings stay. There is no stop, and the device is at rest again.
 pub record PlaysRead (r : Resting) (stream : List ℕ) (far n : ℕ) : Type 0 where
   pub reads : reads_of r.part r.kept (r.bytes ++ stream) ≡ reads_of r.part r.kept r.bytes ++ words_along r.part (memory_in r.part r.kept r.bytes) far n
   pub memory : AreSame (memory_in r.part r.kept (r.bytes ++ stream)) (memory_in r.part r.kept r.bytes)
   pub phase : (wrapped : Bool) → (state_of r.part r.kept wrapped (r.bytes ++ stream)).phase ≡ (state_of r.part r.kept wrapped r.bytes).phase
+  pub lines : (wrapped : Bool) → (state_of r.part r.kept wrapped (r.bytes ++ stream)).lines ≡ (state_of r.part r.kept wrapped r.bytes).lines
+  pub registers : (wrapped : Bool) → KeepsSettings (state_of r.part r.kept wrapped r.bytes) (state_of r.part r.kept wrapped (r.bytes ++ stream))
   pub rests : AtRest r.part r.kept (r.bytes ++ stream)
 
 -- ---- streams one after another

@@ -10,15 +10,16 @@ ghost use Rattle.x7_planner.specs.Full.{full_stream};
 ghost use Rattle.x7_planner.specs.Readback.{read_stream};
 ghost use Rattle.x7_planner.specs.Refusals.{CanRead};
 
-/// After any bytes at rest the full stream of a plan at addresses of the part leaves the plan over zeros and ends startup,
-/// without a stop, and the device is at rest again; so also on a new device.
+/// After any bytes at rest the full stream of a plan at addresses of the part leaves the plan over zeros and ends startup
+/// with DONE, GTS and GWE 1, without a stop, and the device is at rest again; the registers that it doesn't write stay. So
+/// also on a new device.
 pub fn full_streams_play()
     ensures plays { (r : Resting) (plan : PlanData) → Rests r → IsPlanFor r.part plan → PlaysFull r (full_stream r.part plan) plan }
     ensures new { (part : PartData) (plan : PlanData) → IsPart part → IsPlanFor part plan → PlaysFull (resting_after part on_the_bench []) (full_stream part plan) plan }
 {}
 
-/// After any bytes at rest the partial stream of a plan at addresses of the part overrides the memory by just the plan; the
-/// phase stays, there is no stop, and the device is at rest again.
+/// After any bytes at rest the partial stream of a plan at addresses of the part overrides the memory by just the plan;
+/// phase, lines and settings stay, there is no stop, and the device is at rest again.
 pub fn partial_streams_play()
     ensures { (r : Resting) (plan : PlanData) → Rests r → IsPlanFor r.part plan → PlaysPartial r (partial_stream r.part plan.rows) plan }
 {}
@@ -32,7 +33,7 @@ pub fn partial_streams_write_once()
 {}
 
 /// After any bytes at rest the read stream of n slots from an address on reads out a frame of zeros and the frames along
-/// these slots; memory and phase stay, there is no stop, and the device is at rest again.
+/// these slots; memory, phase, lines and settings stay, there is no stop, and the device is at rest again.
 pub fn read_streams_play()
     ensures { (r : Resting) (address n : ℕ) → Rests r → CanRead r.part address n → PlaysRead r (read_stream r.part address n) address n }
 {}

@@ -1,5 +1,5 @@
 -- Lemmas on frame data that is taken at once.
-use Rattle.std.proofs.Common.{◌≡◌, ◌+◌, ◌*◌, ◌/◌, ◌%◌, ◌-◌, ◌≤◌, ℕ, true, List, [], ◌∷◌, ◌++◌, length, take, drop, Option, None, Some, refl, sym, ap, subst, ◌∙◌, arith}
+use Rattle.std.proofs.Common.{◌≡◌, ◌+◌, ◌*◌, ◌/◌, ◌%◌, ◌-◌, ◌≤◌, ℕ, true, false, inl, inr, List, [], ◌∷◌, ◌++◌, length, take, drop, Option, None, Some, refl, sym, ap, subst, ◌∙◌, arith}
 use Rattle.std.proofs.lemmas.List.{length-drop, length-map, length-take-le, map-append, take-append-drop, take_all}
 use Rattle.x7_words.specs.Word.{words_of_bytes}
 use Rattle.x7_words.proofs.WordLemmas.{words_of_bytes-append}
@@ -11,37 +11,61 @@ use Rattle.x7_pipeline.specs.declared.fault.RunFault.{RunFault}
 use Rattle.x7_flow.specs.Controls.{is_matched}
 use Rattle.x7_flow.specs.Flow.{frame_fault}
 use Rattle.x7_flow.specs.Standing.{FramesStandFor, FramesState}
-use Rattle.x7_flow.specs.Words.{NoneRefused, WordsTaken, with_frame_data, words_before, words_seen}
+use Rattle.x7_flow.specs.Words.{NoneRefused, TakesWords, WordsTaken, WordsTo, with_words, words_before, words_seen}
+use Rattle.x7_regs.specs.declared.register.Reg.{Reg}
+use Rattle.x7_regs.specs.declared.register.Reg.TheVariants as reg
+use Rattle.x7_regs.specs.Register.{number_of}
+use Rattle.x7_engine.specs.Registers.{is_controlling}
 use Rattle.x7_engine.specs.declared.kept.Kept.{Kept}
 use Rattle.x7_engine.specs.declared.stop.Stop.{Stop}
-use Rattle.x7_engine.specs.Stops.{why_by_frames, why_at, or_else}
+use Rattle.x7_engine.specs.Stops.{why_by_frames, why_by_write, why_at, or_else}
 use Rattle.x7_engine.proofs.BodyLemmas.{length_of_words}
-use Rattle.x7_engine.proofs.FrameLemmas.{why_fdri}
-use Rattle.x7_engine.proofs.PlainLemmas.{NoneStop}
+use Rattle.x7_engine.proofs.FrameLemmas.{why_fdri, why_mfwr}
+use Rattle.x7_engine.proofs.PlainLemmas.{IsQuiet, NoneStop, fdri_quiet, mfwr_quiet}
 
--- words of frame data on a matched device, none of which the frames refuse, stop nothing
-pub data_none : (part : PartData) (kept : Kept) (n : ℕ) (ws : List ℕ) (h : History) → is_matched part.idcode h ≡ true → NoneRefused part n ws h → NoneStop part kept 2 n ws h
+-- words of a register on a matched device, none of which the frames refuse, stop nothing
+none_stop : (part : PartData) (kept : Kept) (r : Reg) (n : ℕ) (ws : List ℕ) (h : History) → ((g : History) (w : ℕ) → is_matched part.idcode g ≡ true → why_by_write part kept g (number_of r) w ≡ None)
+    → ((g : History) (w place : ℕ) → is_matched part.idcode g ≡ true → is_matched part.idcode (entry (Write (number_of r) w) place ∷ g) ≡ true)
+    → is_matched part.idcode h ≡ true → NoneRefused part r n ws h → NoneStop part kept (number_of r) n ws h
 unfolding NoneRefused
-data_none part kept n [] h m r = tt
-data_none part kept n (w ∷ ws) h m r =
-    let none : why_at part kept h (Write 2 w) ≡ None = ap (λ (o : Option Stop). or_else o (why_by_frames (frame_fault part h (Write 2 w)))) (why_fdri part kept h w m) ∙ ap why_by_frames r.0 in
-    (none, data_none part kept (n + 4) ws (entry (Write 2 w) (n + 4) ∷ h) m r.1)
+none_stop part kept r n [] h own stays m none = tt
+none_stop part kept r n (w ∷ ws) h own stays m none =
+    let free : why_at part kept h (Write (number_of r) w) ≡ None = ap (λ (o : Option Stop). or_else o (why_by_frames (frame_fault part h (Write (number_of r) w)))) (own h w m) ∙ ap why_by_frames none.0 in
+    (free, none_stop part kept r (n + 4) ws (entry (Write (number_of r) w) (n + 4) ∷ h) own stays (stays h w (n + 4) m) none.1)
+
+pub data_none : (part : PartData) (kept : Kept) (r : Reg) (n : ℕ) (ws : List ℕ) (h : History) → TakesWords r → is_matched part.idcode h ≡ true → NoneRefused part r n ws h → NoneStop part kept (number_of r) n ws h
+data_none part kept r n ws h t = elim t [
+  | inl e ↦ rw e (none_stop part kept reg.Fdri n ws h (why_fdri part kept) (λ g w place m. m))
+  | inr e ↦ rw e (none_stop part kept reg.Mfwr n ws h (why_mfwr part kept) (λ g w place m. m))
+]
+
+pub data_quiet : (r : Reg) → TakesWords r → IsQuiet (number_of r)
+data_quiet r t = elim t [
+  | inl e ↦ rw e fdri_quiet
+  | inr e ↦ rw e mfwr_quiet
+]
+
+pub data_controls : (r : Reg) → TakesWords r → is_controlling (number_of r) ≡ false
+data_controls r t = elim t [
+  | inl e ↦ rw e refl
+  | inr e ↦ rw e refl
+]
 
 take_front : (prefix rest : List ℕ) → take (length prefix) (prefix ++ rest) ≡ prefix
 take_front [] rest = refl
 take_front (x ∷ prefix) rest = ap (λ t. x ∷ t) (take_front prefix rest)
 
 -- the words before the refused one
-pub given : (part : PartData) (f : FramesState) (n : ℕ) (h : History) (ws : List ℕ) (count : ℕ) (fault : Option RunFault) → WordsTaken part f n h ws count fault
-    → (NoneRefused part n (take (words_before count fault) ws) h) × FramesStandFor part f (with_frame_data n (take (words_before count fault) ws) h) 0
-given part f n h ws count fault t =
-    let size : words_before count fault ≡ length t.taken = by fault t.counted in
-    let prefix : take (words_before count fault) ws ≡ t.taken = ap (λ (k : ℕ). take k ws) size ∙ ap (take (length t.taken)) t.words_are ∙ take_front t.taken t.rest in (
-      subst (λ (x : List ℕ). NoneRefused part n x h) (sym prefix) t.none_refused,
-      subst (λ (x : List ℕ). FramesStandFor part f (with_frame_data n x h) 0) (sym prefix) t.stands,
+pub given : (part : PartData) (f : FramesState) (h : History) (x : WordsTo) (seen : ℕ × Option RunFault) → WordsTaken part f h x seen
+    → (NoneRefused part x.register x.place (take (words_before seen.0 seen.1) x.words) h) × FramesStandFor part f (with_words x.register x.place (take (words_before seen.0 seen.1) x.words) h) 0
+given part f h x seen t =
+    let size : words_before seen.0 seen.1 ≡ length t.taken = by seen.1 t.counted in
+    let prefix : take (words_before seen.0 seen.1) x.words ≡ t.taken = ap (λ (k : ℕ). take k x.words) size ∙ ap (take (length t.taken)) t.words_are ∙ take_front t.taken t.rest in (
+      subst (λ (ws : List ℕ). NoneRefused part x.register x.place ws h) (sym prefix) t.none_refused,
+      subst (λ (ws : List ℕ). FramesStandFor part f (with_words x.register x.place ws h) 0) (sym prefix) t.stands,
     )
   where
-    by : (f : Option RunFault) → count ≡ words_seen (length t.taken) f → words_before count f ≡ length t.taken
+    by : (f : Option RunFault) → seen.0 ≡ words_seen (length t.taken) f → words_before seen.0 f ≡ length t.taken
     by None e = e
     by (Some refusal) e = omega (arith, e)
 

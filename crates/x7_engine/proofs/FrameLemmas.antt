@@ -120,7 +120,7 @@ frames_none part f why h d e z s = subst (λ (n : ℕ). FramesAre part f why h n
 pub why_fdri : (part : PartData) (kept : Kept) (h : History) (w : ℕ) → is_matched part.idcode h ≡ true → why_by_write part kept h 2 w ≡ None
 why_fdri part kept h w t = rw t refl
 
-why_mfwr : (part : PartData) (kept : Kept) (h : History) (w : ℕ) → is_matched part.idcode h ≡ true → why_by_write part kept h 10 w ≡ None
+pub why_mfwr : (part : PartData) (kept : Kept) (h : History) (w : ℕ) → is_matched part.idcode h ≡ true → why_by_write part kept h 10 w ≡ None
 why_mfwr part kept h w t = rw t refl
 
 -- an access that the frames refuse stops it by nothing else

@@ -91,6 +91,9 @@ quiet_is register e =
 pub fdri_quiet : IsQuiet 2
 fdri_quiet = record { crc = refl; far = refl; cmd = refl; ctl0 = refl; lout = refl; idcode = refl; timer = refl; ctl1 = refl }
 
+pub mfwr_quiet : IsQuiet 10
+mfwr_quiet = record { crc = refl; far = refl; cmd = refl; ctl0 = refl; lout = refl; idcode = refl; timer = refl; ctl1 = refl }
+
 -- its words execute no command, clear no check and stop nothing
 pub executes_none : (held register w : ℕ) → IsQuiet register → executed_by held (Write register w) ≡ None
 executes_none held register w p = rw (p.cmd, p.far) refl

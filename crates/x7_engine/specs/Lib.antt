@@ -2,7 +2,6 @@ pub mod Checked
 pub mod Clock
 pub mod Course
 pub mod Entering
-pub mod FirstGap
 pub mod FirstStop
 pub mod Kept
 pub mod Past

@@ -71,6 +71,10 @@ due_at d p = due_of p.part p.kept d p.bytes
 abbrev pub started_at : Past → Bool
 started_at p = has_started p.part p.kept p.bytes
 
+-- the phase is 0 at each fewer than so many bytes of a piece
+abbrev pub StaysAtZero : Past → List ℕ → ℕ → Type 0
+StaysAtZero p piece count = (k : ℕ) → k < count → (state_at (later p (take k piece))).phase ≡ 0
+
 -- ---- stops
 
 -- the cause of a fallback that bytes come to

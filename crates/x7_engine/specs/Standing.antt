@@ -216,6 +216,10 @@ fed_more d count = min (d.fed + count) (2 ^ 64 - 1)
 abbrev pub HasStopped : DeviceState → Type 0
 HasStopped d = IsSome d.registers.stop
 
+-- startup has begun, since the last shutdown taken
+abbrev pub HasBegun : DeviceState → Type 0
+HasBegun d = IsSome d.registers.clock.startup.begun
+
 -- no word that was read out is still to be given
 abbrev pub NoWordDue : DeviceState → Type 0
 NoWordDue d = due_count d.registers.due ≡ 0

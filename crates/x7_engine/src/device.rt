@@ -17,7 +17,6 @@ ghost use Rattle.x7_engine.specs.declared.fault.Fault.{Fault as FaultData};
 ghost use Rattle.x7_engine.specs.Past.{AnswersFor, OfPast, Takes, GivesNext, GivesNone, part_taken, state_at, stop_at, reads_given_at};
 
 mod boot;
-mod gap;
 mod started;
 mod undo;
 mod until_read;
@@ -418,7 +417,7 @@ impl Device {
     }
 
     /// Where the bytes taken end.
-    fn end(&self) -> End
+    pub fn end(&self) -> End
         ensures { OfPast self.now (λ p. result ≡ (state_at p).end) }
     {
         end_of(

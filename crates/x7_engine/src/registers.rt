@@ -6,7 +6,7 @@ ghost use Rattle.x7_part.specs.Part.{PartData};
 ghost use Rattle.x7_regs.specs.Register.{number_of};
 ghost use Rattle.x7_flow.specs.Settings.{AreSettingsAfter};
 ghost use Rattle.x7_flow.specs.Standing.{FramesFit, FramesStandFor, word_to};
-ghost use Rattle.x7_flow.specs.Words.{words_before};
+ghost use Rattle.x7_flow.specs.Words.{TakesWords, words_before};
 ghost use Rattle.x7_engine.specs.Kept.{is_fallback};
 ghost use Rattle.x7_engine.specs.Registers.{executed_after, has_effect};
 ghost use Rattle.x7_engine.specs.Standing.{counted_in, due_count};
@@ -357,28 +357,31 @@ impl Registers {
         taken
     }
 
-    /// Takes frame data of a matched device at once: the words before the first that is refused or in which the watchdog
-    /// fires. Says how many bytes these are.
-    fn frame_data(&mut self, part: &Part, bytes: &[u8]) -> usize
+    /// Takes frame data or copies of a matched device at once: the words before the first that is refused or in which the
+    /// watchdog fires. Says how many bytes these are.
+    fn frame_words(&mut self, part: &Part, reg: Reg, bytes: &[u8]) -> usize
         requires going { self.old.stop ≡ None }
         requires none_due { due_count self.old.due ≡ 0 }
         requires frames { FramesFit part.now self.old.frames }
+        requires register { TakesWords reg }
         requires matched { self.old.progress.matched ≡ true }
         ensures within { result ≤ length bytes.now }
         ensures whole { result % 4 ≡ 0 }
         ensures going { self.new.stop ≡ None }
         ensures due { self.new.due ≡ self.old.due }
         ensures frames { FramesFit part.now self.new.frames }
-        ensures stands { Enters (change_of part.now self.old self.new) (words_entered 2 (take result bytes.now)) result }
+        ensures stands { Enters (change_of part.now self.old self.new) (words_entered (number_of reg) (take result bytes.now)) result }
     {
         let settings = self.settings();
         let before = self.clock.before_firing(part, bytes.len()) / 4 * 4;
-        let (count, refused) = self.frames.write_words(settings, &bytes[..before], part);
+        let (count, refused) = self
+            .frames
+            .write_words(settings, reg, &bytes[..before], part);
         let taken = taken_of(count, refused) * 4;
         let prefix = &bytes[..taken];
         let _ = self.clock.bytes(part, taken);
-        self.progress.pass_all(2, prefix);
-        self.words.pass_all(2, prefix);
+        self.progress.pass_all(reg.number(), prefix);
+        self.words.pass_all(reg.number(), prefix);
         taken
     }
 
@@ -395,7 +398,7 @@ impl Registers {
         ensures stands { Enters (change_of part.now self.old self.new) (words_entered (number_of reg) (take result bytes.now)) result }
     {
         match reg {
-            Reg::Fdri if self.progress.matched => self.frame_data(part, bytes),
+            Reg::Fdri | Reg::Mfwr if self.progress.matched => self.frame_words(part, reg, bytes),
             _ => 0,
         }
     }

@@ -3,9 +3,9 @@ use std::io::{ErrorKind, Write};
 use std::rt::Files;
 use std::test::Fail;
 use std::{env, fs, io, process};
+use x7_in_memory::MemoryInputs;
 use x7_words::{
-    Failed, FileFlash, FileInputs, Flash, Inputs, MemoryInputs, SelectFault, Sink, StdSink,
-    write_all,
+    Failed, FileFlash, FileInputs, Flash, Inputs, SelectFault, Sink, StdSink, write_all,
 };
 
 /// Selects, and reads three times into four bytes of the buffer each.

@@ -17,6 +17,7 @@ use Rattle.x7_flow.specs.Flow.{Flow, base_of, fault_by, flow_of, frame_fault, ru
 use Rattle.x7_flow.specs.FrameMemory.{memory_of}
 use Rattle.x7_flow.specs.Settings.{settings_of, takes_frames}
 use Rattle.x7_flow.specs.Words.{NoneRefused}
+use Rattle.x7_regs.specs.declared.register.Reg.TheVariants as reg
 use Rattle.x7_flow.proofs.FlowLemmas.{put_none}
 use Rattle.x7_flow.proofs.ManyLemmas.{word_asked, word_flow, words_flow, words_land}
 
@@ -55,7 +56,7 @@ write_none part base (w ∷ run) t l = by (completes part (w ∷ run)) (has_fill
 
 -- words for all of which there are slots
 pub words_none : (part : PartData) (n : ℕ) (ws : List ℕ) (h : History) → takes_frames (settings_of part.idcode h) ≡ true → has_frame_at part (base_of part h) ≡ true
-    → length (run_of part h) + length ws ≤ frame_words part * length (slots_from part (base_of part h)) → NoneRefused part n ws h
+    → length (run_of part h) + length ws ≤ frame_words part * length (slots_from part (base_of part h)) → NoneRefused part reg.Fdri n ws h
 unfolding NoneRefused
 words_none part n [] h t a l = tt
 words_none part n (w ∷ ws) h t a l =

@@ -123,18 +123,18 @@ write_puts part earlier w place n frames last some t all far =
 -- ---- copies under MFW from a FAR load
 
 -- the frame stands at the base, and further copies keep it there
-record IsCopied (part : PartData) (f : Flow) (s : Settings) (memory : FrameMap) (pairs : List PlanRow) (h : History) : Type 0 where
-  flow_is : flow_of part h ≡ f
-  settings_are : settings_of part.idcode h ≡ s
-  memory_is : AreSame (memory_of part h) (put_over pairs memory)
+pub record IsCopied (part : PartData) (f : Flow) (s : Settings) (memory : FrameMap) (pairs : List PlanRow) (h : History) : Type 0 where
+  pub flow_is : flow_of part h ≡ f
+  pub settings_are : settings_of part.idcode h ≡ s
+  pub memory_is : AreSame (memory_of part h) (put_over pairs memory)
 
-copy_asked : (s : Settings) (w : ℕ) → takes_copies s ≡ true → asked s (Write 10 w) ≡ Copies
+pub copy_asked : (s : Settings) (w : ℕ) → takes_copies s ≡ true → asked s (Write 10 w) ≡ Copies
 copy_asked s w t = ap (λ (b : Bool). if b then Copies else Other) t
 
 copy_memory : (part : PartData) (h : History) (w place : ℕ) → takes_copies (settings_of part.idcode h) ≡ true → AreSame (memory_of part (entry (Write 10 w) place ∷ h)) (put_over (copy_pairs part (flow_of part h)) (memory_of part h))
 copy_memory part h w place t far = memory_more part (entry (Write 10 w) place) h far ∙ ap (λ (a : Asked). put_over (puts part a (flow_of part h)) (memory_of part h) far) (copy_asked (settings_of part.idcode h) w t)
 
-copy_flow : (part : PartData) (h : History) (w place : ℕ) → takes_copies (settings_of part.idcode h) ≡ true → flow_of part (entry (Write 10 w) place ∷ h) ≡ flow_of part h
+pub copy_flow : (part : PartData) (h : History) (w place : ℕ) → takes_copies (settings_of part.idcode h) ≡ true → flow_of part (entry (Write 10 w) place ∷ h) ≡ flow_of part h
 copy_flow part h w place t = flow_more part (entry (Write 10 w) place) h ∙ ap (λ (a : Asked). flow_by part a (flow_of part h)) (copy_asked (settings_of part.idcode h) w t)
 
 -- one copy more changes nothing
@@ -155,6 +155,13 @@ first_copy : (part : PartData) (h : History) (w place : ℕ) → takes_copies (s
     IsCopied part (flow_of part h) (settings_of part.idcode h) (memory_of part h) (copy_pairs part (flow_of part h)) (entry (Write 10 w) place ∷ h)
 first_copy part h w place t = record { flow_is = copy_flow part h w place t; settings_are = refl; memory_is = copy_memory part h w place t }
 
+-- words of MFWR, one at least
+pub copied_all : (part : PartData) (n word : ℕ) (ws : List ℕ) (h : History) → takes_copies (settings_of part.idcode h) ≡ true →
+    IsCopied part (flow_of part h) (settings_of part.idcode h) (memory_of part h) (copy_pairs part (flow_of part h)) (entered_all n (payload_steps 10 (word ∷ ws)) h)
+copied_all part n word ws h t =
+    kept_all (IsCopied part (flow_of part h) (settings_of part.idcode h) (memory_of part h) (copy_pairs part (flow_of part h))) 10 (again part (flow_of part h) (settings_of part.idcode h) (memory_of part h) t)
+    (n + 4) ws (entry (Write 10 word) (n + 4) ∷ h) (first_copy part h word (n + 4) t)
+
 copies_here : (part : PartData) (w place : ℕ) (earlier : History) (frame : List ℕ) → is_mfw (command_with (command_held earlier)) ≡ true → source_of part earlier ≡ Some frame → has_frame_at part (loaded_base part w) ≡ true →
     copy_pairs part (flow_of part (entry (Write 1 w) place ∷ earlier)) ≡ record { far = loaded_base part w; words = frame } ∷ []
 unfolding flow_of
@@ -173,9 +180,7 @@ pub copies_put : (part : PartData) (earlier : History) (w place n word : ℕ) (w
 copies_put part earlier w place n word ws frame t m s a far =
     let h : History = entry (Write 1 w) place ∷ earlier in
     let f : Flow = flow_of part h in
-    let x : Settings = settings_of part.idcode h in
-    let all : IsCopied part f x (memory_of part h) (copy_pairs part f) (entered_all (n + 4) (payload_steps 10 ws) (entry (Write 10 word) (n + 4) ∷ h)) =
-    kept_all (IsCopied part f x (memory_of part h) (copy_pairs part f)) 10 (again part f x (memory_of part h) t) (n + 4) ws (entry (Write 10 word) (n + 4) ∷ h) (first_copy part h word (n + 4) t) in
+    let all : IsCopied part f (settings_of part.idcode h) (memory_of part h) (copy_pairs part f) (entered_all n (payload_steps 10 (word ∷ ws)) h) = copied_all part n word ws h t in
     all.memory_is far ∙ ap (λ (ps : List PlanRow). put_over ps (memory_of part h) far) (copies_here part w place earlier frame m s a)
     ∙ override_same (memory_of part h) (memory_of part earlier) (planned (record { far = loaded_base part w; words = frame } ∷ [])) (planned (record { far = loaded_base part w; words = frame } ∷ []))
     (load_memory part w place earlier) (λ b. refl) far

@@ -1,8 +1,11 @@
--- Words of frame data taken at once.
-use Rattle.std.proofs.Common.{◌≡◌, ℕ, suc, ◌+◌, Bool, true, false, if◌then◌else◌, append-nil, List, [], ◌∷◌, ◌++◌, length, Option, None, Some, refl, sym, ap, subst, ◌∙◌, arith}
+-- Words of frame data and copies taken at once.
+use Rattle.std.proofs.Common.{◌≡◌, ℕ, suc, ◌+◌, ◌<◌, Bool, true, false, if◌then◌else◌, append-nil, List, [], ◌∷◌, ◌++◌, length, Option, None, Some, refl, sym, ap, subst, ◌∙◌, arith}
 use Rattle.std.proofs.lemmas.List.{append_cancel_right}
 use Rattle.x7_packets.specs.History.{Entry, Write, History, entry}
 use Rattle.x7_part.specs.Part.{PartData}
+use Rattle.x7_regs.specs.declared.register.Reg.{Reg}
+use Rattle.x7_regs.specs.declared.register.Reg.TheVariants as reg
+use Rattle.x7_regs.specs.Register.{number_of}
 use Rattle.x7_memory.specs.FrameMap.{FrameMap, AreSame}
 use Rattle.x7_memory.specs.Frames.{frame_at}
 use Rattle.x7_memory.specs.Planned.{PlanRow, planned}
@@ -14,12 +17,14 @@ use Rattle.x7_pipeline.specs.Flow.{HoldsFlow, OfFlow, after_words, with_run, wri
 use Rattle.x7_pipeline.specs.Pipeline.{PipelineData}
 use Rattle.x7_pipeline.specs.Words.{Written, one_written, written}
 use Rattle.x7_flow.specs.declared.asked.Asked.{Asked}
-use Rattle.x7_flow.specs.declared.asked.Asked.TheVariants.{Other, Word}
-use Rattle.x7_flow.specs.Settings.{settings_of, takes_frames}
+use Rattle.x7_flow.specs.declared.asked.Asked.TheVariants.{Copies, Other, Word}
+use Rattle.x7_flow.specs.Settings.{settings_of, takes_copies, takes_frames}
 use Rattle.x7_flow.specs.Flow.{Flow, asks, base_of, fault_by, flow_of, frame_fault, run_of}
-use Rattle.x7_flow.specs.FrameMemory.{memory_of}
+use Rattle.x7_flow.specs.FrameMemory.{copy_pairs, memory_of}
 use Rattle.x7_flow.specs.Standing.{AreFramesAfter, Did, FramesStandFor, FramesState, HasFlow, frames_state, less}
-use Rattle.x7_flow.specs.Words.{EndsBy, NoneRefused, WordsTaken, with_frame_data, words_seen}
+use Rattle.x7_words.specs.Word.{words_of_bytes}
+use Rattle.x7_flow.specs.Words.{EndsBy, NoneRefused, WordsTaken, with_copies, with_frame_data, with_words, words_seen, words_to}
+use Rattle.x7_flow.proofs.StreamLemmas.{IsCopied, copied_all, copy_asked, copy_flow}
 use Rattle.x7_flow.proofs.StandingLemmas.{did_other, no_less, one_more, same_flow}
 use Rattle.x7_flow.proofs.ManyLemmas.{word_asked, word_flow, words_flow, words_land}
 
@@ -33,9 +38,9 @@ record Parted (part : PartData) (n : ℕ) (h : History) (words : List ℕ) (w : 
   prefix : List ℕ
   rest : List ℕ
   words_are : words ≡ prefix ++ rest
-  none_refused : NoneRefused part n prefix h
+  none_refused : NoneRefused part reg.Fdri n prefix h
   run_is : w.run ≡ onto prefix (run_of part h)
-  end : EndsBy part (with_frame_data n prefix h) rest w.fault
+  end : EndsBy part reg.Fdri (with_frame_data n prefix h) rest w.fault
   counted : w.count ≡ words_seen (length prefix) w.fault
 
 one_counted : (taken count : ℕ) (fault : Option RunFault) → count ≡ words_seen taken fault → 1 + count ≡ words_seen (suc taken) fault
@@ -83,13 +88,14 @@ lands_alike part base run longer old new under over first second same far =
     first.memory far ∙ ap (λ (ps : List PlanRow). put_over ps old far) added
     ∙ override_same old under (planned second.added) (planned second.added) same (λ a. refl) far ∙ sym (second.memory far)
 
-pub words_taken : (part : PartData) (p q : PipelineData) (old new : List (List ℕ)) (words : List ℕ) (count n : ℕ) (fault : Option RunFault) (h : History) →
-    OfFlow part p (λ f. HoldsFlow part q (with_run (written_by part f words).run f)) →
-    OfFlow part p (λ f. Lands part f.base f.run (written_by part f words).run (frame_at part old) (frame_at part new)) →
-    OfFlow part p (λ f. count ≡ (written_by part f words).count) →
-    OfFlow part p (λ f. fault ≡ (written_by part f words).fault) →
-    takes_frames (settings_of part.idcode h) ≡ true → AreFramesAfter part p old h 0 → WordsTaken part (frames_state q new) n h words count fault
-words_taken part p q old new words count n fault h stands lands counted faulty t are =
+pub words_taken : (part : PartData) (p q : PipelineData) (old new : List (List ℕ)) (bytes : List ℕ) (n : ℕ) (seen : ℕ × Option RunFault) (h : History) →
+    OfFlow part p (λ f. HoldsFlow part q (with_run (written_by part f (words_of_bytes bytes)).run f)) →
+    OfFlow part p (λ f. Lands part f.base f.run (written_by part f (words_of_bytes bytes)).run (frame_at part old) (frame_at part new)) →
+    OfFlow part p (λ f. seen.0 ≡ (written_by part f (words_of_bytes bytes)).count) →
+    OfFlow part p (λ f. seen.1 ≡ (written_by part f (words_of_bytes bytes)).fault) →
+    takes_frames (settings_of part.idcode h) ≡ true → AreFramesAfter part p old h 0 → WordsTaken part (frames_state q new) h (words_to reg.Fdri n bytes) seen
+words_taken part p q old new bytes n seen h stands lands counted faulty t are =
+    let words : List ℕ = words_of_bytes bytes in
     let f : Flow = flow_of part h in
     let has : HasFlow part p f = same_flow part p (less 0 f) f (sym (no_less f)) are.flow in
     let w : Written = written part f.base f.run words in
@@ -114,31 +120,107 @@ words_taken part p q old new words count n fault h stands lands counted faulty t
       };
     }
 
--- ---- words of FDRI that no frame takes
+-- ---- copies
 
-unasked : (part : PartData) (h : History) (w : ℕ) → takes_frames (settings_of part.idcode h) ≡ false → asks part.idcode h (Write 2 w) ≡ Other
-unasked part h w t = ap (λ (b : Bool). if b then Word w else Other) t
+copies_none : (part : PartData) (n : ℕ) (ws : List ℕ) (h : History) → takes_copies (settings_of part.idcode h) ≡ true → fault_by part Copies (flow_of part h) ≡ None → NoneRefused part reg.Mfwr n ws h
+unfolding NoneRefused
+copies_none part n [] h t e = tt
+copies_none part n (w ∷ ws) h t e = (
+  ap (λ (a : Asked). fault_by part a (flow_of part h)) (copy_asked (settings_of part.idcode h) w t) ∙ e,
+  copies_none part (n + 4) ws (entry (Write 10 w) (n + 4) ∷ h) t (ap (fault_by part Copies) (copy_flow part h w (n + 4) t) ∙ e),
+)
+
+-- one copy is all of them
+copies_stand : (part : PartData) (old new : FramesState) (n w : ℕ) (ws : List ℕ) (h : History) → takes_copies (settings_of part.idcode h) ≡ true → Did part Copies old new → FramesStandFor part old h 0
+    → FramesStandFor part new (with_copies n (w ∷ ws) h) 0
+copies_stand part old new n w ws h t did are =
+    let f : Flow = flow_of part h in
+    let all : History = with_copies n (w ∷ ws) h in
+    let pairs : List PlanRow = copy_pairs part f in
+    let c : IsCopied part f (settings_of part.idcode h) (memory_of part h) pairs all = copied_all part n w ws h t in
+    let has : HasFlow part old.pipeline f = same_flow part old.pipeline (less 0 f) f (sym (no_less f)) are.flow in
+    record {
+      flow = same_flow part new.pipeline f (less 0 (flow_of part all)) (sym c.flow_is ∙ no_less (flow_of part all)) (did.flow f has);
+      memory = λ far. did.memory f has far ∙ override_same (frame_at part old.memory) (memory_of part h) (planned pairs) (planned pairs) are.memory (λ a. refl) far ∙ sym (c.memory_is far);
+      due_given = omega arith;
+    }
+
+pub copies_taken : (part : PartData) (old new : FramesState) (n count : ℕ) (ws : List ℕ) (h : History) → takes_copies (settings_of part.idcode h) ≡ true → 0 < length ws → count ≡ length ws
+    → None ≡ fault_by part Copies (flow_of part h) → Did part Copies old new → FramesStandFor part old h 0
+    → WordsTaken part new h (record { register = reg.Mfwr; place = n; words = ws }) (count, None)
+copies_taken part old new n count [] h t some c none did are = absurd (omega (arith, some))
+copies_taken part old new n count (w ∷ ws) h t some c none did are = record {
+  taken = w ∷ ws;
+  rest = [];
+  words_are = sym (append-nil (w ∷ ws));
+  none_refused = copies_none part n (w ∷ ws) h t (sym none);
+  end = refl;
+  counted = c;
+  stands = copies_stand part old new n w ws h t did are;
+}
+
+pub copies_refused : (part : PartData) (f : FramesState) (n : ℕ) (ws : List ℕ) (fault : RunFault) (h : History) → takes_copies (settings_of part.idcode h) ≡ true → 0 < length ws
+    → Some fault ≡ fault_by part Copies (flow_of part h) → FramesStandFor part f h 0
+    → WordsTaken part f h (record { register = reg.Mfwr; place = n; words = ws }) (1, Some fault)
+unfolding NoneRefused
+copies_refused part f n [] fault h t some e are = absurd (omega (arith, some))
+copies_refused part f n (w ∷ ws) fault h t some e are = record {
+  taken = [];
+  rest = w ∷ ws;
+  words_are = refl;
+  none_refused = tt;
+  end = (w, ws, refl, ap (λ (a : Asked). fault_by part a (flow_of part h)) (copy_asked (settings_of part.idcode h) w t) ∙ sym e);
+  counted = refl;
+  stands = are;
+}
+
+-- no word was given
+pub none_given : (part : PartData) (f : FramesState) (n : ℕ) (ws : List ℕ) (h : History) → length ws ≡ 0 → FramesStandFor part f h 0 → WordsTaken part f h (record { register = reg.Mfwr; place = n; words = ws }) (0, None)
+unfolding NoneRefused
+none_given part f n [] h e are = record { taken = []; rest = []; words_are = refl; none_refused = tt; end = refl; counted = refl; stands = are }
+none_given part f n (w ∷ ws) h e are = absurd (omega (arith, e))
+
+-- ---- words that no frame takes
+
+-- words of a register behind a history ask nothing
+record AsksNothing (part : PartData) (r : Reg) (P : History → Type 0) : Type 1 where
+  asks_other : (h : History) (w : ℕ) → P h → asks part.idcode h (Write (number_of r) w) ≡ Other
+  keeps : (h : History) (w place : ℕ) → P h → P (entry (Write (number_of r) w) place ∷ h)
 
 pub other_access : (part : PartData) (f : FramesState) (h : History) (e : Entry) → asks part.idcode h e.access ≡ Other → FramesStandFor part f h 0 → FramesStandFor part f (e ∷ h) 0
 other_access part f h e a s = one_more part f f e h (subst (λ (x : Asked). Did part x f f) (sym a) (did_other part f)) s
 
-none_refused : (part : PartData) (n : ℕ) (ws : List ℕ) (h : History) → takes_frames (settings_of part.idcode h) ≡ false → NoneRefused part n ws h
+none_refused : (part : PartData) (r : Reg) (P : History → Type 0) (n : ℕ) (ws : List ℕ) (h : History) → AsksNothing part r P → P h → NoneRefused part r n ws h
 unfolding NoneRefused
-none_refused part n [] h t = tt
-none_refused part n (w ∷ ws) h t = (ap (λ (a : Asked). fault_by part a (flow_of part h)) (unasked part h w t), none_refused part (n + 4) ws (entry (Write 2 w) (n + 4) ∷ h) t)
+none_refused part r P n [] h a p = tt
+none_refused part r P n (w ∷ ws) h a p =
+    (ap (λ (x : Asked). fault_by part x (flow_of part h)) (a.asks_other h w p), none_refused part r P (n + 4) ws (entry (Write (number_of r) w) (n + 4) ∷ h) a (a.keeps h w (n + 4) p))
 
-still_stand : (part : PartData) (f : FramesState) (n : ℕ) (ws : List ℕ) (h : History) → takes_frames (settings_of part.idcode h) ≡ false → FramesStandFor part f h 0 → FramesStandFor part f (with_frame_data n ws h) 0
-still_stand part f n [] h t s = s
-still_stand part f n (w ∷ ws) h t s = still_stand part f (n + 4) ws (entry (Write 2 w) (n + 4) ∷ h) t (other_access part f h (entry (Write 2 w) (n + 4)) (unasked part h w t) s)
+still_stand : (part : PartData) (r : Reg) (P : History → Type 0) (f : FramesState) (n : ℕ) (ws : List ℕ) (h : History) → AsksNothing part r P → P h → FramesStandFor part f h 0 → FramesStandFor part f (with_words r n ws h) 0
+still_stand part r P f n [] h a p s = s
+still_stand part r P f n (w ∷ ws) h a p s =
+    still_stand part r P f (n + 4) ws (entry (Write (number_of r) w) (n + 4) ∷ h) a (a.keeps h w (n + 4) p) (other_access part f h (entry (Write (number_of r) w) (n + 4)) (a.asks_other h w p) s)
 
-pub words_folded : (part : PartData) (f : FramesState) (n count : ℕ) (ws : List ℕ) (h : History) → takes_frames (settings_of part.idcode h) ≡ false → count ≡ length ws → FramesStandFor part f h 0
-    → WordsTaken part f n h ws count None
-words_folded part f n count ws h t c s = record {
+words_folded : (part : PartData) (r : Reg) (P : History → Type 0) (f : FramesState) (n count : ℕ) (ws : List ℕ) (h : History) → AsksNothing part r P → P h → count ≡ length ws → FramesStandFor part f h 0
+    → WordsTaken part f h (record { register = r; place = n; words = ws }) (count, None)
+words_folded part r P f n count ws h a p c s = record {
   taken = ws;
   rest = [];
   words_are = sym (append-nil ws);
-  none_refused = none_refused part n ws h t;
+  none_refused = none_refused part r P n ws h a p;
   end = refl;
   counted = c;
-  stands = still_stand part f n ws h t s;
+  stands = still_stand part r P f n ws h a p s;
 }
+
+pub data_folded : (part : PartData) (f : FramesState) (n count : ℕ) (ws : List ℕ) (h : History) → takes_frames (settings_of part.idcode h) ≡ false → count ≡ length ws → FramesStandFor part f h 0
+    → WordsTaken part f h (record { register = reg.Fdri; place = n; words = ws }) (count, None)
+data_folded part f n count ws h t c s =
+    words_folded part reg.Fdri (λ g. takes_frames (settings_of part.idcode g) ≡ false) f n count ws h
+    (record { asks_other = λ g w e. ap (λ (b : Bool). if b then Word w else Other) e; keeps = λ g w place e. e }) t c s
+
+pub copies_folded : (part : PartData) (f : FramesState) (n count : ℕ) (ws : List ℕ) (h : History) → takes_copies (settings_of part.idcode h) ≡ false → count ≡ length ws → FramesStandFor part f h 0
+    → WordsTaken part f h (record { register = reg.Mfwr; place = n; words = ws }) (count, None)
+copies_folded part f n count ws h t c s =
+    words_folded part reg.Mfwr (λ g. takes_copies (settings_of part.idcode g) ≡ false) f n count ws h
+    (record { asks_other = λ g w e. ap (λ (b : Bool). if b then Copies else Other) e; keeps = λ g w place e. e }) t c s

@@ -1,34 +1,52 @@
--- Words of frame data taken at once, up to the first that is refused.
-use Rattle.std.specs.Prelude.{◌≡◌, ℕ, ◌+◌, ◌-◌, ◌*◌, ◌≤◌, List, [], ◌∷◌, ◌++◌, length, Option, None, Some}
+-- Words written to FDRI or MFWR taken at once, up to the first that is refused.
+use Rattle.std.specs.Prelude.{◌≡◌, ℕ, ◌+◌, ◌-◌, ◌*◌, ◌≤◌, ◌⊎◌, Bool, true, List, [], ◌∷◌, ◌++◌, length, Option, None, Some}
+use Rattle.x7_words.specs.Word.{words_of_bytes}
 use Rattle.x7_packets.specs.History.{Write, History, entered_all, entry}
 use Rattle.x7_packets.specs.Packet.{payload_steps}
 use Rattle.x7_part.specs.Part.{PartData, frame_words}
+use Rattle.x7_regs.specs.declared.register.Reg.{Reg}
 use Rattle.x7_regs.specs.declared.register.Reg.TheVariants as reg
 use Rattle.x7_regs.specs.Register.{number_of}
 use Rattle.x7_pipeline.specs.Runs.{slots_from}
 use Rattle.x7_pipeline.specs.declared.fault.RunFault.{RunFault}
 use Rattle.x7_pipeline.specs.Pipeline.{PipelineData}
 use Rattle.x7_flow.specs.Flow.{base_of, frame_fault, run_of}
-use Rattle.x7_flow.specs.Settings.{TakesFrames}
+use Rattle.x7_flow.specs.Settings.{Settings, settings_of}
 use Rattle.x7_flow.specs.Standing.{AreFramesAfter, FramesStandFor, FramesState}
 
--- the history with words written to FDRI, the first of which begins at byte n
-abbrev pub with_frame_data : ℕ → List ℕ → History → History
-with_frame_data n ws h = entered_all n (payload_steps (number_of reg.Fdri) ws) h
+-- the registers whose words go to the frames many at once
+abbrev pub TakesWords : Reg → Type 0
+TakesWords r = (r ≡ reg.Fdri) ⊎ (r ≡ reg.Mfwr)
 
--- the history with words written to MFWR
+-- words written to a register, the first of which begins at this place
+pub record WordsTo : Type 0 where
+  pub register : Reg
+  pub place : ℕ
+  pub words : List ℕ
+
+-- those of bytes, four each
+abbrev pub words_to : Reg → ℕ → List ℕ → WordsTo
+words_to r n bytes = record { register = r; place = n; words = words_of_bytes bytes }
+
+-- the history with words written to a register, the first of which begins at byte n; to FDRI; to MFWR
+abbrev pub with_words : Reg → ℕ → List ℕ → History → History
+with_words r n ws h = entered_all n (payload_steps (number_of r) ws) h
+
+abbrev pub with_frame_data : ℕ → List ℕ → History → History
+with_frame_data n ws h = with_words reg.Fdri n ws h
+
 abbrev pub with_copies : ℕ → List ℕ → History → History
-with_copies n ws h = entered_all n (payload_steps (number_of reg.Mfwr) ws) h
+with_copies n ws h = with_words reg.Mfwr n ws h
 
 -- none of them is refused
-unfoldable pub NoneRefused : PartData → ℕ → List ℕ → History → Type 0
-NoneRefused part n [] h = Unit {0}
-NoneRefused part n (w ∷ ws) h = (frame_fault part h (Write (number_of reg.Fdri) w) ≡ None) × NoneRefused part (n + 4) ws (entry (Write (number_of reg.Fdri) w) (n + 4) ∷ h)
+unfoldable pub NoneRefused : PartData → Reg → ℕ → List ℕ → History → Type 0
+NoneRefused part r n [] h = Unit {0}
+NoneRefused part r n (w ∷ ws) h = (frame_fault part h (Write (number_of r) w) ≡ None) × NoneRefused part r (n + 4) ws (entry (Write (number_of r) w) (n + 4) ∷ h)
 
 -- with this history, and these words to come: no word is left, or the next is refused
-abbrev pub EndsBy : PartData → History → List ℕ → Option RunFault → Type 0
-EndsBy part h rest None = rest ≡ []
-EndsBy part h rest (Some fault) = (w : ℕ) × (more : List ℕ) × (rest ≡ w ∷ more) × (frame_fault part h (Write (number_of reg.Fdri) w) ≡ Some fault)
+abbrev pub EndsBy : PartData → Reg → History → List ℕ → Option RunFault → Type 0
+EndsBy part r h rest None = rest ≡ []
+EndsBy part r h rest (Some fault) = (w : ℕ) × (more : List ℕ) × (rest ≡ w ∷ more) × (frame_fault part h (Write (number_of r) w) ≡ Some fault)
 
 -- how many words were looked at, of which so many were taken: a refused one too
 abbrev pub words_seen : ℕ → Option RunFault → ℕ
@@ -40,19 +58,19 @@ abbrev pub words_before : ℕ → Option RunFault → ℕ
 words_before count None = count
 words_before count (Some fault) = count - 1
 
--- the words up to the first refused one were taken; the count has the refused one too
-pub record WordsTaken (part : PartData) (f : FramesState) (n : ℕ) (h : History) (words : List ℕ) (count : ℕ) (fault : Option RunFault) : Type 0 where
+-- the words up to the first refused one were taken; the count, beside the fault, has the refused one too
+pub record WordsTaken (part : PartData) (f : FramesState) (h : History) (x : WordsTo) (seen : ℕ × Option RunFault) : Type 0 where
   pub taken : List ℕ
   pub rest : List ℕ
-  pub words_are : words ≡ taken ++ rest
-  pub none_refused : NoneRefused part n taken h
-  pub end : EndsBy part (with_frame_data n taken h) rest fault
-  pub counted : count ≡ words_seen (length taken) fault
-  pub stands : FramesStandFor part f (with_frame_data n taken h) 0
+  pub words_are : x.words ≡ taken ++ rest
+  pub none_refused : NoneRefused part x.register x.place taken h
+  pub end : EndsBy part x.register (with_words x.register x.place taken h) rest seen.1
+  pub counted : seen.0 ≡ words_seen (length taken) seen.1
+  pub stands : FramesStandFor part f (with_words x.register x.place taken h) 0
 
--- what holds of a history after which words of FDRI go to the memory, and that a pipeline and frames stand for with no word due
-abbrev pub OfTaking : PartData → PipelineData → List (List ℕ) → (History → Type 0) → Type 0
-OfTaking part p frames Fact = (h : History) → TakesFrames part h → AreFramesAfter part p frames h 0 → Fact h
+-- what holds of a history whose settings take words, and that a pipeline and frames stand for with no word due
+abbrev pub OfTaking : PartData → (Settings → Bool) → PipelineData → List (List ℕ) → (History → Type 0) → Type 0
+OfTaking part takes p frames Fact = (h : History) → takes (settings_of part.idcode h) ≡ true → AreFramesAfter part p frames h 0 → Fact h
 
 -- the run of a history, with words more, has slots for all its frames
 abbrev pub HasRoomFor : PartData → History → List ℕ → Type 0

@@ -4,7 +4,7 @@ ghost use Rattle.x7_packets.specs.History.{History, Read, Write};
 ghost use Rattle.x7_regs.specs.Register.{number_of};
 ghost use Rattle.x7_flow.specs.Controls.{forbids_reading, forbids_writing};
 ghost use Rattle.x7_flow.specs.FrameAccess.{reads_frame_data};
-ghost use Rattle.x7_flow.specs.Settings.{AreSettingsAfter, settings_of, takes_frames as takes_frames_by};
+ghost use Rattle.x7_flow.specs.Settings.{AreSettingsAfter, settings_of, takes_copies as takes_copies_by, takes_frames as takes_frames_by};
 ghost use Rattle.x7_flow.specs.Flow.{asks};
 
 use crate::asked::Asked;
@@ -26,8 +26,9 @@ fn may_read(ctl0: u32) -> bool
 }
 
 /// Whether words of MFWR ask for copies.
-fn takes_copies(settings: FrameSettings) -> bool
-    ensures { result ≡ (settings.matched && not (forbids_writing settings.ctl0)) }
+pub fn takes_copies(settings: FrameSettings) -> bool
+    ensures value { result ≡ (settings.matched && not (forbids_writing settings.ctl0)) }
+    ensures after { (idcode : ℕ) (h : History) → AreSettingsAfter idcode settings h → result ≡ takes_copies_by (settings_of idcode h) }
 {
     settings.matched && may_write(settings.ctl0)
 }

@@ -1,18 +1,18 @@
 //! The frames of a device: its pipeline and its memory, which stand for a history.
 ghost use Rattle.std.specs.Prelude.{◌≡◌, ◌+◌, ◌/◌, ◌%◌, ◌≤◌, ◌∷◌, [], ℕ, suc, length, IfOk};
-ghost use Rattle.x7_words.specs.Word.{words_of_bytes};
 ghost use Rattle.x7_part.specs.Part.{PartData};
 ghost use Rattle.x7_packets.specs.History.{History, Write};
 ghost use Rattle.x7_regs.specs.Register.{number_of};
+ghost use Rattle.x7_regs.specs.declared.register.Reg.TheVariants as reg;
 ghost use Rattle.x7_flow.specs.Flow.{far_in, flow_of, frame_fault};
 ghost use Rattle.x7_flow.specs.Standing.{AfterAccess, AfterRead, FramesFit, FramesStandFor, OfFrames, ReadsData, less, read_of, words_due, written_to};
-ghost use Rattle.x7_flow.specs.Words.{WordsTaken};
+ghost use Rattle.x7_flow.specs.Words.{TakesWords, WordsTaken, words_to};
 
 mod saved;
 
-use crate::asking::{asked_write, takes_frames};
+use crate::asking::{asked_write, takes_copies, takes_frames};
 use crate::settings::FrameSettings;
-use crate::taking::{next_word, pass_words, refuses_read, take, take_words};
+use crate::taking::{next_word, pass_words, refuses_read, take, take_copies, take_words};
 use std::alloc::Global;
 use std::marker::Model;
 use x7_memory::Memory;
@@ -80,9 +80,30 @@ impl Frames {
         take(asked, part, &mut self.pipeline, &mut self.memory)
     }
 
-    /// Takes words written to FDRI on a matched device, four bytes each, up to the first that is refused. It gives the number of
-    /// words looked at, a refused one included, and the fault.
+    /// Takes words written to FDRI or MFWR on a matched device, four bytes each, up to the first that is refused. It gives the
+    /// number of words looked at, a refused one included, and the fault.
     pub fn write_words(
+        &mut self,
+        settings: FrameSettings,
+        register: Reg,
+        bytes: &[u8],
+        part: &Part,
+    ) -> (usize, Option<RunFault>)
+        requires register { TakesWords register }
+        requires whole { length bytes.now % 4 ≡ 0 }
+        requires part { FramesFit part.now self.old }
+        ensures taken { (n : ℕ) → OfFrames part.now settings self.old (λ h. WordsTaken part.now self.new h (words_to register n bytes.now) result) }
+        ensures within { result.0 ≤ length bytes.now / 4 }
+        ensures part { FramesFit part.now self.new }
+    {
+        match register {
+            Reg::Mfwr => self.write_copies(settings, bytes, part),
+            _ => self.write_frame_data(settings, bytes, part),
+        }
+    }
+
+    /// Takes words written to FDRI, as `write_words` does.
+    fn write_frame_data(
         &mut self,
         settings: FrameSettings,
         bytes: &[u8],
@@ -90,12 +111,31 @@ impl Frames {
     ) -> (usize, Option<RunFault>)
         requires whole { length bytes.now % 4 ≡ 0 }
         requires part { FramesFit part.now self.old }
-        ensures taken { (n : ℕ) → OfFrames part.now settings self.old (λ h. WordsTaken part.now self.new n h (words_of_bytes bytes.now) result.0 result.1) }
+        ensures taken { (n : ℕ) → OfFrames part.now settings self.old (λ h. WordsTaken part.now self.new h (words_to reg.Fdri n bytes.now) result) }
         ensures within { result.0 ≤ length bytes.now / 4 }
         ensures part { FramesFit part.now self.new }
     {
         if takes_frames(settings) {
             return take_words(bytes, part, &mut self.pipeline, &mut self.memory);
+        }
+        (bytes.len() / 4, None)
+    }
+
+    /// Takes words written to MFWR, as `write_words` does.
+    fn write_copies(
+        &mut self,
+        settings: FrameSettings,
+        bytes: &[u8],
+        part: &Part,
+    ) -> (usize, Option<RunFault>)
+        requires whole { length bytes.now % 4 ≡ 0 }
+        requires part { FramesFit part.now self.old }
+        ensures taken { (n : ℕ) → OfFrames part.now settings self.old (λ h. WordsTaken part.now self.new h (words_to reg.Mfwr n bytes.now) result) }
+        ensures within { result.0 ≤ length bytes.now / 4 }
+        ensures part { FramesFit part.now self.new }
+    {
+        if takes_copies(settings) {
+            return take_copies(bytes, part, &mut self.pipeline, &mut self.memory);
         }
         (bytes.len() / 4, None)
     }

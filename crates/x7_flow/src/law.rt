@@ -146,7 +146,7 @@ pub fn memory_has_frames()
 
 /// Words of frame data for which there are slots: none is refused, and where they begin a run the memory gets what they land.
 pub fn words_have_room()
-    ensures none { (part : PartData) (n : ℕ) (ws : List ℕ) (h : History) → TakesFrames part h → HasAddress part h → HasRoomFor part h ws → NoneRefused part n ws h }
+    ensures none { (part : PartData) (n : ℕ) (ws : List ℕ) (h : History) → TakesFrames part h → HasAddress part h → HasRoomFor part h ws → NoneRefused part reg.Fdri n ws h }
     ensures memory { (part : PartData) (n : ℕ) (ws : List ℕ) (h : History) → TakesFrames part h → run_of part h ≡ [] →
         MemoryGets part (with_frame_data n ws h) h (written_frames part (base_of part h) (onto ws [])) }
 {}

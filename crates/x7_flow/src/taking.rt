@@ -1,7 +1,8 @@
 //! A pipeline and a memory do what an access asks.
 ghost use Rattle.std.specs.Prelude.{◌≡◌, ◌+◌, ◌/◌, ◌%◌, ◌≤◌, ◌∷◌, suc, ℕ, List, length, IfNone, OnSome};
-ghost use Rattle.x7_words.specs.Word.{words_of_bytes};
-ghost use Rattle.x7_flow.specs.Words.{OfTaking, WordsTaken};
+ghost use Rattle.x7_regs.specs.declared.register.Reg.TheVariants as reg;
+ghost use Rattle.x7_flow.specs.Settings.{takes_copies, takes_frames};
+ghost use Rattle.x7_flow.specs.Words.{OfTaking, WordsTaken, words_to};
 ghost use Rattle.x7_packets.specs.History.{History};
 ghost use Rattle.x7_memory.specs.Frames.{AreFramesOf};
 ghost use Rattle.x7_pipeline.specs.Pipeline.{IsPipelineOf};
@@ -94,12 +95,37 @@ pub fn take_words(
     requires whole { length bytes.now % 4 ≡ 0 }
     requires pipeline { IsPipelineOf part.now pipeline.old }
     requires memory { AreFramesOf part.now memory.old }
-    ensures taken { (n : ℕ) → OfTaking part.now pipeline.old memory.old (λ h. WordsTaken part.now (frames_state pipeline.new memory.new) n h (words_of_bytes bytes.now) result.0 result.1) }
+    ensures taken { (n : ℕ) → OfTaking part.now takes_frames pipeline.old memory.old (λ h. WordsTaken part.now (frames_state pipeline.new memory.new) h (words_to reg.Fdri n bytes.now) result) }
     ensures within { result.0 ≤ length bytes.now / 4 }
     ensures pipeline { IsPipelineOf part.now pipeline.new }
     ensures memory { AreFramesOf part.now memory.new }
 {
     pipeline.write_bytes(bytes, part, memory)
+}
+
+/// Takes words written to MFWR at once, four bytes each: the first puts the source, and each later one would put it there again.
+/// It gives the number of words looked at, a refused one included, and the fault.
+pub fn take_copies(
+    bytes: &[u8],
+    part: &Part,
+    pipeline: &mut Pipeline,
+    memory: &mut Memory,
+) -> (usize, Option<RunFault>)
+    requires whole { length bytes.now % 4 ≡ 0 }
+    requires pipeline { IsPipelineOf part.now pipeline.old }
+    requires memory { AreFramesOf part.now memory.old }
+    ensures taken { (n : ℕ) → OfTaking part.now takes_copies pipeline.old memory.old (λ h. WordsTaken part.now (frames_state pipeline.new memory.new) h (words_to reg.Mfwr n bytes.now) result) }
+    ensures within { result.0 ≤ length bytes.now / 4 }
+    ensures pipeline { IsPipelineOf part.now pipeline.new }
+    ensures memory { AreFramesOf part.now memory.new }
+{
+    if bytes.is_empty() {
+        return (0, None);
+    }
+    match pipeline.copy(part, memory) {
+        Ok(()) => (bytes.len() / 4, None),
+        Err(fault) => (1, Some(fault)),
+    }
 }
 
 /// Passes over so many of the words of frame data that are due.

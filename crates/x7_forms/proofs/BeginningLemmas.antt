@@ -298,5 +298,5 @@ unread_turn old mid new name bytes left event r n q small late (inl h) =
 unread_turn old mid new name bytes left event r n q small late (inr h) = absurd (small h.0)
 
 -- what was read, by its parts
-pub reads_by : (old new : InputsState) (bytes : List ℕ) → new.selected ≡ true → old.rest ≡ preceded bytes new.rest → new.given ≤ old.given + length bytes → new.asked ≡ old.asked → Stays old new → Reads old bytes new
-reads_by old new bytes s t g q k = record { takes = record { selected = s; taken = t; given = g }; asked = q; stays = k }
+pub reads_by : (old new : InputsState) (bytes : List ℕ) → new.selected ≡ true → old.rest ≡ preceded bytes new.rest → new.given ≤ old.given + length bytes → new.asked ≡ old.asked → Stays old new → new.selects ≡ old.selects → Reads old bytes new
+reads_by old new bytes s t g q k c = record { takes = record { selected = s; taken = t; given = g; selects = c }; asked = q; stays = k }

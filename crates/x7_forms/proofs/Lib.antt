@@ -5,3 +5,4 @@ pub mod PlayLemmas
 pub mod PlayerLemmas
 pub mod ReadLemmas
 pub mod ResultLemmas
+pub mod StandLemmas

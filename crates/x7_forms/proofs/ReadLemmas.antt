@@ -246,7 +246,7 @@ pub came_in : (some all : List (List ℕ)) (old mid new : InputsState) → ((n :
 came_in some all old mid new a s (Failing name given) h = (h.0, fails_in some all old mid new a s name h.1)
 came_in some all old mid new a s (Lacking name) h = lacks_in some all old mid new a s name h
 
-left_at : {X : Type 0} (f : X → List ℕ) (ss : List X) (k : ℕ) (s : X) → k < length ss → s ≡ get_or ss k s → map f (drop k ss) ≡ f s ∷ map f (drop (suc k) ss)
+pub left_at : {X : Type 0} (f : X → List ℕ) (ss : List X) (k : ℕ) (s : X) → k < length ss → s ≡ get_or ss k s → map f (drop k ss) ≡ f s ∷ map f (drop (suc k) ss)
 left_at f ss k s h e =
     let prefix : f (get_or ss k s) ≡ f s = ap f (sym e) in
     rw (drop-cons ss k s) (ap (λ x. x ∷ map f (drop (suc k) ss)) prefix)

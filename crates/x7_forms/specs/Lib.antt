@@ -4,4 +4,5 @@ pub mod Known
 pub mod Message
 pub mod Play
 pub mod Step
+pub mod Stop
 pub mod Turn

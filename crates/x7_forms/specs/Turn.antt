@@ -29,6 +29,17 @@ pub record IsAt (name bytes : List ℕ) (now : InputsState) : Type 0 where
   pub asked : IfSome now.asked (λ kept. kept ≡ name)
   pub given : now.given ≤ length bytes
 
+-- No input was asked for since, and of the selected one no more than a byte over so many was given.
+pub record GivesFew (old : InputsState) (left : ℕ) (new : InputsState) : Type 0 where
+  pub asked : new.asked ≡ old.asked
+  pub selects : new.selects ≡ old.selects
+  pub given : new.given ≤ old.given + (left + 1)
+
+-- The input of this name is the last that was asked for, and no more than a byte over this limit was given of it.
+pub record StandsAt (name : List ℕ) (limit : ℕ) (now : InputsState) : Type 0 where
+  pub asked : IfSome now.asked (λ kept. kept ≡ name)
+  pub given : now.given ≤ limit + 1
+
 -- What was read of an open input, with so many bytes within the limit, was not all: the inputs failed before the limit was passed, or one byte more than it was taken.
 abbrev pub Unread : InputsState → List ℕ → InputsState → ℕ → Event → Type 0
 Unread old name new left event =

@@ -1,9 +1,10 @@
 //! The beginning of a stream that is listed, up to where its header is judged.
-ghost use Rattle.std.specs.Prelude.{◌≡◌, ◌≤◌, ◌⊎◌, ℕ, length, true, false, IfErr, IfOk, MatchOption, OnOk};
+ghost use Rattle.std.specs.Prelude.{◌≡◌, ◌≤◌, ◌+◌, ◌⊎◌, ℕ, length, true, false, IfErr, IfOk, MatchOption, OnOk};
 ghost use Rattle.x7_words.specs.Input.{Stays};
 ghost use Rattle.x7_forms.specs.Event.{bad_input, no_memory};
 ghost use Rattle.x7_forms.specs.Message.{event_of};
-ghost use Rattle.x7_forms.specs.Turn.{BeginAt, HeaderGoesOn, IsBeginning, IsRefused, ReadsBeginning, RefusedAt, UnreadBeginning};
+ghost use Rattle.x7_forms.specs.Known.{stream_limit};
+ghost use Rattle.x7_forms.specs.Turn.{BeginAt, GivesFew, HeaderGoesOn, IsBeginning, IsRefused, ReadsBeginning, RefusedAt, UnreadBeginning};
 ghost use Rattle.x7_forms.specs.declared.bad_input.InputFault.TheVariants as input;
 
 use crate::bad_input::InputFault;
@@ -90,6 +91,8 @@ pub fn read_beginning<'w, I: Inputs>(
     ensures selected { OnOk result ((I.state inputs.new).selected ≡ true) }
     ensures begins { IfOk result (λ first. ReadsBeginning first.bytes.items first.line.items first.start first.last (I.state inputs.old) (I.state inputs.new)) }
     ensures err { IfErr result (λ r. UnreadBeginning (I.state inputs.old) stream.now (I.state inputs.new) (event_of r)) }
+    ensures few { GivesFew (I.state inputs.old) stream_limit (I.state inputs.new) }
+    ensures short { (I.state inputs.new).given ≤ (I.state inputs.old).given + 327706 }
     ensures inputs { Stays (I.state inputs.old) (I.state inputs.new) }
 {
     let mut bytes = Vec::new(alloc);

@@ -1,11 +1,12 @@
 //! Reading a part file, and playing the data of streams while they are read.
-ghost use Rattle.std.specs.Prelude.{◌≡◌, ℕ, List, [], ◌∷◌, ◌+◌, ◌<◌, ◌⊎◌, true, length, map, string_bytes, Ok, Err, IfErr, IfOk};
+ghost use Rattle.std.specs.Prelude.{◌≡◌, ℕ, List, [], ◌∷◌, ◌+◌, ◌<◌, ◌≤◌, ◌⊎◌, true, length, map, string_bytes, Ok, Err, IfErr, IfOk};
 ghost use Rattle.x7_words.specs.Input.{AtEnd, Stays};
 ghost use Rattle.x7_forms.specs.Message.{event_of};
 ghost use Rattle.x7_forms.specs.Event.{no_memory};
-ghost use Rattle.x7_forms.specs.Known.{part_of as part_due};
+ghost use Rattle.x7_forms.specs.Known.{part_limit, part_of as part_due, stream_limit};
 ghost use Rattle.x7_forms.specs.Play.{HasPlayed, MayPlay, PlaysOn, part_event, PlaysStream};
-ghost use Rattle.x7_forms.specs.Turn.{ReadsRest, UnreadRest};
+ghost use Rattle.x7_forms.specs.Turn.{GivesFew, ReadsRest, StandsAt, UnreadRest};
+ghost use Rattle.x7_forms.specs.Stop.{StopsAmong, limited_together};
 ghost use Rattle.x7_forms.specs.Step.{AnswersAs, IsNoPart, IsOneUnplayed, IsUnplayed, seen, ReadsStream, ReadsStreams, step_over};
 
 use crate::player::Player;
@@ -43,6 +44,8 @@ pub fn read_part<'w, I: Inputs>(
     ensures due { AnswersAs (step_over (name.now ∷ []) (I.state inputs.old) (I.state inputs.new))
         (λ known. part_due known name.now) (seen (λ part. part) result) }
     ensures named { IfErr result (λ r. IsNoPart name.now (event_of r)) }
+    ensures stands { StandsAt name.now part_limit (I.state inputs.new) }
+    ensures once { (I.state inputs.new).selects ≤ (I.state inputs.old).selects + 1 }
     ensures inputs { Stays (I.state inputs.old) (I.state inputs.new) }
 {
     let text = match read_whole(alloc, inputs, name, PART_LIMIT) {
@@ -72,6 +75,7 @@ fn play_rest<'w, I: Inputs>(
     ensures ok { IfOk result (λ left. (more : List ℕ) × (length more + left ≡ limit) × PlaysOn player.old player.new more × ReadsRest (I.state inputs.old) (I.state inputs.new) more) }
     ensures err { IfErr result (λ r. (event_of r ≡ no_memory) ⊎ UnreadRest (I.state inputs.old) name.now (I.state inputs.new) limit (event_of r)) }
     ensures length { length piece.new ≡ length piece.old }
+    ensures few { GivesFew (I.state inputs.old) limit (I.state inputs.new) }
     ensures inputs { Stays (I.state inputs.old) (I.state inputs.new) }
 {
     if last {
@@ -107,6 +111,8 @@ fn play_stream<'w, I: Inputs>(
     ensures ok { IfOk result (λ left. PlaysStream limit left (PlaysOn player.old player.new) (ReadsStream (I.state inputs.old) (I.state inputs.new) limit name.now)) }
     ensures err { IfErr result (λ r. ReadsStream (I.state inputs.old) (I.state inputs.new) limit name.now (Err (event_of r))) }
     ensures named { IfErr result (λ r. IsUnplayed name.now (event_of r)) }
+    ensures stands { StandsAt name.now limit (I.state inputs.new) }
+    ensures once { (I.state inputs.new).selects ≤ (I.state inputs.old).selects + 1 }
     ensures length { length piece.new ≡ length piece.old }
     ensures inputs { Stays (I.state inputs.old) (I.state inputs.new) }
 {
@@ -144,6 +150,8 @@ pub fn play_streams<'w, I: Inputs>(
     ensures ok { IfOk result (λ player. (bytes : List ℕ) × HasPlayed part.now bytes player × ReadsStreams (I.state inputs.old) (I.state inputs.new) (map string_bytes streams.now) (Ok bytes)) }
     ensures err { IfErr result (λ r. ReadsStreams (I.state inputs.old) (I.state inputs.new) (map string_bytes streams.now) (Err (event_of r))) }
     ensures named { IfErr result (λ r. IsOneUnplayed (map string_bytes streams.now) (event_of r)) }
+    ensures stops { IfErr result (λ r. StopsAmong (limited_together (I.state inputs.old).contents stream_limit (map string_bytes streams.now)) (I.state inputs.old) (I.state inputs.new) (event_of r)) }
+    ensures once { (I.state inputs.new).selects ≤ (I.state inputs.old).selects + length streams.now }
     ensures inputs { Stays (I.state inputs.old) (I.state inputs.new) }
 {
     let Ok(mut player) = Player::new(alloc, part) else {

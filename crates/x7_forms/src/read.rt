@@ -5,7 +5,7 @@ ghost use Rattle.x7_words.specs.Word.{AreBytes};
 ghost use Rattle.x7_forms.specs.Message.{event_of};
 ghost use Rattle.x7_forms.specs.Event.{no_memory, read_fault, too_large};
 ghost use Rattle.x7_forms.specs.Known.{data_in};
-ghost use Rattle.x7_forms.specs.Turn.{Breaks, ReadsRest, Unopened, Unread, UnreadRest};
+ghost use Rattle.x7_forms.specs.Turn.{Breaks, GivesFew, ReadsRest, StandsAt, Unopened, Unread, UnreadRest};
 ghost use Rattle.x7_forms.specs.Step.{IsUnread, ReadsWhole, seen};
 
 use crate::bad_input::InputFault;
@@ -45,6 +45,8 @@ fn fill<'w, I: Inputs>(inputs: &mut I, name: &'w str, buf: &mut [u8]) -> Result<
     ensures length { length buf.new ≡ length buf.old }
     ensures failed { IfErr result (λ r. (event_of r ≡ read_fault name.now) × Breaks (I.state inputs.old) (length buf.old) (I.state inputs.new)) }
     ensures asked { (I.state inputs.new).asked ≡ (I.state inputs.old).asked }
+    ensures given { (I.state inputs.new).given ≤ (I.state inputs.old).given + length buf.old }
+    ensures selects { (I.state inputs.new).selects ≡ (I.state inputs.old).selects }
     ensures inputs { Stays (I.state inputs.old) (I.state inputs.new) }
 {
     let mut at = 0;
@@ -69,6 +71,7 @@ pub fn open<'w, I: Inputs>(inputs: &mut I, name: &'w str) -> Result<(), Refusal<
     ensures ok { OnOk result (Opens (I.state inputs.old) name.now (I.state inputs.new)) }
     ensures err { IfErr result (λ r. Unopened (I.state inputs.old) name.now (I.state inputs.new) (event_of r)) }
     ensures asks { Asks name.now (I.state inputs.new) }
+    ensures once { (I.state inputs.new).selects ≤ (I.state inputs.old).selects + 1 }
     ensures inputs { Stays (I.state inputs.old) (I.state inputs.new) }
 {
     match inputs.select(name) {
@@ -111,6 +114,8 @@ pub fn next_turn<'w, I: Inputs>(
     ensures soon { IfErr result (λ r. event_of r ≡ read_fault name.now → (I.state inputs.new).given < (I.state inputs.old).given + length buf.old) }
     ensures over { IfErr result (λ r. event_of r ≡ too_large name.now → left < length buf.old) }
     ensures asked { (I.state inputs.new).asked ≡ (I.state inputs.old).asked }
+    ensures few { GivesFew (I.state inputs.old) left (I.state inputs.new) }
+    ensures turn { (I.state inputs.new).given ≤ (I.state inputs.old).given + length buf.old }
     ensures inputs { Stays (I.state inputs.old) (I.state inputs.new) }
 {
     let most = turn_len(left, buf.len());
@@ -141,6 +146,7 @@ fn read_rest<'w, I: Inputs>(
     requires selected { (I.state inputs.old).selected ≡ true }
     ensures ok { OnOk result ((more : List ℕ) × (onto.new.items ≡ onto.old.items ++ more) × (length more ≤ limit) × ReadsRest (I.state inputs.old) (I.state inputs.new) more) }
     ensures err { IfErr result (λ r. (event_of r ≡ no_memory) ⊎ UnreadRest (I.state inputs.old) name.now (I.state inputs.new) limit (event_of r)) }
+    ensures few { GivesFew (I.state inputs.old) limit (I.state inputs.new) }
     ensures inputs { Stays (I.state inputs.old) (I.state inputs.new) }
 {
     let mut piece = [0u8; TURN];
@@ -171,6 +177,8 @@ pub fn read_whole<'w, I: Inputs>(
     ensures due { ReadsWhole (I.state inputs.old) (I.state inputs.new) limit name.now (seen (λ whole. whole.items) result) }
     ensures named { IfErr result (λ r. IsUnread name.now (event_of r)) }
     ensures within { IfOk result (λ whole. vec_len whole ≤ limit) }
+    ensures stands { StandsAt name.now limit (I.state inputs.new) }
+    ensures once { (I.state inputs.new).selects ≤ (I.state inputs.old).selects + 1 }
     ensures inputs { Stays (I.state inputs.old) (I.state inputs.new) }
 {
     match open(inputs, name) {
@@ -199,6 +207,7 @@ pub(crate) fn skip_rest<'w, I: Inputs>(
     ensures ok { OnOk result ((more : List ℕ) × (length more ≤ limit) × ReadsRest (I.state inputs.old) (I.state inputs.new) more) }
     ensures err { IfErr result (λ r. UnreadRest (I.state inputs.old) name.now (I.state inputs.new) limit (event_of r)) }
     ensures length { length buf.new ≡ length buf.old }
+    ensures few { GivesFew (I.state inputs.old) limit (I.state inputs.new) }
     ensures inputs { Stays (I.state inputs.old) (I.state inputs.new) }
 {
     if last {

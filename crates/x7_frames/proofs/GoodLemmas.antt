@@ -41,7 +41,7 @@ apart-push rows row apart new i j d lt h e =
       | inr (inr above) ↦ absurd (omega arith)
     ]
 
-good-next : (part : PartData) (lines : List (List ℕ)) (line : List ℕ) (rows new : List PlanRow) → AreGood part lines rows → Takes part line rows new → AreGood part (lines ++ line ∷ []) new
+pub good-next : (part : PartData) (lines : List (List ℕ)) (line : List ℕ) (rows new : List PlanRow) → AreGood part lines rows → Takes part line rows new → AreGood part (lines ++ line ∷ []) new
 good-next part lines line rows new good (inl same) =
     subst (λ r. AreGood part (lines ++ line ∷ []) r) (sym same.1)
     (record { read = lines-skip (frame_words part) lines rows line same.0 good.read; addresses = good.addresses; apart = good.apart })
@@ -73,17 +73,17 @@ goes-on part text rest line after rows new n e goes takes = record {
   counted = ap (λ (k : ℕ). k + 1) goes.counted ∙ sym (length_push goes.lines line);
 }
 
-pub fails-there : (part : PartData) (text rest line : List ℕ) (others : List (List ℕ)) (rows : List PlanRow) (n : ℕ) (f : FramesFault) → split rest ≡ line ∷ others → Goes part text rest rows n → IsFaultAt part rows (n + 1) line f → IsPlanOf part text (Err f)
-fails-there part text rest line others rows n f e goes = at f
-  where
-    reaches : Reaches part text (n + 1) line rows
-    reaches = record { before = goes.lines; after = others; texts = goes.texts ∙ ap (λ t. goes.lines ++ t) e; good = goes.good; count = ap (λ (k : ℕ). k + 1) goes.counted }
+-- what a line at fault tells of the text
+pub fault-of : (part : PartData) (text line : List ℕ) (rows : List PlanRow) (n : ℕ) (f : FramesFault) → Reaches part text n line rows → IsFaultAt part rows n line f → IsPlanOf part text (Err f)
+fault-of part text line rows n (fault.Line m) r h = (line, rows, subst (λ k. Reaches part text k line rows) (sym h.0) r, h.1)
+fault-of part text line rows n (fault.Address m) r h = (line, rows, subst (λ k. Reaches part text k line rows) (sym h.0) r, h.1)
+fault-of part text line rows n (fault.Twice m) r h = (line, rows, subst (λ k. Reaches part text k line rows) (sym h.0) r, h.1)
+fault-of part text line rows n fault.NoMemory r h = h
 
-    at : (f : FramesFault) → IsFaultAt part rows (n + 1) line f → IsPlanOf part text (Err f)
-    at (fault.Line m) h = (line, rows, subst (λ k. Reaches part text k line rows) (sym h.0) reaches, h.1)
-    at (fault.Address m) h = (line, rows, subst (λ k. Reaches part text k line rows) (sym h.0) reaches, h.1)
-    at (fault.Twice m) h = (line, rows, subst (λ k. Reaches part text k line rows) (sym h.0) reaches, h.1)
-    at fault.NoMemory h = h
+pub fails-there : (part : PartData) (text rest line : List ℕ) (others : List (List ℕ)) (rows : List PlanRow) (n : ℕ) (f : FramesFault) → split rest ≡ line ∷ others → Goes part text rest rows n → IsFaultAt part rows (n + 1) line f → IsPlanOf part text (Err f)
+fails-there part text rest line others rows n f e goes =
+    fault-of part text line rows (n + 1) f
+    (record { before = goes.lines; after = others; texts = goes.texts ∙ ap (λ t. goes.lines ++ t) e; good = goes.good; count = ap (λ (k : ℕ). k + 1) goes.counted })
 
 -- the last line is read
 pub last-good : (part : PartData) (text rest line : List ℕ) (rows new : List PlanRow) (n : ℕ) → split rest ≡ line ∷ [] → Goes part text rest rows n → Takes part line rows new → AreGood part (split text) new

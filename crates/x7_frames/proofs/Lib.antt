@@ -1,6 +1,8 @@
 pub mod DigitLemmas
 pub mod LineLemmas
 pub mod GoodLemmas
+pub mod OrderLemmas
+pub mod EveryTextLemmas
 pub mod TextLemmas
 pub mod OneFaultLemmas
 pub mod OneLemmas

@@ -2,15 +2,20 @@
 use Rattle.std.proofs.Common.{◌≡◌, ◌⊎◌, inl, inr, ℕ, ◌+◌, ◌^◌, ◌<◌, ◌≤◌, true, List, [], ◌∷◌, ◌++◌, Option, None, Bor, Result, Ok, Err, IfOk, IfErr, OnOk, MatchResult, length, refl, ap, sym, subst, ◌∙◌, arith, append_assoc, append-nil, length-append}
 use Rattle.x7_text.specs.Lines.{has_no_end, split}
 use Rattle.x7_text.proofs.PieceLemmas.{at-none, FirstLine, first-free, free-both, only-line, some-line, split-alone}
-use Rattle.x7_text.proofs.SplitLemmas.{split-line}
+use Rattle.x7_text.proofs.SplitLemmas.{split-line, split-some}
 use Rattle.x7_part.specs.Part.{PartData, frame_words}
 use Rattle.x7_memory.specs.Planned.{AreApart, PlanData, PlanRow}
 use Rattle.x7_frames.specs.FramesText.{AreGood, IsPlanOf}
-use Rattle.x7_frames.specs.Reader.{FailsAtLine, FailsIn, IsSound, ReaderStandsFor, ReaderState, TakesLine, TakesPiece}
-use Rattle.x7_frames.specs.Steps.{Goes, HasMarks, IsFaultAt, Takes}
+use Rattle.x7_frames.specs.Reader.{FailsAtLine, FailsIn, FirstIsGood, IsSound, ReaderStandsFor, ReaderState, TakesLine, TakesPiece}
+use Rattle.x7_frames.specs.Steps.{Goes, HasMarks, IsFaultAt, IsGoodLine, Takes}
 use Rattle.x7_frames.specs.declared.fault.FramesFault.{FramesFault}
 use Rattle.x7_frames.specs.declared.fault.FramesFault.TheVariants as fault
 use Rattle.x7_frames.proofs.GoodLemmas.{apart-takes, fails-there, goes-on, last-good, starts}
+
+-- what holds of each error holds of that of a result
+pub all-err : {A E : Type 0} (r : Result A E) (P : E → Type 0) → ((e : E) → P e) → IfErr r P
+all-err (Ok a) P f = tt
+all-err (Err e) P f = f e
 
 -- ---- the lines of a text
 
@@ -79,9 +84,34 @@ pub record HasFed (a b : ReaderState) (piece rest : List ℕ) : Type 0 where
   pub prefix : List ℕ
   pub split_is : piece ≡ prefix ++ rest
   pub takes : (text : List ℕ) → length (text ++ piece) < 2 ^ 63 → ReaderStandsFor a text → ReaderStandsFor b (text ++ prefix)
+  pub first : ((b ≡ a) × (rest ≡ piece)) ⊎ FirstIsGood a piece
 
 pub fed-none : (a : ReaderState) (piece : List ℕ) → HasFed a a piece piece
-fed-none a piece = record { prefix = []; split_is = refl; takes = λ text fits s. subst (ReaderStandsFor a) (sym (append-nil text)) s }
+fed-none a piece = record { prefix = []; split_is = refl; takes = λ text fits s. subst (ReaderStandsFor a) (sym (append-nil text)) s; first = inl (refl, refl) }
+
+-- where the first line is good, and where it is the only one
+heads : (s t : List ℕ) (ss ts : List (List ℕ)) → (s ∷ ss) ≡ (t ∷ ts) → s ≡ t
+heads s t ss ts e = cc
+
+first-good : (a b : ReaderState) (piece rest line after : List ℕ) → split rest ≡ line ∷ split after → ((b ≡ a) × (rest ≡ piece)) ⊎ FirstIsGood a piece → (b.held ≡ [] → IsGoodLine b.part b.rows line) → FirstIsGood a piece
+first-good a b piece rest line after e (inr first) good = first
+first-good a b piece rest line after e (inl (same, start)) good = λ clear l others f.
+    let here : line ≡ l = heads line l (split after) (split others) (sym e ∙ ap split start ∙ f) in
+    subst (IsGoodLine a.part a.rows) here (subst (λ (r : ReaderState). r.held ≡ [] → IsGoodLine r.part r.rows line) same good clear)
+
+pub fed-first-good : (a b : ReaderState) (piece rest line after : List ℕ) → split rest ≡ line ∷ split after → HasFed a b piece rest → (b.held ≡ [] → IsGoodLine b.part b.rows line) → FirstIsGood a piece
+fed-first-good a b piece rest line after e f good = first-good a b piece rest line after e f.first good
+
+-- no line ends in what is left
+pub fed-only-good : (a b : ReaderState) (piece rest line : List ℕ) → split rest ≡ line ∷ [] → HasFed a b piece rest → FirstIsGood a piece
+fed-only-good a b piece rest line e f = by f.first
+  where
+    none : (s t : List ℕ) (ts : List (List ℕ)) → (s ∷ []) ≡ (t ∷ ts) → ts ≡ []
+    none s t ts h = cc
+
+    by : ((b ≡ a) × (rest ≡ piece)) ⊎ FirstIsGood a piece → FirstIsGood a piece
+    by (inr first) = first
+    by (inl (same, start)) = λ clear l others g. absurd (split-some others (none line l (split others) (sym e ∙ ap split start ∙ g)))
 
 pub fed-line : (a b c : ReaderState) (piece rest line after : List ℕ) → c.part ≡ b.part → split rest ≡ line ∷ split after → TakesLine b c line → HasFed a b piece rest → HasFed a c piece after
 fed-line a b c piece rest line after part e t f =
@@ -96,6 +126,7 @@ fed-line a b c piece rest line after part e t f =
           (line-taken b c line (text ++ f.prefix) part (first-free rest line (split after) e) t
           (omega (arith, fits, long, rests, length-append text piece, length-append (text ++ f.prefix) (line ++ 10 ∷ []), length-append text f.prefix, length-append line (10 ∷ [])))
           (f.takes text fits s));
+      first = inr (first-good a b piece rest line after e f.first (λ clear. (c.rows, subst (λ (h : List ℕ). Takes b.part (h ++ line) b.rows c.rows) clear t.takes)));
     }
 
 pub fed-end : (a b c : ReaderState) (piece rest line : List ℕ) → split rest ≡ line ∷ [] → TakesPiece b c line → HasFed a b piece rest → TakesPiece a c piece

@@ -88,6 +88,14 @@ IsPlanOf part text (Err (fault.Address n)) = (line : List ℕ) × (rows : List P
 IsPlanOf part text (Err (fault.Twice n)) = (line : List ℕ) × (rows : List PlanRow) × Reaches part text n line rows × IsRepeated part rows line
 IsPlanOf part text (Err fault.NoMemory) = ⊥
 
+-- a text has a plan
+abbrev pub IsGoodText : PartData → List ℕ → Type 0
+IsGoodText part text = (plan : PlanData) × Plans part text plan
+
+-- a text comes to something
+abbrev pub HasPlan : PartData → List ℕ → Type 0
+HasPlan part text = (r : Result PlanData FramesFault) × IsPlanOf part text r
+
 -- the line of a row, its end too, in upper case
 abbrev pub frame_line : PlanRow → List ℕ
 frame_line row = frame_head row.far ++ (flat_map hex_word row.words ++ 10 ∷ [])

@@ -1,10 +1,10 @@
 -- A text that is read piece by piece: what a reader keeps, and the text that it stands for.
-use Rattle.std.specs.Prelude.{◌≡◌, ◌⊎◌, ℕ, ◌+◌, ◌^◌, ◌<◌, ◌≤◌, Bool, true, List, [], ◌++◌, length, vec_capacity, Err}
-use Rattle.x7_text.specs.Lines.{has_no_end}
+use Rattle.std.specs.Prelude.{◌≡◌, ◌⊎◌, ℕ, ◌+◌, ◌^◌, ◌<◌, ◌≤◌, Bool, true, List, [], ◌∷◌, ◌++◌, length, vec_capacity, Err}
+use Rattle.x7_text.specs.Lines.{has_no_end, split}
 use Rattle.x7_part.specs.Part.{PartData, frame_words}
 use Rattle.x7_memory.specs.Planned.{AreApart, PlanRow}
 use Rattle.x7_frames.specs.FramesText.{IsPlanOf}
-use Rattle.x7_frames.specs.Steps.{Goes, HasMarks, IsFaultAt, Takes}
+use Rattle.x7_frames.specs.Steps.{Goes, HasMarks, IsFaultAt, IsGoodLine, Takes}
 use Rattle.x7_frames.specs.declared.fault.FramesFault.{FramesFault}
 use Rattle.x7_frames.specs.declared.fault.FramesFault.TheVariants as fault
 use Rattle.x7_frames.specs.declared.reader.Lines.{Lines}
@@ -53,6 +53,10 @@ pub record TakesLine (a b : ReaderState) (line : List ℕ) : Type 0 where
 -- that line is at fault
 abbrev pub FailsAtLine : ReaderState → List ℕ → FramesFault → Type 0
 FailsAtLine a line f = (f ≡ fault.NoMemory) ⊎ (a.count < 2 ^ 63 → IsFaultAt a.part a.rows (a.count + 1) (a.held ++ line) f)
+
+-- the first line that ends in a piece is good, where nothing of it was held
+abbrev pub FirstIsGood : ReaderState → List ℕ → Type 0
+FirstIsGood a piece = a.held ≡ [] → (line after : List ℕ) → split piece ≡ line ∷ split after → IsGoodLine a.part a.rows line
 
 -- a reader reads a piece more, of a text of fewer than 2^63 bytes
 abbrev pub TakesPiece : ReaderState → ReaderState → List ℕ → Type 0

@@ -26,6 +26,10 @@ pub record IsAdded (part : PartData) (line : List ℕ) (old new : List PlanRow) 
 abbrev pub Takes : PartData → List ℕ → List PlanRow → List PlanRow → Type 0
 Takes part line old new = ((means_nothing line ≡ true) × (new ≡ old)) ⊎ IsAdded part line old new
 
+-- a line is good behind these rows
+abbrev pub IsGoodLine : PartData → List PlanRow → List ℕ → Type 0
+IsGoodLine part rows line = (new : List PlanRow) × Takes part line rows new
+
 -- line n behind these rows is at fault
 abbrev pub IsFaultAt : PartData → List PlanRow → ℕ → List ℕ → FramesFault → Type 0
 IsFaultAt part rows n line (fault.Line m) = (m ≡ n) × IsNoLine (frame_words part) line

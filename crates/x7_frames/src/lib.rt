@@ -9,7 +9,7 @@ mod reading;
 mod text;
 
 pub use fault::FramesFault;
-pub use laws::{one_plan, plan_text_leads_back};
+pub use laws::{every_text_is_read, one_plan, plan_text_leads_back};
 pub use reader::FramesReader;
 pub use reading::plan_of;
 pub use text::plan_text;

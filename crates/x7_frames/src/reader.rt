@@ -1,8 +1,9 @@
 //! A text that comes in pieces.
 ghost use Rattle.std.specs.Prelude.{◌≡◌, ℕ, ◌^◌, ◌<◌, ◌⊎◌, List, [], length, true, Ok, Err, IfOk, IfErr, OnOk};
 ghost use Rattle.x7_text.specs.Lines.{has_no_end};
-ghost use Rattle.x7_frames.specs.FramesText.{IsPlanOf};
-ghost use Rattle.x7_frames.specs.Reader.{FailsAtLine, FailsIn, IsSound, ReaderStandsFor, TakesLine, TakesPiece, reader_of};
+ghost use Rattle.x7_frames.specs.FramesText.{IsGoodText, IsPlanOf};
+ghost use Rattle.x7_frames.specs.Steps.{IsGoodLine};
+ghost use Rattle.x7_frames.specs.Reader.{FailsAtLine, FailsIn, FirstIsGood, IsSound, ReaderStandsFor, TakesLine, TakesPiece, reader_of};
 ghost use Rattle.x7_frames.specs.declared.fault.FramesFault.{FramesFault};
 
 use crate::fault::FramesFault;
@@ -45,6 +46,7 @@ impl Lines {
         ensures sound { OnOk result (IsSound (reader_of part.now self.new)) }
         ensures taken { OnOk result (TakesLine (reader_of part.now self.old) (reader_of part.now self.new) line.now) }
         ensures fault { IfErr result (FailsAtLine (reader_of part.now self.old) line.now) }
+        ensures memory { IfErr result (λ fault. fault ≡ FramesFault.NoMemory → self.old.held.items ≡ [] → IsGoodLine part.now self.old.reading.draft.rows line.now) }
     {
         self.count = self.count.saturating_add(1);
         if self.held.is_empty() {
@@ -82,6 +84,7 @@ impl Lines {
         ensures sound { OnOk result (IsSound (reader_of part.now self.new)) }
         ensures taken { OnOk result (TakesPiece (reader_of part.now self.old) (reader_of part.now self.new) piece.now) }
         ensures fault { IfErr result (FailsIn (reader_of part.now self.old) piece.now) }
+        ensures memory { IfErr result (λ fault. fault ≡ FramesFault.NoMemory → FirstIsGood (reader_of part.now self.old) piece.now) }
     {
         let mut rest = piece;
         loop {
@@ -101,6 +104,7 @@ impl Lines {
         requires { IsSound (reader_of part.now self) }
         ensures plan { IfOk result (λ plan. (text : List ℕ) → ReaderStandsFor (reader_of part.now self) text → IsPlanOf part.now text (Ok plan)) }
         ensures fault { IfErr result (λ fault. (fault ≡ FramesFault.NoMemory) ⊎ ((text : List ℕ) → length text < 2 ^ 63 → ReaderStandsFor (reader_of part.now self) text → IsPlanOf part.now text (Err fault))) }
+        ensures memory { IfErr result (λ fault. fault ≡ FramesFault.NoMemory → (text : List ℕ) → ReaderStandsFor (reader_of part.now self) text → IsGoodText part.now text) }
     {
         let mut last = self;
         let n = last.count.saturating_add(1);
@@ -140,11 +144,13 @@ impl<'p> FramesReader<'p> {
         }
     }
 
-    /// Reads the next piece of the text, which may end inside a line.
+    /// Reads the next piece of the text, which may end inside a line. Where none of its first line was held, and that ends in it,
+    /// memory is wanting only behind that line.
     pub fn feed(self, piece: &[u8]) -> Result<FramesReader<'p>, FramesFault>
         ensures ok { IfOk result (λ reader. TakesPiece self.entry reader piece.now) }
         ensures part { IfOk result (λ reader. reader.part ≡ self.entry.part) }
         ensures fault { IfErr result (FailsIn self.entry piece.now) }
+        ensures memory { IfErr result (λ fault. fault ≡ FramesFault.NoMemory → FirstIsGood self.entry piece.now) }
     {
         let FramesReader { part, mut lines } = self;
         match lines.feed(part, piece) {
@@ -153,10 +159,11 @@ impl<'p> FramesReader<'p> {
         }
     }
 
-    /// The plan of the text, which ends here, or its first line at fault.
+    /// The plan of the text, which ends here, or its first line at fault. Memory is wanting only for a text that has a plan.
     pub fn finish(self) -> Result<Plan, FramesFault>
         ensures plan { IfOk result (λ plan. (text : List ℕ) → ReaderStandsFor self.entry text → IsPlanOf self.entry.part text (Ok plan)) }
         ensures fault { IfErr result (λ fault. (fault ≡ FramesFault.NoMemory) ⊎ ((text : List ℕ) → length text < 2 ^ 63 → ReaderStandsFor self.entry text → IsPlanOf self.entry.part text (Err fault))) }
+        ensures memory { IfErr result (λ fault. fault ≡ FramesFault.NoMemory → (text : List ℕ) → ReaderStandsFor self.entry text → IsGoodText self.entry.part text) }
     {
         let FramesReader { part, lines } = self;
         lines.finish(part)

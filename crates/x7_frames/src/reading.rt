@@ -3,7 +3,7 @@ ghost use Rattle.std.specs.Prelude.{◌≡◌, ◌≤◌, ◌⊎◌, [], Ok, Err
 ghost use Rattle.x7_part.specs.Part.{frame_words};
 ghost use Rattle.x7_memory.specs.Planned.{IsPlanFor, PlanData};
 ghost use Rattle.x7_frames.specs.FramesText.{IsPlanOf, plan_text};
-ghost use Rattle.x7_frames.specs.Steps.{IsFaultAt, Takes, HasMarks};
+ghost use Rattle.x7_frames.specs.Steps.{IsFaultAt, IsGoodLine, Takes, HasMarks};
 ghost use Rattle.x7_frames.specs.declared.fault.FramesFault.{FramesFault};
 
 use crate::fault::FramesFault;
@@ -57,6 +57,7 @@ impl Reading {
         ensures width { OnOk result (self.new.draft.width ≡ frame_words part.now) }
         ensures room { OnOk result (frame_words part.now ≤ vec_capacity self.new.frame) }
         ensures fault { IfErr result (λ fault. (fault ≡ FramesFault.NoMemory) ⊎ IsFaultAt part.now self.old.draft.rows n line.now fault) }
+        ensures memory { IfErr result (λ fault. fault ≡ FramesFault.NoMemory → IsGoodLine part.now self.old.draft.rows line.now) }
     {
         if means_nothing(line) {
             return Ok(());

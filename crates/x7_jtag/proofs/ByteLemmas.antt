@@ -139,18 +139,6 @@ rest-of place k l = omega (arith, l)
 bit-at-place : (ds : List ℕ) (place k : ℕ) → k < 4 → bit_of ds (4 * place + k) ≡ (if nat_lt place (length ds) then hex_digit (slice_index ds (length ds - 1 - place)) / 2 ^ k % 2 == 1 else false)
 bit-at-place ds place k l = ap₂ (λ (p r : ℕ). if nat_lt p (length ds) then hex_digit (slice_index ds (length ds - 1 - p)) / 2 ^ r % 2 == 1 else false) (place-of place k l) (rest-of place k l)
 
-none-of-zero : (k : ℕ) → k < 4 → (0 / 2 ^ k % 2 == 1) ≡ false
-none-of-zero zero l = refl
-none-of-zero (suc zero) l = refl
-none-of-zero (suc (suc zero)) l = refl
-none-of-zero (suc (suc (suc zero))) l = refl
-none-of-zero (suc (suc (suc (suc k)))) l = absurd (omega (arith, l))
-
-pub bits-past : (ds : List ℕ) (place : ℕ) → length ds ≤ place → (k : ℕ) → k < 4 → (0 / 2 ^ k % 2 == 1) ≡ bit_of ds (4 * place + k)
-bits-past ds place m k l =
-    let none : nat_lt place (length ds) ≡ false = grind (arith, m) in
-    none-of-zero k l ∙ sym (bit-at-place ds place k l ∙ ap (λ (b : Bool). if b then hex_digit (slice_index ds (length ds - 1 - place)) / 2 ^ k % 2 == 1 else false) none)
-
 low-bits : (v k : ℕ) → k < 4 → (v % 16 / 2 ^ k % 2 == 1) ≡ (v / 2 ^ k % 2 == 1)
 low-bits v zero l = is-one (v % 16 / 2 ^ 0 % 2) (v / 2 ^ 0 % 2) (omega arith)
 low-bits v (suc zero) l = is-one (v % 16 / 2 ^ 1 % 2) (v / 2 ^ 1 % 2) (omega arith)
@@ -243,10 +231,6 @@ shifts-bytes part k n d e cs bs s t f with q =
       count_is = ap (λ (x : TapState). x.count) with ∙ t.at_first;
       queue_is = q;
     })
-
-pub last-none : (before : ℕ) (bs : List ℕ) → length bs ≡ 0 → before ≡ last_or before bs
-last-none before [] l = refl
-last-none before (b ∷ bs) l = absurd (omega (arith, l))
 
 pub last-is : (before : ℕ) (bs : List ℕ) → 0 < length bs → slice_index bs (length bs - 1) ≡ last_or before bs
 last-is before [] l = absurd (omega (arith, l))

@@ -169,12 +169,6 @@ given-within (fed.Stopped n) length l = omega arith
 given-within (fed.Iprog n) length l = omega arith
 given-within (fed.ReadFull n) length l = l
 
-pub taken-given : (f : Fed) (length : ℕ) → taken_in length f ≤ length → taken_in length f ≤ given_by f length
-taken-given fed.All length l = omega arith
-taken-given (fed.Stopped n) length l = l
-taken-given (fed.Iprog n) length l = l
-taken-given (fed.ReadFull n) length l = omega arith
-
 pub offers-one : (part : PartData) (k n : QueueState) (d e : DeviceState) (q : Queue) (piece : List ℕ) (count : ℕ) → count ≡ 0 → 0 < length piece → QueueStandsFor part k d (fold (offered (words_read part)) q (take count piece))
     → ((m : Queue) → QueueStandsFor part k d m → QueueStandsFor part n e (offered (words_read part) m (slice_index piece 0))) → QueueStandsFor part n e (fold (offered (words_read part)) q (take 1 piece))
 offers-one part k n d e q [] count z l s step = absurd (omega (arith, l))

@@ -3,6 +3,7 @@ pub mod PieceLemmas
 pub mod MarkLemmas
 pub mod SvfLemmas
 pub mod OutcomeLemmas
+pub mod EveryTextLemmas
 pub mod TookLemmas
 pub mod StandingLemmas
 pub mod PortLemmas

@@ -1,16 +1,11 @@
--- A text comes to one thing, and a scan ends in Run-Test/Idle.
+-- A text comes to at most one thing.
 use Rattle.std.specs.Prelude.{Result, Ok, Err}
-use Rattle.std.proofs.Common.{◌≡◌, ◌⊎◌, inl, inr, ℕ, Bool, true, false, List, [], ◌∷◌, ◌++◌, Option, Some, None, refl, sym, ap, ap₂, subst, ◌∙◌}
-use Rattle.std.proofs.lemmas.List.Sums.{fold-append}
-use Rattle.x7_jtag.specs.declared.state.State.TheVariants as state
-use Rattle.x7_jtag.specs.States.{moved_by, state_after}
+use Rattle.std.proofs.Common.{◌≡◌, ℕ, Bool, true, false, List, [], ◌∷◌, Option, Some, None, refl, sym, ap, ap₂, subst, ◌∙◌}
 use Rattle.x7_jtag.specs.Pieces.{Mark, Piece}
 use Rattle.x7_jtag.specs.declared.statement.Statement.{Statement}
-use Rattle.x7_jtag.specs.declared.statement.Statement.TheVariants as statement
-use Rattle.x7_jtag.specs.Svf.{BeginWith, ended, ended_statement, IsBad, IsFault, IsSvfOf, pieces_of}
+use Rattle.x7_jtag.specs.Svf.{BeginWith, ended, ended_statement, IsBad, IsSvfOf, pieces_of}
 use Rattle.x7_jtag.specs.declared.fault.SvfFault.{SvfFault}
 use Rattle.x7_jtag.specs.declared.fault.SvfFault.TheVariants as fault
-use Rattle.x7_jtag.specs.Clocks.{clocks_of, from_exit, shift_clocks}
 
 abbrev rest_of : List Piece → Option (List Mark × List Piece) → List Piece
 rest_of d None = d
@@ -37,28 +32,6 @@ one-list ps (m ∷ ms) (n ∷ ns) h k =
     let left : h.1 ≡ k.1 = ap (rest_of []) e in
     let P : List Piece → Type 0 = λ qs. BeginWith qs ms [] in
     ap₂ (λ (a : Statement) (b : List Statement). a ∷ b) (ap (the m) same) (one-list k.1 ms ns (subst P left h.4) k.4)
-
-shift-ir : (b : Bool) (bs : List Bool) → state_after state.ShiftIr (shift_clocks (b ∷ bs)) ≡ state.Exit1Ir
-shift-ir b [] = refl
-shift-ir b (c ∷ bs) = shift-ir c bs
-
-shift-dr : (b : Bool) (bs : List Bool) → state_after state.ShiftDr (shift_clocks (b ∷ bs)) ≡ state.Exit1Dr
-shift-dr b [] = refl
-shift-dr b (c ∷ bs) = shift-dr c bs
-
-end-ir : (b : Bool) (bs : List Bool) → state_after state.ShiftIr (shift_clocks (b ∷ bs) ++ from_exit) ≡ state.RunTestIdle
-end-ir b bs = fold-append moved_by state.ShiftIr (shift_clocks (b ∷ bs)) from_exit ∙ ap (λ s. state_after s from_exit) (shift-ir b bs)
-
-end-dr : (b : Bool) (bs : List Bool) → state_after state.ShiftDr (shift_clocks (b ∷ bs) ++ from_exit) ≡ state.RunTestIdle
-end-dr b bs = fold-append moved_by state.ShiftDr (shift_clocks (b ∷ bs)) from_exit ∙ ap (λ s. state_after s from_exit) (shift-dr b bs)
-
-pub scan-idle : (ir : Bool) (b : Bool) (bs : List Bool) (tdo mask : Option (List Bool)) → state_after state.RunTestIdle (clocks_of state.RunTestIdle (statement.Scan ir (b ∷ bs) tdo mask)) ≡ state.RunTestIdle
-scan-idle true b bs tdo mask = end-ir b bs
-scan-idle false b bs tdo mask = end-dr b bs
-
-pub scan-reset : (ir : Bool) (b : Bool) (bs : List Bool) (tdo mask : Option (List Bool)) → state_after state.TestLogicReset (clocks_of state.TestLogicReset (statement.Scan ir (b ∷ bs) tdo mask)) ≡ state.RunTestIdle
-scan-reset true b bs tdo mask = end-ir b bs
-scan-reset false b bs tdo mask = end-dr b bs
 
 begins-apart : (p : Piece) (left : List Piece) → [] ≡ p ∷ left → ⊥
 begins-apart p left e = let P : List Piece → Bool = λ qs. elim qs as (λ x. Bool) [ [] ↦ false | q ∷ rs ↦ true ] in let b : false ≡ true = ap P e in absurd cc
@@ -108,8 +81,3 @@ one-outcome text (Err (fault.Line m)) (Err (fault.Line n)) h k = ap (λ (x : ℕ
 one-outcome text (Ok ms) (Err fault.NoMemory) h k = absurd k
 one-outcome text (Err (fault.Line m)) (Err fault.NoMemory) h k = absurd k
 one-outcome text (Err fault.NoMemory) b h k = absurd h
-
--- what a fault of its pieces tells of a text
-pub refused : (text : List ℕ) (f : SvfFault) → IsFault (pieces_of text) f → (f ≡ fault.NoMemory) ⊎ IsSvfOf text (Err f)
-refused text (fault.Line n) b = inr b
-refused text fault.NoMemory b = inl refl

@@ -1,6 +1,6 @@
 -- The first word of a text.
 use Rattle.std.proofs.Common.{◌≡◌, ℕ, zero, suc, ◌<◌, ◌≤◌, Bool, true, false, if◌then◌else◌, List, [], ◌∷◌, length, slice_index, take, drop, refl, ap, ◌∙◌, arith}
-use Rattle.x7_jtag.specs.Pieces.{byte_mark, is_blank, is_word_byte, line_after, Piece, pieces, joined, extend, Word}
+use Rattle.x7_jtag.specs.Pieces.{is_blank, is_word_byte, line_after, Piece, pieces, joined, extend, Word}
 
 -- a word's byte is no line end
 pub word-line : (c line : ℕ) → is_word_byte c ≡ true → line_after c line ≡ line
@@ -37,12 +37,3 @@ blank-front line c cs h = grind (arith, h)
 pub blank-at : (line : ℕ) (xs : List ℕ) → 0 < length xs → is_blank (slice_index xs 0) ≡ true → pieces line xs ≡ pieces (line_after (slice_index xs 0) line) (drop 1 xs)
 blank-at line [] p h = absurd (omega (arith, p))
 blank-at line (c ∷ cs) p h = blank-front line c cs h
-
--- a text that begins with another byte
-mark-front : (line c : ℕ) (cs : List ℕ) → is_blank c ≡ false → is_word_byte c ≡ false → pieces line (c ∷ cs) ≡ record { line = line; mark = byte_mark c } ∷ pieces line cs
-mark-front line c cs h k = grind (arith, h, k)
-
-pub mark-at : (line : ℕ) (xs : List ℕ) → 0 < length xs → is_blank (slice_index xs 0) ≡ false → is_word_byte (slice_index xs 0) ≡ false
-    → pieces line xs ≡ record { line = line; mark = byte_mark (slice_index xs 0) } ∷ pieces line (drop 1 xs)
-mark-at line [] p h k = absurd (omega (arith, p))
-mark-at line (c ∷ cs) p h k = mark-front line c cs h k

@@ -13,7 +13,7 @@ use Rattle.x7_jtag.specs.declared.statement.Statement.{Statement}
 use Rattle.x7_jtag.specs.declared.statement.Statement.TheVariants as statement
 use Rattle.x7_jtag.specs.Clocks.{clock, clocks, clocks_of, from_exit, from_reset, inner_clocks, shift_clocks, to_shift}
 use Rattle.x7_jtag.specs.Bits.{bytes_bits}
-use Rattle.x7_jtag.specs.Play.{AreNew, Ready, after_clocks, bit_at, difference, difference_from, differs_at, first_by, first_from, found_more, is_apart, least, scan_bits, walk_clocks}
+use Rattle.x7_jtag.specs.Play.{Ready, after_clocks, bit_at, difference, difference_from, differs_at, first_by, first_from, found_more, is_apart, least, scan_bits, walk_clocks}
 use Rattle.x7_jtag.specs.Port.{Port, clocked, new_port, port_after, tdo_of}
 use Rattle.x7_jtag.specs.States.{Clock, moved_by, state_after, test_logic_reset}
 use Rattle.x7_jtag.specs.Tap.{TapStandsFor, TapState}
@@ -31,9 +31,6 @@ ready-less t d more less l r = record { part = r.part; before = r.before; stands
 pub ready-on : (t u : TapState) (d e : DeviceState) (more later : ℕ) (r : Ready t d more) (ds : List Clock) → TapStandsFor r.part u e (r.before ++ ds) → length ds + later ≤ more → Ready u e later
 ready-on t u d e more later r ds s l = record { part = r.part; before = r.before ++ ds; stands = s; few = omega (arith, l, r.few, length-append r.before ds) }
 
-pub new-ready : (t : TapState) (d : DeviceState) → AreNew t d → Ready t d (2 ^ 62)
-new-ready t d n = record { part = n.0; before = []; stands = n.1; few = omega arith }
-
 pub stands-at : (part : PartData) (t : TapState) (d : DeviceState) (cs ds : List Clock) → cs ≡ ds → TapStandsFor part t d cs → TapStandsFor part t d ds
 stands-at part t d cs ds e s = subst (TapStandsFor part t d) e s
 
@@ -47,10 +44,6 @@ Walked t d u e path rest = (done : List Bool) × (done ++ rest ≡ path) × ((pa
 
 pub walk-begins : (t : TapState) (d : DeviceState) (path : List Bool) → Walked t d t d path path
 walk-begins t d path = ([], refl, λ part cs s. stands-at part t d cs (cs ++ []) (sym (append-nil cs)) s)
-
-walk-length : (path : List Bool) → length (walk_clocks path) ≡ length path
-walk-length [] = refl
-walk-length (b ∷ bs) = ap suc (walk-length bs)
 
 walk-more : (done : List Bool) (b : Bool) → walk_clocks (done ++ b ∷ []) ≡ walk_clocks done ++ clock b false ∷ []
 walk-more [] b = refl
@@ -93,10 +86,6 @@ replicate-more : (n : ℕ) (c : Clock) → replicate n c ++ c ∷ [] ≡ replica
 replicate-more zero c = refl
 replicate-more (suc n) c = ap (λ t. c ∷ t) (replicate-more n c)
 
-replicate-length : (n : ℕ) (c : Clock) → length (replicate n c) ≡ n
-replicate-length zero c = refl
-replicate-length (suc n) c = ap suc (replicate-length n c)
-
 pub run-on : (part : PartData) (u v : TapState) (e f : DeviceState) (cs : List Clock) (c : Clock) (n m : ℕ) → TapStandsFor part u e (cs ++ replicate n c) → m ≡ suc n
     → TapStandsFor part v f ((cs ++ replicate n c) ++ c ∷ []) → TapStandsFor part v f (cs ++ replicate m c)
 run-on part u v e f cs c n m s is step =
@@ -120,11 +109,6 @@ shift-at (b ∷ c ∷ cs) zero tms l e = let t : tms ≡ false = grind (arith, e
 shift-at (b ∷ c ∷ cs) (suc i) tms l e =
     let t : tms ≡ (i == length (c ∷ cs) - 1) = grind (arith, e) in
     ap (λ r. clock false b ∷ r) (shift-at (c ∷ cs) i tms (omega (arith, l)) t)
-
-take-few : (n : ℕ) (cs : List Clock) → length (take n cs) ≤ n
-take-few zero cs = omega arith
-take-few (suc n) [] = omega arith
-take-few (suc n) (c ∷ cs) = omega (arith, take-few n cs)
 
 pub shift-on : (part : PartData) (u v : TapState) (e f : DeviceState) (cs : List Clock) (bs : List Bool) (i m : ℕ) (tms bit : Bool) → TapStandsFor part u e (cs ++ take i (shift_clocks bs)) → i < length bs → m ≡ suc i → tms ≡ (i == length bs - 1) → bit ≡ bit_at bs i
     → TapStandsFor part v f ((cs ++ take i (shift_clocks bs)) ++ clock tms bit ∷ []) → TapStandsFor part v f (cs ++ take m (shift_clocks bs))
@@ -288,15 +272,9 @@ run-ends part u e cs s count t = stands-at part u e ((cs ++ from_reset s) ++ rep
 pub of-statement : (part : PartData) (u : TapState) (e : DeviceState) (cs : List Clock) (s : State) (x y : Statement) → y ≡ x → TapStandsFor part u e (cs ++ clocks_of s x) → TapStandsFor part u e (cs ++ clocks_of s y)
 of-statement part u e cs s x y is t = subst (λ (z : Statement). TapStandsFor part u e (cs ++ clocks_of s z)) (sym is) t
 
-pub short-run : (s : State) (count : ℕ) (y : Statement) → y ≡ statement.Run count → count < 2 ^ 32 → length (clocks_of s y) ≤ 2 ^ 33
-short-run s count y is few = omega (arith, ap (λ (z : Statement). length (clocks_of s z)) is, few, length-append (from_reset s) (replicate count (clock false false)), leave-length s, replicate-length count (clock false false))
-
 pub short-scan : (s : State) (ir : Bool) (bs : List Bool) (tdo mask : Option (List Bool)) (y : Statement) → y ≡ statement.Scan ir bs tdo mask → length bs < 2 ^ 32 → length (clocks_of s y) ≤ 2 ^ 33
 short-scan s ir bs tdo mask y is few =
     omega (arith, ap (λ (z : Statement). length (clocks_of s z)) is, few, length-append (from_reset s) (to_shift ir), leave-length s, length-append (from_reset s ++ to_shift ir) (shift_clocks bs), to-shift-length ir, length-append (from_reset s ++ to_shift ir ++ shift_clocks bs) from_exit, shift-length bs)
-
-pub short-idle : (s : State) (y : Statement) → y ≡ statement.Idle → length (clocks_of s y) ≤ 2 ^ 33
-short-idle s y is = omega (arith, ap (λ (z : Statement). length (clocks_of s z)) is, leave-length s)
 
 -- ---- statements
 
@@ -362,13 +340,6 @@ pub one-there : (ss : List Statement) (i : ℕ) → i < length ss → (x : State
 one-there [] i l = absurd (omega (arith, l))
 one-there (s ∷ ss) zero l = (s, refl)
 one-there (s ∷ ss) (suc i) l = one-there ss i (omega (arith, l))
-
--- the statement at a place is one
-pub same-there : (o : Option Statement) (x y : Statement) → o ≡ Some x → o ≡ Some y → x ≡ y
-same-there o x y e f = let P : Option Statement → Statement = λ o. elim o as (λ z. Statement) [ None ↦ x | Some z ↦ z ] in ap P (sym e ∙ f)
-
-pub not-there : (o : Option Statement) (x : Statement) → o ≡ None → o ≡ Some x → ⊥
-not-there o x e f = let P : Option Statement → Bool = λ o. elim o as (λ z. Bool) [ None ↦ false | Some z ↦ true ] in let b : false ≡ true = ap P (sym e ∙ f) in cc
 
 pub all-statements : (ss : List Statement) (i : ℕ) → length ss ≤ i → take i ss ≡ ss
 all-statements ss i l = take_all i ss l

@@ -5,7 +5,7 @@ use Rattle.x7_jtag.specs.declared.token.Token.{Token}
 use Rattle.x7_jtag.specs.declared.token.Token.TheVariants as token
 use Rattle.x7_jtag.specs.Pieces.{Mark, Word, Open, Close, Piece, mark_of, pieces, size_of}
 use Rattle.x7_jtag.specs.Statements.{statement_by, statement_of}
-use Rattle.x7_jtag.specs.Svf.{after_mark, ended, ended_statement, marks_before, pieces_after, statement_marks, BeginWith, IsBad}
+use Rattle.x7_jtag.specs.Svf.{after_mark, ended, ended_statement, marks_before, pieces_after, statement_marks, BeginWith, BeginWithOne, IsBad}
 use Rattle.std.proofs.lemmas.List.{map-append}
 use Rattle.x7_words.proofs.ListLemmas.{all-append}
 use Rattle.x7_jtag.specs.Source.{SourceState, pieces_left}
@@ -29,6 +29,11 @@ statements-on ps old new one line key after rest n h e s =
     let is : statement_by key ms ≡ Some one = ap (statement_by key) (marks-line line 1 after) ∙ s in
     let w : BeginWith ps (old ++ one ∷ []) rest = begins-on ps old (record { line = line; mark = Word key } ∷ pieces line after) rest (Word key ∷ ms) one h (ap (after_mark (Word key)) (ended-with (pieces line after) rest e)) is in
     subst (λ (ss : List Statement). BeginWith ps ss rest) (sym n) w
+
+-- statements of which one is the last begin with one
+pub one-at-least : (ps : List Piece) (kept : List ℕ) (out : List Stored) (one : Stored) (left : List Piece) → BeginWith ps (statements_in kept (out ++ one ∷ [])) left → BeginWithOne ps
+one-at-least ps kept [] one left h = (statement_in kept one, left, h)
+one-at-least ps kept (s ∷ out) one left h = (statement_in kept s, h.1, (h.0, h.1, h.2, h.3, refl))
 
 -- ---- the first that is no statement
 

@@ -2,12 +2,17 @@
 use Rattle.std.proofs.Common.{◌≡◌, ℕ, zero, suc, ◌+◌, ◌-◌, ◌||◌, ◌<◌, ◌≤◌, Bool, true, false, if◌then◌else◌, List, [], ◌∷◌, ◌++◌, length, take, drop, slice_set, Option, Some, None, codes, refl, ap, sym, ◌∙◌, append_assoc, length-drop, arith}
 use Rattle.std.proofs.lemmas.List.{length-take-le, take_all}
 use Rattle.std.specs.Borrow.{Bor}
-use Rattle.x7_jtag.specs.Pieces.{Mark, mark_of, size_of}
+use Rattle.x7_jtag.specs.Pieces.{mark_of, size_of}
 use Rattle.x7_jtag.specs.Words.{is_key, statement_if_words, statement_of_words, with_word, word_list, words_of}
-use Rattle.x7_jtag.specs.Svf.{after_words, statement_marks}
+use Rattle.x7_jtag.specs.Svf.{statement_marks}
 use Rattle.x7_jtag.specs.declared.token.Token.{Token}
 use Rattle.x7_jtag.specs.declared.token.Token.TheVariants as token
 use Rattle.x7_jtag.specs.declared.statement.Statement.{Statement}
+
+-- words after words
+abbrev pub after_words : List (List ℕ) → Option (List (List ℕ)) → Option (List (List ℕ))
+after_words ws None = None
+after_words ws (Some vs) = Some (ws ++ vs)
 
 none-if : (b : Bool) (x : Option Statement) → x ≡ None → (if b then None else x) ≡ None
 none-if true x e = refl

@@ -1,5 +1,5 @@
 -- Statements whose digits are kept apart (this project's choice).
-use Rattle.std.specs.Prelude.{ℕ, ◌≤◌, ⊤, Bool, List, map, Option, Some, None}
+use Rattle.std.specs.Prelude.{ℕ, ◌≤◌, ⊤, List, map, Option, Some, None}
 use Rattle.std.specs.List.{AllByRecursion}
 use Rattle.x7_jtag.specs.Bits.{bits_of}
 use Rattle.x7_jtag.specs.Fields.{bits_option}

@@ -1,5 +1,5 @@
 -- What a text comes to: its statements, or the line on which the first begins that is none (this project's profile of SVF).
-use Rattle.std.specs.Prelude.{◌≡◌, ℕ, false, List, [], ◌∷◌, ◌++◌, Option, Some, None, Result, Ok, Err}
+use Rattle.std.specs.Prelude.{◌≡◌, ℕ, false, List, [], ◌∷◌, Option, Some, None, Result, Ok, Err}
 use Rattle.x7_jtag.specs.Comments.{clean_text}
 use Rattle.x7_jtag.specs.Pieces.{Mark, Word, Open, Close, End, Piece, pieces}
 use Rattle.x7_jtag.specs.Statements.{statement_of}
@@ -27,6 +27,10 @@ abbrev pub BeginWith : List Piece → List Statement → List Piece → Type 0
 BeginWith ps [] left = ps ≡ left
 BeginWith ps (s ∷ ss) left = (marks : List Mark) × (rest : List Piece) × (ended ps ≡ Some (marks, rest)) × (statement_of marks ≡ Some s) × BeginWith rest ss left
 
+-- they begin with a statement
+abbrev pub BeginWithOne : List Piece → Type 0
+BeginWithOne ps = (one : Statement) × (left : List Piece) × BeginWith ps (one ∷ []) left
+
 -- the statement of an ended list of marks
 abbrev pub ended_statement : Option (List Mark × List Piece) → Option Statement
 ended_statement None = None
@@ -50,6 +54,10 @@ abbrev pub IsSvfOf : List ℕ → Result (List Statement) SvfFault → Type 0
 IsSvfOf text (Ok statements) = BeginWith (pieces_of text) statements []
 IsSvfOf text (Err (fault.Line n)) = IsBad (pieces_of text) n
 IsSvfOf text (Err fault.NoMemory) = ⊥
+
+-- a text comes to something
+abbrev pub HasSvf : List ℕ → Type 0
+HasSvf text = (r : Result (List Statement) SvfFault) × IsSvfOf text r
 
 -- ---- steps of a reader
 
@@ -81,8 +89,3 @@ statement_marks text = marks_before (pieces 1 text)
 abbrev pub IsFault : List Piece → SvfFault → Type 0
 IsFault ps (fault.Line n) = IsBad ps n
 IsFault ps fault.NoMemory = Unit {0}
-
--- words after words
-abbrev pub after_words : List (List ℕ) → Option (List (List ℕ)) → Option (List (List ℕ))
-after_words ws None = None
-after_words ws (Some vs) = Some (ws ++ vs)

@@ -3,7 +3,7 @@ ghost use Rattle.std.specs.Prelude.{◌≡◌, ◌<◌, ◌+◌, ◌*◌, ◌/�
 ghost use Rattle.std.specs.List.{slice_get};
 ghost use Rattle.x7_jtag.specs.Bits.{bit_of, bits_from, bits_of, byte_bits, bytes_bits, hex_digit, mirrored};
 
-use crate::piece::Piece;
+use crate::buffer::Buffer;
 use std::marker::Model;
 
 /// A number of bits, lowest first. They are lent as the hexadecimal digits that were given.
@@ -82,14 +82,14 @@ fn byte_from(digits: &[u8], at: u32) -> u8
 
 /// The bytes of the bits of digits from this one on, a multiple of eight: those that end before the last of so many bits, and
 /// at most a piece.
-fn bytes_of(digits: &[u8], count: u32, from: u32) -> Piece
+fn bytes_of(digits: &[u8], count: u32, from: u32) -> Buffer<1024>
     requires whole { from % 8 ≡ 0 }
     requires some { from + 8 < count }
     ensures some { 0 < length result }
     ensures inside { from + 8 * length result < count }
     ensures bits { bytes_bits result ≡ bits_from digits.now from (8 * length result) }
 {
-    let mut piece = Piece::new();
+    let mut piece: Buffer<1024> = Buffer::new();
     let mut at = from;
     while !piece.is_full() && count - at > 8 {
         piece.push(byte_from(digits, at));
@@ -124,7 +124,7 @@ impl<'t> Bits<'t> {
     }
 
     /// The bytes of the bits from this one on, a multiple of eight: those that end before the last bit, and at most a piece.
-    pub(crate) fn bytes_from(&self, from: u32) -> Piece
+    pub(crate) fn bytes_from(&self, from: u32) -> Buffer<1024>
         requires whole { from % 8 ≡ 0 }
         requires some { from + 8 < length self.now }
         ensures some { 0 < length result }

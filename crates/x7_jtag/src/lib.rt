@@ -2,13 +2,12 @@
 #![tactic(auto)]
 
 mod bits;
+mod buffer;
 mod comment;
 mod fault;
 mod fields;
-mod held;
 mod instruction;
 mod laws;
-mod piece;
 mod play;
 mod queue;
 mod reader;
@@ -27,8 +26,8 @@ pub use bits::Bits;
 pub use fault::SvfFault;
 pub use instruction::Instruction;
 pub use laws::{
-    bits_are_those_of_the_value, devices_take_what_is_given, five_ones_reset, one_svf,
-    queues_are_sound, queues_are_those_of_events, values_fit_their_width,
+    bits_are_those_of_the_value, devices_take_what_is_given, every_text_is_read, five_ones_reset,
+    one_svf, queues_are_sound, queues_are_those_of_events, values_fit_their_width,
 };
 pub use play::{Differ, play_svf};
 pub use state::State;

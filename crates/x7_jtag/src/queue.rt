@@ -7,7 +7,7 @@ ghost use Rattle.x7_jtag.specs.Port.{words_read};
 ghost use Rattle.x7_jtag.specs.Queue.{Queue as QueueData, bit_shown, dropped, empty, in_turn, offered, give_held as give_held_by, shifted_out, with_given, with_room};
 ghost use Rattle.x7_jtag.specs.Tap.{Holds, QueueStandsFor, given_by, with_word_taken};
 
-use crate::held::Held;
+use crate::buffer::Buffer;
 use std::marker::Model;
 use std::mem;
 use x7_engine::{Device, Fed, ON_THE_BENCH, ReadBuf};
@@ -15,7 +15,7 @@ use x7_engine::{Device, Fed, ON_THE_BENCH, ReadBuf};
 /// The bytes held back while a word waits, and the bits of the latest word that are still to go out.
 #[derive(Drop)]
 pub(crate) struct Queue {
-    held: Held,
+    held: Buffer<64>,
     word: u32,
     left: u32,
 }
@@ -47,7 +47,7 @@ impl Queue {
         ensures { result ≡ record { held = []; word = 0; left = 0 } }
     {
         Queue {
-            held: Held::new(),
+            held: Buffer::new(),
             word: 0,
             left: 0,
         }
@@ -188,7 +188,7 @@ impl Queue {
         requires fits { device.old.taken + 64 ≤ 2 ^ 63 }
         ensures stands { (part : PartData) (q : QueueData) → QueueStandsFor part self.old device.old q → QueueStandsFor part self.new device.new (give_held_by (words_read part) q) }
     {
-        let held = mem::replace(&mut self.held, Held::new());
+        let held = mem::replace(&mut self.held, Buffer::new());
         let mut rest = held.bytes();
         while !rest.is_empty() {
             self.take(rest[0], device);

@@ -3,7 +3,7 @@ ghost use Rattle.std.specs.Prelude.{◌≡◌, ◌<◌, ◌≤◌, ◌*◌, ◌^
 ghost use Rattle.std.specs.List.{slice_get};
 ghost use Rattle.x7_jtag.specs.Source.{pieces_left};
 ghost use Rattle.x7_jtag.specs.Stored.{AreStoredWithin, statements_in};
-ghost use Rattle.x7_jtag.specs.Svf.{BeginWith, IsFault, IsSvfOf};
+ghost use Rattle.x7_jtag.specs.Svf.{BeginWith, BeginWithOne, IsFault, IsSvfOf, pieces_of};
 ghost use Rattle.x7_jtag.specs.declared.fault.SvfFault.{SvfFault as FaultData};
 
 use crate::comment::clean;
@@ -61,6 +61,7 @@ fn statements(alloc: Global, source: &mut Source) -> Result<Vec<Stored>, SvfFaul
     requires none_kept { source.old.kept ≡ [] }
     requires few { length source.old.rest ≤ 2 ^ 29 }
     ensures says { MatchResult result (λ s. BeginWith (pieces_left source.old) (statements_in source.new.kept s.items) []) (λ fault. IsFault (pieces_left source.old) fault) }
+    ensures memory { IfErr result (λ fault. fault ≡ FaultData.NoMemory → BeginWithOne (pieces_left source.old)) }
     ensures few { IfOk result (λ s. 2 * length s.items ≤ length source.old.rest) }
     ensures within { IfOk result (λ s. AreStoredWithin (length source.new.kept) s.items) }
 {
@@ -84,10 +85,12 @@ fn statements(alloc: Global, source: &mut Source) -> Result<Vec<Stored>, SvfFaul
 }
 
 /// The same of a text that is given up for them: the digits of its scans stay in its own bytes. A text has at most 2^29 bytes.
+/// Memory is wanting only for one that begins with a statement.
 pub fn svf_from(alloc: Global, text: Vec<u8>) -> Result<Svf, SvfFault>
     requires { vec_len text ≤ 2 ^ 29 }
     ensures statements { IfOk result (λ svf. IsSvfOf text.items (Ok svf)) }
     ensures fault { IfErr result (λ fault. (fault ≡ FaultData.NoMemory) ⊎ IsSvfOf text.items (Err fault)) }
+    ensures memory { IfErr result (λ fault. fault ≡ FaultData.NoMemory → BeginWithOne (pieces_of text.items)) }
 {
     let mut text = text;
     clean(&mut text);

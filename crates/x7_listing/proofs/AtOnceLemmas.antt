@@ -1,5 +1,5 @@
 -- Lemmas on specs/AtOnce, and what a lister stands for after what it tells at once.
-use Rattle.std.proofs.Common.{◌≡◌, ℕ, zero, suc, ◌+◌, ◌*◌, ◌/◌, ◌%◌, ◌^◌, ◌-◌, ◌<◌, ◌≤◌, ◌==◌, Bool, true, false, List, [], ◌∷◌, ◌++◌, codes, decimal, get_or, length, drop, take, take-add, take_all, length-drop, replicate, refl, ap, sym, subst, ◌∙◌, append_assoc, append-nil, arith, Bor, Vec}
+use Rattle.std.proofs.Common.{◌≡◌, ℕ, zero, suc, ◌+◌, ◌*◌, ◌/◌, ◌%◌, ◌^◌, ◌-◌, ◌<◌, ◌≤◌, ◌==◌, Bool, true, false, List, [], ◌∷◌, ◌++◌, codes, decimal, get_or, length, drop, take, take-add, take_all, length-drop, replicate, refl, ap, sym, subst, ◌∙◌, append_assoc, append-nil, arith, Bor}
 use Rattle.std.proofs.Math.Nat.{mul-suc, mul-zero}
 use Rattle.std.proofs.Math.Seq.{take-append-add}
 use Rattle.std.proofs.lemmas.Bool.Decides.{nat_tests}
@@ -7,26 +7,24 @@ use Rattle.std.proofs.lemmas.Fmt.{decimal_digit, decimal_step}
 use Rattle.std.proofs.lemmas.List.{length-take-le, take-take}
 use Rattle.std.specs.Simd.{first_chunks}
 use Rattle.std.specs.List.{flat_map}
-use Rattle.std.specs.declared.alloc.Global.{Global}
 use Rattle.x7_words.specs.Word.{bytes_of_word, words_of_bytes}
 use Rattle.x7_packets.specs.AtOnce.{EndsGap, short_head, Takes, write_head, WritesFew, WritesOne}
 use Rattle.x7_packets.specs.SyncWord.{sync_bytes}
 use Rattle.x7_packets.specs.Cutting.{CutterState, IsRun, Went}
-use Rattle.x7_packets.specs.Nops.{equal_bytes, nop_word}
+use Rattle.x7_packets.specs.Nops.{equal_bytes}
 use Rattle.x7_packets.specs.Mode.{Mode}
 use Rattle.x7_packets.specs.Packet.{payload_steps, register_of}
 use Rattle.x7_packets.specs.Reading.{Place, Searching, Synced}
 use Rattle.x7_packets.specs.declared.cutter.Cut.{Cut}
 use Rattle.x7_packets.specs.declared.cutter.Cut.TheVariants.{Body, Head, Skip, Sync, Word}
 use Rattle.x7_packets.specs.declared.header.Step.{Step}
-use Rattle.x7_packets.specs.declared.header.Step.TheVariants.{Filler, Nop, Open}
-use Rattle.x7_text.specs.Appends.{Appends}
+use Rattle.x7_packets.specs.declared.header.Step.TheVariants.{Open}
 use Rattle.x7_text.specs.Digits.{hex_byte, hex_word}
 use Rattle.x7_text.specs.Row.{bytes_text, close, in_line_after, open_text}
 use Rattle.x7_text.proofs.LineLemmas.{bytes_closed}
 use Rattle.x7_regs.specs.Register.{reg_name}
 use Rattle.x7_listing.specs.declared.line.HeadLine.TheVariants.{Write}
-use Rattle.x7_listing.specs.AtOnce.{AreRows, command_lines, equal_lines, nop_lines, row_text, zero_lines, write_line, write_name, write_start}
+use Rattle.x7_listing.specs.AtOnce.{AreRows, command_lines, equal_lines, row_text, write_line, write_name, write_start}
 use Rattle.x7_listing.specs.HeadLine.{best_line, command_line, head_text, line_text}
 use Rattle.x7_listing.specs.Listing.{session_text}
 use Rattle.x7_listing.specs.Telling.{GapListed, HasListedAt, Tells, words_place, open_words, Writes, lister_of, written_of}
@@ -41,13 +39,6 @@ row_at text n [] k m d a h e = absurd (omega (arith, h))
 row_at text n (row ∷ rows) zero m d a h e = let f : n ≡ m = omega (arith, e) in a.0 ∙ ap text f
 row_at text n (row ∷ rows) (suc k) m d a h e = row_at text (suc n) rows k m d a.1 (omega (arith, h)) (omega (arith, e))
 
--- a row that begins a line, and one behind an open line
-pub row_first : (i : ℕ) (row text : List ℕ) → i ≡ 0 → row_text row ≡ text → row_text row ≡ close i ++ text
-row_first i row text e f = f ∙ ap (λ (k : ℕ). close k ++ text) (sym e)
-
-pub row_behind : (i : ℕ) (row text : List ℕ) → (i ≡ 0 → ⊥) → row_text row ≡ 10 ∷ text → row_text row ≡ close i ++ text
-row_behind i row text n f = let e : (i == 0) ≡ false = grind (arith, nat_tests) in f ∙ rw e refl
-
 pub equal_block : (step : Step) (w n : ℕ) (line : List ℕ) → head_text step w ≡ line → flat_map (λ x. x) (replicate n line) ≡ equal_lines step w n
 equal_block step w zero line e = refl
 equal_block step w (suc n) line e = ap (λ t. line ++ t) (equal_block step w n line e) ∙ ap (λ t. t ++ equal_lines step w n) (sym e)
@@ -60,26 +51,6 @@ equal_front step w size (suc n) (suc k) e h =
     let more : size * suc k ≡ length (head_text step w) + size * k = omega (arith, mul-suc size k, e) in
     ap (λ (m : ℕ). take m (head_text step w ++ equal_lines step w n)) more ∙ take-append-add (head_text step w) (equal_lines step w n) (size * k)
     ∙ ap (λ t. head_text step w ++ t) (equal_front step w size n k e (omega (arith, h)))
-
-equal_lines-add : (step : Step) (w m n : ℕ) → equal_lines step w (m + n) ≡ equal_lines step w m ++ equal_lines step w n
-equal_lines-add step w zero n = let e : 0 + n ≡ n = omega arith in ap (equal_lines step w) e
-equal_lines-add step w (suc m) n =
-    let e : suc m + n ≡ suc (m + n) = omega arith in
-    ap (equal_lines step w) e ∙ ap (λ t. head_text step w ++ t) (equal_lines-add step w m n) ∙ sym (append_assoc (head_text step w) (equal_lines step w m) (equal_lines step w n))
-
-equal_more : (t0 t1 t2 : Vec ℕ Global) (step : Step) (w m n k a b most : ℕ) → Appends t0 t1 (equal_lines step w m) a → Appends t1 t2 (equal_lines step w n) b → k ≡ m + n → a + b ≤ most → Appends t0 t2 (equal_lines step w k) most
-equal_more t0 t1 t2 step w m n k a b most x y e h =
-    record {
-      items = y.items ∙ ap (λ t. t ++ equal_lines step w n) x.items ∙ append_assoc t0.items (equal_lines step w m) (equal_lines step w n) ∙ ap (λ t. t0.items ++ t) (sym (equal_lines-add step w m n) ∙ ap (equal_lines step w) (sym e));
-      within = omega (arith, x.within, y.within, h);
-      room = omega (arith, x.room, y.room);
-    }
-
-pub nops_more : (t0 t1 t2 : Vec ℕ Global) (m n k : ℕ) → Appends t0 t1 (nop_lines m) (4 * m) → Appends t1 t2 (nop_lines n) (4 * n) → k ≡ m + n → Appends t0 t2 (nop_lines k) (4 * k)
-nops_more t0 t1 t2 m n k x y e = equal_more t0 t1 t2 Nop nop_word m n k (4 * m) (4 * n) (4 * k) x y e (omega (arith, e))
-
-pub zeros_more : (t0 t1 t2 : Vec ℕ Global) (m n k : ℕ) → Appends t0 t1 (zero_lines m) (14 * m) → Appends t1 t2 (zero_lines n) (14 * n) → k ≡ m + n → Appends t0 t2 (zero_lines k) (14 * k)
-zeros_more t0 t1 t2 m n k x y e = equal_more t0 t1 t2 Filler 0 m n k (14 * m) (14 * n) (14 * k) x y e (omega (arith, e))
 
 -- the header's line
 pub write_line-is : (register : ℕ) → register < 32 → head_text (Open register 1) (write_head register) ≡ write_line register

@@ -1,27 +1,28 @@
 -- How far a lister's text is behind the bytes that it took.
-use Rattle.std.proofs.Common.{◌≡◌, ◌==◌, ℕ, ◌+◌, ◌*◌, ◌-◌, ◌≤◌, Bool, true, false, if◌then◌else◌, List, [], ◌∷◌, ◌++◌, length, refl, ap, ◌∙◌, append-nil, arith, length-append, codes, flat_map, decimal}
+use Rattle.std.proofs.Common.{◌≡◌, ◌==◌, ℕ, ◌+◌, ◌*◌, ◌-◌, ◌≤◌, Bool, true, false, if◌then◌else◌, List, [], ◌∷◌, ◌++◌, None, drop, length, length-drop, refl, sym, ap, ◌∙◌, take, take-append-drop, append-nil, arith, length-append, codes, flat_map, decimal}
 use Rattle.std.specs.List.{AllByRecursion}
 use Rattle.std.proofs.lemmas.List.{length-map, length-take-le}
 use Rattle.x7_words.specs.Word.{bytes_of_word}
 use Rattle.x7_packets.specs.SyncWord.{sync_bytes}
-use Rattle.x7_packets.specs.ByHand.{before_last_four}
+use Rattle.x7_packets.specs.ByHand.{before_last_four, Reading, reading_of}
 use Rattle.x7_packets.specs.Packet.{Packet, named_by, stepped, words}
 use Rattle.x7_packets.specs.Reading.{Place, Searching, Synced, Session, IsPlace, IsSession, packet_bytes, place_bytes, session_bytes}
 use Rattle.x7_packets.specs.declared.header.Step.{Step}
 use Rattle.x7_packets.specs.declared.header.Step.TheVariants.{Payload, Filler, Nop, Open, Read, Bad}
 use Rattle.x7_text.specs.Digits.{hex_byte, hex_word}
-use Rattle.x7_text.specs.Row.{bytes_text, close, in_line_after, line_end, line_start, next_in_line, open_text, spaced}
+use Rattle.x7_text.specs.Row.{bytes_text, close, element_text, in_line_after, line_end, line_start, next_in_line, open_text, spaced}
 use Rattle.x7_regs.specs.Command.{code_of, command_by, command_name_of}
 use Rattle.x7_regs.specs.Register.{reg_name}
-use Rattle.x7_text.proofs.LineLemmas.{bytes_closed}
+use Rattle.x7_packets.proofs.ByHandLemmas.{reading_is_found}
+use Rattle.x7_text.proofs.LineLemmas.{bytes_closed, open_text-append}
 use Rattle.x7_listing.specs.HeadLine.{command_line, head_line, head_text, line_text}
-use Rattle.x7_listing.specs.Listing.{session_text}
-use Rattle.x7_listing.specs.Telling.{GapListed, ListerStandsFor, ListerState, HasListedAt, open_payload, word_next, open_word, open_words, written_of}
-use Rattle.x7_listing.specs.Taking.{TakerStandsFor}
+use Rattle.x7_listing.specs.Listing.{listing_of, packet_text, place_text, session_text}
+use Rattle.x7_listing.specs.Telling.{GapListed, ListerStandsFor, ListerState, HasListedAt, TakerStandsFor, open_payload, word_next, open_word, open_words, words_place, written_of}
 use Rattle.x7_packets.specs.Mode.{Mode}
 use Rattle.x7_listing.specs.declared.line.HeadLine.{HeadLine}
 use Rattle.x7_listing.specs.declared.line.HeadLine.TheVariants as line
-use Rattle.x7_listing.proofs.FrontLemmas.{place_sure, session_over, sure_place, told_behind}
+use Rattle.x7_listing.proofs.FrontLemmas.{place_sure, session_over, sure_behind, sure_place, sure_text, told_behind}
+use Rattle.x7_listing.proofs.SessionLemmas.{session_closed}
 
 -- the text of bytes has at least a byte for each
 bytes_long : (i : ℕ) (xs : List ℕ) → length xs ≤ length (open_text 32 (codes "bytes ") hex_byte i xs)
@@ -136,3 +137,76 @@ pub few_taken : (l : ListerState) (given before bytes : List ℕ) (due : Mode) �
 few_taken l given before bytes due t =
     let r = t.reading in
     omega (arith, told_long l.synced l.line l.held (given ++ l.text) (before ++ flat_map session_text t.sessions) t.at due t.listed r.ends, length-append before (flat_map session_text t.sessions), ap length r.joined, length-append (flat_map session_bytes t.sessions) (place_bytes t.at), sessions_long t.sessions r.each)
+
+-- ---- how little is held back
+
+close_short : (i : ℕ) → length (close i) ≤ 1
+close_short i = by (i == 0)
+  where
+    by : (b : Bool) → length {A = ℕ} (if b then [] else 10 ∷ []) ≤ 1
+    by true = omega arith
+    by false = omega arith
+
+-- a byte adds two digits, the line's word before it and a line end at most
+byte_short : (i x : ℕ) → length (element_text 32 (codes "bytes ") hex_byte i x) ≤ 9
+byte_short i x = by (i == 0) (i + 1 == 32)
+  where
+    by : (b c : Bool) → length ((if b then codes "bytes " else []) ++ hex_byte x ++ (if c then 10 ∷ [] else [])) ≤ 9
+    by true true = omega arith
+    by true false = omega arith
+    by false true = omega arith
+    by false false = omega arith
+
+bytes_short : (i : ℕ) (xs : List ℕ) → length (open_text 32 (codes "bytes ") hex_byte i xs) ≤ 9 * length xs
+bytes_short i [] = omega arith
+bytes_short i (x ∷ xs) =
+    omega (arith, bytes_short (next_in_line 32 i) xs, byte_short i x, length-append (element_text 32 (codes "bytes ") hex_byte i x) (open_text 32 (codes "bytes ") hex_byte (next_in_line 32 i) xs))
+
+-- the lines of a place are few bytes more than what is sure there: those of four bytes of a gap, or of a word that isn't whole, and line ends
+place_short : (place : Place) → IsPlace place → length (place_text place) ≤ length (sure_place place) + 64
+place_short (Searching gap) is =
+    let k : ℕ = length gap - 4 in
+    let i : ℕ = in_line_after 32 0 (take k gap) in
+    let more : List ℕ = open_text 32 (codes "bytes ") hex_byte i (drop k gap) in
+    let whole : open_text 32 (codes "bytes ") hex_byte 0 gap ≡ open_text 32 (codes "bytes ") hex_byte 0 (take k gap) ++ more
+    = ap (open_text 32 (codes "bytes ") hex_byte 0) (sym (take-append-drop k gap)) ∙ open_text-append 32 (codes "bytes ") hex_byte 0 (take k gap) (drop k gap) in
+    omega (
+      arith,
+      ap length (bytes_closed gap),
+      length-append (open_text 32 (codes "bytes ") hex_byte 0 gap) (close (in_line_after 32 0 gap)),
+      close_short (in_line_after 32 0 gap),
+      ap length whole,
+      length-append (open_text 32 (codes "bytes ") hex_byte 0 (take k gap)) more,
+      bytes_short i (drop k gap),
+      length-drop k gap,
+    )
+place_short (Synced gap packets tail) is =
+    let over = session_closed None 0 packets is.1 in
+    let sure : List ℕ = bytes_text gap ++ codes "sync\n" in
+    let told : List ℕ = open_words 0 (flat_map stepped packets) in
+    let shut : List ℕ = close (words_place 0 (flat_map stepped packets)) in
+    let text : length (place_text (Synced gap packets tail)) ≡ length ((sure ++ flat_map packet_text packets) ++ bytes_text tail) = refl in
+    let all : length (sure_place (Synced gap packets tail)) ≡ length (sure ++ told) = refl in
+    omega (
+      arith,
+      text,
+      all,
+      length-append (sure ++ flat_map packet_text packets) (bytes_text tail),
+      length-append sure (flat_map packet_text packets),
+      length-append sure told,
+      ap length over,
+      length-append told shut,
+      close_short (words_place 0 (flat_map stepped packets)),
+      ap length (bytes_closed tail),
+      length-append (open_text 32 (codes "bytes ") hex_byte 0 tail) (close (in_line_after 32 0 tail)),
+      close_short (in_line_after 32 0 tail),
+      bytes_short 0 tail,
+      is.3,
+    )
+
+-- what a lister has listed, after the listings before, is at most so much shorter than those and the listing of its bytes
+pub listing_held : (l : ListerState) (given before bytes : List ℕ) → ListerStandsFor l given before bytes → length before + length (listing_of bytes) ≤ length (given ++ l.text) + 64
+listing_held l given before bytes s =
+    let r : Reading = reading_of bytes in
+    let is = reading_is_found bytes s.tells.cut.reading.fits in
+    omega (arith, ap length (sure_behind l given before bytes s), length-append before (sure_text bytes), place_short r.place is.ends, length-append (flat_map session_text r.sessions) (place_text r.place), length-append (flat_map session_text r.sessions) (sure_place r.place))

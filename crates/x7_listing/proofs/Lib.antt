@@ -26,4 +26,3 @@ pub mod TakeLemmas
 pub mod NearLemmas
 pub mod AtOnceLemmas
 pub mod TakingLemmas
-pub mod TakingRunsLemmas

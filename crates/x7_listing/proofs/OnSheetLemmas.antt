@@ -9,10 +9,14 @@ use Rattle.x7_regs.specs.declared.command.Command.{Command}
 use Rattle.x7_regs.specs.declared.command.Command.TheVariants.{Null, Wcfg, Mfw, Lfrm, Rcfg, Start, Rcap, Rcrc, Aghigh, Switch, Grestore, Shutdown, Gcapture, Desync, Iprog, Crcc, Ltimer, BspiRead, FallEdge}
 use Rattle.x7_text.specs.Digits.{hex_word}
 use Rattle.x7_text.specs.Row.{close}
-use Rattle.x7_listing.specs.AtOnce.{command_lines, nop_lines, row_text, write_line, write_name, write_start}
+use Rattle.x7_listing.specs.AtOnce.{command_lines, nop_lines, write_line, write_name, write_start}
 use Rattle.x7_listing.specs.HeadLine.{command_line, head_text}
 use Rattle.x7_listing.proofs.AtOnceLemmas.{equal_block, equal_front, short_line-is}
 use Rattle.x7_listing.proofs.SessionLemmas.{word_line}
+
+-- a row behind the end of an open line
+pub row_behind : (shown begin row all new : List ℕ) (line : ℕ) → begin ≡ shown ++ close line → all ≡ begin ++ new → new ≡ row → all ≡ shown ++ (close line ++ row)
+row_behind shown begin row all new line e f g = f ∙ ap (λ t. begin ++ t) g ∙ ap (λ t. t ++ row) e ∙ append_assoc shown (close line) row
 
 -- a text behind another
 pub behind_text : (text shown now more : List ℕ) → now ≡ shown ++ more → text ++ now ≡ (text ++ shown) ++ more
@@ -48,15 +52,15 @@ far_command shown line register w e far =
     ∙ ap (λ t. shown ++ t) (append_assoc (close line) (write_start 4) (hex_word w ++ 10 ∷ []) ∙ ap (λ t. close line ++ t) (append_assoc (write_line 4) (codes "data ") (hex_word w ++ 10 ∷ []) ∙ ap (λ t. write_line 4 ++ t) (sym listed)))
 
 -- the line of the header of a short write
-pub head_shown : (shown first all : List ℕ) (line register count : ℕ) (row : List ℕ) → register < 32 → count < 20 → row_text row ≡ close line ++ write_name register → first ≡ shown ++ row_text row → all ≡ first ++ (decimal count ++ 10 ∷ [])
+pub head_shown : (shown first all : List ℕ) (line register count : ℕ) → register < 32 → count < 20 → first ≡ shown ++ (close line ++ write_name register) → all ≡ first ++ (decimal count ++ 10 ∷ [])
     → all ≡ shown ++ (close line ++ head_text (Open register count) (short_head register count))
-head_shown shown first all line register count row h k e a b =
-    b ∙ ap (λ t. t ++ (decimal count ++ 10 ∷ [])) (a ∙ ap (λ t. shown ++ t) e) ∙ append_assoc shown (close line ++ write_name register) (decimal count ++ 10 ∷ [])
+head_shown shown first all line register count h k a b =
+    b ∙ ap (λ t. t ++ (decimal count ++ 10 ∷ [])) a ∙ append_assoc shown (close line ++ write_name register) (decimal count ++ 10 ∷ [])
     ∙ ap (λ t. shown ++ t) (append_assoc (close line) (write_name register) (decimal count ++ 10 ∷ []) ∙ ap (λ t. close line ++ t) (sym (short_line-is register count h k)))
 
 -- a few no-ops
-pub nops_shown : (count : ℕ) (block : List ℕ) → count ≤ 16 → block ≡ flat_map (λ x. x) (replicate 16 (codes "nop\n")) → take (4 * count) block ≡ nop_lines count
-nops_shown count block few e = ap (take (4 * count)) (e ∙ equal_block Nop nop_word 16 (codes "nop\n") refl) ∙ equal_front Nop nop_word 4 16 count refl few
+pub nops_shown : (count : ℕ) (block : List ℕ) → count ≤ 32 → block ≡ flat_map (λ x. x) (replicate 32 (codes "nop\n")) → take (4 * count) block ≡ nop_lines count
+nops_shown count block few e = ap (take (4 * count)) (e ∙ equal_block Nop nop_word 32 (codes "nop\n") refl) ∙ equal_front Nop nop_word 4 32 count refl few
 
 -- a gap and its sync word
 pub gap_shown : (shown cut first all listed : List ℕ) → first ≡ shown ++ cut → all ≡ first ++ (10 ∷ codes "sync\n") → listed ≡ cut ++ 10 ∷ [] → all ≡ shown ++ (listed ++ codes "sync\n")

@@ -1,21 +1,18 @@
 -- Lines that are read at once, and the texts behind them.
 use Rattle.std.proofs.Math.Seq.{drop-nil}
-use Rattle.std.proofs.Common.{◌≡◌, ℕ, zero, suc, ◌+◌, ◌-◌, ◌<◌, ◌≤◌, List, [], ◌∷◌, ◌++◌, length, map, fold, take, drop, get_or, refl, ap, sym, subst, ◌∙◌, arith, append_assoc, append-nil, length-append, length-drop, take_all, codes}
+use Rattle.std.proofs.Common.{◌≡◌, ℕ, zero, suc, ◌+◌, ◌-◌, ◌<◌, ◌≤◌, List, [], ◌∷◌, ◌++◌, length, map, fold, take, drop, get_or, refl, ap, sym, subst, ◌∙◌, arith, append_assoc, append-nil, length-append, length-drop, take_all}
 use Rattle.std.proofs.lemmas.Grind.{flat_map-append}
 use Rattle.std.proofs.lemmas.List.{drop-append-le, drop_more, take-append-drop, take-append-le}
 use Rattle.std.proofs.lemmas.List.Sums.{fold-append}
 use Rattle.std.specs.List.{AllByRecursion, flat_map}
-use Rattle.x7_words.proofs.ListLemmas.{all_from_places, all-append, map-append}
+use Rattle.x7_words.proofs.ListLemmas.{all-append, map-append}
 use Rattle.x7_crc.specs.Checking.{check_of_bytes, CheckerState}
 use Rattle.x7_crc.proofs.CheckerLemmas.{still-keeps}
 use Rattle.x7_text.specs.Lines.{split}
-use Rattle.x7_text.specs.Row.{line, spaced}
 use Rattle.x7_text.proofs.SplitLemmas.{split-line}
-use Rattle.x7_words.specs.Word.{AreBytes, bytes_of_word, words_of_bytes}
-use Rattle.x7_words.proofs.WordLemmas.{bytes-words, length-words, words-fit}
 use Rattle.x7_listing.specs.Assembly.{assembled, with_line}
 use Rattle.x7_listing.specs.Assembling.{body_by, Goes, Opens, TakesFirst, TakesLines}
-use Rattle.x7_listing.specs.Line.{Line, Data, bytes_of, FitsLine, IsListed, text_of}
+use Rattle.x7_listing.specs.Line.{Line, bytes_of, FitsLine, IsListed, text_of}
 use Rattle.x7_listing.specs.Listed.{ended_text, texts_of}
 use Rattle.x7_listing.proofs.RoundLemmas.{line-free, same-bytes}
 
@@ -109,24 +106,3 @@ pub takes-line : (l : Line) (word row text old new : List ℕ) (a b end size : �
     → TakesFirst text old new size 1
 takes-line l word row text old new a b end size f i e w r at whole is h n =
     subst (λ (k : ℕ). TakesFirst text old new k 1) (sym whole) (takes-row l word row text old new a b f i e w r (ap (λ (k : ℕ). get_or text k 0) (sym at) ∙ is) h n)
-
--- the line of a full row
-pub takes-data : (bs text old new : List ℕ) → length bs ≡ 32 → ((i : ℕ) → get_or bs i 0 < 256) → 77 ≤ length text → line (codes "data") spaced (words_of_bytes bs) ≡ take 77 text → new ≡ old ++ bs → TakesFirst text old new 77 1
-takes-data bs text old new long fit h e n =
-    let all : AreBytes bs = all_from_places (λ b. b < 256) bs (λ k l. fit k) in
-    let ws : List ℕ = words_of_bytes bs in
-    let eight : length (words_of_bytes bs) ≡ 8 = length-words bs 8 long in
-    let whole : ended_text (Data (words_of_bytes bs)) ≡ take 77 text = append_assoc (codes "data") (flat_map spaced ws) (10 ∷ []) ∙ e in
-    record {
-      some = omega arith;
-      within = h;
-      few = omega arith;
-      takes = record {
-        lines = Data ws ∷ [];
-        fit = ((words-fit bs all, omega (arith, eight), omega (arith, eight)), tt);
-        listed = (tt, tt);
-        text_is = sym (take-append-drop 77 text) ∙ ap (λ t. t ++ drop 77 text) (sym whole ∙ sym (append-nil (ended_text (Data ws))));
-        appended = n ∙ ap (λ t. old ++ t) (sym (append-nil (flat_map bytes_of_word ws) ∙ bytes-words bs 8 all long));
-        count_is = refl;
-      };
-    }

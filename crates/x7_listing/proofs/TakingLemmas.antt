@@ -12,8 +12,8 @@ use Rattle.x7_packets.specs.declared.stream.Run.TheVariants as run
 use Rattle.x7_packets.proofs.RunningLemmas.{bare_after}
 use Rattle.x7_packets.proofs.UniqueLemmas.{one_reading}
 use Rattle.x7_listing.specs.Listing.{reading_text, session_text}
-use Rattle.x7_listing.specs.Telling.{ListerState, SessionListed, HasListed, HasListedAt, Writes, written_of}
-use Rattle.x7_listing.specs.Taking.{EndsRuns, TakerStandsFor, TakesRun}
+use Rattle.x7_listing.specs.Telling.{Finished, ListerState, TakerStandsFor, SessionListed, HasListed, HasListedAt, Writes, written_of}
+use Rattle.x7_listing.specs.Taking.{TakesRun}
 use Rattle.x7_listing.proofs.GapLemmas.{fresh_gap}
 use Rattle.x7_listing.proofs.TakeLemmas.{begins, not_due}
 
@@ -141,19 +141,17 @@ starts l given before c s i h e = record {
 pub takes_end : (l n : ListerState) (given before bytes : List ℕ) (due next : Mode) → n.cutter ≡ l.cutter → n.synced ≡ false → n.line ≡ 0 → n.held ≡ []
     → ((given before bytes : List ℕ) (sessions : List Session) (place : Place) (m : Mode) → HasListed (written_of l.synced l.line l.held (given ++ l.text)) before sessions place m → (m ≡ Mode.Due → ⊥) → IsReading bytes sessions place
     → (l.synced ≡ true → l.held ≡ tail_of place) → given ++ n.text ≡ before ++ reading_text sessions place)
-    → TakerStandsFor l given before bytes due → IsNext bytes due run.End next → EndsRuns n given before (bytes ++ [])
+    → TakerStandsFor l given before bytes due → IsNext bytes due run.End next → Finished n given before (bytes ++ [])
 takes_end l n given before bytes due next c s i h writes t x =
     let cutter : CutterStandsFor n.cutter [] [] (Searching []) = rw c t.cutter in
     let listing : List ℕ = reading_text t.sessions t.at in
     let listed : given ++ n.text ≡ before ++ listing = writes given before bytes t.sessions t.at due t.listed x.turns.0 t.reading t.tail in
     record {
-      finished = record {
-        listing = listing;
-        is = record { sessions = t.sessions; place = t.at; reading = rw (append-nil bytes) t.reading; is = refl };
-        listed = listed;
-        stands = begins n.cutter n.synced n.line n.held n.text given (before ++ listing) cutter s i h listed (not_due n.cutter cutter);
-      };
-      next = starts n given (before ++ listing) cutter s i h listed;
+      listing = listing;
+      is = record { sessions = t.sessions; place = t.at; reading = rw (append-nil bytes) t.reading; is = refl };
+      listed = listed;
+      stands = begins n.cutter n.synced n.line n.held n.text given (before ++ listing) cutter s i h listed (not_due n.cutter cutter);
+      takes = starts n given (before ++ listing) cutter s i h listed;
     }
 
 -- the bytes that a pen holds at the end are the tail

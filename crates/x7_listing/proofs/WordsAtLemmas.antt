@@ -1,27 +1,27 @@
--- A full `data` line, by what stands in it, and the lines of bytes of any length.
-use Rattle.std.proofs.Common.{◌≡◌, ℕ, zero, suc, ◌+◌, ◌*◌, ◌<◌, ◌≤◌, Bool, true, false, IsTrue, eqb, List, [], ◌∷◌, ◌++◌, codes, get_or, length, take, take-add, take_all, drop, map, refl, ap, sym, ◌∙◌, append_assoc, append-nil, arith, inl, inr, length-append, length-drop}
+-- A `data` line by what stands in it, and the lines of bytes of any length.
+use Rattle.std.proofs.Common.{◌≡◌, ℕ, zero, suc, ◌+◌, ◌*◌, ◌-◌, ◌<◌, ◌≤◌, Bool, true, false, IsTrue, eqb, List, [], ◌∷◌, ◌++◌, codes, get_or, length, take, take-add, drop, map, refl, ap, sym, ◌∙◌, append_assoc, append-nil, arith, inl, inr, length-append, length-drop}
 use Rattle.std.proofs.Math.Seq.{take-append-add}
 use Rattle.std.proofs.lemmas.Bool.{cases_lt}
 use Rattle.std.proofs.lemmas.Bool.Decides.{Decides-eqb}
 use Rattle.std.proofs.lemmas.Slice.Eq.{slice_eq-Decides}
 use Rattle.std.specs.Cmp.Lexicographic.{pointwise}
-use Rattle.std.proofs.lemmas.List.{drop_at, length-take-le, take-take, take_at, take_more}
+use Rattle.std.proofs.lemmas.List.{append_cancel_left, drop_at, length-take-le, take-take, take_at, take_more}
 use Rattle.std.proofs.lemmas.List.Folds.{flat_map-map}
 use Rattle.std.specs.List.{flat_map, range_with_len}
 use Rattle.std.specs.Simd.{first_chunks}
 use Rattle.std.proofs.lemmas.Simd.{length-chunk, pick_l_whole}
 use lib.Lanes.{Each1, chunk, pick_l}
-use Rattle.x7_words.specs.Word.{AreBytes, words_of_bytes}
+use Rattle.x7_words.specs.Word.{AreBytes, bytes_of_word, words_of_bytes}
+use Rattle.x7_words.proofs.WordLemmas.{bytes-words, length-words, words-fit}
 use Rattle.x7_words.proofs.ListLemmas.{all_take}
 use Rattle.x7_text.specs.Digits.{hex_byte, hex_word}
-use Rattle.x7_text.specs.Row.{line, spaced}
+use Rattle.x7_text.specs.Row.{spaced}
 use Rattle.x7_text.proofs.FewLemmas.{hex_front}
-use Rattle.x7_text.proofs.WholeLineLemmas.{length-hex_bytes}
 use Rattle.x7_text.proofs.WordLemmas.{hex_words}
 use Rattle.x7_listing.specs.Assembling.{TakesFirst}
 use Rattle.x7_listing.specs.AtOnce.{words_at}
-use Rattle.x7_listing.specs.Line.{Bytes}
-use Rattle.x7_listing.proofs.QuickLemmas.{takes-data, takes-line}
+use Rattle.x7_listing.specs.Line.{Bytes, Data}
+use Rattle.x7_listing.proofs.QuickLemmas.{takes-line}
 
 -- words behind spaces, one after another
 told-at : (n p : ℕ) (text : List ℕ) → p + 9 * n ≤ length text → ((k : ℕ) → k < n → get_or text (p + 9 * k) 0 ≡ 32) → take (p + 9 * n) text ≡ take p text ++ flat_map (λ (w : List ℕ). 32 ∷ w) (words_at text p n)
@@ -46,16 +46,6 @@ cut-again (suc n) p text h =
     let long : length (take 8 (drop (p + 1) text)) ≡ 8 = length-take-le 8 (drop (p + 1) text) (omega (arith, length-drop (p + 1) text)) in
     ap (λ (t : List ℕ). t ∷ first_chunks 8 n (drop 8 (word ++ rest))) (take_at word rest 8 long)
     ∙ ap (λ (t : List ℕ). word ∷ first_chunks 8 n t) (drop_at word rest 8 long) ∙ ap (λ (t : List (List ℕ)). word ∷ t) (cut-again n (p + 9) text (omega arith))
-
--- the line of these bytes
-pub row-line : (text bs : List ℕ) → 77 ≤ length text → take 4 text ≡ codes "data" → ((k : ℕ) → k < 8 → get_or text (4 + 9 * k) 0 ≡ 32) → get_or text 76 0 ≡ 10 → length bs ≡ 32 → Each1 (λ b. b < 256) bs
-    → flat_map (λ (w : List ℕ). w) (words_at text 4 8) ≡ flat_map hex_byte bs → line (codes "data") spaced (words_of_bytes bs) ≡ take 77 text
-row-line text bs long word spaces end full fit same =
-    let are : words_at text 4 8 ≡ map hex_word (words_of_bytes bs) = sym (cut-again 8 4 text (omega arith)) ∙ ap (first_chunks 8 8) same ∙ hex_words 8 bs full fit in
-    let shown : take 76 text ≡ codes "data" ++ flat_map spaced (words_of_bytes bs) =
-    told-at 8 4 text (omega arith) spaces ∙ ap (λ t. t ++ flat_map (λ (w : List ℕ). 32 ∷ w) (words_at text 4 8)) word ∙ ap (λ (ws : List (List ℕ)). codes "data" ++ flat_map (λ (w : List ℕ). 32 ∷ w) ws) are
-    ∙ ap (λ t. codes "data" ++ t) (flat_map-map (λ (w : List ℕ). 32 ∷ w) hex_word (words_of_bytes bs)) in
-    sym (take_more text 76 0 (omega arith) ∙ ap (λ (c : ℕ). take 76 text ++ c ∷ []) end ∙ ap (λ t. t ++ 10 ∷ []) shown)
 
 -- eight words, two by two and four by four
 in-a-row : (a b c d e f g h ab cd ef gh low high : List ℕ) → ab ≡ a ++ b → cd ≡ c ++ d → ef ≡ e ++ f → gh ≡ g ++ h → low ≡ ab ++ cd → high ≡ ef ++ gh → low ++ high ≡ a ++ (b ++ (c ++ (d ++ (e ++ (f ++ (g ++ (h ++ [])))))))
@@ -103,24 +93,43 @@ six (a ∷ b ∷ c ∷ d ∷ e ∷ f ∷ text) h = refl
 pub front-six : (text word : List ℕ) → 77 ≤ length text → (b : Bool) → b ≡ pointwise eqb (get_or text 0 0 ∷ get_or text 1 0 ∷ get_or text 2 0 ∷ get_or text 3 0 ∷ get_or text 4 0 ∷ get_or text 5 0 ∷ []) word → IsTrue b → take 6 text ≡ word
 front-six text word long b e h = sym (six text long) ∙ is-same b _ word e h
 
--- a full line of words
-pub takes-full : (text bs old new digits : List ℕ) (n : ℕ) → 77 ≤ length text → take 4 text ≡ codes "data" → ((k : ℕ) → k < 8 → get_or text (4 + 9 * k) 0 ≡ 32) → get_or text 76 0 ≡ 10 → length bs ≡ 32 → AreBytes bs → n ≡ 64
-    → digits ≡ flat_map (λ (w : List ℕ). w) (words_at text 4 8) → take n digits ≡ take n (flat_map hex_byte bs) → new ≡ old ++ bs → TakesFirst text old new 77 1
-takes-full text bs old new digits n long word spaces end full fit e are same put =
-    let size : length digits ≡ 64 = ap length are ∙ whole 8 4 (omega arith) in
-    let listed : length (flat_map hex_byte bs) ≡ 64 = length-hex_bytes bs ∙ omega (arith, full) in
-    let all : digits ≡ flat_map hex_byte bs = sym (take_all 64 digits (omega (arith, size))) ∙ ap (λ (k : ℕ). take k digits) (sym e) ∙ same ∙ ap (λ (k : ℕ). take k (flat_map hex_byte bs)) e ∙ take_all 64 (flat_map hex_byte bs) (omega (arith, listed)) in
-    takes-data bs text old new full (λ i. byte-at bs i fit) long (row-line text bs long word spaces end full (each-byte bs fit) (sym are ∙ all)) put
+-- the digits of the first words are the first digits
+first-digits : (n k p : ℕ) (text : List ℕ) → p + 9 * (n + k) ≤ length text → take (8 * n) (flat_map (λ (w : List ℕ). w) (words_at text p (n + k))) ≡ flat_map (λ (w : List ℕ). w) (words_at text p n)
+first-digits zero k p text h = refl
+first-digits (suc n) k p text h =
+    let word : List ℕ = take 8 (drop (p + 1) text) in
+    let rest : List ℕ = flat_map (λ (w : List ℕ). w) (words_at text (p + 9) (n + k)) in
+    let long : length (take 8 (drop (p + 1) text)) ≡ 8 = length-take-le 8 (drop (p + 1) text) (omega (arith, length-drop (p + 1) text, h)) in
+    let size : 8 * suc n ≡ length (take 8 (drop (p + 1) text)) + 8 * n = omega (arith, long) in
+    ap (λ (m : ℕ). take (8 * suc n) (flat_map (λ (w : List ℕ). w) (words_at text p m))) (let e : suc n + k ≡ suc (n + k) = omega arith in e)
+    ∙ ap (λ (m : ℕ). take m (word ++ rest)) size ∙ take-append-add word rest (8 * n) ∙ ap (λ t. word ++ t) (first-digits n k (p + 9) text (omega (arith, h)))
+
+-- a line of words, as many as there are eight digits
+pub takes-words : (text bs old all new digits : List ℕ) (n count end : ℕ) → 77 ≤ length text → take 4 text ≡ codes "data" → ((k : ℕ) → k < count → get_or text (4 + 9 * k) 0 ≡ 32) → get_or text (4 + 9 * count) 0 ≡ 10 → length bs ≡ 32 → AreBytes bs
+    → 0 < count → count ≤ 8 → 8 * count ≤ n → digits ≡ flat_map (λ (w : List ℕ). w) (words_at text 4 8) → take n digits ≡ take n (flat_map hex_byte bs) → end ≡ length old + 4 * count → all ≡ old ++ bs → new ≡ take end all → TakesFirst text old new (5 + 9 * count) 1
+takes-words text bs old all new digits n count end long word spaces last full fit some few most are same at put cut =
+    let row : List ℕ = take (4 * count) bs in
+    let ws : List ℕ = words_of_bytes (take (4 * count) bs) in
+    let size : length (take (4 * count) bs) ≡ 4 * count = length-take-le (4 * count) bs (omega (arith, full, few)) in
+    let fits : AreBytes (take (4 * count) bs) = all_take (λ b. b < 256) (4 * count) bs fit in
+    let number : length (words_of_bytes (take (4 * count) bs)) ≡ count = length-words (take (4 * count) bs) count size in
+    let parts : 8 ≡ count + (8 - count) = omega (arith, few) in
+    let front : take (8 * count) digits ≡ flat_map (λ (w : List ℕ). w) (words_at text 4 count) =
+    ap (take (8 * count)) are ∙ ap (λ (m : ℕ). take (8 * count) (flat_map (λ (w : List ℕ). w) (words_at text 4 m))) parts ∙ first-digits count (8 - count) 4 text (omega (arith, long, few)) in
+    let hex : take (8 * count) digits ≡ flat_map hex_byte (take (4 * count) bs) =
+    sym (take-take (8 * count) n digits most) ∙ ap (take (8 * count)) same ∙ take-take (8 * count) n (flat_map hex_byte bs) most
+    ∙ ap (λ (m : ℕ). take m (flat_map hex_byte bs)) (let e : 8 * count ≡ 2 * (4 * count) = omega arith in e) ∙ hex_front (4 * count) bs (omega (arith, full, few)) in
+    let words : words_at text 4 count ≡ map hex_word (words_of_bytes (take (4 * count) bs)) =
+    sym (cut-again count 4 text (omega (arith, long, few))) ∙ ap (first_chunks 8 count) (sym front ∙ hex) ∙ hex_words count (take (4 * count) bs) size (each-byte (take (4 * count) bs) fits) in
+    let told : take 4 text ++ take (9 * count) (drop 4 text) ≡ take 4 text ++ flat_map (λ (w : List ℕ). 32 ∷ w) (words_at text 4 count) =
+    sym (take-add 4 (9 * count) text) ∙ told-at count 4 text (omega (arith, long, few)) spaces in
+    let shown : take (9 * count) (drop 4 text) ≡ flat_map spaced (words_of_bytes (take (4 * count) bs)) =
+    append_cancel_left (take 4 text) _ _ told ∙ ap (flat_map (λ (w : List ℕ). 32 ∷ w)) words ∙ flat_map-map (λ (w : List ℕ). 32 ∷ w) hex_word (words_of_bytes (take (4 * count) bs)) in
+    let added : new ≡ old ++ flat_map bytes_of_word (words_of_bytes (take (4 * count) bs)) =
+    cut ∙ ap (take end) put ∙ ap (λ (k : ℕ). take k (old ++ bs)) at ∙ take-append-add old bs (4 * count) ∙ ap (λ t. old ++ t) (sym (bytes-words (take (4 * count) bs) count fits size)) in
+    takes-line (Data (words_of_bytes (take (4 * count) bs))) (codes "data") (flat_map spaced (words_of_bytes (take (4 * count) bs))) text old new 4 (9 * count) (4 + 9 * count) (5 + 9 * count)
+    (words-fit (take (4 * count) bs) fits, omega (arith, number, some), omega (arith, number, few)) tt refl word shown refl (omega arith) last (omega (arith, long, few)) added
   where
-    whole : (n p : ℕ) → p + 9 * n ≤ length text → length (flat_map (λ (w : List ℕ). w) (words_at text p n)) ≡ 8 * n
-    whole zero p h = refl
-    whole (suc n) p h = omega (arith, length-append (take 8 (drop (p + 1) text)) (flat_map (λ (w : List ℕ). w) (words_at text (p + 9) n)), length-take-le 8 (drop (p + 1) text) (omega (arith, length-drop (p + 1) text)), whole n (p + 9) (omega arith))
-
-    byte-at : (xs : List ℕ) (i : ℕ) → AreBytes xs → get_or xs i 0 < 256
-    byte-at [] i a = omega arith
-    byte-at (x ∷ xs) zero a = a.0
-    byte-at (x ∷ xs) (suc i) a = byte-at xs i a.1
-
     each-byte : (xs : List ℕ) → AreBytes xs → Each1 (λ b. b < 256) xs
     each-byte [] a = tt
     each-byte (x ∷ xs) a = (a.0, each-byte xs a.1)

@@ -1,8 +1,8 @@
--- The lines of what is listed at once: no-ops and zero words in a row, short writes, and a gap with its sync word (this project's choice).
+-- The lines of what is listed at once: no-ops in a row, short writes, and a gap with its sync word (this project's choice).
 use Rattle.std.specs.Prelude.{◌≡◌, ◌==◌, Bool, not, ℕ, zero, suc, ◌+◌, List, [], ◌∷◌, ◌++◌, codes, drop, get_or, take}
 use Rattle.x7_packets.specs.Nops.{nop_word}
 use Rattle.x7_packets.specs.declared.header.Step.{Step}
-use Rattle.x7_packets.specs.declared.header.Step.TheVariants.{Filler, Nop}
+use Rattle.x7_packets.specs.declared.header.Step.TheVariants.{Nop}
 use Rattle.x7_regs.specs.Register.{reg_name}
 use Rattle.x7_listing.specs.HeadLine.{command_line, head_text}
 
@@ -11,12 +11,9 @@ abbrev pub equal_lines : Step → ℕ → ℕ → List ℕ
 equal_lines step w zero = []
 equal_lines step w (suc n) = head_text step w ++ equal_lines step w n
 
--- the lines of so many no-ops, and of so many zero words
+-- the lines of so many no-ops
 abbrev pub nop_lines : ℕ → List ℕ
 nop_lines n = equal_lines Nop nop_word n
-
-abbrev pub zero_lines : ℕ → List ℕ
-zero_lines n = equal_lines Filler 0 n
 
 -- the line of the header of a write of one word
 abbrev pub write_line : ℕ → List ℕ
@@ -37,10 +34,6 @@ command_lines w = write_line 4 ++ command_line w
 -- a row of 32 bytes, of which the last says how many of the first are a text
 abbrev pub row_text : List ℕ → List ℕ
 row_text row = take (get_or row 31 0) row
-
--- a text with the end of the line before it
-abbrev pub on_new_line : (ℕ → List ℕ) → ℕ → List ℕ
-on_new_line text n = 10 ∷ text n
 
 -- the rows are those of the numbers from n up
 abbrev pub AreRows : (ℕ → List ℕ) → ℕ → List (List ℕ) → Type 0

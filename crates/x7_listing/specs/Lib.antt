@@ -9,6 +9,5 @@ pub mod Listing
 pub mod StreamListing
 pub mod Telling
 pub mod Taking
-pub mod TakingRuns
 pub mod TakingAtOnce
 pub mod Pens

@@ -1,5 +1,5 @@
 -- What a lister tells with its pen (this project's choice).
-use Rattle.std.specs.Prelude.{◌≡◌, List, [], ℕ, ◌++◌, take, true}
+use Rattle.std.specs.Prelude.{◌≡◌, List, ℕ, ◌++◌, take, true}
 use Rattle.x7_words.specs.Word.{bytes_of_word}
 use Rattle.x7_packets.specs.AtOnce.{Takes}
 use Rattle.x7_packets.specs.Cutting.{CutterState}
@@ -52,10 +52,6 @@ lister_after cutter pen shown text = lister_with cutter pen (text ++ shown)
 -- the same, where that text is the first bytes of a sheet
 abbrev pub on_sheet : CutterState → Pen → List ℕ → ℕ → List ℕ → ListerState
 on_sheet cutter pen sheet len = lister_after cutter pen (take len sheet)
-
--- the same in a session, with so many words in the open line
-abbrev pub session_after : CutterState → ℕ → List ℕ → List ℕ → ListerState
-session_after cutter line shown text = lister_of cutter true line [] (text ++ shown)
 
 -- the lister tells these bytes more, whatever text stands before
 abbrev pub TellsAfter : (List ℕ → ListerState) → (List ℕ → ListerState) → List ℕ → Type 0

@@ -1,5 +1,5 @@
 -- What a lister takes at once.
-use Rattle.std.specs.Prelude.{◌≡◌, ℕ, ◌+◌, ◌*◌, ◌<◌, ◌≤◌, List, length}
+use Rattle.std.specs.Prelude.{ℕ, ◌+◌, ◌*◌, ◌<◌, ◌≤◌, List, length}
 use Rattle.x7_packets.specs.Cutting.{CutterState}
 
 -- so many of the bytes that come next were taken, and the text grew from one length to the other: by less than a lister has room for
@@ -16,11 +16,3 @@ pub record TakesOnSheet (old new : CutterState) (rest : List ℕ) (size from to 
   pub kept : length new.kept ≤ length old.kept
   pub grown : to ≤ from + 25 * size
   pub inside : to ≤ 2048
-
--- so many of the first bytes were taken, or none, and their text begins a sheet: so few bytes for each that there is room
-pub record BeginsSheet (old new : CutterState) (rest : List ℕ) (size len : ℕ) : Type 0 where
-  pub none : size ≡ 0 → (new ≡ old) × (len ≡ 0)
-  pub within : size ≤ length rest
-  pub kept : length new.kept ≤ length old.kept
-  pub grown : len ≤ 25 * size
-  pub inside : len ≤ 2048

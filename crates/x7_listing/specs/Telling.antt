@@ -3,7 +3,7 @@ use Rattle.std.specs.Prelude.{◌≡◌, ℕ, ◌==◌, ◌⊎◌, ◌≤◌, Bo
 use Rattle.std.specs.List.{flat_map}
 use Rattle.x7_packets.specs.SyncWord.{sync_bytes}
 use Rattle.x7_packets.specs.Packet.{Packet, stepped}
-use Rattle.x7_packets.specs.Reading.{Place, Searching, Synced, Session, IsReading}
+use Rattle.x7_packets.specs.Reading.{Place, Searching, Synced, Session, IsReading, tail_of}
 use Rattle.x7_packets.specs.Cutting.{CutterState, CutterStandsFor, Adds, Turns, IsRun}
 use Rattle.x7_packets.specs.declared.header.Step.{Step}
 use Rattle.x7_packets.specs.declared.header.Step.TheVariants.{Payload}
@@ -125,9 +125,21 @@ pub record ListerStandsFor (l : ListerState) (given before bytes : List ℕ) : T
   pub tells : Tells l given before bytes
   pub ready : l.cutter.mode ≡ Mode.Due → ⊥
 
--- The texts given and the lister's text are those of listings before and the listing of these bytes, and a new listing begins.
+-- A lister that takes the runs of a stream: the texts given and its own are those of listings before, and then what is listed of these
+-- bytes, a sync word being due to be listed or not. Its own cutter took no byte, and the bytes of no whole word are held.
+pub record TakerStandsFor (l : ListerState) (given before bytes : List ℕ) (due : Mode) : Type 0 where
+  pub sessions : List Session
+  pub at : Place
+  pub reading : IsReading bytes sessions at
+  pub listed : HasListed (written_by l given) before sessions at due
+  pub tail : l.synced ≡ true → l.held ≡ tail_of at
+  pub cutter : CutterStandsFor l.cutter [] [] (Searching [])
+
+-- The texts given and the lister's text are those of listings before and the listing of these bytes, and a new listing begins, of bytes
+-- or of runs.
 pub record Finished (l : ListerState) (given before bytes : List ℕ) : Type 0 where
   pub listing : List ℕ
   pub is : IsListing bytes listing
   pub listed : given ++ l.text ≡ before ++ listing
   pub stands : ListerStandsFor l given (before ++ listing) []
+  pub takes : TakerStandsFor l given (before ++ listing) [] Mode.Searching

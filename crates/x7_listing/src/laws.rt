@@ -11,8 +11,7 @@ ghost use Rattle.x7_listing.specs.Listing.{IsListing, IsPrefix, listing_of};
 ghost use Rattle.x7_listing.specs.StreamListing.{stream_listing};
 ghost use Rattle.x7_header.specs.Header.{Contents};
 ghost use Rattle.x7_packets.specs.Mode.{Mode};
-ghost use Rattle.x7_listing.specs.Taking.{TakerStandsFor};
-ghost use Rattle.x7_listing.specs.Telling.{ListerStandsFor, ListerState};
+ghost use Rattle.x7_listing.specs.Telling.{TakerStandsFor, ListerStandsFor, ListerState};
 
 /// A list of bytes has at most one listing.
 pub fn one_listing()
@@ -29,6 +28,12 @@ pub fn listed_is_a_prefix()
 pub fn few_bytes_are_held()
     ensures { (l : ListerState) (given before bytes : List ℕ) → ListerStandsFor l given before bytes
         → length before + length bytes ≤ length (given ++ l.text) + 4 }
+{}
+
+/// A lister's text, after the listings before, is never more than 64 bytes behind the listing of the bytes that it took.
+pub fn little_text_is_held()
+    ensures { (l : ListerState) (given before bytes : List ℕ) → ListerStandsFor l given before bytes
+        → length before + length (listing_of bytes) ≤ length (given ++ l.text) + 64 }
 {}
 
 /// The same of a lister that takes runs.

@@ -2,7 +2,6 @@
 #![tactic(auto)]
 
 mod assembler;
-mod at_once;
 mod bit_line;
 mod body;
 mod laws;
@@ -14,7 +13,6 @@ mod pen;
 mod quick;
 mod reading;
 mod rows;
-mod runs;
 mod sheet;
 mod short;
 
@@ -22,9 +20,8 @@ pub use assembler::{ASM_LIMIT, AsmFault, Assembler, assemble};
 pub use bit_line::header_line;
 pub use laws::{
     few_bytes_are_held, few_bytes_of_runs_are_held, header_line_is_its_own, lines_hold_no_end,
-    listed_is_a_prefix, listing_assembles_back, listing_is_of_lines, listing_is_short, one_line,
-    one_listing, one_outcome,
+    listed_is_a_prefix, listing_assembles_back, listing_is_of_lines, listing_is_short,
+    little_text_is_held, one_line, one_listing, one_outcome,
 };
 pub use line::HeadLine;
 pub use lister::Lister;
-pub use runs::{RunsFault, take_runs};

@@ -1,13 +1,11 @@
 //! A lister of streams that come in pieces.
 ghost use Rattle.std.specs.Prelude.{◌≡◌, ℕ, ◌+◌, ◌*◌, ◌≤◌, List, [], ◌++◌, OnOk, OnErr, length, take, vec_len, vec_capacity};
 ghost use Rattle.x7_packets.specs.Mode.{Mode};
-ghost use Rattle.x7_listing.specs.Taking.{TakerStandsFor};
-ghost use Rattle.x7_listing.specs.Telling.{Finished, ListerStandsFor};
+ghost use Rattle.x7_listing.specs.Telling.{TakerStandsFor, Finished, ListerStandsFor};
 ghost use Rattle.x7_listing.specs.Pens.{RestsOn, lister_with};
 
 mod taking;
 
-use crate::at_once::take_equal;
 use crate::pen::{Pen, new_pen, put_end, put_run};
 use crate::sheet::SHEET;
 use crate::short::take_short;
@@ -27,11 +25,6 @@ fn take_all(text: &mut Vec<u8>, cutter: &mut Cutter, pen: Pen, piece: &[u8]) -> 
     loop {
         let rest = &piece[at..];
         if let Some(taken) = take_short(text, &mut sheet, cutter, now, rest) {
-            now = taken.pen;
-            at += taken.size;
-            continue;
-        }
-        if let Some(taken) = take_equal(text, cutter, now, rest) {
             now = taken.pen;
             at += taken.size;
             continue;

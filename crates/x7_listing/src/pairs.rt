@@ -89,7 +89,7 @@ fn put_word_pair(out: &mut Vec<u8>, text: &[u8], register: u8) -> Option<WholeLi
     ensures takes { MatchOption result (out.new.items ≡ out.old.items) (λ taken. TakesFirst text.now out.old.items out.new.items taken.size taken.count) }
     ensures room { StaysWithin out.old out.new 32 }
 {
-    let Some(size) = begun(text, write_row(0, register)) else {
+    let Some(size) = begun(text, write_row(register)) else {
         return None;
     };
     if text[size + 8] != b'\n' {
@@ -114,7 +114,7 @@ fn put_command_pair(out: &mut Vec<u8>, text: &[u8], code: u32) -> Option<WholeLi
     ensures takes { MatchOption result (out.new.items ≡ out.old.items) (λ taken. TakesFirst text.now out.old.items out.new.items taken.size taken.count) }
     ensures room { StaysWithin out.old out.new 32 }
 {
-    let Some(size) = begun(text, command_row(0, code)) else {
+    let Some(size) = begun(text, command_row(code)) else {
         return None;
     };
     put_two(out, 0x3000_8001, code);

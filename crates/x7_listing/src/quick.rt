@@ -1,4 +1,4 @@
-//! Lines of a listing that are read at once: full rows, bytes, single words and commands, and no-ops by eight.
+//! Lines of a listing that are read at once: rows of words, bytes, writes, and no-ops by eight.
 ghost use Rattle.std.specs.Prelude.{◌≡◌, ℕ, List, ◌<◌, ◌≤◌, ◌+◌, ◌*◌, ◌++◌, codes, drop, length, slice_index, take, vec_len, vec_capacity, IfOk, IsTrue, MatchOption};
 ghost use Rattle.std.specs.List.{flat_map};
 ghost use Rattle.std.specs.Simd.Lanes.{chunk};
@@ -8,7 +8,7 @@ ghost use Rattle.x7_listing.specs.Assembling.{TakesFirst, TakesLines};
 
 use crate::assembler::ASM_LIMIT;
 use crate::pairs::{differences, put_pair};
-use crate::reading::{access_at, put_command, put_digits, put_word};
+use crate::reading::{access_at, put_word};
 use std::simd::prelude::*;
 use x7_text::{prefix_of_hex, put};
 use x7_words::{NoMemory, is_same};
@@ -40,21 +40,6 @@ fn put_nops(out: &mut Vec<u8>, text: &[u8]) -> Option<WholeLines>
     }
     put(out, NOP_BYTES);
     Some(WholeLines { size: 32, count: 8 })
-}
-
-/// Appends the bytes of the sync word, if its line begins the text.
-#[inline(always)]
-fn put_sync(out: &mut Vec<u8>, text: &[u8]) -> Option<WholeLines>
-    requires room { vec_len out.old + 32 ≤ vec_capacity out.old }
-    requires long { 77 ≤ length text.now }
-    ensures takes { MatchOption result (out.new.items ≡ out.old.items) (λ taken. TakesFirst text.now out.old.items out.new.items taken.size taken.count) }
-    ensures room { StaysWithin out.old out.new 32 }
-{
-    if !is_same(&text[..5], b"sync\n") {
-        return None;
-    }
-    put_word(out, 0xAA99_5566);
-    Some(WholeLines { size: 5, count: 1 })
 }
 
 /// Twice eight bytes of the text, from two places on.
@@ -106,18 +91,32 @@ fn row_digits(text: &[u8]) -> [u8; 64]
     all.to_array()
 }
 
-/// Whether spaces stand where a full `data` line has them.
+/// Whether spaces stand where a `data` line of so many words has them.
 #[inline(always)]
-fn has_spaces(text: &[u8]) -> bool
-    requires { 77 ≤ length text.now }
-    ensures { IsTrue result → (k : ℕ) → k < 8 → slice_index text.now (4 + 9 * k) ≡ 32 }
+fn has_spaces(text: &[u8], count: usize) -> bool
+    requires long { 77 ≤ length text.now }
+    requires few { count ≤ 8 }
+    ensures { IsTrue result → (k : ℕ) → k < count → slice_index text.now (4 + 9 * k) ≡ 32 }
 {
-    for k in 0..8 {
+    for k in 0..count {
         if text[4 + 9 * k] != b' ' {
             return false;
         }
     }
     true
+}
+
+/// Whether spaces stand so, with the loop of a full row, which is the longest, laid out by the compiler.
+#[inline(always)]
+fn is_spaced(text: &[u8], count: usize) -> bool
+    requires long { 77 ≤ length text.now }
+    requires few { count ≤ 8 }
+    ensures { IsTrue result → (k : ℕ) → k < count → slice_index text.now (4 + 9 * k) ≡ 32 }
+{
+    if count == 8 {
+        return has_spaces(text, 8);
+    }
+    has_spaces(text, count)
 }
 
 /// Whether a text begins with the word `data`.
@@ -129,23 +128,29 @@ fn is_data(text: &[u8]) -> bool
     [text[0], text[1], text[2], text[3]] == *b"data"
 }
 
-/// Appends the bytes of a full `data` line, if one begins the text.
+/// Appends the bytes of a `data` line of one to eight words, if one begins the text.
 #[inline(always)]
-fn put_data(out: &mut Vec<u8>, text: &[u8]) -> Option<WholeLines>
+fn put_data_row(out: &mut Vec<u8>, text: &[u8]) -> Option<WholeLines>
     requires room { vec_len out.old + 32 ≤ vec_capacity out.old }
     requires long { 77 ≤ length text.now }
     ensures takes { MatchOption result (out.new.items ≡ out.old.items) (λ taken. TakesFirst text.now out.old.items out.new.items taken.size taken.count) }
     ensures room { StaysWithin out.old out.new 32 }
 {
-    if text[76] != b'\n' || !is_data(text) || !has_spaces(text) {
-        return None;
-    }
     let prefix = prefix_of_hex(&row_digits(text));
-    if prefix.digits != 64 {
+    let count = prefix.digits / 8;
+    if count == 0 || text[4 + 9 * count] != b'\n' || !is_data(text) {
         return None;
     }
+    if !is_spaced(text, count) {
+        return None;
+    }
+    let end = out.len() + 4 * count;
     put(out, &prefix.bytes);
-    Some(WholeLines { size: 77, count: 1 })
+    out.truncate(end);
+    Some(WholeLines {
+        size: 5 + 9 * count,
+        count: 1,
+    })
 }
 
 /// Whether a text begins with the word of a `bytes` line and the space after it.
@@ -204,41 +209,6 @@ fn place_of(byte: u8, bytes: u8x16) -> usize {
         .trailing_zeros() as usize
 }
 
-/// Appends the bytes of a `data` line of one word, if one begins the text.
-#[inline(always)]
-fn put_single(out: &mut Vec<u8>, text: &[u8]) -> Option<WholeLines>
-    requires room { vec_len out.old + 32 ≤ vec_capacity out.old }
-    requires long { 77 ≤ length text.now }
-    ensures takes { MatchOption result (out.new.items ≡ out.old.items) (λ taken. TakesFirst text.now out.old.items out.new.items taken.size taken.count) }
-    ensures room { StaysWithin out.old out.new 32 }
-{
-    if !is_same(&text[..5], b"data ") || text[13] != b'\n' || !put_digits(out, &text[5..13]) {
-        return None;
-    }
-    Some(WholeLines { size: 14, count: 1 })
-}
-
-/// Appends the bytes of a `cmd` line, if one begins the text.
-#[inline(always)]
-fn put_cmd(out: &mut Vec<u8>, text: &[u8]) -> Option<WholeLines>
-    requires room { vec_len out.old + 32 ≤ vec_capacity out.old }
-    requires long { 77 ≤ length text.now }
-    ensures takes { MatchOption result (out.new.items ≡ out.old.items) (λ taken. TakesFirst text.now out.old.items out.new.items taken.size taken.count) }
-    ensures room { StaysWithin out.old out.new 32 }
-{
-    let size = place_of(b'\n', u8x16::from_slice(&text[4..]));
-    if size > 16 || !is_same(&text[..4], b"cmd ") || text[4 + size] != b'\n' {
-        return None;
-    }
-    if !put_command(out, &text[4..4 + size]) {
-        return None;
-    }
-    Some(WholeLines {
-        size: 5 + size,
-        count: 1,
-    })
-}
-
 /// Appends the bytes of a `write` line with a count of one digit, if one begins the text.
 #[inline(always)]
 fn put_write(out: &mut Vec<u8>, text: &[u8]) -> Option<WholeLines>
@@ -275,21 +245,6 @@ fn put_writes(out: &mut Vec<u8>, text: &[u8]) -> Option<WholeLines>
     }
 }
 
-/// Appends the bytes of a `data` line of eight words or of one, if one begins the text.
-#[inline(always)]
-fn put_words(out: &mut Vec<u8>, text: &[u8]) -> Option<WholeLines>
-    requires room { vec_len out.old + 32 ≤ vec_capacity out.old }
-    requires long { 77 ≤ length text.now }
-    ensures takes { MatchOption result (out.new.items ≡ out.old.items) (λ taken. TakesFirst text.now out.old.items out.new.items taken.size taken.count) }
-    ensures room { StaysWithin out.old out.new 32 }
-{
-    if text[13] == b'\n' {
-        put_single(out, text)
-    } else {
-        put_data(out, text)
-    }
-}
-
 /// Appends the bytes of some first lines of the text, if they are of those that are read at once.
 #[inline(always)]
 fn put_some(out: &mut Vec<u8>, text: &[u8]) -> Option<WholeLines>
@@ -301,12 +256,10 @@ fn put_some(out: &mut Vec<u8>, text: &[u8]) -> Option<WholeLines>
         return None;
     }
     match text[0] {
-        b'd' => put_words(out, text),
+        b'd' => put_data_row(out, text),
         b'w' => put_writes(out, text),
-        b'c' => put_cmd(out, text),
         b'b' => put_bytes(out, text),
         b'n' => put_nops(out, text),
-        b's' => put_sync(out, text),
         _ => None,
     }
 }

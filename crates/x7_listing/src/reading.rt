@@ -75,7 +75,7 @@ pub(crate) fn put_word(out: &mut Vec<u8>, w: u32)
 }
 
 /// Appends the word of eight digits.
-pub(crate) fn put_digits(out: &mut Vec<u8>, digits: &[u8]) -> bool
+fn put_digits(out: &mut Vec<u8>, digits: &[u8]) -> bool
     requires { vec_len out.old + 32 ≤ vec_capacity out.old }
     ensures reads { Reads (λ w. w < 2 ^ 32) hex_word bytes_of_word result digits.now out.old.items out.new.items }
     ensures room { StaysWithin out.old out.new 32 }
@@ -90,7 +90,7 @@ pub(crate) fn put_digits(out: &mut Vec<u8>, digits: &[u8]) -> bool
 }
 
 /// Appends the code of a command.
-pub(crate) fn put_command(out: &mut Vec<u8>, name: &[u8]) -> bool
+fn put_command(out: &mut Vec<u8>, name: &[u8]) -> bool
     requires { vec_len out.old + 32 ≤ vec_capacity out.old }
     ensures reads { Reads (λ (c : Command). Unit {0}) command_name_of (λ c. bytes_of_word (code_of c)) result name.now out.old.items out.new.items }
     ensures room { StaysWithin out.old out.new 32 }

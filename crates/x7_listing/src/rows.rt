@@ -1,7 +1,5 @@
-//! The lines of short writes, ready to be stored at once: rows of 32 bytes, the last of which says how many are text. Each
-//! stands there twice, as a line begins, and with the end of an open line before it.
-ghost use Rattle.std.specs.Prelude.{◌≡◌, ℕ, List, ◌<◌, ◌++◌};
-ghost use Rattle.x7_text.specs.Row.{close};
+//! The lines of short writes, ready to be stored at once: rows of 32 bytes, the last of which says how many are text.
+ghost use Rattle.std.specs.Prelude.{◌≡◌, ℕ, List, ◌<◌};
 ghost use Rattle.x7_listing.specs.AtOnce.{AreRows, command_lines, row_text, write_name, write_start};
 
 /// A row of a table.
@@ -13,43 +11,31 @@ fn row_in(rows: &[[u8; 32]; 32], n: usize) -> &[u8; 32]
     &rows[n]
 }
 
-/// The row of the lines of a write of one word to a register, up to the word's digits, behind an open line of `in_line` words.
+/// The row of the lines of a write of one word to a register, up to the word's digits.
 #[inline(always)]
-pub(crate) fn write_row(in_line: usize, register: u8) -> &'static [u8; 32]
+pub(crate) fn write_row(register: u8) -> &'static [u8; 32]
     requires { register < 32 }
-    ensures { row_text result.now ≡ close in_line ++ write_start register }
+    ensures { row_text result.now ≡ write_start register }
 {
-    if in_line == 0 {
-        row_in(&WRITES, register as usize)
-    } else {
-        row_in(&WRITES_BEHIND, register as usize)
-    }
+    row_in(&WRITES, register as usize)
 }
 
-/// The row of the lines of a write of a small word to CMD, behind an open line of `in_line` words.
+/// The row of the lines of a write of a small word to CMD.
 #[inline(always)]
-pub(crate) fn command_row(in_line: usize, w: u32) -> &'static [u8; 32]
+pub(crate) fn command_row(w: u32) -> &'static [u8; 32]
     requires { w < 32 }
-    ensures { row_text result.now ≡ close in_line ++ command_lines w }
+    ensures { row_text result.now ≡ command_lines w }
 {
-    if in_line == 0 {
-        row_in(&COMMANDS, w as usize)
-    } else {
-        row_in(&COMMANDS_BEHIND, w as usize)
-    }
+    row_in(&COMMANDS, w as usize)
 }
 
-/// The row of a write line up to its count, behind an open line of `in_line` words.
+/// The row of a write line up to its count.
 #[inline(always)]
-pub(crate) fn name_row(in_line: usize, register: u8) -> &'static [u8; 32]
+pub(crate) fn name_row(register: u8) -> &'static [u8; 32]
     requires { register < 32 }
-    ensures { row_text result.now ≡ close in_line ++ write_name register }
+    ensures { row_text result.now ≡ write_name register }
 {
-    if in_line == 0 {
-        row_in(&NAMES, register as usize)
-    } else {
-        row_in(&NAMES_BEHIND, register as usize)
-    }
+    row_in(&NAMES, register as usize)
 }
 
 /// For each register the lines of a write of one word.
@@ -89,43 +75,6 @@ static WRITES: [[u8; 32]; 32] = [
     *b"write BSPI 1\ndata              \x12",
 ];
 
-/// The same behind an open line.
-#[rattlefmt::skip]
-static WRITES_BEHIND: [[u8; 32]; 32] = [
-    *b"\nwrite CRC 1\ndata              \x12",
-    *b"\nwrite FAR 1\ndata              \x12",
-    *b"\nwrite FDRI 1\ndata             \x13",
-    *b"\nwrite FDRO 1\ndata             \x13",
-    *b"\nwrite CMD 1\ndata              \x12",
-    *b"\nwrite CTL0 1\ndata             \x13",
-    *b"\nwrite MASK 1\ndata             \x13",
-    *b"\nwrite STAT 1\ndata             \x13",
-    *b"\nwrite LOUT 1\ndata             \x13",
-    *b"\nwrite COR0 1\ndata             \x13",
-    *b"\nwrite MFWR 1\ndata             \x13",
-    *b"\nwrite CBC 1\ndata              \x12",
-    *b"\nwrite IDCODE 1\ndata           \x15",
-    *b"\nwrite AXSS 1\ndata             \x13",
-    *b"\nwrite COR1 1\ndata             \x13",
-    *b"\nwrite R15 1\ndata              \x12",
-    *b"\nwrite WBSTAR 1\ndata           \x15",
-    *b"\nwrite TIMER 1\ndata            \x14",
-    *b"\nwrite R18 1\ndata              \x12",
-    *b"\nwrite R19 1\ndata              \x12",
-    *b"\nwrite R20 1\ndata              \x12",
-    *b"\nwrite R21 1\ndata              \x12",
-    *b"\nwrite BOOTSTS 1\ndata          \x16",
-    *b"\nwrite R23 1\ndata              \x12",
-    *b"\nwrite CTL1 1\ndata             \x13",
-    *b"\nwrite R25 1\ndata              \x12",
-    *b"\nwrite R26 1\ndata              \x12",
-    *b"\nwrite R27 1\ndata              \x12",
-    *b"\nwrite R28 1\ndata              \x12",
-    *b"\nwrite R29 1\ndata              \x12",
-    *b"\nwrite R30 1\ndata              \x12",
-    *b"\nwrite BSPI 1\ndata             \x13",
-];
-
 /// For each word of five bits the lines of its write to CMD.
 #[rattlefmt::skip]
 static COMMANDS: [[u8; 32]; 32] = [
@@ -163,43 +112,6 @@ static COMMANDS: [[u8; 32]; 32] = [
     *b"write CMD 1\ndata 0000001F\n     \x1A",
 ];
 
-/// The same behind an open line.
-#[rattlefmt::skip]
-static COMMANDS_BEHIND: [[u8; 32]; 32] = [
-    *b"\nwrite CMD 1\ncmd NULL\n         \x16",
-    *b"\nwrite CMD 1\ncmd WCFG\n         \x16",
-    *b"\nwrite CMD 1\ncmd MFW\n          \x15",
-    *b"\nwrite CMD 1\ncmd LFRM\n         \x16",
-    *b"\nwrite CMD 1\ncmd RCFG\n         \x16",
-    *b"\nwrite CMD 1\ncmd START\n        \x17",
-    *b"\nwrite CMD 1\ncmd RCAP\n         \x16",
-    *b"\nwrite CMD 1\ncmd RCRC\n         \x16",
-    *b"\nwrite CMD 1\ncmd AGHIGH\n       \x18",
-    *b"\nwrite CMD 1\ncmd SWITCH\n       \x18",
-    *b"\nwrite CMD 1\ncmd GRESTORE\n     \x1A",
-    *b"\nwrite CMD 1\ncmd SHUTDOWN\n     \x1A",
-    *b"\nwrite CMD 1\ncmd GCAPTURE\n     \x1A",
-    *b"\nwrite CMD 1\ncmd DESYNC\n       \x18",
-    *b"\nwrite CMD 1\ndata 0000000E\n    \x1B",
-    *b"\nwrite CMD 1\ncmd IPROG\n        \x17",
-    *b"\nwrite CMD 1\ncmd CRCC\n         \x16",
-    *b"\nwrite CMD 1\ncmd LTIMER\n       \x18",
-    *b"\nwrite CMD 1\ncmd BSPI_READ\n    \x1B",
-    *b"\nwrite CMD 1\ncmd FALL_EDGE\n    \x1B",
-    *b"\nwrite CMD 1\ndata 00000014\n    \x1B",
-    *b"\nwrite CMD 1\ndata 00000015\n    \x1B",
-    *b"\nwrite CMD 1\ndata 00000016\n    \x1B",
-    *b"\nwrite CMD 1\ndata 00000017\n    \x1B",
-    *b"\nwrite CMD 1\ndata 00000018\n    \x1B",
-    *b"\nwrite CMD 1\ndata 00000019\n    \x1B",
-    *b"\nwrite CMD 1\ndata 0000001A\n    \x1B",
-    *b"\nwrite CMD 1\ndata 0000001B\n    \x1B",
-    *b"\nwrite CMD 1\ndata 0000001C\n    \x1B",
-    *b"\nwrite CMD 1\ndata 0000001D\n    \x1B",
-    *b"\nwrite CMD 1\ndata 0000001E\n    \x1B",
-    *b"\nwrite CMD 1\ndata 0000001F\n    \x1B",
-];
-
 /// For each register its write line up to the count.
 #[rattlefmt::skip]
 static NAMES: [[u8; 32]; 32] = [
@@ -235,41 +147,4 @@ static NAMES: [[u8; 32]; 32] = [
     *b"write R29                      \x0A",
     *b"write R30                      \x0A",
     *b"write BSPI                     \x0B",
-];
-
-/// The same behind an open line.
-#[rattlefmt::skip]
-static NAMES_BEHIND: [[u8; 32]; 32] = [
-    *b"\nwrite CRC                     \x0B",
-    *b"\nwrite FAR                     \x0B",
-    *b"\nwrite FDRI                    \x0C",
-    *b"\nwrite FDRO                    \x0C",
-    *b"\nwrite CMD                     \x0B",
-    *b"\nwrite CTL0                    \x0C",
-    *b"\nwrite MASK                    \x0C",
-    *b"\nwrite STAT                    \x0C",
-    *b"\nwrite LOUT                    \x0C",
-    *b"\nwrite COR0                    \x0C",
-    *b"\nwrite MFWR                    \x0C",
-    *b"\nwrite CBC                     \x0B",
-    *b"\nwrite IDCODE                  \x0E",
-    *b"\nwrite AXSS                    \x0C",
-    *b"\nwrite COR1                    \x0C",
-    *b"\nwrite R15                     \x0B",
-    *b"\nwrite WBSTAR                  \x0E",
-    *b"\nwrite TIMER                   \x0D",
-    *b"\nwrite R18                     \x0B",
-    *b"\nwrite R19                     \x0B",
-    *b"\nwrite R20                     \x0B",
-    *b"\nwrite R21                     \x0B",
-    *b"\nwrite BOOTSTS                 \x0F",
-    *b"\nwrite R23                     \x0B",
-    *b"\nwrite CTL1                    \x0C",
-    *b"\nwrite R25                     \x0B",
-    *b"\nwrite R26                     \x0B",
-    *b"\nwrite R27                     \x0B",
-    *b"\nwrite R28                     \x0B",
-    *b"\nwrite R29                     \x0B",
-    *b"\nwrite R30                     \x0B",
-    *b"\nwrite BSPI                    \x0C",
 ];

@@ -1,23 +1,21 @@
 //! Short runs, listed at once on a sheet: writes of one word and of up to sixteen, a few no-ops, and a short gap with the sync
 //! word after it.
-ghost use Rattle.std.specs.Prelude.{◌≡◌, ℕ, ◌+◌, ◌*◌, ◌<◌, ◌≤◌, true, List, [], ◌∷◌, ◌++◌, IfNone, IfSome, IsTrue, codes, decimal, length, take, vec_len, vec_capacity};
+ghost use Rattle.std.specs.Prelude.{◌≡◌, ℕ, ◌+◌, ◌*◌, ◌<◌, ◌≤◌, true, List, [], ◌∷◌, ◌++◌, IfNone, IfSome, codes, decimal, length, take, vec_len, vec_capacity};
 ghost use Rattle.x7_words.specs.Word.{words_of_bytes};
 ghost use Rattle.x7_packets.specs.AtOnce.{EndsGap, short_head, write_head, WritesFew, WritesOne};
 ghost use Rattle.x7_packets.specs.Cutting.{CutterState};
 ghost use Rattle.x7_packets.specs.Nops.{nop_bytes, nop_word};
 ghost use Rattle.x7_packets.specs.Packet.{payload_steps};
 ghost use Rattle.x7_text.specs.Row.{bytes_text, close, in_line_after, open_text, spaced};
-ghost use Rattle.x7_listing.specs.TakingAtOnce.{BeginsSheet, TakesAtOnce, TakesOnSheet};
+ghost use Rattle.x7_listing.specs.TakingAtOnce.{TakesAtOnce, TakesOnSheet};
 ghost use Rattle.x7_listing.specs.AtOnce.{command_lines};
 ghost use Rattle.x7_listing.specs.HeadLine.{head_text};
-ghost use Rattle.x7_listing.specs.Pens.{TakesHead, TellsAfter, TellsOn, lister_with, on_sheet, session_after};
+ghost use Rattle.x7_listing.specs.Pens.{TakesHead, TellsAfter, TellsOn, lister_with, on_sheet};
 ghost use Rattle.x7_listing.specs.Telling.{words_place, open_words};
 
-use crate::at_once::{NO_OP, Taken};
 use crate::pen::{Pen, in_session, session_line};
 use crate::rows::{command_row, name_row, write_row};
 use crate::sheet::{SHEET, put_prefix, put_row, put_whole};
-use std::mem;
 use x7_packets::{Cutter, Step};
 use x7_regs::Reg;
 use x7_text::{bytes_line, data_line, hex_of_word, put};
@@ -25,8 +23,8 @@ use x7_text::{bytes_line, data_line, hex_of_word, put};
 /// How many bytes of a sheet are free where something is put on it: more than any of these is stored in.
 const FREE: usize = 256;
 
-/// Fewer no-ops than this are put on a sheet.
-const FEW: usize = 16;
+/// So many no-ops at most are put on a sheet at once.
+const FEW: usize = 32;
 
 /// The lines of so many no-ops.
 static NOPS: [[u8; 4]; FEW] = [*b"nop\n"; FEW];
@@ -54,14 +52,15 @@ fn put_close(sheet: &mut [u8; SHEET], len: usize, in_line: usize) -> usize
 /// Puts the lines of a write of a word to CMD, behind an open line of `in_line` words.
 #[inline(always)]
 fn put_command(sheet: &mut [u8; SHEET], len: usize, in_line: usize, w: u32) -> usize
-    requires room { len + 41 ≤ 2048 }
-    ensures len { result ≤ len + 41 }
+    requires room { len + 42 ≤ 2048 }
+    ensures len { result ≤ len + 42 }
     ensures text { take result sheet.new ≡ take len sheet.old ++ (close in_line ++ command_lines w) }
 {
+    let begin = put_close(sheet, len, in_line);
     if w < 32 {
-        return put_row(sheet, len, command_row(in_line, w));
+        return put_row(sheet, begin, command_row(w));
     }
-    let start = put_row(sheet, len, write_row(in_line, Reg::Cmd.number()));
+    let start = put_row(sheet, begin, write_row(Reg::Cmd.number()));
     let end = put_whole(sheet, start, &hex_of_word(w));
     put_whole(sheet, end, b"\n")
 }
@@ -70,10 +69,10 @@ fn put_command(sheet: &mut [u8; SHEET], len: usize, in_line: usize, w: u32) -> u
 #[inline(always)]
 fn put_one_word(sheet: &mut [u8; SHEET], len: usize, in_line: usize, register: u8, w: u32) -> End
     requires range { register < 32 }
-    requires room { len + 41 ≤ 2048 }
+    requires room { len + 42 ≤ 2048 }
     ensures within { result.line < 8 }
     ensures count { result.line ≡ words_place 0 (payload_steps register (w ∷ [])) }
-    ensures len { result.len ≤ len + 41 }
+    ensures len { result.len ≤ len + 42 }
     ensures text { take result.len sheet.new ≡ take len sheet.old ++ (close in_line ++ head_text (Step.Open register 1) (write_head register) ++ open_words 0 (payload_steps register (w ∷ []))) }
 {
     if register == Reg::Cmd.number() {
@@ -82,7 +81,8 @@ fn put_one_word(sheet: &mut [u8; SHEET], len: usize, in_line: usize, register: u
             line: 0,
         };
     }
-    let start = put_row(sheet, len, write_row(in_line, register));
+    let begin = put_close(sheet, len, in_line);
+    let start = put_row(sheet, begin, write_row(register));
     End {
         len: put_whole(sheet, start, &hex_of_word(w)),
         line: 1,
@@ -114,11 +114,12 @@ fn put_head(
 ) -> usize
     requires range { register < 32 }
     requires few { count ≤ 16 }
-    requires room { len + 35 ≤ 2048 }
-    ensures len { result ≤ len + 35 }
+    requires room { len + 36 ≤ 2048 }
+    ensures len { result ≤ len + 36 }
     ensures text { take result sheet.new ≡ take len sheet.old ++ (close in_line ++ head_text (Step.Open register count) (short_head register count)) }
 {
-    let start = put_row(sheet, len, name_row(in_line, register));
+    let begin = put_close(sheet, len, in_line);
+    let start = put_row(sheet, begin, name_row(register));
     put_count(sheet, start, count)
 }
 
@@ -192,9 +193,9 @@ struct Next {
 #[inline(always)]
 fn put_write(sheet: &mut [u8; SHEET], len: usize, pen: Pen, register: u8, w: u32) -> Next
     requires range { register < 32 }
-    requires room { len + 41 ≤ 2048 }
+    requires room { len + 42 ≤ 2048 }
     ensures size { result.size ≡ 8 }
-    ensures len { result.len ≤ len + 41 }
+    ensures len { result.len ≤ len + 42 }
     ensures listed { (c d : CutterState) (rest : List ℕ) → WritesOne c d rest register w
         → TellsAfter (on_sheet c pen sheet.old len) (on_sheet d result.pen sheet.new result.len) (take 8 rest) }
 {
@@ -240,9 +241,9 @@ fn put_short_write(
     requires some { 0 < count }
     requires few { count ≤ 16 }
     requires long { 68 ≤ length rest.now }
-    requires room { len + 189 ≤ 2048 }
+    requires room { len + 190 ≤ 2048 }
     ensures size { result.size ≡ 4 + 4 * count }
-    ensures len { result.len ≤ len + 189 }
+    ensures len { result.len ≤ len + 190 }
     ensures listed { (c d : CutterState) → WritesFew c d rest.now register count
         → TellsAfter (on_sheet c pen sheet.old len) (on_sheet d result.pen sheet.new result.len) (take (4 + 4 * count) rest.now) }
 {
@@ -259,8 +260,8 @@ fn put_short_write(
 #[inline(always)]
 fn put_few_nops(sheet: &mut [u8; SHEET], len: usize, pen: Pen, count: usize) -> Next
     requires some { 0 < count }
-    requires few { count ≤ 16 }
-    requires room { len + 65 ≤ 2048 }
+    requires few { count ≤ 32 }
+    requires room { len + 129 ≤ 2048 }
     ensures size { result.size ≡ 4 * count }
     ensures len { result.len ≤ len + (4 * count + 1) }
     ensures listed { (c : CutterState) → TakesHead c nop_word Step.Nop
@@ -293,44 +294,6 @@ fn put_gap(sheet: &mut [u8; SHEET], len: usize, pen: Pen, count: usize, rest: &[
     }
 }
 
-/// What begins a sheet: how many words stand in the open line behind it, how long its text is, and how many bytes of the piece it was.
-#[derive(Clone, Copy)]
-struct Begun {
-    line: usize,
-    len: usize,
-    size: usize,
-}
-
-/// Takes the writes of one word that come first, one after another, and puts what they add at a sheet's beginning, behind an open
-/// line of `line` words. It stands apart, and has the cutter to itself till its end, so that its loop stores nothing but text.
-#[inline(never)]
-fn take_writes(sheet: &mut [u8; SHEET], cutter: &mut Cutter, line: usize, rest: &[u8]) -> Begun
-    requires within { line < 8 }
-    ensures within { result.line < 8 }
-    ensures sheet { BeginsSheet cutter.old cutter.new rest.now result.size result.len }
-    ensures listed { TellsAfter (session_after cutter.old line []) (session_after cutter.new result.line (take result.len sheet.new)) (take result.size rest.now) }
-{
-    let mut own = mem::replace(cutter, Cutter::new());
-    let mut in_line = line;
-    let mut at = 0;
-    let mut len = 0;
-    while len <= SHEET - FREE {
-        let Some((register, w)) = own.take_write(&rest[at..]) else {
-            break;
-        };
-        let end = put_one_word(sheet, len, in_line, register, w);
-        in_line = end.line;
-        len = end.len;
-        at += 8;
-    }
-    *cutter = own;
-    Begun {
-        line: in_line,
-        len,
-        size: at,
-    }
-}
-
 /// Takes what comes next, where it is short, and puts what that adds.
 #[inline(always)]
 fn take_next(
@@ -353,9 +316,6 @@ fn take_next(
         return Some(put_short_write(sheet, len, pen, register, count, rest));
     }
     let nops = cutter.nop_count(&rest[..rest.len().min(4 * FEW)]);
-    if nops == FEW {
-        return None;
-    }
     if nops > 0 {
         return Some(put_few_nops(sheet, len, pen, nops));
     }
@@ -371,25 +331,26 @@ fn take_next(
 /// The first byte of a write's header whose reserved bits are 0.
 const WRITE: u8 = 0x30;
 
-/// Whether a short run may come next: behind a session, and in one where the next word may be a write or a no-op.
+/// The first byte of the no-op.
+const NO_OP: u8 = 0x20;
+
+/// Whether the next word may be a write or a no-op.
 #[inline(always)]
-fn may_come(cutter: &Cutter, pen: Pen, rest: &[u8]) -> bool
-    ensures session { IsTrue result → pen.synced ≡ true }
-{
-    if !pen.synced {
-        return false;
-    }
-    if !cutter.is_synced() {
-        return true;
-    }
+fn may_come(rest: &[u8]) -> bool {
     let [first, ..] = rest else {
         return false;
     };
     *first == WRITE || *first == NO_OP
 }
 
-/// Takes the short runs of a session that come next, one after another, and appends what they add, which is put on the sheet
-/// first: the writes of one word that come first, and then whatever is short.
+/// What was taken at once: the pen behind it, and how many bytes it has.
+#[derive(Clone, Copy)]
+pub(crate) struct Taken {
+    pub(crate) pen: Pen,
+    pub(crate) size: usize,
+}
+
+/// Takes the short runs of a session that come next, one after another, and appends what they add, which is put on the sheet first.
 #[inline(always)]
 pub(crate) fn take_short(
     text: &mut Vec<u8>,
@@ -405,13 +366,12 @@ pub(crate) fn take_short(
     ensures same { IfNone result (text.new ≡ text.old) }
     ensures room { vec_capacity text.old ≤ vec_capacity text.new }
 {
-    if !may_come(cutter, pen, rest) {
+    if !pen.synced || !may_come(rest) {
         return None;
     }
-    let begun = take_writes(sheet, cutter, session_line(pen), rest);
-    let mut now = in_session(begun.line);
-    let mut at = begun.size;
-    let mut len = begun.len;
+    let mut now = in_session(session_line(pen));
+    let mut at = 0;
+    let mut len = 0;
     while len <= SHEET - FREE {
         let Some(next) = take_next(sheet, len, cutter, now, &rest[at..]) else {
             break;

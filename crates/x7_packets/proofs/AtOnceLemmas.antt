@@ -9,7 +9,7 @@ use Rattle.x7_words.proofs.WordLemmas.{bytes-words, length-words, words-fit}
 use Rattle.x7_packets.specs.Matching.{IsClear, IsFirstSync, MatcherStandsFor}
 use Rattle.x7_packets.specs.SyncWord.{sync_bytes}
 use Rattle.x7_packets.specs.declared.header.Step.{Step}
-use Rattle.x7_packets.specs.declared.header.Step.TheVariants.{Filler, Nop, Open, Payload}
+use Rattle.x7_packets.specs.declared.header.Step.TheVariants.{Nop, Open, Payload}
 use Rattle.x7_packets.specs.declared.cutter.Cut.TheVariants.{Body, Head, Skip}
 use Rattle.x7_packets.specs.Mode.{Mode}
 use Rattle.x7_packets.specs.AtOnce.{BeginsWrite, EndsGap, in_short, in_write, short_head, Takes, write_head, WritesFew, WritesOne}
@@ -19,7 +19,7 @@ use Rattle.x7_packets.specs.Packet.{Packet, ends_session, meaning, payload_steps
 use Rattle.x7_packets.specs.Reading.{Place, Searching, Session, Synced, packet_bytes, session_bytes}
 use Rattle.x7_packets.specs.Taking.{Grows, MachineStandsFor, MachineState, is_end}
 use Rattle.x7_packets.proofs.CutLemmas.{body_more, joined_more, packet_bytes-grown, skip_found, sync_told, word_more}
-use Rattle.x7_packets.proofs.NopLemmas.{nop_grows, zero_grows}
+use Rattle.x7_packets.proofs.NopLemmas.{nop_grows}
 use Rattle.x7_packets.proofs.PacketLemmas.{words_of_payload}
 use Rattle.x7_packets.proofs.SearchLemmas.{found_clear, up_to_sync}
 use Rattle.x7_packets.proofs.TakeLemmas.{calm_words, header_opens, payload_ends, payload_goes, payload_goes_on}
@@ -113,9 +113,6 @@ takes_head c n w step is to none none2 calm grows bytes sessions (Synced gap pac
 
 pub takes_nop : (c : CutterState) → c.mode ≡ Mode.Synced → c.kept ≡ [] → c.machine.due ≡ 0 → Takes c c (bytes_of_word nop_word) (Head nop_word Nop)
 takes_nop c is none due = takes_head c c nop_word Nop is is none none refl (λ ps s. nop_grows c.machine ps due s)
-
-pub takes_zero : (c : CutterState) → c.mode ≡ Mode.Synced → c.kept ≡ [] → c.machine.due ≡ 0 → Takes c c (bytes_of_word 0) (Head 0 Filler)
-takes_zero c is none due = takes_head c c 0 Filler is is none none refl (λ ps s. zero_grows c.machine ps due s)
 
 -- a header and a word that begin bytes
 pub begins_write : (bytes head word rest : List ℕ) (register h w : ℕ) → head ≡ take 4 bytes → rest ≡ drop 4 bytes → word ≡ take 4 rest → 8 ≤ length bytes → bytes_of_word h ≡ head → bytes_of_word w ≡ word → h ≡ write_head register → register < 32 → w < 2 ^ 32 → BeginsWrite bytes register w

@@ -217,6 +217,7 @@ cuts_found c n rest run count taken is to same none none2 some most t after e fi
       joined = ap (λ k. k ++ take count rest) none ∙ sym e ∙ sym (append-nil run.now) ∙ ap (λ k. run.now ++ k) (sym none2);
       run = omega (arith, long);
       lent = tt;
+      skips = inl to;
       adds = λ bytes sessions place s. skip_found c n bytes rest run count sessions place s is to same after e fits;
     })
 
@@ -234,6 +235,7 @@ cuts_all c n rest run taken is to same none none2 some t after e fits =
       joined = ap (λ k. k ++ take (length rest) rest) none ∙ all ∙ sym e ∙ sym (append-nil run.now) ∙ ap (λ k. run.now ++ k) (sym none2);
       run = omega (arith, long);
       lent = tt;
+      skips = inr long;
       adds = λ bytes sessions place s. rw all (skip_all c n bytes rest run sessions place s is to same after e fits);
     })
 

@@ -7,7 +7,7 @@ use Rattle.x7_words.specs.Word.{AreBytes, bytes_of_word, word_of_bytes, words_of
 use Rattle.x7_words.proofs.ListLemmas.{all-append, all_take}
 use Rattle.x7_words.proofs.WordLemmas.{bytes-words, chunk_count, words_by_chunks, words_taken}
 use Rattle.x7_packets.specs.SyncWord.{sync_bytes}
-use Rattle.x7_packets.specs.declared.header.Step.TheVariants.{Filler, Nop}
+use Rattle.x7_packets.specs.declared.header.Step.TheVariants.{Nop}
 use Rattle.x7_packets.specs.Mode.{Mode}
 use Rattle.x7_packets.specs.Cutting.{AtPlace, CutterState, CutterStandsFor}
 use Rattle.x7_packets.specs.History.{history}
@@ -42,10 +42,6 @@ equal_taken k w bytes fits l e =
 pub nop_grows : (m : MachineState) (ps : List Packet) → m.due ≡ 0 → MachineStandsFor m ps → Grows ps ((nop_word, Nop) ∷ []) m
 nop_grows m ps none (inl a) = header_whole m m ps nop_word Nop (omega arith) a refl refl refl none
 nop_grows m ps none (inr a) = absurd (omega (arith, none, a.more))
-
-pub zero_grows : (m : MachineState) (ps : List Packet) → m.due ≡ 0 → MachineStandsFor m ps → Grows ps ((0, Filler) ∷ []) m
-zero_grows m ps none (inl a) = header_whole m m ps 0 Filler (omega arith) a refl refl refl none
-zero_grows m ps none (inr a) = absurd (omega (arith, none, a.more))
 
 -- ---- a cutter
 

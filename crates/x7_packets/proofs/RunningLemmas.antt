@@ -8,7 +8,7 @@ use Rattle.x7_words.specs.Word.{words_of_bytes}
 use Rattle.x7_packets.specs.SyncWord.{sync_bytes}
 use Rattle.x7_packets.specs.Packet.{Packet, ended, payload_steps}
 use Rattle.x7_packets.specs.Reading.{Place, Searching, Synced, Session, IsPlace, IsReading, tail_of}
-use Rattle.x7_packets.specs.Cutting.{Adds, AtPlace, CompletesNone, CutterState, CutterStandsFor, Cuts, Goes, IsLent, IsNeed, IsRun, Longer, Turns, Went, between, calls_left, run_bytes}
+use Rattle.x7_packets.specs.Cutting.{Adds, AtPlace, CompletesNone, CutterState, CutterStandsFor, Cuts, Goes, IsLent, IsNeed, IsRun, SkipsAll, Longer, Turns, Went, between, calls_left, run_bytes}
 use Rattle.x7_packets.specs.declared.header.Step.{Step}
 use Rattle.x7_packets.specs.declared.cutter.Cut.{Cut}
 use Rattle.x7_packets.specs.declared.cutter.Cut.TheVariants as cut
@@ -129,6 +129,21 @@ same_run (Found.Body register) c r bytes kept i l h =
 same_run Found.Tail c r bytes kept i l h = absurd i
 same_run Found.End c r bytes kept i l h = absurd i
 
+-- it is lent as it was cut
+same_lent : (f : Found) (c : Cut) (r : Run) (bytes kept : List ℕ) (o n : CutterState) (left : ℕ) → IsFound f c → IsRunOf f bytes kept r → Lends c bytes → IsLent o left c → SkipsAll n left c → IsLent o left (cut_of r) × SkipsAll n left (cut_of r)
+same_lent Found.Skip c r bytes kept o n left i l h x y =
+    let there : Lends (cut.Skip i.0) bytes = subst (λ t. Lends t bytes) i.1 h in
+    rw l.1 (tt, subst (λ (t : List ℕ). (n.mode ≡ Mode.Due) ⊎ (length t ≡ left)) (there ∙ sym l.2) (subst (λ t. SkipsAll n left t) i.1 y))
+same_lent Found.Sync c r bytes kept o n left i l h x y = rw l (tt, tt)
+same_lent (Found.Head w step) c r bytes kept o n left i l h x y = rw l (tt, tt)
+same_lent (Found.Word register w) c r bytes kept o n left i l h x y = rw l (subst (λ t. IsLent o left t) i x, tt)
+same_lent (Found.Body register) c r bytes kept o n left i l h x y =
+    let there : Lends (cut.Body register i.0) bytes = subst (λ t. Lends t bytes) i.1 h in
+    let was : IsLent o left (cut.Body register i.0) = subst (λ t. IsLent o left t) i.1 x in
+    rw l.1 ((was.0, ap length (l.2 ∙ sym there) ∙ was.1), tt)
+same_lent Found.Tail c r bytes kept o n left i l h x y = absurd i
+same_lent Found.End c r bytes kept o n left i l h x y = absurd i
+
 -- a run that is found is no want of bytes
 found_needs_none : (f : Found) (c : Cut) → IsFound f c → IsNeed c → ⊥
 found_needs_none Found.Skip c i n = let h : IsNeed (cut.Skip i.0) = subst IsNeed i.1 n in h
@@ -143,10 +158,10 @@ found_needs_none Found.End c i n = i
 
 -- a call of the cutter on all bytes that are left
 pub cuts_whole : (c n : CutterState) (rest : List ℕ) (count : ℕ) (r : Cut) → Goes r (length rest - count) (calls_left c (length rest - 0)) (calls_left n (length rest - count))
-    → (IsNeed r ↔ CompletesNone c c.mode (length rest - 0)) → c.kept ++ between rest 0 count ≡ run_bytes r ++ n.kept → IsRun r → IsLent c (length rest - 0) r
+    → (IsNeed r ↔ CompletesNone c c.mode (length rest - 0)) → c.kept ++ between rest 0 count ≡ run_bytes r ++ n.kept → IsRun r → IsLent c (length rest - 0) r → SkipsAll n (length rest - 0) r
     → ((bytes : List ℕ) (sessions : List Session) (place : Place) → CutterStandsFor c bytes sessions place → Went c n (bytes ++ between rest 0 count) sessions place r)
     → Cuts c n rest count r
-cuts_whole c n rest count r g nd j i l a =
+cuts_whole c n rest count r g nd j i l k a =
     let all : length rest - 0 ≡ length rest = omega arith in
     let from : count - 0 ≡ count = omega arith in
     record {
@@ -155,6 +170,7 @@ cuts_whole c n rest count r g nd j i l a =
       joined = subst (λ (m : ℕ). c.kept ++ take m rest ≡ run_bytes r ++ n.kept) from j;
       run = i;
       lent = subst (λ (m : ℕ). IsLent c m r) all l;
+      skips = subst (λ (m : ℕ). SkipsAll n m r) all k;
       adds = λ bytes sessions place s. subst (λ (m : ℕ). Went c n (bytes ++ take m rest) sessions place r) from (a bytes sessions place s);
     }
 
@@ -260,7 +276,8 @@ needs old new bytes given s on p =
 
 -- after a call that gave a run the reader stands for the same bytes, of which the run's are given
 pub runs : (old new : PacketsState) (bytes given : List ℕ) (r : Run) (s : Steps old new true) → old.done ≡ false → IsLast new r → PacketsStandFor old bytes given
-    → PacketsStandFor new bytes (given ++ bytes_of_run r) × IsNext given old.cutter.mode r new.cutter.mode × (is_last r ≡ false)
+    → PacketsStandFor new bytes (given ++ bytes_of_run r) × IsNext given old.cutter.mode r new.cutter.mode × (old.cutter.kept ++ old.left ≡ bytes_of_run r ++ new.left)
+    × (IsLent old.cutter (length old.left) (cut_of r) × SkipsAll new.cutter (length old.left) (cut_of r))
 runs old new bytes given r s on last p =
     let never : IsNeed s.run → ⊥ = found_needs_none new.found s.run s.is in
     let none : not_given old ≡ old.cutter.kept = untold_on old on in
@@ -301,7 +318,8 @@ runs old new bytes given r s on last p =
         turns = same.turns old.cutter.mode new.cutter.mode w.new_place w.turns;
         is = same.is s.cuts.run;
       },
-      same.goes_on,
+      ap (λ t. old.cutter.kept ++ t) (sym (take-append-drop s.count old.left)) ∙ sym (append_assoc old.cutter.kept (take s.count old.left) (drop s.count old.left)) ∙ ap (λ t. t ++ drop s.count old.left) joined ∙ ap (λ t. bytes_of_run r ++ t) (sym s.left),
+      same_lent new.found s.run r new.bytes new.cutter.kept old.cutter new.cutter (length old.left) s.is last (subst (λ t. Lends s.run t) (sym s.bytes) l) s.cuts.lent s.cuts.skips,
     )
 
 -- ---- one read more
@@ -416,6 +434,7 @@ tells_run first old new more r s on good last reads =
           let t = runs old new (bytes ++ more) given r s on last h.0 in
           (t.0, next_same given first.cutter.mode old.cutter.mode new.cutter.mode r h.1 t.1);
       all = λ e. absurd (not_last r goes e);
+      lends = λ e bytes given p. let h = reads.stands bytes given p in let t = runs old new (bytes ++ more) given r s on last h.0 in record { at = old; reads = reads; bytes = t.2; lent = t.3.0; skips = t.3.1 };
       done = s.done ∙ on ∙ sym goes;
       good = s.failed ∙ good;
     }
@@ -549,6 +568,7 @@ tells_end first old now new more r s on good reads tail end last =
             let n = needs old now (bytes ++ more) given s on h.0 in
             let f = fills now (bytes ++ more) given [] (needs_all old now s) (s.done ∙ on) n.0 in
             (e.stands ((bytes ++ more) ++ []) given n.2 f).2 ∙ append-nil (bytes ++ more);
+        lends = λ f. absurd (not_last r f e.last);
         done = e.done ∙ sym e.last;
         good = e.failed ∙ s.failed ∙ good;
       },
@@ -573,6 +593,7 @@ again p off good = record {
   all = λ _ bytes given s.
       let due = s.all off in
       (ends_none p bytes given due.0 (untold_off p off) due.1 s (own_tail s.place p.done p.cutter.kept off s.tail)).2 ∙ sym (append-nil bytes);
+  lends = λ f. absurd (let g : true ≡ false = f in cc);
   done = refl;
   good = good;
 }

@@ -116,6 +116,11 @@ IsLent c left (Word register w) = 0 < length c.kept
 IsLent c left (Body register bytes) = (c.kept ≡ []) × (length bytes.now ≡ 4 * min (min c.machine.due (left / 4)) (if register == number_of Cmd then 1 else left / 4))
 IsLent c left _ = Unit {0}
 
+-- a gap's bytes are lent all, or up to the end of the sync word, which is then due to be given
+abbrev pub SkipsAll : CutterState → ℕ → Cut → Type 0
+SkipsAll new left (Skip bytes) = (new.mode ≡ Mode.Due) ⊎ (length bytes.now ≡ left)
+SkipsAll new left _ = Unit {0}
+
 -- bytes that complete no run, after those that are kept
 abbrev pub CompletesNone : CutterState → Mode → ℕ → Type 0
 CompletesNone c Mode.Searching left = left ≡ 0
@@ -182,4 +187,5 @@ pub record Cuts (old new : CutterState) (rest : List ℕ) (taken : ℕ) (cut : C
   pub joined : old.kept ++ take taken rest ≡ run_bytes cut ++ new.kept
   pub run : IsRun cut
   pub lent : IsLent old (length rest) cut
+  pub skips : SkipsAll new (length rest) cut
   pub adds : (bytes : List ℕ) (sessions : List Session) (place : Place) → CutterStandsFor old bytes sessions place → Went old new (bytes ++ take taken rest) sessions place cut

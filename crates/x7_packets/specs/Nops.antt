@@ -1,4 +1,4 @@
--- Equal words in a row that ask nothing: no-ops, and zero words (UG470, packet types). They enter no access, and leave a cutter as it is.
+-- No-ops in a row (UG470, packet types). They enter no access, and leave a cutter as it is.
 use Rattle.std.specs.Prelude.{◌≡◌, ℕ, List, replicate}
 use Rattle.std.specs.List.{flat_map}
 use Rattle.x7_words.specs.Word.{bytes_of_word}

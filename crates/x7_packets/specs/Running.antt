@@ -5,7 +5,7 @@ use Rattle.std.specs.Io.BufRead.{Rests}
 use Rattle.x7_words.specs.Input.{AtEnd, preceded}
 use Rattle.x7_words.specs.declared.input.Failed.{Failed}
 use Rattle.x7_packets.specs.Reading.{Place, Searching, Synced, Session, IsReading, tail_of}
-use Rattle.x7_packets.specs.Cutting.{CutterStandsFor, Cuts, IsNeed}
+use Rattle.x7_packets.specs.Cutting.{CutterStandsFor, Cuts, IsLent, IsNeed, SkipsAll}
 use Rattle.x7_packets.specs.declared.cutter.Cut.{Cut}
 use Rattle.x7_packets.specs.declared.cutter.Cut.TheVariants as cut
 use Rattle.x7_packets.specs.Mode.{Mode}
@@ -14,7 +14,7 @@ use Rattle.x7_packets.specs.declared.stream.Run.{Run}
 use Rattle.x7_packets.specs.declared.stream.Run.TheVariants as run
 use Rattle.x7_packets.specs.contracts.stream.Packets.{the_row}
 use Rattle.x7_packets.specs.PacketsState.{PacketsState}
-use Rattle.x7_packets.specs.Run.{IsNext, is_last, bytes_of_run}
+use Rattle.x7_packets.specs.Run.{IsNext, cut_of, is_last, bytes_of_run}
 
 -- the place with these bytes of no whole word
 abbrev pub with_tail : List ℕ → Place → Place
@@ -100,11 +100,21 @@ pub record Reads (old new : PacketsState) (more : List ℕ) : Type 0 where
   pub count : new.taken ≡ old.taken + length more
   pub stands : (bytes given : List ℕ) → PacketsStandFor old bytes given → PacketsStandFor new (bytes ++ more) given × SameDue old.cutter.mode new.cutter.mode
 
+-- The run was cut of all bytes in the buffer: it and the bytes left behind it are those that were left, after what was read, and the ones
+-- kept before; payload words and a gap's bytes among them are lent at once.
+pub record LendsRun (old new : PacketsState) (more : List ℕ) (r : Run) : Type 0 where
+  pub at : PacketsState
+  pub reads : Reads old at more
+  pub bytes : at.cutter.kept ++ at.left ≡ bytes_of_run r ++ new.left
+  pub lent : IsLent at.cutter (length at.left) (cut_of r)
+  pub skips : SkipsAll new.cutter (length at.left) (cut_of r)
+
 -- the reader took more bytes of the input, and gave those of a run
 pub record Tells (old new : PacketsState) (more : List ℕ) (r : Run) : Type 0 where
   pub count : new.taken ≡ old.taken + length more
   pub stands : (bytes given : List ℕ) → PacketsStandFor old bytes given → PacketsStandFor new (bytes ++ more) (given ++ bytes_of_run r) × IsNext given old.cutter.mode r new.cutter.mode
   pub all : is_last r ≡ true → (bytes given : List ℕ) → PacketsStandFor old bytes given → given ++ bytes_of_run r ≡ bytes ++ more
+  pub lends : is_last r ≡ false → (bytes given : List ℕ) → PacketsStandFor old bytes given → LendsRun old new more r
   pub done : new.done ≡ is_last r
   pub good : new.failed ≡ false
 

@@ -4,9 +4,9 @@ ghost use Rattle.x7_words.specs.Word.{bytes_of_word};
 ghost use Rattle.x7_regs.specs.Register.{number_of};
 ghost use Rattle.x7_regs.specs.declared.register.Reg.TheVariants.{Cmd};
 ghost use Rattle.x7_packets.specs.AtOnce.{BeginsWrite, EndsGap, Takes, WritesFew, WritesOne};
-ghost use Rattle.x7_packets.specs.Cutting.{between, calls_left, CompletesNone, Cuts, CutterStandsFor, Goes, IsBody, IsLent, IsNeed, IsOneWord, IsRun, run_bytes, syncs_due, Went};
+ghost use Rattle.x7_packets.specs.Cutting.{between, calls_left, CompletesNone, Cuts, CutterStandsFor, Goes, IsBody, IsLent, IsNeed, IsOneWord, IsRun, run_bytes, SkipsAll, syncs_due, Went};
 ghost use Rattle.x7_packets.specs.Matching.{IsClear};
-ghost use Rattle.x7_packets.specs.Nops.{Idles, equal_bytes, nop_bytes, nop_word};
+ghost use Rattle.x7_packets.specs.Nops.{Idles, nop_bytes, nop_word};
 ghost use Rattle.x7_packets.specs.Reading.{is_synced, Place, Session, tail_of};
 ghost use Rattle.x7_packets.specs.Mode.{Mode, mode_of};
 
@@ -203,20 +203,6 @@ impl Cutter {
         count_equal(rest, NOP)
     }
 
-    /// How many of the words that come next are zero, one after the other, each in a header's place, where it asks nothing. To
-    /// take each of them leaves the cutter as it is.
-    #[inline(always)]
-    pub fn zero_count(&self, rest: &[u8]) -> usize
-        ensures within { 4 * result ≤ length rest.now }
-        ensures zeros { take (4 * result) rest.now ≡ equal_bytes 0 result }
-        ensures same { 0 < result → Takes self.now self.now (bytes_of_word 0) (Cut.Head 0 Step.Filler) }
-    {
-        if !self.is_at_header() {
-            return 0;
-        }
-        count_equal(rest, 0)
-    }
-
     /// Takes the packet that comes next, where it lies whole in `rest` and is a write of one word, its header's reserved
     /// bits 0. Gives its register and its word.
     #[inline(always)]
@@ -332,6 +318,7 @@ impl Cutter {
         ensures joined { self.old.kept ++ between piece.now at.old at.new ≡ run_bytes result ++ self.new.kept }
         ensures run { IsRun result }
         ensures lent { IsLent self.old (length piece.now - at.old) result }
+        ensures skips { SkipsAll self.new (length piece.now - at.old) result }
         ensures adds { Takes self.old self.new (between piece.now at.old at.new) result }
     {
         let rest = &piece[*at..];

@@ -1,5 +1,5 @@
 //! Part files.
-ghost use Rattle.std.specs.Prelude.{◌≡◌, ◌⊎◌, ◌≤◌, [], ◌∷◌, Some, None, Ok, Err, length, IsUtf8, IfOk, IfErr};
+ghost use Rattle.std.specs.Prelude.{◌≡◌, ◌⊎◌, ◌≤◌, [], ◌∷◌, Some, None, Ok, Err, length, IsUtf8, IfOk, IfErr, IsErrOf};
 ghost use Rattle.toml.specs.Parse.{parse_document};
 ghost use Rattle.toml.specs.View.{table_view};
 ghost use Rattle.x7_part.specs.Part.{PartData};
@@ -27,6 +27,7 @@ const MAX_WORDS: u32 = 13_277_056;
 fn table_in(alloc: Global, text: &[u8]) -> Result<Table, PartFault>
     ensures table { IfOk result (λ table. IsUtf8 text.now × (parse_document text.now ≡ Some (table_view table))) }
     ensures fault { IfErr result (λ fault. (fault ≡ PartFault.NoMemory) ⊎ ((fault ≡ PartFault.Toml) × (IsUtf8 text.now → parse_document text.now ≡ None))) }
+    ensures utf8 { (IsUtf8 text.now → ⊥) → IsErrOf result PartFault.Toml }
 {
     let text = match std::str::from_utf8(text) {
         Ok(text) => text,
@@ -72,6 +73,7 @@ fn are_few(words: u32, frames: u32, rows: u32) -> bool
 pub fn part_of(alloc: Global, text: &[u8]) -> Result<Part, PartFault>
     ensures part { IfOk result (λ part. part_in text.now ≡ Ok part) }
     ensures fault { IfErr result (λ fault. (fault ≡ PartFault.NoMemory) ⊎ (part_in text.now ≡ Err fault)) }
+    ensures utf8 { (IsUtf8 text.now → ⊥) → IsErrOf result PartFault.Toml }
 {
     let values = values_of(alloc, &table_in(alloc, text)?)?;
     check_known(&values)?;

@@ -309,12 +309,13 @@ impl<'p> FullStream<'p> {
 }
 
 /// The stream that writes the planned frames and zeros at all other addresses, and then starts the device. A plan has the
-/// part's width.
+/// part's width. Memory is wanting only where there is such a stream.
 pub fn full(alloc: Global, part: &Part, plan: &Plan) -> Result<Vec<u8>, PlanFault>
     requires width { plan.now.width ≡ frame_words part.now }
     ensures stream { IfOk result (λ bytes. bytes.items ≡ full_stream part.now plan.now) }
     ensures addresses { IfOk result (λ bytes. AreAddressed part.now plan.now.rows) }
     ensures fault { IfErr result (λ fault. (fault ≡ PlanFault.NoMemory) ⊎ IsFullFault part.now plan.now fault) }
+    ensures memory { IfErr result (λ fault. fault ≡ PlanFault.NoMemory → AreAddressed part.now plan.now.rows) }
 {
     let stream = match FullStream::new(part, plan) {
         Ok(stream) => stream,

@@ -58,13 +58,13 @@ pieces_never part plan place h never =
     (inl refl, (inl refl, (inl refl, (inl refl, words_never _ ws _ (inl refl, (inl refl, (inl refl, (inl refl, (inl refl, (inl refl, (inl refl, (inl refl, never))))))))))))
 
 -- the history with a full stream: a DESYNC, and before it accesses after which startup has begun nowhere
-record EndsInDesync (bytes stream : List ℕ) : Type 0 where
+pub record EndsInDesync (bytes stream : List ℕ) : Type 0 where
   place : ℕ
   before : History
   is : history_of (bytes ++ stream) ≡ entry (access.Write 4 13) place ∷ before
   never : NeverStarts before
 
-full_ends : (part : PartData) (plan : PlanData) (bytes : List ℕ) → AreBytes bytes → is_synced (reading_of bytes).place ≡ false → IsPart part → IsPlanFor part plan → NeverStarts (history_of bytes) → EndsInDesync bytes (full_stream part plan)
+pub full_ends : (part : PartData) (plan : PlanData) (bytes : List ℕ) → AreBytes bytes → is_synced (reading_of bytes).place ≡ false → IsPart part → IsPlanFor part plan → NeverStarts (history_of bytes) → EndsInDesync bytes (full_stream part plan)
 full_ends part plan bytes fits e is for never =
     let start : ℕ = length bytes + 36 in record {
       place = start + 4 * pieces_length (items.full_pieces part plan) + 8;
@@ -86,7 +86,7 @@ not_less n m rest access late never = by (nat_lt n m) refl late
     by true e late' = absurd (late' (never_until n rest never))
     by false e late' = refl
 
-seven_whole : (part : PartData) (kept : Kept) (bytes stream : List ℕ) (k : ℕ) → AreBytes (bytes ++ stream) → EndsInDesync bytes stream → ((state_of part kept false (take k (bytes ++ stream))).phase == 7) ≡ true
+pub seven_whole : (part : PartData) (kept : Kept) (bytes stream : List ℕ) (k : ℕ) → AreBytes (bytes ++ stream) → EndsInDesync bytes stream → ((state_of part kept false (take k (bytes ++ stream))).phase == 7) ≡ true
     → history_of (take k (bytes ++ stream)) ≡ history_of (bytes ++ stream)
 seven_whole part kept bytes stream k fits d seven =
     let all : List ℕ = bytes ++ stream in
@@ -109,7 +109,7 @@ pub record StartsWith (part : PartData) (kept : Kept) (address : ℕ) (flash : L
   pub memory : AreSame (memory_in part trial.kept trial.bytes) (total part plan)
   pub bootsts : (end_state part trial).bootsts ≡ boot_status_of (record { kind = kept.kind; cause = None; ignored = ignored }) kept.before
 
-bootsts_is : (part : PartData) (kept : Kept) (bytes : List ℕ) (ignored : Bool) → stop_in part kept bytes ≡ None → (is_fallback kept.kind && wrote_iprog (history_of bytes)) ≡ ignored
+pub bootsts_is : (part : PartData) (kept : Kept) (bytes : List ℕ) (ignored : Bool) → stop_in part kept bytes ≡ None → (is_fallback kept.kind && wrote_iprog (history_of bytes)) ≡ ignored
     → (state_of part kept false bytes).bootsts ≡ boot_status_of (record { kind = kept.kind; cause = None; ignored = ignored }) kept.before
 bootsts_is part kept bytes ignored none e =
     ap (λ (o : Option Stopped). boot_status_of (attempt_of kept false (fault_of (why_of o)) (history_by o (history_of bytes))) kept.before) none

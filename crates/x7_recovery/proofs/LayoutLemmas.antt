@@ -8,7 +8,7 @@ use Rattle.std.proofs.Math.Seq.{drop-append_seam}
 use Rattle.x7_boot.specs.Image as image
 use Rattle.x7_boot.specs.Image.{closed_slot, closed_slots, filled_to, first_sector, image_of, image_size, open_slot, sector_from, slot}
 use Rattle.x7_recovery.proofs.SlotLemmas.{image_begins, place_whole, sector_long, size_behind, slot_long, update_behind}
-use Rattle.x7_recovery.specs.ImageBoot.{HasImage, golden_image}
+use Rattle.x7_recovery.specs.PlannedImage.{HasImage, golden_image}
 use Rattle.x7_part.specs.Part.{PartData}
 use Rattle.x7_memory.specs.Planned.{PlanData}
 use Rattle.x7_planner.specs.Full.{full_stream}
@@ -31,7 +31,7 @@ slot_among one rest (suc n) (suc k) i e h j =
     ∙ slot_among one rest n k i e (omega arith) j
 
 -- an open slot and a closed one are the same behind the switch word
-same_behind : (start i : ℕ) → 4 ≤ i → get_or (closed_slot start) i 0 ≡ get_or (open_slot start) i 0
+pub same_behind : (start i : ℕ) → 4 ≤ i → get_or (closed_slot start) i 0 ≡ get_or (open_slot start) i 0
 unfolding slot
 same_behind start i h =
     let at : 4 + (i - 4) ≡ i = omega arith in
@@ -40,7 +40,7 @@ same_behind start i h =
     ∙ get_or-drop 4 (open_slot start) (i - 4) 0
     ∙ ap (λ m. get_or (open_slot start) m 0) at
 
-open_is : (start : ℕ) → slot_with open_word (bytes_of_word start) ≡ open_slot start
+pub open_is : (start : ℕ) → slot_with open_word (bytes_of_word start) ≡ open_slot start
 unfolding slot
 open_is start = refl
 
@@ -63,7 +63,7 @@ module _ (start : ℕ) (all rest : List ℕ) (begins : all ≡ first_sector star
   open_byte : (i : ℕ) → i < 32 → get_or all i 0 ≡ get_or (open_slot start) i 0
   open_byte i h = ap (λ l. get_or l i 0) is ∙ get_or_append_left (open_slot start) (closed_slots start ++ rest) 0 i (omega (arith, h, slot_long 0xAA995566 start))
 
-  closed_byte : (k i : ℕ) → k < 2047 → i < 32 → get_or all (32 * suc k + i) 0 ≡ get_or (closed_slot start) i 0
+  pub closed_byte : (k i : ℕ) → k < 2047 → i < 32 → get_or all (32 * suc k + i) 0 ≡ get_or (closed_slot start) i 0
   closed_byte k i h j =
       let at : 32 * suc k + i - 32 ≡ 32 * k + i = omega arith in
       ap (λ l. get_or l (32 * suc k + i) 0) is

@@ -1,7 +1,9 @@
 -- That the premises hold of something: a part, a plan, an image, and an update that fails.
-use Rattle.std.proofs.Common.{◌≡◌, ◌+◌, ◌/◌, ◌%◌, ◌≤◌, inl, inr, ℕ, zero, suc, true, false, None, List, [], ◌∷◌, ◌++◌, drop, take, length, replicate, ◌-◌, length-append, refl, ap, sym, subst, ◌∙◌, arith}
-use Rattle.std.proofs.lemmas.List.{append-nil, length-replicate}
-use Rattle.std.proofs.Math.Seq.{drop-append_seam}
+use Rattle.std.proofs.Common.{◌≡◌, ◌≢◌, ◌+◌, ◌*◌, ◌/◌, ◌%◌, ◌<◌, ◌≤◌, get_or, append_assoc, inl, inr, ℕ, zero, suc, true, false, None, List, [], ◌∷◌, ◌++◌, drop, take, length, replicate, ◌-◌, length-append, refl, ap, sym, subst, ◌∙◌, arith}
+use Rattle.std.proofs.lemmas.List.{append-nil, get_or-take, length-replicate}
+use Rattle.std.proofs.Math.Seq.{drop-append_seam, take-append_seam}
+use Rattle.x7_words.specs.Word.{AreBytes}
+use Rattle.x7_words.proofs.FlashLemmas.{bytes-replaced}
 use Rattle.x7_part.specs.Part.{PartData}
 use Rattle.x7_part.specs.PartRange.{IsPart}
 use Rattle.x7_regs.specs.declared.boot_status.Cause.TheVariants.{Wrap}
@@ -14,9 +16,21 @@ use Rattle.x7_part.specs.FrameAddress.{IsRow, row, no_row}
 use Rattle.x7_part.specs.AddressOrder.{addresses, addresses_in}
 use Rattle.x7_memory.specs.Planned.{IsPlanRow, PlanRow}
 use Rattle.x7_boot.specs.Attempt.{RunsOut, Trial, ending_at}
-use Rattle.x7_boot.specs.Image.{filled_to, first_sector, image_of, image_size, update_place}
-use Rattle.x7_recovery.proofs.SlotLemmas.{place_whole, sector_long, update_behind}
-use Rattle.x7_recovery.specs.ImageBoot.{UpdateFails, golden_image, image_with, kept_at_update, place_after}
+use Rattle.x7_part.specs.Slots.{slots, slots_in}
+use Rattle.x7_effects.proofs.FormLemmas.{full_length}
+use Rattle.x7_effects.proofs.PlannerLemmas.{full_same}
+use Rattle.x7_boot.specs.Image.{closed_slots, filled_to, first_sector, flash_limit, image_of, image_size, open_slot, slot, update_place}
+use Rattle.x7_update.specs.After.{IsBetween, MayBeLeft, between, spends, switched}
+use Rattle.x7_update.specs.Layout.{HasLayout, IsOpen, four_at, open_word, spent_word, switch_of}
+use Rattle.x7_update.proofs.CaseLemmas.{between_closed}
+use Rattle.x7_recovery.specs.Recovery.{IsPrepared, updating_image}
+use Rattle.x7_recovery.proofs.LayoutLemmas.{image_prepared}
+use Rattle.x7_recovery.proofs.FullTrialLemmas.{full_stream_fits}
+use Rattle.x7_recovery.proofs.SlotLemmas.{image_begins, image_fits, place_whole, sector_long, slot_long, update_behind}
+use Rattle.x7_recovery.specs.Course.{kept_at_update}
+use Rattle.x7_recovery.specs.OpenBoot.{UpdateFails}
+use Rattle.x7_recovery.specs.OpenSlot.{image_of_flash}
+use Rattle.x7_recovery.specs.PlannedImage.{HasImage, golden_image, place_after}
 use Rattle.x7_boot.specs.declared.attempt.Ending.TheVariants as ending
 
 -- the attempt at an update of no bytes: it has none, and fails by the flash's end
@@ -27,7 +41,7 @@ nothing_ends : (part : PartData) (start k : ℕ) → ending_at part (kept_at_upd
 nothing_ends part start zero = refl
 nothing_ends part start (suc k) = refl
 
-pub empty_fails : (part : PartData) (golden : PlanData) → drop (place_after part golden) (golden_image part golden []) ≡ [] → UpdateFails (image_with part golden []) (empty_trial part golden) Wrap false
+pub empty_fails : (part : PartData) (golden : PlanData) → drop (place_after part golden) (golden_image part golden []) ≡ [] → UpdateFails (image_of_flash part (golden_image part golden []) (place_after part golden)) (empty_trial part golden) Wrap false
 empty_fails part golden none =
     let start : ℕ = place_after part golden / part.start_unit in
     let t : Trial = empty_trial part golden in
@@ -61,7 +75,7 @@ empty_ends unit golden =
     (length-append (filled ++ []) (replicate (size - length (filled ++ [])) 255) ∙ omega (arith, length-replicate {A = ℕ} (size - length (filled ++ [])) 255, more, whole))
 
 -- so for every part and plan there is an update that fails, and forbids no fallback
-pub some_update_fails : (part : PartData) (golden : PlanData) → UpdateFails (image_with part golden []) (empty_trial part golden) Wrap false
+pub some_update_fails : (part : PartData) (golden : PlanData) → UpdateFails (image_of_flash part (golden_image part golden []) (place_after part golden)) (empty_trial part golden) Wrap false
 some_update_fails part golden = empty_fails part golden (empty_ends part.start_unit (full_stream part golden))
 
 is_row : (half : ℕ) → half ≤ 1 → IsRow (record { block = 0; half = half; row = 0; minors = 2 ∷ [] })
@@ -94,3 +108,47 @@ tiny_is = record {
 
 pub plan_is : IsPlanFor tiny nothing_planned
 plan_is = record { is_plan = record { order = λ i j d l k. absurd (omega (arith, k)); width = All-nil (λ (r : PlanRow). length r.words ≡ 101); each = All-nil IsPlanRow }; width = refl; addressed = All-nil (λ (r : PlanRow). Contains (addresses_in tiny) r.far) }
+
+-- ---- an image of that part, prepared for an update, and one that a power loss leaves
+
+slots_are : length (slots_in tiny) ≡ 8
+unfolding slots addresses
+slots_are = refl
+
+full_long : (part : PartData) (plan : PlanData) → IsPart part → IsPlanFor part plan → length (full_stream part plan) ≡ 4 * (55 + part.words * length (slots_in part))
+full_long part plan is for = ap length (full_same part plan is for.is_plan for.width) ∙ full_length part plan for.is_plan for.width
+
+pub tiny_image : HasImage tiny nothing_planned []
+tiny_image =
+    let whole : length (full_stream tiny nothing_planned) ≡ 4 * (55 + 101 * length (slots_in tiny)) = full_long tiny nothing_planned tiny_is plan_is in
+    let long : length (full_stream tiny nothing_planned) ≡ 3452 = whole ∙ ap (λ (n : ℕ). 4 * (55 + 101 * n)) slots_are in
+    record { is_part = tiny_is; plan = plan_is; fits = subst (λ (n : ℕ). image_size n 0 ≤ flash_limit) (sym long) (omega arith) }
+
+pub tiny_prepared : (stream : List ℕ) → IsPrepared (updating_image tiny nothing_planned [] stream)
+tiny_prepared stream = image_prepared tiny nothing_planned [] stream tiny_image refl
+
+slot_begins : (start : ℕ) → four_at (open_slot start) 0 ≡ open_word
+unfolding slot
+slot_begins start = refl
+
+begins_open : (flash : List ℕ) (start : ℕ) → take 32 (drop 0 flash) ≡ open_slot start → four_at flash 0 ≡ open_word
+begins_open flash start e =
+    let byte : (i : ℕ) → i < 32 → get_or flash i 0 ≡ get_or (open_slot start) i 0 = λ i h. sym (get_or-take 32 flash i 0 h) ∙ ap (λ (x : List ℕ). get_or x i 0) e in
+    rw (byte 0 (omega arith), byte 1 (omega arith), byte 2 (omega arith), byte 3 (omega arith)) (slot_begins start)
+
+pub left_torn : (part : PartData) (golden : PlanData) (update stream : List ℕ) → HasImage part golden update → AreBytes update → HasLayout (golden_image part golden update)
+    → (found : List ℕ) × MayBeLeft stream (golden_image part golden update) found × (found ≢ golden_image part golden update)
+left_torn part golden update stream image bytes l =
+    let flash : List ℕ = golden_image part golden update in
+    let place : ℕ = place_after part golden in
+    let start : ℕ = place / part.start_unit in
+    let b : (rest : List ℕ) × (flash ≡ (first_sector start ++ full_stream part golden) ++ rest) = image_begins part.start_unit (full_stream part golden) update in
+    let begins : flash ≡ open_slot start ++ (closed_slots start ++ (full_stream part golden ++ b.0)) = b.1 ∙ append_assoc (first_sector start) (full_stream part golden) b.0 ∙ append_assoc (open_slot start) (closed_slots start) (full_stream part golden ++ b.0) in
+    let stands : take 32 (drop 0 flash) ≡ open_slot start =
+    ap (take 32) begins ∙ ap (λ (n : ℕ). take n (open_slot start ++ (closed_slots start ++ (full_stream part golden ++ b.0)))) (sym (slot_long 0xAA995566 start)) ∙ take-append_seam (open_slot start) (closed_slots start ++ (full_stream part golden ++ b.0)) in
+    let is : IsOpen flash 0 = begins_open flash start stands in
+    let found : List ℕ = switched 0 spent_word flash in
+    let left : IsBetween flash found = between_closed flash found l.slots (spends 0 (omega arith) is refl) in
+    let fits : AreBytes flash = image_fits part.start_unit (full_stream part golden) update (full_stream_fits part golden image.is_part image.plan) bytes in
+    let spent : AreBytes spent_word = (omega arith, (omega arith, (omega arith, (omega arith, tt)))) in
+    (found, between l (bytes-replaced (32 * 0) spent_word flash spent fits) left, λ same. left.closed 0 (omega arith) (ap (λ (x : List ℕ). switch_of x 0) same ∙ is))

@@ -40,20 +40,35 @@ none_behind : (bytes rest : List ℕ) → LacksFirst bytes → HasNoSync rest �
 none_behind [] rest l none = none
 none_behind (x ∷ bytes) rest l none = other_first x (bytes ++ rest) l.0 (none_behind bytes rest l.1 none)
 
--- a slot whose start address is of whole pages of 256, and far below AA000000
-slot_none : (start : ℕ) (rest : List ℕ) → start % 256 ≡ 0 → start < 0xAA000000 → HasNoSync rest → HasNoSync (closed_slot start ++ rest)
-unfolding slot
-slot_none start rest whole low none =
+-- what stands behind the first two words of a slot, where the start address is of whole pages of 256, and far below AA000000
+abbrev slot_tail : List ℕ
+slot_tail = 0x30 ∷ 0 ∷ 0x80 ∷ 1 ∷ 0 ∷ 0 ∷ 0 ∷ 15 ∷ 0x30 ∷ 0 ∷ 0x80 ∷ 1 ∷ 0 ∷ 0 ∷ 0 ∷ 13 ∷ []
+
+start_none : (start : ℕ) (rest : List ℕ) → start % 256 ≡ 0 → start < 0xAA000000 → HasNoSync rest
+    → HasNoSync (start / 2 ^ 24 % 256 ∷ start / 2 ^ 16 % 256 ∷ start / 2 ^ 8 % 256 ∷ start % 256 ∷ (slot_tail ++ rest))
+start_none start rest whole low none =
     let high : (start / 2 ^ 24 % 256 == 0xAA) ≡ false = grind (arith, nat_tests, low) in
     let end : ℕ = start % 256 in
     let last : (end == 0xAA) ≡ false = grind (arith, nat_tests, whole) in
-    let tail : List ℕ = 0x30 ∷ 0 ∷ 0x80 ∷ 1 ∷ 0 ∷ 0 ∷ 0 ∷ 15 ∷ 0x30 ∷ 0 ∷ 0x80 ∷ 1 ∷ 0 ∷ 0 ∷ 0 ∷ 13 ∷ [] in
-    let behind : HasNoSync (end ∷ (tail ++ rest)) =
-    other_first end (tail ++ rest) last (none_behind tail rest (refl, (refl, (refl, (refl, (refl, (refl, (refl, (refl, (refl, (refl, (refl, (refl, (refl, (refl, (refl, (refl, tt)))))))))))))))) none) in
-    let third : HasNoSync (start / 2 ^ 8 % 256 ∷ end ∷ (tail ++ rest)) = other_second (start / 2 ^ 8 % 256) end (tail ++ rest) (omega (arith, whole)) behind in
-    let second : HasNoSync (start / 2 ^ 16 % 256 ∷ start / 2 ^ 8 % 256 ∷ end ∷ (tail ++ rest)) = other_third (start / 2 ^ 16 % 256) (start / 2 ^ 8 % 256) end (tail ++ rest) (omega (arith, whole)) third in
-    let word : HasNoSync (start / 2 ^ 24 % 256 ∷ start / 2 ^ 16 % 256 ∷ start / 2 ^ 8 % 256 ∷ end ∷ (tail ++ rest)) = other_first (start / 2 ^ 24 % 256) _ high second in
-    none_behind (255 ∷ 255 ∷ 255 ∷ 255 ∷ 32 ∷ 0 ∷ 0 ∷ 0 ∷ 0x30 ∷ 2 ∷ 0 ∷ 1 ∷ []) _ (refl, (refl, (refl, (refl, (refl, (refl, (refl, (refl, (refl, (refl, (refl, (refl, tt)))))))))))) word
+    let behind : HasNoSync (end ∷ (slot_tail ++ rest)) =
+    other_first end (slot_tail ++ rest) last (none_behind slot_tail rest (refl, (refl, (refl, (refl, (refl, (refl, (refl, (refl, (refl, (refl, (refl, (refl, (refl, (refl, (refl, (refl, tt)))))))))))))))) none) in
+    let third : HasNoSync (start / 2 ^ 8 % 256 ∷ end ∷ (slot_tail ++ rest)) = other_second (start / 2 ^ 8 % 256) end (slot_tail ++ rest) (omega (arith, whole)) behind in
+    let second : HasNoSync (start / 2 ^ 16 % 256 ∷ start / 2 ^ 8 % 256 ∷ end ∷ (slot_tail ++ rest)) = other_third (start / 2 ^ 16 % 256) (start / 2 ^ 8 % 256) end (slot_tail ++ rest) (omega (arith, whole)) third in
+    other_first (start / 2 ^ 24 % 256) _ high second
+
+slot_none : (start : ℕ) (rest : List ℕ) → start % 256 ≡ 0 → start < 0xAA000000 → HasNoSync rest → HasNoSync (closed_slot start ++ rest)
+unfolding slot
+slot_none start rest whole low none =
+    none_behind (255 ∷ 255 ∷ 255 ∷ 255 ∷ 32 ∷ 0 ∷ 0 ∷ 0 ∷ 0x30 ∷ 2 ∷ 0 ∷ 1 ∷ []) _ (refl, (refl, (refl, (refl, (refl, (refl, (refl, (refl, (refl, (refl, (refl, (refl, tt)))))))))))) (start_none start rest whole low none)
+
+-- an open slot but for its first byte
+pub open_none : (start : ℕ) (rest : List ℕ) → start % 256 ≡ 0 → start < 0xAA000000 → HasNoSync rest → (tail : List ℕ) × (open_slot start ++ rest ≡ 0xAA ∷ tail) × HasNoSync tail
+unfolding slot
+open_none start rest whole low none = (
+  _,
+  refl,
+  none_behind (0x99 ∷ 0x55 ∷ 0x66 ∷ 32 ∷ 0 ∷ 0 ∷ 0 ∷ 0x30 ∷ 2 ∷ 0 ∷ 1 ∷ []) _ (refl, (refl, (refl, (refl, (refl, (refl, (refl, (refl, (refl, (refl, (refl, tt))))))))))) (start_none start rest whole low none),
+)
 
 slots_none : (n start : ℕ) → start % 256 ≡ 0 → start < 0xAA000000 → HasNoSync (repeat n (closed_slot start))
 slots_none zero start whole low = none_empty
@@ -65,7 +80,7 @@ closed_none start whole low = slots_none 2047 start whole low
 
 -- ---- bytes
 
-slot_fits : (switch start : ℕ) → AreBytes (slot switch start)
+pub slot_fits : (switch start : ℕ) → AreBytes (slot switch start)
 unfolding slot
 slot_fits switch start = bytes_fit (switch ∷ 0x20000000 ∷ 0x30020001 ∷ start ∷ 0x30008001 ∷ 0x0000000F ∷ 0x30008001 ∷ 0x0000000D ∷ [])
 
@@ -80,7 +95,7 @@ closed_fits start = repeat_fits 2047 (closed_slot start) (slot_fits 0xFFFFFFFF s
 pub sector_fits : (start : ℕ) → AreBytes (first_sector start)
 sector_fits start = all-append (λ b. b < 256) (open_slot start) (closed_slots start) (slot_fits 0xAA995566 start) (closed_fits start)
 
-fill_fits : (n : ℕ) → AreBytes (replicate n 255)
+pub fill_fits : (n : ℕ) → AreBytes (replicate n 255)
 fill_fits zero = tt
 fill_fits (suc n) = (omega arith, fill_fits n)
 
@@ -149,18 +164,19 @@ image_begins unit golden update =
     let end : List ℕ = replicate (size - length (filled_to (update_place (length golden)) prefix ++ update)) 255 in
     (gap ++ (update ++ end), append_assoc (prefix ++ gap) update end ∙ append_assoc prefix gap (update ++ end))
 
--- and has the update at its place
-pub image_has : (unit : ℕ) (golden update : List ℕ) → (end : List ℕ) × (drop (update_place (length golden)) (image_of unit golden update) ≡ update ++ end)
+-- and has the update at its place, whatever stands behind the image
+pub image_has : (unit : ℕ) (golden update more : List ℕ) → (rest : List ℕ) × (drop (update_place (length golden)) (image_of unit golden update ++ more) ≡ update ++ rest)
 unfolding image_of
-image_has unit golden update =
+image_has unit golden update more =
     let place : ℕ = update_place (length golden) in
     let prefix : List ℕ = first_sector (place / unit) ++ golden in
+    let front : List ℕ = filled_to place prefix in
     let size : ℕ = image_size (length golden) (length update) in
-    let end : List ℕ = replicate (size - length (filled_to place prefix ++ update)) 255 in
+    let end : List ℕ = replicate (size - length (front ++ update)) 255 in
     let long : length prefix ≡ 65536 + length golden = length-append (first_sector (place / unit)) golden ∙ ap (λ (n : ℕ). n + length golden) (sector_long (place / unit)) in
-    let filled : length (filled_to place prefix) ≡ place = length-append prefix (replicate (place - length prefix) 255) ∙ omega (arith, length-replicate {A = ℕ} (place - length prefix) 255, long, update_behind (length golden)) in (
-      end,
-      ap (drop place) (append_assoc (filled_to place prefix) update end)
-          ∙ ap (λ (n : ℕ). drop n (filled_to place prefix ++ (update ++ end))) (sym filled)
-          ∙ drop-append_seam (filled_to place prefix) (update ++ end),
+    let filled : length front ≡ place = length-append prefix (replicate (place - length prefix) 255) ∙ omega (arith, length-replicate {A = ℕ} (place - length prefix) 255, long, update_behind (length golden)) in (
+      end ++ more,
+      ap (drop place) (append_assoc (front ++ update) end more ∙ append_assoc front update (end ++ more))
+          ∙ ap (λ (n : ℕ). drop n (front ++ (update ++ (end ++ more)))) (sym filled)
+          ∙ drop-append_seam front (update ++ (end ++ more)),
     )

@@ -1,3 +1,9 @@
+pub mod Clean
+pub mod Course
 pub mod Example
-pub mod ImageBoot
+pub mod Golden
+pub mod OpenBoot
+pub mod OpenSlot
+pub mod PlannedImage
 pub mod Recovery
+pub mod Updated

@@ -10,7 +10,8 @@ use Rattle.x7_planner.specs.Full.{full_stream}
 use Rattle.x7_engine.specs.State.{memory_in}
 use Rattle.x7_boot.specs.Attempt.{Trial}
 use Rattle.x7_boot.specs.Boot.{BootedState, IsBoot, end_state}
-use Rattle.x7_recovery.specs.ImageBoot.{BootCourse, course_of, golden_image}
+use Rattle.x7_recovery.specs.Course.{BootCourse, course_of}
+use Rattle.x7_recovery.specs.PlannedImage.{golden_image}
 use Rattle.x7_boot.specs.declared.attempt.Ending.TheVariants as ending
 use Rattle.x7_boot.specs.declared.boots.BootEnd.TheVariants as boot_end
 use Rattle.x7_update.specs.After.{IsAfter}

@@ -1,35 +1,35 @@
-//! What a boot from an image of a golden and an update stream comes to. The functions do nothing: their contracts are the laws.
-ghost use Rattle.std.specs.Prelude.{◌≡◌, List, [], ℕ, true, false};
+//! What a boot from the image of a golden and an update stream comes to. The functions do nothing: their contracts are the laws.
+ghost use Rattle.std.specs.Prelude.{◌≢◌, ◌≤◌, ◌++◌, List, [], ℕ, false, length};
 ghost use Rattle.x7_part.specs.Part.{PartData};
 ghost use Rattle.x7_part.specs.PartRange.{IsPart};
 ghost use Rattle.x7_regs.specs.declared.boot_status.Cause.TheVariants.{Wrap};
-ghost use Rattle.x7_recovery.specs.Example.{nothing_planned, tiny};
-ghost use Rattle.x7_regs.specs.declared.boot_status.Cause.{Cause};
 ghost use Rattle.x7_memory.specs.Planned.{IsPlanFor, PlanData};
 ghost use Rattle.x7_boot.specs.Attempt.{Trial};
-ghost use Rattle.x7_recovery.specs.ImageBoot.{BootEndsAt, BootFallsBack, BootStartsUpdate, FailsAtUpdate, FallsBackFrom, FullBoot, HasImage, ImageBoot, Imaged, IsFullBoot, IsImageBoot, TriesUpdate, UpdateEnds, UpdateFails, golden_image, image_with};
-ghost use Rattle.x7_boot.specs.declared.attempt.Ending.TheVariants as ending;
-ghost use Rattle.x7_boot.specs.declared.boots.BootEnd.TheVariants as boot_end;
+ghost use Rattle.x7_boot.specs.Image.{flash_limit, image_of, image_size};
+ghost use Rattle.x7_recovery.specs.Example.{nothing_planned, tiny};
+ghost use Rattle.x7_recovery.specs.OpenBoot.{HasPlanned, HasStreams, UpdateFails};
+ghost use Rattle.x7_recovery.specs.OpenSlot.{image_of_flash};
+ghost use Rattle.x7_recovery.specs.PlannedImage.{HasImage, golden_image, place_after};
+ghost use Rattle.x7_recovery.specs.Recovery.{IsPrepared, updating_image};
+ghost use Rattle.x7_update.specs.After.{MayBeLeft};
 
-/// From the image of a plan's full stream and an update of any bytes a boot tries the update, and falls back to that stream
-/// where it fails, and starts; where the update starts it ends there, and where CTL0 forbids a fallback it stops. An update
-/// that is a full stream itself starts with the memory of its plan.
+/// A flash that begins with the image of a golden and an update stream has its first slot open, which leads to the update, and
+/// both streams stand in it, whatever follows: so a boot from it comes to what one from a flash with an open slot does. The full
+/// stream of a plan is such a golden stream.
 pub fn images_boot()
-    ensures tries { (i : ImageBoot) → IsImageBoot i → TriesUpdate i.image i.booted.attempts }
-    ensures falls_back { (i : ImageBoot) (t : Trial) (cause : Cause) → (boots : IsImageBoot i) → FailsAtUpdate i t cause false → BootFallsBack i cause boots.boot.last }
-    ensures stops { (i : ImageBoot) (t : Trial) (cause : Cause) → (boots : IsImageBoot i) → FailsAtUpdate i t cause true → BootEndsAt i t boot_end.Stopped boots.boot.last }
-    ensures starts { (i : ImageBoot) (t : Trial) → (boots : IsImageBoot i) → UpdateEnds i.image t ending.Started → BootEndsAt i t boot_end.Started boots.boot.last }
-    ensures full { (i : FullBoot) → (boots : IsFullBoot i) → IsPlanFor i.part i.update → BootStartsUpdate i boots.boot.last }
+    ensures boots { (part : PartData) (golden update more : List ℕ) → IsPart part → image_size (length golden) (length update) ≤ flash_limit
+        → HasStreams part golden update (image_of part.start_unit golden update ++ more) }
+    ensures planned { (part : PartData) (golden : PlanData) (update more : List ℕ) → HasImage part golden update
+        → HasPlanned (image_of_flash part (golden_image part golden update ++ more) (place_after part golden)) golden }
 {}
 
-/// Every boot from bytes that are the image of a plan's full stream and an update falls back where the update fails.
-pub fn images_fall_back()
-    ensures { (i : Imaged) (image : List ℕ) → HasImage i.part i.golden i.update → image ≡ golden_image i.part i.golden i.update → FallsBackFrom i image }
-{}
-
-/// These laws speak of something: there is a part with a plan, and for every part and plan an update that fails.
+/// These laws speak of something: there is a part with a plan and their image, which is prepared for an update, and for every
+/// part and plan an update that fails, and for their image in an update a flash that is left of it and isn't the same.
 pub fn premises_hold()
     ensures part { IsPart tiny }
     ensures plan { IsPlanFor tiny nothing_planned }
-    ensures fails { (part : PartData) (golden : PlanData) → (t : Trial) × UpdateFails (image_with part golden []) t Wrap false }
+    ensures image { HasImage tiny nothing_planned [] }
+    ensures prepared { (stream : List ℕ) → IsPrepared (updating_image tiny nothing_planned [] stream) }
+    ensures torn { (stream : List ℕ) → (found : List ℕ) × MayBeLeft stream (golden_image tiny nothing_planned []) found × (found ≢ golden_image tiny nothing_planned []) }
+    ensures fails { (part : PartData) (golden : PlanData) → (t : Trial) × UpdateFails (image_of_flash part (golden_image part golden []) (place_after part golden)) t Wrap false }
 {}

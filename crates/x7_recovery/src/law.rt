@@ -1,13 +1,12 @@
 //! What a device does with a flash that a power loss left in an update. The functions do nothing: their contracts are the laws.
 ghost use Rattle.std.specs.Prelude.{◌≡◌, ◌≤◌, List, ℕ, false, length, take};
 ghost use Rattle.x7_words.specs.Flash.{flash_limit};
-ghost use Rattle.x7_words.specs.Word.{AreBytes};
 ghost use Rattle.x7_part.specs.Part.{PartData};
 ghost use Rattle.x7_memory.specs.Planned.{PlanData};
 ghost use Rattle.x7_boot.specs.Attempt.{IsTrial, Trial};
 ghost use Rattle.x7_boot.specs.Boot.{BootedState, IsBoot};
 ghost use Rattle.x7_boot.specs.Image.{image_of, image_size};
-ghost use Rattle.x7_recovery.specs.ImageBoot.{HasImage};
+ghost use Rattle.x7_recovery.specs.PlannedImage.{HasImage};
 ghost use Rattle.x7_update.specs.After.{MayBeLeft};
 ghost use Rattle.x7_update.specs.Layout.{HasLayout};
 ghost use Rattle.x7_recovery.specs.Recovery.{BootsAs, end_of, IsPrepared, Updating, updating_image};
@@ -15,7 +14,7 @@ ghost use Rattle.x7_recovery.specs.Recovery.{BootsAs, end_of, IsPrepared, Updati
 /// Of a flash whose golden stream is the full stream of a plan, whatever a power loss left in an update boots as the flash did
 /// before, or starts with the golden stream, or boots as the updated flash.
 pub fn found_flashes_boot()
-    ensures { (u : Updating) (found : List ℕ) (b : BootedState) → IsPrepared u → AreBytes found
+    ensures { (u : Updating) (found : List ℕ) (b : BootedState) → IsPrepared u
         → MayBeLeft u.stream u.flash found → IsBoot u.part found b → BootsAs u found b }
 {}
 

@@ -1,6 +1,6 @@
 //! The command that the cases are of.
 use std::alloc::Global;
-use x7_words::{MemoryFlash, MemoryInputs, MemorySink};
+use x7_in_memory::{MemoryFlash, MemoryInputs, MemorySink};
 
 /// A command over objects in memory.
 pub trait Command {

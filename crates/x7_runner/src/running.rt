@@ -5,7 +5,8 @@ use crate::fault::Fault;
 use crate::named::Named;
 use crate::outside::{Object, Outside};
 use std::alloc::Global;
-use x7_words::{Flash, Inputs, MemoryFlash, MemoryInputs, MemorySink, SelectFault, Sink};
+use x7_in_memory::{MemoryFlash, MemoryInputs, MemorySink};
+use x7_words::{Flash, Inputs, SelectFault, Sink};
 
 /// What differs from run to run of one case.
 #[derive(Clone, Copy, Drop)]

@@ -1,7 +1,7 @@
 //! What the writes of a flash take, and which of them is torn.
 use crate::fault::Fault;
 use crate::token::{first_word, positive};
-use x7_words::MemoryFlash;
+use x7_in_memory::MemoryFlash;
 
 /// What the writes of a flash take, and which of them is torn.
 #[derive(Clone, Copy, Drop)]

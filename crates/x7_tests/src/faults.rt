@@ -1,5 +1,6 @@
-//! The texts of a part file's faults.
+//! The texts of faults.
 use std::test::Fail;
+use x7_listing::AsmFault;
 use x7_part::{PartFault, PartKey, Which};
 
 /// The key in the first row of a part file.
@@ -13,7 +14,7 @@ fn at_the_top(key: PartKey) -> Which {
 }
 
 #[test]
-fn texts_of_faults(rt: HostRuntime) -> Result<(), Fail> {
+fn texts_of_part_faults(rt: HostRuntime) -> Result<(), Fail> {
     let cases = [
         (PartFault::Toml, "the text is no TOML"),
         (
@@ -26,6 +27,22 @@ fn texts_of_faults(rt: HostRuntime) -> Result<(), Fail> {
         ),
         (PartFault::SameRow(2), "same row 2"),
         (PartFault::TooMany(131_073), "too many frames: 131073"),
+    ];
+    for (fault, text) in cases {
+        assert!(rt; format!(in rt.alloc(); "{fault}")?.as_str() == text);
+    }
+    Ok(())
+}
+
+#[test]
+fn texts_of_assembly_faults(rt: HostRuntime) -> Result<(), Fail> {
+    let cases = [
+        (AsmFault::Line(2), "line 2 is no line"),
+        (
+            AsmFault::TooLong(67_108_865),
+            "line 67108865 passes the limit",
+        ),
+        (AsmFault::NoMemory, "no memory"),
     ];
     for (fault, text) in cases {
         assert!(rt; format!(in rt.alloc(); "{fault}")?.as_str() == text);

@@ -8,11 +8,17 @@ mod forgetful;
 #[cfg(test)]
 mod frames;
 #[cfg(test)]
+mod parts;
+#[cfg(test)]
 mod port;
 #[cfg(test)]
 mod reports;
 #[cfg(test)]
+mod resets;
+#[cfg(test)]
 mod status;
+#[cfg(test)]
+mod streams;
 #[cfg(test)]
 mod texts;
 #[cfg(test)]

@@ -2,9 +2,10 @@
 use std::alloc::Global;
 use x7_boot::boot;
 use x7_engine::Device;
+use x7_in_memory::MemoryFlash;
 use x7_part::part_of;
 use x7_tool::{boot_text, report};
-use x7_words::{Flash, MemoryFlash};
+use x7_words::Flash;
 
 /// A part with four frames.
 const TINY: &[u8] =

@@ -1,12 +1,13 @@
-//! Texts that are made or read at once, and the listing of a stream by its runs.
+//! Texts that are made or read at once, and the runs of a stream, which the command doesn't take.
 use std::alloc::Global;
 use std::test::Fail;
 use x7_frames::{FramesFault, plan_of, plan_text};
-use x7_listing::{Lister, assemble, take_runs};
+use x7_in_memory::MemoryInputs;
+use x7_listing::{Lister, assemble};
 use x7_mcs::mcs_text;
-use x7_packets::Packets;
+use x7_packets::{Packets, Run, Step};
 use x7_part::part_of;
-use x7_words::{Failed, Inputs, MemoryInputs, NoMemory};
+use x7_words::{Inputs, NoMemory};
 
 const PART: &str =
     "name = \"t\"\nidcode = 1\nframe_words = 2\nrow = [{block = 0, half = 0, row = 0, minors = [2, 1]}]\n";
@@ -44,29 +45,47 @@ fn a_text_assembles_at_once(rt: HostRuntime) -> Result<(), Fail> {
     Ok(())
 }
 
-/// The listing of a stream by its runs, of which three bytes come before those that an input gives, five at a time.
-fn listed_by_runs(alloc: Global, stream: &[u8]) -> Result<Lister, Fail> {
-    let first = stream.len().min(3);
+/// How many bytes the first run of an input has that gives five bytes at a time, and how many were taken of it.
+fn first_run(alloc: Global, stream: &[u8]) -> Result<(usize, u64), Fail> {
     let mut inputs = MemoryInputs::new(alloc);
-    inputs.put("stream", &stream[first..])?;
+    inputs.put("stream", stream)?;
     inputs.piece(5);
     inputs.select("stream")?;
-    let mut packets = Packets::new(alloc, &stream[..first])?;
+    let mut packets = Packets::new(alloc, b"")?;
+    let count = match packets.next_run(&mut inputs)? {
+        Run::Skip(bytes) => bytes.len(),
+        _ => 0,
+    };
+    Ok((count, packets.taken()))
+}
+
+#[test]
+fn the_first_run_of_an_input(rt: HostRuntime) -> Result<(), Fail> {
+    let found = first_run(rt.alloc(), b"\xFF\xAA\x99\x55\x66\x20\0\0\0")?;
+    assert_eq!(rt; found, (5, 5));
+    let none = first_run(rt.alloc(), b"")?;
+    assert_eq!(rt; none, (0, 0));
+    Ok(())
+}
+
+/// A lister that took the runs of a stream, one after another.
+fn listed_by_runs(alloc: Global) -> Result<Lister, NoMemory> {
     let mut lister = Lister::new(alloc);
-    let ended = take_runs(&mut lister, &mut packets, &mut inputs, usize::MAX)?;
-    if !ended {
-        return Err(Failed.into());
-    }
+    lister.take(&Run::Skip(b"\xFF\xAA\x99\x55\x66"))?;
+    lister.take(&Run::Sync)?;
+    lister.take(&Run::Head(0x2000_0000, Step::Nop))?;
+    lister.take(&Run::Head(0x3000_4002, Step::Open(2, 2)))?;
+    lister.take(&Run::Word(2, 0x11))?;
+    lister.take(&Run::Body(2, b"\0\0\0\x12"))?;
+    lister.take(&Run::Tail(b"\x01\x02"))?;
+    lister.take(&Run::End)?;
     Ok(lister)
 }
 
 #[test]
 fn a_stream_is_listed_by_its_runs(rt: HostRuntime) -> Result<(), Fail> {
-    let stream =
-        b"\xFF\xAA\x99\x55\x66\x20\0\0\0\x30\0\x40\x02\0\0\0\x11\0\0\0\x12\x28\0\xE0\x01\x01\x02";
-    let lister = listed_by_runs(rt.alloc(), stream)?;
-    let want =
-        b"bytes FF\nsync\nnop\nwrite FDRI 2\ndata 00000011 00000012\nread STAT 1\nbytes 0102\n";
+    let lister = listed_by_runs(rt.alloc())?;
+    let want = b"bytes FF\nsync\nnop\nwrite FDRI 2\ndata 00000011 00000012\nbytes 0102\n";
     assert!(rt; lister.text() == want.as_slice());
     Ok(())
 }

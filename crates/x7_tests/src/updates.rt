@@ -5,9 +5,10 @@ use std::os::unix::fs::symlink;
 use std::path::PathBuf;
 use std::test::Fail;
 use std::{env, fs, process};
+use x7_in_memory::{MemoryFlash, MemoryInputs, MemorySink};
 use x7_tool::run;
 use x7_update::{UpdateFault, update};
-use x7_words::{FileFlash, Flash, MemoryFlash, MemoryInputs, MemorySink};
+use x7_words::{FileFlash, Flash};
 
 const OPEN: [u8; 4] = [0xAA, 0x99, 0x55, 0x66];
 

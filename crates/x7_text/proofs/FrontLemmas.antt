@@ -1,12 +1,19 @@
 -- How many of the first bytes of two blocks are the same, by the mask of those that differ.
-use Rattle.std.proofs.Common.{◌≡◌, ◌==◌, ℕ, zero, suc, ◌+◌, ◌%◌, ◌^◌, ◌≤◌, ◌-◌, Bool, true, false, not, cond, w8, List, [], ◌∷◌, length, take, map, refl, ap, sym, ◌∙◌, arith, inl, inr}
-use Rattle.std.specs.List.{prefix_len}
-use Rattle.std.proofs.lemmas.Bool.{cases_eq, eqb-true}
-use Rattle.std.proofs.lemmas.List.{map-id}
+use Rattle.std.proofs.Common.{◌≡◌, ◌==◌, ℕ, zero, suc, ◌+◌, ◌*◌, ◌%◌, ◌^◌, ◌≤◌, ◌-◌, Bool, true, false, not, cond, w8, List, [], ◌∷◌, ◌++◌, drop, get_or, length, take, map, refl, ap, ap₂, sym, ◌∙◌, arith, inl, inr}
+use Rattle.std.specs.List.{flat_map, prefix_len}
+use Rattle.std.proofs.lemmas.Bool.{cases_eq, eq-eqb, eqb-true}
+use Rattle.std.proofs.lemmas.Grind.{flat_map-append}
+use Rattle.std.proofs.lemmas.List.{map-id, take-append-drop, take_at}
+use Rattle.std.proofs.lemmas.List.Sums.{prefix_len-le-length}
 use Rattle.std.proofs.lemmas.Simd.{leading_from_mask_l, length-zip2, mask_l-mod, tops_compared, trailing_mask_l}
 use lib.Lanes.{mask_l, top, zip2}
 use lib.Count.{count_trailing_zeros, trailing_le}
 use mir.Val.{bits, hbits}
+use Rattle.x7_words.specs.Word.{AreBytes}
+use Rattle.x7_text.specs.Digits.{hex_byte}
+use Rattle.x7_text.specs.DigitValue.{bytes_value}
+use Rattle.x7_text.proofs.ValueLemmas.{byte-back}
+use Rattle.x7_text.proofs.WholeLineLemmas.{length-hex_bytes}
 
 -- two bytes differ
 abbrev pub differs : ℕ → ℕ → Bool
@@ -40,3 +47,45 @@ same-by-mask m n a b p q e f =
 
 pub mask-differs : (xs ys : List ℕ) → length xs ≡ 64 → length ys ≡ 64 → mask_l (map (top (hbits w8)) (zip2 (λ a b. cond (differs a b) (2 ^ bits w8 - 1) 0) xs ys)) % 2 ^ 64 ≡ mask_l (zip2 differs xs ys)
 mask-differs xs ys e f = ap (λ ms. mask_l ms % 2 ^ 64) (tops_compared w8 differs xs ys) ∙ mask_l-mod (zip2 differs xs ys) 64 (omega (arith, length-zip2 differs xs ys (e ∙ sym f), e))
+
+-- ---- no byte that is the same is missed
+
+same-on : (b : Bool) (n r : ℕ) → b ≡ true → n ≤ r → suc n ≤ cond (not (not b)) (1 + r) 0
+same-on true n r e h = omega (arith, h)
+same-on false n r e h = absurd cc
+
+no-difference : (n : ℕ) (xs ys : List ℕ) → n ≤ length xs → n ≤ length ys → take n xs ≡ take n ys → n ≤ prefix_len (λ b. not b) (zip2 differs xs ys)
+no-difference zero xs ys h k e = omega arith
+no-difference (suc n) [] ys h k e = absurd (omega (arith, h))
+no-difference (suc n) (x ∷ xs) [] h k e = absurd (omega (arith, k))
+no-difference (suc n) (x ∷ xs) (y ∷ ys) h k e =
+    same-on (x == y) n (prefix_len (λ b. not b) (zip2 differs xs ys)) (eq-eqb x y (ap (λ t. get_or t 0 0) e)) (no-difference n xs ys (omega (arith, h)) (omega (arith, k)) (ap (drop 1) e))
+
+from-set : (m : ℕ) (ds : List Bool) → length ds ≡ 64 → m ≡ mask_l ds → prefix_len (λ b. not b) ds ≤ count_trailing_zeros 64 m
+unfolding count_trailing_zeros
+from-set m ds long e =
+    let same : mask_l (map (λ (b : Bool). b) ds) ≡ mask_l ds = ap mask_l (map-id ds) in
+    elim (cases_eq (mask_l (map (λ (b : Bool). b) ds)) 0) [
+      | inl none ↦ let all : count_trailing_zeros 64 m ≡ 64 = ap (count_trailing_zeros 64) (e ∙ sym same ∙ none) in omega (arith, all, long, prefix_len-le-length (λ (b : Bool). not b) ds)
+      | inr some ↦ omega (arith, ap (count_trailing_zeros 64) (e ∙ sym same), trailing_mask_l (λ (b : Bool). b) 64 ds (omega (arith, long)) (omega (arith, some)))
+    ]
+
+pub same-most : (m n k : ℕ) (a b : List ℕ) → length a ≡ 64 → length b ≡ 64 → m ≡ mask_l (zip2 differs a b) → n ≡ count_trailing_zeros 64 m → k ≤ 64 → take k a ≡ take k b → k ≤ n
+same-most m n k a b p q e f h s =
+    let size : length (zip2 differs a b) ≡ 64 = length-zip2 differs a b (p ∙ sym q) ∙ p in
+    omega (arith, f, from-set m (zip2 differs a b) size e, no-difference k a b (omega (arith, h, p)) (omega (arith, h, q)) s)
+
+-- ---- digits that a block begins with
+
+-- the bytes of digits, with others after them
+value-on : (bs rest : List ℕ) → AreBytes bs → bytes_value (flat_map hex_byte bs ++ rest) ≡ bs ++ bytes_value rest
+value-on [] rest h = refl
+value-on (b ∷ bs) rest h = ap₂ (λ (x : ℕ) (t : List ℕ). x ∷ t) (byte-back b h.0) (value-on bs rest h.1)
+
+pub prefix-back : (block bytes bs : List ℕ) → AreBytes bs → bytes ≡ bytes_value block → take (2 * length bs) block ≡ flat_map hex_byte bs → take (2 * length bs) (flat_map hex_byte bytes) ≡ take (2 * length bs) block
+prefix-back block bytes bs h e f =
+    let rest : List ℕ = drop (2 * length bs) block in
+    let whole : block ≡ flat_map hex_byte bs ++ drop (2 * length bs) block = sym (take-append-drop (2 * length bs) block) ∙ ap (λ t. t ++ drop (2 * length bs) block) f in
+    let value : bytes ≡ bs ++ bytes_value rest = e ∙ ap bytes_value whole ∙ value-on bs rest h in
+    ap (λ t. take (2 * length bs) (flat_map hex_byte t)) value ∙ ap (take (2 * length bs)) (flat_map-append hex_byte bs (bytes_value rest))
+    ∙ take_at (flat_map hex_byte bs) (flat_map hex_byte (bytes_value rest)) (2 * length bs) (length-hex_bytes bs) ∙ sym f

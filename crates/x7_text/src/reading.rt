@@ -1,5 +1,5 @@
 //! Digits read back: what they would stand for is written out again and compared, so that only digits are taken.
-ghost use Rattle.std.specs.Prelude.{◌≡◌, ◌≢◌, ℕ, List, ◌<◌, ◌≤◌, ◌^◌, length, map, take, slice_index, decimal, MatchOption};
+ghost use Rattle.std.specs.Prelude.{◌≡◌, ◌≢◌, ℕ, List, ◌<◌, ◌≤◌, ◌*◌, ◌^◌, length, map, take, slice_index, decimal, MatchOption};
 ghost use Rattle.std.specs.List.{flat_map};
 ghost use Rattle.std.specs.Simd.Lanes.{Each1};
 ghost use Rattle.x7_words.specs.Word.{AreBytes};
@@ -151,6 +151,7 @@ pub fn block_of_hex(digits: &[u8; 64]) -> Option<[u8; 32]>
 fn same_prefix(a: &[u8; 64], b: &[u8; 64]) -> usize
     ensures within { result ≤ 64 }
     ensures same { take result a.now ≡ take result b.now }
+    ensures most { (n : ℕ) → n ≤ 64 → take n a.now ≡ take n b.now → n ≤ result }
 {
     let differ = u8x64::from_array(*a)
         .simd_ne(u8x64::from_array(*b))
@@ -165,13 +166,14 @@ pub struct HexPrefix {
     pub digits: usize,
 }
 
-/// The digits that a block begins with, maybe none.
+/// The digits that a block begins with, maybe none: no pair of digits is missed.
 #[inline(always)]
 pub fn prefix_of_hex(block: &[u8; 64]) -> HexPrefix
     ensures within { result.digits ≤ 64 }
     ensures long { length result.bytes ≡ 32 }
     ensures fit { AreBytes result.bytes }
     ensures digits { take result.digits block.now ≡ take result.digits (flat_map hex_byte result.bytes) }
+    ensures most { (bs : List ℕ) → AreBytes bs → 2 * length bs ≤ 64 → take (2 * length bs) block.now ≡ flat_map hex_byte bs → 2 * length bs ≤ result.digits }
 {
     let bytes = bytes_of_digits(block);
     HexPrefix {

@@ -1,32 +1,38 @@
 -- Lemmas on specs/Ahead.
-use Rattle.std.proofs.Common.{◌≡◌, ℕ, ◌+◌, ◌<◌, ◌≤◌, ◌⊎◌, inl, inr, List, [], ◌++◌, Option, Some, Result, Ok, Err, length, length-append, ap, sym, subst, ◌∙◌, append-nil, arith}
+use Rattle.std.proofs.Common.{◌≡◌, ℕ, ◌+◌, ◌<◌, ◌≤◌, ◌⊎◌, inl, inr, List, [], ◌++◌, Option, Some, Result, Ok, Err, length, length-append, ap, refl, sym, subst, ◌∙◌, append-nil, append_assoc, arith}
 use Rattle.x7_words.specs.Input.{Asks, InputsState, preceded, Selects}
 use Rattle.x7_words.specs.Word.{AreBytes}
 use Rattle.x7_words.specs.Sink.{SinkState, appended, PutsPrefix}
 use Rattle.x7_words.proofs.SinkLemmas.{appended-appended, appended-nil}
 use Rattle.x7_listing.specs.Telling.{ListerState}
-use Rattle.x7_listing.proofs.BoundLemmas.{few_held}
+use Rattle.x7_listing.proofs.BoundLemmas.{few_held, listing_held}
+use Rattle.x7_listing.specs.Listing.{listing_of}
 use Rattle.x7_listing.specs.StreamListing.{stream_listing}
 use Rattle.x7_forms.specs.declared.bad_input.InputFault.TheVariants as input
-use Rattle.x7_tool.specs.Ahead.{IsLonger, StaysNear, StaysNearBy, most_ahead}
+use Rattle.x7_tool.specs.Ahead.{GivesNear, HasWritten, IsLonger, ReadsNear, StaysNear, StaysNearBy, most_ahead}
 use Rattle.x7_tool.specs.Outside.{Outside}
 use Rattle.x7_forms.specs.declared.status.Status.{Status}
 use Rattle.x7_forms.specs.declared.status.Status.TheVariants as status
 use Rattle.x7_forms.specs.Event.{Event, status_of, bad_input, missing, no_memory, read_fault, too_large, write_fault}
 use Rattle.x7_forms.specs.Form.{Listing}
 use Rattle.x7_forms.specs.Turn.{IsBadBeginning, NoLetterGiven, UnreadBeginning, Unopened, Unread}
-use Rattle.x7_tool.specs.Turns.{Lists}
+use Rattle.x7_tool.specs.Turns.{Lists, ListsStream}
 use Rattle.x7_forms.proofs.BeginningLemmas.{letter_there}
 use Rattle.x7_forms.proofs.ReadLemmas.{known_all}
-use Rattle.x7_tool.proofs.Causes.{may_follow, nothing_taken}
+use Rattle.x7_tool.proofs.Causes.{may_follow, nothing_listed, nothing_taken}
+use Rattle.x7_tool.proofs.TurnLemmas.{stream_whole, taken_more}
 
 -- ---- the definitions, by the contents, the rest and what was written
 
--- the bytes read of the stream are few more than those that the sink got
+-- few bytes more were read of the stream than are listed
 abbrev pub NearBy : Option (List ℕ → Option (List ℕ)) → List ℕ → Option (List ℕ) → Option (List ℕ) → Option (List ℕ) → Type 0
 NearBy contents stream rest old new =
-    (inputs : List ℕ → Option (List ℕ)) (bytes left before after : List ℕ) → contents ≡ Some inputs → inputs stream ≡ Some bytes → rest ≡ Some left → old ≡ Some before → new ≡ Some after
-    → length bytes + length before ≤ length left + length after + most_ahead
+    (inputs : List ℕ → Option (List ℕ)) (bytes left before after : List ℕ) → contents ≡ Some inputs → inputs stream ≡ Some bytes → rest ≡ Some left → old ≡ Some before → new ≡ Some after → ReadsNear bytes left before after
+
+-- few more were given of it
+abbrev pub GivenBy : Option (List ℕ → Option (List ℕ)) → List ℕ → ℕ → Option (List ℕ) → Option (List ℕ) → Type 0
+GivenBy contents stream given old new =
+    (inputs : List ℕ → Option (List ℕ)) (bytes before after : List ℕ) → contents ≡ Some inputs → inputs stream ≡ Some bytes → old ≡ Some before → new ≡ Some after → GivesNear bytes given before after
 
 -- none was read behind the byte at which the header is refused
 abbrev pub SoonBy : Option (List ℕ → Option (List ℕ)) → List ℕ → Option (List ℕ) → Type 0
@@ -41,14 +47,18 @@ UnjudgedBy contents stream given =
 
 abbrev pub StaysBy : Status → Option (List ℕ → Option (List ℕ)) → List ℕ → ℕ → Option (List ℕ) → Option (List ℕ) → Option (List ℕ) → Type 0
 StaysBy status.WriteFault contents stream given rest old new = NearBy contents stream rest old new
+StaysBy status.TooLarge contents stream given rest old new = NearBy contents stream rest old new
 StaysBy status.BadInput contents stream given rest old new = SoonBy contents stream rest
-StaysBy status.ReadFault contents stream given rest old new = UnjudgedBy contents stream given
+StaysBy status.ReadFault contents stream given rest old new = UnjudgedBy contents stream given × GivenBy contents stream given old new
+StaysBy status.NoMemory contents stream given rest old new = GivenBy contents stream given old new
 StaysBy s contents stream given rest old new = Unit {0}
 
 stays_by : (s : Status) (stream : List ℕ) (old new : Outside) → StaysBy s old.inputs.contents stream new.inputs.given new.inputs.rest old.out.written new.out.written → StaysNearBy s stream old new
 stays_by status.WriteFault stream old new h = h
+stays_by status.TooLarge stream old new h = h
 stays_by status.BadInput stream old new h = h
 stays_by status.ReadFault stream old new h = h
+stays_by status.NoMemory stream old new h = h
 stays_by s stream old new h = tt
 
 pub stays_near : (event : Event) (stream : List ℕ) (old new : Outside) → StaysBy (status_of event) old.inputs.contents stream new.inputs.given new.inputs.rest old.out.written new.out.written → StaysNear (status_of event) (Some (Listing stream)) old new
@@ -69,41 +79,85 @@ longer_front old new text p = (p.0, p.1.2)
 pub longer_twice : (old mid new : Option (List ℕ)) → Longer old mid → Longer mid new → Longer old new
 longer_twice old mid new a b = (a.0 ++ b.0, b.1 ∙ ap (λ (k : Option (List ℕ)). appended k b.0) a.1 ∙ appended-appended old a.0 b.0)
 
-pub lists_longer : (l : ListerState) (old mid : Option (List ℕ)) (line sent : List ℕ) → Lists l (appended old line) mid sent → Longer old mid
-lists_longer l old mid line sent t = (line ++ t.given, t.put ∙ appended-appended old line t.given)
-
 -- why a turn was not written
 pub why_weaker : {A B C D : Type 0} → (A × B) ⊎ (C × D) → A ⊎ (C × D)
 why_weaker (inl h) = inl h.0
 why_weaker (inr h) = inr h
 
+-- ---- what is listed
+
+-- nothing is, of no bytes
+nothing_written : (old new : Option (List ℕ)) → Longer old new → (before after : List ℕ) → old ≡ Some before → new ≡ Some after → HasWritten [] before after
+nothing_written old new l before after o n =
+    let all : after ≡ before ++ l.0 = let e = l.1 in let f : appended old l.0 ≡ Some (before ++ l.0) = ap (λ (k : Option (List ℕ)). appended k l.0) o in cc in
+    let none : length {A = ℕ} [] ≡ 0 = refl in
+    record { text = []; lists = nothing_listed; written = omega (arith, none, ap length all, length-append before l.0) }
+
+-- the listing so far of the bytes that were taken, and whatever was put after it
+turn_written : (taken line sent : List ℕ) (l : ListerState) (old mid new : Option (List ℕ)) → stream_listing taken ≡ Ok (line ++ listing_of sent) → Lists l (appended old line) mid sent → Longer mid new
+    → (before after : List ℕ) → old ≡ Some before → new ≡ Some after → HasWritten taken before after
+turn_written taken line sent l old mid new e t m before after o n =
+    let got : mid ≡ Some (before ++ line ++ t.given) = t.put ∙ ap (λ (k : Option (List ℕ)). appended (appended k line) t.given) o in
+    let all : after ≡ before ++ line ++ t.given ++ m.0 = let e = m.1 in let f : appended mid m.0 ≡ Some (before ++ line ++ t.given ++ m.0) = ap (λ (k : Option (List ℕ)). appended k m.0) got in cc in
+    let held = listing_held l t.given [] sent t.stands in
+    let told : length (t.given ++ l.text) ≡ length t.given = ap (λ (x : List ℕ). length (t.given ++ x)) t.clear ∙ ap length (append-nil t.given) in
+    record {
+      text = line ++ listing_of sent;
+      lists = e;
+      written = omega (arith, held, told, ap length all, length-append (before ++ line ++ t.given) m.0, length-append (before ++ line) t.given, length-append before line, length-append line (listing_of sent));
+    }
+
 -- ---- what the sink's failure finds
 
-near_by : (contents : Option (List ℕ → Option (List ℕ))) (stream taken : List ℕ) (rest old new : Option (List ℕ)) → Selects contents stream (preceded taken rest)
-    → ((before after : List ℕ) → old ≡ Some before → new ≡ Some after → length taken + length before ≤ length after + most_ahead) → NearBy contents stream rest old new
-near_by contents stream taken rest old new s h inputs bytes left before after c b r o n =
-    let t = known_all inputs stream taken rest (subst (λ (k : Option (List ℕ → Option (List ℕ))). Selects k stream (preceded taken rest)) c s) in
+near_by : (contents : Option (List ℕ → Option (List ℕ))) (stream early late : List ℕ) (rest old new : Option (List ℕ)) → Selects contents stream (preceded (early ++ late) rest) → length late ≤ most_ahead
+    → ((before after : List ℕ) → old ≡ Some before → new ≡ Some after → HasWritten early before after × (length (early ++ late) + length before ≤ length after + most_ahead)) → NearBy contents stream rest old new
+near_by contents stream early late rest old new s few h inputs bytes left before after c b r o n =
+    let t = known_all inputs stream (early ++ late) rest (subst (λ (k : Option (List ℕ → Option (List ℕ))). Selects k stream (preceded (early ++ late) rest)) c s) in
     let tail : left ≡ t.0 = let e = t.1.0 in cc in
-    let whole : bytes ≡ taken ++ t.0 = let e = t.1.1 in cc in
-    omega (arith, ap length whole, ap length tail, length-append taken t.0, h before after o n)
+    let whole : bytes ≡ (early ++ late) ++ t.0 = let e = t.1.1 in cc in
+    let w = h before after o n in
+    record {
+      early = early;
+      late = late;
+      split = whole ∙ ap (λ (x : List ℕ). (early ++ late) ++ x) (sym tail) ∙ append_assoc early late left;
+      few = few;
+      written = w.0;
+      near = omega (arith, ap length whole, ap length tail, length-append (early ++ late) t.0, w.1);
+    }
 
 pub front_near : (contents : Option (List ℕ → Option (List ℕ))) (stream taken : List ℕ) (rest old new : Option (List ℕ)) → Selects contents stream (preceded taken rest) → length taken ≤ 327706 → Longer old new → NearBy contents stream rest old new
 front_near contents stream taken rest old new s few l =
-    near_by contents stream taken rest old new s
+    near_by contents stream [] taken rest old new s (omega (arith, few))
     (λ before after o n.
+    let w = nothing_written old new l before after o n in
     let all : after ≡ before ++ l.0 = let e = l.1 in let f : appended old l.0 ≡ Some (before ++ l.0) = ap (λ (k : Option (List ℕ)). appended k l.0) o in cc in
-    omega (arith, few, ap length all, length-append before l.0))
+    let near : length taken + length before ≤ length after + most_ahead = omega (arith, few, ap length all, length-append before l.0) in
+    (w, near))
 
 pub turn_near : (contents : Option (List ℕ → Option (List ℕ))) (stream taken piece line sent : List ℕ) (l : ListerState) (rest old mid new : Option (List ℕ)) → Selects contents stream (preceded (taken ++ piece) rest)
-    → length taken ≤ length sent + 327706 → length piece ≤ 65536 → Lists l (appended old line) mid sent → Longer mid new → NearBy contents stream rest old new
-turn_near contents stream taken piece line sent l rest old mid new s close few t m =
-    near_by contents stream (taken ++ piece) rest old new s
+    → length taken ≤ length sent + 327706 → length piece ≤ 65536 → stream_listing taken ≡ Ok (line ++ listing_of sent) → Lists l (appended old line) mid sent → Longer mid new → NearBy contents stream rest old new
+turn_near contents stream taken piece line sent l rest old mid new s close few e t m =
+    near_by contents stream taken piece rest old new s (omega (arith, few))
     (λ before after o n.
     let got : mid ≡ Some (before ++ line ++ t.given) = t.put ∙ ap (λ (k : Option (List ℕ)). appended (appended k line) t.given) o in
     let all : after ≡ before ++ line ++ t.given ++ m.0 = let e = m.1 in let f : appended mid m.0 ≡ Some (before ++ line ++ t.given ++ m.0) = ap (λ (k : Option (List ℕ)). appended k m.0) got in cc in
     let held = few_held l t.given [] sent t.stands in
     let told : length (t.given ++ l.text) ≡ length t.given = ap (λ (x : List ℕ). length (t.given ++ x)) t.clear ∙ ap length (append-nil t.given) in
-    omega (arith, few, close, held, told, ap length all, length-append (before ++ line ++ t.given) m.0, length-append (before ++ line) t.given, length-append before line, length-append taken piece))
+    (turn_written taken line sent l old mid new e t m before after o n, omega (arith, few, close, held, told, ap length all, length-append (before ++ line ++ t.given) m.0, length-append (before ++ line) t.given, length-append before line, length-append taken piece)))
+
+-- ---- what was given
+
+pub front_given : (contents : Option (List ℕ → Option (List ℕ))) (stream : List ℕ) (given : ℕ) (old new : Option (List ℕ)) → given ≤ 327706 → Longer old new → GivenBy contents stream given old new
+front_given contents stream given old new few l inputs bytes before after c b o n =
+    let none : length {A = ℕ} [] ≡ 0 = refl in
+    record { early = []; others = bytes; split = refl; few = omega (arith, none, few); written = nothing_written old new l before after o n }
+
+pub turn_given : (contents : Option (List ℕ → Option (List ℕ))) (stream taken line sent : List ℕ) (given : ℕ) (l : ListerState) (rest old mid new : Option (List ℕ)) → Selects contents stream (preceded taken rest)
+    → given ≤ length taken + 65536 → stream_listing taken ≡ Ok (line ++ listing_of sent) → Lists l (appended old line) mid sent → Longer mid new → GivenBy contents stream given old new
+turn_given contents stream taken line sent given l rest old mid new s few e t m inputs bytes before after c b o n =
+    let k = known_all inputs stream taken rest (subst (λ (k : Option (List ℕ → Option (List ℕ))). Selects k stream (preceded taken rest)) c s) in
+    let whole : bytes ≡ taken ++ k.0 = let e = k.1.1 in cc in
+    record { early = taken; others = k.0; split = whole; few = omega (arith, few); written = turn_written taken line sent l old mid new e t m before after o n }
 
 -- ---- what the refusal of a header finds
 
@@ -146,20 +200,31 @@ module _ (contents : Option (List ℕ → Option (List ℕ))) (stream : List ℕ
   as_event : (given : ℕ) (event other : Event) → event ≡ other → StaysBy (status_of other) contents stream given rest old new → StaysBy (status_of event) contents stream given rest old new
   as_event given event other e h = subst (λ (x : Event). StaysBy (status_of x) contents stream given rest old new) (sym e) h
 
-  pub unopened_near : (s n : InputsState) (name : List ℕ) (event : Event) → Asks name n → Unopened s name n event → StaysBy (status_of event) contents stream n.given rest old new
-  unopened_near s n name event a (inl h, none) = as_event n.given event (missing name) h.0 tt
-  unopened_near s n name event a (inr h, none) = as_event n.given event (read_fault name) h.0 (λ inputs bytes place c i fits e l. omega (arith, a.given))
+  pub unopened_near : (s n : InputsState) (name : List ℕ) (event : Event) → Asks name n → Longer old new → Unopened s name n event → StaysBy (status_of event) contents stream n.given rest old new
+  unopened_near s n name event a l (inl h, none) = as_event n.given event (missing name) h.0 tt
+  unopened_near s n name event a l (inr h, none) = as_event n.given event (read_fault name) h.0 (λ inputs bytes place c i fits e f. omega (arith, a.given), front_given contents stream n.given old new (omega (arith, a.given)) l)
 
-  pub unfronted_near : (m n : InputsState) (name : List ℕ) (event : Event) → n.rest ≡ rest → Selects contents stream m.rest → Asks name m → UnreadBeginning m name n event → StaysBy (status_of event) contents stream n.given rest old new
-  unfronted_near m n name event e s a (inl h) = as_event n.given event no_memory h tt
-  unfronted_near m n name event e s a (inr (inl h)) = as_event n.given event (read_fault name) h.0 (front_unjudged contents stream name m n s a h.3)
-  unfronted_near m n name event e s a (inr (inr h)) = as_event n.given event (bad_input name (input.Byte h.place)) h.is (subst (λ (r : Option (List ℕ)). SoonBy contents stream r) e (bad_soon contents stream name m n event s h))
+  pub unfronted_near : (m n : InputsState) (name : List ℕ) (event : Event) → n.rest ≡ rest → Selects contents stream m.rest → Asks name m → n.given ≤ m.given + 327706 → Longer old new → UnreadBeginning m name n event
+      → StaysBy (status_of event) contents stream n.given rest old new
+  unfronted_near m n name event e s a few l (inl h) = as_event n.given event no_memory h (front_given contents stream n.given old new (omega (arith, a.given, few)) l)
+  unfronted_near m n name event e s a few l (inr (inl h)) =
+      as_event n.given event (read_fault name) h.0 (front_unjudged contents stream name m n s a h.3, front_given contents stream n.given old new (omega (arith, a.given, few)) l)
+  unfronted_near m n name event e s a few l (inr (inr h)) =
+      as_event n.given event (bad_input name (input.Byte h.place)) h.is (subst (λ (r : Option (List ℕ)). SoonBy contents stream r) e (bad_soon contents stream name m n event s h))
 
-  pub unread_near : (s n : InputsState) (name taken : List ℕ) (left : ℕ) (event : Event) → Selects contents stream (preceded taken s.rest) → ((more : List ℕ) → (text : List ℕ) × (stream_listing (taken ++ more) ≡ Ok text))
-      → Unread s name n left event → StaysBy (status_of event) contents stream n.given rest old new
-  unread_near s n name taken left event sel goes (inl h) = as_event n.given event (read_fault name) h.0 (judged_unjudged contents stream taken s.rest n.given sel goes)
-  unread_near s n name taken left event sel goes (inr h) = as_event n.given event (too_large name) h.0 tt
+  pub unread_near : (s n : InputsState) (name taken : List ℕ) (l : ListerState) (left : ℕ) (event : Event) → n.rest ≡ rest → Selects contents stream (preceded taken s.rest) → (t : ListsStream l old new taken)
+      → n.given ≤ length taken + 65536 → (event ≡ too_large name → left < 65536) → Longer new new → Unread s name n left event → StaysBy (status_of event) contents stream n.given rest old new
+  unread_near s n name taken l left event e sel t few over same (inl h) =
+      as_event n.given event (read_fault name) h.0 (
+        judged_unjudged contents stream taken s.rest n.given sel (λ more. (t.line ++ listing_of (t.sent ++ more), t.goes more)),
+        turn_given contents stream taken t.line t.sent n.given l s.rest old new new sel few (stream_whole taken t.line t.sent (t.goes [])) t.lists same,
+      )
+  unread_near s n name taken l left event e sel t few over same (inr h) =
+      let piece = h.1.0 in
+      let some = over h.0 in
+      let near = turn_near contents stream taken piece t.line t.sent l n.rest old new new (taken_more contents stream taken piece s.rest n.rest sel h.1.1.0) t.close (omega (arith, some, h.1.1.1)) (stream_whole taken t.line t.sent (t.goes [])) t.lists same in
+      as_event n.given event (too_large name) h.0 (subst (λ (r : Option (List ℕ)). NearBy contents stream r old new) e near)
 
-  pub unwritten_near : (Q : Type 0) (given : ℕ) (event : Event) → NearBy contents stream rest old new → (event ≡ no_memory) ⊎ ((event ≡ write_fault) × Q) → StaysBy (status_of event) contents stream given rest old new
-  unwritten_near Q given event n (inl h) = as_event given event no_memory h tt
-  unwritten_near Q given event n (inr h) = as_event given event write_fault h.0 n
+  pub unwritten_near : (Q : Type 0) (given : ℕ) (event : Event) → GivenBy contents stream given old new → NearBy contents stream rest old new → (event ≡ no_memory) ⊎ ((event ≡ write_fault) × Q) → StaysBy (status_of event) contents stream given rest old new
+  unwritten_near Q given event g n (inl h) = as_event given event no_memory h g
+  unwritten_near Q given event g n (inr h) = as_event given event write_fault h.0 n

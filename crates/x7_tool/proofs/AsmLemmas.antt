@@ -1,5 +1,5 @@
 -- A text that assembles to nothing.
-use Rattle.std.proofs.Common.{◌≡◌, ℕ, ◌^◌, ◌<◌, List, [], ◌∷◌, Result, Ok, Err, length, refl, subst, ◌⊎◌, inl, inr}
+use Rattle.std.proofs.Common.{◌≡◌, ℕ, ◌^◌, ◌<◌, List, [], ◌∷◌, Result, Ok, Err, false, length, refl, subst, sym, ◌⊎◌, inl, inr}
 use Rattle.x7_listing.specs.Assembling.{AssemblerStandsFor, AssemblerState}
 use Rattle.x7_listing.specs.Assembly.{IsAsm}
 use Rattle.x7_listing.specs.declared.assembler.AsmFault.{AsmFault}
@@ -12,6 +12,7 @@ use Rattle.x7_forms.specs.Step.{IsDecided, IsPossible, ReadsWhole}
 use Rattle.x7_forms.specs.Form.{Assembling}
 use Rattle.x7_tool.specs.Run.{AnswersForm}
 use Rattle.x7_forms.proofs.ReadLemmas.{answers_by}
+use Rattle.x7_tool.proofs.FeedLemmas.{unread_by}
 
 -- want of memory is free, and any other fault is the text's
 faulted_by : (name text : List ℕ) (f : AsmFault) → (f ≡ fault.NoMemory) ⊎ IsAsm text (Err f)
@@ -27,6 +28,12 @@ pub asm_faulted : (old new : InputsState) (name text : List ℕ) (f : AsmFault) 
 asm_faulted old new name text f event e whole why =
     subst (λ (x : Event). AnswersForm (Assembling name) old new (Err x)) e
     (answers_by (List ℕ) Answer (name ∷ []) old new (λ t. whole_in t text_limit name) text (AssembledAs name) (Err (asm_event name f)) whole (faulted_by name text f why))
+
+pub asm_given : (old new : InputsState) (name text bytes : List ℕ) → ReadsWhole old new text_limit name (Ok text) → IsAsm text (Ok bytes) → AnswersForm (Assembling name) old new (Ok (record { stopped = false; text = bytes }))
+asm_given old new name text bytes whole is = answers_by (List ℕ) Answer (name ∷ []) old new (λ t. whole_in t text_limit name) text (AssembledAs name) (Ok (record { stopped = false; text = bytes })) whole (inr (tt, tt, (refl, is)))
+
+pub asm_unread : (old new : InputsState) (name : List ℕ) (event : Event) → ReadsWhole old new text_limit name (Err event) → AnswersForm (Assembling name) old new (Err event)
+asm_unread old new name event h = unread_by name text_limit (λ t end. AssembledAs name (whole_in t text_limit name) end) old new event (λ t e. subst (λ (r : Result (List ℕ) Event). AssembledAs name r (Err event)) (sym e) refl) h
 
 -- ---- an assembler that is fed
 

@@ -91,8 +91,8 @@ ended_left Break stream old new event h = some_of (known_in old) stream old.out 
 ended_left cause stream old new event h = left_as event.reason stream old new h.1
 
 pub list_ends : (stream : List ℕ) (old new : Outside) (end : Result Answer Event) → EndedIn stream old new end → StaysNear (final_status end) (Some (Listing stream)) old new → Ends (Some (Listing stream)) old new end
-list_ends stream old new (Ok answer) h n = record { cause = has_cause (Listing stream) old new (Ok answer) (answers_over (Listing stream) old new (Ok answer) h.0); wrote = h.1; near = n; measured = λ name a. absurd a; updates = tt }
-list_ends stream old new (Err event) h n = record { cause = ended_cause (cause_of event) stream old new event refl h; wrote = ended_left (cause_of event) stream old new event h; near = n; measured = λ name a e. absurd a; updates = tt }
+list_ends stream old new (Ok answer) h n = record { cause = has_cause (Listing stream) old new (Ok answer) (answers_over (Listing stream) old new (Ok answer) h.0); wrote = h.1; near = n; measured = λ name a. absurd a; last = tt; updates = tt }
+list_ends stream old new (Err event) h n = record { cause = ended_cause (cause_of event) stream old new event refl h; wrote = ended_left (cause_of event) stream old new event h; near = n; measured = λ name a e. absurd a; last = λ name a e at. absurd a; updates = tt }
 
 -- the same of a call's result
 pub list_seen : {A : Type 0} (stream : List ℕ) (old new : Outside) (r : Result A Refusal) → OnOk r ((text : List ℕ) × EndedIn stream old new (Ok (record { stopped = false; text = text })))
@@ -137,7 +137,7 @@ front_none (Some inputs) flash name = (bytes_found (found (inputs name)), refl)
 none_put : (old : Option (List ℕ)) (text : List ℕ) → PutsPrefix old text old
 none_put old text = ([], (text, refl, sym (appended-nil old)))
 
-nothing_listed : stream_listing [] ≡ Ok (listing_of [])
+pub nothing_listed : stream_listing [] ≡ Ok (listing_of [])
 nothing_listed = raw_listed [] ((raw_at [] (starts_with nat_eq [] fixed_bytes) refl).1 (λ rest. λ e. absurd cc))
 
 -- nothing was put of any listing

@@ -1,5 +1,5 @@
 -- What may fail where a form reads a flash too, and how a boot from one ends.
-use Rattle.std.proofs.Common.{◌≡◌, ◌∙◌, ap, arith, ℕ, Bool, List, [], ◌∷◌, Option, None, Some, Result, Ok, Err, refl, subst, sym, inl, inr}
+use Rattle.std.proofs.Common.{◌≡◌, ◌∙◌, ap, arith, ℕ, ◌≤◌, Bool, true, false, IfErr, List, [], ◌∷◌, Option, None, Some, Result, Ok, Err, refl, subst, sym, inl, inr}
 use Rattle.std.specs.Prelude.{IsTrue}
 use Rattle.x7_words.specs.Count.{HasRisen}
 use Rattle.x7_words.specs.Flash.{AsksFor, FlashFails, FlashState, FlashStays, OnlyReads, Unattached, Unwritten}
@@ -15,10 +15,13 @@ use Rattle.x7_forms.specs.Event.{Event, bad_input, bad_part, missing, no_memory,
 use Rattle.x7_forms.specs.Form.{Asked, Booting, FlashUse, Read, Unused, Updated, flash_use, names_of, updated_by}
 use Rattle.x7_forms.specs.Known.{Absent, Answer, Failing, Found, Known, Lacking, Mishap, flash_found, known_of, mishap_event, part_of, spoiled, spoiled_name, with_inputs, with_mishap}
 use Rattle.x7_tool.specs.Leaving.{MayBeFound, UsesFlash}
-use Rattle.x7_tool.specs.Outcome.{BootedAs, FlashBoots, Gives}
+use Rattle.x7_boot.specs.Image.{flash_limit}
+use Rattle.x7_forms.specs.declared.refusal.Refusal.{Refusal}
+use Rattle.x7_forms.specs.Message.{event_of}
+use Rattle.x7_tool.specs.Outcome.{BootedAs, FlashBoots, Gives, no_text}
 use Rattle.x7_tool.specs.Outside.{Came, KeepsFlash, Outside, ReadsFlash, known_from, known_in, sources}
-use Rattle.x7_tool.specs.Run.{AnswersOver, FlashComes, IsMeasured, IsUnattached}
-use Rattle.x7_forms.specs.Step.{Among, CameIn, DueBy, IsCaused, IsCausedBy, IsDecided, IsDue, IsNoPart, IsPossible, IsUnread, step_over}
+use Rattle.x7_tool.specs.Run.{Agrees, AnswersOver, FlashComes, IsMeasured, FailsLast, IsUnattached}
+use Rattle.x7_forms.specs.Step.{Among, CameIn, DueBy, IsCaused, IsCausedBy, IsDecided, IsDue, IsNoPart, IsPossible, IsUnread, seen, step_over}
 use Rattle.x7_forms.proofs.ReadLemmas.{caused_on_by, name_is, outside_goes, part_steady}
 
 -- ---- what more may fail
@@ -53,7 +56,7 @@ boot_mishap (Some t) m name part_name part event e n h read = elim ((part_steady
 large_is : (name : List ℕ) (P : Event → Type 0) (event : Event) → P (too_large name) → event ≡ too_large name → P event
 large_is name P event p e = subst P (sym e) p
 
-flash_open : (name : List ℕ) (part : PartData) (flash : Option (List ℕ)) (event : Event) → FlashBoots name part (flash_found flash) (Err event) → event ≡ too_large name
+pub flash_open : (name : List ℕ) (part : PartData) (flash : Option (List ℕ)) (event : Event) → FlashBoots name part (flash_found flash) (Err event) → event ≡ too_large name
 flash_open name part None event h = h
 flash_open name part (Some all) event h = h.1
 
@@ -148,6 +151,51 @@ boot_measured form name part old new (Ok answer) h = λ other a. h.1
 boot_measured form name part old new (Err event) (inl h) = no_memory_small form new event h
 boot_measured form name part old new (Err event) (inr (inl h)) = unattached_measured form name old new event h
 boot_measured form name part old new (Err event) (inr (inr h)) = λ other a e. inl h.1
+
+-- ---- when a flash fails
+
+-- an event of another reason is no fault of a flash
+pub not_fault : (form : Option Asked) (old : InputsState) (new : FlashState) (event : Event) → (event.reason ≡ why.ReadFault → ⊥) → FailsLast form old new (Err event)
+not_fault None old new event n = tt
+not_fault (Some form) old new event n = λ name a e at. absurd (n (ap (λ (x : Event). x.reason) e))
+
+pub other_fault : (form : Option Asked) (old : InputsState) (new : FlashState) (event is : Event) → event ≡ is → (is.reason ≡ why.ReadFault → ⊥) → FailsLast form old new (Err event)
+other_fault form old new event is e n = subst (λ (x : Event). FailsLast form old new (Err x)) (sym e) (not_fault form old new is n)
+
+-- nor is one of a flash that isn't attached
+pub detached : (form : Asked) (old : InputsState) (new : FlashState) (event : Event) → new.attached ≡ false → FailsLast (Some form) old new (Err event)
+detached form old new event d = λ name a e at. let both : true ≡ false = sym at ∙ d in absurd (cc)
+
+-- an input of the form failed
+input_failed : (form : Asked) (old : InputsState) (new : FlashState) (name : List ℕ) (event : Event) → Among (names_of (Some form)) name → event ≡ read_fault name → FailsLast (Some form) old new (Err event)
+input_failed form old new name event a e = λ other f g at.
+    let same : read_fault other ≡ read_fault name = sym g ∙ e in
+    inr (subst (λ (n : List ℕ). Among (names_of (Some form)) n) (sym (ap (λ (x : Event). x.concerned) same)) a)
+
+pub unread_last : (form : Asked) (old : InputsState) (new : FlashState) (name : List ℕ) (event : Event) → Among (names_of (Some form)) name → IsUnread name event → FailsLast (Some form) old new (Err event)
+unread_last form old new name event a (inl e) = other_fault (Some form) old new event no_memory e (λ r. absurd (cc))
+unread_last form old new name event a (inr (inl e)) = other_fault (Some form) old new event (missing name) e (λ r. absurd (cc))
+unread_last form old new name event a (inr (inr (inl e))) = input_failed form old new name event a e
+unread_last form old new name event a (inr (inr (inr e))) = other_fault (Some form) old new event (too_large name) e (λ r. absurd (cc))
+
+pub no_part_last : (form : Asked) (old : InputsState) (new : FlashState) (name : List ℕ) (event : Event) → Among (names_of (Some form)) name → IsNoPart name event → FailsLast (Some form) old new (Err event)
+no_part_last form old new name event a (inl h) = unread_last form old new name event a h
+no_part_last form old new name event a (inr h) = other_fault (Some form) old new event (bad_part name h.0) h.1 (λ r. absurd (cc))
+
+-- the part of a boot was read
+pub part_good : (contents : Option (List ℕ → Option (List ℕ))) (C : Mishap → Type 0) (name part_name : List ℕ) (part : PartData) → IsCaused {A = PartData} (with_inputs contents None) C (λ t. part_of t part_name) (Ok part)
+    → Agrees (with_inputs contents None) (Booting part_name name) (Ok no_text)
+part_good None C name part_name part h = tt
+part_good (Some inputs) C name part_name part (inl h) = absurd h
+part_good (Some inputs) C name part_name part (inr h) = subst (λ (r : Result PartData Event). BootedAs name r None (Ok no_text)) (sym h.1) tt
+
+pub boot_last : {A : Type 0} (value : A → Answer) (name part_name : List ℕ) (old : InputsState) (new : FlashState) (result : Result A Refusal) → IfErr result (λ r. event_of r ≡ read_fault name → new.attached ≡ true → new.extent ≤ flash_limit)
+    → Agrees (with_inputs old.contents None) (Booting part_name name) (Ok no_text) → FailsLast (Some (Booting part_name name)) old new (seen value result)
+boot_last value name part_name old new (Ok a) h g = tt
+boot_last value name part_name old new (Err r) h g = λ other a e at. elim a [
+  | inl same ↦ inl (h (e ∙ ap read_fault same) at, (no_text, g))
+  | inr none ↦ absurd none
+]
 
 -- a part that was not read: by its cause, the boot ends with the same event, whatever its flash is
 boot_due_kept : (known : Option Known) (m : Mishap) (name part_name : List ℕ) (event : Event) → DueBy {A = PartData} known m (λ t r. part_of t part_name ≡ r) event → DueBy {A = Answer} known m (λ t end. Gives t (Booting part_name name) end) event

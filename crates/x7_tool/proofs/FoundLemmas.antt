@@ -2,12 +2,11 @@
 use Rattle.std.proofs.Common.{◌≡◌, ℕ, List, Option, Some, Result, Ok, subst, sym, ◌∙◌, inl, inr, ◌⊎◌, ⊎_elim, arith}
 use Rattle.x7_words.specs.Flash.{FlashState, IfKnown}
 use Rattle.x7_words.specs.Input.{InputsState}
-use Rattle.x7_words.specs.Word.{AreBytes}
 use Rattle.x7_boot.specs.Boot.{BootedState, IsBoot}
 use Rattle.x7_update.specs.After.{MayBeLeft, untouched}
 use Rattle.x7_update.proofs.ToldLemmas.{told_at, told_map}
-use Rattle.x7_recovery.specs.Recovery.{BootsAs, Updating}
-use Rattle.x7_recovery.proofs.FoundLemmas.{found_boots}
+use Rattle.x7_recovery.specs.Golden.{BootsAlike, UpdatingAny}
+use Rattle.x7_recovery.proofs.GoldenLemmas.{found_alike}
 use Rattle.x7_forms.specs.Event.{Event}
 use Rattle.x7_forms.specs.Form.{Asked, updated_by}
 use Rattle.x7_forms.specs.Known.{Known}
@@ -33,12 +32,18 @@ left_by : (r : Result (List ℕ) Event) (stream flash found : List ℕ) → r �
 left_by r stream flash found e (inl same) = untouched same
 left_by r stream flash found e (inr h) = subst (λ (x : List ℕ). MayBeLeft x flash found) (ok_is h.0 stream r h.1 e) h.2
 
+-- what is found of a flash that a run updates with a stream may be left of that update
+found_left : (form : Option Asked) (inputs : InputsState) (flash : FlashState) (known : Known) (name stream all found : List ℕ) → known_from (sources inputs flash) ≡ Some known → updated_by form ≡ Some name → stream_data known name ≡ Ok stream → flash.bytes ≡ Some all
+    → PowerLossMayLeave form (sources inputs flash) found → MayBeLeft stream all found
+found_left form inputs flash known name stream all found is_known updates told_data told_bytes f =
+    let from = known_from (sources inputs flash) in
+    let here : MayBeFound from (updated_by form) all found = told_at flash.bytes (λ x. MayBeFound from (updated_by form) x found) f all told_bytes in
+    let named : MayBeFound from (Some name) all found = subst (λ (s : Option (List ℕ)). MayBeFound from s all found) updates here in
+    let told : MayBeFound (Some known) (Some name) all found = subst (λ (k : Option Known). MayBeFound k (Some name) all found) is_known named in
+    left_by (stream_data known name) stream all found told_data told
+
 -- whatever is found of a flash that a run updates boots as one of the three
-pub found_run_boots : (form : Option Asked) (inputs : InputsState) (flash : FlashState) (u : Updating) (found : List ℕ) (b : BootedState) → IsUpdateOf form (sources inputs flash) u → PowerLossMayLeave form (sources inputs flash) found → AreBytes found → IsBoot u.part found b
-    → BootsAs u found b
-found_run_boots form inputs flash u found b w f fits boot =
-    let known = known_from (sources inputs flash) in
-    let here : MayBeFound known (updated_by form) u.flash found = told_at flash.bytes (λ all. MayBeFound known (updated_by form) all found) f u.flash w.bytes in
-    let named : MayBeFound known (Some w.name) u.flash found = subst (λ (s : Option (List ℕ)). MayBeFound known s u.flash found) w.updates here in
-    let told : MayBeFound (Some w.known) (Some w.name) u.flash found = subst (λ (k : Option Known). MayBeFound k (Some w.name) u.flash found) w.is_known named in
-    found_boots u found b w.prepared fits (left_by (stream_data w.known w.name) u.stream u.flash found w.stream told) boot
+pub found_run_boots : (form : Option Asked) (inputs : InputsState) (flash : FlashState) (u : UpdatingAny) (found : List ℕ) (b : BootedState) → IsUpdateOf form (sources inputs flash) u → PowerLossMayLeave form (sources inputs flash) found → IsBoot u.part found b
+    → BootsAlike u found b
+found_run_boots form inputs flash u found b w f boot =
+    found_alike u found b w.prepared (found_left form inputs flash w.known w.name u.stream u.flash found w.is_known w.updates w.stream w.bytes f) boot

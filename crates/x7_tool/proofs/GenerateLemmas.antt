@@ -2,7 +2,6 @@
 use Rattle.std.proofs.Common.{codes, length-append, ◌≡◌, ◌+◌, ◌*◌, ◌%◌, ◌^◌, ◌<◌, ◌≤◌, ℕ, zero, suc, Bool, true, false, if◌then◌else◌, List, [], ◌∷◌, ◌++◌, length, get_or, drop, Option, refl, ap, sym, subst, ◌∙◌, append_assoc, append-nil, arith}
 use Rattle.std.specs.Prelude.{nat_lt, unwrap_or, All, IsPermutation, Contains}
 use Rattle.std.specs.List.{range_with_len, sum}
-use Rattle.std.proofs.lemmas.Bool.Decides.{nat_tests}
 use Rattle.std.proofs.Math.ListN.{drop_of_length-le}
 use Rattle.std.proofs.lemmas.List.{drop_more, get_or-map, length-map}
 use Rattle.std.proofs.lemmas.List.FromFn.{length-range_with_len, map-range_with_len_more}
@@ -123,14 +122,6 @@ sum_all m rank total all fars h t was =
 pub sum_same : (m n : FrameMap) (fars : List ℕ) → AreSame m n → words_sum m fars ≡ words_sum n fars
 sum_same m n [] same = refl
 sum_same m n (x ∷ fars) same = ap (λ (o : Option (List ℕ)). sum (unwrap_or o []) + words_sum m fars) (same x) ∙ ap (λ (k : ℕ). sum (unwrap_or (n x) []) + k) (sum_same m n fars same)
-
--- ---- a row by its number
-
-pub row_none : (width far n : ℕ) → n < 2 ^ 31 → row_by width far n ≡ []
-row_none width far n h = let t : nat_lt n (2 ^ 31) ≡ true = grind (arith, nat_tests, h) in rw t refl
-
-pub row_some : (width far n : ℕ) → 2 ^ 31 ≤ n → row_by width far n ≡ record { far = far; words = counted width n } ∷ []
-row_some width far n h = let t : nat_lt n (2 ^ 31) ≡ false = grind (arith, nat_tests, h) in rw t refl
 
 -- ---- a stream that was played
 

@@ -13,6 +13,7 @@ pub mod PlanLemmas
 pub mod PlayLemmas
 pub mod PromiseLemmas
 pub mod RunLemmas
+pub mod StopLemmas
 pub mod SvfLemmas
 pub mod TurnLemmas
 pub mod UpdateLemmas

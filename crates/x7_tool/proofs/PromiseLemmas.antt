@@ -1,5 +1,5 @@
 -- What planned streams do, by what was known when they were written.
-use Rattle.std.proofs.Common.{◌≡◌, ◌∙◌, ◌<◌, ◌≤◌, ℕ, List, ◌∷◌, length, drop, take, Bool, true, false, if◌then◌else◌, Option, Some, Result, Ok, Err, ap, arith, refl, subst, sym}
+use Rattle.std.proofs.Common.{◌≡◌, ◌∙◌, ◌<◌, ◌≤◌, ℕ, List, ◌++◌, length, drop, take, Bool, true, false, if◌then◌else◌, Option, Some, Result, Ok, Err, ap, arith, refl, subst, sym}
 use Rattle.std.specs.Prelude.{Contains, nat_lt}
 use Rattle.std.proofs.lemmas.Bool.Decides.{nat_tests}
 use Rattle.std.proofs.lemmas.List.Sorted.{All-permutation}
@@ -16,17 +16,12 @@ use Rattle.x7_engine.specs.Kept.{on_the_bench}
 use Rattle.x7_engine.specs.State.{reads_of, taken_of}
 use Rattle.x7_boot.specs.declared.boots.BootEnd.{BootEnd}
 use Rattle.x7_boot.specs.declared.boots.BootEnd.TheVariants as boot_end
-use Rattle.x7_boot.specs.Attempt.{Trial}
-use Rattle.x7_boot.specs.Boot.{LeadsToEnd}
 use Rattle.x7_boot.specs.Image.{flash_limit, image_of, image_size}
-use Rattle.x7_recovery.specs.ImageBoot.{FallsBack, HasImage, StartsUpdate, UpdateFails, course_along, golden_image, image_with}
+use Rattle.x7_recovery.specs.Course.{course_along}
+use Rattle.x7_recovery.specs.OpenBoot.{HasStreams}
+use Rattle.x7_recovery.specs.OpenSlot.{Opened}
 use Rattle.x7_boot.proofs.CheckedLemmas.{attempt_checked, checked, last_checked}
-use Rattle.x7_recovery.proofs.FullTrialLemmas.{full_stream_fits}
-use Rattle.x7_recovery.proofs.ImageBootLemmas.{boot_falls_back, full_update_starts, update_falls_back}
-use Rattle.x7_recovery.proofs.SlotLemmas.{image_fits}
-use Rattle.x7_memory.specs.Planned.{IsPlanFor, PlanData}
-use Rattle.x7_planner.specs.Full.{full_stream}
-use Rattle.x7_regs.specs.declared.boot_status.Cause.{Cause}
+use Rattle.x7_recovery.proofs.AnyBootLemmas.{boots_open, image_boots}
 use Rattle.x7_jtag.specs.declared.statement.Statement.{Statement}
 use Rattle.x7_jtag.specs.Play.{clocks_played, first_difference, port_played}
 use Rattle.x7_jtag.specs.Port.{Port, words_read}
@@ -41,7 +36,7 @@ use Rattle.x7_forms.specs.Form.{Asked, Booting, Generating, Imaging, ImagingFor,
 use Rattle.x7_forms.specs.Known.{Answer, Found, Held, Known, and_so, data_of, part_by, part_limit, part_of, reads_limit, stream_limit, whole_in}
 use Rattle.x7_tool.specs.Play.{report_of, reported}
 use Rattle.x7_tool.specs.Outcome.{BootedAs, IsBootText, FlashBoots, Gives, ImageStreams, PlanTexts, PlannedFull, PlannedPartial, PlannedRead, PlayedSvf, gen_answer, has_failed, image_by, image_streams, plan_texts, text_limit}
-use Rattle.x7_tool.specs.Promise.{FallsBackAs, FailedUpdateFallsBack, HoldsImage, PromiseOf, PromisesFull, PromisesImage, PromisesImageFor, PromisesPartial, PromisesPlayed, PromisesPort, PromisesRead, PromisesStart, PromisesSummary, StartsChecked, StartsUpdateAs}
+use Rattle.x7_tool.specs.Promise.{BootsFromOpen, HoldsOpen, PromiseOf, PromisesFull, PromisesImage, PromisesImageFor, PromisesPartial, PromisesPlayed, PromisesPort, PromisesRead, PromisesStart, PromisesSummary, StartsChecked}
 use Rattle.x7_tool.proofs.GenerateLemmas.{generated_plays, planned_is}
 
 -- ---- the part that was read is a part
@@ -135,25 +130,13 @@ boots_told name part told flash answer e h fits =
     let here : FlashBoots name part (Some (Held flash)) (Ok answer) = subst (λ (f : Option Found). FlashBoots name part f (Ok answer)) e h in
     here.1 fits
 
--- ---- from the image of a golden plan and an update
+-- ---- from a flash with an open slot
 
-falls_back_as : (part : PartData) (golden : PlanData) (update : List ℕ) (t : Trial) (cause : Cause) (answer : Answer) → HasImage part golden update → UpdateFails (image_with part golden update) t cause false → IsBootText part (golden_image part golden update) answer
-    → FallsBackAs part golden update cause answer
-falls_back_as part golden update t cause answer image fails b =
-    let back : FallsBack part golden cause (course_along b.last b.older b.end) = update_falls_back part golden update t cause b.last b.older b.end image fails b.leads in
-    record { boot = b; falls_back = back; started = b.stopped ∙ ap has_failed back.started }
-
-starts_update_as : (part : PartData) (golden update : PlanData) (answer : Answer) → HasImage part golden (full_stream part update) → IsPlanFor part update → IsBootText part (golden_image part golden (full_stream part update)) answer
-    → StartsUpdateAs part golden update answer
-starts_update_as part golden update answer image for b =
-    let starts : StartsUpdate part golden update (course_along b.last b.older b.end) = full_update_starts part golden update b.last b.older b.end image for b.leads in
-    record { boot = b; starts = starts; started = b.stopped ∙ ap has_failed starts.started }
-
-image_told : (known : Known) (name : List ℕ) (part : PartData) (golden : PlanData) (update : List ℕ) (answer : Answer) → FlashBoots name part (known.flash name) (Ok answer) → HoldsImage known name part golden update → IsBootText part (golden_image part golden update) answer
-image_told known name part golden update answer h holds =
-    let stream : List ℕ = full_stream part golden in
-    let fits : AreBytes (golden_image part golden update) = image_fits part.start_unit stream update (full_stream_fits part golden holds.image.is_part holds.image.plan) holds.bytes in
-    boots_told name part (known.flash name) (golden_image part golden update) answer holds.held h fits
+opened_told : (known : Known) (name : List ℕ) (part : PartData) (o : Opened) (answer : Answer) → FlashBoots name part (known.flash name) (Ok answer) → HoldsOpen known name part o → BootsFromOpen o answer
+opened_told known name part o answer h holds =
+    let boot : IsBootText part o.flash answer = boots_told name part (known.flash name) o.flash answer holds.held h holds.bytes in
+    let here : IsBootText o.part o.flash answer = subst (λ (p : PartData). IsBootText p o.flash answer) (sym holds.part_is) boot in
+    record { boot = here; comes = boots_open o holds.opened (course_along here.last here.older here.end) (record { older = here.older; leads = here.leads; attempts_are = refl }) }
 
 start_promised : (known : Known) (part flash : List ℕ) (read : Result PartData Event) (answer : Answer) → part_of known part ≡ read → BootedAs flash read (known.flash flash) (Ok answer) → PromisesStart known part flash answer
 start_promised known part flash (Err event) answer e p = absurd (cc)
@@ -161,8 +144,7 @@ start_promised known part flash (Ok device) answer e p = record {
   device = device;
   read = e;
   starts = λ all is fits. starts_checked device all answer fits (boots_told flash device (known.flash flash) all answer is p fits);
-  falls_back = λ golden update t cause holds fails. falls_back_as device golden update t cause answer holds.image fails (image_told known flash device golden update answer p holds);
-  full = λ golden update holds for. starts_update_as device golden update answer holds.image for (image_told known flash device golden (full_stream device update) answer p holds);
+  opened = λ o holds. opened_told known flash device o answer p holds;
 }
 
 -- ---- a play
@@ -211,23 +193,22 @@ unfolding value_or
 image_fits_by true n l e text answer t h = absurd (cc)
 image_fits_by false n l e text answer t h = (grind (arith, nat_tests, t), sym (ap (λ (r : Result Answer Event). let a : Answer = value_or answer r in a.text) h))
 
-image_falls : (name : List ℕ) (unit : ℕ) (s : ImageStreams) (device : PartData) (answer : Answer) → IsPart device → device.start_unit ≡ unit → image_by name unit s ≡ Ok answer → FailedUpdateFallsBack device s answer.text
-image_falls name unit s device answer part same h = λ plan b t cause is for boot fails.
+image_has_streams : (name : List ℕ) (unit : ℕ) (s : ImageStreams) (device : PartData) (answer : Answer) (more : List ℕ) → IsPart device → device.start_unit ≡ unit → image_by name unit s ≡ Ok answer → HasStreams device s.golden s.update (answer.text ++ more)
+image_has_streams name unit s device answer more part same h =
     let size = image_size (length s.golden) (length s.update) in
     let fits : (size ≤ flash_limit) × (answer.text ≡ image_of unit s.golden s.update) = image_fits_by (nat_lt flash_limit size) size flash_limit (bad_input name input.Image) (image_of unit s.golden s.update) answer refl h in
-    let text : answer.text ≡ golden_image device plan s.update = fits.1 ∙ ap (λ (u : ℕ). image_of u s.golden s.update) (sym same) ∙ ap (λ (x : List ℕ). image_of device.start_unit x s.update) is in
-    let holds : HasImage device plan s.update = record { is_part = part; plan = for; fits = subst (λ (x : List ℕ). image_size (length x) (length s.update) ≤ flash_limit) is fits.0 } in
-    boot_falls_back device plan s.update b t cause (record { image = holds; boot = record { last = boot.last; older = boot.older; leads = subst (λ (x : List ℕ). LeadsToEnd device x (boot.last ∷ boot.older) b.end) text boot.leads; attempts = boot.attempts; device = boot.device } }) fails
+    let text : answer.text ≡ image_of device.start_unit s.golden s.update = fits.1 ∙ ap (λ (u : ℕ). image_of u s.golden s.update) (sym same) in
+    subst (λ (x : List ℕ). HasStreams device s.golden s.update (x ++ more)) (sym text) (image_boots device s.golden s.update more part fits.0)
 
 image_promised : (known : Known) (golden update : List ℕ) (s : Result ImageStreams Event) (answer : Answer) → image_streams known golden update ≡ s → and_so s (image_by update 1) ≡ Ok answer → PromisesImage known golden update answer.text
 image_promised known golden update (Err event) answer e h = absurd (cc)
-image_promised known golden update (Ok s) answer e h = record { streams = s; read = e; falls_back = λ device part unit. image_falls update 1 s device answer part unit h }
+image_promised known golden update (Ok s) answer e h = record { streams = s; read = e; boots = λ device more part unit. image_has_streams update 1 s device answer more part unit h }
 
 image_for_promised : (known : Known) (part golden update : List ℕ) (p : Result PartData Event) (s : Result ImageStreams Event) (answer : Answer) → part_of known part ≡ p → image_streams known golden update ≡ s
     → and_so p (λ p. and_so s (image_by update p.start_unit)) ≡ Ok answer → PromisesImageFor known part golden update answer.text
 image_for_promised known part golden update (Err event) s answer e f h = absurd (cc)
 image_for_promised known part golden update (Ok p) (Err event) answer e f h = absurd (cc)
-image_for_promised known part golden update (Ok p) (Ok s) answer e f h = record { device = p; streams = s; part_read = e; read = f; falls_back = image_falls update p.start_unit s p answer (part_is known part p e) refl h }
+image_for_promised known part golden update (Ok p) (Ok s) answer e f h = record { device = p; streams = s; part_read = e; read = f; boots = λ more. image_has_streams update p.start_unit s p answer more (part_is known part p e) refl h }
 
 pub promised : (known : Known) (form : Asked) (answer : Answer) → Gives known form (Ok answer) → PromiseOf known form answer
 promised known (PlanningFull part frames) answer a = full_promised known part frames (plan_texts known part frames) answer refl a

@@ -1,9 +1,9 @@
 -- What the end of a command says of its status.
-use Rattle.std.proofs.Common.{◌≡◌, ◌≤◌, arith, length, ℕ, List, Bool, true, false, Option, None, Some, Result, Ok, Err, refl, ap, subst, sym, ◌∙◌, inl, inr, ◌⊎◌}
+use Rattle.std.proofs.Common.{◌≡◌, ◌≤◌, ◌+◌, arith, length, ℕ, List, Bool, true, false, Option, None, Some, Result, Ok, Err, refl, ap, subst, sym, ◌∙◌, inl, inr, ◌⊎◌}
 use Rattle.std.specs.Prelude.{nat_lt}
 use Rattle.std.proofs.lemmas.Bool.Decides.{nat_tests}
 use Rattle.x7_words.specs.Flash.{FlashState}
-use Rattle.x7_words.specs.Input.{Stays}
+use Rattle.x7_words.specs.Input.{InputsState, Stays}
 use Rattle.x7_words.specs.Sink.{SinkState, PutsSome}
 use Rattle.x7_listing.specs.Assembly.{IsAsm}
 use Rattle.x7_listing.proofs.OutcomeLemmas.{one-outcome}
@@ -16,18 +16,19 @@ use Rattle.x7_mcs.proofs.SizeLemmas.{text-short}
 use Rattle.x7_forms.specs.declared.status.Status.{Status}
 use Rattle.x7_forms.specs.declared.status.Status.TheVariants as status
 use Rattle.x7_forms.specs.Event.{Event, Cause, Wording, Want, Fault, Absence, Break, Contents, Difference, cause_of, no_memory, status_of, usage, write_fault}
-use Rattle.x7_forms.specs.Form.{Asked, Assembling, FlashUse, FromMcs, Unused, flash_use, listed_by, names_used, updated_by}
+use Rattle.x7_forms.specs.Form.{Asked, Assembling, FlashUse, FromMcs, Unused, flash_use, listed_by, names_of, names_used, updated_by}
 use Rattle.x7_forms.specs.Message.{final_status, text_status}
 use Rattle.x7_forms.specs.Known.{Answer, Failing, Known, Lacking, Mishap, mishap_event, and_so, found, known_of, taken_whole, whole_in, with_inputs, within}
 use Rattle.x7_forms.specs.Step.{Among, DecidedBy, IsCausedBy, IsDue, IsFromOutside, PossibleBy}
 use Rattle.x7_tool.specs.Ahead.{StaysNear, StaysNearIn}
 use Rattle.x7_tool.specs.Leaving.{Updates}
 use Rattle.x7_tool.specs.Outcome.{AssembledAs, Gives, IsOutcome, mcs_image, text_limit}
-use Rattle.x7_tool.specs.Outside.{Came, IsQuiet, KeepsFlash, Outside, known_in}
+use Rattle.x7_tool.specs.Outside.{Came, IsQuiet, KeepsFlash, Outside, known_in, sources}
 use Rattle.x7_tool.specs.Promise.{Promise}
-use Rattle.x7_tool.specs.Run.{Agrees, AnswersForm, AnswersOver, CausedBy, EndIsCaused, Ends, EndsAs, GetsBy, GetsPrefix, Happens, IsMeasured, LeavesBy, LeftAtBreak, LeftBy, Puts, Says}
+use Rattle.x7_tool.specs.Run.{Agrees, AnswersForm, AnswersOver, CausedBy, EndIsCaused, Ends, EndsAs, FailsLast, GetsBy, GetsPrefix, Happens, IsMeasured, JudgesFlash, LeavesBy, LeftAtBreak, LeftBy, Puts, Says}
 use Rattle.x7_tool.specs.Runs.{Back, Runs}
-use Rattle.x7_tool.proofs.FlashLemmas.{answers_over, not_large}
+use Rattle.x7_tool.specs.Stopping.{Stops}
+use Rattle.x7_tool.proofs.FlashLemmas.{answers_over, not_fault, not_large}
 use Rattle.x7_tool.proofs.PromiseLemmas.{promised}
 
 -- ---- which status an event has
@@ -51,7 +52,7 @@ event_by known form old new event Want k q h = inl h
 event_by known form old new event Fault k q h = absurd (never_came form old new h.mishap q h.came)
 event_by known form old new event Absence k q (inl h) = absurd (never_came form old new h.mishap q h.came)
 event_by known form old new event Absence k q (inr h) = inr (rw k at h)
-event_by known form old new event Break k q h = elim h.1 [ inl fails ↦ absurd (q.2 fails) | inr fails ↦ absurd (q.3 fails) ]
+event_by known form old new event Break k q h = elim h.1 [ inl fails ↦ absurd (q.2 fails) | inr fails ↦ absurd (q.3 fails.0) ]
 event_by known form old new event Difference k q h = let agrees : Agrees (known_in old) form (Err event) = h.1 in inr (rw k at agrees)
 event_by known form old new event Contents k q h = inr (rw k at h)
 
@@ -176,8 +177,8 @@ promise_is (Some form) old new (Err event) h = no_promise (known_in old) (Some f
 -- ---- a run
 
 -- how a command ended is what its run comes to
-pub runs : (form : Option Asked) (old new : Outside) (s : Status) (end : Result Answer Event) → s ≡ final_status end → Says old.err new.err end → Ends form old new end → Stays old.inputs new.inputs → KeepsFlash (flash_use form) old.flash new.flash → Runs form old new s
-runs form old new s end e t h i f =
+pub runs : (form : Option Asked) (old new : Outside) (s : Status) (end : Result Answer Event) → s ≡ final_status end → Says old.err new.err end → Ends form old new end → Stops form old.inputs new.inputs end → JudgesFlash form (sources old.inputs old.flash) (sources new.inputs new.flash) end → new.inputs.selects ≤ old.inputs.selects + length (names_of form) → Stays old.inputs new.inputs → KeepsFlash (flash_use form) old.flash new.flash → Runs form old new s
+runs form old new s end e t h p j k i f =
     let outcome : (known : Known) → known_in old ≡ Some known → IsQuiet form old new → (s ≡ status.NoMemory) ⊎ IsOutcome known form end = outcome_is form old new s end e h.cause in
     record {
       end = end;
@@ -191,6 +192,10 @@ runs form old new s end e t h i f =
       back = back_is form old new s end outcome;
       promise = promise_is form old new end h.cause;
       measured = h.measured;
+      last = h.last;
+      stops = p;
+      judges = j;
+      asks = k;
       stays = i;
       flash = f;
       updates = h.updates;
@@ -254,46 +259,53 @@ unmeasured : (form : Asked) (new : FlashState) (end : Result Answer Event) → f
 unmeasured form new (Ok answer) u = λ name a. absurd (subst (λ (x : FlashUse). Among (names_used x) name) u a)
 unmeasured form new (Err event) u = λ name a e. absurd (subst (λ (x : FlashUse). Among (names_used x) name) u a)
 
+unfailed : (form : Asked) (old : InputsState) (new : FlashState) (end : Result Answer Event) → flash_use (Some form) ≡ Unused → FailsLast (Some form) old new end
+unfailed form old new (Ok answer) u = tt
+unfailed form old new (Err event) u = λ name a e at. absurd (subst (λ (x : FlashUse). Among (names_used x) name) u a)
+
 -- a form whose text is ready before any of it is written ends as it should where its text has its cause and was put
-puts_end : (form : Asked) (old new : Outside) (whole : Result Answer Event) (got : Result Bool Event) → listed_by (Some form) ≡ None → updated_by (Some form) ≡ None → IsMeasured (Some form) new.flash whole → AnswersOver form old new whole → Puts whole old.out new.out got
+puts_end : (form : Asked) (old new : Outside) (whole : Result Answer Event) (got : Result Bool Event) → listed_by (Some form) ≡ None → updated_by (Some form) ≡ None → IsMeasured (Some form) new.flash whole → FailsLast (Some form) old.inputs new.flash whole → AnswersOver form old new whole → Puts whole old.out new.out got
     → EndsAs (Some form) old new got
-puts_end form old new (Ok answer) (Ok stopped) l u m c p = (
+puts_end form old new (Ok answer) (Ok stopped) l u m f c p = (
   answer.text,
   record {
     cause = subst (λ (s : Bool). EndIsCaused (Some form) old new (Ok (record { stopped = s; text = answer.text }))) (sym p.0) (has_cause form old new (Ok answer) c);
     wrote = p.1;
     near = near_all form (text_status stopped) old new l;
     measured = m;
+    last = tt;
     updates = updates_none form old new (Ok (record { stopped = stopped; text = answer.text })) u;
   },
 )
-puts_end form old new (Ok answer) (Err event) l u m c p =
+puts_end form old new (Ok answer) (Err event) l u m f c p =
     subst (λ (e : Event). Ends (Some form) old new (Err e)) (sym p.0)
     (record {
       cause = (refl, inl p.1);
       wrote = subst (λ (x : Option (List ℕ)). LeftAtBreak x form old new) (sym u) (gets_by (known_in old) form answer old.out new.out l (has_cause form old new (Ok answer) c) p.2);
       near = near_all form status.WriteFault old new l;
       measured = not_large (Some form) new.flash write_fault (λ r. absurd (cc));
+      last = not_fault (Some form) old.inputs new.flash write_fault (λ r. absurd (cc));
       updates = updates_none form old new (Err write_fault) u;
     })
-puts_end form old new (Err event) (Ok stopped) l u m c p = let e : true ≡ false = ap is_ok p.0 in absurd (cc)
-puts_end form old new (Err event) (Err other) l u m c p =
+puts_end form old new (Err event) (Ok stopped) l u m f c p = let e : true ≡ false = ap is_ok p.0 in absurd (cc)
+puts_end form old new (Err event) (Err other) l u m f c p =
     subst (λ (e : Event). Ends (Some form) old new (Err e)) (sym (ap event_in p.0))
     (record {
       cause = has_cause form old new (Err event) c;
       wrote = leaves_all form (cause_of event) old new event l (no_break (known_in old) (Came (Some form) old new) (λ t end. Gives t form end) event c) p.1;
       near = near_all form (status_of event) old new l;
       measured = m;
+      last = f;
       updates = updates_none form old new (Err event) u;
     })
 
 pub text_ends : (form : Option Asked) (asks : Asked) (old new : Outside) (whole : Result Answer Event) (got : Result Bool Event)
-    → form ≡ Some asks → streamed (listed_by (Some asks)) (updated_by (Some asks)) ≡ None → IsMeasured (Some asks) new.flash whole → AnswersOver asks old new whole → Puts whole old.out new.out got → EndsAs form old new got
-text_ends form asks old new whole got e n m c p =
-    subst (λ (f : Option Asked). EndsAs f old new got) (sym e)
-    (puts_end asks old new whole got (none_listed (listed_by (Some asks)) (updated_by (Some asks)) n) (none_updated (listed_by (Some asks)) (updated_by (Some asks)) n) m c p)
+    → form ≡ Some asks → streamed (listed_by (Some asks)) (updated_by (Some asks)) ≡ None → IsMeasured (Some asks) new.flash whole → FailsLast (Some asks) old.inputs new.flash whole → AnswersOver asks old new whole → Puts whole old.out new.out got → EndsAs form old new got
+text_ends form asks old new whole got e n m f c p =
+    subst (λ (x : Option Asked). EndsAs x old new got) (sym e)
+    (puts_end asks old new whole got (none_listed (listed_by (Some asks)) (updated_by (Some asks)) n) (none_updated (listed_by (Some asks)) (updated_by (Some asks)) n) m f c p)
 
 -- the same of a form that reads inputs alone
 pub ready_ends : (form : Option Asked) (asks : Asked) (old new : Outside) (whole : Result Answer Event) (got : Result Bool Event)
     → form ≡ Some asks → streamed (listed_by (Some asks)) (updated_by (Some asks)) ≡ None → flash_use (Some asks) ≡ Unused → AnswersForm asks old.inputs new.inputs whole → Puts whole old.out new.out got → EndsAs form old new got
-ready_ends form asks old new whole got e l u c p = text_ends form asks old new whole got e l (unmeasured asks new.flash whole u) (answers_over asks old new whole (c old.flash.bytes)) p
+ready_ends form asks old new whole got e l u c p = text_ends form asks old new whole got e l (unmeasured asks new.flash whole u) (unfailed asks old.inputs new.flash whole u) (answers_over asks old new whole (c old.flash.bytes)) p

@@ -1,5 +1,5 @@
 -- What playing an SVF text comes to, from the tap and the device that played it.
-use Rattle.std.proofs.Common.{◌≡◌, ◌++◌, ◌⊎◌, inl, inr, ℕ, List, [], Bool, false, Option, Err, ap, subst, sym, ◌∙◌}
+use Rattle.std.proofs.Common.{◌≡◌, ◌++◌, ℕ, List, [], Bool, false, Option, ap, ◌∙◌}
 use Rattle.std.specs.Prelude.{◌||◌, is_some}
 use Rattle.x7_part.specs.Part.{PartData}
 use Rattle.x7_engine.specs.declared.fault.Fault.{Fault}
@@ -7,20 +7,16 @@ use Rattle.x7_engine.specs.declared.regs.Regs.{Regs}
 use Rattle.x7_engine.specs.Kept.{on_the_bench}
 use Rattle.x7_engine.specs.Standing.{DeviceState, frames_due}
 use Rattle.x7_engine.specs.State.{memory_in, state_owing}
-use Rattle.x7_forms.specs.Event.{Event, no_memory}
 use Rattle.x7_report.specs.Report.{PlayTextState, report_text}
-use Rattle.x7_jtag.specs.declared.fault.SvfFault.{SvfFault}
-use Rattle.x7_jtag.specs.declared.fault.SvfFault.TheVariants as svf
 use Rattle.x7_jtag.specs.declared.play.Differ.{Differ}
 use Rattle.x7_jtag.specs.declared.statement.Statement.{Statement}
 use Rattle.x7_jtag.specs.Play.{clocks_played, first_difference}
 use Rattle.x7_jtag.specs.PlayLine.{play_text}
 use Rattle.x7_jtag.specs.Port.{Port, port_after}
 use Rattle.x7_jtag.specs.Shown.{bytes_taken, fault_shown, memory_shown, state_shown}
-use Rattle.x7_jtag.specs.Svf.{IsSvfOf}
 use Rattle.x7_jtag.specs.Tap.{TapStandsFor, TapState}
 use Rattle.x7_jtag.proofs.LawLemmas.{shows-is}
-use Rattle.x7_tool.specs.Outcome.{svf_answer, svf_event, svf_shown}
+use Rattle.x7_tool.specs.Outcome.{svf_answer, svf_shown}
 use Rattle.x7_tool.specs.Play.{text_of_play}
 
 -- the port after the clocks that were played
@@ -41,9 +37,3 @@ svf_is part statements t d differ fault stopped line report text s e f b l r is 
     ∙ ap (λ (x : Regs). record { stopped = stopped; text = play_text differ ++ report_text part x [] (memory_shown part p) }) (shows-is part t d (clocks_played statements differ) s)
     ∙ ap (λ (x : Bool). record { stopped = x; text = play_text differ ++ report_text part (state_shown part p) [] (memory_shown part p) }) (b ∙ ap (λ (x : Option Fault). is_some differ || is_some x) f)
     ∙ ap (λ (x : Option Differ). svf_shown part x (played_to part statements x)) e
-
--- a text that is refused has the event of its fault
-pub refused : (text read name : List ℕ) (fault : SvfFault) (event : Event) → read ≡ text → (fault ≡ svf.NoMemory) ⊎ IsSvfOf read (Err fault) → event ≡ svf_event name fault
-    → (event ≡ no_memory) ⊎ ((f : SvfFault) × (IsSvfOf text (Err f) × (svf_event name f ≡ event)))
-refused text read name fault event r (inl n) e = inl (e ∙ ap (svf_event name) n)
-refused text read name fault event r (inr is) e = inr (fault, (subst (λ (t : List ℕ). IsSvfOf t (Err fault)) r is, sym e))

@@ -12,11 +12,11 @@ use Rattle.x7_words.proofs.SinkLemmas.{appended-nil}
 use Rattle.x7_boot.specs.Image.{flash_limit}
 use Rattle.x7_update.specs.After.{IsAfter, MayBeLeft}
 use Rattle.x7_update.specs.Layout.{HasLayout}
-use Rattle.x7_update.specs.Refused.{HasCause, IsEarly, IsTooLong, NoLayoutAt}
+use Rattle.x7_update.specs.Refused.{CanTake, HasCause, IsEarly, IsTooLong, NoLayoutAt}
 use Rattle.x7_update.specs.Writing.{AtAnyMoment, Becomes, BecomesBytes, OnlyUses}
 use Rattle.x7_update.specs.declared.fault.UpdateFault.{UpdateFault}
 use Rattle.x7_update.specs.declared.fault.UpdateFault.TheVariants.{Differs, Failed, NoLayout, NoMemory, TooLong}
-use Rattle.x7_update.proofs.ToldLemmas.{moments_weaker, only_read, read_moments}
+use Rattle.x7_update.proofs.ToldLemmas.{moments_weaker, read_moments}
 use Rattle.x7_forms.specs.declared.bad_input.InputFault.TheVariants as input
 use Rattle.x7_forms.specs.declared.refusal.Why.{Why}
 use Rattle.x7_forms.specs.declared.refusal.Why.TheVariants as why
@@ -27,10 +27,10 @@ use Rattle.x7_forms.specs.Known.{Absent, Answer, Failing, Found, Known, Lacking,
 use Rattle.x7_forms.specs.Step.{Among, CameIn, DueBy, IsCaused, IsDecided, IsDue, IsPossible, IsUnplayed, step_over}
 use Rattle.x7_forms.proofs.ReadLemmas.{name_is, outside_goes}
 use Rattle.x7_tool.specs.Leaving.{HasData, KeepsBytes, MayBeFound, UsesFlash}
-use Rattle.x7_tool.specs.Outcome.{CanTake, FlashUpdates, Gives, IsUpdateFault, UpdateNames, UpdatesBytes, UpdatesWith, no_text, stream_data, update_event}
+use Rattle.x7_tool.specs.Outcome.{FlashUpdates, Gives, IsUpdateFault, UpdateNames, UpdatesBytes, UpdatesWith, no_text, stream_data, update_event}
 use Rattle.x7_tool.specs.Outside.{Came, Outside, known_in, sources}
-use Rattle.x7_tool.specs.Run.{Agrees, AnswersOver, EndsAs, IsMeasured, IsUnopened}
-use Rattle.x7_tool.proofs.FlashLemmas.{bad_small, came_wider, not_large, told_flash, unattached_measured, unread_measured}
+use Rattle.x7_tool.specs.Run.{Agrees, AnswersOver, EndsAs, FailsLast, IsMeasured, IsUnopened}
+use Rattle.x7_tool.proofs.FlashLemmas.{bad_small, came_wider, detached, not_fault, not_large, other_fault, told_flash, unattached_measured, unread_last, unread_measured}
 use Rattle.x7_tool.proofs.RunLemmas.{has_cause, leaves_all, near_all, no_break}
 
 -- the names of an update
@@ -116,13 +116,22 @@ unread_due (Some t) bytes flash stream event same within h = (h.0, update_given 
 
 -- a flash that can't be used, by its size
 pub unopened_measured : (form : Option Asked) (name : List ℕ) (old new : FlashState) (event : Event) → IsUnopened name old new event → IsMeasured form new (Err event)
-unopened_measured form name old new event (inl h) = unattached_measured form name old new event h
+unopened_measured form name old new event (inl h) = unattached_measured form name old new event h.0
 unopened_measured form name old new event (inr h) = λ other a e. inl h.1
 
 -- a stream that was not read says nothing of it
 pub unplayed_measured : (form : Option Asked) (new : FlashState) (name : List ℕ) (event : Event) → Among (names_of form) name → IsUnplayed name event → IsMeasured form new (Err event)
 unplayed_measured form new name event a (inl h) = unread_measured form new name event a h
 unplayed_measured form new name event a (inr h) = bad_small form new name (input.Byte h.0) event h.1
+
+-- neither is a fault of a flash that is attached
+pub unopened_last : (form : Asked) (name : List ℕ) (inputs : InputsState) (old new : FlashState) (event : Event) → IsUnopened name old new event → FailsLast (Some form) inputs new (Err event)
+unopened_last form name inputs old new event (inl h) = detached form inputs new event h.1
+unopened_last form name inputs old new event (inr h) = other_fault (Some form) inputs new event (too_large name) h.0 (λ r. absurd (cc))
+
+pub unplayed_last : (form : Asked) (inputs : InputsState) (new : FlashState) (name : List ℕ) (event : Event) → Among (names_of (Some form)) name → IsUnplayed name event → FailsLast (Some form) inputs new (Err event)
+unplayed_last form inputs new name event a (inl h) = unread_last form inputs new name event a h
+unplayed_last form inputs new name event a (inr h) = other_fault (Some form) inputs new event (bad_input name (input.Byte h.0)) h.1 (λ r. absurd (cc))
 
 -- nor does a fault of the update
 fault_measured : (form : Option Asked) (n : UpdateNames) (new : FlashState) (fault : UpdateFault) → IsMeasured form new (Err (update_event n fault))
@@ -135,9 +144,9 @@ fault_measured form n new NoMemory = not_large form new no_memory (λ r. absurd 
 
 -- a flash that can't be used
 pub unopened_over : (flash stream : List ℕ) (old new : Outside) (event : Event) → IsUnopened flash old.flash new.flash event → AnswersOver (UpdatingFlash flash stream) old new (Err event)
-unopened_over flash stream old new event (inl (inl h)) =
+unopened_over flash stream old new event (inl (inl h, d)) =
     subst (λ (e : Event). AnswersOver (UpdatingFlash flash stream) old new (Err e)) (sym h.0) (inl (inr (record { mishap = Lacking flash; came = inr h.1; is = refl; due = flash_due (known_in old) (Lacking flash) flash stream refl })))
-unopened_over flash stream old new event (inl (inr h)) =
+unopened_over flash stream old new event (inl (inr h, d)) =
     subst (λ (e : Event). AnswersOver (UpdatingFlash flash stream) old new (Err e)) (sym h.0) (inl (inr (record { mishap = Failing flash new.inputs.given; came = (refl, inr h.1); is = refl; due = flash_due (known_in old) (Failing flash new.inputs.given) flash stream refl })))
 unopened_over flash stream old new event (inr h) =
     subst (λ (e : Event). AnswersOver (UpdatingFlash flash stream) old new (Err e)) (sym h.0) (update_over flash stream old new (Err (too_large flash)) (tt, tt) (λ t e. inl (h.2, refl)))
@@ -162,15 +171,16 @@ keeps_all (why.Differs place) old new e = tt
 keeps_all reason old new e = e
 
 -- an update that was refused
-pub refused_ends : (flash stream : List ℕ) (old new : Outside) (event : Event) → new.out ≡ old.out → IsMeasured (Some (UpdatingFlash flash stream)) new.flash (Err event) → AnswersOver (UpdatingFlash flash stream) old new (Err event) → KeepsBytes event.reason old.flash new.flash
+pub refused_ends : (flash stream : List ℕ) (old new : Outside) (event : Event) → new.out ≡ old.out → IsMeasured (Some (UpdatingFlash flash stream)) new.flash (Err event) → FailsLast (Some (UpdatingFlash flash stream)) old.inputs new.flash (Err event) → AnswersOver (UpdatingFlash flash stream) old new (Err event) → KeepsBytes event.reason old.flash new.flash
     → EndsAs (Some (UpdatingFlash flash stream)) old new (Err event)
-refused_ends flash stream old new event out m a kept =
+refused_ends flash stream old new event out m l a kept =
     let form = UpdatingFlash flash stream in
     record {
       cause = has_cause form old new (Err event) a;
       wrote = leaves_all form (cause_of event) old new event refl (no_break (known_in old) (Came (Some form) old new) (λ t end. Gives t form end) event a) (out_same old new out);
       near = near_all form (status_of event) old new refl;
       measured = m;
+      last = l;
       updates = kept;
     }
 
@@ -197,40 +207,64 @@ fault_told n told read bytes fault within e h = inr (within, subst (λ (r : Resu
 
 -- a refusal's cause since before the attach
 pub cause_from : (bytes : List ℕ) (a b c : FlashState) (fault : UpdateFault) → b.bytes ≡ a.bytes → b.write_faults ≡ a.write_faults → a.faults ≤ b.faults → HasCause bytes b c fault → HasCause bytes a c fault
-cause_from bytes a b c (Failed true) e w f h = subst (λ (n : ℕ). HasRisen n c.write_faults) w h
-cause_from bytes a b c (Failed false) e w f h = risen_from a.faults b.faults c.faults f h
+cause_from bytes a b c (Failed true) e w f h = (subst (λ (n : ℕ). HasRisen n c.write_faults) w h.0, h.1, subst (λ (o : Option (List ℕ)). IfKnown o (CanTake bytes)) e h.2)
+cause_from bytes a b c (Failed false) e w f h = (risen_from a.faults b.faults c.faults f h.0, h.1)
 cause_from bytes a b c TooLong e w f h = subst (λ (o : Option (List ℕ)). IfKnown o (IsTooLong bytes)) e h
 cause_from bytes a b c (NoLayout place) e w f h = subst (λ (o : Option (List ℕ)). IfKnown o (λ flash. NoLayoutAt (length flash) flash place)) e h
-cause_from bytes a b c (Differs place wrote read) e w f h = (h.0, sym e ∙ h.1)
+cause_from bytes a b c (Differs place wrote read) e w f h = (h.0, sym e ∙ h.1, h.2)
 cause_from bytes a b c NoMemory e w f h = tt
+
+-- the flash can take the stream's data
+could_end : (flash stream bytes : List ℕ) (old : Outside) → IsWithin old.flash.bytes → HasData (known_in old) stream bytes → IfKnown old.flash.bytes (CanTake bytes) → Agrees (known_in old) (UpdatingFlash flash stream) (Ok no_text)
+could_end flash stream bytes old within has can =
+    let told = old.flash.bytes in
+    let n = names flash stream in
+    agreed (known_in old) told flash stream (Ok no_text) (told_flash old.inputs.contents told flash)
+    (λ t e. inr (within, subst (λ (r : Result (List ℕ) Event). UpdatesWith n told r (Ok no_text)) (sym (data_at (known_in old) stream bytes has t e)) (refl, can)))
+
+-- the stream is good, whatever the flash holds
+stream_good : (contents : Option (List ℕ → Option (List ℕ))) (flash stream bytes : List ℕ) → HasData (with_inputs contents None) stream bytes → Agrees (with_inputs contents None) (UpdatingFlash flash stream) (Ok no_text)
+stream_good None flash stream bytes h = tt
+stream_good (Some inputs) flash stream bytes h = inr (tt, subst (λ (r : Result (List ℕ) Event). UpdatesWith (names flash stream) None r (Ok no_text)) (sym h) (refl, tt))
+
+-- which fault of an update is one of a flash that is attached
+fault_last : (flash stream bytes : List ℕ) (inputs : InputsState) (new : FlashState) (fault : UpdateFault) → HasData (with_inputs inputs.contents None) stream bytes → new.extent ≤ flash_limit
+    → FailsLast (Some (UpdatingFlash flash stream)) inputs new (Err (update_event (names flash stream) fault))
+fault_last flash stream bytes inputs new (Failed true) has size = not_fault (Some (UpdatingFlash flash stream)) inputs new write_fault (λ r. absurd (cc))
+fault_last flash stream bytes inputs new (Failed false) has size = λ name a e at. inl (size, (no_text, stream_good inputs.contents flash stream bytes has))
+fault_last flash stream bytes inputs new TooLong has size = not_fault (Some (UpdatingFlash flash stream)) inputs new (bad_input stream input.Long) (λ r. absurd (cc))
+fault_last flash stream bytes inputs new (NoLayout place) has size = not_fault (Some (UpdatingFlash flash stream)) inputs new (bad_input flash (input.Layout place)) (λ r. absurd (cc))
+fault_last flash stream bytes inputs new (Differs place wrote read) has size = not_fault (Some (UpdatingFlash flash stream)) inputs new (differs flash place) (λ r. absurd (cc))
+fault_last flash stream bytes inputs new NoMemory has size = not_fault (Some (UpdatingFlash flash stream)) inputs new no_memory (λ r. absurd (cc))
 
 -- an update that came to no end
 pub fault_ends : (flash stream bytes : List ℕ) (old new : Outside) (fault : UpdateFault) → new.out ≡ old.out → IsTrue (new.flash.names flash) → IsWithin old.flash.bytes → HasData (known_in old) stream bytes
-    → HasCause bytes old.flash new.flash fault → (IsEarly fault → new.flash.bytes ≡ old.flash.bytes) → EndsAs (Some (UpdatingFlash flash stream)) old new (Err (update_event (names flash stream) fault))
-fault_ends flash stream bytes old new (Failed true) out asked within has h early =
-    record { cause = (refl, inr h); wrote = out_same old new out; near = near_all (UpdatingFlash flash stream) (status_of write_fault) old new refl; measured = fault_measured (Some (UpdatingFlash flash stream)) (names flash stream) new.flash (Failed true); updates = tt }
-fault_ends flash stream bytes old new (Failed false) out asked within has h early =
-    refused_ends flash stream old new (read_fault flash) out (fault_measured (Some (UpdatingFlash flash stream)) (names flash stream) new.flash (Failed false))
-    (inl (inr (record { mishap = Failing flash new.inputs.given; came = (refl, inr (record { among = inl refl; asked = asked; risen = h })); is = refl; due = flash_due (known_in old) (Failing flash new.inputs.given) flash stream refl }))) (inl h)
-fault_ends flash stream bytes old new TooLong out asked within has h early =
-    refused_ends flash stream old new (bad_input stream input.Long) out (fault_measured (Some (UpdatingFlash flash stream)) (names flash stream) new.flash TooLong)
+    → HasData (with_inputs old.inputs.contents None) stream bytes → new.flash.extent ≤ flash_limit → HasCause bytes old.flash new.flash fault → (IsEarly fault → new.flash.bytes ≡ old.flash.bytes) → EndsAs (Some (UpdatingFlash flash stream)) old new (Err (update_event (names flash stream) fault))
+fault_ends flash stream bytes old new (Failed true) out asked within has reads size h early =
+    record { cause = (refl, inr (h.0, size, could_end flash stream bytes old within has h.2)); last = fault_last flash stream bytes old.inputs new.flash (Failed true) reads size; wrote = out_same old new out; near = near_all (UpdatingFlash flash stream) (status_of write_fault) old new refl; measured = fault_measured (Some (UpdatingFlash flash stream)) (names flash stream) new.flash (Failed true); updates = tt }
+fault_ends flash stream bytes old new (Failed false) out asked within has reads size h early =
+    refused_ends flash stream old new (read_fault flash) out (fault_measured (Some (UpdatingFlash flash stream)) (names flash stream) new.flash (Failed false)) (fault_last flash stream bytes old.inputs new.flash (Failed false) reads size)
+    (inl (inr (record { mishap = Failing flash new.inputs.given; came = (refl, inr (record { among = inl refl; asked = asked; risen = h.0 })); is = refl; due = flash_due (known_in old) (Failing flash new.inputs.given) flash stream refl }))) (inl h.0)
+fault_ends flash stream bytes old new TooLong out asked within has reads size h early =
+    refused_ends flash stream old new (bad_input stream input.Long) out (fault_measured (Some (UpdatingFlash flash stream)) (names flash stream) new.flash TooLong) (fault_last flash stream bytes old.inputs new.flash TooLong reads size)
     (update_over flash stream old new (Err (bad_input stream input.Long)) (tt, tt) (λ t e. fault_told (names flash stream) old.flash.bytes (stream_data t stream) bytes TooLong within (data_at (known_in old) stream bytes has t e) h)) (early tt)
-fault_ends flash stream bytes old new (NoLayout place) out asked within has h early =
-    refused_ends flash stream old new (bad_input flash (input.Layout place)) out (fault_measured (Some (UpdatingFlash flash stream)) (names flash stream) new.flash (NoLayout place))
+fault_ends flash stream bytes old new (NoLayout place) out asked within has reads size h early =
+    refused_ends flash stream old new (bad_input flash (input.Layout place)) out (fault_measured (Some (UpdatingFlash flash stream)) (names flash stream) new.flash (NoLayout place)) (fault_last flash stream bytes old.inputs new.flash (NoLayout place) reads size)
     (update_over flash stream old new (Err (bad_input flash (input.Layout place))) (tt, tt)
     (λ t e. fault_told (names flash stream) old.flash.bytes (stream_data t stream) bytes (NoLayout place) within (data_at (known_in old) stream bytes has t e) h)) (early tt)
-fault_ends flash stream bytes old new (Differs place wrote read) out asked within has h early = record {
+fault_ends flash stream bytes old new (Differs place wrote read) out asked within has reads size h early = record {
   cause = (
-    (place, refl, h.1, record { stream = bytes; wrote = wrote; read = read; wrong = h.0 }),
+    (place, refl, h.1, record { bytes = bytes; has = has; wrote = wrote; read = read; wrong = h.0 }),
     agreed (known_in old) old.flash.bytes flash stream (Err (differs flash place)) (told_flash old.inputs.contents old.flash.bytes flash)
         (λ t e. fault_told (names flash stream) old.flash.bytes (stream_data t stream) bytes (Differs place wrote read) within (data_at (known_in old) stream bytes has t e) ((new.flash.extent, h.0), h.1)),
   );
   wrote = out_same old new out;
   near = near_all (UpdatingFlash flash stream) (status_of (differs flash place)) old new refl;
   measured = fault_measured (Some (UpdatingFlash flash stream)) (names flash stream) new.flash (Differs place wrote read);
+  last = fault_last flash stream bytes old.inputs new.flash (Differs place wrote read) reads size;
   updates = tt;
 }
-fault_ends flash stream bytes old new NoMemory out asked within has h early = refused_ends flash stream old new no_memory out (fault_measured (Some (UpdatingFlash flash stream)) (names flash stream) new.flash NoMemory) (inl (inl refl)) (early tt)
+fault_ends flash stream bytes old new NoMemory out asked within has reads size h early = refused_ends flash stream old new no_memory out (fault_measured (Some (UpdatingFlash flash stream)) (names flash stream) new.flash NoMemory) (fault_last flash stream bytes old.inputs new.flash NoMemory reads size) (inl (inl refl)) (early tt)
 
 can_take : (told now : Option (List ℕ)) (bytes : List ℕ) → IfKnown told HasLayout → BecomesBytes (IsAfter bytes) told now → IfKnown told (CanTake bytes)
 can_take None now bytes l b = tt
@@ -240,29 +274,19 @@ can_take (Some all) now bytes l b = record { layout = l; fits = b.2.fits }
 pub done_ends : (flash stream bytes : List ℕ) (old new : Outside) → new.out ≡ old.out → IsWithin old.flash.bytes → HasData (known_in old) stream bytes → IfKnown old.flash.bytes HasLayout → new.flash.extent ≤ flash_limit → Becomes old.flash new.flash (IsAfter bytes)
     → EndsAs (Some (UpdatingFlash flash stream)) old new (Ok false)
 done_ends flash stream bytes old new out within has layout size becomes =
-    let told = old.flash.bytes in
-    let n = names flash stream in (
+    let told = old.flash.bytes in (
       [],
       record {
-        cause = agreed (known_in old) told flash stream (Ok no_text) (told_flash old.inputs.contents told flash)
-            (λ t e. inr (within, subst (λ (r : Result (List ℕ) Event). UpdatesWith n told r (Ok no_text)) (sym (data_at (known_in old) stream bytes has t e)) (refl, can_take told new.flash.bytes bytes layout becomes)));
+        cause = could_end flash stream bytes old within has (can_take told new.flash.bytes bytes layout becomes);
         wrote = out_same old new out ∙ sym (appended-nil old.out.written);
         near = near_all (UpdatingFlash flash stream) (text_status false) old new refl;
         measured = λ name a. size;
+        last = tt;
         updates = (bytes, has, becomes);
       },
     )
 
 -- ---- what an update leaves of the flash
-
--- a flash that was attached, and no more
-pub uses_opened : (flash stream : List ℕ) (inputs : InputsState) (old new : FlashState) (past since : ℕ → List ℕ → Type 0) → FlashStays old new past since → AsksFor old flash new → UsesFlash (Some (UpdatingFlash flash stream)) (sources inputs old) new past since
-uses_opened flash stream inputs old new past since s a =
-    let known = with_inputs inputs.contents old.bytes in
-    record {
-      keeps = record { faults = s.faults; absences = s.absences; write_faults = omega (arith, s.unwritten.write_faults); no_other = a.no_other };
-      moments = only_read old new past since (MayBeFound known (Some stream)) (λ all e. inl refl) s.bytes s.unwritten;
-    }
 
 -- a flash that was attached and updated
 pub uses_updated : (flash stream bytes : List ℕ) (inputs : InputsState) (old mid new : FlashState) (past mids since : ℕ → List ℕ → Type 0) → FlashStays old mid past mids → AsksFor old flash mid → HasData (with_inputs inputs.contents old.bytes) stream bytes

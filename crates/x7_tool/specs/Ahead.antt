@@ -1,5 +1,5 @@
 -- How far `list` reads ahead of what it writes (this project's choice).
-use Rattle.std.specs.Prelude.{◌≡◌, ℕ, ◌+◌, ◌<◌, ◌≤◌, List, length, Option, None, Some, Err}
+use Rattle.std.specs.Prelude.{◌≡◌, ℕ, ◌+◌, ◌<◌, ◌≤◌, List, ◌++◌, length, Option, None, Some, Ok, Err}
 use Rattle.x7_words.specs.Sink.{SinkState, appended}
 use Rattle.x7_words.specs.Word.{AreBytes}
 use Rattle.x7_listing.specs.StreamListing.{stream_listing}
@@ -12,11 +12,44 @@ use Rattle.x7_tool.specs.Outside.{Outside}
 abbrev pub most_ahead : ℕ
 most_ahead = 524288
 
--- where the stream, what is left of it, and what the sink got are told, the bytes read are at most so many more than the sink got
+-- the most bytes of a listing that are held of it: those of bytes that may yet be a sync word, or the rest of a word, and line ends
+abbrev pub most_held : ℕ
+most_held = 64
+
+-- The listing of these first bytes of a stream is written, but for what is held of it.
+pub record HasWritten (early before after : List ℕ) : Type 0 where
+  pub text : List ℕ
+  pub lists : stream_listing early ≡ Ok text
+  pub written : length before + length text ≤ length after + most_held
+
+-- Of a stream's bytes the last are left. Of those that were read, the early ones are listed, and the late ones are few; and they all are at most so many more than the sink got.
+pub record ReadsNear (bytes left before after : List ℕ) : Type 0 where
+  pub early : List ℕ
+  pub late : List ℕ
+  pub split : bytes ≡ early ++ (late ++ left)
+  pub few : length late ≤ most_ahead
+  pub written : HasWritten early before after
+  pub near : length bytes + length before ≤ length left + length after + most_ahead
+
+-- The early bytes of a stream are listed, and few more were given than they are.
+pub record GivesNear (bytes : List ℕ) (given : ℕ) (before after : List ℕ) : Type 0 where
+  pub early : List ℕ
+  pub others : List ℕ
+  pub split : bytes ≡ early ++ others
+  pub few : given ≤ length early + most_ahead
+  pub written : HasWritten early before after
+
+-- where the stream, what is left of it, and what the sink got are told, few bytes more were read than are listed
 abbrev pub IsNear : List ℕ → Outside → Outside → Type 0
 IsNear stream old new =
     (inputs : List ℕ → Option (List ℕ)) (bytes left before after : List ℕ) → old.inputs.contents ≡ Some inputs → inputs stream ≡ Some bytes → new.inputs.rest ≡ Some left
-    → old.out.written ≡ Some before → new.out.written ≡ Some after → length bytes + length before ≤ length left + length after + most_ahead
+    → old.out.written ≡ Some before → new.out.written ≡ Some after → ReadsNear bytes left before after
+
+-- where the stream and what the sink got are told, few bytes more were given than are listed: a fault may leave nothing told of the rest
+abbrev pub IsGivenNear : List ℕ → Outside → Outside → Type 0
+IsGivenNear stream old new =
+    (inputs : List ℕ → Option (List ℕ)) (bytes before after : List ℕ) → old.inputs.contents ≡ Some inputs → inputs stream ≡ Some bytes
+    → old.out.written ≡ Some before → new.out.written ≡ Some after → GivesNear bytes new.inputs.given before after
 
 -- where the stream and what is left of it are told, and its header is refused at a byte, no byte behind that one was read
 abbrev pub IsSoon : List ℕ → Outside → Outside → Type 0
@@ -30,11 +63,14 @@ IsUnjudged stream old new =
     (inputs : List ℕ → Option (List ℕ)) (bytes : List ℕ) (place : ℕ) → old.inputs.contents ≡ Some inputs → inputs stream ≡ Some bytes → AreBytes bytes → stream_listing bytes ≡ Err place → place < length bytes
     → new.inputs.given ≤ place
 
--- by the status: the sink failed and few bytes more were read than it got; a header was refused and none was read behind that byte; a fault came and the byte at which the header would be refused was not given
+-- by the status: where the sink failed, the stream is too large, it failed or memory is wanting, few bytes more were read or given than are listed; a header was
+-- refused and none was read behind that byte; a fault came and the byte at which the header would be refused was not given
 abbrev pub StaysNearBy : Status → List ℕ → Outside → Outside → Type 0
 StaysNearBy status.WriteFault stream old new = IsNear stream old new
+StaysNearBy status.TooLarge stream old new = IsNear stream old new
 StaysNearBy status.BadInput stream old new = IsSoon stream old new
-StaysNearBy status.ReadFault stream old new = IsUnjudged stream old new
+StaysNearBy status.ReadFault stream old new = IsUnjudged stream old new × IsGivenNear stream old new
+StaysNearBy status.NoMemory stream old new = IsGivenNear stream old new
 StaysNearBy s stream old new = Unit {0}
 
 -- the same of the stream that a form lists; other forms read each input whole, and write at the end

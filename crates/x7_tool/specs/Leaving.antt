@@ -1,11 +1,10 @@
 -- What a run leaves of a flash, and what may be found of it after a power loss at any moment (this project's choice).
 use Rattle.std.specs.Prelude.{◌≡◌, ℕ, List, Option, None, Some, Result, Ok, Err, ◌⊎◌}
 use Rattle.x7_words.specs.Flash.{FlashFails, FlashState, IfKnown}
-use Rattle.x7_words.specs.Word.{AreBytes}
 use Rattle.x7_update.specs.After.{IsAfter, MayBeLeft}
 use Rattle.x7_update.specs.Writing.{AtAnyMoment, Becomes}
 use Rattle.x7_boot.specs.Boot.{BootedState, IsBoot}
-use Rattle.x7_recovery.specs.Recovery.{BootsAs, IsPrepared, Updating}
+use Rattle.x7_recovery.specs.Golden.{BootsAlike, IsPreparedAny, UpdatingAny}
 use Rattle.x7_forms.specs.declared.refusal.Why.{Why}
 use Rattle.x7_forms.specs.declared.refusal.Why.TheVariants as why
 use Rattle.x7_forms.specs.Event.{Event}
@@ -33,19 +32,19 @@ pub record UsesFlash (form : Option Asked) (old : Sources) (new : FlashState) (p
 abbrev pub PowerLossMayLeave : Option Asked → Sources → List ℕ → Type 0
 PowerLossMayLeave form old found = IfKnown old.flash.bytes (λ all. MayBeFound (known_from old) (updated_by form) all found)
 
--- A run updates a flash with a stream, whose bytes and data are known; the flash has a layout, and its golden stream is the full stream of a plan for a part.
-pub record IsUpdateOf (form : Option Asked) (old : Sources) (u : Updating) : Type 0 where
+-- A run updates a flash with a stream, whose bytes and data are known; the flash has a layout, and its golden stream, of any kind, starts where the first sector is erased, and ends at U or before it.
+pub record IsUpdateOf (form : Option Asked) (old : Sources) (u : UpdatingAny) : Type 0 where
   pub known : Known
   pub is_known : known_from old ≡ Some known
   pub name : List ℕ
   pub updates : updated_by form ≡ Some name
   pub stream : stream_data known name ≡ Ok u.stream
   pub bytes : old.flash.bytes ≡ Some u.flash
-  pub prepared : IsPrepared u
+  pub prepared : IsPreparedAny u
 
--- where a run is such an update and these bytes are found, each boot from them is that of the flash before it, or starts with the golden stream, or is that of the updated flash
+-- where a run is such an update and these bytes are found, each boot from them is that of the flash before it, or starts as the golden stream does, or is that of the updated flash
 abbrev pub EachBoots : Option Asked → Sources → List ℕ → Type 0
-EachBoots form old found = (u : Updating) (b : BootedState) → IsUpdateOf form old u → AreBytes found → IsBoot u.part found b → BootsAs u found b
+EachBoots form old found = (u : UpdatingAny) (b : BootedState) → IsUpdateOf form old u → IsBoot u.part found b → BootsAlike u found b
 
 -- by the reason of an update that wasn't done: the bytes stay, but where a write or a read of the flash failed, or a byte differs
 abbrev pub KeepsBytes : Why → FlashState → FlashState → Type 0

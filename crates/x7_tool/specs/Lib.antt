@@ -12,6 +12,7 @@ pub mod Promise
 pub mod Ready
 pub mod Run
 pub mod Runs
+pub mod Stopping
 pub mod Streamed
 pub mod Svf
 pub mod Turns

@@ -1,5 +1,5 @@
 -- What a command comes to, over known inputs and a known flash: the first event in the order of the work decides (this project's choice).
-use Rattle.std.specs.Prelude.{◌≡◌, ◌+◌, ℕ, List, [], ◌∷◌, ◌++◌, ◌||◌, Option, None, Some, is_some, Result, Ok, Err, Bool, false, if◌then◌else◌, length, nat_lt, take, ◌⊎◌, ◌<◌, ◌≤◌, map, reverse, true}
+use Rattle.std.specs.Prelude.{◌≡◌, ℕ, List, [], ◌∷◌, ◌++◌, ◌||◌, Option, None, Some, is_some, Result, Ok, Err, Bool, false, if◌then◌else◌, length, nat_lt, take, ◌⊎◌, ◌<◌, ◌≤◌, map, reverse, true}
 use Rattle.x7_jtag.specs.declared.fault.SvfFault.{SvfFault}
 use Rattle.x7_jtag.specs.declared.fault.SvfFault.TheVariants as svf
 use Rattle.x7_jtag.specs.declared.play.Differ.{Differ}
@@ -24,8 +24,7 @@ use Rattle.x7_boot.specs.declared.boots.BootEnd.{BootEnd}
 use Rattle.x7_boot.specs.declared.boots.BootEnd.TheVariants as boot_end
 use Rattle.x7_boot.specs.declared.fault.BootFault.{BootFault}
 use Rattle.x7_boot.specs.declared.fault.BootFault.TheVariants as fault
-use Rattle.x7_update.specs.Layout.{HasLayout, update_place}
-use Rattle.x7_update.specs.Refused.{IsTooLong, NoLayoutAt}
+use Rattle.x7_update.specs.Refused.{CanTake, IsTooLong, NoLayoutAt}
 use Rattle.x7_update.specs.Writing.{IsReadWrong}
 use Rattle.x7_update.specs.declared.fault.UpdateFault.{UpdateFault}
 use Rattle.x7_update.specs.declared.fault.UpdateFault.TheVariants as update_fault
@@ -322,11 +321,6 @@ update_event names update_fault.TooLong = bad_input names.stream input.Long
 update_event names (update_fault.NoLayout place) = bad_input names.flash (input.Layout place)
 update_event names (update_fault.Differs place wrote read) = differs names.flash place
 update_event names update_fault.NoMemory = no_memory
-
--- a flash has a layout in which the stream fits
-pub record CanTake (stream flash : List ℕ) : Type 0 where
-  pub layout : HasLayout flash
-  pub fits : update_place flash + length stream ≤ length flash
 
 -- why a flash isn't updated with a stream, by its bytes where they are known; a byte read back may be another than the one written there only where they aren't
 abbrev pub IsUpdateFault : Option (List ℕ) → List ℕ → UpdateFault → Type 0

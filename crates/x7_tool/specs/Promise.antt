@@ -1,20 +1,20 @@
 -- What a planned stream that was written does on a device at rest, and what a boot that started has been through (this project's choice).
-use Rattle.std.specs.Prelude.{◌≡◌, ◌<◌, ℕ, List, [], false, Option, Some, Result, Ok}
+use Rattle.std.specs.Prelude.{◌≡◌, ◌<◌, ℕ, List, [], ◌++◌, false, Option, Some, Result, Ok}
 use Rattle.x7_words.specs.Word.{AreBytes}
 use Rattle.x7_part.specs.Part.{PartData}
 use Rattle.x7_part.specs.PartRange.{IsPart}
-use Rattle.x7_memory.specs.Planned.{IsPlanFor, PlanData}
+use Rattle.x7_memory.specs.Planned.{PlanData}
 use Rattle.x7_frames.specs.FramesText.{IsPlanOf}
 use Rattle.x7_engine.specs.Kept.{on_the_bench}
 use Rattle.x7_engine.specs.State.{state_of}
 use Rattle.x7_engine.specs.declared.kept.Kept.{Kept}
 use Rattle.x7_engine.specs.Rest.{AtRest}
-use Rattle.x7_regs.specs.declared.boot_status.Cause.{Cause}
 use Rattle.x7_planner.specs.Full.{full_stream}
-use Rattle.x7_boot.specs.Attempt.{Trial}
-use Rattle.x7_boot.specs.Boot.{BootedState, IsBoot, end_state}
+use Rattle.x7_boot.specs.Boot.{end_state}
 use Rattle.x7_boot.specs.Checked.{HasChecked}
-use Rattle.x7_recovery.specs.ImageBoot.{FallsBack, HasImage, StartsUpdate, UpdateFails, course_along, course_of, golden_image, image_with}
+use Rattle.x7_recovery.specs.Course.{course_along}
+use Rattle.x7_recovery.specs.OpenBoot.{BootsOpen, HasStreams}
+use Rattle.x7_recovery.specs.OpenSlot.{IsOpened, Opened}
 use Rattle.x7_jtag.specs.declared.statement.Statement.{Statement}
 use Rattle.x7_jtag.specs.Play.{port_played}
 use Rattle.x7_jtag.specs.Shown.{bytes_taken, state_shown}
@@ -74,25 +74,19 @@ pub record PromisesPort (known : Known) (part text : List ℕ) (answer : Answer)
   pub shows : answer ≡ svf_answer texts.part statements
   pub checked : 0 < (state_shown texts.part (port_played texts.part statements)).phase → HasChecked texts.part on_the_bench (bytes_taken texts.part (port_played texts.part statements))
 
--- a boot from these bytes falls back to the full stream of a plan, which is the golden stream, where the update fails and CTL0 allows it
-abbrev pub FailedUpdateFallsBack : PartData → ImageStreams → List ℕ → Type 0
-FailedUpdateFallsBack device s image =
-    (plan : PlanData) (b : BootedState) (t : Trial) (cause : Cause) → s.golden ≡ full_stream device plan → IsPlanFor device plan → (is : IsBoot device image b)
-    → UpdateFails (image_with device plan s.update) t cause false → FallsBack device plan cause (course_of b is.last)
-
--- The bytes of `image GOLDEN UPDATE`: a boot of any part whose start address counts bytes falls back where the update fails.
+-- The bytes of `image GOLDEN UPDATE`: a flash that begins with them has both streams, for each part whose start address counts bytes, and a boot from it tries the update, and falls back where that fails.
 pub record PromisesImage (known : Known) (golden update image : List ℕ) : Type 0 where
   pub streams : ImageStreams
   pub read : image_streams known golden update ≡ Ok streams
-  pub falls_back : (device : PartData) → IsPart device → device.start_unit ≡ 1 → FailedUpdateFallsBack device streams image
+  pub boots : (device : PartData) (more : List ℕ) → IsPart device → device.start_unit ≡ 1 → HasStreams device streams.golden streams.update (image ++ more)
 
--- The bytes of `image PART GOLDEN UPDATE`: a boot of the part falls back where the update fails.
+-- The bytes of `image PART GOLDEN UPDATE`: a flash that begins with them has both streams for the part, and a boot from it tries the update, and falls back where that fails.
 pub record PromisesImageFor (known : Known) (part golden update image : List ℕ) : Type 0 where
   pub device : PartData
   pub streams : ImageStreams
   pub part_read : part_of known part ≡ Ok device
   pub read : image_streams known golden update ≡ Ok streams
-  pub falls_back : FailedUpdateFallsBack device streams image
+  pub boots : (more : List ℕ) → HasStreams device streams.golden streams.update (image ++ more)
 
 -- a boot from a flash of these bytes; startup has begun in its last attempt only where that made its checks, also where it didn't start
 pub record StartsChecked (part : PartData) (flash : List ℕ) (answer : Answer) : Type 0 where
@@ -100,31 +94,24 @@ pub record StartsChecked (part : PartData) (flash : List ℕ) (answer : Answer) 
   pub checked : 0 < (end_state part boot.last).phase → HasChecked part boot.last.kept boot.last.bytes
   pub started : answer.stopped ≡ false → HasChecked part boot.last.kept boot.last.bytes
 
--- the flash of this name is known to be the image of a golden plan's stream and an update
-pub record HoldsImage (known : Known) (flash : List ℕ) (part : PartData) (golden : PlanData) (update : List ℕ) : Type 0 where
-  pub held : known.flash flash ≡ Some (Held (golden_image part golden update))
-  pub image : HasImage part golden update
-  pub bytes : AreBytes update
+-- the flash of this name is known, and has an open slot for the part
+pub record HoldsOpen (known : Known) (flash : List ℕ) (part : PartData) (o : Opened) : Type 0 where
+  pub held : known.flash flash ≡ Some (Held o.flash)
+  pub bytes : AreBytes o.flash
+  pub part_is : o.part ≡ part
+  pub opened : IsOpened o
 
--- a boot from the image of a golden plan and an update falls back to the golden stream and starts, with the memory of its plan and this cause in BOOTSTS
-pub record FallsBackAs (part : PartData) (golden : PlanData) (update : List ℕ) (cause : Cause) (answer : Answer) : Type 0 where
-  pub boot : IsBootText part (golden_image part golden update) answer
-  pub falls_back : FallsBack part golden cause (course_along boot.last boot.older boot.end)
-  pub started : answer.stopped ≡ false
+-- the text of a boot from a flash with an open slot, which comes to what such a boot does: the update is tried, and where it fails the golden stream starts as a fallback
+pub record BootsFromOpen (o : Opened) (answer : Answer) : Type 0 where
+  pub boot : IsBootText o.part o.flash answer
+  pub comes : BootsOpen o (course_along boot.last boot.older boot.end)
 
--- a boot from the image of a golden plan and an update that is a full stream starts with the update, with the memory of its plan
-pub record StartsUpdateAs (part : PartData) (golden update : PlanData) (answer : Answer) : Type 0 where
-  pub boot : IsBootText part (golden_image part golden (full_stream part update)) answer
-  pub starts : StartsUpdate part golden update (course_along boot.last boot.older boot.end)
-  pub started : answer.stopped ≡ false
-
--- The text of `boot`: over a flash whose bytes are known startup has begun in the last attempt only where that made its checks. Over an image whose update fails it tells of the fallback and its start, where CTL0 allows that, and of the start of an update that is a full stream.
+-- The text of `boot`: over a flash whose bytes are known startup has begun in the last attempt only where that made its checks. Over one with an open slot it tells of the update's start, or of the fallback and its start, where the golden stream is one that starts so.
 pub record PromisesStart (known : Known) (part flash : List ℕ) (answer : Answer) : Type 0 where
   pub device : PartData
   pub read : part_of known part ≡ Ok device
   pub starts : (all : List ℕ) → known.flash flash ≡ Some (Held all) → AreBytes all → StartsChecked device all answer
-  pub falls_back : (golden : PlanData) (update : List ℕ) (t : Trial) (cause : Cause) → HoldsImage known flash device golden update → UpdateFails (image_with device golden update) t cause false → FallsBackAs device golden update cause answer
-  pub full : (golden update : PlanData) → HoldsImage known flash device golden (full_stream device update) → IsPlanFor device update → StartsUpdateAs device golden update answer
+  pub opened : (o : Opened) → HoldsOpen known flash device o → BootsFromOpen o answer
 
 -- what a whole text of a form promises over what is known
 abbrev pub PromiseOf : Known → Asked → Answer → Type 0

@@ -1,5 +1,5 @@
 -- What may end a command, and what its output holds then (this project's choice).
-use Rattle.std.specs.Prelude.{◌≡◌, ◌<◌, ◌≤◌, ℕ, List, [], ◌∷◌, ◌++◌, length, Option, None, Some, Result, Ok, Err, Bool, ◌⊎◌}
+use Rattle.std.specs.Prelude.{◌≡◌, ◌<◌, ◌≤◌, ℕ, List, [], ◌∷◌, ◌++◌, length, Option, None, Some, Result, Ok, Err, Bool, true, false, ◌⊎◌}
 use Rattle.x7_words.specs.Flash.{FlashState, IfKnown}
 use Rattle.x7_words.specs.Input.{InputsState}
 use Rattle.x7_boot.specs.Image.{flash_limit}
@@ -11,14 +11,14 @@ use Rattle.x7_forms.specs.declared.refusal.Refusal.{Refusal}
 use Rattle.x7_forms.specs.declared.refusal.Why.{Why}
 use Rattle.x7_forms.specs.declared.refusal.Why.TheVariants as why
 use Rattle.x7_forms.specs.Event.{Event, Cause, Wording, Want, Fault, Absence, Break, Contents, Difference, cause_of, differs, line_of, missing, no_memory, read_fault, too_large, usage, write_fault}
-use Rattle.x7_forms.specs.Form.{Asked, FlashUse, Listing, Updated, flash_names, flash_use, listed_by, names_of, updated_by}
-use Rattle.x7_forms.specs.Known.{Answer, Held, Known, bytes_found, flash_found}
+use Rattle.x7_forms.specs.Form.{Asked, Listing, UpdatingFlash, flash_names, listed_by, names_of, updated_by}
+use Rattle.x7_forms.specs.Known.{Answer, Held, Known, bytes_found, flash_found, with_inputs}
 use Rattle.x7_part.specs.Part.{PartData}
 use Rattle.x7_forms.specs.Message.{final_status}
 use Rattle.x7_forms.specs.Step.{Among, AnswersBy, IsCausedBy, IsOfMishap, seen, step_over}
 use Rattle.x7_tool.specs.Ahead.{StaysNear}
-use Rattle.x7_tool.specs.Outcome.{FlashBoots, Gives}
-use Rattle.x7_tool.specs.Leaving.{Updates}
+use Rattle.x7_tool.specs.Outcome.{FlashBoots, Gives, no_text}
+use Rattle.x7_tool.specs.Leaving.{HasData, Updates}
 use Rattle.x7_tool.specs.Outside.{Came, FlashFailsAmong, FlashLacksAmong, Outside, Sources, Transfer, WritesFail, known_in, with_sources, with_transfer}
 
 -- ---- why
@@ -37,17 +37,22 @@ Agrees (Some known) form end = Gives known form end
 abbrev pub Happens : Asked → Outside → Outside → Event → Type 0
 Happens form old new event = IsOfMishap Answer (known_in old) (Came (Some form) old new) (λ known end. Gives known form end) event
 
--- a byte is another than the one that an update with some stream writes at this place of a flash of a size
-pub record ReadsWrongAt (size place : ℕ) : Type 0 where
-  pub stream : List ℕ
+-- a byte is another than the one that an update with the stream's data writes at this place of a flash of this size; with some data, where the contents aren't known
+pub record ReadsWrongAt (known : Option Known) (stream : List ℕ) (size place : ℕ) : Type 0 where
+  pub bytes : List ℕ
+  pub has : HasData known stream bytes
   pub wrote : ℕ
   pub read : ℕ
-  pub wrong : IsReadWrong size stream place wrote read
+  pub wrong : IsReadWrong size bytes place wrote read
 
 -- the event is a byte that differs, of a flash that the form updates and whose bytes aren't known
-abbrev pub IsDifference : FlashUse → FlashState → FlashState → Event → Type 0
-IsDifference (Updated name) old new event = (place : ℕ) × (event ≡ differs name place) × (old.bytes ≡ None) × ReadsWrongAt new.extent place
+abbrev pub IsDifference : Asked → Outside → Outside → Event → Type 0
+IsDifference (UpdatingFlash name stream) old new event = (place : ℕ) × (event ≡ differs name place) × (old.flash.bytes ≡ None) × ReadsWrongAt (known_in old) stream new.flash.extent place
 IsDifference _ old new event = ⊥
+
+-- A write of the flash of a form failed once all else was done: the flash is within the limit, and over what is known the form comes to its end.
+abbrev pub WritesLast : Asked → Outside → Outside → Type 0
+WritesLast form old new = WritesFail (updated_by (Some form)) old.flash new.flash × (new.flash.extent ≤ flash_limit) × Agrees (known_in old) form (Ok no_text)
 
 -- what a cause says of an event: a fault, or an absence by its count, is the first event that comes
 abbrev pub CausedBy : Cause → Asked → Outside → Outside → Event → Type 0
@@ -55,8 +60,8 @@ CausedBy Wording form old new event = ⊥
 CausedBy Want form old new event = event ≡ no_memory
 CausedBy Fault form old new event = Happens form old new event
 CausedBy Absence form old new event = Happens form old new event ⊎ Shows (known_in old) form (Err event)
-CausedBy Break form old new event = (event ≡ write_fault) × (SinkFails old.out new.out ⊎ WritesFail (updated_by (Some form)) old.flash new.flash)
-CausedBy Difference form old new event = IsDifference (flash_use (Some form)) old.flash new.flash event × Agrees (known_in old) form (Err event)
+CausedBy Break form old new event = (event ≡ write_fault) × (SinkFails old.out new.out ⊎ WritesLast form old new)
+CausedBy Difference form old new event = IsDifference form old new event × Agrees (known_in old) form (Err event)
 CausedBy Contents form old new event = Agrees (known_in old) form (Err event)
 
 -- why a command ended so: words without a form are a wrong usage, a whole text is that of the known contents, and an event has its cause
@@ -137,14 +142,37 @@ abbrev pub IsMeasured : Option Asked → FlashState → Result Answer Event → 
 IsMeasured form new (Ok answer) = (name : List ℕ) → Among (flash_names form) name → new.extent ≤ flash_limit
 IsMeasured form new (Err event) = (name : List ℕ) → Among (flash_names form) name → event ≡ too_large name → (flash_limit < new.extent) ⊎ Among (names_of form) name
 
+-- ---- when a flash fails
+
+-- a form has all that it needs but for its flash, which is within the limit: whatever that holds, there is a whole text over what the inputs hold
+abbrev pub NeedsOnlyFlash : Asked → InputsState → FlashState → Type 0
+NeedsOnlyFlash form old new = (new.extent ≤ flash_limit) × ((answer : Answer) × Agrees (with_inputs old.contents None) form (Ok answer))
+
+-- a fault of a form's flash that is attached comes once the form needs only the flash; it may be that of an input of the same name too
+abbrev pub FailsLast : Option Asked → InputsState → FlashState → Result Answer Event → Type 0
+FailsLast None old new end = Unit {0}
+FailsLast (Some form) old new (Ok answer) = Unit {0}
+FailsLast (Some form) old new (Err event) =
+    (name : List ℕ) → Among (flash_names (Some form)) name → event ≡ read_fault name → new.attached ≡ true → NeedsOnlyFlash form old new ⊎ Among (names_of (Some form)) name
+
+-- a flash of this name isn't there, was not attached, or is too large
+abbrev pub IsUnusable : List ℕ → FlashState → Event → Type 0
+IsUnusable name now event = (event ≡ missing name) ⊎ ((event ≡ too_large name) ⊎ ((event ≡ read_fault name) × (now.attached ≡ false)))
+
+-- an update whose flash can't be used asks for no stream; the event may be that of a stream of its name too
+abbrev pub JudgesFlash : {A : Type 0} → Option Asked → Sources → Sources → Result A Event → Type 0
+JudgesFlash (Some (UpdatingFlash flash stream)) old new (Err event) = IsUnusable flash new.flash event → (new.inputs.selects ≤ old.inputs.selects) ⊎ (flash ≡ stream)
+JudgesFlash form old new end = Unit {0}
+
 -- ---- the end of a command
 
--- how a command ended: why, what the output got, how far was read, how large the flash is, and what an update left
+-- how a command ended: why, what the output got, how far was read, how large the flash is, what was judged where it failed, and what an update left
 pub record Ends (form : Option Asked) (old new : Outside) (end : Result Answer Event) : Type 0 where
   pub cause : EndIsCaused form old new end
   pub wrote : Wrote form old new end
   pub near : StaysNear (final_status end) form old new
   pub measured : IsMeasured form new.flash end
+  pub last : FailsLast form old.inputs new.flash end
   pub updates : Updates (updated_by form) old new end
 
 -- the same by whether what it wrote reports a fault
@@ -191,9 +219,9 @@ AnswersForm form old new got = AnswersBy (step_over (names_of (Some form)) old n
 abbrev pub IsUnattached : List ℕ → FlashState → FlashState → Event → Type 0
 IsUnattached name old new event = ((event ≡ missing name) × FlashLacksAmong (name ∷ []) old new name) ⊎ ((event ≡ read_fault name) × FlashFailsAmong (name ∷ []) old new name)
 
--- a flash can't be used: it was not attached, or it is larger than a flash may be
+-- a flash can't be used: it was not attached and none is, or it is larger than a flash may be
 abbrev pub IsUnopened : List ℕ → FlashState → FlashState → Event → Type 0
-IsUnopened name old new event = IsUnattached name old new event ⊎ ((event ≡ too_large name) × (flash_limit < new.extent) × IfKnown old.bytes (λ all. flash_limit < length all))
+IsUnopened name old new event = (IsUnattached name old new event × (new.attached ≡ false)) ⊎ ((event ≡ too_large name) × (flash_limit < new.extent) × IfKnown old.bytes (λ all. flash_limit < length all))
 
 -- what a boot from a flash of this name comes to: want of memory, a flash that was not attached or failed, or what its bytes give, by their number
 abbrev pub FlashComes : List ℕ → PartData → FlashState → FlashState → Result Answer Event → Type 0

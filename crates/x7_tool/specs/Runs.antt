@@ -1,5 +1,5 @@
 -- What a run comes to: how it ended and why, its status, and what the outside holds then (this project's choice).
-use Rattle.std.specs.Prelude.{◌≡◌, ◌≤◌, ℕ, length, List, Option, None, Some, ◌⊎◌, false, Result, Ok}
+use Rattle.std.specs.Prelude.{◌≡◌, ◌≤◌, ◌+◌, ℕ, length, List, Option, None, Some, ◌⊎◌, false, Result, Ok}
 use Rattle.x7_words.specs.Input.{Stays}
 use Rattle.x7_words.specs.Word.{AreBytes}
 use Rattle.x7_listing.specs.StreamListing.{stream_listing}
@@ -8,15 +8,16 @@ use Rattle.x7_boot.specs.Image.{flash_limit}
 use Rattle.x7_forms.specs.declared.status.Status.{Status}
 use Rattle.x7_forms.specs.declared.status.Status.TheVariants as status
 use Rattle.x7_forms.specs.Event.{Event}
-use Rattle.x7_forms.specs.Form.{Asked, Assembling, FromMcs, flash_use, updated_by}
+use Rattle.x7_forms.specs.Form.{Asked, Assembling, FromMcs, flash_use, names_of, updated_by}
 use Rattle.x7_forms.specs.Message.{final_status}
 use Rattle.x7_forms.specs.Known.{Answer, Known, stream_limit}
 use Rattle.x7_tool.specs.Ahead.{StaysNear}
 use Rattle.x7_tool.specs.Leaving.{Updates}
 use Rattle.x7_tool.specs.Outcome.{IsOutcome}
-use Rattle.x7_tool.specs.Outside.{IsQuiet, KeepsFlash, Outside, known_in}
+use Rattle.x7_tool.specs.Outside.{IsQuiet, KeepsFlash, Outside, known_in, sources}
 use Rattle.x7_tool.specs.Promise.{Promise}
-use Rattle.x7_tool.specs.Run.{EndIsCaused, Ends, IsMeasured, Says, Wrote}
+use Rattle.x7_tool.specs.Stopping.{Stops}
+use Rattle.x7_tool.specs.Run.{EndIsCaused, Ends, FailsLast, IsMeasured, JudgesFlash, Says, Wrote}
 
 -- an input has this text
 abbrev pub HasText : Outside → List ℕ → List ℕ → Type 0
@@ -42,7 +43,8 @@ Back form old new s end = Unit {0}
 
 -- a command ended so, with this status, and said why where there is no whole text
 abbrev pub RanAs : Option Asked → Outside → Outside → Status → Type 0
-RanAs form old new s = (end : Result Answer Event) × (s ≡ final_status end) × Says old.err new.err end × Ends form old new end
+RanAs form old new s = (end : Result Answer Event) × (s ≡ final_status end) × Says old.err new.err end × Ends form old new end × Stops form old.inputs new.inputs end
+    × JudgesFlash form (sources old.inputs old.flash) (sources new.inputs new.flash) end
 
 -- a run of the command that the words ask for
 pub record Runs (form : Option Asked) (old new : Outside) (s : Status) : Type 0 where
@@ -68,6 +70,14 @@ pub record Runs (form : Option Asked) (old new : Outside) (s : Status) : Type 0 
   pub promise : Promise (known_in old) form end
   -- the flash of the form is within the limit after a whole text, and over it where it is too large, whether its bytes are known or not
   pub measured : IsMeasured form new.flash end
+  -- a fault of a flash that is attached comes last: the flash is within the limit, and all that the form reads of inputs is good
+  pub last : FailsLast form old.inputs new.flash end
+  -- where an input ends the command, none behind it was asked for, and no more than a byte over its limit was given of it
+  pub stops : Stops form old.inputs new.inputs end
+  -- an update whose flash isn't there, wasn't attached or is too large asks for no stream
+  pub judges : JudgesFlash form (sources old.inputs old.flash) (sources new.inputs new.flash) end
+  -- no more inputs were asked for than the words name: none was read again
+  pub asks : new.inputs.selects ≤ old.inputs.selects + length (names_of form)
   -- every input keeps its bytes, and no count of theirs falls
   pub stays : Stays old.inputs new.inputs
   -- the flash is untouched, read or written as the form says, and was asked for no name but the form's

@@ -1,5 +1,6 @@
 //! The command `asm`.
-ghost use Rattle.std.specs.Prelude.{◌≡◌};
+ghost use Rattle.x7_tool.specs.Stopping.{Stops};
+ghost use Rattle.std.specs.Prelude.{◌≡◌, Some, ◌≤◌, ◌+◌};
 ghost use Rattle.x7_words.specs.Input.{Stays};
 ghost use Rattle.x7_listing.specs.Assembling.{AssemblerStandsFor};
 ghost use Rattle.x7_forms.specs.Message.{event_of};
@@ -55,6 +56,8 @@ pub(crate) fn asm<'w, I: Inputs>(
     name: &'w str,
 ) -> Result<Text, Refusal<'w>>
     ensures due { AnswersForm (Assembling name.now) (I.state inputs.old) (I.state inputs.new) (seen whole_of result) }
+    ensures stops { Stops (Some (Assembling name.now)) (I.state inputs.old) (I.state inputs.new) (seen whole_of result) }
+    ensures asks { (I.state inputs.new).selects ≤ (I.state inputs.old).selects + 1 }
     ensures inputs { Stays (I.state inputs.old) (I.state inputs.new) }
 {
     let read = match feed_whole(inputs, name, Assembler::new(alloc)) {

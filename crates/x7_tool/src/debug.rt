@@ -1,10 +1,14 @@
 //! The command `debug`.
-ghost use Rattle.std.specs.Prelude.{◌≡◌, ◌⊎◌, [], ◌∷◌, Ok, Err, IfErr, IfOk};
+ghost use Rattle.x7_forms.specs.Stop.{StopsAmong, limited};
+ghost use Rattle.x7_tool.specs.Stopping.{Stops};
+ghost use Rattle.std.specs.Prelude.{◌≡◌, ◌⊎◌, [], ◌∷◌, Ok, Err, IfErr, IfOk, Some, ◌≤◌, ◌+◌};
 ghost use Rattle.x7_words.specs.Input.{Stays};
 ghost use Rattle.x7_tool.specs.Debug.{given_of};
 ghost use Rattle.x7_forms.specs.Message.{event_of};
 ghost use Rattle.x7_forms.specs.Event.{no_memory};
-ghost use Rattle.x7_tool.specs.Outcome.{DebuggedAs, debug_inputs, script_event};
+ghost use Rattle.x7_tool.specs.Outcome.{DebuggedAs, debug_inputs, script_event, script_limit};
+ghost use Rattle.x7_forms.specs.Known.{part_limit, stream_limit};
+ghost use Rattle.x7_forms.specs.Turn.{StandsAt};
 ghost use Rattle.x7_tool.specs.Ready.{whole_of};
 ghost use Rattle.x7_forms.specs.Form.{Debugging};
 ghost use Rattle.x7_forms.specs.Step.{AnswersAs, seen, step_over};
@@ -52,6 +56,10 @@ fn read_given<'w, I: Inputs>(
 ) -> Result<Given, Refusal<'w>>
     ensures due { AnswersAs (step_over (part.now ∷ stream.now ∷ script.now ∷ []) (I.state inputs.old) (I.state inputs.new))
         (λ known. debug_inputs known part.now stream.now script.now) (seen given_of result) }
+    ensures stands { IfOk result (λ given. StandsAt script.now script_limit (I.state inputs.new)) }
+    ensures stops { IfErr result (λ r. StopsAmong (limited part_limit part.now ∷ limited stream_limit stream.now ∷ limited script_limit script.now ∷ [])
+        (I.state inputs.old) (I.state inputs.new) (event_of r)) }
+    ensures asks { (I.state inputs.new).selects ≤ (I.state inputs.old).selects + 3 }
     ensures inputs { Stays (I.state inputs.old) (I.state inputs.new) }
 {
     let part = match read_part(alloc, inputs, part) {
@@ -107,6 +115,8 @@ pub(crate) fn debug<'w, I: Inputs>(
     script: &'w str,
 ) -> Result<Text, Refusal<'w>>
     ensures due { AnswersForm (Debugging part.now stream.now script.now) (I.state inputs.old) (I.state inputs.new) (seen whole_of result) }
+    ensures stops { Stops (Some (Debugging part.now stream.now script.now)) (I.state inputs.old) (I.state inputs.new) (seen whole_of result) }
+    ensures asks { (I.state inputs.new).selects ≤ (I.state inputs.old).selects + 3 }
     ensures inputs { Stays (I.state inputs.old) (I.state inputs.new) }
 {
     match read_given(alloc, inputs, part, stream, script) {

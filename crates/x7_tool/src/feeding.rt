@@ -1,8 +1,9 @@
 //! Texts that are taken while they are read.
-ghost use Rattle.std.specs.Prelude.{ℕ, ◌^◌, ◌<◌, ◌≤◌, List, [], ◌++◌, length, Ok, Err, IfOk, IfErr, MatchResult};
+ghost use Rattle.std.specs.Prelude.{ℕ, ◌^◌, ◌<◌, ◌≤◌, List, [], ◌++◌, length, Ok, Err, IfOk, IfErr, MatchResult, ◌+◌};
 ghost use Rattle.x7_words.specs.Input.{Stays};
 ghost use Rattle.x7_forms.specs.Message.{event_of};
-ghost use Rattle.x7_forms.specs.Step.{ReadsWhole};
+ghost use Rattle.x7_forms.specs.Step.{IsUnread, ReadsWhole};
+ghost use Rattle.x7_forms.specs.Turn.{StandsAt};
 ghost use Rattle.x7_tool.specs.Outcome.{text_limit};
 ghost use Rattle.x7_tool.specs.Turns.{IsFed};
 
@@ -46,6 +47,9 @@ pub(crate) fn feed_whole<'w, I: Inputs, T: TakesText>(
     requires new { T.took taker taker [] }
     ensures ok { IfOk result (λ read. (text : List ℕ) × (length text ≤ text_limit) × IsFed (T.took taker) (T.fails taker) read text × ReadsWhole (I.state inputs.old) (I.state inputs.new) text_limit name.now (Ok text)) }
     ensures err { IfErr result (λ r. ReadsWhole (I.state inputs.old) (I.state inputs.new) text_limit name.now (Err (event_of r))) }
+    ensures named { IfErr result (λ r. IsUnread name.now (event_of r)) }
+    ensures stands { StandsAt name.now text_limit (I.state inputs.new) }
+    ensures asks { (I.state inputs.new).selects ≤ (I.state inputs.old).selects + 1 }
     ensures inputs { Stays (I.state inputs.old) (I.state inputs.new) }
 {
     match open(inputs, name) {

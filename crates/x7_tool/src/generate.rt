@@ -1,5 +1,6 @@
 //! The command `gen`: a plan that is made from a number, its stream played on a new device, and what came of it.
-ghost use Rattle.std.specs.Prelude.{◌≡◌, ◌++◌, ◌%◌, ◌^◌, ℕ, List, [], length, IfOk, IfErr, OnOk, unwrap_or};
+ghost use Rattle.x7_tool.specs.Stopping.{Stops};
+ghost use Rattle.std.specs.Prelude.{◌≡◌, ◌++◌, ◌%◌, ◌^◌, ℕ, List, [], length, IfOk, IfErr, OnOk, unwrap_or, Some, ◌≤◌, ◌+◌};
 ghost use Rattle.x7_words.specs.Input.{Stays};
 ghost use Rattle.std.specs.List.{sum};
 ghost use Rattle.x7_part.specs.AddressOrder.{addresses_in};
@@ -280,6 +281,8 @@ pub(crate) fn generate<'w, I: Inputs>(
     seed: u32,
 ) -> Result<Text, Refusal<'w>>
     ensures due { AnswersForm (Generating name.now seed) (I.state inputs.old) (I.state inputs.new) (seen whole_of result) }
+    ensures stops { Stops (Some (Generating name.now seed)) (I.state inputs.old) (I.state inputs.new) (seen whole_of result) }
+    ensures asks { (I.state inputs.new).selects ≤ (I.state inputs.old).selects + 1 }
     ensures inputs { Stays (I.state inputs.old) (I.state inputs.new) }
 {
     let part = match read_part(alloc, inputs, name) {

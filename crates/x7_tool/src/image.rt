@@ -1,7 +1,11 @@
 //! The command `image`: the flash image of a golden and an update stream.
-ghost use Rattle.std.specs.Prelude.{◌≡◌, ◌⊎◌, ◌≤◌, [], ◌∷◌, Ok, Err, IfOk, IfErr, length};
+ghost use Rattle.x7_forms.specs.Stop.{IsAbout, StopsAmong, limited};
+ghost use Rattle.x7_tool.specs.Stopping.{Stops};
+ghost use Rattle.std.specs.Prelude.{◌≡◌, ◌⊎◌, ◌≤◌, [], ◌∷◌, Ok, Err, IfOk, IfErr, length, Some, ◌+◌};
 ghost use Rattle.x7_words.specs.Input.{Stays};
+ghost use Rattle.x7_forms.specs.Known.{stream_limit};
 ghost use Rattle.x7_forms.specs.Message.{event_of};
+ghost use Rattle.x7_forms.specs.Turn.{StandsAt};
 ghost use Rattle.x7_forms.specs.Event.{bad_input, no_memory};
 ghost use Rattle.x7_forms.specs.declared.bad_input.InputFault.TheVariants as input;
 ghost use Rattle.x7_tool.specs.Outcome.{image_by, image_streams};
@@ -35,8 +39,11 @@ fn read_streams<'w, I: Inputs>(
 ) -> Result<Streams, Refusal<'w>>
     ensures due { AnswersAs (step_over (golden.now ∷ update.now ∷ []) (I.state inputs.old) (I.state inputs.new))
         (λ known. image_streams known golden.now update.now) (seen streams_of result) }
+    ensures stands { IfOk result (λ streams. StandsAt update.now stream_limit (I.state inputs.new)) }
+    ensures stops { IfErr result (λ r. StopsAmong (limited stream_limit golden.now ∷ limited stream_limit update.now ∷ []) (I.state inputs.old) (I.state inputs.new) (event_of r)) }
     ensures golden { IfOk result (λ streams. streams.golden.start ≤ length streams.golden.bytes.items) }
     ensures update { IfOk result (λ streams. streams.update.start ≤ length streams.update.bytes.items) }
+    ensures asks { (I.state inputs.new).selects ≤ (I.state inputs.old).selects + 2 }
     ensures inputs { Stays (I.state inputs.old) (I.state inputs.new) }
 {
     let golden = match read_stream(alloc, inputs, golden) {
@@ -65,6 +72,7 @@ fn plain_text<'w>(alloc: Global, streams: &Streams, name: &'w str) -> Result<Tex
     requires update { streams.now.update.start ≤ length streams.now.update.bytes.items }
     ensures ok { IfOk result (λ text. image_by name.now 1 (streams_of streams.now) ≡ Ok (whole_of text)) }
     ensures err { IfErr result (λ r. (event_of r ≡ no_memory) ⊎ (image_by name.now 1 (streams_of streams.now) ≡ Err (event_of r))) }
+    ensures about { IfErr result (λ r. IsAbout name.now (event_of r)) }
 {
     let golden = &streams.golden.bytes[streams.golden.start..];
     let update = &streams.update.bytes[streams.update.start..];
@@ -89,6 +97,7 @@ fn part_text<'w>(
     requires update { streams.now.update.start ≤ length streams.now.update.bytes.items }
     ensures ok { IfOk result (λ text. image_by name.now part.now.start_unit (streams_of streams.now) ≡ Ok (whole_of text)) }
     ensures err { IfErr result (λ r. (event_of r ≡ no_memory) ⊎ (image_by name.now part.now.start_unit (streams_of streams.now) ≡ Err (event_of r))) }
+    ensures about { IfErr result (λ r. IsAbout name.now (event_of r)) }
 {
     let golden = &streams.golden.bytes[streams.golden.start..];
     let update = &streams.update.bytes[streams.update.start..];
@@ -110,6 +119,8 @@ pub(crate) fn image<'w, I: Inputs>(
     update: &'w str,
 ) -> Result<Text, Refusal<'w>>
     ensures due { AnswersForm (Imaging golden.now update.now) (I.state inputs.old) (I.state inputs.new) (seen whole_of result) }
+    ensures stops { Stops (Some (Imaging golden.now update.now)) (I.state inputs.old) (I.state inputs.new) (seen whole_of result) }
+    ensures asks { (I.state inputs.new).selects ≤ (I.state inputs.old).selects + 2 }
     ensures inputs { Stays (I.state inputs.old) (I.state inputs.new) }
 {
     match read_streams(alloc, inputs, golden, update) {
@@ -127,6 +138,8 @@ pub(crate) fn image_for<'w, I: Inputs>(
     update: &'w str,
 ) -> Result<Text, Refusal<'w>>
     ensures due { AnswersForm (ImagingFor part.now golden.now update.now) (I.state inputs.old) (I.state inputs.new) (seen whole_of result) }
+    ensures stops { Stops (Some (ImagingFor part.now golden.now update.now)) (I.state inputs.old) (I.state inputs.new) (seen whole_of result) }
+    ensures asks { (I.state inputs.new).selects ≤ (I.state inputs.old).selects + 3 }
     ensures inputs { Stays (I.state inputs.old) (I.state inputs.new) }
 {
     let part = match read_part(alloc, inputs, part) {

@@ -1,5 +1,7 @@
 //! The command `list`.
-ghost use Rattle.std.specs.Prelude.{◌≡◌, ℕ, List, [], ◌++◌, ◌⊎◌, false, Option, Ok, Err, OnErr, OnOk, IfErr};
+ghost use Rattle.x7_forms.specs.Form.{Listing};
+ghost use Rattle.x7_tool.specs.Stopping.{Stops};
+ghost use Rattle.std.specs.Prelude.{◌≡◌, ℕ, List, [], ◌++◌, ◌⊎◌, false, Option, Some, Ok, Err, OnErr, OnOk, IfErr, ◌≤◌, ◌+◌};
 ghost use Rattle.x7_words.specs.Input.{Stays};
 ghost use Rattle.x7_words.specs.Sink.{Counts, PutsPrefix, SinkFails, appended};
 ghost use Rattle.x7_words.specs.Word.{AreBytes};
@@ -107,6 +109,8 @@ pub(crate) fn list<'w, I: Inputs, O: Sink>(
     stream: &'w str,
 ) -> Result<(), Refusal<'w>>
     ensures ends { EndsListing stream.now (transfer (I.state inputs.old) (O.state out.old)) (transfer (I.state inputs.new) (O.state out.new)) (seen (λ _. false) result) }
+    ensures stops { Stops (Some (Listing stream.now)) (I.state inputs.old) (I.state inputs.new) (seen (λ _. false) result) }
+    ensures asks { (I.state inputs.new).selects ≤ (I.state inputs.old).selects + 1 }
     ensures inputs { Stays (I.state inputs.old) (I.state inputs.new) }
 {
     match open(inputs, stream) {

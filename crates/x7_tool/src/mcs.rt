@@ -1,5 +1,6 @@
 //! The commands `mcs` and `unmcs`: flash images as Intel HEX texts, and back.
-ghost use Rattle.std.specs.Prelude.{◌≡◌};
+ghost use Rattle.x7_tool.specs.Stopping.{Stops};
+ghost use Rattle.std.specs.Prelude.{◌≡◌, Some, ◌≤◌, ◌+◌};
 ghost use Rattle.x7_words.specs.Input.{Stays};
 ghost use Rattle.x7_mcs.specs.Reader.{IsFaultOf, ReaderStandsFor};
 ghost use Rattle.x7_forms.specs.Message.{event_of};
@@ -41,6 +42,8 @@ pub(crate) fn mcs<'w, I: Inputs>(
     image: &'w str,
 ) -> Result<McsText, Refusal<'w>>
     ensures due { AnswersForm (ToMcs image.now) (I.state inputs.old) (I.state inputs.new) (seen text_of_image result) }
+    ensures stops { Stops (Some (ToMcs image.now)) (I.state inputs.old) (I.state inputs.new) (seen text_of_image result) }
+    ensures asks { (I.state inputs.new).selects ≤ (I.state inputs.old).selects + 1 }
     ensures inputs { Stays (I.state inputs.old) (I.state inputs.new) }
 {
     let bytes = match read_whole(alloc, inputs, image, FLASH_LIMIT) {
@@ -77,6 +80,8 @@ pub(crate) fn unmcs<'w, I: Inputs>(
     name: &'w str,
 ) -> Result<Text, Refusal<'w>>
     ensures due { AnswersForm (FromMcs name.now) (I.state inputs.old) (I.state inputs.new) (seen whole_of result) }
+    ensures stops { Stops (Some (FromMcs name.now)) (I.state inputs.old) (I.state inputs.new) (seen whole_of result) }
+    ensures asks { (I.state inputs.new).selects ≤ (I.state inputs.old).selects + 1 }
     ensures inputs { Stays (I.state inputs.old) (I.state inputs.new) }
 {
     let read = match feed_whole(inputs, name, McsReader::new(alloc)) {

@@ -1,11 +1,14 @@
 //! The commands `plan full`, `plan partial` and `plan read`: streams for plans.
-ghost use Rattle.std.specs.Prelude.{◌≡◌, ◌⊎◌, ◌<◌, ◌^◌, ℕ, List, length, Ok, Err, IfOk, IfErr};
+ghost use Rattle.x7_forms.specs.Stop.{IsAbout, StopsAmong, limited};
+ghost use Rattle.x7_tool.specs.Stopping.{Stops};
+ghost use Rattle.std.specs.Prelude.{◌≡◌, ◌⊎◌, ◌∷◌, [], ◌<◌, ◌^◌, ℕ, List, length, Ok, Err, IfOk, IfErr, Some, ◌≤◌, ◌+◌};
 ghost use Rattle.x7_words.specs.Input.{Stays};
 ghost use Rattle.x7_part.specs.Part.{PartData, frame_words};
 ghost use Rattle.x7_frames.specs.FramesText.{IsPlanOf};
 ghost use Rattle.x7_forms.specs.Message.{event_of};
 ghost use Rattle.x7_forms.specs.Event.{no_memory};
-ghost use Rattle.x7_tool.specs.Outcome.{PlannedPartial, PlannedRead, frames_event, planner_event};
+ghost use Rattle.x7_tool.specs.Outcome.{PlannedPartial, PlannedRead, frames_event, planner_event, text_limit};
+ghost use Rattle.x7_forms.specs.Turn.{StandsAt};
 ghost use Rattle.x7_forms.specs.Form.{PlanningFull, PlanningPartial, PlanningRead};
 ghost use Rattle.x7_tool.specs.Planned.{HasNoPlan, HasRead, IsFramesFault, IsRead, ReadsPlan};
 ghost use Rattle.x7_tool.specs.FullText.{full_of};
@@ -76,6 +79,7 @@ fn plan_of_lines<'w>(
 ) -> Result<Plan, Refusal<'w>>
     ensures ok { IfOk result (λ plan. (part : PartData) (text : List ℕ) → IsRead part read.entry text → IsPlanOf part text (Ok plan)) }
     ensures err { IfErr result (λ r. (event_of r ≡ no_memory) ⊎ ((part : PartData) (text : List ℕ) → length text < 2 ^ 63 → IsRead part read.entry text → HasNoPlan name.now part text (event_of r))) }
+    ensures about { IfErr result (λ r. IsAbout name.now (event_of r)) }
 {
     let reader = match read {
         Ok(reader) => reader,
@@ -95,6 +99,9 @@ fn read_plan<'w, I: Inputs>(
     name: &'w str,
 ) -> Result<Plan, Refusal<'w>>
     ensures due { ReadsPlan (I.state inputs.old) (I.state inputs.new) part.now name.now (seen (λ plan. plan) result) }
+    ensures stands { IfOk result (λ plan. StandsAt name.now text_limit (I.state inputs.new)) }
+    ensures stops { IfErr result (λ r. StopsAmong (limited text_limit name.now ∷ []) (I.state inputs.old) (I.state inputs.new) (event_of r)) }
+    ensures asks { (I.state inputs.new).selects ≤ (I.state inputs.old).selects + 1 }
     ensures inputs { Stays (I.state inputs.old) (I.state inputs.new) }
 {
     let Ok(reader) = FramesReader::new(alloc, part) else {
@@ -115,6 +122,8 @@ pub(crate) fn plan_full<'w, I: Inputs>(
     frames: &'w str,
 ) -> Result<FullText, Refusal<'w>>
     ensures due { AnswersForm (PlanningFull part.now frames.now) (I.state inputs.old) (I.state inputs.new) (seen full_of result) }
+    ensures stops { Stops (Some (PlanningFull part.now frames.now)) (I.state inputs.old) (I.state inputs.new) (seen full_of result) }
+    ensures asks { (I.state inputs.new).selects ≤ (I.state inputs.old).selects + 2 }
     ensures inputs { Stays (I.state inputs.old) (I.state inputs.new) }
 {
     let known = match read_part(alloc, inputs, part) {
@@ -138,6 +147,7 @@ fn partial_text<'w>(
     requires { plan.now.width ≡ frame_words part.now }
     ensures ok { IfOk result (λ end. (text : List ℕ) → IsPlanOf part.now text (Ok plan.now) → PlannedPartial frames.now (Ok (record { part = part.now; text = text })) (Ok (whole_of end))) }
     ensures err { IfErr result (λ r. (event_of r ≡ no_memory) ⊎ ((text : List ℕ) → IsPlanOf part.now text (Ok plan.now) → PlannedPartial frames.now (Ok (record { part = part.now; text = text })) (Err (event_of r)))) }
+    ensures about { IfErr result (λ r. IsAbout frames.now (event_of r)) }
 {
     match partial(alloc, part, plan) {
         Ok(text) => Ok(Text {
@@ -156,6 +166,8 @@ pub(crate) fn plan_partial<'w, I: Inputs>(
     frames: &'w str,
 ) -> Result<Text, Refusal<'w>>
     ensures due { AnswersForm (PlanningPartial part.now frames.now) (I.state inputs.old) (I.state inputs.new) (seen whole_of result) }
+    ensures stops { Stops (Some (PlanningPartial part.now frames.now)) (I.state inputs.old) (I.state inputs.new) (seen whole_of result) }
+    ensures asks { (I.state inputs.new).selects ≤ (I.state inputs.old).selects + 2 }
     ensures inputs { Stays (I.state inputs.old) (I.state inputs.new) }
 {
     let known = match read_part(alloc, inputs, part) {
@@ -179,6 +191,7 @@ fn read_text<'w>(
 ) -> Result<Text, Refusal<'w>>
     ensures ok { IfOk result (λ text. PlannedRead name.now far n (Ok part.now) (Ok (whole_of text))) }
     ensures err { IfErr result (λ r. (event_of r ≡ no_memory) ⊎ PlannedRead name.now far n (Ok part.now) (Err (event_of r))) }
+    ensures about { IfErr result (λ r. IsAbout name.now (event_of r)) }
 {
     match readback(alloc, part, far, n) {
         Ok(text) => Ok(Text {
@@ -198,6 +211,8 @@ pub(crate) fn plan_read<'w, I: Inputs>(
     n: u32,
 ) -> Result<Text, Refusal<'w>>
     ensures due { AnswersForm (PlanningRead name.now far n) (I.state inputs.old) (I.state inputs.new) (seen whole_of result) }
+    ensures stops { Stops (Some (PlanningRead name.now far n)) (I.state inputs.old) (I.state inputs.new) (seen whole_of result) }
+    ensures asks { (I.state inputs.new).selects ≤ (I.state inputs.old).selects + 1 }
     ensures inputs { Stays (I.state inputs.old) (I.state inputs.new) }
 {
     let part = match read_part(alloc, inputs, name) {

@@ -1,5 +1,6 @@
 //! The command `play`.
-ghost use Rattle.std.specs.Prelude.{◌≡◌, ◌⊎◌, ℕ, List, map, string_bytes, Ok, Err, IfErr, IfOk};
+ghost use Rattle.x7_tool.specs.Stopping.{Stops};
+ghost use Rattle.std.specs.Prelude.{◌≡◌, ◌⊎◌, ℕ, List, map, string_bytes, Ok, Err, IfErr, IfOk, Some, ◌≤◌, ◌+◌, length};
 ghost use Rattle.x7_words.specs.Input.{Stays};
 ghost use Rattle.x7_part.specs.Part.{PartData};
 ghost use Rattle.x7_forms.specs.Event.{no_memory, too_many_reads};
@@ -42,6 +43,8 @@ pub(crate) fn play<'w, I: Inputs>(
     streams: &'w [String],
 ) -> Result<PlayText, Refusal<'w>>
     ensures due { AnswersForm (Playing part.now (map string_bytes streams.now)) (I.state inputs.old) (I.state inputs.new) (seen text_of_play result) }
+    ensures stops { Stops (Some (Playing part.now (map string_bytes streams.now))) (I.state inputs.old) (I.state inputs.new) (seen text_of_play result) }
+    ensures asks { (I.state inputs.new).selects ≤ (I.state inputs.old).selects + (1 + length streams.now) }
     ensures inputs { Stays (I.state inputs.old) (I.state inputs.new) }
 {
     let part = match read_part(alloc, inputs, part) {

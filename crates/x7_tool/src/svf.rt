@@ -1,5 +1,7 @@
 //! The command `svf`.
-ghost use Rattle.std.specs.Prelude.{◌≡◌, ◌⊎◌, ◌≤◌, ◌||◌, [], ◌∷◌, Ok, Err, IfErr, IfOk, vec_len};
+ghost use Rattle.x7_forms.specs.Stop.{StopsAmong, limited};
+ghost use Rattle.x7_tool.specs.Stopping.{Stops};
+ghost use Rattle.std.specs.Prelude.{◌≡◌, ◌⊎◌, ◌≤◌, ◌||◌, [], ◌∷◌, Ok, Err, IfErr, IfOk, vec_len, Some, ◌+◌};
 ghost use Rattle.x7_words.specs.Input.{Stays};
 ghost use Rattle.x7_forms.specs.Message.{event_of};
 ghost use Rattle.x7_forms.specs.Event.{no_memory};
@@ -8,7 +10,9 @@ ghost use Rattle.x7_forms.specs.Form.{PlayingSvf};
 ghost use Rattle.x7_tool.specs.Run.{AnswersForm};
 ghost use Rattle.x7_jtag.specs.Svf.{IsSvfOf};
 ghost use Rattle.x7_jtag.specs.declared.fault.SvfFault.{SvfFault as FaultData};
-ghost use Rattle.x7_tool.specs.Outcome.{PlayedSvf, plan_texts, svf_answer, svf_event};
+ghost use Rattle.x7_tool.specs.Outcome.{PlayedSvf, plan_texts, svf_answer, svf_event, text_limit};
+ghost use Rattle.x7_forms.specs.Known.{part_limit};
+ghost use Rattle.x7_forms.specs.Turn.{StandsAt};
 ghost use Rattle.x7_tool.specs.Play.{text_of_play};
 ghost use Rattle.x7_tool.specs.Svf.{texts_of};
 
@@ -49,7 +53,10 @@ fn read_given<'w, I: Inputs>(
 ) -> Result<Given, Refusal<'w>>
     ensures given { AnswersAs (step_over (part.now ∷ text.now ∷ []) (I.state inputs.old) (I.state inputs.new))
         (λ known. plan_texts known part.now text.now) (seen texts_of result) }
+    ensures stands { IfOk result (λ given. StandsAt text.now text_limit (I.state inputs.new)) }
+    ensures stops { IfErr result (λ r. StopsAmong (limited part_limit part.now ∷ limited text_limit text.now ∷ []) (I.state inputs.old) (I.state inputs.new) (event_of r)) }
     ensures within { IfOk result (λ given. vec_len given.text ≤ 536870912) }
+    ensures asks { (I.state inputs.new).selects ≤ (I.state inputs.old).selects + 2 }
     ensures inputs { Stays (I.state inputs.old) (I.state inputs.new) }
 {
     let part = match read_part(alloc, inputs, part) {
@@ -121,6 +128,8 @@ pub(crate) fn svf<'w, I: Inputs>(
     text: &'w str,
 ) -> Result<PlayText, Refusal<'w>>
     ensures due { AnswersForm (PlayingSvf part.now text.now) (I.state inputs.old) (I.state inputs.new) (seen text_of_play result) }
+    ensures stops { Stops (Some (PlayingSvf part.now text.now)) (I.state inputs.old) (I.state inputs.new) (seen text_of_play result) }
+    ensures asks { (I.state inputs.new).selects ≤ (I.state inputs.old).selects + 2 }
     ensures inputs { Stays (I.state inputs.old) (I.state inputs.new) }
 {
     match read_given(alloc, inputs, part, text) {

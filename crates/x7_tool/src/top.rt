@@ -1,12 +1,13 @@
 //! The top call.
-ghost use Rattle.std.specs.Prelude.{ℕ, List};
+ghost use Rattle.std.specs.Prelude.{ℕ, List, ◌≤◌, ◌+◌, length};
 ghost use Rattle.x7_words.specs.Input.{Stays};
 ghost use Rattle.x7_words.specs.Sink.{SinkState};
-ghost use Rattle.x7_forms.specs.Form.{form_in};
+ghost use Rattle.x7_forms.specs.Form.{form_in, names_of};
 ghost use Rattle.x7_tool.specs.Leaving.{EachBoots, PowerLossMayLeave, UsesFlash};
 ghost use Rattle.x7_tool.specs.Outside.{outside, sources};
-ghost use Rattle.x7_tool.specs.Run.{EndsAs, written_by};
+ghost use Rattle.x7_tool.specs.Run.{EndsAs, JudgesFlash, written_by};
 ghost use Rattle.x7_tool.specs.Runs.{RanAs, Runs};
+ghost use Rattle.x7_tool.specs.Stopping.{Stops};
 
 use crate::asm::asm;
 use crate::boot::boot;
@@ -34,8 +35,11 @@ fn answer<'w, I: Inputs, O: Sink, F: Flash>(
 ) -> Result<bool, Refusal<'w>>
     ensures ends { (e f : SinkState) → EndsAs (form_in words.now.items) (outside (I.state inputs.old) (F.state flash.old) (O.state out.old) e)
         (outside (I.state inputs.new) (F.state flash.new) (O.state out.new) f) (written_by result) }
+    ensures stops { Stops (form_in words.now.items) (I.state inputs.old) (I.state inputs.new) (written_by result) }
+    ensures judges { JudgesFlash (form_in words.now.items) (sources (I.state inputs.old) (F.state flash.old)) (sources (I.state inputs.new) (F.state flash.new)) (written_by result) }
     ensures flash { UsesFlash (form_in words.now.items) (sources (I.state inputs.old) (F.state flash.old)) (F.state flash.new)
         (F.found_since flash.old) (F.found_since flash.new) }
+    ensures asks { (I.state inputs.new).selects ≤ (I.state inputs.old).selects + length (names_of (form_in words.now.items)) }
     ensures inputs { Stays (I.state inputs.old) (I.state inputs.new) }
 {
     let form = match words_of(words) {
@@ -90,6 +94,7 @@ fn carry_out<I: Inputs, O: Sink, E: Sink, F: Flash>(
         (outside (I.state inputs.new) (F.state flash.new) (O.state out.new) (E.state err.new)) result }
     ensures flash { UsesFlash (form_in words.now.items) (sources (I.state inputs.old) (F.state flash.old)) (F.state flash.new)
         (F.found_since flash.old) (F.found_since flash.new) }
+    ensures asks { (I.state inputs.new).selects ≤ (I.state inputs.old).selects + length (names_of (form_in words.now.items)) }
     ensures inputs { Stays (I.state inputs.old) (I.state inputs.new) }
 {
     match answer(alloc, words, inputs, flash, out) {
@@ -104,8 +109,9 @@ fn carry_out<I: Inputs, O: Sink, E: Sink, F: Flash>(
 /// text, one line goes to `err`.
 ///
 /// Power may be lost at any moment. Where the bytes of the flash are known, what is found of it then is what it held, or what an
-/// update may leave of it. Where the stream is known too, and the golden stream is the full stream of a plan, a boot of that is
-/// the one before the update, or starts with the golden stream, or is the one behind it.
+/// update may leave of it. Where the stream is known too, and the golden stream, whoever made it, starts behind an erased first
+/// sector and ends before the update's place, a boot of that is the one before the update, or starts as the golden stream does,
+/// or is the one behind it. The full stream of a plan is such a golden stream (`x7_recovery::full_streams_start`).
 pub fn run<I: Inputs, O: Sink, E: Sink, F: Flash>(
     alloc: Global,
     words: &Vec<String>,

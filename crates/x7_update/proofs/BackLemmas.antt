@@ -1,6 +1,6 @@
 -- Lemmas on bytes that are read back: one that is another than the one wanted there is a byte that an update writes, and none of known bytes.
-use Rattle.std.proofs.Common.{◌≡◌, ℕ, ◌+◌, ◌-◌, ◌*◌, ◌<◌, ◌≤◌, true, false, List, length, Option, None, Some, option_map, Result, Ok, Err, IfErr, get_or, slice_range, refl, ap, sym, subst, ◌∙◌, arith}
-use Rattle.x7_words.specs.Flash.{FlashState, IfKnown}
+use Rattle.std.proofs.Common.{◌≡◌, ℕ, ◌+◌, ◌-◌, ◌*◌, ◌<◌, ◌≤◌, IsTrue, true, false, List, length, Option, None, Some, option_map, Result, Ok, Err, IfErr, get_or, slice_range, refl, ap, sym, subst, ◌∙◌, arith}
+use Rattle.x7_words.specs.Flash.{FlashState, IfKnown, Sees}
 use Rattle.x7_words.proofs.CountLemmas.{risen_from}
 use Rattle.x7_words.proofs.FlashLemmas.{get_or-slice_range}
 use Rattle.x7_update.specs.Layout.{CanStandAt, HasSize, IsOpen, open_word}
@@ -29,26 +29,27 @@ not_known (Some all) from piece place count buffer at wrote read long r h w =
     absurd (w.5 same)
 
 -- a fault of what was read from a place on and compared with what is wanted there
-wrong_fails : (from : ℕ) (piece : List ℕ) (place count : ℕ) (buffer stream : List ℕ) (old new : FlashState) (fault : UpdateFault) → length buffer ≡ count → HasSize new.extent → IfKnown old.bytes (λ all. buffer ≡ slice_range all place (place + count))
+wrong_fails : (from : ℕ) (piece : List ℕ) (place count : ℕ) (buffer stream : List ℕ) (old new : FlashState) (fault : UpdateFault) → length buffer ≡ count → Sees new place buffer → HasSize new.extent → IfKnown old.bytes (λ all. buffer ≡ slice_range all place (place + count))
     → IfKnown old.bytes (AreWanted from piece place count) → AreWritten new.extent stream place count piece from → IsWrong from piece place buffer fault → EndFails stream old new fault
-wrong_fails from piece place count buffer stream old new (Differs at wrote read) long sized r h written w = (
+wrong_fails from piece place count buffer stream old new (Differs at wrote read) long seen sized r h written w = (
   record {
     sized = sized;
     written = subst (λ (p : ℕ). IsWritten new.extent stream p wrote) (sym w.2) (written w.0 wrote (omega (arith, long, w.1)) (w.3 ∙ ap (wanted_at from piece) w.2));
     differs = w.5;
   },
   not_known old.bytes from piece place count buffer at wrote read long r h w,
+  subst (λ (p : ℕ). IsTrue (new.seen p read)) (sym w.2) (subst (λ (b : ℕ). IsTrue (new.seen (place + w.0) b)) (sym w.4) (seen w.0 w.1)),
 )
-wrong_fails from piece place count buffer stream old new (Failed true) long sized r h written w = absurd w
-wrong_fails from piece place count buffer stream old new (Failed false) long sized r h written w = absurd w
-wrong_fails from piece place count buffer stream old new TooLong long sized r h written w = absurd w
-wrong_fails from piece place count buffer stream old new (NoLayout at) long sized r h written w = absurd w
-wrong_fails from piece place count buffer stream old new NoMemory long sized r h written w = absurd w
+wrong_fails from piece place count buffer stream old new (Failed true) long seen sized r h written w = absurd w
+wrong_fails from piece place count buffer stream old new (Failed false) long seen sized r h written w = absurd w
+wrong_fails from piece place count buffer stream old new TooLong long seen sized r h written w = absurd w
+wrong_fails from piece place count buffer stream old new (NoLayout at) long seen sized r h written w = absurd w
+wrong_fails from piece place count buffer stream old new NoMemory long seen sized r h written w = absurd w
 
-compared_fails : (from : ℕ) (piece : List ℕ) (place count : ℕ) (buffer stream : List ℕ) (old new : FlashState) (result : Result (Unit {0}) UpdateFault) → length buffer ≡ count → HasSize new.extent → IfKnown old.bytes (λ all. buffer ≡ slice_range all place (place + count))
+compared_fails : (from : ℕ) (piece : List ℕ) (place count : ℕ) (buffer stream : List ℕ) (old new : FlashState) (result : Result (Unit {0}) UpdateFault) → length buffer ≡ count → Sees new place buffer → HasSize new.extent → IfKnown old.bytes (λ all. buffer ≡ slice_range all place (place + count))
     → IfKnown old.bytes (AreWanted from piece place count) → AreWritten new.extent stream place count piece from → IfErr result (IsWrong from piece place buffer) → IfErr result (EndFails stream old new)
-compared_fails from piece place count buffer stream old new (Ok _) long sized r h written w = tt
-compared_fails from piece place count buffer stream old new (Err fault) long sized r h written w = wrong_fails from piece place count buffer stream old new fault long sized r h written w
+compared_fails from piece place count buffer stream old new (Ok _) long seen sized r h written w = tt
+compared_fails from piece place count buffer stream old new (Err fault) long seen sized r h written w = wrong_fails from piece place count buffer stream old new fault long seen sized r h written w
 
 -- ---- a piece of the stream
 
@@ -57,11 +58,11 @@ stream_wanted None update stream place count size behind within s h = tt
 stream_wanted (Some all) update stream place count size behind within s h = λ i l. h (place + i) (omega arith) (omega (arith, s))
 
 -- so many bytes of the stream, or of FF behind it, were read back from a place on
-pub stream_fails : (update : ℕ) (stream : List ℕ) (place count : ℕ) (buffer : List ℕ) (old new : FlashState) (result : Result (Unit {0}) UpdateFault) → length buffer ≡ count → new.extent ≡ old.extent → HasSize old.extent → CanStandAt old.extent update
+pub stream_fails : (update : ℕ) (stream : List ℕ) (place count : ℕ) (buffer : List ℕ) (old new : FlashState) (result : Result (Unit {0}) UpdateFault) → length buffer ≡ count → Sees new place buffer → new.extent ≡ old.extent → HasSize old.extent → CanStandAt old.extent update
     → update + length stream ≤ old.extent → update ≤ place → place + count ≤ old.extent → IfKnown old.bytes (λ all. old.extent ≡ length all) → IfKnown old.bytes (HasWanted update stream)
     → IfKnown old.bytes (λ all. buffer ≡ slice_range all place (place + count)) → IfErr result (IsWrong update stream place buffer) → IfErr result (EndFails stream old new)
-stream_fails update stream place count buffer old new result long same sized stands fits behind within counted wanted r w =
-    compared_fails update stream place count buffer stream old new result long (subst HasSize (sym same) sized) r (stream_wanted old.bytes update stream place count old.extent behind within counted wanted)
+stream_fails update stream place count buffer old new result long seen same sized stands fits behind within counted wanted r w =
+    compared_fails update stream place count buffer stream old new result long seen (subst HasSize (sym same) sized) r (stream_wanted old.bytes update stream place count old.extent behind within counted wanted)
     (λ i byte l e. in_stream update (subst (λ (n : ℕ). CanStandAt n update) (sym same) stands) (omega (arith, same, fits)) (omega arith) (omega (arith, same, within)) e) w
 
 -- ---- a switch word
@@ -75,10 +76,10 @@ switch_wanted (Some all) slot h = λ i l.
     same_four all open_word place 0 i h l ∙ ap (λ k. get_or open_word k 0) at ∙ sym (wanted_inside place open_word (place + i) short)
 
 -- the switch word of a slot that was opened was read back
-pub switch_fails : (slot : ℕ) (buffer stream : List ℕ) (old new : FlashState) (result : Result (Unit {0}) UpdateFault) → length buffer ≡ 4 → new.extent ≡ old.extent → HasSize old.extent → slot < 2048 → IfKnown old.bytes (λ all. IsOpen all slot)
+pub switch_fails : (slot : ℕ) (buffer stream : List ℕ) (old new : FlashState) (result : Result (Unit {0}) UpdateFault) → length buffer ≡ 4 → Sees new (32 * slot) buffer → new.extent ≡ old.extent → HasSize old.extent → slot < 2048 → IfKnown old.bytes (λ all. IsOpen all slot)
     → IfKnown old.bytes (λ all. buffer ≡ slice_range all (32 * slot) (32 * slot + 4)) → IfErr result (IsWrong (32 * slot) open_word (32 * slot) buffer) → IfErr result (EndFails stream old new)
-switch_fails slot buffer stream old new result long same sized h opened r w =
-    compared_fails (32 * slot) open_word (32 * slot) 4 buffer stream old new result long (subst HasSize (sym same) sized) r (switch_wanted old.bytes slot opened)
+switch_fails slot buffer stream old new result long seen same sized h opened r w =
+    compared_fails (32 * slot) open_word (32 * slot) 4 buffer stream old new result long seen (subst HasSize (sym same) sized) r (switch_wanted old.bytes slot opened)
     (λ i byte l e. in_switch slot h (omega arith) (omega arith) e) w
 
 -- ---- the end of an update
@@ -88,7 +89,7 @@ was_unknown f None e = refl
 was_unknown f (Some all) e = absurd (cc)
 
 fails_before : (stream : List ℕ) (a b c : FlashState) (f : List ℕ → List ℕ) (fault : UpdateFault) → a.faults ≤ b.faults → a.write_faults ≤ b.write_faults → b.bytes ≡ option_map f a.bytes → EndFails stream b c fault → EndFails stream a c fault
-fails_before stream a b c f (Differs at wrote read) r w e h = (h.0, was_unknown f a.bytes (sym e ∙ h.1))
+fails_before stream a b c f (Differs at wrote read) r w e h = (h.0, was_unknown f a.bytes (sym e ∙ h.1), h.2)
 fails_before stream a b c f (Failed true) r w e h = risen_from a.write_faults b.write_faults c.write_faults w h
 fails_before stream a b c f (Failed false) r w e h = risen_from a.faults b.faults c.faults r h
 fails_before stream a b c f TooLong r w e h = h

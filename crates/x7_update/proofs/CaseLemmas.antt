@@ -1,6 +1,7 @@
 -- Lemmas on what may be left of a flash: from one case to the next.
 use Rattle.std.proofs.Common.{◌≡◌, ℕ, ◌+◌, ◌*◌, ◌%◌, ◌<◌, ◌≤◌, ◌⊎◌, inl, inr, ⊎_elim, List, length, get_or, Bool, true, false, refl, ap, sym, subst, ◌∙◌, arith}
 use Rattle.std.proofs.lemmas.Bool.{cases_eq, cases_lt}
+use Rattle.x7_words.specs.Word.{AreBytes}
 use Rattle.x7_words.specs.Flash.{FlashState, IfKnown}
 use Rattle.x7_update.specs.Layout.{HasLayout, HasSlots, IsOpen, IsFree, IsNext, switch_of, open_word, free_word, spent_word, update_place}
 use Rattle.x7_update.specs.After.{ClosesTo, already, spends, IsAfter, IsBetween, MayBeLeft, untouched, between, after, switched, with_stream}
@@ -132,9 +133,9 @@ module _ (all : List ℕ) (slots : Slots) (finds : Finds (length all) all slots)
       inr (between_below (length all) all closed found finds.has (between_closed all closed finds.has closes) (subst (λ u. KeepsBelow u closed found) finds.update keeps))
 
   -- it may be left so
-  pub replacing_left : (stream found : List ℕ) → Replacing all found → MayBeLeft stream all found
-  replacing_left stream found (inl same) = untouched same
-  replacing_left stream found (inr b) = between layout b
+  pub replacing_left : (stream found : List ℕ) → Replacing all found → AreBytes found → MayBeLeft stream all found
+  replacing_left stream found (inl same) fits = untouched same
+  replacing_left stream found (inr b) fits = between layout fits b
 
   module _ (stream now : List ℕ) (fits : slots.update + length stream ≤ length all) (r : Replaced slots.update stream all now) where
     shut : IsBetween all r.closed
@@ -154,6 +155,10 @@ module _ (all : List ℕ) (slots : Slots) (finds : Finds (length all) all slots)
     pub replaced_free : IsFree now slots.next
     replaced_free = subst (λ l. IsFree l slots.next) (sym r.stands) (next_free slots.next all r.closed (with_stream slots.update stream r.closed) finds.has finds.next r.closes keeps)
 
+    -- no slot is open as yet
+    pub replaced_between : IsBetween all now
+    replaced_between = subst (λ l. IsBetween all l) (sym r.stands) (between_below (length all) all r.closed (with_stream slots.update stream r.closed) finds.has shut keeps)
+
     -- the slot is open: the flash is updated
     pub opened_after : IsAfter stream all (switched slots.next open_word now)
     opened_after = record {
@@ -166,12 +171,9 @@ module _ (all : List ℕ) (slots : Slots) (finds : Finds (length all) all slots)
     }
 
     -- while the next slot is opened
-    pub opening_left : (found : List ℕ) → Opening slots.next now found → MayBeLeft stream all found
-    opening_left found (inl is) = after layout (subst (IsAfter stream all) (sym is) opened_after)
-    opening_left found (inr only) = between layout (between_opening slots.next all now found written finds.next only)
-      where
-        written : IsBetween all now
-        written = subst (λ l. IsBetween all l) (sym r.stands) (between_below (length all) all r.closed (with_stream slots.update stream r.closed) finds.has shut keeps)
+    pub opening_left : (found : List ℕ) → Opening slots.next now found → AreBytes found → MayBeLeft stream all found
+    opening_left found (inl is) fits = after layout (subst (IsAfter stream all) (sym is) opened_after)
+    opening_left found (inr only) fits = between layout fits (between_opening slots.next all now found replaced_between finds.next only)
 
 -- what may be found since a call's start is what was there then, or was found within it
 pub found_left : (stream : List ℕ) (old new : FlashState) (past since : ℕ → List ℕ → Type 0) → ((found : List ℕ) → past old.moments found → IfKnown old.bytes (λ all. found ≡ all)) → AtAnyMoment old new past since (MayBeLeft stream)

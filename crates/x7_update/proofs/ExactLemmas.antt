@@ -23,8 +23,8 @@ layout_or_not flash place l (last_taken begins good taken is) = taken l.slots.la
 
 -- a flash that can be updated is refused for want of memory alone
 only_memory : (stream : List ℕ) (old new : FlashState) (fault : UpdateFault) → HasCause stream old new fault → CanBeUpdated stream old new → fault ≡ NoMemory
-only_memory stream old new (Failed true) cause can = absurd (can.writes cause)
-only_memory stream old new (Failed false) cause can = absurd (can.reads cause)
+only_memory stream old new (Failed true) cause can = absurd (can.writes cause.0)
+only_memory stream old new (Failed false) cause can = absurd (can.reads cause.0)
 only_memory stream old new TooLong cause can =
     let long = told_at old.bytes (IsTooLong stream) cause can.flash can.told in
     absurd (omega (arith, long.passes, can.fits))

@@ -156,7 +156,7 @@ layout_after stream flash found l a more =
 
 pub left_layout : (stream flash found : List ℕ) → HasLayout flash → MayBeLeft stream flash found → (IsNext flash 2047 → ⊥) → HasLayout found
 left_layout stream flash found l (untouched same) more = subst HasLayout (sym same) l
-left_layout stream flash found l (between layout b) more = layout_with flash found l b.size b.slots (λ slot other h k o p. absurd (b.closed slot h o)) (last_stays flash found l b more)
+left_layout stream flash found l (between layout fits b) more = layout_with flash found l b.size b.slots (λ slot other h k o p. absurd (b.closed slot h o)) (last_stays flash found l b more)
 left_layout stream flash found l (after layout a) more = layout_after stream flash found l a more
 
 -- ---- an update has one outcome

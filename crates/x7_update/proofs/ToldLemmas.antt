@@ -1,7 +1,7 @@
 -- Lemmas on bytes that may be told, and on what calls leave of them one after the other.
 use Rattle.std.proofs.Common.{◌≡◌, ℕ, ◌+◌, ◌≤◌, List, length, Option, None, Some, option_map, Result, Ok, Err, OnOk, OnErr, refl, sym, subst, ◌∙◌, arith}
 use Rattle.x7_words.specs.Flash.{Elapses, FlashState, IsTorn, OnlyWrites, TornFrom, Unwritten, IfKnown, WithinWrite, replaced}
-use Rattle.x7_words.proofs.FlashLemmas.{elapses_none, elapses_on, elapses_unwritten, elapses_weaker, left_is_torn}
+use Rattle.x7_words.proofs.FlashLemmas.{elapses_none, elapses_on, elapses_unwritten, elapses_weaker, target_is_torn}
 use Rattle.x7_update.specs.Writing.{AtAnyMoment, Becomes, BecomesBytes, Leaves}
 
 pub told_at : (told : Option (List ℕ)) (P : List ℕ → Type 0) → IfKnown told P → (all : List ℕ) → told ≡ Some all → P all
@@ -139,7 +139,7 @@ pub write_moments : {E : Type 0} (place : ℕ) (target : List ℕ → List ℕ) 
 write_moments place target old new past since answer within done torn passes = record { leaves = left answer done torn; elapses = passes }
   where
     left : {E : Type 0} (answer : Result (Unit {0}) E) → OnOk answer (new.bytes ≡ option_map (λ all. replaced place (target all) all) old.bytes) → OnErr answer (TornFrom place target old.bytes new.bytes) → Leaves old new (λ all now. IsTorn place (target all) all now)
-    left (Ok _) done torn = becomes_leaves old new (λ all now. IsTorn place (target all) all now) (becomes_of old new (λ all. replaced place (target all) all) (λ all now. IsTorn place (target all) all now) done (λ all e. left_is_torn None place (target all) all (within all e)))
+    left (Ok _) done torn = becomes_leaves old new (λ all now. IsTorn place (target all) all now) (becomes_of old new (λ all. replaced place (target all) all) (λ all now. IsTorn place (target all) all now) done (λ all e. target_is_torn place (target all) all (within all e)))
     left (Err _) done torn =
         told_all old.bytes (λ all. (now : List ℕ) × (new.bytes ≡ Some now) × IsTorn place (target all) all now)
         (λ all e. let Q : Option (List ℕ) → Type 0 = λ o. TornFrom place target o new.bytes in let at : TornFrom place target (Some all) new.bytes = subst Q e torn in at)

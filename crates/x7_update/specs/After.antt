@@ -1,6 +1,7 @@
 -- What an update leaves of a flash, and what a power loss may leave of it (this project's choice).
 use Rattle.std.specs.Prelude.{◌≡◌, ℕ, ◌+◌, ◌-◌, ◌*◌, ◌%◌, ◌<◌, ◌≤◌, List, ◌++◌, length, get_or, take, replicate}
 use Rattle.x7_words.specs.Flash.{replaced}
+use Rattle.x7_words.specs.Word.{AreBytes}
 use Rattle.x7_update.specs.Layout.{HasLayout, IsClosed, IsNext, IsOpen, open_word, spent_word, switch_of, update_place}
 
 -- the flash with this switch word in a slot
@@ -35,9 +36,9 @@ pub record IsBetween (flash found : List ℕ) : Type 0 where
   pub switches : (slot : ℕ) → slot < 2048 → (IsOpen flash slot → ⊥) → (IsNext flash slot → ⊥) → switch_of found slot ≡ switch_of flash slot
   pub golden : (i : ℕ) → 65536 ≤ i → i < update_place flash → get_or found i 0 ≡ get_or flash i 0
 
--- What a power loss may leave of a flash that is being updated with a stream: itself; and of one with a layout what is between, or
+-- What a power loss may leave of a flash that is being updated with a stream: itself; and of one with a layout bytes that are between, or
 -- the flash after the update.
 pub data MayBeLeft (stream flash found : List ℕ) : Type 0 where
   untouched : found ≡ flash → MayBeLeft stream flash found
-  between : HasLayout flash → IsBetween flash found → MayBeLeft stream flash found
+  between : HasLayout flash → AreBytes found → IsBetween flash found → MayBeLeft stream flash found
   after : HasLayout flash → IsAfter stream flash found → MayBeLeft stream flash found

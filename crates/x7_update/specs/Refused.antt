@@ -1,5 +1,5 @@
 -- Why an update is refused, and where a flash has no layout (this project's choice).
-use Rattle.std.specs.Prelude.{◌≡◌, ◌≢◌, ℕ, ◌+◌, ◌*◌, ◌<◌, ◌≤◌, ◌⊎◌, true, false, List, length, get_or, None, Some}
+use Rattle.std.specs.Prelude.{◌≡◌, ◌≢◌, ℕ, ◌+◌, ◌*◌, ◌<◌, ◌≤◌, ◌⊎◌, IsTrue, true, false, List, length, get_or, None, Some}
 use Rattle.x7_words.specs.Flash.{FlashFails, FlashState, IfKnown, WriteFails}
 use Rattle.x7_update.specs.Layout.{CanStandAt, HasLayout, HasSize, IsFree, IsOpen, Leads, first_slot, update_place}
 use Rattle.x7_update.specs.Writing.{IsReadWrong}
@@ -53,14 +53,20 @@ pub record IsTooLong (stream flash : List ℕ) : Type 0 where
   pub layout : HasLayout flash
   pub passes : length flash < update_place flash + length stream
 
--- Each refusal has its cause: a failed write or read its count, which rose; of told bytes, the stream doesn't fit or there is no
--- layout; and a byte read back is another than the one written there, only where the bytes aren't told. Want of memory has none.
+-- a flash has a layout in which the stream fits
+pub record CanTake (stream flash : List ℕ) : Type 0 where
+  pub layout : HasLayout flash
+  pub fits : update_place flash + length stream ≤ length flash
+
+-- Each refusal has its cause: a failed write or read its count, which rose, of a flash whose size is good, and told bytes are written only where the stream
+-- fits; of told bytes, the stream doesn't fit or there is no layout; and a byte that was read at the place, with no write since, is another than the one
+-- written there, only where the bytes aren't told. Want of memory has none.
 abbrev pub HasCause : List ℕ → FlashState → FlashState → UpdateFault → Type 0
-HasCause stream old new (Failed true) = WriteFails old new
-HasCause stream old new (Failed false) = FlashFails old new
+HasCause stream old new (Failed true) = WriteFails old new × HasSize new.extent × IfKnown old.bytes (CanTake stream)
+HasCause stream old new (Failed false) = FlashFails old new × HasSize new.extent
 HasCause stream old new TooLong = IfKnown old.bytes (IsTooLong stream)
 HasCause stream old new (NoLayout place) = IfKnown old.bytes (λ flash. NoLayoutAt (length flash) flash place)
-HasCause stream old new (Differs place wrote read) = IsReadWrong new.extent stream place wrote read × (old.bytes ≡ None)
+HasCause stream old new (Differs place wrote read) = IsReadWrong new.extent stream place wrote read × (old.bytes ≡ None) × IsTrue (new.seen place read)
 HasCause stream old new NoMemory = Unit {0}
 
 -- such a refusal comes before the first write

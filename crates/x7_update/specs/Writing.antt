@@ -1,6 +1,7 @@
 -- What the steps of an update do to the flash (this project's choice).
-use Rattle.std.specs.Prelude.{◌≡◌, ◌≢◌, ℕ, ◌+◌, ◌-◌, ◌*◌, ◌<◌, ◌≤◌, ◌⊎◌, List, length, get_or, Option, Some, None, nat_lt, if◌then◌else◌, true, false}
+use Rattle.std.specs.Prelude.{◌≡◌, ◌≢◌, ℕ, ◌+◌, ◌-◌, ◌*◌, ◌<◌, ◌≤◌, ◌⊎◌, IsTrue, List, length, get_or, Option, Some, None, nat_lt, if◌then◌else◌, true, false}
 use Rattle.x7_words.specs.Flash.{Elapses, FlashFails, FlashState, IfKnown, WriteFails}
+use Rattle.x7_words.specs.Word.{AreBytes}
 use Rattle.x7_update.specs.After.{ClosesTo, IsBetween, switched, with_stream}
 use Rattle.x7_update.specs.Layout.{CanStandAt, HasSize, open_word, switch_of}
 use Rattle.x7_update.specs.declared.fault.UpdateFault.{UpdateFault}
@@ -32,6 +33,10 @@ pub record OnlyUses (old new : FlashState) : Type 0 where
   pub absences : new.absences ≡ old.absences
   pub faults : old.faults ≤ new.faults
   pub write_faults : old.write_faults ≤ new.write_faults
+
+-- where there were bytes there are bytes
+abbrev pub StaysBytes : List ℕ → List ℕ → Type 0
+StaysBytes old found = AreBytes old → AreBytes found
 
 -- nothing below the place has changed
 pub record KeepsBelow (place : ℕ) (old found : List ℕ) : Type 0 where
@@ -80,6 +85,14 @@ wanted_at update stream place = if nat_lt (place - update) (length stream) then 
 abbrev pub HasWanted : ℕ → List ℕ → List ℕ → Type 0
 HasWanted update stream flash = (place : ℕ) → update ≤ place → place < length flash → get_or flash place 0 ≡ wanted_at update stream place
 
+-- from one place up to another each byte was read as it is wanted, and nothing was written since
+abbrev pub SeesWanted : ℕ → List ℕ → ℕ → ℕ → FlashState → Type 0
+SeesWanted update stream from to state = (place : ℕ) → from ≤ place → place < to → IsTrue (state.seen place (wanted_at update stream place))
+
+-- each byte of what was read from a place on is as it is wanted there
+abbrev pub ReadsWanted : ℕ → List ℕ → ℕ → List ℕ → Type 0
+ReadsWanted update stream place buffer = (i : ℕ) → i < length buffer → get_or buffer i 0 ≡ wanted_at update stream (place + i)
+
 -- a byte of what was read from a place on is another than the one wanted there
 abbrev pub IsWrong : ℕ → List ℕ → ℕ → List ℕ → UpdateFault → Type 0
 IsWrong update stream place buffer (Differs at wrote read) =
@@ -103,10 +116,10 @@ pub record IsReadWrong (size : ℕ) (stream : List ℕ) (place wrote read : ℕ)
   pub written : IsWritten size stream place wrote
   pub differs : wrote ≢ read
 
--- why the end of an update with a stream fails: a read or a write failed, or a byte is another than the one written, which told
--- bytes never are
+-- why the end of an update with a stream fails: a read or a write failed, or a byte was read that is another than the one written, which
+-- known bytes never are
 abbrev pub EndFails : List ℕ → FlashState → FlashState → UpdateFault → Type 0
-EndFails stream old new (Differs at wrote read) = IsReadWrong new.extent stream at wrote read × (old.bytes ≡ None)
+EndFails stream old new (Differs at wrote read) = IsReadWrong new.extent stream at wrote read × (old.bytes ≡ None) × IsTrue (new.seen at read)
 EndFails stream old new (Failed true) = WriteFails old new
 EndFails stream old new (Failed false) = FlashFails old new
 EndFails stream old new TooLong = ⊥

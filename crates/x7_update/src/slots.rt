@@ -1,6 +1,6 @@
 //! A look at the first sector: where the update stands, which slot is open, and which is the next.
 ghost use Rattle.std.specs.Prelude.{◌≡◌, ◌+◌, ◌<◌, ℕ, List, true, length, IfErr, IfOk, IfNone, IfSome};
-ghost use Rattle.x7_words.specs.Flash.{OnlyReads, IfKnown};
+ghost use Rattle.x7_words.specs.Flash.{KnowsBytes, OnlyReads, IfKnown};
 ghost use Rattle.x7_update.specs.Layout.{HasSize, Leads, first_slot};
 ghost use Rattle.x7_update.specs.Refused.{DiffersAt, HasCause, IsBad, IsGood, NoLayoutAt};
 ghost use Rattle.x7_update.specs.Slots.{Finds, Fits, SoFar};
@@ -127,6 +127,7 @@ pub(crate) fn find_slots<F: Flash>(flash: &mut F, buffer: &mut [u8]) -> Result<S
     ensures fits { IfOk result (Fits (F.state flash.old).extent) }
     ensures finds { IfOk result (λ slots. IfKnown (F.state flash.old).bytes (λ all. Finds (length all) all slots)) }
     ensures fault { (stream : List ℕ) → IfErr result (HasCause stream (F.state flash.old) (F.state flash.new)) }
+    ensures bytes { KnowsBytes (F.state flash.old) }
     ensures only { OnlyReads (F.state flash.old) (F.state flash.new) (F.found_since flash.old) (F.found_since flash.new) }
 {
     let size = flash.size();

@@ -1,11 +1,12 @@
 //! The steps of an update, in their order: look, close, write, read back, open.
-ghost use Rattle.std.specs.Prelude.{◌≡◌, ◌+◌, ◌≤◌, ℕ, List, true, length, IfErr, OnOk, OnErr, option_map};
+ghost use Rattle.std.specs.Prelude.{◌≡◌, ◌+◌, ◌≤◌, ◌⊎◌, ℕ, List, true, length, IfErr, OnOk, OnErr, option_map};
 ghost use Rattle.x7_words.specs.Flash.{OnlyReads, OnlyWrites, IfKnown, WriteFails};
 ghost use Rattle.x7_update.specs.After.{ClosesTo, IsAfter, MayBeLeft, switched};
-ghost use Rattle.x7_update.specs.Layout.{HasLayout, IsFree, open_word};
+ghost use Rattle.x7_update.specs.Layout.{HasLayout, IsClosed, IsFree, open_word};
+ghost use Rattle.x7_update.specs.ReadBack.{OpensReadBack, ReadBack, WasReady};
 ghost use Rattle.x7_update.specs.Refused.{CanBeUpdated, HasCause, IsEarly};
 ghost use Rattle.x7_update.specs.Slots.{Finds, Fits};
-ghost use Rattle.x7_update.specs.Writing.{AtAnyMoment, Becomes, EndFails, HasWanted, OnlyUses, Opening, Replaced, Replacing};
+ghost use Rattle.x7_update.specs.Writing.{AtAnyMoment, Becomes, EndFails, HasWanted, OnlyUses, Opening, Replaced, Replacing, StaysBytes};
 ghost use Rattle.x7_update.specs.declared.fault.UpdateFault.TheVariants.{NoMemory};
 
 use crate::fault::UpdateFault;
@@ -24,6 +25,8 @@ fn close_opened<F: Flash>(flash: &mut F, slots: Slots) -> Result<(), Failed>
     ensures closed { OnOk result (Becomes (F.state flash.old) (F.state flash.new) ClosesTo) }
     ensures any_moment { AtAnyMoment (F.state flash.old) (F.state flash.new) (F.found_since flash.old) (F.found_since flash.new)
         Replacing }
+    ensures bytes { AtAnyMoment (F.state flash.old) (F.state flash.new) (F.found_since flash.old) (F.found_since flash.new)
+        StaysBytes }
     ensures failed { OnErr result (WriteFails (F.state flash.old) (F.state flash.new)) }
     ensures only { OnlyWrites (F.state flash.old) (F.state flash.new) }
 {
@@ -42,6 +45,8 @@ fn replace<F: Flash>(flash: &mut F, slots: Slots, stream: &[u8]) -> Result<(), F
     ensures replaced { OnOk result (Becomes (F.state flash.old) (F.state flash.new) (Replaced slots.update stream.now)) }
     ensures any_moment { AtAnyMoment (F.state flash.old) (F.state flash.new) (F.found_since flash.old) (F.found_since flash.new)
         Replacing }
+    ensures bytes { AtAnyMoment (F.state flash.old) (F.state flash.new) (F.found_since flash.old) (F.found_since flash.new)
+        StaysBytes }
     ensures failed { OnErr result (WriteFails (F.state flash.old) (F.state flash.new)) }
     ensures only { OnlyWrites (F.state flash.old) (F.state flash.new) }
 {
@@ -62,15 +67,21 @@ fn finish<F: Flash>(
     requires buffer { length buffer.old ≡ 65536 }
     requires written { IfKnown (F.state flash.old).bytes (HasWanted slots.update stream.now) }
     requires free { IfKnown (F.state flash.old).bytes (λ all. IsFree all slots.next) }
+    requires closed { IfKnown (F.state flash.old).bytes IsClosed }
     ensures opened { OnOk result ((F.state flash.new).bytes ≡ option_map (switched slots.next open_word) (F.state flash.old).bytes) }
     ensures any_moment { AtAnyMoment (F.state flash.old) (F.state flash.new) (F.found_since flash.old) (F.found_since flash.new)
         (Opening slots.next) }
+    ensures bytes { AtAnyMoment (F.state flash.old) (F.state flash.new) (F.found_since flash.old) (F.found_since flash.new)
+        StaysBytes }
+    ensures ready { OnOk result (WasReady F.state slots.update stream.now (F.state flash.new)) }
+    ensures opens { AtAnyMoment (F.state flash.old) (F.state flash.new) (F.found_since flash.old) (F.found_since flash.new)
+        (λ all found. (found ≡ all) ⊎ WasReady F.state slots.update stream.now (F.state flash.new)) }
     ensures fault { IfErr result (EndFails stream.now (F.state flash.old) (F.state flash.new)) }
     ensures only { OnlyUses (F.state flash.old) (F.state flash.new) }
 {
     match verify_stream(flash, slots.update, stream, buffer) {
         Ok(()) => (),
-        Err(fault) => return Err(fault),
+        Err(wrong) => return Err(wrong),
     }
     match open_slot(flash, slots.next) {
         Ok(()) => (),
@@ -86,6 +97,9 @@ fn take_steps<F: Flash>(alloc: Global, flash: &mut F, stream: &[u8]) -> Result<(
     ensures layout { OnOk result (IfKnown (F.state flash.old).bytes HasLayout) }
     ensures any_moment { AtAnyMoment (F.state flash.old) (F.state flash.new) (F.found_since flash.old) (F.found_since flash.new)
         (MayBeLeft stream.now) }
+    ensures read_back { OnOk result (ReadBack F.state stream.now (F.state flash.old) (F.state flash.new)) }
+    ensures opens { AtAnyMoment (F.state flash.old) (F.state flash.new) (F.found_since flash.old) (F.found_since flash.new)
+        (OpensReadBack F.state stream.now (F.state flash.old) (F.state flash.new)) }
     ensures refused { IfErr result (HasCause stream.now (F.state flash.old) (F.state flash.new)) }
     ensures unchanged { IfErr result (λ fault. IsEarly fault →
         OnlyReads (F.state flash.old) (F.state flash.new) (F.found_since flash.old) (F.found_since flash.new)) }
@@ -122,6 +136,9 @@ pub fn update<F: Flash>(alloc: Global, flash: &mut F, stream: &[u8]) -> Result<(
         IfKnown (F.state flash.old).bytes (λ all. MayBeLeft stream.now all found) }
     ensures any_moment { AtAnyMoment (F.state flash.old) (F.state flash.new) (F.found_since flash.old) (F.found_since flash.new)
         (MayBeLeft stream.now) }
+    ensures read_back { OnOk result (ReadBack F.state stream.now (F.state flash.old) (F.state flash.new)) }
+    ensures opens { AtAnyMoment (F.state flash.old) (F.state flash.new) (F.found_since flash.old) (F.found_since flash.new)
+        (OpensReadBack F.state stream.now (F.state flash.old) (F.state flash.new)) }
     ensures refused { IfErr result (HasCause stream.now (F.state flash.old) (F.state flash.new)) }
     ensures complete { IfErr result (λ fault. CanBeUpdated stream.now (F.state flash.old) (F.state flash.new) → fault ≡ NoMemory) }
     ensures unchanged { IfErr result (λ fault. IsEarly fault →

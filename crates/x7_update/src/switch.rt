@@ -3,7 +3,7 @@ ghost use Rattle.std.specs.Prelude.{◌≡◌, ◌+◌, ◌*◌, ◌<◌, ◌≤
 ghost use Rattle.x7_words.specs.Flash.{OnlyWrites, IfKnown, WriteFails};
 ghost use Rattle.x7_update.specs.After.{switched};
 ghost use Rattle.x7_update.specs.Layout.{IsFree, IsOpen, open_word, spent_word};
-ghost use Rattle.x7_update.specs.Writing.{AtAnyMoment, Closing, Opening};
+ghost use Rattle.x7_update.specs.Writing.{AtAnyMoment, Closing, Opening, StaysBytes};
 
 use crate::layout::{OPEN, SPENT};
 use x7_words::{Failed, Flash};
@@ -17,6 +17,8 @@ pub(crate) fn close_slot<F: Flash>(flash: &mut F, slot: u64) -> Result<(), Faile
     ensures closed { OnOk result ((F.state flash.new).bytes ≡ option_map (switched slot spent_word) (F.state flash.old).bytes) }
     ensures any_moment { AtAnyMoment (F.state flash.old) (F.state flash.new) (F.found_since flash.old) (F.found_since flash.new)
         (Closing slot) }
+    ensures bytes { AtAnyMoment (F.state flash.old) (F.state flash.new) (F.found_since flash.old) (F.found_since flash.new)
+        StaysBytes }
     ensures failed { OnErr result (WriteFails (F.state flash.old) (F.state flash.new)) }
     ensures only { OnlyWrites (F.state flash.old) (F.state flash.new) }
 {
@@ -32,6 +34,9 @@ pub(crate) fn open_slot<F: Flash>(flash: &mut F, slot: u64) -> Result<(), Failed
     ensures opened { OnOk result ((F.state flash.new).bytes ≡ option_map (switched slot open_word) (F.state flash.old).bytes) }
     ensures any_moment { AtAnyMoment (F.state flash.old) (F.state flash.new) (F.found_since flash.old) (F.found_since flash.new)
         (Opening slot) }
+    ensures bytes { AtAnyMoment (F.state flash.old) (F.state flash.new) (F.found_since flash.old) (F.found_since flash.new)
+        StaysBytes }
+    ensures moment { (F.state flash.new).moments ≤ (F.state flash.old).moments + 1 }
     ensures failed { OnErr result (WriteFails (F.state flash.old) (F.state flash.new)) }
     ensures only { OnlyWrites (F.state flash.old) (F.state flash.new) }
 {

@@ -1,8 +1,8 @@
 //! What was written is read back and compared.
-ghost use Rattle.std.specs.Prelude.{◌≡◌, ◌+◌, ◌*◌, ◌<◌, ◌≤◌, ◌^◌, ℕ, List, true, length, IfErr};
+ghost use Rattle.std.specs.Prelude.{◌≡◌, ◌+◌, ◌*◌, ◌<◌, ◌≤◌, ◌^◌, ℕ, List, true, length, IfErr, OnOk};
 ghost use Rattle.x7_words.specs.Flash.{OnlyReads, IfKnown};
 ghost use Rattle.x7_update.specs.Layout.{CanStandAt, HasSize, IsOpen};
-ghost use Rattle.x7_update.specs.Writing.{EndFails, HasWanted, IsWrong, wanted_at};
+ghost use Rattle.x7_update.specs.Writing.{ReadsWanted, EndFails, HasWanted, IsWrong, SeesWanted, wanted_at};
 
 use crate::fault::UpdateFault;
 use crate::layout::OPEN;
@@ -22,7 +22,8 @@ fn wanted(stream: &[u8], behind: u64) -> u8
 /// Compares what was read from a place on with what is wanted there.
 fn compare(buffer: &[u8], behind: u64, update: u64, stream: &[u8]) -> Result<(), UpdateFault>
     requires { update + behind + length buffer.now < 2 ^ 63 }
-    ensures { IfErr result (IsWrong update stream.now (update + behind) buffer.now) }
+    ensures same { OnOk result (ReadsWanted update stream.now (update + behind) buffer.now) }
+    ensures wrong { IfErr result (IsWrong update stream.now (update + behind) buffer.now) }
 {
     for i in 0..buffer.len() {
         let at = behind + i as u64;
@@ -52,6 +53,7 @@ pub(crate) fn verify_stream<F: Flash>(
     requires fits { update + length stream.now ≤ (F.state flash.old).extent }
     requires buffer { length buffer.old ≡ 65536 }
     requires written { IfKnown (F.state flash.old).bytes (HasWanted update stream.now) }
+    ensures seen { OnOk result (SeesWanted update stream.now update (F.state flash.old).extent (F.state flash.new)) }
     ensures fault { IfErr result (EndFails stream.now (F.state flash.old) (F.state flash.new)) }
     ensures only { OnlyReads (F.state flash.old) (F.state flash.new) (F.found_since flash.old) (F.found_since flash.new) }
 {
@@ -80,6 +82,7 @@ fn verify_sector<F: Flash>(
     requires fits { update + length stream.now ≤ (F.state flash.old).extent }
     requires buffer { length buffer.old ≡ 65536 }
     requires written { IfKnown (F.state flash.old).bytes (HasWanted update stream.now) }
+    ensures seen { OnOk result (SeesWanted update stream.now (sector * 65536) (sector * 65536 + 65536) (F.state flash.new)) }
     ensures fault { IfErr result (EndFails stream.now (F.state flash.old) (F.state flash.new)) }
     ensures only { OnlyReads (F.state flash.old) (F.state flash.new) (F.found_since flash.old) (F.found_since flash.new) }
     ensures buffer { length buffer.new ≡ 65536 }

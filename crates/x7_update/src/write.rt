@@ -1,7 +1,7 @@
 //! The stream of an update is written: all from its place on is erased, then it is programmed there.
 ghost use Rattle.std.specs.Prelude.{◌≡◌, ◌+◌, ◌%◌, ◌≤◌, true, length, OnOk, OnErr};
 ghost use Rattle.x7_words.specs.Flash.{OnlyWrites, WriteFails};
-ghost use Rattle.x7_update.specs.Writing.{AtAnyMoment, Becomes, ErasedTo, KeepsBelow, Stands};
+ghost use Rattle.x7_update.specs.Writing.{AtAnyMoment, Becomes, ErasedTo, KeepsBelow, Stands, StaysBytes};
 
 use x7_words::{Failed, Flash, SECTOR};
 
@@ -13,6 +13,8 @@ fn erase_from<F: Flash>(flash: &mut F, place: u64) -> Result<(), Failed>
     ensures erased { OnOk result (Becomes (F.state flash.old) (F.state flash.new) (ErasedTo place (F.state flash.old).extent)) }
     ensures any_moment { AtAnyMoment (F.state flash.old) (F.state flash.new) (F.found_since flash.old) (F.found_since flash.new)
         (KeepsBelow place) }
+    ensures bytes { AtAnyMoment (F.state flash.old) (F.state flash.new) (F.found_since flash.old) (F.found_since flash.new)
+        StaysBytes }
     ensures failed { OnErr result (WriteFails (F.state flash.old) (F.state flash.new)) }
     ensures only { OnlyWrites (F.state flash.old) (F.state flash.new) }
 {
@@ -31,6 +33,8 @@ pub(crate) fn write_stream<F: Flash>(flash: &mut F, place: u64, stream: &[u8]) -
     ensures written { OnOk result (Becomes (F.state flash.old) (F.state flash.new) (Stands place stream.now)) }
     ensures any_moment { AtAnyMoment (F.state flash.old) (F.state flash.new) (F.found_since flash.old) (F.found_since flash.new)
         (KeepsBelow place) }
+    ensures bytes { AtAnyMoment (F.state flash.old) (F.state flash.new) (F.found_since flash.old) (F.found_since flash.new)
+        StaysBytes }
     ensures failed { OnErr result (WriteFails (F.state flash.old) (F.state flash.new)) }
     ensures only { OnlyWrites (F.state flash.old) (F.state flash.new) }
 {

@@ -74,6 +74,7 @@ only_reads old new answer was is o e rises = record {
   extent = read_keeps (λ f. f.extent) (λ f file n. refl) old new new.file answer o e;
   attached = is ∙ sym was;
   names = refl;
+  seen = λ place byte h. refl;
   faults = rises;
   absences = read_keeps (λ f. f.absences) (λ f file n. refl) old new new.file answer o e;
   unwritten = untold_unwritten old new (read_keeps (λ f. f.write_faults) (λ f file n. refl) old new new.file answer o e);

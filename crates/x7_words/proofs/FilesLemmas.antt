@@ -50,6 +50,7 @@ read_ok old new buf (Ok n) s h e = record {
   selected = ap (λ f. f.selected) e ∙ s;
   taken = refl;
   given = let count : new.given ≡ added old.given n = ap (λ f. f.given) e in omega (arith, count, length-take-le n buf h);
+  selects = ap (λ f. f.selects) e;
 }
 read_ok old new buf (Err _) s h e = tt
 
@@ -57,6 +58,11 @@ read_ok old new buf (Err _) s h e = tt
 pub read_gives : (old new : RealInputs) (answer : Result ℕ FailedRead) → OnErr answer (new ≡ record old { selected = false; rest = None; faults = raised old.faults }) → OnErr answer (new.given ≤ old.given)
 read_gives old new (Ok _) e = tt
 read_gives old new (Err _) e = let same : new.given ≡ old.given = ap (λ f. f.given) e in omega arith
+
+-- a read asks for no input
+pub read_selects : (old new : RealInputs) (answer : Result ℕ FailedRead) → IfOk answer (λ n. new ≡ record old { rest = new.rest; given = added old.given n }) → OnErr answer (new ≡ record old { selected = false; rest = None; faults = raised old.faults }) → new.selects ≡ old.selects
+read_selects old new (Ok _) o e = ap (λ f. f.selects) o
+read_selects old new (Err _) o e = ap (λ f. f.selects) e
 
 -- a read never lowers the count of absences
 pub read_absences : (old new : RealInputs) (answer : Result ℕ FailedRead) → IfOk answer (λ n. new ≡ record old { rest = new.rest; given = added old.given n }) → OnErr answer (new ≡ record old { selected = false; rest = None; faults = raised old.faults }) → old.absences ≤ new.absences

@@ -1,12 +1,14 @@
 -- Lemmas on a flash's bytes and on what a write leaves of them, for the crates that write a flash.
-use Rattle.std.proofs.Common.{◌≡◌, ℕ, ◌+◌, ◌-◌, ◌%◌, ◌<◌, ◌≤◌, ◌⊎◌, inl, inr, ⊎_elim, Bool, true, cond, List, [], ◌++◌, length, get_or, take, drop, replicate, slice_range, min, max, Option, None, Some, refl, ap, sym, subst, ◌∙◌, arith, length-append, length-drop, bit_and, bit_xor}
+use Rattle.std.proofs.Common.{◌≡◌, ℕ, zero, suc, ◌+◌, ◌-◌, ◌^◌, ◌<◌, ◌≤◌, ◌⊎◌, inl, inr, ⊎_elim, List, [], ◌∷◌, ◌++◌, length, get_or, take, drop, slice_range, refl, ap, sym, subst, ◌∙◌, arith, length-append, length-drop, take-append-drop, bit_and}
 use Rattle.std.specs.Int.{bit_at}
-use Rattle.std.proofs.lemmas.Bool.{cases_eq, cases_lt}
+use Rattle.std.proofs.lemmas.Bool.{cases_lt}
 use Rattle.std.proofs.lemmas.List.{length-take-le, length-replicate, get_or_append_left, get_or-append_right, get_or-take, get_or-drop, get_or-replicate, ext_get_or}
-use Rattle.std.proofs.lemmas.Nat.Bits.{bit_at_and, bit_at_or, bit_at_xor, bit_at_ones, bit_at-lt}
-use Rattle.x7_words.specs.Flash.{FlashState, OnlyReads, Unwritten, sector_size, erased_sector, replaced, cleared, IsTorn, Elapses}
-use Rattle.x7_words.specs.Memory.{torn_byte, left_by}
-use Rattle.x7_words.proofs.ZipLemmas.{length-zip_with, get_or-zip_with}
+use Rattle.std.proofs.lemmas.Nat.{and_mask}
+use Rattle.std.proofs.lemmas.Nat.Bits.{bit_at_above, bit_at_and, bit_at_ones, bit_at_ones_above, bit_at-lt, same_from_bits}
+use Rattle.x7_words.specs.Flash.{FlashState, OnlyReads, Unwritten, sector_size, erased_sector, replaced, cleared, zip_with, IsTorn, Elapses}
+use Rattle.x7_words.specs.Word.{AreBytes}
+use Rattle.x7_words.proofs.ListLemmas.{all-append, all_back, all_from_places, all_take}
+use Rattle.x7_words.proofs.ZipLemmas.{length-zip_with}
 
 pub sector_size_is : sector_size ≡ 65536
 unfolding sector_size
@@ -17,15 +19,6 @@ length-erased_sector = length-replicate sector_size 255 ∙ sector_size_is
 
 pub get_or-erased_sector : (i : ℕ) → i < 65536 → get_or erased_sector i 0 ≡ 255
 get_or-erased_sector i h = get_or-replicate sector_size i 255 0 (omega (arith, sector_size_is))
-
--- an empty list filled up to a sector
-pub filled : (empty now other : List ℕ) (count : ℕ) (ok : Bool) → ok ≡ true → empty ≡ [] → count ≡ 0 → now ≡ cond ok (take 65536 empty ++ replicate (65536 - count) 255) other → now ≡ erased_sector
-filled empty now other count ok is_ok is_empty is_zero e =
-    let same : 65536 - count ≡ sector_size = omega (arith, sector_size_is) in
-    e
-    ∙ ap (λ b. cond b (take 65536 empty ++ replicate (65536 - count) 255) other) is_ok
-    ∙ ap (λ l. take 65536 l ++ replicate (65536 - count) 255) is_empty
-    ∙ ap (λ n. replicate n 255) same
 
 pub length-slice_range : (all : List ℕ) (place count : ℕ) → place + count ≤ length all → length (slice_range all place (place + count)) ≡ count
 length-slice_range all place count h =
@@ -107,74 +100,74 @@ replaced_back place piece all within = ext_get_or 0 (replaced place old now) all
 pub length-cleared : (place : ℕ) (given all : List ℕ) → place + length given ≤ length all → length (cleared place given all) ≡ length given
 length-cleared place given all within = length-zip_with bit_and (slice_range all place (place + length given)) given (length-slice_range all place (length given) within)
 
--- each bit of a torn byte is the old one or the target's
-pick_bit : (v x y q : ℕ) → x < 2 → y < 2 → q < 2 → v ≡ max (min x q) (min y ((q + 1) % 2)) → (v ≡ x) ⊎ (v ≡ y)
-pick_bit v x y q a b c e = elim (cases_eq q 0) [
-  | inl zero_q ↦ inr (omega arith)
-  | inr one ↦ inl (omega arith)
-]
-
-pub torn_bit : (pattern old target bit : ℕ) → bit < 8 → (bit_at (torn_byte pattern old target) bit ≡ bit_at old bit) ⊎ (bit_at (torn_byte pattern old target) bit ≡ bit_at target bit)
-torn_bit pattern old target bit h =
-    let other : bit_at (bit_xor pattern 255) bit ≡ (bit_at pattern bit + 1) % 2 = bit_at_xor pattern 255 bit ∙ ap (λ b. (bit_at pattern bit + b) % 2) (bit_at_ones 8 bit h) in
-    let all : bit_at (torn_byte pattern old target) bit ≡ max (min (bit_at old bit) (bit_at pattern bit)) (min (bit_at target bit) ((bit_at pattern bit + 1) % 2)) =
-    bit_at_or (bit_and old pattern) (bit_and target (bit_xor pattern 255)) bit
-    ∙ ap (λ l. max l (bit_at (bit_and target (bit_xor pattern 255)) bit)) (bit_at_and old pattern bit)
-    ∙ ap (λ r. max (min (bit_at old bit) (bit_at pattern bit)) r) (bit_at_and target (bit_xor pattern 255) bit ∙ ap (λ o. min (bit_at target bit) o) other) in
-    pick_bit (bit_at (torn_byte pattern old target) bit) (bit_at old bit) (bit_at target bit) (bit_at pattern bit) (bit_at-lt old bit) (bit_at-lt target bit) (bit_at-lt pattern bit) all
-
 -- before a write its bytes are there
 pub old_is_torn : (place : ℕ) (target old : List ℕ) → IsTorn place target old old
-old_is_torn place target old = record { size = refl; outside = λ i h. refl; inside = λ i bit h b. inl refl }
+old_is_torn place target old = record { size = refl; outside = λ i h. refl; inside = λ i bit h. inl refl }
 
-length-left_by : (tear : Option ℕ) (before target : List ℕ) → length before ≡ length target → length (left_by tear before target) ≡ length target
-length-left_by None before target e = refl
-length-left_by (Some pattern) before target e = length-zip_with (torn_byte pattern) before target e
+-- after a write that was done its target is there
+pub target_is_torn : (place : ℕ) (target old : List ℕ) → place + length target ≤ length old → IsTorn place target old (replaced place target old)
+target_is_torn place target old within = record {
+  size = length-replaced place target old within;
+  outside = λ i h. get_or-replaced_outside place target old within i h;
+  inside = λ i bit h. inr (ap (λ v. bit_at v bit) (get_or-replaced_inside place target old within i h));
+}
 
-bit_left : (tear : Option ℕ) (before target : List ℕ) (i bit : ℕ) → length before ≡ length target → i < length target → bit < 8
-    → (bit_at (get_or (left_by tear before target) i 0) bit ≡ bit_at (get_or before i 0) bit) ⊎ (bit_at (get_or (left_by tear before target) i 0) bit ≡ bit_at (get_or target i 0) bit)
-bit_left None before target i bit e h b = inr refl
-bit_left (Some pattern) before target i bit e h b =
-    let is = get_or-zip_with (torn_byte pattern) before target i (omega (arith, e)) h in
-    subst (λ v. (bit_at v bit ≡ bit_at (get_or before i 0) bit) ⊎ (bit_at v bit ≡ bit_at (get_or target i 0) bit)) (sym is) (torn_bit pattern (get_or before i 0) (get_or target i 0) bit b)
+-- ---- bytes
 
--- what a write leaves, torn by a pattern or not
-module _ (tear : Option ℕ) (place : ℕ) (target old : List ℕ) (within : place + length target ≤ length old) where
-  abbrev before : List ℕ
-  before = slice_range old place (place + length target)
+-- one of a list of bytes
+pub byte_at : (bytes : List ℕ) (i : ℕ) → AreBytes bytes → get_or bytes i 0 < 256
+byte_at [] i h = omega arith
+byte_at (b ∷ bytes) zero h = h.0
+byte_at (b ∷ bytes) (suc i) h = byte_at bytes i h.1
 
-  abbrev left : List ℕ
-  left = left_by tear before target
+-- a number with no bit above the eighth
+pub byte_of_bits : (n : ℕ) → ((bit : ℕ) → 8 ≤ bit → bit_at n bit ≡ 0) → n < 256
+byte_of_bits n none = let masked = same_from_bits n (bit_and n (2 ^ 8 - 1)) each in omega (arith, masked, and_mask n 8)
+  where
+    each : (bit : ℕ) → bit_at n bit ≡ bit_at (bit_and n (2 ^ 8 - 1)) bit
+    each bit = elim (cases_lt bit 8) [
+      | inl low ↦ omega (arith, bit_at_and n (2 ^ 8 - 1) bit, bit_at_ones 8 bit low, bit_at-lt n bit)
+      | inr high ↦ omega (arith, none bit high, bit_at_and n (2 ^ 8 - 1) bit, bit_at_ones_above 8 bit high)
+    ]
 
-  length-before : length before ≡ length target
-  length-before = length-slice_range old place (length target) within
+-- of bytes that are written with bytes a write leaves bytes
+pub torn_bytes : (place : ℕ) (target old found : List ℕ) → AreBytes target → AreBytes old → IsTorn place target old found → AreBytes found
+torn_bytes place target old found t o torn = all_from_places (λ b. b < 256) found (λ i h. each i)
+  where
+    inside : (k : ℕ) → k < length target → get_or found (place + k) 0 < 256
+    inside k h =
+        byte_of_bits (get_or found (place + k) 0) (λ bit high. ⊎_elim
+        (λ e. e ∙ bit_at_above (get_or old (place + k) 0) 8 bit (byte_at old (place + k) o) high)
+        (λ e. e ∙ bit_at_above (get_or target k 0) 8 bit (byte_at target k t) high)
+        (torn.inside k bit h))
 
-  length-left : length left ≡ length target
-  length-left = length-left_by tear before target length-before
+    each : (i : ℕ) → get_or found i 0 < 256
+    each i = elim (cases_lt i place) [
+      | inl below ↦ omega (arith, torn.outside i (inl below), byte_at old i o)
+      | inr from ↦ elim (cases_lt i (place + length target)) [
+        | inl to ↦ let at : place + (i - place) ≡ i = omega arith in subst (λ n. get_or found n 0 < 256) at (inside (i - place) (omega arith))
+        | inr above ↦ omega (arith, torn.outside i (inr above), byte_at old i o)
+      ]
+    ]
 
-  fits : place + length left ≤ length old
-  fits = omega (arith, length-left, within)
+pub bytes-erased_sector : AreBytes erased_sector
+bytes-erased_sector = all_from_places (λ b. b < 256) erased_sector (λ i h. omega (arith, get_or-erased_sector i (omega (arith, h, length-erased_sector))))
 
-  pub left_is_torn : IsTorn place target old (replaced place left old)
-  left_is_torn = record {
-    size = length-replaced place left old fits;
-    outside = λ i h. get_or-replaced_outside place left old fits i (subst (λ n. (i < place) ⊎ (place + n ≤ i)) (sym length-left) h);
-    inside = λ i bit h b. inside_bit i bit h b;
-  }
-    where
-      inside_bit : (i bit : ℕ) → i < length target → bit < 8 → (bit_at (get_or (replaced place left old) (place + i) 0) bit ≡ bit_at (get_or old (place + i) 0) bit) ⊎ (bit_at (get_or (replaced place left old) (place + i) 0) bit ≡ bit_at (get_or target i 0) bit)
-      inside_bit i bit h b =
-          let now = get_or-replaced_inside place left old fits i (omega (arith, length-left, h)) in
-          let was = get_or-slice_range old place (length target) i h in
-          subst (λ v. (bit_at v bit ≡ bit_at (get_or old (place + i) 0) bit) ⊎ (bit_at v bit ≡ bit_at (get_or target i 0) bit)) (sym now)
-          (subst (λ v. (bit_at (get_or left i 0) bit ≡ bit_at v bit) ⊎ (bit_at (get_or left i 0) bit ≡ bit_at (get_or target i 0) bit)) was (bit_left tear before target i bit length-before h b))
+bytes-and : (xs ys : List ℕ) → AreBytes ys → AreBytes (zip_with bit_and xs ys)
+bytes-and [] ys h = tt
+bytes-and (x ∷ xs) [] h = tt
+bytes-and (x ∷ xs) (y ∷ ys) h = (byte_of_bits (bit_and x y) (λ bit high. omega (arith, bit_at_and x y bit, bit_at_above y 8 bit h.0 high)), bytes-and xs ys h.1)
 
-  -- the old bytes put back
-  pub left_back : replaced place before (replaced place left old) ≡ old
-  left_back = ap (λ n. replaced place (slice_range old place (place + n)) (replaced place left old)) (sym length-left) ∙ replaced_back place left old fits
+pub bytes-cleared : (place : ℕ) (given all : List ℕ) → AreBytes given → AreBytes (cleared place given all)
+bytes-cleared place given all h = bytes-and (slice_range all place (place + length given)) given h
 
-  pub length-left_in : length (replaced place left old) ≡ length old
-  length-left_in = length-replaced place left old fits
+pub bytes-drop : (n : ℕ) (bytes : List ℕ) → AreBytes bytes → AreBytes (drop n bytes)
+bytes-drop n bytes h = all_back (λ b. b < 256) (take n bytes) (drop n bytes) (subst AreBytes (sym (take-append-drop n bytes)) h)
+
+pub bytes-replaced : (place : ℕ) (piece all : List ℕ) → AreBytes piece → AreBytes all → AreBytes (replaced place piece all)
+bytes-replaced place piece all p h =
+    all-append (λ b. b < 256) (take place all) (piece ++ drop (place + length piece) all) (all_take (λ b. b < 256) place all h)
+    (all-append (λ b. b < 256) piece (drop (place + length piece) all) p (bytes-drop (place + length piece) all h))
 
 -- ---- moments: one call after another
 
@@ -224,7 +217,7 @@ unwritten_on a b c past mids since p q = record {
 
 -- where nothing was read, nothing changed
 pub reads_at : (s : FlashState) (since : ℕ → List ℕ → Type 0) → OnlyReads s s since since
-reads_at s since = record { bytes = refl; extent = refl; attached = refl; names = refl; faults = omega arith; absences = refl; unwritten = unwritten_at s since }
+reads_at s since = record { bytes = refl; extent = refl; attached = refl; names = refl; seen = λ place byte h. h; faults = omega arith; absences = refl; unwritten = unwritten_at s since }
 
 -- one read and then another
 pub reads_on : (a b c : FlashState) (past mids since : ℕ → List ℕ → Type 0) → OnlyReads a b past mids → OnlyReads b c mids since → OnlyReads a c past since
@@ -233,6 +226,7 @@ reads_on a b c past mids since p q = record {
   extent = q.extent ∙ p.extent;
   attached = q.attached ∙ p.attached;
   names = q.names ∙ p.names;
+  seen = λ place byte h. q.seen place byte (p.seen place byte h);
   faults = omega (arith, p.faults, q.faults);
   absences = q.absences ∙ p.absences;
   unwritten = unwritten_on a b c past mids since p.unwritten q.unwritten;

@@ -26,6 +26,7 @@ takes_on a b c first second p q = record {
   selected = q.selected;
   taken = p.taken ∙ ap (preceded first) q.taken ∙ preceded-preceded first second c.rest;
   given = omega (arith, p.given, q.given, length-append first second);
+  selects = q.selects ∙ p.selects;
 }
 
 -- the same piece by another name
@@ -34,4 +35,4 @@ takes_as a b bytes same e t = rw e t
 
 -- before anything was taken
 pub takes_none : (s : InputsState) → s.selected ≡ true → Takes s [] s
-takes_none s e = record { selected = e; taken = sym (preceded-nil s.rest); given = omega arith }
+takes_none s e = record { selected = e; taken = sym (preceded-nil s.rest); given = omega arith; selects = refl }

@@ -4,10 +4,6 @@ pub mod FilesLemmas
 pub mod FlashLemmas
 pub mod InputLemmas
 pub mod ListLemmas
-pub mod MemoryFlashLemmas
-pub mod PastLemmas
-pub mod PutLemmas
-pub mod RecordLemmas
 pub mod SinkLemmas
 pub mod WordLemmas
 pub mod ZipLemmas

@@ -33,6 +33,8 @@ pub record RealInputs : Type 0 where
   pub rest : Option (List ℕ)
   -- why the last select opened no file
   pub refusal : Option ErrorKind
+  -- the selects counted; the last u64 stays
+  pub selects : ℕ
   -- the bytes given since the last select; the last u64 stays
   pub given : ℕ
   -- the faults counted; the last u64 stays
@@ -47,6 +49,7 @@ known_inputs f = record {
   selected = f.selected;
   rest = None;
   asked = None;
+  selects = f.selects;
   given = f.given;
   faults = f.faults;
   absences = f.absences;
@@ -59,12 +62,13 @@ rest_of remaining (Some file) = remaining file
 
 -- the files after an open with this answer: each fault and each absence is counted once
 abbrev pub after_open : RealInputs → Option (List ℕ) → Option ErrorKind → Result (Unit {0}) SelectFault → RealInputs
-after_open f rest refusal (Ok _) = record f { selected = true; rest = rest; refusal = refusal; given = 0 }
+after_open f rest refusal (Ok _) = record f { selected = true; rest = rest; refusal = refusal; selects = raised f.selects; given = 0 }
 after_open f rest refusal (Err fault) =
     record f {
       selected = false;
       rest = None;
       refusal = refusal;
+      selects = raised f.selects;
       given = 0;
       faults = faults_after fault f.faults;
       absences = missing_after fault f.absences;
@@ -155,6 +159,7 @@ known_flash f = record {
   extent = f.extent;
   attached = is_some f.file;
   names = λ _. true;
+  seen = λ _ _. true;
   faults = f.faults;
   absences = f.absences;
   write_faults = f.write_faults;

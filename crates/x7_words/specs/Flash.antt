@@ -3,6 +3,7 @@ use Rattle.std.specs.Prelude.{◌≡◌, ◌≤◌, ◌<◌, ◌^◌, ◌+◌, �
 use Rattle.std.specs.Int.{bit_at}
 use Rattle.std.specs.List.{splice}
 use Rattle.x7_words.specs.Count.{HasRisen}
+use Rattle.x7_words.specs.Word.{AreBytes}
 use Rattle.x7_words.specs.declared.input.SelectFault.{SelectFault}
 use Rattle.x7_words.specs.declared.input.SelectFault.TheVariants.{Missing, Failed}
 
@@ -24,6 +25,8 @@ pub record FlashState : Type 0 where
   pub attached : Bool
   -- the names for which it may have been asked; each, where it keeps none
   pub names : List ℕ → Bool
+  -- whether a byte may have been read at a place since the last write; each may, where none is kept
+  pub seen : ℕ → ℕ → Bool
   -- how often an attach or a read has failed
   pub faults : ℕ
   -- how often the name was missing
@@ -42,7 +45,15 @@ IfKnown (Some bytes) P = P bytes
 abbrev pub IsSized : FlashState → Type 0
 IsSized state = IfKnown state.bytes (λ all. state.extent ≡ length all)
 
+-- each byte that is known is a byte
+abbrev pub KnowsBytes : FlashState → Type 0
+KnowsBytes state = IfKnown state.bytes AreBytes
+
 -- ---- attaching and reading
+
+-- these bytes were read from the place on, and nothing was written since
+abbrev pub Sees : FlashState → ℕ → List ℕ → Type 0
+Sees state place read = (i : ℕ) → i < length read → IsTrue (state.seen (place + i) (get_or read i 0))
 
 -- No time passes: what may be found after a stop since some moment is what might have been found before, and nothing was written.
 pub record Unwritten (old new : FlashState) (past since : ℕ → List ℕ → Type 0) : Type 0 where
@@ -58,12 +69,13 @@ pub record FlashStays (old new : FlashState) (past since : ℕ → List ℕ → 
   pub absences : old.absences ≤ new.absences
   pub unwritten : Unwritten old new past since
 
--- nothing was written, and nothing changed but the count of faults, which does not fall
+-- nothing was written, what was seen stays so, and nothing else changed but the count of faults, which does not fall
 pub record OnlyReads (old new : FlashState) (past since : ℕ → List ℕ → Type 0) : Type 0 where
   pub bytes : new.bytes ≡ old.bytes
   pub extent : new.extent ≡ old.extent
   pub attached : new.attached ≡ old.attached
   pub names : new.names ≡ old.names
+  pub seen : (place byte : ℕ) → IsTrue (old.seen place byte) → IsTrue (new.seen place byte)
   pub faults : old.faults ≤ new.faults
   pub absences : new.absences ≡ old.absences
   pub unwritten : Unwritten old new past since
@@ -115,10 +127,11 @@ abbrev pub programmed : ℕ → List ℕ → List ℕ → List ℕ
 programmed place given bytes = replaced place (cleared place given bytes) bytes
 
 -- What may be found within a write of the target at the place: each bit of its range is old or its target, and all else is old.
+-- So of bytes that are written with bytes there are bytes.
 pub record IsTorn (place : ℕ) (target old found : List ℕ) : Type 0 where
   pub size : length found ≡ length old
   pub outside : (i : ℕ) → (i < place) ⊎ (place + length target ≤ i) → get_or found i 0 ≡ get_or old i 0
-  pub inside : (i bit : ℕ) → i < length target → bit < 8 →
+  pub inside : (i bit : ℕ) → i < length target →
       (bit_at (get_or found (place + i) 0) bit ≡ bit_at (get_or old (place + i) 0) bit)
       ⊎ (bit_at (get_or found (place + i) 0) bit ≡ bit_at (get_or target i 0) bit)
 
@@ -137,7 +150,7 @@ pub record Elapses (before now : ℕ) (past since : ℕ → List ℕ → Type 0)
   pub nothing_else : (moment : ℕ) (found : List ℕ) → moment ≤ before → since moment found → past moment found ⊎ within found
   pub keeps : (moment : ℕ) (found : List ℕ) → moment ≤ before → past moment found → since moment found
 
--- nothing changed but the bytes, the moment and the count of write faults, which does not fall
+-- nothing changed but the bytes, what was seen of them, the moment and the count of write faults, which does not fall
 pub record OnlyWrites (old new : FlashState) : Type 0 where
   pub extent : new.extent ≡ old.extent
   pub attached : new.attached ≡ old.attached

@@ -14,6 +14,8 @@ pub record InputsState : Type 0 where
   pub rest : Option (List ℕ)
   -- the name of the last select, where it is kept
   pub asked : Option (List ℕ)
+  -- how often an input was asked for, by a count that may stop
+  pub selects : ℕ
   -- how many bytes were given since the last select, by a count that may stop; a fault leaves it
   pub given : ℕ
   -- how often a select or a read has failed
@@ -69,11 +71,12 @@ pub record Asks (name : List ℕ) (new : InputsState) : Type 0 where
   pub asked : IfSome new.asked (λ kept. kept ≡ name)
   pub given : new.given ≡ 0
 
--- these bytes were taken from the selected input, which stays selected, and are counted as given
+-- these bytes were taken from the selected input, which stays selected and was not asked for again, and are counted as given
 pub record Takes (old : InputsState) (bytes : List ℕ) (new : InputsState) : Type 0 where
   pub selected : new.selected ≡ true
   pub taken : old.rest ≡ preceded bytes new.rest
   pub given : new.given ≤ old.given + length bytes
+  pub selects : new.selects ≡ old.selects
 
 -- why a name was not selected
 abbrev pub Refuses : InputsState → List ℕ → InputsState → SelectFault → Type 0

@@ -3,9 +3,4 @@ pub mod Count
 pub mod Input
 pub mod Sink
 pub mod Flash
-pub mod Memory
-pub mod Past
-pub mod Spans
-pub mod Tearing
-pub mod Put
 pub mod Files

@@ -1,5 +1,5 @@
 //! The real outside: files as inputs and as a flash, and a writer such as standard output as a sink.
-ghost use Rattle.std.specs.Prelude.{◌≡◌, ◌<◌, ◌≤◌, ◌^◌, length, None, Some, true, false, IfErr, IfOk, OnOk, OnErr};
+ghost use Rattle.std.specs.Prelude.{◌≡◌, ◌<◌, ◌≤◌, ◌+◌, ◌^◌, length, None, Some, true, false, IfErr, IfOk, OnOk, OnErr};
 ghost use Rattle.std.specs.Io.KnownBytes.{ReadConsumes, WriteAppends};
 ghost use Rattle.x7_words.specs.Count.{added, raised};
 ghost use Rattle.x7_words.specs.Files.{after_open, known_inputs, faults_after, missing_after, Gives, RefusedFor};
@@ -59,6 +59,7 @@ pub struct FileInputs<'r, R: Files> {
     rt: &'r R,
     file: Option<R::File>,
     refusal: Option<ErrorKind>,
+    selects: u64,
     given: u64,
     faults: u64,
     absences: u64,
@@ -74,23 +75,25 @@ impl<'r, R: Files> Model for FileInputs<'r, R> {
       selected = is_some f.file;
       rest = rest_of R.File.remaining f.file;
       refusal = f.refusal;
+      selects = f.selects;
       given = f.given;
       faults = f.faults;
       absences = f.absences;
     } };
 
-    ghost invariant = { λ f. (f.given < 2 ^ 64) × (f.faults < 2 ^ 64) × (f.absences < 2 ^ 64) };
+    ghost invariant = { λ f. (f.selects < 2 ^ 64) × (f.given < 2 ^ 64) × (f.faults < 2 ^ 64) × (f.absences < 2 ^ 64) };
 }
 
 impl<'r, R: Files> FileInputs<'r, R> {
     /// The files of the runtime. None is selected.
     pub fn new(rt: &'r R) -> FileInputs<'r, R>
-        ensures { result ≡ record { selected = false; rest = None; refusal = None; given = 0; faults = 0; absences = 0 } }
+        ensures { result ≡ record { selected = false; rest = None; refusal = None; selects = 0; given = 0; faults = 0; absences = 0 } }
     {
         FileInputs {
             rt,
             file: None,
             refusal: None,
+            selects: 0,
             given: 0,
             faults: 0,
             absences: 0,
@@ -104,6 +107,7 @@ impl<'r, R: Files> Inputs for FileInputs<'r, R> {
     fn select(&mut self, name: &str) -> Result<(), SelectFault>
         ensures after { self.new ≡ after_open self.old self.new.rest self.new.refusal result }
         ensures refused { IfErr result (RefusedFor self.new.refusal) }
+        ensures once { self.new.selects ≤ self.old.selects + 1 }
         ensures faults { self.old.faults ≤ self.new.faults }
         ensures absences { self.old.absences ≤ self.new.absences }
         ensures last_fault { self.new.faults < 2 ^ 64 }
@@ -111,6 +115,7 @@ impl<'r, R: Files> Inputs for FileInputs<'r, R> {
     {
         self.file = None;
         self.refusal = None;
+        self.selects = next_count(self.selects);
         self.given = 0;
         match fs::open(self.rt, name) {
             Ok(file) => {

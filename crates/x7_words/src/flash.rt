@@ -1,6 +1,6 @@
 //! A flash that is read, erased and programmed at places.
 ghost use Rattle.std.specs.Prelude.{◌≡◌, ℕ, List, ◌+◌, ◌*◌, ◌<◌, ◌≤◌, ◌^◌, length, Some, true, false, IfErr, OnOk, OnErr, slice_range, option_map};
-ghost use Rattle.x7_words.specs.Flash.{AsksFor, Elapses, FlashFails, FlashFits, FlashState, FlashStays, IsSized, OnlyReads, OnlyWrites, TornFrom, Unattached, IfKnown, WithinWrite, WriteFails, cleared, erased, erased_sector, programmed};
+ghost use Rattle.x7_words.specs.Flash.{AsksFor, Elapses, FlashFails, FlashFits, FlashState, FlashStays, IsSized, KnowsBytes, OnlyReads, OnlyWrites, Sees, TornFrom, Unattached, IfKnown, WithinWrite, WriteFails, cleared, erased, erased_sector, programmed};
 
 use crate::input::{Failed, SelectFault};
 
@@ -13,7 +13,9 @@ pub const FLASH_LIMIT: u64 = 134_217_728;
 /// A flash: bytes at places from 0, which are read, erased and programmed once it is attached under its name.
 ///
 /// A power loss may stop a flash at any moment. Before a write, after it and between two its bytes are found then;
-/// within one each bit of the range is old or its target.
+/// within one each bit of the range is old or its target. A write takes one moment at most.
+///
+/// What was read is seen until the next write, of which no clause says that anything is seen after it.
 ///
 /// The counts only rise, by at least one at each fault or absence. A count that has reached the
 /// last u64 stays there, and counts as risen.
@@ -32,13 +34,15 @@ pub trait Flash {
         ensures asks { AsksFor (state self.old) name.now (state self.new) }
         ensures stays { FlashStays (state self.old) (state self.new) (found_since self.old) (found_since self.new) }
         ensures sized { IsSized (state self.new) }
+        ensures bytes { KnowsBytes (state self.new) }
         ensures fits { FlashFits (state self.new) };
 
     /// The number of the attached flash's bytes.
     fn size(&self) -> u64
         requires { (state self.now).attached ≡ true }
         ensures extent { result ≡ (state self.now).extent }
-        ensures sized { IsSized (state self.now) };
+        ensures sized { IsSized (state self.now) }
+        ensures bytes { KnowsBytes (state self.now) };
 
     /// Fills the buffer with the bytes from the place on, and counts no fault. After an error it may hold anything, as
     /// after a failed read of a file.
@@ -48,6 +52,7 @@ pub trait Flash {
         ensures read { OnOk result (IfKnown (state self.old).bytes
             (λ all. buf.new ≡ slice_range all place (place + length buf.old))) }
         ensures length { length buf.new ≡ length buf.old }
+        ensures seen { OnOk result (Sees (state self.new) place buf.new) }
         ensures quiet { OnOk result ((state self.new).faults ≡ (state self.old).faults) }
         ensures failed { OnErr result (FlashFails (state self.old) (state self.new)) }
         ensures only { OnlyReads (state self.old) (state self.new) (found_since self.old) (found_since self.new) }
@@ -64,6 +69,7 @@ pub trait Flash {
             (TornFrom (sector * 65536) (λ _. erased_sector) (state self.old).bytes (state self.new).bytes) }
         ensures passes { Elapses (state self.old).moments (state self.new).moments (found_since self.old) (found_since self.new)
             (WithinWrite (sector * 65536) (λ _. erased_sector) (state self.old).bytes) }
+        ensures moment { (state self.new).moments ≤ (state self.old).moments + 1 }
         ensures failed { OnErr result (WriteFails (state self.old) (state self.new)) }
         ensures only { OnlyWrites (state self.old) (state self.new) }
         ensures sized { IsSized (state self.new) }
@@ -80,6 +86,7 @@ pub trait Flash {
             (TornFrom place (cleared place given.now) (state self.old).bytes (state self.new).bytes) }
         ensures passes { Elapses (state self.old).moments (state self.new).moments (found_since self.old) (found_since self.new)
             (WithinWrite place (cleared place given.now) (state self.old).bytes) }
+        ensures moment { (state self.new).moments ≤ (state self.old).moments + 1 }
         ensures failed { OnErr result (WriteFails (state self.old) (state self.new)) }
         ensures only { OnlyWrites (state self.old) (state self.new) }
         ensures sized { IsSized (state self.new) }

@@ -1,5 +1,5 @@
 //! Inputs that are read by name, and what can go wrong with the outside.
-ghost use Rattle.std.specs.Prelude.{◌≡◌, ◌<◌, ◌≤◌, length, take, true, false, IfErr, IfOk, OnOk, OnErr};
+ghost use Rattle.std.specs.Prelude.{◌≡◌, ◌<◌, ◌≤◌, ◌+◌, length, take, true, false, IfErr, IfOk, OnOk, OnErr};
 ghost use Rattle.x7_words.specs.Input.{InputsState, Asks, AtEnd, Fails, Fits, Opens, Refuses, Stays, Takes};
 
 use std::alloc::{AllocError, AllocFailed};
@@ -48,6 +48,7 @@ pub trait Inputs {
         ensures refused { IfErr result (Refuses (state self.old) name.now (state self.new)) }
         ensures err { OnErr result ((state self.new).selected ≡ false) }
         ensures asks { Asks name.now (state self.new) }
+        ensures once { (state self.new).selects ≤ (state self.old).selects + 1 }
         ensures stays { Stays (state self.old) (state self.new) }
         ensures fits { Fits (state self.new) };
 
@@ -64,6 +65,7 @@ pub trait Inputs {
         ensures err { OnErr result ((state self.new).selected ≡ false) }
         ensures given { OnErr result ((state self.new).given ≤ (state self.old).given) }
         ensures asked { (state self.new).asked ≡ (state self.old).asked }
+        ensures selects { (state self.new).selects ≡ (state self.old).selects }
         ensures stays { Stays (state self.old) (state self.new) }
         ensures fits { Fits (state self.new) };
 }

@@ -6,14 +6,13 @@ mod count;
 mod files;
 mod flash;
 mod input;
-mod memory;
 mod sink;
 mod word;
 
 pub use bytes::is_same;
+pub use count::next_count;
 pub use files::{FileFlash, FileInputs, StdSink};
 pub use flash::{FLASH_LIMIT, Flash, SECTOR};
 pub use input::{Failed, Inputs, NoMemory, SelectFault};
-pub use memory::{MemoryFlash, MemoryInputs, MemorySink};
 pub use sink::{Sink, write_all, write_pieces};
 pub use word::{bytes_of, word_of, words_are_big_endian};

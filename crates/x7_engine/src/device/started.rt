@@ -1,13 +1,13 @@
 //! Feeding up to the end of startup.
-ghost use Rattle.std.specs.Prelude.{◌≡◌, ◌≤◌, ◌<◌, ◌+◌, ◌-◌, ◌^◌, ◌⊎◌, false, if◌then◌else◌, length, None, IsSome, IsTrue};
+ghost use Rattle.std.specs.Prelude.{◌≡◌, ◌≤◌, ◌<◌, ◌+◌, ◌-◌, ◌^◌, ◌⊎◌, false, if◌then◌else◌, length, take, is_some, None, IsSome, IsTrue};
 ghost use Rattle.x7_packets.specs.Cutting.{between, calls_left};
 ghost use Rattle.x7_engine.specs.UntilRead.{RoomBefore};
 ghost use Rattle.x7_engine.specs.Phases.{soonest};
-ghost use Rattle.x7_engine.specs.Standing.{HasStopped, NoWordDue, fed_more, fed_of};
+ghost use Rattle.x7_engine.specs.Standing.{HasBegun, HasStopped, NoWordDue, fed_more, fed_of};
 ghost use Rattle.x7_engine.specs.Turns.{TakesTurn};
 ghost use Rattle.x7_engine.specs.UntilStarted.{HasNotBegun, NoneStarted, says_started, taken_until};
 ghost use Rattle.x7_engine.specs.declared.until_started.UntilStarted.TheVariants as until;
-ghost use Rattle.x7_engine.specs.Past.{AnswersUntilFor, OfPast, Takes, GivesNext, later, part_until, started_at, state_at, stop_at, reads_given_at};
+ghost use Rattle.x7_engine.specs.Past.{AnswersUntilFor, OfPast, Takes, GivesNext, later, part_until, StaysAtZero, started_at, state_at, stop_at, reads_given_at};
 
 use super::{Device, stopped};
 use crate::fed::Fed;
@@ -102,6 +102,45 @@ impl Device {
             read.holds_few();
             if self.turn_until_started(piece, &mut at) {
                 return answer(self.started(), at, Fed::All);
+            }
+        }
+    }
+
+    /// Whether startup has begun since the last shutdown taken.
+    fn has_begun(&self) -> bool
+        ensures now { result ≡ is_some self.now.registers.clock.startup.begun }
+        ensures not { OfPast self.now (λ p. result ≡ false → HasNotBegun p.part p.kept p.bytes) }
+    {
+        self.registers.clock.startup.has_begun()
+    }
+
+    /// Takes the bytes of a piece as `feed` does, where words read out are dropped, and none behind the byte at which startup
+    /// begins. Says how many these are.
+    pub fn feed_until_begun(&mut self, piece: &[u8]) -> usize
+        requires { self.old.taken + length piece.now ≤ 2 ^ 63 }
+        ensures within { result ≤ length piece.now }
+        ensures part { self.new.part ≡ self.old.part }
+        ensures taken { self.new.taken ≡ self.old.taken + result }
+        ensures fed { fed_of self.new ≡ fed_more self.old result }
+        ensures stands { Takes self.old self.new (take result piece.now) }
+        ensures none_due { OfPast self.old (λ p. NoWordDue self.new) }
+        ensures first { OfPast self.old (λ p. StaysAtZero p piece.now result) }
+        ensures ends { OfPast self.old (λ p. result < length piece.now → HasStopped self.new ⊎ HasBegun self.new) }
+    {
+        let mut read = ReadBuf::dropping();
+        let mut at = 0;
+        'runs: loop {
+            if self.stop().is_some() {
+                return at;
+            }
+            if !self.give(&mut read) {
+                return at;
+            }
+            if self.has_begun() {
+                return at;
+            }
+            if self.turn(piece, &mut at) {
+                return at;
             }
         }
     }

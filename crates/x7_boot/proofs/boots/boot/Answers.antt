@@ -1,6 +1,5 @@
-use Rattle.std.proofs.Common.{ℕ, List, Option, ◌∙◌, subst, sym}
+use Rattle.std.proofs.Common.{◌∙◌, sym}
 use Rattle.x7_words.proofs.FlashLemmas.{reads_on}
-use Rattle.x7_boot.specs.Attempt.{Leaves}
 use Rattle.x7_boot.proofs.BootedLemmas.{attempts_next, boot_ends, led_next}
 use Rattle.x7_boot.proofs.PageLemmas.{pages_of}
 use Rattle.x7_boot.proofs.boots.boot.Goals as goal
@@ -14,7 +13,6 @@ attempts-preserved g c =
     record {
       led = led_next c.args.part.now c.attempts.device.part c.attempts.keep c.in-Again.kept c.attempts.address c.in-Again.place (f.state c.args.flash.now).bytes (f.state c.attempts.flash).bytes c.try_once.new.device c.in_ok-ending.ending
           c.attempts.attempts.items c.push.new.self.items c.attempts.number c.next_of.result i.flash.bytes i.part i.led t.tried next.table c.in-Again.is c.in-Ok-push.ensures.items;
-      leaves = subst (λ (k : Option (List ℕ)). Leaves c.attempts.address k c.try_once.new.device) i.flash.bytes t.leaves;
       part = t.part ∙ i.part;
       boots = next.boots c.in-Again.kept c.in-Again.place c.in-Again.is;
       number = attempts_next c.attempts.keep.kind c.in-Again.kept.kind c.attempts.number (next.fallback c.in-Again.kept c.in-Again.place c.in-Again.is) (next.few c.in-Again.kept c.in-Again.place c.in-Again.is) i.room;
@@ -38,11 +36,6 @@ try_once-requires-clause-pages g c =
     let f = g.F.Flash in
     let i = c.attempts.invariant in
     pages_of (f.state c.attempts.flash).bytes (f.state c.args.flash.now).bytes (f.state c.attempts.flash).extent (f.state c.args.flash.now).extent c.attempts.pages.pages.entries (sym i.flash.bytes) (sym i.flash.extent) i.pages
-
-pub try_once-requires-clause-left : goal.try_once-requires-clause-left
-try_once-requires-clause-left g c =
-    let i = c.attempts.invariant in
-    subst (λ (k : Option (List ℕ)). Leaves c.attempts.last_address k c.attempts.device) (sym i.flash.bytes) i.leaves
 
 pub returns-in_err-ending-clause-flash : goal.returns-in_err-ending-clause-flash
 returns-in_err-ending-clause-flash g c = reads_on _ _ _ _ _ _ c.attempts.invariant.flash c.try_once.ensures.flash

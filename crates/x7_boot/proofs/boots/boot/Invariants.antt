@@ -3,7 +3,7 @@ use Rattle.x7_words.specs.Flash.{OnlyReads, IfKnown}
 use Rattle.x7_words.specs.Word.{AreBytes}
 use Rattle.x7_regs.specs.declared.boot_status.Kind.TheVariants.{Bench}
 use Rattle.x7_engine.specs.Kept.{is_fallback}
-use Rattle.x7_boot.specs.Attempt.{Leaves, attempt_at}
+use Rattle.x7_boot.specs.Attempt.{attempt_at}
 use Rattle.x7_boot.specs.Boot.{Led}
 use Rattle.x7_boot.specs.Image.{flash_limit}
 use Rattle.x7_boot.specs.Pages.{ArePages}
@@ -14,7 +14,6 @@ invariant-attempts g l =
     let f = g.F.Flash in
     record {
       led : IfKnown (f.state l.fn.flash).bytes (λ all. AreBytes all → Led (attempt_at l.fn.part l.keep l.address) all l.attempts.items l.number);
-      leaves : Leaves l.last_address (f.state l.fn.flash).bytes l.device;
       part : l.device.part ≡ l.fn.part;
       boots : l.keep.kind ≡ Bench → ⊥;
       number : l.number ≤ 16;

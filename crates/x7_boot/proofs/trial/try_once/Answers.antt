@@ -1,14 +1,15 @@
-use Rattle.std.proofs.Common.{◌≡◌, ℕ, subst, ◌+◌, ◌/◌, ◌<◌, false, length, sym, refl, ◌∙◌, arith, true}
+use Rattle.std.proofs.Common.{◌≡◌, ℕ, subst, ◌+◌, ◌/◌, ◌<◌, length, sym, refl, ◌∙◌, arith}
 use Rattle.x7_words.specs.Flash.{IfKnown}
 use Rattle.x7_words.proofs.FlashLemmas.{reads_at, reads_on}
+use Rattle.x7_boot.specs.Attempt.{Feeds, attempt_at}
 use Rattle.x7_boot.specs.Pages.{page_size}
 use Rattle.x7_boot.proofs.PageLemmas.{from_limited, loaded_from, pages_of, reaches}
-use Rattle.x7_boot.proofs.TrialLemmas.{ends_here, feeds_on, feeds_ready, leaves_out, leaves_page, known_ended, known_out, known_stopped, stops_here}
+use Rattle.x7_boot.proofs.TrialLemmas.{ends_here, feeds_on, feeds_ready, known_ended, known_out, known_stopped, stops_here}
 use Rattle.x7_boot.proofs.trial.try_once.Goals as goal
 
 pub pages-init : goal.pages-init
 pages-init g c = record {
-  feeds = c.begin-at.ensures (g.F.Flash.state c.args.flash.now).bytes c.requires.left;
+  feeds = subst (λ (n : ℕ). Feeds (attempt_at c.args.device.now.part c.args.keep c.args.address) (g.F.Flash.state c.args.flash.now).bytes c.begin.new.device n) (sym c.from-at.ensures) (c.begin.ensures (g.F.Flash.state c.args.flash.now).bytes);
   kept = c.requires.pages;
   quiet = refl;
   flash = reads_at _ _;
@@ -73,38 +74,6 @@ returns-in-Stops-clause-tried g c =
     known_stopped c.args.device.now.part c.args.keep c.args.address (g.F.Flash.state c.args.flash.now).bytes c.pages.device c.take_page.new.device c.run_out-in-Stops.new.device c.bytes_from-bytes.result.now c.pages.at c.take_page.result c.run_out-in-Stops.result f from.bytes_are t c.in-Stops.is
     (c.run_out-in-Stops.ensures.stands c.args.device.now.part c.args.keep _ t.stands) c.run_out-in-Stops.ensures.ending
 
-pub returns-then-at-size-clause-leaves : goal.returns-then-at-size-clause-leaves
-returns-then-at-size-clause-leaves g c =
-    let f = c.pages.invariant.feeds in
-    leaves_out c.args.device.now.part c.args.keep c.args.address (g.F.Flash.state c.args.flash.now).bytes c.pages.device c.run_out.new.device c.pages.at f (c.run_out.ensures.stands c.args.device.now.part c.args.keep f.bytes f.stands)
-
-pub returns-in-Ends-clause-leaves : goal.returns-in-Ends-clause-leaves
-returns-in-Ends-clause-leaves g c =
-    let f = c.pages.invariant.feeds in
-    let known = (g.F.Flash.state c.args.flash.now).bytes in
-    let extent = (g.F.Flash.state c.args.flash.now).extent in
-    let below : c.pages.at < extent = omega (arith, c.if-at-size.false, c.pages.invariant.size) in
-    let are = pages_of known (g.F.Flash.state c.pages.flash).bytes extent (g.F.Flash.state c.pages.flash).extent c.load.new.self.pages.entries c.pages.invariant.flash.bytes c.pages.invariant.flash.extent c.load.ensures.pages in
-    let read = loaded_from known (g.F.Flash.state c.pages.flash).bytes extent (g.F.Flash.state c.pages.flash).extent (c.pages.at / page_size) c.load.new.self.block.items c.in_ok-loaded.loaded c.pages.invariant.flash.bytes c.pages.invariant.flash.extent c.in_ok-loaded.ensures.read in
-    let from = c.bytes_from-bytes.ensures known extent below are read in
-    let t = c.take_page.ensures c.args.device.now.part c.args.keep f.bytes f.stands f.going f.open_end in
-    leaves_page c.args.device.now.part c.args.keep false c.args.address known c.pages.device c.take_page.new.device c.take_page.new.device c.bytes_from-bytes.result.now c.pages.at c.take_page.result f
-    from.bytes_are (from_limited known extent c.pages.at c.bytes_from-bytes.result.now c.requires.limit from) t t.stands
-
-pub returns-in-Stops-clause-leaves : goal.returns-in-Stops-clause-leaves
-returns-in-Stops-clause-leaves g c =
-    let f = c.pages.invariant.feeds in
-    let known = (g.F.Flash.state c.args.flash.now).bytes in
-    let extent = (g.F.Flash.state c.args.flash.now).extent in
-    let below : c.pages.at < extent = omega (arith, c.if-at-size.false, c.pages.invariant.size) in
-    let are = pages_of known (g.F.Flash.state c.pages.flash).bytes extent (g.F.Flash.state c.pages.flash).extent c.load.new.self.pages.entries c.pages.invariant.flash.bytes c.pages.invariant.flash.extent c.load.ensures.pages in
-    let read = loaded_from known (g.F.Flash.state c.pages.flash).bytes extent (g.F.Flash.state c.pages.flash).extent (c.pages.at / page_size) c.load.new.self.block.items c.in_ok-loaded.loaded c.pages.invariant.flash.bytes c.pages.invariant.flash.extent c.in_ok-loaded.ensures.read in
-    let from = c.bytes_from-bytes.ensures known extent below are read in
-    let t = c.take_page.ensures c.args.device.now.part c.args.keep f.bytes f.stands f.going f.open_end in
-    leaves_page c.args.device.now.part c.args.keep true c.args.address known c.pages.device c.take_page.new.device c.run_out-in-Stops.new.device c.bytes_from-bytes.result.now c.pages.at c.take_page.result f
-    from.bytes_are (from_limited known extent c.pages.at c.bytes_from-bytes.result.now c.requires.limit from) t
-    (c.run_out-in-Stops.ensures.stands c.args.device.now.part c.args.keep _ t.stands)
-
 pub returns-then-at-size-clause-pages : goal.returns-then-at-size-clause-pages
 returns-then-at-size-clause-pages g c = c.pages.invariant.kept
 
@@ -133,9 +102,6 @@ pages-smaller g c =
     let from = c.bytes_from-bytes.ensures known extent below are read in
     let some = from.some in
     omega (arith, some, c.if-at-size.false)
-
-pub begin-at-requires : goal.begin-at-requires
-begin-at-requires g c = let left = c.requires.left in let few = left.few in let taken = left.stands.taken_is in omega (arith, few, taken)
 
 pub bytes_from-bytes-requires-clause-block : goal.bytes_from-bytes-requires-clause-block
 bytes_from-bytes-requires-clause-block g c =

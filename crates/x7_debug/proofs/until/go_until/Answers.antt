@@ -9,8 +9,8 @@ use Rattle.x7_debug.proofs.JournalLemmas.{goes_forward, goes_nowhere, oldest_wit
 use Rattle.x7_debug.proofs.LeastLemmas.{until-stopped}
 use Rattle.x7_debug.proofs.until.go_until.Goals as goal
 
-pub returns-then-taken-last-clause-goes : goal.returns-then-taken-last-clause-goes
-returns-then-taken-last-clause-goes c =
+pub returns-then-taken-outline-clause-goes : goal.returns-then-taken-outline-clause-goes
+returns-then-taken-outline-clause-goes c =
     goes_nowhere (session_of c.args.device.now c.args.stream.now c.args.journal.now) (oldest_within c.args.device.now.part c.args.stream.now c.args.device.now.taken (records_of c.args.journal.now) c.requires.on.leads)
 
 pub returns-in-Stopped-clause-taken : goal.returns-in-Stopped-clause-taken
@@ -29,4 +29,14 @@ returns-in_default c = record {
   goes = goes_forward (session_of c.args.device.now c.args.stream.now c.args.journal.now) (session_of c.forward_until.new.device c.args.stream.now c.forward_until.new.journal) c.forward_until.ensures.forward
       (oldest_within c.args.device.now.part c.args.stream.now c.args.device.now.taken (records_of c.args.journal.now) c.requires.on.leads) c.forward_until.ensures.oldest
       (c.forward_until.ensures.fed.never_less, c.forward_until.ensures.fed.most);
+}
+
+pub returns-in-Phase : goal.returns-in-Phase
+returns-in-Phase c = record {
+  on = c.go_to_phase.ensures.on;
+  part = c.go_to_phase.ensures.part;
+  taken = c.go_to_phase.ensures.taken ∙ ap (λ (s : Stop). until_of c.args.device.now.part c.args.stream.now s c.args.device.now.taken) (sym c.in-Phase.is);
+  goes = goes_forward (session_of c.args.device.now c.args.stream.now c.args.journal.now) (session_of c.go_to_phase.new.device c.args.stream.now c.go_to_phase.new.journal) c.go_to_phase.ensures.forward
+      (oldest_within c.args.device.now.part c.args.stream.now c.args.device.now.taken (records_of c.args.journal.now) c.requires.on.leads) c.go_to_phase.ensures.oldest
+      (c.go_to_phase.ensures.fed.never_less, c.go_to_phase.ensures.fed.most);
 }

@@ -22,7 +22,7 @@ returns-in-Ok-Some-clause-begins g c =
     let long = length-take-le count c.next_turn.new.buf within in
     let p = piece_of old mid piece c.deref.result.now bytes c.wanted.result joined c.deref-in-loop-turn.ensures.value (omega (arith, long, c.in-Ok.ensures.within.1, c.min-count.ensures, length-take-le c.min-count.result c.loop-turn.piece (omega (arith, c.min-count.ensures, v.piece)))) c.wanted.ensures.some c.deref.ensures.value c.wanted.ensures.fixed c.wanted.ensures.waits v.waiting in
     beginning_read old mid piece bytes c.in-Ok-Some.judged.line.items c.wanted.result c.in-Ok-Some.judged.start c.in-Ok.turn.last (i.state c.args.inputs.now) (i.state c.loop-turn.inputs) (i.state c.next_turn.new.inputs)
-    p joined c.deref-in-loop-turn.ensures.value (reads_by (i.state c.args.inputs.now) (i.state c.loop-turn.inputs) old v.selected v.taken v.given v.asked v.inputs) c.in-Ok.ensures.ok c.next_turn.ensures.asked c.next_turn.ensures.inputs c.in-Ok.ensures.end v.few (omega (arith, long, c.in-Ok.ensures.within.1, c.min-count.ensures, length-take-le c.min-count.result c.loop-turn.piece (omega (arith, c.min-count.ensures, v.piece)))) (found_some c.in-Ok-Some.field-0 c.in-Ok-Some.judged _ (λ (j : Judged). (j.start ≤ length bytes) × IsBeginning bytes c.in-Ok.turn.last j.line.items j.start) c.in-Ok-Some.field-0-is c.in-Ok-Some.ensures.judged) (found_some c.in-Ok-Some.field-0 c.in-Ok-Some.judged _ (λ (j : Judged). BeginAt bytes j.start) c.in-Ok-Some.field-0-is c.in-Ok-Some.ensures.begin)
+    p joined c.deref-in-loop-turn.ensures.value (reads_by (i.state c.args.inputs.now) (i.state c.loop-turn.inputs) old v.selected v.taken v.given v.asked v.inputs v.selects) c.in-Ok.ensures.ok c.next_turn.ensures.asked c.next_turn.ensures.inputs c.in-Ok.ensures.end v.few (omega (arith, long, c.in-Ok.ensures.within.1, c.min-count.ensures, length-take-le c.min-count.result c.loop-turn.piece (omega (arith, c.min-count.ensures, v.piece)))) (found_some c.in-Ok-Some.field-0 c.in-Ok-Some.judged _ (λ (j : Judged). (j.start ≤ length bytes) × IsBeginning bytes c.in-Ok.turn.last j.line.items j.start) c.in-Ok-Some.field-0-is c.in-Ok-Some.ensures.judged) (found_some c.in-Ok-Some.field-0 c.in-Ok-Some.judged _ (λ (j : Judged). BeginAt bytes j.start) c.in-Ok-Some.field-0-is c.in-Ok-Some.ensures.begin)
 
 pub returns-in-Err-judge-clause-err : goal.returns-in-Err-judge-clause-err
 returns-in-Err-judge-clause-err g c =
@@ -57,11 +57,11 @@ returns-in-Err-clause-err g c =
     let v = c.loop-turn.invariant in
     let old = c.loop-turn.bytes.items in
     unread_turn (i.state c.args.inputs.now) (i.state c.loop-turn.inputs) (i.state c.next_turn.new.inputs) c.args.stream.now old (67108864 - c.len-left.result) (event_of c.in-Err.refusal)
-    (reads_by (i.state c.args.inputs.now) (i.state c.loop-turn.inputs) old v.selected v.taken v.given v.asked v.inputs) (omega (arith, v.few, c.len-left.ensures)) c.next_turn.ensures.asked
+    (reads_by (i.state c.args.inputs.now) (i.state c.loop-turn.inputs) old v.selected v.taken v.given v.asked v.inputs v.selects) (omega (arith, v.few, c.len-left.ensures)) c.next_turn.ensures.asked
     (λ e. absurd (omega (arith, c.in-Err.ensures.over e, v.few, c.len-left.ensures, v.piece, c.min-count.ensures, length-take-le c.min-count.result c.loop-turn.piece (omega (arith, c.min-count.ensures, v.piece)))))
     (λ e. none_given (i.state c.args.inputs.now) (i.state c.loop-turn.inputs) (i.state c.next_turn.new.inputs) old c.deref.result.now c.wanted.result (length (take c.min-count.result c.loop-turn.piece)) c.wanted.ensures.some
     (omega (arith, c.min-count.ensures, length-take-le c.min-count.result c.loop-turn.piece (omega (arith, c.min-count.ensures, v.piece)))) c.deref.ensures.value c.wanted.ensures.fixed c.wanted.ensures.waits v.waiting
-    (reads_by (i.state c.args.inputs.now) (i.state c.loop-turn.inputs) old v.selected v.taken v.given v.asked v.inputs) (c.in-Err.ensures.soon e)) c.in-Err.ensures.err
+    (reads_by (i.state c.args.inputs.now) (i.state c.loop-turn.inputs) old v.selected v.taken v.given v.asked v.inputs v.selects) (c.in-Err.ensures.soon e)) c.in-Err.ensures.err
 
 pub loop-turn-preserved : goal.loop-turn-preserved
 loop-turn-preserved g c =
@@ -84,6 +84,7 @@ loop-turn-preserved g c =
       few = omega (arith, none.1, ap length c.deref-in-loop-turn.ensures.value);
       waiting = λ some. subst EndsInHeader c.deref-in-loop-turn.ensures.value none.2;
       asked = c.next_turn.ensures.asked ∙ v.asked;
+      selects = c.in-Ok.ensures.ok.selects ∙ v.selects;
       given = omega (arith, v.given, c.in-Ok.ensures.ok.given, ap length joined, length-append old piece);
       taken = joined_taken (i.state c.args.inputs.now).rest (i.state c.loop-turn.inputs).rest (i.state c.next_turn.new.inputs).rest old piece mid mid v.taken c.in-Ok.ensures.ok.taken joined refl;
     }

@@ -1,9 +1,11 @@
-use Rattle.std.proofs.Common.{◌≡◌, ℕ, List, [], ◌∷◌, ◌++◌, arith, drop, length, length-append, length-take-le, map, string_bytes, refl, ◌∙◌, ap}
+use Rattle.std.proofs.Common.{◌≡◌, ℕ, List, [], ◌∷◌, ◌++◌, None, arith, drop, length, length-append, length-take-le, map, string_bytes, refl, ◌∙◌, ap}
 use Rattle.x7_words.proofs.InputLemmas.{stays_at, stays_on}
 use Rattle.x7_forms.specs.Message.{event_of}
 use Rattle.x7_forms.specs.Known.{StreamRead, stream_limit}
 use Rattle.x7_forms.specs.Step.{CameIn, step_over}
 use Rattle.x7_forms.proofs.ReadLemmas.{one_unplayed, rests_all, rests_none, stream_err, stream_next}
+use Rattle.x7_forms.specs.Stop.{limited_together}
+use Rattle.x7_forms.proofs.StandLemmas.{limits_first, limits_next, limits_stop, room_left}
 use Rattle.x7_forms.proofs.playing.play_streams.Goals as goal
 
 pub loop-name-init : goal.loop-name-init
@@ -11,6 +13,9 @@ loop-name-init g c =
     let i = g.I.Inputs in
     record {
       inputs = stays_at _;
+      selects = omega arith;
+      within = omega arith;
+      limits = limits_first (i.state c.args.inputs.now).contents stream_limit (map string_bytes c.args.streams.now);
       piece = omega (arith, c.in-Ok-vec.ensures.len, c.in-Ok-vec.piece.ok.0);
       played = ([], (c.in-Ok.ensures, omega arith, rests_none (i.state c.args.inputs.now).contents (map string_bytes c.args.streams.now) stream_limit));
     }
@@ -42,6 +47,10 @@ loop-name-preserved g c =
     let size : length new ≡ 266240 = c.play_stream.ensures.length ∙ ap length c.deref_mut.ensures.value ∙ v.piece in
     record {
       inputs = stays_on _ _ _ v.inputs c.play_stream.ensures.inputs;
+      selects = omega (arith, v.selects, c.play_stream.ensures.once);
+      within = omega (arith, c.loop-name-test.true);
+      limits = limits_next string_bytes (limited_together (i.state c.args.inputs.now).contents stream_limit (map string_bytes c.args.streams.now)) (i.state c.args.inputs.now).contents c.args.streams.now c.loop-name.name-index c.loop-name.left c.in-Ok-play_stream.left c.name-item.result name
+          c.loop-name-test.true c.name-item.is c.as_str.ensures.value v.limits (room_left (i.state c.args.inputs.now).contents (i.state c.loop-name.inputs).contents C name c.loop-name.left read v.inputs.map (omega (arith, p.within)) (p.reads None));
       piece = omega (arith, length-take-le c.loop-name.piece.len (new ++ drop (length new) old) (omega (arith, length-append new (drop (length new) old), size, v.piece, c.loop-name.piece.ok.0)), v.piece, c.loop-name.piece.ok.0);
       played = (v.played.0 ++ p.bytes, (p.plays c.args.part.now v.played.0 v.played.1.0, omega (arith, v.played.1.1, p.within, length-append v.played.0 p.bytes), next));
     }
@@ -59,3 +68,17 @@ returns-clause-ok g c =
 pub returns-in-Err-clause-named : goal.returns-in-Err-clause-named
 returns-in-Err-clause-named g c =
     one_unplayed string_bytes c.args.streams.now c.loop-name.name-index c.name-item.result c.as_str.result.now (event_of c.in-Err.refusal) c.loop-name-test.true c.name-item.is c.as_str.ensures.value c.in-Err.ensures.named
+
+pub returns-in-Err-clause-stops : goal.returns-in-Err-clause-stops
+returns-in-Err-clause-stops g c =
+    let i = g.I.Inputs in
+    let v = c.loop-name.invariant in
+    let old = i.state c.args.inputs.now in
+    limits_stop string_bytes (limited_together old.contents stream_limit (map string_bytes c.args.streams.now)) old.contents c.args.streams.now c.loop-name.name-index c.loop-name.left c.name-item.result c.as_str.result.now
+    old (i.state c.loop-name.inputs) (i.state c.play_stream.new.inputs) (event_of c.in-Err.refusal) c.loop-name-test.true c.name-item.is c.as_str.ensures.value v.limits v.selects c.play_stream.ensures.once c.play_stream.ensures.stands c.in-Err.ensures.named
+
+pub returns-in-Err-clause-once : goal.returns-in-Err-clause-once
+returns-in-Err-clause-once g c = omega (arith, c.loop-name.invariant.selects, c.loop-name-test.true, c.play_stream.ensures.once)
+
+pub returns-clause-once : goal.returns-clause-once
+returns-clause-once g c = omega (arith, c.loop-name.invariant.selects, c.loop-name.invariant.within)

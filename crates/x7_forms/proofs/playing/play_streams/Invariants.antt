@@ -2,7 +2,9 @@ use Rattle.std.proofs.Common.{◌≡◌, ℕ, List, ◌+◌, ◌≤◌, drop, le
 use Rattle.x7_words.specs.Input.{Stays}
 use Rattle.x7_forms.specs.Known.{stream_limit}
 use Rattle.x7_forms.specs.Play.{HasPlayed}
+use Rattle.x7_forms.specs.Stop.{limited_together}
 use Rattle.x7_forms.proofs.ReadLemmas.{Rests}
+use Rattle.x7_forms.proofs.StandLemmas.{LimitsFrom}
 use Rattle.x7_forms.proofs.playing.play_streams.Given as goal
 
 abbrev pub invariant-loop-name : goal.invariant-loop-name
@@ -10,6 +12,9 @@ invariant-loop-name g l =
     let i = g.I.Inputs in
     record {
       inputs : Stays (i.state l.fn.inputs) (i.state l.inputs);
+      selects : (i.state l.inputs).selects ≤ (i.state l.fn.inputs).selects + l.name-index;
+      within : l.name-index ≤ length l.streams;
+      limits : LimitsFrom (limited_together (i.state l.fn.inputs).contents stream_limit (map string_bytes l.streams)) (i.state l.fn.inputs).contents l.name-index l.left (map string_bytes (drop l.name-index l.streams));
       piece : length l.piece.items ≡ 266240;
       played : (whole : List ℕ) × (HasPlayed l.part whole l.player × (length whole + l.left ≤ stream_limit) × Rests (i.state l.fn.inputs).contents (map string_bytes l.streams) stream_limit (map string_bytes (drop l.name-index l.streams)) l.left whole);
     }

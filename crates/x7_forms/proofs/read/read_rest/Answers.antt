@@ -2,6 +2,7 @@ use Rattle.std.proofs.Common.{◌≡◌, ◌++◌, [], append_assoc, append-nil,
 use Rattle.x7_words.proofs.InputLemmas.{stays_at, stays_on}
 use Rattle.x7_forms.specs.Message.{event_of}
 use Rattle.x7_forms.proofs.ReadLemmas.{reads_none, reads_on, rest_unread}
+use Rattle.x7_forms.proofs.StandLemmas.{gives_on}
 use Rattle.x7_forms.proofs.read.read_rest.Goals as goal
 
 pub loop-turn-init : goal.loop-turn-init
@@ -41,3 +42,21 @@ loop-turn-preserved g c =
       piece = c.next_turn.ensures.length ∙ v.piece;
       told = (v.told.0 ++ piece, (c.in-Ok-extend_from_slice.ensures.items ∙ ap (λ t. t ++ piece) v.told.1.0 ∙ append_assoc _ v.told.0 piece, omega (arith, v.told.1.1, size, length-append v.told.0 piece, c.in-Ok.ensures.within.0), reads));
     }
+
+pub returns-in-Err-clause-few : goal.returns-in-Err-clause-few
+returns-in-Err-clause-few g c =
+    let i = g.I.Inputs in
+    let v = c.loop-turn.invariant in
+    gives_on (i.state c.args.inputs.now) (i.state c.loop-turn.inputs) (i.state c.next_turn.new.inputs) v.told.0 c.args.limit c.loop-turn.left v.told.1.2 v.told.1.1 c.next_turn.ensures.few
+
+pub returns-in-Err-extend_from_slice-clause-few : goal.returns-in-Err-extend_from_slice-clause-few
+returns-in-Err-extend_from_slice-clause-few g c =
+    let i = g.I.Inputs in
+    let v = c.loop-turn.invariant in
+    gives_on (i.state c.args.inputs.now) (i.state c.loop-turn.inputs) (i.state c.next_turn.new.inputs) v.told.0 c.args.limit c.loop-turn.left v.told.1.2 v.told.1.1 c.next_turn.ensures.few
+
+pub returns-then-turn-clause-few : goal.returns-then-turn-clause-few
+returns-then-turn-clause-few g c =
+    let i = g.I.Inputs in
+    let v = c.loop-turn.invariant in
+    gives_on (i.state c.args.inputs.now) (i.state c.loop-turn.inputs) (i.state c.next_turn.new.inputs) v.told.0 c.args.limit c.loop-turn.left v.told.1.2 v.told.1.1 c.next_turn.ensures.few

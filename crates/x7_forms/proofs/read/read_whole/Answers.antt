@@ -4,6 +4,7 @@ use Rattle.x7_forms.specs.Message.{event_of}
 use Rattle.x7_forms.specs.Step.{CameIn, IsCaused, step_over}
 use Rattle.x7_forms.specs.Known.{whole_in, with_inputs}
 use Rattle.x7_forms.proofs.ReadLemmas.{open_refused, unopened_unread, want_unread, whole_read, whole_refused}
+use Rattle.x7_forms.proofs.StandLemmas.{stands_opened, stands_read}
 use Rattle.x7_forms.proofs.read.read_whole.Goals as goal
 
 pub returns-in-Err-clause-due : goal.returns-in-Err-clause-due
@@ -38,3 +39,12 @@ pub returns-clause-named : goal.returns-clause-named
 returns-clause-named g c =
     let i = g.I.Inputs in
     want_unread (i.state c.open.new.inputs) (i.state c.read_rest.new.inputs) c.args.name.now c.args.limit (event_of c.in-Err-read_rest.refusal) c.in-Err-read_rest.ensures.err
+
+pub returns-in-Err-clause-stands : goal.returns-in-Err-clause-stands
+returns-in-Err-clause-stands g c = stands_opened c.args.name.now c.args.limit (g.I.Inputs.state c.open.new.inputs) c.open.ensures.asks
+
+pub returns-in-Ok-read_rest-clause-stands : goal.returns-in-Ok-read_rest-clause-stands
+returns-in-Ok-read_rest-clause-stands g c = stands_read c.args.name.now c.args.limit (g.I.Inputs.state c.open.new.inputs) (g.I.Inputs.state c.read_rest.new.inputs) c.open.ensures.asks c.read_rest.ensures.few
+
+pub returns-clause-stands : goal.returns-clause-stands
+returns-clause-stands g c = stands_read c.args.name.now c.args.limit (g.I.Inputs.state c.open.new.inputs) (g.I.Inputs.state c.read_rest.new.inputs) c.open.ensures.asks c.read_rest.ensures.few

@@ -2,6 +2,7 @@ use Rattle.std.proofs.Common.{◌≡◌, [], refl, ◌++◌, length, take, lengt
 use Rattle.x7_words.proofs.InputLemmas.{stays_at, stays_on}
 use Rattle.x7_forms.specs.Message.{event_of}
 use Rattle.x7_forms.proofs.ReadLemmas.{reads_none, reads_on, rest_unread}
+use Rattle.x7_forms.proofs.StandLemmas.{gives_on}
 use Rattle.x7_forms.proofs.read.skip_rest.Goals as goal
 
 pub returns-in-Err-clause-err : goal.returns-in-Err-clause-err
@@ -39,3 +40,15 @@ loop-turn-preserved g c =
 
 pub loop-turn-init : goal.loop-turn-init
 loop-turn-init g c = record { selected = c.requires.selected; inputs = stays_at _; left = omega arith; buf = refl; told = ([], (omega arith, reads_none (g.I.Inputs.state c.args.inputs.now) c.requires.selected)) }
+
+pub returns-in-Err-clause-few : goal.returns-in-Err-clause-few
+returns-in-Err-clause-few g c =
+    let i = g.I.Inputs in
+    let v = c.loop-turn.invariant in
+    gives_on (i.state c.args.inputs.now) (i.state c.loop-turn.inputs) (i.state c.next_turn.new.inputs) v.told.0 c.args.limit c.loop-turn.left v.told.1.1 v.told.1.0 c.next_turn.ensures.few
+
+pub returns-then-turn-clause-few : goal.returns-then-turn-clause-few
+returns-then-turn-clause-few g c =
+    let i = g.I.Inputs in
+    let v = c.loop-turn.invariant in
+    gives_on (i.state c.args.inputs.now) (i.state c.loop-turn.inputs) (i.state c.next_turn.new.inputs) v.told.0 c.args.limit c.loop-turn.left v.told.1.1 v.told.1.0 c.next_turn.ensures.few

@@ -1,6 +1,7 @@
 use Rattle.std.proofs.Common.{◌≡◌, ◌≤◌, length, take}
 use Rattle.x7_jtag.specs.Words.{word_list, words_of}
-use Rattle.x7_jtag.specs.Svf.{after_words, statement_marks}
+use Rattle.x7_jtag.specs.Svf.{statement_marks}
+use Rattle.x7_jtag.proofs.WordsLemmas.{after_words}
 use Rattle.x7_jtag.proofs.reader.words_action.Given as goal
 
 abbrev pub invariant-loop-token : goal.invariant-loop-token

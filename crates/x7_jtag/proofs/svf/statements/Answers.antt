@@ -1,8 +1,8 @@
 use Rattle.std.proofs.Common.{arith, ◌≡◌, ◌<◌, ℕ, List, [], ◌∷◌, ◌++◌, length, take, drop, refl, ap, sym, subst, ◌∙◌, length-append}
 use Rattle.x7_jtag.specs.Pieces.{size_of}
-use Rattle.x7_jtag.specs.Source.{SourceState, pieces_left}
+use Rattle.x7_jtag.specs.Source.{pieces_left}
 use Rattle.x7_jtag.specs.Stored.{AreStoredWithin, statements_in}
-use Rattle.x7_jtag.proofs.SvfLemmas.{all-within, bad-at, bad-first, no-end, stored-on, unmeant, word-here}
+use Rattle.x7_jtag.proofs.SvfLemmas.{all-within, bad-at, bad-first, no-end, one-at-least, stored-on, unmeant, word-here}
 use Rattle.x7_jtag.proofs.svf.statements.Goals as goal
 
 pub returns-in_default-token : goal.returns-in_default-token
@@ -11,6 +11,7 @@ returns-in_default-token c =
     let here = c.next.new.source in
     record {
       says = bad-first (pieces_left c.args.source.now) (pieces_left at) (statements_in at.kept c.loop-token.out.items) here.line c.line-line.result c.in-Some.token here.rest c.loop-token.invariant.says c.line-line.ensures c.in-Some.ensures.is c.in_default-token.not-Word;
+      memory = λ e. absurd (cc);
       few = tt;
       within = tt;
     }
@@ -53,3 +54,16 @@ loop-token-preserved c =
 
 pub returns-clause-within : goal.returns-clause-within
 returns-clause-within c = subst (λ (k : List ℕ). AreStoredWithin (length k) c.loop-token.out.items) (sym c.in_default.ensures.kept) c.loop-token.invariant.within
+
+pub returns-then-is_err-clause-memory : goal.returns-then-is_err-clause-memory
+returns-then-is_err-clause-memory c = λ e.
+    let at = c.loop-token.source in
+    let here = c.next.new.source in
+    let behind = c.statement.new.source in
+    let end = c.pass_end.new.source in
+    let out = c.loop-token.out.items in
+    let one = c.in-Some-statement.one in
+    let size : ℕ = c.in-Word.size in
+    one-at-least (pieces_left c.args.source.now) end.kept out one (pieces_left end)
+    (stored-on (pieces_left c.args.source.now) at here behind end size out (out ++ one ∷ []) one refl c.loop-token.invariant.within c.in-Some.ensures.kept c.in-Some-statement.ensures.prefix c.if-not-pass_end.ensures.kept c.loop-token.invariant.says
+    (word-here (pieces_left at) here.line size c.in-Some.token here.rest c.in-Some.ensures.is c.in-Word.is) c.in-Some-statement.ensures.is c.in-Some-statement.ensures.after (c.if-not-pass_end.ensures.found refl))

@@ -1,10 +1,6 @@
 use Rattle.std.proofs.Common.{refl}
-use Rattle.x7_listing.specs.AtOnce.{on_new_line, write_name}
-use Rattle.x7_listing.proofs.AtOnceLemmas.{row_behind, row_first}
+use Rattle.x7_listing.specs.AtOnce.{write_name}
 use Rattle.x7_listing.proofs.rows.name_row.Goals as goal
 
-pub returns-then-in_line-eq0 : goal.returns-then-in_line-eq0
-returns-then-in_line-eq0 c = row_first c.args.in_line c.row_in.result.now (write_name c.args.register) c.if-in_line-eq0.true (c.row_in.ensures write_name (refl, (refl, (refl, (refl, (refl, (refl, (refl, (refl, (refl, (refl, (refl, (refl, (refl, (refl, (refl, (refl, (refl, (refl, (refl, (refl, (refl, (refl, (refl, (refl, (refl, (refl, (refl, (refl, (refl, (refl, (refl, (refl, tt)))))))))))))))))))))))))))))))))
-
-pub returns-else-in_line-eq0 : goal.returns-else-in_line-eq0
-returns-else-in_line-eq0 c = row_behind c.args.in_line c.row_in-else-in_line-eq0.result.now (write_name c.args.register) c.if-in_line-eq0.false (c.row_in-else-in_line-eq0.ensures (on_new_line write_name) (refl, (refl, (refl, (refl, (refl, (refl, (refl, (refl, (refl, (refl, (refl, (refl, (refl, (refl, (refl, (refl, (refl, (refl, (refl, (refl, (refl, (refl, (refl, (refl, (refl, (refl, (refl, (refl, (refl, (refl, (refl, (refl, tt)))))))))))))))))))))))))))))))))
+pub returns : goal.returns
+returns c = c.row_in.ensures write_name (refl, (refl, (refl, (refl, (refl, (refl, (refl, (refl, (refl, (refl, (refl, (refl, (refl, (refl, (refl, (refl, (refl, (refl, (refl, (refl, (refl, (refl, (refl, (refl, (refl, (refl, (refl, (refl, (refl, (refl, (refl, (refl, tt))))))))))))))))))))))))))))))))

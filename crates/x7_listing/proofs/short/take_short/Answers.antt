@@ -1,23 +1,23 @@
-use Rattle.std.proofs.Common.{◌≡◌, ◌-◌, ◌++◌, [], append-nil, arith, drop, length, refl, subst, take, true}
+use Rattle.std.proofs.Common.{◌≡◌, ◌∙◌, ◌-◌, ◌++◌, Bool, true, false, not, append-nil, arith, drop, length, refl, subst, take}
 use Rattle.x7_listing.specs.Telling.{Tells, lister_of}
 use Rattle.x7_listing.proofs.AtOnceLemmas.{in_line_told, rest_length, seam}
 use Rattle.x7_listing.proofs.short.take_short.Goals as goal
 
+is-true : (b : Bool) → not b ≡ false → b ≡ true
+is-true true e = refl
+is-true false e = absurd cc
+
 pub loop-len-init : goal.loop-len-init
-loop-len-init c =
-    let sheet = c.take_writes-begun.ensures.sheet in
-    let here : c.args.pen.synced ≡ true = c.if-not-may_come.ensures.session refl in
-    record {
-      within = sheet.within;
-      first = sheet.none;
-      kept = sheet.kept;
-      inside = sheet.inside;
-      few = sheet.grown;
-      tells = λ given before bytes s.
-          let begins : Tells (lister_of c.args.cutter.now true c.session_line.result [] (c.args.text.now.items ++ [])) given before bytes =
-          rw (append-nil c.args.text.now.items) (in_line_told c.args.cutter.now c.args.pen.synced true c.args.pen.line c.session_line.result _ [] c.args.text.now.items given before bytes here refl (c.session_line.ensures.line here) s) in
-          in_line_told c.take_writes-begun.new.cutter true c.in_session-now.result.synced c.take_writes-begun.result.line c.in_session-now.result.line [] _ _ given before _ refl c.in_session-now.ensures.synced c.in_session-now.ensures.line (c.take_writes-begun.ensures.listed c.args.text.now.items given before bytes begins);
-    }
+loop-len-init c = record {
+  within = omega arith;
+  first = λ e. (refl, refl);
+  kept = omega arith;
+  inside = omega arith;
+  few = omega arith;
+  tells = λ given before bytes s.
+      rw (append-nil bytes, append-nil c.args.text.now.items)
+      (in_line_told c.args.cutter.now c.args.pen.synced c.in_session-now.result.synced c.args.pen.line c.in_session-now.result.line _ _ c.args.text.now.items given before bytes (is-true c.args.pen.synced c.if-not-pen.false) c.in_session-now.ensures.synced (c.in_session-now.ensures.line ∙ c.session_line.ensures.line (is-true c.args.pen.synced c.if-not-pen.false)) s);
+}
 
 pub loop-len-preserved : goal.loop-len-preserved
 loop-len-preserved c =

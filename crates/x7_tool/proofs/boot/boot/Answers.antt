@@ -1,9 +1,13 @@
-use Rattle.std.proofs.Common.{[], ◌∷◌, Some, inl, refl}
+use Rattle.std.proofs.Common.{[], ◌∷◌, None, Some, inl, refl}
 use Rattle.x7_forms.specs.Form.{Booting}
 use Rattle.x7_forms.specs.Message.{event_of}
 use Rattle.x7_tool.specs.Play.{text_of_play}
 use Rattle.x7_forms.specs.Step.{CameIn, seen, step_over}
-use Rattle.x7_tool.proofs.FlashLemmas.{boot_measured, booted_ends, no_part_measured, part_refused}
+use Rattle.x7_tool.proofs.FlashLemmas.{boot_last, boot_measured, booted_ends, no_part_last, no_part_measured, part_good, part_refused}
+use Rattle.x7_forms.specs.Known.{part_limit}
+use Rattle.x7_tool.proofs.StopLemmas.{boot_stops, first_stops}
+use Rattle.x7_forms.proofs.StandLemmas.{no_part_about}
+use Rattle.x7_forms.specs.Stop.{limited}
 use Rattle.x7_tool.proofs.boot.boot.Goals as goal
 
 pub returns-in-Ok-clause-due : goal.returns-in-Ok-clause-due
@@ -27,3 +31,20 @@ returns-in-Ok-clause-measured g c =
 
 pub returns-in-Err-clause-measured : goal.returns-in-Err-clause-measured
 returns-in-Err-clause-measured g c = no_part_measured (Some (Booting c.args.part.now c.args.name.now)) (g.F.Flash.state c.args.flash.now) c.args.part.now (event_of c.in-Err.refusal) (inl refl) c.in-Err.ensures.named
+
+pub returns-in-Ok-clause-last : goal.returns-in-Ok-clause-last
+returns-in-Ok-clause-last g c =
+    let old = g.I.Inputs.state c.args.inputs.now in
+    let C = CameIn (step_over (c.args.part.now ∷ []) old (g.I.Inputs.state c.read_part.new.inputs)) in
+    boot_last text_of_play c.args.name.now c.args.part.now old (g.F.Flash.state c.boot_from.new.flash) c.boot_from.result c.boot_from.ensures.failed
+    (part_good old.contents C c.args.name.now c.args.part.now c.in-Ok.part (c.in-Ok.ensures.due None))
+
+pub returns-in-Err-clause-last : goal.returns-in-Err-clause-last
+returns-in-Err-clause-last g c =
+    no_part_last (Booting c.args.part.now c.args.name.now) (g.I.Inputs.state c.args.inputs.now) (g.F.Flash.state c.args.flash.now) c.args.part.now (event_of c.in-Err.refusal) (inl refl) c.in-Err.ensures.named
+
+pub returns-in-Err-clause-stops : goal.returns-in-Err-clause-stops
+returns-in-Err-clause-stops g c = first_stops (Booting c.args.part.now c.args.name.now) (limited part_limit c.args.part.now) [] (g.I.Inputs.state c.args.inputs.now) (g.I.Inputs.state c.read_part.new.inputs) (event_of c.in-Err.refusal) refl c.read_part.ensures.stands c.read_part.ensures.once (no_part_about c.args.part.now (event_of c.in-Err.refusal) c.in-Err.ensures.named)
+
+pub returns-in-Ok-clause-stops : goal.returns-in-Ok-clause-stops
+returns-in-Ok-clause-stops g c = boot_stops c.args.name.now c.args.part.now c.in-Ok.part (g.I.Inputs.state c.args.inputs.now) (g.I.Inputs.state c.read_part.new.inputs) (g.F.Flash.state c.args.flash.now) (g.F.Flash.state c.boot_from.new.flash) (seen text_of_play c.boot_from.result) c.boot_from.ensures.due

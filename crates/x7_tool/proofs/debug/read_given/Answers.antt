@@ -1,10 +1,13 @@
-use Rattle.std.proofs.Common.{ℕ, List, [], ◌∷◌, Ok, Err, inr}
+use Rattle.std.proofs.Common.{ℕ, List, [], ◌∷◌, Ok, Err, inr, refl}
 use Rattle.x7_part.specs.Part.{PartData}
 use Rattle.x7_forms.specs.Message.{event_of}
-use Rattle.x7_forms.specs.Known.{and_so, part_of, whole_in}
+use Rattle.x7_forms.specs.Known.{and_so, part_of, whole_in, part_limit, stream_limit}
 use Rattle.x7_forms.proofs.ReadLemmas.{answers_go, answers_stop, first_of, part_steady}
 use Rattle.x7_tool.specs.Outcome.{DebugInputs, script_limit, stream_data}
 use Rattle.x7_tool.proofs.DebugLemmas.{stream_steady}
+use Rattle.x7_forms.proofs.StandLemmas.{about_among, no_part_about, unplayed_about, unread_about}
+use Rattle.x7_forms.specs.Stop.{limited}
+use Rattle.x7_tool.proofs.StopLemmas.{both_asked, all_asked}
 use Rattle.x7_tool.proofs.debug.read_given.Goals as goal
 
 pub returns-in-Err-read_data-clause-due : goal.returns-in-Err-read_data-clause-due
@@ -42,3 +45,12 @@ returns-in-Err-clause-due g c =
     let script = c.args.script.now in
     answers_stop PartData DebugInputs (part ∷ []) (part ∷ stream ∷ script ∷ []) (i.state c.args.inputs.now) (i.state c.read_part.new.inputs) (λ t. part_of t part)
     (λ t p. and_so (stream_data t stream) (λ bytes. and_so (whole_in t script_limit script) (λ text. Ok (record { part = p; stream = bytes; script = text })))) (event_of c.in-Err.refusal) (first_of part (stream ∷ script ∷ [])) c.in-Err.ensures.due
+
+pub returns-in-Err-clause-stops : goal.returns-in-Err-clause-stops
+returns-in-Err-clause-stops g c = about_among (limited part_limit c.args.part.now ∷ limited stream_limit c.args.stream.now ∷ limited script_limit c.args.script.now ∷ []) [] (limited part_limit c.args.part.now) (limited stream_limit c.args.stream.now ∷ limited script_limit c.args.script.now ∷ []) (g.I.Inputs.state c.args.inputs.now) (g.I.Inputs.state c.read_part.new.inputs) (event_of c.in-Err.refusal) refl c.read_part.ensures.stands c.read_part.ensures.once (no_part_about c.args.part.now (event_of c.in-Err.refusal) c.in-Err.ensures.named)
+
+pub returns-in-Err-read_data-clause-stops : goal.returns-in-Err-read_data-clause-stops
+returns-in-Err-read_data-clause-stops g c = about_among (limited part_limit c.args.part.now ∷ limited stream_limit c.args.stream.now ∷ limited script_limit c.args.script.now ∷ []) (limited part_limit c.args.part.now ∷ []) (limited stream_limit c.args.stream.now) (limited script_limit c.args.script.now ∷ []) (g.I.Inputs.state c.args.inputs.now) (g.I.Inputs.state c.read_data.new.inputs) (event_of c.in-Err-read_data.refusal) refl c.read_data.ensures.stands (both_asked (g.I.Inputs.state c.args.inputs.now) (g.I.Inputs.state c.read_part.new.inputs) (g.I.Inputs.state c.read_data.new.inputs) c.read_part.ensures.once c.read_data.ensures.asks) (unplayed_about c.args.stream.now (event_of c.in-Err-read_data.refusal) c.in-Err-read_data.ensures.named)
+
+pub returns-in-Err-read_whole-clause-stops : goal.returns-in-Err-read_whole-clause-stops
+returns-in-Err-read_whole-clause-stops g c = about_among (limited part_limit c.args.part.now ∷ limited stream_limit c.args.stream.now ∷ limited script_limit c.args.script.now ∷ []) (limited part_limit c.args.part.now ∷ limited stream_limit c.args.stream.now ∷ []) (limited script_limit c.args.script.now) [] (g.I.Inputs.state c.args.inputs.now) (g.I.Inputs.state c.read_whole.new.inputs) (event_of c.in-Err-read_whole.refusal) refl c.read_whole.ensures.stands (all_asked (g.I.Inputs.state c.args.inputs.now) (g.I.Inputs.state c.read_part.new.inputs) (g.I.Inputs.state c.read_data.new.inputs) (g.I.Inputs.state c.read_whole.new.inputs) c.read_part.ensures.once c.read_data.ensures.asks c.read_whole.ensures.once) (unread_about c.args.script.now (event_of c.in-Err-read_whole.refusal) c.in-Err-read_whole.ensures.named)

@@ -3,8 +3,9 @@ use Rattle.x7_words.proofs.InputLemmas.{stays_on}
 use Rattle.x7_forms.specs.Message.{event_of}
 use Rattle.x7_tool.specs.Outcome.{text_limit}
 use Rattle.x7_forms.specs.Step.{CameIn, step_over}
-use Rattle.x7_forms.proofs.ReadLemmas.{at_on, open_refused, turn_refused, whole_read}
+use Rattle.x7_forms.proofs.ReadLemmas.{at_on, open_refused, turn_refused, whole_read, turn_unread, unopened_unread}
 use Rattle.x7_tool.proofs.TurnLemmas.{taken_more}
+use Rattle.x7_forms.proofs.StandLemmas.{stands_opened, stands_turn}
 use Rattle.x7_tool.proofs.feeding.feed_whole.Goals as goal
 
 pub returns-then-turn-clause-ok : goal.returns-then-turn-clause-ok
@@ -42,6 +43,7 @@ loop-turn-preserved g c =
     record {
       selected = c.in-Ok-next_turn.ensures.ok.selected;
       inputs = stays_on _ _ _ v.inputs c.next_turn.ensures.inputs;
+      selects = omega (arith, v.selects, c.in-Ok-next_turn.ensures.ok.selects);
       left = omega (arith, v.left);
       piece = c.next_turn.ensures.length ∙ v.piece;
       told = (taken ++ piece, (sel, c.take_turn-read.ensures c.args.taker taken fits v.told.1.1, omega (arith, size, v.told.1.2, c.in-Ok-next_turn.ensures.within.0), at_on name taken piece (i.state c.loop-turn.inputs) (i.state c.next_turn.new.inputs) v.told.1.3 c.in-Ok-next_turn.ensures.ok c.next_turn.ensures.asked));
@@ -58,3 +60,18 @@ returns-in-Err-next_turn-clause-err g c = λ flash.
     let v = c.loop-turn.invariant in
     turn_refused (i.state c.args.inputs.now) (i.state c.loop-turn.inputs) (i.state c.next_turn.new.inputs) flash c.args.name.now v.told.0 text_limit c.loop-turn.left (event_of c.in-Err-next_turn.refusal)
     v.inputs v.told.1.0 v.told.1.3 v.told.1.2 c.in-Err-next_turn.ensures.err c.next_turn.ensures.asked
+
+pub returns-in-Err-clause-named : goal.returns-in-Err-clause-named
+returns-in-Err-clause-named g c = unopened_unread (g.I.Inputs.state c.args.inputs.now) (g.I.Inputs.state c.open.new.inputs) c.args.name.now (event_of c.in-Err.refusal) c.in-Err.ensures.err
+
+pub returns-in-Err-next_turn-clause-named : goal.returns-in-Err-next_turn-clause-named
+returns-in-Err-next_turn-clause-named g c = turn_unread (g.I.Inputs.state c.loop-turn.inputs) (g.I.Inputs.state c.next_turn.new.inputs) c.args.name.now c.loop-turn.left (event_of c.in-Err-next_turn.refusal) c.in-Err-next_turn.ensures.err
+
+pub returns-in-Err-clause-stands : goal.returns-in-Err-clause-stands
+returns-in-Err-clause-stands g c = stands_opened c.args.name.now text_limit (g.I.Inputs.state c.open.new.inputs) c.open.ensures.asks
+
+pub returns-in-Err-next_turn-clause-stands : goal.returns-in-Err-next_turn-clause-stands
+returns-in-Err-next_turn-clause-stands g c = let v = c.loop-turn.invariant in stands_turn c.args.name.now v.told.0 text_limit c.loop-turn.left (g.I.Inputs.state c.loop-turn.inputs) (g.I.Inputs.state c.next_turn.new.inputs) v.told.1.3 v.told.1.2 c.next_turn.ensures.few
+
+pub returns-then-turn-clause-stands : goal.returns-then-turn-clause-stands
+returns-then-turn-clause-stands g c = let v = c.loop-turn.invariant in stands_turn c.args.name.now v.told.0 text_limit c.loop-turn.left (g.I.Inputs.state c.loop-turn.inputs) (g.I.Inputs.state c.next_turn.new.inputs) v.told.1.3 v.told.1.2 c.next_turn.ensures.few

@@ -12,6 +12,7 @@ invariant-loop-turn g l =
     record {
       selected : (i.state l.inputs).selected ≡ true;
       inputs : Stays (i.state l.fn.inputs) (i.state l.inputs);
+      selects : (i.state l.inputs).selects ≤ (i.state l.fn.inputs).selects + 1;
       left : l.left ≤ text_limit;
       piece : length l.piece ≡ 65536;
       told : (taken : List ℕ) × (Selects (i.state l.fn.inputs).contents l.name (preceded taken (i.state l.inputs).rest) × IsFed (t.took l.fn.taker) (t.fails l.fn.taker) l.read taken × (length taken + l.left ≡ text_limit) × IsAt l.name taken (i.state l.inputs));

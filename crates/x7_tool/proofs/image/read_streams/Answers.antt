@@ -1,10 +1,13 @@
-use Rattle.std.proofs.Common.{ℕ, List, [], ◌∷◌, Ok, Err, inr}
+use Rattle.std.proofs.Common.{ℕ, List, [], ◌∷◌, Ok, Err, inr, refl}
 use Rattle.x7_forms.specs.Message.{event_of}
-use Rattle.x7_forms.specs.Known.{and_so}
+use Rattle.x7_forms.specs.Known.{and_so, stream_limit}
 use Rattle.x7_forms.proofs.ReadLemmas.{answers_go, answers_stop, first_of}
 use Rattle.x7_tool.specs.Outcome.{ImageStreams, stream_data}
 use Rattle.x7_tool.specs.Streamed.{data_from}
 use Rattle.x7_tool.proofs.DebugLemmas.{stream_steady}
+use Rattle.x7_forms.proofs.StandLemmas.{about_among, unplayed_about}
+use Rattle.x7_tool.proofs.StopLemmas.{both_asked}
+use Rattle.x7_forms.specs.Stop.{limited}
 use Rattle.x7_tool.proofs.image.read_streams.Goals as goal
 
 pub returns-in-Err-clause-due : goal.returns-in-Err-clause-due
@@ -25,3 +28,9 @@ returns-in-Err-read_stream-clause-due g c =
     answers_go (List ℕ) ImageStreams (golden ∷ []) (update ∷ []) (golden ∷ update ∷ []) (i.state c.args.inputs.now) (i.state c.read_stream.new.inputs) (i.state c.read_stream-2.new.inputs) (λ t. stream_data t golden)
     (λ t first. and_so (stream_data t update) (λ second. Ok (record { golden = first; update = second }))) first (Err event) (stream_steady golden) c.read_stream.ensures.inputs (λ n h. inr h) c.in-Ok.ensures.due
     (answers_stop (List ℕ) ImageStreams (update ∷ []) (update ∷ []) (i.state c.read_stream.new.inputs) (i.state c.read_stream-2.new.inputs) (λ t. stream_data t update) (λ t second. Ok (record { golden = first; update = second })) event (λ n h. h) c.in-Err-read_stream.ensures.due)
+
+pub returns-in-Err-clause-stops : goal.returns-in-Err-clause-stops
+returns-in-Err-clause-stops g c = about_among (limited stream_limit c.args.golden.now ∷ limited stream_limit c.args.update.now ∷ []) [] (limited stream_limit c.args.golden.now) (limited stream_limit c.args.update.now ∷ []) (g.I.Inputs.state c.args.inputs.now) (g.I.Inputs.state c.read_stream.new.inputs) (event_of c.in-Err.refusal) refl c.read_stream.ensures.stands c.read_stream.ensures.asks (unplayed_about c.args.golden.now (event_of c.in-Err.refusal) c.in-Err.ensures.named)
+
+pub returns-in-Err-read_stream-clause-stops : goal.returns-in-Err-read_stream-clause-stops
+returns-in-Err-read_stream-clause-stops g c = about_among (limited stream_limit c.args.golden.now ∷ limited stream_limit c.args.update.now ∷ []) (limited stream_limit c.args.golden.now ∷ []) (limited stream_limit c.args.update.now) [] (g.I.Inputs.state c.args.inputs.now) (g.I.Inputs.state c.read_stream-2.new.inputs) (event_of c.in-Err-read_stream.refusal) refl c.read_stream-2.ensures.stands (both_asked (g.I.Inputs.state c.args.inputs.now) (g.I.Inputs.state c.read_stream.new.inputs) (g.I.Inputs.state c.read_stream-2.new.inputs) c.read_stream.ensures.asks c.read_stream-2.ensures.asks) (unplayed_about c.args.update.now (event_of c.in-Err-read_stream.refusal) c.in-Err-read_stream.ensures.named)

@@ -17,11 +17,14 @@ use Rattle.x7_tool.specs.Ahead.{StaysNear}
 use Rattle.x7_tool.specs.Run.{ListsSoFar}
 use Rattle.x7_tool.specs.Turns.{Lists, ListsStream}
 use Rattle.x7_forms.specs.Turn.{MayFollow}
-use Rattle.x7_tool.proofs.AheadLemmas.{front_near, longer_front, longer_twice, stays_near, turn_near, unfronted_near, unopened_near, unread_near, unwritten_near, why_weaker}
+use Rattle.x7_tool.proofs.AheadLemmas.{front_given, front_near, longer_front, longer_twice, same_now, stays_near, turn_given, turn_near, unfronted_near, unopened_near, unread_near, unwritten_near, why_weaker}
 use Rattle.x7_tool.proofs.Causes.{Ended, PutsListed, both_err, ends_same, list_ends, list_seen, listed_whole, nothing_put, nothing_taken, out_of_memory, unfronted, unopened}
-use Rattle.x7_forms.proofs.ReadLemmas.{at_on}
+use Rattle.x7_forms.proofs.ReadLemmas.{at_on, turn_unread}
 use Rattle.x7_forms.proofs.ResultLemmas.{err_weaker}
 use Rattle.x7_tool.proofs.TurnLemmas.{end_failed, front_failed, front_so_far, goes_on, line_front, line_then, stream_so_far, stream_whole, taken_more, unread_end, write_failed}
+use Rattle.x7_forms.proofs.StandLemmas.{stands_opened, stands_read, stands_turn, unfronted_about, unopened_about, unread_about}
+use Rattle.x7_tool.proofs.StopLemmas.{front_stops, put_stops, written_stops, first_stops}
+use Rattle.x7_forms.specs.Stop.{limited}
 use Rattle.x7_tool.proofs.list.list.Goals as goal
 
 pub returns-in-Err-clause-ends : goal.returns-in-Err-clause-ends
@@ -33,7 +36,7 @@ returns-in-Err-clause-ends g c = λ before after.
     let stream = c.args.stream.now in
     let event = event_of c.in-Err.refusal in
     list_ends stream old new (Err event) (unopened old.inputs new.inputs old.flash.bytes stream (SinkFails old.out new.out) old.out.written event c.in-Err.ensures.err c.open.ensures.asks)
-    (stays_near event stream old new (unopened_near old.inputs.contents stream new.inputs.rest old.out.written new.out.written old.inputs new.inputs stream event c.open.ensures.asks c.in-Err.ensures.err))
+    (stays_near event stream old new (unopened_near old.inputs.contents stream new.inputs.rest old.out.written new.out.written old.inputs new.inputs stream event c.open.ensures.asks (same_now old.out) c.in-Err.ensures.err))
 
 pub returns-in-Err-read_beginning-clause-ends : goal.returns-in-Err-read_beginning-clause-ends
 returns-in-Err-read_beginning-clause-ends g c = λ before after.
@@ -45,7 +48,7 @@ returns-in-Err-read_beginning-clause-ends g c = λ before after.
     let event = event_of c.in-Err-read_beginning.refusal in
     list_ends stream old new (Err event)
     (unfronted old.inputs (i.state c.open.new.inputs) new.inputs old.flash.bytes stream (SinkFails old.out new.out) old.out.written event c.open.ensures.inputs c.in-Ok.ensures.ok.found c.open.ensures.asks c.in-Err-read_beginning.ensures.err)
-    (stays_near event stream old new (unfronted_near old.inputs.contents stream new.inputs.rest old.out.written new.out.written (i.state c.open.new.inputs) new.inputs stream event refl c.in-Ok.ensures.ok.found c.open.ensures.asks c.in-Err-read_beginning.ensures.err))
+    (stays_near event stream old new (unfronted_near old.inputs.contents stream new.inputs.rest old.out.written new.out.written (i.state c.open.new.inputs) new.inputs stream event refl c.in-Ok.ensures.ok.found c.open.ensures.asks c.read_beginning.ensures.short (same_now old.out) c.in-Err-read_beginning.ensures.err))
 
 pub returns-in-Err-put_beginning-clause-ends : goal.returns-in-Err-put_beginning-clause-ends
 returns-in-Err-put_beginning-clause-ends g c = λ before after.
@@ -78,7 +81,9 @@ returns-in-Err-put_beginning-clause-ends g c = λ before after.
       | inr h ↦ ends_same (with_inputs contents flash) C stream Full old now r write_fault h.0 (front_failed contents flash C stream taken line sent rest last Full old now sel f.end h.1 c.put_beginning.ensures.fits goes c.in-Err-put_beginning.ensures.err)
     ] in
     let put = c.in-Err-put_beginning.ensures.err [] (subst AreBytes (sym (append-nil _)) c.put_beginning.ensures.fits) in
-    let near = unwritten_near contents stream rest old now _ given r (front_near contents stream taken rest old now sel f.few (longer_front old now _ put)) c.in-Err-put_beginning.ensures.why in
+    let longer = longer_front old now _ put in
+    let few : given ≤ 327706 = omega (arith, c.open.ensures.asks.given, c.read_beginning.ensures.short) in
+    let near = unwritten_near contents stream rest old now _ given r (front_given contents stream given old now few longer) (front_near contents stream taken rest old now sel f.few longer) c.in-Err-put_beginning.ensures.why in
     list_ends stream (record before { inputs = i.state c.args.inputs.now; out = o.state c.args.out.now }) (record after { inputs = i.state c.read_beginning.new.inputs; out = o.state c.put_beginning.new.out }) (Err r) (end c.in-Err-put_beginning.ensures.why) (stays_near r stream (record before { inputs = i.state c.args.inputs.now; out = o.state c.args.out.now }) (record after { inputs = i.state c.read_beginning.new.inputs; out = o.state c.put_beginning.new.out }) near)
 
 pub returns-then-front-clause-ends : goal.returns-then-front-clause-ends
@@ -124,7 +129,10 @@ returns-then-front-clause-ends g c = λ before after.
     by w)
     c.put_short.ensures.err c.put_short.ensures.why in
     let near = both_err c.put_short.result (λ r. PutsPrefix old text now) Why (λ r. StaysNear (status_of (event_of r)) (Some (Listing stream)) first later)
-    (λ r p w. stays_near (event_of r) stream first later (unwritten_near contents stream rest old now _ given (event_of r) (front_near contents stream taken rest old now sel f.few (longer_front old now text p)) (why_weaker w)))
+    (λ r p w.
+    let longer = longer_front old now text p in
+    let few : given ≤ 327706 = omega (arith, c.open.ensures.asks.given, c.read_beginning.ensures.short) in
+    stays_near (event_of r) stream first later (unwritten_near contents stream rest old now _ given (event_of r) (front_given contents stream given old now few longer) (front_near contents stream taken rest old now sel f.few longer) (why_weaker w)))
     c.put_short.ensures.err c.put_short.ensures.why in
     list_seen stream first later c.put_short.result ok err near
 
@@ -141,7 +149,8 @@ returns-in-Err-next_turn-clause-ends g c = λ before after.
     list_ends stream old new (Err event)
     (unread_end old.inputs (i.state c.loop-turn.inputs) new.inputs old.flash.bytes stream v.told.0 c.loop-turn.lister c.loop-turn.left (SinkFails old.out new.out) old.out.written new.out.written event
     v.inputs v.told.1.0 v.told.1.3 v.told.1.1 v.told.1.2 c.in-Err-next_turn.ensures.err c.next_turn.ensures.asked)
-    (stays_near event stream old new (unread_near old.inputs.contents stream new.inputs.rest old.out.written new.out.written (i.state c.loop-turn.inputs) new.inputs stream v.told.0 _ event v.told.1.0 (λ more. (t.line ++ listing_of (t.sent ++ more), t.goes more)) c.in-Err-next_turn.ensures.err))
+    (stays_near event stream old new (unread_near old.inputs.contents stream new.inputs.rest old.out.written new.out.written (i.state c.loop-turn.inputs) new.inputs stream v.told.0 c.loop-turn.lister c.loop-turn.left event refl v.told.1.0 t
+    (omega (arith, v.told.1.3.given, c.next_turn.ensures.turn, v.piece)) (λ e. omega (arith, c.in-Err-next_turn.ensures.over e, v.piece)) (same_now (o.state c.loop-turn.out)) c.in-Err-next_turn.ensures.err))
 
 pub returns-in-Err-put_turn-clause-ends : goal.returns-in-Err-put_turn-clause-ends
 returns-in-Err-put_turn-clause-ends g c = λ before after.
@@ -176,8 +185,10 @@ returns-in-Err-put_turn-clause-ends g c = λ before after.
     let n = c.in-Ok-next_turn.turn.count in
     let rest = (i.state c.next_turn.new.inputs).rest in
     let few : length piece ≤ 65536 = omega (arith, length-take-le n c.next_turn.new.buf (omega (arith, c.in-Ok-next_turn.ensures.within.1, c.next_turn.ensures.length, v.piece)), c.in-Ok-next_turn.ensures.within.1, v.piece) in
-    let near = turn_near contents stream taken piece t.line t.sent c.loop-turn.lister rest old (o.state c.loop-turn.out).written now sel t.close few t.lists c.put_turn.ensures.longer in
-    list_ends stream (record before { inputs = i.state c.args.inputs.now; out = o.state c.args.out.now }) (record after { inputs = i.state c.next_turn.new.inputs; out = o.state c.put_turn.new.out }) (Err r) (end c.in-Err-put_turn.ensures.why) (stays_near r stream (record before { inputs = i.state c.args.inputs.now; out = o.state c.args.out.now }) (record after { inputs = i.state c.next_turn.new.inputs; out = o.state c.put_turn.new.out }) (unwritten_near contents stream rest old now _ given r near (why_weaker c.in-Err-put_turn.ensures.why)))
+    let told = stream_whole taken t.line t.sent (t.goes []) in
+    let near = turn_near contents stream taken piece t.line t.sent c.loop-turn.lister rest old (o.state c.loop-turn.out).written now sel t.close few told t.lists c.put_turn.ensures.longer in
+    let gives = turn_given contents stream taken t.line t.sent given c.loop-turn.lister (i.state c.loop-turn.inputs).rest old (o.state c.loop-turn.out).written now v.told.1.0 (omega (arith, v.told.1.3.given, c.next_turn.ensures.turn, v.piece)) told t.lists c.put_turn.ensures.longer in
+    list_ends stream (record before { inputs = i.state c.args.inputs.now; out = o.state c.args.out.now }) (record after { inputs = i.state c.next_turn.new.inputs; out = o.state c.put_turn.new.out }) (Err r) (end c.in-Err-put_turn.ensures.why) (stays_near r stream (record before { inputs = i.state c.args.inputs.now; out = o.state c.args.out.now }) (record after { inputs = i.state c.next_turn.new.inputs; out = o.state c.put_turn.new.out }) (unwritten_near contents stream rest old now _ given r gives near (why_weaker c.in-Err-put_turn.ensures.why)))
 
 pub returns-then-turn-clause-ends : goal.returns-then-turn-clause-ends
 returns-then-turn-clause-ends g c = λ before after.
@@ -225,8 +236,10 @@ returns-then-turn-clause-ends g c = λ before after.
     c.put_end.ensures.err c.put_end.ensures.why in
     let few : length piece ≤ 65536 = omega (arith, length-take-le n c.next_turn.new.buf (omega (arith, c.in-Ok-next_turn.ensures.within.1, c.next_turn.ensures.length, v.piece)), c.in-Ok-next_turn.ensures.within.1, v.piece) in
     let longer = longer_twice (o.state c.loop-turn.out).written (o.state c.put_turn.new.out).written now c.put_turn.ensures.longer c.put_end.ensures.longer in
-    let near = turn_near contents stream taken piece t.line t.sent c.loop-turn.lister (i.state c.next_turn.new.inputs).rest old (o.state c.loop-turn.out).written now sel t.close few t.lists longer in
-    let close = err_weaker c.put_end.result (λ r w. stays_near (event_of r) stream (record before { inputs = i.state c.args.inputs.now; out = o.state c.args.out.now }) (record after { inputs = i.state c.next_turn.new.inputs; out = o.state c.put_end.new.out }) (unwritten_near contents stream (i.state c.next_turn.new.inputs).rest old now _ given (event_of r) near (why_weaker w))) c.put_end.ensures.why in
+    let whole = stream_whole taken t.line t.sent (t.goes []) in
+    let near = turn_near contents stream taken piece t.line t.sent c.loop-turn.lister (i.state c.next_turn.new.inputs).rest old (o.state c.loop-turn.out).written now sel t.close few whole t.lists longer in
+    let gives = turn_given contents stream taken t.line t.sent given c.loop-turn.lister (i.state c.loop-turn.inputs).rest old (o.state c.loop-turn.out).written now v.told.1.0 (omega (arith, v.told.1.3.given, c.next_turn.ensures.turn, v.piece)) whole t.lists longer in
+    let close = err_weaker c.put_end.result (λ r w. stays_near (event_of r) stream (record before { inputs = i.state c.args.inputs.now; out = o.state c.args.out.now }) (record after { inputs = i.state c.next_turn.new.inputs; out = o.state c.put_end.new.out }) (unwritten_near contents stream (i.state c.next_turn.new.inputs).rest old now _ given (event_of r) gives near (why_weaker w))) c.put_end.ensures.why in
     list_seen stream (record before { inputs = i.state c.args.inputs.now; out = o.state c.args.out.now }) (record after { inputs = i.state c.next_turn.new.inputs; out = o.state c.put_end.new.out }) c.put_end.result ok err close
 
 pub loop-turn-preserved : goal.loop-turn-preserved
@@ -249,8 +262,30 @@ loop-turn-preserved g c =
     record {
       selected = c.in-Ok-next_turn.ensures.ok.selected;
       inputs = stays_on _ _ _ v.inputs c.next_turn.ensures.inputs;
+      selects = omega (arith, v.selects, c.in-Ok-next_turn.ensures.ok.selects);
       written = omega (arith, v.written, c.put_turn.ensures.counts.faults);
       left = omega (arith, v.left);
       piece = omega (arith, c.next_turn.ensures.length, v.piece);
       told = (taken ++ piece, (sel, record { line = t.line; sent = t.sent ++ piece; lists = lists; goes = goes; close = omega (arith, t.close, length-append taken piece, length-append t.sent piece) }, omega (arith, size, v.told.1.2, c.in-Ok-next_turn.ensures.within.0), at_on stream taken piece (i.state c.loop-turn.inputs) (i.state c.next_turn.new.inputs) v.told.1.3 c.in-Ok-next_turn.ensures.ok c.next_turn.ensures.asked));
     }
+
+pub returns-in-Err-clause-stops : goal.returns-in-Err-clause-stops
+returns-in-Err-clause-stops g c = first_stops (Listing c.args.stream.now) (limited stream_limit c.args.stream.now) [] (g.I.Inputs.state c.args.inputs.now) (g.I.Inputs.state c.open.new.inputs) (event_of c.in-Err.refusal) refl (stands_opened c.args.stream.now stream_limit (g.I.Inputs.state c.open.new.inputs) c.open.ensures.asks) c.open.ensures.once (unopened_about (g.I.Inputs.state c.args.inputs.now) (g.I.Inputs.state c.open.new.inputs) c.args.stream.now (event_of c.in-Err.refusal) c.in-Err.ensures.err)
+
+pub returns-in-Err-read_beginning-clause-stops : goal.returns-in-Err-read_beginning-clause-stops
+returns-in-Err-read_beginning-clause-stops g c = first_stops (Listing c.args.stream.now) (limited stream_limit c.args.stream.now) [] (g.I.Inputs.state c.args.inputs.now) (g.I.Inputs.state c.read_beginning.new.inputs) (event_of c.in-Err-read_beginning.refusal) refl (stands_read c.args.stream.now stream_limit (g.I.Inputs.state c.open.new.inputs) (g.I.Inputs.state c.read_beginning.new.inputs) c.open.ensures.asks c.read_beginning.ensures.few) (omega (arith, c.open.ensures.once, c.read_beginning.ensures.few.selects)) (unfronted_about (g.I.Inputs.state c.open.new.inputs) (g.I.Inputs.state c.read_beginning.new.inputs) c.args.stream.now (event_of c.in-Err-read_beginning.refusal) c.in-Err-read_beginning.ensures.err)
+
+pub returns-in-Err-put_beginning-clause-stops : goal.returns-in-Err-put_beginning-clause-stops
+returns-in-Err-put_beginning-clause-stops g c = front_stops (Listing c.args.stream.now) (g.I.Inputs.state c.args.inputs.now) (g.I.Inputs.state c.read_beginning.new.inputs) (event_of c.in-Err-put_beginning.refusal) c.in-Err-put_beginning.ensures.why
+
+pub returns-then-front-clause-stops : goal.returns-then-front-clause-stops
+returns-then-front-clause-stops g c = written_stops _ _ (Listing c.args.stream.now) (g.I.Inputs.state c.args.inputs.now) (g.I.Inputs.state c.read_beginning.new.inputs) c.put_short.result c.put_short.ensures.why
+
+pub returns-in-Err-next_turn-clause-stops : goal.returns-in-Err-next_turn-clause-stops
+returns-in-Err-next_turn-clause-stops g c = let v = c.loop-turn.invariant in first_stops (Listing c.args.stream.now) (limited stream_limit c.args.stream.now) [] (g.I.Inputs.state c.args.inputs.now) (g.I.Inputs.state c.next_turn.new.inputs) (event_of c.in-Err-next_turn.refusal) refl (stands_turn c.args.stream.now v.told.0 stream_limit c.loop-turn.left (g.I.Inputs.state c.loop-turn.inputs) (g.I.Inputs.state c.next_turn.new.inputs) v.told.1.3 v.told.1.2 c.next_turn.ensures.few) (omega (arith, v.selects, c.next_turn.ensures.few.selects)) (unread_about c.args.stream.now (event_of c.in-Err-next_turn.refusal) (turn_unread (g.I.Inputs.state c.loop-turn.inputs) (g.I.Inputs.state c.next_turn.new.inputs) c.args.stream.now c.loop-turn.left (event_of c.in-Err-next_turn.refusal) c.in-Err-next_turn.ensures.err))
+
+pub returns-in-Err-put_turn-clause-stops : goal.returns-in-Err-put_turn-clause-stops
+returns-in-Err-put_turn-clause-stops g c = put_stops (Listing c.args.stream.now) (g.I.Inputs.state c.args.inputs.now) (g.I.Inputs.state c.next_turn.new.inputs) (event_of c.in-Err-put_turn.refusal) c.in-Err-put_turn.ensures.why
+
+pub returns-then-turn-clause-stops : goal.returns-then-turn-clause-stops
+returns-then-turn-clause-stops g c = written_stops _ _ (Listing c.args.stream.now) (g.I.Inputs.state c.args.inputs.now) (g.I.Inputs.state c.next_turn.new.inputs) c.put_end.result c.put_end.ensures.why

@@ -1,9 +1,14 @@
-use Rattle.std.proofs.Common.{refl}
+use Rattle.std.proofs.Common.{refl, ◌∷◌, []}
 use Rattle.x7_forms.specs.Message.{event_of}
 use Rattle.x7_forms.specs.Step.{seen}
-use Rattle.x7_tool.specs.Outcome.{PlannedFull}
+use Rattle.x7_tool.specs.Outcome.{PlannedFull, text_limit}
 use Rattle.x7_tool.specs.FullText.{full_of}
 use Rattle.x7_tool.proofs.PlanLemmas.{full_ended, part_refused, plan_addressed, plan_refused, planned_end}
+use Rattle.x7_forms.specs.Form.{PlanningFull}
+use Rattle.x7_forms.specs.Known.{part_limit}
+use Rattle.x7_tool.proofs.StopLemmas.{want_only, among_stops, first_stops}
+use Rattle.x7_forms.proofs.StandLemmas.{no_part_about, stops_behind}
+use Rattle.x7_forms.specs.Stop.{limited}
 use Rattle.x7_tool.proofs.plan.plan_full.Goals as goal
 
 pub returns-in-Err-clause-due : goal.returns-in-Err-clause-due
@@ -26,3 +31,14 @@ returns-clause-due g c =
 
 pub new-requires-clause-addresses : goal.new-requires-clause-addresses
 new-requires-clause-addresses g c = let t = c.in-Ok-read_plan.ensures.due in plan_addressed c.in-Ok.known t.0 c.in-Ok-read_plan.plan t.2
+
+pub returns-in-Err-clause-stops : goal.returns-in-Err-clause-stops
+returns-in-Err-clause-stops g c = first_stops (PlanningFull c.args.part.now c.args.frames.now) (limited part_limit c.args.part.now) (limited text_limit c.args.frames.now ∷ []) (g.I.Inputs.state c.args.inputs.now) (g.I.Inputs.state c.read_part.new.inputs) (event_of c.in-Err.refusal) refl c.read_part.ensures.stands c.read_part.ensures.once (no_part_about c.args.part.now (event_of c.in-Err.refusal) c.in-Err.ensures.named)
+
+pub returns-in-Err-read_plan-clause-stops : goal.returns-in-Err-read_plan-clause-stops
+returns-in-Err-read_plan-clause-stops g c =
+    among_stops (PlanningFull c.args.part.now c.args.frames.now) (g.I.Inputs.state c.args.inputs.now) (g.I.Inputs.state c.read_plan.new.inputs) (event_of c.in-Err-read_plan.refusal)
+    (stops_behind (limited part_limit c.args.part.now) (limited text_limit c.args.frames.now ∷ []) (g.I.Inputs.state c.args.inputs.now) (g.I.Inputs.state c.read_part.new.inputs) (g.I.Inputs.state c.read_plan.new.inputs) (event_of c.in-Err-read_plan.refusal) c.read_part.ensures.once c.in-Err-read_plan.ensures.stops)
+
+pub returns-clause-stops : goal.returns-clause-stops
+returns-clause-stops g c = want_only full_of (PlanningFull c.args.part.now c.args.frames.now) (g.I.Inputs.state c.args.inputs.now) (g.I.Inputs.state c.read_plan.new.inputs) c.new.result c.new.ensures.err

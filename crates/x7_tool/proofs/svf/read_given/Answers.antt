@@ -1,9 +1,12 @@
-use Rattle.std.proofs.Common.{ℕ, List, [], ◌∷◌, Ok, Err, inr}
+use Rattle.std.proofs.Common.{ℕ, List, [], ◌∷◌, Ok, Err, inr, refl}
 use Rattle.x7_part.specs.Part.{PartData}
 use Rattle.x7_forms.specs.Message.{event_of}
-use Rattle.x7_forms.specs.Known.{and_so, part_of, whole_in}
+use Rattle.x7_forms.specs.Known.{and_so, part_of, whole_in, part_limit}
 use Rattle.x7_forms.proofs.ReadLemmas.{answers_go, answers_stop, first_of, part_steady}
 use Rattle.x7_tool.specs.Outcome.{PlanTexts, text_limit}
+use Rattle.x7_forms.proofs.StandLemmas.{about_among, no_part_about, unread_about}
+use Rattle.x7_tool.proofs.StopLemmas.{both_asked}
+use Rattle.x7_forms.specs.Stop.{limited}
 use Rattle.x7_tool.proofs.svf.read_given.Goals as goal
 
 pub returns-in-Err-read_whole-clause-given : goal.returns-in-Err-read_whole-clause-given
@@ -23,3 +26,9 @@ returns-in-Err-clause-given g c =
     let text = c.args.text.now in
     answers_stop PartData PlanTexts (part ∷ []) (part ∷ text ∷ []) (i.state c.args.inputs.now) (i.state c.read_part.new.inputs) (λ t. part_of t part) (λ t p. and_so (whole_in t text_limit text) (λ bytes. Ok (record { part = p; text = bytes })))
     (event_of c.in-Err.refusal) (first_of part (text ∷ [])) c.in-Err.ensures.due
+
+pub returns-in-Err-clause-stops : goal.returns-in-Err-clause-stops
+returns-in-Err-clause-stops g c = about_among (limited part_limit c.args.part.now ∷ limited text_limit c.args.text.now ∷ []) [] (limited part_limit c.args.part.now) (limited text_limit c.args.text.now ∷ []) (g.I.Inputs.state c.args.inputs.now) (g.I.Inputs.state c.read_part.new.inputs) (event_of c.in-Err.refusal) refl c.read_part.ensures.stands c.read_part.ensures.once (no_part_about c.args.part.now (event_of c.in-Err.refusal) c.in-Err.ensures.named)
+
+pub returns-in-Err-read_whole-clause-stops : goal.returns-in-Err-read_whole-clause-stops
+returns-in-Err-read_whole-clause-stops g c = about_among (limited part_limit c.args.part.now ∷ limited text_limit c.args.text.now ∷ []) (limited part_limit c.args.part.now ∷ []) (limited text_limit c.args.text.now) [] (g.I.Inputs.state c.args.inputs.now) (g.I.Inputs.state c.read_whole.new.inputs) (event_of c.in-Err-read_whole.refusal) refl c.read_whole.ensures.stands (both_asked (g.I.Inputs.state c.args.inputs.now) (g.I.Inputs.state c.read_part.new.inputs) (g.I.Inputs.state c.read_whole.new.inputs) c.read_part.ensures.once c.read_whole.ensures.once) (unread_about c.args.text.now (event_of c.in-Err-read_whole.refusal) c.in-Err-read_whole.ensures.named)

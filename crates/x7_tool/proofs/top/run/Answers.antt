@@ -14,7 +14,7 @@ returns-clause-ran g c =
     let form = form_in c.args.words.now.items in
     runs form (outside (i.state c.args.inputs.now) (f.state c.args.flash.now) (o.state c.args.out.now) (e.state c.args.err.now))
     (outside (i.state c.carry_out.new.inputs) (f.state c.carry_out.new.flash) (o.state c.carry_out.new.out) (e.state c.carry_out.new.err))
-    c.carry_out.result r.0 r.1 r.2 r.3 c.carry_out.ensures.inputs c.carry_out.ensures.flash.keeps
+    c.carry_out.result r.0 r.1 r.2 r.3 r.4 r.5 c.carry_out.ensures.asks c.carry_out.ensures.inputs c.carry_out.ensures.flash.keeps
 
 pub returns-clause-found : goal.returns-clause-found
 returns-clause-found g c =
@@ -22,10 +22,10 @@ returns-clause-found g c =
     found_since_run _ (g.I.Inputs.state c.args.inputs.now) (f.state c.args.flash.now) (f.state c.carry_out.new.flash) _ _ (λ found had. g.met.F.Flash.only_now c.args.flash.now found had) c.carry_out.ensures.flash
 
 pub returns-clause-boots : goal.returns-clause-boots
-returns-clause-boots g c = λ found had u b w fits boot.
+returns-clause-boots g c = λ found had u b w boot.
     let f = g.F.Flash in
     let form = form_in c.args.words.now.items in
     let inputs = g.I.Inputs.state c.args.inputs.now in
     let first = f.state c.args.flash.now in
     let left = found_since_run form inputs first (f.state c.carry_out.new.flash) _ _ (λ found had. g.met.F.Flash.only_now c.args.flash.now found had) c.carry_out.ensures.flash found had in
-    found_run_boots form inputs first u found b w left fits boot
+    found_run_boots form inputs first u found b w left boot

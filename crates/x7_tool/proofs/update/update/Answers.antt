@@ -1,4 +1,4 @@
-use Rattle.std.proofs.Common.{◌≤◌, ◌-◌, ℕ, Bool, List, [], ◌∷◌, drop, length, take, Option, Some, Err, inl, refl, subst, sym, ◌∙◌}
+use Rattle.std.proofs.Common.{◌≤◌, ◌-◌, ℕ, Bool, List, [], ◌∷◌, drop, length, take, Option, None, Some, Err, inl, refl, subst, sym, ◌∙◌}
 use Rattle.std.specs.Prelude.{IsTrue}
 use Rattle.x7_words.specs.Flash.{IfKnown}
 use Rattle.x7_boot.specs.Image.{flash_limit}
@@ -7,13 +7,16 @@ use Rattle.x7_update.specs.Layout.{HasLayout}
 use Rattle.x7_update.specs.Writing.{BecomesBytes}
 use Rattle.x7_forms.specs.Event.{Event}
 use Rattle.x7_forms.specs.Form.{UpdatingFlash}
-use Rattle.x7_forms.specs.Known.{with_inputs}
+use Rattle.x7_forms.specs.Known.{with_inputs, stream_limit}
 use Rattle.x7_forms.specs.Message.{event_of}
 use Rattle.x7_forms.specs.Step.{CameIn, step_over}
-use Rattle.x7_tool.specs.Outside.{Outside}
+use Rattle.x7_tool.specs.Outside.{Outside, sources}
 use Rattle.x7_tool.specs.Run.{EndsAs}
 use Rattle.x7_tool.specs.Streamed.{data_from}
-use Rattle.x7_tool.proofs.UpdateLemmas.{cause_from, data_given, done_ends, fault_ends, keeps_all, refused_ends, rest_of, unopened_measured, unopened_over, unplayed_measured, unread_over, uses_updated}
+use Rattle.x7_tool.proofs.UpdateLemmas.{cause_from, data_given, done_ends, fault_ends, keeps_all, refused_ends, rest_of, unopened_last, unopened_measured, unopened_over, unplayed_last, unplayed_measured, unread_over, uses_updated}
+use Rattle.x7_tool.proofs.StopLemmas.{stream_judges, unopened_judges, updated_judges, unopened_stops, updated_stops, first_stops}
+use Rattle.x7_forms.specs.Stop.{limited}
+use Rattle.x7_forms.proofs.StandLemmas.{unplayed_about}
 use Rattle.x7_tool.proofs.update.update.Goals as goal
 
 pub returns-in-Err-clause-ends : goal.returns-in-Err-clause-ends
@@ -23,7 +26,7 @@ returns-in-Err-clause-ends g c = λ before after out.
     let old : Outside = record before { inputs = g.I.Inputs.state c.args.inputs.now; flash = first } in
     let new : Outside = record after { inputs = g.I.Inputs.state c.args.inputs.now; flash = mid } in
     let event = event_of c.in-Err.refusal in
-    refused_ends c.args.name.now c.args.stream.now old new event out (unopened_measured (Some (UpdatingFlash c.args.name.now c.args.stream.now)) c.args.name.now first mid event c.in-Err.ensures.err) (unopened_over c.args.name.now c.args.stream.now old new event c.in-Err.ensures.err) (keeps_all event.reason first mid c.open_flash.ensures.stays.bytes)
+    refused_ends c.args.name.now c.args.stream.now old new event out (unopened_measured (Some (UpdatingFlash c.args.name.now c.args.stream.now)) c.args.name.now first mid event c.in-Err.ensures.err) (unopened_last (UpdatingFlash c.args.name.now c.args.stream.now) c.args.name.now old.inputs first mid event c.in-Err.ensures.err) (unopened_over c.args.name.now c.args.stream.now old new event c.in-Err.ensures.err) (keeps_all event.reason first mid c.open_flash.ensures.stays.bytes)
 
 pub returns-in-Err-read_stream-clause-ends : goal.returns-in-Err-read_stream-clause-ends
 returns-in-Err-read_stream-clause-ends g c = λ before after out.
@@ -36,6 +39,7 @@ returns-in-Err-read_stream-clause-ends g c = λ before after out.
     let within = subst (λ (o : Option (List ℕ)). IfKnown o (λ all. length all ≤ flash_limit)) same c.in-Ok.ensures.within in
     refused_ends c.args.name.now c.args.stream.now old new event out
     (unplayed_measured (Some (UpdatingFlash c.args.name.now c.args.stream.now)) mid c.args.stream.now event (inl refl) c.in-Err-read_stream.ensures.named)
+    (unplayed_last (UpdatingFlash c.args.name.now c.args.stream.now) old.inputs mid c.args.stream.now event (inl refl) c.in-Err-read_stream.ensures.named)
     (unread_over c.args.name.now c.args.stream.now old new event within (c.in-Err-read_stream.ensures.due first.bytes)) (keeps_all event.reason first mid same)
 
 pub returns-in-Ok-update-clause-ends : goal.returns-in-Ok-update-clause-ends
@@ -83,10 +87,12 @@ returns-clause-ends g c = λ before after out.
     let new : Outside = record after { inputs = i.state c.read_stream.new.inputs; flash = last } in
     let within = subst (λ (o : Option (List ℕ)). IfKnown o (λ all. length all ≤ flash_limit)) stays.bytes c.in-Ok.ensures.within in
     let has = data_given (with_inputs old.inputs.contents first.bytes) (CameIn (step_over (stream ∷ []) old.inputs new.inputs)) stream (data_from read) bytes (c.in-Ok-read_stream.ensures.due first.bytes) (rest_of c.deref.result.now read.bytes.items read.start c.deref.ensures.value) in
+    let reads = data_given (with_inputs old.inputs.contents None) (CameIn (step_over (stream ∷ []) old.inputs new.inputs)) stream (data_from read) bytes (c.in-Ok-read_stream.ensures.due None) (rest_of c.deref.result.now read.bytes.items read.start c.deref.ensures.value) in
+    let size = subst (λ (n : ℕ). n ≤ flash_limit) (sym c.update.ensures.only.extent) c.in-Ok.ensures.size in
     let asked = subst (λ (names : List ℕ → Bool). IsTrue (names name)) (sym c.update.ensures.only.names) c.open_flash.ensures.asks.asked in
     let cause = cause_from bytes first mid last c.in-Err-update.fault stays.bytes stays.unwritten.write_faults stays.faults c.in-Err-update.ensures.refused in
     subst (λ (e : Event). EndsAs (Some (UpdatingFlash name stream)) old new (Err e)) (sym c.refusal_of.ensures)
-    (fault_ends name stream bytes old new c.in-Err-update.fault out asked within has cause (λ early. let reads = c.in-Err-update.ensures.unchanged early in reads.bytes ∙ stays.bytes))
+    (fault_ends name stream bytes old new c.in-Err-update.fault out asked within has reads size cause (λ early. let only = c.in-Err-update.ensures.unchanged early in only.bytes ∙ stays.bytes))
 
 pub returns-clause-flash : goal.returns-clause-flash
 returns-clause-flash g c =
@@ -99,3 +105,32 @@ returns-clause-flash g c =
     let new = i.state c.read_stream.new.inputs in
     let has = data_given (with_inputs old.contents first.bytes) (CameIn (step_over (stream ∷ []) old new)) stream (data_from read) bytes (c.in-Ok-read_stream.ensures.due first.bytes) (rest_of c.deref.result.now read.bytes.items read.start c.deref.ensures.value) in
     uses_updated c.args.name.now stream bytes old first (g.F.Flash.state c.open_flash.new.flash) (g.F.Flash.state c.update.new.flash) _ _ _ c.open_flash.ensures.stays c.open_flash.ensures.asks has c.update.ensures.only c.update.ensures.any_moment
+
+pub returns-in-Err-clause-stops : goal.returns-in-Err-clause-stops
+returns-in-Err-clause-stops g c = unopened_stops c.args.name.now c.args.stream.now (g.I.Inputs.state c.args.inputs.now) (g.I.Inputs.state c.args.inputs.now) (g.F.Flash.state c.args.flash.now) (g.F.Flash.state c.open_flash.new.flash) (event_of c.in-Err.refusal) c.in-Err.ensures.err
+
+pub returns-in-Err-read_stream-clause-stops : goal.returns-in-Err-read_stream-clause-stops
+returns-in-Err-read_stream-clause-stops g c = first_stops (UpdatingFlash c.args.name.now c.args.stream.now) (limited stream_limit c.args.stream.now) [] (g.I.Inputs.state c.args.inputs.now) (g.I.Inputs.state c.read_stream.new.inputs) (event_of c.in-Err-read_stream.refusal) refl c.read_stream.ensures.stands c.read_stream.ensures.asks (unplayed_about c.args.stream.now (event_of c.in-Err-read_stream.refusal) c.in-Err-read_stream.ensures.named)
+
+pub returns-clause-stops : goal.returns-clause-stops
+returns-clause-stops g c = updated_stops c.args.name.now c.args.stream.now (g.I.Inputs.state c.args.inputs.now) (g.I.Inputs.state c.read_stream.new.inputs) c.in-Err-update.fault (event_of c.refusal_of.result) c.refusal_of.ensures c.read_stream.ensures.stands c.read_stream.ensures.asks
+
+pub returns-in-Err-clause-judges : goal.returns-in-Err-clause-judges
+returns-in-Err-clause-judges g c =
+    let i = g.I.Inputs in
+    let f = g.F.Flash in
+    unopened_judges c.args.name.now c.args.stream.now (sources (i.state c.args.inputs.now) (f.state c.args.flash.now)) (sources (i.state c.args.inputs.now) (f.state c.open_flash.new.flash)) (event_of c.in-Err.refusal) refl
+
+pub returns-in-Err-read_stream-clause-judges : goal.returns-in-Err-read_stream-clause-judges
+returns-in-Err-read_stream-clause-judges g c =
+    let i = g.I.Inputs in
+    let f = g.F.Flash in
+    stream_judges c.args.name.now c.args.stream.now (sources (i.state c.args.inputs.now) (f.state c.args.flash.now)) (sources (i.state c.read_stream.new.inputs) (f.state c.open_flash.new.flash)) (event_of c.in-Err-read_stream.refusal)
+    (unplayed_about c.args.stream.now (event_of c.in-Err-read_stream.refusal) c.in-Err-read_stream.ensures.named)
+
+pub returns-clause-judges : goal.returns-clause-judges
+returns-clause-judges g c =
+    let i = g.I.Inputs in
+    let f = g.F.Flash in
+    updated_judges c.args.name.now c.args.stream.now (sources (i.state c.args.inputs.now) (f.state c.args.flash.now)) (sources (i.state c.read_stream.new.inputs) (f.state c.update.new.flash)) c.in-Err-update.fault (event_of c.refusal_of.result)
+    c.refusal_of.ensures (c.update.ensures.only.attached ∙ c.in-Ok.ensures.attached)

@@ -1,11 +1,15 @@
-use Rattle.std.proofs.Common.{◌≡◌, ◌+◌, ◌≤◌, ℕ, List, Some, length, refl, sym, ◌∙◌, arith}
+use Rattle.std.proofs.Common.{◌≡◌, ◌+◌, ◌≤◌, ◌⊎◌, ⊎_elim, ℕ, List, Some, length, refl, subst, sym, ◌∙◌, arith}
 use Rattle.x7_words.specs.Flash.{IfKnown}
-use Rattle.x7_update.specs.After.{MayBeLeft, untouched}
-use Rattle.x7_update.specs.Layout.{HasLayout, IsFree}
+use Rattle.x7_words.specs.Word.{AreBytes}
+use Rattle.x7_update.specs.After.{IsBetween, MayBeLeft, untouched}
+use Rattle.x7_update.specs.Layout.{CanStandAt, HasLayout, IsClosed, IsFree, update_place}
+use Rattle.x7_update.specs.ReadBack.{OpensReadBack, ReadBack, WasReady}
 use Rattle.x7_update.specs.Slots.{Finds}
-use Rattle.x7_update.specs.Writing.{HasWanted, Opening, Replaced, Replacing}
-use Rattle.x7_update.proofs.CaseLemmas.{opening_left, replaced_free, replaced_wanted, replacing_left}
-use Rattle.x7_update.proofs.ToldLemmas.{becomes_leaves, becomes_then, moments_on, moments_weaker, on_ok, read_moments, told_at, told_map}
+use Rattle.x7_update.specs.Writing.{HasWanted, Opening, Replaced, Replacing, StaysBytes}
+use Rattle.x7_update.proofs.ByteLemmas.{bytes_on, moments_both}
+use Rattle.x7_update.proofs.CaseLemmas.{opening_left, replaced_between, replaced_free, replaced_wanted, replacing_left}
+use Rattle.x7_update.proofs.ReadyLemmas.{after_not_between, after_not_replacing, after_not_same}
+use Rattle.x7_update.proofs.ToldLemmas.{becomes_leaves, becomes_then, moments_none, moments_on, moments_weaker, on_ok, on_ok_map, only_read, read_moments, told_at, told_map}
 use Rattle.x7_update.proofs.steps.take_steps.Goals as goal
 
 pub returns-in-Err-clause-refused : goal.returns-in-Err-clause-refused
@@ -45,21 +49,128 @@ finish-requires-clause-free g c =
     replaced_free all slots finds stream now fits r)
     c.in-Ok-replace.ensures.replaced
 
+pub finish-requires-clause-closed : goal.finish-requires-clause-closed
+finish-requires-clause-closed g c =
+    let first = g.F.Flash.state c.args.flash.now in
+    let mid = g.F.Flash.state c.find_slots.new.flash in
+    let then = g.F.Flash.state c.replace.new.flash in
+    let slots = c.in-Ok-find_slots.slots in
+    let stream = c.args.stream.now in
+    let known : (all : List ℕ) → mid.bytes ≡ Some all → Finds (length all) all slots =
+    λ all e. told_at first.bytes (λ all. Finds (length all) all slots) c.in-Ok-find_slots.ensures.finds all (sym c.find_slots.ensures.only.bytes ∙ e) in
+    becomes_then mid then (Replaced slots.update stream) IsClosed
+    (λ all now e r.
+    let long : mid.extent ≡ length all = told_at mid.bytes (λ all. mid.extent ≡ length all) (g.met.F.Flash.counted c.find_slots.new.flash) all e in
+    let fits : slots.update + length stream ≤ length all = omega (arith, long, c.find_slots.ensures.only.extent, c.size.ensures.extent, c.in-Ok-find_slots.ensures.fits.place.most, c.if-stream-size.false) in
+    (replaced_between all slots (known all e) stream now fits r).closed)
+    c.in-Ok-replace.ensures.replaced
+
+pub returns-in-Err-replace-clause-any_moment : goal.returns-in-Err-replace-clause-any_moment
+returns-in-Err-replace-clause-any_moment g c =
+    let first = g.F.Flash.state c.args.flash.now in
+    let mid = g.F.Flash.state c.find_slots.new.flash in
+    let then = g.F.Flash.state c.replace.new.flash in
+    let slots = c.in-Ok-find_slots.slots in
+    let stream = c.args.stream.now in
+    let known : (all : List ℕ) → mid.bytes ≡ Some all → Finds (length all) all slots =
+    λ all e. told_at first.bytes (λ all. Finds (length all) all slots) c.in-Ok-find_slots.ensures.finds all (sym c.find_slots.ensures.only.bytes ∙ e) in
+    let Left : List ℕ → List ℕ → Type 0 = λ all found. AreBytes found → MayBeLeft stream all found in
+    moments_weaker first then _ _ (λ all found. Left all found × StaysBytes all found) (MayBeLeft stream)
+    (λ all found e both. both.0 (both.1 (told_at first.bytes AreBytes c.find_slots.ensures.bytes all e)))
+    (moments_both first then _ _ Left StaysBytes
+    (read_moments first mid then _ _ _ Left (λ all e f. untouched refl) c.find_slots.ensures.only.bytes c.find_slots.ensures.only.unwritten
+    (moments_weaker mid then _ _ Replacing Left (λ all found e h. replacing_left all slots (known all e) stream found h) c.replace.ensures.any_moment))
+    (read_moments first mid then _ _ _ StaysBytes (λ all e h. h) c.find_slots.ensures.only.bytes c.find_slots.ensures.only.unwritten c.replace.ensures.bytes))
+
 pub returns-clause-any_moment : goal.returns-clause-any_moment
 returns-clause-any_moment g c =
     let first = g.F.Flash.state c.args.flash.now in
     let mid = g.F.Flash.state c.find_slots.new.flash in
     let then = g.F.Flash.state c.replace.new.flash in
-    let last = g.F.Flash.state c.finish.new.flash in
     let slots = c.in-Ok-find_slots.slots in
     let stream = c.args.stream.now in
     let known : (all : List ℕ) → mid.bytes ≡ Some all → Finds (length all) all slots =
     λ all e. told_at first.bytes (λ all. Finds (length all) all slots) c.in-Ok-find_slots.ensures.finds all (sym c.find_slots.ensures.only.bytes ∙ e) in
-    read_moments first mid last _ _ _ (MayBeLeft stream) (λ all e. untouched refl) c.find_slots.ensures.only.bytes c.find_slots.ensures.only.unwritten
-    (moments_on mid then last _ _ _ (Replaced slots.update stream) (Opening slots.next) (MayBeLeft stream)
+    let last = g.F.Flash.state c.finish.new.flash in
+    let Left : List ℕ → List ℕ → Type 0 = λ all found. AreBytes found → MayBeLeft stream all found in
+    moments_weaker first last _ _ (λ all found. Left all found × StaysBytes all found) (MayBeLeft stream)
+    (λ all found e both. both.0 (both.1 (told_at first.bytes AreBytes c.find_slots.ensures.bytes all e)))
+    (moments_both first last _ _ Left StaysBytes
+    (read_moments first mid last _ _ _ Left (λ all e f. untouched refl) c.find_slots.ensures.only.bytes c.find_slots.ensures.only.unwritten
+    (moments_on mid then last _ _ _ (Replaced slots.update stream) (Opening slots.next) Left
     (λ all now found e r opening.
     let long : mid.extent ≡ length all = told_at mid.bytes (λ all. mid.extent ≡ length all) (g.met.F.Flash.counted c.find_slots.new.flash) all e in
     let fits : slots.update + length stream ≤ length all = omega (arith, long, c.find_slots.ensures.only.extent, c.size.ensures.extent, c.in-Ok-find_slots.ensures.fits.place.most, c.if-stream-size.false) in
     opening_left all slots (known all e) stream now fits r found opening)
-    (moments_weaker mid then _ _ Replacing (MayBeLeft stream) (λ all found e h. replacing_left all slots (known all e) stream found h) c.replace.ensures.any_moment)
-    (becomes_leaves mid then (Replaced slots.update stream) c.in-Ok-replace.ensures.replaced) c.finish.ensures.any_moment)
+    (moments_weaker mid then _ _ Replacing Left (λ all found e h. replacing_left all slots (known all e) stream found h) c.replace.ensures.any_moment)
+    (becomes_leaves mid then (Replaced slots.update stream) c.in-Ok-replace.ensures.replaced) c.finish.ensures.any_moment))
+    (read_moments first mid last _ _ _ StaysBytes (λ all e h. h) c.find_slots.ensures.only.bytes c.find_slots.ensures.only.unwritten (bytes_on mid then last _ _ _ c.replace.ensures.bytes c.finish.ensures.bytes)))
+
+-- ---- read back
+
+pub returns-clause-read_back : goal.returns-clause-read_back
+returns-clause-read_back g c =
+    let first = g.F.Flash.state c.args.flash.now in
+    let last = g.F.Flash.state c.finish.new.flash in
+    let slots = c.in-Ok-find_slots.slots in
+    let stream = c.args.stream.now in
+    let size : last.extent ≡ first.extent = c.finish.ensures.only.extent ∙ c.replace.ensures.only.extent ∙ c.find_slots.ensures.only.extent in
+    on_ok_map (WasReady g.F.Flash.state slots.update stream last) (ReadBack g.F.Flash.state stream first last) c.finish.result c.finish.ensures.ready
+    (λ was. record {
+      update = slots.update;
+      stands = subst (λ n. CanStandAt n slots.update) (sym size) c.in-Ok-find_slots.ensures.fits.place;
+      place = told_map first.bytes (λ all. Finds (length all) all slots) (λ all. slots.update ≡ update_place all) (λ all e finds. finds.update) c.in-Ok-find_slots.ensures.finds;
+      ready = was;
+    })
+
+pub returns-in_default-clause-opens : goal.returns-in_default-clause-opens
+returns-in_default-clause-opens g c =
+    let first = g.F.Flash.state c.args.flash.now in
+    let stream = c.args.stream.now in
+    moments_none first _ (OpensReadBack g.F.Flash.state stream first first) (λ all e l a. absurd (after_not_same stream all all l a refl))
+
+pub returns-in-Err-clause-opens : goal.returns-in-Err-clause-opens
+returns-in-Err-clause-opens g c =
+    let first = g.F.Flash.state c.args.flash.now in
+    let mid = g.F.Flash.state c.find_slots.new.flash in
+    let stream = c.args.stream.now in
+    only_read first mid _ _ (OpensReadBack g.F.Flash.state stream first mid) (λ all e l a. absurd (after_not_same stream all all l a refl)) c.find_slots.ensures.only.bytes c.find_slots.ensures.only.unwritten
+
+pub returns-in-Err-replace-clause-opens : goal.returns-in-Err-replace-clause-opens
+returns-in-Err-replace-clause-opens g c =
+    let first = g.F.Flash.state c.args.flash.now in
+    let mid = g.F.Flash.state c.find_slots.new.flash in
+    let then = g.F.Flash.state c.replace.new.flash in
+    let stream = c.args.stream.now in
+    let Opens : List ℕ → List ℕ → Type 0 = OpensReadBack g.F.Flash.state stream first then in
+    read_moments first mid then _ _ _ Opens (λ all e l a. absurd (after_not_same stream all all l a refl)) c.find_slots.ensures.only.bytes c.find_slots.ensures.only.unwritten
+    (moments_weaker mid then _ _ Replacing Opens (λ all found e h l a. absurd (after_not_replacing stream all found l a h)) c.replace.ensures.any_moment)
+
+pub returns-clause-opens : goal.returns-clause-opens
+returns-clause-opens g c =
+    let first = g.F.Flash.state c.args.flash.now in
+    let mid = g.F.Flash.state c.find_slots.new.flash in
+    let then = g.F.Flash.state c.replace.new.flash in
+    let slots = c.in-Ok-find_slots.slots in
+    let stream = c.args.stream.now in
+    let known : (all : List ℕ) → mid.bytes ≡ Some all → Finds (length all) all slots =
+    λ all e. told_at first.bytes (λ all. Finds (length all) all slots) c.in-Ok-find_slots.ensures.finds all (sym c.find_slots.ensures.only.bytes ∙ e) in
+    let last = g.F.Flash.state c.finish.new.flash in
+    let Opens : List ℕ → List ℕ → Type 0 = OpensReadBack g.F.Flash.state stream first last in
+    let Was : Type 0 = WasReady g.F.Flash.state slots.update stream last in
+    let size : last.extent ≡ first.extent = c.finish.ensures.only.extent ∙ c.replace.ensures.only.extent ∙ c.find_slots.ensures.only.extent in
+    let back : Was → ReadBack g.F.Flash.state stream first last =
+    λ was. record {
+      update = slots.update;
+      stands = subst (λ n. CanStandAt n slots.update) (sym size) c.in-Ok-find_slots.ensures.fits.place;
+      place = told_map first.bytes (λ all. Finds (length all) all slots) (λ all. slots.update ≡ update_place all) (λ all e finds. finds.update) c.in-Ok-find_slots.ensures.finds;
+      ready = was;
+    } in
+    read_moments first mid last _ _ _ Opens (λ all e l a. absurd (after_not_same stream all all l a refl)) c.find_slots.ensures.only.bytes c.find_slots.ensures.only.unwritten
+    (moments_on mid then last _ _ _ (Replaced slots.update stream) (λ all found. (found ≡ all) ⊎ Was) Opens
+    (λ all now found e r o l a.
+    let long : mid.extent ≡ length all = told_at mid.bytes (λ all. mid.extent ≡ length all) (g.met.F.Flash.counted c.find_slots.new.flash) all e in
+    let fits : slots.update + length stream ≤ length all = omega (arith, long, c.find_slots.ensures.only.extent, c.size.ensures.extent, c.in-Ok-find_slots.ensures.fits.place.most, c.if-stream-size.false) in
+    ⊎_elim (λ same. absurd (after_not_between stream all found l a (subst (IsBetween all) (sym same) (replaced_between all slots (known all e) stream now fits r)))) back o)
+    (moments_weaker mid then _ _ Replacing Opens (λ all found e h l a. absurd (after_not_replacing stream all found l a h)) c.replace.ensures.any_moment)
+    (becomes_leaves mid then (Replaced slots.update stream) c.in-Ok-replace.ensures.replaced) c.finish.ensures.opens)

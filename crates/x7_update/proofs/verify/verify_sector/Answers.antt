@@ -1,6 +1,7 @@
-use Rattle.std.proofs.Common.{◌≡◌, ◌+◌, ◌-◌, ◌*◌, ℕ, length, IfErr, arith, subst}
+use Rattle.std.proofs.Common.{◌≡◌, ◌+◌, ◌-◌, ◌*◌, ℕ, length, IfErr, arith, subst, ◌∙◌}
 use Rattle.x7_update.specs.Writing.{IsWrong}
 use Rattle.x7_update.proofs.BackLemmas.{stream_fails}
+use Rattle.x7_update.proofs.ReadyLemmas.{sees_wanted}
 use Rattle.x7_update.proofs.verify.verify_sector.Goals as goal
 
 pub returns-clause-fault : goal.returns-clause-fault
@@ -11,6 +12,14 @@ returns-clause-fault g c =
     let place = c.args.sector * 65536 in
     let q = c.requires in
     let at : update + (place - update) ≡ place = omega (arith, q.behind) in
-    stream_fails update c.args.stream.now place (length c.args.buffer.now) c.read_at.new.buf old new c.compare.result c.in-Ok.ensures.length c.in-Ok.ensures.only.extent q.size q.place q.fits q.behind
+    stream_fails update c.args.stream.now place (length c.args.buffer.now) c.read_at.new.buf old new c.compare.result c.in-Ok.ensures.length c.in-Ok.ensures.seen c.in-Ok.ensures.only.extent q.size q.place q.fits q.behind
     (omega (arith, q.within, q.buffer)) (g.met.F.Flash.counted c.args.flash.now) q.written c.in-Ok.ensures.read
-    (subst (λ (p : ℕ). IfErr c.compare.result (IsWrong update c.args.stream.now p c.read_at.new.buf)) at c.compare.ensures)
+    (subst (λ (p : ℕ). IfErr c.compare.result (IsWrong update c.args.stream.now p c.read_at.new.buf)) at c.compare.ensures.wrong)
+
+pub returns-clause-seen : goal.returns-clause-seen
+returns-clause-seen g c =
+    let new = g.F.Flash.state c.read_at.new.self in
+    let update = c.args.update in
+    let place = c.args.sector * 65536 in
+    let at : update + (place - update) ≡ place = omega (arith, c.requires.behind) in
+    sees_wanted update c.args.stream.now place 65536 (update + (place - update)) c.read_at.new.buf new c.compare.result (c.in-Ok.ensures.length ∙ c.requires.buffer) at c.in-Ok.ensures.seen c.compare.ensures.same

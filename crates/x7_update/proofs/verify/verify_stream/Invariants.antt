@@ -1,5 +1,6 @@
-use Rattle.std.proofs.Common.{◌≡◌, length}
+use Rattle.std.proofs.Common.{◌≡◌, ◌*◌, length}
 use Rattle.x7_words.specs.Flash.{OnlyReads}
+use Rattle.x7_update.specs.Writing.{SeesWanted}
 use Rattle.x7_update.proofs.verify.verify_stream.Given as goal
 
 abbrev pub invariant-loop-sector : goal.invariant-loop-sector
@@ -8,4 +9,5 @@ invariant-loop-sector g l =
     record {
       only : OnlyReads (f.state l.fn.flash) (f.state l.flash) (f.found_since l.fn.flash) (f.found_since l.flash);
       buffer : length l.buffer ≡ 65536;
+      seen : SeesWanted l.update l.stream l.update (l.sector * 65536) (f.state l.flash);
     }

@@ -10,5 +10,5 @@ returns-clause-fault g c = λ stream.
     let new = g.F.Flash.state c.read_at.new.self in
     let slot = c.args.slot in
     let at : 32 * slot + 0 ≡ 32 * slot = omega arith in
-    switch_fails slot c.read_at.new.buf stream old new c.compare.result c.in-Ok.ensures.length c.in-Ok.ensures.only.extent c.requires.size c.requires.slot c.requires.opened c.in-Ok.ensures.read
-    (subst (λ (p : ℕ). IfErr c.compare.result (IsWrong (32 * slot) open_word p c.read_at.new.buf)) at c.compare.ensures)
+    switch_fails slot c.read_at.new.buf stream old new c.compare.result c.in-Ok.ensures.length c.in-Ok.ensures.seen c.in-Ok.ensures.only.extent c.requires.size c.requires.slot c.requires.opened c.in-Ok.ensures.read
+    (subst (λ (p : ℕ). IfErr c.compare.result (IsWrong (32 * slot) open_word p c.read_at.new.buf)) at c.compare.ensures.wrong)

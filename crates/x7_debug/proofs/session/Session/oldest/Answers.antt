@@ -12,6 +12,6 @@ returns-clause-within c =
       c.oldest.ensures,
       c.taken.ensures.now,
       ap (λ (n : _). oldest_by n (records_of c.self.inside.journal)) c.taken.ensures.now,
-      oldest_within d.part c.self.inside.stream.items d.taken (records_of c.self.inside.journal) c.self.invariant.0.on.leads,
+      oldest_within d.part c.self.inside.stream.items d.taken (records_of c.self.inside.journal) c.self.invariant.on.leads,
       ap (λ (s : SessionState). s.at) c.self.view_is,
     )

@@ -1,8 +1,10 @@
-use Rattle.std.proofs.Common.{refl}
+use Rattle.std.proofs.Common.{◌≡◌, refl}
 use Rattle.std.proofs.lemmas.Result.{on_ok_weaker}
 use Rattle.x7_text.proofs.PieceLemmas.{at-none, at-some}
-use Rattle.x7_frames.specs.Reader.{reader_of}
-use Rattle.x7_frames.proofs.ReaderLemmas.{fed-end, fed-fault, fed-line, fed-none, only-free}
+use Rattle.x7_frames.specs.Reader.{FirstIsGood, reader_of}
+use Rattle.x7_frames.specs.declared.fault.FramesFault.{FramesFault}
+use Rattle.x7_frames.specs.declared.fault.FramesFault.TheVariants as fault
+use Rattle.x7_frames.proofs.ReaderLemmas.{all-err, fed-end, fed-fault, fed-first-good, fed-line, fed-none, fed-only-good, only-free}
 use Rattle.x7_frames.proofs.reader.Lines.feed.Goals as goal
 
 pub loop-after-init : goal.loop-after-init
@@ -35,3 +37,16 @@ returns-in-Err-clause-fault c =
     let part = c.args.part.now in
     fed-fault (reader_of part c.args.self.now) (reader_of part c.loop-after.self) c.args.piece.now c.loop-after.rest.now c.first_line.result.0.now c.in-Some.after.now c.in-Err.fault refl
     (at-some c.loop-after.rest.now c.first_line.result.0.now c.first_line.result.1 c.in-Some.after c.in-Some.is c.first_line.ensures).0 c.loop-after.invariant.fed c.in-Err.ensures.fault
+
+pub returns-in-Err-clause-memory : goal.returns-in-Err-clause-memory
+returns-in-Err-clause-memory c = λ none.
+    let part = c.args.part.now in
+    fed-first-good (reader_of part c.args.self.now) (reader_of part c.loop-after.self) c.args.piece.now c.loop-after.rest.now c.first_line.result.0.now c.in-Some.after.now
+    (at-some c.loop-after.rest.now c.first_line.result.0.now c.first_line.result.1 c.in-Some.after c.in-Some.is c.first_line.ensures).0 c.loop-after.invariant.fed (c.in-Err.ensures.memory none)
+
+pub returns-in_default-clause-memory : goal.returns-in_default-clause-memory
+returns-in_default-clause-memory c =
+    let part = c.args.part.now in
+    all-err c.hold.result (λ (f : FramesFault). f ≡ fault.NoMemory → FirstIsGood (reader_of part c.args.self.now) c.args.piece.now) (λ f e.
+    fed-only-good (reader_of part c.args.self.now) (reader_of part c.loop-after.self) c.args.piece.now c.loop-after.rest.now c.first_line.result.0.now
+    (at-none c.loop-after.rest.now c.first_line.result.0.now c.first_line.result.1 c.in_default.is c.first_line.ensures) c.loop-after.invariant.fed)

@@ -1,6 +1,7 @@
 use Rattle.std.proofs.Common.{ℕ, List, ◌≡◌, ◌+◌, inl, inr, ◌∙◌, subst, arith}
 use Rattle.x7_frames.specs.Reader.{reader_of}
 use Rattle.x7_frames.specs.Steps.{IsFaultAt, Takes}
+use Rattle.x7_frames.proofs.EveryTextLemmas.{good-text}
 use Rattle.x7_frames.proofs.GoodLemmas.{apart-takes}
 use Rattle.x7_frames.proofs.ReaderLemmas.{ends-fault, ends-good}
 use Rattle.x7_frames.proofs.reader.Lines.finish.Goals as goal
@@ -27,3 +28,9 @@ returns-in-Err-clause-fault c = elim c.in-Err.ensures.fault [
       (subst (λ (k : ℕ). IsFaultAt c.args.part.now c.args.self.reading.draft.rows k c.args.self.held.items c.in-Err.fault) n
       (subst (λ (t : List ℕ). IsFaultAt c.args.part.now c.args.self.reading.draft.rows c.saturating_add-n.result t c.in-Err.fault) c.deref.ensures.value bad)))
 ]
+
+pub returns-in-Err-clause-memory : goal.returns-in-Err-clause-memory
+returns-in-Err-clause-memory c = λ e text s.
+    let good = c.in-Err.ensures.memory e in
+    good-text c.args.part.now text good.0
+    (ends-good (reader_of c.args.part.now c.args.self) text good.0 s (subst (λ (t : List ℕ). Takes c.args.part.now t c.args.self.reading.draft.rows good.0) c.deref.ensures.value good.1))

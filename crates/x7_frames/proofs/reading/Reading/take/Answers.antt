@@ -1,12 +1,16 @@
-use Rattle.std.proofs.Common.{◌∙◌, ◌++◌, [], ◌∷◌, ℕ, List, false, inr, refl, sym, subst, ap, length, arith}
+use Rattle.std.proofs.Common.{◌≡◌, ◌∙◌, ◌++◌, [], ◌∷◌, ℕ, List, false, inr, refl, sym, subst, ap, length, arith}
 use Rattle.std.specs.Prelude.{Contains}
 use Rattle.std.proofs.lemmas.Bool.{false≢true}
 use Rattle.std.proofs.lemmas.List.{get_or_default}
 use Rattle.x7_part.specs.AddressOrder.{addresses_in}
 use Rattle.x7_memory.specs.Planned.{PlanRow, planned_addresses}
 use Rattle.x7_frames.specs.FramesText.{IsFrameLine}
+use Rattle.x7_frames.specs.Steps.{IsGoodLine}
+use Rattle.x7_frames.specs.declared.fault.FramesFault.{FramesFault}
+use Rattle.x7_frames.specs.declared.fault.FramesFault.TheVariants as fault
 use Rattle.x7_frames.proofs.LineLemmas.{frame-long}
 use Rattle.x7_frames.proofs.GoodLemmas.{marks-more}
+use Rattle.x7_frames.proofs.ReaderLemmas.{all-err}
 use Rattle.x7_frames.proofs.reading.Reading.take.Goals as goal
 
 pub returns-in_default-clause-fault : goal.returns-in_default-clause-fault
@@ -62,3 +66,22 @@ returns-clause-marks c =
     let r = c.in-Some-rank.rank in
     let at = c.in-Some-rank.ensures.found in
     marks-more c.args.part.now c.args.self.now.draft.rows c.push.new.self.rows c.args.self.now.marks.items r record { far = c.in-Some.far; words = c.deref.result.now } c.requires.marks at.0 at.1 c.in_ok-push.ensures.added
+
+pub returns-in_err-push-clause-memory : goal.returns-in_err-push-clause-memory
+returns-in_err-push-clause-memory c =
+    let rows = c.args.self.now.draft.rows in
+    let r = c.in-Some-rank.rank in
+    let at = c.in-Some-rank.ensures.found in
+    let long = c.requires.marks.long in
+    let row : PlanRow = record { far = c.in-Some.far; words = c.read_frame.new.frame.items } in
+    all-err c.from_residual.result (λ (f : FramesFault). f ≡ fault.NoMemory → IsGoodLine c.args.part.now rows c.args.line.now) (λ f e. (
+      rows ++ row ∷ [],
+      inr record {
+        row = row;
+        is = subst (λ (w : ℕ). IsFrameLine w c.args.line.now row) c.words.ensures.value c.in-Some.ensures.value;
+        address = (r, at.0, get_or_default (addresses_in c.args.part.now) r c.in-Some.far 0 at.0 ∙ at.1);
+        apart = λ has. false≢true (sym c.if-index.false ∙ c.index.ensures ∙ get_or_default c.args.self.now.marks.items r c.index.result.now false (omega (arith, at.0, long))
+            ∙ (c.requires.marks.at r (omega (arith, at.0, long))).1 (subst (λ (a : ℕ). Contains (planned_addresses rows) a) (sym at.1) has));
+        rows = refl;
+      },
+    ))

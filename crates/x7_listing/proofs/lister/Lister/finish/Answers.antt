@@ -2,6 +2,7 @@ use Rattle.std.proofs.Common.{◌≡◌, ◌++◌, List, ℕ, refl, sym, subst, 
 use Rattle.x7_listing.specs.Listing.{reading_text}
 use Rattle.x7_listing.specs.Telling.{ListerState, ListerStandsFor, Tells, lister_of}
 use Rattle.x7_listing.proofs.TakeLemmas.{begins, not_due}
+use Rattle.x7_listing.proofs.TakingLemmas.{starts}
 use Rattle.x7_listing.proofs.lister.Lister.finish.Goals as goal
 
 pub returns-clause-ok : goal.returns-clause-ok
@@ -17,4 +18,5 @@ returns-clause-ok c = λ given before bytes s.
       is = record { sessions = t.sessions; place = t.at; reading = t.cut.reading; is = refl };
       listed = listed;
       stands = begins _ _ _ _ _ given (before ++ listing) c.new-self-inside.ensures c.new_pen-self-inside.ensures.gap c.new_pen-self-inside.ensures.line c.new_pen-self-inside.ensures.held listed (not_due _ c.new-self-inside.ensures);
+      takes = starts _ given (before ++ listing) c.new-self-inside.ensures c.new_pen-self-inside.ensures.gap c.new_pen-self-inside.ensures.line c.new_pen-self-inside.ensures.held listed;
     }

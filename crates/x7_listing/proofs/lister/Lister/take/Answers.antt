@@ -1,6 +1,6 @@
 use Rattle.std.proofs.Common.{List, ℕ, sym, subst, take}
 use Rattle.x7_listing.specs.Telling.{ListerState}
-use Rattle.x7_listing.specs.Taking.{TakerStandsFor}
+use Rattle.x7_listing.specs.Telling.{TakerStandsFor}
 use Rattle.x7_listing.proofs.lister.Lister.take.Goals as goal
 
 pub returns-clause-ok : goal.returns-clause-ok

@@ -1,5 +1,5 @@
-use Rattle.std.proofs.Common.{None, inl, refl}
-use Rattle.x7_words.proofs.FileFlashLemmas.{attached-ok, attached-refused, attached-err, attach_write_faults, failed_read_at, failed_write, only_reads, only_writes, quiet_read_at, untold_passes, untold_read_at, untold_torn, untold_unwritten, untold_written}
+use Rattle.std.proofs.Common.{None, inl, refl, arith}
+use Rattle.x7_words.proofs.FileFlashLemmas.{attached-ok, attached-refused, attached-err, attach_write_faults, failed_read_at, failed_write, on_ok, only_reads, only_writes, quiet_read_at, untold_passes, untold_read_at, untold_torn, untold_unwritten, untold_written}
 use Rattle.x7_words.proofs.files.flash.FileFlashFlash.TheImpl.Goals as goal
 
 pub attach-tells : goal.attach-tells
@@ -18,6 +18,7 @@ attach-tells g c =
         unwritten = untold_unwritten old new (attach_write_faults old new c.result c.ensures.after);
       };
       sized = tt;
+      bytes = tt;
       fits = (c.ensures.last_fault, c.ensures.last_absence);
     }
 
@@ -28,6 +29,7 @@ read_at-tells g c =
     record {
       read = untold_read_at c.result;
       length = c.ensures.length;
+      seen = on_ok c.result (λ i h. refl);
       quiet = quiet_read_at old new new.file c.result c.ensures.ok;
       failed = failed_read_at old new new.file c.result c.ensures.err;
       only = only_reads old new c.result c.requires.attached c.ensures.open c.ensures.ok c.ensures.err c.ensures.faults;
@@ -43,6 +45,7 @@ erase-tells g c =
       erased = untold_written c.result None;
       torn = untold_torn c.result;
       passes = untold_passes;
+      moment = omega arith;
       failed = failed_write old new new.file c.result c.ensures.err;
       only = only_writes old new c.result c.requires.attached c.ensures.open c.ensures.ok c.ensures.err c.ensures.write_faults;
       sized = tt;
@@ -57,6 +60,7 @@ program-tells g c =
       programmed = untold_written c.result None;
       torn = untold_torn c.result;
       passes = untold_passes;
+      moment = omega arith;
       failed = failed_write old new new.file c.result c.ensures.err;
       only = only_writes old new c.result c.requires.attached c.ensures.open c.ensures.ok c.ensures.err c.ensures.write_faults;
       sized = tt;

@@ -1,0 +1,35 @@
+//! What one play of a stream tells of its positions.
+ghost use Rattle.std.specs.Prelude.{◌≡◌, IfOk};
+ghost use Rattle.x7_debug.specs.Position.{BeginsAtSoonest, last_of};
+
+use crate::moving::feed_to;
+use std::alloc::Global;
+use x7_engine::Device;
+use x7_part::Part;
+use x7_words::NoMemory;
+
+/// The last position of a stream, and one before which startup hasn't begun.
+#[derive(Clone, Copy)]
+pub(crate) struct Outline {
+    pub(crate) last: u64,
+    pub(crate) begins: u64,
+}
+
+impl Outline {
+    /// Plays a stream on a device of the part that is made for it.
+    pub(crate) fn new(alloc: Global, part: &Part, stream: &[u8]) -> Result<Outline, NoMemory>
+        ensures last { IfOk result (λ o. o.last ≡ last_of part.now stream.now) }
+        ensures begins { IfOk result (λ o. BeginsAtSoonest part.now stream.now o.begins) }
+    {
+        let mut device = match Device::new(alloc, part) {
+            Ok(device) => device,
+            Err(NoMemory) => return Err(NoMemory),
+        };
+        let begins = device.feed_until_begun(stream);
+        feed_to(&mut device, stream, stream.len() as u64);
+        Ok(Outline {
+            last: device.taken(),
+            begins: begins as u64,
+        })
+    }
+}

@@ -1,0 +1,96 @@
+use Rattle.std.proofs.Common.{◌≡◌, ◌<◌, ◌++◌, ℕ, zero, suc, true, false, inr, List, length, take, Option, None, Some, sym, ap, subst, ◌∙◌, append-nil, refl, arith}
+use Rattle.std.specs.Option.{is_some}
+use Rattle.x7_engine.specs.declared.stop.Stop.{Stop}
+use Rattle.x7_engine.specs.ReadBuffer.{IsFull, IsFullBy, ReadBufState}
+use Rattle.x7_engine.specs.Standing.{DeviceStandsFor, NoWordDue}
+use Rattle.x7_engine.proofs.FeedLemmas.{stands_on}
+use Rattle.x7_engine.proofs.UntilLemmas.{zero_on}
+use Rattle.x7_engine.proofs.device.Device.feed_until_begun.Goals as goal
+
+pub runs-init : goal.runs-init
+runs-init c = record {
+  within = omega arith;
+  part = refl;
+  taken = omega arith;
+  fed = omega arith;
+  fits = omega (arith, c.requires);
+  drops = λ part kept wrapped bytes s. ap (λ (b : ReadBufState). b.most) c.dropping-read.ensures;
+  stands = λ part kept wrapped bytes s. subst (λ (b : List ℕ). DeviceStandsFor part kept wrapped c.args.self.now b) (sym (append-nil bytes)) s;
+  first = λ part kept wrapped bytes s k l. absurd (omega (arith, l));
+}
+
+-- a stop
+by_stop : (o : Option Stop) (P : Type 0) → is_some o ≡ true → ((why : Stop) → o ≡ Some why → P) → P
+by_stop None P e f = absurd cc
+by_stop (Some why) P e f = f why refl
+
+pub returns-then-is_some-clause-none_due : goal.returns-then-is_some-clause-none_due
+returns-then-is_some-clause-none_due c = λ part kept wrapped bytes s.
+    by_stop c.stop.result (NoWordDue c.runs.self) (sym c.is_some.ensures ∙ c.if-is_some.true) (λ why e. (c.runs.invariant.stands part kept wrapped bytes s).at_rest why (sym c.stop.ensures ∙ e))
+
+-- the buffer is never full
+none_full : (n : ℕ) (b : ReadBufState) → b.most ≡ None → (0 < n → IsFull b) → n ≡ 0
+none_full zero b e f = refl
+none_full (suc n) b e f = absurd (subst (λ (o : Option ℕ). IsFullBy o (length b.words)) e (f (omega arith)))
+
+pub returns-then-not-give-clause-stands : goal.returns-then-not-give-clause-stands
+returns-then-not-give-clause-stands c = λ part kept wrapped bytes s. (c.give.ensures.given part kept wrapped (bytes ++ take c.runs.at c.args.piece.now) (c.runs.invariant.stands part kept wrapped bytes s)).stands
+
+pub returns-then-not-give-clause-none_due : goal.returns-then-not-give-clause-none_due
+returns-then-not-give-clause-none_due c = λ part kept wrapped bytes s.
+    let given = c.give.ensures.given part kept wrapped (bytes ++ take c.runs.at c.args.piece.now) (c.runs.invariant.stands part kept wrapped bytes s) in
+    none_full _ c.give.new.read (ap (λ (b : ReadBufState). b.most) given.read_is ∙ c.runs.invariant.drops part kept wrapped bytes s) c.give.ensures.full
+
+pub returns-then-not-give-clause-ends : goal.returns-then-not-give-clause-ends
+returns-then-not-give-clause-ends c = λ part kept wrapped bytes s l.
+    let given = c.give.ensures.given part kept wrapped (bytes ++ take c.runs.at c.args.piece.now) (c.runs.invariant.stands part kept wrapped bytes s) in
+    let none : NoWordDue c.give.new.self = none_full _ c.give.new.read (ap (λ (b : ReadBufState). b.most) given.read_is ∙ c.runs.invariant.drops part kept wrapped bytes s) c.give.ensures.full in
+    let yes : c.give.result ≡ true = c.give.ensures.none_left.1 none in
+    let no : c.give.result ≡ false = c.if-not-give.true in
+    absurd (let both : true ≡ false = sym yes ∙ no in cc)
+
+-- startup has begun
+pub returns-then-has_begun-clause-stands : goal.returns-then-has_begun-clause-stands
+returns-then-has_begun-clause-stands c = λ part kept wrapped bytes s. (c.give.ensures.given part kept wrapped (bytes ++ take c.runs.at c.args.piece.now) (c.runs.invariant.stands part kept wrapped bytes s)).stands
+
+pub returns-then-has_begun-clause-ends : goal.returns-then-has_begun-clause-ends
+returns-then-has_begun-clause-ends c = λ part kept wrapped bytes s l. inr (sym c.has_begun.ensures.now ∙ c.if-has_begun.true)
+
+-- a turn
+pub returns-then-turn-clause-stands : goal.returns-then-turn-clause-stands
+returns-then-turn-clause-stands c = λ part kept wrapped bytes s.
+    stands_on part kept wrapped c.give.new.self c.turn.new.self bytes c.args.piece.now c.runs.at c.turn.new.at c.turn.ensures.forward (c.turn.ensures.turns.stands part kept wrapped)
+    (c.give.ensures.given part kept wrapped (bytes ++ take c.runs.at c.args.piece.now) (c.runs.invariant.stands part kept wrapped bytes s)).stands
+
+pub returns-then-turn-clause-first : goal.returns-then-turn-clause-first
+returns-then-turn-clause-first c = λ part kept wrapped bytes s.
+    let taken : List ℕ = bytes ++ take c.runs.at c.args.piece.now in
+    let given : DeviceStandsFor part kept wrapped c.give.new.self taken = (c.give.ensures.given part kept wrapped taken (c.runs.invariant.stands part kept wrapped bytes s)).stands in
+    zero_on part kept wrapped c.give.new.self c.turn.new.self bytes c.args.piece.now c.runs.at c.turn.new.at c.turn.ensures.forward c.turn.ensures.within c.give.ensures.going given
+    (c.turn.ensures.turns.stands part kept wrapped taken given) (c.turn.ensures.turns.commands part kept wrapped taken given)
+    (c.has_begun.ensures.not part kept wrapped taken given c.if-has_begun.false) (c.runs.invariant.first part kept wrapped bytes s)
+
+pub runs-preserved : goal.runs-preserved
+runs-preserved c =
+    let piece : List ℕ = c.args.piece.now in
+    let at : ℕ = c.turn.new.at in
+    let same : c.give.new.self.taken ≡ c.runs.self.taken = c.give.ensures.taken in
+    record {
+      within = c.turn.ensures.within;
+      part = c.turn.ensures.turns.part ∙ c.give.ensures.part ∙ c.runs.invariant.part;
+      taken = omega (arith, same, c.turn.ensures.taken, c.turn.ensures.forward, c.runs.invariant.taken);
+      fed = omega (arith, c.turn.ensures.fed, c.give.ensures.fed, c.runs.invariant.fed, c.turn.ensures.forward);
+      fits = omega (arith, same, c.turn.ensures.taken, c.turn.ensures.forward, c.turn.ensures.within, c.runs.invariant.fits);
+      drops = λ part kept wrapped bytes s.
+          let given = c.give.ensures.given part kept wrapped (bytes ++ take c.runs.at piece) (c.runs.invariant.stands part kept wrapped bytes s) in
+          ap (λ (b : ReadBufState). b.most) given.read_is ∙ c.runs.invariant.drops part kept wrapped bytes s;
+      stands = λ part kept wrapped bytes s.
+          stands_on part kept wrapped c.give.new.self c.turn.new.self bytes piece c.runs.at at c.turn.ensures.forward (c.turn.ensures.turns.stands part kept wrapped)
+          (c.give.ensures.given part kept wrapped (bytes ++ take c.runs.at piece) (c.runs.invariant.stands part kept wrapped bytes s)).stands;
+      first = λ part kept wrapped bytes s.
+          let taken : List ℕ = bytes ++ take c.runs.at piece in
+          let given : DeviceStandsFor part kept wrapped c.give.new.self taken = (c.give.ensures.given part kept wrapped taken (c.runs.invariant.stands part kept wrapped bytes s)).stands in
+          zero_on part kept wrapped c.give.new.self c.turn.new.self bytes piece c.runs.at at c.turn.ensures.forward c.turn.ensures.within c.give.ensures.going given
+          (c.turn.ensures.turns.stands part kept wrapped taken given) (c.turn.ensures.turns.commands part kept wrapped taken given)
+          (c.has_begun.ensures.not part kept wrapped taken given c.if-has_begun.false) (c.runs.invariant.first part kept wrapped bytes s);
+    }

@@ -1,0 +1,23 @@
+use Rattle.std.proofs.Common.{◌≡◌, ◌+◌, ◌-◌, ◌^◌, ◌≤◌, ◌++◌, ℕ, List, length, take, None, if◌then◌else◌, Bool}
+use Rattle.std.specs.Option.{is_some}
+use Rattle.x7_packets.specs.Cutting.{calls_left}
+use Rattle.x7_part.specs.Part.{PartData}
+use Rattle.x7_engine.specs.declared.kept.Kept.{Kept}
+use Rattle.x7_engine.specs.Past.{StaysAtZero, past_of}
+use Rattle.x7_engine.specs.Standing.{DeviceStandsFor, fed_more, fed_of}
+use Rattle.x7_engine.proofs.device.Device.feed_until_begun.Given as goal
+
+abbrev pub invariant-runs : goal.invariant-runs
+invariant-runs l = record {
+  within : l.at ≤ length l.piece;
+  part : l.self.part ≡ l.initial.self.part;
+  taken : l.self.taken ≡ l.initial.self.taken + l.at;
+  fed : fed_of l.self ≡ fed_more l.initial.self l.at;
+  fits : l.self.taken + (length l.piece - l.at) ≤ 2 ^ 63;
+  drops : (part : PartData) (kept : Kept) (wrapped : Bool) (bytes : List ℕ) → DeviceStandsFor part kept wrapped l.initial.self bytes → l.read.most ≡ None;
+  stands : (part : PartData) (kept : Kept) (wrapped : Bool) (bytes : List ℕ) → DeviceStandsFor part kept wrapped l.initial.self bytes → DeviceStandsFor part kept wrapped l.self (bytes ++ take l.at l.piece);
+  first : (part : PartData) (kept : Kept) (wrapped : Bool) (bytes : List ℕ) → DeviceStandsFor part kept wrapped l.initial.self bytes → StaysAtZero (past_of part kept wrapped bytes) l.piece l.at;
+}
+
+abbrev pub decreases-runs : goal.decreases-runs
+decreases-runs l = if is_some l.self.registers.stop then 0 else calls_left l.self.cutter (length l.piece - l.at) + 1

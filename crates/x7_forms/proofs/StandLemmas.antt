@@ -1,0 +1,149 @@
+-- Lemmas on the last input that was asked for, and on how few bytes of it are given.
+use Rattle.std.proofs.Common.{◌≡◌, ◌<◌, ◌≤◌, ◌+◌, ◌-◌, ℕ, Bool, true, false, if◌then◌else◌, List, [], ◌∷◌, ◌++◌, Option, None, Some, Result, Ok, Err, append_assoc, drop, length, length-append, map, suc, add-one, get_or, inl, inr, refl, subst, sym, ap, ◌∙◌, arith}
+use Rattle.std.specs.Prelude.{IfSome, nat_lt}
+use Rattle.x7_words.specs.Input.{Asks, InputsState}
+use Rattle.x7_forms.specs.declared.bad_input.InputFault.TheVariants as input
+use Rattle.x7_forms.specs.Event.{Event, bad_input, bad_part, missing, no_memory, read_fault, too_large}
+use Rattle.x7_forms.specs.Known.{Absent, Broken, Found, Held, Mishap, StreamRead, and_so, bytes_found, data_in, found, read_of, taken_whole, with_inputs, within}
+use Rattle.x7_forms.specs.Step.{IsCaused, IsNoPart, IsUnplayed, IsUnread}
+use Rattle.x7_forms.specs.Stop.{IsAbout, Limited, StopsAmong, limited, limited_together, size_in, size_of}
+use Rattle.x7_forms.specs.Turn.{GivesFew, IsAt, Reads, StandsAt, UnreadBeginning, Unopened}
+use Rattle.x7_forms.proofs.ReadLemmas.{asked_on, left_at}
+
+-- nothing was read
+pub gives_none : (s : InputsState) (left : ℕ) → GivesFew s left s
+gives_none s left = record { asked = refl; selects = refl; given = omega arith }
+
+-- a turn behind what was read
+pub gives_on : (old mid new : InputsState) (taken : List ℕ) (limit left : ℕ) → Reads old taken mid → length taken + left ≡ limit → GivesFew mid left new → GivesFew old limit new
+gives_on old mid new taken limit left r n g = record { asked = g.asked ∙ r.asked; selects = g.selects ∙ r.takes.selects; given = omega (arith, n, r.takes.given, g.given) }
+
+-- an input of which nothing was read
+pub stands_opened : (name : List ℕ) (limit : ℕ) (now : InputsState) → Asks name now → StandsAt name limit now
+stands_opened name limit now a = record { asked = a.asked; given = omega (arith, a.given) }
+
+-- an input that was read
+pub stands_read : (name : List ℕ) (limit : ℕ) (opened now : InputsState) → Asks name opened → GivesFew opened limit now → StandsAt name limit now
+stands_read name limit opened now a g = record { asked = asked_on name opened now a g.asked; given = omega (arith, a.given, g.given) }
+
+-- a turn behind what was read of it
+pub stands_turn : (name taken : List ℕ) (limit left : ℕ) (mid new : InputsState) → IsAt name taken mid → length taken + left ≡ limit → GivesFew mid left new → StandsAt name limit new
+stands_turn name taken limit left mid new a n g = record { asked = subst (λ k. IfSome k (λ kept. kept ≡ name)) (sym g.asked) a.asked; given = omega (arith, n, a.given, g.given) }
+
+pub stands_less : (name : List ℕ) (left limit : ℕ) (now : InputsState) → left ≤ limit → StandsAt name left now → StandsAt name limit now
+stands_less name left limit now h s = record { asked = s.asked; given = omega (arith, h, s.given) }
+
+-- ---- of whom an event tells
+
+about_same : (name : List ℕ) (event is : Event) → event ≡ is → is.concerned ≡ name → IsAbout name event
+about_same name event is e n = inr (subst (λ (x : Event). x.concerned ≡ name) (sym e) n)
+
+pub about_by : (name : List ℕ) (event is : Event) → event ≡ is → IsAbout name is → IsAbout name event
+about_by name event is e a = subst (IsAbout name) (sym e) a
+
+pub unread_about : (name : List ℕ) (event : Event) → IsUnread name event → IsAbout name event
+unread_about name event (inl e) = inl e
+unread_about name event (inr (inl e)) = about_same name event (missing name) e refl
+unread_about name event (inr (inr (inl e))) = about_same name event (read_fault name) e refl
+unread_about name event (inr (inr (inr e))) = about_same name event (too_large name) e refl
+
+pub no_part_about : (name : List ℕ) (event : Event) → IsNoPart name event → IsAbout name event
+no_part_about name event (inl h) = unread_about name event h
+no_part_about name event (inr h) = about_same name event (bad_part name h.0) h.1 refl
+
+pub unplayed_about : (name : List ℕ) (event : Event) → IsUnplayed name event → IsAbout name event
+unplayed_about name event (inl h) = unread_about name event h
+unplayed_about name event (inr h) = about_same name event (bad_input name (input.Byte h.0)) h.1 refl
+
+pub unopened_about : (old new : InputsState) (name : List ℕ) (event : Event) → Unopened old name new event → IsAbout name event
+unopened_about old new name event (inl h, d) = about_same name event (missing name) h.0 refl
+unopened_about old new name event (inr h, d) = about_same name event (read_fault name) h.0 refl
+
+pub unfronted_about : (old new : InputsState) (name : List ℕ) (event : Event) → UnreadBeginning old name new event → IsAbout name event
+unfronted_about old new name event (inl e) = inl e
+unfronted_about old new name event (inr (inl h)) = about_same name event (read_fault name) h.0 refl
+unfronted_about old new name event (inr (inr h)) = about_same name event (bad_input name (input.Byte h.place)) h.is refl
+
+-- ---- where reading stops
+
+-- an event of one of the inputs
+pub about_among : (inputs before : List Limited) (input : Limited) (after : List Limited) (old now : InputsState) (event : Event)
+    → inputs ≡ before ++ input ∷ after → StandsAt input.name input.limit now → now.selects ≤ old.selects + (length before + 1) → IsAbout input.name event → StopsAmong inputs old now event
+about_among inputs before input after old now event a s n (inl e) = inl e
+about_among inputs before input after old now event a s n (inr t) = inr (record { before = before; input = input; after = after; among = a; tells = t; stands = s; asks = n })
+
+-- one of the inputs behind a first one
+pub stops_behind : (first : Limited) (inputs : List Limited) (old mid now : InputsState) (event : Event) → mid.selects ≤ old.selects + 1 → StopsAmong inputs mid now event → StopsAmong (first ∷ inputs) old now event
+stops_behind first inputs old mid now event n (inl e) = inl e
+stops_behind first inputs old mid now event n (inr h) =
+    inr (record { before = first ∷ h.before; input = h.input; after = h.after; among = ap (λ (x : List Limited). first ∷ x) h.among; tells = h.tells; stands = h.stands; asks = omega (arith, n, h.asks) })
+
+-- ---- inputs that are within a limit together
+
+room_by : (limit : ℕ) (whole : List ℕ) (gave : Result (List ℕ) Event) (s : StreamRead) → and_so gave (λ bytes. Ok (record { bytes = bytes; room = limit - length whole })) ≡ Ok s → s.room ≡ limit - length whole
+room_by limit whole (Ok bytes) s e = let same : record { bytes = bytes; room = limit - length whole } ≡ s = cc in sym (ap (λ (x : StreamRead). x.room) same)
+room_by limit whole (Err event) s e = absurd cc
+
+room_within : (name bytes : List ℕ) (limit : ℕ) (s : StreamRead) (b : Bool)
+    → and_so (if b then Err (too_large name) else Ok bytes) (λ whole. and_so (data_in name whole) (λ given. Ok (record { bytes = given; room = limit - length whole }))) ≡ Ok s → s.room ≡ limit - length bytes
+room_within name bytes limit s true e = absurd cc
+room_within name bytes limit s false e = room_by limit bytes (data_in name bytes) s e
+
+never_read : (name : List ℕ) (next : List ℕ → Result StreamRead Event) (s : StreamRead) (r : Result (List ℕ) Event) → and_so (and_so r (λ x. Err (read_fault name))) next ≡ Ok s → ⊥
+never_read name next s (Ok a) e = absurd cc
+never_read name next s (Err event) e = absurd cc
+
+room_found : (name : List ℕ) (limit : ℕ) (f : Found) (s : StreamRead)
+    → and_so (taken_whole name limit f) (λ whole. and_so (data_in name whole) (λ given. Ok (record { bytes = given; room = limit - length whole }))) ≡ Ok s → s.room ≡ limit - length (bytes_found f)
+room_found name limit (Held bytes) s e = room_within name bytes limit s (nat_lt limit (length bytes)) e
+room_found name limit Absent s e = absurd cc
+room_found name limit (Broken bytes) s e = absurd (never_read name (λ whole. and_so (data_in name whole) (λ given. Ok (record { bytes = given; room = limit - length whole }))) s (within name limit bytes) e)
+
+size_found : (held : Option (List ℕ)) → length (bytes_found (found held)) ≡ size_of held
+size_found None = refl
+size_found (Some bytes) = refl
+
+-- a stream that was read leaves no more of the limit than its bytes do
+pub room_left : (contents now : Option (List ℕ → Option (List ℕ))) (C : Mishap → Type 0) (name : List ℕ) (limit : ℕ) (s : StreamRead) → now ≡ contents → s.room ≤ limit
+    → IsCaused (with_inputs now None) C (λ t. read_of t limit name) (Ok s) → s.room ≤ limit - size_in contents name
+room_left contents now C name limit s same h c = by contents (subst (λ (k : Option (List ℕ → Option (List ℕ))). IsCaused (with_inputs k None) C (λ t. read_of t limit name) (Ok s)) same c)
+  where
+    by : (k : Option (List ℕ → Option (List ℕ))) → IsCaused (with_inputs k None) C (λ t. read_of t limit name) (Ok s) → s.room ≤ limit - size_in k name
+    by None c = omega (arith, h)
+    by (Some map) (inl q) = absurd q
+    by (Some map) (inr q) = omega (arith, room_found name limit (found (map name)) s q.1, size_found (map name))
+
+-- the inputs behind some of them, and what may be left of the limit for them
+pub record LimitsFrom (all : List Limited) (contents : Option (List ℕ → Option (List ℕ))) (count left : ℕ) (names : List (List ℕ)) : Type 0 where
+  pub passed : List Limited
+  pub room : ℕ
+  pub as_many : length passed ≡ count
+  pub enough : left ≤ room
+  pub split : all ≡ passed ++ limited_together contents room names
+
+pub limits_first : (contents : Option (List ℕ → Option (List ℕ))) (limit : ℕ) (names : List (List ℕ)) → LimitsFrom (limited_together contents limit names) contents 0 limit names
+limits_first contents limit names = record { passed = []; room = limit; as_many = refl; enough = omega arith; split = refl }
+
+pub limits_next : {X : Type 0} (f : X → List ℕ) (all : List Limited) (contents : Option (List ℕ → Option (List ℕ))) (ss : List X) (k left less : ℕ) (s : X) (name : List ℕ) → k < length ss → s ≡ get_or ss k s → name ≡ f s
+    → LimitsFrom all contents k left (map f (drop k ss)) → less ≤ left - size_in contents name → LimitsFrom all contents (k + 1) less (map f (drop (k + 1) ss))
+limits_next f all contents ss k left less s name h e nm l fewer =
+    let eq : map f (drop k ss) ≡ name ∷ map f (drop (suc k) ss) = rw nm (left_at f ss k s h e) in
+    let split = l.split ∙ ap (λ (x : List (List ℕ)). l.passed ++ limited_together contents l.room x) eq in
+    let first : Limited = limited l.room name in
+    rw add-one (record {
+      passed = l.passed ++ first ∷ [];
+      room = l.room - size_in contents name;
+      as_many = omega (arith, l.as_many, length-append l.passed (first ∷ []));
+      enough = omega (arith, l.enough, fewer);
+      split = split ∙ sym (append_assoc l.passed (first ∷ []) (limited_together contents (l.room - size_in contents name) (map f (drop (suc k) ss))));
+    })
+
+-- a stream of several that isn't played
+pub limits_stop : {X : Type 0} (f : X → List ℕ) (all : List Limited) (contents : Option (List ℕ → Option (List ℕ))) (ss : List X) (k left : ℕ) (s : X) (name : List ℕ) (old mid now : InputsState) (event : Event)
+    → k < length ss → s ≡ get_or ss k s → name ≡ f s → LimitsFrom all contents k left (map f (drop k ss)) → mid.selects ≤ old.selects + k → now.selects ≤ mid.selects + 1
+    → StandsAt name left now → IsUnplayed name event → StopsAmong all old now event
+limits_stop f all contents ss k left s name old mid now event h e nm l few once stands u =
+    let eq : map f (drop k ss) ≡ name ∷ map f (drop (suc k) ss) = rw nm (left_at f ss k s h e) in
+    let split = l.split ∙ ap (λ (x : List (List ℕ)). l.passed ++ limited_together contents l.room x) eq in
+    about_among all l.passed (limited l.room name) (limited_together contents (l.room - size_in contents name) (map f (drop (suc k) ss))) old now event split (stands_less name left l.room now l.enough stands)
+    (omega (arith, few, once, l.as_many)) (unplayed_about name event u)

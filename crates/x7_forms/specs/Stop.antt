@@ -1,0 +1,45 @@
+-- At which input reading stops (this project's choice).
+use Rattle.std.specs.Prelude.{◌≡◌, ◌≤◌, ◌+◌, ◌-◌, ◌⊎◌, ℕ, List, [], ◌∷◌, ◌++◌, Option, None, Some, length}
+use Rattle.x7_words.specs.Input.{InputsState}
+use Rattle.x7_forms.specs.Event.{Event, no_memory}
+use Rattle.x7_forms.specs.Turn.{StandsAt}
+
+-- an input by its name, and the most bytes that it may have
+pub record Limited : Type 0 where
+  pub name : List ℕ
+  pub limit : ℕ
+
+abbrev pub limited : ℕ → List ℕ → Limited
+limited limit name = record { name = name; limit = limit }
+
+-- how many bytes a name is known to have
+abbrev pub size_of : Option (List ℕ) → ℕ
+size_of None = 0
+size_of (Some bytes) = length bytes
+
+abbrev pub size_in : Option (List ℕ → Option (List ℕ)) → List ℕ → ℕ
+size_in None name = 0
+size_in (Some map) name = size_of (map name)
+
+-- inputs that are within a limit together: each may have what those before it leave of the limit, as far as they are known
+abbrev pub limited_together : Option (List ℕ → Option (List ℕ)) → ℕ → List (List ℕ) → List Limited
+limited_together contents limit [] = []
+limited_together contents limit (name ∷ names) = limited limit name ∷ limited_together contents (limit - size_in contents name) names
+
+-- want of memory, or an event of this name
+abbrev pub IsAbout : List ℕ → Event → Type 0
+IsAbout name event = (event ≡ no_memory) ⊎ (event.concerned ≡ name)
+
+-- Reading stopped at the input of which the event tells, one of these: it is the last that was asked for, no more than a byte over its limit was given of it, and inputs were asked for so often as stand up to it.
+pub record StopsAt (inputs : List Limited) (old now : InputsState) (event : Event) : Type 0 where
+  pub before : List Limited
+  pub input : Limited
+  pub after : List Limited
+  pub among : inputs ≡ before ++ input ∷ after
+  pub tells : event.concerned ≡ input.name
+  pub stands : StandsAt input.name input.limit now
+  pub asks : now.selects ≤ old.selects + (length before + 1)
+
+-- want of memory, or reading stopped at the input of which the event tells, one of these
+abbrev pub StopsAmong : List Limited → InputsState → InputsState → Event → Type 0
+StopsAmong inputs old now event = (event ≡ no_memory) ⊎ StopsAt inputs old now event

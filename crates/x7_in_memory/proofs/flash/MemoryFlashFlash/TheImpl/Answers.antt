@@ -1,0 +1,82 @@
+use Rattle.std.proofs.Common.{rules, ◌*◌, length, refl, ap, sym, ◌∙◌, arith}
+use Rattle.x7_words.specs.Flash.{cleared, erased_sector}
+use Rattle.x7_in_memory.specs.Memory.{write_fails_in}
+use Rattle.x7_words.proofs.FlashLemmas.{length-cleared, length-erased_sector}
+use Rattle.x7_in_memory.proofs.MemoryFlashLemmas.{attach_asks, attach_stays, promised, read_sees, read_stays}
+use Rattle.x7_in_memory.proofs.flash.MemoryFlashFlash.TheImpl.Goals as goal
+
+pub erase-tells : goal.erase-tells
+erase-tells c =
+    let old = c.args.self.now in
+    let new = c.new.self.now in
+    let p = promised old new (c.args.sector * 65536) erased_sector (omega (arith, length-erased_sector, c.requires.within)) c.result (c.ensures.answer ∙ ap (write_fails_in old) (sym length-erased_sector)) c.ensures.after in
+    record {
+      erased = p.written;
+      torn = p.torn;
+      passes = p.passes;
+      moment = p.moment;
+      failed = p.failed;
+      only = record {
+        extent = p.extent;
+        attached = p.attached;
+        names = p.names;
+        faults = p.faults;
+        absences = p.absences;
+        write_faults = c.ensures.write_faults;
+      };
+      sized = refl;
+      fits = c.ensures.last_write_fault;
+    }
+
+pub program-tells : goal.program-tells
+program-tells c =
+    let old = c.args.self.now in
+    let new = c.new.self.now in
+    let p = promised old new c.args.place (cleared c.args.place c.args.given.now old.bytes) (omega (arith, length-cleared c.args.place c.args.given.now old.bytes c.requires.within, c.requires.within)) c.result (c.ensures.answer ∙ ap (write_fails_in old) (sym (length-cleared c.args.place c.args.given.now old.bytes c.requires.within))) c.ensures.after in
+    record {
+      programmed = p.written;
+      torn = p.torn;
+      passes = p.passes;
+      moment = p.moment;
+      failed = p.failed;
+      only = record {
+        extent = p.extent;
+        attached = p.attached;
+        names = p.names;
+        faults = p.faults;
+        absences = p.absences;
+        write_faults = c.ensures.write_faults;
+      };
+      sized = refl;
+      fits = c.ensures.last_write_fault;
+    }
+
+pub attach-tells : goal.attach-tells
+attach-tells c =
+    let old = c.args.self.now in
+    let new = c.new.self.now in
+    record {
+      ok = search rules;
+      refused = search rules;
+      err = search rules;
+      asks = attach_asks old new c.args.name.now c.ensures.after;
+      stays = attach_stays old new c.args.name.now c.ensures.after c.ensures.faults c.ensures.absences;
+      sized = refl;
+      bytes = c.ensures.bytes;
+      fits = (c.ensures.last_fault, c.ensures.last_absence);
+    }
+
+pub read_at-tells : goal.read_at-tells
+read_at-tells c =
+    let old = c.args.self.now in
+    let new = c.new.self.now in
+    record {
+      read = search rules;
+      length = c.ensures.length;
+      seen = read_sees old new c.args.place (length c.args.buf.now) c.ensures.after c.new.buf.now c.result c.ensures.length c.ensures.answer c.ensures.read;
+      quiet = search rules;
+      failed = search rules;
+      only = read_stays old new c.args.place (length c.args.buf.now) c.ensures.after c.ensures.faults;
+      sized = refl;
+      fits = c.ensures.last_fault;
+    }

@@ -1,0 +1,339 @@
+-- What objects in memory hold, and what their calls answer (this project's choice).
+use Rattle.std.specs.Prelude.{◌==◌, ◌||◌, not, nat_le, ℕ, ◌+◌, ◌-◌, ◌^◌, List, [], ◌∷◌, ◌++◌, Bool, true, false, ◌&&◌, nat_lt, Option, None, Some, Result, Ok, Err, if◌then◌else◌, is_none, is_some, length, take, drop, get_or, min, max, option_map, option_and_then, unwrap_or, slice_range, bit_and, bit_or, bit_xor}
+use Rattle.std.specs.List.{list_any}
+use Rattle.std.specs.Str.{bytes_eq}
+use Rattle.x7_words.specs.Count.{raised}
+use Rattle.x7_words.specs.Flash.{FlashState, replaced, zip_with}
+use Rattle.x7_words.specs.Input.{InputsState}
+use Rattle.x7_words.specs.declared.input.SelectFault.{SelectFault}
+use Rattle.x7_words.specs.declared.input.SelectFault.TheVariants.{Missing, Failed}
+
+-- the calls of an object so far, and those that are to fail
+pub record CallPlan : Type 0 where
+  -- the number of the last call, from 1; 0 before the first, and the last u64 stays
+  pub last : ℕ
+  -- the numbers of the calls that are to fail
+  pub failing : List ℕ
+
+-- no call yet, and none that is to fail
+abbrev pub no_calls : CallPlan
+no_calls = record { last = 0; failing = [] }
+
+-- one more call is to fail
+abbrev pub planned : CallPlan → ℕ → CallPlan
+planned calls call = record calls { failing = calls.failing ++ call ∷ [] }
+
+-- the next call is one of those that are to fail
+abbrev pub next_fails : CallPlan → Bool
+next_fails calls = list_any (λ call. call == raised calls.last) calls.failing
+
+-- the calls after the next one
+abbrev pub numbered : CallPlan → CallPlan
+numbered calls = record calls { last = raised calls.last }
+
+-- a count after a call that it counts where this holds
+abbrev pub raised_if : Bool → ℕ → ℕ
+raised_if counts count = if counts then raised count else count
+
+-- inputs in memory
+pub record InputsInMemory : Type 0 where
+  -- the names and what was put under them, the last first
+  pub entries : List (List ℕ × List ℕ)
+  -- what is left of the selected input; none where nothing is selected
+  pub rest : Option (List ℕ)
+  -- the name last asked for; none before a select, and where nothing is put under it
+  pub asked : Option (List ℕ)
+  -- the selects counted; the last u64 stays
+  pub selects : ℕ
+  -- how many bytes were given since the last select
+  pub given : ℕ
+  -- the most bytes that a read gives
+  pub most : ℕ
+  pub calls : CallPlan
+  -- the faults counted; the last u64 stays
+  pub faults : ℕ
+
+-- the bytes that were put under the name last
+abbrev pub bytes_under : List (List ℕ × List ℕ) → List ℕ → Option (List ℕ)
+bytes_under [] name = None
+bytes_under (entry ∷ entries) name = if bytes_eq entry.0 name then Some entry.1 else bytes_under entries name
+
+-- the name, where something is put under it
+abbrev pub name_under : List (List ℕ × List ℕ) → List ℕ → Option (List ℕ)
+name_under entries name = if is_none (bytes_under entries name) then None else Some name
+
+-- what is known of the inputs: all
+abbrev pub known_inputs : InputsInMemory → InputsState
+known_inputs m = record {
+  contents = Some (bytes_under m.entries);
+  selected = is_some m.rest;
+  rest = m.rest;
+  asked = m.asked;
+  selects = m.selects;
+  given = m.given;
+  faults = m.faults;
+  absences = 0;
+}
+
+-- the inputs with these bytes under the name
+abbrev pub after_put : InputsInMemory → List ℕ → List ℕ → InputsInMemory
+after_put m name bytes = record m { entries = (name, bytes) ∷ m.entries }
+
+-- what a select of the name answers
+abbrev pub select_answer : InputsInMemory → List ℕ → Result (Unit {0}) SelectFault
+select_answer m name =
+    if next_fails m.calls then Err Failed
+    else if is_none (bytes_under m.entries name) then Err Missing
+    else Ok tt
+
+-- the inputs after a select of the name
+abbrev pub after_select : InputsInMemory → List ℕ → InputsInMemory
+after_select m name =
+    record m {
+      calls = numbered m.calls;
+      faults = raised_if (next_fails m.calls) m.faults;
+      rest = if next_fails m.calls then None else bytes_under m.entries name;
+      asked = name_under m.entries name;
+      selects = raised m.selects;
+      given = 0;
+    }
+
+-- how many bytes a read into a buffer of this length gives
+abbrev pub read_count : InputsInMemory → ℕ → ℕ
+read_count m len = min (min len m.most) (length (unwrap_or m.rest []))
+
+-- the inputs after a read into a buffer of this length
+abbrev pub after_read : InputsInMemory → ℕ → InputsInMemory
+after_read m len =
+    record m {
+      calls = numbered m.calls;
+      faults = raised_if (next_fails m.calls) m.faults;
+      rest = if next_fails m.calls then None else option_map (drop (read_count m len)) m.rest;
+      given = if next_fails m.calls then m.given else m.given + read_count m len;
+    }
+
+-- a sink in memory
+pub record SinkInMemory : Type 0 where
+  -- what was written
+  pub bytes : List ℕ
+  -- how many bytes it takes in all
+  pub room : ℕ
+  -- the most bytes that a write takes
+  pub most : ℕ
+  pub calls : CallPlan
+  -- the faults counted; the last u64 stays
+  pub faults : ℕ
+
+-- a write of the piece fails, as planned or since the room is full
+abbrev pub write_fails : SinkInMemory → List ℕ → Bool
+write_fails s piece = next_fails s.calls || (nat_le s.room (length s.bytes) && nat_lt 0 (length piece))
+
+-- how many bytes of the piece a write takes
+abbrev pub write_count : SinkInMemory → List ℕ → ℕ
+write_count s piece = min (min (length piece) s.most) (s.room - length s.bytes)
+
+-- the sink after a write of the piece
+abbrev pub after_write : SinkInMemory → List ℕ → SinkInMemory
+after_write s piece =
+    record s {
+      calls = numbered s.calls;
+      faults = raised_if (write_fails s piece) s.faults;
+      bytes = if write_fails s piece then s.bytes else s.bytes ++ take (write_count s piece) piece;
+    }
+
+-- one write of a flash in memory
+pub record PastWrite : Type 0 where
+  -- where its range begins
+  pub place : ℕ
+  -- the bytes of its range before it
+  pub before : List ℕ
+  -- the bytes that it was to bring there
+  pub target : List ℕ
+
+-- the writes that a flash in memory has recorded, and the room that it has for further ones
+pub record WriteRecord : Type 0 where
+  -- the first of them first
+  pub past : List PastWrite
+  -- how many writes more it can record
+  pub writes_left : ℕ
+  -- how many bytes their ranges may have in all
+  pub bytes_left : ℕ
+
+-- no write, and no room for one
+abbrev pub no_writes : WriteRecord
+no_writes = record { past = []; writes_left = 0; bytes_left = 0 }
+
+-- the record with room for so many writes more
+abbrev pub with_room : WriteRecord → ℕ → ℕ → WriteRecord
+with_room w writes bytes = record w { writes_left = w.writes_left + writes; bytes_left = w.bytes_left + bytes }
+
+-- a write of so many bytes can be recorded
+abbrev pub has_room : WriteRecord → ℕ → Bool
+has_room w count = nat_lt 0 w.writes_left && nat_le count w.bytes_left
+
+-- the record with one write more
+abbrev pub recorded : WriteRecord → ℕ → List ℕ → List ℕ → WriteRecord
+recorded w place before target =
+    record w {
+      past = w.past ++ record { place = place; before = before; target = target } ∷ [];
+      writes_left = w.writes_left - 1;
+      bytes_left = w.bytes_left - length target;
+    }
+
+-- a byte torn by a pattern: the old one's bits where the pattern has 1, the target's where it has 0
+abbrev pub torn_byte : ℕ → ℕ → ℕ → ℕ
+torn_byte pattern old target = bit_or (bit_and old pattern) (bit_xor target (bit_and target pattern))
+
+-- what a write leaves in its range: the target, or what a pattern tears
+abbrev pub left_by : Option ℕ → List ℕ → List ℕ → List ℕ
+left_by None before target = target
+left_by (Some pattern) before target = zip_with (torn_byte pattern) before target
+
+-- a call that is to be torn, if it is a write, and its pattern
+pub record Tear : Type 0 where
+  pub call : ℕ
+  pub pattern : ℕ
+
+-- a flash in memory
+pub record FlashInMemory : Type 0 where
+  -- the name under which it is attached
+  pub name : List ℕ
+  pub bytes : List ℕ
+  pub attached : Bool
+  -- whether it was asked for under its name
+  pub asked : Bool
+  -- the reads since the last write lie from this place on, and below the next one
+  pub seen_from : ℕ
+  pub seen_to : ℕ
+  -- the absences counted; the last u64 stays
+  pub absences : ℕ
+  pub calls : CallPlan
+  -- the faults of reads counted, an attach too; the last u64 stays
+  pub read_faults : ℕ
+  -- the faults of writes counted; the last u64 stays
+  pub write_faults : ℕ
+  pub writes : WriteRecord
+  pub tear : Option Tear
+  -- whether a write was torn: all calls fail from then on
+  pub stopped : Bool
+
+-- a flash of these bytes under the name, not attached, with no room for a write
+abbrev pub new_flash : List ℕ → List ℕ → FlashInMemory
+new_flash name bytes = record {
+  name = name;
+  bytes = bytes;
+  attached = false;
+  asked = false;
+  seen_from = 2 ^ 64 - 1;
+  seen_to = 0;
+  absences = 0;
+  calls = no_calls;
+  read_faults = 0;
+  write_faults = 0;
+  writes = no_writes;
+  tear = None;
+  stopped = false;
+}
+
+-- the names for which the flash may have been asked: its own only where it was; others aren't kept
+abbrev pub names_asked : FlashInMemory → List ℕ → Bool
+names_asked f name = if bytes_eq f.name name then f.asked else true
+
+-- whether a byte may have been read at a place since the last write: it is there, and between the reads
+abbrev pub seen_in : FlashInMemory → ℕ → ℕ → Bool
+seen_in f place byte = nat_le f.seen_from place && (nat_lt place f.seen_to && (byte == get_or f.bytes place 0))
+
+-- what is known of the flash: all but the other names for which it was asked
+abbrev pub known_flash : FlashInMemory → FlashState
+known_flash f = record {
+  bytes = Some f.bytes;
+  extent = length f.bytes;
+  attached = f.attached;
+  names = names_asked f;
+  seen = seen_in f;
+  faults = f.read_faults;
+  absences = f.absences;
+  write_faults = f.write_faults;
+  moments = length f.writes.past;
+}
+
+-- the next call of the flash fails, as planned or since a write was torn
+abbrev pub flash_fails : FlashInMemory → Bool
+flash_fails f = f.stopped || next_fails f.calls
+
+-- what an attach under the name answers
+abbrev pub attach_answer : FlashInMemory → List ℕ → Result (Unit {0}) SelectFault
+attach_answer f name =
+    if flash_fails f then Err Failed
+    else if bytes_eq f.name name then Ok tt
+    else Err Missing
+
+-- the absences after an attach under the name
+abbrev pub absences_after : FlashInMemory → List ℕ → ℕ
+absences_after f name =
+    if flash_fails f || bytes_eq f.name name then f.absences else raised f.absences
+
+-- the flash after an attach under the name
+abbrev pub after_attach : FlashInMemory → List ℕ → FlashInMemory
+after_attach f name =
+    record f {
+      calls = numbered f.calls;
+      read_faults = raised_if (flash_fails f) f.read_faults;
+      attached = not (flash_fails f) && bytes_eq f.name name;
+      asked = f.asked || bytes_eq f.name name;
+      absences = absences_after f name;
+    }
+
+-- the flash after a read of so many bytes from a place on
+abbrev pub after_read_at : FlashInMemory → ℕ → ℕ → FlashInMemory
+after_read_at f place count =
+    record f {
+      calls = numbered f.calls;
+      read_faults = raised_if (flash_fails f) f.read_faults;
+      seen_from = if flash_fails f then f.seen_from else min f.seen_from place;
+      seen_to = if flash_fails f then f.seen_to else max f.seen_to (place + count);
+    }
+
+-- a write of so many bytes is refused and changes nothing: as planned, or since the record has no room
+abbrev pub write_refused : FlashInMemory → ℕ → Bool
+write_refused f count = flash_fails f || not (has_room f.writes count)
+
+-- the pattern by which the next call is torn, if it is a write
+abbrev pub next_tear : FlashInMemory → Option ℕ
+next_tear f = option_and_then (λ tear. if tear.call == raised f.calls.last then Some tear.pattern else None) f.tear
+
+-- the pattern by which the latest call is torn, if it is a write
+abbrev pub latest_tear : FlashInMemory → Option ℕ
+latest_tear f = option_and_then (λ tear. if tear.call == f.calls.last then Some tear.pattern else None) f.tear
+
+-- the flash after a write that was torn: all later calls fail
+abbrev pub after_tear : FlashInMemory → FlashInMemory
+after_tear f = record f { stopped = true; write_faults = raised f.write_faults }
+
+-- a write of so many bytes fails
+abbrev pub write_fails_in : FlashInMemory → ℕ → Bool
+write_fails_in f count = write_refused f count || is_some (next_tear f)
+
+-- the flash as a write begins: it has its number, and nothing is seen
+abbrev pub begun : FlashInMemory → FlashInMemory
+begun f = record f { calls = numbered f.calls; seen_from = 2 ^ 64 - 1; seen_to = 0 }
+
+-- the flash after a write that is refused
+abbrev pub after_refusal : FlashInMemory → FlashInMemory
+after_refusal f = record (begun f) { write_faults = raised f.write_faults }
+
+-- the flash after a write of the target, torn by a pattern or not
+abbrev pub after_tearing : FlashInMemory → ℕ → List ℕ → Option ℕ → FlashInMemory
+after_tearing f place target tear =
+    record (begun f) {
+      stopped = is_some tear || f.stopped;
+      write_faults = raised_if (is_some tear) f.write_faults;
+      bytes = replaced place (left_by tear (slice_range f.bytes place (place + length target)) target) f.bytes;
+      writes = recorded f.writes place (slice_range f.bytes place (place + length target)) target;
+    }
+
+-- the flash after a write of the target at the place
+abbrev pub after_write_of : FlashInMemory → ℕ → List ℕ → FlashInMemory
+after_write_of f place target =
+    if write_refused f (length target) then after_refusal f
+    else after_tearing f place target (next_tear f)

@@ -1,0 +1,16 @@
+-- How a flash in memory keeps its past writes (this project's choice).
+use Rattle.std.specs.Prelude.{ℕ, ◌+◌, List, [], ◌∷◌, take, drop}
+use Rattle.x7_in_memory.specs.Memory.{PastWrite}
+use Rattle.x7_in_memory.specs.declared.record.Span.{Span}
+
+-- the bytes of all ranges
+abbrev pub count_of : List Span → ℕ
+count_of [] = 0
+count_of (span ∷ spans) = span.count + count_of spans
+
+-- the writes, whose bytes before and after lie one after the other
+abbrev pub writes_of : List Span → List ℕ → List ℕ → List PastWrite
+writes_of [] before target = []
+writes_of (span ∷ spans) before target =
+    record { place = span.place; before = take span.count before; target = take span.count target }
+    ∷ writes_of spans (drop span.count before) (drop span.count target)

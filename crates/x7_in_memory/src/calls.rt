@@ -1,0 +1,62 @@
+//! The numbers of calls, and those of them that are to fail.
+ghost use Rattle.std.specs.Prelude.{◌≡◌, OnOk, OnErr, is_err};
+ghost use Rattle.x7_in_memory.specs.Memory.{no_calls, next_fails, numbered, planned};
+
+use std::alloc::Global;
+use std::marker::Model;
+use x7_words::{Failed, NoMemory, next_count};
+
+/// The calls of an object: the number of the last one, and those that are to fail.
+#[derive(Drop)]
+pub struct Calls {
+    last: u64,
+    failing: Vec<u64>,
+}
+
+impl Model for Calls {
+    ghost use Rattle.x7_in_memory.specs.Memory.{CallPlan};
+
+    ghost Value = { CallPlan };
+
+    ghost view = { λ c. record { last = c.last; failing = c.failing.items } };
+}
+
+impl Calls {
+    /// No call yet, and none that is to fail.
+    pub fn new(alloc: Global) -> Calls
+        ensures { result ≡ no_calls }
+    {
+        Calls {
+            last: 0,
+            failing: Vec::new(alloc),
+        }
+    }
+
+    /// The number of the last call, 0 before the first. After the last u64 it stays.
+    pub fn last(&self) -> u64
+        ensures { result ≡ self.now.last }
+    {
+        self.last
+    }
+
+    /// The call of this number is to fail.
+    pub fn fail_at(&mut self, call: u64) -> Result<(), NoMemory>
+        ensures ok { OnOk result (self.new ≡ planned self.old call) }
+        ensures err { OnErr result (self.new ≡ self.old) }
+    {
+        self.failing.push(call)?;
+        Ok(())
+    }
+
+    /// Takes the next number, which may be that of a call that is to fail. What fails counts it.
+    pub fn next(&mut self) -> Result<(), Failed>
+        ensures answer { is_err result ≡ next_fails self.old }
+        ensures after { self.new ≡ numbered self.old }
+    {
+        self.last = next_count(self.last);
+        if self.failing.contains(&self.last) {
+            return Err(Failed);
+        }
+        Ok(())
+    }
+}

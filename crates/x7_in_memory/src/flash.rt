@@ -1,0 +1,356 @@
+//! A flash in memory.
+ghost use Rattle.std.specs.Prelude.{◌≡◌, ◌+◌, ◌*◌, ◌<◌, ◌≤◌, ◌^◌, length, slice_range, IsTrue, Option, Some, None, true, false, is_some, OnOk, OnErr, IfOk, is_err, bit_and, vec_capacity};
+ghost use Rattle.x7_words.specs.Word.{AreBytes};
+ghost use Rattle.x7_words.specs.Flash.{zip_with, cleared, erased_sector, replaced};
+ghost use Rattle.x7_in_memory.specs.Memory.{new_flash, planned, flash_fails, numbered, with_room, has_room, recorded, left_by, torn_byte, attach_answer, after_attach, after_read_at, write_refused, write_fails_in, begun, after_refusal, after_write_of, latest_tear, after_tear};
+
+use crate::calls::Calls;
+use crate::record::Record;
+use std::alloc::Global;
+use std::marker::Model;
+use x7_words::{Failed, Flash, NoMemory, SECTOR, SelectFault, next_count};
+
+/// A write that is torn: the number of its call, and the pattern of the bits that stay old.
+#[derive(Clone, Copy, Drop)]
+struct Torn {
+    call: u64,
+    pattern: u8,
+}
+
+/// A flash in memory under one name, known whole.
+///
+/// Each attach, read, erase and program has the next number, from 1, and those that are to fail fail.
+#[derive(Drop)]
+pub struct MemoryFlash {
+    name: String,
+    bytes: Vec<u8>,
+    attached: bool,
+    asked: bool,
+    // The reads since the last write lie from the first place on, and below the second.
+    seen_from: usize,
+    seen_to: usize,
+    absences: u64,
+    calls: Calls,
+    read_faults: u64,
+    write_faults: u64,
+    writes: Record,
+    target: Vec<u8>,
+    tear: Option<Torn>,
+    stopped: bool,
+}
+
+impl Model for MemoryFlash {
+    ghost use Rattle.std.specs.Prelude.{◌<◌, ◌≤◌, ◌^◌, string_bytes, vec_capacity};
+    ghost use Rattle.x7_in_memory.specs.Memory.{FlashInMemory};
+    ghost use Rattle.x7_in_memory.specs.Tearing.{tear_of};
+
+    ghost Value = { FlashInMemory };
+
+    ghost view = { λ f. record {
+      name = string_bytes f.name;
+      bytes = f.bytes.items;
+      attached = f.attached;
+      asked = f.asked;
+      seen_from = f.seen_from;
+      seen_to = f.seen_to;
+      absences = f.absences;
+      calls = f.calls;
+      read_faults = f.read_faults;
+      write_faults = f.write_faults;
+      writes = f.writes;
+      tear = tear_of f.tear;
+      stopped = f.stopped;
+    } };
+
+    ghost invariant = { λ f. (f.absences < 2 ^ 64) × (f.read_faults < 2 ^ 64) × (f.write_faults < 2 ^ 64)
+        × (f.writes.bytes_left ≤ vec_capacity f.target) };
+}
+
+/// Each of the bytes is one.
+fn are_bytes(bytes: &[u8])
+    ensures { AreBytes bytes.now }
+{}
+
+/// Puts into the target each byte AND the given one.
+fn put_cleared(target: &mut Vec<u8>, bytes: &[u8], given: &[u8])
+    requires lengths { length bytes.now ≡ length given.now }
+    requires room { length given.now ≤ vec_capacity target.old }
+    ensures items { target.new.items ≡ zip_with bit_and bytes.now given.now }
+    ensures capacity { vec_capacity target.old ≤ vec_capacity target.new }
+{
+    target.clear();
+    for i in 0..given.len() {
+        let Ok(()) = target.push(bytes[i] & given[i]) else {
+            unreachable!()
+        };
+    }
+}
+
+/// Puts the target in the place of the bytes, but leaves the bits of the pattern as they were.
+fn tear(bytes: &mut [u8], target: &[u8], pattern: u8)
+    requires { length bytes.old ≡ length target.now }
+    ensures { bytes.new ≡ zip_with (torn_byte pattern) bytes.old target.now }
+{
+    for i in 0..target.len() {
+        bytes[i] = bytes[i] & pattern | target[i] ^ target[i] & pattern;
+    }
+}
+
+/// Leaves in the range of the target what a write of it leaves, torn by a pattern or not, and records that.
+fn write_target(
+    bytes: &mut [u8],
+    writes: &mut Record,
+    place: usize,
+    target: &[u8],
+    torn: Option<u8>,
+)
+    requires within { place + length target.now ≤ length bytes.old }
+    requires room { IsTrue (has_room writes.old (length target.now)) }
+    ensures bytes { bytes.new ≡ replaced place
+        (left_by torn (slice_range bytes.old place (place + length target.now)) target.now) bytes.old }
+    ensures writes { writes.new ≡ recorded writes.old place
+        (slice_range bytes.old place (place + length target.now)) target.now }
+{
+    let range = &mut bytes[place..place + target.len()];
+    writes.push(place, range, target);
+    match torn {
+        None => range.copy_from_slice(target),
+        Some(pattern) => tear(range, target, pattern),
+    }
+}
+
+impl MemoryFlash {
+    /// A flash of these bytes under the name, not attached, with no room for a write.
+    pub fn new(alloc: Global, name: &str, bytes: &[u8]) -> Result<MemoryFlash, NoMemory>
+        ensures { IfOk result (λ f. f ≡ new_flash name.now bytes.now) }
+    {
+        Ok(MemoryFlash {
+            name: String::from_str(alloc, name)?,
+            bytes: Vec::from_slice(alloc, bytes)?,
+            attached: false,
+            asked: false,
+            seen_from: usize::MAX,
+            seen_to: 0,
+            absences: 0,
+            calls: Calls::new(alloc),
+            read_faults: 0,
+            write_faults: 0,
+            writes: Record::new(alloc),
+            target: Vec::new(alloc),
+            tear: None,
+            stopped: false,
+        })
+    }
+
+    /// The call of this number, from 1, is to fail.
+    pub fn fail_at(&mut self, call: u64) -> Result<(), NoMemory>
+        ensures ok { OnOk result (self.new ≡ record self.old { calls = planned self.old.calls call }) }
+        ensures err { OnErr result (self.new ≡ self.old) }
+    {
+        self.calls.fail_at(call)
+    }
+
+    /// Makes room for so many writes more, with ranges of so many bytes in all. A new flash has none.
+    pub fn make_room(&mut self, writes: u64, bytes: u64) -> Result<(), NoMemory>
+        ensures ok { OnOk result (self.new ≡ record self.old { writes = with_room self.old.writes writes bytes }) }
+        ensures err { OnErr result (self.new ≡ self.old) }
+    {
+        let all = self.writes.bytes_left().checked_add(bytes).ok_or(NoMemory)?;
+        self.target.clear();
+        self.target.reserve(all as usize)?;
+        self.writes.make_room(writes, bytes)
+    }
+
+    /// The call of this number, an erase or a program, is to leave each byte of its range with the old one's bits where
+    /// the pattern has a 1 and the target's where it has a 0. It fails, and so do all later calls.
+    pub fn tear_at(&mut self, call: u64, pattern: u8)
+        ensures { self.new ≡ record self.old { tear = Some (record { call = call; pattern = pattern }) } }
+    {
+        self.tear = Some(Torn { call, pattern });
+    }
+
+    /// The number of the latest call, 0 before the first. After the last u64 it stays.
+    pub fn calls(&self) -> u64
+        ensures { result ≡ self.now.calls.last }
+    {
+        self.calls.last()
+    }
+
+    /// The flash's bytes.
+    pub fn bytes(&self) -> &[u8]
+        ensures { result.now ≡ self.now.bytes }
+    {
+        self.bytes.as_slice()
+    }
+
+    /// Takes the next number for a call, which may be one that is to fail.
+    fn next_call(&mut self) -> Result<(), Failed>
+        ensures answer { is_err result ≡ flash_fails self.old }
+        ensures after { self.new ≡ record self.old { calls = numbered self.old.calls } }
+    {
+        self.calls.next()?;
+        if self.stopped {
+            return Err(Failed);
+        }
+        Ok(())
+    }
+
+    /// Begins a write of so many bytes: it has the next number, and is refused where that is to fail or has no room.
+    fn begin_write(&mut self, count: usize) -> Result<(), Failed>
+        ensures answer { is_err result ≡ write_refused self.old count }
+        ensures ok { OnOk result (self.new ≡ begun self.old) }
+        ensures err { OnErr result (self.new ≡ after_refusal self.old) }
+        ensures rises { self.old.write_faults ≤ self.new.write_faults }
+    {
+        self.seen_from = usize::MAX;
+        self.seen_to = 0;
+        if self.next_call().is_ok() && self.writes.has_room(count) {
+            return Ok(());
+        }
+        self.write_faults = next_count(self.write_faults);
+        Err(Failed)
+    }
+
+    /// The pattern by which the latest call is torn, if it is a write.
+    fn torn(&self) -> Option<u8>
+        ensures { result ≡ latest_tear self.now }
+    {
+        let torn = self.tear?;
+        if torn.call == self.calls.last() {
+            Some(torn.pattern)
+        } else {
+            None
+        }
+    }
+
+    /// Ends a write, which was torn or not. Torn it is a fault, and all later calls fail.
+    fn end_write(&mut self, torn: Option<u8>) -> Result<(), Failed>
+        ensures answer { is_err result ≡ is_some torn }
+        ensures ok { OnOk result (self.new ≡ self.old) }
+        ensures err { OnErr result (self.new ≡ after_tear self.old) }
+    {
+        if torn.is_none() {
+            return Ok(());
+        }
+        self.stopped = true;
+        self.write_faults = next_count(self.write_faults);
+        Err(Failed)
+    }
+}
+
+impl Flash for MemoryFlash {
+    ghost use Rattle.std.proofs.Common.{refl};
+    ghost use Rattle.x7_in_memory.specs.Memory.{known_flash};
+    ghost use Rattle.x7_in_memory.specs.Past.{FoundSince, found_last, only_bytes};
+
+    ghost state = { known_flash };
+
+    ghost found_since = { λ f moment found. FoundSince f.writes.past f.bytes moment found };
+
+    ghost counted = { λ _. refl };
+
+    ghost found_now = { λ f moment all le is. found_last f.writes.past f.bytes moment all is };
+
+    ghost only_now = { λ f found since. only_bytes f.writes.past f.bytes found since };
+
+    fn attach(&mut self, name: &str) -> Result<(), SelectFault>
+        ensures answer { result ≡ attach_answer self.old name.now }
+        ensures after { self.new ≡ after_attach self.old name.now }
+        ensures bytes { AreBytes self.new.bytes }
+        ensures faults { self.old.read_faults ≤ self.new.read_faults }
+        ensures absences { self.old.absences ≤ self.new.absences }
+        ensures last_fault { self.new.read_faults < 2 ^ 64 }
+        ensures last_absence { self.new.absences < 2 ^ 64 }
+    {
+        are_bytes(&self.bytes);
+        self.attached = false;
+        let is_own = self.name.as_str() == name;
+        self.asked = self.asked || is_own;
+        let Ok(()) = self.next_call() else {
+            self.read_faults = next_count(self.read_faults);
+            return Err(SelectFault::Failed);
+        };
+        if !is_own {
+            self.absences = next_count(self.absences);
+            return Err(SelectFault::Missing);
+        }
+        self.attached = true;
+        Ok(())
+    }
+
+    fn size(&self) -> u64
+        ensures extent { result ≡ length self.now.bytes }
+        ensures bytes { AreBytes self.now.bytes }
+    {
+        are_bytes(&self.bytes);
+        self.bytes.len() as u64
+    }
+
+    fn read_at(&mut self, place: u64, buf: &mut [u8]) -> Result<(), Failed>
+        requires attached { self.old.attached ≡ true }
+        requires within { place + length buf.old ≤ length self.old.bytes }
+        ensures answer { is_err result ≡ flash_fails self.old }
+        ensures read { OnOk result (buf.new ≡
+            slice_range self.old.bytes place (place + length buf.old)) }
+        ensures err { OnErr result (buf.new ≡ buf.old) }
+        ensures length { length buf.new ≡ length buf.old }
+        ensures after { self.new ≡ after_read_at self.old place (length buf.old) }
+        ensures faults { self.old.read_faults ≤ self.new.read_faults }
+        ensures last_fault { self.new.read_faults < 2 ^ 64 }
+    {
+        let Ok(()) = self.next_call() else {
+            self.read_faults = next_count(self.read_faults);
+            return Err(Failed);
+        };
+        let place = place as usize;
+        let end = place + buf.len();
+        buf.copy_from_slice(&self.bytes[place..end]);
+        self.seen_from = self.seen_from.min(place);
+        self.seen_to = self.seen_to.max(end);
+        Ok(())
+    }
+
+    fn erase(&mut self, sector: u64) -> Result<(), Failed>
+        requires attached { self.old.attached ≡ true }
+        requires within { sector * 65536 + 65536 ≤ length self.old.bytes }
+        ensures answer { is_err result ≡ write_fails_in self.old 65536 }
+        ensures after { self.new ≡ after_write_of self.old (sector * 65536) erased_sector }
+        ensures write_faults { self.old.write_faults ≤ self.new.write_faults }
+        ensures last_write_fault { self.new.write_faults < 2 ^ 64 }
+    {
+        self.begin_write(SECTOR as usize)?;
+        self.target.clear();
+        let Ok(()) = self.target.resize(SECTOR as usize, 0xFF) else {
+            unreachable!()
+        };
+        let torn = self.torn();
+        write_target(
+            &mut self.bytes,
+            &mut self.writes,
+            (sector * SECTOR) as usize,
+            &self.target,
+            torn,
+        );
+        self.end_write(torn)
+    }
+
+    fn program(&mut self, place: u64, given: &[u8]) -> Result<(), Failed>
+        requires attached { self.old.attached ≡ true }
+        requires within { place + length given.now ≤ length self.old.bytes }
+        ensures answer { is_err result ≡ write_fails_in self.old (length given.now) }
+        ensures after { self.new ≡ after_write_of self.old place (cleared place given.now self.old.bytes) }
+        ensures write_faults { self.old.write_faults ≤ self.new.write_faults }
+        ensures last_write_fault { self.new.write_faults < 2 ^ 64 }
+    {
+        self.begin_write(given.len())?;
+        let place = place as usize;
+        put_cleared(
+            &mut self.target,
+            &self.bytes[place..place + given.len()],
+            given,
+        );
+        let torn = self.torn();
+        write_target(&mut self.bytes, &mut self.writes, place, &self.target, torn);
+        self.end_write(torn)
+    }
+}

@@ -1,0 +1,159 @@
+//! Inputs in memory.
+ghost use Rattle.std.specs.Prelude.{◌≡◌, [], ◌<◌, ◌≤◌, ◌+◌, ◌^◌, take, drop, length, Some, None, true, is_some, is_err, OnOk, OnErr, IfOk};
+ghost use Rattle.x7_words.specs.Input.{preceded, AtEnd};
+ghost use Rattle.x7_in_memory.specs.Memory.{next_fails, planned, no_calls, after_put, select_answer, after_select, read_count, after_read, known_inputs};
+
+use crate::calls::Calls;
+use crate::put::{Put, left_at, next_place, place_of};
+use std::alloc::Global;
+use std::marker::Model;
+use x7_words::{Failed, Inputs, NoMemory, SelectFault, next_count};
+
+/// Inputs in memory, known whole: what was put under each name last is what a select of it gives.
+///
+/// Each select and each read has the next number, from 1, and those that are to fail fail.
+#[derive(Drop)]
+pub struct MemoryInputs {
+    // What was put, the last first.
+    puts: Vec<Put>,
+    // The place in `puts` of the selected input, and how many of its bytes were read since its select.
+    selected: Option<usize>,
+    place: usize,
+    // The place in `puts` of the name last asked for, where it is there.
+    asked: Option<usize>,
+    selects: u64,
+    most: usize,
+    calls: Calls,
+    faults: u64,
+    alloc: Global,
+}
+
+impl Model for MemoryInputs {
+    ghost use Rattle.std.specs.Prelude.{◌<◌, ◌^◌, map, vec_len};
+    ghost use Rattle.std.specs.Option.{ForSome};
+    ghost use Rattle.x7_in_memory.specs.Memory.{InputsInMemory};
+
+    ghost Value = { InputsInMemory };
+
+    ghost use Rattle.x7_in_memory.specs.Put.{entry_of, left_of, name_of};
+
+    ghost view = { λ m. record {
+      entries = map entry_of m.puts.items;
+      rest = left_of m.puts.items m.place m.selected;
+      asked = name_of m.puts.items m.asked;
+      selects = m.selects;
+      given = m.place;
+      most = m.most;
+      calls = m.calls;
+      faults = m.faults;
+    } };
+
+    ghost invariant = { λ m. (0 < m.most)
+        × ForSome m.selected (λ which. which < vec_len m.puts)
+        × ForSome m.asked (λ which. which < vec_len m.puts)
+        × (m.selects < 2 ^ 64)
+        × (m.faults < 2 ^ 64) };
+}
+
+impl MemoryInputs {
+    /// No inputs. A read gives as many bytes as the buffer takes.
+    pub fn new(alloc: Global) -> MemoryInputs
+        ensures { result ≡ record { entries = []; rest = None; asked = None; selects = 0; given = 0; most = usize.MAX; calls = no_calls; faults = 0 } }
+    {
+        MemoryInputs {
+            puts: Vec::new(alloc),
+            selected: None,
+            place: 0,
+            asked: None,
+            selects: 0,
+            most: usize::MAX,
+            calls: Calls::new(alloc),
+            faults: 0,
+            alloc,
+        }
+    }
+
+    /// Puts the bytes under the name, in place of what was there before.
+    /// An input that is being read goes on with the bytes that it began with.
+    pub fn put(&mut self, name: &str, bytes: &[u8]) -> Result<(), NoMemory>
+        ensures ok { OnOk result (self.new ≡ after_put self.old name.now bytes.now) }
+        ensures err { OnErr result (self.new ≡ self.old) }
+    {
+        let bytes = Vec::from_slice(self.alloc, bytes)?;
+        let name = String::from_str(self.alloc, name)?;
+        self.puts.insert(0, Put { name, bytes })?;
+        self.selected = next_place(self.selected);
+        self.asked = next_place(self.asked);
+        Ok(())
+    }
+
+    /// The call of this number, from 1, is to fail.
+    pub fn fail_at(&mut self, call: u64) -> Result<(), NoMemory>
+        ensures ok { OnOk result (self.new ≡ record self.old { calls = planned self.old.calls call }) }
+        ensures err { OnErr result (self.new ≡ self.old) }
+    {
+        self.calls.fail_at(call)
+    }
+
+    /// From now on a read gives no more bytes than this.
+    pub fn piece(&mut self, most: usize)
+        requires { 0 < most }
+        ensures { self.new ≡ record self.old { most = most } }
+    {
+        self.most = most;
+    }
+}
+
+impl Inputs for MemoryInputs {
+    ghost state = { known_inputs };
+
+    fn select(&mut self, name: &str) -> Result<(), SelectFault>
+        ensures answer { result ≡ select_answer self.old name.now }
+        ensures after { self.new ≡ after_select self.old name.now }
+        ensures once { self.new.selects ≤ self.old.selects + 1 }
+        ensures faults { self.old.faults ≤ self.new.faults }
+        ensures last_fault { self.new.faults < 2 ^ 64 }
+    {
+        self.selected = None;
+        self.place = 0;
+        self.selects = next_count(self.selects);
+        self.asked = place_of(&self.puts, name);
+        let Ok(()) = self.calls.next() else {
+            self.faults = next_count(self.faults);
+            return Err(SelectFault::Failed);
+        };
+        if self.asked.is_none() {
+            return Err(SelectFault::Missing);
+        }
+        self.selected = self.asked;
+        Ok(())
+    }
+
+    fn read(&mut self, buf: &mut [u8]) -> Result<usize, Failed>
+        requires { is_some self.old.rest ≡ true }
+        ensures answer { is_err result ≡ next_fails self.old.calls }
+        ensures count { IfOk result (λ n. n ≡ read_count self.old (length buf.old)) }
+        ensures taken { IfOk result (λ n. self.old.rest ≡ preceded (take n buf.new) self.new.rest) }
+        ensures end { IfOk result (λ n. n ≡ 0 → 0 < length buf.old → AtEnd self.new.rest) }
+        ensures kept { IfOk result (λ n. drop n buf.new ≡ drop n buf.old) }
+        ensures err { OnErr result (buf.new ≡ buf.old) }
+        ensures length { length buf.new ≡ length buf.old }
+        ensures after { self.new ≡ after_read self.old (length buf.old) }
+        ensures faults { self.old.faults ≤ self.new.faults }
+        ensures last_fault { self.new.faults < 2 ^ 64 }
+    {
+        let Some(which) = self.selected else {
+            unreachable!()
+        };
+        let Ok(()) = self.calls.next() else {
+            self.selected = None;
+            self.faults = next_count(self.faults);
+            return Err(Failed);
+        };
+        let left = left_at(&self.puts, which, self.place);
+        let count = buf.len().min(self.most).min(left.len());
+        buf[..count].copy_from_slice(&left[..count]);
+        self.place += count;
+        Ok(count)
+    }
+}

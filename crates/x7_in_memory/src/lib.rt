@@ -1,0 +1,13 @@
+//! Inputs, a sink and a flash in memory, known whole, whose calls can be told to fail.
+#![tactic(auto)]
+
+mod calls;
+mod flash;
+mod inputs;
+mod put;
+mod record;
+mod sink;
+
+pub use flash::MemoryFlash;
+pub use inputs::MemoryInputs;
+pub use sink::MemorySink;

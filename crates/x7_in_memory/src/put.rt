@@ -1,0 +1,56 @@
+//! Bytes that were put under a name.
+ghost use Rattle.std.specs.Prelude.{◌≡◌, ◌<◌, ◌+◌, drop, length, map, option_map, position, IfSome, is_none, string_bytes};
+ghost use Rattle.std.specs.Option.{ForSome};
+ghost use Rattle.std.specs.Str.{bytes_eq};
+ghost use Rattle.x7_in_memory.specs.Memory.{bytes_under, name_under};
+ghost use Rattle.x7_in_memory.specs.Put.{entry_of, left_of, name_of};
+
+/// A name and what was put under it.
+#[derive(Drop)]
+pub struct Put {
+    pub name: String,
+    pub bytes: Vec<u8>,
+}
+
+/// The place of the first one of this name.
+fn first_place(puts: &[Put], name: &str) -> Option<usize>
+    ensures { result ≡ position (λ put. bytes_eq (string_bytes put.name) name.now) puts.now }
+{
+    puts.iter().position(|put| put.name.as_str() == name)
+}
+
+/// The place of what stands under the name, if anything does.
+pub fn place_of(puts: &[Put], name: &str) -> Option<usize>
+    ensures within { IfSome result (λ which. which < length puts.now) }
+    ensures found { is_none result ≡ is_none (bytes_under (map entry_of puts.now) name.now) }
+    ensures bytes { left_of puts.now 0 result ≡ bytes_under (map entry_of puts.now) name.now }
+    ensures name { name_of puts.now result ≡ name_under (map entry_of puts.now) name.now }
+{
+    first_place(puts, name)
+}
+
+/// A place in the puts once one more stands before them.
+pub fn next_place(place: Option<usize>) -> Option<usize>
+    requires { ForSome place (λ which. which + 1 < usize.MAX) }
+    ensures { result ≡ option_map (λ which. which + 1) place }
+{
+    match place {
+        None => None,
+        Some(which) => Some(which + 1),
+    }
+}
+
+/// What is left of the bytes from the place on.
+fn bytes_from(bytes: &[u8], place: usize) -> &[u8]
+    ensures { result.now ≡ drop place bytes.now }
+{
+    &bytes[place.min(bytes.len())..]
+}
+
+/// What is left of the bytes at one place of the puts, from a place among the bytes on.
+pub fn left_at(puts: &[Put], which: usize, place: usize) -> &[u8]
+    requires { which < length puts.now }
+    ensures { left_of puts.now place (Some which) ≡ Some result.now }
+{
+    bytes_from(puts[which].bytes.as_slice(), place)
+}

@@ -1,0 +1,104 @@
+//! A sink in memory.
+ghost use Rattle.std.specs.Prelude.{◌≡◌, [], ◌<◌, ◌≤◌, ◌^◌, length, Some, OnOk, OnErr, IfOk, is_err};
+ghost use Rattle.x7_in_memory.specs.Memory.{no_calls, planned, write_fails, write_count, after_write};
+
+use crate::calls::Calls;
+use std::alloc::Global;
+use std::marker::Model;
+use x7_words::{Failed, NoMemory, Sink, next_count};
+
+/// A sink in memory with a fixed room, known whole.
+///
+/// Each write has the next number, from 1, and those that are to fail fail.
+#[derive(Drop)]
+pub struct MemorySink {
+    bytes: Vec<u8>,
+    room: usize,
+    most: usize,
+    calls: Calls,
+    faults: u64,
+}
+
+impl Model for MemorySink {
+    ghost use Rattle.std.specs.Prelude.{◌<◌, ◌≤◌, ◌^◌, vec_len, vec_capacity};
+    ghost use Rattle.x7_in_memory.specs.Memory.{SinkInMemory};
+
+    ghost Value = { SinkInMemory };
+
+    ghost view = { λ s. record {
+      bytes = s.bytes.items;
+      room = s.room;
+      most = s.most;
+      calls = s.calls;
+      faults = s.faults;
+    } };
+
+    ghost invariant = { λ s. (vec_len s.bytes ≤ s.room)
+        × (s.room ≤ vec_capacity s.bytes)
+        × (0 < s.most)
+        × (s.faults < 2 ^ 64) };
+}
+
+impl MemorySink {
+    /// Room for so many bytes. A write takes as many bytes as there is room for.
+    pub fn new(alloc: Global, room: usize) -> Result<MemorySink, NoMemory>
+        ensures { IfOk result (λ s. s ≡
+            record { bytes = []; room = room; most = usize.MAX; calls = no_calls; faults = 0 }) }
+    {
+        Ok(MemorySink {
+            bytes: Vec::with_capacity(alloc, room)?,
+            room,
+            most: usize::MAX,
+            calls: Calls::new(alloc),
+            faults: 0,
+        })
+    }
+
+    /// The call of this number, from 1, is to fail.
+    pub fn fail_at(&mut self, call: u64) -> Result<(), NoMemory>
+        ensures ok { OnOk result (self.new ≡ record self.old { calls = planned self.old.calls call }) }
+        ensures err { OnErr result (self.new ≡ self.old) }
+    {
+        self.calls.fail_at(call)
+    }
+
+    /// From now on a write takes no more bytes than this.
+    pub fn piece(&mut self, most: usize)
+        requires { 0 < most }
+        ensures { self.new ≡ record self.old { most = most } }
+    {
+        self.most = most;
+    }
+
+    /// The bytes written so far.
+    pub fn bytes(&self) -> &[u8]
+        ensures { result.now ≡ self.now.bytes }
+    {
+        self.bytes.as_slice()
+    }
+}
+
+impl Sink for MemorySink {
+    ghost state = { λ s. record { written = Some s.bytes; faults = s.faults } };
+
+    fn write(&mut self, piece: &[u8]) -> Result<usize, Failed>
+        ensures answer { is_err result ≡ write_fails self.old piece.now }
+        ensures count { IfOk result (λ n. n ≡ write_count self.old piece.now) }
+        ensures some { IfOk result (λ n. 0 < length piece.now → 0 < n) }
+        ensures after { self.new ≡ after_write self.old piece.now }
+        ensures faults { self.old.faults ≤ self.new.faults }
+        ensures last_fault { self.new.faults < 2 ^ 64 }
+    {
+        let is_planned = self.calls.next().is_err();
+        let free = self.room - self.bytes.len();
+        if is_planned || free == 0 && piece.len() > 0 {
+            self.faults = next_count(self.faults);
+            return Err(Failed);
+        }
+        let count = piece.len().min(self.most).min(free);
+        match self.bytes.extend_from_slice(&piece[..count]) {
+            Ok(()) => Ok(count),
+            Err(_) => unreachable!(),
+        }
+    }
+}

@@ -1,8 +1,0 @@
-use Rattle.x7_packets.specs.Nops.{nop_word}
-use Rattle.x7_packets.specs.declared.header.Step.TheVariants.{Nop}
-use Rattle.x7_listing.proofs.AtOnceLemmas.{equal_told}
-use Rattle.x7_listing.proofs.at_once.put_idle.Goals as goal
-
-pub returns-clause-listed : goal.returns-clause-listed
-returns-clause-listed c = λ k takes given before bytes s.
-    equal_told c.args.count k nop_word Nop c.args.pen.synced _ c.args.pen.line _ c.session_line.result _ _ c.args.text.now.items c.put_close.new.text.items _ given before bytes c.requires.some tt takes c.session_line.ensures.line c.in_session.ensures.synced c.in_session.ensures.line c.put_close.ensures.appends.items c.put_nops.ensures.appends.items s

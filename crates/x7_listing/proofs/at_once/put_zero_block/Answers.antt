@@ -1,8 +1,0 @@
-use Rattle.std.proofs.Common.{◌*◌, ap, arith, length-take, take, ◌∙◌, refl}
-use Rattle.x7_text.proofs.AppendsLemmas.{appends_as}
-use Rattle.x7_packets.specs.declared.header.Step.TheVariants.{Filler}
-use Rattle.x7_listing.proofs.AtOnceLemmas.{equal_block, equal_front}
-use Rattle.x7_listing.proofs.at_once.put_zero_block.Goals as goal
-
-pub returns : goal.returns
-returns c = record { appends = appends_as _ _ _ _ _ _ c.put.ensures.appends (ap (take (14 * c.args.count)) (c.as_flattened.ensures.value ∙ equal_block Filler 0 64 _ refl) ∙ equal_front Filler 0 14 64 c.args.count refl c.requires.few) (search (arith, length-take)) }

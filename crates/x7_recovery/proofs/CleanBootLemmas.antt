@@ -1,0 +1,325 @@
+-- A golden stream that begins clean starts as a fallback behind an open slot, where it starts at power behind an erased sector.
+use Rattle.std.proofs.Common.{◌≡◌, ◌==◌, ◌+◌, ◌-◌, ◌*◌, ◌^◌, ◌<◌, ◌≤◌, inl, inr, ℕ, true, false, if◌then◌else◌, Option, None, Some, List, [], ◌∷◌, ◌++◌, drop, take, length, length-append, length-drop, refl, ap, sym, subst, ◌∙◌, append_assoc, append-nil, take-append-drop, arith}
+use Rattle.std.proofs.lemmas.Bool.{cases_lt}
+use Rattle.std.proofs.lemmas.List.{take-append-le}
+use Rattle.std.proofs.Math.Seq.{take-append-add, take-length}
+use Rattle.x7_words.specs.Word.{AreBytes}
+use Rattle.x7_words.proofs.ListLemmas.{all-append, all_back, all_take}
+use Rattle.x7_packets.specs.Appended.{gap_of, moved}
+use Rattle.x7_packets.specs.History.{History, entry, history_of}
+use Rattle.x7_packets.specs.Reading.{is_synced}
+use Rattle.x7_packets.specs.SyncWord.{sync_bytes}
+use Rattle.x7_packets.proofs.AppendedLemmas.{history_after}
+use Rattle.x7_part.specs.Part.{PartData}
+use Rattle.x7_regs.specs.declared.boot_status.Kind.TheVariants.{Fallback}
+use Rattle.x7_startup.specs.Calls.{NotBegun, StartupProgress}
+use Rattle.x7_flow.specs.FrameMemory.{memory_of}
+use Rattle.x7_engine.specs.Kept.{is_fallback}
+use Rattle.x7_engine.specs.Registers.{wrote_iprog}
+use Rattle.x7_engine.specs.Startup.{phase_by, startup_progress}
+use Rattle.x7_engine.specs.State.{history_by, memory_in, stop_in, taken_by, why_of}
+use Rattle.x7_engine.specs.Stops.{Stopped, stop_of}
+use Rattle.x7_engine.specs.declared.kept.Kept.{Kept}
+use Rattle.x7_regs.specs.BootStatus.{boot_status_of}
+use Rattle.x7_regs.specs.declared.boot_status.Attempt.{Attempt}
+use Rattle.x7_regs.specs.declared.boot_status.Cause.{Cause}
+use Rattle.x7_boot.specs.Attempt.{EndsFirst, IsTrial, Trial, ending_at, ending_by}
+use Rattle.x7_boot.specs.Boot.{at_power, end_state}
+use Rattle.x7_boot.specs.Image.{open_slot}
+use Rattle.x7_boot.specs.declared.attempt.Ending.TheVariants.{Started}
+use Rattle.x7_boot.proofs.StartLemmas.{front_goes, front_history, front_open}
+use Rattle.x7_recovery.specs.Clean.{BeginsClean, StartsClean, clear, later}
+use Rattle.x7_recovery.specs.Golden.{erased_sector, with_erased}
+use Rattle.x7_recovery.specs.Course.{BootCourse, IsCourse}
+use Rattle.x7_recovery.specs.OpenBoot.{FallsBackClean, UpdateFails}
+use Rattle.x7_recovery.specs.OpenSlot.{HasOpen, IsOpened, Opened}
+use Rattle.x7_effects.proofs.GoingLemmas.{IsGoing, going_bytes}
+use Rattle.x7_recovery.proofs.SlotLemmas.{slot_long}
+use Rattle.x7_recovery.proofs.OpenSlotLemmas.{after_slot, slot_history, slot_place}
+use Rattle.x7_recovery.proofs.BehindLemmas.{NoneBegins, history_behind}
+use Rattle.x7_recovery.proofs.CleanStopLemmas.{AreClean, ComesAlike, clean_until, comes, slot_near}
+use Rattle.x7_recovery.proofs.FullTrialLemmas.{bootsts_is, iprog_later}
+use Rattle.x7_recovery.proofs.GoldenLemmas.{ended, erased_drop, erased_fits, erased_long, erased_shut, erased_take, shut_none, word_at}
+use Rattle.x7_recovery.proofs.OpenBootLemmas.{Falls, failed_attempt, falls, kept_then}
+use Rattle.x7_recovery.proofs.OpenLemmas as slots
+use Rattle.x7_recovery.proofs.OpenLemmas.{desync_at, sector, sector_going, sector_history, sector_long, sector_never, sector_rests, sector_wrote}
+
+-- ---- places moved on twice
+
+moved_again : (n m : ℕ) (h : History) → moved n (moved m h) ≡ moved (n + m) h
+moved_again n m [] = refl
+moved_again n m (e ∷ h) =
+    let at : n + (m + e.place) ≡ n + m + e.place = omega arith in
+    ap (λ (p : ℕ). entry e.access p ∷ moved n (moved m h)) at ∙ ap (λ (t : History). entry e.access (n + m + e.place) ∷ t) (moved_again n m h)
+
+moved_append : (n : ℕ) (g h : History) → moved n (g ++ h) ≡ moved n g ++ moved n h
+moved_append n [] h = refl
+moved_append n (e ∷ g) h = ap (λ (t : History). entry e.access (n + e.place) ∷ t) (moved_append n g h)
+
+-- ---- an attempt that nothing has stopped
+
+ends_going : (part : PartData) (kept : Kept) (bytes : List ℕ) → stop_in part kept bytes ≡ None → ending_at part kept bytes ≡ (if phase_by part (startup_progress (history_of bytes) (length bytes)) == 7 then Some Started else None)
+ends_going part kept bytes none =
+    ap (λ (o : Option Stopped). if phase_by part (startup_progress (history_by o (history_of bytes)) (taken_by o (length bytes))) == 7 then Some Started else ending_by (why_of o)) none
+
+memory_going : (part : PartData) (kept : Kept) (bytes : List ℕ) → stop_in part kept bytes ≡ None → memory_in part kept bytes ≡ memory_of part (history_of bytes)
+memory_going part kept bytes none = ap (λ (o : Option Stopped). memory_of part (history_by o (history_of bytes))) none
+
+not_empty : (h : History) → h ≡ [] → BeginsClean h → ⊥
+not_empty _ e (clear place h l) = absurd (cc)
+not_empty _ e (later x h b) = absurd (cc)
+
+drop_past : (n : ℕ) (xs : List ℕ) → length xs ≤ n → drop n xs ≡ []
+drop_past n xs l = by (drop n xs) (omega (arith, l, length-drop n xs))
+  where
+    by : (ys : List ℕ) → length ys ≡ 0 → ys ≡ []
+    by [] e = refl
+    by (y ∷ ys) e = absurd (omega (arith, e))
+
+-- ---- the history of the first sector and of bytes behind it
+
+regroup : (a b c d : List ℕ) → (a ++ (b ++ c)) ++ d ≡ a ++ (b ++ (c ++ d))
+regroup a b c d = simp append_assoc
+
+regroup_word : (a b p w back more : List ℕ) → (a ++ (b ++ (p ++ (w ++ back)))) ++ more ≡ ((a ++ b) ++ p) ++ (w ++ (back ++ more))
+regroup_word a b p w back more = simp append_assoc
+
+module _ (flash : List ℕ) (number start : ℕ) (o : HasOpen flash number start) (small : start < 2 ^ 32) (s rest : List ℕ) (split : flash ≡ (sector flash number start o small ++ s) ++ rest) (fits : AreBytes (sector flash number start o small ++ s)) where
+  abbrev front : List ℕ
+  front = slots.sector flash number start o small
+
+  abbrev before : List ℕ
+  before = slots.gap flash number start o small
+
+  abbrev after : List ℕ
+  after = slots.more flash number start o small
+
+  whole_is : front ++ s ≡ before ++ (open_slot start ++ (after ++ s))
+  whole_is = ap (λ (x : List ℕ). x ++ s) (slots.sector_is flash number start o small) ∙ regroup before (open_slot start) after s
+
+  lengths : length before + (32 + length after) ≡ 65536
+  lengths =
+      sym (sym (sector_long flash number start o small) ∙ ap length (slots.sector_is flash number start o small) ∙ length-append before (open_slot start ++ after) ∙ ap (λ (x : ℕ). length before + x) (length-append (open_slot start) after)
+      ∙ ap (λ (x : ℕ). length before + (x + length after)) (slot_long 0xAA995566 start))
+
+  none_later : NoneBegins after s
+  none_later prefix back e = elim (cases_lt (length prefix) (length after)) [
+    | inr past ↦ past
+    | inl less ↦
+        let prefix_2 : List ℕ = (before ++ open_slot start) ++ prefix in
+        let there : flash ≡ prefix_2 ++ (sync_bytes ++ (back ++ rest)) = split ∙ ap (λ (x : List ℕ). x ++ rest) whole_is ∙ ap (λ (x : List ℕ). (before ++ (open_slot start ++ x)) ++ rest) e ∙ regroup_word before (open_slot start) prefix sync_bytes back rest in
+        let long : length prefix_2 ≡ 32 * number + 32 + length prefix =
+        length-append (before ++ open_slot start) prefix ∙ ap (λ (x : ℕ). x + length prefix) (length-append before (open_slot start) ∙ omega (arith, slots.gap_long flash number start o small, slot_long 0xAA995566 start)) in
+        let here : length prefix_2 ≡ 32 * number = o.alone (length prefix_2) (omega (arith, long, less, lengths, slots.gap_long flash number start o small)) (word_at flash prefix_2 (back ++ rest) there) in
+        absurd (omega (arith, here, long))
+  ]
+
+  fits_all : AreBytes (before ++ (open_slot start ++ (after ++ s)))
+  fits_all = subst AreBytes whole_is fits
+
+  fits_slot : AreBytes (open_slot start ++ (after ++ s))
+  fits_slot = all_back (λ b. b < 256) before (open_slot start ++ (after ++ s)) fits_all
+
+  fits_after : AreBytes (after ++ s)
+  fits_after = all_back (λ b. b < 256) (open_slot start) (after ++ s) fits_slot
+
+  after_history : history_of (after ++ s) ≡ moved (length after) (history_of s)
+  after_history = history_behind after s fits_after none_later ∙ append-nil (moved (length after) (history_of s))
+
+  slot_then : history_of (open_slot start ++ (after ++ s)) ≡ moved 32 (moved (length after) (history_of s)) ++ after_slot start
+  slot_then =
+      history_after (open_slot start) (after ++ s) fits_slot (record { searching = ap is_synced (slot_place start small); apart = inl (ap gap_of (slot_place start small)) })
+      ∙ ap (λ (h : History). moved (length (open_slot start)) h ++ history_of (open_slot start)) after_history
+      ∙ ap (λ (n : ℕ). moved n (moved (length after) (history_of s)) ++ history_of (open_slot start)) (slot_long 0xAA995566 start)
+      ∙ ap (λ (h : History). moved 32 (moved (length after) (history_of s)) ++ h) (slot_history start small)
+
+  pub sector_then : history_of (front ++ s) ≡ moved 65536 (history_of s) ++ desync_at (32 * number) start
+  sector_then =
+      let inner : History = moved 32 (moved (length after) (history_of s)) in
+      let n : ℕ = length before in
+      ap history_of whole_is
+      ∙ history_behind before (open_slot start ++ (after ++ s)) fits_all (slots.none_before flash number start o small (open_slot start ++ (after ++ s)) rest (split ∙ ap (λ (x : List ℕ). x ++ rest) whole_is))
+      ∙ append-nil (moved n (history_of (open_slot start ++ (after ++ s))))
+      ∙ ap (moved n) slot_then
+      ∙ moved_append n inner (after_slot start)
+      ∙ ap (λ (h : History). moved n h ++ moved n (after_slot start)) (moved_again 32 (length after) (history_of s))
+      ∙ ap (λ (h : History). h ++ moved n (after_slot start)) (moved_again n (32 + length after) (history_of s) ∙ ap (λ (m : ℕ). moved m (history_of s)) lengths)
+      ∙ ap (λ (m : ℕ). moved 65536 (history_of s) ++ desync_at m start) (slots.gap_long flash number start o small)
+
+-- ---- the fallback
+
+module _ (o : Opened) (is : IsOpened o) (t : Trial) (c : StartsClean o.part o.flash t) where
+  abbrev s : List ℕ
+  s = drop 65536 t.bytes
+
+  abbrev one : List ℕ
+  one = with_erased o.flash
+
+  abbrev front' : List ℕ
+  front' = take 65536 o.flash
+
+  x : EndsFirst o.part one t
+  x = ended o.part one t c.starts
+
+  long : 65536 ≤ length t.bytes
+  long = elim (cases_lt (length t.bytes) 65536) [
+    | inr past ↦ past
+    | inl few ↦ absurd (not_empty (history_of s) (ap history_of (drop_past 65536 t.bytes (omega (arith, few)))) c.clean)
+  ]
+
+  bytes_are : t.bytes ≡ erased_sector ++ s
+  bytes_are =
+      sym (take-append-drop 65536 t.bytes)
+      ∙ ap (λ (y : List ℕ). y ++ s) (sym (take-append-le 65536 t.bytes x.rest long) ∙ ap (take 65536) (sym x.taken) ∙ erased_take (drop 65536 o.flash))
+
+  one_is : one ≡ (erased_sector ++ s) ++ x.rest
+  one_is = x.taken ∙ ap (λ (b : List ℕ). b ++ x.rest) bytes_are
+
+  behind_is : drop 65536 o.flash ≡ s ++ x.rest
+  behind_is = sym (erased_drop (drop 65536 o.flash)) ∙ ap (drop 65536) (one_is ∙ append_assoc erased_sector s x.rest) ∙ erased_drop (s ++ x.rest)
+
+  flash_is : o.flash ≡ (front' ++ s) ++ x.rest
+  flash_is = sym (take-append-drop 65536 o.flash) ∙ ap (λ (y : List ℕ). front' ++ y) behind_is ∙ sym (append_assoc front' s x.rest)
+
+  s_fits : AreBytes s
+  s_fits = all_back (λ b. b < 256) erased_sector s (subst AreBytes bytes_are c.fits)
+
+  erased_all : AreBytes (erased_sector ++ s)
+  erased_all = subst AreBytes bytes_are c.fits
+
+  going : stop_in o.part at_power (erased_sector ++ s) ≡ None
+  going = sym (ap (stop_in o.part at_power) bytes_are) ∙ ap (λ (k : Kept). stop_in o.part k t.bytes) (sym c.starts.kept) ∙ c.going
+
+  front_long : length front' ≡ 65536
+  front_long = sector_long o.flash o.slot o.start is.has is.small
+
+  -- fronts of the golden stream
+  module _ (k : ℕ) where
+    abbrev sk : List ℕ
+    sk = take k s
+
+    sk_fits : AreBytes sk
+    sk_fits = all_take (λ b. b < 256) k s s_fits
+
+    power_long : length (erased_sector ++ sk) ≡ 65536 + length sk
+    power_long = length-append erased_sector sk ∙ ap (λ (n : ℕ). n + length sk) erased_long
+
+    fall_long : length (front' ++ sk) ≡ 65536 + length sk
+    fall_long = length-append front' sk ∙ ap (λ (n : ℕ). n + length sk) front_long
+
+    power_history : history_of (erased_sector ++ sk) ≡ moved 65536 (history_of sk)
+    power_history =
+        history_behind erased_sector sk (all-append (λ b. b < 256) erased_sector sk erased_fits sk_fits) (shut_none (erased_sector ++ sk) erased_sector sk (erased_shut sk) refl (omega (arith, erased_long)))
+        ∙ append-nil (moved (length erased_sector) (history_of sk)) ∙ ap (λ (n : ℕ). moved n (history_of sk)) erased_long
+
+    fall_history : history_of (front' ++ sk) ≡ moved 65536 (history_of sk) ++ desync_at (32 * o.slot) o.start
+    fall_history =
+        let rest_k : List ℕ = drop k s ++ x.rest in
+        let split : o.flash ≡ (front' ++ sk) ++ rest_k = flash_is ∙ ap (λ (y : List ℕ). (front' ++ y) ++ x.rest) (sym (take-append-drop k s)) ∙ ap (λ (y : List ℕ). y ++ x.rest) (sym (append_assoc front' sk (drop k s))) ∙ append_assoc (front' ++ sk) (drop k s) x.rest in
+        sector_then o.flash o.slot o.start is.has is.small sk rest_k split (all-append (λ b. b < 256) front' sk is.has.fits sk_fits)
+
+    clean : AreClean (history_of sk)
+    clean = subst AreClean (sym (front_history k s s_fits)) (clean_until (length sk) (history_of s) c.clean)
+
+    power_going : stop_in o.part at_power (erased_sector ++ sk) ≡ None
+    power_going = ap (stop_in o.part at_power) (sym (take-append-add erased_sector s k)) ∙ front_goes o.part at_power (length erased_sector + k) (erased_sector ++ s) erased_all going
+
+    module _ (kept : Kept) (fell : is_fallback kept.kind ≡ true) where
+      slot_going : IsGoing o.part kept NotBegun (desync_at (32 * o.slot) o.start) 65536
+      slot_going = sector_going o.flash o.slot o.start is.has is.small o.part kept fell
+
+      abbrev AreAlikeHere : Type 0
+      AreAlikeHere = ComesAlike o.part kept at_power 65536 fell (desync_at (32 * o.slot) o.start) (slot_near o.part kept (32 * o.slot) o.start slot_going)
+          (λ m l. (going_bytes o.part kept NotBegun (desync_at (32 * o.slot) o.start) 65536 m l slot_going).calm.no_stop) (history_of sk) (65536 + length sk)
+
+      alike : AreAlikeHere
+      alike = comes o.part kept at_power 65536 fell (desync_at (32 * o.slot) o.start) (slot_near o.part kept (32 * o.slot) o.start slot_going)
+          (λ m l. (going_bytes o.part kept NotBegun (desync_at (32 * o.slot) o.start) 65536 m l slot_going).calm.no_stop) (history_of sk) (65536 + length sk) (omega arith) clean
+          (sym (ap (λ (h : History). stop_of o.part at_power h (length (erased_sector ++ sk))) power_history ∙ ap (stop_of o.part at_power (moved 65536 (history_of sk))) power_long) ∙ power_going)
+
+      fall_going : stop_in o.part kept (front' ++ sk) ≡ None
+      fall_going = ap (λ (h : History). stop_of o.part kept h (length (front' ++ sk))) fall_history ∙ ap (stop_of o.part kept (moved 65536 (history_of sk) ++ desync_at (32 * o.slot) o.start)) fall_long ∙ alike.none
+
+      progress_alike : startup_progress (history_of (front' ++ sk)) (length (front' ++ sk)) ≡ startup_progress (history_of (erased_sector ++ sk)) (length (erased_sector ++ sk))
+      progress_alike =
+          ap (λ (h : History). startup_progress h (length (front' ++ sk))) fall_history ∙ ap (startup_progress (moved 65536 (history_of sk) ++ desync_at (32 * o.slot) o.start)) fall_long
+          ∙ alike.startup.1
+          ∙ sym (ap (λ (h : History). startup_progress h (length (erased_sector ++ sk))) power_history ∙ ap (startup_progress (moved 65536 (history_of sk))) power_long)
+
+      ending_alike : ending_at o.part kept (front' ++ sk) ≡ ending_at o.part at_power (erased_sector ++ sk)
+      ending_alike =
+          ends_going o.part kept (front' ++ sk) fall_going
+          ∙ ap (λ (p : StartupProgress). if phase_by o.part p == 7 then Some Started else None) progress_alike
+          ∙ sym (ends_going o.part at_power (erased_sector ++ sk) power_going)
+
+      memory_alike : memory_in o.part kept (front' ++ sk) ≡ memory_in o.part at_power (erased_sector ++ sk)
+      memory_alike =
+          memory_going o.part kept (front' ++ sk) fall_going ∙ ap (memory_of o.part) fall_history ∙ alike.memory ∙ ap (memory_of o.part) (sym power_history) ∙ sym (memory_going o.part at_power (erased_sector ++ sk) power_going)
+
+  module _ (kept : Kept) (fell : is_fallback kept.kind ≡ true) where
+    all_of : take (length s) s ≡ s
+    all_of = take-length s
+
+    abbrev fallen : Trial
+    fallen = record { kept = kept; address = 0; bytes = front' ++ s; wrapped = false; ending = Started }
+
+    fallen_ends : ending_at o.part kept (front' ++ s) ≡ Some Started
+    fallen_ends =
+        ap (λ (y : List ℕ). ending_at o.part kept (front' ++ y)) (sym all_of)
+        ∙ ending_alike (length s) kept fell
+        ∙ ap (λ (y : List ℕ). ending_at o.part at_power (erased_sector ++ y)) all_of
+        ∙ ap (ending_at o.part at_power) (sym bytes_are)
+        ∙ ap (λ (k : Kept). ending_at o.part k t.bytes) (sym c.starts.kept)
+        ∙ x.ends ∙ ap Some c.starts.started
+
+    fallen_first : (k : ℕ) → k < length (front' ++ s) → ending_at o.part kept (take k o.flash) ≡ None
+    fallen_first k few =
+        let within : k ≤ length (front' ++ s) = omega (arith, few) in
+        let here : take k o.flash ≡ take k (front' ++ s) = ap (take k) flash_is ∙ take-append-le k (front' ++ s) x.rest within in
+        elim (cases_lt k 65536) [
+          | inl early ↦
+              let in_front : k ≤ length front' = omega (arith, early, front_long) in
+              ap (ending_at o.part kept) (here ∙ take-append-le k front' s in_front)
+              ∙ front_open o.part kept k front' is.has.fits (sector_never o.flash o.slot o.start is.has is.small) (front_goes o.part kept k front' is.has.fits (sector_rests o.flash o.slot o.start is.has is.small o.part kept fell).no_stop)
+          | inr late ↦
+              let j : ℕ = k - 65536 in
+              let sum : length front' + j ≡ k = omega (arith, late, front_long) in
+              let at : ℕ = length erased_sector + j in
+              let less : at < length t.bytes = omega (arith, few, late, erased_long, length-append front' s, front_long, length-drop 65536 t.bytes, long) in
+              let whole : at ≤ length (erased_sector ++ s) = omega (arith, less, ap length bytes_are) in
+              let taken : take at one ≡ erased_sector ++ take j s = ap (take at) one_is ∙ take-append-le at (erased_sector ++ s) x.rest whole ∙ take-append-add erased_sector s j in
+              ap (ending_at o.part kept) (here ∙ ap (λ (n : ℕ). take n (front' ++ s)) (sym sum) ∙ take-append-add front' s j)
+              ∙ ending_alike j kept fell
+              ∙ ap (ending_at o.part at_power) (sym taken)
+              ∙ ap (λ (q : Kept). ending_at o.part q (take at one)) (sym c.starts.kept)
+              ∙ x.first at less
+        ]
+
+    pub fallen_is : IsTrial o.part o.flash fallen
+    fallen_is = inl (record { rest = x.rest; taken = flash_is; ends = fallen_ends; first = fallen_first; in_flash = refl })
+
+    fallen_memory : memory_in o.part kept (front' ++ s) ≡ memory_in o.part t.kept t.bytes
+    fallen_memory =
+        ap (λ (y : List ℕ). memory_in o.part kept (front' ++ y)) (sym all_of) ∙ memory_alike (length s) kept fell ∙ ap (λ (y : List ℕ). memory_in o.part at_power (erased_sector ++ y)) all_of
+        ∙ ap (memory_in o.part at_power) (sym bytes_are) ∙ ap (λ (k : Kept). memory_in o.part k t.bytes) (sym c.starts.kept)
+
+    fallen_going : stop_in o.part kept (front' ++ s) ≡ None
+    fallen_going = ap (λ (y : List ℕ). stop_in o.part kept (front' ++ y)) (sym all_of) ∙ fall_going (length s) kept fell
+
+    fallen_wrote : wrote_iprog (history_of (front' ++ s)) ≡ true
+    fallen_wrote = iprog_later front' s (all-append (λ b. b < 256) front' s is.has.fits s_fits) (sector_wrote o.flash o.slot o.start is.has is.small)
+
+  pub falls_clean : (a : BootCourse) (u : Trial) (cause : Cause) → IsCourse o.part o.flash a → UpdateFails o u cause false → FallsBackClean o cause t a
+  falls_clean a u cause course fails =
+      let kept : Kept = kept_then o is u in
+      let l : Trial = fallen kept refl in
+      let f : Falls o is a l cause = falls o is a u l cause course fails (fallen_is kept refl) refl refl refl in
+      record {
+        attempts_are = f.attempts_are;
+        started = f.started;
+        taken = ap (λ (v : Trial). length v.bytes) f.last_is ∙ omega (arith, length-append front' s, front_long, length-drop 65536 t.bytes, long);
+        memory = ap (λ (v : Trial). memory_in o.part v.kept v.bytes) f.last_is ∙ fallen_memory kept refl;
+        bootsts = ap (λ (v : Trial). (end_state o.part v).bootsts) f.last_is
+            ∙ bootsts_is o.part kept (front' ++ s) true (fallen_going kept refl) (fallen_wrote kept refl)
+            ∙ ap (λ (a : Attempt). boot_status_of (record { kind = Fallback; cause = None; ignored = true }) (Some a)) (failed_attempt o is u cause fails);
+      }

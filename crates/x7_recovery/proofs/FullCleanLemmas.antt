@@ -1,0 +1,185 @@
+-- The full stream of a plan begins clean: behind an erased first sector it starts, and nothing has stopped the device by then.
+use Rattle.std.proofs.Common.{◌≡◌, ◌==◌, ◌+◌, ◌-◌, ◌*◌, ◌<◌, ◌≤◌, ◌⊎◌, inl, inr, ℕ, Bool, true, false, if◌then◌else◌, Option, None, Some, List, [], ◌∷◌, ◌++◌, drop, take, length, length-append, refl, ap, sym, subst, ◌∙◌, append_assoc, append-nil, arith}
+use Rattle.std.proofs.lemmas.Bool.{cases_lt}
+use Rattle.std.proofs.lemmas.List.{take-append-le}
+use Rattle.std.proofs.Math.Seq.{drop-append_seam, take-append-add, take-append_seam}
+use Rattle.x7_words.specs.Word.{AreBytes}
+use Rattle.x7_words.proofs.ListLemmas.{all-append, all_take}
+use Rattle.x7_packets.specs.Appended.{moved}
+use Rattle.x7_packets.specs.History as access
+use Rattle.x7_packets.specs.History.{Access, Entry, History, entry, history_of}
+use Rattle.x7_packets.proofs.AppendedLemmas.{nothing_read}
+use Rattle.x7_part.specs.Part.{PartData}
+use Rattle.x7_part.specs.PartRange.{IsPart}
+use Rattle.x7_part.specs.Slots.{slots_in}
+use Rattle.x7_memory.specs.Planned.{IsPlanFor, PlanData}
+use Rattle.x7_planner.specs.Full.{full_stream}
+use Rattle.x7_engine.specs.State.{state_of, stop_in, why_of}
+use Rattle.x7_engine.specs.declared.kept.Kept.{Kept}
+use Rattle.x7_engine.specs.declared.stop.Stop.{Stop}
+use Rattle.x7_engine.specs.declared.stop.Stop.TheVariants as stop
+use Rattle.x7_engine.specs.Values.{cause_of}
+use Rattle.x7_regs.specs.declared.boot_status.Cause.{Cause}
+use Rattle.x7_effects.specs.Played.{PlaysFull, resting_after}
+use Rattle.x7_effects.proofs.Items.{writes_entered}
+use Rattle.x7_effects.proofs.Checking.{pieces_length}
+use Rattle.x7_effects.proofs.FormLemmas.{full_clears, full_fits}
+use Rattle.x7_effects.proofs.Frames.{frames_at, joined}
+use Rattle.x7_effects.proofs.GoingLemmas.{written}
+use Rattle.x7_effects.proofs.LawLemmas.{full_law}
+use Rattle.x7_effects.proofs.PartialLemmas.{have_words}
+use Rattle.x7_effects.proofs.PlannerLemmas.{full_same}
+use Rattle.x7_effects.proofs.RestingLemmas.{stream_history}
+use Rattle.x7_effects.proofs.Streams as items
+use Rattle.x7_boot.specs.Attempt.{EndsFirst, Trial, ending_by, failed_by}
+use Rattle.x7_boot.specs.Boot.{at_power}
+use Rattle.x7_boot.specs.declared.attempt.Ending.TheVariants as ending
+use Rattle.x7_boot.proofs.StartLemmas.{front_goes}
+use Rattle.x7_recovery.specs.Clean.{BeginsClean, StartsClean, clear, later, nothing, shutdown}
+use Rattle.x7_recovery.specs.Golden.{StartsAsPlanned, erased_sector, with_erased}
+use Rattle.x7_recovery.specs.Recovery.{IsPrepared, Updating}
+use Rattle.x7_recovery.proofs.BehindLemmas.{gap_empty, history_behind}
+use Rattle.x7_recovery.proofs.FullTrialLemmas.{full_ends, full_stream_fits, seven_whole}
+use Rattle.x7_recovery.proofs.GoldenLemmas.{ended, erased_fits, erased_long, erased_shut, never_erased, rest_erased, shut_none}
+
+-- ---- the history of a full stream begins clean
+
+words_clean : (place : ℕ) (ws : List ℕ) (h : History) → BeginsClean h → BeginsClean (writes_entered place 2 ws h)
+words_clean place [] h b = b
+words_clean place (w ∷ ws) h b = words_clean (place + 4) ws (entry (access.Write 2 w) (place + 4) ∷ h) (later (entry (access.Write 2 w) (place + 4)) h b)
+
+pieces_clean : (part : PartData) (plan : PlanData) (place : ℕ) → BeginsClean (written place (items.full_pieces part plan) [])
+pieces_clean part plan place =
+    let ws : List ℕ = joined (frames_at part plan (slots_in part)) in
+    later _ _ (later _ _ (later _ _ (later _ _ (words_clean _ ws _ (later _ _ (later _ _ (later _ _ (later _ _ (later _ _ (later _ _ (clear _ _ (shutdown _ [] nothing))))))))))))
+
+stream_clean : (part : PartData) (plan : PlanData) → IsPart part → IsPlanFor part plan → BeginsClean (history_of (full_stream part plan))
+stream_clean part plan is for =
+    let is_history : history_of ([] ++ full_stream part plan) ≡ entry (access.Write 4 13) (0 + 36 + 4 * pieces_length (items.full_pieces part plan) + 8) ∷ written (0 + 36) (items.full_pieces part plan) [] =
+    ap (λ (s : List ℕ). history_of ([] ++ s)) (full_same part plan is for.is_plan for.width)
+    ∙ stream_history [] (items.full_pieces part plan) 16 tt refl (full_fits part plan is for.is_plan for.width (have_words plan.rows for.is_plan.each)) (full_clears part plan) in
+    subst BeginsClean (sym is_history) (later _ _ (pieces_clean part plan (0 + 36)))
+
+-- ---- moved histories
+
+access_is : (a b : Access) (p q : ℕ) (g h : History) → entry a p ∷ g ≡ entry b q ∷ h → a ≡ b
+access_is a b p q g h e = let first : entry a p ≡ entry b q = cc in ap (λ (x : Entry). x.access) first
+
+place_is : (a b : Access) (p q : ℕ) (g h : History) → entry a p ∷ g ≡ entry b q ∷ h → p ≡ q
+place_is a b p q g h e = let first : entry a p ≡ entry b q = cc in ap (λ (x : Entry). x.place) first
+
+rest_is : (a b : Access) (p q : ℕ) (g h : History) → entry a p ∷ g ≡ entry b q ∷ h → g ≡ h
+rest_is a b p q g h e = cc
+
+moved_same : (n : ℕ) (g h : History) → moved n g ≡ moved n h → g ≡ h
+moved_same n [] [] e = refl
+moved_same n [] (f ∷ h) e = absurd (cc)
+moved_same n (x ∷ g) [] e = absurd (cc)
+moved_same n (x ∷ g) (f ∷ h) e =
+    let a : x.access ≡ f.access = access_is x.access f.access (n + x.place) (n + f.place) (moved n g) (moved n h) e in
+    let sum : n + x.place ≡ n + f.place = place_is x.access f.access (n + x.place) (n + f.place) (moved n g) (moved n h) e in
+    let p : x.place ≡ f.place = omega (arith, sum) in
+    let r : g ≡ h = moved_same n g h (rest_is x.access f.access (n + x.place) (n + f.place) (moved n g) (moved n h) e) in
+    ap (λ (y : Access). entry y x.place ∷ g) a ∙ ap (λ (y : ℕ). entry f.access y ∷ g) p ∙ ap (λ (y : History). entry f.access f.place ∷ y) r
+
+-- ---- phase 7 is what started it
+
+fails_not : (o : Option Cause) → failed_by o ≡ Some ending.Started → ⊥
+fails_not None e = absurd (cc)
+fails_not (Some c) e = absurd (cc)
+
+stops_not : (o : Option Stop) → ending_by o ≡ Some ending.Started → ⊥
+stops_not None e = fails_not (cause_of None false) e
+stops_not (Some stop.Iprog) e = absurd (cc)
+stops_not (Some (stop.Fault f)) e = fails_not (cause_of (Some f) false) e
+
+seven : (b : Bool) (o : Option Stop) → (if b then Some ending.Started else ending_by o) ≡ Some ending.Started → b ≡ true
+seven true o e = refl
+seven false o e = absurd (stops_not o e)
+
+-- ---- the attempt
+
+module _ (u : Updating) (p : IsPrepared u) (t : Trial) (s : StartsAsPlanned u t) where
+  abbrev stream : List ℕ
+  stream = full_stream u.part u.golden
+
+  abbrev short : List ℕ
+  short = erased_sector ++ stream
+
+  stream_fits : AreBytes stream
+  stream_fits = full_stream_fits u.part u.golden p.is_part p.plan
+
+  short_fits : AreBytes short
+  short_fits = all-append (λ b. b < 256) erased_sector stream erased_fits stream_fits
+
+  short_long : length short ≡ 65536 + length stream
+  short_long = length-append erased_sector stream ∙ ap (λ (n : ℕ). n + length stream) erased_long
+
+  x : EndsFirst u.part (with_erased u.flash) t
+  x = ended u.part (with_erased u.flash) t s.golden.starts
+
+  whole : with_erased u.flash ≡ short ++ p.golden.rest
+  whole = ap (λ (y : List ℕ). erased_sector ++ y) p.golden.stands ∙ sym (append_assoc erased_sector stream p.golden.rest)
+
+  taken : t.bytes ≡ take (length t.bytes) short
+  taken =
+      sym (take-append_seam t.bytes x.rest) ∙ ap (take (length t.bytes)) (sym x.taken ∙ whole) ∙ take-append-le (length t.bytes) short p.golden.rest (let l : length t.bytes ≤ length short = omega (arith, s.within, short_long) in l)
+
+  none : stop_in u.part at_power short ≡ None
+  none =
+      let plays : PlaysFull (resting_after u.part at_power erased_sector) stream u.golden = full_law u.part at_power erased_sector u.golden erased_fits (rest_erased u.part) p.is_part p.plan.is_plan p.plan.width p.plan.addressed in
+      plays.rests.no_stop
+
+  at_seven : ((state_of u.part at_power false (take (length t.bytes) short)).phase == 7) ≡ true
+  at_seven =
+      let here : ((state_of u.part t.kept false t.bytes).phase == 7) ≡ true = seven ((state_of u.part t.kept false t.bytes).phase == 7) (why_of (stop_in u.part t.kept t.bytes)) (x.ends ∙ ap Some s.golden.starts.started) in
+      ap (λ (y : List ℕ). (state_of u.part at_power false y).phase == 7) (sym taken) ∙ ap (λ (k : Kept). (state_of u.part k false t.bytes).phase == 7) (sym s.golden.starts.kept) ∙ here
+
+  same_history : history_of (take (length t.bytes) short) ≡ history_of short
+  same_history = seven_whole u.part at_power erased_sector stream (length t.bytes) short_fits (full_ends u.part u.golden erased_sector erased_fits (rest_erased u.part).searching p.is_part p.plan never_erased) at_seven
+
+  behind : (y : List ℕ) → AreBytes y → history_of (erased_sector ++ y) ≡ moved 65536 (history_of y)
+  behind y fits =
+      history_behind erased_sector y (all-append (λ b. b < 256) erased_sector y erased_fits fits) (shut_none (erased_sector ++ y) erased_sector y (erased_shut y) refl (omega (arith, erased_long)))
+      ∙ append-nil (moved (length erased_sector) (history_of y)) ∙ ap (λ (n : ℕ). moved n (history_of y)) erased_long
+
+  abbrev part_of : List ℕ
+  part_of = take (length t.bytes - length erased_sector) stream
+
+  -- the attempt took the erased sector, and a part of the stream
+  split : length erased_sector ≤ length t.bytes → t.bytes ≡ erased_sector ++ part_of
+  split l = (let sum : length erased_sector + (length t.bytes - length erased_sector) ≡ length t.bytes = omega (arith, l) in
+      taken ∙ ap (λ (n : ℕ). take n short) (sym sum) ∙ take-append-add erased_sector stream (length t.bytes - length erased_sector))
+
+  -- fewer bytes ask nothing
+  not_fewer : length t.bytes < length erased_sector → ⊥
+  not_fewer few =
+      let l : length t.bytes ≤ length erased_sector = omega (arith, few) in
+      let cut : take (length t.bytes) short ≡ take (length t.bytes) erased_sector = take-append-le (length t.bytes) erased_sector stream l in
+      let empty : history_of (take (length t.bytes) short) ≡ [] = ap history_of cut ∙ (nothing_read (take (length t.bytes) erased_sector) (all_take (λ b. b < 256) (length t.bytes) erased_sector erased_fits) (gap_empty erased_sector [] (length t.bytes) l (shut_none (erased_sector ++ []) erased_sector [] (erased_shut []) refl (omega (arith, erased_long))))).1 in
+      not_clean (moved_same 65536 (history_of stream) [] (sym (behind stream stream_fits) ∙ sym same_history ∙ empty)) (stream_clean u.part u.golden p.is_part p.plan)
+    where
+      not_clean : history_of stream ≡ [] → BeginsClean (history_of stream) → ⊥
+      not_clean e b = empty_not (history_of stream) e b
+        where
+          empty_not : (h : History) → h ≡ [] → BeginsClean h → ⊥
+          empty_not _ e (clear place h l) = absurd (cc)
+          empty_not _ e (later y h b) = absurd (cc)
+
+  pub full_clean : StartsClean u.part u.flash t
+  full_clean = by (cases_lt (length t.bytes) (length erased_sector))
+    where
+      fits : AreBytes t.bytes
+      fits = subst AreBytes (sym taken) (all_take (λ b. b < 256) (length t.bytes) short short_fits)
+
+      going : stop_in u.part t.kept t.bytes ≡ None
+      going = ap (λ (k : Kept). stop_in u.part k t.bytes) s.golden.starts.kept ∙ ap (stop_in u.part at_power) taken ∙ front_goes u.part at_power (length t.bytes) short short_fits none
+
+      by : (length t.bytes < length erased_sector) ⊎ (length erased_sector ≤ length t.bytes) → StartsClean u.part u.flash t
+      by (inl few) = absurd (not_fewer few)
+      by (inr l) =
+          let part_fits : AreBytes part_of = all_take (λ b. b < 256) (length t.bytes - length erased_sector) stream stream_fits in
+          let same : history_of part_of ≡ history_of stream =
+          moved_same 65536 (history_of part_of) (history_of stream) (sym (behind part_of part_fits) ∙ ap history_of (sym (split l) ∙ taken) ∙ same_history ∙ behind stream stream_fits) in
+          let dropped : drop 65536 t.bytes ≡ part_of = ap (drop 65536) (split l) ∙ ap (λ (n : ℕ). drop n (erased_sector ++ part_of)) (sym erased_long) ∙ drop-append_seam erased_sector part_of in
+          record { starts = s.golden.starts; going = going; clean = subst BeginsClean (sym (ap history_of dropped ∙ same)) (stream_clean u.part u.golden p.is_part p.plan); fits = fits }

@@ -1,0 +1,303 @@
+-- A golden stream that starts behind one first sector that leads nowhere starts behind each.
+use Rattle.std.proofs.Common.{◌≡◌, ℕ, ◌+◌, ◌-◌, ◌<◌, ◌≤◌, inl, inr, false, List, [], ◌∷◌, ◌++◌, length, get_or, take, drop, refl, ap, sym, subst, ◌∙◌, arith, length-append, length-drop, take-append-drop, append_assoc, append-nil, map, reverse, length-take-le}
+use Rattle.std.specs.Prelude.{slice_range}
+use Rattle.std.proofs.lemmas.List.{length-replicate, get_or-take, get_or-drop, get_or_append_left, get_or-append_right, ext_get_or, take-append-le}
+use Rattle.std.proofs.Math.Seq.{take-append_seam, drop-append_seam}
+use Rattle.std.proofs.lemmas.Bool.{cases_lt}
+use lib.ListN.{get_or-replicate}
+use Rattle.x7_words.specs.Word.{AreBytes}
+use Rattle.x7_words.proofs.ListLemmas.{all-append, all_back, all_front, all_take}
+use Rattle.x7_packets.specs.History.{history_of}
+use Rattle.x7_packets.specs.SyncWord.{HasNoSync, sync_bytes}
+use Rattle.x7_part.specs.Part.{PartData}
+use Rattle.x7_planner.specs.Full.{full_stream}
+use Rattle.x7_engine.specs.Rest.{AtRest, GoesOn}
+use Rattle.x7_engine.specs.State.{memory_in}
+use Rattle.x7_engine.proofs.RestLemmas.{history_on, rest_on}
+use Rattle.x7_engine.specs.declared.kept.Kept.{Kept}
+use Rattle.x7_boot.specs.Attempt.{EndsFirst, IsTrial, Trial}
+use Rattle.x7_boot.specs.Boot.{BootedState, IsBoot, LeadsToEnd, at_power, end_state, next_by, tried}
+use Rattle.x7_boot.specs.declared.attempt.Ending.{Ending}
+use Rattle.x7_boot.specs.declared.attempt.Ending.TheVariants as ending
+use Rattle.x7_boot.specs.declared.boots.BootEnd.TheVariants as boot_end
+use Rattle.x7_boot.proofs.OneBootLemmas.{one_chain}
+use Rattle.x7_boot.proofs.StartLemmas.{NeverStarts}
+use Rattle.x7_update.specs.Layout.{HasLayout, four_at, open_word, update_place}
+use Rattle.x7_update.specs.After.{IsBetween, MayBeLeft, after, between, untouched}
+use Rattle.x7_update.proofs.LawLemmas.{no_sync}
+use Rattle.x7_recovery.specs.Course.{course_of}
+use Rattle.x7_recovery.specs.Golden.{BootsAlike, GoldenStarts, HaveSameGolden, IsPreparedAny, IsShut, StartsAlike, StartsAsPlanned, StartsAtPower, UpdatingAny, as_after, as_before, erased_sector, golden, with_erased}
+use Rattle.x7_recovery.specs.Recovery.{IsPrepared, Updating}
+use Rattle.x7_recovery.proofs.OverLemmas.{trial_over}
+use Rattle.x7_recovery.proofs.FullTrialLemmas.{StartsWith, full_starts}
+use Rattle.x7_recovery.proofs.SlotLemmas.{fill_fits}
+use Rattle.x7_recovery.proofs.BehindLemmas.{AreAlike, NoneBegins, alike_ends, alike_fronts, alike_trial, same_memory, same_state, taken_is}
+
+-- ---- no sync word begins in the first sector
+
+pub word_at : (flash prefix back : List ℕ) → flash ≡ prefix ++ (sync_bytes ++ back) → four_at flash (length prefix) ≡ open_word
+word_at flash prefix back e =
+    let byte : (k : ℕ) → get_or flash (length prefix + k) 0 ≡ get_or (sync_bytes ++ back) k 0 =
+    λ k. (let at : length prefix + k - length prefix ≡ k = omega arith in
+    ap (λ (l : List ℕ). get_or l (length prefix + k) 0) e
+    ∙ get_or-append_right prefix (sync_bytes ++ back) (length prefix) (length prefix + k) 0 refl (omega arith)
+    ∙ ap (λ (n : ℕ). get_or (sync_bytes ++ back) n 0) at) in
+    let first : get_or flash (length prefix) 0 ≡ 0xAA = let at : length prefix ≡ length prefix + 0 = omega arith in ap (λ (n : ℕ). get_or flash n 0) at ∙ byte 0 in
+    rw (first, byte 1, byte 2, byte 3) refl
+
+pub shut_none : (flash gap more : List ℕ) → IsShut flash → flash ≡ gap ++ more → length gap ≤ 65536 → NoneBegins gap more
+shut_none flash gap more shut e l prefix back split = elim (cases_lt (length prefix) (length gap)) [
+  | inl less ↦ absurd (shut (length prefix) (omega (arith, less, l)) (word_at flash prefix back (e ∙ split)))
+  | inr past ↦ past
+]
+
+none_in_front : (flash gap s rest : List ℕ) → IsShut flash → flash ≡ (gap ++ s) ++ rest → length gap ≤ 65536 → NoneBegins gap s
+none_in_front flash gap s rest shut e l prefix back split =
+    let longer : (prefix ++ (sync_bytes ++ back)) ++ rest ≡ prefix ++ (sync_bytes ++ (back ++ rest)) = simp append_assoc in
+    shut_none flash gap (s ++ rest) shut (e ∙ append_assoc gap s rest) l prefix (back ++ rest) (sym (append_assoc gap s rest) ∙ ap (λ (x : List ℕ). x ++ rest) split ∙ longer)
+
+-- ---- an attempt over the other flash
+
+pub ended : (part : PartData) (flash : List ℕ) (t : Trial) → StartsAtPower part flash t → EndsFirst part flash t
+ended part flash t s = by s.is
+  where
+    by : IsTrial part flash t → EndsFirst part flash t
+    by (inl x) = subst (λ (n : ℕ). EndsFirst part (drop n flash) t) s.address x
+    by (inr x) = (let no : ending.Failed _ ≡ ending.Started = sym x.failed ∙ s.started in absurd (cc))
+
+-- behind gaps of a sector the same bytes, up to those that the attempt took
+pub starts_behind : (part : PartData) (g h s f r : List ℕ) (t : Trial) → length g ≡ length h → AreBytes (g ++ s) → AreBytes (h ++ s) → NoneBegins g s → NoneBegins h s → StartsAtPower part ((g ++ s) ++ f) t → length t.bytes ≤ length (g ++ s)
+    → StartsAtPower part ((h ++ s) ++ r) (alike_trial t ((h ++ s) ++ r)) × AreAlike t.bytes (alike_trial t ((h ++ s) ++ r)).bytes
+starts_behind part g h s f r t long gf hf gn hn starts within =
+    let one : List ℕ = (g ++ s) ++ f in
+    let other : List ℕ = (h ++ s) ++ r in
+    let x : EndsFirst part one t = ended part one t starts in
+    let as_long : length (h ++ s) ≡ length (g ++ s) = length-append h s ∙ ap (λ (n : ℕ). n + length s) (sym long) ∙ sym (length-append g s) in
+    let alike : (k : ℕ) → k ≤ length t.bytes → AreAlike (take k one) (take k other) =
+    λ k l. (let l_one : k ≤ length (g ++ s) = omega (arith, l, within) in
+    let l_other : k ≤ length (h ++ s) = omega (arith, l, within, as_long) in
+    subst (λ (b : List ℕ). AreAlike b (take k other)) (sym (take-append-le k (g ++ s) f l_one))
+    (subst (λ (b : List ℕ). AreAlike (take k (g ++ s)) b) (sym (take-append-le k (h ++ s) r l_other)) (alike_fronts g h s k long gf hf gn hn))) in
+    let enough : length t.bytes ≤ length other = omega (arith, within, as_long, length-append (h ++ s) r) in (
+      record {
+        is = subst (λ (n : ℕ). IsTrial part (drop n other) (alike_trial t other)) (refl {a = 0}) (inl (subst (λ (n : ℕ). EndsFirst part (drop n other) (alike_trial t other)) (sym starts.address) (alike_ends part one other t x enough alike)));
+        kept = starts.kept;
+        address = starts.address;
+        started = starts.started;
+      },
+      subst (λ (b : List ℕ). AreAlike b (take (length t.bytes) other)) (taken_is part one t x) (alike (length t.bytes) (omega arith)),
+    )
+
+-- ---- one attempt that starts is the whole boot
+
+-- the boot is this attempt alone
+pub record IsAlone (part : PartData) (b : BootedState) (last u : Trial) : Type 0 where
+  pub last_is : last ≡ u
+  pub attempts_are : b.attempts ≡ tried u ∷ []
+  pub started : b.end ≡ boot_end.Started
+
+pub head_is : (x y : Trial) (xs ys : List Trial) → x ∷ xs ≡ y ∷ ys → x ≡ y
+head_is x y xs ys e = cc
+
+pub alone : (part : PartData) (flash : List ℕ) (u : Trial) (b : BootedState) → StartsAtPower part flash u → (boot : IsBoot part flash b) → IsAlone part b boot.last u
+alone part flash u b s boot =
+    let kept_is : u.kept ≡ at_power = s.kept in
+    let address_is : u.address ≡ 0 = s.address in
+    let led : LeadsToEnd part flash (u ∷ []) boot_end.Started = (cc, s.is, sym (ap (next_by part 1 u) s.started)) in
+    let same : (boot.last ∷ boot.older ≡ u ∷ []) × (b.end ≡ boot_end.Started) = one_chain part flash (boot.last ∷ boot.older) (u ∷ []) b.end boot_end.Started boot.leads led in
+    record {
+      last_is = head_is boot.last u boot.older [] same.0;
+      attempts_are = boot.attempts ∙ ap (λ (l : List Trial). reverse (map tried l)) same.0;
+      started = same.1;
+    }
+
+told : (u : Trial) → u.kept ≡ at_power → u.address ≡ 0 → u.ending ≡ ending.Started → tried u ≡ record { kind = at_power.kind; address = 0; ending = ending.Started }
+told u kept address started =
+    ap (λ (k : Kept). record { kind = k.kind; address = u.address; ending = u.ending }) kept
+    ∙ ap (λ (n : ℕ). record { kind = at_power.kind; address = n; ending = u.ending }) address
+    ∙ ap (λ (e : Ending). record { kind = at_power.kind; address = 0; ending = e }) started
+
+alike_alone : (part : PartData) (flash : List ℕ) (t u : Trial) (b : BootedState) → StartsAtPower part flash u → u.kept ≡ t.kept → u.wrapped ≡ t.wrapped → AreAlike t.bytes u.bytes → (boot : IsBoot part flash b) → StartsAlike part t (course_of b boot.last)
+alike_alone part flash t u b s kept wrapped a boot =
+    let c : IsAlone part b boot.last u = alone part flash u b s boot in
+    record {
+      attempts_are = c.attempts_are ∙ ap (λ x. x ∷ []) (told u s.kept s.address s.started);
+      started = c.started;
+      memory = ap (λ (v : Trial). memory_in part v.kept v.bytes) c.last_is ∙ ap (λ (k : Kept). memory_in part k u.bytes) kept ∙ sym (same_memory part t.kept t.bytes u.bytes a);
+      registers = ap (end_state part) c.last_is ∙ ap (λ (k : Kept). end_state part (record { kept = k; address = u.address; bytes = u.bytes; wrapped = u.wrapped; ending = u.ending })) kept
+          ∙ ap (λ w. end_state part (record { kept = t.kept; address = u.address; bytes = u.bytes; wrapped = w; ending = u.ending })) wrapped
+          ∙ sym (same_state part t.kept t.wrapped t.bytes u.bytes a);
+    }
+
+pub in_flash : (part : PartData) (flash : List ℕ) (t : Trial) → StartsAtPower part flash t → t.wrapped ≡ false
+in_flash part flash t s = (ended part flash t s).in_flash
+
+-- ---- two flashes whose first sector leads nowhere
+
+module _ (part : PartData) (one other : List ℕ) (t : Trial) (shut : IsShut one) (other_shut : IsShut other) (fits : AreBytes (take 65536 one)) (other_fits : AreBytes other)
+    (least : 65536 ≤ length one) (other_least : 65536 ≤ length other) (starts : StartsAtPower part one t) (same : slice_range other 65536 (length t.bytes) ≡ slice_range one 65536 (length t.bytes)) where
+  abbrev g : List ℕ
+  g = take 65536 one
+
+  abbrev h : List ℕ
+  h = take 65536 other
+
+  abbrev s : List ℕ
+  s = take (length t.bytes - 65536) (drop 65536 one)
+
+  abbrev f : List ℕ
+  f = drop (length t.bytes - 65536) (drop 65536 one)
+
+  abbrev r : List ℕ
+  r = drop (length t.bytes - 65536) (drop 65536 other)
+
+  one_is : one ≡ (g ++ s) ++ f
+  one_is = sym (take-append-drop 65536 one) ∙ ap (λ (x : List ℕ). g ++ x) (sym (take-append-drop (length t.bytes - 65536) (drop 65536 one))) ∙ sym (append_assoc g s f)
+
+  other_is : other ≡ (h ++ s) ++ r
+  other_is = sym (take-append-drop 65536 other) ∙ ap (λ (x : List ℕ). h ++ x) (sym (take-append-drop (length t.bytes - 65536) (drop 65536 other))) ∙ ap (λ (x : List ℕ). h ++ (x ++ r)) same ∙ sym (append_assoc h s r)
+
+  g_long : length g ≡ 65536
+  g_long = length-take-le 65536 one least
+
+  h_long : length h ≡ 65536
+  h_long = length-take-le 65536 other other_least
+
+  within : length t.bytes ≤ length (g ++ s)
+  within =
+      let x : EndsFirst part one t = ended part one t starts in
+      let most : length t.bytes ≤ length one = omega (arith, ap length x.taken, length-append t.bytes x.rest) in
+      let left : length t.bytes - 65536 ≤ length (drop 65536 one) = omega (arith, most, length-drop 65536 one) in
+      omega (arith, length-append g s, length-take-le (length t.bytes - 65536) (drop 65536 one) left, g_long)
+
+  other_sum : AreBytes (h ++ s)
+  other_sum = all_front (λ x. x < 256) (h ++ s) r (subst AreBytes other_is other_fits)
+
+  abbrev there : Trial
+  there = alike_trial t ((h ++ s) ++ r)
+
+  both : StartsAtPower part ((h ++ s) ++ r) there × AreAlike t.bytes there.bytes
+  both =
+      starts_behind part g h s f r t (g_long ∙ sym h_long) (all-append (λ x. x < 256) g s fits (all_back (λ x. x < 256) h s other_sum)) other_sum
+      (none_in_front one g s f shut one_is (omega (arith, g_long))) (none_in_front other h s r other_shut other_is (omega (arith, h_long))) (subst (λ (x : List ℕ). StartsAtPower part x t) one_is starts) within
+
+  pub shut_alike : (b : BootedState) → (boot : IsBoot part other b) → StartsAlike part t (course_of b boot.last)
+  shut_alike b boot = alike_alone part other t there b (subst (λ (x : List ℕ). StartsAtPower part x there) (sym other_is) both.0) refl (sym (in_flash part one t starts)) both.1 boot
+
+pub same_golden_alike : (part : PartData) (one other : List ℕ) (t : Trial) (b : BootedState) → HaveSameGolden part one other t → (boot : IsBoot part other b) → StartsAlike part t (course_of b boot.last)
+same_golden_alike part one other t b s boot = shut_alike part one other t s.shut.0 s.shut.1 (all_take (λ x. x < 256) 65536 one s.fits.0) s.fits.1 s.least.0 s.least.1 s.starts s.same b boot
+
+-- ---- the first sector erased
+
+pub erased_long : length erased_sector ≡ 65536
+unfolding erased_sector
+erased_long = length-replicate {A = ℕ} 65536 255
+
+pub erased_at : (i : ℕ) → i < 65536 → get_or erased_sector i 0 ≡ 255
+unfolding erased_sector
+erased_at i h = get_or-replicate {A = ℕ} 65536 i 255 0 h
+
+pub erased_fits : AreBytes erased_sector
+unfolding erased_sector
+erased_fits = fill_fits 65536
+
+pub erased_shut : (more : List ℕ) → IsShut (erased_sector ++ more)
+erased_shut more place h e =
+    let byte : get_or (erased_sector ++ more) place 0 ≡ 255 = get_or_append_left erased_sector more 0 place (omega (arith, erased_long, h)) ∙ erased_at place h in
+    let first : get_or (erased_sector ++ more) place 0 ≡ 0xAA = ap (λ (w : List ℕ). get_or w 0 0) e in
+    absurd (omega (arith, byte, first))
+
+pub erased_take : (more : List ℕ) → take 65536 (erased_sector ++ more) ≡ erased_sector
+erased_take more = ap (λ (n : ℕ). take n (erased_sector ++ more)) (sym erased_long) ∙ take-append_seam erased_sector more
+
+pub erased_drop : (more : List ℕ) → drop 65536 (erased_sector ++ more) ≡ more
+erased_drop more = ap (λ (n : ℕ). drop n (erased_sector ++ more)) (sym erased_long) ∙ drop-append_seam erased_sector more
+
+-- ---- what a power loss leaves
+
+pub golden_stands : (flash found : List ℕ) (n : ℕ) → HasLayout flash → IsBetween flash found → n ≤ update_place flash → take (n - 65536) (drop 65536 found) ≡ take (n - 65536) (drop 65536 flash)
+golden_stands flash found n l b most = ext_get_or 0 (take (n - 65536) (drop 65536 found)) (take (n - 65536) (drop 65536 flash)) (found_long ∙ sym flash_long) each
+  where
+    place : update_place flash ≤ length flash
+    place = l.slots.place.most
+
+    found_long : length (take (n - 65536) (drop 65536 found)) ≡ n - 65536
+    found_long = length-take-le (n - 65536) (drop 65536 found) (omega (arith, length-drop 65536 found, b.size, most, place))
+
+    flash_long : length (take (n - 65536) (drop 65536 flash)) ≡ n - 65536
+    flash_long = length-take-le (n - 65536) (drop 65536 flash) (omega (arith, length-drop 65536 flash, most, place))
+
+    each : (i : ℕ) → i < length (take (n - 65536) (drop 65536 found)) → get_or (take (n - 65536) (drop 65536 found)) i 0 ≡ get_or (take (n - 65536) (drop 65536 flash)) i 0
+    each i h =
+        let short : i < n - 65536 = omega (arith, h, found_long) in
+        get_or-take (n - 65536) (drop 65536 found) i 0 short
+        ∙ get_or-drop 65536 found i 0
+        ∙ b.golden (65536 + i) (omega arith) (omega (arith, short, most))
+        ∙ sym (get_or-drop 65536 flash i 0)
+        ∙ sym (get_or-take (n - 65536) (drop 65536 flash) i 0 short)
+
+pub between_alike : (part : PartData) (flash found : List ℕ) (t : Trial) (b : BootedState) → HasLayout flash → IsBetween flash found → GoldenStarts part flash t → AreBytes found → (boot : IsBoot part found b) → StartsAlike part t (course_of b boot.last)
+between_alike part flash found t b l left starts fits boot =
+    shut_alike part (with_erased flash) found t (erased_shut (drop 65536 flash)) (no_sync flash found l left) (subst AreBytes (sym (erased_take (drop 65536 flash))) erased_fits) fits
+    (omega (arith, length-append erased_sector (drop 65536 flash), erased_long)) (omega (arith, left.size, l.size.least)) starts.starts
+    (golden_stands flash found (length t.bytes) l left starts.ends ∙ ap (take (length t.bytes - 65536)) (sym (erased_drop (drop 65536 flash)))) b boot
+
+pub found_alike : (u : UpdatingAny) (found : List ℕ) (b : BootedState) → IsPreparedAny u → MayBeLeft u.stream u.flash found → IsBoot u.part found b → BootsAlike u found b
+found_alike u found b p (untouched same) boot = as_before (subst (λ (x : List ℕ). IsBoot u.part x b) same boot)
+found_alike u found b p (between l fits left) boot = golden boot (between_alike u.part u.flash found u.golden b l left p.golden fits boot)
+found_alike u found b p (after l done) boot = as_after done boot
+
+-- ---- a full stream is such a golden stream
+
+erased_none : HasNoSync erased_sector
+erased_none = record {
+  none = λ prefix back e.
+      let split : erased_sector ≡ prefix ++ (sync_bytes ++ back) = e ∙ append_assoc prefix sync_bytes back in
+      let within : length prefix < 65536 = omega (arith, erased_long, ap length split, length-append prefix (sync_bytes ++ back), length-append sync_bytes back) in
+      let first : get_or erased_sector (length prefix) 0 ≡ 0xAA = ap (λ (w : List ℕ). get_or w 0 0) (word_at erased_sector prefix back split) in
+      absurd (omega (arith, erased_at (length prefix) within, first));
+}
+
+goes : GoesOn [] erased_sector
+goes = record { gap = []; searching = refl; none = erased_none }
+
+pub rest_erased : (part : PartData) → AtRest part at_power erased_sector
+rest_erased part =
+    let new : AtRest part at_power [] = record { no_stop = refl; searching = refl; startup = inl refl; sbits = refl; no_shutdown = refl; no_watchdog = refl } in
+    rest_on part at_power [] erased_sector erased_fits goes new
+
+pub never_erased : NeverStarts (history_of erased_sector)
+never_erased = subst NeverStarts (sym (history_on [] erased_sector erased_fits goes)) tt
+
+first_of : (part : PartData) (flash : List ℕ) (t : Trial) → IsTrial part flash t → t.ending ≡ ending.Started → t.address ≡ 0 → (t.wrapped ≡ false) × (length t.bytes ≤ length flash)
+first_of part flash t is started address =
+    let x : EndsFirst part flash t = by is in
+    (x.in_flash, omega (arith, ap length x.taken, length-append t.bytes x.rest))
+  where
+    by : IsTrial part flash t → EndsFirst part flash t
+    by (inl x) = subst (λ (n : ℕ). EndsFirst part (drop n flash) t) address x
+    by (inr x) = (let no : ending.Failed _ ≡ ending.Started = sym x.failed ∙ started in absurd (cc))
+
+pub full_golden : (u : Updating) → IsPrepared u → (t : Trial) × StartsAsPlanned u t
+full_golden u p =
+    let stream : List ℕ = full_stream u.part u.golden in
+    let short : List ℕ = erased_sector ++ stream in
+    let s : StartsWith u.part at_power 0 short u.golden false =
+    full_starts u.part at_power erased_sector u.golden 0 short [] false erased_fits (rest_erased u.part) never_erased p.is_part p.plan (sym (append-nil short)) refl in
+    let t : Trial = s.trial in
+    let bounds : (t.wrapped ≡ false) × (length t.bytes ≤ length short) = first_of u.part short t s.is s.ending_is s.address_is in
+    let whole : with_erased u.flash ≡ short ++ p.golden.rest = ap (λ (x : List ℕ). erased_sector ++ x) p.golden.stands ∙ sym (append_assoc erased_sector stream p.golden.rest) in
+    let within : length t.bytes ≤ 65536 + length stream = omega (arith, bounds.1, length-append erased_sector stream, erased_long) in
+    let same : take (t.address + length t.bytes) (with_erased u.flash) ≡ take (t.address + length t.bytes) short =
+    ap (take (t.address + length t.bytes)) whole ∙ take-append-le (t.address + length t.bytes) short p.golden.rest (omega (arith, bounds.1, s.address_is)) in (
+      t,
+      record {
+        golden = record {
+          starts = record { is = trial_over u.part short (with_erased u.flash) t s.is bounds.0 same; kept = s.kept_is; address = s.address_is; started = s.ending_is };
+          ends = omega (arith, within, p.golden.ends);
+        };
+        within = within;
+        memory = s.memory;
+        bootsts = s.bootsts;
+      },
+    )

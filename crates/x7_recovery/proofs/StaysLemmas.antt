@@ -1,0 +1,63 @@
+-- A golden stream that starts does so after updates too.
+use Rattle.std.proofs.Common.{◌≡◌, ◌+◌, ◌-◌, ◌≤◌, inl, inr, ℕ, List, ◌++◌, drop, take, length, refl, ap, sym, ◌∙◌, arith}
+use Rattle.std.proofs.lemmas.Bool.{cases_lt}
+use Rattle.std.proofs.lemmas.List.{take-append-le}
+use Rattle.std.proofs.Math.Seq.{take-append-add}
+use Rattle.x7_part.specs.Part.{PartData}
+use Rattle.x7_boot.specs.Attempt.{Trial}
+use Rattle.x7_update.specs.After.{IsAfter}
+use Rattle.x7_update.specs.Layout.{HasLayout, update_place}
+use Rattle.x7_recovery.specs.Clean.{StartsClean}
+use Rattle.x7_recovery.specs.Golden.{GoldenStarts, StartsAtPower, erased_sector, with_erased}
+use Rattle.x7_recovery.specs.Updated.{AfterUpdates, none, one_more}
+use Rattle.x7_recovery.proofs.OverLemmas.{trial_over}
+use Rattle.x7_recovery.proofs.GoldenLemmas.{erased_long, in_flash}
+use Rattle.x7_recovery.proofs.HasOpenLemmas.{after_golden_same, after_place}
+
+same_fronts : (e xs ys : List ℕ) (m : ℕ) → take (m - length e) xs ≡ take (m - length e) ys → take m (e ++ xs) ≡ take m (e ++ ys)
+same_fronts e xs ys m same = elim (cases_lt m (length e)) [
+  | inl few ↦ (let l : m ≤ length e = omega (arith, few) in take-append-le m e xs l ∙ sym (take-append-le m e ys l))
+  | inr more ↦ (let sum : length e + (m - length e) ≡ m = omega (arith, more) in
+      ap (λ (n : ℕ). take n (e ++ xs)) (sym sum) ∙ take-append-add e xs (m - length e) ∙ ap (λ (x : List ℕ). e ++ x) same ∙ sym (take-append-add e ys (m - length e)) ∙ ap (λ (n : ℕ). take n (e ++ ys)) sum)
+]
+
+power_moves : (part : PartData) (flash other : List ℕ) (t : Trial) → StartsAtPower part (with_erased flash) t → take (length t.bytes - 65536) (drop 65536 other) ≡ take (length t.bytes - 65536) (drop 65536 flash) → StartsAtPower part (with_erased other) t
+power_moves part flash other t s same =
+    let at : t.address + length t.bytes ≡ length t.bytes = omega (arith, s.address) in
+    let fronts : take (length t.bytes) (with_erased other) ≡ take (length t.bytes) (with_erased flash) =
+    same_fronts erased_sector (drop 65536 other) (drop 65536 flash) (length t.bytes) (ap (λ (n : ℕ). take (length t.bytes - n) (drop 65536 other)) erased_long ∙ same ∙ ap (λ (n : ℕ). take (length t.bytes - n) (drop 65536 flash)) (sym erased_long)) in
+    record {
+      is = trial_over part (with_erased flash) (with_erased other) t s.is (in_flash part (with_erased flash) t s)
+          (ap (λ (n : ℕ). take n (with_erased other)) at ∙ fronts ∙ ap (λ (n : ℕ). take n (with_erased flash)) (sym at));
+      kept = s.kept;
+      address = s.address;
+      started = s.started;
+    }
+
+pub golden_stays : (part : PartData) (stream flash found : List ℕ) (t : Trial) → HasLayout flash → IsAfter stream flash found → GoldenStarts part flash t → GoldenStarts part found t
+golden_stays part stream flash found t l a g = record {
+  starts = power_moves part flash found t g.starts (after_golden_same stream flash found l a (length t.bytes) g.ends);
+  ends = omega (arith, g.ends, after_place stream flash found l a);
+}
+
+pub clean_stays : (part : PartData) (stream flash found : List ℕ) (t : Trial) → HasLayout flash → IsAfter stream flash found → length t.bytes ≤ update_place flash → StartsClean part flash t → StartsClean part found t
+clean_stays part stream flash found t l a ends c = record {
+  starts = power_moves part flash found t c.starts (after_golden_same stream flash found l a (length t.bytes) ends);
+  going = c.going;
+  clean = c.clean;
+  fits = c.fits;
+}
+
+-- ---- after any number of updates
+
+pub place_later : (flash found : List ℕ) → AfterUpdates flash found → update_place found ≡ update_place flash
+place_later flash _ none = refl
+place_later flash _ (one_more before found stream u l a) = after_place stream before found l a ∙ place_later flash before u
+
+pub golden_later : (part : PartData) (flash found : List ℕ) (t : Trial) → AfterUpdates flash found → GoldenStarts part flash t → GoldenStarts part found t
+golden_later part flash _ t none g = g
+golden_later part flash _ t (one_more before found stream u l a) g = golden_stays part stream before found t l a (golden_later part flash before t u g)
+
+pub clean_later : (part : PartData) (flash found : List ℕ) (t : Trial) → AfterUpdates flash found → length t.bytes ≤ update_place flash → StartsClean part flash t → StartsClean part found t
+clean_later part flash _ t none ends c = c
+clean_later part flash _ t (one_more before found stream u l a) ends c = clean_stays part stream before found t l a (omega (arith, ends, place_later flash before u)) (clean_later part flash before t u ends c)

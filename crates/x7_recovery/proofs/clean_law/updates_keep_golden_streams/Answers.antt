@@ -1,0 +1,11 @@
+use Rattle.x7_recovery.proofs.StaysLemmas.{clean_later, golden_later, place_later}
+use Rattle.x7_recovery.proofs.clean_law.updates_keep_golden_streams.Goals as goal
+
+pub returns-clause-starts : goal.returns-clause-starts
+returns-clause-starts c = golden_later
+
+pub returns-clause-clean : goal.returns-clause-clean
+returns-clause-clean c = clean_later
+
+pub returns-clause-place : goal.returns-clause-place
+returns-clause-place c = place_later

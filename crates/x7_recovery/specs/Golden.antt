@@ -1,0 +1,81 @@
+-- A golden stream of any kind, as one attempt shows it: a device starts with it where the first sector leads nowhere (UG470, MultiBoot and fallback; the layout is this project's choice).
+use Rattle.std.specs.Prelude.{◌≡◌, ◌≢◌, ℕ, ◌+◌, ◌<◌, ◌≤◌, List, [], ◌∷◌, ◌++◌, drop, false, length, None, replicate, slice_range}
+use Rattle.x7_words.specs.Word.{AreBytes}
+use Rattle.x7_part.specs.Part.{PartData}
+use Rattle.x7_regs.specs.declared.boot_status.Kind.TheVariants.{Power}
+use Rattle.x7_regs.specs.BootStatus.{boot_status_of}
+use Rattle.x7_memory.specs.FrameMap.{AreSame}
+use Rattle.x7_memory.specs.Planned.{total}
+use Rattle.x7_planner.specs.Full.{full_stream}
+use Rattle.x7_engine.specs.State.{memory_in}
+use Rattle.x7_boot.specs.Attempt.{IsTrial, Trial}
+use Rattle.x7_boot.specs.Boot.{BootedState, IsBoot, at_power, end_state}
+use Rattle.x7_boot.specs.declared.attempt.Ending.TheVariants as ending
+use Rattle.x7_boot.specs.declared.boots.BootEnd.TheVariants as boot_end
+use Rattle.x7_recovery.specs.Course.{BootCourse, course_of}
+use Rattle.x7_recovery.specs.Recovery.{Updating}
+use Rattle.x7_update.specs.After.{IsAfter}
+use Rattle.x7_update.specs.Layout.{HasLayout, four_at, open_word, update_place}
+
+-- no sync word begins in the first sector: none of its slots is open, or it is erased
+abbrev pub IsShut : List ℕ → Type 0
+IsShut flash = (place : ℕ) → place < 65536 → four_at flash place ≢ open_word
+
+-- the bytes of an erased sector, and the flash with its first sector erased
+unfoldable pub erased_sector : List ℕ
+erased_sector = replicate 65536 255
+
+abbrev pub with_erased : List ℕ → List ℕ
+with_erased flash = erased_sector ++ drop 65536 flash
+
+-- an attempt at power that starts, over a flash
+pub record StartsAtPower (part : PartData) (flash : List ℕ) (t : Trial) : Type 0 where
+  pub is : IsTrial part flash t
+  pub kept : t.kept ≡ at_power
+  pub address : t.address ≡ 0
+  pub started : t.ending ≡ ending.Started
+
+-- Two flashes whose first sector leads nowhere have the same bytes behind it, up to where an attempt at power over the first of them ended, which starts.
+pub record HaveSameGolden (part : PartData) (one other : List ℕ) (t : Trial) : Type 0 where
+  pub starts : StartsAtPower part one t
+  pub same : slice_range other 65536 (length t.bytes) ≡ slice_range one 65536 (length t.bytes)
+  pub shut : IsShut one × IsShut other
+  pub fits : AreBytes one × AreBytes other
+  pub least : (65536 ≤ length one) × (65536 ≤ length other)
+
+-- The golden stream starts: with the first sector erased, the attempt at power does, and it ends at U or before it.
+pub record GoldenStarts (part : PartData) (flash : List ℕ) (t : Trial) : Type 0 where
+  pub starts : StartsAtPower part (with_erased flash) t
+  pub ends : length t.bytes ≤ update_place flash
+
+-- The boot starts at its one attempt, at power, with the memory and the registers that another attempt ended with.
+pub record StartsAlike (part : PartData) (t : Trial) (c : BootCourse) : Type 0 where
+  pub attempts_are : c.attempts ≡ record { kind = Power; address = 0; ending = ending.Started } ∷ []
+  pub started : c.end ≡ boot_end.Started
+  pub memory : memory_in part c.last.kept c.last.bytes ≡ memory_in part t.kept t.bytes
+  pub registers : end_state part c.last ≡ end_state part t
+
+-- the golden stream of a flash starts so, at its end or before it, with the memory of its plan over zeros, and BOOTSTS tells of no other attempt
+pub record StartsAsPlanned (u : Updating) (t : Trial) : Type 0 where
+  pub golden : GoldenStarts u.part u.flash t
+  pub within : length t.bytes ≤ 65536 + length (full_stream u.part u.golden)
+  pub memory : AreSame (memory_in u.part t.kept t.bytes) (total u.part u.golden)
+  pub bootsts : (end_state u.part t).bootsts ≡ boot_status_of (record { kind = Power; cause = None; ignored = false }) None
+
+-- a flash that is being updated with a stream, the part that boots from it, and the attempt with which its golden stream starts
+pub record UpdatingAny : Type 0 where
+  pub part : PartData
+  pub flash : List ℕ
+  pub stream : List ℕ
+  pub golden : Trial
+
+-- the flash has a layout, with a golden stream that starts
+pub record IsPreparedAny (u : UpdatingAny) : Type 0 where
+  pub layout : HasLayout u.flash
+  pub golden : GoldenStarts u.part u.flash u.golden
+
+-- a boot of what was left: that of the flash before the update, or one that starts as the golden stream does, or that of the updated flash
+pub data BootsAlike (u : UpdatingAny) (found : List ℕ) (b : BootedState) : Type 0 where
+  as_before : IsBoot u.part u.flash b → BootsAlike u found b
+  golden : (boot : IsBoot u.part found b) → StartsAlike u.part u.golden (course_of b boot.last) → BootsAlike u found b
+  as_after : IsAfter u.stream u.flash found → IsBoot u.part found b → BootsAlike u found b

@@ -1,0 +1,147 @@
+-- What a boot from a flash with an open slot comes to: the attempt at the update, and the fallback where that fails (UG470, MultiBoot and fallback).
+use Rattle.std.specs.Prelude.{◌≡◌, ℕ, Bool, true, false, List, [], ◌∷◌, ◌++◌, drop, length, None, Some}
+use Rattle.x7_part.specs.Part.{PartData}
+use Rattle.x7_part.specs.PartRange.{IsPart}
+use Rattle.x7_regs.specs.BootStatus.{boot_status_of}
+use Rattle.x7_regs.specs.declared.boot_status.Cause.{Cause}
+use Rattle.x7_regs.specs.declared.boot_status.Kind.TheVariants.{Power, Iprog, Fallback}
+use Rattle.x7_memory.specs.FrameMap.{AreSame}
+use Rattle.x7_memory.specs.Planned.{IsPlanFor, PlanData, total}
+use Rattle.x7_planner.specs.Full.{full_stream}
+use Rattle.x7_engine.specs.State.{attempt_in, memory_in}
+use Rattle.x7_engine.specs.declared.regs.End.TheVariants as at_end
+use Rattle.x7_engine.specs.declared.regs.Regs.{Regs}
+use Rattle.x7_boot.specs.Attempt.{IsTrial, Trial}
+use Rattle.x7_boot.specs.Boot.{end_state, forbids_fallback}
+use Rattle.x7_boot.specs.Image.{update_place}
+use Rattle.x7_boot.specs.declared.attempt.Ending.{Ending}
+use Rattle.x7_boot.specs.declared.attempt.Ending.TheVariants as ending
+use Rattle.x7_boot.specs.declared.boots.BootEnd.{BootEnd}
+use Rattle.x7_boot.specs.declared.boots.BootEnd.TheVariants as boot_end
+use Rattle.x7_boot.specs.declared.boots.Tried.{Tried}
+use Rattle.x7_recovery.specs.Clean.{StartsClean}
+use Rattle.x7_recovery.specs.Course.{BootCourse, IsCourse, kept_at_update, through_update}
+use Rattle.x7_recovery.specs.OpenSlot.{BeginsAsImage, Opened, image_of_flash}
+
+-- ---- the attempt at the update
+
+-- an attempt at the place to which the open slot leads ended so
+pub record UpdateEnds (o : Opened) (t : Trial) (e : Ending) : Type 0 where
+  pub is : IsTrial o.part o.flash t
+  pub kept : t.kept ≡ kept_at_update o.start
+  pub address : t.address ≡ o.place
+  pub ends : t.ending ≡ e
+
+-- the update failed by this cause, and CTL0 forbids a fallback or not
+pub record UpdateFails (o : Opened) (t : Trial) (cause : Cause) (forbidden : Bool) : Type 0 where
+  pub ended : UpdateEnds o t (ending.Failed cause)
+  pub forbids : forbids_fallback (end_state o.part t).ctl0 ≡ forbidden
+
+-- the second attempt of a boot is that at the update
+pub record TriesUpdate (o : Opened) (attempts : List Tried) : Type 0 where
+  pub trial : Trial
+  pub ended : UpdateEnds o trial trial.ending
+  pub more : List Tried
+  pub attempts_are : attempts ≡ through_update o.place trial.ending more
+
+-- the attempt at the update is the last one, and ends the boot so
+pub record EndsAtUpdate (o : Opened) (t : Trial) (by_end : BootEnd) (c : BootCourse) : Type 0 where
+  pub attempts_are : c.attempts ≡ through_update o.place t.ending []
+  pub end_is : c.end ≡ by_end
+  pub last_is : c.last ≡ t
+
+-- at the place to which the open slot leads the full stream of a plan stands
+pub record HasFullUpdate (o : Opened) (update : PlanData) : Type 0 where
+  pub is_part : IsPart o.part
+  pub plan : IsPlanFor o.part update
+  pub rest : List ℕ
+  pub stands : drop o.place o.flash ≡ full_stream o.part update ++ rest
+
+-- The boot starts with the update: with the memory of its plan over zeros, and BOOTSTS tells of an attempt by IPROG, after one at power.
+pub record StartsUpdate (o : Opened) (update : PlanData) (c : BootCourse) : Type 0 where
+  pub attempts_are : c.attempts ≡ through_update o.place ending.Started []
+  pub started : c.end ≡ boot_end.Started
+  pub memory : AreSame (memory_in o.part c.last.kept c.last.bytes) (total o.part update)
+  pub bootsts : (end_state o.part c.last).bootsts ≡ boot_status_of (record { kind = Iprog; cause = None; ignored = false }) (Some (record { kind = Power; cause = None; ignored = false }))
+
+-- ---- the fallback
+
+-- the attempts of a boot whose update fails by this cause, and that then falls back and starts
+abbrev pub fell_back : ℕ → Cause → List Tried
+fell_back place cause = through_update place (ending.Failed cause) (record { kind = Fallback; address = 0; ending = ending.Started } ∷ [])
+
+-- BOOTSTS of a fallback that ignored an IPROG, after an attempt by IPROG that failed by this cause
+abbrev pub fallback_status : Cause → ℕ
+fallback_status cause = boot_status_of (record { kind = Fallback; cause = None; ignored = true }) (Some (record { kind = Iprog; cause = Some cause; ignored = false }))
+
+-- behind the first sector the full stream of a plan stands
+pub record HasPlanned (o : Opened) (golden : PlanData) : Type 0 where
+  pub is_part : IsPart o.part
+  pub plan : IsPlanFor o.part golden
+  pub rest : List ℕ
+  pub stands : drop 65536 o.flash ≡ full_stream o.part golden ++ rest
+
+-- The boot falls back and starts with the memory of the golden plan over zeros, and BOOTSTS tells of the fallback and of the update's cause.
+pub record FallsBack (o : Opened) (golden : PlanData) (cause : Cause) (c : BootCourse) : Type 0 where
+  pub attempts_are : c.attempts ≡ fell_back o.place cause
+  pub started : c.end ≡ boot_end.Started
+  pub memory : AreSame (memory_in o.part c.last.kept c.last.bytes) (total o.part golden)
+  pub bootsts : (end_state o.part c.last).bootsts ≡ fallback_status cause
+
+-- The boot falls back and starts as another attempt did: at the same byte, with the same memory, and BOOTSTS tells of the fallback and of the update's cause.
+pub record FallsBackClean (o : Opened) (cause : Cause) (t : Trial) (c : BootCourse) : Type 0 where
+  pub attempts_are : c.attempts ≡ fell_back o.place cause
+  pub started : c.end ≡ boot_end.Started
+  pub taken : length c.last.bytes ≡ length t.bytes
+  pub memory : memory_in o.part c.last.kept c.last.bytes ≡ memory_in o.part t.kept t.bytes
+  pub bootsts : (end_state o.part c.last).bootsts ≡ fallback_status cause
+
+-- some fallback over the flash starts, whatever its device kept over the reset
+pub record StartsAsFallback (o : Opened) (f : Trial) : Type 0 where
+  pub is : IsTrial o.part o.flash f
+  pub kind : f.kept.kind ≡ Fallback
+  pub address : f.address ≡ 0
+  pub started : f.ending ≡ ending.Started
+
+-- the registers without those that tell what was kept over the reset
+abbrev pub without_kept : Regs → Regs
+without_kept r = record r { end = at_end.Searching; wbstar = 0; timer = 0; bspi = 0; bootsts = 0 }
+
+-- The boot falls back and starts as another fallback does: with the same bytes, memory and registers but those kept over the reset; BOOTSTS tells of it, and of the update's cause.
+pub record FallsBackAlike (o : Opened) (cause : Cause) (f : Trial) (c : BootCourse) : Type 0 where
+  pub attempts_are : c.attempts ≡ fell_back o.place cause
+  pub started : c.end ≡ boot_end.Started
+  pub taken : c.last.bytes ≡ f.bytes
+  pub memory : memory_in o.part c.last.kept c.last.bytes ≡ memory_in o.part f.kept f.bytes
+  pub registers : without_kept (end_state o.part c.last) ≡ without_kept (end_state o.part f)
+  pub bootsts : (end_state o.part c.last).bootsts ≡ boot_status_of (attempt_in o.part f.kept f.wrapped f.bytes) (Some (record { kind = Iprog; cause = Some cause; ignored = false }))
+
+-- ---- the boot
+
+-- What a boot from a flash with an open slot comes to, by what the attempt at the update does and by what the golden stream is.
+pub record BootsOpen (o : Opened) (c : BootCourse) : Type 0 where
+  -- the second attempt is that at the update
+  pub tries : TriesUpdate o c.attempts
+  -- where that starts, the boot has started with it
+  pub starts : (t : Trial) → UpdateEnds o t ending.Started → EndsAtUpdate o t boot_end.Started c
+  -- an update that is the full stream of a plan starts, with the memory of the plan
+  pub full : (update : PlanData) → HasFullUpdate o update → StartsUpdate o update c
+  -- where the update fails and CTL0 forbids a fallback, the boot stops
+  pub stops : (t : Trial) (cause : Cause) → UpdateFails o t cause true → EndsAtUpdate o t boot_end.Stopped c
+  -- where the update fails and CTL0 allows a fallback, the full stream of a plan starts as golden stream, with the memory of the plan
+  pub falls_back : (t : Trial) (cause : Cause) (golden : PlanData) → HasPlanned o golden → UpdateFails o t cause false → FallsBack o golden cause c
+  -- so does a golden stream of any kind that starts at power behind an erased first sector and begins clean, as it starts there
+  pub falls_clean : (t : Trial) (cause : Cause) (golden : Trial) → StartsClean o.part o.flash golden → UpdateFails o t cause false → FallsBackClean o cause golden c
+  -- so does any other with which some fallback over the flash starts, as that one does
+  pub falls_alike : (t : Trial) (cause : Cause) (f : Trial) → StartsAsFallback o f → UpdateFails o t cause false → FallsBackAlike o cause f c
+
+-- every boot from the flash comes to what one from a flash with an open slot does
+abbrev pub EachBootsOpen : Opened → Type 0
+EachBootsOpen o = (c : BootCourse) → IsCourse o.part o.flash c → BootsOpen o c
+
+-- A flash begins with the image of a golden and an update stream for the part: these stand in it, and every boot from it is one from a flash with its first slot open, which leads to the update.
+pub record HasStreams (part : PartData) (golden update flash : List ℕ) : Type 0 where
+  pub begins : BeginsAsImage part flash (update_place (length golden))
+  pub has_golden : (rest : List ℕ) × (drop 65536 flash ≡ golden ++ rest)
+  pub has_update : (rest : List ℕ) × (drop (update_place (length golden)) flash ≡ update ++ rest)
+  pub boots : EachBootsOpen (image_of_flash part flash (update_place (length golden)))

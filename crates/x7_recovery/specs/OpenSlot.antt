@@ -1,0 +1,48 @@
+-- A flash with an open slot, whichever slot that is and whatever stands behind the golden stream (UG470, MultiBoot; the layout is this project's choice).
+use Rattle.std.specs.Prelude.{◌≡◌, ℕ, ◌*◌, ◌/◌, ◌%◌, ◌^◌, ◌<◌, ◌≤◌, List, ◌++◌, length, take, drop}
+use Rattle.x7_words.specs.Word.{AreBytes}
+use Rattle.x7_part.specs.Part.{PartData}
+use Rattle.x7_boot.specs.Boot.{start_address}
+use Rattle.x7_boot.specs.Image.{first_sector, flash_limit, open_slot}
+use Rattle.x7_update.specs.Layout.{four_at, open_word}
+
+-- One slot of the first sector is open, with this start address: no sync word begins in the sector but that of the slot.
+pub record HasOpen (flash : List ℕ) (slot start : ℕ) : Type 0 where
+  pub within : slot < 2048
+  pub stands : take 32 (drop (32 * slot) flash) ≡ open_slot start
+  pub alone : (place : ℕ) → place < 65536 → four_at flash place ≡ open_word → place ≡ 32 * slot
+  pub long : 65536 ≤ length flash
+  pub fits : AreBytes (take 65536 flash)
+
+-- a flash, the part that boots from it, its open slot with the start address, and the place to which that leads
+pub record Opened : Type 0 where
+  pub part : PartData
+  pub flash : List ℕ
+  pub slot : ℕ
+  pub start : ℕ
+  pub place : ℕ
+
+-- the flash has that slot open, which leads to that place
+pub record IsOpened (o : Opened) : Type 0 where
+  pub has : HasOpen o.flash o.slot o.start
+  pub small : o.start < 2 ^ 32
+  pub leads : start_address o.part.start_unit o.start ≡ o.place
+
+-- ---- an image
+
+-- a flash begins with the first sector of an image for the part, which leads to this place, whatever follows
+pub record BeginsAsImage (part : PartData) (flash : List ℕ) (place : ℕ) : Type 0 where
+  pub more : List ℕ
+  pub begins : flash ≡ first_sector (place / part.start_unit) ++ more
+  pub whole : place % 65536 ≡ 0
+  pub within : place ≤ flash_limit
+
+-- such a flash with its first slot, which is the open one
+abbrev pub image_of_flash : PartData → List ℕ → ℕ → Opened
+image_of_flash part flash place = record { part = part; flash = flash; slot = 0; start = place / part.start_unit; place = place }
+
+-- ---- a flash with a layout
+
+-- a flash for a part whose start address counts bytes, and one of its slots, which leads to this place
+abbrev pub slot_of_flash : PartData → List ℕ → ℕ → ℕ → Opened
+slot_of_flash part flash slot place = record { part = part; flash = flash; slot = slot; start = place; place = place }

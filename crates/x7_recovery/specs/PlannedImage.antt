@@ -1,0 +1,21 @@
+-- The image of the full stream of a plan and an update stream (the layout of an image is this project's choice).
+use Rattle.std.specs.Prelude.{ℕ, ◌≤◌, List, length}
+use Rattle.x7_part.specs.Part.{PartData}
+use Rattle.x7_part.specs.PartRange.{IsPart}
+use Rattle.x7_memory.specs.Planned.{IsPlanFor, PlanData}
+use Rattle.x7_planner.specs.Full.{full_stream}
+use Rattle.x7_boot.specs.Image.{flash_limit, image_of, image_size, update_place}
+
+-- where the update stands behind the full stream of a plan
+abbrev pub place_after : PartData → PlanData → ℕ
+place_after part golden = update_place (length (full_stream part golden))
+
+-- the image of the full stream of a plan, as golden stream, and an update
+abbrev pub golden_image : PartData → PlanData → List ℕ → List ℕ
+golden_image part golden update = image_of part.start_unit (full_stream part golden) update
+
+-- the golden plan is one for the part, and its image with the update is no larger than a flash may be
+pub record HasImage (part : PartData) (golden : PlanData) (update : List ℕ) : Type 0 where
+  pub is_part : IsPart part
+  pub plan : IsPlanFor part golden
+  pub fits : image_size (length (full_stream part golden)) (length update) ≤ flash_limit

@@ -1,0 +1,31 @@
+-- A flash after any number of updates, of which each stands behind the golden stream (this project's choice).
+use Rattle.std.specs.Prelude.{◌≡◌, ℕ, List, take}
+use Rattle.x7_words.specs.Word.{AreBytes}
+use Rattle.x7_part.specs.Part.{PartData}
+use Rattle.x7_boot.specs.Attempt.{Trial}
+use Rattle.x7_recovery.specs.Clean.{StartsClean}
+use Rattle.x7_recovery.specs.Golden.{GoldenStarts}
+use Rattle.x7_recovery.specs.OpenSlot.{Opened, slot_of_flash}
+use Rattle.x7_update.specs.After.{IsAfter}
+use Rattle.x7_update.specs.Layout.{HasLayout, update_place}
+
+-- the flash after updates, one after another; each was one of a flash with a layout
+pub data AfterUpdates (flash : List ℕ) : List ℕ → Type 0 where
+  none : AfterUpdates flash flash
+  one_more : (before found stream : List ℕ) → AfterUpdates flash before → HasLayout before → IsAfter stream before found → AfterUpdates flash found
+
+-- A flash for a part whose start address counts bytes was updated, and then with a stream; before that a golden stream of any kind started, and began clean, as one attempt shows.
+pub record IsUpdated (part : PartData) (flash found : List ℕ) (golden : Trial) : Type 0 where
+  pub unit : part.start_unit ≡ 1
+  pub starts : GoldenStarts part flash golden
+  pub clean : StartsClean part flash golden
+  pub before : List ℕ
+  pub updates : AfterUpdates flash before
+  pub layout : HasLayout before
+  pub stream : List ℕ
+  pub after : IsAfter stream before found
+  pub fits : AreBytes (take 65536 found)
+
+-- the slot that the last update opened
+abbrev pub opened_by : (part : PartData) (flash found : List ℕ) (golden : Trial) → IsUpdated part flash found golden → Opened
+opened_by part flash found golden u = slot_of_flash part found u.after.next (update_place flash)

@@ -1,0 +1,39 @@
+//! What a boot makes of a golden stream of any kind, where one attempt shows that it starts. The functions do nothing: their
+//! contracts are the laws.
+ghost use Rattle.std.specs.Prelude.{List, ℕ};
+ghost use Rattle.x7_part.specs.Part.{PartData};
+ghost use Rattle.x7_boot.specs.Attempt.{Trial};
+ghost use Rattle.x7_boot.specs.Boot.{BootedState, IsBoot};
+ghost use Rattle.x7_recovery.specs.Clean.{StartsClean};
+ghost use Rattle.x7_recovery.specs.Golden.{BootsAlike, HaveSameGolden, IsPreparedAny, IsShut, StartsAlike, StartsAsPlanned, UpdatingAny, with_erased};
+ghost use Rattle.x7_recovery.specs.Course.{course_of};
+ghost use Rattle.x7_recovery.specs.Recovery.{IsPrepared, Updating};
+ghost use Rattle.x7_update.specs.After.{IsBetween, MayBeLeft};
+ghost use Rattle.x7_update.specs.Layout.{HasLayout};
+
+/// Where no sync word begins in the first sector, what stands there makes no difference: a golden stream with which the attempt
+/// at power over one such flash starts is started with over each that has the same bytes behind the first sector, at the same
+/// byte, with the same memory and the same registers.
+pub fn shut_flashes_start_alike()
+    ensures { (part : PartData) (one other : List ℕ) (t : Trial) (b : BootedState) → HaveSameGolden part one other t
+        → (boot : IsBoot part other b) → StartsAlike part t (course_of b boot.last) }
+{}
+
+/// The first sector leads nowhere where it is erased, and where a power loss left a flash with a layout in an update.
+pub fn closed_flashes_are_shut()
+    ensures erased { (flash : List ℕ) → IsShut (with_erased flash) }
+    ensures between { (flash found : List ℕ) → HasLayout flash → IsBetween flash found → IsShut found }
+{}
+
+/// Of a flash whose golden stream starts where the first sector is erased, and ends at U or before it, whatever a power loss left
+/// in an update boots as the flash did before, or starts as the golden stream does, or boots as the updated flash.
+pub fn found_flashes_start()
+    ensures { (u : UpdatingAny) (found : List ℕ) (b : BootedState) → IsPreparedAny u
+        → MayBeLeft u.stream u.flash found → IsBoot u.part found b → BootsAlike u found b }
+{}
+
+/// The full stream of a plan is such a golden stream, starts with the memory of the plan, and begins clean.
+pub fn full_streams_start()
+    ensures starts { (u : Updating) → IsPrepared u → (t : Trial) × StartsAsPlanned u t }
+    ensures clean { (u : Updating) (t : Trial) → IsPrepared u → StartsAsPlanned u t → StartsClean u.part u.flash t }
+{}

@@ -1,0 +1,46 @@
+//! A device that is reset as if attempts of a boot were before.
+use std::alloc::Global;
+use x7_engine::{Device, Fed, Kept, ReadBuf};
+use x7_part::part_of;
+use x7_regs::{Attempt, Cause, Kind};
+
+const TINY: &[u8] =
+    b"name = \"tiny\"\nidcode = 0x0362D093\nmode = 1\nrow = [{block = 0, half = 0, row = 0, minors = [2]}, {block = 0, half = 1, row = 0, minors = [2]}]\n";
+
+/// The sync word, and IPROG written to CMD.
+const IPROG: [u8; 12] = [
+    0xAA, 0x99, 0x55, 0x66, 0x30, 0x00, 0x80, 0x01, 0x00, 0x00, 0x00, 0x0F,
+];
+
+/// What becomes of IPROG, and BOOTSTS then, in an attempt of this kind behind one of IPROG that failed by its check.
+fn after_iprog(alloc: Global, kind: Kind) -> Option<(Fed, u32)> {
+    let Ok(part) = part_of(alloc, TINY) else {
+        return None;
+    };
+    let Ok(mut device) = Device::new(alloc, &part) else {
+        return None;
+    };
+    device.reset(Kept {
+        wbstar: 0,
+        timer: 0,
+        bspi: 0,
+        kind,
+        before: Some(Attempt {
+            kind: Kind::Iprog,
+            cause: Some(Cause::Crc),
+            ignored: false,
+        }),
+    });
+    let fed = device.feed(&IPROG, &mut ReadBuf::dropping());
+    Some((fed, device.state().bootsts))
+}
+
+#[test]
+fn a_fallback_ignores_iprog_and_bootsts_says_so(rt: HostRuntime) {
+    assert!(rt; after_iprog(rt.alloc(), Kind::Fallback) == Some((Fed::All, 0x0000_2507)));
+}
+
+#[test]
+fn another_attempt_obeys_iprog(rt: HostRuntime) {
+    assert!(rt; after_iprog(rt.alloc(), Kind::Iprog) == Some((Fed::Iprog(12), 0x0000_2505)));
+}

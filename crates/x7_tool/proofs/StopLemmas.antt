@@ -1,0 +1,291 @@
+-- Lemmas on where reading stops.
+use Rattle.std.proofs.Common.{◌≡◌, ◌≤◌, ◌+◌, ℕ, map, suc, length, List, [], ◌∷◌, Bool, true, false, Option, None, Some, Result, Ok, Err, IfErr, ap, inl, inr, refl, subst, sym, ◌∙◌, arith, ◌⊎◌}
+use Rattle.std.proofs.lemmas.List.{length-map}
+use Rattle.x7_words.specs.Input.{InputsState}
+use Rattle.x7_words.specs.Flash.{FlashState}
+use Rattle.x7_words.specs.Sink.{SinkState}
+use Rattle.x7_part.specs.Part.{PartData}
+use Rattle.x7_forms.specs.declared.refusal.Refusal.{Refusal}
+use Rattle.x7_forms.specs.Event.{Absence, Break, Cause, Contents, Difference, Event, Fault, Want, Wording, bad_input, cause_of, differs, missing, no_memory, read_fault, too_large, too_many_reads, write_fault}
+use Rattle.x7_forms.specs.declared.bad_input.InputFault.TheVariants as input
+use Rattle.x7_forms.specs.declared.refusal.Why.{Why}
+use Rattle.x7_forms.specs.declared.refusal.Why.TheVariants as why
+use Rattle.x7_forms.specs.Form.{Asked, Booting, Playing, UpdatingFlash, flash_names, names_of}
+use Rattle.x7_forms.specs.Known.{Answer, part_limit, stream_limit}
+use Rattle.x7_forms.specs.Message.{event_of}
+use Rattle.x7_forms.specs.Step.{Among, seen}
+use Rattle.x7_forms.specs.Stop.{IsAbout, Limited, StopsAmong, limited, limited_together}
+use Rattle.x7_forms.specs.Turn.{StandsAt}
+use Rattle.x7_forms.proofs.StandLemmas.{about_among, about_by, stops_behind}
+use Rattle.x7_frames.specs.declared.fault.FramesFault.{FramesFault}
+use Rattle.x7_frames.specs.declared.fault.FramesFault.TheVariants as frames
+use Rattle.x7_planner.specs.declared.fault.PlanFault.{PlanFault}
+use Rattle.x7_planner.specs.declared.fault.PlanFault.TheVariants as planner
+use Rattle.x7_listing.specs.declared.assembler.AsmFault.{AsmFault}
+use Rattle.x7_listing.specs.declared.assembler.AsmFault.TheVariants as asm
+use Rattle.x7_mcs.specs.declared.fault.McsFault.{McsFault}
+use Rattle.x7_mcs.specs.declared.fault.McsFault.TheVariants as mcs
+use Rattle.x7_debug.specs.declared.fault.ScriptFault.{ScriptFault}
+use Rattle.x7_debug.specs.declared.fault.ScriptFault.TheVariants as script
+use Rattle.x7_jtag.specs.declared.fault.SvfFault.{SvfFault}
+use Rattle.x7_jtag.specs.declared.fault.SvfFault.TheVariants as svf
+use Rattle.x7_tool.specs.Outcome.{DebugInputs, DebuggedAs, PlanTexts, PlayedSvf, asm_event, frames_event, mcs_event, planner_event, script_event, svf_event, update_event}
+use Rattle.x7_update.specs.declared.fault.UpdateFault.{UpdateFault}
+use Rattle.x7_update.specs.declared.fault.UpdateFault.TheVariants as update
+use Rattle.x7_tool.specs.Outside.{Sources}
+use Rattle.x7_tool.specs.Run.{FlashComes, IsUnopened, IsUnusable, JudgesFlash, Puts}
+use Rattle.x7_tool.proofs.FlashLemmas.{flash_open}
+use Rattle.x7_tool.specs.Stopping.{Stops, StopsBy, TellsOf, inputs_of}
+
+-- ---- of whom an event tells
+
+pub asm_about : (name : List ℕ) (fault : AsmFault) → IsAbout name (asm_event name fault)
+asm_about name (asm.Line line) = inr refl
+asm_about name (asm.TooLong line) = inr refl
+asm_about name asm.NoMemory = inl refl
+
+pub mcs_about : (name : List ℕ) (fault : McsFault) → IsAbout name (mcs_event name fault)
+mcs_about name (mcs.Line line) = inr refl
+mcs_about name (mcs.Sum line want got) = inr refl
+mcs_about name (mcs.Overlap place) = inr refl
+mcs_about name mcs.NoEnd = inr refl
+mcs_about name (mcs.TooLarge line) = inr refl
+mcs_about name mcs.NoMemory = inl refl
+
+pub frames_about : (name : List ℕ) (fault : FramesFault) → IsAbout name (frames_event name fault)
+frames_about name (frames.Line line) = inr refl
+frames_about name (frames.Address line) = inr refl
+frames_about name (frames.Twice line) = inr refl
+frames_about name frames.NoMemory = inl refl
+
+pub planner_about : (name : List ℕ) (fault : PlanFault) → IsAbout name (planner_event name fault)
+planner_about name planner.Empty = inr refl
+planner_about name (planner.Foreign far) = inr refl
+planner_about name (planner.Range n) = inr refl
+planner_about name planner.NoMemory = inl refl
+
+script_about : (name : List ℕ) (fault : ScriptFault) → IsAbout name (script_event name fault)
+script_about name (script.Line line) = inr refl
+script_about name script.NoMemory = inl refl
+
+svf_about : (name : List ℕ) (fault : SvfFault) → IsAbout name (svf_event name fault)
+svf_about name (svf.Line line) = inr refl
+svf_about name svf.NoMemory = inl refl
+
+pub debug_about : (name : List ℕ) (d : DebugInputs) (event : Event) → (event ≡ no_memory) ⊎ DebuggedAs name (Ok d) (Err event) → IsAbout name event
+debug_about name d event (inl e) = inl e
+debug_about name d event (inr h) = about_by name event (script_event name h.0) (sym h.1.1) (script_about name h.0)
+
+pub svf_played_about : (name : List ℕ) (texts : PlanTexts) (event : Event) → (event ≡ no_memory) ⊎ PlayedSvf name (Ok texts) (Err event) → IsAbout name event
+svf_played_about name texts event (inl e) = inl e
+svf_played_about name texts event (inr h) = about_by name event (svf_event name h.0) (sym h.2) (svf_about name h.0)
+
+-- ---- where reading stops
+
+stops_by : (cause : Cause) (form : Asked) (old now : InputsState) (event : Event) → TellsOf form old now event → StopsBy cause form old now event
+stops_by Wording form old now event t = tt
+stops_by Want form old now event t = tt
+stops_by Break form old now event t = tt
+stops_by Difference form old now event t = tt
+stops_by Fault form old now event t = t
+stops_by Absence form old now event t = t
+stops_by Contents form old now event t = t
+
+pub want_stops : (form : Asked) (old now : InputsState) (event : Event) → event ≡ no_memory → StopsBy (cause_of event) form old now event
+want_stops form old now event e = subst (λ (x : Event). StopsBy (cause_of x) form old now x) (sym e) tt
+
+pub reads_stop : (form : Asked) (old now : InputsState) (event : Event) → (event ≡ no_memory) ⊎ (event ≡ too_many_reads) → StopsBy (cause_of event) form old now event
+reads_stop form old now event (inl e) = want_stops form old now event e
+reads_stop form old now event (inr e) = stops_by (cause_of event) form old now event (inr (inl e))
+
+-- one of the form's inputs
+pub among_stops : (form : Asked) (old now : InputsState) (event : Event) → StopsAmong (inputs_of old.contents form) old now event → StopsBy (cause_of event) form old now event
+among_stops form old now event (inl e) = want_stops form old now event e
+among_stops form old now event (inr h) = stops_by (cause_of event) form old now event (inr (inr h))
+
+-- the first of the form's inputs
+pub first_stops : (form : Asked) (first : Limited) (others : List Limited) (old now : InputsState) (event : Event)
+    → inputs_of old.contents form ≡ first ∷ others → StandsAt first.name first.limit now → now.selects ≤ old.selects + 1 → IsAbout first.name event → StopsBy (cause_of event) form old now event
+first_stops form first others old now event i s n a = among_stops form old now event (about_among (inputs_of old.contents form) [] first others old now event i s n a)
+
+-- the second
+pub second_stops : (form : Asked) (first second : Limited) (others : List Limited) (old now : InputsState) (event : Event)
+    → inputs_of old.contents form ≡ first ∷ second ∷ others → StandsAt second.name second.limit now → now.selects ≤ old.selects + 2 → IsAbout second.name event → StopsBy (cause_of event) form old now event
+second_stops form first second others old now event i s n a = among_stops form old now event (about_among (inputs_of old.contents form) (first ∷ []) second others old now event i s n a)
+
+-- the third
+pub third_stops : (form : Asked) (first second third : Limited) (others : List Limited) (old now : InputsState) (event : Event)
+    → inputs_of old.contents form ≡ first ∷ second ∷ third ∷ others → StandsAt third.name third.limit now → now.selects ≤ old.selects + 3 → IsAbout third.name event → StopsBy (cause_of event) form old now event
+third_stops form first second third others old now event i s n a = among_stops form old now event (about_among (inputs_of old.contents form) (first ∷ second ∷ []) third others old now event i s n a)
+
+-- a call's result, where each refusal stops so
+pub result_stops : {A B : Type 0} (value : A → B) (form : Asked) (old now : InputsState) (r : Result A Refusal) → IfErr r (λ x. StopsBy (cause_of (event_of x)) form old now (event_of x)) → Stops (Some form) old now (seen value r)
+result_stops value form old now (Ok a) h = tt
+result_stops value form old now (Err x) h = h
+
+pub want_only : {A B : Type 0} (value : A → B) (form : Asked) (old now : InputsState) (r : Result A Refusal) → IfErr r (λ x. event_of x ≡ no_memory) → Stops (Some form) old now (seen value r)
+want_only value form old now (Ok a) h = tt
+want_only value form old now (Err x) h = want_stops form old now (event_of x) h
+
+pub reads_only : {A B : Type 0} (value : A → B) (form : Asked) (old now : InputsState) (r : Result A Refusal) → IfErr r (λ x. (event_of x ≡ no_memory) ⊎ (event_of x ≡ too_many_reads)) → Stops (Some form) old now (seen value r)
+reads_only value form old now (Ok a) h = tt
+reads_only value form old now (Err x) h = reads_stop form old now (event_of x) h
+
+-- streams that are played one after the other, behind a part
+pub streams_stop : (part : List ℕ) (streams : List (List ℕ)) (old mid now : InputsState) (event : Event) → mid.contents ≡ old.contents → mid.selects ≤ old.selects + 1
+    → StopsAmong (limited_together mid.contents stream_limit streams) mid now event → StopsBy (cause_of event) (Playing part streams) old now event
+streams_stop part streams old mid now event e n h =
+    among_stops (Playing part streams) old now event (stops_behind (limited part_limit part) (limited_together old.contents stream_limit streams) old mid now event n
+    (subst (λ (k : Option (List ℕ → Option (List ℕ))). StopsAmong (limited_together k stream_limit streams) mid now event) e h))
+
+-- the form's flash
+pub flash_stops : (form : Asked) (old now : InputsState) (event : Event) (name : List ℕ) → event.concerned ≡ name → Among (flash_names (Some form)) name → StopsBy (cause_of event) form old now event
+flash_stops form old now event name n a = stops_by (cause_of event) form old now event (inl (subst (λ (x : List ℕ). Among (flash_names (Some form)) x) (sym n) a))
+
+pub write_stops : (form : Asked) (old now : InputsState) (event : Event) → event ≡ write_fault → StopsBy (cause_of event) form old now event
+write_stops form old now event e = subst (λ (x : Event). StopsBy (cause_of x) form old now x) (sym e) tt
+
+-- a boot from a flash
+pub boot_stops : (name part_name : List ℕ) (part : PartData) (old now : InputsState) (first last : FlashState) (end : Result Answer Event) → FlashComes name part first last end → Stops (Some (Booting part_name name)) old now end
+boot_stops name part_name part old now first last (Ok answer) h = tt
+boot_stops name part_name part old now first last (Err event) (inl e) = want_stops (Booting part_name name) old now event e
+boot_stops name part_name part old now first last (Err event) (inr (inl (inl h))) = flash_stops (Booting part_name name) old now event name (ap (λ (x : Event). x.concerned) h.0) (inl refl)
+boot_stops name part_name part old now first last (Err event) (inr (inl (inr h))) = flash_stops (Booting part_name name) old now event name (ap (λ (x : Event). x.concerned) h.0) (inl refl)
+boot_stops name part_name part old now first last (Err event) (inr (inr h)) = flash_stops (Booting part_name name) old now event name (ap (λ (x : Event). x.concerned) (flash_open name part first.bytes event h.0)) (inl refl)
+
+-- a flash that can't be used
+pub unopened_stops : (name stream : List ℕ) (old now : InputsState) (first last : FlashState) (event : Event) → IsUnopened name first last event → StopsBy (cause_of event) (UpdatingFlash name stream) old now event
+unopened_stops name stream old now first last event (inl (inl h, d)) = flash_stops (UpdatingFlash name stream) old now event name (ap (λ (x : Event). x.concerned) h.0) (inl refl)
+unopened_stops name stream old now first last event (inl (inr h, d)) = flash_stops (UpdatingFlash name stream) old now event name (ap (λ (x : Event). x.concerned) h.0) (inl refl)
+unopened_stops name stream old now first last event (inr h) = flash_stops (UpdatingFlash name stream) old now event name (ap (λ (x : Event). x.concerned) h.0) (inl refl)
+
+-- a fault of an update
+fault_stops : (flash stream : List ℕ) (old now : InputsState) (fault : UpdateFault) → StandsAt stream stream_limit now → now.selects ≤ old.selects + 1
+    → StopsBy (cause_of (update_event (record { flash = flash; stream = stream }) fault)) (UpdatingFlash flash stream) old now (update_event (record { flash = flash; stream = stream }) fault)
+fault_stops flash stream old now (update.Failed true) s n = tt
+fault_stops flash stream old now (update.Failed false) s n = inl (inl refl)
+fault_stops flash stream old now update.TooLong s n = inr (inr (record { before = []; input = limited stream_limit stream; after = []; among = refl; tells = refl; stands = s; asks = n }))
+fault_stops flash stream old now (update.NoLayout place) s n = inl (inl refl)
+fault_stops flash stream old now (update.Differs place wrote read) s n = tt
+fault_stops flash stream old now update.NoMemory s n = tt
+
+pub updated_stops : (flash stream : List ℕ) (old now : InputsState) (fault : UpdateFault) (event : Event) → event ≡ update_event (record { flash = flash; stream = stream }) fault → StandsAt stream stream_limit now → now.selects ≤ old.selects + 1
+    → StopsBy (cause_of event) (UpdatingFlash flash stream) old now event
+updated_stops flash stream old now fault event e s n = subst (λ (x : Event). StopsBy (cause_of x) (UpdatingFlash flash stream) old now x) (sym e) (fault_stops flash stream old now fault s n)
+
+-- ---- a listing
+
+pub front_stops : {Q : Type 0} (form : Asked) (old now : InputsState) (event : Event) → (event ≡ no_memory) ⊎ ((event ≡ write_fault) × Q) → StopsBy (cause_of event) form old now event
+front_stops form old now event (inl e) = want_stops form old now event e
+front_stops form old now event (inr h) = write_stops form old now event h.0
+
+pub put_stops : {P Q : Type 0} (form : Asked) (old now : InputsState) (event : Event) → ((event ≡ no_memory) × P) ⊎ ((event ≡ write_fault) × Q) → StopsBy (cause_of event) form old now event
+put_stops form old now event (inl h) = want_stops form old now event h.0
+put_stops form old now event (inr h) = write_stops form old now event h.0
+
+pub written_stops : {A : Type 0} (P Q : Type 0) (form : Asked) (old now : InputsState) (r : Result A Refusal) → IfErr r (λ x. ((event_of x ≡ no_memory) × P) ⊎ ((event_of x ≡ write_fault) × Q)) → Stops (Some form) old now (seen (λ _. false) r)
+written_stops P Q form old now (Ok a) h = tt
+written_stops P Q form old now (Err x) h = put_stops form old now (event_of x) h
+
+-- ---- the words
+
+-- a text that is ready, or none, and how it was written
+pub puts_stop : (form : Option Asked) (asks : Asked) (first now : InputsState) (whole : Result Answer Event) (old new : SinkState) (got : Result Bool Event) → form ≡ Some asks → Stops (Some asks) first now whole → Puts whole old new got → Stops form first now got
+puts_stop form asks first now whole old new got e s p = subst (λ (f : Option Asked). Stops f first now got) (sym e) (by whole got s p)
+  where
+    by : (whole : Result Answer Event) (got : Result Bool Event) → Stops (Some asks) first now whole → Puts whole old new got → Stops (Some asks) first now got
+    by (Err event) got s p = subst (λ (r : Result Bool Event). Stops (Some asks) first now r) (sym p.0) s
+    by (Ok answer) (Ok stopped) s p = tt
+    by (Ok answer) (Err event) s p = subst (λ (x : Event). StopsBy (cause_of x) asks first now x) (sym p.0) tt
+
+pub form_stops : {A : Type 0} (form : Option Asked) (asks : Asked) (old now : InputsState) (got : Result A Event) → form ≡ Some asks → Stops (Some asks) old now got → Stops form old now got
+form_stops {A} form asks old now got e s = subst (λ (f : Option Asked). Stops {A = A} f old now got) (sym e) s
+
+-- a whole text, whatever it is
+pub done_stops : (form : Option Asked) (old now : InputsState) (answer : Answer) → Stops form old now (Ok answer)
+done_stops None old now answer = tt
+done_stops (Some form) old now answer = tt
+
+pub refused_stops : (form : Option Asked) (old now : InputsState) (event : Event) → Stops {A = Bool} form old now (Err event) → Stops {A = Answer} form old now (Err event)
+refused_stops None old now event h = tt
+refused_stops (Some form) old now event h = h
+
+-- ---- what an update asks for where its flash can't be used
+
+pub form_judges : {A : Type 0} (form : Option Asked) (asks : Asked) (old new : Sources) (got : Result A Event) → form ≡ Some asks → JudgesFlash {A = A} (Some asks) old new got → JudgesFlash {A = A} form old new got
+form_judges {A} form asks old new got e j = subst (λ (f : Option Asked). JudgesFlash {A = A} f old new got) (sym e) j
+
+pub none_judges : {A : Type 0} (form : Option Asked) (old new : Sources) (got : Result A Event) → form ≡ None → JudgesFlash {A = A} form old new got
+none_judges {A} form old new got e = subst (λ (f : Option Asked). JudgesFlash {A = A} f old new got) (sym e) tt
+
+pub done_judges : (form : Option Asked) (old new : Sources) (answer : Answer) → JudgesFlash {A = Answer} form old new (Ok answer)
+done_judges (Some (UpdatingFlash flash stream)) old new answer = tt
+done_judges form old new answer = tt
+
+pub refused_judges : (form : Option Asked) (old new : Sources) (event : Event) → JudgesFlash {A = Bool} form old new (Err event) → JudgesFlash {A = Answer} form old new (Err event)
+refused_judges (Some (UpdatingFlash flash stream)) old new event j = j
+refused_judges form old new event j = tt
+
+-- the flash wasn't opened, and no input was asked for
+pub unopened_judges : (flash stream : List ℕ) (old new : Sources) (event : Event) → new.inputs ≡ old.inputs → JudgesFlash {A = Bool} (Some (UpdatingFlash flash stream)) old new (Err event)
+unopened_judges flash stream old new event e = λ u. inl (omega (arith, ap (λ (x : InputsState). x.selects) e))
+
+-- the stream wasn't read: an event of its name
+same_name : (flash stream : List ℕ) (event is : Event) → event ≡ is → is.concerned ≡ flash → event.concerned ≡ stream → flash ≡ stream
+same_name flash stream event is e n c = sym n ∙ sym (ap (λ (x : Event). x.concerned) e) ∙ c
+
+named_judges : (flash stream : List ℕ) (now : FlashState) (event : Event) → event.concerned ≡ stream → IsUnusable flash now event → flash ≡ stream
+named_judges flash stream now event c (inl e) = same_name flash stream event (missing flash) e refl c
+named_judges flash stream now event c (inr (inl e)) = same_name flash stream event (too_large flash) e refl c
+named_judges flash stream now event c (inr (inr e)) = same_name flash stream event (read_fault flash) e.0 refl c
+
+-- such an event has one of three reasons
+unusable_reason : (flash : List ℕ) (now : FlashState) (event : Event) → IsUnusable flash now event → (event.reason ≡ why.Missing) ⊎ ((event.reason ≡ why.TooLarge) ⊎ ((event.reason ≡ why.ReadFault) × (now.attached ≡ false)))
+unusable_reason flash now event (inl e) = inl (ap (λ (x : Event). x.reason) e)
+unusable_reason flash now event (inr (inl e)) = inr (inl (ap (λ (x : Event). x.reason) e))
+unusable_reason flash now event (inr (inr e)) = inr (inr (ap (λ (x : Event). x.reason) e.0, e.1))
+
+want_by : (now : FlashState) → (why.NoMemory ≡ why.Missing) ⊎ ((why.NoMemory ≡ why.TooLarge) ⊎ ((why.NoMemory ≡ why.ReadFault) × (now.attached ≡ false))) → ⊥
+want_by now (inl e) = absurd cc
+want_by now (inr (inl e)) = absurd cc
+want_by now (inr (inr e)) = let r : why.NoMemory ≡ why.ReadFault = e.0 in absurd cc
+
+never_wants : (flash : List ℕ) (now : FlashState) (event : Event) → event ≡ no_memory → IsUnusable flash now event → ⊥
+never_wants flash now event w u = want_by now (unusable_reason flash now no_memory (subst (λ (x : Event). IsUnusable flash now x) w u))
+
+pub stream_judges : (flash stream : List ℕ) (old new : Sources) (event : Event) → IsAbout stream event → JudgesFlash {A = Bool} (Some (UpdatingFlash flash stream)) old new (Err event)
+stream_judges flash stream old new event (inl e) = λ u. absurd (never_wants flash new.flash event e u)
+stream_judges flash stream old new event (inr n) = λ u. inr (named_judges flash stream new.flash event n u)
+
+-- what the update of an attached flash comes to
+fault_by : (now : FlashState) (reason : Why) → now.attached ≡ true → (reason ≡ why.Missing → ⊥) → (reason ≡ why.TooLarge → ⊥)
+    → (reason ≡ why.Missing) ⊎ ((reason ≡ why.TooLarge) ⊎ ((reason ≡ why.ReadFault) × (now.attached ≡ false))) → ⊥
+fault_by now reason a m t (inl e) = m e
+fault_by now reason a m t (inr (inl e)) = t e
+fault_by now reason a m t (inr (inr e)) = let f : true ≡ false = sym a ∙ e.1 in absurd cc
+
+fault_judges : (flash stream : List ℕ) (now : FlashState) (fault : UpdateFault) → now.attached ≡ true → IsUnusable flash now (update_event (record { flash = flash; stream = stream }) fault) → ⊥
+fault_judges flash stream now (update.Failed true) a u = fault_by now why.WriteFault a (λ e. absurd cc) (λ e. absurd cc) (unusable_reason flash now write_fault u)
+fault_judges flash stream now (update.Failed false) a u = fault_by now why.ReadFault a (λ e. absurd cc) (λ e. absurd cc) (unusable_reason flash now (read_fault flash) u)
+fault_judges flash stream now update.TooLong a u = fault_by now (why.BadInput input.Long) a (λ e. absurd cc) (λ e. absurd cc) (unusable_reason flash now (bad_input stream input.Long) u)
+fault_judges flash stream now (update.NoLayout place) a u = fault_by now (why.BadInput (input.Layout place)) a (λ e. absurd cc) (λ e. absurd cc) (unusable_reason flash now (bad_input flash (input.Layout place)) u)
+fault_judges flash stream now (update.Differs place wrote read) a u = fault_by now (why.Differs place) a (λ e. absurd cc) (λ e. absurd cc) (unusable_reason flash now (differs flash place) u)
+fault_judges flash stream now update.NoMemory a u = fault_by now why.NoMemory a (λ e. absurd cc) (λ e. absurd cc) (unusable_reason flash now no_memory u)
+
+pub updated_judges : (flash stream : List ℕ) (old new : Sources) (fault : UpdateFault) (event : Event) → event ≡ update_event (record { flash = flash; stream = stream }) fault → new.flash.attached ≡ true → JudgesFlash {A = Bool} (Some (UpdatingFlash flash stream)) old new (Err event)
+updated_judges flash stream old new fault event e a = λ u. absurd (fault_judges flash stream new.flash fault a (subst (λ (x : Event). IsUnusable flash new.flash x) e u))
+
+-- ---- how often inputs are asked for
+
+pub form_asks : (form : Option Asked) (asks : Asked) (old new : InputsState) → form ≡ Some asks → new.selects ≤ old.selects + length (names_of (Some asks)) → new.selects ≤ old.selects + length (names_of form)
+form_asks form asks old new e h = subst (λ (f : Option Asked). new.selects ≤ old.selects + length (names_of f)) (sym e) h
+
+-- two inputs, one after the other, and three
+pub both_asked : (old mid new : InputsState) → mid.selects ≤ old.selects + 1 → new.selects ≤ mid.selects + 1 → new.selects ≤ old.selects + 2
+both_asked old mid new a b = omega (arith, a, b)
+
+pub all_asked : (old first second new : InputsState) → first.selects ≤ old.selects + 1 → second.selects ≤ first.selects + 1 → new.selects ≤ second.selects + 1 → new.selects ≤ old.selects + 3
+all_asked old first second new a b d = omega (arith, a, b, d)
+
+pub streams_asked : {X : Type 0} (f : X → List ℕ) (part : List ℕ) (streams : List X) (old new : InputsState) → new.selects ≤ old.selects + (1 + length streams) → new.selects ≤ old.selects + length (part ∷ map f streams)
+streams_asked f part streams old new h = let all : new.selects ≤ old.selects + suc (length (map f streams)) = omega (arith, h, length-map streams f) in all

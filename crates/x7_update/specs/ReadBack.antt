@@ -1,0 +1,26 @@
+-- That an update is read back before its slot is opened (this project's choice).
+use Rattle.std.specs.Prelude.{◌≡◌, ℕ, ◌+◌, ◌≤◌, List}
+use Rattle.x7_words.specs.Flash.{FlashState, IfKnown}
+use Rattle.x7_update.specs.After.{IsAfter}
+use Rattle.x7_update.specs.Layout.{CanStandAt, HasLayout, IsClosed, update_place}
+use Rattle.x7_update.specs.Writing.{SeesWanted}
+
+module _ {F : Type 0} (state : F → FlashState) where
+  -- The flash was ready, with one moment at most to come: no slot was open, and from the place on up to the end each byte had been read as it
+  -- is wanted, with no write since.
+  pub record WasReady (update : ℕ) (stream : List ℕ) (new : FlashState) : Type 0 where
+    pub ready : F
+    pub seen : SeesWanted update stream update new.extent (state ready)
+    pub closed : IfKnown (state ready).bytes IsClosed
+    pub last : new.moments ≤ (state ready).moments + 1
+
+  -- all of an update with a stream was read back, and no slot was open as yet
+  pub record ReadBack (stream : List ℕ) (old new : FlashState) : Type 0 where
+    pub update : ℕ
+    pub stands : CanStandAt new.extent update
+    pub place : IfKnown old.bytes (λ all. update ≡ update_place all)
+    pub ready : WasReady update stream new
+
+  -- what is found may be the updated flash only where all was read back before
+  abbrev pub OpensReadBack : List ℕ → FlashState → FlashState → List ℕ → List ℕ → Type 0
+  OpensReadBack stream old new flash found = HasLayout flash → IsAfter stream flash found → ReadBack stream old new

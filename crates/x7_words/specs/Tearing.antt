@@ -1,9 +1,0 @@
--- How a flash in memory keeps the write that is torn (this project's choice).
-use Rattle.std.specs.Prelude.{Option, None, Some}
-use Rattle.x7_words.specs.Memory.{Tear}
-use Rattle.x7_words.specs.declared.memory.flash.Torn.{Torn}
-
--- its call and its pattern
-abbrev pub tear_of : Option Torn → Option Tear
-tear_of None = None
-tear_of (Some torn) = Some (record { call = torn.call; pattern = torn.pattern })

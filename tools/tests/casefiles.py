@@ -1,0 +1,123 @@
+"""The worked cases of crates/x7_cases, as far as the tools are tested against them: its README has the format."""
+import glob
+import os
+import re
+import sys
+
+HERE = os.path.dirname(os.path.realpath(__file__))
+TOOLS = os.path.dirname(HERE)
+TOP = os.path.dirname(TOOLS)
+DATA = os.path.join(TOP, "crates", "x7_cases", "data")
+sys.path.insert(0, TOOLS)
+
+
+def hex_bytes(words):
+    """The bytes of a HEX list: digits, or digits and how many times."""
+    parts = (word.partition("*") for word in words)
+    return b"".join(bytes.fromhex(digits) * int(times or 1) for digits, _, times in parts)
+
+
+def line_text(text):
+    """A LINE with each `<TEXT*N>` written out, and its end."""
+    return re.sub(r"<([^<>]*)\*(\d+)>", lambda it: it[1] * int(it[2]), text) + "\n"
+
+
+class Case:
+    """A case: its words, its inputs by name, its status, and what is known of its text."""
+
+    def __init__(self, name, streams, kept):
+        self.name, self.words, self.status, self.error = name, [], 0, ""
+        self.inputs, self.streams, self.kept = {}, streams, kept
+        self.text, self.has, self.keeps, self.is_plain = b"", [], [], True
+
+    def named(self, name):
+        return self.streams.get(name, self.kept.get(name, b""))
+
+    def add(self, key, words, rest):
+        """Takes a line."""
+        if key == "words":
+            self.words = words
+        elif key in ("bytes", "flash"):
+            self.inputs[words[0]] = self.inputs.get(words[0], b"") + hex_bytes(words[1:])
+        elif key == "text":
+            self.inputs[words[0]] = self.inputs.get(words[0], b"") + line_text(rest[len(words[0]) + 1 :]).encode()
+        elif key == "text_lines":
+            text = line_text(rest.split(" ", 2)[2])
+            self.inputs[words[0]] = self.inputs.get(words[0], b"") + text.encode() * int(words[1])
+        elif key in ("slice", "flash_slice"):
+            self.inputs[words[0]] = self.inputs.get(words[0], b"") + self.named(words[1])[int(words[2]) : int(words[3])]
+        elif key == "status":
+            self.status = int(words[0])
+        elif key == "err":
+            self.error = rest
+        elif key == "out":
+            self.text += line_text(rest).encode()
+        elif key == "out_lines":
+            self.text += line_text(rest.partition(" ")[2]).encode() * int(words[0])
+        elif key == "out_bytes":
+            self.text += hex_bytes(words)
+        elif key == "out_slice":
+            self.text += self.named(words[0])[int(words[1]) : int(words[2])]
+            self.is_plain = self.is_plain and (words[0] in self.streams or words[0] in self.kept)
+        elif key == "has":
+            self.has.append(rest)
+        elif key == "keep":
+            self.keeps.append(words[0])
+        elif key in ("prefix", "any", "cut_each", "change_each", "room", "in_fails", "out_fails", "err_fails", "flash_fails", "length"):
+            self.is_plain = False
+
+    def bytes_of(self, name):
+        """The bytes of an input that the words name."""
+        return self.inputs.get(name, self.streams.get(name, self.kept.get(name)))
+
+
+def cases_of(path):
+    """The cases of a file."""
+    streams, kept, case = {}, {}, None
+    for line in open(path, encoding="utf-8").read().splitlines():
+        key, _, rest = line.partition(" ")
+        words = rest.split()
+        if not line or line.startswith("#"):
+            continue
+        if key == "case":
+            case = Case(rest, streams, kept)
+        elif key == "end":
+            for name in case.keeps:
+                if case.is_plain and not case.has:
+                    kept[name] = case.text
+            yield case
+            case = None
+        elif key == "stream" and case is None:
+            streams[words[0]] = streams.get(words[0], b"") + hex_bytes(words[1:])
+        elif case is not None:
+            case.add(key, words, rest)
+
+
+def all_cases():
+    """The cases of every file, with the file's name."""
+    for path in sorted(glob.glob(os.path.join(DATA, "*.txt"))):
+        for case in cases_of(path):
+            yield os.path.basename(path), case
+
+
+class Tally:
+    """Counts what was tried, says on standard error what differs, and ends a test with its line."""
+
+    def __init__(self):
+        self.passed = self.failed = self.skipped = 0
+
+    def check(self, name, is_so, told=""):
+        self.passed, self.failed = self.passed + bool(is_so), self.failed + (not is_so)
+        if not is_so:
+            print(f"{os.path.basename(sys.argv[0])}: {name}{': ' if told else ''}{told}", file=sys.stderr)
+
+    def same(self, name, came, wanted):
+        self.check(name, came == wanted, f"came {str(came)[:300]!r}, wanted {str(wanted)[:300]!r}")
+
+    def skip(self, name):
+        self.skipped += 1
+
+    def end(self):
+        more = f", {self.skipped} skipped" if self.skipped else ""
+        print(f"{self.passed} passed, {self.failed} failed{more}")
+        sys.exit(self.failed > 0)

@@ -1,0 +1,161 @@
+"""Runs of the tools and of x7 for their tests: in a folder of their own, with a limit of time."""
+import os
+import random
+import runpy
+import shlex
+import signal
+import subprocess
+import sys
+import traceback
+from collections import namedtuple
+
+from casefiles import TOOLS, Tally
+
+SECONDS = 120
+X7 = os.environ.get("X7", "")
+Came = namedtuple("Came", "status out err")
+
+
+def run(folder, words, given=b"", closed=()):
+    """Runs a command in a folder, with some of its standard files closed; status None where it doesn't end in time."""
+
+    def close():
+        for number in closed:
+            os.close(number)
+
+    how = {"cwd": folder, "preexec_fn": close, "stdout": subprocess.PIPE, "stderr": subprocess.PIPE}
+    try:
+        done = subprocess.run([str(it) for it in words], input=given, timeout=SECONDS, **how)
+    except subprocess.TimeoutExpired:
+        return Came(None, b"", b"")
+    return Came(done.returncode, done.stdout, done.stderr)
+
+
+def run_here(folder, words):
+    """Runs a tool in a fork of this process, which has read the library and the shared modules by then: many runs cost little."""
+    paths = [os.path.join(folder, name) for name in (".out", ".err")]
+    child = os.fork()
+    if child == 0:
+        status = 70
+        try:
+            os.chdir(folder)
+            for number, path in ((0, os.devnull), *zip((1, 2), paths)):
+                os.dup2(os.open(path, os.O_RDONLY if number == 0 else os.O_WRONLY | os.O_CREAT | os.O_TRUNC, 0o600), number)
+            for name, mode in (("stdin", "r"), ("stdout", "w"), ("stderr", "w")):
+                setattr(sys, name, open(("stdin", "stdout", "stderr").index(name), mode, closefd=False, encoding="utf-8", errors="backslashreplace"))
+            signal.alarm(SECONDS)
+            sys.argv = [os.path.join(TOOLS, words[0]), *words[1:]]
+            status = status_of(sys.argv[0])
+        finally:
+            for file in (sys.stdout, sys.stderr):
+                file.flush()
+            os._exit(status)
+    ended = os.waitpid(child, 0)[1]
+    out, err = (read_and_remove(path) for path in paths)
+    return Came(os.WEXITSTATUS(ended) if os.WIFEXITED(ended) else None, out, err)
+
+
+def status_of(path):
+    """Runs a program of Python in this process, to its status."""
+    try:
+        runpy.run_path(path, run_name="__main__")
+    except SystemExit as ended:
+        return ended.code if isinstance(ended.code, int) else int(ended.code is not None)
+    except BaseException:
+        traceback.print_exc()
+        return 1
+    return 0
+
+
+def read_and_remove(path):
+    with open(path, "rb") as file:
+        data = file.read()
+    os.remove(path)
+    return data
+
+
+class Bench:
+    """A folder with a tally: tools are run in it, and what they write is put there."""
+
+    def __init__(self, folder):
+        self.folder, self.tally = str(folder), Tally()
+
+    def path(self, name):
+        return os.path.join(self.folder, name)
+
+    def put(self, name, data):
+        with open(self.path(name), "wb") as file:
+            file.write(data.encode() if isinstance(data, str) else data)
+
+    def get(self, name):
+        with open(self.path(name), "rb") as file:
+            return file.read()
+
+    def tool(self, *words, given=b"", closed=()):
+        """Runs a tool."""
+        return run(self.folder, [sys.executable, os.path.join(TOOLS, words[0]), *words[1:]], given, closed)
+
+    def many(self, *words):
+        """Runs a tool as one of many."""
+        return run_here(self.folder, words)
+
+    def tools(self):
+        """The names of all tools."""
+        return sorted(it for it in os.listdir(TOOLS) if "." not in it and os.path.isfile(os.path.join(TOOLS, it)))
+
+    def command(self, words):
+        """A tool and its words, for a shell."""
+        return " ".join(shlex.quote(it) for it in [sys.executable, os.path.join(TOOLS, words[0]), *words[1:]])
+
+    def shell(self, text):
+        """Runs a text of the shell."""
+        return run(self.folder, ["sh", "-c", text])
+
+    def x7(self, *words):
+        """Runs x7."""
+        return run(self.folder, [X7, *words])
+
+    def make(self, name, *words):
+        """Puts what a tool, or x7, writes."""
+        came = self.x7(*words[1:]) if words[0] == "x7" else self.tool(*words)
+        if came.status not in (0, 1):
+            self.tally.check(" ".join(words), False, f"status {came.status}, {came.err.decode(errors='replace')}")
+        self.put(name, came.out)
+
+    def refuses(self, *words, what="", given=b"", closed=()):
+        """A tool refuses these words: status 2, one line, nothing written."""
+        before = sorted(os.listdir(self.folder))
+        came = self.tool(*words, given=given, closed=closed)
+        line = came.err.decode(errors="replace")
+        is_line = 2 in closed or line.count("\n") == 1 and line.startswith(words[0]) and what in line
+        is_so = came.status == 2 and came.out == b"" and is_line and sorted(os.listdir(self.folder)) == before
+        self.tally.check(" ".join(words) + f" {list(closed) or ''}", is_so, f"status {came.status}, {came.out[:80]!r}, {line[:300]!r}")
+
+
+def frame_of(seed, words=101):
+    """The bytes of a frame from a number, the same at each run."""
+    return random.Random(seed).getrandbits(32 * words).to_bytes(4 * words, "big")
+
+
+# a made-up device with frames of 101 words, two rows of which have the same columns
+DEVICE = """name = "made"
+idcode = 0x0362D093
+
+[[row]]
+block = 0
+half = 0
+row = 0
+minors = [4, 6, 3]
+
+[[row]]
+block = 0
+half = 1
+row = 0
+minors = [4, 6, 3]
+
+[[row]]
+block = 1
+half = 0
+row = 0
+minors = [5]
+"""

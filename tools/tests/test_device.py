@@ -1,0 +1,53 @@
+#!/usr/bin/env python3
+"""Tests the device without frames against every report of the repository's worked cases: taken, end, phase, and registers."""
+from casefiles import Tally, all_cases, os
+import tempfile
+import x7formats as x7
+from x7device import KEPT, Device
+
+tally = Tally()
+FRAME_FAULTS = ("Address", "Overrun", "Multi")
+
+
+def in_file(name, data):
+    path = os.path.join(FOLDER, name)
+    with open(path, "wb") as file:
+        file.write(data)
+    return path
+
+
+def wanted_lines(case):
+    """The lines of a report that a case shows, by their first words."""
+    lines = case.text.decode("ascii", "replace").splitlines() if case.text and case.is_plain else case.has
+    return {" ".join(line.split()[:2]) if line.startswith("reg ") else line.split(" ")[0]: line for line in lines if line}
+
+
+def play_case(name, case):
+    """A case of `play`: what its report shows is what the device without frames comes to, where no frame's fault ends it."""
+    lines = wanted_lines(case)
+    if any(fault in lines.get("end", "") for fault in FRAME_FAULTS):
+        return
+    part = x7.read_part(in_file("part", case.bytes_of(case.words[1]) or TINY))
+    streams = [case.bytes_of(word) for word in case.words[2:]]
+    if None in streams:
+        return
+    device = Device(part.idcode, part.lock, part.match).play(b"".join(x7.stream_of(raw).data for raw in streams))
+    came = {
+        "taken": f"taken {device.taken}",
+        "end": f"end {' '.join(device.end)}",
+        "phase": f"phase {device.phase} done {int(device.phase >= device.done_phase)} gts {device.gts} gwe {device.gwe}",
+        **{f"reg {it}": f"reg {it} {device.registers[it]:08X}" for it in KEPT},
+        "reg CRC": f"reg CRC {device.check.value:08X}",
+    }
+    for key, line in came.items():
+        if key in lines and (key != "reg CRC" or not device.has_stopped):
+            tally.same(f"{name}, {key}", line, lines[key])
+
+
+with open(os.path.join(os.path.dirname(__file__), "..", "..", "crates", "x7_cases", "data", "tiny.part"), "rb") as file:
+    TINY = file.read()
+with tempfile.TemporaryDirectory() as FOLDER:
+    for file, case in all_cases():
+        if case.words[:1] == ["play"] and len(case.words) > 2 and case.status in (0, 1):
+            play_case(f"{file}, {case.name}", case)
+tally.end()

@@ -1,0 +1,48 @@
+#!/usr/bin/env python3
+"""Tests that the listing and the reports in examples/ are what x7 writes, and that the tools show what README says of them."""
+import os
+import tempfile
+
+from runs import X7, Bench, run
+
+EXAMPLES = os.path.join(os.path.dirname(os.path.realpath(__file__)), "..", "..", "examples")
+# What each file holds: the words of x7, of which those with a dot are files.
+MADE = {
+    "first.list": ["list first.bin"],
+    "first.report": ["play tiny.part first.bin"],
+    "chip.report": ["plan full chip.part chip.frames", "play chip.part 0"],
+    "chip_changed.report": [
+        "plan full chip.part chip.frames", "plan partial chip.part chip_change.frames", "play chip.part 0 1"],
+}
+
+
+def example(name):
+    with open(os.path.join(EXAMPLES, name), "rb") as file:
+        return file.read()
+
+
+def made(bench, commands):
+    """What the last of some commands writes; a number stands for what the one of that number wrote."""
+    out = b""
+    for number, command in enumerate(commands):
+        words = [os.path.join(EXAMPLES, it) if "." in it else it for it in command.split()]
+        out = run(bench.folder, [X7, *words]).out
+        bench.put(str(number), out)
+    return out
+
+
+with tempfile.TemporaryDirectory() as folder:
+    bench = Bench(folder)
+    for name, commands in MADE.items():
+        if X7:
+            bench.tally.same(f"examples/{name}", made(bench, commands), example(name))
+        else:
+            bench.tally.skip(name)
+    files = [os.path.join(EXAMPLES, it) for it in ("first.list", "first.report")]
+    came = bench.tool("why", *files)
+    bench.tally.same("why of the first stream, status", came.status, 1)
+    bench.tally.same("why of the first stream", came.out.split(b"\n")[0],
+                     b"cause: the stream is for a device with IDCODE 03651093 (xc7k325t), this one has 0362D093 (xc7a35t)")
+    parts = [os.path.join(EXAMPLES, it) for it in ("chip.part", "chip.report", "chip_changed.report")]
+    bench.tally.same("frame_map of two reports", bench.tool("frame_map", *parts).out.count(b"<svg"), 1)
+    bench.tally.end()

@@ -1,0 +1,28 @@
+#!/usr/bin/env python3
+"""Tests ./install: what it says stands there, and an installed tool finds the installed program."""
+import os
+import tempfile
+
+from casefiles import TOOLS, Tally
+from runs import X7, run
+
+TOP = os.path.dirname(TOOLS)
+EXAMPLES = os.path.join(TOP, "examples")
+
+tally = Tally()
+with tempfile.TemporaryDirectory() as folder:
+    install = os.path.join(TOP, "install")
+    tally.same("install of no folder, status", run(folder, [install]).status, 2)
+    if X7:
+        came = run(folder, [install, "there"])
+        tally.same("install, status", came.status, 0)
+        files = came.out.decode().split("\n")[:-1]
+        tally.check("install says what it put", files and all(os.path.isfile(os.path.join(folder, it)) for it in files), files)
+        os.environ["PATH"] = os.path.join(folder, "there", "bin") + os.pathsep + os.environ["PATH"]
+        del os.environ["X7"]
+        files = [os.path.join(EXAMPLES, it) for it in ("tiny.part", "first.bin")]
+        came = run(folder, ["x7-why", "--part", *files])
+        tally.check("an installed tool plays by the installed program", b"cause: the stream is for a device with IDCODE" in came.out, came)
+    else:
+        tally.skip("install of a program")
+tally.end()

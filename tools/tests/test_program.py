@@ -1,0 +1,49 @@
+#!/usr/bin/env python3
+"""Tests what the program says of itself: --help and --version, and that the man page and CHANGELOG have its version and its forms."""
+import os
+import re
+import tempfile
+
+from casefiles import TOOLS
+from runs import X7, Bench, run
+
+TOP = os.path.dirname(TOOLS)
+
+
+def text_of(*path):
+    with open(os.path.join(TOP, *path), encoding="utf-8") as file:
+        return file.read()
+
+
+def pages(bench):
+    """What the two words write, alone and where standard output is closed or full."""
+    came = run(bench.folder, [X7, "--help"])
+    lines = came.out.decode().split("\n")
+    bench.tally.same("--help, status", (came.status, came.err), (0, b""))
+    bench.tally.check("--help is a page", len(lines) < 60 and max(map(len, lines)) < 80, len(lines))
+    version = run(bench.folder, [X7, "--version"])
+    bench.tally.same("--version, status", (version.status, version.err), (0, b""))
+    for word in ("--help", "--version"):
+        bench.tally.same(f"{word}, closed", run(bench.folder, [X7, word], closed=[1]).status, 7)
+        bench.tally.same(f"{word} and more", run(bench.folder, [X7, word, "more"]), (2, b"", b"x7: usage\n"))
+    return lines, version.out.decode().strip()
+
+
+def documents(bench, lines, version):
+    """The forms of --help are those of the man page, and the version is its, and CHANGELOG's."""
+    page = text_of("docs", "x7.1")
+    shown = re.findall(r"x7 ((?:--)?[a-z]+)", " ".join(it for it in lines if re.match("(usage:|      ) x7 ", it)))
+    for word in shown:
+        bench.tally.check(f"the man page has {word}", re.search(rf"x7 {re.escape(word)}\b", page.replace("\\-", "-")), word)
+    bench.tally.check("the forms", len(shown) == 16, shown)
+    bench.tally.check("the man page's version", f'"{version}"' in page.split("\n")[0], page.split("\n")[0])
+    bench.tally.check("CHANGELOG's version", f"## {version.split(' ')[-1]}" in text_of("CHANGELOG.md"), version)
+
+
+with tempfile.TemporaryDirectory() as folder:
+    bench = Bench(folder)
+    if X7:
+        documents(bench, *pages(bench))
+    else:
+        bench.tally.skip("--help and --version")
+    bench.tally.end()

@@ -1,0 +1,137 @@
+#!/usr/bin/env python3
+"""Tests `svf`: what it writes plays on x7's test access port to the state that the stream comes to, in full, as a change and as a
+readback; and what can't start so is refused."""
+import tempfile
+
+from runs import DEVICE, X7, Bench, frame_of
+import x7formats as x7
+
+
+def text_of(frames):
+    return x7.frames_text({int(far, 16): frame for far, frame in frames.items()})
+
+
+def make(bench):
+    """A full stream with a header, a change, and a read of three frames, over the pads behind a row."""
+    bench.put("made.part", DEVICE)
+    bench.put("full.frames", text_of({"00000000": frame_of(1), "00000101": frame_of(2), "00800004": frame_of(3)}))
+    bench.put("change.frames", text_of({"00000101": frame_of(4), "00000102": frame_of(5), "00400000": frame_of(6)}))
+    bench.make("full", "x7", "plan", "full", "made.part", "full.frames")
+    bench.make("change", "x7", "plan", "partial", "made.part", "change.frames")
+    bench.make("read", "x7", "plan", "read", "made.part", "00000101", "5")
+    bench.put("full.bit", with_header(bench.get("full")))
+    bench.make("report", "x7", "play", "made.part", "full", "change", "read")
+
+
+def with_header(data, length=None):
+    """A stream behind a header."""
+    fields = b"".join(letter + len(text).to_bytes(2, "big") + text for letter, text in ((b"a", b"design\0"), (b"b", b"made\0"), (b"c", b"\0"), (b"d", b"\0")))
+    return x7.FIXED + fields + b"e" + (len(data) if length is None else length).to_bytes(4, "big") + data
+
+
+def ends(bench, name, *texts):
+    """Plays texts one behind the other on a new port: the line, and the report."""
+    bench.put("played", b"".join(bench.get(text) for text in texts))
+    came = bench.x7("svf", "made.part", "played")
+    bench.put("came", came.out)
+    report = x7.read_report(bench.path("came"))
+    bench.tally.same(name, (came.status, report.svf), (0, "done"))
+    return report
+
+
+def differs(bench, name, *texts):
+    """Texts of which a scan reads what it doesn't want."""
+    bench.put("played", b"".join(bench.get(text) for text in texts))
+    came = bench.x7("svf", "made.part", "played")
+    bench.tally.check(name, came.status == 1 and came.out.startswith(b"svf differs"), came.out[:80])
+
+
+def plays(bench):
+    """The texts of the three kinds, played."""
+    same = bench.tally.same
+    bench.make("full.svf", "svf", "full.bit")
+    bench.make("plain.svf", "svf", "full")
+    same("a header is left out", bench.get("full.svf"), bench.get("plain.svf"))
+    bench.make("change.svf", "svf", "--partial", "change")
+    bench.make("read.svf", "svf", "--read", "made.part", "read", "report")
+    bench.tally.check("a change has no JPROGRAM", b"SIR 6 TDI (0B)" not in bench.get("change.svf") + bench.get("read.svf"))
+    bench.make("alone", "x7", "play", "made.part", "full")
+    bench.make("both", "x7", "play", "made.part", "full", "change")
+    for name, texts, report in (("full", ["full.svf"], "alone"), ("change", ["full.svf", "change.svf"], "both"), ("read", ["full.svf", "change.svf", "read.svf"], "both")):
+        came, wanted = ends(bench, name, *texts), x7.read_report(bench.path(report))
+        state = lambda it: (it.frames, it.phase, it.done, it.gts, it.gwe, it.registers["STAT"], it.end)
+        same(f"{name} comes to the same", state(came), state(wanted))
+    differs(bench, "a change on a device that doesn't run", "change.svf")
+    differs(bench, "a readback without the change", "full.svf", "read.svf")
+    bench.put("other.svf", bench.get("full.svf").replace(b"0362D093", b"0362C093"))
+    differs(bench, "another device", "other.svf")
+
+
+def masked(bench):
+    """A bit that may be any isn't wanted, every other one is."""
+    report = bench.get("report").decode()
+    words = [line for line in report.splitlines() if line.startswith("data ")]
+    count = sum(len(line.split()) - 1 for line in words)
+    digits = "".join(line[5:].replace(" ", "") for line in words)
+    at = 8 * (101 + 7)
+    changed = digits[:at] + f"{int(digits[at], 16) ^ 1:X}" + digits[at + 1 :]
+    free = "0" * at + "1" + "0" * (len(digits) - at - 1)
+    for name, text in (("wrong.report", changed), ("mask.report", free), ("nothing.report", "0" * len(digits))):
+        rows = "".join("data " + " ".join(text[row + 8 * it : row + 8 * it + 8] for it in range(8) if row + 8 * it < len(text)) + "\n" for row in range(0, len(text), 64))
+        bench.put(name, report.replace("".join(f"{line}\n" for line in words), rows))
+    bench.tally.check("words", count == 101 * 6)
+    bench.make("wrong.svf", "svf", "--read", "made.part", "read", "wrong.report")
+    differs(bench, "a word that differs", "full.svf", "change.svf", "wrong.svf")
+    bench.make("masked.svf", "svf", "--read", "made.part", "read", "wrong.report", "--mask", "mask.report")
+    ends(bench, "a bit that may be any", "full.svf", "change.svf", "masked.svf")
+    bench.make("open.svf", "svf", "--read", "made.part", "read", "wrong.report", "--mask", "nothing.report")
+    differs(bench, "a mask of zeros wants every bit", "full.svf", "change.svf", "open.svf")
+
+
+def refused(bench):
+    """What can't start so."""
+    data = bench.get("full")
+    bench.make("image", "x7", "image", "full", "change")
+    bench.put("cut", data[:-100])
+    bench.put("bit", data[:400] + bytes([data[400] ^ 8]) + data[401:])
+    bench.put("short.bit", with_header(data, len(data) + 4))
+    bench.put("header", with_header(data)[:20])
+    bench.put("letter", with_header(data).replace(b"\0b\0\5", b"\0q\0\5"))
+    bench.put("family", data.replace(bytes.fromhex("0362D093"), bytes.fromhex("04B31093")))
+    bench.put("nothing", b"")
+    bench.put("jump", data.replace(bytes.fromhex("3000800100000005"), bytes.fromhex("300080010000000F")))
+    bench.put("text", b"these are no streams, these are words\n" * 40)
+    for name, what in (
+        ("change", "no START"), ("read", "no START"), ("image", "IPROG"), ("cut", "DESYNC"), ("bit", "check fails"), ("short.bit", "header tells"),
+        ("header", "header"), ("letter", "letter"), ("family", "no 7-series"), ("nothing", "no sync word"), ("text", "no sync word"), ("nowhere", "nowhere"),
+    ):  # fmt: skip
+        bench.refuses("svf", name, what=what)
+    bench.refuses("svf", "jump")
+    for name, what in (("full", "full stream"), ("read", "no frame"), ("nothing", "no sync word"), ("image", "IPROG")):
+        bench.refuses("svf", "--partial", name, what=what)
+    bench.refuses("svf", "--read", "made.part", "full", "report", what="no stream of")
+    bench.refuses("svf", "--read", "made.part", "change", "report", what="no stream of")
+    bench.refuses("svf", "--read", "made.part", "read", "both", what="read out")
+    bench.refuses("svf", "--read", "made.part", "read", "nothing", what="nothing")
+    bench.refuses("svf", "--read", "full", "read", "report", what="full")
+    bench.put("named.part", DEVICE.replace('"made"', '"other"'))
+    bench.refuses("svf", "--read", "named.part", "read", "report", what="of the part made")
+    for words in ([], ["--partial"], ["--read"], ["--read", "made.part", "read"], ["full", "full"], ["--full", "full"], ["0362D093"]):
+        bench.refuses("svf", *words)
+    bench.refuses("svf", "full", closed=[1])
+
+
+def main(folder):
+    bench = Bench(folder)
+    if X7:
+        make(bench)
+        plays(bench)
+        masked(bench)
+        refused(bench)
+    else:
+        bench.tally.skip("svf: x7 isn't built")
+    bench.tally.end()
+
+
+with tempfile.TemporaryDirectory() as name:
+    main(name)

@@ -1,0 +1,241 @@
+#!/usr/bin/env python3
+"""Tests `flash_steps`, `allow_fallback` and `check_update`: the steps, done one by one, leave the flash that `x7 update` leaves, and
+in its order; what a power loss leaves between two steps boots; each check fails of the flash or the stream that it is for."""
+import random
+import re
+import tempfile
+
+from runs import DEVICE, X7, Bench, frame_of
+import x7formats as x7
+from x7bench import SECTOR, slot_of
+
+SIZE = 5 * SECTOR
+
+
+def text_of(frames):
+    return x7.frames_text({int(far, 16): frame for far, frame in frames.items()})
+
+
+def make(bench):
+    """A part, streams for it, and a flash."""
+    bench.put("made.part", DEVICE)
+    for name, seed in (("golden", 1), ("update", 2), ("next", 3)):
+        bench.put("frames", text_of({"00000000": frame_of(seed), "00400085": frame_of(10 * seed)}))
+        bench.make(name, "x7", "plan", "full", "made.part", "frames")
+    bench.make("image", "x7", "image", "golden", "update")
+    bench.put("flash", bench.get("image").ljust(SIZE, b"\xff"))
+    listing = "\n".join(x7.listing_of(x7.stream_of(bench.get("next"))))
+    bench.put("listing", listing.replace("data 00000101", "data 00000501").replace("write CRC 1\ndata ", "crc\n# "))
+    bench.make("forbids", "x7", "asm", "listing")
+
+
+# ---- steps
+
+
+def apply(flash, line, raw):
+    """Does a step: an erase sets bits, a program clears them. Answers whether a read found what is wanted."""
+    verb, place, count, *rest = line.split()
+    place, count = int(place, 16), int(count)
+    if verb == "erase":
+        flash[place : place + count] = b"\xff" * count
+        return place % SECTOR == 0 and count == SECTOR
+    if rest == ["erased"]:
+        wanted = b"\xff" * count
+    elif rest[0] == "from":
+        wanted = raw[int(rest[1]) : int(rest[1]) + count]
+    else:
+        wanted = bytes.fromhex(rest[0])
+    if verb == "read":
+        return flash[place : place + count] == wanted
+    old = bytes(flash[place : place + count])
+    flash[place : place + count] = bytes(one & other for one, other in zip(old, wanted))
+    return flash[place : place + count] == wanted
+
+
+def steps_of(bench, *words):
+    came = bench.tool("flash_steps", *words)
+    bench.tally.same(f"flash_steps {' '.join(words)}", came.status, 0)
+    return [line for line in came.out.decode().splitlines() if not line.startswith("#")]
+
+
+def do_steps(bench, name, stream, *options):
+    """Does the steps of an update, and compares what they leave with what `x7 update` leaves."""
+    flash, raw = bytearray(bench.get("flash")), bench.get(stream)
+    steps = steps_of(bench, *options, "flash", stream)
+    for number, line in enumerate(steps):
+        bench.tally.check(f"{name}, step {number + 1}: {line[:60]}", apply(flash, line, raw))
+    bench.put("copy", bench.get("flash"))
+    came = bench.x7("update", "copy", stream)
+    bench.tally.same(f"{name}: x7 update", (came.status, bench.get("copy") == bytes(flash)), (0, True))
+    verbs = [line.split()[0] for line in steps]
+    kinds = re.sub(r"(\w)\1+", r"\1", "".join(it[0] for it in verbs))
+    bench.tally.check(f"{name}: the order is {kinds}", kinds in ("peprpr", "eprpr", "perpr", "erpr"))
+    return steps
+
+
+def steps(bench):
+    """Several updates one behind the other, by each form of the list."""
+    for number, options in enumerate([[], ["--page", "256"], ["--bytes"], ["--bytes", "--page", "100"]]):
+        for stream in ("next", "update"):
+            do_steps(bench, f"update {number} {stream}", stream, *options)
+        bench.put("flash", bench.get("copy"))
+    paged = steps_of(bench, "--page", "256", "flash", "next")
+    sizes = [(int(line.split()[1], 16), int(line.split()[2])) for line in paged if line.startswith("program")]
+    bench.tally.check("a program stays in its page", all(place // 256 == (place + size - 1) // 256 for place, size in sizes))
+    bench.put("nothing", b"")
+    do_steps(bench, "an empty stream", "nothing")
+    bench.put("headed", header() + bench.get("next"))
+    do_steps(bench, "a stream behind a header", "headed", "--page", "512")
+    bench.put("closed", x7.bytes_of([0]) + bench.get("image")[4:].ljust(SIZE - 4, b"\xff"))
+    bench.put("flash", bench.get("closed"))
+    do_steps(bench, "no slot is open", "next")
+
+
+def header():
+    return x7.FIXED + b"a\0\0b\0\0c\0\0d\0\0e\0\0\0\0"
+
+
+def cuts(bench):
+    """The power goes between two steps, or in the middle of one: what is there boots."""
+    bench.put("flash", bench.get("image").ljust(SIZE, b"\xff"))
+    raw, flash, take = bench.get("next"), bytearray(bench.get("flash")), random.Random(5)
+    for number, line in enumerate(steps_of(bench, "--page", "256", "flash", "next")):
+        torn, before = bytearray(flash), bytes(flash)
+        apply(flash, line, raw)
+        for place in range(len(flash)) if before != flash and number % 31 < 2 else ():
+            if before[place] != flash[place]:
+                torn[place] = before[place] if take.random() < 0.5 else flash[place]
+        if number % 31 < 2:
+            bench.put("torn", bytes(torn))
+            came = bench.x7("boot", "made.part", "torn")
+            bench.tally.check(f"torn in step {number + 1}", came.status == 0 and b"end started" in came.out, came.out[:200])
+
+
+def layouts(bench):
+    """Flashes without a layout are refused with the place that x7 tells."""
+    image = bench.get("image")
+    bad = {
+        "short": image[: SECTOR - 1], "one": image[:SECTOR], "odd": image[:-1], "nothing": b"", "stream": bench.get("next").ljust(2 * SECTOR, b"\xff"),
+        "slot": image[:100] + b"\0" + image[101:], "first": image[:5] + b"\1" + image[6:], "two": image[:64] + x7.SYNC + image[68:],
+        "place": b"".join(slot_of(b"\0\1\0\0") if it == 0 else b"\xff" * 4 + slot_of(b"\0\1\0\0")[4:] for it in range(2048)).ljust(len(image), b"\xff"),
+        "last": image[: SECTOR - 32] + b"\0\0\0\0" + image[SECTOR - 28 :], "ff": b"\xff" * len(image), "zero": bytes(len(image)),
+    }  # fmt: skip
+    for name, flash in bad.items():
+        bench.put("bad", flash)
+        told = bench.x7("update", "bad", "next")
+        place = told.err.decode().rsplit(" ", 1)[-1].strip()
+        bench.tally.same(f"x7 refuses {name}", told.status, 5)
+        bench.refuses("flash_steps", "bad", "next", what=f"layout byte {place}:")
+        came = bench.tool("check_update", "made.part", "bad", "next")
+        bench.tally.check(f"check_update {name}", came.status == 1 and f"fails: layout: layout byte {place}:".encode() in came.out, came.out[:200])
+    bench.put("long", bytes(4 * SECTOR))
+    bench.refuses("flash_steps", "image", "long", what="truncate")
+
+
+# ---- a stream that is allowed to fall back
+
+
+def allowed(bench):
+    """CTL0 loses bit 10 and nothing else, the checks are right, and what isn't whole is refused."""
+    bench.make("allows", "allow_fallback", "forbids")
+    bench.tally.check("forbids has the bit", bench.get("forbids") != bench.get("next"))
+    bench.tally.same("what it writes is the stream with 101", bench.get("allows"), bench.get("next"))
+    bench.make("again", "allow_fallback", "next")
+    bench.tally.same("a stream that falls back stays", bench.get("again"), bench.get("next"))
+    bench.put("headed", header() + bench.get("forbids"))
+    bench.put("headed", header()[:-4] + len(bench.get("forbids")).to_bytes(4, "big") + bench.get("forbids"))
+    bench.make("still", "allow_fallback", "headed")
+    bench.tally.same("a header stays", bench.get("still")[len(header()) :], bench.get("next"))
+    data = bench.get("forbids")
+    for name, bad, what in (("cut", data[:-80], "DESYNC"), ("bit", data[:500] + bytes([data[500] ^ 4]) + data[501:], "check fails"), ("empty", b"", "no sync word"), ("headed", header() + data, "header tells")):
+        bench.put("bad", bad)
+        bench.refuses("allow_fallback", "bad", what=what)
+    bench.refuses("allow_fallback")
+    bench.refuses("allow_fallback", "nowhere", what="nowhere")
+    bench.refuses("allow_fallback", "forbids", closed=[1])
+
+
+# ---- checks of an update
+
+NAMES = ["size", "layout", "stream", "idcode", "clock", "fallback", "jump", "address", "clean", "closed", "update", "boot", "frames", "damaged"]
+
+
+def checked(bench, name, fails, *words):
+    """Runs all checks; those that fail are these."""
+    before = {it: bench.get(it) for it in words if it in ("flash", "other", "next")}
+    came = bench.tool("check_update", *words)
+    lines = [line for line in came.out.decode().splitlines() if ": " in line]
+    told = {line.split(": ")[1] for line in lines if line.startswith("fails")}
+    bench.tally.same(f"{name}", (came.status, told), (int(bool(fails)), set(fails)))
+    bench.tally.check(f"{name} leaves its inputs", all(bench.get(it) == data for it, data in before.items()))
+    return lines
+
+
+def mended(bench, stream, old, new):
+    """A stream with a change of its listing, its checks made anew."""
+    lines = "\n".join(x7.listing_of(x7.stream_of(bench.get(stream)))).replace("write CRC 1\ndata ", "crc\n# ")
+    bench.put("listing", lines.replace(old, new, 1))
+    bench.make("other", "x7", "asm", "listing")
+
+
+def checks(bench):
+    """Each check fails of what it is for."""
+    bench.put("flash", bench.get("image").ljust(SIZE, b"\xff"))
+    lines = checked(bench, "all is well", [], "--size", str(SIZE), "made.part", "flash", "next")
+    bench.tally.same("every check is made", sorted(line.split(": ")[1] for line in lines), sorted(NAMES))
+    checked(bench, "the file is too short", ["size"], "--size", str(2 * SIZE), "made.part", "flash", "next")
+    checked(bench, "no fallback", ["fallback", "damaged"], "made.part", "flash", "forbids")
+    for name, old, new, fails in (
+        ("another device", "data 0362D093", "data 0362C093", ["idcode", "boot", "frames"]),
+        ("a clock of JTAG", "data 02003FE5", "data 02013FE5", ["clock"]),
+        ("outputs stay off", "data 02003FE5", "data 02003FFD", ["boot"]),
+        ("interconnect stays high", "cmd LFRM", "cmd AGHIGH", ["boot"]),
+        ("a jump", "cmd START", "cmd IPROG", ["jump", "boot"]),
+        ("no check", "crc\n", "# ", []),
+    ):
+        mended(bench, "next", old, new)
+        checked(bench, name, fails, "made.part", "flash", "other")
+    bench.put("other", bench.get("next")[:-70])
+    checked(bench, "cut off", ["stream"], "made.part", "flash", "other")
+    bench.put("other", bench.get("image"))
+    checked(bench, "an image in place of a stream", ["stream"], "made.part", "flash", "other")
+    goldens(bench)
+
+
+def goldens(bench):
+    """Golden streams that don't do what an update wants of them."""
+    for name, old, new, fails in (
+        ("golden outputs stay off", "data 02003FE5", "data 02003FFD", ["closed", "damaged"]),
+        ("golden begins otherwise", "write CMD 1\ncmd SHUTDOWN", "write AXSS 1\ndata 00000000\nwrite CMD 1\ncmd SHUTDOWN", ["clean"]),
+        ("golden for another device", "data 0362D093", "data 0362C093", ["closed", "damaged"]),
+    ):
+        mended(bench, "golden", old, new)
+        bench.make("bad", "x7", "image", "other", "update")
+        checked(bench, name, fails, "made.part", "bad", "next")
+    mended(bench, "golden", "write CMD 1\ncmd SHUTDOWN", "write CMD 1\ncmd IPROG\nwrite CMD 1\ncmd SHUTDOWN")
+    bench.make("bad", "x7", "image", "other", "update")
+    checked(bench, "golden leads on", ["jump", "clean", "closed"], "made.part", "bad", "next")
+
+
+def words(bench):
+    for it in ([], ["made.part", "flash"], ["--size", "x", "made.part", "flash", "next"], ["--x7", "/nowhere", "made.part", "flash", "next"], ["nowhere", "flash", "next"], ["made.part", "nowhere", "next"], ["flash", "flash", "next"], ["--none", "made.part", "flash", "next"]):
+        bench.refuses("check_update", *it)
+    for it in ([], ["flash"], ["--page", "0", "flash", "next"], ["--page", "flash", "next"], ["flash", "nowhere"], ["nowhere", "next"], ["flash", "next", "next"]):
+        bench.refuses("flash_steps", *it)
+    bench.refuses("flash_steps", "flash", "next", closed=[1])
+    bench.refuses("check_update", "made.part", "flash", "next", closed=[1])
+
+
+def main(folder):
+    bench = Bench(folder)
+    if X7:
+        make(bench)
+        for part in (steps, cuts, layouts, allowed, checks, words):
+            part(bench)
+    else:
+        bench.tally.skip("updates: x7 isn't built")
+    bench.tally.end()
+
+
+with tempfile.TemporaryDirectory() as name:
+    main(name)

@@ -1,0 +1,764 @@
+"""What `why` says of streams, and of the report of their play, boot or SVF text: causes, each with its place, remedy and section."""
+import os
+import re
+from collections import namedtuple
+
+import x7formats as x7
+import x7kinds
+from x7device import MOST_READS, Device
+from x7parts import family_of, idcode_of_name, is_7_series, name_of_idcode, SSI
+
+SECTOR = 65536
+AGAIN = "take the file again; where it goes through a cable or a processor, compare the number of bytes that arrive"
+# What `x7 image` writes in a slot of the first sector behind its switch word, around the address (docs/FORMATS.md).
+SLOT = (bytes.fromhex("2000000030020001"), bytes.fromhex("300080010000000F300080010000000D"))
+
+Cause = namedtuple("Cause", "cause remedy section behind source")
+
+
+def cause(text, remedy, section, behind=None, source=None):
+    """A cause: its text, the remedy, the section of the page BOARD, the place behind its last byte in the data of all streams, or
+    the stream that it is one of."""
+    return Cause(text, remedy, section, behind, source)
+
+
+class Source:
+    """A stream, or the listing of one, and where its data begin in those of all."""
+
+    def __init__(self, path, stream, is_listing, first):
+        self.path, self.header, self.data, self.is_listing, self.first = path, stream.header, stream.data, is_listing, first
+        self.name = os.path.basename(path)
+
+    @property
+    def told(self):
+        return self.header.length if self.header else None
+
+    @property
+    def lost(self):
+        """How many bytes fewer there are than the header tells of; below 0 where there are more; 0 without a header."""
+        return self.told - len(self.data) if self.header else 0
+
+    @property
+    def part(self):
+        return x7.text_of(self.header.part) if self.header else ""
+
+
+Fate = namedtuple("Fate", "end taken phase gts gwe ghigh registers")
+
+
+class Subject:
+    """What is asked about: the streams, what they do to a device, and the report, where there is one."""
+
+    def __init__(self, sources, report, part):
+        self.sources, self.report, self.part = sources, report, part
+        self.data = sources[0].data if len(sources) == 1 else b"".join(it.data for it in sources)
+        self.is_play = report is not None and not report.attempts and report.svf is None
+        known = part.idcode if part else report.registers.get("IDCODE") if report else None
+        self.device = Device(known, part.lock if part else 0, part.match if part else 0).play(self.data)
+        self.fate = self.fate_of(report) if report else self.fate_of_device()
+
+    def fate_of(self, report):
+        registers = {**dict.fromkeys(("COR0", "CTL0", "TIMER", "STAT", "WBSTAR"), 0), **report.registers}
+        ghigh = registers["STAT"] >> 7 & 1
+        return Fate(report.end, report.taken, report.phase, report.gts, report.gwe, ghigh, registers)
+
+    def fate_of_device(self):
+        it = self.device
+        return Fate(it.end, it.taken, it.phase, it.gts, it.gwe, int(it.ghigh), {**it.registers, "STAT": 12})
+
+    def source_at(self, behind):
+        """The stream that the byte in front of a place stands in, or none."""
+        return next((it for it in self.sources if it.first < behind <= it.first + len(it.data)), None)
+
+    def has(self, name):
+        """Whether a command was executed."""
+        return any(it.register == "CMD" and it.word == name for it in self.device.written)
+
+    def place(self, behind):
+        """A place as a text: the byte, the line of the listing, and the header of its packet."""
+        source = self.source_at(behind)
+        if source is None:
+            return f"byte {behind} of the data of all streams, which isn't in these"
+        at = behind - source.first
+        found = x7.listed_line_at(source.path, at) if source.is_listing else x7.line_at(source, at)
+        several = len(self.sources) > 1
+        text = f"byte {at} of the data{f' of {source.name}' if several else ''}"
+        if found is None:
+            return text
+        number, line, head = found
+        return f"{text}, line {number} of {'its' if several else 'the'} listing: '{line[:60]}'" + (f", of '{head}'" if head else "")
+
+
+# ---- a file without a sync word, or of another family
+
+
+def unsynced(text, remedy, source):
+    """A cause by which a file has no sync word."""
+    return cause(text, remedy, "No sync word", None, source)
+
+
+def of_kind(source):
+    """The cause where a file can't be a stream as it is, or none."""
+    data, retake = source.data, "take the file again"
+    if not data:
+        if source.told:
+            return unsynced(
+                f"the stream is cut off right behind its header, which tells of {source.told} bytes of data", retake, source)
+        return unsynced(
+            "the file has no data: it is empty, or `x7 list` refused it: see its line", "write it again", source)
+    kind = x7kinds.kind_of(data) if not source.header else None
+    if kind and (x7kinds.packed_kind_of(data) or x7.SYNC not in data or not x7kinds.reads(data)):
+        lead = "no sync word: " if x7.SYNC not in data else ""
+        return unsynced(f"{lead}{kind.what}", kind.remedy, source)
+    if x7.SYNC in data and x7kinds.reads(data):
+        return None
+    found = x7kinds.turning_of(data)
+    if found:
+        lead = "no sync word: " if x7.SYNC not in data else "behind the sync word stands no packet: "
+        return unsynced(f"{lead}{found.way.what} are {found.way.how}", "tools/turn FILE > NEW", source)
+    return of_no_sync(source) if x7.SYNC not in data else None
+
+
+def of_no_sync(source):
+    """The cause where nothing names why the sync word is missing."""
+    data = source.data
+    if len(set(data[:65536])) == 1 and len(set(data)) == 1 and source.lost <= 0:
+        what = {0xFF: "all bytes are FF, as in an erased flash", 0: "all bytes are 00"}.get(data[0], f"all bytes are {data[0]:02X}")
+        return unsynced(
+            f"no sync word: {what}", "write the stream into it, or look where the file comes from", source)
+    packets = re.search(rb"\x30\x00\x80\x01\x00\x00\x00[\x00-\x13]|\x30\x01\x80\x01....", data, re.S)
+    if packets:
+        return unsynced(
+            f"no sync word AA995566, though packets follow from byte {packets.start()} on: {damaged_sync(data, packets.start())}",
+            "take the file again", source)
+    if source.lost > 0:
+        return unsynced(
+            f"the stream is cut off in front of its sync word: its header tells of {source.told} bytes, and it has {len(data)}",
+            "take the file again", source)
+    bits = x7kinds.late_by(data)
+    if bits:
+        return unsynced(
+            f"no sync word: all bits come {bits} places late, as where a clock was lost or added",
+            "send it again; look at the clock's edge", source)
+    return unsynced(
+        "no sync word AA995566, nor one in any way that tools/turn knows",
+        f"look where the file comes from: its first bytes are {data[:16].hex().upper()}", source)
+
+
+def damaged_sync(data, packets):
+    """What became of the sync word in front of packets."""
+    front = data[max(packets - 64, 0) : packets]
+    for at in range(0, len(front) - 3):
+        differs = int.from_bytes(front[at : at + 4], "big") ^ 0xAA995566
+        if bin(differs).count("1") <= 4:
+            return f"it is damaged: {front[at:at + 4].hex().upper()} stands where it should"
+    return "the front of the stream is lost"
+
+
+def of_header(source):
+    """The cause where the header names a part of another family, or none."""
+    family = family_of(source.part)
+    if not family:
+        return None
+    text = f"the stream is for a {source.part} by its header, which is a {family}, and no 7-series device"
+    remedy = "x7 reads streams of 7-series devices: Spartan-7, Artix-7, Kintex-7, Virtex-7, Zynq-7000"
+    return cause(text, remedy, "A stream for another device", None, source)
+
+
+def of_family(source):
+    """The cause where the identification is another family's, or none."""
+    words = idcodes_of(source)
+    if words and not is_7_series(words[0][1]) and idcode_of_name(source.part) is None:
+        text = f"the stream is for the IDCODE {words[0][1]:08X}, which is one of no 7-series device: other families have other frames"
+        behind = source.first + words[0][0]
+        return cause(text, "give a stream of a 7-series device", "A stream for another device", behind, source)
+    return None
+
+
+def idcodes_of(source):
+    """The identifications that a stream writes, each with the place behind it."""
+    found = []
+    for step in x7.steps(source.data):
+        if step.kind == "write" and step.register == x7.IDCODE and step.present:
+            found.append((step.first + 4, x7.word_at(source.data, step.first)))
+            break
+    return found
+
+
+# ---- whether report and streams belong together
+
+SAME = ("CTL0", "MASK", "COR0", "AXSS", "COR1", "WBSTAR", "TIMER", "CTL1", "BSPI")
+
+
+def of_belonging(subject):
+    """The cause where the report of a play isn't one of these streams, or none."""
+    report, total = subject.report, len(subject.data)
+    if not subject.is_play:
+        return None
+    again = "x7 play PART STREAM.. > REPORT, and give all of its streams in their order"
+    if report.taken > total:
+        return cause(
+            f"the report is of other streams than these: it took {report.taken} bytes of data, and these have {total}", again, None,
+        )
+    if report.end[0] in ("searching", "synced") and report.taken != total:
+        return cause(
+            f"the report is of other streams than these: it took {report.taken} bytes of data, all that there were, and these "
+            f"have {total}",
+            again, None,
+        )
+    stopped = subject.device
+    if stopped.has_stopped and (stopped.taken < report.taken or report.end[:2] == ["fault", "Crc"] != stopped.end[:2] or report.end[:2] == stopped.end[:2] != ["fault", "Id"] and report.end != stopped.end):
+        return cause(
+            f"the report is of other streams than these: it took {report.taken} bytes of data and ends as "
+            f"'{' '.join(report.end)}', and these end at byte {stopped.taken} as '{' '.join(stopped.end)}'",
+            again, None,
+        )
+    front = subject.device if report.taken == subject.device.taken else Device(report.registers.get("IDCODE")).play(subject.data[: report.taken])
+    for name in SAME:
+        if name in report.registers and report.registers[name] != front.registers[name]:
+            return cause(
+                f"the report is of other streams than these: it has {name} {report.registers[name]:08X}, and these make it "
+                f"{front.registers[name]:08X}",
+                again, None,
+            )
+    return None
+
+
+# ---- damage that explains more than the fault it leads to
+
+
+def of_swallowed(subject):
+    """The cause where frame data have taken packets behind them for frames: words were lost among them, or their count is damaged."""
+    for source in subject.sources:
+        for step in x7.steps(source.data):
+            if step.kind != "write" or step.register != x7.FDRI or step.count < 64:
+                continue
+            begins = packets_begin(source.data, step)
+            if begins is not None:
+                return swallowed(source, step, begins)
+    return None
+
+
+PACKETS = re.compile(rb"\x30\x00\x00\x01.{4}(?:\x20\x00\x00\x00|\x30)|\x30\x00\x80\x01\x00\x00\x00[\x00-\x13](?:\x20\x00\x00\x00|\x30)", re.S)
+
+
+def packets_begin(data, step):
+    """Where packets begin within the payload of frame data, or none."""
+    found = PACKETS.search(data, step.first, step.end + 9)
+    if found and found.start() < step.end:
+        return found.start()
+    ended = data.find(x7.NOP * 4, max(step.end - 64, step.first), step.end)
+    return ended if ended >= 0 and step.present < step.count else None
+
+
+def swallowed(source, step, begins):
+    missing = step.first + 4 * step.count - begins
+    head, place = x7.head_line(step), source.first + begins + 4
+    if source.header and source.lost == 0:
+        text = (
+            f"the packet '{head}' takes packets behind the frames for frames: its count is {-(-missing // 4)} words too large: "
+            "the count is damaged, or the header's length is another file's"
+        )
+        return cause(text, "take the file again", "Lost words", place, source)
+    if missing <= 0:
+        return None
+    told = f" (its header tells of {source.lost} bytes more than there are)" if source.lost > 0 else ""
+    text = (
+        f"{missing} bytes were lost among the frame data of '{head}'{told}: it takes the packets behind them for frames, so "
+        "check, START or DESYNC are missing"
+    )
+    return cause(text, AGAIN, "Lost words", place, source)
+
+
+def of_early_end(subject):
+    """The cause where a session ends, and packets follow that no session takes, or none."""
+    for source in subject.sources:
+        behind = 0
+        for step in x7.steps(source.data):
+            if step.kind == "bytes" and behind:
+                more = re.compile(rb"\x30\x00\x80\x01\x00\x00\x00[\x01-\x0D]").search(source.data, step.place, step.end)
+                if more and (more.start() - step.place) % 4 == 0 and not source.data.startswith(x7.SYNC, step.end):
+                    text = (
+                        f"DESYNC comes too early: the {len(source.data) - behind} bytes behind it, packets among them, are not "
+                        "taken: another command was damaged into it"
+                    )
+                    return cause(text, "take the file again", "A stream that ends early", source.first + behind, source)
+            if step.kind == "write" and x7.ends_session(source.data, step):
+                behind = step.end
+    return None
+
+
+def of_large_counts(subject):
+    """The cause where a header asks for more words than x7 reads out, or than there are, or none."""
+    for source in subject.sources:
+        for step in x7.steps(source.data):
+            missing = 4 * (step.count - step.present) if step.kind == "write" and not x7.ends_session(source.data, step) else 0
+            if step.kind == "read" and step.count > MOST_READS or missing > 0 and source.header and missing > max(source.lost, 0) + 4:
+                text = (
+                    f"'{x7.head_line(step)}' asks for more words than there can be: words were lost or added before it, or the "
+                    "word itself is damaged"
+                )
+                return cause(text, AGAIN, "Lost words", source.first + step.first, source)
+            if step.kind == "bad":
+                break
+    return None
+
+
+def of_text_mode(source):
+    """Whether a file went through a transfer as text, which puts 0D in front of each 0A."""
+    lone = len(re.findall(rb"(?<!\r)\n", source.data))
+    return lone == 0 and source.data.count(b"\n") > 8
+
+
+# ---- faults
+
+
+def of_fault(subject):
+    """The cause of a fault."""
+    kind, words = subject.fate.end[1], subject.fate.end[2:]
+    behind = subject.fate.taken
+    source = subject.source_at(behind) or subject.sources[-1]
+    take = {
+        "Crc": of_check, "Id": of_identification, "Packet": of_packet, "Encrypted": of_encryption, "Watchdog": of_watchdog,
+        "Address": of_address, "Overrun": of_overrun, "Multi": of_copy,
+    }
+    return take[kind](subject, source, words, behind)
+
+
+def of_check(subject, source, words, behind):
+    return cause(
+        f"a check fails (INIT_B goes low): the words before it have {words[0]}, the stream says {words[1]}; one of them, or the "
+        "check, is damaged or lost",
+        "take the file again from where it was made, and compare the listings with diff; in a listing that was edited on "
+        "purpose, put a line 'crc' in place of each 'write CRC 1' and its data",
+        "A check fails", behind, source,
+    )
+
+
+def of_identification(subject, source, words, behind):
+    section = "A stream for another device"
+    if words[1] == "00000000":
+        return cause(
+            "frames, or START, come before any IDCODE", "a front of the stream is missing: take the file again", section, behind,
+            source,
+        )
+    want, got = int(words[0], 16), int(words[1], 16)
+    text = f"the stream is for a device with IDCODE {words[1]}{named(got)}, this one has {words[0]}{named(want)}"
+    told = idcode_of_name(source.part)
+    if told is not None and not (told ^ want) & 0xFFFFFFF:
+        return cause(
+            f"{text}; or the word is damaged: its header is for {source.part}, which is this one",
+            "take the file again; compare it with a good copy", section, behind, source,
+        )
+    return cause(
+        text, "choose the device that is on the board, or the part file of the device that the stream is for", section, behind,
+        source,
+    )
+
+
+def named(idcode):
+    name = name_of_idcode(idcode)
+    return f" ({name})" if name else ""
+
+
+def of_packet(subject, source, words, behind):
+    if of_text_mode(source):
+        return cause(
+            f"{words[0]} stands where a packet's header should: the file went through a transfer as text, which puts 0D in "
+            "front of each 0A",
+            "take the file again, as binary", "Lost words", behind, source,
+        )
+    return cause(
+        f"{words[0]} stands where a packet's header should: words were lost or added before it, or the word itself is damaged",
+        AGAIN, "Lost words", behind, source,
+    )
+
+
+def of_encryption(subject, source, words, behind):
+    return cause("the stream is encrypted, which x7 doesn't read", "write it without encryption", "Further faults", behind, source)
+
+
+def of_watchdog(subject, source, words, behind):
+    count = 4 * (subject.fate.registers["TIMER"] & 0x3FFFFFFF)
+    return cause(
+        f"the watchdog fires: startup hasn't ended {count} bytes behind the write to TIMER",
+        "give TIMER a larger number, or write LTIMER now and then", "The watchdog", behind, source,
+    )
+
+
+def of_address(subject, source, words, behind):
+    return cause(
+        f"frames go to {words[0]}, an address that the part file doesn't have",
+        "the part file lacks a column or a row, or is another device's; or the address is damaged: compare with a good copy",
+        "Further faults", behind, source,
+    )
+
+
+def of_overrun(subject, source, words, behind):
+    return cause(
+        "there are more frames than the part file has places", "the part file lacks columns or rows, or is another device's",
+        "Further faults", behind, source,
+    )
+
+
+def of_copy(subject, source, words, behind):
+    """A copy needs MFW behind WCFG; the command that stands there tells what was damaged."""
+    commands = [it for it in subject.device.written if it.register == "CMD" and it.behind <= behind]
+    if commands and commands[-1].word != "MFW":
+        text = (
+            f"a frame is to be copied under the command {commands[-1].word}, and copies want MFW: that word is damaged, or MFW "
+            "was lost"
+        )
+        return cause(text, "take the file again", "Further faults", commands[-1].behind, source)
+    return cause(
+        "a frame is to be copied, and none was written before", "words were lost before it, or it isn't a stream of this family",
+        "Further faults", behind, source,
+    )
+
+
+# ---- ends without a fault
+
+
+def waiting(phase, registers):
+    """What startup waits for in its phase, or none."""
+    waits = []
+    if registers["COR0"] >> 6 & 7 == phase and not registers["STAT"] & 4:
+        waits.append("the clocks to lock (LOCK_CYCLE)")
+    if registers["COR0"] >> 9 & 7 == phase and not registers["STAT"] & 8:
+        waits.append("the impedance to match (MATCH_CYCLE)")
+    return " and ".join(waits)
+
+
+def of_phase(subject):
+    """The cause where there is no fault, and startup hasn't ended."""
+    fate, device, last = subject.fate, subject.device, subject.sources[-1]
+    if device.end[0] == "synced":
+        return of_open_session(subject)
+    if not subject.has("START"):
+        return of_no_start(subject)
+    if fate.phase == 0 and device.begun is None:
+        return cause(
+            "no DESYNC behind START, and startup begins with DESYNC", "the stream lacks its end", "A stream that ends early", None,
+            last,
+        )
+    waits = waiting(fate.phase, fate.registers)
+    if waits:
+        return cause(
+            f"startup waits in phase {fate.phase} for {waits}",
+            "see that these clocks run and come to the device; or let the tool not wait (NoWait). How long it takes is lock "
+            "and match of the part file",
+            "Startup waits",
+        )
+    return cause(
+        f"the bytes end in phase {fate.phase} of startup: behind DESYNC each phase takes four bytes, or a clock",
+        "send the no-ops behind DESYNC too, or go on clocking", "Startup waits",
+    )
+
+
+def of_open_session(subject):
+    """The cause where the bytes end inside a session."""
+    last, behind = subject.sources[-1], subject.fate.taken
+    if last.lost > 0:
+        return cause(
+            f"the stream is cut off: its header tells of {last.told} bytes, and it has {len(last.data)}", "take the file again",
+            "A stream that ends early", behind, last,
+        )
+    commands = [it for it in subject.device.written if it.register == "CMD"]
+    at = next((at for at, it in enumerate(commands) if it.word == "START"), None)
+    if at is not None and len(commands) > at + 1:
+        text = (
+            f"the session doesn't end: behind START stands the command {commands[-1].word}, and no DESYNC: that word is "
+            "damaged, or DESYNC was lost"
+        )
+        return cause(text, "take the file again", "A stream that ends early", commands[-1].behind, last)
+    return cause(
+        "the session doesn't end: no DESYNC", "the stream is cut off, or lacks its end", "A stream that ends early", behind, last,
+    )
+
+
+def of_no_start(subject):
+    """The cause where a stream has no START: it is a partial one, or START is damaged or lost."""
+    device, last = subject.device, subject.sources[-1]
+    section = "A partial stream on a device that isn't configured"
+    if not device.frames and subject.device.reads:
+        return cause(
+            "the streams read a device, and start nothing",
+            "play them behind the full stream of the device: x7 play PART full.bit read.bin", section,
+        )
+    commands = [it.word for it in device.written if it.register == "CMD"]
+    if device.last("COR0") and "LFRM" in commands and "START" not in commands:
+        lfrm = max(it.behind for it in device.written if it.register == "CMD" and it.word == "LFRM")
+        after = next((it for it in device.written if it.register == "CMD" and it.behind > lfrm and it.word in ("NULL", "SWITCH", "CRCC")), None)
+        text = "the stream has no START, though it sets COR0 and ends with LFRM as a full one does: START is damaged or lost"
+        return cause(text, "take the file again", "A stream that ends early", after.behind if after else lfrm, last)
+    return cause(
+        "the stream has no START: a partial one changes frames and starts nothing",
+        "play it behind the full stream of the device: x7 play PART full.bit partial.bit", section,
+    )
+
+
+def of_started(subject):
+    """The cause where phase 7 has come, and the device doesn't run as it should all the same, or none."""
+    fate, device = subject.fate, subject.device
+    section = "Phase 7, and the board doesn't run"
+    for name, on, what in (("GTS", fate.gts, "the outputs stay off"), ("GWE", fate.gwe, "flip-flops and memories can't be written")):
+        if not on:
+            return cause(
+                f"phase 7 comes, and {what} for ever: {name}_CYCLE of COR0 {fate.registers['COR0']:08X} is 7 (KEEP)",
+                f"write the stream with BITSTREAM.STARTUP.{name}_CYCLE 1 to 6, or DONE", section,
+            )
+    if not fate.ghigh:
+        return cause(
+            "phase 7 comes, and all interconnect is held high (GHIGH_B is 0): AGHIGH without LFRM behind it",
+            "the last stream lacks its LFRM: take it again", section,
+        )
+    if device.dropped:
+        step = device.dropped[0]
+        by = next(it for it in reversed(device.written) if it.register == "CTL0" and it.behind <= step.place)
+        source = subject.source_at(step.end)
+        return cause(
+            f"the frames of {source.name} are dropped: CTL0 has SBITS 1x, which forbids writing frames, since "
+            f"{subject.place(by.behind)}",
+            "write the stream before it with BITSTREAM.READBACK.SECURITY NONE (or LEVEL1)", "A partial stream that is damaged", step.first + 4, source,
+        )
+    return of_unchecked_loss(subject)
+
+
+def of_unchecked_loss(subject):
+    """The cause where a stream without a check has fewer bytes than its header tells of, or none."""
+    for source in subject.sources:
+        if source.lost > 0 and not has_check(source):
+            text = (
+                f"{source.lost} bytes of the stream were lost, and nothing on the device notices, since the stream has no "
+                "check: all frames behind them stand at wrong addresses"
+            )
+            return cause(text, "take the file again; write it with BITSTREAM.GENERAL.CRC ENABLE", "A check fails", None, source)
+    return None
+
+
+def has_check(source):
+    return any(step.kind == "write" and step.register == x7.CRC and step.present for step in x7.steps(source.data))
+
+
+def of_play(subject):
+    """The cause of how a play ended, or none where the device runs."""
+    fate = subject.fate
+    if fate.phase == 7 and fate.end[0] == "fault":
+        found = of_fault(subject)
+        return found._replace(cause=f"it runs (phase 7), but behind startup a fault came: {found.cause}", section="A partial stream that is damaged")
+    if fate.end[0] == "fault":
+        return of_fault(subject)
+    if fate.end[0] == "iprog":
+        return of_iprog(subject)
+    if fate.phase != 7:
+        return of_phase(subject)
+    if fate.end[0] == "synced":
+        return cause(
+            "it runs (phase 7), but a session behind startup doesn't end: no DESYNC",
+            "the last stream is cut off, or lacks its end", "A partial stream that is damaged", fate.taken, subject.sources[-1],
+        )
+    return of_started(subject)
+
+
+def of_iprog(subject):
+    """The cause where a stream leads on."""
+    fate, front = subject.fate, subject.data[:40]
+    if all(part in front for part in SLOT):
+        return cause(
+            f"this is a flash image: its first sector leads on to flash address {fate.end[1]} (IPROG)",
+            "x7 boot PART FLASH > REPORT, and then why STREAM REPORT", "It falls back",
+        )
+    running = "it starts (phase 7), and then " if fate.phase == 7 else ""
+    more = ""
+    commands = [it.word for it in subject.device.written if it.register == "CMD"]
+    if "START" in commands and "DESYNC" not in commands[commands.index("START") :]:
+        more = "; it stands where DESYNC should, so a word may be damaged"
+    return cause(
+        f"{running}the stream leads on to flash address {fate.end[1]} (IPROG){more}", "x7 boot PART FLASH", "It falls back",
+        fate.taken,
+    )
+
+
+# ---- boots and SVF texts
+
+
+def of_boot(subject):
+    """The cause of a boot that did not start, or not with the update, or none."""
+    report, registers = subject.report, subject.fate.registers
+    path = "; ".join(f"{it.kind} at {it.address:08X}: {it.ending}" for it in report.attempts)
+    last, alone = report.attempts[-1], "play the stream alone: x7 play PART STREAM"
+    leads = any(it.ending == "iprog" or it.kind == "iprog" for it in report.attempts)
+    if report.boot_end == "loop":
+        return cause(
+            f"each attempt leads to another one ({path})", "a stream that writes IPROG must not lead to itself", "It falls back",
+        )
+    if report.boot_end == "stopped" and report.end[0] == "searching" and not registers.get("CMD") and not leads:
+        return cause(
+            f"{path}: nowhere in the flash is a sync word", "list the flash itself: why FLASH names what it is", "No sync word",
+        )
+    if report.boot_end == "stopped" and last.kind != "fallback":
+        return cause(
+            f"{path}; no fallback follows, since CTL0 {registers['CTL0']:08X} has bit 10",
+            "mend that image; and let the tool allow fallback (BITSTREAM.CONFIG.CONFIGFALLBACK ENABLE)", "It doesn't fall back",
+        )
+    if report.boot_end == "stopped" and not leads:
+        return cause(f"{path}; the flash has one image, and the fallback finds the same one", alone, "It doesn't fall back")
+    if report.boot_end == "stopped":
+        return cause(f"{path}; the golden image doesn't start either", "play each of the two streams alone", "It doesn't fall back")
+    return of_started_boot(subject, path, leads)
+
+
+def of_started_boot(subject, path, leads):
+    """The cause where an attempt started, but not as it should, or none."""
+    report, last = subject.report, subject.report.attempts[-1]
+    if any(it.ending not in ("iprog", "started") for it in report.attempts):
+        if not leads:
+            return cause(
+                f"it starts, but at the second attempt alone: {path}; the flash has one image, and a fallback has no watchdog",
+                "play the stream alone: x7 play PART STREAM", "It falls back",
+            )
+        failed = "; ".join(f"{it.kind} at {it.address:08X}: {it.ending}" for it in report.attempts if it.ending not in ("iprog", "started"))
+        return cause(f"it starts, but with the golden image: {failed}", "play the update's stream alone", "It falls back")
+    if last.address % SECTOR:
+        return cause(
+            f"it starts, but from an attempt at {last.address:08X}, which is no sector's beginning ({path}): another image than "
+            "the one that was meant",
+            "start_unit of the part file that made the image must be the device's: 1 where WBSTAR counts bytes, 256 with addresses of 32 bits", "It falls back",
+        )
+    if len(report.attempts) == 1 and is_golden_alone(subject):
+        return cause(
+            "it starts, but with the golden image: no slot of the flash led to an update, as where an update was interrupted",
+            "run `x7 update` again", "An update was interrupted",
+        )
+    if subject.fate.registers["COR0"] >> 16 & 1:
+        return cause(
+            "startup runs on TCK (SSCLKSRC of COR0 is JtagClk), which a flash doesn't give: DONE stays low",
+            "write the stream with BITSTREAM.STARTUP.STARTUPCLK CCLK", "Phase 7, and the board doesn't run",
+        )
+    return of_started(subject)
+
+
+def is_golden_alone(subject):
+    """Whether the one attempt took the golden stream behind a first sector: by the bytes taken, or by the front of a listed flash."""
+    total, taken, front = len(subject.data), subject.report.taken, subject.data[:40]
+    return all(part in front for part in SLOT) or max(SECTOR, total) < taken <= SECTOR + total
+
+
+def of_svf(subject):
+    """The cause where a scan of an SVF text reads what it doesn't want, or none."""
+    report = subject.report
+    if report.svf == "done":
+        return of_started(subject) if report.phase == 7 else of_phase(subject)
+    differs = f"the scan of statement {report.svf[0]} of the SVF text reads another bit {report.svf[1]} than it wants"
+    if report.taken == 0:
+        return cause(
+            differs, "the text is for another device than the part file's, or the statement's TDO or MASK is wrong",
+            "A stream for another device",
+        )
+    if report.phase == 0 and not subject.has("START") and subject.device.end[0] == "searching":
+        return cause(
+            f"{differs}; the stream has no START: the text resets the device, and then sends a partial stream",
+            "send a partial stream without JPROGRAM: tools/svf --partial", "A partial stream on a device that isn't configured",
+        )
+    if report.end[0] == "fault":
+        found = of_fault(subject)
+    elif report.phase != 7:
+        found = of_phase(subject)
+    else:
+        return cause(
+            f"{differs}, and yet the device starts (phase 7)",
+            "compare the statement's TDO and MASK with what the device should give", None,
+        )
+    return found._replace(cause=f"{differs}; {found.cause}")
+
+
+# ---- all of it
+
+
+def cause_of(subject):
+    """The first cause that is found, or none."""
+    for source in subject.sources:
+        found = of_header(source) or of_kind(source) or of_family(source)
+        if found:
+            return found
+    if subject.report and subject.report.attempts:
+        return of_boot(subject)
+    if subject.report and subject.report.svf:
+        return of_svf(subject)
+    found = of_belonging(subject)
+    runs = subject.fate.phase == 7 and subject.fate.end[0] == "searching" and (subject.report or subject.device.reads <= MOST_READS)
+    if not found and not runs:
+        found = of_swallowed(subject) or of_large_counts(subject) or of_early_end(subject)
+    return found or of_name(subject) or of_play(subject)
+
+
+def of_name(subject):
+    """The cause where the header's part has another IDCODE than the stream writes, and no report says more, or none."""
+    if subject.report:
+        return None
+    written = [(source, *it) for source in subject.sources for it in idcodes_of(source)]
+    for source, behind, word in written:
+        if (word ^ written[0][2]) & 0xFFFFFFF:
+            text = (
+                f"the streams are for different devices: {written[0][0].name} for {written[0][2]:08X}{named(written[0][2])}, "
+                f"{source.name} for {word:08X}{named(word)}"
+            )
+            return cause(text, "give the streams of one device", "A stream for another device", source.first + behind, None)
+    for source in subject.sources:
+        told, words = idcode_of_name(source.part), idcodes_of(source)
+        if told is not None and words and (told ^ words[0][1]) & 0xFFFFFFF:
+            text = (
+                f"the stream writes the IDCODE {words[0][1]:08X}{named(words[0][1])}, and its header names {source.part}, which "
+                f"has {told:08X}: the word is damaged, or the header is another stream's"
+            )
+            return cause(text, "take the file again", "A stream for another device", source.first + words[0][0], source)
+    return None
+
+
+# of a stream that is damaged nothing else is worth saying
+DAMAGED = ("A check fails", "A stream that ends early", "Lost words", "No sync word")
+
+
+def notes_of(subject, found):
+    """What is worth saying besides."""
+    notes, cor0 = [], subject.fate.registers.get("COR0", 0)
+    if found and (found.section in DAMAGED or found.section is None):
+        return []
+    for source in subject.sources:
+        if any(step.kind == "write" and step.register in (x7.FDRI, x7.MFWR) for step in x7.steps(source.data)) and not has_check(source):
+            of = f" of {source.name}" if len(subject.sources) > 1 else ""
+            notes.append(
+                f"no write to CRC{of}: the stream has no check, so damage on its way shows nowhere (BITSTREAM.GENERAL.CRC "
+                "DISABLE, or RCRC in its place)",
+            )
+        words = idcodes_of(source)
+        if words and words[0][1] & 0xFFFFFFF in SSI:
+            notes.append(
+                f"{words[0][1]:08X} is a device of several dies, whose streams hold further ones in register R30: x7 plays the "
+                "first die's alone",
+            )
+    wraps = [it for it in (subject.report.attempts if subject.report else []) if it.ending == "wrap"]
+    if wraps:
+        notes.append(
+            f"wrap says that from {wraps[0].address:08X} on no stream came to its end before the flash's: none is there, or it "
+            "has no sync word, or the place is past the flash's end",
+        )
+    if cor0 >> 16 & 1 and not (subject.report and subject.report.attempts):
+        notes.append("startup runs on TCK (SSCLKSRC of COR0 is JtagClk): from a flash DONE would stay low")
+    elif cor0 >> 15 & 3 == 1:
+        notes.append("startup runs on a clock of the design (SSCLKSRC of COR0 is UserClk): it goes on only while that runs")
+    return notes
+
+
+def length_of(subject, found):
+    """Says where a header tells of more or fewer bytes than there are: of the stream at fault, or of the first such one."""
+    if found and found.section == "A stream that ends early" and "cut off" in found.cause or found and "cut off" in found.cause:
+        return ""
+    wanted = [found.source] if found and found.source else subject.sources
+    for source in wanted:
+        if source.lost:
+            has, kind = len(source.data), "lost" if source.lost > 0 else "added"
+            of = f" of {source.name}" if len(subject.sources) > 1 else ""
+            where = "listing" if source.is_listing else "file"
+            return f"the header{of} tells of {source.told} bytes of data, and the {where} has {has}: bytes were {kind}"
+    return ""

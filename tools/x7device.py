@@ -1,0 +1,211 @@
+"""What streams do to a device, but for its frames: the rules of docs/FORMATS.md on accesses, commands, checks, startup and watchdog.
+It needs no x7 and no part file, so it knows neither the faults Address and Overrun, nor Multi where the
+source of copies is missing, nor what frames hold."""
+from collections import namedtuple
+
+import x7formats as x7
+
+DESYNC, IPROG = x7.CODES["DESYNC"], x7.CODES["IPROG"]
+MOST_READS = 1 << 24
+KEPT = ["CTL0", "MASK", "COR0", "AXSS", "COR1", "WBSTAR", "TIMER", "CTL1", "BSPI"]
+KEPT_NUMBERS = {x7.NUMBERS[name]: name for name in KEPT}
+
+# A word that was written: the place behind it, the register's name, and the word or the command's name.
+Written = namedtuple("Written", "behind register word")
+
+
+def phase_after(ticks, cor0, lock, match):
+    """The phase of startup after so many ticks, with COR0, and the ticks that lock and match take."""
+    phase, tick = 0, 0
+    while tick < ticks and phase < 7:
+        waits = cor0 >> 6 & 7 == phase and tick < lock or cor0 >> 9 & 7 == phase and tick < match
+        phase += not waits
+        tick += 1
+    return phase
+
+
+def ticks_to_the_end(cor0, lock, match):
+    """How many ticks startup takes to phase 7."""
+    return next(ticks for ticks in range(7, 8 + lock + match) if phase_after(ticks, cor0, lock, match) == 7)
+
+
+def is_high(code, phase, done_phase):
+    """Whether outputs or writes are enabled in a phase, by the code of GTS_CYCLE or GWE_CYCLE."""
+    return code != 7 and phase >= (done_phase if code == 6 else code + 1)
+
+
+class Device:
+    """A device that takes streams: how it ends, and what was written."""
+
+    def __init__(self, idcode=None, lock=0, match=0):
+        self.idcode, self.lock, self.match = idcode, lock, match
+        self.registers, self.command, self.check = dict.fromkeys(KEPT, 0), 0, x7.RunningCheck()
+        self.end, self.taken, self.matched, self.reads = ["searching"], 0, False, 0
+        self.armed, self.begun, self.cor0, self.shutdown, self.ghigh = False, None, 0, False, False
+        self.deadline, self.loaded, self.written, self.dropped, self.frames, self.checked = None, 0, [], [], [], 0
+
+    # what was left
+
+    @property
+    def phase(self):
+        ticks = 0 if self.begun is None else (self.taken - self.begun) // 4
+        return phase_after(ticks, self.cor0, self.lock, self.match)
+
+    @property
+    def done_phase(self):
+        return min((self.cor0 >> 12 & 7) + 1, 6)
+
+    @property
+    def gts(self):
+        return int(is_high(self.cor0 >> 3 & 7, self.phase, self.done_phase))
+
+    @property
+    def gwe(self):
+        return int(is_high(self.cor0 & 7, self.phase, self.done_phase))
+
+    @property
+    def has_stopped(self):
+        return self.end[0] in ("fault", "iprog")
+
+    def last(self, register):
+        """The last word written to a register, or none."""
+        return next((it for it in reversed(self.written) if it.register == register), None)
+
+    # what it takes
+
+    def play(self, data):
+        """Takes the data of streams, one behind the other, from the beginning."""
+        for step in x7.steps(data):
+            self.take(data, step)
+            if self.has_stopped:
+                return self
+            self.taken = step.end
+            self.watch(step.end)
+            if self.has_stopped:
+                return self
+        return self
+
+    def take(self, data, step):
+        """Takes a step."""
+        if step.kind == "sync":
+            self.end = ["synced"]
+        elif step.kind == "bad":
+            self.stop(step.end, "fault", "Packet", f"{step.word:08X}")
+        elif step.kind == "read":
+            self.reads += step.count
+        elif step.kind == "write" and step.register in (x7.FDRI, x7.MFWR):
+            self.frame_data(data, step)
+        elif step.kind == "write":
+            self.write(data, step)
+
+    def stop(self, behind, *end):
+        if not self.has_stopped:
+            self.end, self.taken = list(end), behind
+
+    def watch(self, behind):
+        """Lets the watchdog fire where its time is over and startup hasn't ended."""
+        if self.deadline is None or behind < self.deadline:
+            return
+        ticks = 0 if self.begun is None else (self.deadline - self.begun) // 4
+        if phase_after(ticks, self.cor0, self.lock, self.match) != 7:
+            self.stop(self.deadline, "fault", "Watchdog")
+
+    def frame_data(self, data, step):
+        """Takes a write of frame data, or a copy."""
+        if step.present and self.registers["CTL0"] >> 5 & 1:
+            self.dropped.append(step)
+        elif step.present and (step.register == x7.MFWR or self.command == x7.CODES["WCFG"]):
+            if not self.matched:
+                self.stop(step.first + 4, "fault", "Id", f"{self.idcode or 0:08X}", "00000000")
+                return
+            if step.register == x7.MFWR and self.command != x7.CODES["MFW"]:
+                self.stop(step.first + 4, "fault", "Multi")
+                return
+            self.frames.append(step)
+        self.check.write(data, step)
+
+    def write(self, data, step):
+        """Takes the words of a write to any other register."""
+        name = x7.REGISTERS[step.register]
+        compared = iter(self.check.write(data, step))
+        for at, word in enumerate(x7.payload(data, step)):
+            behind = step.first + 4 * at + 4
+            self.watch(behind)
+            if self.has_stopped:
+                return
+            self.written.append(Written(behind, name, x7.command_of(word) if step.register == x7.CMD else word))
+            self.store(step.register, word, behind, next(compared, None))
+
+    def store(self, number, word, behind, compared):
+        """Stores a word, and lets its effects and faults follow."""
+        name = KEPT_NUMBERS.get(number)
+        if number in (x7.CTL0, x7.CTL1):
+            mask = self.registers["MASK"]
+            self.registers[name] = self.registers[name] & ~mask | word & mask
+            if number == x7.CTL0 and self.registers["CTL0"] >> 6 & 1:
+                self.stop(behind, "fault", "Encrypted")
+        elif name:
+            self.registers[name] = word
+            if number == x7.TIMER:
+                self.load_watchdog(behind)
+        elif number == x7.CRC:
+            self.compare(compared, behind)
+        elif number == x7.CBC:
+            self.stop(behind, "fault", "Encrypted")
+        elif number == x7.IDCODE:
+            self.identify(word, behind)
+        elif number == x7.FAR and self.command not in (DESYNC, IPROG):
+            self.execute(self.command, behind)
+        elif number == x7.CMD:
+            self.command = word & 31
+            self.execute(self.command, behind)
+
+    def compare(self, compared, behind):
+        """Compares the running check."""
+        if compared[1] != compared[2]:
+            self.stop(behind, "fault", "Crc", f"{compared[1]:08X}", f"{compared[2]:08X}")
+        else:
+            self.checked += 1
+            self.take_shutdown(behind)
+
+    def identify(self, word, behind):
+        """Compares the identification, where the device is known."""
+        if self.idcode is not None and (word ^ self.idcode) & 0xFFFFFFF:
+            self.stop(behind, "fault", "Id", f"{self.idcode:08X}", f"{word:08X}")
+        self.matched = True
+
+    def load_watchdog(self, behind):
+        timer = self.registers["TIMER"]
+        runs = timer >> 30 & 1 and timer & 0x3FFFFFFF
+        self.deadline, self.loaded = behind + 4 * (timer & 0x3FFFFFFF) if runs else None, behind
+
+    def take_shutdown(self, behind):
+        """Takes a shutdown that is pending; the watchdog, which stood still since phase 7, goes on."""
+        if self.shutdown:
+            if self.deadline is not None and self.begun is not None:
+                ended = self.begun + 4 * ticks_to_the_end(self.cor0, self.lock, self.match)
+                self.deadline += max(behind - max(ended - 1, self.loaded), 0)
+            self.shutdown, self.begun, self.armed, self.ghigh = False, None, False, False
+
+    def execute(self, command, behind):
+        """Executes a command."""
+        name = x7.COMMANDS.get(command, "NULL")
+        if name == "RCRC":
+            self.take_shutdown(behind)
+        elif name == "SHUTDOWN":
+            self.shutdown = True
+        elif name in ("LFRM", "AGHIGH"):
+            self.ghigh = name == "LFRM"
+        elif name == "LTIMER":
+            self.load_watchdog(behind)
+        elif name == "START":
+            self.armed = True
+            if not self.matched:
+                self.stop(behind, "fault", "Id", f"{self.idcode or 0:08X}", "00000000")
+        elif name == "IPROG":
+            self.stop(behind, "iprog", f"{self.registers['WBSTAR']:08X}")
+        elif name == "DESYNC":
+            self.end = ["searching"]
+            if self.armed and self.begun is None:
+                self.begun, self.cor0 = behind, self.registers["COR0"]
+            self.armed = False

@@ -1,0 +1,713 @@
+"""What docs/FORMATS.md says, for the tools of this folder: streams and their packets, listings, checks, reports, part files and
+frames texts. python3 (3.8) and its library alone.
+
+A stream is a header, or none, and data: `stream_of(raw)`. The data are read as steps, each with its place: `steps(data)`. All
+texts of x7 have a reader here, and those that the tools write have a writer. What can't be taken raises `Refused` with a
+sentence, which `run` makes one line on standard error and status 2.
+"""
+import re
+import struct
+from collections import namedtuple
+
+from x7run import Refused, program, read_file, read_in, run, say, write_file, write_out  # noqa: F401  (for the tools)
+
+# ---- words, registers and commands (UG470, configuration registers; command register codes)
+
+SYNC = bytes.fromhex("AA995566")
+NOP = bytes.fromhex("20000000")
+FRAME_WORDS = 101
+MOST_BYTES = 1 << 26
+
+NAMES = {
+    0: "CRC", 1: "FAR", 2: "FDRI", 3: "FDRO", 4: "CMD", 5: "CTL0", 6: "MASK", 7: "STAT", 8: "LOUT", 9: "COR0", 10: "MFWR",
+    11: "CBC", 12: "IDCODE", 13: "AXSS", 14: "COR1", 16: "WBSTAR", 17: "TIMER", 22: "BOOTSTS", 24: "CTL1", 31: "BSPI",
+}
+CRC, FAR, FDRI, FDRO, CMD, CTL0, MASK, LOUT, COR0, MFWR, CBC, IDCODE = 0, 1, 2, 3, 4, 5, 6, 8, 9, 10, 11, 12
+WBSTAR, TIMER, CTL1 = 16, 17, 24
+REGISTERS = [NAMES.get(number, f"R{number:02}") for number in range(32)]
+COMMANDS = {
+    0: "NULL", 1: "WCFG", 2: "MFW", 3: "LFRM", 4: "RCFG", 5: "START", 6: "RCAP", 7: "RCRC", 8: "AGHIGH", 9: "SWITCH",
+    10: "GRESTORE", 11: "SHUTDOWN", 12: "GCAPTURE", 13: "DESYNC", 15: "IPROG", 16: "CRCC", 17: "LTIMER", 18: "BSPI_READ",
+    19: "FALL_EDGE",
+}
+CODES = {name: code for code, name in COMMANDS.items()}
+NUMBERS = {name: number for number, name in enumerate(REGISTERS)}
+
+
+def word_at(data, place):
+    """The word at a place, the highest byte first."""
+    return int.from_bytes(data[place : place + 4], "big")
+
+
+def words_of(data):
+    """The words of bytes."""
+    return struct.unpack(f">{len(data) // 4}I", data)
+
+
+def bytes_of(words):
+    """The bytes of words."""
+    return struct.pack(f">{len(words)}I", *words)
+
+
+def command_of(word):
+    """The name of the command that a word of CMD calls for, by its low five bits."""
+    return COMMANDS.get(word & 31, "NULL")
+
+
+def write_packet(register, words):
+    """The bytes of a type 1 write of at most 2,047 words."""
+    return bytes_of([0x30000000 + register * 0x2000 + len(words), *words])
+
+
+# ---- the header of a .bit file
+
+FIXED = bytes.fromhex("00090FF00FF00FF00FF0000001")
+Header = namedtuple("Header", "design part date time length size")
+Stream = namedtuple("Stream", "header data")
+
+
+def header_of(raw):
+    """The header at the beginning of a file's bytes, or none. A header that is cut or has another letter is refused."""
+    if not raw.startswith(FIXED):
+        return None
+    at, texts = len(FIXED), []
+    for letter in b"abcde":
+        if at < len(raw) and raw[at] != letter:
+            raise Refused(f"byte {at} of the header isn't the letter '{letter:c}' of its field")
+        size = 4 if letter == ord("e") else int.from_bytes(raw[at + 1 : at + 3], "big")
+        first = at + 1 if letter == ord("e") else at + 3
+        if first + size > len(raw):
+            raise Refused(f"the file ends inside its header, at byte {len(raw)}")
+        texts.append(bytes(raw[first : first + size]))
+        at = first + size
+    return Header(*texts[:4], int.from_bytes(texts[4], "big"), at)
+
+
+def stream_of(raw):
+    """The header and the data of a file's bytes."""
+    header = header_of(raw)
+    return Stream(header, raw[header.size :] if header else raw)
+
+
+def text_of(field):
+    """A text of a header without its closing zero."""
+    return field.rstrip(b"\0").decode("ascii", "replace")
+
+
+# ---- steps: what stands in the data, in order
+
+# Kinds: 'bytes' are no words (before a sync word, behind a session, the tail); 'sync' begins a session; 'nop' are `count` words
+# 20000000; 'write' and 'read' are packets of `count` words of a register, of which a write's payload has `present` from `first`
+# on; 'filler' is a word without effect, 'bad' one that is no packet. The step ends before `end`.
+Step = namedtuple("Step", "kind place word register count first present end")
+MANY = NOP * 256
+
+
+def steps(data):
+    """The steps of a stream's data, which cover it."""
+    place = 0
+    while place < len(data):
+        at = data.find(SYNC, place)
+        if at != place:
+            yield Step("bytes", place, None, None, 0, place, 0, len(data) if at < 0 else at)
+        if at < 0:
+            return
+        yield Step("sync", at, word_at(data, at), None, 0, at + 4, 0, at + 4)
+        place = yield from session(data, at + 4)
+
+
+def session(data, place):
+    """The steps of a session behind its sync word; answers where it ends."""
+    named = None
+    while place + 4 <= len(data):
+        end = end_of_nops(data, place)
+        if end > place:
+            yield Step("nop", place, 0x20000000, None, (end - place) // 4, end, 0, end)
+            place = end
+            continue
+        step = packet(data, place, named)
+        named = named if step.register is None else step.register
+        yield step
+        place = step.end
+        if step.kind == "write" and ends_session(data, step):
+            return place
+    if place < len(data):
+        yield Step("bytes", place, None, None, 0, place, 0, len(data))
+    return len(data)
+
+
+def end_of_nops(data, place):
+    """Where the no-ops end that stand from a place on."""
+    while data.startswith(MANY, place):
+        place += len(MANY)
+    while data.startswith(NOP, place):
+        place += 4
+    return place
+
+
+def packet(data, place, named):
+    """The step of a word in a header's place, with its payload; `named` is the register that the nearest type 1 packet names."""
+    word = word_at(data, place)
+    kind_bits, first, end = word >> 27, place + 4, place + 4
+    if word in (0xAA995566, 0xFFFFFFFF) or kind_bits >> 2 == 0 or kind_bits == 0b00100:
+        return Step("filler", place, word, None, 0, first, 0, end)
+    kinds = {0b00110: "write", 0b00101: "read", 0b01010: "write", 0b01001: "read"}
+    is_type_1 = kind_bits >> 2 == 1
+    register = word >> 13 & 31 if is_type_1 else named
+    if kind_bits not in kinds or register is None:
+        return Step("bad", place, word, None, 0, first, 0, end)
+    count, present = word & (0x7FF if is_type_1 else 0x7FFFFFF), 0
+    if kinds[kind_bits] == "write":
+        present = min(count, (len(data) - first) // 4)
+        if register == CMD:
+            ends = [at for at in range(present) if data[first + 4 * at + 3] & 31 == CODES["DESYNC"]]
+            present = ends[0] + 1 if ends else present
+        end = first + 4 * present
+    return Step(kinds[kind_bits], place, word, register, count, first, present, end)
+
+
+def ends_session(data, step):
+    """Whether the last word of a write's payload is DESYNC."""
+    return step.register == CMD and step.present > 0 and data[step.end - 1] & 31 == CODES["DESYNC"]
+
+
+def payload(data, step):
+    """The words of a write's payload that are there."""
+    return words_of(data[step.first : step.first + 4 * step.present])
+
+
+# ---- listings
+
+
+def head_line(step):
+    """The line of a word in a header's place."""
+    word, register = step.word, step.register
+    if word == 0xAA995566:
+        return "sync"
+    if register is not None and word & ~0x3E7FF in (0x30000000, 0x28000000):
+        return f"{step.kind} {REGISTERS[register]} {step.count}"
+    if register is not None and word >> 29 == 2:
+        return f"{step.kind}2 {step.count}"
+    return f"word {word:08X}"
+
+
+def command_line(word):
+    """The line of a payload word of CMD."""
+    return f"cmd {COMMANDS[word]}" if word in COMMANDS else f"data {word:08X}"
+
+
+def rows(name, digits, width, blanks):
+    """Lines of so many digits, with a blank before every so many."""
+    for at in range(0, len(digits), width):
+        row = digits[at : at + width]
+        yield name + "".join(f" {row[it:it + blanks]}" for it in range(0, len(row), blanks))
+
+
+def step_lines(data, step):
+    """The lines of a step, each with its place and the place behind it."""
+    if step.kind == "bytes":
+        for at, line in enumerate(rows("bytes", data[step.place : step.end].hex().upper(), 64, 64)):
+            yield line, step.place + 32 * at, min(step.place + 32 * at + 32, step.end)
+        return
+    if step.kind == "nop":
+        for at in range(step.place, step.end, 4):
+            yield "nop", at, at + 4
+        return
+    yield head_line(step), step.place, step.place + 4
+    if step.register == CMD:
+        for at, word in enumerate(payload(data, step)):
+            yield command_line(word), step.first + 4 * at, step.first + 4 * at + 4
+    elif step.present:
+        digits = data[step.first : step.first + 4 * step.present].hex().upper()
+        for at, line in enumerate(rows("data", digits, 64, 8)):
+            yield line, step.first + 32 * at, min(step.first + 32 * at + 32, step.end)
+
+
+def bit_line(header):
+    """The line of a header."""
+    return " ".join(["bit", *(field.hex().upper() or "-" for field in header[:4]), str(header.length)])
+
+
+def listing_of(stream):
+    """The lines that `x7 list` writes of a stream, one after the other."""
+    if stream.header:
+        yield bit_line(stream.header)
+    for step in steps(stream.data):
+        if step.kind == "nop":
+            yield from ["nop"] * step.count
+        else:
+            for line, _, _ in step_lines(stream.data, step):
+                yield line
+
+
+def line_at(stream, place):
+    """The line of `x7 list` that the byte in front of a place stands in: its number, its text, and the header of its packet where
+    it is a payload's."""
+    number = 1 if stream.header else 0
+    for step in steps(stream.data):
+        for line, first, behind in step_lines(stream.data, step):
+            number += 1
+            if first < place <= behind:
+                return number, line, head_line(step) if first >= step.first and step.kind == "write" else ""
+    return None
+
+
+HEAD = re.compile(rb"(write|read) (\w+) (0|[1-9]\d{0,3})|(write|read)2 (0|[1-9]\d{0,8})|word ([0-9A-F]{8})")
+HEX = re.compile(rb"data(?: [0-9A-F]{8}){1,8}|bytes (?:[0-9A-F]{2}){1,32}")
+LINES = {b"sync": SYNC, b"nop": NOP, **{f"cmd {name}".encode(): code.to_bytes(4, "big") for code, name in COMMANDS.items()}}
+BIT = re.compile(rb"bit ((?:[0-9A-F]{2})+|-) ((?:[0-9A-F]{2})+|-) ((?:[0-9A-F]{2})+|-) ((?:[0-9A-F]{2})+|-) (0|[1-9]\d{0,9})")
+
+
+def line_bytes(line):
+    """The bytes that a line of a listing stands for, or none."""
+    if line in LINES:
+        return LINES[line]
+    if HEX.fullmatch(line):
+        return bytes.fromhex(line.split(b" ", 1)[1].decode())
+    found = HEAD.fullmatch(line)
+    if not found:
+        return None
+    if found[6]:
+        return bytes.fromhex(found[6].decode())
+    if found[4]:
+        return ((0x50000000 if found[4] == b"write" else 0x48000000) + int(found[5])).to_bytes(4, "big") if int(found[5]) < 1 << 27 else None
+    number = NUMBERS.get(found[2].decode())
+    if number is None or int(found[3]) > 0x7FF:
+        return None
+    return ((0x30000000 if found[1] == b"write" else 0x28000000) + number * 0x2000 + int(found[3])).to_bytes(4, "big")
+
+
+def header_of_line(line):
+    """The header of a line `bit`, or none."""
+    found = BIT.fullmatch(line)
+    if not found or int(found[5]) >= 1 << 32:
+        return None
+    fields = [b"" if field == b"-" else bytes.fromhex(field.decode()) for field in found.groups()[:4]]
+    return Header(*fields, int(found[5]), len(FIXED) + 17 + sum(map(len, fields)))
+
+
+def blocks(file):
+    """A file's bytes in blocks that end with a line, so that a large one isn't held twice."""
+    while True:
+        block = file.read(1 << 20)
+        if not block:
+            return
+        yield block + file.readline()
+
+
+def read_listing(path):
+    """The stream of a listing, or of a text for `x7 asm`: its lines `crc` are made, comments and empty lines mean nothing."""
+    header, data, number, made = None, bytearray(), 0, []
+    with open(path, "rb") as file:
+        for block in blocks(file):
+            count = block.count(b"nop\n")
+            if 4 * count == len(block):
+                data += NOP * count
+                number, block = number + count, b""
+            for line in block[:-1].split(b"\n") if block.endswith(b"\n") else block.split(b"\n") if block else []:
+                number += 1
+                known = line_bytes(line)
+                if known is not None:
+                    data += known
+                elif line == b"crc":
+                    made.append(len(data) + 4)
+                    data += bytes.fromhex("3000000100000000")
+                elif number == 1 and line.startswith(b"bit "):
+                    header = header_of_line(line)
+                    if header is None:
+                        raise Refused(f"{path} is no listing of `x7 list`: line 1")
+                elif line and not line.startswith(b"#"):
+                    raise Refused(f"{path} is no listing of `x7 list`: line {number}")
+            if len(data) > MOST_BYTES:
+                raise Refused(f"{path} stands for more than {MOST_BYTES} bytes, which x7 doesn't take: line {number}")
+    return Stream(header, with_checks(bytes(data), made))
+
+
+def listed_line_at(path, place):
+    """The line of a listing that the byte in front of a place stands in: its number, its text, and the last header before it where
+    it is a payload's."""
+    number, at, head = 0, 0, ""
+    with open(path, "rb") as file:
+        for block in blocks(file):
+            count = block.count(b"nop\n")
+            if 4 * count == len(block) and at + 4 * count < place:
+                number, at, head = number + count, at + 4 * count, "nop"
+                continue
+            for line in block.rstrip(b"\n").split(b"\n"):
+                number += 1
+                size = 8 if line == b"crc" else len(line_bytes(line) or b"")
+                text = line.decode("ascii", "replace")
+                is_payload = line.startswith((b"data ", b"cmd "))
+                head = head if is_payload else text
+                if at < place <= at + size:
+                    return number, text, head if is_payload else ""
+                at += size
+    return None
+
+
+# ---- the running check: CRC-32C over each word's 32 bits and its register's five, from the lowest
+
+POLYNOMIAL = 0x82F63B78
+
+
+def shifted(value, count):
+    """A check after so many bits that are 0."""
+    for _ in range(count):
+        value = value >> 1 ^ (POLYNOMIAL if value & 1 else 0)
+    return value
+
+
+class Tables:
+    """What the two halves of a word become over the bits of a word and a register, made when first asked for."""
+
+    low, high, registers = None, None, None
+
+    @classmethod
+    def make(cls):
+        quarters = [[shifted(byte << shift, 37) for byte in range(256)] for shift in (0, 8, 16, 24)]
+        cls.low = [one ^ other for one in quarters[1] for other in quarters[0]]
+        cls.high = [one ^ other for one in quarters[3] for other in quarters[2]]
+        cls.registers = [shifted(number, 5) for number in range(32)]
+
+
+def fold(check, register, words):
+    """The check after words were written to a register."""
+    if Tables.low is None:
+        Tables.make()
+    high, added = Tables.high, Tables.registers[register]
+    low = Tables.low if len(words) < 1 << 16 else [it ^ added for it in Tables.low]
+    if low is Tables.low:
+        for word in words:
+            word ^= check
+            check = low[word & 0xFFFF] ^ high[word >> 16] ^ added
+        return check
+    for word in words:
+        word ^= check
+        check = low[word & 0xFFFF] ^ high[word >> 16]
+    return check
+
+
+class RunningCheck:
+    """The running check of a device over the writes that it is given, in order."""
+
+    def __init__(self):
+        self.value, self.command = 0, 0
+
+    def write(self, data, step):
+        """Takes a write, and answers (place, check, word) for each word that it gives CRC."""
+        compared = []
+        if step.register == CRC:
+            for at, word in enumerate(payload(data, step)):
+                compared.append((step.first + 4 * at, self.value, word))
+                self.value = 0
+        elif step.register == CMD:
+            for word in payload(data, step):
+                self.command = word & 31
+                self.value = 0 if self.command == CODES["RCRC"] else fold(self.value, CMD, [word])
+        elif step.register != LOUT:
+            self.value = fold(self.value, step.register, payload(data, step))
+            if step.register == FAR and step.present and self.command == CODES["RCRC"]:
+                # a write to FAR executes the command in CMD again
+                self.value = 0
+        return compared
+
+
+Compared = namedtuple("Compared", "place check word")
+
+
+def checks_of(data):
+    """Each comparison of the running check in the data: the place of the word, the check there, and the word."""
+    check = RunningCheck()
+    for step in steps(data):
+        if step.kind == "write":
+            for it in check.write(data, step):
+                yield Compared(*it)
+
+
+def with_checks(data, places):
+    """The data with the running check written at each of these places, which hold words for CRC."""
+    if not places:
+        return data
+    data, wanted = bytearray(data), set(places)
+    for place, check, _ in checks_of(bytes(data)):
+        if place in wanted:
+            data[place : place + 4] = check.to_bytes(4, "big")
+    return bytes(data)
+
+
+# ---- reports
+
+Attempt = namedtuple("Attempt", "number kind address ending")
+
+
+class Report:
+    """A report of `x7 play`, or the text of `x7 boot` or `x7 svf`. `svf` is none, 'done', or statement and bit. `end` has the words
+    behind 'end'. `frames` has the digits of each frame by its address."""
+
+    def __init__(self):
+        self.part, self.taken, self.end, self.attempts, self.boot_end, self.svf = "", 0, [], [], "", None
+        self.phase, self.done, self.gts, self.gwe = 0, 0, 0, 0
+        self.registers, self.reads, self.frames = {}, [], {}
+
+    def line(self, words):
+        """Takes the words of a line."""
+        key = words[0]
+        if key in ("part", "boot"):
+            self.part = words[1]
+        elif key == "taken":
+            self.taken = int(words[1])
+        elif key == "attempt":
+            self.attempts.append(Attempt(int(words[1]), words[2], int(words[3], 16), words[-1]))
+        elif key == "end" and self.attempts and not self.boot_end:
+            self.boot_end = words[1]
+        elif key == "end":
+            self.end = words[1:]
+        elif key == "phase":
+            self.phase, self.done, self.gts, self.gwe = (int(it) for it in words[1::2])
+        elif key == "reg":
+            self.registers[words[1]] = int(words[2], 16)
+        elif key == "svf":
+            self.svf = "done" if words[1] == "done" else (int(words[2]), int(words[3]))
+        elif key == "data":
+            self.reads += [int(it, 16) for it in words[1:]]
+        elif key == "frame":
+            self.frames[int(words[1], 16)] = words[2]
+        elif key not in ("reads", "frames"):
+            raise ValueError
+
+
+def read_report(path):
+    """The report in a file. An empty one, as where a command was refused, is refused too, as is one that is cut off."""
+    report, number, last = Report(), 0, []
+    try:
+        with open(path, encoding="ascii") as file:
+            for number, line in enumerate(file, 1):
+                last = line.split()
+                report.line(last)
+                if not line.endswith("\n"):
+                    raise ValueError
+    except (ValueError, IndexError):
+        raise Refused(f"{path} is no report of `x7 play`, `x7 boot` or `x7 svf`: line {number}") from None
+    if not number:
+        raise Refused(f"{path} is empty: the command that wrote it was refused, and has said why on standard error")
+    if not report.end or last[0] not in ("frames", "frame"):
+        raise Refused(f"{path} is no whole report of `x7 play`, `x7 boot` or `x7 svf`: it ends at line {number}")
+    return report
+
+
+# ---- part files
+
+TOKEN = re.compile(r"""(?:\s|\#[^\n]*)*("(?:[^"\\\n]|\\.)*"|'[^'\n]*'|\[\[|\]\]|[\[\]{},=]|[A-Za-z0-9_+.\-]+|\Z)""")
+ROW_KEYS = {"block": (0, 2), "half": (0, 1), "row": (0, 31)}
+PART_KEYS = {"idcode": (1, 0xFFFFFFFF), "mode": (0, 7), "bus_width": (0, 3), "lock": (0, 65535), "match": (0, 65535)}
+FAR_WIDTHS = [(7, 12), (10, 12), (5, 8), (1, 1), (2, 3)]
+MOST_FRAMES, MOST_WORDS, MOST_MINORS, MOST_COLUMNS, MOST_ROWS = 131072, 13277056, 128, 1024, 192
+Row = namedtuple("Row", "block half row minors")
+
+
+class Toml:
+    """A reader of the TOML that part files use: keys, whole numbers, texts, lists, and tables `[[row]]`."""
+
+    def __init__(self, text):
+        self.text, self.at, self.token = text, 0, ""
+        self.next()
+
+    def next(self):
+        """Takes the present token and moves to the next one."""
+        taken, found = self.token, TOKEN.match(self.text, self.at)
+        if not found:
+            raise Refused(f"line {self.text.count(chr(10), 0, self.at) + 1} is no TOML that a part file has")
+        self.token, self.at = found[1], found.end()
+        return taken
+
+    def want(self, token):
+        if self.next() != token:
+            raise Refused(f"line {self.text.count(chr(10), 0, self.at) + 1} lacks '{token}', or has it elsewhere")
+
+    def value(self):
+        token = self.next()
+        if token[:1] in ("'", '"') and token:
+            return token[1:-1]
+        if token == "[":
+            return self.several("]")
+        if token == "{":
+            pairs = self.several("}")
+            return dict(pairs)
+        try:
+            return int(token, 0)
+        except ValueError:
+            raise Refused(f"'{token}' is no value that a part file has") from None
+
+    def several(self, end):
+        """The values up to a bracket, or the pairs up to a brace."""
+        found = []
+        while self.token != end:
+            found.append(self.pair() if end == "}" else self.value())
+            if self.token != end:
+                self.want(",")
+        self.next()
+        return found
+
+    def pair(self):
+        key = self.next()
+        self.want("=")
+        return key, self.value()
+
+    def tables(self):
+        """The pairs of the top, with those of each `[[row]]` in a list."""
+        top = table = {}
+        while self.token:
+            if self.token == "[[":
+                self.next()
+                if self.next() != "row" or self.next() != "]]":
+                    raise Refused("a part file has no other tables than [[row]]")
+                table = {}
+                top.setdefault("row", []).append(table)
+                continue
+            key, value = self.pair()
+            if key in table:
+                raise Refused(f"the key {key} stands twice")
+            table[key] = value
+        return top
+
+
+class Part:
+    """A part: its keys, and its rows in the order of their addresses."""
+
+    def __init__(self, table):
+        self.name, self.idcode = table["name"], table["idcode"]
+        self.mode, self.bus_width = table.get("mode", 0), table.get("bus_width", 0)
+        self.lock, self.match = table.get("lock", 0), table.get("match", 0)
+        self.frame_words, self.start_unit = table.get("frame_words", FRAME_WORDS), table.get("start_unit", 1)
+        self.far = table.get("far", [7, 10, 5, 1, 3])
+        self.rows = sorted(Row(it["block"], it["half"], it["row"], it["minors"]) for it in table["row"])
+
+    def address(self, block, half, row, column, minor):
+        """The frame address of these."""
+        low = self.far
+        return (((block << low[3] | half) << low[2] | row) << low[1] | column) << low[0] | minor
+
+    def fields(self, far):
+        """Block type, half, row, column and minor of a frame address."""
+        found = []
+        for width in self.far:
+            found.append(far & (1 << width) - 1)
+            far >>= width
+        return tuple(reversed(found))
+
+    def row_addresses(self, row):
+        """The addresses of a row, in number order."""
+        return [self.address(*row[:3], column, minor) for column, minors in enumerate(row.minors) for minor in range(minors)]
+
+    def addresses(self):
+        """All addresses, in number order."""
+        return [far for row in self.rows for far in self.row_addresses(row)]
+
+    def slots(self):
+        """The slots in the order of writing: an address, or none at the two pads behind each row."""
+        return [it for row in self.rows for it in [*self.row_addresses(row), None, None]]
+
+
+def check_number(table, key, least, most, where=""):
+    """Refuses a value that is no whole number of a range."""
+    if key not in table:
+        raise Refused(f"the key {key}{where} is missing")
+    if isinstance(table[key], bool) or not isinstance(table[key], int) or not least <= table[key] <= most:
+        raise Refused(f"{key}{where} is {str(table[key])[:40]!r}, and no whole number from {least} to {most}")
+
+
+def check_list(values, count, least, most, what):
+    """Refuses what is no list of so many whole numbers of a range."""
+    if not isinstance(values, list) or not count[0] <= len(values) <= count[1]:
+        raise Refused(f"{what} is no list of {count[0]} to {count[1]} whole numbers")
+    for value in values:
+        if isinstance(value, bool) or not isinstance(value, int) or not least <= value <= most:
+            raise Refused(f"{what} has {str(value)[:40]!r}, and no whole number from {least} to {most}")
+
+
+def check_part(table):
+    """Refuses a part that x7 refuses."""
+    name = table.get("name")
+    if not isinstance(name, str) or not re.fullmatch("[!-~]{1,64}", name):
+        raise Refused("name is missing, or no text of 1 to 64 letters without blanks")
+    for key, (least, most) in PART_KEYS.items():
+        if key == "idcode" or key in table:
+            check_number(table, key, least, most)
+    if table["idcode"] % 2 == 0:
+        raise Refused("idcode is even, and an IDCODE is odd")
+    if "frame_words" in table:
+        check_number(table, "frame_words", 2, 255)
+    if table.get("start_unit", 1) not in (1, 256):
+        raise Refused("start_unit is neither 1 nor 256")
+    if "far" in table:
+        check_list(table["far"], (5, 5), 1, 12, "far")
+        if sum(table["far"]) > 32 or not all(least <= it <= most for it, (least, most) in zip(table["far"], FAR_WIDTHS)):
+            raise Refused("far has a width that x7 doesn't take, or more than 32 bits in all")
+    unknown = set(table) - {*PART_KEYS, "name", "far", "frame_words", "start_unit", "row"}
+    if unknown:
+        raise Refused(f"the key {min(unknown)} is none that a part file has")
+    check_rows(table.get("row"), table.get("frame_words", FRAME_WORDS))
+
+
+def check_rows(given, frame_words):
+    """Refuses rows that x7 refuses."""
+    if not isinstance(given, list) or not 1 <= len(given) <= MOST_ROWS or not all(isinstance(row, dict) for row in given):
+        raise Refused(f"there are none, or more than {MOST_ROWS}, tables [[row]]")
+    seen, frames = set(), 0
+    for number, row in enumerate(given, 1):
+        where = f" in row {number}"
+        for key, (least, most) in ROW_KEYS.items():
+            check_number(row, key, least, most, where)
+        check_list(row.get("minors"), (1, MOST_COLUMNS), 1, MOST_MINORS, f"minors{where}")
+        if set(row) - {*ROW_KEYS, "minors"}:
+            raise Refused(f"the key {min(set(row) - {*ROW_KEYS, 'minors'})}{where} is none that a row has")
+        key = (row["block"], row["half"], row["row"])
+        if key in seen:
+            raise Refused(f"row {number} has the block type, half and row of an earlier one")
+        seen.add(key)
+        frames += sum(row["minors"])
+    if frames > MOST_FRAMES:
+        raise Refused(f"there are {frames} frames, and x7 takes {MOST_FRAMES} at most")
+    if (frames + 2 * len(given)) * frame_words > MOST_WORDS:
+        raise Refused(f"frames and pads have more than {MOST_WORDS} words")
+
+
+def read_part(path):
+    """The part that a part file says."""
+    try:
+        table = Toml(read_file(path).decode("utf-8")).tables()
+        check_part(table)
+        return Part(table)
+    except UnicodeDecodeError:
+        raise Refused(f"{path} is no part file: it isn't UTF-8") from None
+    except Refused as refused:
+        if str(refused).startswith(f"{path}: "):
+            raise
+        raise Refused(f"{path} is no part file that x7 takes: {refused}") from None
+
+
+# ---- frames texts
+
+
+def read_frames(path, part=None):
+    """The words of each frame of a frames text, as bytes by the address. With a part, of its addresses and its frame's size."""
+    frames, known = {}, set(part.addresses()) if part else None
+    for number, line in enumerate(read_file(path).split(b"\n"), 1):
+        line = line[:-1] if line.endswith(b"\r") else line
+        if not line or line.startswith(b"#"):
+            continue
+        found = re.fullmatch(rb"frame ([0-9A-F]{8}) ((?:[0-9A-Fa-f]{8})+)", line)
+        if not found or part and len(found[2]) != 8 * part.frame_words:
+            raise Refused(f"{path} is no frames text: line {number}")
+        far = int(found[1], 16)
+        if known is not None and far not in known:
+            raise Refused(f"{path}: the part {part.name} has no address {far:08X}: line {number}")
+        if far in frames:
+            raise Refused(f"{path} has the address {far:08X} twice: line {number}")
+        frames[far] = bytes.fromhex(found[2].decode())
+    return frames
+
+
+def frames_text(frames):
+    """The frames text of bytes by the address, in number order."""
+    return "".join(f"frame {far:08X} {frames[far].hex().upper()}\n" for far in sorted(frames))
