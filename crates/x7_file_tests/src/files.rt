@@ -5,7 +5,7 @@ use std::test::Fail;
 use std::{env, fs, io, process};
 use x7_in_memory::MemoryInputs;
 use x7_words::{
-    Failed, FileFlash, FileInputs, Flash, Inputs, SelectFault, Sink, StdSink, write_all,
+    Failed, FileFlash, FileInputs, Flash, Inputs, KnownSink, SelectFault, Sink, StdSink, write_all,
 };
 
 /// Selects, and reads three times into four bytes of the buffer each.
@@ -281,4 +281,12 @@ fn writers_are_sinks(rt: HostRuntime) {
     assert!(rt; out.write(b"") == Ok(0));
     let mut err = StdSink::new(rt.stderr());
     assert!(rt; err.write(b"") == Ok(0));
+}
+
+#[test]
+fn a_writer_that_knows_what_it_holds_is_a_sink(rt: HostRuntime) {
+    let mut sink = KnownSink::new(Vec::new(rt.alloc()));
+    assert!(rt; write_all(&mut sink, b"hello") == Ok(()));
+    assert!(rt; write_all(&mut sink, b", world") == Ok(()));
+    assert!(rt; sink.into_writer().as_slice() == b"hello, world".as_slice());
 }

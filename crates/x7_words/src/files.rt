@@ -1,5 +1,5 @@
 //! The real outside: files as inputs and as a flash, and a writer such as standard output as a sink.
-ghost use Rattle.std.specs.Prelude.{◌≡◌, ◌<◌, ◌≤◌, ◌+◌, ◌^◌, length, None, Some, true, false, IfErr, IfOk, OnOk, OnErr};
+ghost use Rattle.std.specs.Prelude.{◌≡◌, ◌<◌, ◌≤◌, ◌+◌, ◌^◌, length, None, Some, true, false, is_some, IfErr, IfOk, OnOk, OnErr};
 ghost use Rattle.std.specs.Io.KnownBytes.{ReadConsumes, WriteAppends};
 ghost use Rattle.x7_words.specs.Count.{added, raised};
 ghost use Rattle.x7_words.specs.Files.{after_open, known_inputs, faults_after, missing_after, Gives, RefusedFor};
@@ -207,5 +207,50 @@ impl<W: Write + Drop> Sink for StdSink<W> {
                 Err(Failed)
             }
         }
+    }
+}
+
+/// A writer that knows what it holds, as a sink that tells it. Each write is one of the writer's,
+/// and one that takes nothing of a piece that is not empty is a fault.
+#[derive(Drop)]
+pub struct KnownSink<W: Write + Drop> {
+    sink: StdSink<W>,
+}
+
+impl<W: Write + Drop> Model for KnownSink<W> {
+    ghost use Rattle.std.specs.Prelude.{◌≡◌, true, is_some};
+    ghost use Rattle.x7_words.specs.Files.{RealSink};
+
+    ghost Value = { RealSink };
+
+    ghost view = { λ s. s.sink };
+
+    ghost invariant = { λ s. is_some s.sink.contents ≡ true };
+}
+
+impl<W: Write + Drop> KnownSink<W> {
+    /// A sink over the writer, which knows what it holds.
+    pub fn new(writer: W) -> KnownSink<W>
+        requires known { is_some (W.contents writer) ≡ true }
+        ensures { result ≡ record { contents = W.contents writer; faults = 0 } }
+    {
+        KnownSink {
+            sink: StdSink::new(writer),
+        }
+    }
+
+    /// The writer, with what it holds by now.
+    pub fn into_writer(self) -> W
+        ensures { W.contents result ≡ self.contents }
+    {
+        self.sink.writer
+    }
+}
+
+impl<W: Write + Drop> Sink for KnownSink<W> {
+    ghost state = { λ s. record { written = s.contents; faults = s.faults } };
+
+    fn write(&mut self, piece: &[u8]) -> Result<usize, Failed> {
+        self.sink.write(piece)
     }
 }

@@ -11,7 +11,7 @@ mod word;
 
 pub use bytes::is_same;
 pub use count::next_count;
-pub use files::{FileFlash, FileInputs, StdSink};
+pub use files::{FileFlash, FileInputs, KnownSink, StdSink};
 pub use flash::{FLASH_LIMIT, Flash, SECTOR};
 pub use input::{Failed, Inputs, NoMemory, SelectFault};
 pub use sink::{Sink, write_all, write_pieces};
