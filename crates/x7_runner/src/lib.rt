@@ -1,4 +1,4 @@
-//! Runs worked cases of a command over objects in memory, and the commands of a page of the documents.
+//! Runs worked cases of a command over objects in memory.
 #![tactic(auto)]
 
 mod bench;
@@ -12,15 +12,11 @@ mod fault;
 mod named;
 mod notes;
 mod outside;
-mod page;
 mod running;
-mod shell;
 mod subject;
 mod token;
 mod writing;
 
 pub use command::Command;
 pub use fault::Fault;
-pub use named::{Named, has_name};
-pub use page::report_page;
 pub use subject::report_cases;
