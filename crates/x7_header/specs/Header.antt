@@ -1,4 +1,4 @@
--- The header in front of a stream, as a list of fields (not in UG470: the layout that the vendor's tool writes).
+-- The header before a stream's data, as a list of fields (not in UG470: the layout that the vendor's tool writes).
 use Rattle.std.specs.Prelude.{◌≡◌, ◌≢◌, ◌≤◌, ◌-◌, ℕ, ◌/◌, ◌%◌, ◌<◌, ◌^◌, List, [], ◌∷◌, ◌++◌, length, drop}
 use Rattle.x7_words.specs.Word.{AreBytes, bytes_of_word}
 use Rattle.x7_header.specs.declared.header.Head.{Head}
@@ -69,7 +69,7 @@ pub record HasOtherLetter (fields : List Field) (bytes : List ℕ) (left : ℕ) 
   pub left_is : left ≡ length (other ∷ rest)
   pub differs : other ≢ next.letter
 
--- the same of a header: the bytes before the place are its beginning, and a letter is due there
+-- the bytes before the place begin a header whose next letter is due there, and another byte stands there
 abbrev pub HasOtherLetterAt : List ℕ → ℕ → Type 0
 HasOtherLetterAt bytes place =
     (after : List ℕ) × (bytes ≡ fixed_bytes ++ after) × (place ≤ length bytes) × HasOtherLetter layout after (length bytes - place)
@@ -82,11 +82,11 @@ pub record Contents : Type 0 where
   pub d : List ℕ
   pub data_length : ℕ
 
--- in the layout's order
+-- the contents of a header's fields in the layout's order
 abbrev pub listed : Contents → List (List ℕ)
 listed x = x.a ∷ x.b ∷ x.c ∷ x.d ∷ bytes_of_word x.data_length ∷ []
 
--- what has a header
+-- the contents fit a header: four texts of at most 65,535 bytes, and a length of 32 bits
 pub record HaveHeader (x : Contents) : Type 0 where
   pub a : length x.a < 2 ^ 16
   pub b : length x.b < 2 ^ 16
@@ -94,6 +94,7 @@ pub record HaveHeader (x : Contents) : Type 0 where
   pub d : length x.d < 2 ^ 16
   pub data_length : x.data_length < 2 ^ 32
 
+-- the bytes of the header with these contents
 abbrev pub header_bytes : Contents → List ℕ
 header_bytes x = fixed_bytes ++ fields_bytes layout (listed x)
 

@@ -18,12 +18,12 @@ Gives view (Err e) reading = reading ≡ Err e
 
 -- All below reads at the beginning of what is left of an input of `total` bytes.
 
--- what follows the letter
+-- the bytes after the letter that is due at the beginning, or the fault that it isn't there
 abbrev pub letter_at : ℕ → ℕ → List ℕ → Result (List ℕ) HeaderFault
 letter_at total letter [] = Err (fault.Cut total)
 letter_at total letter (first ∷ bytes) = if first == letter then Ok bytes else Err (fault.Field (total - length (first ∷ bytes)))
 
--- so many bytes, and what follows them
+-- the first `count` bytes, and what follows them
 abbrev pub bytes_at : ℕ → ℕ → List ℕ → Result (List ℕ × List ℕ) HeaderFault
 bytes_at total count bytes = if nat_le count (length bytes) then Ok (take count bytes, drop count bytes) else Err (fault.Cut total)
 
@@ -47,7 +47,7 @@ text_lacks (letter ∷ []) = 2
 text_lacks (letter ∷ high ∷ []) = 1
 text_lacks (letter ∷ high ∷ low ∷ bytes) = high * 256 + low - length bytes
 
--- the same of a field of a number: of its letter, of its four bytes
+-- how many bytes of the part that is being read a field of a number lacks of which this is a prefix: of its letter, of its four bytes
 abbrev pub number_lacks : List ℕ → ℕ
 number_lacks [] = 1
 number_lacks (letter ∷ bytes) = 4 - length bytes
@@ -81,7 +81,7 @@ header_at bytes = do
   after ← fixed_at bytes
   layout_at (length bytes) after
 
--- ---- bytes that wait for so many more: with fewer the input ends inside the field, the fields or the header that they begin
+-- ---- bytes that wait for `count` more: with fewer the input ends inside the field, the fields or the header that they begin
 
 abbrev pub FieldWaits : Field → List ℕ → ℕ → Type 0
 FieldWaits field bytes count = (total : ℕ) (more : List ℕ) → length more < count → field_at total field (bytes ++ more) ≡ Err (fault.Cut total)
@@ -98,7 +98,7 @@ abbrev pub lacks_of : Kind → List ℕ → ℕ
 lacks_of Kind.Counted = text_lacks
 lacks_of Kind.Four = number_lacks
 
--- what a field lacks that was read so: that of the fields after it where it is whole, and none where its letter is wrong
+-- what a field lacks by what its reading gave: `lack` where it is cut, what the fields after it lack where it is whole, and 0 where its letter is wrong
 abbrev pub lacks_by : ℕ → Result (List ℕ × List ℕ) HeaderFault → (List ℕ → ℕ) → ℕ
 lacks_by lack (Ok field) later = later field.1
 lacks_by lack (Err (fault.Cut total)) later = lack
@@ -112,14 +112,14 @@ text_of_letter letter = record { letter = letter; kind = Kind.Counted }
 abbrev pub number_of_letter : ℕ → Field
 number_of_letter letter = record { letter = letter; kind = Kind.Four }
 
--- what one of them lacks that the bytes begin with, and the fields after it
+-- what the bytes lack that begin with the text, or the number, of this letter: of that field, or of the fields after it where it is whole
 abbrev pub text_wants : ℕ → List ℕ → (List ℕ → ℕ) → ℕ
 text_wants letter bytes later = lacks_by (text_lacks bytes) (field_at (length bytes) (text_of_letter letter) bytes) later
 
 abbrev pub number_wants : ℕ → List ℕ → (List ℕ → ℕ) → ℕ
 number_wants letter bytes later = lacks_by (number_lacks bytes) (field_at (length bytes) (number_of_letter letter) bytes) later
 
--- what the first of these fields lacks that isn't whole, and none where all are whole
+-- what the first of these fields that isn't whole lacks, and 0 where all are whole
 abbrev pub fields_lack : List Field → List ℕ → ℕ
 fields_lack [] bytes = 0
 fields_lack (field ∷ fields) bytes = lacks_by (lacks_of field.kind bytes) (field_at (length bytes) field bytes) (fields_lack fields)
@@ -128,6 +128,6 @@ abbrev pub lacks_after : Result (List ℕ) HeaderFault → ℕ
 lacks_after (Ok after) = fields_lack layout after
 lacks_after (Err f) = 0
 
--- what the bytes of a header lack: of the fixed bytes, or of its fields; one byte where that is none
+-- how many bytes the bytes of a header lack: of the fixed bytes, or of its fields; 1 where they lack none
 abbrev pub header_lacks : List ℕ → ℕ
 header_lacks bytes = if nat_lt (length bytes) 13 then 13 - length bytes else max 1 (lacks_after (fixed_at bytes))

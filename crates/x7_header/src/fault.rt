@@ -3,7 +3,7 @@
 /// Why no header was read. Places count from 0.
 #[derive(Clone, Copy, Debug, Drop, PartialEq, Eq)]
 pub enum HeaderFault {
-    /// The thirteen fixed bytes are not at the front.
+    /// The input doesn't begin with the thirteen fixed bytes.
     Raw,
     /// The input ends inside the header, at this place, which is its length.
     Cut(usize),

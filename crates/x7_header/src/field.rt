@@ -36,7 +36,7 @@ fn after_letter(bytes: &[u8], letter: u8, total: usize) -> Result<&[u8], HeaderF
     }
 }
 
-/// So many bytes, and what follows them.
+/// The first `count` bytes, and what follows them.
 fn first_bytes(bytes: &[u8], count: usize, total: usize) -> Result<(&[u8], &[u8]), HeaderFault>
     ensures { Gives (λ x. (x.0.now, x.1.now)) result (bytes_at total count bytes.now) }
 {
@@ -58,7 +58,7 @@ pub fn text_field(bytes: &[u8], letter: u8, total: usize) -> Result<(&[u8], &[u8
     ensures more { IfOk result (λ x. (all : ℕ) (rest : List ℕ) →
         field_at all (text_of_letter letter) (bytes.now ++ rest)
         ≡ Ok (x.0.now, x.1.now ++ rest)) }
-    // So is a wrong letter.
+    // A wrong letter is judged alike whatever follows.
     ensures other { (place : ℕ) (rest : List ℕ) → IsErrOf result (HeaderFault.Field place) →
         field_at (total + length rest) (text_of_letter letter) (bytes.now ++ rest) ≡ Err (HeaderFault.Field place) }
 {
@@ -84,7 +84,7 @@ pub fn number_field(bytes: &[u8], letter: u8, total: usize) -> Result<(u32, &[u8
     ensures more { IfOk result (λ x. (all : ℕ) (rest : List ℕ) →
         field_at all (number_of_letter letter) (bytes.now ++ rest)
         ≡ Ok (bytes_of_word x.0, x.1.now ++ rest)) }
-    // So is a wrong letter.
+    // A wrong letter is judged alike whatever follows.
     ensures other { (place : ℕ) (rest : List ℕ) → IsErrOf result (HeaderFault.Field place) →
         field_at (total + length rest) (number_of_letter letter) (bytes.now ++ rest) ≡ Err (HeaderFault.Field place) }
 {

@@ -1,6 +1,6 @@
 //! What a header holds.
 
-/// The header in front of a stream: its fields, lent from where they were read.
+/// The header before a stream's data: its fields, lent from where they were read.
 #[derive(Clone, Copy, Debug, PartialEq, Eq)]
 pub struct Head<'b> {
     /// The design.
@@ -17,7 +17,7 @@ pub struct Head<'b> {
     pub size: usize,
 }
 
-/// The bytes in front of the first field.
+/// The bytes before the first field.
 pub(crate) const FIXED_BYTES: [u8; 13] = [
     0x00, 0x09, 0x0F, 0xF0, 0x0F, 0xF0, 0x0F, 0xF0, 0x0F, 0xF0, 0x00, 0x00, 0x01,
 ];

@@ -1,4 +1,4 @@
-//! The header that the vendor's tool writes in front of a stream, read and written.
+//! The header that the vendor's tool writes before a stream's data, read and written.
 #![tactic(auto)]
 
 mod fault;

@@ -79,7 +79,7 @@ pub fn wanted(bytes: &[u8]) -> usize
     ensures some { 0 < result }
     // At first the fixed bytes.
     ensures fixed { length bytes.now < 13 → length bytes.now + result ≡ 13 }
-    // With fewer bytes more the input would still end inside the header, so none is read behind it, nor behind a wrong letter.
+    // With fewer bytes more the input would still end inside the header, so none is read after it, nor after a wrong letter.
     ensures waits { EndsInHeader bytes.now → HeaderWaits bytes.now result }
     // All that is lacked is wanted at once.
     ensures lacks { result ≡ header_lacks bytes.now }

@@ -7,7 +7,7 @@ use crate::fault::HeaderFault;
 use crate::field::{after_fixed_bytes, number_field, text_field};
 use crate::header::Head;
 
-/// The fields after the fixed bytes, of an input of so many bytes.
+/// The fields after the fixed bytes, of an input of `total` bytes.
 #[tactic(auto, unfolding(crate::specs::Reading::layout_at, crate::specs::Reading::fields_at))]
 fn fields(bytes: &[u8], total: usize) -> Result<Head<'_>, HeaderFault>
     requires { length bytes.now ≤ total }

@@ -33,12 +33,12 @@ attempt_bits_by Fallback cause ignored = kind_bits_of Fallback ignored + cause_b
 abbrev pub attempt_bits_of : Attempt → ℕ
 attempt_bits_of attempt = attempt_bits_by attempt.kind attempt.cause attempt.ignored
 
--- those of the attempt before, and none where there is none
+-- the bits of the attempt before, and 0 where there was none
 abbrev pub before_bits_of : Option Attempt → ℕ
 before_bits_of None = 0
 before_bits_of (Some attempt) = attempt_bits_of attempt
 
--- what the word is by the kind of the present attempt
+-- the word of the register by the kind of the present attempt: 0 on the bench
 abbrev pub word_by : Kind → ℕ → ℕ → ℕ
 word_by Bench latest before = 0
 word_by Power latest before = latest + before * 2 ^ 8

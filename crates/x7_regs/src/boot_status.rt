@@ -32,13 +32,13 @@ pub enum Cause {
 #[derive(Clone, Copy, Debug, PartialEq, Eq, Hash)]
 pub struct Attempt {
     pub kind: Kind,
-    /// What it failed by, if it did.
+    /// What the attempt failed by, if it did.
     pub cause: Option<Cause>,
     /// An IPROG command was ignored.
     pub ignored: bool,
 }
 
-/// The bits that tell the kind of an attempt.
+/// The bits of an attempt's kind: VALID, FALLBACK and IPROG.
 #[tactic(auto, unfolding(crate::specs::Status::flag_of))]
 fn kind_bits(kind: Kind, ignored: bool) -> u32
     ensures value { result ≡ kind_bits_of kind ignored }
@@ -53,7 +53,7 @@ fn kind_bits(kind: Kind, ignored: bool) -> u32
     }
 }
 
-/// The bit that tells the cause of a failure.
+/// The bit of a failure's cause, 0 where there is none.
 fn cause_bits(cause: Option<Cause>) -> u32
     ensures value { result ≡ cause_bits_of cause }
     ensures fits { result < 65 }

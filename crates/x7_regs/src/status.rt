@@ -3,7 +3,7 @@ ghost use Rattle.std.specs.Prelude.{◌≡◌, ◌<◌, ◌*◌, ◌^◌};
 ghost use Rattle.x7_regs.specs.Status.{flag_of, startup_state_of, status_of};
 ghost use Rattle.x7_words.specs.Word.{field_of};
 
-/// What the status register tells.
+/// What the status register shows.
 #[derive(Clone, Copy, Debug, PartialEq, Eq, Hash)]
 pub struct StatParts {
     /// A written check differed from the running one.

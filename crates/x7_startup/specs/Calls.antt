@@ -33,7 +33,7 @@ is_armed armed (Arm ∷ calls) = is_armed true calls
 is_armed armed (Desync _ ∷ calls) = is_armed false calls
 is_armed armed (_ ∷ calls) = is_armed armed calls
 
--- how far startup is: not begun, or begun with a COR0 and so many bytes ago
+-- how far startup is: not begun, or begun with a COR0, and `bytes` bytes taken since then
 pub data StartupProgress : Type 0 where
   NotBegun : StartupProgress
   Begun : (cor0 bytes : ℕ) → StartupProgress
@@ -77,14 +77,15 @@ pub record Stored : Type 0 where
   pub ticks : ℕ
   pub phase : ℕ
 
--- what is kept is that of a progress
+-- what is stored is that of this progress
 pub record StoresAt (lock matched : ℕ) (s : Stored) (progress : StartupProgress) : Type 0 where
   pub begun_is : s.begun ≡ cor0_of progress
   pub tick_bytes_are : s.tick_bytes ≡ bytes_of progress % 4
   pub ticks_are : s.ticks ≡ min (ticks_of progress) 65535
   pub phase_is : IsPhaseOf lock matched progress s.phase
 
--- what is kept is that of the calls, each byte of which was taken with these lock and match numbers
+-- What is stored stands for the calls: each stored value is what the list of all calls so far comes to, each byte of which was
+-- taken with these lock and match numbers.
 pub record StandsFor (lock matched : ℕ) (s : Stored) (calls : List Call) : Type 0 where
   pub armed_is : s.armed ≡ is_armed false (since_taking calls)
   pub stores : StoresAt lock matched s (progress_of calls)

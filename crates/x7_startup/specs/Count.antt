@@ -56,14 +56,15 @@ Fires off first calls eos =
 abbrev pub bytes_alike : ℕ → Bool → List WatchCall
 bytes_alike count eos = replicate count (Watched eos)
 
--- whether the next byte fires after so many of these, and that none of so many does
+-- the byte after `count` bytes, all in phase 7 or none, fires
 abbrev pub FiresAfter : Bool → ℕ → List WatchCall → ℕ → Bool → Type 0
 FiresAfter off first calls count eos = Fires off first (calls ++ bytes_alike count eos) eos
 
+-- none of `count` bytes, all in phase 7 or none, fires
 abbrev pub NoneFires : Bool → ℕ → List WatchCall → ℕ → Bool → Type 0
 NoneFires off first calls count eos = (k : ℕ) → k < count → ¬ FiresAfter off first calls k eos
 
--- the count at which it fires, 0 where TIMER has it off
+-- the count at which the watchdog fires, 0 where TIMER or the attempt has it off
 abbrev pub full_count : Bool → ℕ → ℕ
 full_count off timer = if (cfg_mon_of timer == 1) && not off then timer_value_of timer * 4 else 0
 
@@ -73,22 +74,22 @@ pub record Watch : Type 0 where
   pub limit : ℕ
   pub count : ℕ
 
--- what is kept is that of the calls after a making with `first` in TIMER
+-- what is stored stands for the calls after a making with `first` in TIMER
 pub record WatchesFor (off : Bool) (first : ℕ) (w : Watch) (calls : List WatchCall) : Type 0 where
   pub off_is : w.off ≡ off
   pub limit_is : w.limit ≡ full_count off (timer_after first calls)
   pub count_is : w.count ≡ min (count_of off first calls) (2 ^ 32 - 1)
 
--- what holds of the calls for which the watchdog keeps what it does, however it was made
+-- `Fact` holds of every making and every list of calls that the watchdog stands for
 abbrev pub OfCalls : Watch → (Bool → ℕ → List WatchCall → Type 0) → Type 0
 OfCalls w Fact = (off : Bool) (first : ℕ) (calls : List WatchCall) → WatchesFor off first w calls → Fact off first calls
 
--- what the calls after a making come to, and how the bytes behind them are
+-- the calls after a making, and whether the bytes after them are taken in phase 7
 module _ (off : Bool) (first : ℕ) (calls : List WatchCall) (eos : Bool) where
-  -- of so many bytes that of this number, from 1, fires, none before it does, and the watchdog counted all up to it
+  -- of `count` bytes the one of number `n`, from 1, fires, none before it does, and the watchdog counted all up to it
   abbrev pub FiredAt : ℕ → ℕ → Watch → Type 0
   FiredAt count n new = (0 < n) × (n ≤ count) × FiresAfter off first calls (n - 1) eos × WatchesFor off first new (calls ++ bytes_alike n eos) × NoneFires off first calls (n - 1) eos
 
-  -- none of so many fires, and the watchdog counted them
+  -- none of `count` bytes fires, and the watchdog counted them
   abbrev pub NoneFired : ℕ → Watch → Type 0
   NoneFired count new = WatchesFor off first new (calls ++ bytes_alike count eos) × NoneFires off first calls count eos

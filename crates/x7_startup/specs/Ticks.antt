@@ -3,7 +3,7 @@ use Rattle.std.specs.Prelude.{◌≡◌, ℕ, ◌+◌, min, Option, Some, None}
 use Rattle.x7_startup.specs.Arrivals.{IsPhase}
 use Rattle.x7_startup.specs.declared.phases.Reached.{Reached}
 
--- `more` ticks lead from a phase and a capped count of ticks to others
+-- `more` ticks lead from a phase and a capped count of ticks to the new ones
 abbrev pub PassesTicks : (ℕ → ℕ) → Reached → ℕ → Reached → Type 0
 PassesTicks wait old more new =
     (t : ℕ) → old.ticks ≡ min t 65535 → IsPhase wait t old.phase → (new.ticks ≡ min (t + more) 65535) × IsPhase wait (t + more) new.phase
@@ -11,7 +11,7 @@ PassesTicks wait old more new =
 abbrev pub reached : ℕ → ℕ → Reached
 reached ticks phase = record { ticks = ticks; phase = phase }
 
--- the first of two values
+-- the first value, or the other one where there is no first
 abbrev pub first_some : Option ℕ → Option ℕ → Option ℕ
 first_some (Some x) other = Some x
 first_some None other = other

@@ -27,7 +27,7 @@ fn wait_in(cor0: u32, phase: u8, lock: u16, matched: u16) -> u16
     for_lock.max(for_match)
 }
 
-/// What is reached one tick later.
+/// The phase and the ticks that are reached one tick later.
 pub fn tick(cor0: u32, start: Reached, lock: u16, matched: u16) -> Reached
     requires phase { start.phase ≤ 7 }
     ensures last { result.phase ≤ 7 }
@@ -47,7 +47,7 @@ pub fn tick(cor0: u32, start: Reached, lock: u16, matched: u16) -> Reached
     }
 }
 
-/// What is reached after so many ticks, in at most fifteen turns.
+/// The phase and the ticks that are reached `count` ticks later, by a loop of at most fifteen turns.
 #[tactic(auto, using(crate::proofs::RunLemmas::ran_none, crate::proofs::RunLemmas::ran_stays, crate::proofs::RunLemmas::ran_moves, crate::proofs::RunLemmas::ran_all))]
 pub fn pass_ticks(cor0: u32, start: Reached, count: u64, lock: u16, matched: u16) -> Reached
     requires phase { start.phase ≤ 7 }

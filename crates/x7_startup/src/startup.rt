@@ -80,7 +80,7 @@ impl Startup {
         self.phase = next.phase;
     }
 
-    /// So many bytes more were taken: as many calls of `byte`.
+    /// `count` bytes more were taken: the same as `count` calls of `byte`.
     pub fn bytes(&mut self, count: u64, lock: u16, matched: u16)
         ensures stands { (calls : List Call) → StandsFor lock matched self.old calls → StandsFor lock matched self.new (calls ++ replicate count Byte) }
     {

@@ -52,7 +52,7 @@ impl Watchdog {
         self.count = 0;
     }
 
-    /// Whether it runs: in an attempt that has a watchdog, TIMER turns it on. Else bytes leave it as it is.
+    /// Whether the watchdog runs: TIMER turns it on, in an attempt that has one. Else bytes leave it as it is.
     pub fn is_running(&self) -> bool
         ensures { result ≡ not (self.now.limit == 0) }
     {
@@ -71,7 +71,7 @@ impl Watchdog {
         self.count == self.limit
     }
 
-    /// So many bytes more were taken, up to the one at which it fires: the number of that byte, from 1.
+    /// `count` bytes more were taken, up to the one at which the watchdog fires: the number of that byte, from 1.
     pub fn bytes(&mut self, count: u64, eos: bool) -> Option<u64>
         ensures within { IfSome result (λ n. (0 < n) × (n ≤ count)) }
         ensures fires { OfCalls self.old (λ off first calls.
@@ -106,7 +106,7 @@ fn counts(limit: u32, eos: bool) -> bool
     limit != 0 && !eos
 }
 
-/// How many of so many bytes bring the count to the limit.
+/// How many bytes, `bytes` at most, bring the count to the limit.
 fn due_within(on: bool, count: u32, limit: u32, bytes: u64) -> Option<u64>
     ensures some { IfSome result (λ n. (0 < n) × (n ≤ bytes) × IsTrue on × (count + n ≡ limit)) }
     ensures none { IfNone result ((k : ℕ) → k < bytes → IsTrue on → ¬ (count + (k + 1) ≡ limit)) }

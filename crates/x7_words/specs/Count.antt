@@ -1,7 +1,7 @@
 -- Counts of 64 bits that only rise (this project's choice).
 use Rattle.std.specs.Prelude.{◌≡◌, ℕ, ◌<◌, ◌⊎◌, ◌^◌, ◌+◌, ◌-◌, min}
 
--- a count rose, or it is the last that a u64 can tell, at which it stays
+-- the count rose, or it is the last u64, at which it stays
 abbrev pub HasRisen : ℕ → ℕ → Type 0
 HasRisen old new = (old < new) ⊎ (new + 1 ≡ 2 ^ 64)
 
@@ -9,6 +9,6 @@ HasRisen old new = (old < new) ⊎ (new + 1 ≡ 2 ^ 64)
 abbrev pub raised : ℕ → ℕ
 raised count = min (count + 1) (2 ^ 64 - 1)
 
--- the count with so many more; after the last u64 it stays
+-- the count raised by `more`; after the last u64 it stays
 abbrev pub added : ℕ → ℕ → ℕ
 added count more = min (count + more) (2 ^ 64 - 1)

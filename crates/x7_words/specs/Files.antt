@@ -10,17 +10,17 @@ use Rattle.x7_words.specs.Input.{InputsState}
 use Rattle.x7_words.specs.declared.input.SelectFault.{SelectFault}
 use Rattle.x7_words.specs.declared.input.SelectFault.TheVariants.{Missing, Failed}
 
--- what is answered where no file was opened, for this reason: only a file that isn't there is missing
+-- the answer where no file was opened, for this reason: `Missing` for a file that isn't there, and for nothing else
 abbrev pub RefusedFor : Option ErrorKind → SelectFault → Type 0
 RefusedFor None fault = ⊥
 RefusedFor (Some kind) fault = (fault ≡ Missing) ↔ (kind ≡ NotFound)
 
--- a count of faults after this answer
+-- the count of faults after this answer
 abbrev pub faults_after : SelectFault → ℕ → ℕ
 faults_after Missing count = count
 faults_after Failed count = raised count
 
--- a count of absences after this answer
+-- the count of absences after this answer
 abbrev pub missing_after : SelectFault → ℕ → ℕ
 missing_after Missing count = raised count
 missing_after Failed count = count
@@ -78,11 +78,11 @@ after_open f rest refusal (Err fault) =
 abbrev pub Gives : Option (List ℕ) → Option (List ℕ) → List ℕ → ℕ → Type 0
 Gives old new buf n = Consumes old new (take n buf) × (n ≡ 0 → 0 < length buf → IsAtEnd new)
 
--- what files of a type tell of themselves
+-- what is known of a file of this type
 pub record Tells (F : Type 0) : Type 0 where
   -- the place at which the next read or write begins
   pub position : F → Option ℕ
-  -- bytes of theirs: those that reads will give, or those that were written, or all
+  -- bytes of the file: those that reads will give, or those that were written, or all
   pub bytes : F → Option (List ℕ)
 
 abbrev pub file_tells : {F : Type 0} → (F → Option ℕ) → (F → Option (List ℕ)) → Tells F
@@ -93,20 +93,20 @@ module _ {F : Type 0} (t : Tells F) where
   abbrev pub StandsAt : ℕ → F → F → Type 0
   StandsAt place old there = IfSome (t.position old) (λ _. t.position there ≡ Some place)
 
-  -- A file was read from the place on, and these bytes were ahead of it there: as far as it knows its place and what is left of it.
+  -- A file was read from the place on, and gave these bytes: as far as the file knows its place and what is left of it.
   abbrev pub ReadsAt : ℕ → List ℕ → F → F → Type 0
   ReadsAt place bytes old new = (there : F) × StandsAt place old there × Consumes (t.bytes there) (t.bytes new) bytes
 
-  -- A file was written from the place on with these bytes: as far as it knows its place and what it was given.
+  -- A file was written from the place on with these bytes: as far as the file knows its place and what it was given.
   abbrev pub WritesAt : ℕ → List ℕ → F → F → Type 0
   WritesAt place bytes old new = (there : F) × StandsAt place old there × Appends (t.bytes there) (t.bytes new) bytes
 
-  -- a file's end was sought, at this place: the number of its bytes, as far as it knows them
+  -- the end of an opened file was found at place `extent`: the number of the file's bytes, as far as it knows them
   abbrev pub EndsAt : ℕ → F → F → Type 0
   EndsAt extent opened file =
       IfSome (t.position opened) (λ _. IfSome (t.bytes opened) (λ all. extent ≡ length all)) × Keeps (t.bytes opened) (t.bytes file)
 
-  -- a file was opened and its end sought, at this place
+  -- a file was opened, and its end was found at place `extent`
   abbrev pub IsExtent : ℕ → Option F → Type 0
   IsExtent extent None = ⊥
   IsExtent extent (Some file) = (opened : F) × EndsAt extent opened file
@@ -120,7 +120,7 @@ module _ {F : Type 0} (reads writes : Tells F) where
     pub read : ReadsAt reads place before old between
     pub written : WritesAt writes place (zip_with bit_and before given) between new
 
-  -- the same piece by piece, each behind the one before
+  -- the pieces were cleared as `ClearsAt` says, one after the other, the first of them at the place
   abbrev pub ClearsPieces : ℕ → List (List ℕ) → F → F → Type 0
   ClearsPieces place [] old new = new ≡ old
   ClearsPieces place (piece ∷ pieces) old new =
@@ -132,7 +132,7 @@ module _ {F : Type 0} (reads writes : Tells F) where
     pub are : concat pieces ≡ given
     pub each : ClearsPieces place pieces old new
 
--- this holds of a file that is open before and after
+-- a file was open before and is open after, and `holds` of these two states
 abbrev pub WhileOpen : {F : Type 0} → (F → F → Type 0) → Option F → Option F → Type 0
 WhileOpen holds (Some old) (Some new) = holds old new
 WhileOpen holds old new = ⊥
@@ -141,9 +141,9 @@ WhileOpen holds old new = ⊥
 pub record RealFlash (F : Type 0) : Type 0 where
   -- the open file, if any is
   pub file : Option F
-  -- why the last attach opened none
+  -- why the last attach opened no file
   pub refusal : Option ErrorKind
-  -- the number of its bytes
+  -- the number of the open file's bytes
   pub extent : ℕ
   -- the faults counted; the last u64 stays
   pub faults : ℕ

@@ -1,4 +1,5 @@
 -- A flash's bytes, which may be known or not, and what a write does to them (this project's choice).
+-- A file's bytes are not known: no clause says what a file of the system holds. Those of a flash in memory are known.
 use Rattle.std.specs.Prelude.{◌≡◌, ◌≤◌, ◌<◌, ◌^◌, ◌+◌, ◌*◌, ◌⊎◌, ℕ, Bool, IsTrue, List, [], ◌∷◌, length, get_or, replicate, slice_range, bit_and, Option, None, Some}
 use Rattle.std.specs.Int.{bit_at}
 use Rattle.std.specs.List.{splice}
@@ -17,13 +18,13 @@ flash_limit = 134217728
 
 -- what a flash has come to
 pub record FlashState : Type 0 where
-  -- its bytes, where they are known
+  -- the flash's bytes, where they are known
   pub bytes : Option (List ℕ)
-  -- the number of its bytes
+  -- the number of the flash's bytes, known or not
   pub extent : ℕ
-  -- whether it is attached
+  -- whether the flash is attached
   pub attached : Bool
-  -- the names for which it may have been asked; each, where it keeps none
+  -- the names for which the flash may have been asked; each, where it keeps none
   pub names : List ℕ → Bool
   -- whether a byte may have been read at a place since the last write; each may, where none is kept
   pub seen : ℕ → ℕ → Bool
@@ -36,7 +37,7 @@ pub record FlashState : Type 0 where
   -- the present moment, as a number that doesn't fall
   pub moments : ℕ
 
--- where the bytes are known, this holds of them
+-- `P` holds of the bytes, where they are known
 abbrev pub IfKnown : Option (List ℕ) → (List ℕ → Type 0) → Type 0
 IfKnown None P = Unit {0}
 IfKnown (Some bytes) P = P bytes
@@ -51,7 +52,7 @@ KnowsBytes state = IfKnown state.bytes AreBytes
 
 -- ---- attaching and reading
 
--- these bytes were read from the place on, and nothing was written since
+-- the bytes `read` are seen from the place on: each may have been read there, with no write since
 abbrev pub Sees : FlashState → ℕ → List ℕ → Type 0
 Sees state place read = (i : ℕ) → i < length read → IsTrue (state.seen (place + i) (get_or read i 0))
 
@@ -85,15 +86,15 @@ pub record AsksFor (old : FlashState) (name : List ℕ) (new : FlashState) : Typ
   pub asked : IsTrue (new.names name)
   pub no_other : (other : List ℕ) → IsTrue (new.names other) → IsTrue (old.names other) ⊎ (other ≡ name)
 
--- the counts are those of a u64
+-- the counts of faults and of absences fit a u64
 abbrev pub FlashFits : FlashState → Type 0
 FlashFits state = (state.faults < 2 ^ 64) × (state.absences < 2 ^ 64)
 
--- the flash failed, which its count of faults tells
+-- the flash failed: its count of faults has risen
 abbrev pub FlashFails : FlashState → FlashState → Type 0
 FlashFails old new = HasRisen old.faults new.faults
 
--- why a flash was not attached, which a count tells
+-- why a flash was not attached: its name is missing, or the flash failed; the count of absences, or of faults, has risen
 abbrev pub Unattached : FlashState → FlashState → SelectFault → Type 0
 Unattached old new Missing = HasRisen old.absences new.absences
 Unattached old new Failed = FlashFails old new
@@ -127,7 +128,7 @@ abbrev pub programmed : ℕ → List ℕ → List ℕ → List ℕ
 programmed place given bytes = replaced place (cleared place given bytes) bytes
 
 -- What may be found within a write of the target at the place: each bit of its range is old or its target, and all else is old.
--- So of bytes that are written with bytes there are bytes.
+-- So bytes that are written with bytes stay bytes.
 pub record IsTorn (place : ℕ) (target old found : List ℕ) : Type 0 where
   pub size : length found ≡ length old
   pub outside : (i : ℕ) → (i < place) ⊎ (place + length target ≤ i) → get_or found i 0 ≡ get_or old i 0
@@ -159,6 +160,6 @@ pub record OnlyWrites (old new : FlashState) : Type 0 where
   pub absences : new.absences ≡ old.absences
   pub write_faults : old.write_faults ≤ new.write_faults
 
--- a write failed, which the count of write faults tells
+-- a write failed: the count of write faults has risen
 abbrev pub WriteFails : FlashState → FlashState → Type 0
 WriteFails old new = HasRisen old.write_faults new.write_faults

@@ -1,4 +1,5 @@
 -- Inputs by name, where their bytes may be known or not (this project's choice).
+-- The bytes of a file are not known: no clause says what a file of the system holds. Those of an input in memory are known.
 use Rattle.std.specs.Prelude.{◌≡◌, ℕ, Bool, true, List, [], ◌++◌, ◌+◌, ◌≤◌, ◌<◌, ◌^◌, ◌⊎◌, length, Option, None, Some, IfSome}
 use Rattle.x7_words.specs.Count.{HasRisen}
 use Rattle.x7_words.specs.declared.input.SelectFault.{SelectFault}
@@ -49,11 +50,11 @@ pub record Stays (old new : InputsState) : Type 0 where
   pub faults : old.faults ≤ new.faults
   pub absences : old.absences ≤ new.absences
 
--- both counts are those of a u64
+-- the counts of faults and of absences fit a u64
 abbrev pub Fits : InputsState → Type 0
 Fits state = (state.faults < 2 ^ 64) × (state.absences < 2 ^ 64)
 
--- the inputs failed, which their count of faults tells
+-- the inputs failed: their count of faults has risen
 abbrev pub Fails : InputsState → InputsState → Type 0
 Fails old new = HasRisen old.faults new.faults
 
@@ -66,12 +67,12 @@ pub record Opens (old : InputsState) (name : List ℕ) (new : InputsState) : Typ
   pub selected : new.selected ≡ true
   pub found : Selects old.contents name new.rest
 
--- this is the name of the last select, and nothing was given since
+-- the name is that of the last select, where that is kept, and no byte was given since
 pub record Asks (name : List ℕ) (new : InputsState) : Type 0 where
   pub asked : IfSome new.asked (λ kept. kept ≡ name)
   pub given : new.given ≡ 0
 
--- these bytes were taken from the selected input, which stays selected and was not asked for again, and are counted as given
+-- the bytes were taken from the selected input and are counted as given; the input stays selected and was not asked for again
 pub record Takes (old : InputsState) (bytes : List ℕ) (new : InputsState) : Type 0 where
   pub selected : new.selected ≡ true
   pub taken : old.rest ≡ preceded bytes new.rest

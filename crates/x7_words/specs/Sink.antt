@@ -26,7 +26,7 @@ PutsAll old text new = new.written ≡ appended old.written text
 abbrev pub PutsSome : SinkState → List ℕ → SinkState → Type 0
 PutsSome old text new = PutsPrefix old.written text new.written
 
--- the sink failed, which its count of faults tells
+-- the sink failed: its count of faults has risen
 abbrev pub SinkFails : SinkState → SinkState → Type 0
 SinkFails old new = HasRisen old.faults new.faults
 

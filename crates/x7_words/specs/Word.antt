@@ -22,11 +22,11 @@ words_of_bytes (a ∷ b ∷ []) = []
 words_of_bytes (a ∷ b ∷ c ∷ []) = []
 words_of_bytes (a ∷ b ∷ c ∷ d ∷ bs) = word_of_bytes (a ∷ b ∷ c ∷ d ∷ []) ∷ words_of_bytes bs
 
--- each is a byte
+-- each number of the list is a byte
 abbrev pub AreBytes : List ℕ → Type 0
 AreBytes bs = AllByRecursion (λ b. b < 256) bs
 
--- each is a word of 32 bits
+-- each number of the list is a word of 32 bits
 abbrev pub AreWords : List ℕ → Type 0
 AreWords ws = AllByRecursion (λ w. w < 2 ^ 32) ws
 

@@ -1,4 +1,4 @@
-//! Bytes compared.
+//! Two texts compared byte by byte.
 ghost use Rattle.std.specs.Prelude.{◌≡◌, ◌↔◌, IsTrue};
 
 /// Whether two texts have the same bytes.

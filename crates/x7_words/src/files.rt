@@ -51,9 +51,9 @@ fn read_once<F: Read>(file: &mut F, buf: &mut [u8]) -> Result<usize, Failed>
     }
 }
 
-/// Files by their paths, which tell nothing of what they hold. Each read is one read of the file.
+/// Files by their paths as inputs; nothing of what they hold is known. Each read is one read of the file.
 ///
-/// Missing is a path where no file is. A folder, missing rights and every other error is a fault.
+/// `Missing` is a path where no file is. A folder, missing rights and every other error is a fault.
 #[derive(Drop)]
 pub struct FileInputs<'r, R: Files> {
     rt: &'r R,
@@ -160,7 +160,7 @@ impl<'r, R: Files> Inputs for FileInputs<'r, R> {
     }
 }
 
-/// A writer as a sink, which tells nothing of what was written. Each write is one of the writer's,
+/// A writer as a sink; nothing of what was written is known. Each write is one of the writer's,
 /// and one that takes nothing of a piece that is not empty is a fault.
 #[derive(Drop)]
 pub struct StdSink<W: Write + Drop> {

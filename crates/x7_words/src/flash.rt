@@ -4,7 +4,7 @@ ghost use Rattle.x7_words.specs.Flash.{AsksFor, Elapses, FlashFails, FlashFits, 
 
 use crate::input::{Failed, SelectFault};
 
-/// The bytes of a sector, which one erase sets to FF.
+/// How many bytes a sector has, which one erase sets to FF.
 pub const SECTOR: u64 = 65_536;
 
 /// The most bytes of a flash.
@@ -12,8 +12,8 @@ pub const FLASH_LIMIT: u64 = 134_217_728;
 
 /// A flash: bytes at places from 0, which are read, erased and programmed once it is attached under its name.
 ///
-/// A power loss may stop a flash at any moment. Before a write, after it and between two its bytes are found then;
-/// within one each bit of the range is old or its target. A write takes one moment at most.
+/// A power loss may stop a flash at any moment. Outside a write the flash's bytes are found then; within one each bit of
+/// the write's range is old or its target. A write takes one moment at most.
 ///
 /// What was read is seen until the next write, of which no clause says that anything is seen after it.
 ///
@@ -23,7 +23,7 @@ pub trait Flash {
     /// What the flash has come to.
     ghost state: { Self → FlashState };
 
-    /// These bytes may be found after a stop at some moment from that one on.
+    /// Whether bytes may be found after a stop at some moment from the given one on.
     ghost found_since: { Self → ℕ → List ℕ → Type 0 };
 
     /// Attaches the flash of this name. After an error none is attached.
@@ -95,11 +95,11 @@ pub trait Flash {
     /// Where the bytes are known, the size is their number.
     ghost counted: { (flash : Self) → IsSized (state flash) };
 
-    /// After a stop now, or at the end of any time up to now, the flash's bytes may be found.
+    /// After a stop since any moment up to the present one, the bytes that the flash has now may be found.
     ghost found_now: { (flash : Self) (moment : ℕ) (all : List ℕ) → moment ≤ (state flash).moments
         → (state flash).bytes ≡ Some all → found_since flash moment all };
 
-    /// After a stop now nothing else is found.
+    /// After a stop at the present moment no other bytes are found than those that the flash has, where they are known.
     ghost only_now: { (flash : Self) (found : List ℕ) → found_since flash (state flash).moments found
         → IfKnown (state flash).bytes (λ all. found ≡ all) };
 }

@@ -35,7 +35,7 @@ pub enum SelectFault {
 
 /// Inputs of bytes by name, of which one is selected at a time and read from its first byte on.
 ///
-/// Both counts only rise, by at least one at each fault or absence. A count that has reached the
+/// The counts of faults and absences only rise, by at least one at each fault or absence. A count that has reached the
 /// last u64 stays there, and counts as risen.
 pub trait Inputs {
     /// What the inputs have come to.
@@ -52,7 +52,7 @@ pub trait Inputs {
         ensures stays { Stays (state self.old) (state self.new) }
         ensures fits { Fits (state self.new) };
 
-    /// Puts the next bytes of the selected input at the front of the buffer, and answers how many.
+    /// Puts the next bytes of the selected input at the start of the buffer, and answers how many.
     /// 0 for a buffer that is not empty is the end. After an error no input is selected, and the
     /// buffer may hold anything: a system's failed read promises nothing of it.
     fn read(&mut self, buf: &mut [u8]) -> Result<usize, Failed>

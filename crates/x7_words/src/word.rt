@@ -23,7 +23,7 @@ pub fn bytes_of(w: u32) -> [u8; 4]
     bytes
 }
 
-/// The words and their bytes are those of big-endian numbers, whatever stands behind them.
+/// A word of four bytes is their big-endian number, whatever bytes follow, and its bytes are those of the number.
 pub fn words_are_big_endian()
     ensures word { (bytes : List ℕ) → 4 ≤ length bytes → word_of_bytes bytes ≡ big_number 4 bytes }
     ensures bytes { (word : ℕ) → bytes_of_word word ≡ big_bytes 4 word }

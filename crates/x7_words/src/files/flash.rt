@@ -50,7 +50,7 @@ fn read_from<F: Read + Seek>(file: &mut F, place: u64, buf: &mut [u8]) -> io::Re
     fill(file, buf)
 }
 
-/// The bytes of which a program reads and writes at once.
+/// How many bytes a program reads and writes at once.
 const PIECE: usize = 4096;
 
 /// Opens a file for reading and writing, or for reading alone where it may not be written.
@@ -90,7 +90,7 @@ fn erase_from<F: Write + Seek + OpenFile>(file: &mut F, place: u64) -> io::Resul
     file.sync_data()
 }
 
-/// Makes each byte the old one AND the other.
+/// Makes each byte of `bytes` the old one AND the given one at the same place.
 fn clear_bits(bytes: &mut [u8], given: &[u8])
     requires { length bytes.old ≡ length given.now }
     ensures { bytes.new ≡ zip_with bit_and bytes.old given.now }
@@ -132,11 +132,11 @@ fn program_from<F: Read + Write + Seek + OpenFile>(
     file.sync_data()
 }
 
-/// A file by its path as a flash, which tells nothing of what it holds. Its size is that of the file as it was attached.
+/// A file by its path as a flash; nothing of what it holds is known. The size is that of the file as it was attached.
 ///
-/// It is opened for writing too, where that is allowed; where it isn't, each erase and each program is a fault.
+/// The file is opened for writing too, where that is allowed; where it isn't, each erase and each program is a fault.
 ///
-/// Missing is a path where no file is. A folder, missing rights and every other error is a fault.
+/// `Missing` is a path where no file is. A folder, missing rights and every other error is a fault.
 #[derive(Drop)]
 pub struct FileFlash<'r, R: Files> {
     rt: &'r R,
