@@ -28,7 +28,7 @@ abbrev pub Leads : PartData → List ℕ → ℕ → List UndoState → Type 0
 Leads part stream at [] = Unit {0}
 Leads part stream at (u ∷ older) = IsRecord part stream u × (u.taken ≤ at) × (at ≤ u.taken + 4) × Leads part stream u.taken older
 
--- the position of the oldest record, and this one where there is none
+-- the position of the oldest record, and `at` where there is none
 abbrev pub oldest_by : ℕ → List UndoState → ℕ
 oldest_by at [] = at
 oldest_by at (u ∷ older) = oldest_by u.taken older
@@ -40,7 +40,7 @@ pub record IsOn (part : PartData) (stream : List ℕ) (d : DeviceState) (j : Jou
   pub few : length (records_of j) ≤ 64
   pub leads : Leads part stream d.taken (records_of j)
 
--- a device was fed at most so many bytes more
+-- a device was fed at most `count` bytes more
 pub record IsFed (old new : DeviceState) (count : ℕ) : Type 0 where
   pub never_less : fed_of old ≤ fed_of new
   pub most : fed_of new ≤ fed_of old + count

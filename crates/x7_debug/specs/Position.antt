@@ -23,27 +23,30 @@ state_at part stream n = state_of part on_the_bench false (take n stream)
 abbrev pub memory_at : PartData → List ℕ → ℕ → FrameMap
 memory_at part stream n = memory_in part on_the_bench (take n stream)
 
--- the bytes end in a session, in a gap, or at a fault or an obeyed IPROG
+-- the bytes end in a session
 abbrev pub is_synced : End → Bool
 is_synced at_end.Synced = true
 is_synced _ = false
 
+-- the bytes end in a gap, where the sync word is searched
 abbrev pub is_searching : End → Bool
 is_searching at_end.Searching = true
 is_searching _ = false
 
+-- the bytes end at a fault or an obeyed IPROG
 abbrev pub has_stopped : End → Bool
 has_stopped (at_end.Iprog wbstar) = true
 has_stopped (at_end.Fault fault) = true
 has_stopped _ = false
 
--- a session that goes forward to this stops where the bytes end so, in this phase of startup
+-- the stop of an order `until` holds where the bytes end so, in this phase of startup
 abbrev pub holds_in : Stop → End → ℕ → Bool
 holds_in stop.Synced end phase = is_synced end
 holds_in stop.Searching end phase = is_searching end
 holds_in stop.Stopped end phase = has_stopped end
 holds_in (stop.Phase wanted) end phase = phase == wanted
 
+-- the stop holds at position n of the stream
 abbrev pub holds_at : PartData → List ℕ → Stop → ℕ → Bool
 holds_at part stream stop n = holds_in stop (state_at part stream n).end (state_at part stream n).phase
 
@@ -52,21 +55,21 @@ pub record BeginsAtSoonest (part : PartData) (stream : List ℕ) (n : ℕ) : Typ
   pub within : n ≤ last_of part stream
   pub zero : (k : ℕ) → k < n → (state_at part stream k).phase ≡ 0
 
--- the least position after this one where it holds
+-- n is the least position after `at` where the stop holds
 pub record IsLeastAfter (part : PartData) (stream : List ℕ) (stop : Stop) (at n : ℕ) : Type 0 where
   pub after : at < n
   pub within : n ≤ last_of part stream
   pub holds : holds_at part stream stop n ≡ true
   pub before : (k : ℕ) → at < k → k < n → holds_at part stream stop k ≡ false
 
--- it holds at no position after this one
+-- the stop holds at no position after `at`
 abbrev pub HoldsNowhereAfter : PartData → List ℕ → Stop → ℕ → Type 0
 HoldsNowhereAfter part stream stop at = (k : ℕ) → at < k → k ≤ last_of part stream → holds_at part stream stop k ≡ false
 
--- the positions after this one, up to the last
+-- the positions after `at`, up to the last
 abbrev pub later_than : PartData → List ℕ → ℕ → List ℕ
 later_than part stream at = range_with_len (at + 1) (last_of part stream - at)
 
--- the least later position where it holds, and the last one where there is none
+-- the least position after `at` where the stop holds, and the last position where there is none
 abbrev pub until_of : PartData → List ℕ → Stop → ℕ → ℕ
 until_of part stream stop at = unwrap_or (find (holds_at part stream stop) (later_than part stream at)) (last_of part stream)

@@ -59,7 +59,7 @@ pub record IsNoOrder (line : List ℕ) : Type 0 where
   pub meaning : has_meaning line ≡ true
   pub no_order : (order : Order) → FitsOrder order → line ≢ order_text order
 
--- line n is the first such line
+-- line n is the first line that has a meaning and is no order's
 pub record IsBad (text : List ℕ) (n : ℕ) : Type 0 where
   pub before : List (List ℕ)
   pub bad : List ℕ

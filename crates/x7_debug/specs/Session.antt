@@ -1,4 +1,4 @@
--- A session: a device that stands at a position of a stream.
+-- A session: a device that stands at a position of a stream (this project's choice).
 use Rattle.std.specs.Prelude.{◌≡◌, ◌≤◌, ◌++◌, ℕ, List, false, take}
 use Rattle.x7_part.specs.Part.{PartData}
 use Rattle.x7_engine.specs.Kept.{on_the_bench}
@@ -15,7 +15,7 @@ pub record SessionState : Type 0 where
   pub oldest : ℕ
   pub fed : ℕ
 
--- the same part and stream, at this position
+-- the session keeps its part and its stream, and stands at this position
 pub record MovesTo (old new : SessionState) (n : ℕ) : Type 0 where
   pub part : new.part ≡ old.part
   pub stream : new.stream ≡ old.stream

@@ -29,7 +29,7 @@ final_position part stream orders = fold (position_after part stream) 0 orders
 abbrev pub Follows : SessionState → SessionState → List Order → Type 0
 Follows old new orders = MovesTo old new (final_position old.part old.stream orders)
 
--- following some of them has, from the first on
+-- following the first few of the orders from position 0 on has brought a session here
 abbrev pub FollowsSome : SessionState → SessionState → List Order → Type 0
 FollowsSome old new orders = (done : List Order) × (left : List Order) × (orders ≡ done ++ left) × Follows old new done
 
@@ -58,7 +58,7 @@ shown_by (order.Frame far) r frames = frame_shown far (frames far)
 abbrev pub shown_at : PartData → List ℕ → ℕ → Order → List ℕ
 shown_at part stream n order = shown_by order (state_at part stream n) (memory_at part stream n)
 
--- what orders show, the first of which begins at this position
+-- what orders show, of which the first begins at position `at`
 abbrev pub transcript_from : PartData → List ℕ → ℕ → List Order → List ℕ
 transcript_from part stream at [] = []
 transcript_from part stream at (o ∷ orders) = shown_at part stream (position_after part stream at o) o ++ transcript_from part stream (position_after part stream at o) orders

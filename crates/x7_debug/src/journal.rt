@@ -20,7 +20,7 @@ const RECORDS: usize = 64;
 #[derive(Drop)]
 pub(crate) struct Journal {
     records: HeapCircularBuffer<Undo>,
-    // how many of them are in use
+    // how many records are in use
     count: usize,
 }
 

@@ -19,8 +19,8 @@ pub fn one_script()
     ensures { (text : List ℕ) (a b : Result (List Order) ScriptFault) → IsScriptOf text a → IsScriptOf text b → a ≡ b }
 {}
 
-/// `until` leads to the least later position where it holds, and to the last one where there is none. What stops a device
-/// comes at the last position alone.
+/// `until` leads to the least later position where its stop holds, and to the last one where there is none. What stops a
+/// device comes at the last position alone.
 pub fn until_leads_to_the_least()
     ensures holds { (part : PartData) (stream : List ℕ) (stop : Stop) (at n : ℕ) → IsLeastAfter part stream stop at n → until_of part stream stop at ≡ n }
     ensures none { (part : PartData) (stream : List ℕ) (stop : Stop) (at : ℕ) → at ≤ last_of part stream → HoldsNowhereAfter part stream stop at

@@ -25,7 +25,7 @@ fn after<'t>(text: &'t [u8], word: &[u8]) -> Option<&'t [u8]>
     text.strip_prefix(word)
 }
 
-/// The number of 32 bits that these are the digits of.
+/// The number of 32 bits with these digits.
 fn count_of(digits: &[u8]) -> Option<u32>
     ensures { MatchOption result ((n : ℕ) → n < 2 ^ 32 → digits.now ≢ decimal n) (λ n. (n < 2 ^ 32) × (digits.now ≡ decimal n)) }
 {
@@ -35,7 +35,7 @@ fn count_of(digits: &[u8]) -> Option<u32>
     Some(count as u32)
 }
 
-/// The phase that this is the digit of.
+/// The phase with this digit.
 fn phase_of(digits: &[u8]) -> Option<u8>
     ensures { MatchOption result ((n : ℕ) → n < 8 → digits.now ≢ decimal n) (λ n. (n < 8) × (digits.now ≡ decimal n)) }
 {

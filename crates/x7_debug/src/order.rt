@@ -16,9 +16,9 @@ pub enum Stop {
 /// What a line of a script asks for.
 #[derive(Clone, Copy, Debug, Drop, PartialEq, Eq)]
 pub enum Order {
-    /// So many bytes forward.
+    /// Forward by this many bytes.
     Step(u32),
-    /// So many bytes back.
+    /// Back by this many bytes.
     Back(u32),
     /// To this position.
     Go(u32),

@@ -1,4 +1,4 @@
-//! What one play of a stream tells of its positions.
+//! What one play of a stream shows of its positions.
 ghost use Rattle.std.specs.Prelude.{◌≡◌, IfOk};
 ghost use Rattle.x7_debug.specs.Position.{BeginsAtSoonest, last_of};
 

@@ -34,7 +34,7 @@ impl Script {
     }
 }
 
-/// Takes line `n`, behind the orders of the lines before it.
+/// Takes line `n`: the order of a line that has a meaning goes after those of the lines before it.
 fn take_line(orders: &mut Vec<Order>, n: u64, line: &[u8]) -> Result<(), ScriptFault>
     ensures taken { OnOk result ((before : List (List ℕ)) → AreOrders before orders.old.items → AreOrders (before ++ line.now ∷ []) orders.new.items) }
     ensures fault { IfErr result (λ fault. (fault ≡ ScriptFault.NoMemory) ⊎ ((fault ≡ ScriptFault.Line n) × IsNoOrder line.now)) }

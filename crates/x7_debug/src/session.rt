@@ -21,7 +21,7 @@ use x7_words::NoMemory;
 pub struct Session {
     stream: Vec<u8>,
     device: Device,
-    // what one play of it told
+    // what one play of the stream showed of its positions
     outline: Outline,
     // what leads the device back
     journal: Journal,
@@ -97,7 +97,7 @@ impl Session {
         &self.device
     }
 
-    /// Goes to a position that is not behind the last one.
+    /// Goes to a position that is not past the last one.
     fn move_to(&mut self, to: u64)
         requires { to ≤ last_of self.old.part self.old.stream }
         ensures moves { MovesTo self.old self.new to }
@@ -115,7 +115,7 @@ impl Session {
         self.move_to(to.min(last));
     }
 
-    /// Goes so many bytes forward, or to the last position where there are fewer.
+    /// Goes `count` bytes forward, or to the last position where there are fewer.
     pub fn step(&mut self, count: u64)
         ensures moves { MovesTo self.old self.new (min (self.old.at + count) (last_of self.old.part self.old.stream)) }
         ensures goes { GoesWith self.old self.new }
@@ -125,7 +125,7 @@ impl Session {
         self.move_to(at + count.min(left));
     }
 
-    /// Goes so many bytes back, or to position 0 where there are fewer.
+    /// Goes `count` bytes back, or to position 0 where there are fewer.
     pub fn back(&mut self, count: u64)
         ensures moves { MovesTo self.old self.new (self.old.at - count) }
         ensures goes { GoesWith self.old self.new }
@@ -134,7 +134,7 @@ impl Session {
         self.move_to(at.saturating_sub(count));
     }
 
-    /// Goes forward to the least later position where it holds, or to the last one where there is none.
+    /// Goes forward to the least later position where the stop holds, or to the last one where there is none.
     pub fn until(&mut self, stop: Stop)
         ensures moves { MovesTo self.old self.new (until_of self.old.part self.old.stream stop self.old.at) }
         ensures goes { GoesWith self.old self.new }

@@ -1,4 +1,4 @@
-//! A device is brought forward to where something holds.
+//! A device is brought forward to the first position where a stop holds.
 ghost use Rattle.std.specs.Prelude.{◌≡◌, ◌≤◌, ◌<◌, ◌+◌, ◌-◌, ◌∷◌, ℕ, List, true, false, take, max};
 ghost use Rattle.x7_engine.specs.Undo.{UndoState};
 ghost use Rattle.x7_debug.specs.Journal.{GoesWith, IsFed, IsOn, oldest_by, records_of};
@@ -12,7 +12,7 @@ use crate::order::Stop;
 use crate::outline::Outline;
 use x7_engine::{Device, End};
 
-/// Whether bytes that end so, in this phase of startup, are where a session goes forward to.
+/// Whether a stop holds where the bytes end so, in this phase of startup.
 fn holds(stop: Stop, end: End, phase: u8) -> bool
     ensures { result ≡ holds_in stop end phase }
 {
@@ -26,8 +26,8 @@ fn holds(stop: Stop, end: End, phase: u8) -> bool
     }
 }
 
-/// Brings a device forward byte by byte to the first position up to `end` where it holds, at most four bytes behind the
-/// newest record. Says whether it holds there.
+/// Brings a device forward byte by byte to the first position where the stop holds, or to `end`, which is at most four bytes
+/// after the newest record. Says whether the stop holds there.
 fn seek(device: &mut Device, journal: &Journal, stream: &[u8], end: u64, stop: Stop) -> bool
     requires on { IsOn device.old.part stream.now device.old journal.now }
     requires within { end ≤ last_of device.old.part stream.now }
@@ -54,8 +54,8 @@ fn seek(device: &mut Device, journal: &Journal, stream: &[u8], end: u64, stop: S
     }
 }
 
-/// Brings a device forward by up to four bytes, with a record, to the first later position where it holds. Says whether it
-/// holds there.
+/// Brings a device forward by up to four bytes, with a record, to the first later position where the stop holds. Says
+/// whether it holds there.
 fn seek_word(
     device: &mut Device,
     journal: &mut Journal,
@@ -81,7 +81,7 @@ fn seek_word(
     seek(device, journal, stream, last.min(from + 4), stop)
 }
 
-/// Brings a device forward, byte by byte, to the first later position where it holds, or else to the last one.
+/// Brings a device forward, byte by byte, to the first later position where the stop holds, or else to the last one.
 fn forward_until(device: &mut Device, journal: &mut Journal, stream: &[u8], last: u64, stop: Stop)
     requires on { IsOn device.old.part stream.now device.old journal.old }
     requires last { last ≡ last_of device.old.part stream.now }
@@ -166,8 +166,8 @@ fn go_to_phase(
     forward_to_phase(device, journal, stream, outline, phase);
 }
 
-/// Brings a device forward to the first later position where it holds, or else to the last one. What stops a device comes
-/// at the last position alone.
+/// Brings a device forward to the first later position where the stop holds, or else to the last one. What stops a device
+/// comes at the last position alone.
 pub(crate) fn go_until(
     device: &mut Device,
     journal: &mut Journal,

@@ -27,7 +27,7 @@ pub record Resting : Type 0 where
 abbrev pub resting_after : PartData → Kept → List ℕ → Resting
 resting_after part kept bytes = record { part = part; kept = kept; bytes = bytes }
 
--- it is at rest
+-- the device is at rest, its part is one, and what it took is bytes
 pub record Rests (r : Resting) : Type 0 where
   pub fits : AreBytes r.bytes
   pub at_rest : AtRest r.part r.kept r.bytes
@@ -40,15 +40,16 @@ pub record Playing : Type 0 where
   pub bytes : List ℕ
   pub plan : PlanData
 
--- it is at rest so, and the plan is one for the part
+-- the device is at rest after these bytes, and the plan is one for its part
 pub record CanPlay (p : Playing) : Type 0 where
   pub rests : Rests (resting_after p.part p.kept p.bytes)
   pub plan_is : IsPlanFor p.part p.plan
 
--- the bytes with the full and with the partial stream of the plan behind them
+-- the bytes, with the full stream of the plan after them
 abbrev pub with_full : Playing → List ℕ
 with_full p = p.bytes ++ full_stream p.part p.plan
 
+-- the bytes, with the partial stream of the plan after them
 abbrev pub with_partial : Playing → List ℕ
 with_partial p = p.bytes ++ partial_stream p.part p.plan.rows
 
@@ -79,7 +80,7 @@ pub record KeepsUnwritten (old new : Regs) : Type 0 where
   pub timer : new.timer ≡ old.timer
   pub bspi : new.bspi ≡ old.bspi
 
--- so are the settings that a full stream writes: all but CRC, FAR, CMD and what shows the device's state
+-- the registers that no planned stream writes, and the settings that a full stream writes, are as they were: all but CRC, FAR, CMD and what shows the device's state
 pub record KeepsSettings (old new : Regs) : Type 0 where
   pub ctl0 : new.ctl0 ≡ old.ctl0
   pub mask : new.mask ≡ old.mask
@@ -115,14 +116,14 @@ pub record PlaysRead (r : Resting) (stream : List ℕ) (far n : ℕ) : Type 0 wh
 
 -- ---- streams one after another
 
--- The read stream of n slots from an address on, behind the device's bytes and those of streams that left this memory and read nothing out: it reads that memory out, and leaves it.
+-- After these bytes, which left this memory and read out no more than the device's own bytes, the read stream of n slots from an address on reads that memory out, and leaves it.
 pub record ReadsBack (r : Resting) (written : List ℕ) (memory : FrameMap) (far n : ℕ) : Type 0 where
   pub reads : reads_of r.part r.kept (written ++ read_stream r.part far n) ≡ reads_of r.part r.kept r.bytes ++ words_along r.part memory far n
   pub same : AreSame (memory_in r.part r.kept (written ++ read_stream r.part far n)) memory
   pub phase : (wrapped : Bool) → (state_of r.part r.kept wrapped (written ++ read_stream r.part far n)).phase ≡ (state_of r.part r.kept wrapped written).phase
   pub rests : AtRest r.part r.kept (written ++ read_stream r.part far n)
 
--- the same of bytes that were played
+-- the read stream reads this memory back after these bytes, on the device that a plan's stream is played on
 abbrev pub ReadsBackAfter : Playing → List ℕ → FrameMap → ℕ → ℕ → Type 0
 ReadsBackAfter p written memory far n = ReadsBack (resting_after p.part p.kept p.bytes) written memory far n
 

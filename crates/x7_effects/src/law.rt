@@ -33,13 +33,13 @@ pub fn partial_streams_write_once()
 {}
 
 /// After any bytes at rest the read stream of n slots from an address on reads out a frame of zeros and the frames along
-/// these slots; memory, phase, lines and settings stay, there is no stop, and the device is at rest again.
+/// the slots; memory, phase, lines and settings stay, there is no stop, and the device is at rest again.
 pub fn read_streams_play()
     ensures { (r : Resting) (address n : ℕ) → Rests r → CanRead r.part address n → PlaysRead r (read_stream r.part address n) address n }
 {}
 
-/// Streams one after another, from a device at rest on: a read stream behind a full one reads the plan over zeros back, and
-/// behind a partial one the plan over what was there before; a partial stream behind a full one leaves the later plan over
+/// Streams one after another, from a device at rest on: a read stream after a full one reads the plan over zeros back, and
+/// after a partial one the plan over what was there before; a partial stream after a full one leaves the later plan over
 /// the earlier one, and startup stays ended.
 pub fn streams_play_in_turn()
     ensures full { (p : Playing) (far n : ℕ) → CanPlay p → CanRead p.part far n → ReadsBackAfter p (with_full p) (total p.part p.plan) far n }

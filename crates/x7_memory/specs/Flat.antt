@@ -1,7 +1,7 @@
 -- Frames as one list of words (this project's choice).
 use Rattle.std.specs.Prelude.{ℕ, zero, suc, ◌+◌, ◌++◌, List, [], ◌∷◌, length, take, drop}
 
--- words cut into so many frames of `width` words
+-- words cut into `count` frames of `width` words
 unfoldable pub cut : ℕ → ℕ → List ℕ → List (List ℕ)
 cut width zero words = []
 cut width (suc count) words = take width words ∷ cut width count (drop width words)

@@ -5,19 +5,20 @@ use Rattle.std.specs.Prelude.{◌≡◌, ℕ, List, Option, Some, None, ◌⊎�
 abbrev pub FrameMap : Type 0
 FrameMap = ℕ → Option (List ℕ)
 
--- the first where there is one, else the second
+-- the upper frame where there is one, else the frame below it
 abbrev pub or_else : Option (List ℕ) → Option (List ℕ) → Option (List ℕ)
 or_else None below = below
 or_else (Some words) below = Some words
 
--- p where p names the address, else m
+-- the map p over the map m: p's frame where p has one at the address, else m's
 abbrev pub override : FrameMap → FrameMap → FrameMap
 override m p far = or_else (p far) (m far)
 
--- no frame at all, and one frame alone
+-- the map without a frame
 abbrev pub nothing : FrameMap
 nothing far = None
 
+-- the map with one frame, at the address `at`
 abbrev pub only : ℕ → List ℕ → FrameMap
 only at words far = if far == at then Some words else None
 

@@ -1,4 +1,4 @@
--- Where an address stands among the rows of a plan, or would go.
+-- Where an address stands among the rows of a plan, or would go (this project's choice).
 use Rattle.std.specs.Prelude.{◌≡◌, ℕ, ◌<◌, ◌≤◌, List, length, slice_index_or}
 use Rattle.x7_memory.specs.Planned.{PlanRow}
 

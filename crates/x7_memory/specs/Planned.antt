@@ -1,4 +1,4 @@
--- A plan: the frames that a user plans to write, in number order of their addresses.
+-- A plan: the frames that a user plans to write, in number order of their addresses (this project's choice).
 use Rattle.std.specs.Prelude.{◌≡◌, ℕ, ◌^◌, ◌<◌, List, [], ◌∷◌, ◌++◌, length, map, slice_index_or, All, Contains, Some, None, if◌then◌else◌, ◌==◌}
 use Rattle.x7_words.specs.Word.{AreWords}
 use Rattle.x7_part.specs.AddressOrder.{addresses_in}
@@ -25,7 +25,7 @@ unfoldable pub planned : List PlanRow → FrameMap
 planned [] far = None
 planned (row ∷ rows) far = if far == row.far then Some row.words else planned rows far
 
--- the addresses rise, so none comes twice
+-- the rows' addresses rise, so none comes twice
 abbrev pub AreInOrder : List PlanRow → Type 0
 AreInOrder rows = (i j : ℕ) (d : PlanRow) → i < j → j < length rows → (slice_index_or rows i d).far < (slice_index_or rows j d).far
 
@@ -34,7 +34,7 @@ pub record IsPlanRow (row : PlanRow) : Type 0 where
   pub far : row.far < 2 ^ 32
   pub words : AreWords row.words
 
--- no address comes twice, in whatever order
+-- no two rows have one address, in whatever order they stand
 abbrev pub AreApart : List PlanRow → Type 0
 AreApart rows = (i j : ℕ) (d : PlanRow) → i < j → j < length rows → (slice_index_or rows i d).far ≡ (slice_index_or rows j d).far → ⊥
 
@@ -53,7 +53,7 @@ pub record IsPlan (plan : PlanData) : Type 0 where
 abbrev pub AreAddressed : PartData → List PlanRow → Type 0
 AreAddressed part rows = All (λ row. Contains (addresses_in part) row.far) rows
 
--- each address of the part is named
+-- the plan names each address of the part
 abbrev pub PlansEach : PartData → PlanData → Type 0
 PlansEach part plan = (far : ℕ) → Contains (addresses_in part) far → Contains (planned_addresses plan.rows) far
 
@@ -63,7 +63,7 @@ pub record IsPlanFor (part : PartData) (plan : PlanData) : Type 0 where
   pub width : plan.width ≡ frame_words part
   pub addressed : AreAddressed part plan.rows
 
--- new is old with one row more
+-- the new plan is the old one with this row more
 abbrev pub HasMore : PlanData → PlanRow → PlanData → Type 0
 HasMore old row new =
     (before : List PlanRow) × (after : List PlanRow) × (old.rows ≡ before ++ after) × (new.rows ≡ before ++ row ∷ after) × (new.width ≡ old.width)

@@ -1,4 +1,4 @@
--- A memory as its fields hold it.
+-- A memory as its fields hold it (this project's choice).
 use Rattle.std.specs.Prelude.{◌≡◌, ℕ, zero, suc, ◌+◌, ◌*◌, ◌≤◌, ◌<◌, List, length, map, take, drop, replicate, slice_index_or, vec_capacity}
 use Rattle.std.specs.List.{sum_by}
 use Rattle.x7_memory.specs.declared.memory.Memory.TheInside.{Inside}
@@ -7,16 +7,16 @@ use Rattle.x7_memory.specs.declared.memory.Memory.TheInside.{Inside}
 abbrev pub stored_frame : ℕ → List ℕ → ℕ → List ℕ
 stored_frame width words number = take width (drop (width * number) words)
 
--- its frames
+-- the frames of a memory, one for each rank
 abbrev pub seen : Inside → List (List ℕ)
 seen m = map (stored_frame m.width m.words.items) m.numbers.items
 
--- how many frames a rank has stored: none where it has number 0, that of the zeros
+-- how many frames a rank has stored for itself, by its number: none where that is 0, the number of the zeros
 abbrev pub own_frames : ℕ → ℕ
 own_frames zero = 0
 own_frames (suc number) = 1
 
--- no two ranks have one number, but for that of the zeros
+-- no two ranks have one number, save 0, that of the zeros
 abbrev pub AreApart : List ℕ → Type 0
 AreApart numbers =
     (i j : ℕ) → i < length numbers → j < length numbers → 0 < slice_index_or numbers i 0 → slice_index_or numbers i 0 ≡ slice_index_or numbers j 0 → i ≡ j

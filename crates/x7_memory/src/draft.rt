@@ -25,7 +25,7 @@ impl Model for Draft {
 }
 
 impl Draft {
-    /// A draft of no frame, for frames of so many words.
+    /// A draft of no frame, for frames of `words` words.
     pub fn new(alloc: Global, words: u32) -> Draft
         ensures width { result.width ≡ words }
         ensures empty { result.rows ≡ [] }
@@ -35,7 +35,7 @@ impl Draft {
         }
     }
 
-    /// A draft of no frame, for frames of so many words, with room for so many frames.
+    /// A draft of no frame, for frames of `words` words, with room for `frames` of them.
     pub fn with_room(alloc: Global, words: u32, frames: usize) -> Result<Draft, NoMemory>
         ensures width { IfOk result (λ draft. draft.width ≡ words) }
         ensures empty { IfOk result (λ draft. draft.rows ≡ []) }
@@ -59,7 +59,7 @@ impl Draft {
         }
     }
 
-    /// The plan of the frames, no two of which may have one address. It takes no memory.
+    /// The plan of the frames, no two of which may have one address. No memory is taken.
     pub fn finish(self) -> Plan
         requires apart { AreApart self.rows }
         ensures width { result.width ≡ self.width }

@@ -35,7 +35,7 @@ impl Model for Memory {
 }
 
 impl Memory {
-    /// The part's frames, all zeros. It takes room for all of them, and writes one.
+    /// The part's frames, all zeros. The call takes room for all of them, and writes one: the frame of zeros that all ranks share.
     pub fn new(alloc: Global, part: &Part) -> Result<Memory, NoMemory>
         ensures zeros { IfOk result (λ memory. memory ≡ zero_frames part.now) }
         ensures part { IfOk result (λ memory. AreFramesOf part.now memory) }
@@ -154,7 +154,7 @@ impl Memory {
     }
 }
 
-/// So many zeros, and room for so many words.
+/// A vector of `count` zeros, with room for `room` words in all.
 fn zeros_with_room(alloc: Global, count: usize, room: usize) -> Result<Vec<u32>, NoMemory>
     requires { count ≤ room }
     ensures items { IfOk result (λ words. words.items ≡ replicate count 0) }
@@ -167,7 +167,7 @@ fn zeros_with_room(alloc: Global, count: usize, room: usize) -> Result<Vec<u32>,
     }
 }
 
-/// The same words, and room for so many.
+/// A copy of the words, with room for `room` words in all.
 fn copy_with_room(alloc: Global, words: &[u32], room: usize) -> Result<Vec<u32>, NoMemory>
     ensures items { IfOk result (λ copy. copy.items ≡ words.now) }
     ensures room { IfOk result (λ copy. room ≤ vec_capacity copy) }
@@ -179,7 +179,7 @@ fn copy_with_room(alloc: Global, words: &[u32], room: usize) -> Result<Vec<u32>,
     }
 }
 
-/// Room for so many words.
+/// A vector of no words, with room for `room` of them.
 fn room_for(alloc: Global, room: usize) -> Result<Vec<u32>, NoMemory>
     ensures items { IfOk result (λ words. words.items ≡ []) }
     ensures room { IfOk result (λ words. room ≤ vec_capacity words) }
@@ -202,7 +202,7 @@ fn clear_words(words: &mut Vec<u32>)
     }
 }
 
-/// Whether all words are 0, which is told at the first of most frames that have another.
+/// Whether all words are 0. The first is looked at before the rest: most frames that aren't blank show it there.
 fn are_zeros(words: &[u32]) -> bool
     ensures { IsTrue result → words.now ≡ replicate (length words.now) 0 }
 {
@@ -244,7 +244,7 @@ fn write_over(words: &mut Vec<u32>, start: usize, frame: &[u32])
     words[start..start + frame.len()].copy_from_slice(frame);
 }
 
-/// So many words from a place on.
+/// The `count` words from a place on.
 fn words_from(words: &[u32], start: usize, count: usize) -> &[u32]
     requires inside { start + count ≤ length words.now }
     ensures { result.now ≡ take count (drop start words.now) }

@@ -24,7 +24,7 @@ impl Model for Plan {
 }
 
 impl Plan {
-    /// A plan of no frame, for frames of so many words.
+    /// A plan of no frame, for frames of `words` words.
     pub fn new(alloc: Global, words: u32) -> Plan
         ensures width { result.width ≡ words }
         ensures empty { result.rows ≡ [] }
@@ -42,7 +42,7 @@ impl Plan {
         Plan { rows }
     }
 
-    /// Plans a frame. It is false, and changes nothing, where the address has one.
+    /// Plans a frame. Where the address has one already, the answer is false and nothing changes.
     pub fn insert(&mut self, far: u32, words: &[u32]) -> Result<bool, NoMemory>
         requires width { length words.now ≡ self.old.width }
         ensures certain { Contains (planned_addresses self.old.rows) far → result ≡ Ok false }

@@ -37,7 +37,7 @@ impl Model for Rows {
 }
 
 impl Rows {
-    /// No row.
+    /// No row, of frames of `width` words.
     pub(crate) fn new(alloc: Global, width: u32) -> Rows
         ensures width { result.width ≡ width }
         ensures empty { result.rows ≡ [] }
@@ -49,7 +49,7 @@ impl Rows {
         }
     }
 
-    /// No row, with room for so many.
+    /// No row, of frames of `width` words, with room for `count` rows.
     pub(crate) fn with_room(alloc: Global, width: u32, count: usize) -> Result<Rows, AllocError>
         ensures width { IfOk result (λ rows. rows.width ≡ width) }
         ensures empty { IfOk result (λ rows. rows.rows ≡ []) }

@@ -15,11 +15,11 @@ use Rattle.x7_report.specs.State.{state_text}
 abbrev pub state_shown : DeviceState → Past → Regs
 state_shown d p = state_owing p.part p.kept p.wrapped p.bytes (frames_due d.registers.due)
 
--- what comes before the lines of frames, where so many are shown
+-- what a report has before the lines of its frames, of which it shows `count`
 abbrev pub head_text : PartData → Regs → List ℕ → ℕ → List ℕ
 head_text part regs reads count = state_text part.name regs ++ reads_text reads ++ codes "frames " ++ decimal count ++ codes "\n"
 
--- all of it
+-- the whole report of a device of the part, by its state, the words that it read out and its memory
 unfoldable pub report_text : PartData → Regs → List ℕ → FrameMap → List ℕ
 report_text part regs reads memory = state_text part.name regs ++ reads_text reads ++ frames_text memory (addresses_in part)
 

@@ -11,7 +11,7 @@ use Rattle.x7_engine.specs.declared.regs.End.{End}
 use Rattle.x7_engine.specs.declared.regs.End.TheVariants as at_end
 use Rattle.x7_engine.specs.declared.regs.Regs.{Regs}
 
--- what kind of fault it is, and its words
+-- the kind of a fault, and its words
 abbrev pub fault_text : Fault → List ℕ
 fault_text (fault.Packet w) = codes "Packet " ++ hex_word w
 fault_text (fault.Id want got) = codes "Id " ++ hex_word want ++ 32 ∷ hex_word got

@@ -35,7 +35,7 @@ fn turned(words: u32x8) -> u8x32
     ])
 }
 
-/// The same in arrays.
+/// The 32 bytes of an array of eight words, the highest byte of each first.
 #[inline(always)]
 fn bytes_of_words(words: &[u32; 8]) -> [u8; 32]
     ensures { result ≡ flat_map bytes_of_word words.now }

@@ -12,7 +12,7 @@ use x7_engine::Device;
 use x7_text::{put_number, put_text};
 use x7_words::NoMemory;
 
-/// What a report has before the lines of its frames, of which it shows so many.
+/// What a report has before the lines of its frames, of which it shows `count`.
 pub(crate) fn report_head(
     alloc: Global,
     device: &Device,

@@ -30,7 +30,7 @@ fn put_named_pair(out: &mut Vec<u8>, name: &[u8], want: u32, got: u32)
     put(out, &hex_of_word(got));
 }
 
-/// Appends what kind of fault it is, and its words.
+/// Appends the kind of a fault, and its words.
 fn put_fault(out: &mut Vec<u8>, fault: Fault)
     requires { vec_len out.old + 21 ≤ vec_capacity out.old }
     ensures { out.new.items ≡ out.old.items ++ fault_text fault }

@@ -20,7 +20,7 @@ use x7_words::{Failed, NoMemory, Sink, write_all};
 /// How many frames' lines are written at once.
 const GROUP: usize = 128;
 
-/// The room that they take at most.
+/// The most bytes that the lines of a group take.
 const GROUP_ROOM: usize = 2_056 * GROUP;
 
 /// Appends the line of the frame at an address. A frame has at most 255 words.
@@ -47,7 +47,7 @@ fn put_lines(text: &mut Vec<u8>, part: &Part, memory: &Memory, fars: &[u32])
     }
 }
 
-/// Writes the lines of the frames at these addresses, those of a group at a time. It takes no memory.
+/// Writes the lines of the frames at these addresses, those of a group at a time. No memory is taken.
 fn write_lines<S: Sink>(
     out: &mut S,
     part: &Part,
@@ -124,7 +124,7 @@ impl PlayText {
         })
     }
 
-    /// The same text after lines of another.
+    /// The report with other lines before it.
     pub fn after(self, lines: Vec<u8>) -> Result<PlayText, NoMemory>
         ensures { IfOk result (λ text. text ≡ record { stopped = self.stopped; text = lines.items ++ self.text }) }
     {
