@@ -23,7 +23,7 @@ const NO_WORDS: u8 = 12;
 /// A file that gives no byte, and takes none where it is opened to be read.
 const NOTHING: &str = "/dev/null";
 
-/// The words of the command line behind the program's name.
+/// The words of the command line after the program's name.
 fn words(rt: &HostRuntime) -> io::Result<Vec<String>> {
     let mut words = Vec::new(rt.alloc());
     for word in env::args(rt)?.skip(1) {

@@ -94,7 +94,7 @@ cause_of e = (row_of e.reason).cause
 abbrev pub status_of : Event → Status
 status_of e = (row_of e.reason).ends_as
 
--- the line that tells an event, with its end
+-- the line that reports an event, with its end
 abbrev pub line_of : Event → List ℕ
 line_of e = codes "x7: " ++ ((row_of e.reason).words ++ (e.concerned ++ ((row_of e.reason).detail ++ codes "\n")))
 

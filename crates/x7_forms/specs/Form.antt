@@ -112,7 +112,7 @@ form_of (command ∷ names) =
     else if bytes_eq command (codes "update") then two_names UpdatingFlash names
     else None
 
--- the same of words as a program gets them
+-- the form of the words as a program gets them
 abbrev pub form_in : {Z : Type 0} → List (String Z) → Option Asked
 form_in words = form_of (map string_bytes words)
 

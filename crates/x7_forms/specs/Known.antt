@@ -33,7 +33,7 @@ pub record Answer : Type 0 where
   pub stopped : Bool
   pub text : List ℕ
 
--- one step, and the next on what it gave
+-- a step, and the next one over what it gave; an event ends both
 abbrev pub and_so : {A B : Type 0} → Result A Event → (A → Result B Event) → Result B Event
 and_so (Ok a) next = next a
 and_so (Err event) next = Err event
@@ -49,7 +49,7 @@ data_by name bytes (Err (header.Field place)) = Err (bad_input name (input.Byte 
 abbrev pub data_in : List ℕ → List ℕ → Result (List ℕ) Event
 data_in name bytes = data_by name bytes (header_at bytes)
 
--- an input is taken that has no more than so many bytes
+-- the bytes of an input that has no more than `limit` of them, or the event of one that is too large
 abbrev pub within : List ℕ → ℕ → List ℕ → Result (List ℕ) Event
 within name limit bytes = if nat_lt limit (length bytes) then Err (too_large name) else Ok bytes
 
@@ -57,7 +57,7 @@ within name limit bytes = if nat_lt limit (length bytes) then Err (too_large nam
 abbrev pub stream_limit : ℕ
 stream_limit = 67108864
 
--- an input that is read whole and has no more than so many bytes; one may be over that before it fails
+-- the bytes of an input that is read whole and has no more than `limit` of them; one that fails may be over the limit before it does
 abbrev pub taken_whole : List ℕ → ℕ → Found → Result (List ℕ) Event
 taken_whole name limit (Held bytes) = within name limit bytes
 taken_whole name limit Absent = Err (missing name)
@@ -72,7 +72,7 @@ whole_in known limit name = taken_whole name limit (known.inputs name)
 abbrev pub part_limit : ℕ
 part_limit = 1048576
 
--- the part of a part file of this name
+-- the part of a part file of this name, or the event of a file that has none
 abbrev pub part_by : List ℕ → Result PartData PartFault → Result PartData Event
 part_by name (Ok part) = Ok part
 part_by name (Err fault) = Err (bad_part name fault)
@@ -124,16 +124,17 @@ with_inputs (Some inputs) flash = Some (known_of inputs flash)
 
 -- ---- what is known, but for one name
 
--- what may be otherwise than it is known: a name fails behind so many bytes, or isn't there
+-- a mishap: a name is otherwise than it is known, and fails after `given` bytes, or isn't there
 pub data Mishap : Type 0 where
   Failing : (name : List ℕ) (given : ℕ) → Mishap
   Lacking : (name : List ℕ) → Mishap
 
--- the name, and the event that comes of it
+-- the name that a mishap is of
 abbrev pub spoiled_name : Mishap → List ℕ
 spoiled_name (Failing name given) = name
 spoiled_name (Lacking name) = name
 
+-- the event that comes of a mishap
 abbrev pub mishap_event : Mishap → Event
 mishap_event (Failing name given) = read_fault name
 mishap_event (Lacking name) = missing name

@@ -30,6 +30,6 @@ abbrev pub final_status : Result Answer Event → Status
 final_status (Ok answer) = text_status answer.stopped
 final_status (Err event) = status_of event
 
--- the event that a refusal tells
+-- the event that a refusal reports
 abbrev pub event_of : Refusal → Event
 event_of r = record { reason = r.reason; concerned = r.name.now }

@@ -1,4 +1,4 @@
--- What the steps of a play come to.
+-- What the steps of a play come to (this project's choice).
 use Rattle.std.specs.Prelude.{◌≡◌, ◌+◌, ◌^◌, ◌<◌, ◌≤◌, ◌⊎◌, ◌++◌, ℕ, List, [], Some, Bool, true, false, IsSome, length, Result, Ok}
 use Rattle.x7_words.specs.Word.{AreBytes}
 use Rattle.x7_part.specs.Part.{PartData}
@@ -12,7 +12,7 @@ use Rattle.x7_forms.specs.Event.{Event, bad_part, no_memory}
 use Rattle.x7_forms.specs.declared.player.Player.{Player}
 use Rattle.x7_part.specs.declared.fault.PartFault.TheVariants as part
 
--- A device was given these bytes: it took all of them, or those up to its stop, and these are the words that are not due any more of those read out, within their limit.
+-- A device was given these bytes, and took all of them, or those up to its stop; `reads` are the words read out but those that are still due, within their limit.
 pub record Plays (part : PartData) (bytes : List ℕ) (d : DeviceState) (reads : List ℕ) : Type 0 where
   pub taken : List ℕ
   pub left : List ℕ
@@ -23,7 +23,7 @@ pub record Plays (part : PartData) (bytes : List ℕ) (d : DeviceState) (reads :
   pub reads_are : reads ≡ reads_given part on_the_bench d taken
   pub few : length reads ≤ reads_limit
 
--- the bytes read out more words than their limit
+-- the bytes read out more words than a play may
 pub record ReadsOver (part : PartData) (bytes : List ℕ) : Type 0 where
   pub fits : AreBytes bytes
   pub many : reads_limit < length (reads_of part on_the_bench bytes)
@@ -32,7 +32,7 @@ pub record ReadsOver (part : PartData) (bytes : List ℕ) : Type 0 where
 abbrev pub emptied : ReadBufState
 emptied = record { most = Some 4096; words = [] }
 
--- what a player has: its device, the words read out that are still in its buffer, and those moved behind the earlier ones
+-- what a player has: its device, the words read out that are still in its buffer, and those that were moved out of it
 pub record PlayState : Type 0 where
   pub device : DeviceState
   pub buffer : ReadBufState
@@ -49,37 +49,37 @@ HasPlayedBy false part bytes s = Plays part bytes s.device s.reads × NoWordDue 
 abbrev pub HasPlayed : PartData → List ℕ → Player → Type 0
 HasPlayed part bytes p = HasPlayedBy p.over part bytes (play_state p.device p.buffer p.reads.items)
 
--- it was given these bytes more
+-- the player was given these bytes more
 abbrev pub PlaysOn : Player → Player → List ℕ → Type 0
 PlaysOn old new more = (part : PartData) (bytes : List ℕ) → HasPlayed part bytes old → HasPlayed part (bytes ++ more) new
 
--- the same of a player that was not over, and may be over now
+-- a player that was not over was given these bytes more, and may be over now
 abbrev pub FeedsOn : Bool → PlayState → PlayState → List ℕ → Type 0
 FeedsOn over old new more = (part : PartData) (bytes : List ℕ) → HasPlayedBy false part bytes old → HasPlayedBy over part (bytes ++ more) new
 
--- this holds of some first bytes of a piece
+-- `Holds` is true of a prefix of the piece
 pub record OfPrefix (piece : List ℕ) (Holds : List ℕ → Type 0) : Type 0 where
   pub prefix : List ℕ
   pub left : List ℕ
   pub parts : piece ≡ prefix ++ left
   pub holds : Holds prefix
 
--- its device was given these bytes more; words that they read out may be due
+-- the player's device was given these bytes more; words that they read out may still be due
 abbrev pub PlaysPrefix : Player → Player → List ℕ → Type 0
 PlaysPrefix old new prefix = (part : PartData) (bytes : List ℕ) → HasPlayed part bytes old → Plays part (bytes ++ prefix) new.device new.reads.items
 
--- the same of a player that was not over
+-- the device of a player that was not over was given these bytes more; words that they read out may still be due
 abbrev pub FeedsPrefix : PlayState → PlayState → List ℕ → Type 0
 FeedsPrefix old new prefix = (part : PartData) (bytes : List ℕ) → HasPlayedBy false part bytes old → Plays part (bytes ++ prefix) new.device new.reads
 
--- with so many bytes more it was given no more than a device counts
+-- with `count` bytes more the player was given no more than a device counts
 abbrev pub MayPlayBy : Bool → PlayState → ℕ → Type 0
 MayPlayBy over s count = (part : PartData) × ((bytes : List ℕ) × (HasPlayedBy over part bytes s × (length bytes + count ≤ 2 ^ 63)))
 
 abbrev pub MayPlay : Player → ℕ → Type 0
 MayPlay p count = MayPlayBy p.over (play_state p.device p.buffer p.reads.items) count
 
--- The data of a stream were played so, with so many bytes of the limit left, and they are what a step reads.
+-- The data of a stream were played, with `left` bytes of the limit left, and are what a step reads.
 pub record PlaysStream (limit left : ℕ) (Plays : List ℕ → Type 0) (Reads : Result StreamRead Event → Type 0) : Type 0 where
   pub bytes : List ℕ
   pub within : length bytes + left ≤ limit

@@ -40,22 +40,22 @@ pub record InputStep : Type 0 where
 abbrev pub step_over : List (List ℕ) → InputsState → InputsState → InputStep
 step_over names before after = record { names = names; before = before; after = after }
 
--- this mishap came in a step: an input of one of its names failed behind the bytes that were given of it, or was missing
+-- this mishap came in a step: an input of one of its names failed after the bytes that were given of it, or was missing
 abbrev pub CameIn : InputStep → Mishap → Type 0
 CameIn step (Failing name given) = (given ≡ step.after.given) × FailsAmong step.names step.before step.after name
 CameIn step (Lacking name) = LacksAmong step.names step.before step.after name
 
--- what a call's result says: a value, or the event of a refusal
+-- what the result of a call says: a value, or the event of a refusal
 abbrev pub seen : {A B : Type 0} → (A → B) → Result A Refusal → Result B Event
 seen value (Ok a) = Ok (value a)
 seen value (Err refusal) = Err (event_of refusal)
 
--- this is due where the contents are known, and there was this mishap
+-- the event is due over the known contents with this mishap; where they aren't known, nothing is said
 abbrev pub DueBy : {A : Type 0} → Option Known → Mishap → (Known → Result A Event → Type 0) → Event → Type 0
 DueBy None mishap Due event = Unit {0}
 DueBy (Some known) mishap Due event = Due (with_mishap mishap known) (Err event)
 
--- The event tells a mishap that came, and where the contents are known it is due over them with that mishap: it is the first event then.
+-- The event reports a mishap that came, and where the contents are known it is due over them with that mishap: it is the first event then.
 pub record IsOfMishap (A : Type 0) (known : Option Known) (Came : Mishap → Type 0) (Due : Known → Result A Event → Type 0) (event : Event) : Type 0 where
   pub mishap : Mishap
   pub came : Came mishap
@@ -95,7 +95,7 @@ IsDue (Some known) Due got = IsDecided got × Due known got
 abbrev pub IsCausedBy : {A : Type 0} → Option Known → (Mishap → Type 0) → (Known → Result A Event → Type 0) → Result A Event → Type 0
 IsCausedBy known Came Due got = IsFromOutside known Came Due got ⊎ IsDue known Due got
 
--- the same where a function of the known contents says what is due
+-- the result has a cause: it comes from outside, or it is what a function of the known contents says
 abbrev pub IsCaused : {A : Type 0} → Option Known → (Mishap → Type 0) → (Known → Result A Event) → Result A Event → Type 0
 IsCaused known Came due got = IsCausedBy known Came (λ t result. due t ≡ result) got
 
@@ -103,7 +103,7 @@ IsCaused known Came due got = IsCausedBy known Came (λ t result. due t ≡ resu
 abbrev pub AnswersBy : {A : Type 0} → InputStep → (Known → Result A Event → Type 0) → Result A Event → Type 0
 AnswersBy step Due got = (flash : Option (List ℕ)) → IsCausedBy (with_inputs step.before.contents flash) (CameIn step) Due got
 
--- the same where a function of what is known says what is due
+-- whatever the flash holds, the result of a step has a cause: it is what the function says of the inputs before it, or of these with a mishap that came
 abbrev pub AnswersAs : {A : Type 0} → InputStep → (Known → Result A Event) → Result A Event → Type 0
 AnswersAs step due got = AnswersBy step (λ known end. due known ≡ end) got
 
@@ -113,28 +113,28 @@ AnswersAs step due got = AnswersBy step (λ known end. due known ≡ end) got
 abbrev pub IsUnread : List ℕ → Event → Type 0
 IsUnread name event = (event ≡ no_memory) ⊎ ((event ≡ missing name) ⊎ ((event ≡ read_fault name) ⊎ (event ≡ too_large name)))
 
--- the same of a part file, which may give no part
+-- a part file of this name gives no part: the file isn't read, or its text is refused
 abbrev pub IsNoPart : List ℕ → Event → Type 0
 IsNoPart name event = IsUnread name event ⊎ ((fault : PartFault) × (event ≡ bad_part name fault))
 
--- the same of a stream, whose header may be refused
+-- a stream of this name isn't played: it isn't read, or its header is refused
 abbrev pub IsUnplayed : List ℕ → Event → Type 0
 IsUnplayed name event = IsUnread name event ⊎ ((place : ℕ) × (event ≡ bad_input name (input.Byte place)))
 
--- want of memory, or one of these streams isn't read
+-- want of memory, or one of these streams isn't played
 abbrev pub IsOneUnplayed : List (List ℕ) → Event → Type 0
 IsOneUnplayed names event = (event ≡ no_memory) ⊎ ((name : List ℕ) × (Among names name × IsUnplayed name event))
 
 -- ---- steps that read
 
--- an input that is read whole, within so many bytes
+-- a step reads an input whole, of at most `limit` bytes
 abbrev pub ReadsWhole : InputsState → InputsState → ℕ → List ℕ → Result (List ℕ) Event → Type 0
 ReadsWhole old new limit name got = AnswersAs (step_over (name ∷ []) old new) (λ known. whole_in known limit name) got
 
--- a stream of which so many bytes are within the limit
+-- a step reads a stream of at most `limit` bytes, and keeps its data
 abbrev pub ReadsStream : InputsState → InputsState → ℕ → List ℕ → Result StreamRead Event → Type 0
 ReadsStream old new limit name got = AnswersAs (step_over (name ∷ []) old new) (λ known. read_of known limit name) got
 
--- the data of streams, one after the other
+-- a step reads the data of streams, one after the other
 abbrev pub ReadsStreams : InputsState → InputsState → List (List ℕ) → Result (List ℕ) Event → Type 0
 ReadsStreams old new names got = AnswersAs (step_over names old new) (λ known. data_of known stream_limit names) got

@@ -12,7 +12,7 @@ pub record Limited : Type 0 where
 abbrev pub limited : ℕ → List ℕ → Limited
 limited limit name = record { name = name; limit = limit }
 
--- how many bytes a name is known to have
+-- how many bytes an input is known to have, 0 where nothing is known of it
 abbrev pub size_of : Option (List ℕ) → ℕ
 size_of None = 0
 size_of (Some bytes) = length bytes
@@ -30,7 +30,7 @@ limited_together contents limit (name ∷ names) = limited limit name ∷ limite
 abbrev pub IsAbout : List ℕ → Event → Type 0
 IsAbout name event = (event ≡ no_memory) ⊎ (event.concerned ≡ name)
 
--- Reading stopped at the input of which the event tells, one of these: it is the last that was asked for, no more than a byte over its limit was given of it, and inputs were asked for so often as stand up to it.
+-- Reading stopped at one of these inputs, which the event names: it is the last that was asked for, no more than a byte over its limit was given of it, and no more inputs were asked for than stand up to it.
 pub record StopsAt (inputs : List Limited) (old now : InputsState) (event : Event) : Type 0 where
   pub before : List Limited
   pub input : Limited
@@ -40,6 +40,6 @@ pub record StopsAt (inputs : List Limited) (old now : InputsState) (event : Even
   pub stands : StandsAt input.name input.limit now
   pub asks : now.selects ≤ old.selects + (length before + 1)
 
--- want of memory, or reading stopped at the input of which the event tells, one of these
+-- want of memory, or reading stopped at one of these inputs, which the event names
 abbrev pub StopsAmong : List Limited → InputsState → InputsState → Event → Type 0
 StopsAmong inputs old now event = (event ≡ no_memory) ⊎ StopsAt inputs old now event

@@ -1,4 +1,4 @@
--- Inputs that are read turn by turn.
+-- Inputs that are read turn by turn (this project's choice). A turn reads as many bytes as a buffer holds, and what it read is used before the next turn.
 use Rattle.std.specs.Prelude.{◌≡◌, ◌≢◌, ◌<◌, ◌≤◌, ◌⊎◌, ◌++◌, ℕ, Bool, true, false, List, [], Some, Ok, Err, IfSome, drop, length, ◌+◌}
 use Rattle.x7_words.specs.Input.{InputsState, AtEnd, Fails, Misses, Stays, Takes, preceded}
 use Rattle.x7_header.specs.Header.{Contents, EndsInHeader, HasOtherLetterAt, HaveHeader, fixed_bytes, header_bytes}
@@ -12,13 +12,13 @@ use Rattle.x7_listing.specs.StreamListing.{stream_listing}
 abbrev pub Unopened : InputsState → List ℕ → InputsState → Event → Type 0
 Unopened old name new event = (((event ≡ missing name) × Misses old name new) ⊎ ((event ≡ read_fault name) × Fails old new)) × (new.selected ≡ false)
 
--- the selected input failed behind fewer than so many bytes more, and none is selected any more
+-- the selected input failed after fewer than `most` bytes more, and no input is selected any more
 pub record Breaks (old : InputsState) (most : ℕ) (new : InputsState) : Type 0 where
   pub risen : Fails old new
   pub selected : new.selected ≡ false
   pub given : new.given < old.given + most
 
--- these bytes were read of the input that is open
+-- the bytes were read of the open input, and the name last asked for stays
 pub record Reads (old : InputsState) (bytes : List ℕ) (new : InputsState) : Type 0 where
   pub takes : Takes old bytes new
   pub asked : new.asked ≡ old.asked
@@ -29,7 +29,7 @@ pub record IsAt (name bytes : List ℕ) (now : InputsState) : Type 0 where
   pub asked : IfSome now.asked (λ kept. kept ≡ name)
   pub given : now.given ≤ length bytes
 
--- No input was asked for since, and of the selected one no more than a byte over so many was given.
+-- No input was asked for since, and of the selected one at most `left` bytes and one more were given.
 pub record GivesFew (old : InputsState) (left : ℕ) (new : InputsState) : Type 0 where
   pub asked : new.asked ≡ old.asked
   pub selects : new.selects ≡ old.selects
@@ -40,31 +40,31 @@ pub record StandsAt (name : List ℕ) (limit : ℕ) (now : InputsState) : Type 0
   pub asked : IfSome now.asked (λ kept. kept ≡ name)
   pub given : now.given ≤ limit + 1
 
--- What was read of an open input, with so many bytes within the limit, was not all: the inputs failed before the limit was passed, or one byte more than it was taken.
+-- The open input, of which `left` bytes more are within the limit, was not read to its end: it failed before the limit was passed, or one byte over the limit was taken.
 abbrev pub Unread : InputsState → List ℕ → InputsState → ℕ → Event → Type 0
 Unread old name new left event =
     ((event ≡ read_fault name) × Breaks old (left + 1) new)
     ⊎ ((event ≡ too_large name) × ((piece : List ℕ) × ((old.rest ≡ preceded piece new.rest) × (length piece ≡ left + 1))))
 
--- what was left of an open input was read to its end: these bytes
+-- the rest of the open input, these bytes, was read to its end
 abbrev pub ReadsRest : InputsState → InputsState → List ℕ → Type 0
 ReadsRest old new more = (old.rest ≡ preceded more new.rest) × AtEnd new.rest
 
--- the same of what was left of it, turn by turn
+-- the rest of the open input was not read: a read failed, or the rest is over the limit; the name last asked for stays
 abbrev pub UnreadRest : InputsState → List ℕ → InputsState → ℕ → Event → Type 0
 UnreadRest old name new limit event = Unread old name new limit event × (new.asked ≡ old.asked)
 
--- nothing follows the last bytes
+-- where these bytes are the last, nothing follows them
 abbrev pub MayFollow : Bool → List ℕ → Type 0
 MayFollow last rest = last ≡ true → rest ≡ []
 
--- the data begin at this byte: behind a header, or at the first byte where there is none
+-- the data begin at this byte: after a header, or at the first byte where there is none
 abbrev pub BeginAt : List ℕ → ℕ → Type 0
 BeginAt bytes start =
     ((x : Contents) × HaveHeader x × (bytes ≡ header_bytes x ++ drop start bytes) × (start ≡ length (header_bytes x)))
     ⊎ ((start ≡ 0) × ((rest : List ℕ) → bytes ≢ fixed_bytes ++ rest))
 
--- no byte is held behind a header, and where there is none, no more than are needed to know it
+-- no byte after a header is held, and where there is none, no more than the 13 bytes that show it
 abbrev pub HoldsFew : List ℕ → ℕ → Type 0
 HoldsFew bytes start = (start ≡ length bytes) ⊎ ((start ≡ 0) × (length bytes ≤ 13))
 
@@ -93,7 +93,7 @@ pub record ReadsBeginning (bytes line : List ℕ) (start : ℕ) (last : Bool) (o
 abbrev pub IsRefused : List ℕ → Bool → ℕ → Type 0
 IsRefused bytes last place = (rest : List ℕ) → MayFollow last rest → stream_listing (bytes ++ rest) ≡ Err place
 
--- bytes of a header that were not judged well
+-- the first bytes of a stream, read up to a byte at which its header is refused
 pub record IsBadBeginning (old new : InputsState) (name : List ℕ) (event : Event) : Type 0 where
   pub place : ℕ
   pub bytes : List ℕ
@@ -102,10 +102,10 @@ pub record IsBadBeginning (old new : InputsState) (name : List ℕ) (event : Eve
   pub taken : old.rest ≡ preceded bytes new.rest
   pub end : last ≡ true → AtEnd new.rest
   pub refused : IsRefused bytes last place
-  -- none behind the byte at which the header is refused
+  -- no byte after the one at which the header is refused
   pub soon : length bytes ≤ place + 1
 
--- where what is left of an open input is told, and another letter stands in it than its header's, that one was not given
+-- where the rest of an open input is known, and begins with a header that has another byte in a letter's place, that byte was not given
 abbrev pub NoLetterGiven : InputsState → InputsState → Type 0
 NoLetterGiven old new = (bytes : List ℕ) (place : ℕ) → old.rest ≡ Some bytes → HasOtherLetterAt bytes place → new.given ≤ old.given + place
 

@@ -40,11 +40,11 @@ pub enum InputFault {
     Empty,
     /// The part has no frame at the address.
     Foreign,
-    /// So many slots can't be read: none, or more than there are.
+    /// The number of slots can't be read: it is 0, or more than there are.
     Range,
     /// An image with this update stream would be larger than a flash may be.
     Image,
-    /// The stream ends behind the end of the flash.
+    /// The stream would end past the end of the flash.
     Long,
     /// The flash has no layout that can be updated; the place shows where.
     Layout(u64),
@@ -65,7 +65,7 @@ fn say_at<'x, E: Sink>(
     write_pieces(err, &[START, name.as_bytes(), kind, place, b"\n"])
 }
 
-/// Writes the line of a fault that a number tells: a line or a byte of the input.
+/// Writes the line of a fault that has a number: that of a line, or of a byte of the input.
 fn say_number<E: Sink>(err: &mut E, name: &str, kind: &[u8], number: u64) -> Result<(), Failed>
     ensures { Tells (E.state err.old) (codes "x7: bad input " ++ (name.now ++ (kind.now ++ (decimal number ++ codes "\n")))) (E.state err.new) }
 {

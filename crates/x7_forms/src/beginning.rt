@@ -80,7 +80,7 @@ pub struct Beginning {
     pub last: bool,
 }
 
-/// Reads the first bytes of the open input until its header is judged, field by field: none behind a header, nor behind a
+/// Reads the first bytes of the open input until its header is judged, field by field: none after a header, nor after a
 /// wrong letter.
 pub fn read_beginning<'w, I: Inputs>(
     alloc: Global,

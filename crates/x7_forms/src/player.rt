@@ -35,7 +35,7 @@ fn gather(buffer: &mut ReadBuf, reads: &mut Vec<u32>) -> bool
 }
 
 /// Feeds the bytes of a piece to a device, up to one that stops it, gathers the words that it reads out, and says whether
-/// they are over the limit. The room for words is made before the bytes are fed that read them out.
+/// all words are over the limit. The room for words is made before the bytes are fed that read them out.
 fn feed(
     device: &mut Device,
     buffer: &mut ReadBuf,
@@ -68,9 +68,9 @@ fn feed(
 pub struct Player {
     /// The device.
     pub device: Device,
-    /// Room for words that it reads out, which are moved behind each piece.
+    /// Room for words that the device reads out, which are moved out of it after each piece.
     pub buffer: ReadBuf,
-    /// The words that it read out.
+    /// The words that the device read out.
     pub reads: Vec<u32>,
     /// Whether more words were read out than their limit: nothing more is played.
     pub over: bool,

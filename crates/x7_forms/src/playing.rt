@@ -58,8 +58,8 @@ pub fn read_part<'w, I: Inputs>(
     }
 }
 
-/// Plays what is left of the open stream, of which this many bytes are within the limit, and none is left behind the last
-/// turn. It answers how many are left of the limit.
+/// Plays the rest of the open stream, of which `limit` bytes are within the limit; after the last turn there is no rest.
+/// The answer is how many bytes of the limit are left.
 fn play_rest<'w, I: Inputs>(
     player: &mut Player,
     inputs: &mut I,
@@ -97,7 +97,7 @@ fn play_rest<'w, I: Inputs>(
     }
 }
 
-/// Plays the data of a stream of at most so many bytes, and answers how many are left of the limit. The limit comes before the
+/// Plays the data of a stream of at most `limit` bytes, and answers how many of these are left. The limit comes before the
 /// header, so a stream with a bad one is read to its end too.
 fn play_stream<'w, I: Inputs>(
     player: &mut Player,

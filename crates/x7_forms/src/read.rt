@@ -1,4 +1,4 @@
-//! Reading an input in turns.
+//! Reading an input in turns: each fills a buffer, which is used before the next turn.
 ghost use Rattle.std.specs.Prelude.{◌≡◌, ◌+◌, ◌-◌, ◌<◌, ◌≤◌, ◌++◌, ◌⊎◌, ℕ, List, drop, length, take, true, false, vec_len, IfErr, IfOk, OnOk};
 ghost use Rattle.x7_words.specs.Input.{Asks, AtEnd, Opens, Stays, Takes};
 ghost use Rattle.x7_words.specs.Word.{AreBytes};
@@ -17,14 +17,14 @@ use x7_words::{Inputs, SelectFault};
 /// The most bytes of a stream, and of all streams of one command together.
 pub const STREAM_LIMIT: usize = 67_108_864;
 
-/// The most bytes of a text that stands for bytes.
+/// The most bytes of a text: of an assembly, Intel HEX, frames or SVF text.
 pub const TEXT_LIMIT: usize = 536_870_912;
 
 /// How many bytes one turn of a whole input or of a listing reads.
 pub const TURN: usize = 65_536;
 
-/// How many bytes a turn asks for, where this many are still within the limit and the buffer holds so many: one more than
-/// within the limit at most.
+/// How many bytes a turn asks for, where `left` bytes are still within the limit and the buffer holds `room`: at most one
+/// byte over the limit.
 fn turn_len(left: usize, room: usize) -> usize
     ensures some { 0 < room → 0 < result }
     ensures within { result ≤ room }
@@ -92,11 +92,11 @@ pub fn open<'w, I: Inputs>(inputs: &mut I, name: &'w str) -> Result<(), Refusal<
 pub struct Turn {
     /// How many bytes were read.
     pub count: usize,
-    /// Whether the input ends after them.
+    /// Whether the input ends after these bytes.
     pub last: bool,
 }
 
-/// Reads the next turn of the open input, of which this many bytes more are within the limit.
+/// Reads the next turn of the open input, of which `left` bytes more are within the limit.
 pub fn next_turn<'w, I: Inputs>(
     inputs: &mut I,
     name: &'w str,
@@ -135,8 +135,8 @@ pub fn next_turn<'w, I: Inputs>(
     })
 }
 
-/// Appends what is left of the open input, of which this many bytes are within the limit. Of a larger one at most one byte
-/// more is read.
+/// Appends the rest of the open input, of which `limit` bytes are within the limit. Of a larger rest one byte more is read
+/// at most.
 fn read_rest<'w, I: Inputs>(
     inputs: &mut I,
     name: &'w str,
@@ -167,7 +167,7 @@ fn read_rest<'w, I: Inputs>(
     }
 }
 
-/// All bytes of an input that has at most so many.
+/// All bytes of an input that has at most `limit` of them.
 pub fn read_whole<'w, I: Inputs>(
     alloc: Global,
     inputs: &mut I,
@@ -192,8 +192,8 @@ pub fn read_whole<'w, I: Inputs>(
     }
 }
 
-/// Reads to its end what is left of the open input, of which this many bytes are within the limit, and none is left behind
-/// the last turn.
+/// Reads the rest of the open input to its end, of which `limit` bytes are within the limit; after the last turn there is
+/// no rest.
 pub(crate) fn skip_rest<'w, I: Inputs>(
     inputs: &mut I,
     name: &'w str,

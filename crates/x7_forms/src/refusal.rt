@@ -29,14 +29,14 @@ pub enum Why {
     NoMemory,
     /// An input has more bytes than its limit; of the name `reads`, too many words were read out.
     TooLarge,
-    /// A byte of the flash that was read back is another than the one written; its place.
+    /// A byte of the flash that was read back, at this place, is another than the one written.
     Differs(u64),
 }
 
 impl Why {
     ghost use Rattle.x7_forms.specs.Event.{row_of};
 
-    /// Its status.
+    /// The status of the reason.
     fn status(self) -> Status
         ensures { result ≡ (row_of self).ends_as }
     {
@@ -53,7 +53,7 @@ impl Why {
         }
     }
 
-    /// What its line says before the name.
+    /// What the reason's line says before the name.
     fn words(self) -> &'static [u8]
         ensures { result.now ≡ codes "x7: " ++ (row_of self).words }
     {
@@ -110,7 +110,7 @@ impl<'w> Refusal<'w> {
         Refusal { reason, name: "" }
     }
 
-    /// Writes its line. A fault of the sink changes nothing else.
+    /// Writes the refusal's line. A fault of the sink changes nothing else.
     fn say<E: Sink>(&self, err: &mut E) -> Result<(), Failed>
         ensures { Tells (E.state err.old) (line_of (event_of self.now)) (E.state err.new) }
     {
@@ -122,7 +122,7 @@ impl<'w> Refusal<'w> {
         }
     }
 
-    /// Says its line, and gives its status. No memory is taken.
+    /// Writes the refusal's line, and gives its status. No memory is taken.
     pub fn tell<E: Sink>(&self, err: &mut E) -> Status
         ensures status { result ≡ status_of (event_of self.now) }
         ensures line { Tells (E.state err.old) (line_of (event_of self.now)) (E.state err.new) }

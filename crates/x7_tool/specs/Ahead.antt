@@ -22,7 +22,7 @@ pub record HasWritten (early before after : List ℕ) : Type 0 where
   pub lists : stream_listing early ≡ Ok text
   pub written : length before + length text ≤ length after + most_held
 
--- Of a stream's bytes the last are left. Of those that were read, the early ones are listed, and the late ones are few; and they all are at most so many more than the sink got.
+-- A stream's bytes are early ones, which are listed, late ones, at most `most_ahead`, and those that are left. The bytes read, early and late, are at most `most_ahead` more than the sink got.
 pub record ReadsNear (bytes left before after : List ℕ) : Type 0 where
   pub early : List ℕ
   pub late : List ℕ
@@ -31,7 +31,7 @@ pub record ReadsNear (bytes left before after : List ℕ) : Type 0 where
   pub written : HasWritten early before after
   pub near : length bytes + length before ≤ length left + length after + most_ahead
 
--- The early bytes of a stream are listed, and few more were given than they are.
+-- The early bytes of a stream are listed, and at most `most_ahead` bytes more than these were given.
 pub record GivesNear (bytes : List ℕ) (given : ℕ) (before after : List ℕ) : Type 0 where
   pub early : List ℕ
   pub others : List ℕ
@@ -39,19 +39,19 @@ pub record GivesNear (bytes : List ℕ) (given : ℕ) (before after : List ℕ) 
   pub few : given ≤ length early + most_ahead
   pub written : HasWritten early before after
 
--- where the stream, what is left of it, and what the sink got are told, few bytes more were read than are listed
+-- where the stream, what is left of it, and what the sink got are known, few bytes more were read than are listed
 abbrev pub IsNear : List ℕ → Outside → Outside → Type 0
 IsNear stream old new =
     (inputs : List ℕ → Option (List ℕ)) (bytes left before after : List ℕ) → old.inputs.contents ≡ Some inputs → inputs stream ≡ Some bytes → new.inputs.rest ≡ Some left
     → old.out.written ≡ Some before → new.out.written ≡ Some after → ReadsNear bytes left before after
 
--- where the stream and what the sink got are told, few bytes more were given than are listed: a fault may leave nothing told of the rest
+-- where the stream and what the sink got are known, few bytes more were given than are listed: after a fault nothing may be known of the rest
 abbrev pub IsGivenNear : List ℕ → Outside → Outside → Type 0
 IsGivenNear stream old new =
     (inputs : List ℕ → Option (List ℕ)) (bytes before after : List ℕ) → old.inputs.contents ≡ Some inputs → inputs stream ≡ Some bytes
     → old.out.written ≡ Some before → new.out.written ≡ Some after → GivesNear bytes new.inputs.given before after
 
--- where the stream and what is left of it are told, and its header is refused at a byte, no byte behind that one was read
+-- where the stream and what is left of it are known, and its header is refused at a byte, no byte after that one was read
 abbrev pub IsSoon : List ℕ → Outside → Outside → Type 0
 IsSoon stream old new =
     (inputs : List ℕ → Option (List ℕ)) (bytes left : List ℕ) (place : ℕ) → old.inputs.contents ≡ Some inputs → inputs stream ≡ Some bytes → new.inputs.rest ≡ Some left → stream_listing bytes ≡ Err place
@@ -63,8 +63,8 @@ IsUnjudged stream old new =
     (inputs : List ℕ → Option (List ℕ)) (bytes : List ℕ) (place : ℕ) → old.inputs.contents ≡ Some inputs → inputs stream ≡ Some bytes → AreBytes bytes → stream_listing bytes ≡ Err place → place < length bytes
     → new.inputs.given ≤ place
 
--- by the status: where the sink failed, the stream is too large, it failed or memory is wanting, few bytes more were read or given than are listed; a header was
--- refused and none was read behind that byte; a fault came and the byte at which the header would be refused was not given
+-- by the status: where the sink failed, the stream is too large, it failed or memory is wanting, few bytes more were read or given than are listed; where a header is
+-- refused, no byte after that one was read; where the stream failed, the byte at which its header would be refused was not given
 abbrev pub StaysNearBy : Status → List ℕ → Outside → Outside → Type 0
 StaysNearBy status.WriteFault stream old new = IsNear stream old new
 StaysNearBy status.TooLarge stream old new = IsNear stream old new
@@ -73,7 +73,7 @@ StaysNearBy status.ReadFault stream old new = IsUnjudged stream old new × IsGiv
 StaysNearBy status.NoMemory stream old new = IsGivenNear stream old new
 StaysNearBy s stream old new = Unit {0}
 
--- the same of the stream that a form lists; other forms read each input whole, and write at the end
+-- by the status, how far the stream that a form lists was read; other forms read each input whole, and write at the end
 abbrev pub StaysNearIn : Status → Option (List ℕ) → Outside → Outside → Type 0
 StaysNearIn s None old new = Unit {0}
 StaysNearIn s (Some stream) old new = StaysNearBy s stream old new

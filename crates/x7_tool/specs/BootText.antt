@@ -11,10 +11,10 @@ use Rattle.x7_boot.specs.BootLines.{boot_head}
 use Rattle.x7_boot.specs.declared.boots.BootEnd.{BootEnd}
 use Rattle.x7_boot.specs.declared.boots.Tried.{Tried}
 
--- this holds of the part and the last attempt of a boot, whose device has no word due
+-- `Holds` is true of the part and the last attempt of a boot, whose device has no word due
 abbrev pub OfBoot : BootedState → (PartData → Trial → Type 0) → Type 0
 OfBoot boot Holds = (part : PartData) (last : Trial) → IsDeviceOf part boot.device last → NoWordDue boot.device → Holds part last
 
--- all of it, by the last attempt
+-- the whole text of a boot, by its last attempt
 unfoldable pub boot_text : PartData → List Tried → BootEnd → Trial → List ℕ
 boot_text part attempts end last = boot_head part.name attempts end ++ report_text part (state_of part last.kept last.wrapped last.bytes) [] (memory_in part last.kept last.bytes)

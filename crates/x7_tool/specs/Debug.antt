@@ -1,7 +1,7 @@
--- What the steps of a debugging come to.
+-- What the steps of a debugging come to (this project's choice).
 use Rattle.x7_tool.specs.declared.debug.Given.{Given}
 use Rattle.x7_tool.specs.Outcome.{DebugInputs}
 
--- what was read
+-- what a debugging read: the part, and the bytes of the stream's data and of the script
 abbrev pub given_of : Given → DebugInputs
 given_of g = record { part = g.part; stream = g.stream.items; script = g.script.items }

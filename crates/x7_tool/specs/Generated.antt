@@ -17,7 +17,7 @@ use Rattle.x7_forms.specs.declared.player.Player.{Player}
 abbrev pub next_number : ℕ → ℕ
 next_number x = (1664525 * x + 1013904223) % 2 ^ 32
 
--- so many words that count up from a number, without their carries
+-- `count` words that count up from a number, modulo 2^32
 abbrev pub counted : ℕ → ℕ → List ℕ
 counted count n = map (λ i. (n + i) % 2 ^ 32) (range_with_len 0 count)
 
@@ -49,11 +49,11 @@ count_line key n = key ++ decimal n ++ codes "\n"
 abbrev pub sum_line : ℕ → List ℕ
 sum_line n = codes "sum " ++ hex_word n ++ codes "\n"
 
--- a player was given a stream of so many bytes, which reads out no more words than a play may
+-- a player was given a stream of `size` bytes, which reads out no more words than a play may
 abbrev pub TookStream : PartData → List ℕ → Player → ℕ → Type 0
 TookStream part stream player size = HasPlayed part stream player × (size ≡ length stream) × (length (reads_of part on_the_bench stream) ≤ reads_limit)
 
--- what is told of a stream that was played: the planned frames, the bytes of the stream, and the phase and the sum of all words of a device that took it
+-- what a summary says of a stream that was played: the planned frames, the bytes of the stream, and the phase and the sum of all words of a device that took it
 pub record SummaryData : Type 0 where
   pub planned : ℕ
   pub size : ℕ
@@ -65,7 +65,7 @@ unfoldable pub summary_text : List ℕ → ℕ → SummaryData → List ℕ
 summary_text name seed s =
     head_line name seed ++ count_line (codes "planned ") s.planned ++ count_line (codes "stream ") s.size ++ count_line (codes "phase ") s.phase ++ sum_line s.sum
 
--- the summary of a plan's stream, played on a new device; the sum is without its carries
+-- the summary of a plan's stream, played on a new device; the sum is modulo 2^32
 abbrev pub played_summary : PartData → ℕ → ℕ → List ℕ → List ℕ
 played_summary part seed planned stream =
     summary_text part.name seed (record {
@@ -79,7 +79,7 @@ played_summary part seed planned stream =
 unfoldable pub gen_text : PartData → ℕ → List ℕ
 gen_text part seed = played_summary part seed (length (generated part seed).rows) (full_stream part (generated part seed))
 
--- the same by what was planned: the length of the plan's full stream, phase 7, and the sum of the words of the plan over zeros
+-- the summary by what was planned: the length of the plan's full stream, phase 7, and the sum of the words of the plan over zeros
 abbrev pub planned_summary : PartData → ℕ → List ℕ
 planned_summary part seed =
     summary_text part.name seed (record {

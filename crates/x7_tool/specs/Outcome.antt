@@ -79,7 +79,7 @@ listed known stream = listed_found stream (known.inputs stream)
 
 -- ---- texts that stand for bytes
 
--- the most bytes of such a text
+-- the most bytes of a text: of an assembly, Intel HEX, frames or SVF text
 abbrev pub text_limit : ℕ
 text_limit = 536870912
 
@@ -128,7 +128,7 @@ pub record PlanTexts : Type 0 where
   pub part : PartData
   pub text : List ℕ
 
--- the part of a part file and then the text of a frames text
+-- the part of a part file, and then the text for it
 abbrev pub plan_texts : Known → List ℕ → List ℕ → Result PlanTexts Event
 plan_texts known part frames = and_so (part_of known part) (λ p. and_so (whole_in known text_limit frames) (λ text. Ok (record { part = p; text = text })))
 
@@ -247,11 +247,11 @@ pub record ImageStreams : Type 0 where
   pub golden : List ℕ
   pub update : List ℕ
 
--- both are read in this order, each with the limit of a stream of its own
+-- the golden and then the update stream are read, each with the limit of a stream of its own
 abbrev pub image_streams : Known → List ℕ → List ℕ → Result ImageStreams Event
 image_streams known golden update = and_so (stream_data known golden) (λ g. and_so (stream_data known update) (λ u. Ok (record { golden = g; update = u })))
 
--- the image of both, for parts of which one step of the start address stands for so many bytes, where it is no larger than a flash may be
+-- the image of a golden and an update stream, for parts of which one step of the start address is `unit` bytes, where it is no larger than a flash may be
 abbrev pub image_by : List ℕ → ℕ → ImageStreams → Result Answer Event
 image_by name unit s =
     if nat_lt flash_limit (image_size (length s.golden) (length s.update)) then Err (bad_input name input.Image)
@@ -261,7 +261,7 @@ image_by name unit s =
 abbrev pub imaged : Known → List ℕ → List ℕ → Result Answer Event
 imaged known golden update = and_so (image_streams known golden update) (image_by update 1)
 
--- `image PART GOLDEN UPDATE`: the same for a part
+-- `image PART GOLDEN UPDATE`: the flash image of both streams' data for a part, by its start unit
 abbrev pub imaged_for : Known → List ℕ → List ℕ → List ℕ → Result Answer Event
 imaged_for known part golden update = and_so (part_of known part) (λ p. and_so (image_streams known golden update) (image_by update p.start_unit))
 
@@ -336,7 +336,7 @@ UpdatesWith names bytes (Err event) end = Err event ≡ end
 UpdatesWith names bytes (Ok stream) (Ok answer) = (answer ≡ no_text) × IfKnown bytes (CanTake stream)
 UpdatesWith names bytes (Ok stream) (Err event) = (fault : UpdateFault) × IsUpdateFault bytes stream fault × (update_event names fault ≡ event)
 
--- the same of any flash: one that is larger than a flash may be is refused before the stream is read
+-- the update of a flash of any size: one that is larger than a flash may be is refused before the stream is read
 abbrev pub UpdatesBytes : UpdateNames → Option (List ℕ) → Result (List ℕ) Event → Result Answer Event → Type 0
 UpdatesBytes names bytes stream end =
     (IfKnown bytes (λ flash. flash_limit < length flash) × (end ≡ Err (too_large names.flash)))

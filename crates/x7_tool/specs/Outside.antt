@@ -23,7 +23,7 @@ pub record Sources : Type 0 where
 abbrev pub sources : InputsState → FlashState → Sources
 sources inputs flash = record { inputs = inputs; flash = flash }
 
--- what is known of them
+-- what is known of the inputs and of the flash of these sources
 abbrev pub known_from : Sources → Option Known
 known_from s = with_inputs s.inputs.contents s.flash.bytes
 
@@ -65,11 +65,11 @@ pub record FlashLacksAmong (names : List (List ℕ)) (old new : FlashState) (nam
 abbrev pub Fails : Option Asked → Outside → Outside → List ℕ → Type 0
 Fails form old new name = FailsAmong (names_of form) old.inputs new.inputs name ⊎ FlashFailsAmong (flash_names form) old.flash new.flash name
 
--- the same by the counts of absences
+-- the input of a name that the form gives was missing, or its flash of that name, by the counts of absences
 abbrev pub Lacks : Option Asked → Outside → Outside → List ℕ → Type 0
 Lacks form old new name = LacksAmong (names_of form) old.inputs new.inputs name ⊎ FlashLacksAmong (flash_names form) old.flash new.flash name
 
--- this mishap came: an input or the flash of a name that the form gives failed, behind the bytes that were given of the last input, or was missing
+-- this mishap came: an input or the flash of a name that the form gives failed, after the bytes that were given of the last input, or was missing
 abbrev pub Came : Option Asked → Outside → Outside → Mishap → Type 0
 Came form old new (Failing name given) = (given ≡ new.inputs.given) × Fails form old new name
 Came form old new (Lacking name) = Lacks form old new name

@@ -1,4 +1,4 @@
--- A frames text that is read piece by piece, and its plan.
+-- A frames text that is read piece by piece, and its plan (this project's choice).
 use Rattle.std.specs.Prelude.{◌≡◌, ◌⊎◌, ℕ, List, Result, Ok, Err}
 use Rattle.x7_words.specs.Input.{InputsState}
 use Rattle.x7_part.specs.Part.{PartData}

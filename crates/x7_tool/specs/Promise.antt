@@ -106,7 +106,7 @@ pub record BootsFromOpen (o : Opened) (answer : Answer) : Type 0 where
   pub boot : IsBootText o.part o.flash answer
   pub comes : BootsOpen o (course_along boot.last boot.older boot.end)
 
--- The text of `boot`: over a flash whose bytes are known startup has begun in the last attempt only where that made its checks. Over one with an open slot it tells of the update's start, or of the fallback and its start, where the golden stream is one that starts so.
+-- The text of `boot`: over a flash whose bytes are known startup has begun in the last attempt only where that made its checks. Over one with an open slot the text reports the update's start, or the fallback and its start, where the golden stream is one that starts so.
 pub record PromisesStart (known : Known) (part flash : List ℕ) (answer : Answer) : Type 0 where
   pub device : PartData
   pub read : part_of known part ≡ Ok device

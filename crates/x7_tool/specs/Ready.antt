@@ -1,4 +1,4 @@
--- What a text that is ready stands for.
+-- What a text that is ready stands for: the answer that is written of it (this project's choice).
 use Rattle.std.specs.Prelude.{ℕ, List, false}
 use Rattle.x7_mcs.specs.Text.{mcs_text}
 use Rattle.x7_forms.specs.Known.{Answer}

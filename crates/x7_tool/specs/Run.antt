@@ -33,7 +33,7 @@ abbrev pub Agrees : Option Known → Asked → Result Answer Event → Type 0
 Agrees None form end = Unit {0}
 Agrees (Some known) form end = Gives known form end
 
--- the event tells a mishap that came, and where the contents are known, the form comes to it over them with that mishap; where they aren't, the mishap alone tells
+-- the event reports a mishap that came, and where the contents are known, the form comes to it over them with that mishap; where they aren't, the mishap is all that is said
 abbrev pub Happens : Asked → Outside → Outside → Event → Type 0
 Happens form old new event = IsOfMishap Answer (known_in old) (Came (Some form) old new) (λ known end. Gives known form end) event
 
@@ -81,7 +81,7 @@ IsPrefixOf (Some known) name bytes = (rest : List ℕ) × (bytes_found (known.in
 abbrev pub PutsListing : List ℕ → SinkState → SinkState → Type 0
 PutsListing bytes old new = (text : List ℕ) × ((stream_listing bytes ≡ Ok text) × PutsSome old text new)
 
--- These bytes have a listing, and what was put is a prefix of the listing of every list of bytes that begins with them and has one.
+-- The bytes have a listing, and what was put is a prefix of the listing of every list of bytes that begins with them and has one.
 pub record ListsSoFar (bytes : List ℕ) (old new : Option (List ℕ)) : Type 0 where
   pub has : (text : List ℕ) × (stream_listing bytes ≡ Ok text)
   pub goes : (rest text : List ℕ) → AreBytes rest → stream_listing (bytes ++ rest) ≡ Ok text → PutsPrefix old text new
@@ -175,16 +175,16 @@ pub record Ends (form : Option Asked) (old new : Outside) (end : Result Answer E
   pub last : FailsLast form old.inputs new.flash end
   pub updates : Updates (updated_by form) old new end
 
--- the same by whether what it wrote reports a fault
+-- how a command ended, by whether what it wrote reports a fault, or by the event
 abbrev pub EndsAs : Option Asked → Outside → Outside → Result Bool Event → Type 0
 EndsAs form old new (Ok stopped) = (text : List ℕ) × Ends form old new (Ok (record { stopped = stopped; text = text }))
 EndsAs form old new (Err event) = Ends form old new (Err event)
 
--- the same of a form that puts nothing out, whatever the sinks hold
+-- how a form that writes no text ended, whatever the sinks hold
 abbrev pub EndsSilently : Asked → Sources → Sources → Result Bool Event → Type 0
 EndsSilently form old new got = (before after : Outside) → after.out ≡ before.out → EndsAs (Some form) (with_sources before old) (with_sources after new) got
 
--- the same of a listing, whatever the flash and the sink of messages hold
+-- how a listing ended, whatever the flash and the sink of messages hold
 abbrev pub EndsListing : List ℕ → Transfer → Transfer → Result Bool Event → Type 0
 EndsListing stream old new got = (before after : Outside) → EndsAs (Some (Listing stream)) (with_transfer before old) (with_transfer after new) got
 
@@ -207,11 +207,11 @@ Puts (Ok answer) old new (Err event) = (event ≡ write_fault) × SinkFails old 
 abbrev pub AnswersOver : Asked → Outside → Outside → Result Answer Event → Type 0
 AnswersOver form old new got = IsCausedBy (known_in old) (Came (Some form) old new) (λ known end. Gives known form end) got
 
--- the same of its sources alone, whatever the sinks hold
+-- a text of the form that is ready has its cause in what the form reads, whatever the sinks hold
 abbrev pub AnswersFrom : Asked → Sources → Sources → Result Answer Event → Type 0
 AnswersFrom form old new got = (before after : Outside) → AnswersOver form (with_sources before old) (with_sources after new) got
 
--- the same of a form that reads no flash, whatever that holds
+-- a text of a form that reads no flash has its cause in the inputs, whatever a flash holds
 abbrev pub AnswersForm : Asked → InputsState → InputsState → Result Answer Event → Type 0
 AnswersForm form old new got = AnswersBy (step_over (names_of (Some form)) old new) (λ known end. Gives known form end) got
 

@@ -27,7 +27,7 @@ inputs_of contents (PlayingSvf part text) = limited part_limit part ∷ limited 
 inputs_of contents (Booting part flash) = limited part_limit part ∷ []
 inputs_of contents (UpdatingFlash flash stream) = limited stream_limit stream ∷ []
 
--- an event tells of the form's flash, of the words that were read out, or of the input at which reading stopped
+-- an event names the form's flash, the words that were read out, or the input at which reading stopped
 abbrev pub TellsOf : Asked → InputsState → InputsState → Event → Type 0
 TellsOf form old now event = Among (flash_names (Some form)) event.concerned ⊎ ((event ≡ too_many_reads) ⊎ StopsAt (inputs_of old.contents form) old now event)
 
@@ -38,7 +38,7 @@ StopsBy Absence form old now event = TellsOf form old now event
 StopsBy Contents form old now event = TellsOf form old now event
 StopsBy _ form old now event = Unit {0}
 
--- where an input ends a command, none behind it was asked for, none before it twice, and no more than a byte over its limit was given of it
+-- where an input ends a command, no later one was asked for, no earlier one twice, and no more than a byte over its limit was given of it
 abbrev pub Stops : {A : Type 0} → Option Asked → InputsState → InputsState → Result A Event → Type 0
 Stops None old now end = Unit {0}
 Stops (Some form) old now (Ok a) = Unit {0}

@@ -1,4 +1,4 @@
--- What playing an SVF text reads, as the definitions see it.
+-- What playing an SVF text reads, as the definitions see it (this project's choice).
 use Rattle.x7_tool.specs.declared.svf.Given.{Given}
 use Rattle.x7_tool.specs.Outcome.{PlanTexts}
 

@@ -1,4 +1,4 @@
--- What stands between two turns: of a listing that is written, and of a text that is taken while it is read.
+-- What stands between two turns: of a listing that is written, and of a text that is taken while it is read (this project's choice).
 use Rattle.std.specs.Prelude.{◌≡◌, ◌≤◌, ◌++◌, ℕ, List, [], Option, Result, Ok, Err, length, ◌+◌}
 use Rattle.x7_words.specs.Sink.{PutsPrefix, appended}
 use Rattle.x7_words.specs.Word.{AreBytes}
@@ -25,7 +25,7 @@ pub record ListsStream (l : ListerState) (first now : Option (List ℕ)) (bytes 
   pub goes : (rest : List ℕ) → stream_listing (bytes ++ rest) ≡ Ok (line ++ listing_of (sent ++ rest))
   pub close : length bytes ≤ length sent + 327706
 
--- a text was taken by this, or a first part of it, in which there was this fault
+-- the text was taken by the taker; or this fault is in it, whatever follows
 abbrev pub IsFed : {T F : Type 0} → (T → List ℕ → Type 0) → (F → List ℕ → Type 0) → Result T F → List ℕ → Type 0
 IsFed took fails (Ok taker) text = took taker text
 IsFed took fails (Err f) text = (more : List ℕ) → fails f (text ++ more)

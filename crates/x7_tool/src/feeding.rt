@@ -15,10 +15,10 @@ pub(crate) trait TakesText: Sized + Drop {
     /// Why a text is refused.
     type Fault: Drop;
 
-    /// What was the first of these has become the second, which took this text, whatever follows it.
+    /// Whether the first taker has become the second one by taking this text, whatever follows it.
     ghost took: { Self → Self → List ℕ → Type 0 };
 
-    /// A text that is given to this is refused for this fault.
+    /// Whether a text that is given to this taker is refused for this fault.
     ghost fails: { Self → Self.Fault → List ℕ → Type 0 };
 
     /// Takes the next piece of a text of fewer than 2^63 bytes. A fault is that of the whole text, whatever follows.

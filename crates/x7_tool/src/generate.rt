@@ -84,7 +84,7 @@ fn generated(alloc: Global, part: &Part, seed: u32) -> Result<Plan, NoMemory>
     Ok(draft.finish())
 }
 
-/// The sum of words, without its carries.
+/// The sum of words modulo 2^32.
 fn sum_of(words: &[u32]) -> u32
     ensures { result ≡ sum words.now % 2 ^ 32 }
 {
@@ -95,7 +95,7 @@ fn sum_of(words: &[u32]) -> u32
     total
 }
 
-/// The sum of the words of the frame at an address, without its carries.
+/// The sum of the words of the frame at an address, modulo 2^32.
 fn frame_sum(part: &Part, memory: &Memory, far: u32) -> u32
     requires { AreFramesOf part.now memory.now }
     ensures { result ≡ sum (unwrap_or (frame_at part.now memory.now far) []) % 2 ^ 32 }
@@ -106,7 +106,7 @@ fn frame_sum(part: &Part, memory: &Memory, far: u32) -> u32
     }
 }
 
-/// The sum of all words of a memory, without its carries.
+/// The sum of all words of a memory, modulo 2^32.
 fn memory_sum(part: &Part, memory: &Memory) -> u32
     requires { AreFramesOf part.now memory.now }
     ensures { result ≡ words_sum (frame_at part.now memory.now) (addresses_in part.now) % 2 ^ 32 }
@@ -128,7 +128,7 @@ struct Played {
     size: u64,
 }
 
-/// Plays what is left of a stream piece by piece, and tells how many bytes it has. `block` is room for a piece.
+/// Plays a stream piece by piece, and answers how many bytes it has. `block` is room for a piece.
 fn play_all(
     stream: FullStream<'_>,
     player: &mut Player,
@@ -171,16 +171,16 @@ fn play_full(alloc: Global, part: &Part, plan: &Plan) -> Result<Played, NoMemory
     Ok(Played { player, size })
 }
 
-/// What is told of a stream that was played.
+/// What a summary says of a stream that was played.
 #[derive(Clone, Copy)]
 struct Summary {
     /// The planned frames.
     planned: u64,
     /// The bytes of the stream.
     size: u64,
-    /// The phase of startup after it.
+    /// The phase of startup after the stream.
     phase: u8,
-    /// The sum of all words after it, without its carries.
+    /// The sum of all words of the memory after the stream, modulo 2^32.
     sum: u32,
 }
 
@@ -223,7 +223,7 @@ fn put_summary(text: &mut Vec<u8>, name: &str, seed: u32, summary: Summary) -> R
     Ok(())
 }
 
-/// The summary of a stream that was played, of so many planned frames.
+/// The summary of a stream that was played, of `planned` frames.
 fn summarized(
     alloc: Global,
     seed: u32,

@@ -30,7 +30,7 @@ pub(crate) struct Streams {
     update: Stream,
 }
 
-/// Reads both in this order, each with the limit of a stream of its own.
+/// Reads the golden and then the update stream, each with the limit of a stream of its own.
 fn read_streams<'w, I: Inputs>(
     alloc: Global,
     inputs: &mut I,
@@ -56,7 +56,7 @@ fn read_streams<'w, I: Inputs>(
     }
 }
 
-/// The update, which has this name, would end behind the largest flash.
+/// The update stream, which has this name, would end past the end of the largest flash.
 fn too_long<'w>(name: &'w str) -> Refusal<'w>
     ensures { event_of result ≡ bad_input name.now input.Image }
 {

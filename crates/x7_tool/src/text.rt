@@ -60,7 +60,7 @@ impl Ready for McsText {
     }
 }
 
-/// The report of a device behind what stands before it; the lines of its frames are made as they are written.
+/// The report of a device, after the lines that stand before it; the lines of its frames are made as they are written.
 impl Ready for PlayText {
     ghost answer = { text_of_play };
 

@@ -81,7 +81,7 @@ fn answer<'w, I: Inputs, O: Sink, F: Flash>(
     }
 }
 
-/// Runs the command; its contract is the one fact of which `run` tells the parts.
+/// Runs the command; its contract is the one fact whose parts are the clauses of `run`.
 fn carry_out<I: Inputs, O: Sink, E: Sink, F: Flash>(
     alloc: Global,
     words: &Vec<String>,
@@ -109,9 +109,10 @@ fn carry_out<I: Inputs, O: Sink, E: Sink, F: Flash>(
 /// text, one line goes to `err`.
 ///
 /// Power may be lost at any moment. Where the bytes of the flash are known, what is found of it then is what it held, or what an
-/// update may leave of it. Where the stream is known too, and the golden stream, whoever made it, starts behind an erased first
-/// sector and ends before the update's place, a boot of that is the one before the update, or starts as the golden stream does,
-/// or is the one behind it. The full stream of a plan is such a golden stream (`x7_recovery::full_streams_start`).
+/// update may leave of it. Where the stream is known too, and the golden stream, whoever made it, starts after an erased first
+/// sector and ends before the update's place, a boot from what is found is the one before the update, or starts as the golden
+/// stream does, or is the one after the update. The full stream of a plan is such a golden stream
+/// (`x7_recovery::full_streams_start`).
 pub fn run<I: Inputs, O: Sink, E: Sink, F: Flash>(
     alloc: Global,
     words: &Vec<String>,
