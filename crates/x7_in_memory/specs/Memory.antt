@@ -27,11 +27,11 @@ planned calls call = record calls { failing = calls.failing ++ call ∷ [] }
 abbrev pub next_fails : CallPlan → Bool
 next_fails calls = list_any (λ call. call == raised calls.last) calls.failing
 
--- the calls after the next one
+-- the calls once the next one has its number
 abbrev pub numbered : CallPlan → CallPlan
 numbered calls = record calls { last = raised calls.last }
 
--- a count after a call that it counts where this holds
+-- the count after a call, raised where `counts` is true
 abbrev pub raised_if : Bool → ℕ → ℕ
 raised_if counts count = if counts then raised count else count
 
@@ -116,7 +116,7 @@ after_read m len =
 pub record SinkInMemory : Type 0 where
   -- what was written
   pub bytes : List ℕ
-  -- how many bytes it takes in all
+  -- how many bytes the sink takes in all
   pub room : ℕ
   -- the most bytes that a write takes
   pub most : ℕ
@@ -143,31 +143,31 @@ after_write s piece =
 
 -- one write of a flash in memory
 pub record PastWrite : Type 0 where
-  -- where its range begins
+  -- where the write's range begins
   pub place : ℕ
-  -- the bytes of its range before it
+  -- the bytes of the range before the write
   pub before : List ℕ
-  -- the bytes that it was to bring there
+  -- the bytes that the write was to bring there
   pub target : List ℕ
 
 -- the writes that a flash in memory has recorded, and the room that it has for further ones
 pub record WriteRecord : Type 0 where
-  -- the first of them first
+  -- the recorded writes, the first one first
   pub past : List PastWrite
-  -- how many writes more it can record
+  -- how many writes more can be recorded
   pub writes_left : ℕ
-  -- how many bytes their ranges may have in all
+  -- how many bytes the ranges of further writes may have in all
   pub bytes_left : ℕ
 
 -- no write, and no room for one
 abbrev pub no_writes : WriteRecord
 no_writes = record { past = []; writes_left = 0; bytes_left = 0 }
 
--- the record with room for so many writes more
+-- the record with room for `writes` writes more, whose ranges have `bytes` bytes in all
 abbrev pub with_room : WriteRecord → ℕ → ℕ → WriteRecord
 with_room w writes bytes = record w { writes_left = w.writes_left + writes; bytes_left = w.bytes_left + bytes }
 
--- a write of so many bytes can be recorded
+-- a write of `count` bytes can be recorded
 abbrev pub has_room : WriteRecord → ℕ → Bool
 has_room w count = nat_lt 0 w.writes_left && nat_le count w.bytes_left
 
@@ -196,11 +196,11 @@ pub record Tear : Type 0 where
 
 -- a flash in memory
 pub record FlashInMemory : Type 0 where
-  -- the name under which it is attached
+  -- the name under which the flash is attached
   pub name : List ℕ
   pub bytes : List ℕ
   pub attached : Bool
-  -- whether it was asked for under its name
+  -- whether the flash was asked for under its name
   pub asked : Bool
   -- the reads since the last write lie from this place on, and below the next one
   pub seen_from : ℕ
@@ -284,7 +284,7 @@ after_attach f name =
       absences = absences_after f name;
     }
 
--- the flash after a read of so many bytes from a place on
+-- the flash after a read of `count` bytes from a place on
 abbrev pub after_read_at : FlashInMemory → ℕ → ℕ → FlashInMemory
 after_read_at f place count =
     record f {
@@ -294,7 +294,7 @@ after_read_at f place count =
       seen_to = if flash_fails f then f.seen_to else max f.seen_to (place + count);
     }
 
--- a write of so many bytes is refused and changes nothing: as planned, or since the record has no room
+-- a write of `count` bytes is refused and changes nothing: as planned, or since the record has no room
 abbrev pub write_refused : FlashInMemory → ℕ → Bool
 write_refused f count = flash_fails f || not (has_room f.writes count)
 
@@ -310,11 +310,11 @@ latest_tear f = option_and_then (λ tear. if tear.call == f.calls.last then Some
 abbrev pub after_tear : FlashInMemory → FlashInMemory
 after_tear f = record f { stopped = true; write_faults = raised f.write_faults }
 
--- a write of so many bytes fails
+-- a write of `count` bytes fails
 abbrev pub write_fails_in : FlashInMemory → ℕ → Bool
 write_fails_in f count = write_refused f count || is_some (next_tear f)
 
--- the flash as a write begins: it has its number, and nothing is seen
+-- the flash as a write begins: the call has its number, and no byte is seen any more
 abbrev pub begun : FlashInMemory → FlashInMemory
 begun f = record f { calls = numbered f.calls; seen_from = 2 ^ 64 - 1; seen_to = 0 }
 

@@ -3,7 +3,7 @@ use Rattle.std.specs.Prelude.{ℕ, ◌+◌, List, [], ◌∷◌, take, drop}
 use Rattle.x7_in_memory.specs.Memory.{PastWrite}
 use Rattle.x7_in_memory.specs.declared.record.Span.{Span}
 
--- the bytes of all ranges
+-- the number of bytes of all ranges together
 abbrev pub count_of : List Span → ℕ
 count_of [] = 0
 count_of (span ∷ spans) = span.count + count_of spans

@@ -48,7 +48,7 @@ impl Calls {
         Ok(())
     }
 
-    /// Takes the next number, which may be that of a call that is to fail. What fails counts it.
+    /// Takes the next number, which may be that of a call that is to fail. The object of the calls counts the fault.
     pub fn next(&mut self) -> Result<(), Failed>
         ensures answer { is_err result ≡ next_fails self.old }
         ensures after { self.new ≡ numbered self.old }

@@ -66,7 +66,7 @@ impl Model for MemoryFlash {
         × (f.writes.bytes_left ≤ vec_capacity f.target) };
 }
 
-/// Each of the bytes is one.
+/// Each element of a slice of bytes is a byte.
 fn are_bytes(bytes: &[u8])
     ensures { AreBytes bytes.now }
 {}
@@ -150,7 +150,7 @@ impl MemoryFlash {
         self.calls.fail_at(call)
     }
 
-    /// Makes room for so many writes more, with ranges of so many bytes in all. A new flash has none.
+    /// Makes room for `writes` writes more, with ranges of `bytes` bytes in all. A new flash has room for none.
     pub fn make_room(&mut self, writes: u64, bytes: u64) -> Result<(), NoMemory>
         ensures ok { OnOk result (self.new ≡ record self.old { writes = with_room self.old.writes writes bytes }) }
         ensures err { OnErr result (self.new ≡ self.old) }
@@ -195,7 +195,7 @@ impl MemoryFlash {
         Ok(())
     }
 
-    /// Begins a write of so many bytes: it has the next number, and is refused where that is to fail or has no room.
+    /// Begins a write of `count` bytes: its call has the next number, and is refused where that is to fail or has no room.
     fn begin_write(&mut self, count: usize) -> Result<(), Failed>
         ensures answer { is_err result ≡ write_refused self.old count }
         ensures ok { OnOk result (self.new ≡ begun self.old) }

@@ -1,4 +1,4 @@
-//! Inputs, a sink and a flash in memory, known whole, whose calls can be told to fail.
+//! Inputs, a sink and a flash in memory, known whole, whose calls can be made to fail.
 #![tactic(auto)]
 
 mod calls;

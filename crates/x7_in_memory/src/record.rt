@@ -59,7 +59,7 @@ impl Record {
         }
     }
 
-    /// Makes room for so many writes more, with ranges of so many bytes in all.
+    /// Makes room for `writes` writes more, with ranges of `bytes` bytes in all.
     pub fn make_room(&mut self, writes: u64, bytes: u64) -> Result<(), NoMemory>
         ensures ok { OnOk result (self.new ≡ with_room self.old writes bytes) }
         ensures err { OnErr result (self.new ≡ self.old) }
@@ -83,7 +83,7 @@ impl Record {
         self.bytes_left as u64
     }
 
-    /// Whether a write of so many bytes can be recorded.
+    /// Whether a write of `count` bytes can be recorded.
     pub fn has_room(&self, count: usize) -> bool
         ensures { result ≡ has_room self.now count }
     {

@@ -40,7 +40,7 @@ impl Model for MemorySink {
 }
 
 impl MemorySink {
-    /// Room for so many bytes. A write takes as many bytes as there is room for.
+    /// An empty sink with room for `room` bytes. A write takes as many bytes as there is room for.
     pub fn new(alloc: Global, room: usize) -> Result<MemorySink, NoMemory>
         ensures { IfOk result (λ s. s ≡
             record { bytes = []; room = room; most = usize.MAX; calls = no_calls; faults = 0 }) }

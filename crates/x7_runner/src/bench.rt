@@ -155,7 +155,7 @@ impl<'a> Bench<'a> {
         Ok(())
     }
 
-    /// All runs whose reads give so many bytes, and whose input has one damage.
+    /// All runs with the reads and the damage of one turn.
     fn run_piece<C: Command>(
         &self,
         command: &C,

@@ -16,7 +16,7 @@ pub struct Case {
     /// Whether later cases have what `out` got, and its name there.
     pub is_kept: bool,
     pub kept: String,
-    /// Whether they have what the flash holds in its place.
+    /// Whether later cases have what the flash holds in place of what `out` got.
     pub keeps_flash: bool,
 }
 

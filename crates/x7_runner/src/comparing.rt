@@ -23,7 +23,7 @@ fn nearest<'a>(text: &'a str, line: &[u8]) -> &'a [u8] {
     best
 }
 
-/// A line that the text should have.
+/// Compares a text with a line that it should have.
 fn compare_line(notes: &mut Notes, line: &str, text: &str) -> Result<(), Fault> {
     let line = line.as_bytes();
     let came = nearest(text, line);
@@ -35,7 +35,7 @@ fn text_of(bytes: &[u8]) -> &str {
     std::str::from_utf8(bytes).unwrap_or("")
 }
 
-/// The lines that the text should have.
+/// Compares a text with the lines that it should have.
 fn compare_parts(notes: &mut Notes, lines: &[u8], came: &[u8]) -> Result<(), Fault> {
     let lines = text_of(lines);
     let text = text_of(came);
@@ -45,7 +45,7 @@ fn compare_parts(notes: &mut Notes, lines: &[u8], came: &[u8]) -> Result<(), Fau
     Ok(())
 }
 
-/// The text that came.
+/// Compares the text that came with the one expected.
 fn compare_out(notes: &mut Notes, expected: &Expected, came: &[u8]) -> Result<(), Fault> {
     if let Some(length) = expected.length {
         notes.compare_numbers("out length", u64::from(length), came.len() as u64)?;
@@ -69,7 +69,7 @@ fn flash_after<'a>(expected: &'a Expected, given: &'a Outside) -> &'a [u8] {
     }
 }
 
-/// The message that came: the one line, and a prefix of it where a call of `err` failed.
+/// Compares the message that came with the line expected, or where a call of `err` failed with a prefix of it.
 fn compare_err(
     notes: &mut Notes,
     expected: &Expected,
@@ -83,7 +83,7 @@ fn compare_err(
     }
 }
 
-/// The status, the text and the message that came.
+/// Compares the status, the text and the message that came with those expected.
 fn compare_answer(
     notes: &mut Notes,
     expected: &Expected,
@@ -99,7 +99,7 @@ fn compare_answer(
     compare_err(notes, expected, turn, &ending.err)
 }
 
-/// All that a run left.
+/// Compares all that a run left with what it should come to.
 pub fn compare(
     notes: &mut Notes,
     given: &Outside,

@@ -7,9 +7,9 @@ use std::alloc::Global;
 /// How an input is damaged.
 #[derive(Clone, Copy, Drop, PartialEq, Eq)]
 pub enum Damage {
-    /// It ends after so many bytes.
+    /// The input ends after this number of bytes.
     Cut,
-    /// This bit is changed, counted from 0 at the highest bit of its first byte.
+    /// The input's bit of this number is changed, counted from 0 at the highest bit of the first byte.
     Bit,
 }
 

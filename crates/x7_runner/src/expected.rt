@@ -12,7 +12,7 @@ pub enum Extent {
     Prefix,
     /// The text has the lines and the length that are given.
     Parts,
-    /// Whatever it comes to: the runs beside it come to the same.
+    /// The text is any: the runs beside this one come to the same.
     Any,
 }
 

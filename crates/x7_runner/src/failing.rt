@@ -11,21 +11,21 @@ const READ_FAULT: u64 = 6;
 
 const WRITE_FAULT: u64 = 7;
 
-/// That a run is the first one again.
+/// Notes where a run differs from the whole run.
 pub fn compare_spared(notes: &mut Notes, whole: &Ending, came: &Ending) -> Result<(), Fault> {
     notes.compare_numbers("status", u64::from(whole.status), u64::from(came.status))?;
     notes.compare_texts("out", &whole.out, &came.out)?;
     notes.compare_texts("err", &whole.err, &came.err)
 }
 
-/// That a failed call of `err` takes nothing but an end of its line.
+/// Notes where a failed call of `err` took more than an end of its line.
 fn compare_err_failed(notes: &mut Notes, whole: &Ending, came: &Ending) -> Result<(), Fault> {
     notes.compare_numbers("status", u64::from(whole.status), u64::from(came.status))?;
     notes.compare_texts("out", &whole.out, &came.out)?;
     notes.compare_prefix("err", &whole.err, &came.err)
 }
 
-/// That a failed call of `out` leaves a prefix of the text, and its message.
+/// Notes where a failed call of `out` left no prefix of the text, or not its message.
 fn compare_out_failed(notes: &mut Notes, whole: &Ending, came: &Ending) -> Result<(), Fault> {
     notes.compare_numbers("status", WRITE_FAULT, u64::from(came.status))?;
     notes.compare_prefix("out", &whole.out, &came.out)?;
@@ -54,7 +54,7 @@ impl Blamed {
         }
     }
 
-    /// Takes the name that a message tells. False where it is no word at or after the one told last.
+    /// Takes the name in a message. False where it is no word from the one named last on.
     fn take(&mut self, words: &[String], name: &[u8]) -> Result<bool, Fault> {
         let last = self.places.last().copied().unwrap_or(1);
         for (place, word) in words.iter().enumerate().skip(last) {
@@ -66,7 +66,7 @@ impl Blamed {
         Ok(false)
     }
 
-    /// Whether a message told this name.
+    /// Whether a message named this input.
     fn has(&self, words: &[String], name: &str) -> bool {
         for place in &self.places {
             if words.get(*place).is_some_and(|word| word.as_str() == name) {
@@ -76,7 +76,7 @@ impl Blamed {
         false
     }
 
-    /// That each of these inputs that the words name was told.
+    /// Notes each of these inputs that the words name and no message did.
     pub fn compare_all(
         &self,
         notes: &mut Notes,
@@ -100,7 +100,7 @@ fn out_after_read_fault<'a>(words: &[String], whole: &'a Ending) -> &'a [u8] {
     }
 }
 
-/// That a failed call of the inputs or the flash leaves its message, and no more than a prefix of a listing.
+/// Notes where a failed call of the inputs or the flash left not its message, or more than a prefix of a listing.
 fn compare_read_failed(
     notes: &mut Notes,
     words: &[String],
@@ -120,7 +120,7 @@ fn compare_read_failed(
     Ok(())
 }
 
-/// That a failed write of the flash leaves its message, and no text.
+/// Notes where a failed write of the flash left not its message, or any text.
 fn compare_write_failed(notes: &mut Notes, came: &Ending) -> Result<(), Fault> {
     notes.compare_texts("out", b"", &came.out)?;
     notes.compare_texts("err", b"x7: write fault\n", &came.err)
@@ -134,7 +134,7 @@ fn is_write(words: &[String], came: &Ending) -> bool {
     }
 }
 
-/// That a run in which a call of the object failed ended as it should.
+/// Notes where a run in which a call of the object failed didn't end as it should.
 pub fn compare_failed(
     notes: &mut Notes,
     words: &[String],

@@ -2,7 +2,7 @@
 use crate::fault::Fault;
 use std::alloc::Global;
 
-/// How many bytes two texts have in common at the front.
+/// How many bytes two texts have in common from their first byte on.
 pub fn common_length(one: &[u8], other: &[u8]) -> usize {
     for (place, (a, b)) in one.iter().zip(other.iter()).enumerate() {
         if *a != *b {
@@ -64,14 +64,14 @@ impl Notes {
         }
     }
 
-    /// What follows is of a run of this name.
+    /// Begins the notes on a run of this name.
     pub fn begin(&mut self, name: &str) -> Result<(), Fault> {
         self.run.clear();
         self.run.push_str(name)?;
         Ok(())
     }
 
-    /// That two things differ, if they do.
+    /// Notes two texts that differ, each whole.
     pub fn compare(&mut self, what: &str, expected: &str, came: &str) -> Result<(), Fault> {
         if expected != came {
             let run = &self.run;
@@ -83,7 +83,7 @@ impl Notes {
         Ok(())
     }
 
-    /// That two numbers differ, if they do.
+    /// Notes that two numbers differ, if they do.
     pub fn compare_numbers(&mut self, what: &str, expected: u64, came: u64) -> Result<(), Fault> {
         if expected != came {
             let run = &self.run;
@@ -95,14 +95,14 @@ impl Notes {
         Ok(())
     }
 
-    /// That two lines differ, if they do.
+    /// Notes that two lines differ, if they do.
     pub fn compare_lines(&mut self, what: &str, expected: &[u8], came: &[u8]) -> Result<(), Fault> {
         let expected = shown(self.alloc, expected)?;
         let came = shown(self.alloc, came)?;
         self.compare(what, expected.as_str(), came.as_str())
     }
 
-    /// Where two texts differ, if they do.
+    /// Notes where two texts differ, if they do.
     pub fn compare_texts(&mut self, what: &str, expected: &[u8], came: &[u8]) -> Result<(), Fault> {
         if expected == came {
             return Ok(());
@@ -115,7 +115,7 @@ impl Notes {
         self.compare_lines(what.as_str(), expected, came)
     }
 
-    /// That the text is no prefix of the other, if it isn't.
+    /// Notes that a text is no prefix of the whole one, if it isn't.
     pub fn compare_prefix(&mut self, what: &str, whole: &[u8], came: &[u8]) -> Result<(), Fault> {
         if whole.starts_with(came) {
             return Ok(());

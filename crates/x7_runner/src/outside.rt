@@ -16,7 +16,7 @@ pub enum Object {
 }
 
 impl Object {
-    /// Its name in a file of cases.
+    /// The object's name in a file of cases.
     pub fn name(self) -> &'static str {
         match self {
             Object::In => "in",
@@ -53,7 +53,7 @@ pub struct Outside {
     pub inputs: Vec<Named>,
     /// At most one: an input that has another damage in each run.
     pub damaged: Vec<Damaged>,
-    /// At most one.
+    /// The flash of the run; at most one.
     pub flash: Vec<Named>,
     pub writing: Writing,
     /// The most bytes of one read: a run for each, or one run without a limit.
@@ -62,7 +62,7 @@ pub struct Outside {
     pub alike: Vec<u32>,
     /// The most bytes of one write.
     pub write_piece: u32,
-    /// A run for each, or one run without a failing call.
+    /// The calls that fail: a run for each, or one run without a failing call.
     pub failing: Vec<Failing>,
     /// Objects whose calls fail in turn.
     pub each: Vec<Object>,

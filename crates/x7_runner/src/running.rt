@@ -24,7 +24,7 @@ pub struct Turn {
 }
 
 impl Turn {
-    /// This damage, reads of so many bytes, and no call that fails.
+    /// A turn with this damage, reads of at most `piece` bytes, and no call that fails.
     pub fn new(damage: Option<u32>, piece: u32) -> Turn {
         Turn {
             damage,
@@ -35,7 +35,7 @@ impl Turn {
         }
     }
 
-    /// The same with this call of the object failing.
+    /// This turn, but with this call of the object failing.
     pub fn failing(self, object: Object, call: u64) -> Turn {
         Turn {
             object,
@@ -44,12 +44,12 @@ impl Turn {
         }
     }
 
-    /// The same with reads of so many bytes.
+    /// This turn, but with reads of at most `piece` bytes.
     pub fn in_pieces(self, piece: u32) -> Turn {
         Turn { piece, ..self }
     }
 
-    /// The same with the first call of `err` failing too.
+    /// This turn, but with the first call of `err` failing too.
     pub fn mute(self) -> Turn {
         Turn {
             is_mute: true,
@@ -57,7 +57,7 @@ impl Turn {
         }
     }
 
-    /// What differs, as it is printed behind a case's name.
+    /// Appends what differs, as it is printed after a case's name.
     pub fn put_name(&self, name: &mut String) -> Result<(), Fault> {
         if let Some(number) = self.damage {
             write!(name, ", damage {number}")?;

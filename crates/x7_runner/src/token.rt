@@ -18,7 +18,7 @@ pub fn positive(token: &str) -> Result<u32, Fault> {
     }
 }
 
-/// Appends `TEXT*N>REST`: the text so many times, and the rest.
+/// Appends `TEXT*N>REST`: the text N times, and the rest.
 fn put_group(text: &mut String, group: &str) -> Result<(), Fault> {
     let Some((repeated, rest)) = group.split_once('>') else {
         return Err(Fault::Line);
@@ -33,7 +33,7 @@ fn put_group(text: &mut String, group: &str) -> Result<(), Fault> {
     Ok(())
 }
 
-/// Appends the line, in which `<TEXT*N>` stands for the text so many times, and its end.
+/// Appends the line, in which `<TEXT*N>` is the text N times, and its end.
 fn put_expanded(text: &mut String, line: &str) -> Result<(), Fault> {
     let mut groups = line.split('<');
     text.push_str(groups.next().unwrap_or(""))?;
@@ -44,7 +44,7 @@ fn put_expanded(text: &mut String, line: &str) -> Result<(), Fault> {
     Ok(())
 }
 
-/// Appends a line and its end so many times.
+/// Appends a line and its end `times` times.
 fn put_copies(alloc: Global, text: &mut Vec<u8>, line: &str, times: u32) -> Result<(), Fault> {
     let mut copy = String::new(alloc);
     put_expanded(&mut copy, line)?;
@@ -62,7 +62,7 @@ pub fn put_lines(alloc: Global, text: &mut Vec<u8>, line: &str) -> Result<(), Fa
     put_copies(alloc, text, line, positive(times)?)
 }
 
-/// Appends the bytes so many times.
+/// Appends the bytes `times` times.
 fn put_times(bytes: &mut Vec<u8>, piece: &[u8], times: u32) -> Result<(), Fault> {
     for _ in 0..times {
         bytes.extend_from_slice(piece)?;
@@ -70,14 +70,14 @@ fn put_times(bytes: &mut Vec<u8>, piece: &[u8], times: u32) -> Result<(), Fault>
     Ok(())
 }
 
-/// Appends a byte so many times.
+/// Appends a byte `times` times.
 fn put_byte(bytes: &mut Vec<u8>, byte: u8, times: u32) -> Result<(), Fault> {
     let length = bytes.len().saturating_add(times as usize);
     bytes.resize(length, byte)?;
     Ok(())
 }
 
-/// Appends the bytes of one token: hex digits, and behind a star how many times they come.
+/// Appends the bytes of one token: hex digits, and after a star how many times they come.
 fn put_token(alloc: Global, bytes: &mut Vec<u8>, token: &str) -> Result<(), Fault> {
     let (digits, times) = match token.split_once('*') {
         Some((digits, times)) => (digits, positive(times)?),

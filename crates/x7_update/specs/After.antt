@@ -8,7 +8,7 @@ use Rattle.x7_update.specs.Layout.{HasLayout, IsClosed, IsNext, IsOpen, open_wor
 abbrev pub switched : ℕ → List ℕ → List ℕ → List ℕ
 switched slot word flash = replaced (32 * slot) word flash
 
--- the flash with this stream at its place, and FF from its end to the flash's
+-- the flash with this stream at its place, and FF from the stream's end to the flash's end
 abbrev pub with_stream : ℕ → List ℕ → List ℕ → List ℕ
 with_stream place stream flash = take place flash ++ (stream ++ replicate (length flash - (place + length stream)) 255)
 
@@ -17,7 +17,7 @@ pub data ClosesTo (flash closed : List ℕ) : Type 0 where
   already : IsClosed flash → closed ≡ flash → ClosesTo flash closed
   spends : (slot : ℕ) → slot < 2048 → IsOpen flash slot → closed ≡ switched slot spent_word flash → ClosesTo flash closed
 
--- The flash after an update with a stream: its open slot is spent, the stream stands at U with FF behind it, and the first slot
+-- The flash after an update with a stream: its open slot is spent, the stream stands at U with FF after it, and the first slot
 -- from which on all are free is open.
 pub record IsAfter (stream flash after : List ℕ) : Type 0 where
   pub closed : List ℕ

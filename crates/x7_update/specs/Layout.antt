@@ -3,7 +3,7 @@
 --     place     what stands there
 --     0         2,048 slots of 32 bytes: a switch word, and then the words that lead a device to the update's place U
 --     65,536    the golden stream
---     U         the update stream, and FF behind it
+--     U         the update stream, and FF after it
 --
 -- A device takes the one slot whose switch word is the sync word: that slot is open. A slot of FFFFFFFF is free, any other is spent.
 use Rattle.std.specs.Prelude.{◌≡◌, ◌≢◌, ℕ, suc, ◌+◌, ◌*◌, ◌%◌, ◌<◌, ◌≤◌, List, [], ◌∷◌, ◌++◌, length, get_or}
@@ -56,7 +56,7 @@ pub record CanStandAt (size place : ℕ) : Type 0 where
   pub least : 131072 ≤ place
   pub most : place ≤ size
 
--- the slot leads to U: behind its switch word it is as the first one has to be
+-- the slot leads to U: after its switch word it has the bytes that the first one has to have
 abbrev pub Leads : List ℕ → ℕ → Type 0
 Leads flash slot = (i : ℕ) → 4 ≤ i → i < 32 → get_or flash (32 * slot + i) 0 ≡ get_or (first_slot flash) i 0
 

@@ -1,4 +1,4 @@
--- That an update is read back before its slot is opened (this project's choice).
+-- An update is read back before its slot is opened (this project's choice).
 use Rattle.std.specs.Prelude.{◌≡◌, ℕ, ◌+◌, ◌≤◌, List}
 use Rattle.x7_words.specs.Flash.{FlashState, IfKnown}
 use Rattle.x7_update.specs.After.{IsAfter}

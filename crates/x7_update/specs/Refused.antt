@@ -6,7 +6,7 @@ use Rattle.x7_update.specs.Writing.{IsReadWrong}
 use Rattle.x7_update.specs.declared.fault.UpdateFault.{UpdateFault}
 use Rattle.x7_update.specs.declared.fault.UpdateFault.TheVariants.{Differs, Failed, NoLayout, NoMemory, TooLong}
 
--- the first place of a slot, behind its switch word, at which it differs from what it has to be
+-- the first place of a slot, after its switch word, at which the slot differs from what it has to be
 pub record DiffersAt (flash : List ℕ) (slot place : ℕ) : Type 0 where
   pub i : ℕ
   pub behind : 4 ≤ i
@@ -26,7 +26,7 @@ pub record OpensAgain (flash : List ℕ) (slot : ℕ) : Type 0 where
 abbrev pub IsGood : List ℕ → ℕ → Type 0
 IsGood flash slot = Leads flash slot × (OpensAgain flash slot → ⊥)
 
--- why a slot is none of a layout, and the place that tells it: it doesn't lead to U (there), or is open as one before it (its place)
+-- why a slot is none of a layout, and the place that shows it: the slot doesn't lead to U (where it differs), or is open as one before it is (the slot's place)
 abbrev pub IsBad : List ℕ → ℕ → ℕ → Type 0
 IsBad flash slot place = DiffersAt flash slot place ⊎ (Leads flash slot × OpensAgain flash slot × (place ≡ 32 * slot))
 
@@ -58,9 +58,9 @@ pub record CanTake (stream flash : List ℕ) : Type 0 where
   pub layout : HasLayout flash
   pub fits : update_place flash + length stream ≤ length flash
 
--- Each refusal has its cause: a failed write or read its count, which rose, of a flash whose size is good, and told bytes are written only where the stream
--- fits; of told bytes, the stream doesn't fit or there is no layout; and a byte that was read at the place, with no write since, is another than the one
--- written there, only where the bytes aren't told. Want of memory has none.
+-- Each refusal has its cause. A write or a read failed: its count has risen, the flash's size is good, and known bytes were written only where the stream
+-- fits. The stream doesn't fit into known bytes, or these have no layout. A byte that was read at the place, with no write since, is another than the one
+-- written there, only where the bytes aren't known. Want of memory has no cause.
 abbrev pub HasCause : List ℕ → FlashState → FlashState → UpdateFault → Type 0
 HasCause stream old new (Failed true) = WriteFails old new × HasSize new.extent × IfKnown old.bytes (CanTake stream)
 HasCause stream old new (Failed false) = FlashFails old new × HasSize new.extent
@@ -69,7 +69,7 @@ HasCause stream old new (NoLayout place) = IfKnown old.bytes (λ flash. NoLayout
 HasCause stream old new (Differs place wrote read) = IsReadWrong new.extent stream place wrote read × (old.bytes ≡ None) × IsTrue (new.seen place read)
 HasCause stream old new NoMemory = Unit {0}
 
--- such a refusal comes before the first write
+-- a refusal for this fault comes before the first write
 abbrev pub IsEarly : UpdateFault → Type 0
 IsEarly (Failed writing) = ⊥
 IsEarly TooLong = Unit {0}
@@ -77,7 +77,7 @@ IsEarly (NoLayout place) = Unit {0}
 IsEarly (Differs place wrote read) = ⊥
 IsEarly NoMemory = Unit {0}
 
--- the flash told bytes with a layout in which the stream fits, and no write and no read failed
+-- the flash's bytes were known, with a layout in which the stream fits, and no write and no read failed
 pub record CanBeUpdated (stream : List ℕ) (old new : FlashState) : Type 0 where
   pub flash : List ℕ
   pub told : old.bytes ≡ Some flash

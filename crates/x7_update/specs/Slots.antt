@@ -5,12 +5,12 @@ use Rattle.x7_update.specs.Refused.{OpensAgain}
 use Rattle.x7_update.specs.declared.slots.Seen.{Seen}
 use Rattle.x7_update.specs.declared.slots.Slots.{Slots}
 
--- of the first slots this one is open, or none
+-- of the first `count` slots this one is open, or none is
 abbrev pub OpenAmong : List ℕ → ℕ → Option ℕ → Type 0
 OpenAmong flash count None = (slot : ℕ) → slot < count → switch_of flash slot ≢ open_word
 OpenAmong flash count (Some slot) = (slot < count) × IsOpen flash slot
 
--- what is known of the first slots
+-- what was seen of the first `count` slots is so: each leads to U, at most one of them is open, and from `next` on all are free
 pub record SoFar (flash : List ℕ) (count : ℕ) (seen : Seen) : Type 0 where
   pub leads : (slot : ℕ) → slot < count → Leads flash slot
   pub once : (slot : ℕ) → slot < count → OpensAgain flash slot → ⊥
@@ -19,7 +19,7 @@ pub record SoFar (flash : List ℕ) (count : ℕ) (seen : Seen) : Type 0 where
   pub free : (slot : ℕ) → seen.next ≤ slot → slot < count → IsFree flash slot
   pub first : (slot : ℕ) → suc slot ≡ seen.next → switch_of flash slot ≢ free_word
 
--- the slots are those of a flash of a size
+-- what was found is so: the first sector of a flash of this size is slots of a layout, with this U, this open slot or none, and this next one
 pub record Finds (size : ℕ) (flash : List ℕ) (slots : Slots) : Type 0 where
   pub sized : HasSize size
   pub has : HasSlots size flash

@@ -7,16 +7,16 @@ use Rattle.x7_update.specs.Layout.{CanStandAt, HasSize, open_word, switch_of}
 use Rattle.x7_update.specs.declared.fault.UpdateFault.{UpdateFault}
 use Rattle.x7_update.specs.declared.fault.UpdateFault.TheVariants.{Differs, Failed, NoLayout, NoMemory, TooLong}
 
--- where the bytes were told they are told still, and in this relation to what they were
+-- where the bytes were known they are still known, and in this relation to what they were
 abbrev pub Leaves : FlashState → FlashState → (List ℕ → List ℕ → Type 0) → Type 0
 Leaves old new Relates = IfKnown old.bytes (λ all. (now : List ℕ) × (new.bytes ≡ Some now) × Relates all now)
 
--- bytes that were told are told still, and in this relation to what they were; bytes that weren't told aren't
+-- bytes that were known are still known, and in this relation to what they were; bytes that weren't known still aren't
 abbrev pub BecomesBytes : (List ℕ → List ℕ → Type 0) → Option (List ℕ) → Option (List ℕ) → Type 0
 BecomesBytes Relates None new = new ≡ None
 BecomesBytes Relates (Some all) new = (now : List ℕ) × (new ≡ Some now) × Relates all now
 
--- the same of two states
+-- a flash's bytes that were known are still known, and in this relation to what they were; bytes that weren't known still aren't
 abbrev pub Becomes : FlashState → FlashState → (List ℕ → List ℕ → Type 0) → Type 0
 Becomes old new Relates = BecomesBytes Relates old.bytes new.bytes
 
@@ -67,7 +67,7 @@ Opening slot old found = (found ≡ switched slot open_word old) ⊎ OnlySwitch 
 abbrev pub Replacing : List ℕ → List ℕ → Type 0
 Replacing old found = (found ≡ old) ⊎ IsBetween old found
 
--- the stream stands at its place, with FF behind it
+-- the stream stands at its place, with FF after it
 abbrev pub Stands : ℕ → List ℕ → List ℕ → List ℕ → Type 0
 Stands place stream old now = now ≡ with_stream place stream old
 
@@ -77,7 +77,7 @@ pub record Replaced (place : ℕ) (stream old now : List ℕ) : Type 0 where
   pub closes : ClosesTo old closed
   pub stands : Stands place stream closed now
 
--- the byte that is wanted at a place from U on: the stream's, or FF behind it
+-- the byte that is wanted at a place from U on: the stream's, or FF after it
 abbrev pub wanted_at : ℕ → List ℕ → ℕ → ℕ
 wanted_at update stream place = if nat_lt (place - update) (length stream) then get_or stream (place - update) 0 else 255
 
@@ -102,8 +102,8 @@ IsWrong update stream place buffer TooLong = ⊥
 IsWrong update stream place buffer (NoLayout at) = ⊥
 IsWrong update stream place buffer NoMemory = ⊥
 
--- The byte that an update with a stream writes at a place of a flash of a size: the stream's, or FF behind it, from a place on at
--- which it can stand and fits; or one of the switch word of the slot that it opens.
+-- The byte that an update with a stream writes at a place of a flash of a size: the stream's, or FF after it, from a place on at
+-- which the stream can stand and fits; or one of the switch word of the slot that is opened.
 pub data IsWritten (size : ℕ) (stream : List ℕ) (place byte : ℕ) : Type 0 where
   in_stream : (update : ℕ) → CanStandAt size update → update + length stream ≤ size → update ≤ place → place < size
       → byte ≡ wanted_at update stream place → IsWritten size stream place byte

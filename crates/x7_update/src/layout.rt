@@ -38,7 +38,7 @@ pub(crate) fn is_word(word: [u8; 4], other: [u8; 4]) -> bool
     a == e && b == f && c == g && d == h
 }
 
-/// What each slot has to be behind its switch word.
+/// What each slot has to be after its switch word.
 #[rattlefmt::skip]
 pub(crate) fn first_slot(first: &[u8]) -> [u8; 32]
     requires { 16 ≤ length first.now }

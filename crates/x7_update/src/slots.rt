@@ -24,7 +24,7 @@ pub struct Slots {
     pub next: u64,
 }
 
-/// The first place of a slot, behind its switch word, at which it differs from what it has to be.
+/// The first place of a slot, after its switch word, at which the slot differs from what it has to be.
 fn difference(first: &[u8], wanted: &[u8; 32], slot: usize) -> Option<u64>
     requires slot { slot < 2048 }
     requires first { length first.now ≡ 65536 }
@@ -41,7 +41,7 @@ fn difference(first: &[u8], wanted: &[u8; 32], slot: usize) -> Option<u64>
     None
 }
 
-/// Takes a slot, by what those before it say.
+/// Takes a slot, by what the slots before it say.
 fn take_slot(first: &[u8], wanted: &[u8; 32], slot: u64, seen: Seen) -> Result<Seen, u64>
     requires slot { slot < 2048 }
     requires first { length first.now ≡ 65536 }

@@ -123,7 +123,7 @@ fn take_steps<F: Flash>(alloc: Global, flash: &mut F, stream: &[u8]) -> Result<(
     finish(flash, slots, stream, &mut buffer)
 }
 
-/// Updates a flash with a stream: the open slot is closed, the stream is written at its place with FF behind it and read back,
+/// Updates a flash with a stream: the open slot is closed, the stream is written at its place with FF after it and read back,
 /// and the next slot is opened.
 ///
 /// Power may be lost at any moment. What is found then is the flash as it was, or a flash without an open slot, whose golden

@@ -8,7 +8,7 @@ use crate::fault::UpdateFault;
 use crate::layout::OPEN;
 use x7_words::{Flash, SECTOR};
 
-/// The byte that is wanted so far behind the update's place: the stream's, or FF behind it.
+/// The byte that is wanted `behind` bytes after the update's place: the stream's, or FF after the stream.
 fn wanted(stream: &[u8], behind: u64) -> u8
     ensures { (update : ℕ) → result ≡ wanted_at update stream.now (update + behind) }
 {
@@ -40,7 +40,7 @@ fn compare(buffer: &[u8], behind: u64, update: u64, stream: &[u8]) -> Result<(),
     Ok(())
 }
 
-/// Reads all from the update's place on, and compares it with the stream and FF behind it.
+/// Reads all from the update's place on, and compares it with the stream and FF after it.
 pub(crate) fn verify_stream<F: Flash>(
     flash: &mut F,
     update: u64,

@@ -5,7 +5,7 @@ ghost use Rattle.x7_update.specs.Writing.{AtAnyMoment, Becomes, ErasedTo, KeepsB
 
 use x7_words::{Failed, Flash, SECTOR};
 
-/// Makes all from the place on FF, sector by sector. Nothing below it changes, at any moment.
+/// Makes all from the place on FF, sector by sector. Nothing below the place changes, at any moment.
 fn erase_from<F: Flash>(flash: &mut F, place: u64) -> Result<(), Failed>
     requires attached { (F.state flash.old).attached ≡ true }
     requires size { (F.state flash.old).extent % 65536 ≡ 0 }
@@ -24,7 +24,7 @@ fn erase_from<F: Flash>(flash: &mut F, place: u64) -> Result<(), Failed>
     Ok(())
 }
 
-/// Writes the stream at its place, with FF behind it to the flash's end. Nothing below it changes, at any moment.
+/// Writes the stream at its place, with FF after it to the flash's end. Nothing below the place changes, at any moment.
 pub(crate) fn write_stream<F: Flash>(flash: &mut F, place: u64, stream: &[u8]) -> Result<(), Failed>
     requires attached { (F.state flash.old).attached ≡ true }
     requires size { (F.state flash.old).extent % 65536 ≡ 0 }
