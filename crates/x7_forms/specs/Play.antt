@@ -12,7 +12,7 @@ use Rattle.x7_forms.specs.Event.{Event, bad_part, no_memory}
 use Rattle.x7_forms.specs.declared.player.Player.{Player}
 use Rattle.x7_part.specs.declared.fault.PartFault.TheVariants as part
 
--- A device was given these bytes, and took all of them, or those up to its stop; `reads` are the words read out but those that are still due, within their limit.
+-- A device was given these bytes, and took all of them, or those up to its stop; `reads` are the words read out, without those still due, within their limit.
 pub record Plays (part : PartData) (bytes : List ℕ) (d : DeviceState) (reads : List ℕ) : Type 0 where
   pub taken : List ℕ
   pub left : List ℕ

@@ -35,7 +35,7 @@ fn gather(buffer: &mut ReadBuf, reads: &mut Vec<u32>) -> bool
 }
 
 /// Feeds the bytes of a piece to a device, up to one that stops it, gathers the words that it reads out, and says whether
-/// all words are over the limit. The room for words is made before the bytes are fed that read them out.
+/// all words so far are over the limit. The room for words is made before the bytes are fed that read them out.
 fn feed(
     device: &mut Device,
     buffer: &mut ReadBuf,
