@@ -1,6 +1,6 @@
 """What streams do to a device, but for its frames: the rules of docs/FORMATS.md on accesses, commands, checks, startup and watchdog.
 It needs no x7 and no part file, so it knows neither the faults Address and Overrun, nor Multi where the
-source of copies is missing, nor what frames hold."""
+source of copies is missing, nor what frames hold; x7report has them."""
 from collections import namedtuple
 
 import x7formats as x7
@@ -87,12 +87,16 @@ class Device:
 
     def take(self, data, step):
         """Takes a step."""
+        if step.kind != "write":
+            self.watch(step.end)
+        if self.has_stopped:
+            return
         if step.kind == "sync":
             self.end = ["synced"]
         elif step.kind == "bad":
             self.stop(step.end, "fault", "Packet", f"{step.word:08X}")
         elif step.kind == "read":
-            self.reads += step.count
+            self.read(step)
         elif step.kind == "write" and step.register in (x7.FDRI, x7.MFWR):
             self.frame_data(data, step)
         elif step.kind == "write":
@@ -110,14 +114,21 @@ class Device:
         if phase_after(ticks, self.cor0, self.lock, self.match) != 7:
             self.stop(self.deadline, "fault", "Watchdog")
 
+    def read(self, step):
+        """Takes a read."""
+        self.reads += step.count
+
     def frame_data(self, data, step):
         """Takes a write of frame data, or a copy."""
+        if step.present:
+            self.watch(step.first + 4)
+        if step.present and not self.matched:
+            self.stop(step.first + 4, "fault", "Id", f"{self.idcode or 0:08X}", "00000000")
+        if self.has_stopped:
+            return
         if step.present and self.registers["CTL0"] >> 5 & 1:
             self.dropped.append(step)
         elif step.present and (step.register == x7.MFWR or self.command == x7.CODES["WCFG"]):
-            if not self.matched:
-                self.stop(step.first + 4, "fault", "Id", f"{self.idcode or 0:08X}", "00000000")
-                return
             if step.register == x7.MFWR and self.command != x7.CODES["MFW"]:
                 self.stop(step.first + 4, "fault", "Multi")
                 return

@@ -1,12 +1,15 @@
 #!/usr/bin/env python3
-"""Tests the device without frames against every report of the repository's worked cases: taken, end, phase, and registers."""
-from casefiles import Tally, all_cases, os
+"""Tests the device without frames against every report of the repository's worked cases: taken, end, phase, and registers; and the
+whole report of a plain program, frames included, against those of short streams."""
+from casefiles import Tally, all_cases, line_text, os
 import tempfile
 import x7formats as x7
+import x7report
 from x7device import KEPT, Device
 
 tally = Tally()
 FRAME_FAULTS = ("Address", "Overrun", "Multi")
+SHORT, MOST_READS = 20000, 100000
 
 
 def in_file(name, data):
@@ -22,16 +25,30 @@ def wanted_lines(case):
     return {" ".join(line.split()[:2]) if line.startswith("reg ") else line.split(" ")[0]: line for line in lines if line}
 
 
+def whole_report(name, case, part, data):
+    """A case of `play` of a short stream: its status, and its text or the lines that it shows, are those of the plain program."""
+    text, status = x7report.play(part, data)
+    tally.same(f"{name}, status", status, case.status)
+    if case.text and case.is_plain:
+        tally.same(f"{name}, whole", text, case.text.decode())
+    shown = text.splitlines(True)
+    for line in case.has:
+        tally.check(f"{name}, has", line_text(line) in shown, line)
+
+
 def play_case(name, case):
     """A case of `play`: what its report shows is what the device without frames comes to, where no frame's fault ends it."""
     lines = wanted_lines(case)
-    if any(fault in lines.get("end", "") for fault in FRAME_FAULTS):
-        return
     part = x7.read_part(in_file("part", case.bytes_of(case.words[1]) or TINY))
     streams = [case.bytes_of(word) for word in case.words[2:]]
     if None in streams:
         return
-    device = Device(part.idcode, part.lock, part.match).play(b"".join(x7.stream_of(raw).data for raw in streams))
+    data = b"".join(x7.stream_of(raw).data for raw in streams)
+    device = Device(part.idcode, part.lock, part.match).play(data)
+    if len(data) <= SHORT and device.reads <= MOST_READS:
+        whole_report(name, case, part, data)
+    if any(fault in lines.get("end", "") for fault in FRAME_FAULTS):
+        return
     came = {
         "taken": f"taken {device.taken}",
         "end": f"end {' '.join(device.end)}",

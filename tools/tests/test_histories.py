@@ -1,0 +1,281 @@
+#!/usr/bin/env python3
+"""Compares x7 with the plain program of x7report.py on random histories, whole reports of `play` and texts of `boot`.
+
+    test_histories.py [COUNT [SEED]]   COUNT plays and half as many boots, 200 where none is said, of the seeds from SEED on, or from 1
+
+It says the seed of each difference, the first line that differs, and a part file and an assembly text that show it, with as few
+pieces as were found; and whether a plain program with one wrong rule is told from x7 on these histories."""
+from casefiles import Tally
+import os
+import subprocess
+import sys
+import tempfile
+
+from calls import program
+import histories as h
+import x7formats as x7
+import x7report as r
+from x7device import Device
+
+COUNT, SHOWN = 200, 3
+FRAME_FAULTS = (["Address"], ["Overrun"], ["Multi"])
+X7 = program()
+tally = Tally()
+
+
+class Play:
+    """A play of streams: how a seed leads to one, how x7 plays it, and how the plain program does."""
+
+    name = "play"
+    history = staticmethod(h.play_history)
+
+    def by_x7(self, part, lines):
+        streams = h.streams_of(lines)
+        for number, stream in enumerate(streams):
+            x7.write_file(in_folder(f"s{number}"), stream)
+        return ran("play", part, [f"s{number}" for number in range(len(streams))])
+
+    def plainly(self, part, lines, device=r.PartDevice):
+        return r.play(h.part_of(part), b"".join(h.streams_of(lines)), device)
+
+
+class Boot:
+    """A boot from a flash, with erased bytes between its streams."""
+
+    name = "boot"
+    history = staticmethod(h.boot_history)
+
+    def flash(self, lines):
+        return b"".join(stream + b"\xff" * (-len(stream) % 256) for stream in h.streams_of(lines))
+
+    def by_x7(self, part, lines):
+        x7.write_file(in_folder("flash"), self.flash(lines))
+        return ran("boot", part, ["flash"])
+
+    def plainly(self, part, lines, device=r.PartDevice):
+        return r.boot(h.part_of(part), self.flash(lines), device)
+
+
+def in_folder(name):
+    return os.path.join(FOLDER, name)
+
+
+def ran(form, part, names):
+    """What x7 writes, and its status."""
+    x7.write_file(in_folder("part"), part)
+    done = subprocess.run([X7, form, "part", *names], cwd=FOLDER, stdout=subprocess.PIPE, stderr=subprocess.PIPE)
+    return done.stdout.decode() + done.stderr.decode(), done.returncode
+
+
+def differs(kind, part, pieces):
+    """What is said of a history where the two differ, or none."""
+    lines = h.lines_of(pieces)
+    (came, status), (wanted, wanted_status) = kind.by_x7(part, lines), kind.plainly(part, lines)
+    if (came, status) == (wanted, wanted_status):
+        return None
+    both = zip([*came.splitlines(), "no more"], [*wanted.splitlines(), "no more"])
+    told = next((f"x7 '{one[:200]}', plainly '{other[:200]}'" for one, other in both if one != other), "only the status")
+    return f"{told}, status {status} and {wanted_status}"
+
+
+def fewest(kind, part, pieces):
+    """The pieces without those that a difference doesn't need."""
+    size = max(len(pieces) // 2, 1)
+    while True:
+        at = 0
+        while at < len(pieces):
+            fewer = pieces[:at] + pieces[at + size :]
+            if fewer and differs(kind, part, fewer):
+                pieces = fewer
+            else:
+                at += size
+        if size == 1:
+            return pieces
+        size = max(size // 2, 1)
+
+
+def is_alike(seed):
+    """Whether the device without frames comes to the same, where no fault of frames ends it."""
+    part, pieces = h.play_history(seed)
+    data, part = b"".join(h.streams_of(h.lines_of(pieces))), h.part_of(part)
+    whole, bare = r.PartDevice(part).play(data), Device(part.idcode, part.lock, part.match).play(data)
+    left = [(it.taken, it.end, it.phase, it.gts, it.gwe, it.ghigh, it.registers) for it in (whole, bare)]
+    return whole.end[1:2] in FRAME_FAULTS or left[0] == left[1]
+
+
+def compare(kind, seed):
+    """Compares the history of a seed; answers it with what x7 wrote."""
+    part, pieces = kind.history(seed)
+    told = differs(kind, part, pieces)
+    if told and tally.failed < SHOWN:
+        pieces = fewest(kind, part, pieces)
+        pieces = fewest(kind, part, [[line] for line in h.lines_of(pieces)])
+        told = "\n".join([differs(kind, part, pieces), "# the part file", part, "# the assembly text", *h.lines_of(pieces)])
+    tally.check(f"{kind.name} of seed {seed}", not told, told or "")
+
+
+# ---- wrong rules, each of which the histories must tell
+
+
+class HoldsNoFrame(r.PartDevice):
+    """Writes each frame as soon as it is whole."""
+
+    def memory(self):
+        written = zip(self.slots_from_base(), self.frames_of_run())
+        return {**self.earlier, **{far: frame for far, frame in written if far is not None}}
+
+
+class HasNoPads(r.PartDevice):
+    """Has no pads between its rows."""
+
+    def slots_from_base(self):
+        return [it for it in super().slots_from_base() if it is not None]
+
+
+class HasNoPadFrame(r.PartDevice):
+    """Gives no frame of zeros before the frames read back."""
+
+    def begin_run(self, base):
+        super().begin_run(base)
+        self.given = self.size if self.command == r.RCFG else 0
+
+
+class KeepsTheSource(r.PartDevice):
+    """Takes the source of copies also over another command."""
+
+    def store(self, number, word, behind, compared):
+        before = self.source
+        super().store(number, word, behind, compared)
+        self.source = self.source or before
+
+
+class MovesAtCopies(r.PartDevice):
+    """Moves FAR at each copy."""
+
+    def copy(self, behind):
+        super().copy(behind)
+        place = self.slots.index(self.base) if self.base in self.earlier else -1
+        self.base = self.base if self.slots[place + 1] is None else self.slots[place + 1]
+
+
+class RunsOverFar(r.PartDevice):
+    """Doesn't execute the command again at a FAR load."""
+
+    def execute(self, command, behind):
+        if self.is_cmd:
+            super().execute(command, behind)
+
+    def write(self, data, step):
+        self.is_cmd, self.check.command = step.register == x7.CMD, 0
+        super().write(data, step)
+
+
+class IgnoresMask(r.PartDevice):
+    """Takes all bits of CTL0."""
+
+    def store(self, number, word, behind, compared):
+        kept = self.registers["MASK"]
+        self.registers["MASK"] = kept if number != x7.CTL0 else 0xFFFFFFFF
+        super().store(number, word, behind, compared)
+        self.registers["MASK"] = kept if number == x7.CTL0 else self.registers["MASK"]
+
+
+class StartsAtOnce(r.PartDevice):
+    """Begins startup at START."""
+
+    def execute(self, command, behind):
+        super().execute(command, behind)
+        if command == x7.CODES["START"] and self.begun is None:
+            self.begun, self.cor0 = behind, self.registers["COR0"]
+
+
+class ForgetsNoShutdown(r.PartDevice):
+    """Takes a shutdown without RCRC or a right check."""
+
+    def execute(self, command, behind):
+        super().execute(command, behind)
+        self.take_shutdown(behind)
+
+
+class FoldsLout(r.PartDevice):
+    """Folds LOUT into the check."""
+
+    def write(self, data, step):
+        super().write(data, step)
+        if step.register == x7.LOUT:
+            self.check.value = x7.fold(self.check.value, x7.LOUT, x7.payload(data, step))
+
+
+class CountsOneByteMore(r.PartDevice):
+    """Lets the watchdog fire a byte later."""
+
+    def load_watchdog(self, behind):
+        super().load_watchdog(behind)
+        self.deadline = self.deadline and self.deadline + 1
+
+
+class ForgetsTheCheck(r.PartDevice):
+    """Reads CRC as 0."""
+
+    def value(self, name):
+        return 0 if name == "CRC" else super().value(name)
+
+
+class AsksTooLate(r.PartDevice):
+    """Asks for a matched device only where frame data are taken."""
+
+    def frame_data(self, data, step):
+        if self.matched or step.register == x7.MFWR or self.command == r.WCFG:
+            super().frame_data(data, step)
+        else:
+            self.check.write(data, step)
+
+
+class ObeysIprog(r.PartDevice):
+    """Obeys IPROG in a fallback."""
+
+    def execute(self, command, behind):
+        super(r.PartDevice, self).execute(command, behind)
+
+
+class ForgetsTheAttempt(r.PartDevice):
+    """Forgets the attempt before."""
+
+    def __init__(self, part, start=r.BENCH):
+        super().__init__(part, start._replace(before=0))
+
+
+WRONG = [
+    (Play(), it) for it in (
+        HoldsNoFrame, HasNoPads, HasNoPadFrame, KeepsTheSource, MovesAtCopies, RunsOverFar, IgnoresMask, StartsAtOnce, ForgetsNoShutdown,
+        FoldsLout, CountsOneByteMore, ForgetsTheCheck, AsksTooLate)
+] + [(Boot(), it) for it in (ObeysIprog, ForgetsTheAttempt)]
+
+
+def is_told(kind, device, seeds):
+    """Whether a history tells the plain program from one with a wrong rule."""
+    for seed in seeds:
+        part, pieces = kind.history(seed)
+        lines = h.lines_of(pieces)
+        if kind.plainly(part, lines) != kind.plainly(part, lines, device):
+            return True
+    return False
+
+
+def main(words):
+    count, first = [int(it) for it in words + [str(COUNT), "1"][len(words) :]]
+    for kind, number in ((Play(), count), (Boot(), count // 2)):
+        for seed in range(first, first + number):
+            if X7:
+                compare(kind, seed)
+            else:
+                tally.skip(kind.name)
+    for seed in range(first, first + count):
+        tally.check(f"the device without frames, of seed {seed}", is_alike(seed))
+    for kind, device in WRONG:
+        tally.check(f"a wrong rule is told: {device.__doc__}", is_told(kind, device, range(first, first + COUNT)))
+    tally.end()
+
+
+with tempfile.TemporaryDirectory() as FOLDER:
+    main(sys.argv[1:])

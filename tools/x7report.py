@@ -1,0 +1,247 @@
+"""The whole report of `x7 play`, and the text of `x7 boot`, frames included, by the rules of docs/FORMATS.md: a plain program, with
+which tests/test_histories.py compares x7. It takes word by word and keeps the words of each frame in a list, so it is for small parts."""
+import itertools
+from collections import namedtuple
+
+import x7formats as x7
+from x7device import Device, ticks_to_the_end
+
+WCFG, MFW, RCFG = x7.CODES["WCFG"], x7.CODES["MFW"], x7.CODES["RCFG"]
+SHOWN = ["CRC", "FAR", "CMD", "CTL0", "MASK", "STAT", "COR0", "IDCODE", "AXSS", "COR1", "WBSTAR", "TIMER", "BOOTSTS", "CTL1", "BSPI"]
+STARTUP_STATES = [0b000, 0b001, 0b011, 0b010, 0b110, 0b111, 0b101, 0b100]
+FALLBACKS = ("Id", "Crc", "Watchdog")
+
+# How a device begins: the kind of the attempt, the registers that it keeps, and the low byte of BOOTSTS of the attempt before.
+Start = namedtuple("Start", "kind kept before")
+BENCH = Start("bench", {}, 0)
+
+
+def words_of_step(step):
+    """Each word of a write as a step of its own; any other step alone."""
+    if step.kind != "write" or not step.present:
+        return [step]
+    return [step._replace(first=at, present=1, end=at + 4) for at in range(step.first, step.end, 4)]
+
+
+class PartDevice(Device):
+    """A device of a part, with its frames."""
+
+    def __init__(self, part, start=BENCH):
+        super().__init__(part.idcode, part.lock, part.match)
+        self.part, self.start, self.size = part, start, part.frame_words
+        self.slots, self.zeros = part.slots(), (0,) * part.frame_words
+        self.earlier, self.last_address = dict.fromkeys(part.addresses(), self.zeros), part.addresses()[-1]
+        self.base, self.run, self.given, self.source, self.ahead = 0, [], 0, None, []
+        self.words_out, self.started, self.ignored, self.wrapped = [], None, False, False
+        self.registers.update(start.kept)
+        self.begin_run(0)
+        self.load_watchdog(0)
+
+    # frames
+
+    def slots_from_base(self):
+        """The slots from the base on; none where that is no address."""
+        return self.slots[self.slots.index(self.base) :] if self.base in self.earlier else []
+
+    def frames_of_run(self):
+        """The whole frames of the run."""
+        return [tuple(self.run[at - self.size : at]) for at in range(self.size, len(self.run) + 1, self.size)]
+
+    def memory(self):
+        """What each frame holds: what was written before the run, and the run's whole frames but the newest, at their slots."""
+        written = zip(self.ahead, self.frames_of_run()[:-1])
+        return {**self.earlier, **{far: frame for far, frame in written if far is not None}}
+
+    def far(self):
+        """FAR as it is read: where the newest whole frame of the run stands, or the next word's frame of a readback."""
+        if self.base not in self.earlier:
+            return self.base
+        newest = max(len(self.run) // self.size, self.given // self.size) - 1
+        return next((it for it in self.ahead[max(newest, 0) :] if it is not None), self.last_address)
+
+    def begin_run(self, base):
+        """Ends a run, and begins a new one."""
+        self.earlier, self.base, self.run, self.given = self.memory(), base, [], 0
+        self.ahead = self.slots_from_base()
+
+    def add_to_run(self, word, behind):
+        """Takes a word of frame data."""
+        self.run.append(word)
+        if not self.ahead:
+            self.stop(behind, "fault", "Address", f"{self.base:08X}")
+        elif len(self.run) > len(self.ahead) * self.size and len(self.run) % self.size == 0:
+            self.stop(behind, "fault", "Overrun")
+
+    def copy(self, behind):
+        """Puts the source at the base."""
+        if self.command != MFW or self.source is None:
+            self.stop(behind, "fault", "Multi")
+        elif self.base not in self.earlier:
+            self.stop(behind, "fault", "Address", f"{self.base:08X}")
+        else:
+            self.earlier[self.base] = self.source
+
+    def read_back(self, count, behind):
+        """The next words of a readback: a frame of zeros, the frames from the base on, and zeros."""
+        if self.command != RCFG or self.registers["CTL0"] >> 4 & 3:
+            return [0] * count
+        if self.base not in self.earlier:
+            self.stop(behind, "fault", "Address", f"{self.base:08X}")
+            return []
+        frames = [self.zeros, *(self.earlier.get(far, self.zeros) for far in self.ahead)]
+        first, self.given = self.given, self.given + count
+        words = [word for frame in frames for word in frame][first : self.given]
+        return words + [0] * (count - len(words))
+
+    # accesses
+
+    def take(self, data, step):
+        """Takes a step, word by word, and looks where phase 7 comes."""
+        for one in words_of_step(step):
+            self.watch(one.end)
+            if self.has_stopped:
+                return
+            self.look_for_the_end(one.end - 1)
+            self.taken = one.end
+            super().take(data, one)
+            self.look_for_the_end(one.end)
+            if self.has_stopped:
+                return
+
+    def look_for_the_end(self, behind):
+        """Keeps the first place at which startup has come to phase 7."""
+        if self.started is None and self.begun is not None:
+            place = self.begun + 4 * ticks_to_the_end(self.cor0, self.lock, self.match)
+            self.started = place if place <= behind else None
+
+    def frame_data(self, data, step):
+        """Takes a write of a word to FDRI or MFWR."""
+        self.check.write(data, step)
+        for word in x7.payload(data, step):
+            if not self.matched:
+                self.stop(step.end, "fault", "Id", f"{self.idcode:08X}", "00000000")
+            elif self.registers["CTL0"] >> 5 & 1:
+                pass
+            elif step.register == x7.MFWR:
+                self.copy(step.end)
+            elif self.command == WCFG:
+                self.add_to_run(word, step.end)
+
+    def store(self, number, word, behind, compared):
+        """Stores a word; FAR and CMD begin a run, and MFW behind WCFG takes the newest frame of the one that ends as its source."""
+        if number == x7.FAR:
+            self.begin_run(word & (1 << sum(self.part.far)) - 1)
+        elif number == x7.CMD:
+            newest = self.frames_of_run()[-1:] if (self.command, word & 31) == (WCFG, MFW) else []
+            self.source = newest[0] if newest else None
+            self.begin_run(self.far())
+        super().store(number, word, behind, compared)
+
+    def execute(self, command, behind):
+        """Executes a command; a fallback ignores IPROG."""
+        if command == x7.CODES["IPROG"] and self.start.kind == "fallback":
+            self.ignored = True
+        else:
+            super().execute(command, behind)
+
+    def load_watchdog(self, behind):
+        if self.start.kind != "fallback":
+            super().load_watchdog(behind)
+
+    def read(self, step):
+        """Takes a read."""
+        name = x7.REGISTERS[step.register]
+        if step.count:
+            self.words_out += self.read_back(step.count, step.end) if name == "FDRO" else [self.value(name)] * step.count
+
+    # what it shows
+
+    def is_fault(self, name):
+        return self.end[:2] == ["fault", name]
+
+    def value(self, name):
+        """A register as it is read; 0 where nothing can be read."""
+        if name == "CRC":
+            return int(self.end[2], 16) if self.is_fault("Crc") else self.check.value
+        computed = {"FAR": self.far, "STAT": self.status, "BOOTSTS": lambda: self.boot_byte() | self.start.before << 8}
+        if name in computed:
+            return computed[name]()
+        return {**self.registers, "CMD": self.command, "IDCODE": self.idcode}.get(name, 0)
+
+    def status(self):
+        """The word of STAT."""
+        ticks = 0 if self.begun is None else (self.taken - self.begun) // 4
+        bits = {
+            0: self.is_fault("Crc"), 2: ticks >= self.lock, 3: ticks >= self.match, 4: self.phase == 7, 5: self.gts, 6: self.gwe,
+            7: self.ghigh, 8: self.part.mode, 11: 1, 12: not self.is_fault("Crc"), 13: self.done, 14: self.done,
+            15: self.is_fault("Id"), 18: STARTUP_STATES[self.phase], 25: self.part.bus_width,
+        }
+        return sum(int(value) << low for low, value in bits.items())
+
+    @property
+    def done(self):
+        return int(self.phase >= self.done_phase)
+
+    def boot_byte(self):
+        """The seven bits of BOOTSTS of this attempt."""
+        if self.start.kind == "bench":
+            return 0
+        bits = [
+            True, self.start.kind == "fallback", self.start.kind == "iprog" or self.ignored, self.is_fault("Watchdog"),
+            self.is_fault("Id"), self.is_fault("Crc"), self.wrapped,
+        ]
+        return sum(bit << at for at, bit in enumerate(bits))
+
+    def report(self, words_out):
+        """The lines of the report, with these words read out."""
+        yield from [f"part {self.part.name}", f"taken {self.taken}", f"end {' '.join(self.end)}"]
+        yield f"phase {self.phase} done {self.done} gts {self.gts} gwe {self.gwe}"
+        yield from (f"reg {name} {self.value(name):08X}" for name in SHOWN)
+        yield f"reads {len(words_out)}"
+        yield from x7.rows("data", "".join(f"{it:08X}" for it in words_out), 64, 8)
+        shown = {far: frame for far, frame in self.memory().items() if any(frame)}
+        yield f"frames {len(shown)}"
+        yield from (f"frame {far:08X} {''.join(f'{it:08X}' for it in shown[far])}" for far in sorted(shown))
+
+
+def text_of(lines):
+    return "".join(f"{line}\n" for line in lines)
+
+
+def play(part, data, device=PartDevice):
+    """The report of `x7 play`, and its status."""
+    it = device(part).play(data)
+    return text_of(it.report(it.words_out)), int(it.end[0] == "fault")
+
+
+def attempt(part, start, data, device=PartDevice):
+    """An attempt of a boot over the bytes from its address on: how it ends, and its device as it then is."""
+    it = device(part, start).play(data)
+    if it.started is not None:
+        return "started", device(part, start).play(data[: it.started])
+    if it.end[0] == "iprog":
+        return "iprog", it
+    if it.end[0] == "fault" and it.end[1] in FALLBACKS:
+        return it.end[1].lower(), it
+    it.wrapped = True
+    return "wrap", it
+
+
+def boot(part, flash, device=PartDevice):
+    """The text of `x7 boot`, and its status."""
+    lines, address, start = [f"boot {part.name}"], 0, Start("power", {}, 0)
+    for number in itertools.count(1):
+        ending, it = attempt(part, start, flash[address:], device)
+        lines.append(f"attempt {number} {start.kind} {address:08X} {ending}")
+        if ending == "started" or ending == "iprog" and number >= 16:
+            end = "started" if ending == "started" else "loop"
+            break
+        if ending != "iprog" and (start.kind == "fallback" or it.registers["CTL0"] >> 10 & 1):
+            end = "stopped"
+            break
+        wbstar = it.registers["WBSTAR"]
+        place = wbstar & 0x1FFFFFFF if part.start_unit == 1 else (wbstar & 0xFFFFFF) * 256
+        kept = {name: it.registers[name] for name in ("WBSTAR", "TIMER", "BSPI")}
+        start = Start("iprog" if ending == "iprog" else "fallback", kept, it.boot_byte())
+        address = place if ending == "iprog" else 0
+    return text_of([*lines, f"end {end}", *it.report([])]), int(end != "started")
