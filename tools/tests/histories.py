@@ -57,7 +57,8 @@ class Maker:
         """The header of a packet: of type 1, also with bits that have no effect, or of type 2."""
         way, number = self.rng.random(), x7.NUMBERS[register]
         if way < 0.25 or count > 0x7FF:
-            return [f"{kind} {register} {self.rng.choice([0, 0, 1 if kind == 'read' else 0])}", *["nop"] * self.rng.choice([0, 0, 2]), f"{kind}2 {count}"]
+            first = self.rng.choice([0, 0, 1]) if kind == "read" else 0
+            return [f"{kind} {register} {first}", *["nop"] * self.rng.choice([0, 0, 2]), f"{kind}2 {count}"]
         if way < 0.3:
             bits = self.rng.getrandbits(32) & 0x07FC1800
             return [f"word {(0x28000000 if kind == 'read' else 0x30000000) | bits | number << 13 | count:08X}"]
@@ -122,7 +123,7 @@ class Maker:
             lines += self.order("WCFG") + self.far()
             lines += self.write("FDRI", self.frame_words(3) + [self.rng.getrandbits(32) for _ in range(self.part.frame_words)])
             lines += self.order("MFW")
-            lines += self.order(self.rng.choice(["MFW", "NULL"])) + self.order("MFW") if self.is_wild(0.2) else []
+            lines += self.order(self.rng.choice(["MFW", "NULL"])) + self.order("MFW") if self.rng.random() < 0.06 else []
         for _ in range(self.rng.randint(1, 3)):
             lines += self.far() if self.rng.random() < 0.8 else []
             lines += self.write("MFWR", [self.word() for _ in range(self.rng.choice([1, 1, 4]))])

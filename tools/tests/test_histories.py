@@ -252,9 +252,9 @@ WRONG = [
 ] + [(Boot(), it) for it in (ObeysIprog, ForgetsTheAttempt)]
 
 
-def is_told(kind, device, seeds):
-    """Whether a history tells the plain program from one with a wrong rule."""
-    for seed in seeds:
+def is_told(kind, device):
+    """Whether one of the histories that are tried where nothing else is said tells the plain program from one with a wrong rule."""
+    for seed in range(1, COUNT + 1):
         part, pieces = kind.history(seed)
         lines = h.lines_of(pieces)
         if kind.plainly(part, lines) != kind.plainly(part, lines, device):
@@ -273,7 +273,7 @@ def main(words):
     for seed in range(first, first + count):
         tally.check(f"the device without frames, of seed {seed}", is_alike(seed))
     for kind, device in WRONG:
-        tally.check(f"a wrong rule is told: {device.__doc__}", is_told(kind, device, range(first, first + COUNT)))
+        tally.check(f"a wrong rule is told: {device.__doc__}", is_told(kind, device))
     tally.end()
 
 
