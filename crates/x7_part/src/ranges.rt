@@ -1,5 +1,5 @@
 //! The ranges of a part file's values: each judges a value and gives the number of a part that it stands for.
-ghost use Rattle.std.specs.Prelude.{◌≡◌, ◌≤◌, map, length, IfOk, Some};
+ghost use Rattle.std.specs.Prelude.{◌≡◌, ◌≤◌, [], ◌∷◌, map, length, is_some, true, false, IfOk, IfSome, MatchOption, Some};
 ghost use Rattle.x7_part.specs.PartValues.{natural, widths_of};
 ghost use Rattle.x7_part.specs.PartChecks.{fault_of_call, Tells, unless, is_in, is_long, are_printed, is_name, is_odd, is_unit, are_widths, are_minors};
 ghost use Rattle.x7_part.specs.declared.fault.PartFault.TheVariants.{Range};
@@ -82,8 +82,32 @@ pub fn unit(number: i64, at: Which) -> Result<u16, PartFault>
     }
 }
 
-/// The widths of the fields of an address, each in its range, with 32 bits together.
+/// A width in the range, none where it lies outside.
 #[tactic(auto, unfolding(crate::specs::PartChecks::is_in))]
+fn width_in(number: i64, low: u8, high: u8) -> Option<u8>
+    ensures { MatchOption result (is_in low high number ≡ false) (λ n. (is_in low high number ≡ true) × (n ≡ natural number) × (low ≤ n) × (n ≤ high)) }
+{
+    if i64::from(low) <= number && number <= i64::from(high) {
+        Some(number.unsigned_abs() as u8)
+    } else {
+        None
+    }
+}
+
+/// The fields of these widths, none where one of them is out of its range, or where they have more than 32 bits together.
+fn fields_of(minor: i64, column: i64, row: i64, half: i64, block: i64) -> Option<Fields>
+    ensures test { is_some result ≡ are_widths (minor ∷ column ∷ row ∷ half ∷ block ∷ []) }
+    ensures value { IfSome result (λ far. far ≡ widths_of (minor ∷ column ∷ row ∷ half ∷ block ∷ [])) }
+{
+    let minor = width_in(minor, 7, 12)?;
+    let column = width_in(column, 10, 12)?;
+    let row = width_in(row, 5, 8)?;
+    let half = width_in(half, 1, 1)?;
+    let block = width_in(block, 2, 3)?;
+    Fields::of(minor, column, row, half, block)
+}
+
+/// The widths of the fields of an address, each in its range, with 32 bits together.
 pub fn widths(numbers: &[i64], at: Which) -> Result<Fields, PartFault>
     ensures fault { fault_of_call result ≡ unless (are_widths numbers.now) (Range at) }
     ensures value { IfOk result (λ far. far ≡ widths_of numbers.now) }
@@ -91,14 +115,7 @@ pub fn widths(numbers: &[i64], at: Which) -> Result<Fields, PartFault>
     let [minor, column, row, half, block] = numbers else {
         return Err(PartFault::Range(at));
     };
-    let fields = Fields::of(
-        within(*minor, 7, 12, at)? as u8,
-        within(*column, 10, 12, at)? as u8,
-        within(*row, 5, 8, at)? as u8,
-        within(*half, 1, 1, at)? as u8,
-        within(*block, 2, 3, at)? as u8,
-    );
-    match fields {
+    match fields_of(*minor, *column, *row, *half, *block) {
         Some(fields) => Ok(fields),
         None => Err(PartFault::Range(at)),
     }
