@@ -123,10 +123,11 @@ pub(crate) fn read_frame(frame: &mut Vec<u32>, width: u32, line: &[u8]) -> Optio
     let Some(parts) = parts_of(line, 2 * byte_count) else {
         return None;
     };
-    let mut bytes = [0; MOST_BYTES];
-    if !read_digits(&mut bytes[..byte_count], parts.digits) {
+    let mut room = [0; MOST_BYTES];
+    let bytes = &mut room[..byte_count];
+    if !read_digits(bytes, parts.digits) {
         return None;
     }
-    replace(frame, &bytes[..byte_count]);
+    replace(frame, bytes);
     Some(parts.far)
 }
