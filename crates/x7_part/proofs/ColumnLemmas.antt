@@ -377,27 +377,6 @@ no_frame cs r n far t le some before after past e =
       | inr end ↦ let p : End ≡ get_or (column_slots cs) r End = missing_slot cs r n t le some before after end in absurd (cc (p, e))
     ]
 
--- the columns up to one, and those from one on
-pub begun_up_to : (cs : List Column) → IsTable 0 0 0 cs → (n p : ℕ) (d e : Column) → 0 < n → n ≤ length cs → (get_or cs (n - 1) d).slot ≤ p →
-    (k : ℕ) → k < n → (get_or cs k e).slot ≤ p
-begun_up_to cs t n p d e some le low k h =
-    let same : get_or cs (n - 1) d ≡ get_or cs (n - 1) e = get_or_default cs (n - 1) d e (omega arith) in
-    let there : (get_or cs (n - 1) e).slot ≤ p = rw same at low in
-    elim (cases_lt k (n - 1)) [
-      | inl before ↦ let o = order 0 0 0 cs t k (n - 1) e before (omega arith) in omega arith
-      | inr last ↦ let z : k ≡ n - 1 = omega arith in rw z there
-    ]
-
-pub begun_from : (cs : List Column) → IsTable 0 0 0 cs → (n p : ℕ) (d e : Column) → n < length cs → p < (get_or cs n d).slot →
-    (k : ℕ) → n ≤ k → k < length cs → p < (get_or cs k e).slot
-begun_from cs t n p d e some high k h le =
-    let same : get_or cs n d ≡ get_or cs n e = get_or_default cs n d e some in
-    let there : p < (get_or cs n e).slot = rw same at high in
-    elim (cases_lt n k) [
-      | inl behind ↦ let o = order 0 0 0 cs t n k e behind le in omega arith
-      | inr here ↦ let z : k ≡ n = omega arith in rw z there
-    ]
-
 -- ---- the slots from an address
 
 skip_pads : (far n : ℕ) (rest : List Slot) → from far (replicate n Pad ++ rest) ≡ from far rest

@@ -1,5 +1,5 @@
 //! The table of a part's columns, in which addresses and slots are searched by halves.
-ghost use Rattle.std.specs.Prelude.{◌≡◌, ◌<◌, ◌≤◌, ◌+◌, ◌-◌, ◌^◌, ◌⊎◌, ℕ, length, slice_index, slice_index_or, Contains, IfSome, IfNone, IsTrue};
+ghost use Rattle.std.specs.Prelude.{◌≡◌, ◌<◌, ◌≤◌, ◌+◌, ◌-◌, ◌^◌, ◌⊎◌, ℕ, length, slice_index, slice_index_or, Contains, IfSome, IfNone};
 ghost use Rattle.x7_part.specs.AddressOrder.{Follows, IsLast};
 ghost use Rattle.x7_part.specs.Columns.{IsIn, column_addresses, column_slots, IsTable};
 ghost use Rattle.x7_part.specs.Slots.{HasFrameOf, from};
@@ -48,42 +48,6 @@ fn begun_by_slot(columns: &[Column], place: u64) -> usize
     ensures after { (k : ℕ) (d : Column) → result ≤ k → k < length columns.now → place < (slice_index_or columns.now k d).slot }
 {
     columns.partition_point(|column| column.slot <= place)
-}
-
-/// Whether just so many columns have at most so many slots before them.
-fn is_begun_by_slot(columns: &[Column], place: u64, count: usize) -> bool
-    requires { IsTable 0 0 0 columns.now }
-    ensures within { IsTrue result → count ≤ length columns.now }
-    ensures before { IsTrue result → (k : ℕ) (d : Column) → k < count → (slice_index_or columns.now k d).slot ≤ place }
-    ensures after { IsTrue result → (k : ℕ) (d : Column) → count ≤ k → k < length columns.now → place < (slice_index_or columns.now k d).slot }
-{
-    if count == 0 || columns.len() < count {
-        return false;
-    }
-    if place < columns[count - 1].slot {
-        return false;
-    }
-    if count == columns.len() {
-        return true;
-    }
-    if columns[count].slot <= place {
-        return false;
-    }
-    true
-}
-
-/// The same as `begun_by_slot`, which is asked only where it isn't `near`.
-fn begun_near(columns: &[Column], place: u64, near: usize) -> usize
-    requires { IsTable 0 0 0 columns.now }
-    ensures within { result ≤ length columns.now }
-    ensures before { (k : ℕ) (d : Column) → k < result → (slice_index_or columns.now k d).slot ≤ place }
-    ensures after { (k : ℕ) (d : Column) → result ≤ k → k < length columns.now → place < (slice_index_or columns.now k d).slot }
-{
-    if is_begun_by_slot(columns, place, near) {
-        near
-    } else {
-        begun_by_slot(columns, place)
-    }
 }
 
 /// The place of the column that has the address.
@@ -173,16 +137,14 @@ fn slot_at(columns: &[Column], place: u64) -> Slot
     }
 }
 
-/// The number of addresses before the frame at a place of the slots, none at a pad and past the last slot. `near` tells where
-/// to look first, and is where that was; whatever it is, the answer is the same.
-pub fn rank_at(columns: &[Column], place: u64, near: &mut usize) -> Option<u32>
+/// The number of addresses before the frame at a place of the slots, none at a pad and past the last slot.
+pub fn rank_at(columns: &[Column], place: u64) -> Option<u32>
     requires table { IsTable 0 0 0 columns.now }
     requires fits { length (column_addresses columns.now) < 2 ^ 32 }
     ensures found { IfSome result (λ r. HasFrameOf (column_addresses columns.now) (column_slots columns.now) place r) }
     ensures none { IfNone result ((far : ℕ) → slice_index_or (column_slots columns.now) place Slot.End ≡ Slot.Frame far → ⊥) }
 {
-    let after = begun_near(columns, place, *near);
-    *near = after;
+    let after = begun_by_slot(columns, place);
     if after == 0 {
         return None;
     }

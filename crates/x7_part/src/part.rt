@@ -216,13 +216,12 @@ impl Part {
         column::slot_of(&self.columns, far)
     }
 
-    /// The rank of the frame at a slot, which has so many before it; none at a pad and past the last slot. `near` says where to
-    /// look first, and then where that was. Whatever it says, the answer is the same.
-    pub fn rank_at(&self, place: u64, near: &mut usize) -> Option<u32>
+    /// The rank of the frame at a slot, which has so many before it; none at a pad and past the last slot.
+    pub fn rank_at(&self, place: u64) -> Option<u32>
         ensures found { IfSome result (λ r. HasFrameOf (addresses_in self.now) (slots_in self.now) place r) }
         ensures none { IfNone result ((far : ℕ) → slice_index_or (slots_in self.now) place Slot.End ≡ Slot.Frame far → ⊥) }
     {
-        column::rank_at(&self.columns, place, near)
+        column::rank_at(&self.columns, place)
     }
 
     /// The number of slots from an address on.

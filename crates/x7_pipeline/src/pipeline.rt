@@ -159,12 +159,23 @@ impl Pipeline {
         ensures refused { OnErr result (self.new ≡ self.old) }
         ensures unchanged { OnErr result (memory.new ≡ memory.old) }
     {
-        let filled = self.rest.len();
-        if filled > 0 && filled + 1 < self.width as usize {
+        if self.writes_nowhere(part) {
+            return Err(RunFault::Address(self.base));
+        }
+        if self.rest.len() + 1 < self.width as usize {
             push_word(&mut self.rest, word);
             return Ok(());
         }
-        self.write_at_edge(word, part, memory)
+        if slot_count(part, self.base) <= self.frame_count {
+            return Err(RunFault::Overrun);
+        }
+        let first = part.place_of(self.base);
+        self.put_held(first, part, memory);
+        push_word(&mut self.rest, word);
+        std::mem::swap(&mut self.rest, &mut self.held);
+        self.rest.clear();
+        self.frame_count += 1;
+        Ok(())
     }
 
     /// The words of a run in order, four bytes each, the highest first: as so many calls of `write`, up to the first fault.
@@ -254,11 +265,10 @@ impl Pipeline {
         let size = 4 * self.width as usize;
         let slots = slot_count(part, self.base);
         let first = part.place_of(self.base);
-        let mut near = 0;
-        self.write_frame(&bytes[..size], first, part, memory, &mut near);
+        self.write_frame(&bytes[..size], first, part, memory);
         let mut at = size;
         'frames: while self.has_next(size, bytes.len() - at, slots) {
-            self.write_frame(&bytes[at..at + size], first, part, memory, &mut near);
+            self.write_frame(&bytes[at..at + size], first, part, memory);
             at += size;
         }
         at
@@ -272,14 +282,7 @@ impl Pipeline {
     }
 
     /// Puts the newest whole frame, and holds the next one. So many slots stand before those from the base on.
-    fn write_frame(
-        &mut self,
-        bytes: &[u8],
-        first: u64,
-        part: &Part,
-        memory: &mut Memory,
-        near: &mut usize,
-    )
+    fn write_frame(&mut self, bytes: &[u8], first: u64, part: &Part, memory: &mut Memory)
         requires part { IsPipelineOf part.now self.old }
         requires memory { AreFramesOf part.now memory.old }
         requires frame { length bytes.now ≡ 4 * self.old.width }
@@ -291,39 +294,9 @@ impl Pipeline {
         ensures put { PutsNewest part.now self.old (frame_at part.now memory.old) (frame_at part.now memory.new) }
         ensures memory { AreFramesOf part.now memory.new }
     {
-        self.put_held_near(first, part, memory, near);
+        self.put_held(first, part, memory);
         hold(&mut self.held, bytes);
         self.frame_count += 1;
-    }
-
-    /// The same as `write`, and meant for the first and the last word of a frame.
-    fn write_at_edge(&mut self, word: u32, part: &Part, memory: &mut Memory) -> Result<(), RunFault>
-        requires part { IsPipelineOf part.now self.old }
-        requires memory { AreFramesOf part.now memory.old }
-        ensures stands { OnOk result (GoesOn part.now self.old self.new (after_words (word ∷ []))) }
-        ensures lands { OnOk result (OfFlow part.now self.old (λ f. LandsAt part.now f (word ∷ []) (frame_at part.now memory.old) (frame_at part.now memory.new))) }
-        ensures fault { OfFlow part.now self.old (λ f. result_err result ≡ write_fault part.now f.base f.run) }
-        ensures part { IsPipelineOf part.now self.new }
-        ensures memory { AreFramesOf part.now memory.new }
-        ensures refused { OnErr result (self.new ≡ self.old) }
-        ensures unchanged { OnErr result (memory.new ≡ memory.old) }
-    {
-        if self.writes_nowhere(part) {
-            return Err(RunFault::Address(self.base));
-        }
-        if self.rest.len() + 1 < self.width as usize {
-            push_word(&mut self.rest, word);
-            return Ok(());
-        }
-        if slot_count(part, self.base) <= self.frame_count {
-            return Err(RunFault::Overrun);
-        }
-        self.put_held(part, memory);
-        push_word(&mut self.rest, word);
-        std::mem::swap(&mut self.rest, &mut self.held);
-        self.rest.clear();
-        self.frame_count += 1;
-        Ok(())
     }
 
     /// Whether the next word would be a run's first, and the base is no address.
@@ -333,22 +306,9 @@ impl Pipeline {
         self.frame_count == 0 && self.rest.is_empty() && !is_base(part, self.base)
     }
 
-    /// Puts the newest whole frame, where there is one and its slot is an address. The base is one.
-    fn put_held(&self, part: &Part, memory: &mut Memory)
-        requires part { IsPipelineOf part.now self.now }
-        requires memory { AreFramesOf part.now memory.old }
-        requires slot { self.now.frame_count < length (slots_from part.now self.now.base) }
-        requires few { length (slots_from part.now self.now.base) < 2 ^ 31 }
-        ensures none { self.now.newest ≡ None → memory.new ≡ memory.old }
-        ensures put { PutsNewest part.now self.now (frame_at part.now memory.old) (frame_at part.now memory.new) }
-        ensures memory { AreFramesOf part.now memory.new }
-    {
-        let mut near = 0;
-        self.put_held_near(part.place_of(self.base), part, memory, &mut near);
-    }
-
-    /// The same, where so many slots stand before those from the base on. The slot is looked for `near` the last one.
-    fn put_held_near(&self, first: u64, part: &Part, memory: &mut Memory, near: &mut usize)
+    /// Puts the newest whole frame, where there is one and its slot is an address. So many slots stand before those from the
+    /// base on.
+    fn put_held(&self, first: u64, part: &Part, memory: &mut Memory)
         requires part { IsPipelineOf part.now self.now }
         requires memory { AreFramesOf part.now memory.old }
         requires slot { self.now.frame_count < length (slots_from part.now self.now.base) }
@@ -361,7 +321,7 @@ impl Pipeline {
         if self.frame_count == 0 {
             return;
         }
-        if let Some(rank) = part.rank_at(first + (self.frame_count - 1), near) {
+        if let Some(rank) = part.rank_at(first + (self.frame_count - 1)) {
             memory.put_at_rank(part, rank, &self.held);
         }
     }
@@ -459,7 +419,7 @@ impl Pipeline {
         ensures stands { GoesOn part.now self.old self.new (after_reads 1) }
         ensures part { IsPipelineOf part.now self.old → IsPipelineOf part.now self.new }
     {
-        // the part's range keeps the count from its last value
+        // for the proof alone: the part's range keeps the count from its last value
         let _frames = part.frames();
         if let Slot::End = self.slot {
             return;

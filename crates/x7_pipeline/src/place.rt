@@ -18,7 +18,7 @@ pub fn slot_count(part: &Part, far: u32) -> u64
     ensures value { result ≡ length (slots_from part.now far) }
     ensures limit { result < 2 ^ 31 }
 {
-    // the part's range is what the limit rests on
+    // for the proof alone: the limit rests on the part's range
     let _frames = part.frames();
     if part.is_address(far) {
         part.slots_from(far)
