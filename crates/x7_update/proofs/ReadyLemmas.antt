@@ -3,11 +3,15 @@ use Rattle.std.proofs.Common.{◌≡◌, ℕ, ◌+◌, ◌-◌, ◌*◌, ◌/◌
 use Rattle.std.proofs.lemmas.Bool.{cases_lt}
 use Rattle.x7_words.specs.Flash.{FlashState, IfKnown, OnlyReads, Sees}
 use Rattle.x7_update.specs.After.{IsAfter, IsBetween, with_stream}
-use Rattle.x7_update.specs.Layout.{HasLayout, IsClosed, IsOpen, switch_of, update_place}
-use Rattle.x7_update.specs.ReadBack.{WasReady}
+use Rattle.x7_update.specs.Layout.{HasLayout, IsClosed, IsNext, IsOpen, open_word, switch_of, update_place}
+use Rattle.x7_update.specs.ReadBack.{AllReadBack, ReadBack, WasReady}
+use Rattle.x7_update.specs.Slots.{Finds, Fits}
 use Rattle.x7_update.specs.Writing.{ReadsWanted, Replacing, SeesWanted, wanted_at}
 use Rattle.x7_update.proofs.CaseLemmas.{between_below, between_closed, open_not_free, stream_keeps}
+use Rattle.x7_update.proofs.StreamLemmas.{wanted_inside}
 use Rattle.x7_update.proofs.SwitchLemmas.{switch_switched}
+use Rattle.x7_update.proofs.ToldLemmas.{told_map}
+use Rattle.x7_update.specs.declared.slots.Slots.{Slots}
 
 -- ---- what is seen
 
@@ -21,6 +25,14 @@ sees_wanted update stream from count at buffer new (Ok _) long same seen wanted 
     let inside : i < length buffer = omega (arith, long, here, h) in
     let is : get_or buffer i 0 ≡ wanted_at update stream place = wanted i inside ∙ ap (λ a. wanted_at update stream (a + i)) same ∙ ap (wanted_at update stream) here in
     subst (λ b. IsTrue (new.seen place b)) is (subst (λ (p : ℕ). IsTrue (new.seen p (get_or buffer i 0))) here (seen i inside))
+
+-- a switch word that was read and is that of an open slot
+pub sees_open : {E : Type 0} (place : ℕ) (buffer : List ℕ) (new : FlashState) (result : Result (Unit {0}) E) → length buffer ≡ 4 → Sees new place buffer → OnOk result (ReadsWanted place open_word (place + 0) buffer) → OnOk result (Sees new place open_word)
+sees_open place buffer new (Err fault) long seen wanted = tt
+sees_open place buffer new (Ok _) long seen wanted = λ i l.
+    let here : place + 0 + i - place ≡ i = omega arith in
+    let is : get_or buffer i 0 ≡ get_or open_word i 0 = wanted i (omega (arith, long, l)) ∙ wanted_inside place open_word (place + 0 + i) (omega (arith, l)) ∙ ap (λ k. get_or open_word k 0) here in
+    subst (λ b. IsTrue (new.seen (place + i) b)) is (seen i (omega (arith, long, l)))
 
 -- one sector more
 pub sees_more : (update : ℕ) (stream : List ℕ) (sector : ℕ) (old new : FlashState) (past since : ℕ → List ℕ → Type 0) → OnlyReads old new past since → SeesWanted update stream update (sector * 65536) old
@@ -47,6 +59,27 @@ was_ready state update stream old new ready size seen same closed last = record 
   closed = subst (λ (o : Option (List ℕ)). IfKnown o IsClosed) (sym same) closed;
   last = last;
 }
+
+-- what was read back of the slots of the flash
+module _ {F : Type 0} (state : F → FlashState) (stream : List ℕ) (old new : FlashState) (slots : Slots) where
+  pub read_back : Fits new.extent slots → IfKnown old.bytes (λ all. Finds (length all) all slots) → WasReady state slots.update stream new → ReadBack state stream old new
+  read_back fits finds was = record {
+    update = slots.update;
+    stands = fits.place;
+    place = told_map old.bytes (λ all. Finds (length all) all slots) (λ all. slots.update ≡ update_place all) (λ all e f. f.update) finds;
+    ready = was;
+  }
+
+  pub all_back : {E : Type 0} (result : Result (Unit {0}) E) → Fits new.extent slots → IfKnown old.bytes (λ all. Finds (length all) all slots) → OnOk result (WasReady state slots.update stream new)
+      → OnOk result (Sees new (32 * slots.next) open_word) → OnOk result (AllReadBack state stream old new)
+  all_back (Err fault) fits finds was seen = tt
+  all_back (Ok _) fits finds was seen = record {
+    before = read_back fits finds was;
+    slot = slots.next;
+    within = fits.next;
+    next = told_map old.bytes (λ all. Finds (length all) all slots) (λ all. IsNext all slots.next) (λ all e f. f.next) finds;
+    switch = seen;
+  }
 
 -- ---- the updated flash has an open slot
 

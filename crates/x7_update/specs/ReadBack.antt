@@ -1,8 +1,8 @@
--- An update is read back before its slot is opened (this project's choice).
-use Rattle.std.specs.Prelude.{◌≡◌, ℕ, ◌+◌, ◌≤◌, List}
-use Rattle.x7_words.specs.Flash.{FlashState, IfKnown}
+-- That an update is read back before its slot is opened, and the slot's switch word after it (this project's choice).
+use Rattle.std.specs.Prelude.{◌≡◌, ℕ, ◌+◌, ◌*◌, ◌<◌, ◌≤◌, List}
+use Rattle.x7_words.specs.Flash.{FlashState, IfKnown, Sees}
 use Rattle.x7_update.specs.After.{IsAfter}
-use Rattle.x7_update.specs.Layout.{CanStandAt, HasLayout, IsClosed, update_place}
+use Rattle.x7_update.specs.Layout.{CanStandAt, HasLayout, IsClosed, IsNext, open_word, update_place}
 use Rattle.x7_update.specs.Writing.{SeesWanted}
 
 module _ {F : Type 0} (state : F → FlashState) where
@@ -24,3 +24,12 @@ module _ {F : Type 0} (state : F → FlashState) where
   -- what is found may be the updated flash only where all was read back before
   abbrev pub OpensReadBack : List ℕ → FlashState → FlashState → List ℕ → List ℕ → Type 0
   OpensReadBack stream old new flash found = HasLayout flash → IsAfter stream flash found → ReadBack stream old new
+
+  -- An update with a stream that is done was read back, and then the switch word of the slot that it opened: as that of an open slot, with
+  -- no write since.
+  pub record AllReadBack (stream : List ℕ) (old new : FlashState) : Type 0 where
+    pub before : ReadBack stream old new
+    pub slot : ℕ
+    pub within : slot < 2048
+    pub next : IfKnown old.bytes (λ all. IsNext all slot)
+    pub switch : Sees new (32 * slot) open_word

@@ -1,9 +1,9 @@
 //! The steps of an update, in their order: look, close, write, read back, open.
-ghost use Rattle.std.specs.Prelude.{◌≡◌, ◌+◌, ◌≤◌, ◌⊎◌, ℕ, List, true, length, IfErr, OnOk, OnErr, option_map};
-ghost use Rattle.x7_words.specs.Flash.{OnlyReads, OnlyWrites, IfKnown, WriteFails};
+ghost use Rattle.std.specs.Prelude.{◌≡◌, ◌+◌, ◌*◌, ◌≤◌, ◌⊎◌, ℕ, List, true, length, IfErr, OnOk, OnErr, option_map};
+ghost use Rattle.x7_words.specs.Flash.{OnlyReads, OnlyWrites, IfKnown, Sees, WriteFails};
 ghost use Rattle.x7_update.specs.After.{ClosesTo, IsAfter, MayBeLeft, switched};
 ghost use Rattle.x7_update.specs.Layout.{HasLayout, IsClosed, IsFree, open_word};
-ghost use Rattle.x7_update.specs.ReadBack.{OpensReadBack, ReadBack, WasReady};
+ghost use Rattle.x7_update.specs.ReadBack.{AllReadBack, OpensReadBack, WasReady};
 ghost use Rattle.x7_update.specs.Refused.{CanBeUpdated, HasCause, IsEarly};
 ghost use Rattle.x7_update.specs.Slots.{Finds, Fits};
 ghost use Rattle.x7_update.specs.Writing.{AtAnyMoment, Becomes, EndFails, HasWanted, OnlyUses, Opening, Replaced, Replacing, StaysBytes};
@@ -74,6 +74,7 @@ fn finish<F: Flash>(
     ensures bytes { AtAnyMoment (F.state flash.old) (F.state flash.new) (F.found_since flash.old) (F.found_since flash.new)
         StaysBytes }
     ensures ready { OnOk result (WasReady F.state slots.update stream.now (F.state flash.new)) }
+    ensures switch { OnOk result (Sees (F.state flash.new) (32 * slots.next) open_word) }
     ensures opens { AtAnyMoment (F.state flash.old) (F.state flash.new) (F.found_since flash.old) (F.found_since flash.new)
         (λ all found. (found ≡ all) ⊎ WasReady F.state slots.update stream.now (F.state flash.new)) }
     ensures fault { IfErr result (EndFails stream.now (F.state flash.old) (F.state flash.new)) }
@@ -97,7 +98,7 @@ fn take_steps<F: Flash>(alloc: Global, flash: &mut F, stream: &[u8]) -> Result<(
     ensures layout { OnOk result (IfKnown (F.state flash.old).bytes HasLayout) }
     ensures any_moment { AtAnyMoment (F.state flash.old) (F.state flash.new) (F.found_since flash.old) (F.found_since flash.new)
         (MayBeLeft stream.now) }
-    ensures read_back { OnOk result (ReadBack F.state stream.now (F.state flash.old) (F.state flash.new)) }
+    ensures read_back { OnOk result (AllReadBack F.state stream.now (F.state flash.old) (F.state flash.new)) }
     ensures opens { AtAnyMoment (F.state flash.old) (F.state flash.new) (F.found_since flash.old) (F.found_since flash.new)
         (OpensReadBack F.state stream.now (F.state flash.old) (F.state flash.new)) }
     ensures refused { IfErr result (HasCause stream.now (F.state flash.old) (F.state flash.new)) }
@@ -136,7 +137,7 @@ pub fn update<F: Flash>(alloc: Global, flash: &mut F, stream: &[u8]) -> Result<(
         IfKnown (F.state flash.old).bytes (λ all. MayBeLeft stream.now all found) }
     ensures any_moment { AtAnyMoment (F.state flash.old) (F.state flash.new) (F.found_since flash.old) (F.found_since flash.new)
         (MayBeLeft stream.now) }
-    ensures read_back { OnOk result (ReadBack F.state stream.now (F.state flash.old) (F.state flash.new)) }
+    ensures read_back { OnOk result (AllReadBack F.state stream.now (F.state flash.old) (F.state flash.new)) }
     ensures opens { AtAnyMoment (F.state flash.old) (F.state flash.new) (F.found_since flash.old) (F.found_since flash.new)
         (OpensReadBack F.state stream.now (F.state flash.old) (F.state flash.new)) }
     ensures refused { IfErr result (HasCause stream.now (F.state flash.old) (F.state flash.new)) }

@@ -1,7 +1,7 @@
 //! What was written is read back and compared.
 ghost use Rattle.std.specs.Prelude.{◌≡◌, ◌+◌, ◌*◌, ◌<◌, ◌≤◌, ◌^◌, ℕ, List, true, length, IfErr, OnOk};
-ghost use Rattle.x7_words.specs.Flash.{OnlyReads, IfKnown};
-ghost use Rattle.x7_update.specs.Layout.{CanStandAt, HasSize, IsOpen};
+ghost use Rattle.x7_words.specs.Flash.{OnlyReads, IfKnown, Sees};
+ghost use Rattle.x7_update.specs.Layout.{CanStandAt, HasSize, IsOpen, open_word};
 ghost use Rattle.x7_update.specs.Writing.{ReadsWanted, EndFails, HasWanted, IsWrong, SeesWanted, wanted_at};
 
 use crate::fault::UpdateFault;
@@ -100,6 +100,7 @@ pub(crate) fn verify_switch<F: Flash>(flash: &mut F, slot: u64) -> Result<(), Up
     requires size { HasSize (F.state flash.old).extent }
     requires slot { slot < 2048 }
     requires opened { IfKnown (F.state flash.old).bytes (λ all. IsOpen all slot) }
+    ensures seen { OnOk result (Sees (F.state flash.new) (32 * slot) open_word) }
     ensures fault { (stream : List ℕ) → IfErr result (EndFails stream (F.state flash.old) (F.state flash.new)) }
     ensures only { OnlyReads (F.state flash.old) (F.state flash.new) (F.found_since flash.old) (F.found_since flash.new) }
 {

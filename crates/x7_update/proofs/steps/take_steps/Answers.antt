@@ -2,14 +2,14 @@ use Rattle.std.proofs.Common.{◌≡◌, ◌+◌, ◌≤◌, ◌⊎◌, ⊎_elim
 use Rattle.x7_words.specs.Flash.{IfKnown}
 use Rattle.x7_words.specs.Word.{AreBytes}
 use Rattle.x7_update.specs.After.{IsBetween, MayBeLeft, untouched}
-use Rattle.x7_update.specs.Layout.{CanStandAt, HasLayout, IsClosed, IsFree, update_place}
+use Rattle.x7_update.specs.Layout.{HasLayout, IsClosed, IsFree}
 use Rattle.x7_update.specs.ReadBack.{OpensReadBack, ReadBack, WasReady}
-use Rattle.x7_update.specs.Slots.{Finds}
+use Rattle.x7_update.specs.Slots.{Finds, Fits}
 use Rattle.x7_update.specs.Writing.{HasWanted, Opening, Replaced, Replacing, StaysBytes}
 use Rattle.x7_update.proofs.ByteLemmas.{bytes_on, moments_both}
 use Rattle.x7_update.proofs.CaseLemmas.{opening_left, replaced_between, replaced_free, replaced_wanted, replacing_left}
-use Rattle.x7_update.proofs.ReadyLemmas.{after_not_between, after_not_replacing, after_not_same}
-use Rattle.x7_update.proofs.ToldLemmas.{becomes_leaves, becomes_then, moments_none, moments_on, moments_weaker, on_ok, on_ok_map, only_read, read_moments, told_at, told_map}
+use Rattle.x7_update.proofs.ReadyLemmas.{after_not_between, after_not_replacing, after_not_same, all_back, read_back}
+use Rattle.x7_update.proofs.ToldLemmas.{becomes_leaves, becomes_then, moments_none, moments_on, moments_weaker, on_ok, only_read, read_moments, told_at, told_map}
 use Rattle.x7_update.proofs.steps.take_steps.Goals as goal
 
 pub returns-in-Err-clause-refused : goal.returns-in-Err-clause-refused
@@ -115,13 +115,7 @@ returns-clause-read_back g c =
     let slots = c.in-Ok-find_slots.slots in
     let stream = c.args.stream.now in
     let size : last.extent ≡ first.extent = c.finish.ensures.only.extent ∙ c.replace.ensures.only.extent ∙ c.find_slots.ensures.only.extent in
-    on_ok_map (WasReady g.F.Flash.state slots.update stream last) (ReadBack g.F.Flash.state stream first last) c.finish.result c.finish.ensures.ready
-    (λ was. record {
-      update = slots.update;
-      stands = subst (λ n. CanStandAt n slots.update) (sym size) c.in-Ok-find_slots.ensures.fits.place;
-      place = told_map first.bytes (λ all. Finds (length all) all slots) (λ all. slots.update ≡ update_place all) (λ all e finds. finds.update) c.in-Ok-find_slots.ensures.finds;
-      ready = was;
-    })
+    all_back g.F.Flash.state stream first last slots c.finish.result (subst (λ n. Fits n slots) (sym size) c.in-Ok-find_slots.ensures.fits) c.in-Ok-find_slots.ensures.finds c.finish.ensures.ready c.finish.ensures.switch
 
 pub returns-in_default-clause-opens : goal.returns-in_default-clause-opens
 returns-in_default-clause-opens g c =
@@ -160,12 +154,7 @@ returns-clause-opens g c =
     let Was : Type 0 = WasReady g.F.Flash.state slots.update stream last in
     let size : last.extent ≡ first.extent = c.finish.ensures.only.extent ∙ c.replace.ensures.only.extent ∙ c.find_slots.ensures.only.extent in
     let back : Was → ReadBack g.F.Flash.state stream first last =
-    λ was. record {
-      update = slots.update;
-      stands = subst (λ n. CanStandAt n slots.update) (sym size) c.in-Ok-find_slots.ensures.fits.place;
-      place = told_map first.bytes (λ all. Finds (length all) all slots) (λ all. slots.update ≡ update_place all) (λ all e finds. finds.update) c.in-Ok-find_slots.ensures.finds;
-      ready = was;
-    } in
+    λ was. read_back g.F.Flash.state stream first last slots (subst (λ n. Fits n slots) (sym size) c.in-Ok-find_slots.ensures.fits) c.in-Ok-find_slots.ensures.finds was in
     read_moments first mid last _ _ _ Opens (λ all e l a. absurd (after_not_same stream all all l a refl)) c.find_slots.ensures.only.bytes c.find_slots.ensures.only.unwritten
     (moments_on mid then last _ _ _ (Replaced slots.update stream) (λ all found. (found ≡ all) ⊎ Was) Opens
     (λ all now found e r o l a.
