@@ -1,5 +1,5 @@
 -- The reading and the history of bytes after others that end searching.
-use Rattle.std.proofs.Common.{◌≡◌, ℕ, zero, suc, inl, inr, take, subst, ◌+◌, ◌<◌, ◌==◌, ◌⊎◌, Bool, true, false, if◌then◌else◌, List, [], ◌∷◌, ◌++◌, length, refl, ap, sym, ◌∙◌, append_assoc, append-nil, arith, length-append}
+use Rattle.std.proofs.Common.{◌≡◌, ℕ, inl, inr, take, drop, take-append-drop, subst, ◌+◌, ◌<◌, ◌==◌, ◌⊎◌, Bool, true, false, if◌then◌else◌, List, [], ◌∷◌, ◌++◌, length, refl, ap, sym, ◌∙◌, append_assoc, append-nil, arith, length-append}
 use Rattle.std.proofs.lemmas.Grind.{flat_map-append}
 use Rattle.std.specs.List.{flat_map}
 use Rattle.x7_words.specs.Word.{AreBytes}
@@ -8,66 +8,79 @@ use Rattle.x7_packets.specs.SyncWord.{sync_bytes, HasNoSync}
 use Rattle.x7_packets.specs.declared.header.Step.{Step}
 use Rattle.x7_packets.specs.declared.header.Step.TheVariants as step
 use Rattle.x7_packets.specs.Packet.{stepped}
-use Rattle.x7_packets.specs.Reading.{Place, Searching, Synced, Session, IsReading, IsSession, session_bytes, place_bytes, packet_bytes, is_synced, tail_of}
+use Rattle.x7_packets.specs.Gap.{NoneBegins}
+use Rattle.x7_packets.specs.Reading.{Place, Searching, Synced, Session, IsPlace, IsReading, IsSession, session_bytes, place_bytes, packet_bytes, is_synced, tail_of}
 use Rattle.x7_packets.specs.ByHand.{Reading, reading_of}
-use Rattle.x7_packets.specs.History.{History, Read, Write, Bad, entry, entered, entered_all, entered_sessions, entered_place, history, history_of, until, Placed}
-use Rattle.x7_packets.proofs.GrowthLemmas.{front_of, placed_of, placed_within, until_placed}
+use Rattle.x7_packets.specs.History.{History, Read, Write, Bad, entry, entered, entered_all, entered_sessions, entered_place, history, history_of}
 use Rattle.x7_packets.proofs.ByHandLemmas.{reading_is, reading_is_found}
 use Rattle.x7_packets.proofs.HistoryLemmas.{history_is}
 use Rattle.x7_packets.specs.Appended.{BeginsWithDummy, MayFollow, moved, after_gap, gap_of, after}
-use Rattle.x7_packets.proofs.SeamLemmas.{none_parted, first_parted, parted_gap, parted_same, none_without_first}
-use Rattle.x7_packets.specs.Appended.{LacksFirst}
+use Rattle.x7_packets.proofs.SeamLemmas.{first_behind, none_before_dummy, none_before_front, none_behind}
 
 -- a reading is one of these bytes
 abbrev Reads : List ℕ → Reading → Type 0
 Reads bytes r = IsReading bytes r.sessions r.place
 
--- bytes after a gap are read as they are alone
-joined : (a b gap : List ℕ) (ss ts : List Session) (q : Place) → AreBytes (a ++ b) → IsReading a ss (Searching gap) → IsReading b ts q → (gap ≡ []) ⊎ BeginsWithDummy b → Reads (a ++ b) (after_gap ss gap ts q)
-joined a b gap ss [] (Searching g) f r s d = record {
+-- bytes after a gap in which no sync word begins are read as they are alone
+joined : (a b gap : List ℕ) (ss ts : List Session) (q : Place) → AreBytes (a ++ b) → IsReading a ss (Searching gap) → IsReading b ts q → NoneBegins gap b → Reads (a ++ b) (after_gap ss gap ts q)
+joined a b gap ss [] (Searching g) f r s n = record {
   fits = f;
   joined = ap (λ t. t ++ b) r.joined ∙ ap (λ t. (flat_map session_bytes ss ++ gap) ++ t) s.joined ∙ append_assoc (flat_map session_bytes ss) gap g;
   each = r.each;
-  ends = none_parted gap g r.ends s.ends (parted_same gap b g s.joined d);
+  ends = none_behind gap g (subst (NoneBegins gap) s.joined n) s.ends;
 }
-joined a b gap ss [] (Synced g packets tail) f r s d =
+joined a b gap ss [] (Synced g packets tail) f r s n =
     let prefix : List ℕ = flat_map session_bytes ss in
+    let rest : List ℕ = packet_bytes packets ++ tail in
     let whole : b ≡ g ++ (sync_bytes ++ (packet_bytes packets ++ tail)) = s.joined ∙ simp append_assoc in
     let regrouped : (prefix ++ gap) ++ (g ++ (sync_bytes ++ (packet_bytes packets ++ tail))) ≡ prefix ++ ((gap ++ g) ++ sync_bytes ++ packet_bytes packets ++ tail) = simp append_assoc in
     record {
       fits = f;
       joined = ap (λ t. t ++ b) r.joined ∙ ap (λ t. (prefix ++ gap) ++ t) whole ∙ regrouped;
       each = r.each;
-      ends = (first_parted gap g r.ends s.ends.0 (parted_gap gap g (packet_bytes packets ++ tail) (parted_same gap b (g ++ (sync_bytes ++ (packet_bytes packets ++ tail))) whole d)), s.ends.1, s.ends.2, s.ends.3);
+      ends = (first_behind gap g rest (subst (NoneBegins gap) whole n) s.ends.0, s.ends.1, s.ends.2, s.ends.3);
     }
-joined a b gap ss (t ∷ ts) q f r s d =
+joined a b gap ss (t ∷ ts) q f r s n =
     let prefix : List ℕ = flat_map session_bytes ss in
     let rest : List ℕ = packet_bytes t.packets ++ (flat_map session_bytes ts ++ place_bytes q) in
     let first : Session = record { gap = gap ++ t.gap; packets = t.packets } in
     let whole : b ≡ t.gap ++ (sync_bytes ++ rest) = s.joined ∙ simp append_assoc in
     let regrouped : (prefix ++ gap) ++ (t.gap ++ (sync_bytes ++ rest)) ≡ (prefix ++ (session_bytes first ++ flat_map session_bytes ts)) ++ place_bytes q = simp append_assoc in
-    let parted : (gap ≡ []) ⊎ BeginsWithDummy t.gap = parted_gap gap t.gap rest (parted_same gap b (t.gap ++ (sync_bytes ++ rest)) whole d) in
     record {
       fits = f;
       joined = ap (λ t. t ++ b) r.joined ∙ ap (λ t. (prefix ++ gap) ++ t) whole ∙ regrouped
           ∙ ap (λ t. t ++ place_bytes q) (sym (flat_map-append session_bytes ss (first ∷ ts)));
-      each = all-append IsSession ss (first ∷ ts) r.each (record { first = first_parted gap t.gap r.ends s.each.0.first parted; packets = s.each.0.packets; ended = s.each.0.ended }, s.each.1);
+      each = all-append IsSession ss (first ∷ ts) r.each (record { first = first_behind gap t.gap rest (subst (NoneBegins gap) whole n) s.each.0.first; packets = s.each.0.packets; ended = s.each.0.ended }, s.each.1);
       ends = s.ends;
     }
 
 same_reading : (r s : Reading) → r.sessions ≡ s.sessions → r.place ≡ s.place → r ≡ s
 same_reading r s e f = ap (λ (x : List Session). record { sessions = x; place = r.place }) e ∙ ap (λ (x : Place). record { sessions = s.sessions; place = x }) f
 
-by_place : (a b : List ℕ) (ss : List Session) (p : Place) → AreBytes (a ++ b) → IsReading a ss p → is_synced p ≡ false → (gap_of p ≡ []) ⊎ BeginsWithDummy b → reading_of (a ++ b) ≡ after (record { sessions = ss; place = p }) (reading_of b)
-by_place a b ss (Searching gap) f r e d =
+-- more bytes stand behind those that end at this place: these end searching, and no sync word begins in the open gap
+pub record IsBehind (place : Place) (more : List ℕ) : Type 0 where
+  pub searching : is_synced place ≡ false
+  pub none : NoneBegins (gap_of place) more
+
+-- so they do where they may follow
+may_stand : (place : Place) (more : List ℕ) → IsPlace place → MayFollow place more → IsBehind place more
+may_stand place more is m = record { searching = m.searching; none = by place is m.searching m.apart }
+  where
+    by : (place : Place) → IsPlace place → is_synced place ≡ false → (gap_of place ≡ []) ⊎ BeginsWithDummy more → NoneBegins (gap_of place) more
+    by place is e (inl none) = λ prefix back f. omega (arith, ap length none)
+    by (Searching gap) is e (inr dummy) = none_before_dummy gap more is dummy
+    by (Synced gap packets tail) is e (inr dummy) = absurd (cc)
+
+by_place : (a b : List ℕ) (ss : List Session) (p : Place) → AreBytes (a ++ b) → IsReading a ss p → IsBehind p b → reading_of (a ++ b) ≡ after (record { sessions = ss; place = p }) (reading_of b)
+by_place a b ss (Searching gap) f r d =
     let found : IsReading b (reading_of b).sessions (reading_of b).place = reading_is_found b (all_back (λ x. x < 256) a b f) in
     let all : Reading = after_gap ss gap (reading_of b).sessions (reading_of b).place in
-    let is : (all.sessions ≡ (reading_of (a ++ b)).sessions) × (all.place ≡ (reading_of (a ++ b)).place) = reading_is (a ++ b) all.sessions all.place (joined a b gap ss (reading_of b).sessions (reading_of b).place f r found d) in
+    let is : (all.sessions ≡ (reading_of (a ++ b)).sessions) × (all.place ≡ (reading_of (a ++ b)).place) = reading_is (a ++ b) all.sessions all.place (joined a b gap ss (reading_of b).sessions (reading_of b).place f r found d.none) in
     sym (same_reading all (reading_of (a ++ b)) is.0 is.1)
-by_place a b ss (Synced gap packets tail) f r e d = absurd (cc)
+by_place a b ss (Synced gap packets tail) f r d = absurd (let e : true ≡ false = d.searching in cc)
 
-pub read_after : (a b : List ℕ) → AreBytes (a ++ b) → MayFollow (reading_of a).place b → reading_of (a ++ b) ≡ after (reading_of a) (reading_of b)
-read_after a b f d = by_place a b (reading_of a).sessions (reading_of a).place f (reading_is_found a (all_front (λ x. x < 256) a b f)) d.searching d.apart
+read_behind : (a b : List ℕ) → AreBytes (a ++ b) → IsBehind (reading_of a).place b → reading_of (a ++ b) ≡ after (reading_of a) (reading_of b)
+read_behind a b f d = by_place a b (reading_of a).sessions (reading_of a).place f (reading_is_found a (all_front (λ x. x < 256) a b f)) d
 
 synced_same : (before : List Session) (prefix : List ℕ) (ts : List Session) (q : Place) → is_synced (after_gap before prefix ts q).place ≡ is_synced q
 synced_same before prefix [] (Searching gap) = refl
@@ -79,11 +92,8 @@ tail_same before prefix [] (Searching gap) = refl
 tail_same before prefix [] (Synced gap packets tail) = refl
 tail_same before prefix (t ∷ ts) q = refl
 
-pub ends_after : (a b : List ℕ) → AreBytes (a ++ b) → MayFollow (reading_of a).place b → is_synced (reading_of (a ++ b)).place ≡ is_synced (reading_of b).place
-ends_after a b f d = ap (λ (r : Reading). is_synced r.place) (read_after a b f d) ∙ synced_same (reading_of a).sessions (gap_of (reading_of a).place) (reading_of b).sessions (reading_of b).place
-
-pub tail_after : (a b : List ℕ) → AreBytes (a ++ b) → MayFollow (reading_of a).place b → tail_of (reading_of (a ++ b)).place ≡ tail_of (reading_of b).place
-tail_after a b f d = ap (λ (r : Reading). tail_of r.place) (read_after a b f d) ∙ tail_same (reading_of a).sessions (gap_of (reading_of a).place) (reading_of b).sessions (reading_of b).place
+pub ends_behind : (a b : List ℕ) → AreBytes (a ++ b) → IsBehind (reading_of a).place b → is_synced (reading_of (a ++ b)).place ≡ is_synced (reading_of b).place
+ends_behind a b f d = ap (λ (r : Reading). is_synced r.place) (read_behind a b f d) ∙ synced_same (reading_of a).sessions (gap_of (reading_of a).place) (reading_of b).sessions (reading_of b).place
 
 -- an access entered n bytes later, after others
 entered_moved : (n place k : ℕ) (s : Step) (h g : History) → k ≡ n + place → entered k s (moved n h ++ g) ≡ moved n (entered place s h) ++ g
@@ -121,7 +131,7 @@ sessions_after n (s ∷ ss) ts h =
     ∙ ap (λ (x : ℕ). entered_sessions x ts (entered_sessions (n + length (session_bytes s)) ss (entered_all (n + length s.gap + 4) (flat_map stepped s.packets) h))) (omega (arith, length-append (session_bytes s) (flat_map session_bytes ss)))
 
 -- the history of a reading after one that ends searching
-pub history_joined : (n : ℕ) (gap : List ℕ) (ss ts : List Session) (q : Place) → n ≡ length (flat_map session_bytes ss) + length gap
+history_joined : (n : ℕ) (gap : List ℕ) (ss ts : List Session) (q : Place) → n ≡ length (flat_map session_bytes ss) + length gap
     → (let r : Reading = after_gap ss gap ts q in history r.sessions r.place ≡ moved n (history ts q) ++ entered_sessions 0 ss [])
 history_joined n gap ss [] (Searching g) e = refl
 history_joined n gap ss [] (Synced g packets tail) e =
@@ -146,9 +156,9 @@ history_by_place : (a b : List ℕ) (ss : List Session) (p : Place) → IsReadin
 history_by_place a b ss (Searching gap) r e = history_joined (length a) gap ss (reading_of b).sessions (reading_of b).place (ap length r.joined ∙ length-append (flat_map session_bytes ss) gap)
 history_by_place a b ss (Synced gap packets tail) r e = absurd (cc)
 
-pub history_after : (a b : List ℕ) → AreBytes (a ++ b) → MayFollow (reading_of a).place b → history_of (a ++ b) ≡ moved (length a) (history_of b) ++ history_of a
-history_after a b f d =
-    ap (λ (r : Reading). history r.sessions r.place) (read_after a b f d)
+pub history_behind : (a b : List ℕ) → AreBytes (a ++ b) → IsBehind (reading_of a).place b → history_of (a ++ b) ≡ moved (length a) (history_of b) ++ history_of a
+history_behind a b f d =
+    ap (λ (r : Reading). history r.sessions r.place) (read_behind a b f d)
     ∙ history_by_place a b (reading_of a).sessions (reading_of a).place (reading_is_found a (all_front (λ x. x < 256) a b f)) d.searching
 
 -- bytes without the sync word are a gap, and enter nothing
@@ -160,42 +170,26 @@ nothing_read bytes f n =
     let is : ([] ≡ (reading_of bytes).sessions) × (Searching bytes ≡ (reading_of bytes).place) = reading_is bytes [] (Searching bytes) (gap_reading bytes f n) in
     (sym (same_reading (record { sessions = []; place = Searching bytes }) (reading_of bytes) is.0 is.1), sym (history_is bytes [] (Searching bytes) (gap_reading bytes f n)))
 
--- further bytes of which a prefix of a dummy word is there
-short_prefix : (bytes s rest : List ℕ) → AreBytes bytes → is_synced (reading_of bytes).place ≡ false → s ++ rest ≡ 0xFF ∷ 0xFF ∷ 0xFF ∷ 0xFF ∷ [] → history_of (bytes ++ s) ≡ history_of bytes
-short_prefix bytes s rest b e d =
-    let dummy : List ℕ = 0xFF ∷ 0xFF ∷ 0xFF ∷ 0xFF ∷ [] in
-    let fits : AreBytes (bytes ++ dummy) = all-append (λ x. x < 256) bytes dummy b (omega arith, (omega arith, (omega arith, (omega arith, tt)))) in
-    let same : (bytes ++ s) ++ rest ≡ bytes ++ dummy = append_assoc bytes s rest ∙ ap (λ t. bytes ++ t) d in
-    let whole : history_of (bytes ++ dummy) ≡ history_of bytes = history_after bytes dummy fits (record { searching = e; apart = inr ([], refl) }) in
-    let placed : Placed (length (bytes ++ s)) (history_of bytes) = placed_within (length bytes) (length (bytes ++ s)) (history_of bytes) (omega (arith, length-append bytes s)) (placed_of bytes b) in
-    sym (front_of (bytes ++ s) rest (subst AreBytes (sym same) fits))
-    ∙ ap (λ t. until (length (bytes ++ s)) (history_of t)) same
-    ∙ ap (until (length (bytes ++ s))) whole
-    ∙ until_placed (length (bytes ++ s)) (history_of bytes) placed
+-- ---- bytes that may follow
 
-short_own : (bytes s : List ℕ) → AreBytes bytes → AreBytes s → LacksFirst s → history_of (bytes ++ s) ≡ history_of bytes → history_of (bytes ++ s) ≡ moved (length bytes) (history_of s) ++ history_of bytes
-short_own bytes s b f l e = e ∙ ap (λ (t : History). moved (length bytes) t ++ history_of bytes) (sym (nothing_read s f (none_without_first s l)).1)
+module _ (a b : List ℕ) (f : AreBytes (a ++ b)) (m : MayFollow (reading_of a).place b) where
+  may : IsBehind (reading_of a).place b
+  may = may_stand (reading_of a).place b (reading_is_found a (all_front (λ x. x < 256) a b f)).ends m
 
-dummy_prefix : (bytes rest : List ℕ) (k : ℕ) → AreBytes bytes → AreBytes rest → is_synced (reading_of bytes).place ≡ false
-    → history_of (bytes ++ take k (0xFF ∷ 0xFF ∷ 0xFF ∷ 0xFF ∷ rest)) ≡ moved (length bytes) (history_of (take k (0xFF ∷ 0xFF ∷ 0xFF ∷ 0xFF ∷ rest))) ++ history_of bytes
-dummy_prefix bytes rest zero b f e = ap history_of (append-nil bytes)
-dummy_prefix bytes rest (suc zero) b f e = short_own bytes (0xFF ∷ []) b (omega arith, tt) (refl, tt) (short_prefix bytes (0xFF ∷ []) (0xFF ∷ 0xFF ∷ 0xFF ∷ []) b e refl)
-dummy_prefix bytes rest (suc (suc zero)) b f e = short_own bytes (0xFF ∷ 0xFF ∷ []) b (omega arith, (omega arith, tt)) (refl, (refl, tt)) (short_prefix bytes (0xFF ∷ 0xFF ∷ []) (0xFF ∷ 0xFF ∷ []) b e refl)
-dummy_prefix bytes rest (suc (suc (suc zero))) b f e = short_own bytes (0xFF ∷ 0xFF ∷ 0xFF ∷ []) b (omega arith, (omega arith, (omega arith, tt))) (refl, (refl, (refl, tt))) (short_prefix bytes (0xFF ∷ 0xFF ∷ 0xFF ∷ []) (0xFF ∷ []) b e refl)
-dummy_prefix bytes rest (suc (suc (suc (suc k)))) b f e =
-    history_after bytes (0xFF ∷ 0xFF ∷ 0xFF ∷ 0xFF ∷ take k rest)
-    (all-append (λ x. x < 256) bytes (0xFF ∷ 0xFF ∷ 0xFF ∷ 0xFF ∷ take k rest) b (omega arith, (omega arith, (omega arith, (omega arith, all_take (λ x. x < 256) k rest f)))))
-    (record { searching = e; apart = inr (take k rest, refl) })
+  pub read_after : reading_of (a ++ b) ≡ after (reading_of a) (reading_of b)
+  read_after = read_behind a b f may
 
--- the history of a prefix of further bytes
-pub prefixes_after : (a b : List ℕ) (k : ℕ) → AreBytes (a ++ b) → MayFollow (reading_of a).place b → history_of (a ++ take k b) ≡ moved (length a) (history_of (take k b)) ++ history_of a
-prefixes_after a b k f d = by_apart d.apart
-  where
-    first : AreBytes a
-    first = all_front (λ x. x < 256) a b f
+  pub ends_after : is_synced (reading_of (a ++ b)).place ≡ is_synced (reading_of b).place
+  ends_after = ends_behind a b f may
 
-    by_apart : (gap_of (reading_of a).place ≡ []) ⊎ BeginsWithDummy b → history_of (a ++ take k b) ≡ moved (length a) (history_of (take k b)) ++ history_of a
-    by_apart (inl e) = history_after a (take k b) (all-append (λ x. x < 256) a (take k b) first (all_take (λ x. x < 256) k b (all_back (λ x. x < 256) a b f))) (record { searching = d.searching; apart = inl e })
-    by_apart (inr w) =
-        let own : AreBytes (0xFF ∷ 0xFF ∷ 0xFF ∷ 0xFF ∷ w.0) = rw w.1 at (all_back (λ x. x < 256) a b f) in
-        rw w.1 (dummy_prefix a w.0 k first own.1.1.1.1 d.searching)
+  pub tail_after : tail_of (reading_of (a ++ b)).place ≡ tail_of (reading_of b).place
+  tail_after = ap (λ (r : Reading). tail_of r.place) read_after ∙ tail_same (reading_of a).sessions (gap_of (reading_of a).place) (reading_of b).sessions (reading_of b).place
+
+  pub history_after : history_of (a ++ b) ≡ moved (length a) (history_of b) ++ history_of a
+  history_after = history_behind a b f may
+
+  -- the history of a prefix of further bytes
+  pub prefix_after : (k : ℕ) → history_of (a ++ take k b) ≡ moved (length a) (history_of (take k b)) ++ history_of a
+  prefix_after k =
+      let fits : AreBytes (a ++ take k b) = all-append (λ x. x < 256) a (take k b) (all_front (λ x. x < 256) a b f) (all_take (λ x. x < 256) k b (all_back (λ x. x < 256) a b f)) in
+      history_behind a (take k b) fits (record { searching = m.searching; none = none_before_front (gap_of (reading_of a).place) (take k b) (drop k b) (subst (NoneBegins (gap_of (reading_of a).place)) (sym (take-append-drop k b)) may.none) })

@@ -3,8 +3,10 @@ pub mod ByHandLemmas
 pub mod CutLemmas
 pub mod EndLemmas
 pub mod FitLemmas
+pub mod GapLemmas
 pub mod GrowthLemmas
 pub mod HistoryLemmas
+pub mod MovedLemmas
 pub mod NopLemmas
 pub mod PacketLemmas
 pub mod PlaceLemmas

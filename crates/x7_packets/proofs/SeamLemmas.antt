@@ -1,10 +1,11 @@
--- Where the sync word may stand: never over the seam of a gap and a dummy word, and never where its first byte is nowhere.
-use Rattle.std.proofs.Common.{◌≡◌, ◌⊎◌, ℕ, ◌==◌, true, false, List, [], ◌∷◌, ◌++◌, length, inl, inr, refl, ap, sym, subst, eq-eqb, ◌∙◌, append_assoc, arith, length-append}
+-- Where the sync word may stand: never over the seam of a gap and a dummy word, nor over that of a gap in which none begins, and never where its first byte is nowhere.
+use Rattle.std.proofs.Common.{◌≡◌, ℕ, ◌==◌, true, false, List, [], ◌∷◌, ◌++◌, length, inl, inr, refl, ap, sym, subst, eq-eqb, ◌∙◌, append_assoc, arith, length-append, ◌≤◌, take, drop, take-append-drop, length-take-le}
 use Rattle.std.specs.List.{AllByRecursion}
-use Rattle.x7_words.proofs.ListLemmas.{fronts_of, all_front, all_back}
+use Rattle.std.proofs.lemmas.List.{append_cancel_left}
+use Rattle.x7_words.proofs.ListLemmas.{fronts_of, all_front, all_back, shorter_front}
 use Rattle.x7_packets.specs.SyncWord.{HasNoSync, IsBeforeSync, sync_bytes}
-use Rattle.x7_packets.specs.Appended.{BeginsWithDummy}
-use Rattle.x7_packets.specs.Appended.{LacksFirst}
+use Rattle.x7_packets.specs.Appended.{BeginsWithDummy, LacksFirst}
+use Rattle.x7_packets.specs.Gap.{NoneBegins}
 
 -- a gap ends in a prefix of the sync word, and a dummy word follows
 seam : (gap prefix more rest back : List ℕ) → HasNoSync gap → gap ≡ prefix ++ more → sync_bytes ++ back ≡ more ++ 0xFF ∷ 0xFF ∷ 0xFF ∷ 0xFF ∷ rest → ⊥
@@ -16,49 +17,53 @@ seam gap prefix (x ∷ y ∷ z ∷ u ∷ more) rest back n g e =
     let same : x ∷ y ∷ z ∷ u ∷ more ≡ sync_bytes ++ more = cc in
     n.none prefix more (g ∙ ap (λ t. prefix ++ t) same ∙ sym (append_assoc prefix sync_bytes more))
 
--- the sync word of a gap and dummy words is that of the dummy words
-in_more : (gap more prefix back : List ℕ) → HasNoSync gap → BeginsWithDummy more → gap ++ more ≡ prefix ++ (sync_bytes ++ back) → (x : List ℕ) × (prefix ≡ gap ++ x) × (more ≡ x ++ (sync_bytes ++ back))
-in_more gap more prefix back n d e = elim (fronts_of gap prefix more (sync_bytes ++ back) e) [
-  | inl l ↦ (l.more, l.prefix, l.back)
+-- none begins in a gap that a dummy word follows
+pub none_before_dummy : (gap more : List ℕ) → HasNoSync gap → BeginsWithDummy more → NoneBegins gap more
+none_before_dummy gap more n d prefix back e = elim (fronts_of gap prefix more (sync_bytes ++ back) e) [
+  | inl l ↦ omega (arith, ap length l.prefix, length-append gap l.more)
   | inr l ↦ absurd (seam gap prefix l.more d.0 back n l.prefix (l.back ∙ ap (λ t. l.more ++ t) d.1))
 ]
 
-pub none_after : (gap more : List ℕ) → HasNoSync gap → HasNoSync more → BeginsWithDummy more → HasNoSync (gap ++ more)
-none_after gap more n m d = record { none = λ prefix back e. let r : (x : List ℕ) × (prefix ≡ gap ++ x) × (more ≡ x ++ (sync_bytes ++ back)) = in_more gap more prefix back n d (e ∙ append_assoc prefix sync_bytes back) in m.none r.0 back (r.2 ∙ sym (append_assoc r.0 sync_bytes back)) }
+-- ---- a gap in which none begins
 
-pub first_after : (gap more : List ℕ) → HasNoSync gap → IsBeforeSync more → BeginsWithDummy more → IsBeforeSync (gap ++ more)
-first_after gap more n m d = record {
+-- a sync word stands in the bytes behind it
+stands_behind : (gap more prefix back : List ℕ) → NoneBegins gap more → gap ++ more ≡ prefix ++ (sync_bytes ++ back) → (x : List ℕ) × (prefix ≡ gap ++ x) × (more ≡ x ++ (sync_bytes ++ back))
+stands_behind gap more prefix back n e =
+    let f : (m : List ℕ) × (prefix ≡ gap ++ m) = shorter_front gap prefix more (sync_bytes ++ back) (n prefix back e) e in
+    (f.0, f.1, append_cancel_left gap more (f.0 ++ (sync_bytes ++ back)) (e ∙ ap (λ (p : List ℕ). p ++ (sync_bytes ++ back)) f.1 ∙ append_assoc gap f.0 (sync_bytes ++ back)))
+
+-- none begins in it before fewer bytes
+pub none_before_front : (gap more rest : List ℕ) → NoneBegins gap (more ++ rest) → NoneBegins gap more
+none_before_front gap more rest n prefix back e =
+    let longer : (prefix ++ (sync_bytes ++ back)) ++ rest ≡ prefix ++ (sync_bytes ++ (back ++ rest)) = simp append_assoc in
+    n prefix (back ++ rest) (sym (append_assoc gap more rest) ∙ ap (λ (x : List ℕ). x ++ rest) e ∙ longer)
+
+pub none_behind : (gap more : List ℕ) → NoneBegins gap more → HasNoSync more → HasNoSync (gap ++ more)
+none_behind gap more n m = record {
+  none = λ prefix back e.
+      let r : (x : List ℕ) × (prefix ≡ gap ++ x) × (more ≡ x ++ (sync_bytes ++ back)) = stands_behind gap more prefix back n (e ∙ append_assoc prefix sync_bytes back) in
+      m.none r.0 back (r.2 ∙ sym (append_assoc r.0 sync_bytes back));
+}
+
+pub first_behind : (gap more rest : List ℕ) → NoneBegins gap (more ++ (sync_bytes ++ rest)) → IsBeforeSync more → IsBeforeSync (gap ++ more)
+first_behind gap more rest n m = record {
   first = λ prefix back e.
-      let dummy : BeginsWithDummy (more ++ sync_bytes) = (d.0 ++ sync_bytes, ap (λ t. t ++ sync_bytes) d.1) in
-      let r : (x : List ℕ) × (prefix ≡ gap ++ x) × (more ++ sync_bytes ≡ x ++ (sync_bytes ++ back)) = in_more gap (more ++ sync_bytes) prefix back n dummy (sym (append_assoc gap more sync_bytes) ∙ e ∙ append_assoc prefix sync_bytes back) in
+      let there : NoneBegins gap (more ++ sync_bytes) = none_before_front gap (more ++ sync_bytes) rest (subst (NoneBegins gap) (sym (append_assoc more sync_bytes rest)) n) in
+      let r : (x : List ℕ) × (prefix ≡ gap ++ x) × (more ++ sync_bytes ≡ x ++ (sync_bytes ++ back)) =
+      stands_behind gap (more ++ sync_bytes) prefix back there (sym (append_assoc gap more sync_bytes) ∙ e ∙ append_assoc prefix sync_bytes back) in
       m.first r.0 back (r.2 ∙ sym (append_assoc r.0 sync_bytes back));
 }
 
--- a gap before a sync word has the dummy word with which all begins
-pub dummy_gap : (gap more : List ℕ) → BeginsWithDummy (gap ++ (sync_bytes ++ more)) → BeginsWithDummy gap
-dummy_gap [] more d = absurd (let e : sync_bytes ++ more ≡ 0xFF ∷ 0xFF ∷ 0xFF ∷ 0xFF ∷ d.0 = d.1 in let h : ◌≡◌ {A = ℕ} 0xAA 0xFF = cc in omega (arith, h))
-dummy_gap (x ∷ []) more d = absurd (let e : x ∷ (sync_bytes ++ more) ≡ 0xFF ∷ 0xFF ∷ 0xFF ∷ 0xFF ∷ d.0 = d.1 in let h : ◌≡◌ {A = ℕ} 0xAA 0xFF = cc in omega (arith, h))
-dummy_gap (x ∷ y ∷ []) more d = absurd (let e : x ∷ y ∷ (sync_bytes ++ more) ≡ 0xFF ∷ 0xFF ∷ 0xFF ∷ 0xFF ∷ d.0 = d.1 in let h : ◌≡◌ {A = ℕ} 0xAA 0xFF = cc in omega (arith, h))
-dummy_gap (x ∷ y ∷ z ∷ []) more d = absurd (let e : x ∷ y ∷ z ∷ (sync_bytes ++ more) ≡ 0xFF ∷ 0xFF ∷ 0xFF ∷ 0xFF ∷ d.0 = d.1 in let h : ◌≡◌ {A = ℕ} 0xAA 0xFF = cc in omega (arith, h))
-dummy_gap (x ∷ y ∷ z ∷ u ∷ gap) more d =
-    let e : x ∷ y ∷ z ∷ u ∷ (gap ++ (sync_bytes ++ more)) ≡ 0xFF ∷ 0xFF ∷ 0xFF ∷ 0xFF ∷ d.0 = d.1 in (gap, cc)
-
--- the same where the gap is empty
-pub none_parted : (gap more : List ℕ) → HasNoSync gap → HasNoSync more → (gap ≡ []) ⊎ BeginsWithDummy more → HasNoSync (gap ++ more)
-none_parted gap more n m (inl e) = rw e m
-none_parted gap more n m (inr d) = none_after gap more n m d
-
-pub first_parted : (gap more : List ℕ) → HasNoSync gap → IsBeforeSync more → (gap ≡ []) ⊎ BeginsWithDummy more → IsBeforeSync (gap ++ more)
-first_parted gap more n m (inl e) = rw e m
-first_parted gap more n m (inr d) = first_after gap more n m d
-
-pub parted_gap : (gap prefix more : List ℕ) → (gap ≡ []) ⊎ BeginsWithDummy (prefix ++ (sync_bytes ++ more)) → (gap ≡ []) ⊎ BeginsWithDummy prefix
-parted_gap gap prefix more (inl e) = inl e
-parted_gap gap prefix more (inr d) = inr (dummy_gap prefix more d)
-
-pub parted_same : (gap b c : List ℕ) → b ≡ c → (gap ≡ []) ⊎ BeginsWithDummy b → (gap ≡ []) ⊎ BeginsWithDummy c
-parted_same gap b c e (inl f) = inl f
-parted_same gap b c e (inr d) = inr (d.0, sym e ∙ d.1)
+-- none stands in its first bytes
+pub none_in_gap : (gap more : List ℕ) (k : ℕ) → k ≤ length gap → NoneBegins gap more → HasNoSync (take k gap)
+none_in_gap gap more k l n = record {
+  none = λ prefix back e.
+      let behind : List ℕ = drop k gap ++ more in
+      let longer : (prefix ++ sync_bytes ++ back) ++ behind ≡ prefix ++ (sync_bytes ++ (back ++ behind)) = simp append_assoc in
+      let whole : gap ++ more ≡ take k gap ++ behind = ap (λ (x : List ℕ). x ++ more) (sym (take-append-drop k gap)) ∙ append_assoc (take k gap) (drop k gap) more in
+      let past : length gap ≤ length prefix = n prefix (back ++ behind) (whole ∙ ap (λ (x : List ℕ). x ++ behind) e ∙ longer) in
+      absurd (omega (arith, past, l, ap length e, length-take-le k gap l, length-append (prefix ++ sync_bytes) back, length-append prefix sync_bytes));
+}
 
 -- bytes without the sync word's first byte have no sync word
 pub none_without_first : (bytes : List ℕ) → LacksFirst bytes → HasNoSync bytes

@@ -1,4 +1,5 @@
 pub mod Found
+pub mod Gap
 pub mod Mode
 pub mod ByHand
 pub mod Cutting

@@ -1,9 +1,10 @@
 //! Laws of streams one after another, and of packets one after another.
-ghost use Rattle.std.specs.Prelude.{◌≡◌, ◌==◌, ℕ, List, [], ◌∷◌, ◌++◌, false, take, None};
+ghost use Rattle.std.specs.Prelude.{◌≡◌, ◌==◌, ℕ, List, [], ◌∷◌, ◌++◌, false, length, take, None};
 ghost use Rattle.std.specs.List.{AllByRecursion};
 ghost use Rattle.x7_words.specs.Word.{AreBytes};
-ghost use Rattle.x7_packets.specs.Appended.{Follows, MayFollow, after, history_after};
+ghost use Rattle.x7_packets.specs.Appended.{Follows, MayFollow, after, history_after, moved};
 ghost use Rattle.x7_packets.specs.ByHand.{reading_of};
+ghost use Rattle.x7_packets.specs.Gap.{AreAlike, AreGaps, NoneBegins};
 ghost use Rattle.x7_packets.specs.History.{history_of};
 ghost use Rattle.x7_packets.specs.Packet.{IsWhole, Packet, Packets, words};
 ghost use Rattle.x7_packets.specs.Reading.{Searching, is_synced, tail_of};
@@ -30,6 +31,15 @@ pub fn gaps_ask_nothing()
     ensures gap { (bytes : List ℕ) → AreBytes bytes → HasNoSync bytes → reading_of bytes ≡ record { sessions = []; place = Searching bytes } }
     ensures nothing { (bytes : List ℕ) → AreBytes bytes → HasNoSync bytes → history_of bytes ≡ [] }
     ensures lacks { (bytes prefix more : List ℕ) (x : ℕ) → sync_bytes ≡ prefix ++ x ∷ more → AllByRecursion (λ b. (b == x) ≡ false) bytes → HasNoSync bytes }
+{}
+
+/// Bytes behind a gap in which no sync word begins are read as they are alone: they ask the same, at places moved by the gap,
+/// and end in a session or not. So behind two such gaps of a length the bytes, and each prefix, are alike.
+pub fn gaps_are_passed()
+    ensures history { (gap more : List ℕ) → AreBytes (gap ++ more) → NoneBegins gap more → history_of (gap ++ more) ≡ moved (length gap) (history_of more) }
+    ensures synced { (gap more : List ℕ) → AreBytes (gap ++ more) → NoneBegins gap more
+        → is_synced (reading_of (gap ++ more)).place ≡ is_synced (reading_of more).place }
+    ensures alike { (one other more : List ℕ) (k : ℕ) → AreGaps one other more → AreAlike (take k (one ++ more)) (take k (other ++ more)) }
 {}
 
 /// Words that end in no open payload, and then those of a packet: the packets are one more.

@@ -12,7 +12,7 @@ mod places;
 mod stream;
 mod sync;
 
-pub use appended::{gaps_ask_nothing, packets_append, streams_append};
+pub use appended::{gaps_are_passed, gaps_ask_nothing, packets_append, streams_append};
 pub use cutter::{Cut, Cutter};
 pub use examples::{
     examples_of_ends, examples_of_headers, examples_of_the_history, examples_of_the_search,

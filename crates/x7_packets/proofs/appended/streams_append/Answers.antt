@@ -1,4 +1,4 @@
-use Rattle.x7_packets.proofs.AppendedLemmas.{ends_after, history_after, prefixes_after, read_after, tail_after}
+use Rattle.x7_packets.proofs.AppendedLemmas.{ends_after, history_after, prefix_after, read_after, tail_after}
 use Rattle.x7_packets.proofs.appended.streams_append.Goals as goal
 
 pub returns-clause-reading : goal.returns-clause-reading
@@ -14,4 +14,4 @@ pub returns-clause-tail : goal.returns-clause-tail
 returns-clause-tail c = tail_after
 
 pub returns-clause-prefixes : goal.returns-clause-prefixes
-returns-clause-prefixes c = prefixes_after
+returns-clause-prefixes c = λ bytes more k f m. prefix_after bytes more f m k
