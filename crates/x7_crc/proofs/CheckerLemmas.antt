@@ -13,7 +13,7 @@ use Rattle.x7_packets.proofs.HistoryLemmas.{cut_enters, next_word-is}
 use Rattle.x7_crc.specs.OpenWrites.{in_order, running_check}
 use Rattle.x7_crc.specs.RunningCheck.{check_after, writes_to}
 use Rattle.x7_crc.proofs.CheckLemmas.{check_after-append, check_after-none, check_after_fits, check_of-more}
-use Rattle.x7_crc.specs.Checking.{has_effect, Checks, HasTaken, IsSum, CheckerState, Keeps}
+use Rattle.x7_crc.specs.Checking.{steers_check, Checks, HasTaken, IsSum, CheckerState, Keeps}
 
 pub check-none : running_check [] ≡ 0
 check-none = check_after-none 0 (lit< tt)
@@ -117,10 +117,19 @@ held-all : (register n : ℕ) (ws : List ℕ) (h : History) → (register == 4) 
 held-all register n [] h e = refl
 held-all register n (w ∷ ws) h e = held-all register (n + 4) ws (entry (Write register w) (n + 4) ∷ h) e ∙ held-one register w (n + 4) h e
 
-pub plain-sum : (register n check held folded : ℕ) (ws : List ℕ) (h : History) → has_effect register ≡ false → folded ≡ check_after check (writes_to register ws) → IsSum check held h → IsSum folded held (entered_all n (payload_steps register ws) h)
+pub plain-sum : (register n check held folded : ℕ) (ws : List ℕ) (h : History) → steers_check register ≡ false → folded ≡ check_after check (writes_to register ws) → IsSum check held h → IsSum folded held (entered_all n (payload_steps register ws) h)
 plain-sum register n check held folded ws h plain e s =
     let p = none-of (register == 0) (register == 1) (register == 4) (register == 8) plain in
     record {
       check_is = e ∙ ap (λ (c : ℕ). check_after c (writes_to register ws)) s.check_is ∙ sym (check-all register n ws h p.3 (λ g w. plain-open register g w p.0 p.1 p.2));
       held_is = s.held_is ∙ sym (held-all register n ws h p.2);
+    }
+
+-- the sum after a word written to a register that does not steer the check
+pub plain-word : (register place check held folded w : ℕ) (h : History) → steers_check register ≡ false → folded ≡ check_after check ((register, w) ∷ []) → IsSum check held h → IsSum folded held (entry (Write register w) place ∷ h)
+plain-word register place check held folded w h plain e s =
+    let p = none-of (register == 0) (register == 1) (register == 4) (register == 8) plain in
+    record {
+      check_is = e ∙ ap (λ (c : ℕ). check_after c ((register, w) ∷ [])) s.check_is ∙ sym (check-folded h register w place (plain-open register h w p.0 p.1 p.2) p.3);
+      held_is = s.held_is ∙ sym (held-one register w place h p.2);
     }

@@ -45,6 +45,6 @@ pub record Keeps (c : CheckerState) (bytes : List ℕ) : Type 0 where
   pub within : c.taken ≤ length bytes
   pub checks : HasTaken c.pieces (take c.taken bytes)
 
--- a write to this register may do more than lengthen the check: CRC and FAR and CMD, and LOUT, which is left out
-abbrev pub has_effect : ℕ → Bool
-has_effect register = register == number_of Crc || register == number_of Far || register == number_of Cmd || register == number_of Lout
+-- a write to this register may do more than lengthen the check: it may clear it, now or by a later write to FAR, or is left out
+abbrev pub steers_check : ℕ → Bool
+steers_check register = register == number_of Crc || register == number_of Far || register == number_of Cmd || register == number_of Lout

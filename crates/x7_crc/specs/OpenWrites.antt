@@ -1,9 +1,10 @@
 -- The running check of a history of accesses: that of its writes since the check was last cleared (UG470, cyclic redundancy
 -- check).
-use Rattle.std.specs.Prelude.{◌≡◌, ◌≢◌, ℕ, false, List, [], ◌∷◌, ◌++◌}
+use Rattle.std.specs.Prelude.{◌≡◌, ◌≢◌, ℕ, false, List, [], ◌∷◌, ◌++◌, Option}
 use Rattle.x7_regs.specs.Register.{number_of}
+use Rattle.x7_regs.specs.declared.register.Reg.{Reg}
 use Rattle.x7_regs.specs.declared.register.Reg.TheVariants.{Lout}
-use Rattle.x7_packets.specs.History.{History, Write}
+use Rattle.x7_packets.specs.History.{command_held, executed_by, History, Write}
 use Rattle.x7_packets.specs.RunningCheck.{RegisterWrite, clears, open_writes}
 use Rattle.x7_crc.specs.RunningCheck.{check_of}
 
@@ -20,3 +21,7 @@ pub record Folds (h : History) (register word : ℕ) : Type 0 where
 -- the running check of a history
 abbrev pub running_check : History → ℕ
 running_check h = check_of (in_order (open_writes h))
+
+-- the command that a word written after a history executes
+abbrev pub executed_after : History → Reg → ℕ → Option ℕ
+executed_after h register word = executed_by (command_held h) (Write (number_of register) word)

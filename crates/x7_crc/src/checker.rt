@@ -1,116 +1,108 @@
 //! The running check of a stream's bytes, as they come.
-ghost use Rattle.std.specs.Prelude.{◌≡◌, ℕ, List, [], ◌∷◌, ◌++◌, ◌<◌, ◌%◌, length, ◌||◌, ◌==◌};
+ghost use Rattle.std.specs.Prelude.{◌≡◌, ℕ, List, [], ◌∷◌, ◌++◌, ◌<◌, ◌%◌, false, length, IfNone, IfSome};
 ghost use Rattle.x7_words.specs.Word.{words_of_bytes};
-ghost use Rattle.x7_regs.specs.Command.{code_of};
-ghost use Rattle.x7_regs.specs.declared.command.Command.TheVariants.{Rcrc};
+ghost use Rattle.x7_regs.specs.Register.{number_of};
 ghost use Rattle.x7_packets.specs.Cutting.{IsRun, run_steps};
-ghost use Rattle.x7_packets.specs.History.{command_held, entered_all, entry, executed_by, executes, History, is_command, Write};
+ghost use Rattle.x7_packets.specs.History.{command_held, entered_all, entry, History, Write};
 ghost use Rattle.x7_packets.specs.Packet.{payload_steps};
-ghost use Rattle.x7_crc.specs.OpenWrites.{running_check};
-ghost use Rattle.x7_crc.specs.Checking.{check_of_bytes, has_effect, IsSum, Checks, HasTaken, Keeps};
+ghost use Rattle.x7_crc.specs.Checking.{check_of_bytes, IsSum, Checks, HasTaken, Keeps, steers_check};
 
 use crate::check::{fold, fold_slice};
+use crate::written::{check_after_write, executed};
 use std::marker::Model;
 use x7_packets::{Cut, Cutter};
-use x7_regs::{Command, Reg};
+use x7_regs::{Reg, reg_of};
 use x7_words::word_of;
 
-/// The check, and the command that CMD holds.
+/// The check, and the command that CMD holds, five bits.
 #[derive(Clone, Copy)]
 pub(crate) struct Sum {
     check: u32,
-    held: u32,
-}
-
-/// Whether a written word executes RCRC.
-fn executes_rcrc(held: u32, register: u8, w: u32) -> bool
-    ensures { result ≡ is_command (code_of Rcrc) (executed_by held (Write register w)) }
-{
-    if register == Reg::Cmd.number() {
-        return w & 31 == Command::Rcrc.code();
-    }
-    if register == Reg::Far.number() {
-        return held == Command::Rcrc.code();
-    }
-    false
+    held: u8,
 }
 
 /// The command that CMD holds after a written word.
-fn held_after(held: u32, register: u8, w: u32) -> u32
-    ensures { (h : History) (place : ℕ) → held ≡ command_held h → result ≡ command_held (entry (Write register w) place ∷ h) }
+fn held_after(held: u8, reg: Reg, word: u32) -> u8
+    ensures { (h : History) (place : ℕ) → held ≡ command_held h → result ≡ command_held (entry (Write (number_of reg) word) place ∷ h) }
 {
-    if register == Reg::Cmd.number() {
-        w & 31
-    } else {
-        held
+    match reg {
+        Reg::Cmd => (word & 31) as u8,
+        _ => held,
     }
 }
 
-/// The check after a written word, where it executes RCRC or not. LOUT is not folded (this project's choice).
-fn check_after(check: u32, register: u8, w: u32, reset: bool) -> u32
-    requires { register < 32 }
-    ensures { (h : History) (place : ℕ) → check ≡ running_check h → reset ≡ executes (code_of Rcrc) h (Write register w) → result ≡ running_check (entry (Write register w) place ∷ h) }
+/// The sum after a word written to a register that may steer the check.
+fn written(sum: Sum, reg: Reg, word: u32) -> Sum
+    ensures { (h : History) (place : ℕ) → IsSum sum.check sum.held h → IsSum result.check result.held (entry (Write (number_of reg) word) place ∷ h) }
 {
-    if reset {
-        return 0;
-    }
-    if register == Reg::Crc.number() {
-        return 0;
-    }
-    if register == Reg::Lout.number() {
-        return check;
-    }
-    fold(check, register, w)
-}
-
-/// The sum after a written word.
-fn written(sum: Sum, register: u8, w: u32) -> Sum
-    requires { register < 32 }
-    ensures { (h : History) (place : ℕ) → IsSum sum.check sum.held h → IsSum result.check result.held (entry (Write register w) place ∷ h) }
-{
+    let executed = executed(sum.held, reg, word);
     Sum {
-        check: check_after(sum.check, register, w, executes_rcrc(sum.held, register, w)),
-        held: held_after(sum.held, register, w),
+        check: check_after_write(sum.check, reg, word, executed),
+        held: held_after(sum.held, reg, word),
     }
 }
 
-/// The sum after words written to one register, word by word.
-fn written_each(sum: Sum, register: u8, bytes: &[u8]) -> Sum
-    requires register { register < 32 }
+/// The sum after words written to a register that may steer the check, word by word.
+fn written_each(sum: Sum, reg: Reg, bytes: &[u8]) -> Sum
     requires whole { length bytes.now % 4 ≡ 0 }
-    ensures { (h : History) (n : ℕ) → IsSum sum.check sum.held h → IsSum result.check result.held (entered_all n (payload_steps register (words_of_bytes bytes.now)) h) }
+    ensures { (h : History) (n : ℕ) → IsSum sum.check sum.held h → IsSum result.check result.held (entered_all n (payload_steps (number_of reg) (words_of_bytes bytes.now)) h) }
 {
     let (words, _) = bytes.as_chunks::<4>();
     let mut now = sum;
     for word in words {
-        now = written(now, register, word_of(*word));
+        now = written(now, reg, word_of(*word));
     }
     now
 }
 
-/// Whether a write to the register may change more than the check by one more write.
-fn has_effect(register: u8) -> bool
-    ensures { result ≡ has_effect register }
+/// Whether a write to the register may do more than lengthen the check.
+fn steers_check(reg: Reg) -> bool
+    ensures { result ≡ steers_check (number_of reg) }
 {
-    register == Reg::Crc.number()
-        || register == Reg::Far.number()
-        || register == Reg::Cmd.number()
-        || register == Reg::Lout.number()
+    match reg {
+        Reg::Crc | Reg::Far | Reg::Cmd | Reg::Lout => true,
+        _ => false,
+    }
 }
 
-/// The sum after words written to one register.
+/// The register with this number, where a write to it may do more than lengthen the check.
+fn steering(register: u8) -> Option<Reg>
+    ensures some { IfSome result (λ reg. number_of reg ≡ register) }
+    ensures none { IfNone result (steers_check register ≡ false) }
+{
+    match reg_of(register) {
+        Some(reg) if steers_check(reg) => Some(reg),
+        _ => None,
+    }
+}
+
+/// The sum after a word written to a register.
+fn written_one(sum: Sum, register: u8, word: u32) -> Sum
+    requires { register < 32 }
+    ensures { (h : History) (place : ℕ) → IsSum sum.check sum.held h → IsSum result.check result.held (entry (Write register word) place ∷ h) }
+{
+    let Some(reg) = steering(register) else {
+        return Sum {
+            check: fold(sum.check, register, word),
+            held: sum.held,
+        };
+    };
+    written(sum, reg, word)
+}
+
+/// The sum after words written to a register.
 fn written_all(sum: Sum, register: u8, bytes: &[u8]) -> Sum
     requires register { register < 32 }
     requires whole { length bytes.now % 4 ≡ 0 }
     ensures { (h : History) (n : ℕ) → IsSum sum.check sum.held h → IsSum result.check result.held (entered_all n (payload_steps register (words_of_bytes bytes.now)) h) }
 {
-    if has_effect(register) {
-        return written_each(sum, register, bytes);
-    }
-    Sum {
-        check: fold_slice(sum.check, register, bytes),
-        held: sum.held,
-    }
+    let Some(reg) = steering(register) else {
+        return Sum {
+            check: fold_slice(sum.check, register, bytes),
+            held: sum.held,
+        };
+    };
+    written_each(sum, reg, bytes)
 }
 
 /// The sum after a run.
@@ -119,7 +111,7 @@ fn after(sum: Sum, run: Cut) -> Sum
     ensures { (h : History) (n : ℕ) → IsSum sum.check sum.held h → IsSum result.check result.held (entered_all n (run_steps run.entry) h) }
 {
     match run {
-        Cut::Word(register, w) => written(sum, register, w),
+        Cut::Word(register, word) => written_one(sum, register, word),
         Cut::Body(register, bytes) => written_all(sum, register, bytes),
         Cut::Need | Cut::Skip(_) | Cut::Sync | Cut::Head(..) => sum,
     }

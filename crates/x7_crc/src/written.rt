@@ -1,0 +1,51 @@
+//! What a written word executes, and what it makes of the running check: one rule for streams and for devices.
+ghost use Rattle.std.specs.Prelude.{◌≡◌, ◌==◌, ◌||◌, not, ℕ, ◌∷◌};
+ghost use Rattle.x7_regs.specs.Command.{code_of};
+ghost use Rattle.x7_regs.specs.Register.{number_of};
+ghost use Rattle.x7_packets.specs.History.{entry, executed_by, History, is_command, Write};
+ghost use Rattle.x7_crc.specs.OpenWrites.{executed_after, running_check};
+
+use crate::check::fold;
+use x7_regs::{Command, Reg};
+
+/// The command that a written word executes, where CMD holds this one: a write to FAR executes it again, save DESYNC and
+/// IPROG (this project's choice).
+pub fn executed(held: u8, reg: Reg, word: u32) -> Option<u8>
+    ensures { result ≡ executed_by held (Write (number_of reg) word) }
+{
+    match reg {
+        Reg::Cmd => Some((word & 31) as u8),
+        Reg::Far if is_executed_again(held) => Some(held),
+        _ => None,
+    }
+}
+
+/// Whether a write to FAR executes a command that CMD holds.
+fn is_executed_again(held: u8) -> bool
+    ensures { result ≡ not (held == code_of Command.Desync || held == code_of Command.Iprog) }
+{
+    u32::from(held) != Command::Desync.code() && u32::from(held) != Command::Iprog.code()
+}
+
+/// Whether the command executed is this one.
+pub fn is(command: Command, executed: Option<u8>) -> bool
+    ensures { result ≡ is_command (code_of command) executed }
+{
+    match executed {
+        Some(code) => u32::from(code) == command.code(),
+        None => false,
+    }
+}
+
+/// The running check after a written word, which executes a command or none. RCRC and a write to CRC clear it, and LOUT is
+/// not folded (this project's choice).
+pub fn check_after_write(check: u32, reg: Reg, word: u32, executed: Option<u8>) -> u32
+    ensures { (h : History) (place : ℕ) → check ≡ running_check h → executed ≡ executed_after h reg word → result ≡ running_check (entry (Write (number_of reg) word) place ∷ h) }
+{
+    match reg {
+        Reg::Crc => 0,
+        _ if is(Command::Rcrc, executed) => 0,
+        Reg::Lout => check,
+        _ => fold(check, reg.number(), word),
+    }
+}
