@@ -11,7 +11,6 @@ use Rattle.x7_regs.specs.declared.register.Reg.TheVariants.{Cbc, Cmd, Cor0, Crc,
 use Rattle.x7_regs.specs.Command.{code_of}
 use Rattle.x7_regs.specs.Register.{number_of}
 use Rattle.x7_flow.specs.Controls.{mask_held}
-use Rattle.x7_flow.specs.Standing.{word_to}
 use Rattle.x7_engine.specs.declared.kept.Kept.{Kept}
 use Rattle.x7_engine.specs.Kept.{kept_word}
 
@@ -22,10 +21,6 @@ word_held kept register h = last_word register (kept_word kept register) h
 -- COR0 after a history
 abbrev pub cor0_held : History → ℕ
 cor0_held h = last_word (number_of Cor0) 0 h
-
--- the command that a word written after a history executes
-abbrev pub executed_after : History → Reg → ℕ → Option ℕ
-executed_after h register word = executed_by (command_held h) (word_to register word)
 
 -- CTL0 or CTL1 bit by bit: each is that of the last word written there while MASK had it, and 0 where none was
 abbrev pub bit_written : ℕ → ℕ → ℕ → Access → ℕ → ℕ

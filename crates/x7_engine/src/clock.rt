@@ -14,7 +14,7 @@ ghost use Rattle.x7_engine.specs.Values.{lines_by};
 ghost use Rattle.x7_engine.specs.Watching.{fires, first_firing};
 ghost use Rattle.x7_engine.specs.declared.kept.Kept.{Kept};
 
-use crate::progress::is;
+use x7_crc::is;
 use x7_part::Part;
 use x7_regs::{Command, Reg};
 use x7_startup::{Lines, Startup, Watchdog};

@@ -1,25 +1,15 @@
 //! The running check, and what is known of all accesses so far.
-ghost use Rattle.std.specs.Prelude.{◌≡◌, ◌<◌, false, ◌||◌, ◌&&◌, ◌==◌, ℕ, ◌∷◌, [], length, ◌%◌, Option, None, Some};
-ghost use Rattle.x7_packets.specs.History.{entry, executes, History, is_command, Write};
-ghost use Rattle.x7_crc.specs.OpenWrites.{running_check};
+ghost use Rattle.std.specs.Prelude.{◌≡◌, ◌<◌, false, ◌||◌, ◌&&◌, ℕ, ◌∷◌, [], length, ◌%◌};
+ghost use Rattle.x7_packets.specs.History.{entry, History, Write};
+ghost use Rattle.x7_crc.specs.OpenWrites.{executed_after};
 ghost use Rattle.x7_regs.specs.Command.{code_of};
 ghost use Rattle.x7_flow.specs.Controls.{names_part, same_idcode};
 ghost use Rattle.x7_flow.specs.Standing.{word_to, written_to};
 ghost use Rattle.x7_engine.specs.Entering.{words_entered};
-ghost use Rattle.x7_engine.specs.Registers.{clears_by, executed_after, ghigh_after, has_effect, is_controlling, pending_after, takes_shutdown, writes_command};
+ghost use Rattle.x7_engine.specs.Registers.{clears_by, ghigh_after, has_effect, is_controlling, pending_after, takes_shutdown, writes_check, writes_command};
 
-use x7_crc::{fold, fold_slice};
+use x7_crc::{check_after_write, fold, fold_slice, is};
 use x7_regs::{Command, Reg};
-
-/// Whether the command executed is this one.
-pub(crate) fn is(command: Command, executed: Option<u8>) -> bool
-    ensures { result ≡ is_command (code_of command) executed }
-{
-    match executed {
-        Some(code) => u32::from(code) == command.code(),
-        None => false,
-    }
-}
 
 /// Whether a written idcode is the part's.
 pub(crate) fn is_same_idcode(idcode: u32, word: u32) -> bool
@@ -28,11 +18,21 @@ pub(crate) fn is_same_idcode(idcode: u32, word: u32) -> bool
     word & 0x0FFF_FFFF == idcode & 0x0FFF_FFFF
 }
 
+/// Whether a written word is the running check, written to CRC.
+fn is_check(check: u32, reg: Reg, word: u32) -> bool
+    ensures { result ≡ writes_check check (word_to reg word) }
+{
+    match reg {
+        Reg::Crc => word == check,
+        _ => false,
+    }
+}
+
 /// Whether a written word finds the check right: RCRC is executed, or the word is the running check.
 fn clears(executed: Option<u8>, check: u32, reg: Reg, word: u32) -> bool
     ensures { result ≡ clears_by executed check (word_to reg word) }
 {
-    is(Command::Rcrc, executed) || reg.number() == Reg::Crc.number() && word == check
+    is(Command::Rcrc, executed) || is_check(check, reg, word)
 }
 
 /// Whether a shutdown is pending after a written word.
@@ -60,25 +60,19 @@ fn both(a: bool, b: bool) -> bool
 fn is_matched_after(matched: bool, idcode: u32, reg: Reg, word: u32) -> bool
     ensures { result ≡ (names_part idcode (word_to reg word) || matched) }
 {
-    reg.number() == Reg::Idcode.number() && is_same_idcode(idcode, word) || matched
+    match reg {
+        Reg::Idcode => is_same_idcode(idcode, word) || matched,
+        _ => matched,
+    }
 }
 
 /// Whether an IPROG command was written, after a written word.
 fn wrote_iprog_after(wrote: bool, reg: Reg, word: u32) -> bool
     ensures { result ≡ (writes_command (code_of Command.Iprog) (word_to reg word) || wrote) }
 {
-    reg.number() == Reg::Cmd.number() && word & 31 == Command::Iprog.code() || wrote
-}
-
-/// The running check after a written word, where it executes RCRC or not. LOUT is not folded (this project's choice).
-fn check_after(check: u32, reg: Reg, word: u32, reset: bool) -> u32
-    ensures { (h : History) (place : ℕ) → check ≡ running_check h → reset ≡ executes (code_of Command.Rcrc) h (word_to reg word) → result ≡ running_check (written_to reg word place ∷ h) }
-{
     match reg {
-        Reg::Crc => 0,
-        _ if reset => 0,
-        Reg::Lout => check,
-        _ => fold(check, reg.number(), word),
+        Reg::Cmd => word & 31 == Command::Iprog.code() || wrote,
+        _ => wrote,
     }
 }
 
@@ -108,14 +102,6 @@ impl Progress {
         }
     }
 
-    /// Whether a written word takes a pending shutdown.
-    pub(crate) fn takes(&self, reg: Reg, word: u32, executed: Option<u8>) -> bool
-        ensures { (idcode : ℕ) (h : History) → executed ≡ executed_after h reg word → IsProgress idcode (progress_in self.now) h → result ≡ takes_shutdown h (word_to reg word) }
-    {
-        let cleared = clears(executed, self.check, reg, word);
-        both(cleared, self.pending)
-    }
-
     /// Takes a word written to a register that has no effect beside the check.
     pub(crate) fn pass(&mut self, register: u8, word: u32)
         requires register { register < 32 }
@@ -125,19 +111,21 @@ impl Progress {
         self.check = fold(self.check, register, word);
     }
 
-    /// Takes a written word that executes a command, or none.
-    pub(crate) fn write(&mut self, idcode: u32, reg: Reg, word: u32, executed: Option<u8>)
-        ensures { (h : History) (place : ℕ) → executed ≡ executed_after h reg word → IsProgress idcode (progress_in self.old) h → IsProgress idcode (progress_in self.new) (written_to reg word place ∷ h) }
+    /// Takes a written word that executes a command, or none, and says whether it takes a pending shutdown.
+    pub(crate) fn write(&mut self, idcode: u32, reg: Reg, word: u32, executed: Option<u8>) -> bool
+        ensures stands { (h : History) (place : ℕ) → executed ≡ executed_after h reg word → IsProgress idcode (progress_in self.old) h → IsProgress idcode (progress_in self.new) (written_to reg word place ∷ h) }
+        ensures takes { (h : History) → executed ≡ executed_after h reg word → IsProgress idcode (progress_in self.old) h → result ≡ takes_shutdown h (word_to reg word) }
     {
         let cleared = clears(executed, self.check, reg, word);
         let taken = both(cleared, self.pending);
         *self = Progress {
-            check: check_after(self.check, reg, word, is(Command::Rcrc, executed)),
+            check: check_after_write(self.check, reg, word, executed),
             matched: is_matched_after(self.matched, idcode, reg, word),
             pending: is_pending_after(self.pending, executed, cleared),
             ghigh: is_ghigh_after(self.ghigh, executed, taken),
             iprog: wrote_iprog_after(self.iprog, reg, word),
         };
+        taken
     }
 
     /// Takes words written to a register that moves nothing else of these.

@@ -1,14 +1,15 @@
 //! The registers of a device, and what an access does to them.
 ghost use Rattle.std.specs.Prelude.{◌≡◌, ◌≤◌, ◌<◌, ◌+◌, ◌*◌, ◌/◌, ◌%◌, ◌&&◌, ℕ, ◌∷◌, [], true, false, Option, None, Some, IfSome, IfNone, ◌-◌, length, take};
 ghost use Rattle.x7_packets.specs.Cutting.{IsRun};
-ghost use Rattle.x7_packets.specs.History.{command_held, entered, entry, executed_by, History, Write};
+ghost use Rattle.x7_packets.specs.History.{command_held, entered, entry, History, Write};
 ghost use Rattle.x7_part.specs.Part.{PartData};
 ghost use Rattle.x7_regs.specs.Register.{number_of};
 ghost use Rattle.x7_flow.specs.Settings.{AreSettingsAfter};
 ghost use Rattle.x7_flow.specs.Standing.{FramesFit, FramesStandFor, word_to};
 ghost use Rattle.x7_flow.specs.Words.{TakesWords, words_before};
 ghost use Rattle.x7_engine.specs.Kept.{is_fallback};
-ghost use Rattle.x7_engine.specs.Registers.{executed_after, has_effect};
+ghost use Rattle.x7_crc.specs.OpenWrites.{executed_after};
+ghost use Rattle.x7_engine.specs.Registers.{has_effect};
 ghost use Rattle.x7_engine.specs.Standing.{counted_in, due_count};
 ghost use Rattle.x7_engine.specs.State.{last_counted};
 ghost use Rattle.x7_engine.specs.Stops.{why_by_access, why_by_frames, or_else, stop_by};
@@ -20,9 +21,10 @@ use crate::controls::{Controls, is_dec, masked};
 use crate::due::Due;
 use crate::fault::Fault;
 use crate::kept::Kept;
-use crate::progress::{Progress, is, is_same_idcode};
+use crate::progress::{Progress, is_same_idcode};
 use crate::stop::Stop;
 use crate::words::Words;
+use x7_crc::{executed, is};
 use x7_flow::{FrameSettings, Frames};
 use x7_packets::{Cut, Step};
 use x7_part::Part;
@@ -30,36 +32,33 @@ use x7_pipeline::RunFault;
 use x7_regs::{Attempt, Command, Kind, Reg, reg_of};
 use x7_words::word_of;
 
+/// Whether a word written to the register does more than stay and be folded.
+fn has_effect(reg: Reg) -> bool
+    ensures { result ≡ has_effect (number_of reg) }
+{
+    match reg {
+        Reg::Crc
+        | Reg::Far
+        | Reg::Fdri
+        | Reg::Cmd
+        | Reg::Ctl0
+        | Reg::Lout
+        | Reg::Mfwr
+        | Reg::Cbc
+        | Reg::Idcode
+        | Reg::Timer
+        | Reg::Ctl1 => true,
+        _ => false,
+    }
+}
+
 /// The register with this number, where a word written to it does more than stay and be folded.
-#[rattlefmt::skip]
 fn effective(register: u8) -> Option<Reg>
     ensures some { IfSome result (λ reg. number_of reg ≡ register) }
     ensures none { IfNone result (has_effect register ≡ false) }
 {
     match reg_of(register) {
-        Some(Reg::Crc)    => Some(Reg::Crc),
-        Some(Reg::Far)    => Some(Reg::Far),
-        Some(Reg::Fdri)   => Some(Reg::Fdri),
-        Some(Reg::Cmd)    => Some(Reg::Cmd),
-        Some(Reg::Ctl0)   => Some(Reg::Ctl0),
-        Some(Reg::Lout)   => Some(Reg::Lout),
-        Some(Reg::Mfwr)   => Some(Reg::Mfwr),
-        Some(Reg::Cbc)    => Some(Reg::Cbc),
-        Some(Reg::Idcode) => Some(Reg::Idcode),
-        Some(Reg::Timer)  => Some(Reg::Timer),
-        Some(Reg::Ctl1)   => Some(Reg::Ctl1),
-        _                 => None,
-    }
-}
-
-/// The command that a written word executes, where CMD holds this one: a write to FAR executes it again, save DESYNC and
-/// IPROG (this project's choice).
-fn executed(held: u8, reg: Reg, word: u32) -> Option<u8>
-    ensures { result ≡ executed_by held (Write (number_of reg) word) }
-{
-    match reg {
-        Reg::Cmd => Some((word & 31) as u8),
-        Reg::Far if held != 13 && held != 15 => Some(held),
+        Some(reg) if has_effect(reg) => Some(reg),
         _ => None,
     }
 }
@@ -248,10 +247,9 @@ impl Registers {
         let settings = self.settings();
         let executed = executed(settings.held, reg, word);
         let why = self.why_of_write(part, reg, word, executed);
-        let taken = self.progress.takes(reg, word, executed);
         let mask = self.words.held(Reg::Mask);
         let cor0 = self.words.held(Reg::Cor0);
-        self.progress.write(idcode, reg, word, executed);
+        let taken = self.progress.write(idcode, reg, word, executed);
         self.controls.write(reg, word, mask);
         self.words.write(reg.number(), word);
         self.clock.write(executed, taken, cor0, reg, word);
