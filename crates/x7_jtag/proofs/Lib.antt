@@ -1,9 +1,7 @@
 pub mod BitLemmas
 pub mod PieceLemmas
-pub mod MarkLemmas
 pub mod SvfLemmas
 pub mod OutcomeLemmas
-pub mod EveryTextLemmas
 pub mod TookLemmas
 pub mod StandingLemmas
 pub mod PortLemmas

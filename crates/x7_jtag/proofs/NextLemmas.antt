@@ -1,31 +1,27 @@
 -- The piece that comes next, by the marks of a statement and by what comes after it.
-use Rattle.std.proofs.Common.{◌≡◌, ℕ, List, [], ◌∷◌, drop, take, refl, ap, ◌∙◌}
-use Rattle.x7_jtag.specs.Pieces.{Mark, Word, Open, Close, mark_of, pieces, size_of}
-use Rattle.x7_jtag.specs.Source.{SourceState, pieces_left}
-use Rattle.x7_jtag.specs.Svf.{marks_before, pieces_after, statement_marks}
+use Rattle.std.proofs.Common.{◌≡◌, ℕ, List, [], ◌∷◌, refl, ap, ◌∙◌}
+use Rattle.x7_jtag.specs.Pieces.{Piece, mark_of, pieces}
+use Rattle.x7_jtag.specs.Svf.{marks_before, pieces_after}
 use Rattle.x7_jtag.specs.declared.token.Token.{Token}
 use Rattle.x7_jtag.specs.declared.token.Token.TheVariants as token
-use Rattle.x7_jtag.proofs.MarkLemmas.{marks-line}
+
+-- pieces of which the first is this token's, and the rest
+abbrev first_of : ℕ → Token → List ℕ → List Piece → List Piece
+first_of line t rest qs = record { line = line; mark = mark_of t rest } ∷ qs
 
 -- a word or a bracket
-pub marks-there : (old : SourceState) (line : ℕ) (t : Token) (rest : List ℕ) → pieces_left old ≡ record { line = line; mark = mark_of t rest } ∷ pieces line (drop (size_of t) rest) → (t ≡ token.End → ⊥)
-    → statement_marks old.rest ≡ mark_of t rest ∷ statement_marks (drop (size_of t) rest)
-marks-there old line (token.Word n) rest e not = marks-line 1 old.line old.rest ∙ ap marks_before e ∙ ap (λ (ms : List Mark). Word (take n rest) ∷ ms) (marks-line line 1 (drop n rest))
-marks-there old line token.Open rest e not = marks-line 1 old.line old.rest ∙ ap marks_before e ∙ ap (λ (ms : List Mark). Open ∷ ms) (marks-line line 1 (drop 1 rest))
-marks-there old line token.Close rest e not = marks-line 1 old.line old.rest ∙ ap marks_before e ∙ ap (λ (ms : List Mark). Close ∷ ms) (marks-line line 1 (drop 1 rest))
-marks-there old line token.End rest e not = absurd (not refl)
+pub marks-there : (ps : List Piece) (line : ℕ) (t : Token) (rest : List ℕ) (qs : List Piece) → ps ≡ first_of line t rest qs → (t ≡ token.End → ⊥) → marks_before ps ≡ mark_of t rest ∷ marks_before qs
+marks-there ps line (token.Word n) rest qs e not = ap marks_before e
+marks-there ps line token.Open rest qs e not = ap marks_before e
+marks-there ps line token.Close rest qs e not = ap marks_before e
+marks-there ps line token.End rest qs e not = absurd (not refl)
 
-pub after-there : (old : SourceState) (line : ℕ) (t : Token) (rest : List ℕ) → pieces_left old ≡ record { line = line; mark = mark_of t rest } ∷ pieces line (drop (size_of t) rest) → (t ≡ token.End → ⊥)
-    → pieces_after (pieces_left old) ≡ pieces_after (pieces line (drop (size_of t) rest))
-after-there old line (token.Word n) rest e not = ap pieces_after e
-after-there old line token.Open rest e not = ap pieces_after e
-after-there old line token.Close rest e not = ap pieces_after e
-after-there old line token.End rest e not = absurd (not refl)
+pub after-there : (ps : List Piece) (line : ℕ) (t : Token) (rest : List ℕ) (qs : List Piece) → ps ≡ first_of line t rest qs → (t ≡ token.End → ⊥) → pieces_after ps ≡ pieces_after qs
+after-there ps line (token.Word n) rest qs e not = ap pieces_after e
+after-there ps line token.Open rest qs e not = ap pieces_after e
+after-there ps line token.Close rest qs e not = ap pieces_after e
+after-there ps line token.End rest qs e not = absurd (not refl)
 
--- the end of a statement, and of the text
-pub marks-end : (old : SourceState) (line : ℕ) (t : Token) (rest : List ℕ) → pieces_left old ≡ record { line = line; mark = mark_of t rest } ∷ pieces line (drop (size_of t) rest) → t ≡ token.End → statement_marks old.rest ≡ []
-marks-end old line t rest e is =
-    marks-line 1 old.line old.rest ∙ ap marks_before e ∙ ap (λ (u : Token). marks_before (record { line = line; mark = mark_of u rest } ∷ pieces line (drop (size_of u) rest))) is
-
-pub marks-none : (old : SourceState) → pieces_left old ≡ [] → statement_marks old.rest ≡ []
-marks-none old e = marks-line 1 old.line old.rest ∙ ap marks_before e
+-- the end of a statement
+pub marks-end : (ps : List Piece) (line : ℕ) (t : Token) (rest : List ℕ) (qs : List Piece) → ps ≡ first_of line t rest qs → t ≡ token.End → marks_before ps ≡ []
+marks-end ps line t rest qs e is = ap marks_before e ∙ ap (λ (u : Token). marks_before (first_of line u rest qs)) is

@@ -1,6 +1,6 @@
 -- The first word of a text.
 use Rattle.std.proofs.Common.{◌≡◌, ℕ, zero, suc, ◌<◌, ◌≤◌, Bool, true, false, if◌then◌else◌, List, [], ◌∷◌, length, slice_index, take, drop, refl, ap, ◌∙◌, arith}
-use Rattle.x7_jtag.specs.Pieces.{is_blank, is_word_byte, line_after, Piece, pieces, joined, extend, Word}
+use Rattle.x7_jtag.specs.Pieces.{is_word_byte, line_after, Piece, pieces, joined, extend, Word}
 
 -- a word's byte is no line end
 pub word-line : (c line : ℕ) → is_word_byte c ≡ true → line_after c line ≡ line
@@ -29,11 +29,3 @@ word-at line (x ∷ y ∷ ys) (suc (suc m)) p w h s =
     prefix line x (y ∷ ys) (h 0 (omega arith))
     ∙ ap (λ (b : Bool). if b then extend line x (pieces line (y ∷ ys)) else word_piece line (x ∷ []) ∷ pieces line (y ∷ ys)) more
     ∙ ap (extend line x) rest
-
--- a text that begins with a blank
-blank-front : (line c : ℕ) (cs : List ℕ) → is_blank c ≡ true → pieces line (c ∷ cs) ≡ pieces (line_after c line) cs
-blank-front line c cs h = grind (arith, h)
-
-pub blank-at : (line : ℕ) (xs : List ℕ) → 0 < length xs → is_blank (slice_index xs 0) ≡ true → pieces line xs ≡ pieces (line_after (slice_index xs 0) line) (drop 1 xs)
-blank-at line [] p h = absurd (omega (arith, p))
-blank-at line (c ∷ cs) p h = blank-front line c cs h

@@ -1,10 +1,9 @@
 -- The words of a statement, one by one; no statement has more than four.
-use Rattle.std.proofs.Common.{◌≡◌, ℕ, zero, suc, ◌+◌, ◌-◌, ◌||◌, ◌<◌, ◌≤◌, Bool, true, false, if◌then◌else◌, List, [], ◌∷◌, ◌++◌, length, take, drop, slice_set, Option, Some, None, codes, refl, ap, sym, ◌∙◌, append_assoc, length-drop, arith}
-use Rattle.std.proofs.lemmas.List.{length-take-le, take_all}
-use Rattle.std.specs.Borrow.{Bor}
-use Rattle.x7_jtag.specs.Pieces.{mark_of, size_of}
-use Rattle.x7_jtag.specs.Words.{is_key, statement_if_words, statement_of_words, with_word, word_list, words_of}
-use Rattle.x7_jtag.specs.Svf.{statement_marks}
+use Rattle.std.proofs.Common.{◌≡◌, ℕ, ◌||◌, ◌≤◌, Bool, true, false, if◌then◌else◌, List, [], ◌∷◌, ◌++◌, length, take, Option, Some, None, codes, refl, ap, sym, ◌∙◌, append_assoc, append-nil, arith}
+use Rattle.x7_jtag.specs.Pieces.{Mark, Piece, mark_of}
+use Rattle.x7_jtag.specs.Source.{SourceState, left_after}
+use Rattle.x7_jtag.specs.Words.{is_key, statement_if_words, statement_of_words, with_word, words_of}
+use Rattle.x7_jtag.specs.Svf.{marks_before}
 use Rattle.x7_jtag.specs.declared.token.Token.{Token}
 use Rattle.x7_jtag.specs.declared.token.Token.TheVariants as token
 use Rattle.x7_jtag.specs.declared.statement.Statement.{Statement}
@@ -39,35 +38,20 @@ one-more : (ws : List (List ℕ)) (w : List ℕ) (o : Option (List (List ℕ))) 
 one-more ws w None = refl
 one-more ws w (Some vs) = ap Some (sym (append_assoc ws (w ∷ []) vs))
 
-placed : (words : List (Bor (List ℕ))) (count : ℕ) (b : Bor (List ℕ)) → count < length words → word_list (take (suc count) (slice_set words count b)) ≡ word_list (take count words) ++ b.now ∷ []
-placed [] count b l = absurd (omega (arith, l))
-placed (x ∷ xs) zero b l = refl
-placed (x ∷ xs) (suc n) b l = ap (λ (ws : List (List ℕ)). x.now ∷ ws) (placed xs n b (omega (arith, l)))
-
-as-many : (words : List (Bor (List ℕ))) → length (word_list words) ≡ length words
-as-many [] = refl
-as-many (w ∷ ws) = ap suc (as-many ws)
-
 -- the words so far, and the marks of the rest, which begin with a word
-module _ (ms : Option (List (List ℕ))) (words : List (Bor (List ℕ))) (count n : ℕ) (rest here : List ℕ) (t : Token) where
-  word-first : statement_marks rest ≡ mark_of t here ∷ statement_marks (drop (size_of t) here) → t ≡ token.Word n → words_of (statement_marks rest) ≡ with_word (take n here) (words_of (statement_marks (drop n here)))
-  word-first e is = ap words_of (e ∙ ap (λ (u : Token). mark_of u here ∷ statement_marks (drop (size_of u) here)) is)
+module _ (ms : Option (List (List ℕ))) (ws : List (List ℕ)) (marks : List Mark) (here : SourceState) (t : Token) (n : ℕ) (same : ms ≡ after_words ws (words_of marks))
+    (e : marks ≡ mark_of t here.rest ∷ marks_before (left_after here t)) (is : t ≡ token.Word n) where
+  word-next : ms ≡ after_words ws (with_word (take n here.rest) (words_of (marks_before (left_after here (token.Word n)))))
+  word-next = same ∙ ap (λ (xs : List Mark). after_words ws (words_of xs)) (e ∙ ap (λ (u : Token). mark_of u here.rest ∷ marks_before (left_after here u)) is)
 
-  pub fifth : (key : List ℕ) → count ≡ 4 → length words ≡ 4 → ms ≡ after_words (word_list (take count words)) (words_of (statement_marks rest))
-      → statement_marks rest ≡ mark_of t here ∷ statement_marks (drop (size_of t) here) → t ≡ token.Word n → None ≡ statement_if_words key ms
-  fifth key four long same e is =
-      let so_far : List (List ℕ) = word_list (take count words) in
-      let few : length so_far ≡ count = as-many (take count words) ∙ length-take-le count words (omega (arith, four, long)) in
-      sym (ap (statement_if_words key) (same ∙ ap (after_words so_far) (word-first e is)) ∙ too-many key so_far (take n here) (words_of (statement_marks (drop n here))) (omega (arith, few, four)))
+  pub fifth : (key : List ℕ) → length ws ≡ 4 → None ≡ statement_if_words key ms
+  fifth key four = sym (ap (statement_if_words key) word-next ∙ too-many key ws (take n here.rest) (words_of (marks_before (left_after here (token.Word n)))) (omega (arith, four)))
 
-  pub words-on : (b : Bor (List ℕ)) → count < length words → b.now ≡ take n here → ms ≡ after_words (word_list (take count words)) (words_of (statement_marks rest))
-      → statement_marks rest ≡ mark_of t here ∷ statement_marks (drop (size_of t) here) → t ≡ token.Word n
-      → ms ≡ after_words (word_list (take (count + 1) (slice_set words count b))) (words_of (statement_marks (take (length here - n) (drop n here))))
-  words-on b l is_b same e is =
-      let so_far : List (List ℕ) = word_list (take count words) in
-      let next : count + 1 ≡ suc count = omega arith in
-      let grown : so_far ++ take n here ∷ [] ≡ word_list (take (count + 1) (slice_set words count b)) =
-      sym (ap (λ (k : ℕ). word_list (take k (slice_set words count b))) next ∙ placed words count b l ∙ ap (λ (w : List ℕ). so_far ++ w ∷ []) is_b) in
-      let all : drop n here ≡ take (length here - n) (drop n here) = sym (take_all (length here - n) (drop n here) (omega (arith, length-drop n here))) in
-      same ∙ ap (after_words so_far) (word-first e is) ∙ one-more so_far (take n here) (words_of (statement_marks (drop n here)))
-      ∙ (λ i. after_words (grown i) (words_of (statement_marks (all i))))
+  pub words-on : (more : List (List ℕ)) (word : List ℕ) (left : List Piece) → more ≡ ws ++ word ∷ [] → word ≡ take n here.rest → left ≡ left_after here (token.Word n) → ms ≡ after_words more (words_of (marks_before left))
+  words-on more word left g w l =
+      let grown : more ≡ ws ++ take n here.rest ∷ [] = g ∙ ap (λ (x : List ℕ). ws ++ x ∷ []) w in
+      word-next ∙ one-more ws (take n here.rest) (words_of (marks_before (left_after here (token.Word n)))) ∙ sym (λ i. after_words (grown i) (words_of (marks_before (l i))))
+
+-- all words
+pub all-said : (key : List ℕ) (ms : Option (List (List ℕ))) (ws : List (List ℕ)) (marks : List Mark) → ms ≡ after_words ws (words_of marks) → marks ≡ [] → statement_if_words key ms ≡ statement_of_words key ws
+all-said key ms ws marks same e = ap (statement_if_words key) (same ∙ ap (λ (xs : List Mark). after_words ws (words_of xs)) e) ∙ ap (statement_of_words key) (append-nil ws)

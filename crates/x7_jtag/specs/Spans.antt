@@ -1,19 +1,21 @@
--- Digits by where they are kept, and the fields of a scan by theirs (this project's choice).
-use Rattle.std.specs.Prelude.{◌≡◌, ◌≤◌, ℕ, ◌+◌, ⊤, List, length, take, drop, Option, Some, None}
+-- Bytes by where they are kept: the fields of a scan, and words (this project's choice).
+use Rattle.std.specs.Prelude.{◌≡◌, ◌≤◌, ℕ, ◌+◌, ⊤, List, [], ◌∷◌, length, take, drop, Option, Some, None}
 use Rattle.x7_jtag.specs.Fields.{At, Between, Named, Inside, Fields, Scanning}
 use Rattle.x7_jtag.specs.declared.span.Span.{Span}
 use Rattle.x7_jtag.specs.declared.fields.Place.{Place}
 use Rattle.x7_jtag.specs.declared.fields.Place.TheVariants as place
 use Rattle.x7_jtag.specs.declared.fields.Given.{Given}
 use Rattle.x7_jtag.specs.declared.fields.Scanner.{Scanner}
+use Rattle.x7_jtag.specs.declared.words.Words.{Words}
+use Rattle.x7_jtag.specs.declared.words.Words.TheVariants as words
 
--- the digits at a place among the bytes kept
-abbrev pub digits_in : List ℕ → Span → List ℕ
-digits_in kept s = take s.count (drop s.from kept)
+-- the bytes at a place among those kept
+abbrev pub bytes_in : List ℕ → Span → List ℕ
+bytes_in kept s = take s.count (drop s.from kept)
 
 abbrev pub digits_if : List ℕ → Option Span → Option (List ℕ)
 digits_if kept None = None
-digits_if kept (Some s) = Some (digits_in kept s)
+digits_if kept (Some s) = Some (bytes_in kept s)
 
 -- the fields of a scan whose digits are kept
 abbrev pub fields_of : List ℕ → Given → Fields
@@ -59,3 +61,21 @@ IsPlaceWithin n (place.Inside k from) = from ≤ n
 
 abbrev pub IsWithin : ℕ → Scanner → Type 0
 IsWithin n s = IsPlaceWithin n s.place × AreWithin n s.given
+
+-- ---- words
+
+-- the words at these places, in order
+abbrev pub words_at : List ℕ → Words → List (List ℕ)
+words_at kept words.None = []
+words_at kept (words.One a) = bytes_in kept a ∷ []
+words_at kept (words.Two a b) = bytes_in kept a ∷ bytes_in kept b ∷ []
+words_at kept (words.Three a b c) = bytes_in kept a ∷ bytes_in kept b ∷ bytes_in kept c ∷ []
+words_at kept (words.Four a b c d) = bytes_in kept a ∷ bytes_in kept b ∷ bytes_in kept c ∷ bytes_in kept d ∷ []
+
+-- they are among so many bytes
+abbrev pub AreWordsWithin : ℕ → Words → Type 0
+AreWordsWithin n words.None = ⊤
+AreWordsWithin n (words.One a) = end_of a ≤ n
+AreWordsWithin n (words.Two a b) = (end_of a ≤ n) × (end_of b ≤ n)
+AreWordsWithin n (words.Three a b c) = (end_of a ≤ n) × (end_of b ≤ n) × (end_of c ≤ n)
+AreWordsWithin n (words.Four a b c d) = (end_of a ≤ n) × (end_of b ≤ n) × (end_of c ≤ n) × (end_of d ≤ n)

@@ -1,36 +1,26 @@
 -- Statements whose digits are kept apart (this project's choice).
-use Rattle.std.specs.Prelude.{ℕ, ◌≤◌, ⊤, List, map, Option, Some, None}
+use Rattle.std.specs.Prelude.{◌≡◌, ℕ, ◌≤◌, ⊤, List, length, map, Option, Some, None, IfSome}
 use Rattle.std.specs.List.{AllByRecursion}
 use Rattle.x7_jtag.specs.Bits.{bits_of}
 use Rattle.x7_jtag.specs.Fields.{bits_option}
-use Rattle.x7_jtag.specs.Spans.{digits_if, digits_in, end_if, end_of}
+use Rattle.x7_jtag.specs.Spans.{digits_if, bytes_in, end_if, end_of}
 use Rattle.x7_jtag.specs.declared.statement.Statement.{Statement}
 use Rattle.x7_jtag.specs.declared.statement.Statement.TheVariants as statement
-use Rattle.x7_jtag.specs.declared.stored.Action.{Action}
-use Rattle.x7_jtag.specs.declared.stored.Action.TheVariants as action
 use Rattle.x7_jtag.specs.declared.stored.StoredScan.{StoredScan}
 use Rattle.x7_jtag.specs.declared.stored.Stored.{Stored}
 use Rattle.x7_jtag.specs.declared.stored.Stored.TheVariants as stored
 
--- the statement of words alone
-abbrev pub asked_by : Action → Statement
-asked_by action.Reset = statement.Reset
-asked_by action.Idle = statement.Idle
-asked_by (action.Run n) = statement.Run n
-asked_by action.Nothing = statement.Nothing
-
-abbrev pub asked_if : Option Action → Option Statement
-asked_if None = None
-asked_if (Some a) = Some (asked_by a)
-
 -- the scan whose digits are kept, each field as so many bits
 abbrev pub scan_in : List ℕ → StoredScan → Statement
-scan_in kept s = statement.Scan s.ir (bits_of s.count (digits_in kept s.tdi)) (bits_option s.count (digits_if kept s.tdo)) (bits_option s.count (digits_if kept s.mask))
+scan_in kept s = statement.Scan s.ir (bits_of s.count (bytes_in kept s.tdi)) (bits_option s.count (digits_if kept s.tdo)) (bits_option s.count (digits_if kept s.mask))
 
 -- a statement, the digits of whose scan are kept
 abbrev pub statement_in : List ℕ → Stored → Statement
-statement_in kept (stored.Words a) = asked_by a
+statement_in kept stored.Reset = statement.Reset
+statement_in kept stored.Idle = statement.Idle
+statement_in kept (stored.Run n) = statement.Run n
 statement_in kept (stored.Scan s) = scan_in kept s
+statement_in kept stored.Nothing = statement.Nothing
 
 abbrev pub stored_if : List ℕ → Option Stored → Option Statement
 stored_if kept None = None
@@ -41,8 +31,12 @@ statements_in kept ss = map (statement_in kept) ss
 
 -- the digits are among so many bytes
 abbrev pub IsStoredWithin : ℕ → Stored → Type 0
-IsStoredWithin n (stored.Words a) = ⊤
 IsStoredWithin n (stored.Scan s) = (end_of s.tdi ≤ n) × (end_if s.tdo ≤ n) × (end_if s.mask ≤ n)
+IsStoredWithin n _ = ⊤
 
 abbrev pub AreStoredWithin : ℕ → List Stored → Type 0
 AreStoredWithin n ss = AllByRecursion (IsStoredWithin n) ss
+
+-- what is stored, where these bytes are kept, is this statement, or none
+abbrev pub IsStored : List ℕ → Option Stored → Option Statement → Type 0
+IsStored kept o s = (stored_if kept o ≡ s) × IfSome o (IsStoredWithin (length kept))

@@ -1,5 +1,5 @@
 //! Laws of the definitions.
-ghost use Rattle.std.specs.Prelude.{◌≡◌, ◌≤◌, ◌<◌, ◌/◌, ◌%◌, ◌^◌, ◌==◌, ℕ, Bool, false, true, List, [], ◌∷◌, Result};
+ghost use Rattle.std.specs.Prelude.{◌≡◌, ◌≤◌, ◌<◌, ◌/◌, ◌%◌, ◌^◌, ◌==◌, ℕ, Bool, false, true, List, [], ◌∷◌};
 ghost use Rattle.x7_part.specs.Part.{PartData};
 ghost use Rattle.x7_engine.specs.Kept.{on_the_bench};
 ghost use Rattle.x7_engine.specs.Standing.{DeviceStandsFor, due_count, frames_due};
@@ -9,22 +9,9 @@ ghost use Rattle.x7_jtag.specs.Events.{events_of};
 ghost use Rattle.x7_jtag.specs.Port.{new_port, port_after, words_read};
 ghost use Rattle.x7_jtag.specs.Queue.{Sound, queue_after};
 ghost use Rattle.x7_jtag.specs.Shown.{bytes_taken, state_shown, state_with, words_due};
-ghost use Rattle.x7_jtag.specs.Svf.{HasSvf, IsSvfOf};
 ghost use Rattle.x7_jtag.specs.Tap.{OfEachPort};
 ghost use Rattle.x7_jtag.specs.States.{Clock, state_after, one, test_logic_reset};
-ghost use Rattle.x7_jtag.specs.declared.fault.SvfFault.{SvfFault};
 ghost use Rattle.x7_jtag.specs.declared.state.State.{State};
-ghost use Rattle.x7_jtag.specs.declared.statement.Statement.{Statement};
-
-/// A text comes to at most one thing: its statements, or the line of the first that is none.
-pub fn one_svf()
-    ensures { (text : List ℕ) (a b : Result (List Statement) SvfFault) → IsSvfOf text a → IsSvfOf text b → a ≡ b }
-{}
-
-/// A text comes to something: its statements, or the line of the first that is none.
-pub fn every_text_is_read()
-    ensures { (text : List ℕ) → HasSvf text }
-{}
 
 /// Five clocks of TMS 1 reach Test-Logic-Reset from every state.
 pub fn five_ones_reset()

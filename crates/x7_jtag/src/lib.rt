@@ -26,8 +26,8 @@ pub use bits::Bits;
 pub use fault::SvfFault;
 pub use instruction::Instruction;
 pub use laws::{
-    bits_are_those_of_the_value, devices_take_what_is_given, every_text_is_read, five_ones_reset,
-    one_svf, queues_are_sound, queues_are_those_of_events, values_fit_their_width,
+    bits_are_those_of_the_value, devices_take_what_is_given, five_ones_reset, queues_are_sound,
+    queues_are_those_of_events, values_fit_their_width,
 };
 pub use play::{Differ, play_svf};
 pub use state::State;

@@ -1,22 +1,23 @@
 //! One statement of a text.
-ghost use Rattle.std.specs.Prelude.{◌≡◌, ◌<◌, ◌≤◌, ◌+◌, ◌*◌, [], Bool, true, false, length, drop, take, IfSome, Option, Some, None};
+ghost use Rattle.std.specs.Prelude.{◌≡◌, ◌<◌, ◌≤◌, ◌+◌, ◌*◌, Bool, true, false, length, drop, take, IfSome, IsTrue, Option, Some, None};
 ghost use Rattle.std.specs.List.{list_all};
 ghost use Rattle.x7_jtag.specs.Fields.{all_fit, digit_width, fits, scan_by, scan_if, scan_of, width};
-ghost use Rattle.x7_jtag.specs.Pieces.{mark_of, pieces, size_of};
+ghost use Rattle.x7_jtag.specs.Pieces.{mark_of, size_of};
 ghost use Rattle.x7_jtag.specs.Source.{pieces_left};
-ghost use Rattle.x7_jtag.specs.Spans.{AreWithin, IsPrefix, digits_if, end_if, fields_of};
-ghost use Rattle.x7_jtag.specs.Statements.{other_statement, statement_by};
-ghost use Rattle.x7_jtag.specs.Stored.{IsStoredWithin, asked_if, stored_if};
-ghost use Rattle.x7_jtag.specs.Svf.{pieces_after, statement_marks};
-ghost use Rattle.x7_jtag.specs.Words.{is_free_mark, statement_if_words as if_words, words_of};
+ghost use Rattle.x7_jtag.specs.Spans.{AreWithin, IsPrefix, bytes_in, digits_if, end_if, end_of, fields_of};
+ghost use Rattle.x7_jtag.specs.Statements.{statement_by, statement_of};
+ghost use Rattle.x7_jtag.specs.Stored.{IsStored};
+ghost use Rattle.x7_jtag.specs.Svf.{first_statement, marks_before, pieces_after};
+ghost use Rattle.x7_jtag.specs.Words.{is_free_mark, some_if, statement_if_words as if_words, words_of};
+ghost use Rattle.x7_jtag.specs.declared.statement.Statement.{Statement as StatementData};
 
 use crate::bits::value_of;
 use crate::fields::{Given, fields};
 use crate::source::Source;
 use crate::span::Span;
-use crate::stored::{Action, Stored, StoredScan};
-use crate::token::{Token, next_in, next_within};
-use crate::words::{is_any_word, is_keyword, number, statement_of_words};
+use crate::stored::{Stored, StoredScan};
+use crate::token::{Token, next_within, pass_end};
+use crate::words::{Words, is_any_word, is_keyword, number, statement_said, with_one};
 
 /// Whether a token at the front of a text may stand among any words.
 fn is_free_token(token: Token, text: &[u8]) -> bool
@@ -29,52 +30,70 @@ fn is_free_token(token: Token, text: &[u8]) -> bool
     }
 }
 
-fn are_free(text: &[u8]) -> bool
-    ensures { result ≡ list_all is_free_mark (statement_marks text.now) }
+/// Whether what comes next of a statement may stand among any words; it is passed.
+fn are_free(source: &mut Source) -> bool
+    ensures is { result ≡ list_all is_free_mark (marks_before (pieces_left source.old)) }
+    ensures after { IsTrue result → pieces_after (pieces_left source.old) ≡ pieces_after (pieces_left source.new) }
+    ensures kept { source.new.kept ≡ source.old.kept }
+    ensures passed { length source.new.rest ≤ length source.old.rest }
 {
-    let mut rest = text;
-    while let Some((token, here)) = next_in(rest) {
-        if !is_free_token(token, here) {
+    while let Some(token) = next_within(source) {
+        if !is_free_token(token, source.rest()) {
             return false;
         }
-        rest = &here[token.size()..];
+        source.skip(token.size());
     }
     true
 }
 
-/// What a keyword and the words after it ask, of which no statement has more than four.
-fn words_action(key: &[u8], text: &[u8]) -> Option<Action>
-    ensures { asked_if result ≡ if_words key.now (words_of (statement_marks text.now)) }
+/// The statement of any words that come next, which are passed.
+fn free_statement(source: &mut Source) -> Option<Stored>
+    ensures is { IsStored source.new.kept result (some_if (list_all is_free_mark (marks_before (pieces_left source.old))) StatementData.Nothing) }
+    ensures after { IfSome result (λ s. pieces_after (pieces_left source.old) ≡ pieces_after (pieces_left source.new)) }
+    ensures kept { source.new.kept ≡ source.old.kept }
+    ensures passed { length source.new.rest ≤ length source.old.rest }
 {
-    let mut words: [&[u8]; 4] = [&[]; 4];
-    let mut count = 0;
-    let mut rest = text;
-    while let Some((token, here)) = next_in(rest) {
-        let Token::Word(length) = token else {
-            return None;
-        };
-        if count == 4 {
-            return None;
-        }
-        words[count] = &here[..length];
-        count += 1;
-        rest = &here[length..];
-    }
-    statement_of_words(key, &words[..count])
-}
-
-/// What a statement asks that is no scan, by its keyword and the text after it.
-fn action_of(key: &[u8], text: &[u8]) -> Option<Action>
-    ensures { asked_if result ≡ other_statement key.now (statement_marks text.now) }
-{
-    if !is_keyword(key, b"FREQUENCY") {
-        return words_action(key, text);
-    }
-    if are_free(text) {
-        Some(Action::Nothing)
+    if are_free(source) {
+        Some(Stored::Nothing)
     } else {
         None
     }
+}
+
+/// Keeps the word of so many bytes that comes next, and says where.
+fn keep_word(source: &mut Source, size: usize) -> Span
+    requires { size ≤ length source.old.rest }
+    ensures word { bytes_in source.new.kept result ≡ take size source.old.rest }
+    ensures within { end_of result ≤ length source.new.kept }
+    ensures prefix { IsPrefix source.old.kept source.new.kept }
+    ensures line { source.new.line ≡ source.old.line }
+    ensures rest { source.new.rest ≡ drop size source.old.rest }
+{
+    let from = source.kept().len();
+    source.keep(size);
+    Span::new(from, source.kept().len())
+}
+
+/// What a keyword, which is kept, and the words that come next say. The words are kept too.
+fn words_statement(source: &mut Source, key: Span) -> Option<Stored>
+    requires key { end_of key ≤ length source.old.kept }
+    ensures is { IsStored source.new.kept result (if_words (bytes_in source.old.kept key) (words_of (marks_before (pieces_left source.old)))) }
+    ensures prefix { IsPrefix source.old.kept source.new.kept }
+    ensures after { IfSome result (λ s. pieces_after (pieces_left source.old) ≡ pieces_after (pieces_left source.new)) }
+    ensures passed { IfSome result (λ s. length source.new.rest ≤ length source.old.rest) }
+{
+    let mut words = Words::None;
+    while let Some(token) = next_within(source) {
+        let Token::Word(size) = token else {
+            return None;
+        };
+        let word = keep_word(source, size);
+        match with_one(words, word) {
+            Some(more) => words = more,
+            None => return None,
+        }
+    }
+    statement_said(source.kept(), key, words)
 }
 
 /// How many bits a digit's number has.
@@ -139,8 +158,7 @@ fn do_all_fit(kept: &[u8], count: u32, given: Given) -> bool
 /// The scan of so many bits with these fields, whose digits are kept.
 fn scan_of_fields(kept: &[u8], ir: bool, count: u32, given: Given) -> Option<Stored>
     requires { AreWithin (length kept.now) given }
-    ensures is { stored_if kept.now result ≡ scan_by ir count (Some (fields_of kept.now given)) }
-    ensures within { IfSome result (IsStoredWithin (length kept.now)) }
+    ensures { IsStored kept.now result (scan_by ir count (Some (fields_of kept.now given))) }
 {
     if !do_all_fit(kept, count, given) {
         return None;
@@ -157,7 +175,7 @@ fn scan_of_fields(kept: &[u8], ir: bool, count: u32, given: Given) -> Option<Sto
 
 /// How many bits the scan has whose keyword was passed.
 fn scan_count(source: &mut Source) -> Option<u32>
-    ensures is { (ir : Bool) → scan_of ir (statement_marks source.old.rest) ≡ scan_if ir result (statement_marks source.new.rest) }
+    ensures is { (ir : Bool) → scan_of ir (marks_before (pieces_left source.old)) ≡ scan_if ir result (marks_before (pieces_left source.new)) }
     ensures after { IfSome result (λ n. pieces_after (pieces_left source.old) ≡ pieces_after (pieces_left source.new)) }
     ensures kept { source.new.kept ≡ source.old.kept }
     ensures passed { length source.new.rest ≤ length source.old.rest }
@@ -175,8 +193,7 @@ fn scan_count(source: &mut Source) -> Option<u32>
 
 /// The scan whose keyword was passed. Its digits are kept.
 fn scan(source: &mut Source, ir: bool) -> Option<Stored>
-    ensures is { stored_if source.new.kept result ≡ scan_of ir (statement_marks source.old.rest) }
-    ensures within { IfSome result (IsStoredWithin (length source.new.kept)) }
+    ensures is { IsStored source.new.kept result (scan_of ir (marks_before (pieces_left source.old))) }
     ensures prefix { IsPrefix source.old.kept source.new.kept }
     ensures after { IfSome result (λ s. pieces_after (pieces_left source.old) ≡ pieces_after (pieces_left source.new)) }
     ensures passed { IfSome result (λ s. length source.new.rest ≤ length source.old.rest) }
@@ -186,25 +203,48 @@ fn scan(source: &mut Source, ir: bool) -> Option<Stored>
     scan_of_fields(source.kept(), ir, count, given)
 }
 
-/// The statement whose keyword, of so many bytes, comes next. The digits of a scan are kept.
-pub(crate) fn statement(source: &mut Source, size: usize) -> Option<Stored>
-    requires { size ≤ length source.old.rest }
-    ensures is { stored_if source.new.kept result ≡ statement_by (take size source.old.rest) (statement_marks (drop size source.old.rest)) }
-    ensures within { IfSome result (IsStoredWithin (length source.new.kept)) }
+/// What a keyword, which is kept, and what comes after it say.
+fn said_by(source: &mut Source, key: Span) -> Option<Stored>
+    requires key { end_of key ≤ length source.old.kept }
+    ensures is { IsStored source.new.kept result (statement_by (bytes_in source.old.kept key) (marks_before (pieces_left source.old))) }
     ensures prefix { IsPrefix source.old.kept source.new.kept }
-    ensures after { IfSome result (λ s. pieces_after (pieces source.old.line (drop size source.old.rest)) ≡ pieces_after (pieces_left source.new)) }
-    ensures passed { IfSome result (λ s. length source.new.rest + size ≤ length source.old.rest) }
+    ensures after { IfSome result (λ s. pieces_after (pieces_left source.old) ≡ pieces_after (pieces_left source.new)) }
+    ensures passed { IfSome result (λ s. length source.new.rest ≤ length source.old.rest) }
 {
-    let (key, after) = source.rest().split_at(size);
-    if is_keyword(key, b"SIR") {
-        source.skip(size);
+    let word = key.of(source.kept());
+    if is_keyword(word, b"SIR") {
         return scan(source, true);
     }
-    if is_keyword(key, b"SDR") {
-        source.skip(size);
+    if is_keyword(word, b"SDR") {
         return scan(source, false);
     }
-    let action = action_of(key, after)?;
-    source.skip(size);
-    Some(Stored::Words(action))
+    if is_keyword(word, b"FREQUENCY") {
+        return free_statement(source);
+    }
+    words_statement(source, key)
+}
+
+/// The statement that comes next, up to its `;`. Its keyword, and the digits of a scan or the words of another, are kept.
+fn statement(source: &mut Source) -> Option<Stored>
+    ensures is { IsStored source.new.kept result (statement_of (marks_before (pieces_left source.old))) }
+    ensures prefix { IfSome result (λ s. IsPrefix source.old.kept source.new.kept) }
+    ensures after { IfSome result (λ s. pieces_after (pieces_left source.old) ≡ pieces_after (pieces_left source.new)) }
+    ensures passed { IfSome result (λ s. length source.new.rest < length source.old.rest) }
+{
+    let Token::Word(size) = next_within(source)? else {
+        return None;
+    };
+    let key = keep_word(source, size);
+    said_by(source, key)
+}
+
+/// The statement that comes next, with its `;`.
+pub(crate) fn ended_statement(source: &mut Source) -> Option<Stored>
+    ensures is { IsStored source.new.kept result (first_statement (pieces_left source.old)) }
+    ensures prefix { IfSome result (λ s. IsPrefix source.old.kept source.new.kept) }
+    ensures after { IfSome result (λ s. pieces_after (pieces_left source.old) ≡ Some (pieces_left source.new)) }
+    ensures passed { IfSome result (λ s. length source.new.rest + 2 ≤ length source.old.rest) }
+{
+    let one = statement(source)?;
+    if pass_end(source) { Some(one) } else { None }
 }

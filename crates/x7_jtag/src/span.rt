@@ -1,6 +1,6 @@
-//! Where digits are kept.
+//! Where bytes are kept.
 ghost use Rattle.std.specs.Prelude.{◌≡◌, ◌≤◌, ◌-◌, ◌^◌, length};
-ghost use Rattle.x7_jtag.specs.Spans.{digits_in, end_of};
+ghost use Rattle.x7_jtag.specs.Spans.{bytes_in, end_of};
 
 /// A run of bytes: how many come before it, and how many it has.
 #[derive(Clone, Copy, Debug)]
@@ -26,7 +26,7 @@ impl Span {
     /// These bytes of all.
     pub(crate) fn of(self, all: &[u8]) -> &[u8]
         requires { end_of self ≤ length all.now }
-        ensures { result.now ≡ digits_in all.now self }
+        ensures { result.now ≡ bytes_in all.now self }
     {
         let from = self.from as usize;
         &all[from..from + self.count as usize]

@@ -2,18 +2,19 @@
 ghost use Rattle.std.specs.Prelude.{◌≡◌, ◌≤◌, length};
 ghost use Rattle.x7_jtag.specs.Fields.{bits_option as bits_if};
 ghost use Rattle.x7_jtag.specs.Spans.{digits_if, end_if};
-ghost use Rattle.x7_jtag.specs.Stored.{IsStoredWithin, asked_by, statement_in};
+ghost use Rattle.x7_jtag.specs.Stored.{IsStoredWithin, statement_in};
 
 use crate::bits::Bits;
 use crate::span::Span;
 use crate::statement::Statement;
 
-/// What a statement of words alone asks.
+/// A statement, small: of 2^29 bytes there may be many. The digits of a scan are kept apart.
 #[derive(Clone, Copy, Debug)]
-pub(crate) enum Action {
+pub(crate) enum Stored {
     Reset,
     Idle,
     Run(u32),
+    Scan(StoredScan),
     Nothing,
 }
 
@@ -25,24 +26,6 @@ pub(crate) struct StoredScan {
     pub tdi: Span,
     pub tdo: Option<Span>,
     pub mask: Option<Span>,
-}
-
-/// A statement, small: of 2^29 bytes there may be many.
-#[derive(Clone, Copy, Debug)]
-pub(crate) enum Stored {
-    Words(Action),
-    Scan(StoredScan),
-}
-
-fn asked(action: Action) -> Statement<'static>
-    ensures { result ≡ asked_by action }
-{
-    match action {
-        Action::Reset => Statement::Reset,
-        Action::Idle => Statement::Idle,
-        Action::Run(count) => Statement::Run(count),
-        Action::Nothing => Statement::Nothing,
-    }
 }
 
 /// The bits of a field that may be left out.
@@ -62,12 +45,15 @@ pub(crate) fn statement_of<'t>(stored: &Stored, kept: &'t [u8]) -> Statement<'t>
     ensures { result ≡ statement_in kept.now stored.now }
 {
     match stored {
-        Stored::Words(action) => asked(*action),
+        Stored::Reset => Statement::Reset,
+        Stored::Idle => Statement::Idle,
+        Stored::Run(count) => Statement::Run(*count),
         Stored::Scan(scan) => Statement::Scan {
             ir: scan.ir,
             tdi: Bits::new(scan.count, scan.tdi.of(kept)),
             tdo: bits_option(kept, scan.count, scan.tdo),
             mask: bits_option(kept, scan.count, scan.mask),
         },
+        Stored::Nothing => Statement::Nothing,
     }
 }

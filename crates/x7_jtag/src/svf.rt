@@ -3,16 +3,16 @@ ghost use Rattle.std.specs.Prelude.{◌≡◌, ◌<◌, ◌≤◌, ◌*◌, ◌^
 ghost use Rattle.std.specs.List.{slice_get};
 ghost use Rattle.x7_jtag.specs.Source.{pieces_left};
 ghost use Rattle.x7_jtag.specs.Stored.{AreStoredWithin, statements_in};
-ghost use Rattle.x7_jtag.specs.Svf.{BeginWith, BeginWithOne, IsFault, IsSvfOf, pieces_of};
+ghost use Rattle.x7_jtag.specs.Svf.{BeginWithOne, IsSvfOf, outcome, pieces_of};
 ghost use Rattle.x7_jtag.specs.declared.fault.SvfFault.{SvfFault as FaultData};
 
 use crate::comment::clean;
 use crate::fault::SvfFault;
-use crate::reader::statement;
+use crate::reader::ended_statement;
 use crate::source::Source;
 use crate::statement::Statement;
 use crate::stored::{Stored, statement_of};
-use crate::token::{Token, next, pass_end};
+use crate::token::next;
 use std::alloc::Global;
 use std::marker::Model;
 
@@ -20,7 +20,7 @@ use std::marker::Model;
 #[derive(Debug, Drop)]
 pub struct Svf {
     statements: Vec<Stored>,
-    // the digits of their scans
+    // the digits of their scans, among keywords and the words of other statements
     digits: Vec<u8>,
 }
 
@@ -60,23 +60,18 @@ impl Svf {
 fn statements(alloc: Global, source: &mut Source) -> Result<Vec<Stored>, SvfFault>
     requires none_kept { source.old.kept ≡ [] }
     requires few { length source.old.rest ≤ 2 ^ 29 }
-    ensures says { MatchResult result (λ s. BeginWith (pieces_left source.old) (statements_in source.new.kept s.items) []) (λ fault. IsFault (pieces_left source.old) fault) }
+    ensures says { MatchResult result (λ s. outcome (pieces_left source.old) ≡ Ok (statements_in source.new.kept s.items))
+        (λ fault. (fault ≡ FaultData.NoMemory) ⊎ (outcome (pieces_left source.old) ≡ Err fault)) }
     ensures memory { IfErr result (λ fault. fault ≡ FaultData.NoMemory → BeginWithOne (pieces_left source.old)) }
     ensures few { IfOk result (λ s. 2 * length s.items ≤ length source.old.rest) }
     ensures within { IfOk result (λ s. AreStoredWithin (length source.new.kept) s.items) }
 {
     let mut out = Vec::new(alloc);
-    while let Some(token) = next(source) {
+    while let Some(_) = next(source) {
         let line = source.line();
-        let Token::Word(size) = token else {
+        let Some(one) = ended_statement(source) else {
             return Err(SvfFault::Line(line));
         };
-        let Some(one) = statement(source, size) else {
-            return Err(SvfFault::Line(line));
-        };
-        if !pass_end(source) {
-            return Err(SvfFault::Line(line));
-        }
         if out.push(one).is_err() {
             return Err(SvfFault::NoMemory);
         }

@@ -2,7 +2,7 @@
 ghost use Rattle.std.specs.Prelude.{◌≡◌, ◌+◌, ◌<◌, ◌≤◌, ◌∷◌, [], ℕ, List, true, false, length, MatchOption, IfSome, IfNone, Some, None, slice_index, drop, take};
 ghost use Rattle.x7_jtag.specs.Pieces.{byte_mark, is_blank, is_word_byte, mark_of, pieces, size_of, Word};
 ghost use Rattle.x7_jtag.specs.Source.{left_after, left_from, pieces_left};
-ghost use Rattle.x7_jtag.specs.Svf.{pieces_after, statement_marks};
+ghost use Rattle.x7_jtag.specs.Svf.{marks_before, pieces_after};
 
 use crate::source::Source;
 
@@ -115,8 +115,8 @@ pub(crate) fn next(source: &mut Source) -> Option<Token>
 /// The word or bracket of a statement that comes next, behind blanks, which are passed; none where the statement, or the text,
 /// ends.
 pub(crate) fn next_within(source: &mut Source) -> Option<Token>
-    ensures is { MatchOption result (statement_marks source.old.rest ≡ [])
-        (λ t. statement_marks source.old.rest ≡ mark_of t source.new.rest ∷ statement_marks (drop (size_of t) source.new.rest)) }
+    ensures is { MatchOption result (marks_before (pieces_left source.old) ≡ [])
+        (λ t. marks_before (pieces_left source.old) ≡ mark_of t source.new.rest ∷ marks_before (left_after source.new t)) }
     ensures ends { IfNone result (pieces_after (pieces_left source.old) ≡ pieces_after (pieces_left source.new)) }
     ensures goes_on { IfSome result (λ t. pieces_after (pieces_left source.old) ≡ pieces_after (left_after source.new t)) }
     ensures some { IfSome result (λ t. 0 < size_of t) }
@@ -146,35 +146,4 @@ pub(crate) fn pass_end(source: &mut Source) -> bool
         }
     }
     false
-}
-
-/// The text after the blanks that it begins with.
-fn after_blanks(text: &[u8]) -> &[u8]
-    ensures same { statement_marks text.now ≡ statement_marks result.now }
-    ensures within { length result.now ≤ length text.now }
-    ensures stop { 0 < length result.now → is_blank (slice_index result.now 0) ≡ false }
-{
-    let mut rest = text;
-    while !rest.is_empty() && is_between(rest[0]) {
-        rest = &rest[1..];
-    }
-    rest
-}
-
-/// The next word or bracket of a statement, and the text from there on; none where the statement, or the text, ends.
-pub(crate) fn next_in(text: &[u8]) -> Option<(Token, &[u8])>
-    ensures is { MatchOption result (statement_marks text.now ≡ [])
-        (λ p. statement_marks text.now ≡ mark_of p.0 p.1.now ∷ statement_marks (drop (size_of p.0) p.1.now)) }
-    ensures some { IfSome result (λ p. 0 < size_of p.0) }
-    ensures within { IfSome result (λ p. size_of p.0 ≤ length p.1.now) }
-    ensures passed { IfSome result (λ p. length p.1.now ≤ length text.now) }
-{
-    let rest = after_blanks(text);
-    if rest.is_empty() {
-        return None;
-    }
-    match first(rest) {
-        Token::End => None,
-        token => Some((token, rest)),
-    }
 }

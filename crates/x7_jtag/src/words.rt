@@ -1,11 +1,13 @@
 //! Statements of words alone.
-ghost use Rattle.std.specs.Prelude.{◌≡◌, ◌<◌, ◌&&◌, ◌+◌, codes, Option, Some, None};
+ghost use Rattle.std.specs.Prelude.{◌≡◌, ◌<◌, ◌&&◌, ◌≤◌, ◌∷◌, ◌++◌, ℕ, [], List, length, codes, IfSome, IfNone, Option, Some, None};
 ghost use Rattle.x7_jtag.specs.Words.{end_words, is_digit, is_free, is_free_byte, is_key, is_time, is_time_byte, most_clocks, number_of, reset_words, run_by, run_if as run_clocks, run_words, some_if, state_words, statement_of_words as of_words, word_list, zero_words};
-ghost use Rattle.x7_jtag.specs.Stored.{asked_if};
+ghost use Rattle.x7_jtag.specs.Spans.{AreWordsWithin, bytes_in, end_of, words_at};
+ghost use Rattle.x7_jtag.specs.Stored.{IsStoredWithin, stored_if};
 ghost use Rattle.x7_jtag.specs.declared.statement.Statement.{Statement as StatementData};
 ghost use Rattle.std.specs.List.{list_all};
 
-use crate::stored::Action;
+use crate::span::Span;
+use crate::stored::Stored;
 
 pub(crate) fn is_keyword(word: &[u8], key: &[u8]) -> bool
     ensures { result ≡ is_key word.now key.now }
@@ -75,36 +77,40 @@ pub(crate) fn is_any_word(word: &[u8]) -> bool
     )
 }
 
-fn run(digits: &[u8]) -> Option<Action>
-    ensures { asked_if result ≡ run_by (number_of most_clocks digits.now) }
+fn run(digits: &[u8]) -> Option<Stored>
+    ensures is { stored_if [] result ≡ run_by (number_of most_clocks digits.now) }
+    ensures alone { IfSome result (IsStoredWithin 0) }
 {
     match number(digits, 16_777_216) {
-        Some(count) => Some(Action::Run(count)),
+        Some(count) => Some(Stored::Run(count)),
         None => None,
     }
 }
 
-fn run_if(test: bool, digits: &[u8]) -> Option<Action>
-    ensures { asked_if result ≡ run_clocks test digits.now }
+fn run_if(test: bool, digits: &[u8]) -> Option<Stored>
+    ensures is { stored_if [] result ≡ run_clocks test digits.now }
+    ensures alone { IfSome result (IsStoredWithin 0) }
 {
     if test { run(digits) } else { None }
 }
 
-fn nothing_if(test: bool) -> Option<Action>
-    ensures { asked_if result ≡ some_if test StatementData.Nothing }
+fn nothing_if(test: bool) -> Option<Stored>
+    ensures is { stored_if [] result ≡ some_if test StatementData.Nothing }
+    ensures alone { IfSome result (IsStoredWithin 0) }
 {
-    if test { Some(Action::Nothing) } else { None }
+    if test { Some(Stored::Nothing) } else { None }
 }
 
-fn state(words: &[&[u8]]) -> Option<Action>
-    ensures { asked_if result ≡ state_words (word_list words.now) }
+fn state(words: &[&[u8]]) -> Option<Stored>
+    ensures is { stored_if [] result ≡ state_words (word_list words.now) }
+    ensures alone { IfSome result (IsStoredWithin 0) }
 {
     match words {
         [word] => {
             if is_keyword(word, b"RESET") {
-                Some(Action::Reset)
+                Some(Stored::Reset)
             } else if is_keyword(word, b"IDLE") {
-                Some(Action::Idle)
+                Some(Stored::Idle)
             } else {
                 None
             }
@@ -125,8 +131,9 @@ fn are_timed_clocks(unit: &[u8], time: &[u8], second: &[u8]) -> bool
     is_keyword(unit, b"TCK") && is_any_time(time) && is_keyword(second, b"SEC")
 }
 
-fn run_of(words: &[&[u8]]) -> Option<Action>
-    ensures { asked_if result ≡ run_words (word_list words.now) }
+fn run_of(words: &[&[u8]]) -> Option<Stored>
+    ensures is { stored_if [] result ≡ run_words (word_list words.now) }
+    ensures alone { IfSome result (IsStoredWithin 0) }
 {
     match words {
         [count, unit] => {
@@ -142,8 +149,9 @@ fn run_of(words: &[&[u8]]) -> Option<Action>
     }
 }
 
-fn end(words: &[&[u8]]) -> Option<Action>
-    ensures { asked_if result ≡ end_words (word_list words.now) }
+fn end(words: &[&[u8]]) -> Option<Stored>
+    ensures is { stored_if [] result ≡ end_words (word_list words.now) }
+    ensures alone { IfSome result (IsStoredWithin 0) }
 {
     match words {
         [word] => nothing_if(is_keyword(word, b"IDLE")),
@@ -151,8 +159,9 @@ fn end(words: &[&[u8]]) -> Option<Action>
     }
 }
 
-fn no_others(words: &[&[u8]]) -> Option<Action>
-    ensures { asked_if result ≡ zero_words (word_list words.now) }
+fn no_others(words: &[&[u8]]) -> Option<Stored>
+    ensures is { stored_if [] result ≡ zero_words (word_list words.now) }
+    ensures alone { IfSome result (IsStoredWithin 0) }
 {
     match words {
         [word] => nothing_if(is_keyword(word, b"0")),
@@ -160,8 +169,9 @@ fn no_others(words: &[&[u8]]) -> Option<Action>
     }
 }
 
-fn reset_line(words: &[&[u8]]) -> Option<Action>
-    ensures { asked_if result ≡ reset_words (word_list words.now) }
+fn reset_line(words: &[&[u8]]) -> Option<Stored>
+    ensures is { stored_if [] result ≡ reset_words (word_list words.now) }
+    ensures alone { IfSome result (IsStoredWithin 0) }
 {
     match words {
         [word] => nothing_if(is_any_word(word)),
@@ -170,8 +180,9 @@ fn reset_line(words: &[&[u8]]) -> Option<Action>
 }
 
 /// The statement of a keyword and the words after it.
-pub(crate) fn statement_of_words(key: &[u8], words: &[&[u8]]) -> Option<Action>
-    ensures { asked_if result ≡ of_words key.now (word_list words.now) }
+fn statement_of_words(key: &[u8], words: &[&[u8]]) -> Option<Stored>
+    ensures is { stored_if [] result ≡ of_words key.now (word_list words.now) }
+    ensures alone { IfSome result (IsStoredWithin 0) }
 {
     if is_keyword(key, b"STATE") {
         return state(words);
@@ -193,4 +204,48 @@ pub(crate) fn statement_of_words(key: &[u8], words: &[&[u8]]) -> Option<Action>
         return reset_line(words);
     }
     None
+}
+
+/// The words after a keyword by where they are kept. No statement has more than four.
+#[derive(Clone, Copy, Debug)]
+pub(crate) enum Words {
+    None,
+    One(Span),
+    Two(Span, Span),
+    Three(Span, Span, Span),
+    Four(Span, Span, Span, Span),
+}
+
+/// One word more, where there are fewer than four.
+pub(crate) fn with_one(words: Words, word: Span) -> Option<Words>
+    ensures more { (kept : List ℕ) → IfSome result (λ r. words_at kept r ≡ words_at kept words ++ bytes_in kept word ∷ []) }
+    ensures four { (kept : List ℕ) → IfNone result (length (words_at kept words) ≡ 4) }
+    ensures within { (n : ℕ) → AreWordsWithin n words → end_of word ≤ n → IfSome result (AreWordsWithin n) }
+{
+    match words {
+        Words::None => Some(Words::One(word)),
+        Words::One(first) => Some(Words::Two(first, word)),
+        Words::Two(first, second) => Some(Words::Three(first, second, word)),
+        Words::Three(first, second, third) => Some(Words::Four(first, second, third, word)),
+        Words::Four(_, _, _, _) => None,
+    }
+}
+
+/// The statement of a keyword and the words after it, which are kept.
+pub(crate) fn statement_said(kept: &[u8], key: Span, words: Words) -> Option<Stored>
+    requires key { end_of key ≤ length kept.now }
+    requires words { AreWordsWithin (length kept.now) words }
+    ensures is { stored_if [] result ≡ of_words (bytes_in kept.now key) (words_at kept.now words) }
+    ensures alone { IfSome result (IsStoredWithin 0) }
+{
+    let key = key.of(kept);
+    match words {
+        Words::None => None,
+        Words::One(a) => statement_of_words(key, &[a.of(kept)]),
+        Words::Two(a, b) => statement_of_words(key, &[a.of(kept), b.of(kept)]),
+        Words::Three(a, b, c) => statement_of_words(key, &[a.of(kept), b.of(kept), c.of(kept)]),
+        Words::Four(a, b, c, d) => {
+            statement_of_words(key, &[a.of(kept), b.of(kept), c.of(kept), d.of(kept)])
+        }
+    }
 }
