@@ -1,9 +1,11 @@
 pub mod BootedLemmas
 pub mod CheckedLemmas
+pub mod CourseLemmas
 pub mod EveryBootLemmas
 pub mod ImageLemmas
 pub mod LeastLemmas
 pub mod OneBootLemmas
+pub mod OverLemmas
 pub mod PageLemmas
 pub mod StartLemmas
 pub mod TookLemmas

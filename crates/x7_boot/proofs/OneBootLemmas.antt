@@ -133,7 +133,7 @@ one_boot part flash a b x y =
     let same : (x.last ∷ x.older ≡ y.last ∷ y.older) × (a.end ≡ b.end) = one_chain part flash (x.last ∷ x.older) (y.last ∷ y.older) a.end b.end x.leads y.leads in
     (x.attempts ∙ ap (λ (l : List Trial). reverse (map tried l)) same.0 ∙ sym y.attempts, same.1)
 
-first_is : (s t : Trial) (older more : List Trial) → s ∷ older ≡ t ∷ more → s ≡ t
+pub first_is : (s t : Trial) (older more : List Trial) → s ∷ older ≡ t ∷ more → s ≡ t
 first_is s t older more e = cc
 
 pub one_last : (part : PartData) (flash : List ℕ) (a b : BootedState) → (x : IsBoot part flash a) → (y : IsBoot part flash b) → x.last ≡ y.last

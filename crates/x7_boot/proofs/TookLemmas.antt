@@ -1,5 +1,6 @@
 -- Lemmas on bytes of a flash that an attempt takes: what it ends by, and that nothing ended it earlier.
 use Rattle.std.proofs.Common.{◌≡◌, ◌==◌, ◌+◌, ◌-◌, ◌^◌, ◌<◌, ◌≤◌, ℕ, Bool, true, false, if◌then◌else◌, List, ◌++◌, length, take, drop, Option, None, Some, IsSome, refl, ap, sym, subst, ◌∙◌, append_assoc, arith, length-drop, length-take-le, take-append-drop, take-take}
+use Rattle.x7_packets.specs.History.{history_of}
 use Rattle.x7_part.specs.Part.{PartData}
 use Rattle.x7_engine.specs.declared.fed.Fed.{Fed}
 use Rattle.x7_engine.specs.declared.fed.Fed.TheVariants as fed
@@ -13,7 +14,8 @@ use Rattle.x7_engine.specs.Values.{cause_of}
 use Rattle.x7_engine.specs.ReadBuffer.{IsFullBy, ReadBufState}
 use Rattle.x7_engine.specs.Past.{Answers, AnswersUntil}
 use Rattle.x7_engine.specs.Standing.{DeviceState, DeviceStandsFor, NoWordDue, taken_in}
-use Rattle.x7_engine.specs.State.{why_of, state_of, stop_in}
+use Rattle.x7_engine.specs.State.{history_by, why_of, state_of, stop_in, taken_by}
+use Rattle.x7_engine.specs.Startup.{phase_by, startup_progress}
 use Rattle.x7_engine.specs.Stops.{Stopped, fault_of}
 use Rattle.x7_engine.specs.UntilStarted.{NoneStarted, has_started, says_started, taken_until}
 use Rattle.x7_engine.proofs.UntilLemmas.{going_before}
@@ -36,6 +38,11 @@ ends_started part kept bytes e = chosen ((state_of part kept false bytes).phase 
 
 pub ends_by_stop : (part : PartData) (kept : Kept) (bytes : List ℕ) → ((state_of part kept false bytes).phase == 7) ≡ false → ending_at part kept bytes ≡ ending_by (why_of (stop_in part kept bytes))
 ends_by_stop part kept bytes e = other ((state_of part kept false bytes).phase == 7) (Some Started) (ending_by (why_of (stop_in part kept bytes))) e
+
+-- where nothing has stopped the device
+pub ends_going : (part : PartData) (kept : Kept) (bytes : List ℕ) → stop_in part kept bytes ≡ None → ending_at part kept bytes ≡ (if phase_by part (startup_progress (history_of bytes) (length bytes)) == 7 then Some Started else None)
+ends_going part kept bytes none =
+    ap (λ (o : Option Stopped). if phase_by part (startup_progress (history_by o (history_of bytes)) (taken_by o (length bytes))) == 7 then Some Started else ending_by (why_of o)) none
 
 -- ---- nothing earlier
 

@@ -1,5 +1,5 @@
--- A boot attempt: a device takes the bytes of a flash from an address on, up to what ends the attempt (UG470, MultiBoot; its
--- end at the least byte, and at the flash's end, are this project's choice).
+-- A boot attempt: a device takes the bytes of a flash from an address on, up to what ends the attempt (UG470, MultiBoot and
+-- fallback; the end at the least byte, and at the flash's end, are this project's choice).
 use Rattle.std.specs.Prelude.{◌≡◌, ℕ, suc, ◌+◌, ◌^◌, ◌<◌, ◌≤◌, ◌==◌, ◌⊎◌, Bool, true, false, if◌then◌else◌, List, ◌++◌, length, take, drop, slice_range, Option, None, Some, IsSome}
 use Rattle.x7_words.specs.Flash.{IfKnown}
 use Rattle.x7_part.specs.Part.{PartData}
@@ -43,7 +43,11 @@ pub record Trial : Type 0 where
   pub wrapped : Bool
   pub ending : Ending
 
--- nothing ends an attempt at fewer bytes
+-- the place of the flash after the last byte that an attempt took
+abbrev pub end_of : Trial → ℕ
+end_of t = t.address + length t.bytes
+
+-- nothing ends an attempt at fewer than n bytes
 abbrev pub NoneBefore : PartData → Kept → List ℕ → ℕ → Type 0
 NoneBefore part kept from n = (k : ℕ) → k < n → ending_at part kept (take k from) ≡ None
 
@@ -55,14 +59,14 @@ pub record EndsFirst (part : PartData) (from : List ℕ) (t : Trial) : Type 0 wh
   pub first : NoneBefore part t.kept from (length t.bytes)
   pub in_flash : t.wrapped ≡ false
 
--- nothing ended it up to the flash's end; the device took all bytes, or those up to another fault
+-- nothing ended the attempt up to the flash's end; the device took all bytes, or those up to another fault
 pub record RunsOut (part : PartData) (from : List ℕ) (t : Trial) : Type 0 where
   pub none : NoneBefore part t.kept from (suc (length from))
   pub taken : t.bytes ≡ take (taken_of part t.kept from) from
   pub failed : t.ending ≡ Failed Wrap
   pub past_end : t.wrapped ≡ true
 
--- an attempt over a flash of these bytes; at an address past its end it has none
+-- an attempt over a flash of these bytes; at an address past the flash's end there are no bytes to take
 abbrev pub IsTrial : PartData → List ℕ → Trial → Type 0
 IsTrial part flash t = EndsFirst part (drop t.address flash) t ⊎ RunsOut part (drop t.address flash) t
 
@@ -70,7 +74,7 @@ IsTrial part flash t = EndsFirst part (drop t.address flash) t ⊎ RunsOut part 
 abbrev pub IsDeviceOf : PartData → DeviceState → Trial → Type 0
 IsDeviceOf part d t = DeviceStandsFor part t.kept t.wrapped d t.bytes
 
--- what a feed does to an attempt in which startup hasn't ended by then
+-- what a feed does to an attempt in which startup hasn't ended after it, where the device has this cause of a failure
 abbrev pub step_by : Fed → Option Cause → Step
 step_by (fed.Iprog n) cause = Ends Iprog
 step_by (fed.Stopped n) (Some cause) = Ends (Failed cause)
@@ -78,7 +82,7 @@ step_by (fed.Stopped n) None = Stops
 step_by fed.All cause = Goes
 step_by (fed.ReadFull n) cause = Goes
 
--- what the bytes of a piece, behind those taken before, did to an attempt that nothing had ended
+-- what the bytes taken come to in an attempt that fewer had not ended: it goes on, it ends, or the device stops in it
 abbrev pub StepsTo : PartData → Kept → List ℕ → Step → Type 0
 StepsTo part kept bytes Goes = (stop_in part kept bytes ≡ None) × (ending_at part kept bytes ≡ None)
 StepsTo part kept bytes (Ends e) = ending_at part kept bytes ≡ Some e
@@ -98,13 +102,13 @@ pub record Took (p : Past) (d : DeviceState) (piece : List ℕ) (step : Step) : 
   pub steps : StepsTo p.part p.kept (p.bytes ++ take count piece) step
   pub none : (k : ℕ) → k < count → ending_at p.part p.kept (p.bytes ++ take k piece) ≡ None
 
--- whatever bytes the device had taken, without a stop and in an attempt that nothing had ended: it took bytes of a page
+-- a device takes bytes of a page, whatever it had taken before without a stop and in an attempt that nothing had ended
 abbrev pub TakesPage : DeviceState → List ℕ → Step → DeviceState → Type 0
 TakesPage old page step new =
     (part : PartData) (kept : Kept) (bytes : List ℕ) → DeviceStandsFor part kept false old bytes → stop_in part kept bytes ≡ None → ending_at part kept bytes ≡ None
     → Took (past_of part kept bytes) new page step
 
--- a device in an attempt that nothing has ended, with room in the count for so many bytes more
+-- a device in an attempt that nothing has ended, whose bytes with `more` further ones are at most 2^63
 pub record IsReady (d : DeviceState) (more : ℕ) : Type 0 where
   pub part : PartData
   pub kept : Kept
@@ -123,7 +127,7 @@ pub record Attempting : Type 0 where
 abbrev pub attempt_at : PartData → Kept → ℕ → Attempting
 attempt_at part kept address = record { part = part; kept = kept; address = address }
 
--- an attempt that began so, over a flash of these bytes, ended so and left the device
+-- an attempt that began as `a` says, over a flash of these bytes, ended by `ending` and left the device `d`
 pub record Tries (a : Attempting) (flash : List ℕ) (d : DeviceState) (ending : Ending) : Type 0 where
   pub trial : Trial
   pub is : IsTrial a.part flash trial

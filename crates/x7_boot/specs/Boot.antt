@@ -35,7 +35,7 @@ start_address unit wbstar = if unit == 256 then 256 * field_of 0 24 wbstar else 
 abbrev pub end_state : PartData → Trial → Regs
 end_state part t = state_of part t.kept t.wrapped t.bytes
 
--- the table, after so many attempts
+-- the table: what comes after attempt `number`, by its ending
 abbrev pub next_by : PartData → ℕ → Trial → Ending → Next
 next_by part number t ending.Started = Ends boot_end.Started
 next_by part number t ending.Iprog =
@@ -52,18 +52,18 @@ abbrev pub LeadsTo : PartData → List ℕ → List Trial → Next → Type 0
 LeadsTo part flash [] next = next ≡ Again at_power 0
 LeadsTo part flash (t ∷ older) next = LeadsTo part flash older (Again t.kept t.address) × IsTrial part flash t × (next ≡ next_by part (length older + 1) t t.ending)
 
--- it leads through these attempts, the newest first, to this end
+-- a flash leads a device through these attempts, the newest first, to this end
 abbrev pub LeadsToEnd : PartData → List ℕ → List Trial → BootEnd → Type 0
 LeadsToEnd part flash trials end = LeadsTo part flash trials (Ends end)
 
--- it leads through attempts, one at least, to an end
+-- a flash leads a device through attempts, one at least, to an end
 pub record HasBoot (part : PartData) (flash : List ℕ) : Type 0 where
   pub last : Trial
   pub older : List Trial
   pub end : BootEnd
   pub leads : LeadsToEnd part flash (last ∷ older) end
 
--- what is said of an attempt: its kind, its address and its ending
+-- what is reported of an attempt: its kind, its address in bytes and its ending
 abbrev pub tried : Trial → Tried
 tried t = record { kind = t.kept.kind; address = t.address; ending = t.ending }
 
@@ -73,7 +73,7 @@ pub record BootedState : Type 0 where
   pub end : BootEnd
   pub device : DeviceState
 
--- it is the boot of a part from a flash of these bytes
+-- what a boot came to is the boot of a part from a flash of these bytes
 pub record IsBoot (part : PartData) (flash : List ℕ) (b : BootedState) : Type 0 where
   pub last : Trial
   pub older : List Trial
@@ -81,7 +81,7 @@ pub record IsBoot (part : PartData) (flash : List ℕ) (b : BootedState) : Type 
   pub attempts : b.attempts ≡ reverse (map tried (last ∷ older))
   pub device : IsDeviceOf part b.device last
 
--- a flash has led through these attempts, so many, to this one
+-- a flash has led a device through `number` attempts, which are reported as `attempts`, to the one that begins as `a` says
 pub record Led (a : Attempting) (flash : List ℕ) (attempts : List Tried) (number : ℕ) : Type 0 where
   pub older : List Trial
   pub leads : LeadsTo a.part flash older (Again a.kept a.address)

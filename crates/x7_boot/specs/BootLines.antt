@@ -32,7 +32,7 @@ ending_text ending.Started = codes "started"
 ending_text ending.Iprog = codes "iprog"
 ending_text (ending.Failed cause) = cause_text cause
 
--- the line of the attempt of this number
+-- the line of attempt `number`, from 1
 unfoldable pub attempt_text : ℕ → Tried → List ℕ
 attempt_text number tried =
     codes "attempt " ++ decimal number
@@ -41,7 +41,7 @@ attempt_text number tried =
     ++ codes " " ++ ending_text tried.ending
     ++ codes "\n"
 
--- the lines of attempts behind so many others
+-- the lines of attempts after `before` others
 abbrev pub attempts_text : ℕ → List Tried → List ℕ
 attempts_text before [] = []
 attempts_text before (tried ∷ more) = attempt_text (before + 1) tried ++ attempts_text (before + 1) more
@@ -52,6 +52,6 @@ boot_end_text boot_end.Started = codes "end started\n"
 boot_end_text boot_end.Stopped = codes "end stopped\n"
 boot_end_text boot_end.Loop = codes "end loop\n"
 
--- all of them
+-- all lines of a boot
 unfoldable pub boot_head : List ℕ → List Tried → BootEnd → List ℕ
 boot_head name attempts end = codes "boot " ++ name ++ codes "\n" ++ attempts_text 0 attempts ++ boot_end_text end

@@ -2,5 +2,6 @@ pub mod Attempt
 pub mod Boot
 pub mod BootLines
 pub mod Checked
+pub mod Course
 pub mod Image
 pub mod Pages

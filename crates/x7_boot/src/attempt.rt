@@ -9,26 +9,26 @@ use x7_regs::Cause;
 /// How an attempt ended.
 #[derive(Clone, Copy, Debug, PartialEq, Eq)]
 pub enum Ending {
-    /// Startup came to its end.
+    /// By the end of startup.
     Started,
     /// By an IPROG command that was obeyed.
     Iprog,
-    /// It failed by this.
+    /// By a failure, of this cause.
     Failed(Cause),
 }
 
 /// What bytes of a flash did to an attempt.
 #[derive(Clone, Copy)]
 pub(crate) enum Step {
-    /// Nothing: it goes on behind them.
+    /// Nothing: the attempt goes on after the bytes.
     Goes,
-    /// They ended the attempt.
+    /// The bytes ended the attempt.
     Ends(Ending),
     /// The device stopped, and takes nothing up to the flash's end.
     Stops,
 }
 
-/// What the fault of a device ends an attempt by, and none for a fault that doesn't.
+/// The cause by which a device's fault ends an attempt, none for a fault that doesn't end it.
 fn cause_in(fault: Option<Fault>) -> Option<Cause>
     ensures { result ≡ cause_of fault false }
 {

@@ -21,11 +21,11 @@ use x7_words::{FLASH_LIMIT, Flash};
 /// An attempt of a boot.
 #[derive(Clone, Copy, Debug, PartialEq, Eq)]
 pub struct Tried {
-    /// What began it.
+    /// What began the attempt.
     pub kind: Kind,
-    /// Where in the flash it began, in bytes.
+    /// Where in the flash the attempt began, in bytes.
     pub address: u32,
-    /// How it ended.
+    /// How the attempt ended.
     pub ending: Ending,
 }
 
@@ -57,14 +57,14 @@ impl Model for Booted {
 }
 
 impl Booted {
-    /// Its attempts, in order.
+    /// The attempts of the boot, in order.
     pub fn attempts(&self) -> &[Tried]
         ensures { result.now ≡ self.now.attempts }
     {
         &self.attempts
     }
 
-    /// How it ended.
+    /// How the boot ended.
     pub fn end(&self) -> BootEnd
         ensures { result ≡ self.now.end }
     {

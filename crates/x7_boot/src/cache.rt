@@ -12,15 +12,15 @@ use std::mem;
 use std::num::NonZeroUsize;
 use x7_words::Flash;
 
-/// The pages that are kept.
+/// The number of pages that are kept.
 const KEPT_PAGES: usize = 64;
 
-/// Where the bytes of a page are that was asked for.
+/// Where the bytes of a page that was asked for are.
 #[derive(Clone, Copy)]
 pub(crate) enum Loaded {
-    /// In the page, which was there already.
+    /// In the page, which the cache had already.
     Kept,
-    /// In the block, which was read now and has so many pages from that one on.
+    /// In the block, which was read now and has this many pages from the one asked for on.
     Read(u64),
 }
 
@@ -50,7 +50,7 @@ impl PageCache {
         })
     }
 
-    /// Has the page of a number from then on, read from the flash where it isn't there, with those that follow it.
+    /// Makes the cache have the page of a number, read from the flash where the cache has it not, with the pages that follow.
     pub(crate) fn load<F: Flash>(&mut self, flash: &mut F, number: u64) -> Result<Loaded, BootFault>
         requires attached { (F.state flash.old).attached ≡ true }
         requires within { number * page_size < (F.state flash.old).extent }
@@ -79,8 +79,8 @@ impl PageCache {
         }
     }
 
-    /// How many pages from a number on a block has: up to sixteen, up to the flash's end, and behind the first none that is
-    /// there.
+    /// How many pages from a number on a block has: at most sixteen, none past the flash's end, and after the first none that the
+    /// cache has.
     fn absent_pages(&self, number: u64, size: u64) -> u64
         requires within { number * page_size < size }
         requires limit { size ≤ 134217728 }
@@ -97,7 +97,7 @@ impl PageCache {
         BLOCK_PAGES
     }
 
-    /// Has the pages of a block from then on, the first of them as the one used last.
+    /// Makes the cache have the pages of a block, the first of them as the one used last.
     fn keep_block(&mut self, number: u64, count: u64) -> Result<(), BootFault>
         requires some { 0 < count }
         requires most { count ≤ block_pages }
@@ -120,7 +120,7 @@ impl PageCache {
         Ok(())
     }
 
-    /// Has the page of an index of a block from then on, as the one used last.
+    /// Makes the cache have the page at an index of a block, as the one used last.
     fn keep_page(&mut self, number: u64, index: u64) -> Result<(), BootFault>
         requires number { number ≤ 32768 }
         requires index { index < block_pages }
@@ -148,7 +148,7 @@ impl PageCache {
         }
     }
 
-    /// The bytes from a place on whose page was loaded: to the end of the block that was read then, or else of the page.
+    /// The bytes from a place on, whose page was loaded: to the end of the block that was read for it, or else of the page.
     pub(crate) fn bytes_from(&self, at: u64, loaded: Loaded) -> &[u8]
         requires page { HasPage self.now.pages.entries at }
         requires block { Reaches at self.now.block.items loaded }
@@ -160,7 +160,7 @@ impl PageCache {
         }
     }
 
-    /// The bytes from a place to the end of its page, which is there.
+    /// The bytes from a place to the end of its page, which the cache has.
     fn rest_of_page(&self, at: u64) -> &[u8]
         requires { HasPage self.now.pages.entries at }
         ensures { (known : Option (List ℕ)) (extent : ℕ) → ArePages known extent self.now.pages.entries → at < extent → IsRest known extent at result.now }

@@ -8,7 +8,7 @@ pub enum ImageFault {
     /// The image would be larger than a flash may be.
     #[error("the image would be larger than a flash may be")]
     TooLong,
-    /// There was no memory for it.
+    /// There was no memory for the image.
     #[error("no memory")]
     NoMemory,
 }
@@ -19,10 +19,10 @@ pub enum BootFault {
     /// A read of the flash failed.
     #[error("a read of the flash failed")]
     Failed,
-    /// The flash is larger than one may be.
+    /// The flash is larger than a flash may be.
     #[error("the flash is larger than one may be")]
     TooLarge,
-    /// There was no memory.
+    /// There was no memory for the boot.
     #[error("no memory")]
     NoMemory,
 }

@@ -1,13 +1,15 @@
 //! What a boot promises. The functions do nothing: their contracts are the laws.
-ghost use Rattle.std.specs.Prelude.{◌≡◌, ◌<◌, ℕ, Bool, List};
+ghost use Rattle.std.specs.Prelude.{◌≡◌, ◌<◌, ℕ, Bool, List, ◌∷◌, false, take};
 ghost use Rattle.x7_words.specs.Word.{AreBytes};
 ghost use Rattle.x7_part.specs.Part.{PartData};
 ghost use Rattle.x7_engine.specs.State.{state_of};
 ghost use Rattle.x7_engine.specs.declared.kept.Kept.{Kept};
-ghost use Rattle.x7_boot.specs.Attempt.{IsTrial, Trial};
-ghost use Rattle.x7_boot.specs.Boot.{BootedState, HasBoot, IsBoot, end_state};
+ghost use Rattle.x7_boot.specs.Attempt.{IsTrial, Trial, end_of};
+ghost use Rattle.x7_boot.specs.Boot.{BootedState, HasBoot, IsBoot, LeadsToEnd, end_state};
 ghost use Rattle.x7_boot.specs.Checked.{HasChecked};
+ghost use Rattle.x7_boot.specs.Course.{BootCourse, IsCourse, course_along, course_of};
 ghost use Rattle.x7_boot.specs.declared.attempt.Ending.TheVariants as ending;
+ghost use Rattle.x7_boot.specs.declared.boots.BootEnd.{BootEnd};
 ghost use Rattle.x7_boot.specs.declared.boots.BootEnd.TheVariants as boot_end;
 
 /// An attempt that started made its checks, and so did the last one of a boot that started: an image starts only after its
@@ -17,8 +19,8 @@ pub fn starts_are_checked()
     ensures boot { (part : PartData) (flash : List ℕ) (b : BootedState) → AreBytes flash → (is : IsBoot part flash b) → b.end ≡ boot_end.Started → HasChecked part is.last.kept is.last.bytes }
 {}
 
-/// Startup has begun only behind its checks: after any bytes, at the end of an attempt, and at the end of a boot, also where
-/// it didn't start.
+/// Startup has begun only after its checks: after any bytes, at the end of an attempt, and at the end of a boot, also of one
+/// that didn't start.
 pub fn startup_is_checked()
     ensures state { (part : PartData) (kept : Kept) (wrapped : Bool) (bytes : List ℕ) → AreBytes bytes → 0 < (state_of part kept wrapped bytes).phase → HasChecked part kept bytes }
     ensures attempt { (part : PartData) (flash : List ℕ) (t : Trial) → AreBytes flash → IsTrial part flash t → 0 < (end_state part t).phase → HasChecked part t.kept t.bytes }
@@ -28,6 +30,19 @@ pub fn startup_is_checked()
 /// Every flash leads a boot of a part to an end.
 pub fn every_flash_boots()
     ensures { (part : PartData) (flash : List ℕ) → HasBoot part flash }
+{}
+
+/// An attempt that ended in the flash is one over each flash with the same bytes up to there.
+pub fn only_taken_bytes_count()
+    ensures { (part : PartData) (flash other : List ℕ) (t : Trial) → IsTrial part flash t → t.wrapped ≡ false
+        → take (end_of t) other ≡ take (end_of t) flash → IsTrial part other t }
+{}
+
+/// A boot has a course, and attempts through which the flash leads to an end are those of each course over it.
+pub fn one_course()
+    ensures boot { (part : PartData) (flash : List ℕ) (b : BootedState) → (boot : IsBoot part flash b) → IsCourse part flash (course_of b boot.last) }
+    ensures along { (part : PartData) (flash : List ℕ) (c : BootCourse) (last : Trial) (older : List Trial) (end : BootEnd) → IsCourse part flash c
+        → LeadsToEnd part flash (last ∷ older) end → c ≡ course_along last older end }
 {}
 
 /// A flash has one boot of a part: an attempt is determined by what it keeps and its address, and a boot's attempts, its

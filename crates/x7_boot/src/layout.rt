@@ -1,13 +1,15 @@
 //! A flash image with a golden and an update stream.
-ghost use Rattle.std.specs.Prelude.{◌≡◌, ◌+◌, ◌*◌, ◌/◌, ◌<◌, ◌≤◌, ◌++◌, ◌↔◌, length, Err, IfOk, IfSome, OnOk, IfNone};
+ghost use Rattle.std.specs.Prelude.{◌≡◌, ◌+◌, ◌-◌, ◌*◌, ◌/◌, ◌<◌, ◌≤◌, ◌++◌, ◌↔◌, length, Err, IfOk, IfSome, OnOk, IfNone};
+ghost use Rattle.x7_packets.specs.FlashSlot.{sector_bytes};
 ghost use Rattle.x7_boot.specs.Image.{closed_slots, filled_to, first_sector, flash_limit, image_of, image_size, sector_from, slot, update_place};
 
 use crate::fault::ImageFault;
 use std::alloc::Global;
+use x7_packets::{DUMMY_WORD, SLOT_COUNT, SYNC_WORD, flash_slot};
 use x7_part::Part;
 use x7_words::{FLASH_LIMIT, NoMemory, SECTOR, bytes_of};
 
-/// The first place at or behind this one at which a sector begins.
+/// The first place at or after this one at which a sector begins.
 fn sector_from(place: u64) -> u64
     requires { place ≤ flash_limit }
     ensures value { result ≡ sector_from place }
@@ -16,7 +18,8 @@ fn sector_from(place: u64) -> u64
     (place + (SECTOR - 1)) / SECTOR * SECTOR
 }
 
-/// Where both streams end and begin: the update's place and the image's size, or none where it is larger than a flash may be.
+/// The update's place and the image's size in bytes, by the lengths of both streams; none where the image would be larger than
+/// a flash may be.
 fn places(golden: u64, update: u64) -> Option<(u64, u64)>
     ensures found { IfSome result (λ it. (it.0 ≡ update_place golden) × (it.1 ≡ image_size golden update) × (it.1 ≤ flash_limit)) }
     ensures none { IfNone result (flash_limit < image_size golden update) }
@@ -31,36 +34,30 @@ fn places(golden: u64, update: u64) -> Option<(u64, u64)>
     Some((place, sector_from(place + update)))
 }
 
-/// A slot of the first sector: a device that finds its sync word goes to the start address.
-#[rattlefmt::skip]
+/// A slot of the first sector, 32 bytes: a device that finds the slot's sync word goes to the start address.
 #[tactic(auto, unfolding(crate::specs::Image::slot))]
 fn slot(switch: u32, start: u32) -> [u8; 32]
     ensures { result ≡ slot switch start }
 {
-    let [s0, s1, s2, s3] = bytes_of(switch);
-    let [a0, a1, a2, a3] = bytes_of(start);
-    [
-        s0, s1, s2, s3, 0x20, 0x00, 0x00, 0x00, 0x30, 0x02, 0x00, 0x01, a0, a1, a2, a3, //
-        0x30, 0x00, 0x80, 0x01, 0x00, 0x00, 0x00, 0x0F, 0x30, 0x00, 0x80, 0x01, 0x00, 0x00, 0x00, 0x0D,
-    ]
+    flash_slot(bytes_of(switch), bytes_of(start))
 }
 
 /// All slots of a sector but the first, closed.
 #[tactic(auto, unfolding(crate::specs::Image::closed_slots, crate::specs::Image::slot))]
 fn closed_slots(alloc: Global, start: u32) -> Result<Vec<u8>, NoMemory>
     ensures items { IfOk result (λ all. all.items ≡ closed_slots start) }
-    ensures length { IfOk result (λ all. length all.items ≡ 65504) }
+    ensures length { IfOk result (λ all. length all.items ≡ sector_bytes - 32) }
 {
-    Ok(slot(0xFFFF_FFFF, start).repeat(alloc, 2047)?)
+    Ok(slot(DUMMY_WORD, start).repeat(alloc, SLOT_COUNT as usize - 1)?)
 }
 
 /// Appends the first sector.
 fn put_first_sector(alloc: Global, out: &mut Vec<u8>, start: u32) -> Result<(), NoMemory>
     ensures items { OnOk result (out.new.items ≡ out.old.items ++ first_sector start) }
-    ensures length { OnOk result (length out.new.items ≡ length out.old.items + 65536) }
+    ensures length { OnOk result (length out.new.items ≡ length out.old.items + sector_bytes) }
 {
     let closed = closed_slots(alloc, start)?;
-    out.extend_from_slice(&slot(0xAA99_5566, start))?;
+    out.extend_from_slice(&slot(SYNC_WORD, start))?;
     out.extend_from_slice(&closed)?;
     Ok(())
 }
@@ -75,7 +72,7 @@ fn fill(out: &mut Vec<u8>, place: u64) -> Result<(), NoMemory>
     Ok(())
 }
 
-/// The image of this size, with the update at its place, to which the first sector leads by this start address.
+/// The image of `size` bytes, with the update at its place, to which the first sector leads by the start address `start`.
 fn whole(
     alloc: Global,
     start: u32,
@@ -84,7 +81,7 @@ fn whole(
     update: &[u8],
     size: u64,
 ) -> Result<Vec<u8>, NoMemory>
-    requires golden { length golden.now + 65536 ≤ place }
+    requires golden { length golden.now + sector_bytes ≤ place }
     requires update { place + length update.now ≤ size }
     ensures { IfOk result (λ all. all.items ≡ filled_to size (filled_to place (first_sector start ++ golden.now) ++ update.now)) }
 {
@@ -97,7 +94,7 @@ fn whole(
     Ok(all)
 }
 
-/// The image of two streams, for a part of which one step of the start address stands for so many bytes.
+/// The image of two streams, for a part of which one step of the start address stands for `unit` bytes.
 fn image_by(alloc: Global, unit: u32, golden: &[u8], update: &[u8]) -> Result<Vec<u8>, ImageFault>
     requires { 0 < unit }
     ensures bytes { IfOk result (λ all. all.items ≡ image_of unit golden.now update.now) }
@@ -114,8 +111,8 @@ fn image_by(alloc: Global, unit: u32, golden: &[u8], update: &[u8]) -> Result<Ve
 }
 
 /// The flash image of a golden and an update stream, for parts whose start address counts bytes: the first sector leads to
-/// the update, and a device whose update fails falls back to the golden one (UG470, MultiBoot; the layout is this project's
-/// choice).
+/// the update, and a device whose update fails falls back to the golden one (UG470, MultiBoot and fallback; the layout is
+/// this project's choice).
 pub fn image(alloc: Global, golden: &[u8], update: &[u8]) -> Result<Vec<u8>, ImageFault>
     ensures bytes { IfOk result (λ all. all.items ≡ image_of 1 golden.now update.now) }
     ensures too_long { (result ≡ Err ImageFault.TooLong) ↔ (flash_limit < image_size (length golden.now) (length update.now)) }
@@ -123,7 +120,8 @@ pub fn image(alloc: Global, golden: &[u8], update: &[u8]) -> Result<Vec<u8>, Ima
     image_by(alloc, 1, golden, update)
 }
 
-/// The same for a part, by the unit of its start address.
+/// The flash image of a golden and an update stream for a part, by the number of bytes that one step of the part's start
+/// address stands for.
 pub fn image_for(
     alloc: Global,
     part: &Part,

@@ -15,7 +15,10 @@ mod trial;
 pub use attempt::Ending;
 pub use boots::{BootEnd, Booted, Tried, boot};
 pub use fault::{BootFault, ImageFault};
-pub use law::{every_flash_boots, one_boot, starts_are_checked, startup_is_checked};
+pub use law::{
+    every_flash_boots, one_boot, one_course, only_taken_bytes_count, starts_are_checked,
+    startup_is_checked,
+};
 pub use layout::{image, image_for};
 pub use next::Next;
 pub use text::boot_lines;

@@ -20,7 +20,7 @@ const ATTEMPTS: u32 = 16;
 /// What comes after an attempt of a boot.
 #[derive(Clone, Copy)]
 pub enum Next {
-    /// An attempt that keeps this, at this address.
+    /// One attempt more, by what its device keeps and where it begins.
     Again {
         /// What the device keeps over the reset.
         kept: Kept,
@@ -38,7 +38,7 @@ fn forbids_fallback(ctl0: u32) -> bool
     ctl0 / 1_024 % 2 == 1
 }
 
-/// The place in the flash that WBSTAR names, for a part whose start addresses count steps of so many bytes.
+/// The place in the flash, in bytes, that WBSTAR names, for a part whose start addresses count steps of `unit` bytes.
 fn start_address(unit: u32, wbstar: u32) -> u32
     ensures { result ≡ start_address unit wbstar }
 {
@@ -59,7 +59,7 @@ pub(crate) fn is_a_fallback(kind: Kind) -> bool
     }
 }
 
-/// What comes after the attempt of this number, of this kind, which ended so.
+/// What comes after attempt `number`, from 1, by its kind, its ending and its device.
 pub(crate) fn next_of(device: &Device, kind: Kind, number: u32, ending: Ending) -> Next
     ensures table { (part : PartData) (t : Trial) → IsDeviceOf part device.now t → t.kept.kind ≡ kind → result ≡ next_by part number t ending }
     ensures boots { (kept : KeptData) (address : ℕ) → result ≡ next.Again kept address → kept.kind ≡ Bench → ⊥ }

@@ -6,13 +6,13 @@ ghost use Rattle.x7_boot.specs.Pages.{IsBlock, block_pages, page_size};
 use crate::fault::BootFault;
 use x7_words::Flash;
 
-/// The bytes of a page.
+/// The number of bytes of a page.
 pub(crate) const PAGE: u64 = 4_096;
 
 /// The most pages that are read at once.
 pub(crate) const BLOCK_PAGES: u64 = 16;
 
-/// Reads so many pages, from a number on, up to the flash's end.
+/// Reads `count` pages of a flash, from page `number` on, up to the flash's end where that comes first.
 pub(crate) fn read_block<F: Flash>(
     flash: &mut F,
     number: u64,

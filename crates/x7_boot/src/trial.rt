@@ -19,7 +19,7 @@ use x7_engine::{Device, Kept};
 use x7_regs::Cause;
 use x7_words::Flash;
 
-/// Ends an attempt in which the flash has ended.
+/// Ends an attempt in which the flash has ended: by the failure of a wrap.
 fn run_out(device: &mut Device) -> Ending
     requires { MayWrap device.old }
     ensures ending { result ≡ ending.Failed Wrap }

@@ -1,4 +1,4 @@
--- Tables for several bits of the running check at once.
+-- Tables for several bits of the running check at once (this project's choice).
 use Rattle.std.specs.Prelude.{ℕ, ◌==◌, ◌+◌, Bool, true, ◌&&◌, List, [], ◌∷◌, length}
 use Rattle.x7_crc.specs.ShiftRegister.{advanced}
 

@@ -17,14 +17,14 @@ pub record IsSum (check held : ℕ) (h : History) : Type 0 where
   pub check_is : check ≡ running_check h
   pub held_is : held ≡ command_held h
 
--- the same of the history of these bytes, which the cutter took
+-- `check` and `held` are the check and the command held of the history of `bytes`, which the cutter took
 pub record Checks (cutter : CutterState) (check held : ℕ) (bytes : List ℕ) : Type 0 where
   pub sessions : List Session
   pub place : Place
   pub stands : CutterStandsFor cutter bytes sessions place
   pub sum : IsSum check held (history_of bytes)
 
--- what a checker of pieces keeps
+-- what a checker of pieces keeps: a cutter, the check of its bytes, and the command that CMD holds
 pub record PieceCheckerState : Type 0 where
   pub cutter : CutterState
   pub check : ℕ

@@ -1,5 +1,5 @@
 -- Polynomials over two elements, as numbers: bit i of the number is the coefficient of x^i. So the sum of two is `bit_xor`,
--- and x^n times one is the number times 2^n.
+-- and x^n times one is the number times 2^n (this project's choice).
 use Rattle.std.specs.Prelude.{◌≡◌, ℕ, zero, suc, ◌+◌, ◌*◌, ◌/◌, ◌%◌, ◌^◌, ◌<◌, Bool, List, [], ◌∷◌, length, bit_xor, nat_lt, if◌then◌else◌}
 
 -- the coefficient that a bit stands for

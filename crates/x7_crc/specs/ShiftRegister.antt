@@ -1,4 +1,5 @@
--- The shift register that computes the running check, a bit at a time.
+-- The shift register that computes the running check, a bit at a time (UG470, cyclic redundancy check; the polynomial is
+-- this project's choice).
 use Rattle.std.specs.Prelude.{ℕ, zero, suc, ◌*◌, ◌/◌, ◌%◌, Bool, List, [], ◌∷◌, bit_xor}
 use Rattle.x7_crc.specs.Polynomial.{digit}
 
@@ -6,7 +7,7 @@ use Rattle.x7_crc.specs.Polynomial.{digit}
 abbrev pub shifted : ℕ → Bool → ℕ
 shifted v b = bit_xor (v / 2) (bit_xor (v % 2) (digit b) * 0x82F63B78)
 
--- the register after these bits
+-- the register after a list of bits, the first taken first
 abbrev pub shifted_all : ℕ → List Bool → ℕ
 shifted_all v [] = v
 shifted_all v (b ∷ bs) = shifted_all (shifted v b) bs

@@ -142,7 +142,7 @@ pub(crate) static FIRST: [[u32; 256]; 4] = [
     ],
 ];
 
-/// The same of the second word: after 87, 95, 103 and 111.
+/// For each byte of the second of four words, the highest first, the check after 87 bits of 0, 95, 103 and 111.
 #[rattlefmt::skip]
 pub(crate) static SECOND: [[u32; 256]; 4] = [
     [
@@ -283,7 +283,7 @@ pub(crate) static SECOND: [[u32; 256]; 4] = [
     ],
 ];
 
-/// Of the third: after 50, 58, 66 and 74.
+/// For each byte of the third of four words, the highest first, the check after 50 bits of 0, 58, 66 and 74.
 #[rattlefmt::skip]
 pub(crate) static THIRD: [[u32; 256]; 4] = [
     [
@@ -424,7 +424,7 @@ pub(crate) static THIRD: [[u32; 256]; 4] = [
     ],
 ];
 
-/// Of the last: after 13, 21, 29 and 37.
+/// For each byte of the last of four words, the highest first, the check after 13 bits of 0, 21, 29 and 37.
 #[rattlefmt::skip]
 pub(crate) static LAST: [[u32; 256]; 4] = [
     [

@@ -29,7 +29,7 @@ pub fn fold_slice(prev: u32, reg: u8, bytes: &[u8]) -> u32
     fold_words(fold_blocks(prev, reg, blocks), reg, rest)
 }
 
-/// The same of words that stand four in a block.
+/// The check after writes of blocks to one register, in order: a block is 16 bytes, four words.
 fn fold_blocks(prev: u32, reg: u8, blocks: &[[u8; 16]]) -> u32
     requires register { reg < 32 }
     ensures { result ≡ check_after prev (writes_to reg (flat_map words_of_bytes blocks.now)) }
@@ -43,7 +43,7 @@ fn fold_blocks(prev: u32, reg: u8, blocks: &[[u8; 16]]) -> u32
     sum
 }
 
-/// The same word by word.
+/// The check after writes of whole words to one register, four bytes each, taken word by word.
 #[tactic(auto, using(x7_words::proofs::WordLemmas::words_by_chunks))]
 fn fold_words(prev: u32, reg: u8, bytes: &[u8]) -> u32
     requires { reg < 32 }

@@ -117,7 +117,7 @@ fn after(sum: Sum, run: Cut) -> Sum
     }
 }
 
-/// Keeps the check of bytes that come piece by piece. It holds none of them.
+/// Keeps the check of bytes that come piece by piece, and holds none of the bytes.
 #[derive(Drop)]
 pub struct PieceChecker {
     cutter: Cutter,
@@ -133,7 +133,7 @@ impl Model for PieceChecker {
 }
 
 impl PieceChecker {
-    /// One of no bytes.
+    /// A checker that has taken no piece.
     pub fn new() -> PieceChecker
         ensures { HasTaken result [] }
     {
@@ -143,7 +143,7 @@ impl PieceChecker {
         }
     }
 
-    /// Takes a piece more.
+    /// Takes one piece of bytes more.
     pub fn take(&mut self, piece: &[u8])
         ensures { (bytes : List ℕ) → HasTaken self.old bytes → HasTaken self.new (bytes ++ piece.now) }
     {
@@ -175,7 +175,7 @@ impl Model for Checker {
 }
 
 impl Checker {
-    /// One of no bytes.
+    /// A checker of no bytes.
     pub fn new() -> Checker
         ensures { Keeps result [] }
     {

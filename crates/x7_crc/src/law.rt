@@ -28,7 +28,7 @@ pub fn checks_are_linear()
     ensures { (before register word : ℕ) → before < 2 ^ 32 → register < 2 ^ 5 → word < 2 ^ 32 → folded before register word ≡ folded 0 register (bit_xor word before) }
 {}
 
-/// The running check of a history begins at 0, is 0 behind an access that clears it, goes on by each other write but that of
+/// The running check of a history begins at 0, is 0 after an access that clears it, goes on by each other write but that of
 /// LOUT, and stays at all else.
 pub fn checks_of_histories()
     ensures begins { running_check [] ≡ 0 }

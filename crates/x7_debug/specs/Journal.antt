@@ -45,12 +45,16 @@ pub record IsFed (old new : DeviceState) (count : ℕ) : Type 0 where
   pub never_less : fed_of old ≤ fed_of new
   pub most : fed_of new ≤ fed_of old + count
 
+-- how many bytes before a position records lead back to: 63 of four bytes, and one of a byte
+abbrev pub reach : ℕ
+reach = 253
+
 -- how far records lead back after a move, and how many bytes the device was fed in it
 pub record GoesWith (old new : SessionState) : Type 0 where
   pub stays_oldest : new.at ≡ old.at → new.oldest ≡ old.oldest
-  pub forward_oldest : old.at < new.at → new.oldest ≤ max old.at (new.at - 253)
+  pub forward_oldest : old.at < new.at → new.oldest ≤ max old.at (new.at - reach)
   pub near_oldest : new.at < old.at → old.oldest ≤ new.at → new.oldest ≡ old.oldest
-  pub far_oldest : new.at < old.oldest → new.oldest ≤ new.at - 253
+  pub far_oldest : new.at < old.oldest → new.oldest ≤ new.at - reach
   pub never_less : old.fed ≤ new.fed
   pub stays_fed : new.at ≡ old.at → new.fed ≡ old.fed
   pub forward_fed : old.at ≤ new.at → new.fed ≤ old.fed + (new.at - old.at)

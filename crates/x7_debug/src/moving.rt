@@ -3,7 +3,7 @@ ghost use Rattle.std.specs.Prelude.{◌≡◌, ◌≤◌, ◌<◌, ◌+◌, ◌-
 ghost use Rattle.x7_engine.specs.Past.{OfPast};
 ghost use Rattle.x7_engine.specs.Standing.{NoWordDue, fed_of};
 ghost use Rattle.x7_engine.specs.Undo.{UndoState};
-ghost use Rattle.x7_debug.specs.Journal.{GoesWith, IsFed, IsOn, oldest_by, records_of};
+ghost use Rattle.x7_debug.specs.Journal.{GoesWith, IsFed, IsOn, oldest_by, reach, records_of};
 ghost use Rattle.x7_debug.specs.Kept.{session_of};
 ghost use Rattle.x7_debug.specs.Position.{last_of};
 ghost use Rattle.x7_debug.specs.Session.{StandsAt, TakesPiece};
@@ -88,7 +88,7 @@ fn go_by_words(device: &mut Device, journal: &mut Journal, stream: &[u8], to: u6
     ensures taken { device.new.taken ≡ to }
     ensures part { device.new.part ≡ device.old.part }
     ensures fed { IsFed device.old device.new (device.new.taken - device.old.taken) }
-    ensures oldest { oldest_by device.new.taken (records_of journal.new) ≤ max device.old.taken (to - 253) }
+    ensures oldest { oldest_by device.new.taken (records_of journal.new) ≤ max device.old.taken (to - reach) }
 {
     while to - device.taken() >= 4 {
         let next = device.taken() + 4;
@@ -122,7 +122,7 @@ fn go_forward(device: &mut Device, journal: &mut Journal, stream: &[u8], to: u64
     ensures taken { device.new.taken ≡ to }
     ensures part { device.new.part ≡ device.old.part }
     ensures fed { IsFed device.old device.new (device.new.taken - device.old.taken) }
-    ensures oldest { oldest_by device.new.taken (records_of journal.new) ≤ max device.old.taken (to - 253) }
+    ensures oldest { oldest_by device.new.taken (records_of journal.new) ≤ max device.old.taken (to - reach) }
 {
     if to - device.taken() > REACH {
         leap(device, journal, stream, to - REACH);
@@ -151,7 +151,7 @@ fn replay(device: &mut Device, journal: &mut Journal, stream: &[u8], to: u64)
     ensures taken { device.new.taken ≡ to }
     ensures part { device.new.part ≡ device.old.part }
     ensures fed { IsFed device.old device.new to }
-    ensures oldest { oldest_by device.new.taken (records_of journal.new) ≤ to - 253 }
+    ensures oldest { oldest_by device.new.taken (records_of journal.new) ≤ to - reach }
 {
     begin_again(device, journal, stream);
     go_forward(device, journal, stream, to);

@@ -1,7 +1,7 @@
 //! A device is brought forward to the first position where a stop holds.
 ghost use Rattle.std.specs.Prelude.{◌≡◌, ◌≤◌, ◌<◌, ◌+◌, ◌-◌, ◌∷◌, ℕ, List, true, false, take, max};
 ghost use Rattle.x7_engine.specs.Undo.{UndoState};
-ghost use Rattle.x7_debug.specs.Journal.{GoesWith, IsFed, IsOn, oldest_by, records_of};
+ghost use Rattle.x7_debug.specs.Journal.{GoesWith, IsFed, IsOn, oldest_by, reach, records_of};
 ghost use Rattle.x7_debug.specs.Kept.{session_of};
 ghost use Rattle.x7_debug.specs.Position.{BeginsAtSoonest, holds_at, holds_in, last_of, until_of};
 ghost use Rattle.x7_debug.specs.declared.order.Stop.TheVariants as to;
@@ -91,7 +91,7 @@ fn forward_until(device: &mut Device, journal: &mut Journal, stream: &[u8], last
     ensures fed { IsFed device.old device.new (device.new.taken - device.old.taken) }
     ensures taken { device.new.taken ≡ until_of device.old.part stream.now stop device.old.taken }
     ensures forward { device.old.taken < device.new.taken }
-    ensures oldest { oldest_by device.new.taken (records_of journal.new) ≤ max device.old.taken (device.new.taken - 253) }
+    ensures oldest { oldest_by device.new.taken (records_of journal.new) ≤ max device.old.taken (device.new.taken - reach) }
 {
     while device.taken() < last {
         if seek_word(device, journal, stream, last, stop) {
@@ -135,7 +135,7 @@ fn forward_to_phase(
     ensures fed { IsFed device.old device.new (device.new.taken - device.old.taken) }
     ensures taken { device.new.taken ≡ until_of device.old.part stream.now (to.Phase phase) device.old.taken }
     ensures forward { device.old.taken < device.new.taken }
-    ensures oldest { oldest_by device.new.taken (records_of journal.new) ≤ max device.old.taken (device.new.taken - 253) }
+    ensures oldest { oldest_by device.new.taken (records_of journal.new) ≤ max device.old.taken (device.new.taken - reach) }
 {
     leap_near(device, journal, stream, outline.begins);
     forward_until(device, journal, stream, outline.last, Stop::Phase(phase));
@@ -158,7 +158,7 @@ fn go_to_phase(
     ensures fed { IsFed device.old device.new (device.new.taken - device.old.taken) }
     ensures taken { device.new.taken ≡ until_of device.old.part stream.now (to.Phase phase) device.old.taken }
     ensures forward { device.old.taken < device.new.taken }
-    ensures oldest { oldest_by device.new.taken (records_of journal.new) ≤ max device.old.taken (device.new.taken - 253) }
+    ensures oldest { oldest_by device.new.taken (records_of journal.new) ≤ max device.old.taken (device.new.taken - reach) }
 {
     if phase == 0 {
         return forward_until(device, journal, stream, outline.last, Stop::Phase(phase));

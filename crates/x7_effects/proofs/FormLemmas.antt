@@ -8,6 +8,7 @@ use Rattle.std.proofs.lemmas.Bool.Decides.{eqb_tells}
 use Rattle.x7_memory.proofs.ZeroLemmas.{zero_words}
 use Rattle.x7_words.specs.Word.{AreWords, AreBytes}
 use Rattle.x7_words.proofs.ListLemmas.{all-append}
+use Rattle.x7_packets.specs.PacketWords.{no_op, sync_word}
 use Rattle.x7_packets.specs.Packet.{NoneEnds, ends_session}
 use Rattle.x7_part.specs.AddressOrder.{addresses_in}
 use Rattle.x7_part.specs.Part.{PartData, frame_words}
@@ -18,7 +19,7 @@ use Rattle.x7_part.specs.declared.slot.Slot.TheVariants.{Frame, Pad, End}
 use Rattle.x7_part.proofs.PartLemmas.{slots_count}
 use Rattle.x7_memory.specs.Planned.{PlanRow, PlanData, IsPlan, planned, planned_addresses}
 use Rattle.x7_memory.proofs.PlanLemmas.{planned_here, planned_behind}
-use Rattle.x7_effects.proofs.Items.{Item, Write, WriteLong, items_entered, item_words, sync_word, items_words, bytes_of_words, closed, opened, desync, bus_width_head}
+use Rattle.x7_effects.proofs.Items.{Item, Write, WriteLong, items_entered, item_words, items_words, bytes_of_words, closed, opened, desync, bus_width_head}
 use Rattle.x7_effects.proofs.Checking.{Checking, Piece, Put, Check, IsPiece, ArePieces, ClearFirst, at_first, with_checks, piece_item, piece_length, pieces_length, after_item}
 use Rattle.x7_effects.proofs.Frames.{joined, AreWide, zero_frame, frame_of, frames_at, row_frames}
 use Rattle.x7_planner.specs.Partial.{Stretch, Copies, Rows}
@@ -193,9 +194,9 @@ read_clears part far n c = refl
 pub closed_length : (leading : List ℕ) (items : List Item) (k : ℕ) → length (bytes_of_words (closed leading items k)) ≡ 4 * length leading + 4 + 4 * length (items_words items) + 8 + 4 * k
 closed_length leading items k =
     let words : length (items_words (items ++ desync ∷ [])) ≡ length (items_words items) + 2 = ap length (flat_map-append item_words items (desync ∷ [])) ∙ length-append (items_words items) (items_words (desync ∷ [])) in
-    omega (arith, bytes_count (closed leading items k), length-append (opened leading (items ++ desync ∷ [])) (replicate k 0x20000000), length-append leading (sync_word ∷ items_words (items ++ desync ∷ [])), words, noops k)
+    omega (arith, bytes_count (closed leading items k), length-append (opened leading (items ++ desync ∷ [])) (replicate k no_op), length-append leading (sync_word ∷ items_words (items ++ desync ∷ [])), words, noops k)
   where
-    noops : (k : ℕ) → length (replicate {A = ℕ} k 0x20000000) ≡ k
+    noops : (k : ℕ) → length (replicate {A = ℕ} k no_op) ≡ k
     noops zero = refl
     noops (suc k) = omega (arith, noops k)
 

@@ -25,8 +25,10 @@ use Rattle.x7_engine.specs.declared.kept.Kept.{Kept}
 use Rattle.x7_engine.specs.Registers.{is_pending}
 use Rattle.x7_engine.specs.Rest.{AtRest}
 use Rattle.x7_engine.specs.Startup.{phase_by, phase_of, startup_progress}
-use Rattle.x7_engine.specs.Stops.{why_by_access, asks_decryption, has_dec, why_at, or_else, stop_of, stopped_at}
+use Rattle.x7_engine.specs.Stops.{why_by_access, asks_decryption, has_dec, why_at, stop_of}
 use Rattle.x7_engine.proofs.MaskLemmas.{bit_step}
+use Rattle.x7_engine.proofs.PassesLemmas.{went_past}
+use Rattle.x7_engine.proofs.StateLemmas.{parts_none}
 use Rattle.x7_effects.proofs.Items as item
 use Rattle.x7_effects.proofs.Items.{WriteLong, Write, item_entered, writes_entered}
 use Rattle.x7_effects.proofs.Checking.{Check, Piece, Put, piece_length, pieces_length}
@@ -49,13 +51,6 @@ use Rattle.x7_effects.proofs.StretchLemmas.{IsTarget}
 use Rattle.x7_effects.proofs.WalkLemmas.{HasWritten, IsLoaded, IsReady, going_one, loaded_words, quiet_one, ready_load}
 
 -- ---- CTL0 never has DEC where there is no stop
-
-both_none : {A : Type 0} (a b : Option A) → or_else a b ≡ None → (a ≡ None) × (b ≡ None)
-both_none None b e = (refl, e)
-both_none (Some x) b e = absurd (cc)
-
-no_why : (part : PartData) (kept : Kept) (h : History) (a : Access) (place : ℕ) → stopped_at place (why_at part kept h a) ≡ None → why_at part kept h a ≡ None
-no_why part kept h a place e = elim (why_at part kept h a) as (λ o. stopped_at place o ≡ None → o ≡ None) [ None ↦ λ e. refl | Some x ↦ λ e. absurd (cc) ] e
 
 second_test : {A : Type 0} (a b : Bool) (s t : A) (x : Option A) → (if a then Some s else if b then Some t else x) ≡ None → b ≡ false
 second_test true b s t x e = absurd (cc)
@@ -82,9 +77,8 @@ dec_step part kept h (access.Write r w) d e = by (r == 5) refl
 no_dec : (part : PartData) (kept : Kept) (h : History) (n : ℕ) → stop_of part kept h n ≡ None → has_dec (ctl0_held h) ≡ false
 no_dec part kept [] n s = refl
 no_dec part kept (e ∷ h) n s =
-    let parts = both_none (stop_of part kept h e.place) _ s in
-    let why : why_at part kept h e.access ≡ None = no_why part kept h e.access e.place (both_none (stopped_at e.place (why_at part kept h e.access)) _ parts.1).0 in
-    dec_step part kept h e.access (no_dec part kept h e.place parts.0) (both_none (why_by_access part kept h e.access) _ why).0
+    let past : (stop_of part kept h e.place ≡ None) × (why_at part kept h e.access ≡ None) = went_past part kept h e n s in
+    dec_step part kept h e.access (no_dec part kept h e.place past.0) (parts_none (why_by_access part kept h e.access) _ past.1).0
 
 -- ---- the bits of CTL0 that a full stream leaves as they were
 

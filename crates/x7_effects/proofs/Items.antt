@@ -3,6 +3,7 @@ use Rattle.std.specs.Prelude.{ℕ, ◌+◌, ◌*◌, ◌^◌, ◌<◌, List, [],
 use Rattle.std.specs.List.{flat_map, AllByRecursion}
 use Rattle.x7_words.specs.Word.{AreWords, bytes_of_word}
 use Rattle.x7_packets.specs.Appended.{LacksFirst}
+use Rattle.x7_packets.specs.PacketWords.{bus_width_detect, bus_width_sync, dummy_word, no_op, sync_word, type1_read, type1_write, type2_read, type2_write}
 use Rattle.x7_packets.specs.Packet.{NoneEnds}
 use Rattle.x7_packets.specs.History as access
 use Rattle.x7_packets.specs.History.{History, entry}
@@ -16,27 +17,14 @@ pub data Item : Type 0 where
   Read : (register count : ℕ) → Item
   ReadLong : (register count : ℕ) → Item
 
--- header words: a type 1 write and read of a register, and a type 2 write and read
-abbrev pub write_header : ℕ → ℕ → ℕ
-write_header register count = 0x30000000 + 8192 * register + count
-
-abbrev pub read_header : ℕ → ℕ → ℕ
-read_header register count = 0x28000000 + 8192 * register + count
-
-abbrev pub long_write_header : ℕ → ℕ
-long_write_header count = 0x50000000 + count
-
-abbrev pub long_read_header : ℕ → ℕ
-long_read_header count = 0x48000000 + count
-
 -- the words of an item
 abbrev pub item_words : Item → List ℕ
-item_words Noop = 0x20000000 ∷ []
-item_words Dummy = 0xFFFFFFFF ∷ []
-item_words (Write register ws) = write_header register (length ws) ∷ ws
-item_words (WriteLong register ws) = write_header register 0 ∷ long_write_header (length ws) ∷ ws
-item_words (Read register count) = read_header register count ∷ []
-item_words (ReadLong register count) = read_header register 0 ∷ long_read_header count ∷ []
+item_words Noop = no_op ∷ []
+item_words Dummy = dummy_word ∷ []
+item_words (Write register ws) = type1_write register (length ws) ∷ ws
+item_words (WriteLong register ws) = type1_write register 0 ∷ type2_write (length ws) ∷ ws
+item_words (Read register count) = type1_read register count ∷ []
+item_words (ReadLong register count) = type1_read register 0 ∷ type2_read count ∷ []
 
 abbrev pub items_words : List Item → List ℕ
 items_words items = flat_map item_words items
@@ -76,10 +64,7 @@ items_entered place (i ∷ items) h = items_entered (place + 4 * length (item_wo
 abbrev pub desync : Item
 desync = Write 4 (13 ∷ [])
 
--- the sync word, and the bytes of words
-abbrev pub sync_word : ℕ
-sync_word = 0xAA995566
-
+-- the bytes of words
 abbrev pub bytes_of_words : List ℕ → List ℕ
 bytes_of_words ws = flat_map bytes_of_word ws
 
@@ -89,7 +74,7 @@ opened leading items = leading ++ sync_word ∷ items_words items
 
 -- the same, then DESYNC and so many no-ops
 abbrev pub closed : List ℕ → List Item → ℕ → List ℕ
-closed leading items noops = opened leading (items ++ desync ∷ []) ++ replicate noops 0x20000000
+closed leading items noops = opened leading (items ++ desync ∷ []) ++ replicate noops no_op
 
 -- words that may lead: the first byte of the sync word is not among their bytes
 pub record MayLead (leading : List ℕ) : Type 0 where
@@ -98,4 +83,4 @@ pub record MayLead (leading : List ℕ) : Type 0 where
 
 -- four dummy words, the bus width pattern and two dummy words
 abbrev pub bus_width_head : List ℕ
-bus_width_head = 0xFFFFFFFF ∷ 0xFFFFFFFF ∷ 0xFFFFFFFF ∷ 0xFFFFFFFF ∷ 0x000000BB ∷ 0x11220044 ∷ 0xFFFFFFFF ∷ 0xFFFFFFFF ∷ []
+bus_width_head = dummy_word ∷ dummy_word ∷ dummy_word ∷ dummy_word ∷ bus_width_sync ∷ bus_width_detect ∷ dummy_word ∷ dummy_word ∷ []

@@ -18,9 +18,11 @@ use Rattle.x7_part.specs.declared.slot.Slot.{Slot}
 use Rattle.x7_part.specs.declared.slot.Slot.TheVariants.{Frame, Pad, End}
 use Rattle.x7_memory.specs.Planned.{IsPlan, PlanData, PlanRow, planned_addresses}
 use Rattle.x7_planner.specs.Stream as planner
+use Rattle.x7_packets.specs.PacketWords as packet_words
 use Rattle.x7_planner.specs.Full as full
 use Rattle.x7_planner.specs.Readback as readback
-use Rattle.x7_effects.proofs.Items.{AreItems, Item, Write, WriteLong, bus_width_head, bytes_of_words, closed, desync, item_words, items_entered, items_words, opened, sync_word}
+use Rattle.x7_packets.specs.PacketWords.{sync_word}
+use Rattle.x7_effects.proofs.Items.{AreItems, Item, Write, WriteLong, bus_width_head, bytes_of_words, closed, desync, item_words, items_entered, items_words, opened}
 use Rattle.x7_effects.proofs.Items as item
 use Rattle.x7_effects.proofs.Checking.{ArePieces, Check, Checking, IsPiece, Piece, Put, after_items, at_first, checking_of, piece_item, with_checks}
 use Rattle.x7_effects.proofs.Frames.{frame_of, frames_at, joined, row_frames, zero_frame}
@@ -81,13 +83,13 @@ spelled_all prefix (p ∷ pieces) f g =
     ∙ ap bytes_so (append_assoc prefix (p ∷ []) pieces)
 
 -- DESYNC and the no-ops
-spelled_end : (pieces : List Piece) (noops : ℕ) → planner.with_piece (bytes_so pieces) (planner.Words ((planner.command Desync) ++ replicate noops planner.no_op)) ≡ stream_of pieces noops
+spelled_end : (pieces : List Piece) (noops : ℕ) → planner.with_piece (bytes_so pieces) (planner.Words ((packet_words.command Desync) ++ replicate noops packet_words.no_op)) ≡ stream_of pieces noops
 spelled_end pieces noops =
     let items : List Item = with_checks at_first pieces in
-    ap (λ t. bytes_so pieces ++ t) (flat_map-append bytes_of_word (planner.command Desync) (replicate noops planner.no_op))
-    ∙ sym (append_assoc (bytes_so pieces) (bytes_of_words (planner.command Desync)) (bytes_of_words (replicate noops planner.no_op)))
-    ∙ ap (λ t. t ++ bytes_of_words (replicate noops planner.no_op)) (sym (item_more items desync))
-    ∙ sym (flat_map-append bytes_of_word (opened bus_width_head (items ++ desync ∷ [])) (replicate noops planner.no_op))
+    ap (λ t. bytes_so pieces ++ t) (flat_map-append bytes_of_word (packet_words.command Desync) (replicate noops packet_words.no_op))
+    ∙ sym (append_assoc (bytes_so pieces) (bytes_of_words (packet_words.command Desync)) (bytes_of_words (replicate noops packet_words.no_op)))
+    ∙ ap (λ t. t ++ bytes_of_words (replicate noops packet_words.no_op)) (sym (item_more items desync))
+    ∙ sym (flat_map-append bytes_of_word (opened bus_width_head (items ++ desync ∷ [])) (replicate noops packet_words.no_op))
 
 -- words at once and one after the other
 words_twice : (b xs ys : List ℕ) → planner.with_piece b (planner.Words (xs ++ ys)) ≡ planner.with_piece (planner.with_piece b (planner.Words xs)) (planner.Words ys)
@@ -119,8 +121,8 @@ closing = Check ∷ command Lfrm ∷ command Start ∷ Check ∷ []
 -- the words before frame data of so many words
 abbrev words_before : PartData → ℕ → List ℕ
 words_before part count =
-    planner.head ++ ((planner.command Shutdown) ++ ((planner.command Rcrc) ++ (planner.no_op ∷ (planner.write_one Idcode part.idcode ++ (planner.write_one Cor0 0x02003FE5 ++ (planner.write_one Mask 0x501 ++ (planner.write_one Ctl0 0x101
-    ++ ((planner.command Wcfg) ++ (planner.write_one Far (get_or (addresses_in part) 0 0) ++ planner.frame_data count)))))))))
+    planner.head ++ ((packet_words.command Shutdown) ++ ((packet_words.command Rcrc) ++ (packet_words.no_op ∷ (packet_words.write_one Idcode part.idcode ++ (packet_words.write_one Cor0 0x02003FE5 ++ (packet_words.write_one Mask 0x501 ++ (packet_words.write_one Ctl0 0x101
+    ++ ((packet_words.command Wcfg) ++ (packet_words.write_one Far (get_or (addresses_in part) 0 0) ++ packet_words.frame_data count)))))))))
 
 opening_same : (part : PartData) (ws : List ℕ) → opened bus_width_head (with_checks at_first (opening part ws)) ≡ words_before part (length ws) ++ (ws ++ [])
 opening_same part ws = refl
@@ -140,7 +142,7 @@ full_same part plan is p e =
     let prefix_fits : ArePieces prefix = (fits.0, (fits.1.0, (fits.1.1.0, (fits.1.1.1.0, (fits.1.1.1.1.0, (fits.1.1.1.1.1.0, (fits.1.1.1.1.1.1.0, (fits.1.1.1.1.1.1.1.0, (fits.1.1.1.1.1.1.1.1.0, (fits.1.1.1.1.1.1.1.1.1.0, (fits.1.1.1.1.1.1.1.1.1.1.0, tt))))))))))) in
     let closing_fits : ArePieces closing = fits.1.1.1.1.1.1.1.1.1.1.1 in
     ap (λ b. fold planner.with_piece b (planner.Check ∷ planner.Words full.start_words ∷ planner.Check ∷ planner.Words full.full_ending ∷ [])) first
-    ∙ ap (λ b. planner.with_piece (planner.with_piece b planner.Check) (planner.Words full.full_ending)) (words_twice (planner.with_piece (bytes_so prefix) planner.Check) (planner.command Lfrm) (planner.command Start))
+    ∙ ap (λ b. planner.with_piece (planner.with_piece b planner.Check) (planner.Words full.full_ending)) (words_twice (planner.with_piece (bytes_so prefix) planner.Check) (packet_words.command Lfrm) (packet_words.command Start))
     ∙ ap (λ b. planner.with_piece b (planner.Words full.full_ending)) (spelled_all prefix closing prefix_fits closing_fits)
     ∙ spelled_end (full_pieces part plan) 16
 
@@ -172,13 +174,13 @@ HasWidth part (stretch.Rows rows) = AllByRecursion (λ row. length row.words ≡
 stretch_spelled : (part : PartData) (c : Checking) (s : Stretch) → HasWidth part s → items_words (with_checks c (stretch_pieces part s)) ≡ stretch_words part s
 stretch_spelled part c (stretch.Copies words fars) w =
     let first : Checking = after_pieces c (command Wcfg ∷ one Far (get_or fars 0 0) ∷ Put (WriteLong (number_of Fdri) words) ∷ command Mfw ∷ []) in
-    ap (λ t. (planner.command Wcfg) ++ (planner.write_one Far (get_or fars 0 0) ++ (planner.frame_data (length words) ++ (words ++ ((planner.command Mfw) ++ t))))) (copies_spelled first fars)
-    ∙ ap (λ (k : ℕ). (planner.command Wcfg) ++ (planner.write_one Far (get_or fars 0 0) ++ (planner.frame_data k ++ (words ++ ((planner.command Mfw) ++ flat_map copy_words fars))))) w
+    ap (λ t. (packet_words.command Wcfg) ++ (packet_words.write_one Far (get_or fars 0 0) ++ (packet_words.frame_data (length words) ++ (words ++ ((packet_words.command Mfw) ++ t))))) (copies_spelled first fars)
+    ∙ ap (λ (k : ℕ). (packet_words.command Wcfg) ++ (packet_words.write_one Far (get_or fars 0 0) ++ (packet_words.frame_data k ++ (words ++ ((packet_words.command Mfw) ++ flat_map copy_words fars))))) w
 stretch_spelled part c (stretch.Rows rows) w =
     let ws : List ℕ = joined (row_frames rows ++ zero_frame part ∷ []) in
     let far : ℕ = get_or (planned_addresses rows) 0 0 in
-    ap (λ t. (planner.command Wcfg) ++ (planner.write_one Far far ++ (planner.frame_data (length ws) ++ t))) (append-nil ws ∙ run_words part rows)
-    ∙ ap (λ (k : ℕ). (planner.command Wcfg) ++ (planner.write_one Far far ++ (planner.frame_data k ++ (frames_words rows ++ zero_frame part)))) (run_length part rows w)
+    ap (λ t. (packet_words.command Wcfg) ++ (packet_words.write_one Far far ++ (packet_words.frame_data (length ws) ++ t))) (append-nil ws ∙ run_words part rows)
+    ∙ ap (λ (k : ℕ). (packet_words.command Wcfg) ++ (packet_words.write_one Far far ++ (packet_words.frame_data k ++ (frames_words rows ++ zero_frame part)))) (run_length part rows w)
 
 stretches_spelled : (part : PartData) (c : Checking) (stretches : List Stretch) → AllByRecursion (HasWidth part) stretches → items_words (with_checks c (stretches_pieces part stretches)) ≡ flat_map (stretch_words part) stretches
 stretches_spelled part c [] w = refl
@@ -219,7 +221,7 @@ partial_same part rows w fits =
     let prefix : List Piece = before_check part rows in
     let c : Checking = after_pieces at_first (Put item.Noop ∷ command Rcrc ∷ Put item.Noop ∷ one Idcode part.idcode ∷ []) in
     let words : flat_map (stretch_words part) (stretches_of part rows) ≡ items_words (with_checks c (stretches_pieces part (stretches_of part rows))) = sym (stretches_spelled part c (stretches_of part rows) (stretches_width part rows w)) in
-    ap (λ t. planner.with_piece (planner.with_piece (bytes_of_words (planner.head ++ ((planner.command Rcrc) ++ (planner.no_op ∷ (planner.write_one Idcode part.idcode ++ t))))) planner.Check) (planner.Words stretch.partial_ending)) words
+    ap (λ t. planner.with_piece (planner.with_piece (bytes_of_words (planner.head ++ ((packet_words.command Rcrc) ++ (packet_words.no_op ∷ (packet_words.write_one Idcode part.idcode ++ t))))) planner.Check) (planner.Words stretch.partial_ending)) words
     ∙ ap (λ b. planner.with_piece b (planner.Words stretch.partial_ending)) (spelled_one prefix Check (prefix_of IsPiece prefix (Check ∷ []) fits))
     ∙ spelled_end (plan_pieces part rows) 4
 

@@ -20,7 +20,7 @@ use Rattle.x7_pipeline.specs.declared.fault.RunFault.{RunFault}
 use Rattle.x7_pipeline.specs.FarAsRead.{has_frame_at}
 use Rattle.x7_pipeline.specs.Faults.{address_fault}
 use Rattle.x7_pipeline.specs.Runs.{slots_from}
-use Rattle.x7_flow.specs.declared.asked.Asked.TheVariants.{Other, Reads}
+use Rattle.x7_flow.specs.Asked.{Other, Reads}
 use Rattle.x7_flow.specs.Controls.{ctl0_held, forbids_reading}
 use Rattle.x7_flow.specs.Flow.{Flow, base_of, fault_by, flow_of, frame_fault, given_of}
 use Rattle.x7_flow.specs.FrameAccess.{reads_frame_data}

@@ -5,6 +5,7 @@ use Rattle.std.specs.List.{flat_map}
 use Rattle.x7_words.specs.Word.{AreBytes, bytes_of_word}
 use Rattle.x7_words.proofs.ListLemmas.{all-append}
 use Rattle.x7_packets.specs.SyncWord.{sync_bytes}
+use Rattle.x7_packets.specs.PacketWords.{no_op, sync_word, type1_write}
 use Rattle.x7_packets.specs.declared.header.Step.TheVariants as step
 use Rattle.x7_packets.specs.Packet.{Packet, IsPacket, words, stepped, latest_of}
 use Rattle.x7_packets.specs.Taking.{AllWhole}
@@ -16,7 +17,7 @@ use Rattle.x7_packets.proofs.PacketLemmas.{each_more, ended-more}
 use Rattle.x7_packets.proofs.ByHandLemmas.{reading_is}
 use Rattle.x7_packets.proofs.HistoryLemmas.{entered_all-append, history_is}
 use Rattle.x7_packets.specs.Appended.{LacksFirst, MayFollow, moved}
-use Rattle.x7_effects.proofs.Items.{Item, Noop, Dummy, Write, WriteLong, Read, ReadLong, item_words, items_words, AreItems, writes_entered, item_entered, items_entered, desync, write_header, sync_word, bytes_of_words, opened, closed, MayLead, bus_width_head}
+use Rattle.x7_effects.proofs.Items.{Item, Noop, Dummy, Write, WriteLong, Read, ReadLong, item_words, items_words, AreItems, writes_entered, item_entered, items_entered, desync, bytes_of_words, opened, closed, MayLead, bus_width_head}
 use Rattle.x7_packets.proofs.SeamLemmas.{none_without_first, first_without}
 use Rattle.x7_packets.proofs.AppendedLemmas.{history_after, ends_after}
 use Rattle.x7_effects.proofs.ItemLemmas.{packet, items_packets, items_whole, each_of_whole, whole_goes_on, items_same, items_enter, length_stepped, write_means}
@@ -29,7 +30,7 @@ pub bytes_count : (ws : List ℕ) → length (bytes_of_words ws) ≡ 4 * length 
 bytes_count [] = refl
 bytes_count (w ∷ ws) = omega (arith, bytes_count ws)
 
-noops_lack : (k : ℕ) → LacksFirst (bytes_of_words (replicate k 0x20000000))
+noops_lack : (k : ℕ) → LacksFirst (bytes_of_words (replicate k no_op))
 noops_lack zero = tt
 noops_lack (suc k) = (refl, (refl, (refl, (refl, noops_lack k))))
 
@@ -55,36 +56,36 @@ opened_history leading items m f =
     ∙ ap (λ (x : ℕ). entered_all x (flat_map stepped (items_packets items)) []) (omega (arith, bytes_count leading))
     ∙ items_enter (4 * length leading + 4) items [] f
 
-is_last : (l : Option ℕ) → IsPacket l (packet (write_header 4 1) (step.Open 4 1) (13 ∷ []))
+is_last : (l : Option ℕ) → IsPacket l (packet (type1_write 4 1) (step.Open 4 1) (13 ∷ []))
 is_last l = record { fits = (omega arith, (omega arith, tt)); means = sym (write_means l 4 1 (omega arith) (omega arith)); most = omega arith; goes_on = tt }
 
 -- the session of items that DESYNC ends
 abbrev pub session_of : List ℕ → List Item → Session
-session_of leading items = record { gap = bytes_of_words leading; packets = items_packets items ++ packet (write_header 4 1) (step.Open 4 1) (13 ∷ []) ∷ [] }
+session_of leading items = record { gap = bytes_of_words leading; packets = items_packets items ++ packet (type1_write 4 1) (step.Open 4 1) (13 ∷ []) ∷ [] }
 
 is_session : (leading : List ℕ) (items : List Item) → MayLead leading → AreItems items → IsSession (session_of leading items)
 is_session leading items m f = record {
   first = first_without (bytes_of_words leading) m.lacks;
-  packets = each_more None (items_packets items) (packet (write_header 4 1) (step.Open 4 1) (13 ∷ [])) (items_whole None items f) (is_last (latest_of None (items_packets items)));
-  ended = ended-more (items_packets items) (packet (write_header 4 1) (step.Open 4 1) (13 ∷ []));
+  packets = each_more None (items_packets items) (packet (type1_write 4 1) (step.Open 4 1) (13 ∷ [])) (items_whole None items f) (is_last (latest_of None (items_packets items)));
+  ended = ended-more (items_packets items) (packet (type1_write 4 1) (step.Open 4 1) (13 ∷ []));
 }
 
-session_words : (items : List Item) → items_words (items ++ desync ∷ []) ≡ flat_map words (items_packets items ++ packet (write_header 4 1) (step.Open 4 1) (13 ∷ []) ∷ [])
+session_words : (items : List Item) → items_words (items ++ desync ∷ []) ≡ flat_map words (items_packets items ++ packet (type1_write 4 1) (step.Open 4 1) (13 ∷ []) ∷ [])
 session_words items =
     flat_map-append item_words items (desync ∷ [])
     ∙ ap (λ t. t ++ item_words desync) (sym (items_same items))
-    ∙ sym (flat_map-append words (items_packets items) (packet (write_header 4 1) (step.Open 4 1) (13 ∷ []) ∷ []))
+    ∙ sym (flat_map-append words (items_packets items) (packet (type1_write 4 1) (step.Open 4 1) (13 ∷ []) ∷ []))
 
 pub closed_reading : (leading : List ℕ) (items : List Item) (k : ℕ) → MayLead leading → AreItems items
-    → IsReading (bytes_of_words (closed leading items k)) (session_of leading items ∷ []) (Searching (bytes_of_words (replicate k 0x20000000)))
+    → IsReading (bytes_of_words (closed leading items k)) (session_of leading items ∷ []) (Searching (bytes_of_words (replicate k no_op)))
 closed_reading leading items k m f =
     let gap : List ℕ = bytes_of_words leading in
-    let rest : List ℕ = bytes_of_words (replicate k 0x20000000) in
-    let ps : List Packet = items_packets items ++ packet (write_header 4 1) (step.Open 4 1) (13 ∷ []) ∷ [] in
+    let rest : List ℕ = bytes_of_words (replicate k no_op) in
+    let ps : List Packet = items_packets items ++ packet (type1_write 4 1) (step.Open 4 1) (13 ∷ []) ∷ [] in
     let regrouped : (gap ++ (sync_bytes ++ packet_bytes ps)) ++ rest ≡ ((gap ++ sync_bytes ++ packet_bytes ps) ++ []) ++ rest = simp (append_assoc, append-nil) in
     record {
       fits = bytes_fit (closed leading items k);
-      joined = flat_map-append bytes_of_word (opened leading (items ++ desync ∷ [])) (replicate k 0x20000000)
+      joined = flat_map-append bytes_of_word (opened leading (items ++ desync ∷ [])) (replicate k no_op)
           ∙ ap (λ t. t ++ rest) (opened_bytes leading (items ++ desync ∷ []))
           ∙ ap (λ t. (gap ++ (sync_bytes ++ bytes_of_words t)) ++ rest) (session_words items)
           ∙ regrouped;
@@ -102,8 +103,8 @@ pub closed_history : (leading : List ℕ) (items : List Item) (k : ℕ) → MayL
 closed_history leading items k m f =
     let n : ℕ = 4 * length leading + 4 in
     let ps : List Packet = items_packets items in
-    let d : Packet = packet (write_header 4 1) (step.Open 4 1) (13 ∷ []) in
-    sym (history_is (bytes_of_words (closed leading items k)) (session_of leading items ∷ []) (Searching (bytes_of_words (replicate k 0x20000000))) (closed_reading leading items k m f))
+    let d : Packet = packet (type1_write 4 1) (step.Open 4 1) (13 ∷ []) in
+    sym (history_is (bytes_of_words (closed leading items k)) (session_of leading items ∷ []) (Searching (bytes_of_words (replicate k no_op))) (closed_reading leading items k m f))
     ∙ ap (λ (x : ℕ). entered_all x (flat_map stepped (ps ++ d ∷ [])) []) (omega (arith, bytes_count leading))
     ∙ ap (λ t. entered_all n t []) (flat_map-append stepped ps (d ∷ []))
     ∙ entered_all-append n (flat_map stepped ps) (stepped d) []
@@ -111,10 +112,10 @@ closed_history leading items k m f =
     ∙ ap (λ (x : ℕ). entered_all x (stepped d) (items_entered n items [])) (omega (arith, length_stepped ps, ap length (items_same items)))
     ∙ sym (items_entered-append n items (desync ∷ []) [])
 
-pub closed_place : (leading : List ℕ) (items : List Item) (k : ℕ) → MayLead leading → AreItems items → (reading_of (bytes_of_words (closed leading items k))).place ≡ Searching (bytes_of_words (replicate k 0x20000000))
+pub closed_place : (leading : List ℕ) (items : List Item) (k : ℕ) → MayLead leading → AreItems items → (reading_of (bytes_of_words (closed leading items k))).place ≡ Searching (bytes_of_words (replicate k no_op))
 closed_place leading items k m f =
-    let is : (session_of leading items ∷ [] ≡ (reading_of (bytes_of_words (closed leading items k))).sessions) × (Searching (bytes_of_words (replicate k 0x20000000)) ≡ (reading_of (bytes_of_words (closed leading items k))).place) =
-    reading_is (bytes_of_words (closed leading items k)) (session_of leading items ∷ []) (Searching (bytes_of_words (replicate k 0x20000000))) (closed_reading leading items k m f) in
+    let is : (session_of leading items ∷ [] ≡ (reading_of (bytes_of_words (closed leading items k))).sessions) × (Searching (bytes_of_words (replicate k no_op)) ≡ (reading_of (bytes_of_words (closed leading items k))).place) =
+    reading_is (bytes_of_words (closed leading items k)) (session_of leading items ∷ []) (Searching (bytes_of_words (replicate k no_op))) (closed_reading leading items k m f) in
     sym is.1
 
 -- items after other bytes

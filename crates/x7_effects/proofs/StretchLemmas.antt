@@ -17,7 +17,7 @@ use Rattle.x7_pipeline.specs.FarAsRead.{has_frame_at, loaded_base}
 use Rattle.x7_pipeline.specs.Faults.{address_fault, copy_fault}
 use Rattle.x7_pipeline.specs.Runs.{written_frames, onto, put_over, slots_from}
 use Rattle.x7_pipeline.proofs.LawLemmas.{put_twice}
-use Rattle.x7_flow.specs.declared.asked.Asked.TheVariants.{Copies, Other}
+use Rattle.x7_flow.specs.Asked.{Copies, Other}
 use Rattle.x7_flow.specs.Controls.{ctl0_held}
 use Rattle.x7_flow.specs.Flow.{Flow, base_of, fault_by, flow_of, frame_fault, run_of, source_of}
 use Rattle.x7_flow.specs.FrameMemory.{memory_of}

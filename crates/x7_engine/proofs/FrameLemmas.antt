@@ -13,7 +13,7 @@ use Rattle.x7_regs.specs.declared.register.Reg.TheVariants as reg
 use Rattle.x7_regs.specs.Command.{command_by}
 use Rattle.x7_pipeline.specs.declared.fault.RunFault.{RunFault}
 use Rattle.x7_pipeline.specs.declared.fault.RunFault.TheVariants.{Address, Multi, Overrun}
-use Rattle.x7_flow.specs.declared.asked.Asked.TheVariants.{Copies, Load, Order, Other, Word}
+use Rattle.x7_flow.specs.Asked.{Copies, Load, Order, Other, Word}
 use Rattle.x7_flow.specs.Controls.{is_matched, same_idcode}
 use Rattle.x7_flow.specs.FrameAccess.{reads_frame_data}
 use Rattle.x7_flow.specs.Settings.{settings_of, takes_copies, takes_frames}

@@ -1,5 +1,5 @@
 -- Bytes that ask nothing stop no fallback, and startup doesn't begin in them.
-use Rattle.std.proofs.Common.{◌≡◌, ◌&&◌, ◌+◌, ℕ, Bool, true, false, not, Option, None, List, [], length, refl, ap, sym, ◌∙◌, arith}
+use Rattle.std.proofs.Common.{◌≡◌, ◌+◌, ℕ, Bool, true, Option, None, List, [], length, refl, ap, sym, ◌∙◌, arith}
 use Rattle.x7_words.specs.Word.{AreBytes}
 use Rattle.x7_packets.specs.History.{History, history_of}
 use Rattle.x7_packets.specs.SyncWord.{HasNoSync}
@@ -12,20 +12,15 @@ use Rattle.x7_engine.specs.Kept.{is_fallback}
 use Rattle.x7_engine.specs.Startup.{phase_by, startup_progress}
 use Rattle.x7_engine.specs.State.{history_by, history_taken, state_of, stop_in, taken_of}
 use Rattle.x7_engine.specs.Stops.{Stopped, stop_of}
-use Rattle.x7_engine.specs.Watching.{timer_held, turns_on}
+use Rattle.x7_engine.proofs.FallbackLemmas.{fallback_off}
 use Rattle.x7_engine.proofs.RestLemmas.{stop_on}
 
 -- ---- a fallback over bytes that ask nothing
 
-never : (b : Bool) → (b && false) ≡ false
-never true = refl
-never false = refl
-
 pub none_stops : (part : PartData) (kept : Kept) (n : ℕ) → is_fallback kept.kind ≡ true → stop_of part kept [] n ≡ None
 none_stops part kept n e =
-    let off : (turns_on (timer_held kept []) && not (is_fallback kept.kind)) ≡ false = ap (λ (b : Bool). turns_on (timer_held kept []) && not b) e ∙ never (turns_on (timer_held kept [])) in
     let sum : 0 + n ≡ n = omega arith in
-    sym (ap (stop_of part kept []) sum) ∙ stop_on part kept [] 0 n (omega arith) off refl
+    sym (ap (stop_of part kept []) sum) ∙ stop_on part kept [] 0 n (omega arith) (fallback_off kept [] e) refl
 
 pub gap_goes_on : (part : PartData) (kept : Kept) (bytes : List ℕ) → is_fallback kept.kind ≡ true → history_of bytes ≡ [] → stop_in part kept bytes ≡ None
 gap_goes_on part kept bytes e f = ap (λ (h : History). stop_of part kept h (length bytes)) f ∙ none_stops part kept (length bytes) e

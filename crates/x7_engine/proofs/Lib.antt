@@ -1,3 +1,4 @@
+pub mod AlikeLemmas
 pub mod BeginsLemmas
 pub mod BodyLemmas
 pub mod BootLemmas
@@ -5,6 +6,7 @@ pub mod CheckedLemmas
 pub mod ClockLemmas
 pub mod DataLemmas
 pub mod DeviceLemmas
+pub mod FallbackLemmas
 pub mod FeedLemmas
 pub mod FiringLemmas
 pub mod FirstStopLemmas
@@ -12,11 +14,13 @@ pub mod FrameLemmas
 pub mod GapLemmas
 pub mod MaskLemmas
 pub mod PassLemmas
+pub mod PassesLemmas
 pub mod PhaseLemmas
 pub mod PlainLemmas
 pub mod ReadsLemmas
 pub mod RestLemmas
 pub mod RunningLemmas
+pub mod SameLemmas
 pub mod SequenceLemmas
 pub mod SinceLemmas
 pub mod StartupLemmas

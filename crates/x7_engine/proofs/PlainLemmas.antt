@@ -14,8 +14,7 @@ use Rattle.x7_part.specs.Part.{PartData}
 use Rattle.x7_startup.specs.Calls.{StandsFor, progress_of}
 use Rattle.x7_startup.specs.Calls as call
 use Rattle.x7_startup.specs.Count.{Watched, WatchesFor, count_of, is_on, timer_value_of}
-use Rattle.x7_flow.specs.declared.asked.Asked.{Asked}
-use Rattle.x7_flow.specs.declared.asked.Asked.TheVariants.{Other}
+use Rattle.x7_flow.specs.Asked.{Asked, Other}
 use Rattle.x7_flow.specs.Flow.{asks, fault_by, flow_of, frame_fault}
 use Rattle.x7_engine.specs.declared.fault.Fault.TheVariants as fault
 use Rattle.x7_engine.specs.declared.kept.Kept.{Kept}

@@ -58,13 +58,18 @@ never_on true false eos off e = refl
 never_on true true true off e = refl
 never_on true true false off e = e
 
+-- a watchdog that is off fires at no byte
+pub never_fires : (part : PartData) (kept : Kept) (h : History) (n k : ℕ) → (turns_on (timer_held kept h) && not (is_fallback kept.kind)) ≡ false → first_firing part kept h n k ≡ None
+never_fires part kept h n k off =
+    none_fires part kept h n k (λ i m.
+    and_false (is_on (is_fallback kept.kind) (timer_held kept h) (has_ended part h (n + i + 1))) _
+    (never_on (cfg_mon_of (timer_held kept h) == 1) (not (timer_value_of (timer_held kept h) == 0)) (has_ended part h (n + i + 1)) (is_fallback kept.kind) off))
+
 pub stop_on : (part : PartData) (kept : Kept) (h : History) (n k : ℕ) → newest_place h ≤ n → (turns_on (timer_held kept h) && not (is_fallback kept.kind)) ≡ false → stop_of part kept h n ≡ None → stop_of part kept h (n + k) ≡ None
 stop_on part kept h n k l off none =
     stop_more_bytes part kept h n k l
     ∙ ap (λ (o : Option Stopped). or_else o (stopped_by_watchdog (first_firing part kept h n k))) none
-    ∙ ap stopped_by_watchdog (none_fires part kept h n k (λ i m.
-    and_false (is_on (is_fallback kept.kind) (timer_held kept h) (has_ended part h (n + i + 1))) _
-    (never_on (cfg_mon_of (timer_held kept h) == 1) (not (timer_value_of (timer_held kept h) == 0)) (has_ended part h (n + i + 1)) (is_fallback kept.kind) off)))
+    ∙ ap stopped_by_watchdog (never_fires part kept h n k off)
 
 startup_on : (part : PartData) (h : History) (n k : ℕ) → newest_place h ≤ n → (startup_progress h n ≡ NotBegun) ⊎ (phase_of part h n ≡ 7) → (startup_progress h (n + k) ≡ NotBegun) ⊎ (phase_of part h (n + k) ≡ 7)
 startup_on part h n k l (inl e) = inl (ap progress_of (startup_more h n k l) ∙ progress_bytes (startup_calls h n) k ∙ ap (further k) e)

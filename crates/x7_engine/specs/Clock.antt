@@ -1,4 +1,5 @@
--- What the clock of a device stands for: startup and the watchdog after a history with so many bytes taken.
+-- What the clock of a device stands for: startup and the watchdog after a history with a number of bytes taken (this
+-- project's choice).
 use Rattle.std.specs.Prelude.{◌≡◌, ℕ, ◌+◌, ◌<◌, ◌≤◌, Bool, true, if◌then◌else◌, List, [], ◌∷◌, Option, None, Some}
 use Rattle.x7_packets.specs.History.{Access, Entry, History, is_command}
 use Rattle.x7_part.specs.Part.{PartData}
@@ -32,29 +33,30 @@ abbrev pub newest_place : History → ℕ
 newest_place [] = 0
 newest_place (e ∷ h) = e.place
 
--- So many bytes more: none of them fires, or the first that does is this one, and the bytes up to it are taken.
+-- The clock takes `count` bytes more: the watchdog fires at none of them; or it fires first at byte k of them, and the bytes
+-- up to that one are taken.
 abbrev pub Ticks : Course → ClockState → ℕ → Option ℕ → Type 0
 Ticks c clock count None = IsClock c.part c.kept clock c.history (c.taken + count) × (first_firing c.part c.kept c.history c.taken count ≡ None)
 Ticks c clock count (Some k) = (0 < k) × (k ≤ count) × IsClock c.part c.kept clock c.history (c.taken + k) × (first_firing c.part c.kept c.history c.taken count ≡ Some (c.taken + k))
 
--- a part's clock takes so many bytes more, whatever it is the clock of
+-- a part's clock takes `count` bytes more, whatever course it is the clock of
 abbrev pub TicksOn : PartData → ClockState → ClockState → ℕ → Option ℕ → Type 0
 TicksOn part old new count result = (kept : Kept) (h : History) (n : ℕ) → newest_place h ≤ n → IsClock part kept old h n → Ticks (course_at part kept h n) new count result
 
--- at each of so many bytes more startup has ended, or at none, and this is the clock before them
+-- at each of `count` bytes more startup has ended, or at none, and `clock` is the clock before them
 pub record AreAlike (c : Course) (clock : ClockState) (count : ℕ) (ended : Bool) : Type 0 where
   pub newest : newest_place c.history ≤ c.taken
   pub each : (i : ℕ) → i < count → has_ended c.part c.history (c.taken + i + 1) ≡ ended
   pub stands : IsClock c.part c.kept clock c.history c.taken
 
--- startup has ended so many bytes further, none of which fires, and this is the clock there
+-- startup has ended `count` bytes further, the watchdog fires at none of them, and `clock` is the clock there
 pub record HasEndedBy (c : Course) (clock : ClockState) (count : ℕ) : Type 0 where
   pub newest : newest_place c.history ≤ c.taken
   pub quiet : first_firing c.part c.kept c.history c.taken count ≡ None
   pub ended : has_ended c.part c.history (c.taken + count) ≡ true
   pub stands : IsClock c.part c.kept clock c.history (c.taken + count)
 
--- a clock takes an access behind any history of which this holds
+-- a clock takes an access after any history of which `Fact` holds
 abbrev pub TakesEntry : ClockState → ClockState → Entry → (History → Type 0) → Type 0
 TakesEntry old new e Fact = (part : PartData) (kept : Kept) (h : History) → Fact h → IsClock part kept old h e.place → IsClock part kept new (e ∷ h) e.place
 
@@ -65,6 +67,6 @@ startup_call_by command taken cor0 =
     if taken then call.DropBack ∷ [] else
     if is_command (code_of Desync) command then call.Desync cor0 ∷ [] else []
 
--- what it asks of the watchdog
+-- what an access asks of the watchdog, by the command that it executes
 abbrev pub watch_call_by : Option ℕ → Access → List WatchCall
 watch_call_by command access = if is_command (code_of Ltimer) command then Reload ∷ [] else load_call access

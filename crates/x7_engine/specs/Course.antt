@@ -1,10 +1,11 @@
--- The course of a device: all that the values of its registers are a function of.
+-- Courses. A course is all that the values of a device's registers are a function of: the part, what the last reset kept, and
+-- the accesses and the number of bytes since then (this project's choice).
 use Rattle.std.specs.Prelude.{ℕ}
 use Rattle.x7_packets.specs.History.{History}
 use Rattle.x7_part.specs.Part.{PartData}
 use Rattle.x7_engine.specs.declared.kept.Kept.{Kept}
 
--- its part, what its reset kept, the accesses since then, and how many bytes are taken since then
+-- a course: the part, what the last reset kept, the accesses since then, and how many bytes were taken since then
 pub record Course : Type 0 where
   pub part : PartData
   pub kept : Kept

@@ -1,4 +1,5 @@
--- How the registers of a device go on: accesses enter the history that they stand for, up to what stops the device.
+-- How the registers of a device go on: accesses enter the history that the registers stand for, up to what stops the device
+-- (this project's choice).
 use Rattle.std.specs.Prelude.{◌≡◌, ℕ, ◌+◌, ◌∷◌, ◌++◌, List}
 use Rattle.x7_words.specs.Word.{words_of_bytes}
 use Rattle.x7_packets.specs.Cutting.{run_steps}
@@ -30,15 +31,15 @@ pub record Change : Type 0 where
 abbrev pub change_of : PartData → Registers → Registers → Change
 change_of part old new = record { part = part; old = registers_in old; new = registers_in new }
 
--- so many bytes were taken, and these accesses entered
+-- `taken` bytes were taken, and the history that the registers stand for became the longer one
 abbrev pub Enters : Change → Longer → ℕ → Type 0
 Enters x longer taken = OfHistory x.part x.old (λ kept h n. RegistersStandFor x.part kept x.new (longer n h) (n + taken))
 
--- the same up to the stop, where it came
+-- the longer history up to the stop, where one came
 abbrev pub up_to_stop : RegistersState → Longer → ℕ → Longer
 up_to_stop new longer taken n h = until (counted_in new.stop (n + taken)) (longer n h)
 
--- the same where a condition holds
+-- where a condition holds, `taken` bytes were taken, and the history that the registers stand for became the longer one
 abbrev pub EntersIf : Type 0 → Change → Longer → ℕ → Type 0
 EntersIf Condition x longer taken = (kept : Kept) (h : History) (n : ℕ) → Condition → RegistersStandFor x.part kept x.old h n → RegistersStandFor x.part kept x.new (longer n h) (n + taken)
 
@@ -63,7 +64,7 @@ AreAnswer part kept h e due = answer_of part kept h e.access e.place ≡ words_l
 abbrev pub words_entered : ℕ → List ℕ → Longer
 words_entered register bytes n h = entered_all n (payload_steps register (words_of_bytes bytes)) h
 
--- a word written to a register, which ends so many bytes on; a step of a word in a header's place, alike
+-- a word written to a register, which ends `count` bytes further; and the step of a word in a header's place that ends there
 abbrev pub word_entered : ℕ → ℕ → ℕ → Longer
 word_entered register word count n h = entry (Write register word) (n + count) ∷ h
 
@@ -78,7 +79,7 @@ read_entered register count place h = entry (Read register count) place ∷ h
 abbrev pub run_entered : Cut → ℕ → History → History
 run_entered run from h = entered_all from (run_steps run) h
 
--- a run was taken, so many bytes of which were new, and its words entered up to the stop
+-- a run was taken, `count` bytes of which were new, and its words entered up to the stop
 abbrev pub RunEnters : Cut → ℕ → Change → ℕ → Type 0
 RunEnters run count x taken = (kept : Kept) (h : History) (from n : ℕ) → EndsWords run from n count → RegistersStandFor x.part kept x.old h n
     → RegistersStandFor x.part kept x.new (until (counted_in x.new.stop (n + taken)) (run_entered run from h)) (n + taken)

@@ -1,4 +1,5 @@
--- What stops a device in plain words: there is cause for a stop at one byte, and none at an earlier one.
+-- What stops a device in plain words: there is cause for a stop at one byte, and none at an earlier one (this project's
+-- choice).
 use Rattle.std.specs.Prelude.{◌≡◌, ℕ, ◌<◌, ◌≤◌, ◌-◌, ◌==◌, if◌then◌else◌, take, length, List, [], ◌∷◌, Option, None, Some}
 use Rattle.x7_packets.specs.History.{History, history_of}
 use Rattle.x7_part.specs.Part.{PartData}

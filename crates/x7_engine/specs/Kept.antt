@@ -1,10 +1,12 @@
 -- What a device keeps over a reset (this project's choice): three registers, and what the boot history says of its attempts.
-use Rattle.std.specs.Prelude.{ℕ, ◌==◌, if◌then◌else◌, Bool, true, false, None}
+use Rattle.std.specs.Prelude.{◌≡◌, ℕ, ◌==◌, if◌then◌else◌, Bool, true, false, None}
 use Rattle.x7_regs.specs.declared.boot_status.Kind.{Kind}
 use Rattle.x7_regs.specs.declared.boot_status.Kind.TheVariants.{Bench, Power, Iprog, Fallback}
 use Rattle.x7_regs.specs.declared.register.Reg.TheVariants.{Wbstar, Timer, Bspi}
 use Rattle.x7_regs.specs.Register.{number_of}
 use Rattle.x7_engine.specs.declared.kept.Kept.{Kept}
+use Rattle.x7_engine.specs.declared.regs.End.TheVariants as at_end
+use Rattle.x7_engine.specs.declared.regs.Regs.{Regs}
 
 -- a device on the bench keeps nothing
 abbrev pub on_the_bench : Kept
@@ -23,3 +25,11 @@ is_fallback Bench = false
 is_fallback Power = false
 is_fallback Iprog = false
 is_fallback Fallback = true
+
+-- two attempts are fallbacks, by what their devices kept
+abbrev pub AreFallbacks : Kept → Kept → Type 0
+AreFallbacks one other = (is_fallback one.kind ≡ true) × (is_fallback other.kind ≡ true)
+
+-- the registers without those that show what was kept over the reset
+abbrev pub without_kept : Regs → Regs
+without_kept r = record r { end = at_end.Searching; wbstar = 0; timer = 0; bspi = 0; bootsts = 0 }

@@ -1,4 +1,6 @@
--- The past of a device: all that its state is a function of. It stands for what bytes came to in each clause on a device.
+-- Pasts. A past is all that the state of a device is a function of: the part, what the last reset kept, whether the flash has
+-- ended since then, and the bytes taken since then. A clause on a device speaks of each past that the device has (this
+-- project's choice).
 use Rattle.std.specs.Prelude.{◌≡◌, ℕ, ◌<◌, ◌==◌, ◌++◌, Bool, false, List, length, take, Option, None, Some}
 use Rattle.x7_words.specs.Word.{AreBytes}
 use Rattle.x7_packets.specs.History.{Access, History}
@@ -22,7 +24,7 @@ use Rattle.x7_engine.specs.State.{history_taken, why_of, memory_in, reads_of, st
 use Rattle.x7_engine.specs.Stops.{Stopped, fault_of}
 use Rattle.x7_engine.specs.UntilStarted.{has_started, taken_until}
 
--- its part, what its reset kept, whether the flash has ended since then, and the bytes taken since then
+-- a past: the part, what the last reset kept, whether the flash has ended since then, and the bytes taken since then
 pub record Past : Type 0 where
   pub part : PartData
   pub kept : Kept
@@ -71,7 +73,7 @@ due_at d p = due_of p.part p.kept d p.bytes
 abbrev pub started_at : Past → Bool
 started_at p = has_started p.part p.kept p.bytes
 
--- the phase is 0 at each fewer than so many bytes of a piece
+-- the phase is 0 after each number of bytes of a piece below `count`
 abbrev pub StaysAtZero : Past → List ℕ → ℕ → Type 0
 StaysAtZero p piece count = (k : ℕ) → k < count → (state_at (later p (take k piece))).phase ≡ 0
 
@@ -96,7 +98,7 @@ pub record StandsBefore (p : Past) (access : Access) (place : ℕ) (older : Hist
   pub stands : StandsIn (history_at p) access place older
   pub before : place < taken_at p
 
--- a boot goes on: it hasn't started, and neither a fault that a fallback follows nor an IPROG ended it
+-- the attempt of a boot goes on: startup hasn't ended, and neither a fault that a fallback follows nor an IPROG ended it
 pub record BootGoesOn (p : Past) : Type 0 where
   pub boots : IsAttempt p.kept
   pub not_started : ((state_at p).phase == 7) ≡ false
@@ -105,15 +107,15 @@ pub record BootGoesOn (p : Past) : Type 0 where
 
 -- ---- what a call does that takes bytes
 
--- it takes just these
+-- a device takes just the bytes `more`
 abbrev pub Takes : DeviceState → DeviceState → List ℕ → Type 0
 Takes old new more = OfPast old (λ p. HasPast new (later p more))
 
--- the words given so far are the same with these bytes as before them
+-- the bytes `more` give no word: the words given so far are those given before
 abbrev pub GivesNone : DeviceState → DeviceState → List ℕ → Type 0
 GivesNone old new more = OfPast old (λ p. reads_given_at new (later p more) ≡ reads_given_at old p)
 
--- the buffer gets words, and those given so far are with these bytes those of before, and these words
+-- the bytes `more` give the buffer words: the words given so far are those given before, and then these
 abbrev pub GivesNext : DeviceState → DeviceState → List ℕ → ReadBufState → ReadBufState → Type 0
 GivesNext old new more before after = OfPast old (λ p. (words : List ℕ) × (after ≡ with_words before words) × (reads_given_at new (later p more) ≡ reads_given_at old p ++ words))
 
@@ -129,7 +131,7 @@ abbrev pub AnswersUntil : Past → DeviceState → ReadBufState → UntilStarted
 AnswersUntil p d read (until.Started n) = NoWordDue d
 AnswersUntil p d read (until.Fed answer) = Answers p d read answer
 
--- this answer says what the old bytes and these come to
+-- the answer says what the old bytes and then `more` come to
 abbrev pub AnswersFor : DeviceState → DeviceState → List ℕ → ReadBufState → Fed → Type 0
 AnswersFor old new more read answer = OfPast old (λ p. Answers (later p more) new read answer)
 

@@ -16,7 +16,7 @@ gathered (Some most) words more = words ++ more
 abbrev pub with_words : ReadBufState → List ℕ → ReadBufState
 with_words b more = record { most = b.most; words = gathered b.most b.words more }
 
--- there is room for words more: with them a gathering buffer has its most at most
+-- there is room for more words: with them a gathering buffer has at most its most
 abbrev pub HasRoomBy : Option ℕ → ℕ → Type 0
 HasRoomBy None count = Unit {0}
 HasRoomBy (Some most) count = count ≤ most
@@ -37,7 +37,7 @@ abbrev pub HoldsFew : Option ℕ → List ℕ → Type 0
 HoldsFew None words = words ≡ []
 HoldsFew (Some most) words = length words ≤ most
 
--- how a buffer is kept: nowhere, in place, or in a vector with room for the most
+-- where a buffer has its words: nowhere, in place, or in a vector with room for the most
 abbrev pub words_in : Room → List ℕ
 words_in room.Nothing = []
 words_in (room.One words) = words

@@ -31,7 +31,7 @@ abbrev pub masked_bit : ℕ → ℕ → History → ℕ
 masked_bit register i [] = 0
 masked_bit register i (e ∷ h) = bit_written register i (mask_held h) e.access (masked_bit register i h)
 
--- the number whose bits these are
+-- a number of 32 bits whose bits are those of a register under MASK
 pub record HasMaskedBits (register n : ℕ) (h : History) : Type 0 where
   pub fits : n < 2 ^ 32
   pub bits : (i : ℕ) → i < 32 → bit_at n i ≡ masked_bit register i h

@@ -13,7 +13,7 @@ Executes command h access = IsTrue (executes command h access)
 abbrev pub IsPending : History → Type 0
 IsPending h = Since (Executes (code_of Shutdown)) clears_check h
 
--- AGHIGH, or a shutdown taken
+-- the access makes GHIGH_B 0: AGHIGH, or a shutdown taken
 abbrev pub lowers_ghigh : History → Access → Bool
 lowers_ghigh h access = executes (code_of Aghigh) h access || takes_shutdown h access
 
@@ -21,7 +21,7 @@ lowers_ghigh h access = executes (code_of Aghigh) h access || takes_shutdown h a
 abbrev pub HasGhigh : History → Type 0
 HasGhigh h = Since (Executes (code_of Lfrm)) lowers_ghigh h
 
--- DESYNC, or a shutdown taken
+-- the access ends an armed startup: DESYNC, or a shutdown taken
 abbrev pub disarms : History → Access → Bool
 disarms h access = executes (code_of Desync) h access || takes_shutdown h access
 
@@ -29,7 +29,7 @@ disarms h access = executes (code_of Desync) h access || takes_shutdown h access
 abbrev pub IsArmed : History → Type 0
 IsArmed h = Since (Executes (code_of Start)) disarms h
 
--- DESYNC, where startup is armed
+-- the access is DESYNC, where startup is armed
 abbrev pub IsArmedDesync : History → Access → Type 0
 IsArmedDesync h access = Executes (code_of Desync) h access × IsArmed h
 

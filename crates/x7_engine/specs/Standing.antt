@@ -1,4 +1,5 @@
--- What a device stands for: all bytes that it took since its reset. Each stored value is that of the bytes.
+-- What a device stands for: all bytes that it took since its reset. Each stored value is that of the bytes (this project's
+-- choice).
 use Rattle.std.specs.Prelude.{◌≡◌, ℕ, ◌<◌, ◌≤◌, ◌==◌, ◌+◌, ◌++◌, ◌-◌, ◌^◌, min, Bool, true, false, if◌then◌else◌, take, List, [], ◌∷◌, length, slice_index, Option, None, Some, IsSome, replicate}
 use Rattle.x7_words.specs.Word.{AreBytes}
 use Rattle.x7_packets.specs.Cutting.{CutterState, CutterStandsFor}
@@ -38,12 +39,12 @@ use Rattle.x7_engine.specs.State.{reads_of, history_taken, last_counted, stop_in
 use Rattle.x7_engine.specs.Stops.{fault_of, stop_of, stopped_at}
 use Rattle.x7_engine.specs.Values.{cause_of}
 
--- the registers under MASK
+-- the stored registers under MASK: CTL0 and CTL1
 pub record ControlsState : Type 0 where
   pub ctl0 : ℕ
   pub ctl1 : ℕ
 
--- the check and the flags
+-- the stored check and flags: matched, a shutdown pending, GHIGH_B, and whether IPROG was written
 pub record ProgressState : Type 0 where
   pub check : ℕ
   pub matched : Bool
@@ -76,7 +77,7 @@ frames_due due.Nothing = 0
 frames_due (due.Same word count) = 0
 frames_due (due.Frames count) = count
 
--- of so many words that are due, how many are frame data: all of them where the last access reads frame data, else none
+-- of `count` words that are due, how many are frame data: all of them where the last access reads frame data, else none
 abbrev pub frames_among : History → ℕ → ℕ
 frames_among [] count = 0
 frames_among (e ∷ h) count = if reads_frame_data h e.access then count else 0
@@ -104,7 +105,7 @@ older (e ∷ h) = h
 abbrev pub frames_history : Option Stop → History → History
 frames_history why h = if is_refusal why then older h else h
 
--- The frames are those of a history, of whose last read so many words are due. Where the last access was refused, they stand for the history before it; memory and FAR are the same with and without it.
+-- The frames are those of a history, of whose last read `due` words are due. Where the last access was refused, the frames stand for the history before it; memory and FAR are the same with and without it.
 pub record FramesAre (part : PartData) (f : FramesState) (why : Option Stop) (h : History) (due : ℕ) : Type 0 where
   pub stands : FramesStandFor part f (frames_history why h) due
   pub memory_same : AreSame (memory_of part (frames_history why h)) (memory_of part h)
@@ -112,7 +113,7 @@ pub record FramesAre (part : PartData) (f : FramesState) (why : Option Stop) (h 
 
 -- ---- registers
 
--- how the registers keep them
+-- the stored values as the registers' fields hold them
 abbrev pub controls_in : Controls → ControlsState
 controls_in d = record { ctl0 = d.ctl0; ctl1 = d.ctl1 }
 
@@ -132,16 +133,16 @@ registers_in d = record {
   frames = d.frames;
 }
 
--- the last words written
+-- the stored words are the last ones written to the registers by number, or those that the reset kept
 pub record AreLastWords (kept : Kept) (last : List ℕ) (h : History) : Type 0 where
   pub each : (register : ℕ) → register < 32 → slice_index last register ≡ word_held kept register h
 
--- the registers under MASK
+-- the stored registers under MASK are those of the history
 pub record AreControls (d : ControlsState) (h : History) : Type 0 where
   pub ctl0 : d.ctl0 ≡ masked (number_of Ctl0) h
   pub ctl1 : d.ctl1 ≡ masked (number_of Ctl1) h
 
--- the check and the flags
+-- the stored check and flags are those of the history
 pub record IsProgress (idcode : ℕ) (d : ProgressState) (h : History) : Type 0 where
   pub check : d.check ≡ running_check h
   pub matched : d.matched ≡ is_matched idcode h
@@ -183,12 +184,12 @@ TellsNothing (Skip bytes) = Unit {0}
 TellsNothing Sync = Unit {0}
 TellsNothing _ = ⊥
 
--- Of a run of so many bytes behind the first n: a lent slice lies in them.
+-- a run's lent slice lies in the `count` bytes that were taken last
 abbrev pub HoldsRun : Cut → ℕ → Type 0
 HoldsRun (Body register bytes) count = length bytes.now ≤ count
 HoldsRun _ count = Unit {0}
 
--- its words, the first of which begins at `from`, end where its bytes do
+-- a run's words, the first of which begins at byte `from`, end where its `count` new bytes after the first n do
 abbrev pub EndsWords : Cut → ℕ → ℕ → ℕ → Type 0
 EndsWords (Head w step) from n count = (n < from + 4) × (from + 4 ≡ n + count)
 EndsWords (Word register w) from n count = (n < from + 4) × (from + 4 ≡ n + count)
@@ -204,11 +205,11 @@ pub record DeviceState : Type 0 where
   pub taken : ℕ
   pub fed : ℕ
 
--- the bytes that it was ever fed, counted up to the last number of 64 bits
+-- the number of bytes that a device was ever fed, counted up to the last number of 64 bits
 abbrev pub fed_of : DeviceState → ℕ
 fed_of d = min d.fed (2 ^ 64 - 1)
 
--- the same after so many bytes more
+-- the number of bytes that a device was ever fed, after `count` bytes more
 abbrev pub fed_more : DeviceState → ℕ → ℕ
 fed_more d count = min (d.fed + count) (2 ^ 64 - 1)
 
@@ -239,7 +240,7 @@ pub record MayWrapWith (d : RegistersState) : Type 0 where
 abbrev pub MayWrap : DeviceState → Type 0
 MayWrap d = MayWrapWith d.registers
 
--- the cutter took these bytes
+-- the cutter is one that took these bytes
 pub record IsCutterOf (c : CutterState) (bytes : List ℕ) : Type 0 where
   pub sessions : List Session
   pub place : Place
@@ -250,7 +251,7 @@ pub record AreDue (part : PartData) (d : RegistersState) (h : History) (reads : 
   pub given : List ℕ
   pub all : reads ≡ given ++ words_left part h d.due
 
--- A device took these bytes since a reset that kept this, all of them: it has no stop, or its stop came at the last one. Where it stopped, its cutter may be past that byte.
+-- A device took all of `bytes` since a reset that kept `kept`: it has no stop, or its stop came at the last byte. Where it stopped, its cutter may be past that byte.
 pub record DeviceStandsFor (part : PartData) (kept : Kept) (wrapped : Bool) (d : DeviceState) (bytes : List ℕ) : Type 0 where
   pub fits : AreBytes bytes
   pub part_is : d.part ≡ part
@@ -277,7 +278,7 @@ taken_in length (fed.Stopped n) = n
 taken_in length (fed.Iprog n) = n
 taken_in length (fed.ReadFull n) = n
 
--- what a feed answers for a stop at this place of a piece
+-- what a feed answers for a stop at place `at` of a piece
 abbrev pub fed_by : Stop → ℕ → Fed
 fed_by (stop.Fault f) at = fed.Stopped at
 fed_by stop.Iprog at = fed.Iprog at

@@ -18,7 +18,7 @@ startup_call h access =
     if takes_shutdown h access then call.DropBack ∷ [] else
     if executes (code_of Desync) h access then call.Desync (last_word (number_of Cor0) 0 h) ∷ [] else []
 
--- the calls of a history with so many bytes taken: each byte's before that of the access that ends there
+-- the calls of a history with n bytes taken: each byte's before that of the access that ends there
 abbrev pub startup_calls : History → ℕ → List Call
 startup_calls [] n = replicate n call.Byte
 startup_calls (e ∷ h) n = startup_calls h e.place ++ startup_call h e.access ++ replicate (n - e.place) call.Byte
@@ -27,12 +27,12 @@ startup_calls (e ∷ h) n = startup_calls h e.place ++ startup_call h e.access +
 abbrev pub startup_progress : History → ℕ → StartupProgress
 startup_progress h n = progress_of (startup_calls h n)
 
--- the greatest phase, up to the last one given, that has begun after so many ticks
+-- the greatest phase, up to the one given last, that has begun after `ticks` ticks
 abbrev pub greatest_begun : (ℕ → ℕ) → ℕ → ℕ → ℕ
 greatest_begun wait ticks zero = 0
 greatest_begun wait ticks (suc p) = if nat_le (arrival wait (suc p)) ticks then suc p else greatest_begun wait ticks p
 
--- the phase after so many ticks
+-- the phase after `ticks` ticks
 unfoldable pub phase_at : (ℕ → ℕ) → ℕ → ℕ
 phase_at wait ticks = greatest_begun wait ticks 7
 

@@ -94,7 +94,7 @@ abbrev pub state_of : PartData → Kept → Bool → List ℕ → Regs
 state_of part kept wrapped bytes =
     state_by (course_in part kept bytes) wrapped (why_of (stop_in part kept bytes)) (is_synced (reading_of bytes).place)
 
--- what BOOTSTS shows
+-- the word of BOOTSTS after these bytes
 abbrev pub bootsts_in : PartData → Kept → Bool → List ℕ → ℕ
 bootsts_in part kept wrapped bytes = (state_of part kept wrapped bytes).bootsts
 
@@ -112,14 +112,14 @@ kept_after part kept wrapped bytes kind = record {
   before = Some (attempt_in part kept wrapped bytes);
 }
 
--- the words read out by then
+-- the words read out by a device that took these bytes
 abbrev pub reads_of : PartData → Kept → List ℕ → List ℕ
 reads_of part kept bytes = read_out part kept (history_taken part kept bytes)
 
--- the memory by then: zero frames, and over them all that the history put there
+-- the memory of a device that took these bytes: zero frames, and over them all that the history put there
 abbrev pub memory_in : PartData → Kept → List ℕ → FrameMap
 memory_in part kept bytes = memory_of part (history_taken part kept bytes)
 
--- the state while so many words of frame data of the last read are still to be given: FAR is that of the words given so far
+-- the state while `due` words of frame data of the last read are still to be given: FAR is that of the words given so far
 abbrev pub state_owing : PartData → Kept → Bool → List ℕ → ℕ → Regs
 state_owing part kept wrapped bytes due = record (state_of part kept wrapped bytes) { far = far_in part (less due (flow_of part (history_taken part kept bytes))) }

@@ -20,7 +20,7 @@ use Rattle.x7_engine.specs.Kept.{is_fallback}
 use Rattle.x7_flow.specs.Controls.{ctl0_held, is_matched, mask_held, masked_word, same_idcode}
 use Rattle.x7_engine.specs.Watching.{first_firing}
 
--- the first of two, where there is one
+-- the first of two values, where there is one, else the second
 abbrev pub or_else : {A : Type 0} → Option A → Option A → Option A
 or_else None second = second
 or_else (Some first) second = Some first
@@ -47,7 +47,7 @@ why_by_write part kept h register w =
     if needs_match h register w && not (is_matched part.idcode h) then Some (stop.Fault (fault.Id part.idcode 0)) else
     if register == number_of reg.Cmd && (w % 2 ^ 5 == code_of command.Iprog && not (is_fallback kept.kind)) then Some stop.Iprog else None
 
--- why an access after this history does, the frames left out
+-- why an access after this history stops a device, where it does, the faults of frames left out
 abbrev pub why_by_access : PartData → Kept → History → Access → Option Stop
 why_by_access part kept h (Write register w) = why_by_write part kept h register w
 why_by_access part kept h (Read register count) = None
@@ -89,7 +89,7 @@ abbrev pub stopped_by_watchdog : Option ℕ → Option Stopped
 stopped_by_watchdog None = None
 stopped_by_watchdog (Some place) = Some (record { place = place; why = stop.Fault fault.Watchdog })
 
--- The first stop of a history with so many bytes taken. At each byte the watchdog comes before the access that ends there.
+-- The first stop of a history with n bytes taken. At each byte the watchdog comes before the access that ends there.
 abbrev pub stop_of : PartData → Kept → History → ℕ → Option Stopped
 stop_of part kept [] n = stopped_by_watchdog (first_firing part kept [] 0 n)
 stop_of part kept (e ∷ h) n =

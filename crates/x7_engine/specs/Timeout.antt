@@ -12,7 +12,7 @@ use Rattle.x7_engine.specs.Kept.{is_fallback}
 use Rattle.x7_engine.specs.Startup.{has_ended}
 use Rattle.x7_engine.specs.Watching.{timer_held}
 
--- The history before byte i, the first being byte 1: the word that ends there has no part in it.
+-- the history before byte i, the first being byte 1: a word that ends at byte i is not of it
 abbrev pub before_byte : List ℕ → ℕ → History
 before_byte bytes i = history_of (take (i - 1) bytes)
 
@@ -24,20 +24,20 @@ is_on_at part kept bytes i = is_on (is_fallback kept.kind) (timer_held kept (bef
 abbrev pub loads : History → Access → Bool
 loads h access = writes (number_of Timer) access || executes (code_of Ltimer) h access
 
--- the place of the last of these, 0 where there is none
+-- the place of the last access that makes the count 0, and 0 where there is none
 abbrev pub last_load : History → ℕ
 last_load [] = 0
 last_load (e ∷ h) = if loads h e.access then e.place else last_load h
 
--- how many of so many bytes behind the first `from` have the watchdog on
+-- how many of the `count` bytes after the first `from` have the watchdog on
 abbrev pub on_after : PartData → Kept → List ℕ → ℕ → ℕ → ℕ
 on_after part kept bytes from zero = 0
 on_after part kept bytes from (suc count) = on_after part kept bytes from count + (if is_on_at part kept bytes (from + count + 1) then 1 else 0)
 
--- the bytes behind the last load, up to byte n, that have it on
+-- how many of the bytes after the last load, up to byte n, have the watchdog on
 abbrev pub counted_at : PartData → Kept → List ℕ → ℕ → ℕ
 counted_at part kept bytes n = on_after part kept bytes (last_load (before_byte bytes n)) (n - last_load (before_byte bytes n))
 
--- it fires at byte n: it is on there, and these bytes are four times TIMER's value
+-- the watchdog fires at byte n: it is on there, and four times TIMER's value of the bytes since the last load had it on
 abbrev pub fires_at : PartData → Kept → List ℕ → ℕ → Bool
 fires_at part kept bytes n = is_on_at part kept bytes n && counted_at part kept bytes n == timer_value_of (timer_held kept (before_byte bytes n)) * 4

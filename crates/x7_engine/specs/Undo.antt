@@ -28,7 +28,7 @@ pub record ValuesState : Type 0 where
 abbrev pub values_of : RegistersState → ValuesState
 values_of r = record { words = r.words; controls = r.controls; progress = r.progress; kind = r.kind; before = r.before; clock = r.clock; stop = r.stop; due = r.due }
 
--- how they are kept
+-- the stored values as the fields of what is kept hold them
 abbrev pub values_in : SavedRegisters → ValuesState
 values_in s = record {
   words = s.words.last;
@@ -53,7 +53,7 @@ pub record UndoState : Type 0 where
   pub wrapped : Bool
   pub taken : ℕ
 
--- it is one for devices of the part
+-- what is kept is of a device of the part
 abbrev pub IsUndoOf : PartData → UndoState → Type 0
 IsUndoOf part u = IsSavedOf part u.frames
 

@@ -7,10 +7,11 @@ use Rattle.x7_engine.specs.ReadBuffer.{HasRoomFor, ReadBufState}
 abbrev pub no_room : ReadBufState
 no_room = record { most = Some 0; words = [] }
 
--- these are the words read out at any fewer than so many bytes of a piece
+-- `words` are the words read out after any number of bytes of a piece below `count`
 abbrev pub ReadBefore : Past → List ℕ → ℕ → List ℕ → Type 0
 ReadBefore p piece count words = (k : ℕ) → k < count → reads_at (later p (take k piece)) ≡ words
 
--- the words read out at any fewer than so many bytes of a piece are those given before, and words for which the buffer had room
+-- the words read out after any number of bytes of a piece below `count` are those given before, and words for which the buffer
+-- has room
 abbrev pub RoomBefore : Past → List ℕ → ℕ → List ℕ → ReadBufState → Type 0
 RoomBefore p piece count given read = (k : ℕ) → k < count → (words : List ℕ) × (reads_at (later p (take k piece)) ≡ given ++ words) × HasRoomFor read words

@@ -20,16 +20,16 @@ has_started part kept bytes = (state_of part kept false bytes).phase == 7
 abbrev pub HasNotBegun : PartData → Kept → List ℕ → Type 0
 HasNotBegun part kept bytes = startup_progress (history_taken part kept bytes) (taken_of part kept bytes) ≡ NotBegun
 
--- startup hasn't ended at fewer than so many bytes of a piece
+-- startup hasn't ended after any number of bytes of a piece below `count`
 abbrev pub NoneStarted : PartData → Kept → List ℕ → List ℕ → ℕ → Type 0
 NoneStarted part kept bytes piece count = (k : ℕ) → k < count → has_started part kept (bytes ++ take k piece) ≡ false
 
--- what is answered: the bytes taken of a piece of so many
+-- the number of bytes taken of a piece of `length` bytes, by what is answered
 abbrev pub taken_until : ℕ → UntilStarted → ℕ
 taken_until length (until.Started n) = n
 taken_until length (until.Fed answer) = taken_in length answer
 
--- whether it says that startup has ended
+-- whether the answer says that startup has ended
 abbrev pub says_started : UntilStarted → Bool
 says_started (until.Started n) = true
 says_started (until.Fed answer) = false
@@ -40,7 +40,7 @@ IsOtherWrite (Write register word) = (register == number_of Cmd) ≡ false
 IsOtherWrite (Read register count) = ⊥
 IsOtherWrite (Bad word) = ⊥
 
--- all accesses of this history are such writes
+-- all accesses of a history are writes to registers other than CMD
 abbrev pub AreOtherWrites : History → Type 0
 AreOtherWrites [] = Unit {0}
 AreOtherWrites (e ∷ h) = IsOtherWrite e.access × AreOtherWrites h

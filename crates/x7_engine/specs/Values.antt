@@ -37,7 +37,7 @@ abbrev pub is_id_fault : Option Fault → Bool
 is_id_fault (Some (fault.Id want got)) = true
 is_id_fault _ = false
 
--- the lines, by how far startup is
+-- the lines DONE, GTS and GWE, by how far startup is
 abbrev pub lines_by : PartData → StartupProgress → Lines
 lines_by part p = record {
   done = done_line (cor0_of p) (phase_by part p);
@@ -45,7 +45,7 @@ lines_by part p = record {
   gwe = gwe_line (cor0_of p) (phase_by part p);
 }
 
--- what STAT tells, by how far startup is
+-- what STAT shows, by how far startup is
 abbrev pub stat_parts : PartData → Option Fault → StartupProgress → Bool → StatParts
 stat_parts part fault p ghigh = record {
   crc_error = is_crc_fault fault;
@@ -105,7 +105,7 @@ value_of c wrapped fault Bootsts = boot_status_of (attempt_of c.kept wrapped fau
 value_of c wrapped fault Ctl1 = masked (number_of Ctl1) c.history
 value_of c wrapped fault Bspi = word_held c.kept (number_of Bspi) c.history
 
--- the same by the register's number, and 0 for a number without a register
+-- the value of a register by its number, and 0 for a number without a register
 abbrev pub value_or_zero : Course → Option Reg → ℕ
 value_or_zero c None = 0
 value_or_zero c (Some reg) = value_of c false None reg
@@ -113,7 +113,8 @@ value_or_zero c (Some reg) = value_of c false None reg
 abbrev pub read_value : Course → ℕ → ℕ
 read_value c register = value_or_zero c (reg_with register)
 
--- the value of a register while so many words of frame data of the last read are still to be given: FAR is that of the words given so far
+-- the value of a register while `due` words of frame data of the last read are still to be given: FAR is that of the words
+-- given so far
 abbrev pub value_owing : Course → Option Fault → ℕ → Reg → ℕ
 value_owing c fault due Far = far_in c.part (less due (flow_of c.part c.history))
 value_owing c fault due reg = value_of c false fault reg

@@ -22,12 +22,12 @@ load_call (Bad w) = []
 abbrev pub watch_call : History → Access → List WatchCall
 watch_call h access = if executes (code_of Ltimer) h access then Reload ∷ [] else load_call access
 
--- so many bytes after this history, the first of them behind byte `from`
+-- the watchdog's calls of `count` bytes after a history, the first of them right after byte `from`
 abbrev pub watched_bytes : PartData → History → ℕ → ℕ → List WatchCall
 watched_bytes part h from zero = []
 watched_bytes part h from (suc count) = watched_bytes part h from count ++ Watched (has_ended part h (from + count + 1)) ∷ []
 
--- the calls of a history with so many bytes taken: each byte's before that of the access that ends there
+-- the calls of a history with n bytes taken: each byte's before that of the access that ends there
 abbrev pub watch_calls : PartData → History → ℕ → List WatchCall
 watch_calls part [] n = watched_bytes part [] 0 n
 watch_calls part (e ∷ h) n = watch_calls part h e.place ++ watch_call h e.access ++ watched_bytes part (e ∷ h) e.place (n - e.place)
@@ -40,18 +40,18 @@ turns_on timer = cfg_mon_of timer == 1 && not (timer_value_of timer == 0)
 abbrev pub timer_held : Kept → History → ℕ
 timer_held kept h = word_held kept (number_of Timer) h
 
--- the watchdog fires at byte n, before which this is the history: it is on, and its count comes to four times the value
+-- the watchdog fires at byte n, after the history `h`: it is on, and its count comes to four times TIMER's value
 abbrev pub fires : PartData → Kept → History → ℕ → Bool
 fires part kept h n =
     is_on (is_fallback kept.kind) (timer_held kept h) (has_ended part h n)
     && count_of (is_fallback kept.kind) kept.timer (watch_calls part h n) == timer_value_of (timer_held kept h) * 4
 
--- the place where it fired, or this one where it fires there
+-- the place where the watchdog fired already, or place n where it fires there
 abbrev pub fired_or : Option ℕ → Bool → ℕ → Option ℕ
 fired_or (Some place) now n = Some place
 fired_or None now n = if now then Some n else None
 
--- the least of so many bytes behind byte `from` at which it fires
+-- the least of `count` bytes after byte `from` at which the watchdog fires
 abbrev pub first_firing : PartData → Kept → History → ℕ → ℕ → Option ℕ
 first_firing part kept h from zero = None
 first_firing part kept h from (suc count) = fired_or (first_firing part kept h from count) (fires part kept h (from + count + 1)) (from + count + 1)

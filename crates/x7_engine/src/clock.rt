@@ -50,7 +50,7 @@ fn move_watchdog(watchdog: &mut Watchdog, executed: Option<u8>, reg: Reg, word: 
     }
 }
 
-/// Whether both are true or neither.
+/// Whether two conditions hold both or neither.
 fn are_same(a: bool, b: bool) -> bool
     ensures { IsTrue result ↔ (a ≡ b) }
 {
@@ -67,7 +67,7 @@ pub(crate) struct Clock {
 impl Clock {
     ghost use Rattle.x7_engine.specs.Clock.{IsClock, clock_in};
 
-    /// That of a device that took nothing, with this TIMER; `off` is for an attempt that has no watchdog.
+    /// The clock of a device that took nothing, with this word of TIMER; `off` is for an attempt that has no watchdog.
     pub(crate) fn new(timer: u32, off: bool) -> Clock
         ensures { (part : PartData) (kept : Kept) → timer ≡ kept.timer → off ≡ is_fallback kept.kind → IsClock part kept (clock_in result) [] 0 }
     {
@@ -109,14 +109,14 @@ impl Clock {
         self.phase() == 7
     }
 
-    /// Whether so many ticks have passed since startup began.
+    /// Whether `ticks` ticks have passed since startup began.
     pub(crate) fn have_passed(&self, ticks: u16) -> bool
         ensures { (part : PartData) (h : History) (n : ℕ) → StandsFor part.lock part.matched self.now.startup (startup_calls h n) → result ≡ nat_le ticks (ticks_of (startup_progress h n)) }
     {
         ticks <= self.startup.ticks()
     }
 
-    /// The three lines.
+    /// The lines DONE, GTS and GWE.
     pub(crate) fn lines(&self) -> Lines
         ensures { (part : PartData) (h : History) (n : ℕ) → StandsFor part.lock part.matched self.now.startup (startup_calls h n) → result ≡ lines_by part (startup_progress h n) }
     {
@@ -149,7 +149,7 @@ impl Clock {
         None
     }
 
-    /// Takes the rest of so many bytes at once, where startup has ended with the last of those taken.
+    /// Takes the rest of `count` bytes at once, where startup has ended with the last of the `taken` ones.
     fn go_on(&mut self, part: &Part, taken: usize, count: usize) -> Option<usize>
         requires within { taken ≤ count }
         ensures within { IfSome result (λ k. (0 < k) × (k ≤ count)) }
@@ -176,7 +176,7 @@ impl Clock {
         Some(k as usize)
     }
 
-    /// Whether startup would have ended after so many bytes more.
+    /// Whether startup would have ended after `count` bytes more.
     fn ends_within(&self, part: &Part, count: usize) -> bool
         ensures { (kept : Kept) (h : History) (n : ℕ) → newest_place h ≤ n → IsClock part.now kept (clock_in self.now) h n → result ≡ has_ended part.now h (n + count) }
     {
@@ -186,7 +186,7 @@ impl Clock {
         then.has_ended()
     }
 
-    /// Whether bytes leave it as it is: startup hasn't begun, and the watchdog doesn't run.
+    /// Whether bytes leave the clock as it is: startup hasn't begun, and the watchdog doesn't run.
     #[inline(always)]
     pub(crate) fn is_idle(&self) -> bool
         ensures begun { IsTrue result → self.now.startup.begun ≡ None }
@@ -223,7 +223,8 @@ impl Clock {
         }
     }
 
-    /// The same where they may move it.
+    /// Takes `count` bytes, where startup or the watchdog may run, up to the one at which the watchdog fires: the number of that
+    /// byte, from 1.
     #[inline(never)]
     fn move_on(&mut self, part: &Part, count: usize) -> Option<usize>
         ensures within { IfSome result (λ k. (0 < k) × (k ≤ count)) }

@@ -31,14 +31,14 @@ pub(crate) struct Controls {
 impl Controls {
     ghost use Rattle.x7_engine.specs.Standing.{AreControls, controls_in};
 
-    /// Those of a device that took nothing.
+    /// The registers under MASK of a device that took nothing: all bits 0.
     pub(crate) fn new() -> Controls
         ensures { AreControls (controls_in result) [] }
     {
         Controls { ctl0: 0, ctl1: 0 }
     }
 
-    /// Stores a written word, where it is one of theirs.
+    /// Stores the bits of a written word that MASK has, where the register is CTL0 or CTL1.
     pub(crate) fn write(&mut self, reg: Reg, word: u32, mask: u32)
         ensures { (h : History) (place : ℕ) → mask ≡ mask_held h → AreControls (controls_in self.old) h → AreControls (controls_in self.new) (entry (Write (number_of reg) word) place ∷ h) }
     {

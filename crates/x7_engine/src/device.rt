@@ -64,7 +64,7 @@ impl Model for Device {
     ghost invariant = { λ d. FramesFit d.part d.registers.frames };
 }
 
-/// What a feed answers for a stop at this place of a piece.
+/// What a feed answers for a stop at place `at` of a piece.
 fn stopped(stop: Stop, at: usize) -> Fed
     ensures { result ≡ fed_by stop at }
 {
@@ -119,7 +119,7 @@ fn cause_with(cause: Option<Cause>, wrapped: bool) -> Option<Cause>
 }
 
 impl Device {
-    /// A device of this part as after a reset on the bench. It takes room for all frames, and no other call takes memory.
+    /// A device of this part as after a reset on the bench. The call takes room for all frames, and no other call takes memory.
     pub fn new(alloc: Global, part: &Part) -> Result<Device, NoMemory>
         ensures stands { IfOk result (λ d. DeviceStandsFor part.now on_the_bench false d []) }
         ensures fed { IfOk result (λ d. fed_of d ≡ 0) }
@@ -141,7 +141,7 @@ impl Device {
         }
     }
 
-    /// Resets the device, which keeps this. All frames are zeros again.
+    /// Resets the device, which keeps `keep`. All frames are zeros again.
     pub fn reset(&mut self, keep: Kept)
         ensures part { self.new.part ≡ self.old.part }
         ensures stands { DeviceStandsFor self.old.part keep false self.new [] }
@@ -240,14 +240,14 @@ impl Device {
         ensures silent { GivesNone self.old self.new (between piece.now at.old at.new) }
         ensures quiet { OfPast self.old (λ p. history_of (p.bytes ++ between piece.now at.old at.new) ≡ history_of p.bytes) }
     {
-        let count = self.cutter.nops(&piece[*at..]);
+        let count = 4 * self.cutter.nop_count(&piece[*at..]);
         let left = self.registers.tick(&self.part, count);
         *at += count - left;
         self.taken += (count - left) as u64;
         self.fed = self.fed.saturating_add((count - left) as u64);
     }
 
-    /// Takes the next run of the piece from `at` on, which it moves behind the bytes taken, and says whether the piece is
+    /// Takes the next run of the piece from place `at` on, moves `at` past the bytes taken, and says whether the piece is
     /// used up.
     fn take_run(&mut self, piece: &[u8], at: &mut usize) -> bool
         requires within { at.old ≤ length piece.now }
@@ -273,8 +273,8 @@ impl Device {
         is_done(used_up, self.registers.stop())
     }
 
-    /// Takes the write of one word that comes next, where it lies whole in the piece and no byte moves the clock. It moves
-    /// `at` behind it, and says whether there is one.
+    /// Takes the write of one word that comes next, where it lies whole in the piece and no byte moves the clock. Moves `at`
+    /// past it, and says whether there is one.
     #[inline(always)]
     fn take_write(&mut self, piece: &[u8], at: &mut usize) -> bool
         requires within { at.old ≤ length piece.now }
@@ -324,8 +324,8 @@ impl Device {
         self.take_next(piece, at)
     }
 
-    /// Takes the no-ops that come next, and then the next run. It moves `at` behind the bytes taken, and says whether the
-    /// piece is used up.
+    /// Takes the no-ops that come next, and then the next run. Moves `at` past the bytes taken, and says whether the piece is
+    /// used up.
     #[inline(never)]
     fn take_next(&mut self, piece: &[u8], at: &mut usize) -> bool
         requires within { at.old ≤ length piece.now }
@@ -348,8 +348,8 @@ impl Device {
         self.take_run(piece, at)
     }
 
-    /// Takes the bytes of a piece, up to one that stops the device or to the first read whose words have no room. A device
-    /// that has stopped takes nothing.
+    /// Takes the bytes of a piece, up to one that stops the device or to the first read whose words have no room. After a stop
+    /// the device takes nothing.
     pub fn feed(&mut self, piece: &[u8], read: &mut ReadBuf) -> Fed
         requires { self.old.taken + length piece.now ≤ 2 ^ 63 }
         ensures within { taken_in (length piece.now) result ≤ length piece.now }

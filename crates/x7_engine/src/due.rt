@@ -3,10 +3,10 @@
 /// The words of the last read that are still to be given.
 #[derive(Clone, Copy)]
 pub enum Due {
-    /// None.
+    /// No word is due.
     Nothing,
-    /// This word, so many times.
+    /// One word is due, the number of times given second.
     Same(u32, u32),
-    /// So many words of frame data.
+    /// This many words of frame data are due.
     Frames(u32),
 }

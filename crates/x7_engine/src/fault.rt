@@ -7,7 +7,7 @@ pub enum Fault {
     Packet(u32),
     /// A written idcode differs from the part's in the low 28 bits, or a word for frames or START came before a matching one: `got` is then 0.
     Id {
-        /// The part's.
+        /// The part's idcode.
         want: u32,
         /// The word written to IDCODE.
         got: u32,

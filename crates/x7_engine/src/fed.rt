@@ -7,7 +7,7 @@ pub enum Fed {
     All,
     /// The device has a fault, which came at the last byte taken, or before this call where the number is 0.
     Stopped(usize),
-    /// The device obeyed an IPROG, in the same way.
+    /// The device obeyed an IPROG, at the last byte taken, or before this call where the number is 0.
     Iprog(usize),
     /// A word is due, and the buffer is full. The next feed goes on with the words due.
     ReadFull(usize),

@@ -5,11 +5,11 @@ use x7_regs::{Attempt, Kind};
 /// What a device keeps over a reset (this project's choice): three registers, the kind of its boot attempt, and the attempt before.
 #[derive(Clone, Copy, Debug, PartialEq, Eq)]
 pub struct Kept {
-    /// WBSTAR.
+    /// The word of WBSTAR.
     pub wbstar: u32,
-    /// TIMER.
+    /// The word of TIMER.
     pub timer: u32,
-    /// BSPI.
+    /// The word of BSPI.
     pub bspi: u32,
     /// What began the attempt.
     pub kind: Kind,

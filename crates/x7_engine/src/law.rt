@@ -1,6 +1,7 @@
 //! Laws of the definitions, for the proofs of crates above.
 ghost use Rattle.std.specs.Prelude.{◌≡◌, ◌+◌, ◌-◌, ◌^◌, ◌<◌, ◌≤◌, ◌++◌, ◌↔◌, ℕ, Bool, IsTrue, List, [], None, Some, false, length, true};
 ghost use Rattle.x7_words.specs.Word.{AreBytes};
+ghost use Rattle.x7_packets.specs.Gap.{AreAlike};
 ghost use Rattle.x7_packets.specs.History.{Access, AllFit, History, Placed, history_of};
 ghost use Rattle.x7_packets.specs.SyncWord.{HasNoSync};
 ghost use Rattle.x7_part.specs.Part.{PartData};
@@ -8,7 +9,7 @@ ghost use Rattle.x7_regs.specs.declared.register.Reg.TheVariants.{Crc, Idcode};
 ghost use Rattle.x7_startup.specs.Calls.{Begun, IsPhaseOf};
 ghost use Rattle.x7_crc.specs.OpenWrites.{running_check};
 ghost use Rattle.x7_engine.specs.Checked.{HasStarted};
-ghost use Rattle.x7_engine.specs.Kept.{is_fallback, on_the_bench};
+ghost use Rattle.x7_engine.specs.Kept.{AreFallbacks, is_fallback, on_the_bench, without_kept};
 ghost use Rattle.x7_engine.specs.FirstStop.{IsFirstStop, why_at_byte};
 ghost use Rattle.x7_flow.specs.Controls.{masked, same_idcode};
 ghost use Rattle.x7_flow.specs.Standing.{word_to};
@@ -18,7 +19,7 @@ ghost use Rattle.x7_engine.specs.Rest.{AtRest, GoesOn};
 ghost use Rattle.x7_engine.specs.Sequence.{Begins, HasGhigh, IsPending};
 ghost use Rattle.x7_engine.specs.Standing.{DeviceState, NoWordDue};
 ghost use Rattle.x7_engine.specs.Startup.{phase_of, startup_progress};
-ghost use Rattle.x7_engine.specs.State.{reads_of, state_of, stop_in, bootsts_in};
+ghost use Rattle.x7_engine.specs.State.{memory_in, reads_of, state_of, stop_in, bootsts_in};
 ghost use Rattle.x7_engine.specs.Stops.{Stopped, why_at};
 ghost use Rattle.x7_engine.specs.Timeout.{before_byte, fires_at};
 ghost use Rattle.x7_engine.specs.Watching.{fires};
@@ -68,7 +69,7 @@ pub fn stops_are_first()
         → why_at_byte part kept bytes n ≡ None }
 {}
 
-/// The watchdog fires at a byte that has it on, where four times TIMER's value of the bytes behind the last load had it on.
+/// The watchdog fires at a byte that has it on, where four times TIMER's value of the bytes after the last load had it on.
 pub fn watchdog_fires()
     ensures { (part : PartData) (kept : Kept) (bytes : List ℕ) (n : ℕ) → AreBytes bytes → 0 < n → n ≤ length bytes → fires part kept (before_byte bytes n) n ≡ fires_at part kept bytes n }
 {}
@@ -106,6 +107,22 @@ pub fn wraps_show_in_bootsts()
     ensures alone { (part : PartData) (kept : Kept) (bytes : List ℕ) → state_of part kept true bytes ≡ record (state_of part kept false bytes) { bootsts = (state_of part kept true bytes).bootsts } }
     ensures bit { (part : PartData) (kept : Kept) (bytes : List ℕ) → IsAttempt kept → cause_in part kept bytes ≡ None
         → bootsts_in part kept true bytes ≡ bootsts_in part kept false bytes + 2 ^ 6 }
+{}
+
+/// Bytes that ask the same at the same places, as those after two gaps do, bring a device to the same stop, state and memory.
+pub fn alike_bytes_do_alike()
+    ensures stop { (part : PartData) (kept : Kept) (one other : List ℕ) → AreAlike one other → stop_in part kept one ≡ stop_in part kept other }
+    ensures memory { (part : PartData) (kept : Kept) (one other : List ℕ) → AreAlike one other → memory_in part kept one ≡ memory_in part kept other }
+    ensures state { (part : PartData) (kept : Kept) (one other : List ℕ) → AreAlike one other → (wrapped : Bool) → state_of part kept wrapped one ≡ state_of part kept wrapped other }
+{}
+
+/// A fallback does the same whatever its device kept over the reset: it has no watchdog, and kept words show in their own
+/// registers alone.
+pub fn fallbacks_do_alike()
+    ensures stop { (part : PartData) (one other : Kept) (bytes : List ℕ) → AreFallbacks one other → stop_in part one bytes ≡ stop_in part other bytes }
+    ensures memory { (part : PartData) (one other : Kept) (bytes : List ℕ) → AreFallbacks one other → memory_in part one bytes ≡ memory_in part other bytes }
+    ensures registers { (part : PartData) (one other : Kept) (bytes : List ℕ) → AreFallbacks one other → (wrapped : Bool)
+        → without_kept (state_of part one wrapped bytes) ≡ without_kept (state_of part other wrapped bytes) }
 {}
 
 /// A fallback waits for the sync word without end: bytes without it, however many, stop nothing, and startup doesn't begin.

@@ -49,7 +49,7 @@ fn is_ghigh_after(ghigh: bool, executed: Option<u8>, taken: bool) -> bool
     is(Command::Lfrm, executed) || ghigh && !is(Command::Aghigh, executed) && !taken
 }
 
-/// Whether both hold.
+/// Whether two conditions hold both.
 fn both(a: bool, b: bool) -> bool
     ensures { result ≡ (a && b) }
 {
@@ -89,7 +89,7 @@ pub(crate) struct Progress {
 impl Progress {
     ghost use Rattle.x7_engine.specs.Standing.{IsProgress, progress_in};
 
-    /// That of a device that took nothing.
+    /// What is known of no accesses: the check is 0, and no flag is set.
     pub(crate) fn new() -> Progress
         ensures { (idcode : ℕ) → IsProgress idcode (progress_in result) [] }
     {
@@ -128,7 +128,7 @@ impl Progress {
         taken
     }
 
-    /// Takes words written to a register that moves nothing else of these.
+    /// Takes words, four bytes each, written to a register that moves the check and no flag.
     pub(crate) fn pass_all(&mut self, register: u8, bytes: &[u8])
         requires register { register < 32 }
         requires quiet { is_controlling register ≡ false }

@@ -10,7 +10,7 @@ use x7_words::NoMemory;
 #[derive(Drop)]
 pub(crate) struct Slot {
     words: [u32; 1],
-    // how many of them are there
+    // how many words the room has, 0 or 1
     count: usize,
 }
 
@@ -63,15 +63,15 @@ impl Slot {
 /// Where a buffer has its words.
 #[derive(Drop)]
 pub(crate) enum Room {
-    /// Nowhere: it drops each.
+    /// Nowhere: the buffer drops each word.
     Nothing,
     /// In place, for one word.
     One(Slot),
-    /// In a vector, for so many words.
+    /// In a vector, for the number of words given second.
     Many(Vec<u32>, usize),
 }
 
-/// Takes the words that a device reads out: it gathers them up to a number, or drops each.
+/// Takes the words that a device reads out: gathers them up to a number, or drops each.
 #[derive(Drop)]
 pub struct ReadBuf {
     room: Room,
@@ -119,7 +119,7 @@ impl ReadBuf {
         }
     }
 
-    /// The words gathered since it was made or cleared.
+    /// The words gathered since the buffer was made or cleared.
     pub fn words(&self) -> &[u32]
         ensures now { result.now ≡ self.now.words }
         ensures few { HoldsFew self.now.most result.now }
@@ -142,7 +142,7 @@ impl ReadBuf {
         }
     }
 
-    /// It never holds more words than its most.
+    /// A buffer never holds more words than its most.
     pub(crate) fn holds_few(&self)
         ensures { HoldsFew self.now.most self.now.words }
     {
@@ -150,7 +150,7 @@ impl ReadBuf {
         let _words = self.words();
     }
 
-    /// Takes a word as often as there is room, and at most so many times. Says how often not.
+    /// Takes a word as often as there is room, and at most `count` times. Says how often not.
     pub(crate) fn take(&mut self, word: u32, count: u32) -> u32
         ensures rest { result ≤ count }
         ensures words { self.new ≡ with_words self.old (replicate (count - result) word) }
@@ -176,7 +176,7 @@ impl ReadBuf {
         }
     }
 
-    /// Whether it drops each word.
+    /// Whether the buffer drops each word.
     pub(crate) fn drops(&self) -> bool
         ensures { IsTrue result → self.now.most ≡ None }
     {

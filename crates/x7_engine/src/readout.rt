@@ -25,7 +25,7 @@ pub(crate) fn count_of(due: Due) -> u32
     }
 }
 
-/// Gives so many words of frame data to a buffer, as many as it has room for. Says how many not.
+/// Gives `count` words of frame data to a buffer, as far as the buffer has room. Says how many not.
 fn give_frames(frames: &mut Frames, part: &Part, count: u32, read: &mut ReadBuf) -> u32
     requires frames { FramesFit part.now frames.old }
     ensures fewer { result ≤ count }
@@ -52,7 +52,7 @@ impl Registers {
     ghost use Rattle.x7_engine.specs.Course.{course_at};
     ghost use Rattle.x7_engine.specs.Readout.{Gave};
 
-    /// A read of some words: they are due from now on.
+    /// A read of `count` words of a register, which are due from now on.
     pub(crate) fn read(&mut self, part: &Part, register: u8, count: u32)
         requires going { self.old.stop ≡ None }
         requires none_due { due_count self.old.due ≡ 0 }

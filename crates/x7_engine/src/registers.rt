@@ -63,7 +63,7 @@ fn effective(register: u8) -> Option<Reg>
     }
 }
 
-/// How many of the bytes taken end words that count, where this is the stop.
+/// How many of the bytes taken end words that count, after a stop or none.
 fn counted(stop: Option<Stop>, taken: usize) -> usize
     ensures value { result ≡ counted_in stop taken }
     ensures within { result ≤ taken }
@@ -136,7 +136,7 @@ pub(crate) struct Registers {
 impl Registers {
     ghost use Rattle.x7_engine.specs.Standing.{HoldsRun, IsHeaderStep, RegistersStandFor, registers_in, TellsNothing};
 
-    /// Those of a device that took nothing, with what the reset kept and frames after a reset.
+    /// The registers of a device that took nothing, with what the reset kept and frames after a reset.
     pub(crate) fn new(kept: &Kept, frames: Frames) -> Registers
         ensures stands { (part : PartData) → FramesStandFor part frames [] 0 → RegistersStandFor part kept.now (registers_in result) [] 0 }
         ensures going { result.stop ≡ None }
@@ -156,7 +156,7 @@ impl Registers {
         }
     }
 
-    /// Makes them those after a reset that kept this.
+    /// Makes the registers those after a reset that kept `kept`.
     pub(crate) fn reset(&mut self, kept: &Kept)
         ensures stands { (part : PartData) → FramesFit part self.old.frames → RegistersStandFor part kept.now (registers_in self.new) [] 0 }
         ensures going { self.new.stop ≡ None }
@@ -491,7 +491,7 @@ impl Registers {
         0
     }
 
-    /// Takes a run of a stream, so many bytes of which are new, up to the byte that stops the device. Says how many of the
+    /// Takes a run of a stream, `count` bytes of which are new, up to the byte that stops the device. Says how many of the
     /// last bytes are left.
     #[inline(always)]
     pub(crate) fn run(&mut self, part: &Part, run: Cut<'_>, count: usize) -> usize

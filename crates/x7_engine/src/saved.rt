@@ -34,7 +34,7 @@ pub(crate) struct SavedRegisters {
 }
 
 impl SavedRegisters {
-    /// Those of a device on the bench that took nothing.
+    /// The stored values of a device on the bench that took nothing.
     pub(crate) fn new() -> SavedRegisters
         ensures stands { (part : PartData) (f : FramesState) → FramesStandFor part f [] 0 → RegistersStandFor part on_the_bench (registers_with (values_in result) f) [] 0 }
         ensures none_due { result.due ≡ Due.Nothing }
@@ -71,7 +71,7 @@ impl Registers {
         }
     }
 
-    /// Makes them the registers to which what is kept leads back.
+    /// Makes the registers those to which what is kept leads back.
     pub(crate) fn restore(&mut self, part: &Part, values: &SavedRegisters, frames: &Saved)
         requires frames { FramesFit part.now self.old.frames }
         requires saved { IsSavedOf part.now frames.now }

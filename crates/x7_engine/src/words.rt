@@ -27,7 +27,7 @@ impl Words {
         Words { last: [0; 32] }
     }
 
-    /// Those of a device that took nothing, with what the reset kept.
+    /// The last words of a device that took nothing, with what the reset kept.
     pub(crate) fn new(kept: &Kept) -> Words
         ensures { AreLastWords kept.now result.last [] }
     {

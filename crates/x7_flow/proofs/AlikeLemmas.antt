@@ -6,7 +6,7 @@ use Rattle.x7_memory.specs.Planned.{PlanRow}
 use Rattle.x7_flow.specs.Controls.{masked_word, names_part}
 use Rattle.x7_pipeline.specs.FarAsRead.{loaded_base}
 use Rattle.x7_regs.specs.Command.{command_with}
-use Rattle.x7_flow.specs.declared.asked.Asked.{Asked}
+use Rattle.x7_flow.specs.Asked.{Asked}
 use Rattle.x7_flow.specs.Settings.{Settings, held_after, settings_from}
 use Rattle.x7_flow.specs.Flow.{Flow, asked, flow_by, write_asked}
 use Rattle.x7_flow.specs.FrameMemory.{puts}

@@ -13,8 +13,7 @@ use Rattle.x7_pipeline.specs.FarAsRead.{has_frame_at}
 use Rattle.x7_pipeline.specs.Copies.{is_wcfg}
 use Rattle.x7_pipeline.proofs.LawLemmas.{put_twice, no_source}
 use Rattle.x7_pipeline.proofs.RunLemmas.{frames-completes, frames-goes_on}
-use Rattle.x7_flow.specs.declared.asked.Asked.{Asked}
-use Rattle.x7_flow.specs.declared.asked.Asked.TheVariants.{Load, Order, Word, Copies, Reads, Other}
+use Rattle.x7_flow.specs.Asked.{Asked, Load, Order, Word, Copies, Reads, Other}
 use Rattle.x7_flow.specs.Settings.{Settings, settings_of, settings_after, settings_from}
 use Rattle.x7_flow.specs.Flow.{Flow, asked, asks, flow_by, flow_of, source_of}
 use Rattle.x7_flow.specs.FrameMemory.{written_frames_more, memory_of, newest_put, puts}

@@ -22,8 +22,7 @@ use Rattle.x7_pipeline.specs.Faults.{completes}
 use Rattle.x7_pipeline.specs.Runs.{at_slot, frames_of, put_over, slots_from}
 use Rattle.x7_pipeline.proofs.LawLemmas.{cut}
 use Rattle.x7_pipeline.proofs.SlotLemmas.{has_address, slot_address}
-use Rattle.x7_flow.specs.declared.asked.Asked.{Asked}
-use Rattle.x7_flow.specs.declared.asked.Asked.TheVariants.{Copies, Load, Order, Other, Reads, Word}
+use Rattle.x7_flow.specs.Asked.{Asked, Copies, Load, Order, Other, Reads, Word}
 use Rattle.x7_flow.specs.Flow.{asks, flow_of, source_of}
 use Rattle.x7_flow.specs.FrameMemory.{copy_pairs, written_frames_more, memory_of, newest_put, puts}
 use Rattle.x7_flow.specs.Inside.{HasFrames}

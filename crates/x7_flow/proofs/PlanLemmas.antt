@@ -21,7 +21,7 @@ use Rattle.x7_pipeline.specs.Copies.{newest_of}
 use Rattle.x7_pipeline.specs.FarAsRead.{loaded_base}
 use Rattle.x7_pipeline.proofs.SlotLemmas.{addresses_among-slots}
 use Rattle.x7_flow.specs.Settings.{settings_of, takes_copies, takes_frames}
-use Rattle.x7_flow.specs.declared.asked.Asked.TheVariants.{Copies, Other}
+use Rattle.x7_flow.specs.Asked.{Copies, Other}
 use Rattle.x7_flow.specs.Flow.{Flow, flow_by, flow_of, run_of, source_of}
 use Rattle.x7_flow.specs.InWords.{frame_taken, words_written}
 use Rattle.x7_flow.proofs.FlowLemmas.{flow_more}

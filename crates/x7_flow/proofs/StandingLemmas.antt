@@ -13,7 +13,9 @@ use Rattle.x7_memory.specs.Planned.{PlanRow, planned}
 use Rattle.x7_memory.proofs.MapLemmas.{override_same, same_memory}
 use Rattle.x7_pipeline.proofs.LawLemmas.{one_state}
 use Rattle.x7_regs.specs.declared.command.Command.{Command}
-use Rattle.x7_flow.specs.Settings.{Settings, gives_frames, settings_of}
+use Rattle.x7_regs.specs.declared.register.Reg.{Reg}
+use Rattle.x7_regs.specs.declared.register.Reg.TheVariants.{Crc, Far, Fdri, Fdro, Cmd, Ctl0, Mask, Stat, Lout, Cor0, Mfwr, Cbc, Idcode, Axss, Cor1, Wbstar, Timer, Bootsts, Ctl1, Bspi}
+use Rattle.x7_flow.specs.Settings.{Settings, gives_frames, settings_of, takes_copies, takes_frames}
 use Rattle.x7_pipeline.specs.declared.fault.RunFault.{RunFault}
 use Rattle.x7_pipeline.specs.declared.fault.RunFault.TheVariants.{Address, Multi}
 use Rattle.x7_pipeline.specs.Runs.{written_frames, put_over, Lands}
@@ -23,13 +25,12 @@ use Rattle.x7_pipeline.specs.Faults.{address_fault, copy_fault, drop_fault, read
 use Rattle.x7_pipeline.specs.Flow.{GoesOn, HoldsFlow, LandsAt, OfFlow, after_reads, after_words, begun_at, begun_by, copied_by, fault_of_copy}
 use Rattle.x7_pipeline.specs.Pipeline.{PipelineData}
 use Rattle.x7_pipeline.specs.Readback.{read_at, read_slot, word_at, word_of}
-use Rattle.x7_flow.specs.declared.asked.Asked.{Asked}
-use Rattle.x7_flow.specs.declared.asked.Asked.TheVariants.{Load, Order, Word, Copies, Reads, Other}
+use Rattle.x7_flow.specs.Asked.{Asked, Load, Order, Word, Copies, Reads, Other}
 use Rattle.x7_flow.specs.Flow.{Flow, asked, asks, base_of, fault_by, first_flow, flow_by, flow_of, frame_fault, given_of}
 use Rattle.x7_flow.specs.FrameMemory.{copy_pairs, written_frames_more, memory_of, puts}
 use Rattle.x7_flow.specs.FrameAccess.{reads_frame_data}
-use Rattle.x7_flow.specs.Standing.{AfterAccess, AfterRead, AreFramesAfter, FramesFit, FramesStandFor, FramesState, AreOf, Did, FramesDid, HasFlow, frames_state, less, words_from, words_due, frames_read}
-use Rattle.x7_flow.proofs.FlowLemmas.{flow_more, flow_sound, given_nowhere, landed_grows, memory_more, put_none}
+use Rattle.x7_flow.specs.Standing.{AfterAccess, AfterRead, AreFramesAfter, FramesFit, FramesStandFor, FramesState, AreOf, Did, FramesDid, HasFlow, frames_state, less, word_to, words_from, words_due, frames_read}
+use Rattle.x7_flow.proofs.FlowLemmas.{flow_more, flow_sound, landed_grows, memory_more, put_none}
 
 -- ---- each call of a pipeline does what is asked
 
@@ -94,33 +95,6 @@ read_is part base given nowhere = by (given == 0) (has_frame_at part base) (λ e
     by true b p = refl
     by false true p = refl
     by false false p = let e = p refl in absurd cc
-
-pub drop_is : (part : PartData) (p : PipelineData) (f : Flow) (count : ℕ) → HasFlow part p f → drop_fault part f.base f.given count ≡ fault_by part (Reads count) f
-unfolding drop_fault
-drop_is part p f count h = ap (λ (o : Option RunFault). if count == 0 then None else o) (read_is part f.base f.given h.nowhere)
-
-count_so : (part : PartData) (f : Flow) (count : ℕ) → None ≡ fault_by part (Reads count) f → f.given + count ≡ (if has_frame_at part f.base then f.given + count else f.given)
-unfolding address_fault
-count_so part f count e = by (count == 0) (has_frame_at part f.base) e (λ z. grind (arith, nat_tests))
-  where
-    by : (z b : Bool) → None ≡ (if z then None else if b then None else Some (Address f.base)) → (z ≡ true → f.given + count ≡ f.given) → f.given + count ≡ (if b then f.given + count else f.given)
-    by z true e p = refl
-    by true false e p = p refl
-    by false false e p = absurd (none-some _ e)
-
-pub did_reads : (part : PartData) (p q : PipelineData) (frames : List (List ℕ)) (count : ℕ) →
-    GoesOn part p q (after_reads count) →
-    OfFlow part p (λ f. None ≡ drop_fault part f.base f.given count) →
-    Did part (Reads count) (frames_state p frames) (frames_state q frames)
-did_reads part p q frames count stands allowed = record {
-  flow = λ f h.
-      let none : None ≡ fault_by part (Reads count) f = allowed f h.stands ∙ drop_is part p f count h in
-      record {
-        stands = subst (λ (n : ℕ). HoldsFlow part q (given_so f n)) (count_so part f count none) (stands f h.stands);
-        nowhere = given_nowhere (has_frame_at part f.base) f.given count h.nowhere;
-      };
-  memory = λ f h far. sym (put_none [] (frame_at part frames) refl far);
-}
 
 pub did_other : (part : PartData) (f : FramesState) → Did part Other f f
 did_other part f = record { flow = λ g h. h; memory = λ g h far. sym (put_none [] (frame_at part f.memory) refl far) }
@@ -316,16 +290,52 @@ read_answered part f h r count place (Some fault) b refused are = frame_read_ref
 
 -- ---- a written word
 
-pub word_fault_is : (part : PartData) (p : PipelineData) (frames : List (List ℕ)) (h : History) (access : Access) (a : Asked) (result : Option RunFault) → a ≡ asks part.idcode h access →
-    ((f : Flow) → HasFlow part p f → result ≡ fault_by part a f) → AreFramesAfter part p frames h 0 → result ≡ frame_fault part h access
-word_fault_is part p frames h access a result e fault are =
-    let f : Flow = flow_of part h in
-    fault f (same_flow part p (less 0 f) f (sym (no_less f)) are.flow) ∙ ap (λ (x : Asked). fault_by part x f) e
+-- what a word written to FDRI or MFWR asks, where the settings let it and where they don't
+pub word_asked : (idcode : ℕ) (h : History) (reg : Reg) (w : ℕ) (takes : Bool) → reg ≡ Fdri → takes_frames (settings_of idcode h) ≡ takes → asks idcode h (word_to reg w) ≡ (if takes then Word w else Other)
+word_asked idcode h reg w takes e t = rw (e, t) refl
 
-pub access_taken : (part : PartData) (old new : FramesState) (h : History) (e : Entry) (a : Asked) (result : Option RunFault) → a ≡ asks part.idcode h e.access →
-    IfNone result (Did part a old new) → OnSome result (new.pipeline ≡ old.pipeline) → OnSome result (new.memory ≡ old.memory) → FramesStandFor part old h 0 → AfterAccess part new h e result
-access_taken part old new h e a None same did refused unchanged are = one_more part old new e h (subst (λ (x : Asked). Did part x old new) same did) are
-access_taken part old new h e a (Some fault) same did refused unchanged are = rw (refused, unchanged) are
+pub copies_asked : (idcode : ℕ) (h : History) (reg : Reg) (w : ℕ) (takes : Bool) → reg ≡ Mfwr → takes_copies (settings_of idcode h) ≡ takes → asks idcode h (word_to reg w) ≡ (if takes then Copies else Other)
+copies_asked idcode h reg w takes e t = rw (e, t) refl
+
+-- a word written to another register asks nothing
+pub nothing_asked : (idcode : ℕ) (h : History) (reg : Reg) (w : ℕ) → (reg ≡ Far → ⊥) → (reg ≡ Cmd → ⊥) → (reg ≡ Fdri → ⊥) → (reg ≡ Mfwr → ⊥) → asks idcode h (word_to reg w) ≡ Other
+nothing_asked idcode h Crc w far cmd fdri mfwr = refl
+nothing_asked idcode h Far w far cmd fdri mfwr = absurd (far refl)
+nothing_asked idcode h Fdri w far cmd fdri mfwr = absurd (fdri refl)
+nothing_asked idcode h Fdro w far cmd fdri mfwr = refl
+nothing_asked idcode h Cmd w far cmd fdri mfwr = absurd (cmd refl)
+nothing_asked idcode h Ctl0 w far cmd fdri mfwr = refl
+nothing_asked idcode h Mask w far cmd fdri mfwr = refl
+nothing_asked idcode h Stat w far cmd fdri mfwr = refl
+nothing_asked idcode h Lout w far cmd fdri mfwr = refl
+nothing_asked idcode h Cor0 w far cmd fdri mfwr = refl
+nothing_asked idcode h Mfwr w far cmd fdri mfwr = absurd (mfwr refl)
+nothing_asked idcode h Cbc w far cmd fdri mfwr = refl
+nothing_asked idcode h Idcode w far cmd fdri mfwr = refl
+nothing_asked idcode h Axss w far cmd fdri mfwr = refl
+nothing_asked idcode h Cor1 w far cmd fdri mfwr = refl
+nothing_asked idcode h Wbstar w far cmd fdri mfwr = refl
+nothing_asked idcode h Timer w far cmd fdri mfwr = refl
+nothing_asked idcode h Bootsts w far cmd fdri mfwr = refl
+nothing_asked idcode h Ctl1 w far cmd fdri mfwr = refl
+nothing_asked idcode h Bspi w far cmd fdri mfwr = refl
+
+pub did_as : (part : PartData) (h : History) (reg : Reg) (w : ℕ) (a : Asked) (old new : FramesState) → asks part.idcode h (word_to reg w) ≡ a → Did part a old new → Did part (asks part.idcode h (word_to reg w)) old new
+did_as part h reg w a old new e did = subst (λ (x : Asked). Did part x old new) (sym e) did
+
+pub fault_as : (part : PartData) (h : History) (reg : Reg) (w : ℕ) (a : Asked) (f : Flow) → asks part.idcode h (word_to reg w) ≡ a → fault_by part a f ≡ fault_by part (asks part.idcode h (word_to reg w)) f
+fault_as part h reg w a f e = ap (λ (x : Asked). fault_by part x f) (sym e)
+
+pub word_fault_is : (part : PartData) (p : PipelineData) (frames : List (List ℕ)) (h : History) (access : Access) (result : Option RunFault) →
+    ((f : Flow) → HasFlow part p f → result ≡ fault_by part (asks part.idcode h access) f) → AreFramesAfter part p frames h 0 → result ≡ frame_fault part h access
+word_fault_is part p frames h access result fault are =
+    let f : Flow = flow_of part h in
+    fault f (same_flow part p (less 0 f) f (sym (no_less f)) are.flow)
+
+pub access_taken : (part : PartData) (old new : FramesState) (h : History) (e : Entry) (result : Option RunFault) →
+    IfNone result (Did part (asks part.idcode h e.access) old new) → OnSome result (new.pipeline ≡ old.pipeline) → OnSome result (new.memory ≡ old.memory) → FramesStandFor part old h 0 → AfterAccess part new h e result
+access_taken part old new h e None did refused unchanged are = one_more part old new e h did are
+access_taken part old new h e (Some fault) did refused unchanged are = rw (refused, unchanged) are
 
 -- ---- after a reset
 

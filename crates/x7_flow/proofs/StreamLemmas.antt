@@ -16,8 +16,7 @@ use Rattle.x7_pipeline.specs.FarAsRead.{has_frame_at, loaded_base}
 use Rattle.x7_pipeline.specs.Copies.{copied, is_mfw}
 use Rattle.x7_pipeline.proofs.LawLemmas.{landed_empty, landed_in_order, reverse-cons}
 use Rattle.x7_pipeline.proofs.RunLemmas.{frames-completes, frames-goes_on, rest-completes, rest-goes_on}
-use Rattle.x7_flow.specs.declared.asked.Asked.{Asked}
-use Rattle.x7_flow.specs.declared.asked.Asked.TheVariants.{Copies, Other}
+use Rattle.x7_flow.specs.Asked.{Asked, Copies, Other}
 use Rattle.x7_flow.specs.Settings.{Settings, settings_of, takes_copies, takes_frames}
 use Rattle.x7_flow.specs.Flow.{Flow, asked, base_of, flow_by, flow_of, run_of, source_of}
 use Rattle.x7_flow.specs.FrameMemory.{copy_pairs, memory_of, puts}

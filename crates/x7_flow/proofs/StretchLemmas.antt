@@ -14,8 +14,7 @@ use Rattle.x7_pipeline.proofs.LawLemmas.{landed_empty, put_twice}
 use Rattle.x7_flow.specs.FrameAccess.{copies_frame}
 use Rattle.x7_regs.specs.declared.command.Command.{Command}
 use Rattle.x7_regs.specs.declared.command.Command.TheVariants as command
-use Rattle.x7_flow.specs.declared.asked.Asked.{Asked}
-use Rattle.x7_flow.specs.declared.asked.Asked.TheVariants.{Load, Order, Word, Copies, Reads, Other}
+use Rattle.x7_flow.specs.Asked.{Asked, Load, Order, Word, Copies, Reads, Other}
 use Rattle.x7_flow.specs.Settings.{Settings, settings_of, takes_frames, takes_copies, gives_frames}
 use Rattle.x7_flow.specs.Flow.{Flow, asked, asks, begins, is_copy, flow_by, flow_of}
 use Rattle.x7_flow.specs.FrameMemory.{copy_pairs, written_frames_more, memory_of, puts}

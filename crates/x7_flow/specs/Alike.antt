@@ -1,11 +1,11 @@
--- What an earlier history leaves for the frames of a later one.
+-- What an earlier history leaves for the frames of a later one (this project's choice).
 use Rattle.std.specs.Prelude.{◌≡◌, ◌||◌, Bool, true, false, [], ◌∷◌}
 use Rattle.x7_packets.specs.History.{History, writes}
 use Rattle.x7_regs.specs.declared.register.Reg.TheVariants as reg
 use Rattle.x7_regs.specs.Register.{number_of}
 use Rattle.x7_flow.specs.Settings.{Settings}
 
--- the same but for MASK
+-- two settings are the same but for MASK
 pub record AreAlike (s t : Settings) : Type 0 where
   pub matched_same : s.matched ≡ t.matched
   pub ctl0_same : s.ctl0 ≡ t.ctl0

@@ -11,8 +11,7 @@ use Rattle.x7_pipeline.specs.Copies.{source_after}
 pub use Rattle.x7_pipeline.specs.Flow.{Flow, first_flow}
 use Rattle.x7_pipeline.specs.Faults.{address_fault, copy_fault, write_fault}
 use Rattle.x7_flow.specs.Settings.{Settings, settings_of, takes_frames, takes_copies, gives_frames}
-use Rattle.x7_flow.specs.declared.asked.Asked.{Asked}
-use Rattle.x7_flow.specs.declared.asked.Asked.TheVariants.{Load, Order, Word, Copies, Reads, Other}
+use Rattle.x7_flow.specs.Asked.{Asked, Load, Order, Word, Copies, Reads, Other}
 
 -- ---- what an access asks
 
@@ -28,11 +27,11 @@ asked s (Write register w) = write_asked s register w
 asked s (Read register count) = if register == number_of reg.Fdro && (not (count == 0) && gives_frames s) then Reads count else Other
 asked s (Bad w) = Other
 
--- the same after a history
+-- what an access asks after a history
 abbrev pub asks : ℕ → History → Access → Asked
 asks idcode h access = asked (settings_of idcode h) access
 
--- it begins a stretch, writes frame data, copies or reads frame data
+-- what is asked begins a stretch (what follows a write to CMD or FAR), writes frame data, copies or reads frame data
 abbrev pub begins : Asked → Bool
 begins (Load w) = true
 begins (Order c) = true
@@ -67,7 +66,7 @@ is_read Other = false
 
 -- ---- the flow
 
--- after a FAR load
+-- the flow after a FAR load
 abbrev pub loaded : PartData → ℕ → Flow → Flow
 loaded part w f = record f { base = loaded_base part w; run = []; given = 0 }
 
@@ -75,7 +74,7 @@ loaded part w f = record f { base = loaded_base part w; run = []; given = 0 }
 abbrev pub far_in : PartData → Flow → ℕ
 far_in part f = far_of part f.base f.run f.given
 
--- after what an access asks; words are given only from an address
+-- the flow after what an access asks; words are given only from an address
 abbrev pub flow_by : PartData → Asked → Flow → Flow
 flow_by part (Load w) f = loaded part w f
 flow_by part (Order c) f = record { command = c; base = far_in part f; run = []; source = source_after part f.command c f.run; given = 0 }
@@ -111,7 +110,7 @@ far_read part h = far_in part (flow_of part h)
 
 -- ---- faults
 
--- what is asked is refused; a read of no words never is
+-- the fault by which what is asked is refused, where it is; a read of no words never is
 abbrev pub fault_by : PartData → Asked → Flow → Option RunFault
 fault_by part (Load w) f = None
 fault_by part (Order c) f = None

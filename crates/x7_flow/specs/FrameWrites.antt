@@ -38,7 +38,7 @@ AreWhole part frames = AllByRecursion (λ frame. length frame ≡ frame_words pa
 abbrev pub with_frames : FrameWrite → History → History
 with_frames x h = with_frame_data x.place (words_of_frames (all_frames x)) (after_load x.far x.far_place h)
 
--- where its frames land: at the slots from its address on, all but the last
+-- where the frames of a write land: at the slots from its address on, all but the last
 abbrev pub placed : PartData → FrameWrite → List PlanRow
 placed part x = placed_from part (loaded_base part x.far) x.frames
 
@@ -69,15 +69,15 @@ pub record FrameCopies : Type 0 where
   pub words : List ℕ
   pub frame : List ℕ
 
--- a history with them after it
+-- a history with the FAR load and the words of MFWR after it
 abbrev pub with_frame_copies : FrameCopies → History → History
 with_frame_copies x h = with_copies x.place (x.first ∷ x.words) (after_load x.far x.far_place h)
 
--- the pair that they put
+-- the pair that the words of MFWR put
 abbrev pub copied_by : PartData → FrameCopies → List PlanRow
 copied_by part x = copied (loaded_base part x.far) (Some x.frame)
 
--- a device takes them after a history: it copies, the frame is the source, and the word of FAR an address
+-- a device takes the words of MFWR after a history: it takes copies, the frame is the source, and the word of FAR an address
 pub record TakesCopies (part : PartData) (h : History) (x : FrameCopies) : Type 0 where
   pub takes : takes_copies (settings_of part.idcode h) ≡ true
   pub mfw : has_mfw h ≡ true

@@ -1,4 +1,4 @@
--- The flow of a history in other words: each of its values by a recursion of its own.
+-- The flow of a history in other words: each of its values by a recursion of its own (this project's choice).
 use Rattle.std.specs.Prelude.{ℕ, ◌+◌, ◌==◌, ◌&&◌, if◌then◌else◌, List, [], ◌∷◌, Option, None}
 use Rattle.x7_packets.specs.History.{Access, Write, Read, Bad, History, command_held, writes}
 use Rattle.x7_part.specs.Part.{PartData, frame_words}
@@ -24,7 +24,7 @@ count_asked (Write register w) = 0
 count_asked (Read register count) = count
 count_asked (Bad w) = 0
 
--- the words of frame data that were written in the last stretch
+-- the words of frame data that were written in the last stretch, which is what follows the latest write to CMD or FAR
 unfoldable pub words_written : ℕ → History → List ℕ
 words_written idcode [] = []
 words_written idcode (e ∷ h) =

@@ -1,4 +1,4 @@
--- A memory has frames at the part's addresses alone, each of the part's width.
+-- A memory has frames at the part's addresses alone, each of the part's width (this project's choice).
 use Rattle.std.specs.Prelude.{◌≡◌, ℕ, List, length, Contains, None, Some}
 use Rattle.x7_part.specs.AddressOrder.{addresses_in}
 use Rattle.x7_part.specs.Part.{PartData, frame_words}

@@ -1,4 +1,5 @@
--- A history that goes on from settings and a flow: what it makes of them, and the pairs that it puts, the newest first.
+-- A history that goes on from settings and a flow: what it makes of them, and the pairs that it puts, the newest first (this
+-- project's choice).
 use Rattle.std.specs.Prelude.{◌≡◌, ℕ, Bool, true, List, [], ◌∷◌, ◌++◌, Option, None}
 use Rattle.x7_packets.specs.History.{History, Write, command_held, entry}
 use Rattle.x7_part.specs.Part.{PartData}
@@ -38,7 +39,8 @@ pairs_after part earlier later = pairs_from part (settings_of part.idcode earlie
 abbrev pub after_load : ℕ → ℕ → History → History
 after_load w place h = entry (Write (number_of reg.Far) w) place ∷ h
 
--- the pairs of a history that goes on from a FAR load after an earlier one; and where that one's source doesn't count
+-- the pairs of a history that goes on from a FAR load after an earlier history; and those where the earlier one's source
+-- doesn't count
 abbrev pub pairs_after_load : PartData → History → ℕ → History → List PlanRow
 pairs_after_load part earlier w later = pairs_loaded part (settings_of part.idcode earlier) (source_of part earlier) w later
 
@@ -65,7 +67,7 @@ pairs_on x later = pairs_from x.part x.settings x.flow later
 abbrev pub start_on : Start → History → Start
 start_on x later = record { part = x.part; settings = settings_from x.part.idcode x.settings later; flow = flow_on x later }
 
--- a history that goes on is where words of FDRI begin a run
+-- after a history that goes on, words of FDRI begin a run
 pub record BeginsRun (x : Start) (later : History) : Type 0 where
   pub takes : takes_frames (settings_from x.part.idcode x.settings later) ≡ true
   pub empty : (flow_on x later).run ≡ []

@@ -1,3 +1,4 @@
+pub mod Asked
 pub mod Controls
 pub mod Settings
 pub mod FrameAccess

@@ -1,19 +1,18 @@
--- When an access needs an address to begin at.
+-- When an access needs an address to begin at (UG470, frame address register and frame data registers).
 use Rattle.std.specs.Prelude.{◌≡◌, ℕ, ◌==◌, ◌&&◌, not, Bool, true, false, List, [], ◌∷◌, is_some}
 use Rattle.x7_packets.specs.History.{Access, History}
 use Rattle.x7_part.specs.Part.{PartData}
 use Rattle.x7_pipeline.specs.Copies.{is_mfw}
 use Rattle.x7_pipeline.specs.FarAsRead.{has_frame_at}
 use Rattle.x7_pipeline.specs.InWords.{Overruns}
-use Rattle.x7_flow.specs.declared.asked.Asked.{Asked}
-use Rattle.x7_flow.specs.declared.asked.Asked.TheVariants.{Load, Order, Word, Copies, Reads, Other}
+use Rattle.x7_flow.specs.Asked.{Asked, Load, Order, Word, Copies, Reads, Other}
 use Rattle.x7_flow.specs.Flow.{Flow, asks, base_of, flow_of, is_copy, run_of}
 
 abbrev pub is_empty : List ℕ → Bool
 is_empty [] = true
 is_empty (w ∷ run) = false
 
--- the first word of a run, a copy for which there is a source, and a read of some words
+-- what is asked needs an address: the first word of a run, a copy for which there is a source, or a read of some words
 abbrev pub needs_address : Asked → Flow → Bool
 needs_address (Load w) f = false
 needs_address (Order c) f = false
@@ -22,11 +21,11 @@ needs_address Copies f = is_mfw f.command && is_some f.source
 needs_address (Reads count) f = not (count == 0)
 needs_address Other f = false
 
--- an access after a history needs an address, and its base is none
+-- an access after a history needs an address, and the base, `far`, is none
 abbrev pub LacksAddress : PartData → History → Access → ℕ → Type 0
 LacksAddress part h access far = (needs_address (asks part.idcode h access) (flow_of part h) ≡ true) × (has_frame_at part (base_of part h) ≡ false) × (far ≡ base_of part h)
 
--- an access after a history is a copy, and there is none to make: the command isn't MFW, or it took no frame
+-- an access after a history is a copy, and there is no frame to copy: the command isn't MFW, or MFW took none
 abbrev pub LacksSource : PartData → History → Access → Type 0
 LacksSource part h access = (is_copy (asks part.idcode h access) ≡ true) × ((is_mfw (flow_of part h).command && is_some (flow_of part h).source) ≡ false)
 

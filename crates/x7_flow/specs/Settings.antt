@@ -17,11 +17,11 @@ pub record Settings : Type 0 where
   pub ctl0 : ℕ
   pub held : ℕ
 
--- those of a history
+-- the settings after a history
 abbrev pub settings_of : ℕ → History → Settings
 settings_of idcode h = record { matched = is_matched idcode h; mask = mask_held h; ctl0 = ctl0_held h; held = command_held h }
 
--- the three values that a device stores of them are those of a history
+-- the three settings that a device stores are those of a history
 pub record AreSettingsAfter (idcode : ℕ) (s : FrameSettings) (h : History) : Type 0 where
   pub matched_is : is_matched idcode h ≡ s.matched
   pub ctl0_is : ctl0_held h ≡ s.ctl0
@@ -33,7 +33,7 @@ held_after (Write register w) old = if register == number_of reg.Cmd then w % 2 
 held_after (Read register count) old = old
 held_after (Bad w) old = old
 
--- those after one access more
+-- the settings after one access more
 abbrev pub settings_after : ℕ → Access → Settings → Settings
 settings_after idcode access s = record {
   matched = names_part idcode access || s.matched;
@@ -42,7 +42,7 @@ settings_after idcode access s = record {
   held = held_after access s.held;
 }
 
--- those after a history that goes on from these
+-- the settings after a history that goes on from these settings
 unfoldable pub settings_from : ℕ → Settings → History → Settings
 settings_from idcode s [] = s
 settings_from idcode s (e ∷ h) = settings_after idcode e.access (settings_from idcode s h)

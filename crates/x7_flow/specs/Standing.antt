@@ -1,4 +1,4 @@
--- A pipeline and a memory that stand for a history, and the words of frame data that are read out.
+-- A pipeline and a memory that stand for a history, and the words of frame data that are read out (this project's choice).
 use Rattle.std.specs.Prelude.{◌≡◌, ℕ, zero, suc, ◌+◌, ◌-◌, ◌<◌, ◌≤◌, false, true, List, [], ◌∷◌, Option, None, Some}
 use Rattle.x7_packets.specs.History.{Access, Entry, History, Read, Write, entry}
 use Rattle.x7_regs.specs.declared.register.Reg.{Reg}
@@ -12,8 +12,7 @@ use Rattle.x7_pipeline.specs.Flow.{HoldsFlow}
 use Rattle.x7_pipeline.specs.Pipeline.{IsPipelineOf, PipelineData}
 use Rattle.x7_pipeline.specs.Readback.{read_at}
 use Rattle.x7_pipeline.specs.Runs.{put_over}
-use Rattle.x7_flow.specs.declared.asked.Asked.{Asked}
-use Rattle.x7_flow.specs.declared.asked.Asked.TheVariants.{Reads}
+use Rattle.x7_flow.specs.Asked.{Asked, Reads}
 use Rattle.x7_flow.specs.declared.settings.FrameSettings.{FrameSettings}
 use Rattle.x7_flow.specs.Flow.{Flow, HasAddress, asks, base_of, flow_by, flow_of, frame_fault, given_of}
 use Rattle.x7_flow.specs.FrameAccess.{reads_frame_data}
@@ -26,11 +25,11 @@ pub record HasFlow (part : PartData) (p : PipelineData) (f : Flow) : Type 0 wher
   pub stands : HoldsFlow part p f
   pub nowhere : has_frame_at part f.base ≡ false → f.given ≡ 0
 
--- a flow of whose words given so many are still due
+-- a flow without the last `due` of its words given, which are still due
 abbrev pub less : ℕ → Flow → Flow
 less due f = record f { given = f.given - due }
 
--- the pipeline stands for the flow of a history, of whose last read so many words are due, and the memory is the history's
+-- the pipeline stands for the flow of a history, of whose last read `due` words are still due, and the memory is the history's
 pub record AreFramesAfter (part : PartData) (p : PipelineData) (frames : List (List ℕ)) (h : History) (due : ℕ) : Type 0 where
   pub flow : HasFlow part p (less due (flow_of part h))
   pub memory : AreSame (frame_at part frames) (memory_of part h)
@@ -44,12 +43,12 @@ pub record FramesState : Type 0 where
 abbrev pub frames_state : PipelineData → List (List ℕ) → FramesState
 frames_state pipeline memory = record { pipeline = pipeline; memory = memory }
 
--- they did what was asked
+-- frames before and after they did what was asked
 pub record Did (part : PartData) (a : Asked) (old new : FramesState) : Type 0 where
   pub flow : (f : Flow) → HasFlow part old.pipeline f → HasFlow part new.pipeline (flow_by part a f)
   pub memory : (f : Flow) → HasFlow part old.pipeline f → AreSame (frame_at part new.memory) (put_over (puts part a f) (frame_at part old.memory))
 
--- so many words of a readback from a place on
+-- `count` words of a readback from a place on
 abbrev pub words_from : PartData → ℕ → FrameMap → ℕ → ℕ → List ℕ
 words_from part base memory place zero = []
 words_from part base memory place (suc count) = read_at part base memory place ∷ words_from part base memory (place + 1) count
@@ -62,22 +61,22 @@ frames_read part h count = words_from part (base_of part h) (memory_of part h) (
 abbrev pub words_due : PartData → History → ℕ → List ℕ
 words_due part h due = words_from part (base_of part h) (memory_of part h) (given_of part h - due) due
 
--- a part's pipeline and frames
+-- the pipeline and the frames are a part's
 pub record AreOf (part : PartData) (p : PipelineData) (frames : List (List ℕ)) : Type 0 where
   pub pipeline_fits : IsPipelineOf part p
   pub frames_fit : AreFramesOf part frames
 
 -- ---- the frames of a device
 
--- they are a part's
+-- the frames are a part's
 abbrev pub FramesFit : PartData → FramesState → Type 0
 FramesFit part f = AreOf part f.pipeline f.memory
 
--- they stand for a history, of whose last read so many words of frame data are still due
+-- the frames stand for a history, of whose last read `due` words of frame data are still due
 abbrev pub FramesStandFor : PartData → FramesState → History → ℕ → Type 0
 FramesStandFor part f h due = AreFramesAfter part f.pipeline f.memory h due
 
--- as a map of addresses
+-- the frames of a device as a map of addresses
 abbrev pub frames_map : PartData → FramesState → FrameMap
 frames_map part f = frame_at part f.memory
 
@@ -85,11 +84,11 @@ frames_map part f = frame_at part f.memory
 abbrev pub OfFrames : PartData → FrameSettings → FramesState → (History → Type 0) → Type 0
 OfFrames part settings f Fact = (h : History) → AreSettingsAfter part.idcode settings h → FramesStandFor part f h 0 → Fact h
 
--- they did what an access after a history asks
+-- frames before and after they did what an access after a history asks
 abbrev pub FramesDid : PartData → FramesState → FramesState → History → Entry → Type 0
 FramesDid part old new h e = Did part (asks part.idcode h e.access) old new
 
--- an access after a history reads so many words of frame data, from an address
+-- an access after a history reads `count` words of frame data, from an address
 pub record ReadsFrames (part : PartData) (f : FramesState) (h : History) (access : Access) (count : ℕ) : Type 0 where
   pub reads : asks part.idcode h access ≡ Reads count
   pub address : HasAddress part h
@@ -106,25 +105,25 @@ written_to register word place = entry (word_to register word) place
 abbrev pub read_of : ℕ → ℕ → ℕ → Entry
 read_of register count place = entry (Read register count) place
 
--- the flow after a read
+-- the flow of a history with a read after it
 abbrev pub flow_read : PartData → History → ℕ → ℕ → ℕ → Flow
 flow_read part h register count place = flow_of part (read_of register count place ∷ h)
 
--- an access after a history: a read of frame data
+-- a read after a history is one of frame data
 abbrev pub ReadsData : History → ℕ → ℕ → Type 0
 ReadsData h register count = reads_frame_data h (Read register count) ≡ true
 
--- one of which fewer words are due than it asks for
+-- a read of frame data of which fewer words are due than it asks for
 pub record ReadsMore (h : History) (register count due : ℕ) : Type 0 where
   pub reads : ReadsData h register count
   pub fewer : due < count
 
--- after an access: the longer history, or where it is refused the old one
+-- after an access the frames stand for the longer history, or for the old one where the access is refused
 abbrev pub AfterAccess : PartData → FramesState → History → Entry → Option RunFault → Type 0
 AfterAccess part f h e None = FramesStandFor part f (e ∷ h) 0
 AfterAccess part f h e (Some fault) = FramesStandFor part f h 0
 
--- after a read of frame data: all its words are due; or it is refused
+-- after a read of frame data all its words are due, or the read is refused
 abbrev pub AfterRead : PartData → FramesState → History → Entry → Option RunFault → Type 0
 AfterRead part f h e None =
     (frame_fault part h e.access ≡ None)

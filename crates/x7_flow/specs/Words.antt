@@ -1,4 +1,4 @@
--- Words written to FDRI or MFWR taken at once, up to the first that is refused.
+-- Words written to FDRI or MFWR taken at once, up to the first that is refused (this project's choice).
 use Rattle.std.specs.Prelude.{◌≡◌, ℕ, ◌+◌, ◌-◌, ◌*◌, ◌≤◌, ◌⊎◌, Bool, true, List, [], ◌∷◌, ◌++◌, length, Option, None, Some}
 use Rattle.x7_words.specs.Word.{words_of_bytes}
 use Rattle.x7_packets.specs.History.{Write, History, entered_all, entry}
@@ -24,7 +24,7 @@ pub record WordsTo : Type 0 where
   pub place : ℕ
   pub words : List ℕ
 
--- those of bytes, four each
+-- the words of bytes, four bytes each, written to a register from place n on
 abbrev pub words_to : Reg → ℕ → List ℕ → WordsTo
 words_to r n bytes = record { register = r; place = n; words = words_of_bytes bytes }
 
@@ -38,17 +38,17 @@ with_frame_data n ws h = with_words reg.Fdri n ws h
 abbrev pub with_copies : ℕ → List ℕ → History → History
 with_copies n ws h = with_words reg.Mfwr n ws h
 
--- none of them is refused
+-- none of the words written to a register is refused
 unfoldable pub NoneRefused : PartData → Reg → ℕ → List ℕ → History → Type 0
 NoneRefused part r n [] h = Unit {0}
 NoneRefused part r n (w ∷ ws) h = (frame_fault part h (Write (number_of r) w) ≡ None) × NoneRefused part r (n + 4) ws (entry (Write (number_of r) w) (n + 4) ∷ h)
 
--- with this history, and these words to come: no word is left, or the next is refused
+-- after a history, with the words `rest` still to come: no word is left, or the next one is refused
 abbrev pub EndsBy : PartData → Reg → History → List ℕ → Option RunFault → Type 0
 EndsBy part r h rest None = rest ≡ []
 EndsBy part r h rest (Some fault) = (w : ℕ) × (more : List ℕ) × (rest ≡ w ∷ more) × (frame_fault part h (Write (number_of r) w) ≡ Some fault)
 
--- how many words were looked at, of which so many were taken: a refused one too
+-- how many words were looked at, where `taken` words were taken: a refused one too
 abbrev pub words_seen : ℕ → Option RunFault → ℕ
 words_seen taken None = taken
 words_seen taken (Some fault) = taken + 1

@@ -10,7 +10,7 @@ ghost use Rattle.x7_flow.specs.Words.{TakesWords, WordsTaken, words_to};
 
 mod saved;
 
-use crate::asking::{asked_write, takes_copies, takes_frames};
+use crate::asking::{takes_copies, takes_frames};
 use crate::settings::FrameSettings;
 use crate::taking::{next_word, pass_words, refuses_read, take, take_copies, take_words};
 use std::alloc::Global;
@@ -21,7 +21,7 @@ use x7_pipeline::{Pipeline, RunFault};
 use x7_regs::Reg;
 use x7_words::NoMemory;
 
-/// A pipeline and a memory of one part. They stand for a history of accesses.
+/// A pipeline and a memory of one part, which stand for a history of accesses.
 #[derive(Drop)]
 pub struct Frames {
     pipeline: Pipeline,
@@ -37,7 +37,8 @@ impl Model for Frames {
 }
 
 impl Frames {
-    /// Those of a device after a reset: zero frames. It takes room for all frames of the part, and no other call takes memory.
+    /// The frames of a device after a reset: zeros. The call takes room for all frames of the part, and no other call takes
+    /// memory.
     pub fn new(alloc: Global, part: &Part) -> Result<Frames, NoMemory>
         ensures stands { IfOk result (λ frames. FramesStandFor part.now frames [] 0) }
         ensures part { IfOk result (FramesFit part.now) }
@@ -47,7 +48,7 @@ impl Frames {
         Ok(Frames { pipeline, memory })
     }
 
-    /// Makes them those after a reset again.
+    /// Makes the frames those after a reset again: zeros.
     pub fn reset(&mut self)
         ensures stands { (part : PartData) → FramesFit part self.old → FramesStandFor part self.new [] 0 }
         ensures part { (part : PartData) → FramesFit part self.old → FramesFit part self.new }
@@ -56,7 +57,7 @@ impl Frames {
         self.memory.clear();
     }
 
-    /// The memory.
+    /// The memory of the frames that were put.
     pub fn memory(&self) -> &Memory
         ensures { result.now ≡ self.now.memory }
     {
@@ -76,12 +77,18 @@ impl Frames {
         ensures fault { OfFrames part.now settings self.old (λ h. result ≡ frame_fault part.now h (Write (number_of reg) word)) }
         ensures part { FramesFit part.now self.new }
     {
-        let asked = asked_write(settings, reg, word);
-        take(asked, part, &mut self.pipeline, &mut self.memory)
+        take(
+            settings,
+            reg,
+            word,
+            part,
+            &mut self.pipeline,
+            &mut self.memory,
+        )
     }
 
-    /// Takes words written to FDRI or MFWR on a matched device, four bytes each, up to the first that is refused. It gives the
-    /// number of words looked at, a refused one included, and the fault.
+    /// Takes words written to FDRI or MFWR on a matched device, four bytes each, up to the first that is refused. The answer is
+    /// the number of words looked at, a refused one included, and the fault.
     pub fn write_words(
         &mut self,
         settings: FrameSettings,
@@ -140,8 +147,8 @@ impl Frames {
         (bytes.len() / 4, None)
     }
 
-    /// A read of so many words of frame data begins: from now on they are due, and `next` gives them. Or it is refused, and this
-    /// says why.
+    /// A read of `count` words of frame data begins: from now on the words are due, and `next` gives them. Or the read is refused,
+    /// and the answer says why.
     pub fn begin_read(&self, count: u32, part: &Part) -> Option<RunFault>
         ensures { (h : History) (register place : ℕ) → ReadsData h register count → FramesStandFor part.now self.now h 0 →
             AfterRead part.now self.now h (read_of register count place) result }
@@ -159,7 +166,7 @@ impl Frames {
         next_word(part, &mut self.pipeline, &self.memory)
     }
 
-    /// Passes over so many of the words of frame data that are due.
+    /// Passes over `count` of the words of frame data that are due.
     pub fn pass(&mut self, count: u32, part: &Part)
         requires part { FramesFit part.now self.old }
         ensures stands { (h : History) (due : ℕ) → FramesStandFor part.now self.old h (due + count) → FramesStandFor part.now self.new h due }
@@ -168,7 +175,7 @@ impl Frames {
         pass_words(count, part, &mut self.pipeline);
     }
 
-    /// FAR as read, where so many words of the last read are still due.
+    /// The frame address register as it is read, while words of the last read may still be due.
     pub fn far(&self, part: &Part) -> u32
         ensures { (h : History) (due : ℕ) → FramesStandFor part.now self.now h due → result ≡ far_in part.now (less due (flow_of part.now h)) }
     {

@@ -65,7 +65,7 @@ pub fn word_laws()
 {}
 
 /// One access more: frames that do what it asks stand for the longer history; a read that begins changes them not, and all
-/// its words are due. Frames of a part that stand for the same are equal.
+/// the words of that read are due. Frames of a part that stand for one history, with as many words due, are equal.
 pub fn standing_laws()
     ensures more { (part : PartData) (old new : FramesState) (e : Entry) (h : History) →
         FramesDid part old new h e → FramesStandFor part old h 0 → FramesStandFor part new (e ∷ h) 0 }

@@ -1,15 +1,13 @@
 //! The frames of a history of accesses: what a frame pipeline stands for, and the memory.
 #![tactic(auto)]
 
-mod asked;
 mod asking;
 mod frames;
 mod law;
 mod settings;
 mod taking;
 
-pub use asked::Asked;
-pub use asking::{asked_write, reads_frames, takes_frames};
+pub use asking::reads_frames;
 pub use frames::Frames;
 pub use law::{
     asked_laws, fault_laws, flow_laws, later_laws, many_laws, memory_has_frames, memory_laws,

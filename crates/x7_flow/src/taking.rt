@@ -1,31 +1,37 @@
-//! A pipeline and a memory do what an access asks.
+//! A pipeline and a memory do what an access asks (UG470, frame address register and frame data registers).
 ghost use Rattle.std.specs.Prelude.{◌≡◌, ◌+◌, ◌/◌, ◌%◌, ◌≤◌, ◌∷◌, suc, ℕ, List, length, IfNone, OnSome};
 ghost use Rattle.x7_regs.specs.declared.register.Reg.TheVariants as reg;
-ghost use Rattle.x7_flow.specs.Settings.{takes_copies, takes_frames};
+ghost use Rattle.x7_flow.specs.Asked.{Reads};
+ghost use Rattle.x7_flow.specs.Settings.{AreSettingsAfter, takes_copies as takes_copies_by, takes_frames as takes_frames_by};
 ghost use Rattle.x7_flow.specs.Words.{OfTaking, WordsTaken, words_to};
 ghost use Rattle.x7_packets.specs.History.{History};
 ghost use Rattle.x7_memory.specs.Frames.{AreFramesOf};
 ghost use Rattle.x7_pipeline.specs.Pipeline.{IsPipelineOf};
-ghost use Rattle.x7_flow.specs.Flow.{Flow, fault_by};
-ghost use Rattle.x7_flow.specs.Standing.{AreFramesAfter, Did, HasFlow, frames_state, words_due};
-ghost use Rattle.x7_flow.specs.declared.asked.Asked.{Asked};
+ghost use Rattle.x7_flow.specs.Flow.{Flow, asks, fault_by};
+ghost use Rattle.x7_flow.specs.Standing.{AreFramesAfter, Did, HasFlow, frames_state, word_to, words_due};
 
-use crate::asked::Asked;
+use crate::asking::{takes_copies, takes_frames};
+use crate::settings::FrameSettings;
 use x7_memory::Memory;
 use x7_part::Part;
 use x7_pipeline::{Pipeline, RunFault};
+use x7_regs::{Reg, command_of};
 
-/// Does what an access asks, where a read passes over its words, and says why it can't.
+/// Does what a word written to a register asks, and says why it can't.
 pub fn take(
-    asked: Asked,
+    settings: FrameSettings,
+    reg: Reg,
+    word: u32,
     part: &Part,
     pipeline: &mut Pipeline,
     memory: &mut Memory,
 ) -> Option<RunFault>
     requires pipeline { IsPipelineOf part.now pipeline.old }
     requires memory { AreFramesOf part.now memory.old }
-    ensures did { IfNone result (Did part.now asked (frames_state pipeline.old memory.old) (frames_state pipeline.new memory.new)) }
-    ensures fault { (f : Flow) → HasFlow part.now pipeline.old f → result ≡ fault_by part.now asked f }
+    ensures did { (h : History) → AreSettingsAfter part.now.idcode settings h →
+        IfNone result (Did part.now (asks part.now.idcode h (word_to reg word)) (frames_state pipeline.old memory.old) (frames_state pipeline.new memory.new)) }
+    ensures fault { (h : History) (f : Flow) → AreSettingsAfter part.now.idcode settings h → HasFlow part.now pipeline.old f →
+        result ≡ fault_by part.now (asks part.now.idcode h (word_to reg word)) f }
 
     // Whatever the answer.
     ensures pipeline { IsPipelineOf part.now pipeline.new }
@@ -35,34 +41,40 @@ pub fn take(
     ensures refused { OnSome result (pipeline.new ≡ pipeline.old) }
     ensures unchanged { OnSome result (memory.new ≡ memory.old) }
 {
-    match asked {
-        Asked::Load(word) => {
+    match reg {
+        Reg::Far => {
             pipeline.load(word);
             None
         }
-        Asked::Order(command) => {
-            pipeline.command(command, part);
+        Reg::Cmd => {
+            pipeline.command(command_of(word), part);
             None
         }
-        Asked::Word(word) => match pipeline.write(word, part, memory) {
-            Ok(()) => None,
-            Err(fault) => Some(fault),
-        },
-        Asked::Copies => match pipeline.copy(part, memory) {
-            Ok(()) => None,
-            Err(fault) => Some(fault),
-        },
-        Asked::Reads(count) => match pipeline.drop_words(count, part) {
-            Ok(()) => None,
-            Err(fault) => Some(fault),
-        },
-        Asked::Other => None,
+        Reg::Fdri => {
+            if !takes_frames(settings) {
+                return None;
+            }
+            match pipeline.write(word, part, memory) {
+                Ok(()) => None,
+                Err(fault) => Some(fault),
+            }
+        }
+        Reg::Mfwr => {
+            if !takes_copies(settings) {
+                return None;
+            }
+            match pipeline.copy(part, memory) {
+                Ok(()) => None,
+                Err(fault) => Some(fault),
+            }
+        }
+        _ => None,
     }
 }
 
 /// Whether a read of frame data is refused, before a word of it is given.
 pub fn refuses_read(count: u32, part: &Part, pipeline: &Pipeline) -> Option<RunFault>
-    ensures { (f : Flow) → HasFlow part.now pipeline.now f → result ≡ fault_by part.now (Asked.Reads count) f }
+    ensures { (f : Flow) → HasFlow part.now pipeline.now f → result ≡ fault_by part.now (Reads count) f }
 {
     if count == 0 {
         return None;
@@ -84,8 +96,8 @@ pub fn next_word(part: &Part, pipeline: &mut Pipeline, memory: &Memory) -> u32
     }
 }
 
-/// Takes words of frame data at once, four bytes each, up to the first that is refused. It gives the number of words looked
-/// at, a refused one included, and the fault.
+/// Takes words of frame data at once, four bytes each, up to the first that is refused. The answer is the number of words
+/// looked at, a refused one included, and the fault.
 pub fn take_words(
     bytes: &[u8],
     part: &Part,
@@ -95,7 +107,7 @@ pub fn take_words(
     requires whole { length bytes.now % 4 ≡ 0 }
     requires pipeline { IsPipelineOf part.now pipeline.old }
     requires memory { AreFramesOf part.now memory.old }
-    ensures taken { (n : ℕ) → OfTaking part.now takes_frames pipeline.old memory.old (λ h. WordsTaken part.now (frames_state pipeline.new memory.new) h (words_to reg.Fdri n bytes.now) result) }
+    ensures taken { (n : ℕ) → OfTaking part.now takes_frames_by pipeline.old memory.old (λ h. WordsTaken part.now (frames_state pipeline.new memory.new) h (words_to reg.Fdri n bytes.now) result) }
     ensures within { result.0 ≤ length bytes.now / 4 }
     ensures pipeline { IsPipelineOf part.now pipeline.new }
     ensures memory { AreFramesOf part.now memory.new }
@@ -104,7 +116,7 @@ pub fn take_words(
 }
 
 /// Takes words written to MFWR at once, four bytes each: the first puts the source, and each later one would put it there again.
-/// It gives the number of words looked at, a refused one included, and the fault.
+/// The answer is the number of words looked at, a refused one included, and the fault.
 pub fn take_copies(
     bytes: &[u8],
     part: &Part,
@@ -114,7 +126,7 @@ pub fn take_copies(
     requires whole { length bytes.now % 4 ≡ 0 }
     requires pipeline { IsPipelineOf part.now pipeline.old }
     requires memory { AreFramesOf part.now memory.old }
-    ensures taken { (n : ℕ) → OfTaking part.now takes_copies pipeline.old memory.old (λ h. WordsTaken part.now (frames_state pipeline.new memory.new) h (words_to reg.Mfwr n bytes.now) result) }
+    ensures taken { (n : ℕ) → OfTaking part.now takes_copies_by pipeline.old memory.old (λ h. WordsTaken part.now (frames_state pipeline.new memory.new) h (words_to reg.Mfwr n bytes.now) result) }
     ensures within { result.0 ≤ length bytes.now / 4 }
     ensures pipeline { IsPipelineOf part.now pipeline.new }
     ensures memory { AreFramesOf part.now memory.new }
@@ -128,7 +140,7 @@ pub fn take_copies(
     }
 }
 
-/// Passes over so many of the words of frame data that are due.
+/// Passes over `count` of the words of frame data that are due.
 pub fn pass_words(count: u32, part: &Part, pipeline: &mut Pipeline)
     requires pipeline { IsPipelineOf part.now pipeline.old }
     ensures stands { (frames : List (List ℕ)) (h : History) (due : ℕ) → AreFramesAfter part.now pipeline.old frames h (due + count) → AreFramesAfter part.now pipeline.new frames h due }

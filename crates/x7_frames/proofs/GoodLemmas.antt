@@ -1,15 +1,14 @@
 -- Good lines, one more, and the line at fault.
-use Rattle.std.proofs.Common.{◌≡◌, inl, inr, ℕ, zero, suc, ◌+◌, ◌<◌, ◌≤◌, Bool, true, false, List, [], ◌∷◌, ◌++◌, length, get_or, set, refl, sym, subst, ap, ◌∙◌, arith, append_assoc}
-use Rattle.std.specs.Prelude.{Contains, Err, ◌↔◌, slice_index}
+use Rattle.std.proofs.Common.{◌≡◌, inl, inr, ℕ, zero, suc, ◌+◌, ◌<◌, ◌≤◌, Bool, true, false, List, [], ◌∷◌, ◌++◌, length, get_or, set, refl, sym, subst, ap, ◌∙◌, arith}
+use Rattle.std.specs.Prelude.{Contains, Result, Ok, Err, OnErr, OnOk, ◌↔◌, slice_index}
 use Rattle.std.proofs.lemmas.Bool.{cases_order}
 use Rattle.std.proofs.lemmas.List.{get_or_append_left, get_or_push, get_or-map, length-map, length_push, map_push, get_or-set_same, get_or-set_other, length-set}
 use Rattle.std.proofs.lemmas.List.Elements.{All-push, All-nil, Contains-push, Contains-push_cases, Contains-append_left}
-use Rattle.x7_text.specs.Lines.{split}
 use Rattle.x7_part.specs.AddressOrder.{addresses_in, Rises, risen, rise}
 use Rattle.x7_part.specs.Part.{PartData, frame_words}
 use Rattle.x7_memory.specs.Planned.{PlanRow, AreApart, planned_addresses}
 use Rattle.x7_frames.specs.FramesText.{means_nothing, AreGood, AreLines, no_line, no_frame, frame, IsFrameLine, IsPlanOf, Reaches}
-use Rattle.x7_frames.specs.Steps.{Goes, HasMarks, IsFaultAt, Takes}
+use Rattle.x7_frames.specs.Steps.{HasMarks, IsFaultAt, Takes}
 use Rattle.x7_frames.specs.declared.fault.FramesFault.{FramesFault}
 use Rattle.x7_frames.specs.declared.fault.FramesFault.TheVariants as fault
 
@@ -56,22 +55,8 @@ good-next part lines line rows new good (inr a) =
 pub no-rows-apart : AreApart []
 no-rows-apart i j d lt h e = absurd (omega arith)
 
-pub starts : (part : PartData) (text : List ℕ) (rows : List PlanRow) → rows ≡ [] → Goes part text text rows 0
-starts part text rows e = record {
-  lines = [];
-  texts = refl;
-  good = subst (λ r. AreGood part [] r) (sym e) (record { read = no_line (frame_words part); addresses = All-nil (λ r. Contains (addresses_in part) r.far); apart = no-rows-apart });
-  counted = refl;
-}
-
--- the line that stands next is read, or is at fault
-pub goes-on : (part : PartData) (text rest line after : List ℕ) (rows new : List PlanRow) (n : ℕ) → split rest ≡ line ∷ split after → Goes part text rest rows n → Takes part line rows new → Goes part text after new (n + 1)
-goes-on part text rest line after rows new n e goes takes = record {
-  lines = goes.lines ++ line ∷ [];
-  texts = goes.texts ∙ ap (λ t. goes.lines ++ t) e ∙ sym (append_assoc goes.lines (line ∷ []) (split after));
-  good = good-next part goes.lines line rows new goes.good takes;
-  counted = ap (λ (k : ℕ). k + 1) goes.counted ∙ sym (length_push goes.lines line);
-}
+pub no-rows-good : (part : PartData) → AreGood part [] []
+no-rows-good part = record { read = no_line (frame_words part); addresses = All-nil (λ r. Contains (addresses_in part) r.far); apart = no-rows-apart }
 
 -- what a line at fault tells of the text
 pub fault-of : (part : PartData) (text line : List ℕ) (rows : List PlanRow) (n : ℕ) (f : FramesFault) → Reaches part text n line rows → IsFaultAt part rows n line f → IsPlanOf part text (Err f)
@@ -80,19 +65,13 @@ fault-of part text line rows n (fault.Address m) r h = (line, rows, subst (λ k.
 fault-of part text line rows n (fault.Twice m) r h = (line, rows, subst (λ k. Reaches part text k line rows) (sym h.0) r, h.1)
 fault-of part text line rows n fault.NoMemory r h = h
 
-pub fails-there : (part : PartData) (text rest line : List ℕ) (others : List (List ℕ)) (rows : List PlanRow) (n : ℕ) (f : FramesFault) → split rest ≡ line ∷ others → Goes part text rest rows n → IsFaultAt part rows (n + 1) line f → IsPlanOf part text (Err f)
-fails-there part text rest line others rows n f e goes =
-    fault-of part text line rows (n + 1) f
-    (record { before = goes.lines; after = others; texts = goes.texts ∙ ap (λ t. goes.lines ++ t) e; good = goes.good; count = ap (λ (k : ℕ). k + 1) goes.counted })
-
--- the last line is read
-pub last-good : (part : PartData) (text rest line : List ℕ) (rows new : List PlanRow) (n : ℕ) → split rest ≡ line ∷ [] → Goes part text rest rows n → Takes part line rows new → AreGood part (split text) new
-last-good part text rest line rows new n e goes takes =
-    subst (λ t. AreGood part t new) (sym (goes.texts ∙ ap (λ t. goes.lines ++ t) e)) (good-next part goes.lines line rows new goes.good takes)
-
-pub apart-takes : (part : PartData) (line : List ℕ) (rows new : List PlanRow) → AreApart rows → Takes part line rows new → AreApart new
+apart-takes : (part : PartData) (line : List ℕ) (rows new : List PlanRow) → AreApart rows → Takes part line rows new → AreApart new
 apart-takes part line rows new apart (inl same) = subst AreApart (sym same.1) apart
 apart-takes part line rows new apart (inr a) = subst AreApart (sym a.rows) (apart-push rows a.row apart a.apart)
+
+pub apart-taken : {A E : Type 0} (r : Result A E) (part : PartData) (line : List ℕ) (rows new : List PlanRow) → AreApart rows → OnOk r (Takes part line rows new) → OnErr r (new ≡ rows) → AreApart new
+apart-taken (Ok a) part line rows new apart takes same = apart-takes part line rows new apart takes
+apart-taken (Err e) part line rows new apart takes same = subst AreApart (sym same) apart
 
 -- ---- marks
 

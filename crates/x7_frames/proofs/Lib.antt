@@ -7,4 +7,4 @@ pub mod TextLemmas
 pub mod OneFaultLemmas
 pub mod OneLemmas
 pub mod BackLemmas
-pub mod ReaderLemmas
+pub mod FrameLinesLemmas

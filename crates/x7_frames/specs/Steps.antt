@@ -1,10 +1,9 @@
 -- A text that is being read: one line more, and the marks of addresses.
 use Rattle.std.specs.Prelude.{◌≡◌, ◌↔◌, ℕ, ◌<◌, ◌⊎◌, Bool, true, false, List, [], ◌∷◌, ◌++◌, length, slice_index, slice_index_or, Contains}
-use Rattle.x7_text.specs.Lines.{split}
 use Rattle.x7_part.specs.AddressOrder.{addresses_in, Rises}
 use Rattle.x7_part.specs.Part.{PartData, frame_words}
 use Rattle.x7_memory.specs.Planned.{PlanRow, planned_addresses}
-use Rattle.x7_frames.specs.FramesText.{means_nothing, AreGood, IsFrameLine, IsNoLine, IsForeign, IsRepeated}
+use Rattle.x7_frames.specs.FramesText.{means_nothing, IsFrameLine, IsNoLine, IsForeign, IsRepeated}
 use Rattle.x7_frames.specs.declared.fault.FramesFault.{FramesFault}
 use Rattle.x7_frames.specs.declared.fault.FramesFault.TheVariants as fault
 
@@ -36,10 +35,3 @@ IsFaultAt part rows n line (fault.Line m) = (m ≡ n) × IsNoLine (frame_words p
 IsFaultAt part rows n line (fault.Address m) = (m ≡ n) × IsForeign part line
 IsFaultAt part rows n line (fault.Twice m) = (m ≡ n) × IsRepeated part rows line
 IsFaultAt part rows n line fault.NoMemory = ⊥
-
--- the first lines of the text, so many, are good and have these rows, and this text is left
-pub record Goes (part : PartData) (text rest : List ℕ) (rows : List PlanRow) (count : ℕ) : Type 0 where
-  pub lines : List (List ℕ)
-  pub texts : split text ≡ lines ++ split rest
-  pub good : AreGood part lines rows
-  pub counted : count ≡ length lines

@@ -2,14 +2,14 @@
 #![tactic(auto)]
 
 mod fault;
+mod frame_lines;
 mod laws;
 mod line;
-mod reader;
 mod reading;
 mod text;
 
 pub use fault::FramesFault;
+pub use frame_lines::FrameLines;
 pub use laws::{every_text_is_read, one_plan, plan_text_leads_back};
-pub use reader::FramesReader;
 pub use reading::plan_of;
 pub use text::plan_text;

@@ -1,5 +1,5 @@
 //! The plan of a text, line by line.
-ghost use Rattle.std.specs.Prelude.{◌≡◌, ◌≤◌, ◌⊎◌, [], Ok, Err, IfOk, IfErr, OnOk, MatchResult, vec_capacity};
+ghost use Rattle.std.specs.Prelude.{◌≡◌, ◌≤◌, ◌⊎◌, [], Ok, Err, IfOk, IfErr, OnErr, OnOk, MatchResult, vec_capacity};
 ghost use Rattle.x7_part.specs.Part.{frame_words};
 ghost use Rattle.x7_memory.specs.Planned.{IsPlanFor, PlanData};
 ghost use Rattle.x7_frames.specs.FramesText.{IsPlanOf, plan_text};
@@ -7,11 +7,12 @@ ghost use Rattle.x7_frames.specs.Steps.{IsFaultAt, IsGoodLine, Takes, HasMarks};
 ghost use Rattle.x7_frames.specs.declared.fault.FramesFault.{FramesFault};
 
 use crate::fault::FramesFault;
+use crate::frame_lines::FrameLines;
 use crate::line::{means_nothing, read_frame};
-use crate::reader::FramesReader;
 use std::alloc::Global;
 use x7_memory::{Draft, Plan};
 use x7_part::Part;
+use x7_text::read_lines;
 use x7_words::NoMemory;
 
 /// What was read so far.
@@ -47,15 +48,16 @@ impl Reading {
         })
     }
 
-    /// Takes line `n`. After an error nothing more may be taken.
+    /// Takes line `n`.
     pub(crate) fn take(&mut self, part: &Part, n: u64, line: &[u8]) -> Result<(), FramesFault>
         requires width { self.old.draft.width ≡ frame_words part.now }
         requires marks { HasMarks part.now self.old.draft.rows self.old.marks.items }
         requires room { frame_words part.now ≤ vec_capacity self.old.frame }
         ensures taken { OnOk result (Takes part.now line.now self.old.draft.rows self.new.draft.rows) }
-        ensures marks { OnOk result (HasMarks part.now self.new.draft.rows self.new.marks.items) }
-        ensures width { OnOk result (self.new.draft.width ≡ frame_words part.now) }
-        ensures room { OnOk result (frame_words part.now ≤ vec_capacity self.new.frame) }
+        ensures err { OnErr result (self.new.draft.rows ≡ self.old.draft.rows) }
+        ensures marks { HasMarks part.now self.new.draft.rows self.new.marks.items }
+        ensures width { self.new.draft.width ≡ frame_words part.now }
+        ensures room { frame_words part.now ≤ vec_capacity self.new.frame }
         ensures fault { IfErr result (λ fault. (fault ≡ FramesFault.NoMemory) ⊎ IsFaultAt part.now self.old.draft.rows n line.now fault) }
         ensures memory { IfErr result (λ fault. fault ≡ FramesFault.NoMemory → IsGoodLine part.now self.old.draft.rows line.now) }
     {
@@ -71,8 +73,9 @@ impl Reading {
         if self.marks[rank as usize] {
             return Err(FramesFault::Twice(n));
         }
+        self.draft.push(far, &self.frame)?;
         self.marks[rank as usize] = true;
-        Ok(self.draft.push(far, &self.frame)?)
+        Ok(())
     }
 }
 
@@ -93,11 +96,8 @@ pub fn plan_of(alloc: Global, text: &[u8], part: &Part) -> Result<Plan, FramesFa
 fn read_text(alloc: Global, text: &[u8], part: &Part) -> Result<Plan, FramesFault>
     ensures { MatchResult result (λ plan. IsPlanOf part.now text.now (Ok plan)) (λ fault. (fault ≡ FramesFault.NoMemory) ⊎ IsPlanOf part.now text.now (Err fault)) }
 {
-    let Ok(reader) = FramesReader::new(alloc, part) else {
+    let Ok(lines) = FrameLines::new(alloc, part) else {
         return Err(FramesFault::NoMemory);
     };
-    match reader.feed(text) {
-        Ok(reader) => reader.finish(),
-        Err(fault) => Err(fault),
-    }
+    read_lines(lines, text)
 }

@@ -1,5 +1,5 @@
 -- Texts cut at their line ends, and one line more.
-use Rattle.std.proofs.Common.{◌≡◌, inl, inr, ℕ, ◌+◌, ◌-◌, ◌^◌, ◌<◌, ◌≤◌, Bool, true, false, List, [], ◌∷◌, ◌++◌, Ok, Err, length, map, refl, ap, sym, subst, ◌∙◌, arith, append_assoc, length-append, length-drop, take, drop}
+use Rattle.std.proofs.Common.{◌≡◌, inl, inr, ℕ, ◌+◌, ◌-◌, ◌<◌, ◌≤◌, Bool, true, false, List, [], ◌∷◌, ◌++◌, Ok, Err, length, map, refl, ap, sym, subst, ◌∙◌, arith, append_assoc, length-append, length-drop, take, drop}
 use Rattle.std.proofs.lemmas.List.{drop-append-le, length-take-le, take-append-drop, take-append-le}
 use Rattle.std.proofs.lemmas.List.Sums.{fold-append}
 use Rattle.x7_words.proofs.ListLemmas.{all-append, map-append}
@@ -123,10 +123,10 @@ pub goes-whole : (all : List (List ℕ)) (out : List ℕ) (start : ℕ) (checker
 goes-whole all out start checker n g = close-ok all g.others (take start out) out start g.first (sym (length-take-le start out g.long)) g.opens (went-all (67108864 - start) g.others (drop start out) g.read g.went) refl
 
 -- one text more is read
-module _ (line out mid new : List ℕ) (start at n c : ℕ) (old-checker new-checker : CheckerState) (r : Bool) (same : mid ≡ out) (at-is : start ≤ length mid → at ≡ start) (n-is : n < 2 ^ 63 → c ≡ n + 1)
+module _ (line out mid new : List ℕ) (start at n c : ℕ) (old-checker new-checker : CheckerState) (r : Bool) (same : mid ≡ out) (at-is : start ≤ length mid → at ≡ start) (n-is : c ≡ n + 1)
     (reads : Keeps old-checker (drop at mid) → Reads FitsLine text_of (bytes_of (check_of_bytes (drop at mid))) r line mid new)
     (keeps : Keeps old-checker (drop at mid) → Keeps new-checker (drop at new)) where
-  module _ (all left : List (List ℕ)) (few : n < 2 ^ 63) (g : Goes all (line ∷ left) (body_by out start old-checker n)) where
+  module _ (all left : List (List ℕ)) (g : Goes all (line ∷ left) (body_by out start old-checker n)) where
     long-mid : start ≤ length mid
     long-mid = subst (λ (b : List ℕ). start ≤ length b) (sym same) g.long
 
@@ -145,7 +145,7 @@ module _ (line out mid new : List ℕ) (start at n c : ℕ) (old-checker new-che
     pub read-bad : r ≡ false → AreHeadedAsm all (Err (fault.Line c))
     read-bad e = close-bad all g.others (take start out) start g.first (g.read + 1) c (sym (length-take-le start out g.long)) g.opens
         (bad (67108864 - start) g.others line (drop start out) (drop start new) left g.read g.went (subst (λ b. Reads FitsLine text_of (bytes_of (check_of_bytes (drop start out))) b line (drop start out) (drop start new)) e behind-front))
-        (omega (arith, n-is few, g.count_is))
+        (omega (arith, n-is, g.count_is))
 
     yes : r ≡ true → Reads FitsLine text_of (bytes_of (check_of_bytes (drop start out))) true line (drop start out) (drop start new)
     yes e = subst (λ b. Reads FitsLine text_of (bytes_of (check_of_bytes (drop start out))) b line (drop start out) (drop start new)) e behind-front
@@ -153,7 +153,7 @@ module _ (line out mid new : List ℕ) (start at n c : ℕ) (old-checker new-che
     pub read-long : r ≡ true → 67108864 < length new → AreHeadedAsm all (Err (fault.TooLong c))
     read-long e h = close-long all g.others (take start out) start g.first (g.read + 1) c (sym (length-take-le start out g.long)) g.opens
         (too-long (67108864 - start) g.others line (drop start out) (drop start new) left g.read g.went (yes e) (omega (arith, h, g.short, length-drop start new)))
-        (omega (arith, n-is few, g.count_is))
+        (omega (arith, n-is, g.count_is))
 
     pub read-on : r ≡ true → length new ≤ 67108864 → Goes all left (body_by new start new-checker c)
     read-on e h =
@@ -167,5 +167,5 @@ module _ (line out mid new : List ℕ) (start at n c : ℕ) (old-checker new-che
           keeps = subst (λ (k : ℕ). Keeps new-checker (drop k new)) at-start (keeps held);
           opens = subst (λ (b : List ℕ). Opens all g.others b g.first) (sym f.0) g.opens;
           went = next (67108864 - start) g.others line (drop start out) (drop start new) left g.read g.went (yes e) (omega (arith, h, length-drop start new));
-          count_is = omega (arith, n-is few, g.count_is);
+          count_is = omega (arith, n-is, g.count_is);
         }

@@ -9,6 +9,7 @@ use Rattle.x7_regs.specs.Command.{code_of, command_name_of, command_with}
 use Rattle.x7_regs.specs.declared.command.Command.{Command}
 use Rattle.x7_text.specs.Digits.{hex_byte, hex_word}
 use Rattle.x7_text.specs.Row.{spaced}
+use Rattle.x7_packets.specs.PacketWords.{type1_read, type1_write, type2_read, type2_write}
 use Rattle.x7_listing.specs.Line.{Line, Empty, Comment, Bytes, Sync, Nop, Write, Read, Write2, Read2, Word, Data, Cmd, Check, access_text, bytes_of, FitsLine, IsAccess, IsLine, IsPlain, text_of}
 use Rattle.x7_text.specs.Row.{IsByteRow, IsWordRow}
 use Rattle.x7_text.specs.Reads.{Reads}
@@ -40,17 +41,17 @@ module _ (check : ℕ) (b : Bool) (t rest old new : List ℕ) where
   pub cmd-line : t ≡ codes "cmd " ++ rest → Reads (λ (c : Command). Unit {0}) command_name_of (λ c. bytes_of_word (code_of c)) b rest old new → Reads FitsLine text_of (bytes_of check) b t old new
   cmd-line e r = lift (λ (c : Command). Unit {0}) command_name_of (λ c. bytes_of_word (code_of c)) check (codes "cmd ") Cmd b t rest old new e (λ x h. h) (λ x h. h) (λ x. refl) (λ x. refl) (λ l i. (command_with (place_in command_names rest), line-is _ l i)) r
 
-  pub write-line : t ≡ codes "write " ++ rest → Reads IsAccess access_text (λ (a : ℕ × ℕ). bytes_of_word (0x30000000 + 8192 * a.0 + a.1)) b rest old new → Reads FitsLine text_of (bytes_of check) b t old new
-  write-line e r = lift IsAccess access_text (λ (a : ℕ × ℕ). bytes_of_word (0x30000000 + 8192 * a.0 + a.1)) check (codes "write ") (λ (a : ℕ × ℕ). Write a.0 a.1) b t rest old new e (λ x h. h) (λ x h. h) (λ x. refl) (λ x. refl) (λ l i. ((register_in rest, count_in rest), line-is _ l i)) r
+  pub write-line : t ≡ codes "write " ++ rest → Reads IsAccess access_text (λ (a : ℕ × ℕ). bytes_of_word (type1_write a.0 a.1)) b rest old new → Reads FitsLine text_of (bytes_of check) b t old new
+  write-line e r = lift IsAccess access_text (λ (a : ℕ × ℕ). bytes_of_word (type1_write a.0 a.1)) check (codes "write ") (λ (a : ℕ × ℕ). Write a.0 a.1) b t rest old new e (λ x h. h) (λ x h. h) (λ x. refl) (λ x. refl) (λ l i. ((register_in rest, count_in rest), line-is _ l i)) r
 
-  pub read-line : t ≡ codes "read " ++ rest → Reads IsAccess access_text (λ (a : ℕ × ℕ). bytes_of_word (0x28000000 + 8192 * a.0 + a.1)) b rest old new → Reads FitsLine text_of (bytes_of check) b t old new
-  read-line e r = lift IsAccess access_text (λ (a : ℕ × ℕ). bytes_of_word (0x28000000 + 8192 * a.0 + a.1)) check (codes "read ") (λ (a : ℕ × ℕ). Read a.0 a.1) b t rest old new e (λ x h. h) (λ x h. h) (λ x. refl) (λ x. refl) (λ l i. ((register_in rest, count_in rest), line-is _ l i)) r
+  pub read-line : t ≡ codes "read " ++ rest → Reads IsAccess access_text (λ (a : ℕ × ℕ). bytes_of_word (type1_read a.0 a.1)) b rest old new → Reads FitsLine text_of (bytes_of check) b t old new
+  read-line e r = lift IsAccess access_text (λ (a : ℕ × ℕ). bytes_of_word (type1_read a.0 a.1)) check (codes "read ") (λ (a : ℕ × ℕ). Read a.0 a.1) b t rest old new e (λ x h. h) (λ x h. h) (λ x. refl) (λ x. refl) (λ l i. ((register_in rest, count_in rest), line-is _ l i)) r
 
-  pub write2-line : t ≡ codes "write2 " ++ rest → Reads (λ n. n < 2 ^ 27) decimal (λ n. bytes_of_word (0x50000000 + n)) b rest old new → Reads FitsLine text_of (bytes_of check) b t old new
-  write2-line e r = lift (λ n. n < 2 ^ 27) decimal (λ n. bytes_of_word (0x50000000 + n)) check (codes "write2 ") Write2 b t rest old new e (λ x h. h) (λ x h. h) (λ x. refl) (λ x. refl) (λ l i. (decimal_after 0 rest, line-is _ l i)) r
+  pub write2-line : t ≡ codes "write2 " ++ rest → Reads (λ n. n < 2 ^ 27) decimal (λ n. bytes_of_word (type2_write n)) b rest old new → Reads FitsLine text_of (bytes_of check) b t old new
+  write2-line e r = lift (λ n. n < 2 ^ 27) decimal (λ n. bytes_of_word (type2_write n)) check (codes "write2 ") Write2 b t rest old new e (λ x h. h) (λ x h. h) (λ x. refl) (λ x. refl) (λ l i. (decimal_after 0 rest, line-is _ l i)) r
 
-  pub read2-line : t ≡ codes "read2 " ++ rest → Reads (λ n. n < 2 ^ 27) decimal (λ n. bytes_of_word (0x48000000 + n)) b rest old new → Reads FitsLine text_of (bytes_of check) b t old new
-  read2-line e r = lift (λ n. n < 2 ^ 27) decimal (λ n. bytes_of_word (0x48000000 + n)) check (codes "read2 ") Read2 b t rest old new e (λ x h. h) (λ x h. h) (λ x. refl) (λ x. refl) (λ l i. (decimal_after 0 rest, line-is _ l i)) r
+  pub read2-line : t ≡ codes "read2 " ++ rest → Reads (λ n. n < 2 ^ 27) decimal (λ n. bytes_of_word (type2_read n)) b rest old new → Reads FitsLine text_of (bytes_of check) b t old new
+  read2-line e r = lift (λ n. n < 2 ^ 27) decimal (λ n. bytes_of_word (type2_read n)) check (codes "read2 ") Read2 b t rest old new e (λ x h. h) (λ x h. h) (λ x. refl) (λ x. refl) (λ l i. (decimal_after 0 rest, line-is _ l i)) r
 
 -- the text begins with this word
 abbrev pub NotAfter : List ℕ → List ℕ → Type 0

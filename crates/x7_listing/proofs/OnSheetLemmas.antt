@@ -1,8 +1,7 @@
 -- What short runs add to the text of a sheet.
 use Rattle.std.proofs.Common.{◌≡◌, ℕ, ◌*◌, ◌<◌, ◌≤◌, List, [], ◌∷◌, ◌++◌, codes, decimal, replicate, take, refl, ap, sym, ◌∙◌, append_assoc, arith}
 use Rattle.std.specs.List.{flat_map}
-use Rattle.x7_packets.specs.AtOnce.{short_head}
-use Rattle.x7_packets.specs.Nops.{nop_word}
+use Rattle.x7_packets.specs.PacketWords.{no_op, type1_write}
 use Rattle.x7_packets.specs.declared.header.Step.TheVariants.{Nop, Open}
 use Rattle.x7_regs.specs.Command.{code_of, command_by}
 use Rattle.x7_regs.specs.declared.command.Command.{Command}
@@ -53,14 +52,14 @@ far_command shown line register w e far =
 
 -- the line of the header of a short write
 pub head_shown : (shown first all : List ℕ) (line register count : ℕ) → register < 32 → count < 20 → first ≡ shown ++ (close line ++ write_name register) → all ≡ first ++ (decimal count ++ 10 ∷ [])
-    → all ≡ shown ++ (close line ++ head_text (Open register count) (short_head register count))
+    → all ≡ shown ++ (close line ++ head_text (Open register count) (type1_write register count))
 head_shown shown first all line register count h k a b =
     b ∙ ap (λ t. t ++ (decimal count ++ 10 ∷ [])) a ∙ append_assoc shown (close line ++ write_name register) (decimal count ++ 10 ∷ [])
     ∙ ap (λ t. shown ++ t) (append_assoc (close line) (write_name register) (decimal count ++ 10 ∷ []) ∙ ap (λ t. close line ++ t) (sym (short_line-is register count h k)))
 
 -- a few no-ops
 pub nops_shown : (count : ℕ) (block : List ℕ) → count ≤ 32 → block ≡ flat_map (λ x. x) (replicate 32 (codes "nop\n")) → take (4 * count) block ≡ nop_lines count
-nops_shown count block few e = ap (take (4 * count)) (e ∙ equal_block Nop nop_word 32 (codes "nop\n") refl) ∙ equal_front Nop nop_word 4 32 count refl few
+nops_shown count block few e = ap (take (4 * count)) (e ∙ equal_block Nop no_op 32 (codes "nop\n") refl) ∙ equal_front Nop no_op 4 32 count refl few
 
 -- a gap and its sync word
 pub gap_shown : (shown cut first all listed : List ℕ) → first ≡ shown ++ cut → all ≡ first ++ (10 ∷ codes "sync\n") → listed ≡ cut ++ 10 ∷ [] → all ≡ shown ++ (listed ++ codes "sync\n")

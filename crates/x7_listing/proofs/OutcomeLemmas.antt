@@ -1,5 +1,5 @@
 -- A text has one outcome: no two of its bytes, its first bad line and the line at which it passes the limit.
-use Rattle.std.proofs.Common.{◌≡◌, ◌⊎◌, ℕ, ◌+◌, ◌-◌, ◌<◌, ◌≤◌, List, [], ◌∷◌, ◌++◌, inl, inr, Result, Ok, Err, IfOk, IfErr, MatchResult, length, map, fold, refl, ap, sym, subst, ◌∙◌, arith, append_assoc, append-nil, length-append}
+use Rattle.std.proofs.Common.{◌≡◌, ◌⊎◌, ℕ, ◌+◌, ◌-◌, ◌<◌, ◌≤◌, List, [], ◌∷◌, ◌++◌, inl, inr, Result, Ok, Err, MatchResult, length, map, fold, refl, ap, sym, subst, ◌∙◌, arith, append_assoc, append-nil, length-append}
 use Rattle.std.proofs.lemmas.Grind.{fold-append}
 use Rattle.std.specs.List.{AllByRecursion}
 use Rattle.x7_listing.specs.Assembly.{asm_limit, Assembles, assembled, Begins, AreAsm, after_one_line, Follows, HasNoHead, IsBad, IsAsm, IsHeaded, IsTooLong, with_line}
@@ -157,11 +157,8 @@ one-outcome text a b (inr h) (inl k) = absurd (not-headed (split text) b k h.0)
 one-outcome text a b (inr h) (inr k) = same-asm asm_limit (split text) a b h.1 k.1
 
 -- the outcome of the listing of a stream is the stream, but for want of memory
-pub stream-fault : (text b : List ℕ) (f : AsmFault) → AreBytes b → length b ≤ asm_limit → stream_listing b ≡ Ok text → (f ≡ fault.NoMemory) ⊎ IsAsm text (Err f) → f ≡ fault.NoMemory
-stream-fault text b f a h e (inl is) = is
-stream-fault text b f a h e (inr is) = let other : Ok b ≡ Err f = one-outcome text (Ok b) (Err f) (stream-back b text a h e) is in absurd cc
-
-pub stream-outcome : {X : Type 0} (items : X → List ℕ) (text : List ℕ) (r : Result X AsmFault) → IfOk r (λ x. IsAsm text (Ok (items x))) → IfErr r (λ f. (f ≡ fault.NoMemory) ⊎ IsAsm text (Err f))
+pub stream-outcome : {X : Type 0} (items : X → List ℕ) (text : List ℕ) (r : Result X AsmFault) → MatchResult r (λ x. IsAsm text (Ok (items x))) (λ f. (f ≡ fault.NoMemory) ⊎ IsAsm text (Err f))
     → (b : List ℕ) → AreBytes b → length b ≤ asm_limit → stream_listing b ≡ Ok text → MatchResult r (λ x. items x ≡ b) (λ f. f ≡ fault.NoMemory)
-stream-outcome items text (Ok x) o f b a h e = let same : Ok (items x) ≡ Ok b = one-outcome text (Ok (items x)) (Ok b) o (stream-back b text a h e) in cc
-stream-outcome items text (Err g) o f b a h e = stream-fault text b g a h e f
+stream-outcome items text (Ok x) o b a h e = let same : Ok (items x) ≡ Ok b = one-outcome text (Ok (items x)) (Ok b) o (stream-back b text a h e) in cc
+stream-outcome items text (Err f) (inl is) b a h e = is
+stream-outcome items text (Err f) (inr is) b a h e = let other : Ok b ≡ Err f = one-outcome text (Ok b) (Err f) (stream-back b text a h e) is in absurd cc

@@ -67,15 +67,18 @@ takes-more text old out new a n j k h s t =
     let f : TakesFirst (drop a text) out new n k = subst (λ r. TakesFirst r out new n k) (left-from a text h) t in
     (omega (arith, f.within, length-drop a text, h), subst (λ r. TakesLines text r old new (j + k)) (dropped-twice a n text) (takes-both text (drop a text) (drop n (drop a text)) old out new j k s f.takes))
 
+-- their texts stand first
+pub quick-texts : (text rest old new : List ℕ) (k : ℕ) (t : TakesLines text rest old new k) → split text ≡ map text_of t.lines ++ split rest
+quick-texts text rest old new k t = ap split t.text_is ∙ texts-ahead t.lines rest t.fit t.listed
+
 -- lines more are read
-pub goes-quick : (all : List (List ℕ)) (text rest out new more : List ℕ) (start k n c : ℕ) (checker : CheckerState) → TakesLines text rest out new k → (length out ≤ 67108864 → length new ≤ 67108864) → c ≡ n + k
-    → Goes all (split (text ++ more)) (body_by out start checker n) → Goes all (split (rest ++ more)) (body_by new start checker c)
-goes-quick all text rest out new more start k n c checker t limit e g =
+pub goes-quick : (all left : List (List ℕ)) (text rest out new : List ℕ) (start k n c : ℕ) (checker : CheckerState) (t : TakesLines text rest out new k) → (length out ≤ 67108864 → length new ≤ 67108864) → c ≡ n + k
+    → Goes all (map text_of t.lines ++ left) (body_by out start checker n) → Goes all left (body_by new start checker c)
+goes-quick all left text rest out new start k n c checker t limit e g =
     let added : List ℕ = flat_map (bytes_of 0) t.lines in
     let body : drop start new ≡ drop start out ++ added = ap (drop start) t.appended ∙ drop-append-le start out added g.long in
     let prefix : take start new ≡ take start out = ap (take start) t.appended ∙ take-append-le start out added g.long in
     let size : length new ≡ length out + length added = ap length t.appended ∙ length-append out added in
-    let texts : split (text ++ more) ≡ map text_of t.lines ++ split (rest ++ more) = ap (λ s. split (s ++ more)) t.text_is ∙ ap split (append_assoc (texts_of t.lines) rest more) ∙ texts-ahead t.lines (rest ++ more) t.fit t.listed in
     let now : drop start new ≡ assembled (g.went.lines ++ t.lines) = body ∙ ap (λ b. b ++ added) g.went.is ∙ sym (bytes-behind (assembled g.went.lines) t.lines t.listed) ∙ sym (fold-append with_line [] g.went.lines t.lines) in
     let few : length (drop start out) ≤ 67108864 - start = subst (λ (b : List ℕ). length b ≤ 67108864 - start) (sym g.went.is) g.went.begins.within in
     let old_limit : length out ≤ 67108864 = omega (arith, few, length-drop start out, g.short) in
@@ -91,7 +94,7 @@ goes-quick all text rest out new more start k n c checker t limit e g =
       went = record {
         lines = g.went.lines ++ t.lines;
         begins = record {
-          texts = g.went.begins.texts ∙ ap (λ s. map text_of g.went.lines ++ s) texts ∙ sym (append_assoc (map text_of g.went.lines) (map text_of t.lines) (split (rest ++ more))) ∙ ap (λ s. s ++ split (rest ++ more)) (sym (map-append text_of g.went.lines t.lines));
+          texts = g.went.begins.texts ∙ sym (append_assoc (map text_of g.went.lines) (map text_of t.lines) left) ∙ ap (λ s. s ++ left) (sym (map-append text_of g.went.lines t.lines));
           fits = all-append FitsLine g.went.lines t.lines g.went.begins.fits t.fit;
           within = subst (λ (b : List ℕ). length b ≤ 67108864 - start) now within;
         };

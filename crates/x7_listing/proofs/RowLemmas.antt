@@ -11,6 +11,7 @@ use mir.Val.{bits, hbits}
 use Rattle.x7_words.specs.Word.{bytes_of_word}
 use Rattle.x7_regs.specs.Register.{reg_name}
 use Rattle.x7_text.specs.Digits.{hex_word}
+use Rattle.x7_packets.specs.PacketWords.{type1_write}
 use Rattle.x7_listing.specs.Assembling.{TakesFirst}
 use Rattle.x7_listing.specs.AtOnce.{command_lines, differs, write_line, write_start}
 use Rattle.x7_listing.specs.HeadLine.{command_line}
@@ -73,15 +74,15 @@ write-text register =
     ap (λ t. (codes "write " ++ reg_name register ++ 32 ∷ t) ++ 10 ∷ []) (decimal_digit 1 (omega arith)) ∙ append_assoc (codes "write " ++ reg_name register) (32 ∷ 49 ∷ []) (10 ∷ [])
 
 -- a write of a word to CMD
-pub takes-command : (w size : ℕ) (text old new : List ℕ) → w < 32 → size ≤ length text → take size text ≡ command_lines w → new ≡ old ++ (bytes_of_word 0x30008001 ++ bytes_of_word w) → TakesFirst text old new size 2
+pub takes-command : (w size : ℕ) (text old new : List ℕ) → w < 32 → size ≤ length text → take size text ≡ command_lines w → new ≡ old ++ (bytes_of_word (type1_write 4 1) ++ bytes_of_word w) → TakesFirst text old new size 2
 takes-command w size text old new h within e n =
     let p : IsLineOf w (cmd_line w) = cmd-stands w (omega (arith, h)) in
     let is : take size text ≡ ended_text (Write 4 1) ++ ended_text (cmd_line w) = e ∙ ap (λ t. t ++ command_line w) (sym (write-text 4)) ∙ ap (λ t. ended_text (Write 4 1) ++ t) (sym (cmd-text w)) in
-    takes-two (Write 4 1) (cmd_line w) text old new size within ((omega arith, omega arith), tt) p.1 is (n ∙ ap (λ t. old ++ (bytes_of_word 0x30008001 ++ t)) (sym p.0))
+    takes-two (Write 4 1) (cmd_line w) text old new size within ((omega arith, omega arith), tt) p.1 is (n ∙ ap (λ t. old ++ (bytes_of_word (type1_write 4 1) ++ t)) (sym p.0))
 
 -- a write of a word to another register
 pub takes-word : (register w size eight : ℕ) (text old new : List ℕ) → register < 32 → w < 2 ^ 32 → size + 9 ≤ length text → take size text ≡ write_start register → eight ≡ 8 → take eight (drop size text) ≡ hex_word w → get_or text (size + 8) 0 ≡ 10
-    → new ≡ old ++ (bytes_of_word (0x30000001 + 8192 * register) ++ bytes_of_word w) → TakesFirst text old new (size + 9) 2
+    → new ≡ old ++ (bytes_of_word (type1_write register 1) ++ bytes_of_word w) → TakesFirst text old new (size + 9) 2
 takes-word register w size eight text old new h k within e is_eight digits end n =
     let last : take 1 (drop 8 (drop size text)) ≡ 10 ∷ [] =
     ap (take 1) (dropped-twice size 8 text ∙ drop_more text (size + 8) 0 (omega (arith, within))) ∙ ap (λ (c : ℕ). c ∷ []) end in
@@ -90,6 +91,4 @@ takes-word register w size eight text old new h k within e is_eight digits end n
     let is : take (size + 9) text ≡ ended_text (Write register 1) ++ ended_text (Data (w ∷ [])) =
     take-add size 9 text ∙ ap (λ t. t ++ take 9 (drop size text)) e ∙ ap (λ t. write_start register ++ t) nine ∙ append_assoc (write_line register) (codes "data ") (hex_word w ++ 10 ∷ [])
     ∙ ap (λ t. t ++ (codes "data " ++ (hex_word w ++ 10 ∷ []))) (sym (write-text register)) ∙ ap (λ t. ended_text (Write register 1) ++ t) (sym tail) in
-    let sum : 0x30000001 + 8192 * register ≡ 0x30000000 + 8192 * register + 1 = omega arith in
-    takes-two (Write register 1) (Data (w ∷ [])) text old new (size + 9) within ((h, omega arith), tt) (((k, tt), omega arith, omega arith), tt) is
-    (n ∙ ap (λ (x : ℕ). old ++ (bytes_of_word x ++ bytes_of_word w)) sum)
+    takes-two (Write register 1) (Data (w ∷ [])) text old new (size + 9) within ((h, omega arith), tt) (((k, tt), omega arith, omega arith), tt) is n

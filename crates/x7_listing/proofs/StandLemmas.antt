@@ -6,6 +6,7 @@ use Rattle.x7_words.specs.Word.{AreBytes, AreWords, bytes_of_word}
 use Rattle.x7_words.proofs.ListLemmas.{all-append, all_back, all_front}
 use Rattle.x7_regs.specs.Command.{code_of, command_by}
 use Rattle.x7_packets.specs.Packet.{named_by, Packet, register_of, type_and_opcode_of, words}
+use Rattle.x7_packets.specs.PacketWords.{no_op, sync_word, type1_read, type1_write, type2_read_kind, type2_write_kind}
 use Rattle.x7_packets.specs.Reading.{IsPlace, IsReading, IsSession, packet_bytes, Place, place_bytes, Searching, Session, session_bytes, Synced}
 use Rattle.x7_packets.specs.SyncWord.{sync_bytes}
 use Rattle.x7_packets.specs.ByHand.{reading_of}
@@ -108,12 +109,12 @@ pick P false x y f g = g
 best : (w : ℕ) → w < 2 ^ 32 → IsHeadOf w (best_line w)
 best w h =
     let r : register_of w < 32 = omega arith in
-    pick (IsHeadOf w) (w == 0x20000000) head.Nop _ (λ e. (sym (is-eq w 0x20000000 e), (tt, tt)))
-    (pick (IsHeadOf w) (w == 0xAA995566) head.Sync _ (λ e. (sym (is-eq w 0xAA995566 e), (tt, tt)))
-    (pick (IsHeadOf w) (w == 0x30000000 + 8192 * register_of w + w % 2 ^ 11) (head.Write (register_of w) (w % 2 ^ 11)) _ (λ e. (sym (is-eq w (0x30000000 + 8192 * register_of w + w % 2 ^ 11) e), ((r, omega arith), tt)))
-    (pick (IsHeadOf w) (w == 0x28000000 + 8192 * register_of w + w % 2 ^ 11) (head.Read (register_of w) (w % 2 ^ 11)) _ (λ e. (sym (is-eq w (0x28000000 + 8192 * register_of w + w % 2 ^ 11) e), ((r, omega arith), tt)))
-    (pick (IsHeadOf w) (type_and_opcode_of w == 10) (head.Write2 (w % 2 ^ 27)) _ (λ e. let k : w / 2 ^ 27 ≡ 10 = is-eq (w / 2 ^ 27) 10 e in (omega arith, (omega arith, tt)))
-    (pick (IsHeadOf w) (type_and_opcode_of w == 9) (head.Read2 (w % 2 ^ 27)) (head.Word w) (λ e. let k : w / 2 ^ 27 ≡ 9 = is-eq (w / 2 ^ 27) 9 e in (omega arith, (omega arith, tt))) (refl, (h, tt)))))))
+    pick (IsHeadOf w) (w == no_op) head.Nop _ (λ e. (sym (is-eq w no_op e), (tt, tt)))
+    (pick (IsHeadOf w) (w == sync_word) head.Sync _ (λ e. (sym (is-eq w sync_word e), (tt, tt)))
+    (pick (IsHeadOf w) (w == type1_write (register_of w) (w % 2 ^ 11)) (head.Write (register_of w) (w % 2 ^ 11)) _ (λ e. (sym (is-eq w (type1_write (register_of w) (w % 2 ^ 11)) e), ((r, omega arith), tt)))
+    (pick (IsHeadOf w) (w == type1_read (register_of w) (w % 2 ^ 11)) (head.Read (register_of w) (w % 2 ^ 11)) _ (λ e. (sym (is-eq w (type1_read (register_of w) (w % 2 ^ 11)) e), ((r, omega arith), tt)))
+    (pick (IsHeadOf w) (type_and_opcode_of w == type2_write_kind) (head.Write2 (w % 2 ^ 27)) _ (λ e. let k : w / 2 ^ 27 ≡ 10 = is-eq (w / 2 ^ 27) 10 e in (omega arith, (omega arith, tt)))
+    (pick (IsHeadOf w) (type_and_opcode_of w == type2_read_kind) (head.Read2 (w % 2 ^ 27)) (head.Word w) (λ e. let k : w / 2 ^ 27 ≡ 9 = is-eq (w / 2 ^ 27) 9 e in (omega arith, (omega arith, tt))) (refl, (h, tt)))))))
 
 head-of : (s : Step) (w : ℕ) → w < 2 ^ 32 → IsHeadOf w (head_line s w)
 head-of (step.Bad x) w h = (refl, (h, tt))

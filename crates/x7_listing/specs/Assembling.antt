@@ -1,15 +1,14 @@
--- A text assembled in pieces: what an assembler keeps, and the text that it stands for.
-use Rattle.std.specs.Prelude.{◌≡◌, ◌⊎◌, ℕ, ◌+◌, ◌-◌, ◌^◌, ◌<◌, ◌≤◌, Bool, true, false, List, [], ◌∷◌, ◌++◌, drop, take, length, Err}
+-- A text that is assembled line by line: what its lines gave so far (this project's choice).
+use Rattle.std.specs.Prelude.{◌≡◌, ◌⊎◌, ℕ, ◌+◌, ◌-◌, ◌<◌, ◌≤◌, Bool, true, false, List, [], ◌∷◌, ◌++◌, drop, take, length, Err}
 use Rattle.std.specs.List.{AllByRecursion, flat_map}
-use Rattle.x7_text.specs.Lines.{has_no_end, split}
 use Rattle.x7_crc.specs.Checking.{CheckerState, Keeps}
 use Rattle.x7_header.specs.Header.{Contents, header_bytes}
 use Rattle.x7_listing.specs.BitLine.{bit_text, IsHeld}
 use Rattle.x7_listing.specs.Line.{Line, bytes_of, FitsLine, IsListed}
 use Rattle.x7_listing.specs.Listed.{texts_of}
-use Rattle.x7_listing.specs.Assembly.{AreHeadedAsm, asm_limit, assembled, Begins, HasNoHead, IsAsm}
+use Rattle.x7_listing.specs.Assembly.{AreHeadedAsm, asm_limit, assembled, Begins, HasNoHead}
 use Rattle.x7_listing.specs.declared.assembler.AsmFault.{AsmFault}
-use Rattle.x7_listing.specs.declared.body.Body.{Body}
+use Rattle.x7_listing.specs.declared.asm_lines.AsmLines.{AsmLines}
 use Rattle.x7_listing.specs.declared.assembler.AsmFault.TheVariants as fault
 
 -- the first texts are those of lines, whose bytes these are, and the others are left
@@ -45,12 +44,22 @@ pub record BodyState : Type 0 where
   pub checker : CheckerState
   pub count : ℕ
 
--- that by its parts
+-- a `BodyState` with these fields
 abbrev pub body_by : List ℕ → ℕ → CheckerState → ℕ → BodyState
 body_by out start checker count = record { out = out; start = start; checker = checker; count = count }
 
-abbrev pub body_in : Body → BodyState
-body_in b = body_by b.out.items b.start b.checker b.count
+-- what lines gave: the bytes so far, where those of lines begin, and their check
+pub record Output : Type 0 where
+  pub out : List ℕ
+  pub start : ℕ
+  pub checker : CheckerState
+
+abbrev pub output_of : AsmLines → Output
+output_of b = record { out = b.out.items; start = b.start; checker = b.checker }
+
+-- a `BodyState` of these lines' output
+abbrev pub behind : Output → ℕ → BodyState
+behind b n = body_by b.out b.start b.checker n
 
 -- The texts are read but for those that are left: their bytes are these, those of lines from `start` on, whose check is kept.
 pub record Goes (all left : List (List ℕ)) (b : BodyState) : Type 0 where
@@ -93,54 +102,29 @@ pub record TakesFirst (text old new : List ℕ) (size count : ℕ) : Type 0 wher
   pub few : count ≤ size
   pub takes : TakesLines text (drop size text) old new count
 
--- what an assembler keeps: the bytes so far, where those of lines begin, their check, the beginning of the line that comes, whether
--- the first line was read, and how many lines were
-pub record AssemblerState : Type 0 where
-  pub out : List ℕ
-  pub start : ℕ
-  pub checker : CheckerState
-  pub held : List ℕ
-  pub begun : Bool
-  pub count : ℕ
+-- whether a line was read
+abbrev pub has_any : List (List ℕ) → Bool
+has_any [] = false
+has_any (t ∷ ts) = true
 
--- what it has read so far
-abbrev pub body_of : AssemblerState → BodyState
-body_of a = body_by a.out a.start a.checker a.count
+-- lines gave this output, whatever lines follow
+abbrev pub HasRead : Output → List (List ℕ) → Type 0
+HasRead b lines = (left : List (List ℕ)) → Waits (has_any lines) (lines ++ left) left (behind b (length lines))
 
--- An assembler that took this text, whatever follows it.
-pub record AssemblerStandsFor (a : AssemblerState) (text : List ℕ) : Type 0 where
-  pub free : has_no_end a.held ≡ true
-  pub few : a.count + length a.held ≤ length text
-  pub goes : (more : List ℕ) → Waits a.begun (split (text ++ more)) (split (a.held ++ more)) (body_of a)
+-- a text of these lines has this fault; want of memory says nothing
+abbrev pub HasAsmFault : AsmFault → List (List ℕ) → Type 0
+HasAsmFault f lines = (f ≡ fault.NoMemory) ⊎ AreHeadedAsm lines (Err f)
 
--- an assembler takes a piece more, of a text of fewer than 2^63 bytes
-abbrev pub TakesPiece : AssemblerState → AssemblerState → List ℕ → Type 0
-TakesPiece a b piece = (text : List ℕ) → length (text ++ piece) < 2 ^ 63 → AssemblerStandsFor a text → AssemblerStandsFor b (text ++ piece)
+-- a first line is read
+abbrev pub ReadsFirst : Output → Output → List ℕ → Type 0
+ReadsFirst old new line = (all left : List (List ℕ)) → Unbegun all (line ∷ left) (behind old 0) → Goes all left (behind new 1)
 
--- a piece of which an assembler takes only the front, so that the first line is read and none is held
-pub record TakesPrefix (a b : AssemblerState) (piece rest : List ℕ) : Type 0 where
-  pub prefix : List ℕ
-  pub split_is : piece ≡ prefix ++ rest
-  pub begun : b.begun ≡ true
-  pub clear : b.held ≡ []
-  pub takes : TakesPiece a b prefix
+abbrev pub FailsFirst : Output → List ℕ → AsmFault → Type 0
+FailsFirst old line f = (f ≡ fault.NoMemory) ⊎ ((all left : List (List ℕ)) → Unbegun all (line ∷ left) (behind old 0) → AreHeadedAsm all (Err f))
 
--- a fault in what an assembler holds or in a piece: that of the whole text, whatever follows
-abbrev pub FailsIn : AssemblerState → List ℕ → AsmFault → Type 0
-FailsIn a piece f = (f ≡ fault.NoMemory) ⊎ ((text more : List ℕ) → length (text ++ piece) < 2 ^ 63 → AssemblerStandsFor a text → IsAsm ((text ++ piece) ++ more) (Err f))
+-- line n is read, behind others
+abbrev pub ReadsNext : Output → Output → ℕ → List ℕ → Type 0
+ReadsNext old new n line = (all left : List (List ℕ)) (k : ℕ) → n ≡ k + 1 → Goes all (line ∷ left) (behind old k) → Goes all left (behind new n)
 
--- a fault at the next text, which is read whether the first one was or not
-abbrev pub FailsAt : Bool → List ℕ → BodyState → AsmFault → Type 0
-FailsAt begun line b f = (f ≡ fault.NoMemory) ⊎ ((all left : List (List ℕ)) → b.count < 2 ^ 63 → Waits begun all (line ∷ left) b → AreHeadedAsm all (Err f))
-
--- the next text is read
-abbrev pub ReadsNext : Bool → List ℕ → BodyState → BodyState → Type 0
-ReadsNext begun line old new = (all left : List (List ℕ)) → old.count < 2 ^ 63 → Waits begun all (line ∷ left) old → Goes all left new
-
--- lines of a text are read, and this is left, whatever follows
-abbrev pub ReadsLines : BodyState → BodyState → List ℕ → List ℕ → Type 0
-ReadsLines old new text tail = (all : List (List ℕ)) (more : List ℕ) → old.count + length text < 2 ^ 63 → Goes all (split (text ++ more)) old → Goes all (split (tail ++ more)) new
-
--- a fault in a text's lines
-abbrev pub FailsInLines : BodyState → List ℕ → AsmFault → Type 0
-FailsInLines old text f = (f ≡ fault.NoMemory) ⊎ ((all : List (List ℕ)) (more : List ℕ) → old.count + length text < 2 ^ 63 → Goes all (split (text ++ more)) old → AreHeadedAsm all (Err f))
+abbrev pub FailsNext : Output → ℕ → List ℕ → AsmFault → Type 0
+FailsNext old n line f = (f ≡ fault.NoMemory) ⊎ ((all left : List (List ℕ)) (k : ℕ) → n ≡ k + 1 → Goes all (line ∷ left) (behind old k) → AreHeadedAsm all (Err f))

@@ -1,6 +1,6 @@
 -- The lines of what is listed at once: no-ops in a row, short writes, and a gap with its sync word (this project's choice).
 use Rattle.std.specs.Prelude.{◌≡◌, ◌==◌, Bool, not, ℕ, zero, suc, ◌+◌, List, [], ◌∷◌, ◌++◌, codes, drop, get_or, take}
-use Rattle.x7_packets.specs.Nops.{nop_word}
+use Rattle.x7_packets.specs.PacketWords.{no_op}
 use Rattle.x7_packets.specs.declared.header.Step.{Step}
 use Rattle.x7_packets.specs.declared.header.Step.TheVariants.{Nop}
 use Rattle.x7_regs.specs.Register.{reg_name}
@@ -13,7 +13,7 @@ equal_lines step w (suc n) = head_text step w ++ equal_lines step w n
 
 -- the lines of so many no-ops
 abbrev pub nop_lines : ℕ → List ℕ
-nop_lines n = equal_lines Nop nop_word n
+nop_lines n = equal_lines Nop no_op n
 
 -- the line of the header of a write of one word
 abbrev pub write_line : ℕ → List ℕ

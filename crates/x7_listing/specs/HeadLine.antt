@@ -1,9 +1,10 @@
 -- The lines of single words: header words, and payload words of CMD (this project's choice).
-use Rattle.std.specs.Prelude.{ℕ, ◌+◌, ◌*◌, ◌%◌, ◌^◌, ◌<◌, ◌==◌, if◌then◌else◌, List, [], ◌∷◌, ◌++◌, codes, decimal}
+use Rattle.std.specs.Prelude.{ℕ, ◌%◌, ◌^◌, ◌<◌, ◌==◌, if◌then◌else◌, List, [], ◌∷◌, ◌++◌, codes, decimal}
 use Rattle.x7_regs.specs.Register.{reg_name}
 use Rattle.x7_regs.specs.Command.{code_of, command_by, command_name_of}
 use Rattle.x7_text.specs.Digits.{hex_word}
 use Rattle.x7_packets.specs.Packet.{register_of, type_and_opcode_of}
+use Rattle.x7_packets.specs.PacketWords.{no_op, sync_word, type1_read, type1_write, type2_read, type2_read_kind, type2_write, type2_write_kind}
 use Rattle.x7_packets.specs.declared.header.Step.{Step}
 use Rattle.x7_packets.specs.declared.header.Step.TheVariants.{Bad}
 use Rattle.x7_listing.specs.declared.line.HeadLine.{HeadLine}
@@ -11,23 +12,23 @@ use Rattle.x7_listing.specs.declared.line.HeadLine.TheVariants.{Nop, Sync, Write
 
 -- the word that a line stands for
 abbrev pub line_word : HeadLine → ℕ
-line_word Nop = 0x20000000
-line_word Sync = 0xAA995566
-line_word (Write register count) = 0x30000000 + 8192 * register + count
-line_word (Read register count) = 0x28000000 + 8192 * register + count
-line_word (Write2 count) = 0x50000000 + count
-line_word (Read2 count) = 0x48000000 + count
+line_word Nop = no_op
+line_word Sync = sync_word
+line_word (Write register count) = type1_write register count
+line_word (Read register count) = type1_read register count
+line_word (Write2 count) = type2_write count
+line_word (Read2 count) = type2_read count
 line_word (Word w) = w
 
 -- the line that stands for just this word: a named one where there is one, else the word itself
 abbrev pub best_line : ℕ → HeadLine
 best_line w =
-    if w == 0x20000000 then Nop else
-    if w == 0xAA995566 then Sync else
-    if w == 0x30000000 + 8192 * register_of w + w % 2 ^ 11 then Write (register_of w) (w % 2 ^ 11) else
-    if w == 0x28000000 + 8192 * register_of w + w % 2 ^ 11 then Read (register_of w) (w % 2 ^ 11) else
-    if type_and_opcode_of w == 10 then Write2 (w % 2 ^ 27) else
-    if type_and_opcode_of w == 9 then Read2 (w % 2 ^ 27) else Word w
+    if w == no_op then Nop else
+    if w == sync_word then Sync else
+    if w == type1_write (register_of w) (w % 2 ^ 11) then Write (register_of w) (w % 2 ^ 11) else
+    if w == type1_read (register_of w) (w % 2 ^ 11) then Read (register_of w) (w % 2 ^ 11) else
+    if type_and_opcode_of w == type2_write_kind then Write2 (w % 2 ^ 27) else
+    if type_and_opcode_of w == type2_read_kind then Read2 (w % 2 ^ 27) else Word w
 
 -- the line of a word in a header's place, by its step
 abbrev pub head_line : Step → ℕ → HeadLine

@@ -1,10 +1,12 @@
 -- The lines of an assembly text, the text of each and the bytes that it stands for (this project's choice).
-use Rattle.std.specs.Prelude.{◌≡◌, ℕ, ◌+◌, ◌*◌, ◌^◌, ◌<◌, List, [], ◌∷◌, ◌++◌, codes, decimal}
+use Rattle.std.specs.Prelude.{◌≡◌, ℕ, ◌^◌, ◌<◌, List, [], ◌∷◌, ◌++◌, codes, decimal}
 use Rattle.std.specs.List.{flat_map}
 use Rattle.x7_words.specs.Word.{bytes_of_word}
-use Rattle.x7_regs.specs.Register.{reg_name}
+use Rattle.x7_regs.specs.Register.{number_of, reg_name}
 use Rattle.x7_regs.specs.Command.{code_of, command_name_of}
 use Rattle.x7_regs.specs.declared.command.Command.{Command}
+use Rattle.x7_regs.specs.declared.register.Reg.TheVariants.{Crc}
+use Rattle.x7_packets.specs.PacketWords.{no_op, sync_word, type1_read, type1_write, type2_read, type2_write}
 use Rattle.x7_text.specs.Digits.{hex_byte, hex_word}
 use Rattle.x7_text.specs.Row.{IsByteRow, IsWordRow, spaced}
 
@@ -76,16 +78,16 @@ abbrev pub bytes_of : ℕ → Line → List ℕ
 bytes_of check Empty = []
 bytes_of check (Comment text) = []
 bytes_of check (Bytes bytes) = bytes
-bytes_of check Sync = bytes_of_word 0xAA995566
-bytes_of check Nop = bytes_of_word 0x20000000
-bytes_of check (Write register count) = bytes_of_word (0x30000000 + 8192 * register + count)
-bytes_of check (Read register count) = bytes_of_word (0x28000000 + 8192 * register + count)
-bytes_of check (Write2 count) = bytes_of_word (0x50000000 + count)
-bytes_of check (Read2 count) = bytes_of_word (0x48000000 + count)
+bytes_of check Sync = bytes_of_word sync_word
+bytes_of check Nop = bytes_of_word no_op
+bytes_of check (Write register count) = bytes_of_word (type1_write register count)
+bytes_of check (Read register count) = bytes_of_word (type1_read register count)
+bytes_of check (Write2 count) = bytes_of_word (type2_write count)
+bytes_of check (Read2 count) = bytes_of_word (type2_read count)
 bytes_of check (Word word) = bytes_of_word word
 bytes_of check (Data words) = flat_map bytes_of_word words
 bytes_of check (Cmd command) = bytes_of_word (code_of command)
-bytes_of check Check = bytes_of_word 0x30000001 ++ bytes_of_word check
+bytes_of check Check = bytes_of_word (type1_write (number_of Crc) 1) ++ bytes_of_word check
 
 -- the line is neither a comment nor the check, as each line of a listing
 abbrev pub IsListed : Line → Type 0

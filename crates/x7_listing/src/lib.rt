@@ -1,9 +1,9 @@
 //! The listing of a configuration stream as it comes, and a listing assembled back to its bytes.
 #![tactic(auto)]
 
+mod asm_lines;
 mod assembler;
 mod bit_line;
-mod body;
 mod laws;
 mod line;
 mod lines;
@@ -16,7 +16,8 @@ mod rows;
 mod sheet;
 mod short;
 
-pub use assembler::{ASM_LIMIT, AsmFault, Assembler, assemble};
+pub use asm_lines::AsmLines;
+pub use assembler::{ASM_LIMIT, AsmFault, assemble};
 pub use bit_line::header_line;
 pub use laws::{
     few_bytes_are_held, few_bytes_of_runs_are_held, header_line_is_its_own, lines_hold_no_end,

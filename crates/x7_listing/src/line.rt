@@ -6,14 +6,16 @@ ghost use Rattle.x7_text.specs.Digits.{hex_word};
 ghost use Rattle.x7_text.specs.Row.{close};
 ghost use Rattle.x7_listing.specs.HeadLine.{command_line, head_line, head_text};
 
-use x7_packets::Step;
+use x7_packets::{
+    NO_OP, SYNC_WORD, Step, TYPE2_READ_KIND, TYPE2_WRITE_KIND, type1_read, type1_write,
+};
 use x7_regs::{command_of, command_text, name_of};
 use x7_text::{hex_of_word, put, put_close, put_decimal};
 
 /// The line of a word in a header's place.
 #[derive(Clone, Copy, Debug, PartialEq, Eq)]
 pub enum HeadLine {
-    /// The no-op 20000000.
+    /// The no-op.
     Nop,
     /// The sync word.
     Sync,
@@ -43,18 +45,17 @@ impl HeadLine {
         }
         let register = (w >> 13 & 31) as u8;
         let count = w & 0x7FF;
-        let fields = u32::from(register) * 8192 + count;
-        if w == 0x2000_0000 {
+        if w == NO_OP {
             HeadLine::Nop
-        } else if w == 0xAA99_5566 {
+        } else if w == SYNC_WORD {
             HeadLine::Sync
-        } else if w == 0x3000_0000 + fields {
+        } else if w == type1_write(register, count) {
             HeadLine::Write(register, count)
-        } else if w == 0x2800_0000 + fields {
+        } else if w == type1_read(register, count) {
             HeadLine::Read(register, count)
-        } else if w >> 27 == 10 {
+        } else if w >> 27 == TYPE2_WRITE_KIND {
             HeadLine::Write2(w & 0x7FF_FFFF)
-        } else if w >> 27 == 9 {
+        } else if w >> 27 == TYPE2_READ_KIND {
             HeadLine::Read2(w & 0x7FF_FFFF)
         } else {
             HeadLine::Word(w)

@@ -10,6 +10,7 @@ ghost use Rattle.x7_listing.specs.Assembling.{TakesFirst};
 use crate::quick::WholeLines;
 use crate::rows::{command_row, write_row};
 use std::simd::prelude::*;
+use x7_packets::type1_write;
 use x7_regs::Reg;
 use x7_text::{put, word_of_hex};
 use x7_words::bytes_of;
@@ -98,7 +99,7 @@ fn put_word_pair(out: &mut Vec<u8>, text: &[u8], register: u8) -> Option<WholeLi
     let Some(word) = word_of_hex(&text[size..size + 8]) else {
         return None;
     };
-    put_two(out, 0x3000_0001 + 8192 * u32::from(register), word);
+    put_two(out, type1_write(register, 1), word);
     Some(WholeLines {
         size: size + 9,
         count: 2,
@@ -117,7 +118,7 @@ fn put_command_pair(out: &mut Vec<u8>, text: &[u8], code: u32) -> Option<WholeLi
     let Some(size) = begun(text, command_row(code)) else {
         return None;
     };
-    put_two(out, 0x3000_8001, code);
+    put_two(out, type1_write(Reg::Cmd.number(), 1), code);
     Some(WholeLines { size, count: 2 })
 }
 

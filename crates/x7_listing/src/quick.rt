@@ -10,6 +10,7 @@ use crate::assembler::ASM_LIMIT;
 use crate::pairs::{differences, put_pair};
 use crate::reading::{access_at, put_word};
 use std::simd::prelude::*;
+use x7_packets::type1_write;
 use x7_text::{prefix_of_hex, put};
 use x7_words::{NoMemory, is_same};
 
@@ -224,7 +225,7 @@ fn put_write(out: &mut Vec<u8>, text: &[u8]) -> Option<WholeLines>
     let Some((register, count)) = access_at(&text[6..8 + space], space) else {
         return None;
     };
-    put_word(out, 0x3000_0000 + 8192 * u32::from(register) + count);
+    put_word(out, type1_write(register, count));
     Some(WholeLines {
         size: 9 + space,
         count: 1,
@@ -265,7 +266,7 @@ fn put_some(out: &mut Vec<u8>, text: &[u8]) -> Option<WholeLines>
 }
 
 /// Appends the bytes of the text's first lines, as far as they are read at once and their bytes are within the limit.
-pub(crate) fn put_quick(out: &mut Vec<u8>, text: &[u8]) -> Result<WholeLines, NoMemory>
+fn put_quick(out: &mut Vec<u8>, text: &[u8]) -> Result<WholeLines, NoMemory>
     ensures takes { IfOk result (λ taken. TakesLines text.now (drop taken.size text.now) out.old.items out.new.items taken.count) }
     ensures few { IfOk result (λ taken. (taken.size ≤ length text.now) × (taken.count ≤ taken.size)) }
     ensures within { vec_len out.old ≤ ASM_LIMIT → vec_len out.new ≤ ASM_LIMIT }
@@ -284,4 +285,23 @@ pub(crate) fn put_quick(out: &mut Vec<u8>, text: &[u8]) -> Result<WholeLines, No
             count: all.count + taken.count,
         };
     }
+}
+
+/// Appends the bytes of the text's first lines, as far as they are read at once. Before any line none is, since the first one
+/// may be a header's.
+#[inline(always)]
+pub(crate) fn put_quick_behind(
+    out: &mut Vec<u8>,
+    n: u64,
+    text: &[u8],
+) -> Result<WholeLines, NoMemory>
+    ensures takes { IfOk result (λ taken. TakesLines text.now (drop taken.size text.now) out.old.items out.new.items taken.count) }
+    ensures few { IfOk result (λ taken. (taken.size ≤ length text.now) × (taken.count ≤ taken.size)) }
+    ensures within { vec_len out.old ≤ ASM_LIMIT → vec_len out.new ≤ ASM_LIMIT }
+    ensures none { IfOk result (λ taken. n ≡ 0 → taken.count ≡ 0) }
+{
+    if n == 0 {
+        return Ok(WholeLines { size: 0, count: 0 });
+    }
+    put_quick(out, text)
 }

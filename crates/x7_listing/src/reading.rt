@@ -4,13 +4,15 @@ ghost use Rattle.x7_words.specs.Word.{bytes_of_word};
 ghost use Rattle.x7_regs.specs.Command.{code_of, command_name_of};
 ghost use Rattle.x7_regs.specs.Register.{reg_name};
 ghost use Rattle.x7_regs.specs.declared.command.Command.{Command};
+ghost use Rattle.x7_packets.specs.PacketWords.{type1_read, type1_write, type2_read, type2_write};
 ghost use Rattle.x7_text.specs.Appends.{Appends};
 ghost use Rattle.x7_text.specs.Digits.{hex_word};
 ghost use Rattle.x7_listing.specs.Line.{access_text, bytes_of, FitsLine, IsAccess, IsPlain, text_of};
 ghost use Rattle.x7_listing.specs.BitLine.{IsFirstSpace};
 ghost use Rattle.x7_text.specs.Reads.{Reads, StaysWithin};
 
-use x7_regs::{command_named, reg_named};
+use x7_packets::{NO_OP, SYNC_WORD, type1_read, type1_write, type2_read, type2_write};
+use x7_regs::{Reg, command_named, reg_named};
 use x7_text::{decimal_below, put, put_byte_row, put_word_row, word_of_hex};
 use x7_words::{bytes_of, is_same};
 
@@ -114,16 +116,30 @@ fn count_of(digits: &[u8], limit: u32) -> Option<u32>
     Some(count as u32)
 }
 
-/// Appends the word of a base and a count.
-fn put_count(out: &mut Vec<u8>, base: u32, digits: &[u8]) -> bool
-    requires room { vec_len out.old + 32 ≤ vec_capacity out.old }
-    requires base { base ≤ 0x50000000 }
-    ensures reads { Reads (λ n. n < 2 ^ 27) decimal (λ n. bytes_of_word (base + n)) result digits.now out.old.items out.new.items }
+/// Appends the header of a type 2 write of so many words.
+fn put_write2(out: &mut Vec<u8>, digits: &[u8]) -> bool
+    requires { vec_len out.old + 32 ≤ vec_capacity out.old }
+    ensures reads { Reads (λ n. n < 2 ^ 27) decimal (λ n. bytes_of_word (type2_write n)) result digits.now out.old.items out.new.items }
     ensures room { StaysWithin out.old out.new 32 }
 {
     match count_of(digits, 1 << 27) {
         Some(count) => {
-            put_word(out, base + count);
+            put_word(out, type2_write(count));
+            true
+        }
+        None => false,
+    }
+}
+
+/// Appends the header of a type 2 read of so many words.
+fn put_read2(out: &mut Vec<u8>, digits: &[u8]) -> bool
+    requires { vec_len out.old + 32 ≤ vec_capacity out.old }
+    ensures reads { Reads (λ n. n < 2 ^ 27) decimal (λ n. bytes_of_word (type2_read n)) result digits.now out.old.items out.new.items }
+    ensures room { StaysWithin out.old out.new 32 }
+{
+    match count_of(digits, 1 << 27) {
+        Some(count) => {
+            put_word(out, type2_read(count));
             true
         }
         None => false,
@@ -143,16 +159,30 @@ fn access_of(text: &[u8]) -> Option<(u8, u32)>
     Some((register, count))
 }
 
-/// Appends the word of a base, a register and a count.
-fn put_access(out: &mut Vec<u8>, base: u32, text: &[u8]) -> bool
-    requires room { vec_len out.old + 32 ≤ vec_capacity out.old }
-    requires base { base ≤ 0x50000000 }
-    ensures reads { Reads IsAccess access_text (λ (a : ℕ × ℕ). bytes_of_word (base + 8192 * a.0 + a.1)) result text.now out.old.items out.new.items }
+/// Appends the header of a type 1 write.
+fn put_write(out: &mut Vec<u8>, text: &[u8]) -> bool
+    requires { vec_len out.old + 32 ≤ vec_capacity out.old }
+    ensures reads { Reads IsAccess access_text (λ (a : ℕ × ℕ). bytes_of_word (type1_write a.0 a.1)) result text.now out.old.items out.new.items }
     ensures room { StaysWithin out.old out.new 32 }
 {
     match access_of(text) {
         Some((register, count)) => {
-            put_word(out, base + 8192 * u32::from(register) + count);
+            put_word(out, type1_write(register, count));
+            true
+        }
+        None => false,
+    }
+}
+
+/// Appends the header of a type 1 read.
+fn put_read(out: &mut Vec<u8>, text: &[u8]) -> bool
+    requires { vec_len out.old + 32 ≤ vec_capacity out.old }
+    ensures reads { Reads IsAccess access_text (λ (a : ℕ × ℕ). bytes_of_word (type1_read a.0 a.1)) result text.now out.old.items out.new.items }
+    ensures room { StaysWithin out.old out.new 32 }
+{
+    match access_of(text) {
+        Some((register, count)) => {
+            put_word(out, type1_read(register, count));
             true
         }
         None => false,
@@ -169,15 +199,15 @@ fn put_plain(out: &mut Vec<u8>, check: u32, line: &[u8]) -> bool
         return true;
     }
     if is_same(line, b"nop") {
-        put_word(out, 0x2000_0000);
+        put_word(out, NO_OP);
         return true;
     }
     if is_same(line, b"sync") {
-        put_word(out, 0xAA99_5566);
+        put_word(out, SYNC_WORD);
         return true;
     }
     if is_same(line, b"crc") {
-        put_word(out, 0x3000_0001);
+        put_word(out, type1_write(Reg::Crc.number(), 1));
         put(out, &bytes_of(check));
         return true;
     }
@@ -191,14 +221,14 @@ pub(crate) fn put_line(out: &mut Vec<u8>, check: u32, line: &[u8]) -> bool
     ensures room { StaysWithin out.old out.new 32 }
 {
     if is_same(line, b"nop") {
-        put_word(out, 0x2000_0000);
+        put_word(out, NO_OP);
         return true;
     }
     if let Some(words) = after(line, b"data") {
         return put_word_row(out, words);
     }
     if let Some(access) = after(line, b"write ") {
-        return put_access(out, 0x3000_0000, access);
+        return put_write(out, access);
     }
     if let Some(name) = after(line, b"cmd ") {
         return put_command(out, name);
@@ -210,13 +240,13 @@ pub(crate) fn put_line(out: &mut Vec<u8>, check: u32, line: &[u8]) -> bool
         return put_digits(out, digits);
     }
     if let Some(access) = after(line, b"read ") {
-        return put_access(out, 0x2800_0000, access);
+        return put_read(out, access);
     }
     if let Some(count) = after(line, b"write2 ") {
-        return put_count(out, 0x5000_0000, count);
+        return put_write2(out, count);
     }
     if let Some(count) = after(line, b"read2 ") {
-        return put_count(out, 0x4800_0000, count);
+        return put_read2(out, count);
     }
     if after(line, b"#").is_some() {
         return true;

@@ -2,9 +2,10 @@
 //! word after it.
 ghost use Rattle.std.specs.Prelude.{◌≡◌, ℕ, ◌+◌, ◌*◌, ◌<◌, ◌≤◌, true, List, [], ◌∷◌, ◌++◌, IfNone, IfSome, codes, decimal, length, take, vec_len, vec_capacity};
 ghost use Rattle.x7_words.specs.Word.{words_of_bytes};
-ghost use Rattle.x7_packets.specs.AtOnce.{EndsGap, short_head, write_head, WritesFew, WritesOne};
+ghost use Rattle.x7_packets.specs.AtOnce.{EndsGap, WritesFew, WritesOne};
 ghost use Rattle.x7_packets.specs.Cutting.{CutterState};
-ghost use Rattle.x7_packets.specs.Nops.{nop_bytes, nop_word};
+ghost use Rattle.x7_packets.specs.Nops.{nop_bytes};
+ghost use Rattle.x7_packets.specs.PacketWords.{no_op, type1_write};
 ghost use Rattle.x7_packets.specs.Packet.{payload_steps};
 ghost use Rattle.x7_text.specs.Row.{bytes_text, close, in_line_after, open_text, spaced};
 ghost use Rattle.x7_listing.specs.TakingAtOnce.{TakesAtOnce, TakesOnSheet};
@@ -73,7 +74,7 @@ fn put_one_word(sheet: &mut [u8; SHEET], len: usize, in_line: usize, register: u
     ensures within { result.line < 8 }
     ensures count { result.line ≡ words_place 0 (payload_steps register (w ∷ [])) }
     ensures len { result.len ≤ len + 42 }
-    ensures text { take result.len sheet.new ≡ take len sheet.old ++ (close in_line ++ head_text (Step.Open register 1) (write_head register) ++ open_words 0 (payload_steps register (w ∷ []))) }
+    ensures text { take result.len sheet.new ≡ take len sheet.old ++ (close in_line ++ head_text (Step.Open register 1) (type1_write register 1) ++ open_words 0 (payload_steps register (w ∷ []))) }
 {
     if register == Reg::Cmd.number() {
         return End {
@@ -116,7 +117,7 @@ fn put_head(
     requires few { count ≤ 16 }
     requires room { len + 36 ≤ 2048 }
     ensures len { result ≤ len + 36 }
-    ensures text { take result sheet.new ≡ take len sheet.old ++ (close in_line ++ head_text (Step.Open register count) (short_head register count)) }
+    ensures text { take result sheet.new ≡ take len sheet.old ++ (close in_line ++ head_text (Step.Open register count) (type1_write register count)) }
 {
     let begin = put_close(sheet, len, in_line);
     let start = put_row(sheet, begin, name_row(register));
@@ -264,7 +265,7 @@ fn put_few_nops(sheet: &mut [u8; SHEET], len: usize, pen: Pen, count: usize) -> 
     requires room { len + 129 ≤ 2048 }
     ensures size { result.size ≡ 4 * count }
     ensures len { result.len ≤ len + (4 * count + 1) }
-    ensures listed { (c : CutterState) → TakesHead c nop_word Step.Nop
+    ensures listed { (c : CutterState) → TakesHead c no_op Step.Nop
         → TellsAfter (on_sheet c pen sheet.old len) (on_sheet c result.pen sheet.new result.len) (nop_bytes count) }
 {
     let start = put_close(sheet, len, session_line(pen));

@@ -6,7 +6,7 @@ pub mod LongLemmas
 pub mod OutcomeLemmas
 pub mod PlaceLemmas
 pub mod ReadLemmas
-pub mod ReaderLemmas
+pub mod McsLinesLemmas
 pub mod RecordLemmas
 pub mod RoundLemmas
 pub mod RowLemmas

@@ -5,4 +5,4 @@ pub mod Flash
 pub mod Text
 pub mod State
 pub mod Images
-pub mod Reader
+pub mod McsLines

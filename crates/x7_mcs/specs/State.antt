@@ -4,11 +4,10 @@ use Rattle.std.specs.Int.{bit_at}
 use Rattle.x7_mcs.specs.Places.{byte_at, covered, extent, DataRecord}
 use Rattle.x7_mcs.specs.declared.fault.McsFault.{McsFault}
 use Rattle.x7_mcs.specs.declared.fault.McsFault.TheVariants as fault
-use Rattle.x7_mcs.specs.Lines.{lines_of}
 use Rattle.x7_mcs.specs.Record.{Meaning, pairs}
 use Rattle.x7_mcs.specs.declared.record.Meaning.{Meaning as Read}
 use Rattle.x7_mcs.specs.declared.record.Meaning.TheVariants as read
-use Rattle.x7_mcs.specs.Flash.{Reading, after_lines}
+use Rattle.x7_mcs.specs.Flash.{Reading}
 
 -- a record's meaning as the code has it
 abbrev pub read_as : Read → Meaning
@@ -53,19 +52,12 @@ pub record Holds (records : List DataRecord) (bytes marks : List ℕ) : Type 0 w
   pub at : (p : ℕ) → get_or bytes p 255 ≡ byte_at records p
   pub marked : (p : ℕ) → is_marked marks p ≡ covered records p
 
--- what the lines so far gave: the base that stands, whether a record 01 stood, the bytes and marks of the image, and how many lines were
+-- what the lines so far gave: the base that stands, whether a record 01 stood, and the bytes and marks of the image
 pub record BodyState : Type 0 where
   pub base : ℕ
   pub ended : Bool
   pub bytes : List ℕ
   pub marks : List ℕ
-  pub count : ℕ
-
--- what a text gives is what its rest gives after these lines
-pub record Goes (whole : Result Reading McsFault) (rest : List ℕ) (b : BodyState) : Type 0 where
-  pub records : List DataRecord
-  pub same : whole ≡ after_lines (b.count + 1) (record { base = b.base; ended = b.ended; records = records }) (lines_of rest)
-  pub holds : Holds records b.bytes b.marks
 
 -- a reading came to this base, end and records
 pub record Took (reading : Result Reading McsFault) (base : ℕ) (ended : Bool) (bytes marks : List ℕ) : Type 0 where

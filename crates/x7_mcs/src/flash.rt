@@ -6,8 +6,9 @@ ghost use Rattle.x7_mcs.specs.declared.fault.McsFault.{McsFault};
 ghost use Rattle.x7_words.specs.Word.{AreBytes};
 
 use crate::fault::McsFault;
-use crate::reader::McsReader;
+use crate::mcs_lines::McsLines;
 use std::alloc::Global;
+use x7_text::read_lines;
 
 /// The bytes that a flash text gives, FF where no record gave one, or its first fault.
 pub fn flash_of(alloc: Global, text: &[u8]) -> Result<Vec<u8>, McsFault>
@@ -19,13 +20,9 @@ pub fn flash_of(alloc: Global, text: &[u8]) -> Result<Vec<u8>, McsFault>
     read_text(alloc, text)
 }
 
-/// The bytes that a flash text gives, in one piece.
+/// The bytes that a flash text gives, line by line.
 fn read_text(alloc: Global, text: &[u8]) -> Result<Vec<u8>, McsFault>
     ensures { MatchResult result (λ bytes. mcs_of text.now ≡ Ok bytes.items) (λ fault. (fault ≡ McsFault.NoMemory) ⊎ (mcs_of text.now ≡ Err fault)) }
 {
-    let mut reader = McsReader::new(alloc);
-    match reader.feed(text) {
-        Ok(()) => reader.finish(),
-        Err(fault) => Err(fault),
-    }
+    read_lines(McsLines::new(alloc), text)
 }

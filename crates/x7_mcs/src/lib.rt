@@ -2,14 +2,13 @@
 #![tactic(auto)]
 
 mod blocks;
-mod body;
 mod digits;
 mod fault;
 mod flash;
 mod image;
 mod laws;
 mod lines;
-mod reader;
+mod mcs_lines;
 mod record;
 mod row;
 mod step;
@@ -23,5 +22,5 @@ pub use laws::{
     bytes_by_place, lines_in_turn, overlap_is_the_least, records_are_apart, rows_in_parts,
     text_is_short, text_leads_back, want_of_memory_is_no_fault,
 };
-pub use reader::McsReader;
+pub use mcs_lines::McsLines;
 pub use text::{mcs_text, put_rows};

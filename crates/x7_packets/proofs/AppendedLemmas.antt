@@ -131,7 +131,7 @@ sessions_after n (s ∷ ss) ts h =
     ∙ ap (λ (x : ℕ). entered_sessions x ts (entered_sessions (n + length (session_bytes s)) ss (entered_all (n + length s.gap + 4) (flat_map stepped s.packets) h))) (omega (arith, length-append (session_bytes s) (flat_map session_bytes ss)))
 
 -- the history of a reading after one that ends searching
-history_joined : (n : ℕ) (gap : List ℕ) (ss ts : List Session) (q : Place) → n ≡ length (flat_map session_bytes ss) + length gap
+pub history_joined : (n : ℕ) (gap : List ℕ) (ss ts : List Session) (q : Place) → n ≡ length (flat_map session_bytes ss) + length gap
     → (let r : Reading = after_gap ss gap ts q in history r.sessions r.place ≡ moved n (history ts q) ++ entered_sessions 0 ss [])
 history_joined n gap ss [] (Searching g) e = refl
 history_joined n gap ss [] (Synced g packets tail) e =

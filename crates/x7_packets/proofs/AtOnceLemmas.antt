@@ -12,12 +12,12 @@ use Rattle.x7_packets.specs.declared.header.Step.{Step}
 use Rattle.x7_packets.specs.declared.header.Step.TheVariants.{Nop, Open, Payload}
 use Rattle.x7_packets.specs.declared.cutter.Cut.TheVariants.{Body, Head, Skip}
 use Rattle.x7_packets.specs.Mode.{Mode}
-use Rattle.x7_packets.specs.AtOnce.{BeginsWrite, EndsGap, in_short, in_write, short_head, Takes, write_head, WritesFew, WritesOne}
+use Rattle.x7_packets.specs.AtOnce.{BeginsWrite, EndsGap, in_write, Takes, WritesFew, WritesOne}
 use Rattle.x7_packets.specs.Cutting.{AtPlace, CutterState, CutterStandsFor, Longer, Went}
-use Rattle.x7_packets.specs.Nops.{nop_word}
+use Rattle.x7_packets.specs.PacketWords.{dummy_word, no_op, sync_word, type1_write, type1_write_kind}
 use Rattle.x7_packets.specs.Packet.{Packet, ends_session, meaning, payload_steps, register_of}
 use Rattle.x7_packets.specs.Reading.{Place, Searching, Session, Synced, packet_bytes, session_bytes}
-use Rattle.x7_packets.specs.Taking.{Grows, MachineStandsFor, MachineState, is_end}
+use Rattle.x7_packets.specs.Taking.{Grows, MachineStandsFor, MachineState, ends_by, is_end}
 use Rattle.x7_packets.proofs.CutLemmas.{body_more, joined_more, packet_bytes-grown, skip_found, sync_told, word_more}
 use Rattle.x7_packets.proofs.NopLemmas.{nop_grows}
 use Rattle.x7_packets.proofs.PacketLemmas.{words_of_payload}
@@ -26,48 +26,34 @@ use Rattle.x7_packets.proofs.TakeLemmas.{calm_words, header_opens, payload_ends,
 
 -- ---- a machine
 
-write_means : (latest : Option ℕ) (register : ℕ) → register < 32 → Open register 1 ≡ meaning latest (write_head register)
-write_means latest register h =
-    let sync : (write_head register == 0xAA995566) ≡ false = grind (arith, nat_tests) in
-    let ones : (write_head register == 0xFFFFFFFF) ≡ false = grind (arith, nat_tests) in
-    let zero_type : (write_head register / 2 ^ 29 == 0) ≡ false = grind (arith, nat_tests) in
-    let kind : write_head register / 2 ^ 27 ≡ 6 = omega arith in
-    let named : register_of (write_head register) ≡ register = omega arith in
-    let count : write_head register % 2 ^ 11 ≡ 1 = omega arith in
-    rw (sync, ones, zero_type, kind, named, count) refl
-
-pub write_opens : (m : MachineState) (ps : List Packet) (register : ℕ) → register < 32 → m.due ≡ 0 → MachineStandsFor m ps → Grows ps ((write_head register, Open register 1) ∷ []) (in_write register)
-write_opens m ps register h none (inl a) = header_opens m (in_write register) ps (write_head register) register 1 (omega arith) a (write_means m.latest register h) (omega arith) refl refl refl
-write_opens m ps register h none (inr a) = absurd (omega (arith, none, a.more))
-
-pub write_goes_on : (n : MachineState) (ps : List Packet) (register w : ℕ) → w < 2 ^ 32 → ends_session register w ≡ false → n.latest ≡ Some register → n.register ≡ register → n.due ≡ 0
-    → MachineStandsFor (in_write register) ps → Grows ps ((w, Payload register w) ∷ []) n
-write_goes_on n ps register w f e l r d (inl a) = absurd (omega (arith, a.due))
-write_goes_on n ps register w f e l r d (inr a) = payload_goes (in_write register) n ps w f a e r l (omega arith)
-
-pub write_closes : (n : MachineState) (ps : List Packet) (register w : ℕ) → w < 2 ^ 32 → ends_session register w ≡ true → MachineStandsFor n [] → MachineStandsFor (in_write register) ps → Grows ps ((w, Payload register w) ∷ []) n
-write_closes n ps register w f e s (inl a) = absurd (omega (arith, a.due))
-write_closes n ps register w f e s (inr a) = payload_ends (in_write register) n ps w f a e s
-
-short_means : (latest : Option ℕ) (register count : ℕ) → register < 32 → count < 2 ^ 11 → Open register count ≡ meaning latest (short_head register count)
-short_means latest register count h k =
-    let sync : (short_head register count == 0xAA995566) ≡ false = grind (arith, nat_tests) in
-    let ones : (short_head register count == 0xFFFFFFFF) ≡ false = grind (arith, nat_tests) in
-    let zero_type : (short_head register count / 2 ^ 29 == 0) ≡ false = grind (arith, nat_tests) in
-    let kind : short_head register count / 2 ^ 27 ≡ 6 = omega arith in
-    let named : register_of (short_head register count) ≡ register = omega arith in
-    let number : short_head register count % 2 ^ 11 ≡ count = omega arith in
+write_means : (latest : Option ℕ) (register count : ℕ) → register < 32 → count < 2 ^ 11 → Open register count ≡ meaning latest (type1_write register count)
+write_means latest register count h k =
+    let sync : (type1_write register count == sync_word) ≡ false = grind (arith, nat_tests) in
+    let ones : (type1_write register count == dummy_word) ≡ false = grind (arith, nat_tests) in
+    let zero_type : (type1_write register count / 2 ^ 29 == 0) ≡ false = grind (arith, nat_tests) in
+    let kind : type1_write register count / 2 ^ 27 ≡ type1_write_kind = omega arith in
+    let named : register_of (type1_write register count) ≡ register = omega arith in
+    let number : type1_write register count % 2 ^ 11 ≡ count = omega arith in
     rw (sync, ones, zero_type, kind, named, number) refl
 
-pub short_opens : (m : MachineState) (ps : List Packet) (register count : ℕ) → register < 32 → 0 < count → count < 2 ^ 11 → m.due ≡ 0 → MachineStandsFor m ps
-    → Grows ps ((short_head register count, Open register count) ∷ []) (in_short register count)
-short_opens m ps register count h some few none (inl a) = header_opens m (in_short register count) ps (short_head register count) register count (omega arith) a (short_means m.latest register count h few) some refl refl refl
-short_opens m ps register count h some few none (inr a) = absurd (omega (arith, none, a.more))
+pub write_opens : (m : MachineState) (ps : List Packet) (register count : ℕ) → register < 32 → 0 < count → count < 2 ^ 11 → m.due ≡ 0 → MachineStandsFor m ps
+    → Grows ps ((type1_write register count, Open register count) ∷ []) (in_write register count)
+write_opens m ps register count h some few none (inl a) = header_opens m (in_write register count) ps (type1_write register count) register count (omega arith) a (write_means m.latest register count h few) some refl refl refl
+write_opens m ps register count h some few none (inr a) = absurd (omega (arith, none, a.more))
 
-pub short_goes_on : (n : MachineState) (ps : List Packet) (register : ℕ) (ws : List ℕ) → AreWords ws → (register ≡ 4 → ⊥) → 0 < length ws → n.latest ≡ Some register → n.register ≡ register → n.due ≡ 0
-    → MachineStandsFor (in_short register (length ws)) ps → Grows ps (payload_steps register ws) n
-short_goes_on n ps register ws f other some l r d (inl a) = absurd (omega (arith, a.due, some))
-short_goes_on n ps register ws f other some l r d (inr a) = payload_goes_on (in_short register (length ws)) n ps ws f a other some r l (omega (arith, d))
+pub write_goes_on : (n : MachineState) (ps : List Packet) (register w : ℕ) → w < 2 ^ 32 → ends_session register w ≡ false → n.latest ≡ Some register → n.register ≡ register → n.due ≡ 0
+    → MachineStandsFor (in_write register 1) ps → Grows ps ((w, Payload register w) ∷ []) n
+write_goes_on n ps register w f e l r d (inl a) = absurd (omega (arith, a.due))
+write_goes_on n ps register w f e l r d (inr a) = payload_goes (in_write register 1) n ps w f a e r l (omega arith)
+
+pub write_closes : (n : MachineState) (ps : List Packet) (register w : ℕ) → w < 2 ^ 32 → ends_session register w ≡ true → MachineStandsFor n [] → MachineStandsFor (in_write register 1) ps → Grows ps ((w, Payload register w) ∷ []) n
+write_closes n ps register w f e s (inl a) = absurd (omega (arith, a.due))
+write_closes n ps register w f e s (inr a) = payload_ends (in_write register 1) n ps w f a e s
+
+pub words_go_on : (n : MachineState) (ps : List Packet) (register : ℕ) (ws : List ℕ) → AreWords ws → (register ≡ 4 → ⊥) → 0 < length ws → n.latest ≡ Some register → n.register ≡ register → n.due ≡ 0
+    → MachineStandsFor (in_write register (length ws)) ps → Grows ps (payload_steps register ws) n
+words_go_on n ps register ws f other some l r d (inl a) = absurd (omega (arith, a.due, some))
+words_go_on n ps register ws f other some l r d (inr a) = payload_goes_on (in_write register (length ws)) n ps ws f a other some r l (omega (arith, d))
 
 -- ---- a cutter
 
@@ -111,30 +97,30 @@ takes_head c n w step is to none none2 calm grows bytes sessions (Synced gap pac
     let g : GoesOn n (bytes ++ bytes_of_word w) sessions gap packets ((w, step) ∷ []) = goes_on c n w step bytes sessions gap tail packets is to none none2 calm grows s in
     record { new_sessions = sessions; new_place = g.new; stands = g.stands; adds = g.longer; turns = (λ e. absurd (let f : Mode.Synced ≡ Mode.Due = sym is ∙ e in cc), λ e. absurd (let f : Mode.Synced ≡ Mode.Due = sym to ∙ e in cc)) }
 
-pub takes_nop : (c : CutterState) → c.mode ≡ Mode.Synced → c.kept ≡ [] → c.machine.due ≡ 0 → Takes c c (bytes_of_word nop_word) (Head nop_word Nop)
-takes_nop c is none due = takes_head c c nop_word Nop is is none none refl (λ ps s. nop_grows c.machine ps due s)
+pub takes_nop : (c : CutterState) → c.mode ≡ Mode.Synced → c.kept ≡ [] → c.machine.due ≡ 0 → Takes c c (bytes_of_word no_op) (Head no_op Nop)
+takes_nop c is none due = takes_head c c no_op Nop is is none none refl (λ ps s. nop_grows c.machine ps due s)
 
 -- a header and a word that begin bytes
-pub begins_write : (bytes head word rest : List ℕ) (register h w : ℕ) → head ≡ take 4 bytes → rest ≡ drop 4 bytes → word ≡ take 4 rest → 8 ≤ length bytes → bytes_of_word h ≡ head → bytes_of_word w ≡ word → h ≡ write_head register → register < 32 → w < 2 ^ 32 → BeginsWrite bytes register w
+pub begins_write : (bytes head word rest : List ℕ) (register h w : ℕ) → head ≡ take 4 bytes → rest ≡ drop 4 bytes → word ≡ take 4 rest → 8 ≤ length bytes → bytes_of_word h ≡ head → bytes_of_word w ≡ word → h ≡ type1_write register 1 → register < 32 → w < 2 ^ 32 → BeginsWrite bytes register w
 begins_write bytes head word rest register h w a r b long e f g range fits = record {
   range = range;
   fits = fits;
   whole = long;
-  are = take-add 4 4 bytes ∙ ap (λ t. t ++ take 4 (drop 4 bytes)) (sym a ∙ sym e ∙ ap bytes_of_word g) ∙ ap (λ t. bytes_of_word (write_head register) ++ t) (ap (take 4) (sym r) ∙ sym b ∙ sym f);
+  are = take-add 4 4 bytes ∙ ap (λ t. t ++ take 4 (drop 4 bytes)) (sym a ∙ sym e ∙ ap bytes_of_word g) ∙ ap (λ t. bytes_of_word (type1_write register 1) ++ t) (ap (take 4) (sym r) ∙ sym b ∙ sym f);
 }
 
-pub writes_one : (old new : CutterState) (bs : List ℕ) (register w : ℕ) → old.mode ≡ Mode.Synced → new.mode ≡ (if ends_session register w then Mode.Searching else Mode.Synced) → MatcherStandsFor new.matcher [] → old.kept ≡ [] → new.kept ≡ [] → BeginsWrite bs register w
-    → ((ps : List Packet) → MachineStandsFor old.machine ps → Grows ps ((write_head register, Open register 1) ∷ []) (in_write register))
-    → ((ps : List Packet) → MachineStandsFor (in_write register) ps → Grows ps ((w, Payload register w) ∷ []) new.machine)
+pub writes_one : (old new : CutterState) (bs : List ℕ) (register w : ℕ) → old.mode ≡ Mode.Synced → new.mode ≡ (if ends_session register w then Mode.Searching else Mode.Synced) → (ends_session register w ≡ true → MatcherStandsFor new.matcher []) → old.kept ≡ [] → new.kept ≡ [] → BeginsWrite bs register w
+    → ((ps : List Packet) → MachineStandsFor old.machine ps → Grows ps ((type1_write register 1, Open register 1) ∷ []) (in_write register 1))
+    → ((ps : List Packet) → MachineStandsFor (in_write register 1) ps → Grows ps ((w, Payload register w) ∷ []) new.machine)
     → WritesOne old new bs register w
 writes_one old new bs register w is to matcher none none2 begins opens ends =
-    let middle : CutterState = record { mode = Mode.Synced; matcher = old.matcher; machine = in_write register; kept = [] } in
+    let middle : CutterState = record { mode = Mode.Synced; matcher = old.matcher; machine = in_write register 1; kept = [] } in
     record {
       between = middle;
       range = begins.range;
       whole = begins.whole;
       bytes = begins.are;
-      head = takes_head old middle (write_head register) (Open register 1) is refl none refl refl opens;
+      head = takes_head old middle (type1_write register 1) (Open register 1) is refl none refl refl opens;
       word = λ bytes sessions place s. word_more middle new bytes (bytes_of_word w) sessions place register w s refl ends (fits_word w) refl none2 to matcher;
       none_kept = none2;
     }
@@ -148,25 +134,26 @@ first_four (a ∷ b ∷ c ∷ []) l = absurd (omega arith)
 first_four (a ∷ b ∷ c ∷ d ∷ bs) l = refl
 
 -- payload words of a register other than CMD, all that are due
-takes_words : (c n : CutterState) (register count : ℕ) (run : Bor (List ℕ)) → c.mode ≡ Mode.Synced → n.mode ≡ Mode.Synced → c.kept ≡ [] → n.kept ≡ [] → MatcherStandsFor n.matcher [] → AreBytes run.now → length run.now ≡ 4 * count → 0 < count → (register ≡ 4 → ⊥)
-    → c.machine ≡ in_short register count → ((ps : List Packet) (ws : List ℕ) → AreWords ws → 0 < length ws → MachineStandsFor (in_short register (length ws)) ps → Grows ps (payload_steps register ws) n.machine) → Takes c n run.now (Body register run)
-takes_words c n register count run is to none none2 matcher fits long some other machine grows bytes sessions place s =
+takes_words : (c n : CutterState) (register count : ℕ) (run : Bor (List ℕ)) → c.mode ≡ Mode.Synced → n.mode ≡ Mode.Synced → c.kept ≡ [] → n.kept ≡ [] → AreBytes run.now → length run.now ≡ 4 * count → 0 < count → (register ≡ 4 → ⊥)
+    → c.machine ≡ in_write register count → ((ps : List Packet) (ws : List ℕ) → AreWords ws → 0 < length ws → MachineStandsFor (in_write register (length ws)) ps → Grows ps (payload_steps register ws) n.machine) → Takes c n run.now (Body register run)
+takes_words c n register count run is to none none2 fits long some other machine grows bytes sessions place s =
     let ws : List ℕ = words_of_bytes run.now in
     let number : length (words_of_bytes run.now) ≡ count = length-words run.now count long in
-    let same : c.machine ≡ in_short register (length (words_of_bytes run.now)) = machine ∙ ap (in_short register) (sym number) in
+    let same : c.machine ≡ in_write register (length (words_of_bytes run.now)) = machine ∙ ap (in_write register) (sym number) in
     let all : (ps : List Packet) → MachineStandsFor c.machine ps → Grows ps (payload_steps register (words_of_bytes run.now)) n.machine =
     λ ps t. grows ps (words_of_bytes run.now) (words-fit run.now fits) (omega (arith, number, some)) (subst (λ (m : MachineState). MachineStandsFor m ps) same t) in
     let word : flat_map bytes_of_word (map (λ (x : ℕ × Step). x.0) (payload_steps register (words_of_bytes run.now))) ≡ c.kept ++ run.now =
     ap (flat_map bytes_of_word) (words_of_payload register (words_of_bytes run.now)) ∙ bytes-words run.now count fits long ∙ ap (λ t. t ++ run.now) (sym none) in
-    body_more c n bytes run.now sessions place register run s is all fits word none2 (to ∙ ap (λ (b : Bool). if b then Mode.Searching else Mode.Synced) (sym (calm_words register (words_of_bytes run.now) other))) matcher
+    let calm : ends_by (payload_steps register (words_of_bytes run.now)) ≡ false = calm_words register (words_of_bytes run.now) other in
+    body_more c n bytes run.now sessions place register run s is all fits word none2 (to ∙ ap (λ (b : Bool). if b then Mode.Searching else Mode.Synced) (sym calm)) (λ e. absurd (let f : true ≡ false = sym e ∙ calm in cc))
 
-pub writes_few : (old new : CutterState) (bs : List ℕ) (head register count : ℕ) → old.mode ≡ Mode.Synced → new.mode ≡ Mode.Synced → MatcherStandsFor new.matcher [] → old.kept ≡ [] → new.kept ≡ [] → 68 ≤ length bs → AreBytes bs
-    → bytes_of_word head ≡ get_or bs 0 0 ∷ get_or bs 1 0 ∷ get_or bs 2 0 ∷ get_or bs 3 0 ∷ [] → head ≡ short_head register count → register < 32 → (register ≡ 4 → ⊥) → 0 < count → count ≤ 16
-    → ((ps : List Packet) (n : ℕ) → 0 < n → n < 2 ^ 11 → MachineStandsFor old.machine ps → Grows ps ((short_head register n, Open register n) ∷ []) (in_short register n))
-    → ((ps : List Packet) (ws : List ℕ) → AreWords ws → 0 < length ws → MachineStandsFor (in_short register (length ws)) ps → Grows ps (payload_steps register ws) new.machine)
+pub writes_few : (old new : CutterState) (bs : List ℕ) (head register count : ℕ) → old.mode ≡ Mode.Synced → new.mode ≡ Mode.Synced → old.kept ≡ [] → new.kept ≡ [] → 68 ≤ length bs → AreBytes bs
+    → bytes_of_word head ≡ get_or bs 0 0 ∷ get_or bs 1 0 ∷ get_or bs 2 0 ∷ get_or bs 3 0 ∷ [] → head ≡ type1_write register count → register < 32 → (register ≡ 4 → ⊥) → 0 < count → count ≤ 16
+    → ((ps : List Packet) (n : ℕ) → 0 < n → n < 2 ^ 11 → MachineStandsFor old.machine ps → Grows ps ((type1_write register n, Open register n) ∷ []) (in_write register n))
+    → ((ps : List Packet) (ws : List ℕ) → AreWords ws → 0 < length ws → MachineStandsFor (in_write register (length ws)) ps → Grows ps (payload_steps register ws) new.machine)
     → WritesFew old new bs register count
-writes_few old new bs head register count is to matcher none none2 long fits e g range other some few opens goes =
-    let middle : CutterState = record { mode = Mode.Synced; matcher = old.matcher; machine = in_short register count; kept = [] } in
+writes_few old new bs head register count is to none none2 long fits e g range other some few opens goes =
+    let middle : CutterState = record { mode = Mode.Synced; matcher = old.matcher; machine = in_write register count; kept = [] } in
     let behind : AreBytes (drop 4 bs) = all_back (λ b. b < 256) (take 4 bs) (drop 4 bs) (subst AreBytes (sym (take-append-drop 4 bs)) fits) in
     let size : length (take (4 * count) (drop 4 bs)) ≡ 4 * count = length-take-le (4 * count) (drop 4 bs) (omega (arith, length-drop 4 bs, long, few)) in
     record {
@@ -177,8 +164,8 @@ writes_few old new bs head register count is to matcher none none2 long fits e g
       few = few;
       long = long;
       bytes = first_four bs (omega (arith, long)) ∙ sym e ∙ ap bytes_of_word g;
-      head = takes_head old middle (short_head register count) (Open register count) is refl none refl refl (λ ps t. opens ps count some (omega (arith, few)) t);
-      words = λ run f. takes_words middle new register count run refl to refl none2 matcher (subst AreBytes (sym f) (all_take (λ b. b < 256) (4 * count) (drop 4 bs) behind)) (ap length f ∙ size) some other refl goes;
+      head = takes_head old middle (type1_write register count) (Open register count) is refl none refl refl (λ ps t. opens ps count some (omega (arith, few)) t);
+      words = λ run f. takes_words middle new register count run refl to refl none2 (subst AreBytes (sym f) (all_take (λ b. b < 256) (4 * count) (drop 4 bs) behind)) (ap length f ∙ size) some other refl goes;
       none_kept = none2;
     }
 

@@ -126,7 +126,7 @@ joined_more r bytes gap tail new new_session session word e f g = rw (e, f, g) (
 
 by_end : (n : CutterState) (bytes new : List ℕ) (sessions : List Session) (gap tail : List ℕ) (packets : List Packet) (more : List (ℕ × Step)) (b : Bool)
     → ends_by more ≡ b → IsReading bytes sessions (Synced gap packets tail) → (g : Grows packets more n.machine) → AreBytes new
-    → flat_map bytes_of_word (map (λ (s : ℕ × Step). s.0) more) ≡ tail ++ new → n.kept ≡ [] → n.mode ≡ (if b then Mode.Searching else Mode.Synced) → MatcherStandsFor n.matcher []
+    → flat_map bytes_of_word (map (λ (s : ℕ × Step). s.0) more) ≡ tail ++ new → n.kept ≡ [] → n.mode ≡ (if b then Mode.Searching else Mode.Synced) → (b ≡ true → MatcherStandsFor n.matcher [])
     → WordsMore n (bytes ++ new) sessions gap packets more
 by_end n bytes new sessions gap tail packets more true q r g fits word none to matcher =
     let joined : bytes ++ new ≡ flat_map session_bytes sessions ++ (gap ++ sync_bytes ++ packet_bytes g.packets) =
@@ -143,7 +143,7 @@ by_end n bytes new sessions gap tail packets more true q r g fits word none to m
           each = all-append IsSession sessions (session ∷ []) r.each (record { first = r.ends.0; packets = g.each; ended = g.end ∙ q }, tt);
           ends = none_empty;
         };
-        at = rw to (matcher, (let h : MachineStandsFor n.machine [] = rw q at g.stands in h));
+        at = rw to (matcher refl, (let h : MachineStandsFor n.machine [] = rw q at g.stands in h));
       },
       record { all = g.packets; grown = g.grown; end = g.end; ends = λ e. (refl, refl); goes_on = λ e. absurd (let f : true ≡ false = sym (g.end ∙ q) ∙ e in cc) },
     )
@@ -168,7 +168,7 @@ words_more : (c n : CutterState) (bytes new : List ℕ) (sessions : List Session
     → CutterStandsFor c bytes sessions (Synced gap packets tail) → c.mode ≡ Mode.Synced
     → ((ps : List Packet) → MachineStandsFor c.machine ps → Grows ps more n.machine) → AreBytes new
     → flat_map bytes_of_word (map (λ (s : ℕ × Step). s.0) more) ≡ c.kept ++ new → n.kept ≡ []
-    → n.mode ≡ (if ends_by more then Mode.Searching else Mode.Synced) → MatcherStandsFor n.matcher []
+    → n.mode ≡ (if ends_by more then Mode.Searching else Mode.Synced) → (ends_by more ≡ true → MatcherStandsFor n.matcher [])
     → WordsMore n (bytes ++ new) sessions gap packets more
 words_more c n bytes new sessions gap tail packets more s is grows fits word none to matcher =
     let h : MachineStandsFor c.machine packets × (tail ≡ c.kept) = rw is at s.at in
@@ -177,7 +177,7 @@ words_more c n bytes new sessions gap tail packets more s is grows fits word non
 pub head_more : (c n : CutterState) (bytes new : List ℕ) (sessions : List Session) (place : Place) (w : ℕ) (step : Step)
     → CutterStandsFor c bytes sessions place → c.mode ≡ Mode.Synced
     → ((ps : List Packet) → MachineStandsFor c.machine ps → Grows ps ((w, step) ∷ []) n.machine) → AreBytes new
-    → bytes_of_word w ≡ c.kept ++ new → n.kept ≡ [] → n.mode ≡ (if ends_by ((w, step) ∷ []) then Mode.Searching else Mode.Synced) → MatcherStandsFor n.matcher []
+    → bytes_of_word w ≡ c.kept ++ new → n.kept ≡ [] → n.mode ≡ (if ends_by ((w, step) ∷ []) then Mode.Searching else Mode.Synced) → (ends_by ((w, step) ∷ []) ≡ true → MatcherStandsFor n.matcher [])
     → Went c n (bytes ++ new) sessions place (Head w step)
 head_more c n bytes new sessions (Searching gap) w step s is grows fits word none to matcher = absurd (let h : AtPlace c Mode.Synced (Searching gap) = rw is at s.at in h)
 head_more c n bytes new sessions (Synced gap packets tail) w step s is grows fits word none to matcher =
@@ -187,7 +187,7 @@ head_more c n bytes new sessions (Synced gap packets tail) w step s is grows fit
 pub word_more : (c n : CutterState) (bytes new : List ℕ) (sessions : List Session) (place : Place) (register w : ℕ)
     → CutterStandsFor c bytes sessions place → c.mode ≡ Mode.Synced
     → ((ps : List Packet) → MachineStandsFor c.machine ps → Grows ps ((w, Payload register w) ∷ []) n.machine) → AreBytes new
-    → bytes_of_word w ≡ c.kept ++ new → n.kept ≡ [] → n.mode ≡ (if ends_by ((w, Payload register w) ∷ []) then Mode.Searching else Mode.Synced) → MatcherStandsFor n.matcher []
+    → bytes_of_word w ≡ c.kept ++ new → n.kept ≡ [] → n.mode ≡ (if ends_by ((w, Payload register w) ∷ []) then Mode.Searching else Mode.Synced) → (ends_by ((w, Payload register w) ∷ []) ≡ true → MatcherStandsFor n.matcher [])
     → Went c n (bytes ++ new) sessions place (Word register w)
 word_more c n bytes new sessions (Searching gap) register w s is grows fits word none to matcher = absurd (let h : AtPlace c Mode.Synced (Searching gap) = rw is at s.at in h)
 word_more c n bytes new sessions (Synced gap packets tail) register w s is grows fits word none to matcher =
@@ -197,7 +197,7 @@ word_more c n bytes new sessions (Synced gap packets tail) register w s is grows
 pub body_more : (c n : CutterState) (bytes new : List ℕ) (sessions : List Session) (place : Place) (register : ℕ) (run : Bor (List ℕ))
     → CutterStandsFor c bytes sessions place → c.mode ≡ Mode.Synced
     → ((ps : List Packet) → MachineStandsFor c.machine ps → Grows ps (run_steps (Body register run)) n.machine) → AreBytes new
-    → flat_map bytes_of_word (map (λ (s : ℕ × Step). s.0) (run_steps (Body register run))) ≡ c.kept ++ new → n.kept ≡ [] → n.mode ≡ (if ends_by (run_steps (Body register run)) then Mode.Searching else Mode.Synced) → MatcherStandsFor n.matcher []
+    → flat_map bytes_of_word (map (λ (s : ℕ × Step). s.0) (run_steps (Body register run))) ≡ c.kept ++ new → n.kept ≡ [] → n.mode ≡ (if ends_by (run_steps (Body register run)) then Mode.Searching else Mode.Synced) → (ends_by (run_steps (Body register run)) ≡ true → MatcherStandsFor n.matcher [])
     → Went c n (bytes ++ new) sessions place (Body register run)
 body_more c n bytes new sessions (Searching gap) register run s is grows fits word none to matcher = absurd (let h : AtPlace c Mode.Synced (Searching gap) = rw is at s.at in h)
 body_more c n bytes new sessions (Synced gap packets tail) register run s is grows fits word none to matcher =

@@ -2,6 +2,7 @@ pub mod BlockLemmas
 pub mod ByHandLemmas
 pub mod CutLemmas
 pub mod EndLemmas
+pub mod FlashSlotLemmas
 pub mod FitLemmas
 pub mod GapLemmas
 pub mod GrowthLemmas

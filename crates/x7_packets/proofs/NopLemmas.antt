@@ -11,7 +11,8 @@ use Rattle.x7_packets.specs.declared.header.Step.TheVariants.{Nop}
 use Rattle.x7_packets.specs.Mode.{Mode}
 use Rattle.x7_packets.specs.Cutting.{AtPlace, CutterState, CutterStandsFor}
 use Rattle.x7_packets.specs.History.{history}
-use Rattle.x7_packets.specs.Nops.{Idles, equal_bytes, nop_bytes, nop_word}
+use Rattle.x7_packets.specs.Nops.{Idles, equal_bytes, nop_bytes}
+use Rattle.x7_packets.specs.PacketWords.{no_op}
 use Rattle.x7_packets.specs.Packet.{Packet}
 use Rattle.x7_packets.specs.Reading.{Place, Searching, Session, Synced, packet_bytes, session_bytes}
 use Rattle.x7_packets.specs.Taking.{Grows, MachineStandsFor, MachineState}
@@ -39,8 +40,8 @@ equal_taken k w bytes fits l e =
 
 -- ---- a machine in a header's place
 
-pub nop_grows : (m : MachineState) (ps : List Packet) → m.due ≡ 0 → MachineStandsFor m ps → Grows ps ((nop_word, Nop) ∷ []) m
-nop_grows m ps none (inl a) = header_whole m m ps nop_word Nop (omega arith) a refl refl refl none
+pub nop_grows : (m : MachineState) (ps : List Packet) → m.due ≡ 0 → MachineStandsFor m ps → Grows ps ((no_op, Nop) ∷ []) m
+nop_grows m ps none (inl a) = header_whole m m ps no_op Nop (omega arith) a refl refl refl none
 nop_grows m ps none (inr a) = absurd (omega (arith, none, a.more))
 
 -- ---- a cutter
@@ -51,15 +52,15 @@ record AfterNops (c : CutterState) (bytes : List ℕ) (sessions : List Session) 
   nothing : history sessions (Synced gap all []) ≡ history sessions (Synced gap packets [])
 
 one_nop : (c : CutterState) (bytes : List ℕ) (sessions : List Session) (gap : List ℕ) (packets : List Packet) → c.mode ≡ Mode.Synced → c.machine.due ≡ 0
-    → CutterStandsFor c bytes sessions (Synced gap packets []) → AfterNops c (bytes ++ bytes_of_word nop_word) sessions gap packets
+    → CutterStandsFor c bytes sessions (Synced gap packets []) → AfterNops c (bytes ++ bytes_of_word no_op) sessions gap packets
 one_nop c bytes sessions gap packets synced none s =
-    let word : List ℕ = bytes_of_word nop_word in
+    let word : List ℕ = bytes_of_word no_op in
     let h : MachineStandsFor c.machine packets × ([] ≡ c.kept) = rw synced at s.at in
-    let g : Grows packets ((nop_word, Nop) ∷ []) c.machine = nop_grows c.machine packets none h.0 in
+    let g : Grows packets ((no_op, Nop) ∷ []) c.machine = nop_grows c.machine packets none h.0 in
     let fits : AreBytes word = (omega arith, (omega arith, (omega arith, (omega arith, tt)))) in
     let joined : bytes ++ word ≡ flat_map session_bytes sessions ++ (gap ++ sync_bytes ++ packet_bytes g.packets) =
     joined_more (flat_map session_bytes sessions) bytes gap [] word (packet_bytes g.packets) (packet_bytes packets) word s.reading.joined
-    (packet_bytes-grown packets g.packets ((nop_word, Nop) ∷ []) g.grown ∙ ap (λ t. packet_bytes packets ++ t) (append-nil word)) refl in
+    (packet_bytes-grown packets g.packets ((no_op, Nop) ∷ []) g.grown ∙ ap (λ t. packet_bytes packets ++ t) (append-nil word)) refl in
     record {
       all = g.packets;
       stands = record {
@@ -71,18 +72,18 @@ one_nop c bytes sessions gap packets synced none s =
         };
         at = rw synced (g.stands, h.1);
       };
-      nothing = grown_goes_on gap [] packets g.packets ((nop_word, Nop) ∷ []) sessions g.grown;
+      nothing = grown_goes_on gap [] packets g.packets ((no_op, Nop) ∷ []) sessions g.grown;
     }
 
 all_nops : (k : ℕ) (c : CutterState) (bytes : List ℕ) (sessions : List Session) (gap : List ℕ) (packets : List Packet) → c.mode ≡ Mode.Synced → c.machine.due ≡ 0
     → CutterStandsFor c bytes sessions (Synced gap packets []) → AfterNops c (bytes ++ nop_bytes k) sessions gap packets
 all_nops zero c bytes sessions gap packets synced none s = record { all = packets; stands = subst (λ (b : List ℕ). CutterStandsFor c b sessions (Synced gap packets [])) (sym (append-nil bytes)) s; nothing = refl }
 all_nops (suc k) c bytes sessions gap packets synced none s =
-    let one : AfterNops c (bytes ++ bytes_of_word nop_word) sessions gap packets = one_nop c bytes sessions gap packets synced none s in
-    let more : AfterNops c ((bytes ++ bytes_of_word nop_word) ++ nop_bytes k) sessions gap one.all = all_nops k c (bytes ++ bytes_of_word nop_word) sessions gap one.all synced none one.stands in
+    let one : AfterNops c (bytes ++ bytes_of_word no_op) sessions gap packets = one_nop c bytes sessions gap packets synced none s in
+    let more : AfterNops c ((bytes ++ bytes_of_word no_op) ++ nop_bytes k) sessions gap one.all = all_nops k c (bytes ++ bytes_of_word no_op) sessions gap one.all synced none one.stands in
     record {
       all = more.all;
-      stands = subst (λ (b : List ℕ). CutterStandsFor c b sessions (Synced gap more.all [])) (append_assoc bytes (bytes_of_word nop_word) (nop_bytes k)) more.stands;
+      stands = subst (λ (b : List ℕ). CutterStandsFor c b sessions (Synced gap more.all [])) (append_assoc bytes (bytes_of_word no_op) (nop_bytes k)) more.stands;
       nothing = more.nothing ∙ one.nothing;
     }
 

@@ -34,7 +34,7 @@ abbrev pub gap_with : List ℕ → Place → Place
 gap_with prefix (Searching gap) = Searching (prefix ++ gap)
 gap_with prefix (Synced gap packets tail) = Synced (prefix ++ gap) packets tail
 
--- sessions and a place after ended sessions and an open gap, which the first gap goes on
+-- sessions and a place after ended sessions and an open gap, which the first of the later gaps goes on
 abbrev pub after_gap : List Session → List ℕ → List Session → Place → Reading
 after_gap before prefix [] place = record { sessions = before; place = gap_with prefix place }
 after_gap before prefix (s ∷ sessions) place = record { sessions = before ++ record { gap = prefix ++ s.gap; packets = s.packets } ∷ sessions; place = place }
@@ -43,7 +43,7 @@ after_gap before prefix (s ∷ sessions) place = record { sessions = before ++ r
 abbrev pub after : Reading → Reading → Reading
 after first more = after_gap first.sessions (gap_of first.place) more.sessions more.place
 
--- the history of bytes and of more bytes behind them
+-- the history of bytes and of more bytes after them
 abbrev pub history_after : List ℕ → List ℕ → History
 history_after bytes more = moved (length bytes) (history_of more) ++ history_of bytes
 

@@ -1,4 +1,5 @@
--- The packets of words and the reading of bytes found by hand: from the left, a word or a byte at a time.
+-- The packets of words and the reading of bytes found by hand: from the left, a word or a byte at a time (UG470, packet types
+-- and sync word; the search at every byte is this project's choice).
 use Rattle.std.specs.Prelude.{◌≡◌, ℕ, ◌-◌, ◌==◌, ◌&&◌, nat_lt, Bool, false, if◌then◌else◌, List, [], ◌∷◌, ◌++◌, length, take, drop, Option, None}
 use Rattle.std.specs.List.{fold}
 use Rattle.x7_words.specs.Word.{word_of_bytes}
@@ -32,7 +33,7 @@ packets_of = fold with_word []
 abbrev pub AreOfOneSession : List ℕ → Type 0
 AreOfOneSession ws = (prefix back : List ℕ) (w : ℕ) → ws ≡ prefix ++ w ∷ back → ended (packets_of prefix) ≡ false
 
--- these four bytes are the sync word
+-- a list of four bytes is the sync word
 abbrev pub is_sync : List ℕ → Bool
 is_sync (a ∷ b ∷ c ∷ d ∷ []) = a == 0xAA && b == 0x99 && c == 0x55 && d == 0x66
 is_sync _ = false
@@ -49,11 +50,11 @@ pub record Reading : Type 0 where
   pub sessions : List Session
   pub place : Place
 
--- bytes behind ended sessions, without the sync word or just up to its end
+-- the reading of bytes after ended sessions, which have no sync word or end with the first one
 abbrev pub searched : List Session → List ℕ → Reading
 searched sessions bytes = record { sessions = sessions; place = if is_sync (last_four bytes) then Synced (before_last_four bytes) [] [] else Searching bytes }
 
--- a session of these packets: where they end it, an empty gap follows
+-- a session of packets after ended sessions and a gap: where the packets end the session, an empty gap follows
 abbrev pub closed : List Session → List ℕ → List Packet → Reading
 closed sessions gap packets =
     if ended packets then record { sessions = sessions ++ record { gap = gap; packets = packets } ∷ []; place = Searching [] } else

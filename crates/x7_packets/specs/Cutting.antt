@@ -1,4 +1,5 @@
--- What a cutter stands for: the reading of the bytes that it took, and what each run adds to it.
+-- What a cutter stands for: the reading of the bytes that it took, and what each run adds to the reading (this project's
+-- choice).
 use Rattle.std.specs.Prelude.{◌≡◌, ℕ, ◌+◌, ◌*◌, ◌-◌, ◌/◌, ◌<◌, ◌==◌, List, [], ◌∷◌, ◌++◌, length, min, true, false, ◌⊎◌, take, drop, ◌↔◌, if◌then◌else◌}
 use Rattle.std.specs.List.{flat_map}
 use Rattle.x7_words.specs.Word.{bytes_of_word, words_of_bytes}
@@ -37,7 +38,7 @@ pub record CutterStandsFor (c : CutterState) (bytes : List ℕ) (sessions : List
   pub reading : IsReading bytes sessions place
   pub at : AtPlace c c.mode place
 
--- the same in one value
+-- the cutter took these bytes, and their reading, as one value, is `r`
 abbrev pub CutterReads : CutterState → List ℕ → Reading → Type 0
 CutterReads c bytes r = CutterStandsFor c bytes r.sessions r.place
 
@@ -137,13 +138,13 @@ KeepsNone Mode.Searching = Unit {0}
 KeepsNone Mode.Due = Unit {0}
 KeepsNone Mode.Synced = ⊥
 
--- one word of a session: a header's, or one of a payload of which words are due
+-- the run is one word of a session: a header's, or one of a payload of which words are due
 abbrev pub IsOneWord : ℕ → Cut → Type 0
 IsOneWord due (Head w step) = Unit {0}
 IsOneWord due (Word register w) = 0 < due
 IsOneWord due _ = ⊥
 
--- these bytes of the payload of this register
+-- the run is the bytes `body` of a payload of the register
 abbrev pub IsBody : ℕ → List ℕ → Cut → Type 0
 IsBody register body (Body r bytes) = (r ≡ register) × (bytes.now ≡ body)
 IsBody register body _ = ⊥
@@ -162,7 +163,7 @@ abbrev pub Goes : Cut → ℕ → ℕ → ℕ → Type 0
 Goes Need left calls_before calls = left ≡ 0
 Goes _ left calls_before calls = calls < calls_before
 
--- after a call that took these bytes
+-- the cutter after a call that gave this run: it stands for `bytes`, and the run added to the reading before
 pub record Went (old new : CutterState) (bytes : List ℕ) (sessions : List Session) (place : Place) (run : Cut) : Type 0 where
   pub new_sessions : List Session
   pub new_place : Place

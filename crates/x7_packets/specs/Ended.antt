@@ -9,7 +9,7 @@ writes_desync (Write register w) = ends_session register w
 writes_desync (Read register count) = false
 writes_desync (Bad w) = false
 
--- the newest access is
+-- the newest access is DESYNC written to CMD
 abbrev pub newest_ends : History → Bool
 newest_ends [] = false
 newest_ends (e ∷ h) = writes_desync e.access

@@ -1,4 +1,4 @@
--- Short forms for worked examples.
+-- Short forms for worked examples (this project's choice).
 use Rattle.std.specs.Prelude.{ℕ, List, [], ◌∷◌, ◌++◌}
 use Rattle.std.specs.List.{flat_map}
 use Rattle.x7_words.specs.Word.{bytes_of_word}
@@ -15,7 +15,7 @@ use Rattle.x7_packets.specs.RunningCheck.{RegisterWrite}
 abbrev pub stream : List ℕ → List ℕ
 stream = flat_map bytes_of_word
 
--- the bytes of the sync word, and of words behind it
+-- the bytes of the sync word, and of words after it
 abbrev pub synced : List ℕ → List ℕ
 synced words = stream (0xAA995566 ∷ words)
 
@@ -41,8 +41,8 @@ opening head register count payload = packet_with head (Open register count) pay
 abbrev pub opened : ℕ → ℕ → Packet
 opened head register = opening head register 0 []
 
-abbrev pub write_one : ℕ → ℕ → ℕ → Packet
-write_one head register word = opening head register 1 (word ∷ [])
+abbrev pub write_packet : ℕ → ℕ → ℕ → Packet
+write_packet head register word = opening head register 1 (word ∷ [])
 
 -- a word written to a register
 abbrev pub write_of : ℕ → ℕ → RegisterWrite
@@ -53,9 +53,9 @@ abbrev pub desync : List ℕ
 desync = 0x30008001 ∷ 13 ∷ []
 
 abbrev pub desync_packet : Packet
-desync_packet = write_one 0x30008001 4 13
+desync_packet = write_packet 0x30008001 4 13
 
--- a session behind this gap, and one that DESYNC ended
+-- a session after this gap, and a session that DESYNC ended
 abbrev pub session_with : List ℕ → List Packet → Session
 session_with gap packets = record { gap = gap; packets = packets }
 
@@ -65,23 +65,23 @@ desynced gap packets = session_with gap (packets ++ desync_packet ∷ [])
 abbrev pub reading_with : List Session → Place → Reading
 reading_with sessions place = record { sessions = sessions; place = place }
 
--- a place behind no ended session
+-- a place after no ended session
 abbrev pub reading_at : Place → Reading
 reading_at place = reading_with [] place
 
--- a session behind no gap, with these packets and no tail
+-- a session after no gap, with these packets and no tail
 abbrev pub in_session : List Packet → Reading
 in_session packets = reading_at (Synced [] packets [])
 
--- the same with this tail
+-- a session after no gap, with these packets and this tail of bytes
 abbrev pub with_tail : List Packet → List ℕ → Reading
 with_tail packets tail = reading_at (Synced [] packets tail)
 
--- ended sessions, and the gap behind them
+-- ended sessions, and the gap after them
 abbrev pub then_gap : List Session → List ℕ → Reading
 then_gap sessions gap = reading_with sessions (Searching gap)
 
--- accesses, with the place behind their last byte
+-- accesses, with the number of bytes up to and with their last one
 abbrev pub write_at : ℕ → ℕ → ℕ → Entry
 write_at register word place = entry (Write register word) place
 

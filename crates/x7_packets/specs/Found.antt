@@ -13,7 +13,7 @@ pub data Found : Type 0 where
   Tail : Found
   End : Found
 
--- that of a reader by its field
+-- what the last run of a reader is, by the reader's field
 abbrev pub found_of : Last → Found
 found_of last.Skip = Found.Skip
 found_of last.Sync = Found.Sync

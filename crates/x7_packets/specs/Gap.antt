@@ -1,4 +1,4 @@
--- Bytes behind a gap in which no sync word begins (UG470, sync word): they are read as they are alone, at places moved by the gap.
+-- Bytes after a gap in which no sync word begins (UG470, sync word): they are read as they are alone, at places moved by the gap.
 use Rattle.std.specs.Prelude.{◌≡◌, ◌≤◌, ℕ, List, ◌++◌, length}
 use Rattle.x7_words.specs.Word.{AreBytes}
 use Rattle.x7_packets.specs.ByHand.{reading_of}
@@ -6,17 +6,17 @@ use Rattle.x7_packets.specs.History.{history_of}
 use Rattle.x7_packets.specs.Reading.{is_synced}
 use Rattle.x7_packets.specs.SyncWord.{sync_bytes}
 
--- no sync word of a gap and of more bytes behind it begins in the gap
+-- no sync word of a gap and of more bytes after it begins in the gap
 abbrev pub NoneBegins : List ℕ → List ℕ → Type 0
 NoneBegins gap more = (prefix back : List ℕ) → gap ++ more ≡ prefix ++ (sync_bytes ++ back) → length gap ≤ length prefix
 
--- as many bytes, which ask the same at the same places, and end in a session both or neither
+-- two lists of bytes of one length, which ask the same at the same places, and end in a session both or neither
 pub record AreAlike (one other : List ℕ) : Type 0 where
   pub history : history_of one ≡ history_of other
   pub count : length one ≡ length other
   pub synced : is_synced (reading_of one).place ≡ is_synced (reading_of other).place
 
--- bytes stand behind two gaps of a length, and no sync word begins in either
+-- bytes stand after two gaps of a length, and no sync word begins in either
 pub record AreGaps (one other more : List ℕ) : Type 0 where
   pub long : length one ≡ length other
   pub fits : AreBytes (one ++ more) × AreBytes (other ++ more)

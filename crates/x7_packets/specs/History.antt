@@ -44,13 +44,13 @@ abbrev pub entered_all : ℕ → List (ℕ × Step) → History → History
 entered_all place [] h = h
 entered_all place (s ∷ more) h = entered_all (place + 4) more (entered (place + 4) s.1 h)
 
--- the same for the words of ended sessions, the first of which begins with its gap at this place
+-- a history with the accesses of ended sessions, the first of which begins with its gap at this place
 abbrev pub entered_sessions : ℕ → List Session → History → History
 entered_sessions place [] h = h
 entered_sessions place (s ∷ sessions) h =
     entered_sessions (place + length (session_bytes s)) sessions (entered_all (place + length s.gap + 4) (flat_map stepped s.packets) h)
 
--- the same for the words of the place behind them
+-- a history with the accesses of the place after the ended sessions, whose gap begins at this place
 abbrev pub entered_place : ℕ → Place → History → History
 entered_place place (Searching gap) h = h
 entered_place place (Synced gap packets tail) h = entered_all (place + length gap + 4) (flat_map stepped packets) h
@@ -75,7 +75,7 @@ history_in r = history r.sessions r.place
 abbrev pub next_in : Reading → ℕ
 next_in r = next_word r.sessions r.place
 
--- bytes more enter no access, or this one
+-- more bytes enter no access, or just one
 abbrev pub EntersNone : List ℕ → List ℕ → Type 0
 EntersNone bytes more = history_of (bytes ++ more) ≡ history_of bytes
 
@@ -108,7 +108,7 @@ executed_by held (Write register w) =
     if register == number_of Far && not (held == code_of Desync || held == code_of Iprog) then Some held else None
 executed_by held _ = None
 
--- the command is this one
+-- the command executed is `command`
 abbrev pub is_command : ℕ → Option ℕ → Bool
 is_command command None = false
 is_command command (Some c) = c == command
@@ -132,7 +132,7 @@ FitsAccess (Write register w) = (register < 2 ^ 5) × (w < 2 ^ 32)
 FitsAccess (Read register count) = (register < 2 ^ 5) × (count < 2 ^ 27)
 FitsAccess (Bad w) = w < 2 ^ 32
 
--- each access can
+-- each access of a history can come of words of 32 bits
 abbrev pub AllFit : History → Type 0
 AllFit [] = Unit {0}
 AllFit (e ∷ h) = FitsAccess e.access × AllFit h
@@ -152,6 +152,6 @@ abbrev pub AllAfter : ℕ → ℕ → History → Type 0
 AllAfter n m [] = Unit {0}
 AllAfter n m (e ∷ h) = (n < e.place) × (e.place ≤ m) × AllAfter n m h
 
--- bytes more enter these accesses, each with a place among them
+-- more bytes enter newer accesses, each with a place among them
 abbrev pub EntersNewer : List ℕ → List ℕ → Type 0
 EntersNewer bytes more = (newer : History) × (history_of (bytes ++ more) ≡ newer ++ history_of bytes) × AllAfter (length bytes) (length (bytes ++ more)) newer

@@ -1,3 +1,4 @@
+pub mod FlashSlot
 pub mod Found
 pub mod Gap
 pub mod Mode
@@ -7,6 +8,7 @@ pub mod Examples
 pub mod History
 pub mod Matching
 pub mod Packet
+pub mod PacketWords
 pub mod Reading
 pub mod RunningCheck
 pub mod SyncWord

@@ -1,16 +1,16 @@
--- What a cutter is at (this project's choice: a sync word is given by itself, behind the bytes that it ends).
+-- What a cutter is at (this project's choice: a sync word is given by itself, after the bytes that it ends).
 use Rattle.x7_packets.specs.declared.cutter.Stage.{Stage}
 use Rattle.x7_packets.specs.declared.cutter.Stage.TheVariants as stage
 
 pub data Mode : Type 0 where
   -- in a gap
   Searching : Mode
-  -- just behind a sync word that is still to be given
+  -- just after a sync word that is still to be given
   Due : Mode
   -- in a session
   Synced : Mode
 
--- that of a cutter by its field
+-- what a cutter is at, by its field
 abbrev pub mode_of : Stage → Mode
 mode_of stage.Searching = Mode.Searching
 mode_of stage.Due = Mode.Due

@@ -4,19 +4,16 @@ use Rattle.std.specs.List.{flat_map}
 use Rattle.x7_words.specs.Word.{bytes_of_word}
 use Rattle.x7_packets.specs.Cutting.{CutterState, CutterStandsFor}
 use Rattle.x7_packets.specs.History.{history}
+use Rattle.x7_packets.specs.PacketWords.{no_op}
 use Rattle.x7_packets.specs.Reading.{Place, Session}
 
--- the bytes of a word so many times
+-- the bytes of the word `w`, `count` times
 abbrev pub equal_bytes : ℕ → ℕ → List ℕ
 equal_bytes w count = flat_map bytes_of_word (replicate count w)
 
--- the no-op 20000000
-abbrev pub nop_word : ℕ
-nop_word = 0x20000000
-
--- the bytes of so many
+-- the bytes of `count` no-ops
 abbrev pub nop_bytes : ℕ → List ℕ
-nop_bytes count = equal_bytes nop_word count
+nop_bytes count = equal_bytes no_op count
 
 -- a cutter as it is stands for these bytes too, which have no access more
 pub record Idles (c : CutterState) (bytes : List ℕ) (sessions : List Session) (place : Place) : Type 0 where

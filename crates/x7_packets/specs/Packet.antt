@@ -7,6 +7,7 @@ use Rattle.x7_regs.specs.Register.{number_of}
 use Rattle.x7_regs.specs.Command.{code_of}
 use Rattle.x7_regs.specs.declared.register.Reg.TheVariants.{Cmd}
 use Rattle.x7_regs.specs.declared.command.Command.TheVariants.{Desync}
+use Rattle.x7_packets.specs.PacketWords.{dummy_word, no_op_kind, sync_word, type1_read_kind, type1_write_kind, type2_read_kind, type2_write_kind}
 use Rattle.x7_packets.specs.declared.header.Step.{Step}
 use Rattle.x7_packets.specs.declared.header.Step.TheVariants.{Filler, Nop, Open, Payload, Read, Bad}
 
@@ -22,16 +23,16 @@ register_of = field_of 13 5
 abbrev pub long_meaning : Option ℕ → ℕ → Step
 long_meaning None w = Bad w
 long_meaning (Some register) w =
-    if type_and_opcode_of w == 10 then Open register (w % 2 ^ 27) else
-    if type_and_opcode_of w == 9 then Read register (w % 2 ^ 27) else Bad w
+    if type_and_opcode_of w == type2_write_kind then Open register (w % 2 ^ 27) else
+    if type_and_opcode_of w == type2_read_kind then Read register (w % 2 ^ 27) else Bad w
 
 -- what a word in a header's place means, where the nearest type 1 read or write named this register
 abbrev pub meaning : Option ℕ → ℕ → Step
 meaning latest w =
-    if w == 0xAA995566 || w == 0xFFFFFFFF || w / 2 ^ 29 == 0 then Filler else
-    if type_and_opcode_of w == 4 then Nop else
-    if type_and_opcode_of w == 6 then Open (register_of w) (w % 2 ^ 11) else
-    if type_and_opcode_of w == 5 then Read (register_of w) (w % 2 ^ 11) else
+    if w == sync_word || w == dummy_word || w / 2 ^ 29 == 0 then Filler else
+    if type_and_opcode_of w == no_op_kind then Nop else
+    if type_and_opcode_of w == type1_write_kind then Open (register_of w) (w % 2 ^ 11) else
+    if type_and_opcode_of w == type1_read_kind then Read (register_of w) (w % 2 ^ 11) else
     long_meaning latest w
 
 -- a header word with its meaning, and the words of its payload
@@ -69,7 +70,7 @@ latest_after latest (Open register count) = Some register
 latest_after latest (Read register count) = Some register
 latest_after latest _ = latest
 
--- the same after all of these packets
+-- the register of the nearest type 1 read or write after packets
 abbrev pub latest_of : Option ℕ → List Packet → Option ℕ
 latest_of latest [] = latest
 latest_of latest (p ∷ ps) = latest_of (latest_after latest p.step) ps
@@ -78,25 +79,26 @@ latest_of latest (p ∷ ps) = latest_of (latest_after latest p.step) ps
 abbrev pub ends_session : ℕ → ℕ → Bool
 ends_session register w = register == number_of Cmd && w % 2 ^ 5 == code_of Desync
 
--- no word of them ends the session
+-- no word written to the register ends the session
 abbrev pub NoneEnds : ℕ → List ℕ → Type 0
 NoneEnds register [] = Unit {0}
 NoneEnds register (w ∷ ws) = (ends_session register w ≡ false) × NoneEnds register ws
 
--- no word but the last ends the session
+-- no word written to the register but the last ends the session
 abbrev pub OnlyLastEnds : ℕ → List ℕ → Type 0
 OnlyLastEnds register [] = Unit {0}
 OnlyLastEnds register (w ∷ []) = Unit {0}
 OnlyLastEnds register (w ∷ x ∷ ws) = (ends_session register w ≡ false) × OnlyLastEnds register (x ∷ ws)
 
--- the header means its step, and the payload is no longer than it says; only its last word may end the session
+-- a packet: the header means its step, the payload is no longer than the header says, and only its last word may end the
+-- session
 pub record IsPacket (latest : Option ℕ) (p : Packet) : Type 0 where
   pub fits : AreWords (words p)
   pub means : p.step ≡ meaning latest p.head
   pub most : length p.payload ≤ count_of p.step
   pub goes_on : OnlyLastEnds (named_by p.step) p.payload
 
--- all of the payload is there, and no word of it ends the session
+-- a packet is whole: all of the payload is there, and no word of it ends the session
 pub record IsWhole (p : Packet) : Type 0 where
   pub all : length p.payload ≡ count_of p.step
   pub none_ends : NoneEnds (named_by p.step) p.payload

@@ -1,4 +1,4 @@
--- What is kept of packets over an input.
+-- What is kept of packets over an input (this project's choice).
 use Rattle.std.specs.Prelude.{ℕ, List, Bool}
 use Rattle.x7_packets.specs.Cutting.{CutterState}
 use Rattle.x7_packets.specs.Found.{Found}

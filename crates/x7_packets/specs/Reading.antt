@@ -10,7 +10,7 @@ pub record Session : Type 0 where
   pub gap : List ℕ
   pub packets : List Packet
 
--- where the bytes end: in a gap, or in a session behind a gap, with up to three bytes of no whole word
+-- where the bytes end: in a gap, or in a session after a gap, with up to three bytes of no whole word
 pub data Place : Type 0 where
   Searching : (gap : List ℕ) → Place
   Synced : (gap : List ℕ) (packets : List Packet) (tail : List ℕ) → Place

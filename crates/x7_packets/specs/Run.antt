@@ -18,12 +18,12 @@ cut_of (run.Body register bytes) = cut.Body register bytes
 cut_of (run.Tail bytes) = cut.Need
 cut_of run.End = cut.Need
 
--- the bytes that a run tells
+-- the bytes that a run gives
 abbrev pub bytes_of_run : Run → List ℕ
 bytes_of_run (run.Tail bytes) = bytes.now
 bytes_of_run r = run_bytes (cut_of r)
 
--- nothing but the end comes after it
+-- the run is the tail or the end: nothing but the end comes after it
 abbrev pub is_last : Run → Bool
 is_last (run.Tail bytes) = true
 is_last run.End = true
@@ -41,7 +41,7 @@ abbrev pub FitsRun : Run → Type 0
 FitsRun (run.Tail bytes) = (0 < length bytes.now) × (length bytes.now < 4)
 FitsRun r = IsRun (cut_of r)
 
--- The run is what comes next behind these bytes, a sync word being due to be given or not before and after it.
+-- the run is what comes next after these bytes; `old` and `new` say what the cutter is at before and after it
 pub record IsNext (bytes : List ℕ) (old : Mode) (r : Run) (new : Mode) : Type 0 where
   pub sessions : List Session
   pub place : Place

@@ -1,4 +1,4 @@
--- Packets over an input: what a reader of them stands for, and what each run that it lends tells (this project's choice).
+-- Packets over an input: what a reader of packets stands for, and what each run that it lends says (this project's choice).
 use Rattle.std.specs.Prelude.{◌≡◌, ℕ, ◌+◌, ◌<◌, ◌↔◌, List, [], ◌++◌, length, take, drop, Bool, true, false, if◌then◌else◌, Option, Result, Ok, Err}
 use Rattle.std.specs.Borrow.{Bor, Fml, MutBor}
 use Rattle.std.specs.Io.BufRead.{Rests}
@@ -60,12 +60,12 @@ IsRunOf Found.End bytes kept r = r ≡ run.End
 abbrev pub IsLast : PacketsState → Run → Type 0
 IsLast p r = IsRunOf p.found p.bytes p.cutter.kept r
 
--- whether a run was cut of the bytes that are left
+-- a run was cut of the bytes that are left, and is what was found; or the cutter needs more bytes
 abbrev pub IsCutOff : Bool → Found → Cut → Type 0
 IsCutOff true f c = IsFound f c
 IsCutOff false f c = IsNeed c
 
--- one call of the cutter on the bytes that are left
+-- a reader before and after one call of the cutter on the bytes that are left
 pub record Steps (old new : PacketsState) (any : Bool) : Type 0 where
   pub run : Cut
   pub count : ℕ
@@ -100,8 +100,8 @@ pub record Reads (old new : PacketsState) (more : List ℕ) : Type 0 where
   pub count : new.taken ≡ old.taken + length more
   pub stands : (bytes given : List ℕ) → PacketsStandFor old bytes given → PacketsStandFor new (bytes ++ more) given × SameDue old.cutter.mode new.cutter.mode
 
--- The run was cut of all bytes in the buffer: it and the bytes left behind it are those that were left, after what was read, and the ones
--- kept before; payload words and a gap's bytes among them are lent at once.
+-- The run was cut of all bytes in the buffer: its bytes and those left after it are the ones that were kept and left before,
+-- after what was read; payload words and a gap's bytes among them are lent at once.
 pub record LendsRun (old new : PacketsState) (more : List ℕ) (r : Run) : Type 0 where
   pub at : PacketsState
   pub reads : Reads old at more

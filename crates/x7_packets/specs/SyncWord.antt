@@ -1,7 +1,7 @@
 -- The sync word in a list of bytes (UG470, sync word). It is found at any byte place (this project's choice).
 use Rattle.std.specs.Prelude.{◌≡◌, ℕ, List, [], ◌∷◌, ◌++◌}
 
--- AA995566
+-- the four bytes of the sync word, AA995566
 abbrev pub sync_bytes : List ℕ
 sync_bytes = 0xAA ∷ 0x99 ∷ 0x55 ∷ 0x66 ∷ []
 
@@ -13,6 +13,6 @@ EndsWithSync bytes = (prefix : List ℕ) × (bytes ≡ prefix ++ sync_bytes)
 pub record HasNoSync (bytes : List ℕ) : Type 0 where
   pub none : (prefix back : List ℕ) → bytes ≡ prefix ++ sync_bytes ++ back → ⊥
 
--- in these bytes and the sync word behind them, the sync word stands only at the end
+-- in these bytes and the sync word after them, the sync word stands only at the end
 pub record IsBeforeSync (gap : List ℕ) : Type 0 where
   pub first : (prefix back : List ℕ) → gap ++ sync_bytes ≡ prefix ++ sync_bytes ++ back → back ≡ []

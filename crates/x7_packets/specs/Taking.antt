@@ -1,4 +1,4 @@
--- What a packet machine stands for: the packets whose words it took.
+-- What a packet machine stands for: the packets whose words it took (this project's choice).
 use Rattle.std.specs.Prelude.{◌≡◌, ℕ, ◌+◌, ◌<◌, ◌⊎◌, List, [], ◌∷◌, ◌++◌, length, Option, None, Some, if◌then◌else◌, Bool, false}
 use Rattle.std.specs.List.{flat_map}
 use Rattle.x7_words.specs.Word.{AreWords}
@@ -12,7 +12,7 @@ pub record MachineState : Type 0 where
   pub register : ℕ
   pub latest : Option ℕ
 
--- each is a packet, and each is whole
+-- each of a list of packets is a packet after those before it, and whole
 abbrev pub AllWhole : Option ℕ → List Packet → Type 0
 AllWhole latest [] = Unit {0}
 AllWhole latest (p ∷ ps) = IsPacket latest p × IsWhole p × AllWhole (latest_after latest p.step) ps

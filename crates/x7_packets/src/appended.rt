@@ -33,8 +33,8 @@ pub fn gaps_ask_nothing()
     ensures lacks { (bytes prefix more : List ℕ) (x : ℕ) → sync_bytes ≡ prefix ++ x ∷ more → AllByRecursion (λ b. (b == x) ≡ false) bytes → HasNoSync bytes }
 {}
 
-/// Bytes behind a gap in which no sync word begins are read as they are alone: they ask the same, at places moved by the gap,
-/// and end in a session or not. So behind two such gaps of a length the bytes, and each prefix, are alike.
+/// Bytes after a gap in which no sync word begins are read as they are alone: they ask the same, at places moved by the gap,
+/// and end in a session or not. So after two such gaps of a length the bytes, and each prefix, are alike.
 pub fn gaps_are_passed()
     ensures history { (gap more : List ℕ) → AreBytes (gap ++ more) → NoneBegins gap more → history_of (gap ++ more) ≡ moved (length gap) (history_of more) }
     ensures synced { (gap more : List ℕ) → AreBytes (gap ++ more) → NoneBegins gap more

@@ -6,7 +6,8 @@ ghost use Rattle.x7_regs.specs.declared.register.Reg.TheVariants.{Cmd};
 ghost use Rattle.x7_packets.specs.AtOnce.{BeginsWrite, EndsGap, Takes, WritesFew, WritesOne};
 ghost use Rattle.x7_packets.specs.Cutting.{between, calls_left, CompletesNone, Cuts, CutterStandsFor, Goes, IsBody, IsLent, IsNeed, IsOneWord, IsRun, run_bytes, SkipsAll, syncs_due, Went};
 ghost use Rattle.x7_packets.specs.Matching.{IsClear};
-ghost use Rattle.x7_packets.specs.Nops.{Idles, nop_bytes, nop_word};
+ghost use Rattle.x7_packets.specs.Nops.{Idles, nop_bytes};
+ghost use Rattle.x7_packets.specs.PacketWords.{no_op};
 ghost use Rattle.x7_packets.specs.Reading.{is_synced, Place, Session, tail_of};
 ghost use Rattle.x7_packets.specs.Mode.{Mode, mode_of};
 
@@ -16,6 +17,7 @@ use crate::header::Step;
 use crate::machine::Machine;
 use crate::nops::count_equal;
 use crate::sync::{Matcher, near_sync};
+use crate::words::{NO_OP, type1_write};
 use std::marker::Model;
 use x7_regs::Reg;
 use x7_words::word_of;
@@ -25,7 +27,7 @@ use x7_words::word_of;
 pub(crate) enum Stage {
     /// In a gap.
     Searching,
-    /// Just behind a sync word that is still to be given.
+    /// Just after a sync word that is still to be given.
     Due,
     /// In a session.
     Synced,
@@ -48,7 +50,7 @@ pub enum Cut<'p> {
     Body(u8, &'p [u8]),
 }
 
-/// Keeps bytes behind those that are kept, and says how many there are then.
+/// Keeps bytes after the `count` that are kept already, and says how many are kept then, at most three.
 fn keep(kept: &mut [u8; 3], count: usize, bytes: &[u8]) -> usize
     requires { count + length bytes.now ≤ 3 }
     ensures count { result ≡ count + length bytes.now }
@@ -58,7 +60,7 @@ fn keep(kept: &mut [u8; 3], count: usize, bytes: &[u8]) -> usize
     count + bytes.len()
 }
 
-/// The word of the bytes that are kept and of those that it lacks.
+/// The word of the `count` bytes that are kept and of those that the word lacks, four together.
 fn whole(kept: &[u8; 3], count: usize, missing: &[u8]) -> u32
     requires whole { count + length missing.now ≡ 4 }
     requires within { count ≤ 3 }
@@ -73,13 +75,10 @@ fn whole(kept: &[u8; 3], count: usize, missing: &[u8]) -> u32
     word_of(bytes)
 }
 
-/// The no-op.
-const NOP: u32 = 0x2000_0000;
-
-/// How many bytes must lie there for a short write to be taken at once: the longest one, a header and sixteen words.
+/// How many bytes must be left of a piece for a short write to be taken at once: the longest one, a header and sixteen words.
 const LONGEST_WRITE: usize = 68;
 
-/// How many bytes must lie there for a short gap to be taken at once.
+/// How many bytes must be left of a piece for a short gap to be taken at once.
 const LONGEST_GAP: usize = 36;
 
 /// The register and the word of the write of one word that begins these bytes, its header's reserved bits 0.
@@ -95,13 +94,13 @@ fn first_write(bytes: &[u8]) -> Option<(u8, u32)>
     };
     let head = word_of(*head);
     let register = (head >> 13 & 31) as u8;
-    if head != 0x3000_0001 + 8192 * u32::from(register) {
+    if head != type1_write(register, 1) {
         return None;
     }
     Some((register, word_of(*word)))
 }
 
-/// What a cutter is at behind a word.
+/// What a cutter is at after a word of a session.
 fn after_word(ended: bool) -> Stage
     ensures { mode_of result ≡ (if ended then Mode.Searching else Mode.Synced) }
 {
@@ -148,7 +147,7 @@ impl Cutter {
         }
     }
 
-    /// The bytes of no whole word that it keeps: at most three, and none while searching.
+    /// The bytes of no whole word that the cutter keeps: at most three, and none while searching.
     pub fn kept(&self) -> &[u8]
         ensures kept { result.now ≡ self.now.kept }
         ensures short { length result.now ≤ 3 }
@@ -157,7 +156,7 @@ impl Cutter {
         &self.kept[..self.count]
     }
 
-    /// What it keeps is the tail of the bytes taken. For proofs alone: it does nothing.
+    /// The bytes that the cutter keeps are the tail of the bytes taken. The call is for proofs alone, and does nothing.
     #[inline(always)]
     pub(crate) fn keeps_the_tail(&self)
         ensures { (bytes : List ℕ) (sessions : List Session) (place : Place) → CutterStandsFor self.now bytes sessions place → self.now.kept ≡ tail_of place }
@@ -165,7 +164,7 @@ impl Cutter {
         let _ = &self.stage;
     }
 
-    /// Whether the bytes taken end in a session. It begins just behind its sync word, before that is given.
+    /// Whether the bytes taken end in a session. A session begins just after its sync word, before the sync word is given.
     pub fn is_synced(&self) -> bool
         ensures synced { (bytes : List ℕ) (sessions : List Session) (place : Place) → CutterStandsFor self.now bytes sessions place → result ≡ is_synced place }
     {
@@ -175,32 +174,20 @@ impl Cutter {
         }
     }
 
-    /// How many of the bytes that come next are no-ops of a session, one after the other. To take them leaves the cutter
-    /// as it is, and they enter no access.
-    #[inline(always)]
-    pub fn nops(&self, rest: &[u8]) -> usize
-        ensures within { result ≤ length rest.now }
-        ensures idles { (bytes : List ℕ) (sessions : List Session) (place : Place) → CutterStandsFor self.now bytes sessions place
-            → Idles self.now (bytes ++ take result rest.now) sessions place }
-    {
-        if !self.is_at_header() {
-            return 0;
-        }
-        4 * count_equal(rest, NOP)
-    }
-
     /// How many of the words that come next are no-ops of a session, one after the other. To take each of them, as a word
-    /// in a header's place, leaves the cutter as it is.
+    /// in a header's place, leaves the cutter as it is, and no access is entered.
     #[inline(always)]
     pub fn nop_count(&self, rest: &[u8]) -> usize
         ensures within { 4 * result ≤ length rest.now }
         ensures nops { take (4 * result) rest.now ≡ nop_bytes result }
-        ensures same { 0 < result → Takes self.now self.now (bytes_of_word nop_word) (Cut.Head nop_word Step.Nop) }
+        ensures same { 0 < result → Takes self.now self.now (bytes_of_word no_op) (Cut.Head no_op Step.Nop) }
+        ensures idles { (bytes : List ℕ) (sessions : List Session) (place : Place) → CutterStandsFor self.now bytes sessions place
+            → Idles self.now (bytes ++ take (4 * result) rest.now) sessions place }
     {
         if !self.is_at_header() {
             return 0;
         }
-        count_equal(rest, NOP)
+        count_equal(rest, NO_OP)
     }
 
     /// Takes the packet that comes next, where it lies whole in `rest` and is a write of one word, its header's reserved
@@ -218,7 +205,6 @@ impl Cutter {
         };
         if register != Reg::Cmd.number() {
             self.machine.pass_words(register);
-            self.matcher = Matcher::new();
             return Some((register, w));
         }
         self.stage = after_word(self.machine.pass_write(register, w));
@@ -242,7 +228,7 @@ impl Cutter {
         let head = word_of([rest[0], rest[1], rest[2], rest[3]]);
         let register = (head >> 13 & 31) as u8;
         let count = head & 31;
-        if head != 0x3000_0000 + 8192 * u32::from(register) + count {
+        if head != type1_write(register, count) {
             return None;
         }
         if register == Reg::Cmd.number() {
@@ -255,12 +241,11 @@ impl Cutter {
             return None;
         }
         self.machine.pass_words(register);
-        self.matcher = Matcher::new();
         Some((register, count as usize))
     }
 
-    /// Takes a gap that comes next, and tells the sync word behind it, where that is among the first 32 bytes of `rest`, which
-    /// has 36 at least, and begins in it. Gives how many bytes the gap has there.
+    /// Takes a gap that comes next, and gives the sync word after it, where the sync word is among the first 32 bytes of `rest`,
+    /// which has 36 at least, and begins there. Gives how many bytes of the gap stand in `rest`.
     #[inline(always)]
     pub fn take_gap(&mut self, rest: &[u8]) -> Option<usize>
         ensures some { IfSome result (λ count. EndsGap self.old self.new rest.now count) }
@@ -307,7 +292,7 @@ impl Cutter {
         self.machine.is_at_header()
     }
 
-    /// The next run of the piece from `at` on, which it moves behind the bytes taken.
+    /// The next run of the piece from place `at` on; `at` moves past the bytes taken.
     #[inline(always)]
     pub fn cut<'p>(&mut self, piece: &'p [u8], at: &mut usize) -> Cut<'p>
         requires { at.old ≤ length piece.now }
@@ -393,7 +378,7 @@ impl Cutter {
         self.count = keep(&mut self.kept, self.count, rest);
     }
 
-    /// Takes one word, of the bytes that are kept and those that it lacks.
+    /// Takes one word, of the bytes that are kept and those that the word lacks.
     #[inline(always)]
     fn word<'p>(&mut self, missing: &[u8]) -> Cut<'p>
         requires synced { self.old.mode ≡ Mode.Synced }

@@ -1,7 +1,7 @@
 //! Worked examples: the definitions compute to these values, which follow from the format's rules.
 ghost use Rattle.std.specs.Prelude.{◌≡◌, [], ◌∷◌, ◌++◌};
 ghost use Rattle.x7_packets.specs.ByHand.{packets_of, reading_of};
-ghost use Rattle.x7_packets.specs.Examples.{bad, bad_at, desync, desynced, filler, in_session, nop, opened, opening, read, read_at, reading_at, session_with, synced, then_gap, with_tail, write_at, write_of, write_one};
+ghost use Rattle.x7_packets.specs.Examples.{bad, bad_at, desync, desynced, filler, in_session, nop, opened, opening, read, read_at, reading_at, session_with, synced, then_gap, with_tail, write_at, write_of, write_packet};
 ghost use Rattle.x7_packets.specs.History.{executed, history_of};
 ghost use Rattle.x7_packets.specs.Reading.{Searching, Synced};
 ghost use Rattle.x7_packets.specs.RunningCheck.{open_writes};
@@ -12,9 +12,9 @@ pub fn examples_of_the_search()
     ensures inside_a_failed_match { reading_of (0xFF ∷ 0xAA ∷ synced (0x20000000 ∷ []))
         ≡ reading_at (Synced (0xFF ∷ 0xAA ∷ []) (nop 0x20000000 ∷ []) []) }
     ensures in_the_place_of_a_header { reading_of (synced (0x30004000 ∷ 0xAA995566 ∷ 0x50000001 ∷ 5 ∷ []))
-        ≡ in_session (opened 0x30004000 2 ∷ filler 0xAA995566 ∷ write_one 0x50000001 2 5 ∷ []) }
+        ≡ in_session (opened 0x30004000 2 ∷ filler 0xAA995566 ∷ write_packet 0x50000001 2 5 ∷ []) }
     ensures in_a_payload { reading_of (synced (0x30004001 ∷ 0xAA995566 ∷ []))
-        ≡ in_session (write_one 0x30004001 2 0xAA995566 ∷ []) }
+        ≡ in_session (write_packet 0x30004001 2 0xAA995566 ∷ []) }
 {}
 
 /// What words in a header's place mean.
@@ -22,14 +22,14 @@ pub fn examples_of_headers()
     ensures without_effect { packets_of (0xFFFFFFFF ∷ 0x000000BB ∷ 0x11220044 ∷ 0x20000000 ∷ [])
         ≡ filler 0xFFFFFFFF ∷ filler 0x000000BB ∷ filler 0x11220044 ∷ nop 0x20000000 ∷ [] }
     ensures write_and_read { packets_of (0x30018001 ∷ 0x03651093 ∷ 0x2800E001 ∷ [])
-        ≡ write_one 0x30018001 12 0x03651093 ∷ read 0x2800E001 7 1 ∷ [] }
+        ≡ write_packet 0x30018001 12 0x03651093 ∷ read 0x2800E001 7 1 ∷ [] }
     ensures bits_without_effect { packets_of (0x2FFC7FFF ∷ []) ≡ read 0x2FFC7FFF 3 2047 ∷ [] }
     ensures type_2_alone { packets_of (0x50000001 ∷ 0x48000001 ∷ 0x20000000 ∷ [])
         ≡ bad 0x50000001 ∷ bad 0x48000001 ∷ nop 0x20000000 ∷ [] }
     ensures type_2_after_write { packets_of (0x30004000 ∷ 0x50000002 ∷ 17 ∷ 18 ∷ [])
         ≡ opened 0x30004000 2 ∷ opening 0x50000002 2 2 (17 ∷ 18 ∷ []) ∷ [] }
     ensures type_2_after_read { packets_of (0x30004000 ∷ 0x28006000 ∷ 0x48000065 ∷ 0x50000001 ∷ 7 ∷ [])
-        ≡ opened 0x30004000 2 ∷ read 0x28006000 3 0 ∷ read 0x48000065 3 101 ∷ write_one 0x50000001 3 7 ∷ [] }
+        ≡ opened 0x30004000 2 ∷ read 0x28006000 3 0 ∷ read 0x48000065 3 101 ∷ write_packet 0x50000001 3 7 ∷ [] }
     ensures no_header { packets_of (0x30008000 ∷ 0x38000000 ∷ 0x40000000 ∷ 0x58000000 ∷ 0xE0000000 ∷ [])
         ≡ opened 0x30008000 4 ∷ bad 0x38000000 ∷ bad 0x40000000 ∷ bad 0x58000000 ∷ bad 0xE0000000 ∷ [] }
 {}
@@ -39,7 +39,7 @@ pub fn examples_of_ends()
     ensures upper_bits_of_desync { reading_of (synced (0x30008003 ∷ 1 ∷ 0xFFFFFFED ∷ 2 ∷ []))
         ≡ then_gap (session_with [] (opening 0x30008003 4 3 (1 ∷ 0xFFFFFFED ∷ []) ∷ []) ∷ []) (0 ∷ 0 ∷ 0 ∷ 2 ∷ []) }
     ensures thirteen_elsewhere { reading_of (synced (0x30002001 ∷ 13 ∷ []))
-        ≡ in_session (write_one 0x30002001 1 13 ∷ []) }
+        ≡ in_session (write_packet 0x30002001 1 13 ∷ []) }
     ensures two_sessions { reading_of (synced desync ++ 0xFF ∷ synced (0x50000001 ∷ desync) ++ 1 ∷ [])
         ≡ then_gap (desynced [] [] ∷ desynced (0xFF ∷ []) (bad 0x50000001 ∷ []) ∷ []) (1 ∷ []) }
     ensures cut_off_count { reading_of (synced (0x30004004 ∷ 17 ∷ []))

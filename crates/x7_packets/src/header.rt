@@ -3,6 +3,10 @@ ghost use Rattle.std.specs.Prelude.{◌≡◌, ◌<◌};
 ghost use Rattle.x7_packets.specs.Packet.{ends_session, meaning};
 ghost use Rattle.x7_packets.specs.Taking.{is_end};
 
+use crate::words::{
+    DUMMY_WORD, NO_OP_KIND, SYNC_WORD, TYPE1_READ_KIND, TYPE1_WRITE_KIND, TYPE2_READ_KIND,
+    TYPE2_WRITE_KIND,
+};
 use x7_regs::{Command, Reg};
 
 /// What a word of a session is, by its place among the packets.
@@ -26,18 +30,18 @@ pub enum Step {
 pub(crate) fn header(latest: Option<u8>, w: u32) -> Step
     ensures { result ≡ meaning latest w }
 {
-    if w == 0xAA99_5566 || w == 0xFFFF_FFFF || w >> 29 == 0 {
+    if w == SYNC_WORD || w == DUMMY_WORD || w >> 29 == 0 {
         return Step::Filler;
     }
     match w >> 27 {
-        4 => Step::Nop,
-        6 => Step::Open((w >> 13 & 31) as u8, w & 0x7FF),
-        5 => Step::Read((w >> 13 & 31) as u8, w & 0x7FF),
+        NO_OP_KIND => Step::Nop,
+        TYPE1_WRITE_KIND => Step::Open((w >> 13 & 31) as u8, w & 0x7FF),
+        TYPE1_READ_KIND => Step::Read((w >> 13 & 31) as u8, w & 0x7FF),
         kind => match latest {
             None => Step::Bad(w),
             Some(register) => match kind {
-                10 => Step::Open(register, w & 0x7FF_FFFF),
-                9 => Step::Read(register, w & 0x7FF_FFFF),
+                TYPE2_WRITE_KIND => Step::Open(register, w & 0x7FF_FFFF),
+                TYPE2_READ_KIND => Step::Read(register, w & 0x7FF_FFFF),
                 _ => Step::Bad(w),
             },
         },

@@ -9,8 +9,10 @@ mod laws;
 mod machine;
 mod nops;
 mod places;
+mod slot;
 mod stream;
 mod sync;
+mod words;
 
 pub use appended::{gaps_are_passed, gaps_ask_nothing, packets_append, streams_append};
 pub use cutter::{Cut, Cutter};
@@ -24,5 +26,11 @@ pub use laws::{
     words_enter,
 };
 pub use machine::Machine;
+pub use slot::{SLOT_COUNT, flash_slot};
 pub use stream::{Packets, Run};
 pub use sync::Matcher;
+pub use words::{
+    BUS_WIDTH_DETECT, BUS_WIDTH_SYNC, DUMMY_WORD, NO_OP, NO_OP_KIND, SYNC_BYTES, SYNC_WORD,
+    TYPE1_READ_KIND, TYPE1_WRITE_KIND, TYPE2_READ_KIND, TYPE2_WRITE_KIND, command, frame_data,
+    frame_read, type1_read, type1_write, type2_read, type2_write, write_one,
+};

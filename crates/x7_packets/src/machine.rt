@@ -3,7 +3,8 @@ ghost use Rattle.std.specs.Prelude.{◌≡◌, ℕ, List, [], ◌∷◌, ◌≤�
 ghost use Rattle.x7_words.specs.Word.{AreWords, words_of_bytes};
 ghost use Rattle.x7_regs.specs.Register.{number_of};
 ghost use Rattle.x7_regs.specs.declared.register.Reg.TheVariants.{Cmd};
-ghost use Rattle.x7_packets.specs.AtOnce.{in_short, in_write, short_step, write_head};
+ghost use Rattle.x7_packets.specs.AtOnce.{in_write};
+ghost use Rattle.x7_packets.specs.PacketWords.{type1_write};
 ghost use Rattle.x7_packets.specs.Packet.{Packet, ends_session, payload_steps};
 ghost use Rattle.x7_packets.specs.Taking.{ends_by, Grows, MachineStandsFor};
 
@@ -12,7 +13,7 @@ use std::marker::Model;
 use x7_regs::Reg;
 use x7_words::word_of;
 
-/// Takes the words of a session, and says what each is.
+/// Takes the words of a session, and says what each word is.
 #[derive(Clone, Copy, Debug)]
 pub struct Machine {
     due: u32,
@@ -46,7 +47,7 @@ impl Machine {
         }
     }
 
-    /// Takes a word, and says what it is. After a word that ends the session the machine is as new.
+    /// Takes a word, and says what the word is. After a word that ends the session the machine is as new.
     #[inline(always)]
     pub fn take(&mut self, w: u32) -> Step
         ensures payload { 0 < self.old.due → result ≡ Step.Payload self.old.register w }
@@ -121,8 +122,8 @@ impl Machine {
         requires at_header { self.old.due ≡ 0 }
         requires range { register < 32 }
         ensures ends { result ≡ ends_session register w }
-        ensures head { (ps : List Packet) → MachineStandsFor self.old ps → Grows ps ((write_head register, Step.Open register 1) ∷ []) (in_write register) }
-        ensures word { (ps : List Packet) → MachineStandsFor (in_write register) ps → Grows ps ((w, Step.Payload register w) ∷ []) self.new }
+        ensures head { (ps : List Packet) → MachineStandsFor self.old ps → Grows ps ((type1_write register 1, Step.Open register 1) ∷ []) (in_write register 1) }
+        ensures word { (ps : List Packet) → MachineStandsFor (in_write register 1) ps → Grows ps ((w, Step.Payload register w) ∷ []) self.new }
     {
         if is_desync(register, w) {
             *self = Machine::new();
@@ -140,8 +141,8 @@ impl Machine {
         requires range { register < 32 }
         requires other { register ≡ number_of Cmd → ⊥ }
         ensures head { (ps : List Packet) (count : ℕ) → 0 < count → count < 2 ^ 11 → MachineStandsFor self.old ps
-            → Grows ps (short_step register count ∷ []) (in_short register count) }
-        ensures words { (ps : List Packet) (ws : List ℕ) → AreWords ws → 0 < length ws → MachineStandsFor (in_short register (length ws)) ps
+            → Grows ps ((type1_write register count, Step.Open register count) ∷ []) (in_write register count) }
+        ensures words { (ps : List Packet) (ws : List ℕ) → AreWords ws → 0 < length ws → MachineStandsFor (in_write register (length ws)) ps
             → Grows ps (payload_steps register ws) self.new }
     {
         self.register = register;

@@ -8,7 +8,7 @@ use x7_words::{bytes_of, word_of};
 /// How many words a block has.
 const BLOCK: usize = 8;
 
-/// How many of the first words are this one, one after the other, counted word by word.
+/// How many of the first words are `w`, one after the other, counted word by word.
 #[inline(always)]
 fn count_words(bytes: &[u8], w: u32) -> usize
     ensures within { 4 * result ≤ length bytes.now }
@@ -23,7 +23,7 @@ fn count_words(bytes: &[u8], w: u32) -> usize
     words.len()
 }
 
-/// The bytes of eight words that are this one.
+/// The 32 bytes of the word `w` eight times.
 #[inline(always)]
 fn block_of(w: u32) -> [u8; 32]
     ensures { result ≡ equal_bytes w 8 }
@@ -33,7 +33,7 @@ fn block_of(w: u32) -> [u8; 32]
     block
 }
 
-/// Whether two blocks are the same, all their bytes at once.
+/// Whether two blocks of 32 bytes are equal, compared at once.
 #[inline(always)]
 fn is_block(a: &[u8; 32], b: &[u8; 32]) -> bool
     ensures { IsTrue result → a.now ≡ b.now }
@@ -44,7 +44,7 @@ fn is_block(a: &[u8; 32], b: &[u8; 32]) -> bool
         == 0
 }
 
-/// How many of the first blocks of eight words have none but this one.
+/// How many of the first blocks of eight words have no word but `w`.
 #[inline(always)]
 fn count_blocks(bytes: &[u8], w: u32) -> usize
     ensures within { 32 * result ≤ length bytes.now }
@@ -60,7 +60,7 @@ fn count_blocks(bytes: &[u8], w: u32) -> usize
     blocks.len()
 }
 
-/// How many of the first words are this one, one after the other.
+/// How many of the first words are `w`, one after the other.
 #[inline(always)]
 pub(crate) fn count_equal(bytes: &[u8], w: u32) -> usize
     ensures within { 4 * result ≤ length bytes.now }

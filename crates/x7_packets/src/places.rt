@@ -19,7 +19,7 @@ fn load(bytes: &[u8], at: usize) -> u8x32
     u8x32::from_slice(&bytes[at..])
 }
 
-/// 255 where the byte is this one, and 0 elsewhere.
+/// For each of 32 bytes 255 where it is `byte`, and 0 elsewhere.
 #[inline(always)]
 fn equal_to(bytes: u8x32, byte: u8) -> u8x32
     ensures { HasLanes result (λ k. if slice_index bytes k == byte then 255 else 0) }
@@ -29,7 +29,7 @@ fn equal_to(bytes: u8x32, byte: u8) -> u8x32
         .select(u8x32::splat(255), u8x32::splat(0))
 }
 
-/// The bits that both have.
+/// The bits that two blocks of 32 bytes both have.
 #[inline(always)]
 fn both(a: u8x32, b: u8x32) -> u8x32
     ensures { HasLanes result (λ k. bit_and (slice_index a k) (slice_index b k)) }
@@ -37,7 +37,7 @@ fn both(a: u8x32, b: u8x32) -> u8x32
     a & b
 }
 
-/// A bit for each byte past 127, that of the first lowest.
+/// A bit for each of 32 bytes that is past 127, the first byte's the lowest bit.
 #[inline(always)]
 fn top_bits(bytes: u8x32) -> u64
     ensures { (k : ℕ) → (bit_at result k ≡ 1) ↔ (128 ≤ slice_index bytes k) }
@@ -56,7 +56,7 @@ fn lowest(bits: u64) -> usize
     bits.trailing_zeros() as usize
 }
 
-/// A bit for each of the 32 places from `at` on where the sync word stands, that of the first lowest.
+/// A bit for each of the 32 places from `at` on where the sync word stands, the first place's the lowest bit.
 #[inline(always)]
 fn sync_bits(bytes: &[u8], at: usize) -> u64
     requires { at + 35 ≤ length bytes.now }
@@ -74,8 +74,8 @@ fn sync_bits(bytes: &[u8], at: usize) -> u64
     top_bits(both(prefix, back))
 }
 
-/// A bit for each of the 32 places from `at` on where the sync word's first and last byte stand, that of the first lowest:
-/// in most gaps none.
+/// A bit for each of the 32 places from `at` on where the sync word's first and last byte stand, the first place's the lowest
+/// bit: in most gaps none.
 #[inline(always)]
 fn end_bits(bytes: &[u8], at: usize) -> u64
     requires { at + 35 ≤ length bytes.now }
@@ -87,7 +87,7 @@ fn end_bits(bytes: &[u8], at: usize) -> u64
     ))
 }
 
-/// The first of the 32 places from `at` on where the sync word stands, if it does.
+/// The first of the 32 places from `at` on where the sync word stands, none where it stands at none of them.
 #[inline(always)]
 pub(crate) fn first_of_places(bytes: &[u8], at: usize) -> Option<usize>
     requires { at + 35 ≤ length bytes.now }
@@ -103,7 +103,7 @@ pub(crate) fn first_of_places(bytes: &[u8], at: usize) -> Option<usize>
     Some(at + lowest(bits))
 }
 
-/// Where the sync word first stands, if it does. The last 32 places may overlap those before.
+/// The first place where the sync word stands, none where it stands nowhere. The last 32 places may overlap those before.
 pub(crate) fn first_sync(bytes: &[u8]) -> Option<usize>
     requires { 35 ≤ length bytes.now }
     ensures { IsFirst (OccursAt bytes.now sync_bytes) 0 (length bytes.now + 1) result }

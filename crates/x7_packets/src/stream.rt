@@ -35,7 +35,8 @@ pub enum Run<'b> {
     End,
 }
 
-/// What the last run is. The bytes that it lends stand in the buffer; those of the tail are the ones that the cutter keeps.
+/// What the last run is. The bytes that the run lends stand in the buffer; those of the tail are the ones that the cutter
+/// keeps.
 #[derive(Clone, Copy)]
 pub(crate) enum Last {
     Skip,
@@ -73,7 +74,7 @@ fn buffer_of(alloc: Global, first: &[u8]) -> Result<Vec<u8>, NoMemory>
     Ok(buffer)
 }
 
-/// The packets of a stream that is read where it must be. Its runs are lent out of one buffer.
+/// The packets of a stream that is read where it must be. The runs are lent out of one buffer.
 #[derive(Drop)]
 pub struct Packets {
     cutter: Cutter,
@@ -135,8 +136,8 @@ impl Packets {
         self.taken
     }
 
-    /// The next run. It reads where it must, and no more once the tail or the end was given; the end is then given again.
-    /// After a failed read it fails from then on.
+    /// Gives the next run. The call reads where it must, and no more once the tail or the end was given; the end is then given
+    /// again. After a failed read each call fails.
     pub fn next_run<'b, I: Inputs>(&'b mut self, inputs: &mut I) -> Result<Run<'b>, Failed>
         requires selected { self.old.failed ≡ false → (I.state inputs.old).selected ≡ true }
         requires end { self.old.done ≡ true → AtEnd (I.state inputs.old).rest }

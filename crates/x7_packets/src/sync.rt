@@ -60,7 +60,7 @@ impl Matcher {
         }
     }
 
-    /// Whether the last three bytes are 0, as those of a new matcher: so a sync word that comes begins behind them.
+    /// Whether the last three bytes are 0, as those of a new matcher: so a sync word that comes begins after them.
     #[inline(always)]
     pub(crate) fn is_clear(&self) -> bool
         ensures { IsTrue result → IsClear self.now }
@@ -113,7 +113,8 @@ impl Matcher {
         }
     }
 
-    /// The same, byte by byte.
+    /// Takes bytes, one by one, up to and with the end of the first sync word, and says how many; or takes them all, where no
+    /// sync word ends in them.
     fn search_bytewise(&mut self, bytes: &[u8]) -> Option<usize>
         ensures within { IfSome result (λ n. (0 < n) × (n ≤ length bytes.now)) }
         ensures found { (gap : List ℕ) → MatcherStandsFor self.old gap → HasNoSync gap → Searched gap bytes.now result self.new }

@@ -4,7 +4,7 @@ use Rattle.std.specs.List.{flat_map}
 use Rattle.x7_part.specs.Part.{FieldWidths, RowData, PartData}
 use Rattle.x7_part.specs.FrameAddress.{row_address, column_low}
 
--- so many numbers from the first on
+-- `n` numbers from `first` on, each one more than the one before it
 abbrev pub count_from : ℕ → ℕ → List ℕ
 count_from first zero = []
 count_from first (suc n) = first ∷ count_from (first + 1) n
@@ -25,12 +25,12 @@ addresses far rows = flat_map (addresses_of far) rows
 abbrev pub addresses_in : PartData → List ℕ
 addresses_in part = addresses part.far part.rows
 
--- each number is above those before it, and the first at least so much
+-- each number is above those before it, and the first is at least `least`
 pub data Rises : ℕ → List ℕ → Type 0 where
   risen : (least : ℕ) → Rises least []
   rise : (least x : ℕ) (xs : List ℕ) → least ≤ x → Rises (x + 1) xs → Rises least (x ∷ xs)
 
--- y stands right after x
+-- y stands right after x in a list
 abbrev pub Follows : List ℕ → ℕ → ℕ → Type 0
 Follows xs x y = (k : ℕ) × (k + 1 < length xs) × (slice_index xs k ≡ x) × (slice_index xs (k + 1) ≡ y)
 

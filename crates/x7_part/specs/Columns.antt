@@ -19,7 +19,7 @@ slots_of c = map Frame (frames_of c) ++ replicate c.pads Pad
 abbrev pub IsIn : Column → ℕ → Type 0
 IsIn c address = (c.first ≤ address) × (address < c.first + c.count)
 
--- and those of all columns
+-- the addresses and the slots of all columns
 unfoldable pub column_addresses : List Column → List ℕ
 column_addresses columns = flat_map frames_of columns
 
@@ -34,14 +34,15 @@ pub data IsTable : ℕ → ℕ → ℕ → List Column → Type 0 where
       IsTable (rank + c.count) (slot + c.count + c.pads) (c.first + c.count) columns → IsTable rank slot least (c ∷ columns)
 
 module _ (pitch base : ℕ) where
-  -- the columns of the row at `base`, from its `i`th on, after so many addresses and slots; the next one begins `pitch` further
+  -- the columns of the row at `base`, from its `i`th on, after `rank` addresses and `slot` slots; the next column begins
+  -- `pitch` further
   abbrev pub row_columns : ℕ → ℕ → ℕ → List ℕ → List Column
   row_columns i rank slot [] = []
   row_columns i rank slot (n ∷ []) = record { first = base + i * pitch; count = n; pads = 2; rank = rank; slot = slot } ∷ []
   row_columns i rank slot (n ∷ m ∷ minors) =
       record { first = base + i * pitch; count = n; pads = 0; rank = rank; slot = slot } ∷ row_columns (i + 1) (rank + n) (slot + n) (m ∷ minors)
 
--- the columns of the rows, after so many addresses and slots
+-- the columns of the rows, after `rank` addresses and `slot` slots
 abbrev pub table_of : FieldWidths → ℕ → ℕ → List RowData → List Column
 table_of far rank slot [] = []
 table_of far rank slot (r ∷ rows) =

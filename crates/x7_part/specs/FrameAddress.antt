@@ -39,7 +39,8 @@ row_address far r = r.block * 2 ^ block_low far + r.half * 2 ^ half_low far + r.
 abbrev pub frame_address : FieldWidths → RowData → ℕ → ℕ → ℕ
 frame_address far r column minor = row_address far r + column * 2 ^ column_low far + minor
 
--- it is the address of a frame of one of the part's rows: the column has a place in the row, and the minor is below its number
+-- an address is that of a frame of one of the part's rows: the column has a place in the row, and the minor is below the
+-- column's number of minors
 abbrev pub IsAddressOf : PartData → ℕ → Type 0
 IsAddressOf part address =
     (r : RowData) × (column : ℕ) × (minor : ℕ) × Contains part.rows r × (column < length r.minors)

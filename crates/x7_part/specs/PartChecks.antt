@@ -21,12 +21,12 @@ first_of [] = None
 first_of (Some fault ∷ checks) = Some fault
 first_of (None ∷ checks) = first_of checks
 
--- the fault that a call tells
+-- the fault that a call answers
 abbrev pub fault_of_call : {T : Type 0} → Result T PartFault → Option PartFault
 fault_of_call (Ok done) = None
 fault_of_call (Err fault) = Some fault
 
--- a call that takes memory tells this fault or none; want of memory has no cause
+-- a call that takes memory answers the fault that is due, or none where none is; want of memory has no cause
 abbrev pub Tells : {T : Type 0} → Option PartFault → Result T PartFault → Type 0
 Tells due (Ok done) = due ≡ None
 Tells due (Err fault) = (fault ≡ NoMemory) ⊎ (due ≡ Some fault)
@@ -66,7 +66,7 @@ abbrev pub is_list_of_tables : Data → Bool
 is_list_of_tables (array ds) = are_tables ds
 is_list_of_tables _ = false
 
--- what stands under a key that has to be there is of the type, or what stands under one that may be left out
+-- what stands under a key is of the type: by `has` where the key must be there, by `may_have` where it may be left out
 abbrev pub has : (Data → Bool) → Option Data → Bool
 has type None = false
 has type (Some d) = type d
@@ -84,7 +84,7 @@ row_type_fault n t = first_of (
     ∷ unless (has is_list_of_wholes (under key.Minors t)) (Key (in_row n key.Minors))
     ∷ [])
 
--- and that of a part file, at the top and then row by row
+-- the first key of a part file that is missing or has a value of another type, at the top and then row by row
 unfoldable pub type_fault : Members → Option PartFault
 type_fault t = first_of (
     unless (has is_text (under key.Name t)) (Key (top key.Name))
@@ -117,7 +117,7 @@ is_in low high z = int_le (pos low) z && int_le z (pos high)
 abbrev pub is_long : ℕ → ℕ → ℕ → Bool
 is_long low high n = nat_le low n && nat_le n high
 
--- printed bytes, and 1 to 64 of them
+-- the bytes are printed ones, 21 to 7E; and a name has 1 to 64 of these
 abbrev pub are_printed : List ℕ → Bool
 are_printed [] = true
 are_printed (b ∷ bs) = (nat_le 0x21 b && nat_le b 0x7E) && are_printed bs
@@ -125,11 +125,11 @@ are_printed (b ∷ bs) = (nat_le 0x21 b && nat_le b 0x7E) && are_printed bs
 unfoldable pub is_name : List ℕ → Bool
 is_name bs = is_long 1 64 (length bs) && are_printed bs
 
--- an odd number of 32 bits
+-- the number is odd, positive and below 2^32
 unfoldable pub is_odd : ℤ → Bool
 is_odd z = is_in 1 4294967295 z && (natural z % 2 == 1)
 
--- 1 or 256
+-- the number is 1 or 256: the bytes that one step of a start address may stand for
 unfoldable pub is_unit : ℤ → Bool
 is_unit z = is_in 1 1 z || is_in 256 256 z
 
@@ -182,6 +182,6 @@ top_range_fault v = first_of (
     ∷ unless (is_long 1 192 (length v.rows)) (Range (top key.Row))
     ∷ [])
 
--- and that of a part file, at the top and then row by row
+-- the first value of a part file that is out of range, at the top and then row by row
 unfoldable pub range_fault : TopValues → Option PartFault
 range_fault v = first_of (top_range_fault v ∷ rows_fault row_range_fault 1 v.rows ∷ [])

@@ -28,9 +28,9 @@ abbrev pub frames_fault : PartData → Option PartFault
 frames_fault part =
     unless (has_few_frames (frame_words part) (length (addresses_in part)) (length part.rows)) (TooMany (length (addresses_in part)))
 
--- ---- their order
+-- ---- the order of rows
 
--- rows in the order of their numbers
+-- a row put among rows that rise by address, right after those with smaller addresses
 abbrev pub put_in : FieldWidths → RowData → List RowData → List RowData
 put_in far r [] = r ∷ []
 put_in far r (s ∷ rows) = if nat_lt (row_address far s) (row_address far r) then s ∷ put_in far r rows else r ∷ s ∷ rows

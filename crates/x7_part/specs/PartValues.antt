@@ -17,7 +17,7 @@ under k t = get_member (name_of k) t
 abbrev pub text : PartKey → Members → List ℕ
 text k t = unwrap_or (option_and_then as_str (under k t)) []
 
--- the number under a key, this one where there is none
+-- the whole number under a key, `usual` where there is none
 abbrev pub number_or : ℕ → PartKey → Members → ℤ
 number_or usual k t = unwrap_or (option_and_then as_integer (under k t)) (pos usual)
 
@@ -42,7 +42,7 @@ row_tables t = tables (unwrap_or (option_and_then as_array (under key.Row t)) no
 
 -- ---- the values of a table
 
--- a row's values, and whether it has these keys alone
+-- a row's values, and whether the row has known keys alone
 pub record RowValues : Type 0 where
   pub block : ℤ
   pub half : ℤ
@@ -50,7 +50,7 @@ pub record RowValues : Type 0 where
   pub minors : List ℤ
   pub known : Bool
 
--- the top table's values, and whether it has these keys alone
+-- the top table's values, and whether the table has known keys alone
 pub record TopValues : Type 0 where
   pub name : List ℕ
   pub idcode : ℤ
@@ -73,7 +73,7 @@ row_values t = record {
   known = has_only row_keys t;
 }
 
--- a frame has 101 words where the file doesn't say (UG470, frame data)
+-- the values of a top table; a frame has 101 words where the table doesn't say (UG470, frame data)
 abbrev pub top_values : Members → TopValues
 top_values t = record {
   name = text key.Name t;
@@ -89,9 +89,9 @@ top_values t = record {
   known = has_only top_keys t;
 }
 
--- ---- what they stand for
+-- ---- what the values stand for
 
--- a number that isn't negative
+-- a number without its sign
 abbrev pub natural : ℤ → ℕ
 natural z = unsigned_abs z
 

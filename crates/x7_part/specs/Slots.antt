@@ -10,7 +10,7 @@ use Rattle.x7_part.specs.declared.slot.Slot.TheVariants.{Frame, Pad, End}
 unfoldable pub slots : FieldWidths → List RowData → List Slot
 slots far rows = flat_map (λ r. map Frame (addresses_of far r) ++ Pad ∷ Pad ∷ []) rows
 
--- the slots of a row, and those that follow
+-- the slots of a row: its frames, two pads, and then the slots that follow the row
 abbrev pub row_slots : FieldWidths → RowData → List Slot → List Slot
 row_slots far r rest = map Frame (addresses_of far r) ++ (Pad ∷ Pad ∷ rest)
 
@@ -25,7 +25,7 @@ from address (Frame a ∷ rest) = if a == address then Frame a ∷ rest else fro
 from address (Pad ∷ rest) = from address rest
 from address (End ∷ rest) = from address rest
 
--- the slot so many after that of an address
+-- slot n of the slots from an address on, `End` where there are no more than n
 abbrev pub slot_after : PartData → ℕ → ℕ → Slot
 slot_after part address n = slice_index_or (from address (slots_in part)) n End
 

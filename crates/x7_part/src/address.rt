@@ -69,21 +69,21 @@ impl Fields {
         1 << self.minor
     }
 
-    /// What one row more adds.
+    /// What one row more adds to an address.
     pub fn row_weight(self) -> u32
         ensures { result ≡ 2 ^ row_low self }
     {
         1 << (self.minor + self.column)
     }
 
-    /// What the bottom half adds.
+    /// What the bottom half adds to an address.
     pub fn half_weight(self) -> u32
         ensures { result ≡ 2 ^ half_low self }
     {
         1 << (self.minor + self.column + self.row)
     }
 
-    /// What one block type more adds.
+    /// What one block type more adds to an address.
     pub fn block_weight(self) -> u32
         ensures value { result ≡ 2 ^ block_low self }
         ensures widths { AreWidths self }
@@ -91,7 +91,7 @@ impl Fields {
         1 << (self.minor + self.column + self.row + self.half)
     }
 
-    /// The width of an address.
+    /// The width of an address in bits.
     pub fn width(self) -> u32
         ensures value { result ≡ address_width self }
         ensures least { 25 ≤ result }

@@ -14,9 +14,9 @@ pub struct Column {
     pub first: u32,
     pub count: u32,
     pub pads: u32,
-    /// The number of addresses before it.
+    /// The number of the part's addresses before the column.
     pub rank: u32,
-    /// The number of slots before it.
+    /// The number of the part's slots before the column.
     pub slot: u64,
 }
 
@@ -30,7 +30,7 @@ fn begun_by_address(columns: &[Column], far: u32) -> usize
     columns.partition_point(|column| column.first <= far)
 }
 
-/// The number of columns with at most so many addresses before them.
+/// The number of columns with at most `rank` addresses before them.
 fn begun_by_rank(columns: &[Column], rank: u32) -> usize
     requires { IsTable 0 0 0 columns.now }
     ensures within { result ≤ length columns.now }
@@ -40,7 +40,7 @@ fn begun_by_rank(columns: &[Column], rank: u32) -> usize
     columns.partition_point(|column| column.rank <= rank)
 }
 
-/// The number of columns with at most so many slots before them.
+/// The number of columns with at most `place` slots before them.
 fn begun_by_slot(columns: &[Column], place: u64) -> usize
     requires { IsTable 0 0 0 columns.now }
     ensures within { result ≤ length columns.now }
@@ -69,7 +69,7 @@ pub fn column_of(columns: &[Column], far: u32) -> Option<usize>
     }
 }
 
-/// The number of smaller addresses.
+/// The number of the part's addresses below this one.
 pub fn rank_of(columns: &[Column], far: u32) -> Option<u32>
     requires table { IsTable 0 0 0 columns.now }
     requires fits { length (column_addresses columns.now) < 2 ^ 32 }
@@ -81,7 +81,7 @@ pub fn rank_of(columns: &[Column], far: u32) -> Option<u32>
     Some(column.rank + (far - column.first))
 }
 
-/// The address with so many smaller ones.
+/// The address with `rank` smaller ones.
 pub fn address_of(columns: &[Column], rank: u32) -> Option<u32>
     requires { IsTable 0 0 0 columns.now }
     ensures found { IfSome result (λ far. (rank < length (column_addresses columns.now)) × (slice_index (column_addresses columns.now) rank ≡ far)) }
@@ -186,7 +186,7 @@ pub fn slot_after(columns: &[Column], far: u32, n: u64) -> Slot
     }
 }
 
-/// The number of addresses.
+/// The number of addresses of all columns.
 pub fn frame_count(columns: &[Column]) -> u32
     requires table { IsTable 0 0 0 columns.now }
     requires fits { length (column_addresses columns.now) < 2 ^ 32 }
@@ -198,7 +198,7 @@ pub fn frame_count(columns: &[Column]) -> u32
     }
 }
 
-/// The number of slots.
+/// The number of slots of all columns, pads included.
 fn slot_count(columns: &[Column]) -> u64
     requires table { IsTable 0 0 0 columns.now }
     requires fits { length (column_slots columns.now) < 2 ^ 63 }

@@ -27,7 +27,7 @@ pub enum PartKey {
 }
 
 impl PartKey {
-    /// The key as a part file writes it, `other` for any other.
+    /// The key as a part file writes it, `other` for an unknown one.
     pub fn name(self) -> &'static str
         ensures { result.now ≡ name_of self }
     {
@@ -100,7 +100,7 @@ pub enum PartFault {
     /// The row has the block type, the half and the row of an earlier one.
     #[error("same row {0}")]
     SameRow(u32),
-    /// The rows have so many frames, more than a part may have, or more words with their pads.
+    /// The rows have more frames than a part may have, or more words with their pads; the number is that of their frames.
     #[error("too many frames: {0}")]
     TooMany(u32),
     /// There was no memory for the part.

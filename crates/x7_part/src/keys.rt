@@ -23,7 +23,7 @@ pub const TOP_KEYS: [PartKey; 10] = [
 /// The keys of a row.
 pub const ROW_KEYS: [PartKey; 4] = [PartKey::Block, PartKey::Half, PartKey::Row, PartKey::Minors];
 
-/// Whether one of the keys is written so.
+/// Whether one of the keys has this name.
 fn is_known(keys: &[PartKey], name: &str) -> bool
     ensures { result ≡ is_known keys.now name.now }
 {
@@ -35,7 +35,7 @@ fn is_known(keys: &[PartKey], name: &str) -> bool
     false
 }
 
-/// Whether the table has no other key.
+/// Whether the table has these keys alone.
 pub fn has_only(keys: &[PartKey], table: &Table) -> bool
     ensures { result ≡ has_only keys.now (table_view table.now) }
 {

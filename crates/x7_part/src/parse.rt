@@ -20,7 +20,7 @@ use toml::Table;
 /// The most frames that a part may have.
 const MAX_FRAMES: u32 = 131_072;
 
-/// The most words that its frames and pads may have.
+/// The most words that a part's frames and pads may have.
 const MAX_WORDS: u32 = 13_277_056;
 
 /// The table of a TOML text.
@@ -60,7 +60,7 @@ fn check_rows(words: u32, rows: &[Row]) -> Result<(), PartFault>
     )
 }
 
-/// Whether a part may have so many frames in so many rows.
+/// Whether a part may have `frames` frames of `words` words in `rows` rows.
 fn are_few(words: u32, frames: u32, rows: u32) -> bool
     requires words { words ≤ 255 }
     requires rows { rows ≤ 192 }

@@ -60,7 +60,7 @@ impl Part {
         })
     }
 
-    /// An equal part.
+    /// Gives an equal part.
     pub fn copy(&self, alloc: Global) -> Result<Part, NoMemory>
         ensures { IfOk result (λ part. part ≡ self.now) }
     {
@@ -81,7 +81,7 @@ impl Part {
         })
     }
 
-    /// Its name.
+    /// The part's name.
     pub fn name(&self) -> &str
         ensures { result.now ≡ self.now.name }
     {
@@ -152,7 +152,7 @@ impl Part {
         u32::from(self.settings.start_unit)
     }
 
-    /// The number of its frames, which is that of its addresses.
+    /// The number of the part's frames, which is that of its addresses.
     pub fn frames(&self) -> u32
         ensures value { result ≡ length (addresses_in self.now) }
         ensures some { 0 < result }
@@ -189,7 +189,7 @@ impl Part {
         column::rank_of(&self.columns, far)
     }
 
-    /// The address with so many smaller ones, none from `frames()` on. It is the inverse of `rank`.
+    /// The address with `rank` smaller ones, none from `frames()` on. This is the inverse of `rank()`.
     pub fn address(&self, rank: u32) -> Option<u32>
         ensures found { IfSome result (λ far. (rank < length (addresses_in self.now)) × (slice_index (addresses_in self.now) rank ≡ far)) }
         ensures smaller { IfSome result (λ far. rank ≡ count_by (λ y. nat_lt y far) (addresses_in self.now)) }
@@ -216,7 +216,7 @@ impl Part {
         column::slot_of(&self.columns, far)
     }
 
-    /// The rank of the frame at a slot, which has so many before it; none at a pad and past the last slot.
+    /// The rank of the frame at a slot that has `place` slots before it, none at a pad and past the last slot.
     pub fn rank_at(&self, place: u64) -> Option<u32>
         ensures found { IfSome result (λ r. HasFrameOf (addresses_in self.now) (slots_in self.now) place r) }
         ensures none { IfNone result ((far : ℕ) → slice_index_or (slots_in self.now) place Slot.End ≡ Slot.Frame far → ⊥) }

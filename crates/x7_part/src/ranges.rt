@@ -42,7 +42,7 @@ pub fn is_name(text: &str) -> bool
     is_long(text.len(), 1, 64) && are_printed(text.as_bytes())
 }
 
-/// A number in the range.
+/// The number, where it lies in the range; else the fault `Range`.
 #[tactic(auto, unfolding(crate::specs::PartChecks::is_in))]
 pub fn within(number: i64, low: u32, high: u32, at: Which) -> Result<u32, PartFault>
     ensures fault { fault_of_call result ≡ unless (is_in low high number) (Range at) }
@@ -56,7 +56,7 @@ pub fn within(number: i64, low: u32, high: u32, at: Which) -> Result<u32, PartFa
     }
 }
 
-/// An odd number of 32 bits.
+/// The number, where it is odd, positive and below 2^32; else the fault `Range`.
 #[tactic(auto, unfolding(crate::specs::PartChecks::is_odd))]
 pub fn odd(number: i64, at: Which) -> Result<u32, PartFault>
     ensures fault { fault_of_call result ≡ unless (is_odd number) (Range at) }
@@ -67,7 +67,7 @@ pub fn odd(number: i64, at: Which) -> Result<u32, PartFault>
     Ok(odd)
 }
 
-/// 1 or 256.
+/// The number, where it is 1 or 256; else the fault `Range`.
 #[tactic(auto, unfolding(crate::specs::PartChecks::is_unit, crate::specs::PartChecks::is_in))]
 pub fn unit(number: i64, at: Which) -> Result<u16, PartFault>
     ensures fault { fault_of_call result ≡ unless (is_unit number) (Range at) }

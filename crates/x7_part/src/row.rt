@@ -32,7 +32,7 @@ impl Model for Row {
 }
 
 impl Row {
-    /// An equal row.
+    /// Gives an equal row.
     fn copy(&self, alloc: Global) -> Result<Row, AllocError>
         ensures { IfOk result (λ row. row ≡ self.now) }
     {
@@ -51,7 +51,7 @@ impl Row {
         self.block == other.block && self.half == other.half && self.row == other.row
     }
 
-    /// The address of its column 0, minor 0.
+    /// The address of the row's column 0, minor 0.
     pub fn address(&self, far: Fields) -> u32
         ensures { result ≡ row_address far self.now }
     {
@@ -60,7 +60,7 @@ impl Row {
             + u32::from(self.row) * far.row_weight()
     }
 
-    /// The number of its frames.
+    /// The number of the row's frames.
     pub fn frames(&self) -> u32
         ensures value { result ≡ sum self.now.minors }
         ensures most { result ≤ 261120 }
@@ -150,7 +150,7 @@ pub fn in_order(rows: &mut Vec<Row>, far: Fields)
     rows.sort_unstable_by_key(|row| row.address(far));
 }
 
-/// Equal rows in the same order.
+/// Gives equal rows, in the order of the given ones.
 pub fn copy_of(alloc: Global, rows: &[Row]) -> Result<Vec<Row>, AllocError>
     ensures { IfOk result (λ copies. copies.items ≡ rows.now) }
 {

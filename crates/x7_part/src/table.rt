@@ -9,7 +9,7 @@ use crate::column::Column;
 use crate::row::Row;
 use std::alloc::{AllocError, Global};
 
-/// The pads after column `column` of so many: two after a row's last one (this project's choice).
+/// The pads after column `column` of a row's `columns`: two after the last one, else none (this project's choice).
 fn pads_after(column: usize, columns: usize) -> u32
     requires { column < columns }
     ensures { result ≡ (if column + 1 == columns then 2 else 0) }

@@ -8,7 +8,7 @@ use Rattle.x7_part.specs.declared.slot.Slot.{Slot}
 use Rattle.x7_part.specs.declared.slot.Slot.TheVariants.{Frame, Pad, End}
 use Rattle.x7_pipeline.specs.Runs.{frames_of, slots_from}
 
--- the part has a frame at the address: there are slots from it on
+-- the part has a frame at the address: there are slots from the address on
 abbrev pub has_frame_at : PartData → ℕ → Bool
 has_frame_at part far = nat_lt 0 (length (slots_from part far))
 
@@ -36,7 +36,7 @@ unfoldable pub far_at : PartData → ℕ → ℕ → ℕ
 far_at part base slot =
     if has_frame_at part base then unwrap_or (first_address (drop slot (slots_from part base))) (last_address part) else base
 
--- FAR as read, after a run from the base or so many words given: it stands at the slot of the newest whole frame
+-- FAR as read, after a run from the base or `given` words of a readback: FAR stands at the slot of the newest whole frame
 unfoldable pub far_of : PartData → ℕ → List ℕ → ℕ → ℕ
 far_of part base run given =
     far_at part base (max (length (frames_of (frame_words part) run)) (given / frame_words part) - 1)

@@ -1,4 +1,5 @@
--- The faults of runs and copies, as functions of what a pipeline stands for.
+-- The faults of runs, copies and readbacks, as functions of what a pipeline stands for (UG470, frame data input register,
+-- multi-frame write register and readback; when a word is refused is this project's choice).
 use Rattle.std.specs.Prelude.{ℕ, ◌+◌, ◌==◌, ◌&&◌, nat_le, Bool, if◌then◌else◌, List, [], ◌∷◌, length, Option, Some, None, is_some}
 use Rattle.x7_part.specs.Part.{PartData, frame_words}
 use Rattle.x7_regs.specs.declared.command.Command.{Command}
@@ -20,21 +21,21 @@ completes part run = length (rest_of (frame_words part) run) + 1 == frame_words 
 abbrev pub has_filled : PartData → ℕ → List ℕ → Bool
 has_filled part base run = nat_le (length (slots_from part base)) (length (frames_of (frame_words part) run))
 
--- of one word more: at a run's first word Address, at the last word of a frame past the last slot Overrun
+-- the fault of one word more in a run: Address at the first word, Overrun at the last word of a frame past the last slot
 unfoldable pub write_fault : PartData → ℕ → List ℕ → Option RunFault
 write_fault part base [] = address_fault part base
 write_fault part base (w ∷ run) =
     if completes part (w ∷ run) && has_filled part base (w ∷ run) then Some Overrun else None
 
--- of a copy: Multi where the command isn't MFW or there is no source, else Address
+-- the fault of a copy: Multi where the command isn't MFW or there is no source, else Address where the base is no address
 unfoldable pub copy_fault : PartData → Command → ℕ → Option (List ℕ) → Option RunFault
 copy_fault part command base source =
     if is_mfw command && is_some source then address_fault part base else Some Multi
 
--- of a read of some words: Address at the first word of a run
+-- the fault of a read of one word or more: Address at a readback's first word where the base is no address
 unfoldable pub read_fault : PartData → ℕ → ℕ → Option RunFault
 read_fault part base given = if given == 0 then address_fault part base else None
 
--- the same of so many words at once, and nothing where there are none
+-- the fault of `count` words of a readback passed over at once, none where `count` is 0
 unfoldable pub drop_fault : PartData → ℕ → ℕ → ℕ → Option RunFault
 drop_fault part base given count = if count == 0 then None else read_fault part base given

@@ -1,4 +1,4 @@
--- A pipeline as its fields hold it.
+-- A pipeline as its fields hold it (this project's choice).
 use Rattle.std.specs.Prelude.{◌≡◌, ℕ, ◌<◌, ◌≤◌, ◌==◌, true, if◌then◌else◌, List, Option, Some, None, vec_len, vec_capacity}
 use Rattle.x7_pipeline.specs.declared.pipeline.Pipeline.TheInside.{Inside}
 use Rattle.x7_pipeline.specs.Pipeline.{PipelineData}
@@ -24,7 +24,8 @@ seen p = record {
   slot = p.slot;
 }
 
--- there is room for a frame in each, the rest is shorter than one, and what is held is one
+-- the vectors of the rest, of the newest frame and of the source have room for a frame each, the rest is shorter than a
+-- frame, and what stands in the other two is a whole frame
 pub record HasRoom (p : Inside) : Type 0 where
   pub some : 0 < p.width
   pub narrow : p.far_width ≤ 32

@@ -24,11 +24,11 @@ pub record Flow : Type 0 where
   pub source : Option (List ℕ)
   pub given : ℕ
 
--- after a reset
+-- the flow after a reset
 abbrev pub first_flow : Flow
 first_flow = record { command = Null; base = 0; run = []; source = None; given = 0 }
 
--- the pipeline stands for it
+-- the pipeline stands for the flow
 pub record HoldsFlow (part : PartData) (pipeline : PipelineData) (f : Flow) : Type 0 where
   pub some_words : 0 < pipeline.width
   pub width_is : pipeline.width ≡ frame_words part
@@ -53,29 +53,29 @@ GoesOn part old new next = OfFlow part old (λ f. HoldsFlow part new (next f))
 
 -- ---- flows that come next
 
--- with another run
+-- the flow with another run
 abbrev pub with_run : List ℕ → Flow → Flow
 with_run run f = record f { run = run }
 
--- after words written, the oldest first
+-- the flow after words written, the oldest first
 abbrev pub after_words : List ℕ → Flow → Flow
 after_words words f = with_run (onto words f.run) f
 
--- after so many words given more
+-- the flow after `count` words of a readback given more
 abbrev pub after_reads : ℕ → Flow → Flow
 after_reads count f = record f { given = f.given + count }
 
--- after a FAR load: a run begins at this base
+-- the flow after a FAR load: a run begins at this base
 abbrev pub begun_at : ℕ → Flow → Flow
 begun_at base f = record f { base = base; run = []; given = 0 }
 
--- after a command: a run begins at FAR as read
+-- the flow after a command: a run begins at FAR as read
 abbrev pub begun_by : PartData → Command → Flow → Flow
 begun_by part command f = record { command = command; base = far_of part f.base f.run f.given; run = []; source = source_after part f.command command f.run; given = 0 }
 
 -- ---- a copy
 
--- what it puts, and why it is refused
+-- what a copy puts, and why a copy is refused
 abbrev pub copied_by : Flow → List PlanRow
 copied_by f = copied f.base f.source
 
@@ -84,7 +84,7 @@ fault_of_copy part f = copy_fault part f.command f.base f.source
 
 -- ---- words written in order
 
--- up to the first that is refused
+-- words written in order to a flow, up to the first that is refused
 abbrev pub written_by : PartData → Flow → List ℕ → Written
 written_by part f words = written part f.base f.run words
 
@@ -94,6 +94,6 @@ LandsAt part f words old new = Lands part f.base f.run (onto words f.run) old ne
 
 -- ---- the newest whole frame
 
--- it was put at its slot
+-- the newest whole frame, where there is one, was put at its slot
 abbrev pub PutsNewest : PartData → PipelineData → FrameMap → FrameMap → Type 0
 PutsNewest part p old new = (frame : List ℕ) → p.newest ≡ Some frame → AreSame new (put_over (at_slot (slice_index_or (slots_from part p.base) (p.frame_count - 1) End) frame []) old)

@@ -1,4 +1,4 @@
--- Runs and written frames in other words, for the laws of this crate.
+-- Runs and written frames in other words, for the laws of this crate (this project's choice).
 use Rattle.std.specs.Prelude.{◌≡◌, ℕ, ◌+◌, ◌*◌, ◌<◌, List, [], ◌++◌, length, reverse, Option, Some, None, All}
 use Rattle.std.specs.List.{filter_map, flat_map, zip}
 use Rattle.x7_part.specs.Part.{PartData, frame_words}

@@ -1,4 +1,4 @@
--- What a frame pipeline stores.
+-- What a frame pipeline stores (this project's choice).
 use Rattle.std.specs.Prelude.{◌≡◌, ℕ, ◌+◌, ◌*◌, ◌/◌, min, List, ◌∷◌, length, slice_index_or, Option}
 use Rattle.x7_part.specs.Part.{PartData, frame_words}
 use Rattle.x7_part.specs.FrameAddress.{far_width}
@@ -7,8 +7,9 @@ use Rattle.x7_part.specs.declared.slot.Slot.TheVariants.{End, Pad}
 use Rattle.x7_regs.specs.declared.command.Command.{Command}
 use Rattle.x7_pipeline.specs.Runs.{slots_from}
 
--- what it stores: the words of a frame, the bits of an address, the command, the base, the words after the run's last whole frame, the newest
--- whole frame and the number of all, the source, the count of words given, and the slot that a readback is at
+-- what a pipeline stores: the number of words of a frame and of bits of an address, the command, the base, the words after the
+-- run's last whole frame, the newest whole frame and the number of all, the source, the count of words given, and the slot
+-- that a readback is at
 pub record PipelineData : Type 0 where
   pub width : ℕ
   pub far_width : ℕ
@@ -21,18 +22,18 @@ pub record PipelineData : Type 0 where
   pub given : ℕ
   pub slot : Slot
 
--- it is one of the part
+-- the pipeline is one of the part: its frames have the part's words, and its addresses the part's bits
 abbrev pub IsPipelineOf : PartData → PipelineData → Type 0
 IsPipelineOf part pipeline = (pipeline.width ≡ frame_words part) × (pipeline.far_width ≡ far_width part)
 
--- the count after so many words of a readback were given more, up to the limit
+-- the count after `n` words of a readback were given more, up to the limit
 abbrev pub given_after : PartData → PipelineData → ℕ → ℕ
 given_after part p n = min (p.given + n) (p.width * (1 + length (slots_from part p.base)))
 
--- the slot of that count: one pad frame, then the slots from the base on
+-- the slot at which `given` words of a readback were given: one pad frame, then the slots from the base on
 abbrev pub slot_given : PartData → PipelineData → ℕ → Slot
 slot_given part p given = slice_index_or (Pad ∷ slots_from part p.base) (given / p.width) End
 
--- so many words were given more
+-- the pipeline after `n` words of a readback were given more
 abbrev pub passed : PartData → PipelineData → ℕ → PipelineData
 passed part p n = record p { given = given_after part p n; slot = slot_given part p (given_after part p n) }

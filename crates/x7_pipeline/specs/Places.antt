@@ -1,11 +1,11 @@
--- Where the slots from a base on stand among all of a part.
+-- Where the slots from a base on stand among all of a part (this project's choice).
 use Rattle.std.specs.Prelude.{◌≡◌, ℕ, ◌+◌, ◌^◌, ◌<◌, slice_index_or}
 use Rattle.x7_part.specs.Part.{PartData}
 use Rattle.x7_part.specs.Slots.{slots_in}
 use Rattle.x7_part.specs.declared.slot.Slot.TheVariants.{End}
 use Rattle.x7_pipeline.specs.Runs.{slots_from}
 
--- so many slots stand before those from the base on
+-- the slots from the base on stand at `place` among all slots of the part, below 2^63
 pub record StartsAt (part : PartData) (base place : ℕ) : Type 0 where
   pub few : place < 2 ^ 63
   pub same : (n : ℕ) → slice_index_or (slots_in part) (place + n) End ≡ slice_index_or (slots_from part base) n End

@@ -26,10 +26,10 @@ read_slot part base place = slice_index_or (Pad ∷ slots_from part base) (place
 unfoldable pub read_at : PartData → ℕ → FrameMap → ℕ → ℕ
 read_at part base memory place = word_at (read_slot part base place) memory (place % frame_words part)
 
--- from this place on the list has zeros alone
+-- the place from which on the list has zeros alone
 unfoldable pub read_limit : PartData → ℕ → ℕ
 read_limit part base = frame_words part * (1 + length (slots_from part base))
 
--- the count of words given as it is stored: no count above the limit tells more than the limit
+-- the count of words given as it is stored: a count above the limit is stored as the limit
 abbrev pub given_stored : PartData → ℕ → ℕ → ℕ
 given_stored part base given = min given (read_limit part base)

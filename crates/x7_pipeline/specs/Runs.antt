@@ -26,7 +26,7 @@ abbrev pub onto : List ℕ → List ℕ → List ℕ
 onto [] run = run
 onto (w ∷ words) run = onto words (w ∷ run)
 
--- ---- where they land
+-- ---- where frames land
 
 -- the slots from an address of a part on, none where it is no address
 abbrev pub slots_from : PartData → ℕ → List Slot

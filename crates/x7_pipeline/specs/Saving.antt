@@ -24,11 +24,11 @@ address_of End = None
 abbrev pub newest_slot : PartData → PipelineData → Slot
 newest_slot part p = if p.frame_count == 0 then Pad else slice_index_or (slots_from part p.base) (p.frame_count - 1) End
 
--- where the next word would put a frame: it completes one, and so the one before it goes to its slot
+-- where the next word would put a frame: a word that completes a frame puts the whole frame before it, at that frame's slot
 abbrev pub put_by_word : PartData → PipelineData → Option ℕ
 put_by_word part p = if length p.rest + 1 == p.width then address_of (newest_slot part p) else None
 
--- where a copy would put one
+-- where a copy would put a frame
 abbrev pub put_by_copy : PartData → PipelineData → Option ℕ
 put_by_copy part p = if has_frame_at part p.base then Some p.base else None
 
@@ -65,23 +65,23 @@ pub record IsPairOf (part : PartData) (row : PlanRow) : Type 0 where
   pub address : Contains (addresses_in part) row.far
   pub width : length row.words ≡ frame_words part
 
--- it is one for pipelines and memories of the part
+-- the saved state is one of pipelines and memories of the part
 pub record IsSavedOf (part : PartData) (s : SavedState) : Type 0 where
   pub pipeline_fits : IsPipelineOf part s.pipeline
   pub pair_fits : AllByRecursion (IsPairOf part) s.pair
 
 -- ---- taking back
 
--- the new map has the frames of the old one at each address but this one, where there is one
+-- the new map has the frames of the old one at each address but `at`, where there is one
 abbrev pub ChangesAt : Option ℕ → FrameMap → FrameMap → Type 0
 ChangesAt at old new = (far : ℕ) → (at ≡ Some far → ⊥) → new far ≡ old far
 
--- the frames of a part before and after such a change
+-- the frames of a part before and after a change at `at` alone
 pub record HaveChangedAt (part : PartData) (at : Option ℕ) (old new : List (List ℕ)) : Type 0 where
   pub old_are : AreFramesOf part old
   pub new_are : AreFramesOf part new
   pub changes : ChangesAt at (frame_at part old) (frame_at part new)
 
--- it changes just where the next word or copy would put a frame
+-- the map changes just where the next word or copy would put a frame
 abbrev pub ChangesNext : PartData → PipelineData → FrameMap → FrameMap → Type 0
 ChangesNext part p old new = ChangesAt (next_put part p) old new

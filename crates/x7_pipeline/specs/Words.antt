@@ -1,4 +1,4 @@
--- Words written in order, up to the first that is refused.
+-- Words written in order, up to the first that is refused (this project's choice).
 use Rattle.std.specs.Prelude.{◌≡◌, ℕ, ◌+◌, List, [], ◌∷◌, ◌++◌, length, Option, Some, None}
 use Rattle.x7_part.specs.Part.{PartData}
 use Rattle.x7_pipeline.specs.declared.fault.RunFault.{RunFault}

@@ -3,7 +3,7 @@
 /// Why the pipeline takes no word.
 #[derive(Clone, Copy, Debug, Drop, PartialEq, Eq)]
 pub enum RunFault {
-    /// FAR, which is this, is no address of the part.
+    /// FAR, with this word, is no address of the part.
     Address(u32),
     /// The word completes a frame past the last slot.
     Overrun,

@@ -31,7 +31,7 @@ use x7_words::{NoMemory, word_of};
 /// The words of a run that are in no frame of the memory yet, the frame that copies take, and how far a readback is.
 #[derive(Drop)]
 pub struct Pipeline {
-    /// The words of a frame.
+    /// The number of words of a frame.
     width: u32,
     /// The width of an address in bits.
     far_width: u32,
@@ -50,7 +50,7 @@ pub struct Pipeline {
     has_source: bool,
     /// The words that a readback gave, counted up to where there are zeros alone.
     given: u64,
-    /// The slot of the next one.
+    /// The slot of the next word of a readback.
     slot: Slot,
 }
 
@@ -67,7 +67,7 @@ impl Model for Pipeline {
 }
 
 impl Pipeline {
-    /// A pipeline as after a reset: no command was written, FAR is 0. It takes room for three frames, and no other call
+    /// A pipeline as after a reset: no command was written, FAR is 0. The call takes room for three frames, and no other call
     /// takes memory.
     pub fn new(alloc: Global, part: &Part) -> Result<Pipeline, NoMemory>
         ensures stands { IfOk result (λ pipeline. HoldsFlow part.now pipeline first_flow) }
@@ -89,7 +89,7 @@ impl Pipeline {
         })
     }
 
-    /// What `new` gives, whatever it stood for.
+    /// Makes the pipeline what `new` gives, whatever it stood for.
     pub fn reset(&mut self)
         ensures stands { (part : PartData) → IsPipelineOf part self.old → HoldsFlow part self.new first_flow }
         ensures part { (part : PartData) → IsPipelineOf part self.old → IsPipelineOf part self.new }
@@ -178,8 +178,8 @@ impl Pipeline {
         Ok(())
     }
 
-    /// The words of a run in order, four bytes each, the highest first: as so many calls of `write`, up to the first fault.
-    /// It gives the number of words taken, a refused one included, and the fault.
+    /// Writes the words of a run in order, four bytes each, the highest first, as a call of `write` for each of them up to the
+    /// first fault would. The answer is the number of words taken, a refused one included, and the fault.
     pub fn write_bytes(
         &mut self,
         bytes: &[u8],
@@ -208,7 +208,7 @@ impl Pipeline {
         (at / 4, None)
     }
 
-    /// Writes the whole frames that come next, where none has begun, or else the next word. It gives the number of bytes.
+    /// Writes the whole frames that come next, where none has begun, or else the next word. The answer is the number of bytes.
     fn write_some(
         &mut self,
         bytes: &[u8],
@@ -247,8 +247,8 @@ impl Pipeline {
         self.rest.is_empty() && self.frame_count < slot_count(part, self.base)
     }
 
-    /// Writes the whole frames that come next, up to the last one that has a slot. The first one has. It gives the number of
-    /// bytes.
+    /// Writes the whole frames that come next, up to the last one that has a slot; the first one has a slot. The answer is the
+    /// number of bytes.
     fn write_frames(&mut self, bytes: &[u8], part: &Part, memory: &mut Memory) -> usize
         requires part { IsPipelineOf part.now self.old }
         requires memory { AreFramesOf part.now memory.old }
@@ -274,14 +274,14 @@ impl Pipeline {
         at
     }
 
-    /// Whether a whole frame is left, and has one of so many slots.
+    /// Whether a whole frame of `size` bytes is left, and the next frame has one of the `slots` slots.
     fn has_next(&self, size: usize, left: usize, slots: u64) -> bool
         ensures { IsTrue result → (size ≤ left) × (self.now.frame_count < slots) }
     {
         size <= left && self.frame_count < slots
     }
 
-    /// Puts the newest whole frame, and holds the next one. So many slots stand before those from the base on.
+    /// Puts the newest whole frame, and holds the next one. `first` slots stand before those from the base on.
     fn write_frame(&mut self, bytes: &[u8], first: u64, part: &Part, memory: &mut Memory)
         requires part { IsPipelineOf part.now self.old }
         requires memory { AreFramesOf part.now memory.old }
@@ -306,7 +306,7 @@ impl Pipeline {
         self.frame_count == 0 && self.rest.is_empty() && !is_base(part, self.base)
     }
 
-    /// Puts the newest whole frame, where there is one and its slot is an address. So many slots stand before those from the
+    /// Puts the newest whole frame, where there is one and its slot is an address. `first` slots stand before those from the
     /// base on.
     fn put_held(&self, first: u64, part: &Part, memory: &mut Memory)
         requires part { IsPipelineOf part.now self.now }
@@ -431,7 +431,7 @@ impl Pipeline {
         self.slot = slot_read(part, self.base, self.given / u64::from(self.width));
     }
 
-    /// Passes over words of a readback: the same as so many calls of `read_word`.
+    /// Passes over `n` words of a readback, as `n` calls of `read_word` would.
     pub fn drop_words(&mut self, n: u32, part: &Part) -> Result<(), RunFault>
         ensures stands { OnOk result (GoesOn part.now self.old self.new (after_reads n)) }
         ensures fault { OfFlow part.now self.old (λ f. result_err result ≡ drop_fault part.now f.base f.given n) }
@@ -461,7 +461,7 @@ impl Pipeline {
         self.slot = slot_read(part, self.base, self.given / u64::from(self.width));
     }
 
-    /// FAR as read.
+    /// The frame address register as it is read.
     pub fn far(&self, part: &Part) -> u32
         ensures { OfFlow part.now self.now (λ f. result ≡ far_of part.now f.base f.run f.given) }
     {
@@ -470,7 +470,7 @@ impl Pipeline {
     }
 }
 
-/// The lowest bits of a word.
+/// The `width` lowest bits of a word.
 fn low_bits(word: u32, width: u32) -> u32
     requires { width ≤ 32 }
     ensures { result ≡ word % 2 ^ width }
@@ -478,7 +478,7 @@ fn low_bits(word: u32, width: u32) -> u32
     (u64::from(word) % (1 << width)) as u32
 }
 
-/// The command ends a run of frame data by one of copies.
+/// Whether the new command ends a run of frame data and begins copies: MFW right after WCFG.
 fn begins_copies(old: Command, new: Command) -> bool
     ensures { result ≡ (is_wcfg old && is_mfw new) }
 {
@@ -522,7 +522,7 @@ fn hold(words: &mut Vec<u32>, bytes: &[u8])
     read_words(words, bytes);
 }
 
-/// Gives a vector with room so many words.
+/// Makes a vector with room have `count` words.
 fn set_len(words: &mut Vec<u32>, count: usize)
     requires room { count ≤ vec_capacity words.old }
     ensures count { length words.new.items ≡ count }

@@ -7,6 +7,9 @@ use Rattle.std.proofs.lemmas.Grind.{flat_map-append}
 use Rattle.std.proofs.lemmas.List.{append-nil, take_more, length-map, map-append, get_or_default, length_push, get_or_push, get_or_append_left}
 use Rattle.x7_memory.specs.Planned.{PlanRow, planned_addresses}
 use Rattle.x7_part.specs.Part.{PartData, frame_words}
+use Rattle.x7_regs.specs.declared.command.Command.TheVariants.{Mfw, Wcfg}
+use Rattle.x7_regs.specs.declared.register.Reg.TheVariants.{Far}
+use Rattle.x7_packets.specs.PacketWords.{command, frame_data, write_one}
 use Rattle.x7_planner.specs.Contents.{AreFirsts, AreGrouped, AreStarts, AreTogether, IsFirst, row_of, rows_of}
 use Rattle.x7_planner.specs.Partial.{Copies, copy_words, groups_led, is_shared, leads_group, others, stretch_words, with_content}
 use Rattle.x7_planner.specs.Stream.{bytes_of_words}
@@ -167,16 +170,16 @@ copies_end contents words firsts old new a k x t m f l inner n h =
     (sym (up-to (rows_of contents) words a k t f l (λ d. place-other (rows_of contents) words firsts a k d t m f inside (λ e. n (known ∙ e)))))
 
 pub group_written : (part : PartData) (old one two three new words fars : List ℕ) (first width : ℕ) → width ≡ frame_words part → get_or fars 0 0 ≡ first
-    → one ≡ old ++ bytes_of_words (0x30008001 ∷ 1 ∷ 0x30002001 ∷ first ∷ 0x30004000 ∷ (0x50000000 + width) ∷ []) → two ≡ one ++ bytes_of_words words → three ≡ two ++ bytes_of_words (0x30008001 ∷ 2 ∷ [])
+    → one ≡ old ++ bytes_of_words (command Wcfg ++ (write_one Far first ++ frame_data width)) → two ≡ one ++ bytes_of_words words → three ≡ two ++ bytes_of_words (command Mfw)
     → new ≡ three ++ bytes_of_words (flat_map copy_words fars) → new ≡ old ++ bytes_of_words (stretch_words part (Copies words fars))
 group_written part old one two three new words fars first width w f a b c d =
-    let opening : List ℕ = 0x30008001 ∷ 1 ∷ 0x30002001 ∷ first ∷ 0x30004000 ∷ (0x50000000 + width) ∷ [] in
+    let opening : List ℕ = command Wcfg ++ (write_one Far first ++ frame_data width) in
     let copies : List ℕ = flat_map copy_words fars in
-    written-on old three new ((opening ++ words) ++ 0x30008001 ∷ 2 ∷ []) copies (written-on old two three (opening ++ words) (0x30008001 ∷ 2 ∷ []) (written-on old one two opening words a b) c) d
+    written-on old three new ((opening ++ words) ++ command Mfw) copies (written-on old two three (opening ++ words) (command Mfw) (written-on old one two opening words a b) c) d
     ∙ ap (λ t. old ++ bytes_of_words t)
-    (append_assoc (opening ++ words) (0x30008001 ∷ 2 ∷ []) copies ∙ append_assoc opening words (0x30008001 ∷ 2 ∷ copies)
-    ∙ ap (λ (x : ℕ). 0x30008001 ∷ 1 ∷ 0x30002001 ∷ x ∷ 0x30004000 ∷ (0x50000000 + width) ∷ (words ++ 0x30008001 ∷ 2 ∷ copies)) (sym f)
-    ∙ ap (λ (x : ℕ). 0x30008001 ∷ 1 ∷ 0x30002001 ∷ get_or fars 0 0 ∷ 0x30004000 ∷ (0x50000000 + x) ∷ (words ++ 0x30008001 ∷ 2 ∷ copies)) w)
+    (append_assoc (opening ++ words) (command Mfw) copies ∙ append_assoc opening words (command Mfw ++ copies)
+    ∙ ap (λ (x : ℕ). command Wcfg ++ (write_one Far x ++ (frame_data width ++ (words ++ (command Mfw ++ copies))))) (sym f)
+    ∙ ap (λ (x : ℕ). command Wcfg ++ (write_one Far (get_or fars 0 0) ++ (frame_data x ++ (words ++ (command Mfw ++ copies))))) w)
 
 pub led_none : (part : PartData) (old : List ℕ) (all : List PlanRow) (r : PlanRow) (b : Bool) → b ≡ leads_group all r → b ≡ false → old ≡ old ++ bytes_of_words (flat_map (stretch_words part) (groups_led all (r ∷ [])))
 led_none part old all r b e y = rw (sym e ∙ y) (sym (append-nil old))

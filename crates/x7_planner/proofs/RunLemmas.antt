@@ -12,6 +12,9 @@ use Rattle.std.proofs.lemmas.Grind.{flat_map-append}
 use Rattle.std.proofs.lemmas.List.{length-drop, take_rest, drop-drop, length-map, take-map}
 use Rattle.x7_memory.specs.Planned.{AreInOrder, PlanRow, planned_addresses}
 use Rattle.x7_part.specs.Part.{PartData, frame_words}
+use Rattle.x7_regs.specs.declared.command.Command.TheVariants.{Wcfg}
+use Rattle.x7_regs.specs.declared.register.Reg.TheVariants.{Far}
+use Rattle.x7_packets.specs.PacketWords.{command, frame_data, write_one}
 use Rattle.x7_planner.specs.Contents.{IsRunLength, row_of, rows_of}
 use Rattle.x7_planner.specs.Partial.{Rows, follows, frames_words, groups_led, is_shared, others, partial_ending, partial_opening, partial_stream, stretches_of, runs_of, runs_words, stretch_words, with_row}
 use Rattle.x7_planner.specs.Stream.{Check, Words, bytes_of_words, with_piece}
@@ -91,16 +94,16 @@ run_whole part frames k l h m p = record {
 }
 
 pub run_written : (part : PartData) (old one two new : List ℕ) (rows : List PlanRow) (first width count : ℕ) → width ≡ frame_words part → get_or (planned_addresses rows) 0 0 ≡ first → count ≡ length rows
-    → one ≡ old ++ bytes_of_words (0x30008001 ∷ 1 ∷ 0x30002001 ∷ first ∷ 0x30004000 ∷ (0x50000000 + width * (count + 1)) ∷ []) → two ≡ one ++ bytes_of_words (frames_words rows) → new ≡ two ++ bytes_of_words (replicate width 0)
+    → one ≡ old ++ bytes_of_words (command Wcfg ++ (write_one Far first ++ frame_data (width * (count + 1)))) → two ≡ one ++ bytes_of_words (frames_words rows) → new ≡ two ++ bytes_of_words (replicate width 0)
     → new ≡ old ++ bytes_of_words (stretch_words part (Rows rows))
 run_written part old one two new rows first width count w f n a b c =
-    let opening : List ℕ = 0x30008001 ∷ 1 ∷ 0x30002001 ∷ first ∷ 0x30004000 ∷ (0x50000000 + width * (count + 1)) ∷ [] in
+    let opening : List ℕ = command Wcfg ++ (write_one Far first ++ frame_data (width * (count + 1))) in
     written-on old two new (opening ++ frames_words rows) (replicate width 0) (written-on old one two opening (frames_words rows) a b) c
     ∙ ap (λ t. old ++ bytes_of_words t)
     (append_assoc opening (frames_words rows) (replicate width 0)
-    ∙ ap (λ (x : ℕ). 0x30008001 ∷ 1 ∷ 0x30002001 ∷ x ∷ 0x30004000 ∷ (0x50000000 + width * (count + 1)) ∷ (frames_words rows ++ replicate width 0)) (sym f)
-    ∙ ap (λ (x : ℕ). 0x30008001 ∷ 1 ∷ 0x30002001 ∷ get_or (planned_addresses rows) 0 0 ∷ 0x30004000 ∷ (0x50000000 + width * (x + 1)) ∷ (frames_words rows ++ replicate width 0)) n
-    ∙ ap (λ (x : ℕ). 0x30008001 ∷ 1 ∷ 0x30002001 ∷ get_or (planned_addresses rows) 0 0 ∷ 0x30004000 ∷ (0x50000000 + x * (length rows + 1)) ∷ (frames_words rows ++ replicate x 0)) w)
+    ∙ ap (λ (x : ℕ). command Wcfg ++ (write_one Far x ++ (frame_data (width * (count + 1)) ++ (frames_words rows ++ replicate width 0)))) (sym f)
+    ∙ ap (λ (x : ℕ). command Wcfg ++ (write_one Far (get_or (planned_addresses rows) 0 0) ++ (frame_data (width * (x + 1)) ++ (frames_words rows ++ replicate width 0)))) n
+    ∙ ap (λ (x : ℕ). command Wcfg ++ (write_one Far (get_or (planned_addresses rows) 0 0) ++ (frame_data (x * (length rows + 1)) ++ (frames_words rows ++ replicate x 0)))) w)
 
 pub address_at : (part : PartData) (frames : List Content) (k : ℕ) (e : Content) → All (λ row. Contains (addresses_in part) row.far) (rows_of frames) → k < length frames → Contains (addresses_in part) (get_or frames k e).far
 address_at part frames k e a l = subst (λ (r : PlanRow). Contains (addresses_in part) r.far) (row-at frames k (row_of e) e l) (a k (row_of e) (omega (arith, l, length-map frames row_of)))

@@ -1,9 +1,10 @@
 -- The words of slots, one slot more.
-use Rattle.std.proofs.Common.{◌≡◌, ℕ, ◌+◌, ◌*◌, ◌^◌, ◌<◌, ◌≤◌, List, [], ◌∷◌, ◌++◌, length, take, drop, get_or, sym, ap, ◌∙◌, arith, append_assoc, append-nil, length-append, length-take-le}
+use Rattle.std.proofs.Common.{◌≡◌, ℕ, ◌+◌, ◌*◌, ◌^◌, ◌<◌, ◌≤◌, List, [], ◌∷◌, ◌++◌, length, take, drop, get_or, sym, ap, ap₂, ◌∙◌, arith, append_assoc, append-nil, length-append, length-take-le}
 use Rattle.std.proofs.Math.Nat.{mul-le-mul_left}
 use Rattle.std.proofs.Math.ListN.{drop_of_length-le}
 use Rattle.std.proofs.lemmas.List.{drop-append-le, length-take, take_more}
 use Rattle.std.proofs.lemmas.Grind.{flat_map-append}
+use Rattle.std.specs.List.{flat_map}
 use Rattle.x7_words.proofs.ListLemmas.{flat_map-last}
 use Rattle.x7_words.specs.Word.{bytes_of_word}
 use Rattle.x7_part.specs.AddressOrder.{addresses_in}
@@ -21,6 +22,17 @@ use Rattle.x7_planner.specs.Stream.{bytes_of_words}
 -- words written in two parts
 pub written-on : (old mid new xs ys : List ℕ) → mid ≡ old ++ bytes_of_words xs → new ≡ mid ++ bytes_of_words ys → new ≡ old ++ bytes_of_words (xs ++ ys)
 written-on old mid new xs ys e f = f ∙ ap (λ t. t ++ bytes_of_words ys) e ∙ append_assoc old (bytes_of_words xs) (bytes_of_words ys) ∙ ap (λ t. old ++ t) (sym (flat_map-append bytes_of_word xs ys))
+
+-- the last packet by its words, and a packet before others
+pub last-packet : {p q : List ℕ} → p ≡ q → p ∷ [] ≡ q ∷ []
+last-packet e = ap (λ (p : List ℕ). p ∷ []) e
+
+pub and-packet : {p q : List ℕ} {ps qs : List (List ℕ)} → p ≡ q → ps ≡ qs → p ∷ ps ≡ q ∷ qs
+and-packet e f = ap₂ (λ (p : List ℕ) (ps : List (List ℕ)). p ∷ ps) e f
+
+-- packets written, by their words
+pub packets-written : (old new : List ℕ) {packets named : List (List ℕ)} → packets ≡ named → new ≡ old ++ bytes_of_words (flat_map (λ packet. packet) packets) → new ≡ old ++ bytes_of_words (flat_map (λ packet. packet) named)
+packets-written old new e h = h ∙ ap (λ (t : List (List ℕ)). old ++ bytes_of_words (flat_map (λ packet. packet) t)) e
 
 pub all-slots : (part : PartData) (first n : ℕ) → IsPart part → first ≡ get_or (addresses_in part) 0 0 → from first (slots_in part) ≡ slots_in part
 all-slots part first n is e = ap (λ (a : ℕ). from a (slots_in part)) e ∙ slots_all part is

@@ -9,7 +9,9 @@ use Rattle.x7_part.specs.declared.slot.Slot.TheVariants.{Frame, Pad, End}
 use Rattle.x7_memory.specs.Planned.{PlanData, planned}
 use Rattle.x7_regs.specs.declared.command.Command.TheVariants.{Desync, Lfrm, Rcrc, Shutdown, Start, Wcfg}
 use Rattle.x7_regs.specs.declared.register.Reg.TheVariants.{Cor0, Ctl0, Far, Idcode, Mask}
-use Rattle.x7_planner.specs.Stream.{Piece, Words, Check, command, frame_data, head, no_op, stream_of, write_one}
+use Rattle.x7_packets.specs.PacketWords.{command, frame_data, no_op, write_one}
+use Rattle.x7_planner.specs.Settings.{control, control_mask, startup_options}
+use Rattle.x7_planner.specs.Stream.{Piece, Words, Check, head, stream_of}
 
 abbrev pub zero_frame : PartData → List ℕ
 zero_frame part = replicate (frame_words part) 0
@@ -27,7 +29,7 @@ slot_words part plan places = flat_map (frame_at_slot part plan) places
 -- the settings of startup, and where the frame data begins
 abbrev pub full_settings : PartData → List ℕ
 full_settings part =
-    command Shutdown ++ (command Rcrc ++ (no_op ∷ (write_one Idcode part.idcode ++ (write_one Cor0 0x02003FE5 ++ (write_one Mask 0x501 ++ (write_one Ctl0 0x101
+    command Shutdown ++ (command Rcrc ++ (no_op ∷ (write_one Idcode part.idcode ++ (write_one Cor0 startup_options ++ (write_one Mask control_mask ++ (write_one Ctl0 control
     ++ (command Wcfg ++ (write_one Far (slice_index (addresses_in part) 0) ++ frame_data (frame_words part * length (slots_in part))))))))))
 
 -- what stands before the frame data

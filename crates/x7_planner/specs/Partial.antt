@@ -8,7 +8,8 @@ use Rattle.x7_part.specs.declared.slot.Slot.TheVariants.{Frame, Pad, End}
 use Rattle.x7_memory.specs.Planned.{AreApart, PlanRow, planned, planned_addresses}
 use Rattle.x7_regs.specs.declared.command.Command.TheVariants.{Desync, Mfw, Rcrc, Wcfg}
 use Rattle.x7_regs.specs.declared.register.Reg.TheVariants.{Far, Idcode, Mfwr}
-use Rattle.x7_planner.specs.Stream.{Words, Check, command, frame_data, head, no_op, stream_of, write_one}
+use Rattle.x7_packets.specs.PacketWords.{command, frame_data, no_op, write_one}
+use Rattle.x7_planner.specs.Stream.{Words, Check, head, stream_of}
 use Rattle.x7_planner.specs.Full.{zero_frame}
 
 -- what a partial stream writes after one command: a content at some addresses, or frames from an address on

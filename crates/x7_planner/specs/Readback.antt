@@ -3,7 +3,8 @@ use Rattle.std.specs.Prelude.{ℕ, ◌+◌, ◌*◌, List, [], ◌∷◌, ◌++�
 use Rattle.x7_part.specs.Part.{PartData, frame_words}
 use Rattle.x7_regs.specs.declared.command.Command.TheVariants.{Desync, Rcfg, Rcrc}
 use Rattle.x7_regs.specs.declared.register.Reg.TheVariants.{Far}
-use Rattle.x7_planner.specs.Stream.{Words, command, frame_read, head, no_op, stream_of, write_one}
+use Rattle.x7_packets.specs.PacketWords.{command, frame_read, no_op, write_one}
+use Rattle.x7_planner.specs.Stream.{Words, head, stream_of}
 
 -- a read of so many words from an address on
 abbrev pub read_of_words : ℕ → ℕ → List ℕ

@@ -17,7 +17,9 @@ use crate::run::put_runs;
 use crate::writer::{HEAD, Writer};
 use std::alloc::{AllocError, Global};
 use x7_memory::Plan;
+use x7_packets::{NO_OP, command, write_one};
 use x7_part::Part;
+use x7_regs::{Command, Reg};
 use x7_words::NoMemory;
 
 /// Room for the words of small streams; larger ones make more.
@@ -56,7 +58,9 @@ fn put_opening(writer: &mut Writer, part: &Part) -> Result<(), NoMemory>
     ensures { OnOk result (writer.new ≡ with_piece writer.old (Words (partial_opening part.now))) }
 {
     writer.words(&HEAD)?;
-    writer.words(&[0x3000_8001, 7, 0x2000_0000, 0x3001_8001, part.idcode()])?;
+    writer.words(&command(Command::Rcrc))?;
+    writer.words(&[NO_OP])?;
+    writer.words(&write_one(Reg::Idcode, part.idcode()))?;
     Ok(())
 }
 
@@ -101,14 +105,8 @@ fn partial_of(alloc: Global, part: &Part, plan: &Plan) -> Result<Vec<u8>, NoMemo
     put_opening(&mut writer, part)?;
     put_stretches(&mut writer, part, plan, &grouping)?;
     writer.check()?;
-    writer.words(&[
-        0x3000_8001,
-        13,
-        0x2000_0000,
-        0x2000_0000,
-        0x2000_0000,
-        0x2000_0000,
-    ])?;
+    writer.words(&command(Command::Desync))?;
+    writer.words(&[NO_OP; 4])?;
     Ok(writer.finish())
 }
 

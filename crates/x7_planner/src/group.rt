@@ -10,7 +10,9 @@ use crate::content::Content;
 use crate::writer::Writer;
 use std::alloc::{AllocError, Global};
 use x7_memory::Plan;
+use x7_packets::{command, frame_data, write_one};
 use x7_part::Part;
+use x7_regs::{Command, Reg};
 use x7_words::NoMemory;
 
 /// Whether a content, whose first place is known, stands at three addresses or more.
@@ -58,7 +60,10 @@ fn put_copies(
         if firsts[k] != start {
             return Ok(());
         }
-        writer.words(&[0x3000_2001, contents[k].far, 0x3001_4001, 0])?;
+        writer.packets(&[
+            write_one(Reg::Far, contents[k].far),
+            write_one(Reg::Mfwr, 0),
+        ])?;
     }
     Ok(())
 }
@@ -79,16 +84,13 @@ fn put_group(
     ensures { OnOk result (writer.new ≡ with_piece writer.old (Words (stretch_words part.now (Copies words.now (planned_addresses (with_content words.now (rows_of contents.now))))))) }
 {
     let far = contents[start].far;
-    writer.words(&[
-        0x3000_8001,
-        1,
-        0x3000_2001,
-        far,
-        0x3000_4000,
-        0x5000_0000 + part.words(),
+    writer.packets(&[
+        command(Command::Wcfg),
+        write_one(Reg::Far, far),
+        frame_data(part.words()),
     ])?;
     writer.words(words)?;
-    writer.words(&[0x3000_8001, 2])?;
+    writer.words(&command(Command::Mfw))?;
     put_copies(writer, contents, firsts, start, words)?;
     Ok(())
 }

@@ -8,6 +8,7 @@ mod fault;
 mod group;
 mod reading;
 mod run;
+mod settings;
 mod whole;
 mod writer;
 

@@ -7,7 +7,9 @@ ghost use Rattle.x7_planner.specs.declared.fault.PlanFault.{PlanFault};
 use crate::fault::PlanFault;
 use crate::writer::{HEAD, Writer};
 use std::alloc::Global;
+use x7_packets::{NO_OP, command, frame_read, write_one};
 use x7_part::Part;
+use x7_regs::{Command, Reg};
 use x7_words::NoMemory;
 
 /// The words of a read stream.
@@ -20,23 +22,15 @@ fn read_of(alloc: Global, far: u32, words: u32) -> Result<Vec<u8>, NoMemory>
 {
     let mut writer = Writer::new(alloc, READ_WORDS)?;
     writer.words(&HEAD)?;
-    writer.words(&[
-        0x3000_8001,
-        7,
-        0x2000_0000,
-        0x3000_8001,
-        4,
-        0x3000_2001,
-        far,
-        0x2800_6000,
-        0x4800_0000 + words,
-        0x3000_8001,
-        13,
-        0x2000_0000,
-        0x2000_0000,
-        0x2000_0000,
-        0x2000_0000,
+    writer.words(&command(Command::Rcrc))?;
+    writer.words(&[NO_OP])?;
+    writer.packets(&[
+        command(Command::Rcfg),
+        write_one(Reg::Far, far),
+        frame_read(words),
+        command(Command::Desync),
     ])?;
+    writer.words(&[NO_OP; 4])?;
     Ok(writer.finish())
 }
 

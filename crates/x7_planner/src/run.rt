@@ -8,7 +8,9 @@ ghost use Rattle.x7_planner.specs.Stream.{with_piece, Words};
 use crate::content::Content;
 use crate::whole::zeros;
 use crate::writer::Writer;
+use x7_packets::{command, frame_data, write_one};
 use x7_part::{Part, Slot};
+use x7_regs::{Command, Reg};
 use x7_words::NoMemory;
 
 /// Whether the second address is the next of the first, in the same row.
@@ -53,13 +55,10 @@ fn put_run(writer: &mut Writer, part: &Part, run: &[Content]) -> Result<(), NoMe
     ensures { OnOk result (writer.new ≡ with_piece writer.old (Words (stretch_words part.now (Rows (rows_of run.now))))) }
 {
     let words = part.words() * (run.len() as u32 + 1);
-    writer.words(&[
-        0x3000_8001,
-        1,
-        0x3000_2001,
-        run[0].far,
-        0x3000_4000,
-        0x5000_0000 + words,
+    writer.packets(&[
+        command(Command::Wcfg),
+        write_one(Reg::Far, run[0].far),
+        frame_data(words),
     ])?;
     put_frames(writer, run)?;
     writer.words(zeros(part.words()))?;

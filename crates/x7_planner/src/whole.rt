@@ -14,12 +14,15 @@ ghost use Rattle.x7_planner.specs.declared.whole.NextPiece.{NextPiece};
 
 use crate::address::first_foreign;
 use crate::fault::PlanFault;
-use crate::writer::{CHECK_HEADER, HEAD, put_words};
+use crate::settings::{CONTROL, CONTROL_MASK, STARTUP_OPTIONS};
+use crate::writer::{HEAD, put_packets, put_words};
 use std::alloc::Global;
 use std::marker::Model;
 use x7_crc::PieceChecker;
 use x7_memory::Plan;
+use x7_packets::{NO_OP, command, frame_data, write_one};
 use x7_part::{Part, Slot};
+use x7_regs::{Command, Reg};
 use x7_words::NoMemory;
 
 /// The words of a full stream beside its frame data.
@@ -27,13 +30,6 @@ const OTHER_WORDS: usize = 55;
 
 /// How many slots are written at once.
 const PIECE_SLOTS: u64 = 160;
-
-/// The end of the session: DESYNC and no-ops.
-#[rattlefmt::skip]
-const ENDING: [u32; 18] = [
-    0x3000_8001, 13, 0x2000_0000, 0x2000_0000, 0x2000_0000, 0x2000_0000, 0x2000_0000, 0x2000_0000, 0x2000_0000,
-    0x2000_0000, 0x2000_0000, 0x2000_0000, 0x2000_0000, 0x2000_0000, 0x2000_0000, 0x2000_0000, 0x2000_0000, 0x2000_0000,
-];
 
 /// A frame of zeros, of the most words that a frame may have.
 static ZEROS: [u32; 255] = [0; 255];
@@ -65,33 +61,23 @@ fn slot_count(part: &Part) -> u64
 fn put_settings(out: &mut Vec<u8>, part: &Part) -> Result<(), NoMemory>
     ensures items { OnOk result (out.new.items ≡ out.old.items ++ bytes_of_words (full_settings part.now)) }
     ensures long { OnOk result (length out.new.items ≡ length out.old.items + 76) }
-    ensures failed { OnErr result (out.new.items ≡ out.old.items) }
+    ensures failed { OnErr result (take (length out.old.items) out.new.items ≡ out.old.items) }
     ensures room { vec_capacity out.old ≤ vec_capacity out.new }
     ensures full { OnErr result (vec_capacity out.old < length out.old.items + 76) }
 {
     let words = part.words() * slot_count(part) as u32;
-    put_words(
+    put_packets(out, &[command(Command::Shutdown), command(Command::Rcrc)])?;
+    put_words(out, &[NO_OP])?;
+    put_packets(
         out,
         &[
-            0x3000_8001,
-            11,
-            0x3000_8001,
-            7,
-            0x2000_0000,
-            0x3001_8001,
-            part.idcode(),
-            0x3001_2001,
-            0x0200_3FE5,
-            0x3000_C001,
-            0x0000_0501,
-            0x3000_A001,
-            0x0000_0101,
-            0x3000_8001,
-            1,
-            0x3000_2001,
-            first_address(part),
-            0x3000_4000,
-            0x5000_0000 + words,
+            write_one(Reg::Idcode, part.idcode()),
+            write_one(Reg::Cor0, STARTUP_OPTIONS),
+            write_one(Reg::Mask, CONTROL_MASK),
+            write_one(Reg::Ctl0, CONTROL),
+            command(Command::Wcfg),
+            write_one(Reg::Far, first_address(part)),
+            frame_data(words),
         ],
     )
 }
@@ -109,7 +95,7 @@ fn put_opening(out: &mut Vec<u8>, part: &Part) -> Result<(), NoMemory>
     Ok(())
 }
 
-/// So many words of some.
+/// The first `count` words.
 fn first_words(words: &[u32], count: u32) -> &[u32]
     requires { count ≤ length words.now }
     ensures { result.now ≡ take count words.now }
@@ -269,19 +255,20 @@ impl<'p> FullStream<'p> {
             }
             NextPiece::Slot(n) => self.put_frames(out, n),
             NextPiece::Check => {
-                put_words(out, &[CHECK_HEADER, self.checker.check()])?;
+                put_words(out, &write_one(Reg::Crc, self.checker.check()))?;
                 Ok(NextPiece::Start)
             }
             NextPiece::Start => {
-                put_words(out, &[0x3000_8001, 3, 0x3000_8001, 5])?;
+                put_packets(out, &[command(Command::Lfrm), command(Command::Start)])?;
                 Ok(NextPiece::LastCheck)
             }
             NextPiece::LastCheck => {
-                put_words(out, &[CHECK_HEADER, self.checker.check()])?;
+                put_words(out, &write_one(Reg::Crc, self.checker.check()))?;
                 Ok(NextPiece::Desync)
             }
             NextPiece::Desync => {
-                put_words(out, &ENDING)?;
+                put_words(out, &command(Command::Desync))?;
+                put_words(out, &[NO_OP; 16])?;
                 Ok(NextPiece::Nothing)
             }
             NextPiece::Nothing => Ok(NextPiece::Nothing),

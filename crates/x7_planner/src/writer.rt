@@ -1,22 +1,22 @@
 //! A stream that is being written.
 ghost use Rattle.std.specs.Prelude.{◌≡◌, ◌+◌, ◌*◌, ◌≤◌, [], ◌++◌, length, ◌<◌, ◌^◌, vec_capacity, IfOk, OnOk, OnErr};
+ghost use Rattle.std.specs.List.{flat_map};
 ghost use Rattle.x7_planner.specs.Stream.{bytes_of_words, with_piece, Check, Words};
 
 use byteorder::{BigEndian, ByteOrder};
 use std::alloc::Global;
 use std::marker::Model;
 use x7_crc::Checker;
+use x7_packets::{BUS_WIDTH_DETECT, BUS_WIDTH_SYNC, DUMMY_WORD, NO_OP, SYNC_WORD, write_one};
+use x7_regs::Reg;
 use x7_words::NoMemory;
 
 /// What each stream begins with: dummy words, the bus width pattern, the sync word and a no-op.
 #[rattlefmt::skip]
 pub(crate) const HEAD: [u32; 10] = [
-    0xFFFF_FFFF, 0xFFFF_FFFF, 0xFFFF_FFFF, 0xFFFF_FFFF, 0x0000_00BB, 0x1122_0044, 0xFFFF_FFFF, 0xFFFF_FFFF,
-    0xAA99_5566, 0x2000_0000,
+    DUMMY_WORD, DUMMY_WORD, DUMMY_WORD, DUMMY_WORD, BUS_WIDTH_SYNC, BUS_WIDTH_DETECT, DUMMY_WORD, DUMMY_WORD,
+    SYNC_WORD, NO_OP,
 ];
-
-/// The header of a write of one word to CRC (UG470, packet types).
-pub(crate) const CHECK_HEADER: u32 = 0x3000_0001;
 
 /// The bytes so far, and their running check.
 #[derive(Drop)]
@@ -58,12 +58,19 @@ impl Writer {
         put_words(&mut self.out, words)
     }
 
+    /// Writes packets of two words each.
+    pub(crate) fn packets(&mut self, packets: &[[u32; 2]]) -> Result<(), NoMemory>
+        ensures { OnOk result (self.new ≡ with_piece self.old (Words (flat_map (λ packet. packet) packets.now))) }
+    {
+        put_packets(&mut self.out, packets)
+    }
+
     /// Writes the running check to CRC.
     pub(crate) fn check(&mut self) -> Result<(), NoMemory>
         ensures { OnOk result (self.new ≡ with_piece self.old Check) }
     {
         let check = self.checker.check_of(&self.out);
-        self.words(&[CHECK_HEADER, check])
+        self.words(&write_one(Reg::Crc, check))
     }
 
     /// The bytes.
@@ -90,4 +97,15 @@ pub(crate) fn put_words(out: &mut Vec<u8>, words: &[u32]) -> Result<(), NoMemory
         }
         Err(_) => Err(NoMemory),
     }
+}
+
+/// Appends packets of two words each. After an error nothing was appended.
+pub(crate) fn put_packets(out: &mut Vec<u8>, packets: &[[u32; 2]]) -> Result<(), NoMemory>
+    ensures items { OnOk result (out.new.items ≡ out.old.items ++ bytes_of_words (flat_map (λ packet. packet) packets.now)) }
+    ensures long { OnOk result (length out.new.items ≡ length out.old.items + 8 * length packets.now) }
+    ensures failed { OnErr result (out.new.items ≡ out.old.items) }
+    ensures room { vec_capacity out.old ≤ vec_capacity out.new }
+    ensures full { OnErr result (vec_capacity out.old < length out.old.items + 8 * length packets.now) }
+{
+    put_words(out, packets.as_flattened())
 }

@@ -5,7 +5,7 @@ use Rattle.x7_part.specs.PartRange.{IsPart}
 use Rattle.x7_regs.specs.declared.boot_status.Cause.{Cause}
 use Rattle.x7_boot.specs.Attempt.{Trial}
 use Rattle.x7_boot.specs.Image.{flash_limit, image_of, image_size, update_place}
-use Rattle.x7_recovery.specs.Course.{BootCourse, IsCourse}
+use Rattle.x7_boot.specs.Course.{BootCourse, IsCourse}
 use Rattle.x7_recovery.specs.OpenBoot.{BootsOpen, EachBootsOpen, FallsBackClean, HasStreams, UpdateFails}
 use Rattle.x7_recovery.specs.OpenSlot.{BeginsAsImage, IsOpened, Opened, image_of_flash, slot_of_flash}
 use Rattle.x7_recovery.specs.Updated.{IsUpdated, one_more, opened_by}

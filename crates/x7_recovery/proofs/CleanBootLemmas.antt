@@ -1,15 +1,18 @@
 -- A golden stream that begins clean starts as a fallback behind an open slot, where it starts at power behind an erased sector.
-use Rattle.std.proofs.Common.{◌≡◌, ◌==◌, ◌+◌, ◌-◌, ◌*◌, ◌^◌, ◌<◌, ◌≤◌, inl, inr, ℕ, true, false, if◌then◌else◌, Option, None, Some, List, [], ◌∷◌, ◌++◌, drop, take, length, length-append, length-drop, refl, ap, sym, subst, ◌∙◌, append_assoc, append-nil, take-append-drop, arith}
+use Rattle.std.proofs.Common.{◌≡◌, ◌==◌, ◌+◌, ◌-◌, ◌*◌, ◌^◌, ◌<◌, ◌≤◌, inl, inr, ℕ, true, false, if◌then◌else◌, Option, None, Some, List, [], ◌∷◌, ◌++◌, drop, take, length, length-append, length-drop, refl, ap, sym, subst, ◌∙◌, append_assoc, take-append-drop, drop_of_length-le, arith}
 use Rattle.std.proofs.lemmas.Bool.{cases_lt}
 use Rattle.std.proofs.lemmas.List.{take-append-le}
-use Rattle.std.proofs.Math.Seq.{take-append-add, take-length}
+use Rattle.std.proofs.Math.Seq.{take-append-add, take-append_seam, take-length}
 use Rattle.x7_words.specs.Word.{AreBytes}
 use Rattle.x7_words.proofs.ListLemmas.{all-append, all_back, all_take}
 use Rattle.x7_packets.specs.Appended.{gap_of, moved}
-use Rattle.x7_packets.specs.History.{History, entry, history_of}
+use Rattle.x7_packets.specs.History.{History, history_of}
 use Rattle.x7_packets.specs.Reading.{is_synced}
 use Rattle.x7_packets.specs.SyncWord.{sync_bytes}
+use Rattle.x7_packets.specs.Gap.{NoneBegins}
 use Rattle.x7_packets.proofs.AppendedLemmas.{history_after}
+use Rattle.x7_packets.proofs.GapLemmas.{history_passed}
+use Rattle.x7_packets.proofs.MovedLemmas.{moved_again, moved_append}
 use Rattle.x7_part.specs.Part.{PartData}
 use Rattle.x7_regs.specs.declared.boot_status.Kind.TheVariants.{Fallback}
 use Rattle.x7_startup.specs.Calls.{NotBegun, StartupProgress}
@@ -17,64 +20,34 @@ use Rattle.x7_flow.specs.FrameMemory.{memory_of}
 use Rattle.x7_engine.specs.Kept.{is_fallback}
 use Rattle.x7_engine.specs.Registers.{wrote_iprog}
 use Rattle.x7_engine.specs.Startup.{phase_by, startup_progress}
-use Rattle.x7_engine.specs.State.{history_by, memory_in, stop_in, taken_by, why_of}
-use Rattle.x7_engine.specs.Stops.{Stopped, stop_of}
+use Rattle.x7_engine.specs.State.{memory_in, stop_in}
+use Rattle.x7_engine.specs.Stops.{stop_of}
 use Rattle.x7_engine.specs.declared.kept.Kept.{Kept}
 use Rattle.x7_regs.specs.BootStatus.{boot_status_of}
 use Rattle.x7_regs.specs.declared.boot_status.Attempt.{Attempt}
 use Rattle.x7_regs.specs.declared.boot_status.Cause.{Cause}
-use Rattle.x7_boot.specs.Attempt.{EndsFirst, IsTrial, Trial, ending_at, ending_by}
+use Rattle.x7_boot.specs.Attempt.{EndsFirst, IsTrial, Trial, ending_at}
 use Rattle.x7_boot.specs.Boot.{at_power, end_state}
 use Rattle.x7_boot.specs.Image.{open_slot}
 use Rattle.x7_boot.specs.declared.attempt.Ending.TheVariants.{Started}
+use Rattle.x7_boot.proofs.OverLemmas.{ends_alike}
 use Rattle.x7_boot.proofs.StartLemmas.{front_goes, front_history, front_open}
-use Rattle.x7_recovery.specs.Clean.{BeginsClean, StartsClean, clear, later}
+use Rattle.x7_boot.proofs.TookLemmas.{ends_going}
+use Rattle.x7_recovery.specs.Clean.{StartsClean}
 use Rattle.x7_recovery.specs.Golden.{erased_sector, with_erased}
-use Rattle.x7_recovery.specs.Course.{BootCourse, IsCourse}
+use Rattle.x7_boot.specs.Course.{BootCourse, IsCourse}
 use Rattle.x7_recovery.specs.OpenBoot.{FallsBackClean, UpdateFails}
 use Rattle.x7_recovery.specs.OpenSlot.{HasOpen, IsOpened, Opened}
+use Rattle.x7_effects.proofs.EndLemmas.{memory_all}
 use Rattle.x7_effects.proofs.GoingLemmas.{IsGoing, going_bytes}
 use Rattle.x7_recovery.proofs.SlotLemmas.{slot_long}
 use Rattle.x7_recovery.proofs.OpenSlotLemmas.{after_slot, slot_history, slot_place}
-use Rattle.x7_recovery.proofs.BehindLemmas.{NoneBegins, history_behind}
-use Rattle.x7_recovery.proofs.CleanStopLemmas.{AreClean, ComesAlike, clean_until, comes, slot_near}
+use Rattle.x7_recovery.proofs.CleanStopLemmas.{AreClean, ComesAlike, clean_until, comes, not_empty, slot_near}
 use Rattle.x7_recovery.proofs.FullTrialLemmas.{bootsts_is, iprog_later}
-use Rattle.x7_recovery.proofs.GoldenLemmas.{ended, erased_drop, erased_fits, erased_long, erased_shut, erased_take, shut_none, word_at}
+use Rattle.x7_recovery.proofs.GoldenLemmas.{ended, erased_drop, erased_history, erased_long, erased_take, word_at}
 use Rattle.x7_recovery.proofs.OpenBootLemmas.{Falls, failed_attempt, falls, kept_then}
 use Rattle.x7_recovery.proofs.OpenLemmas as slots
 use Rattle.x7_recovery.proofs.OpenLemmas.{desync_at, sector, sector_going, sector_history, sector_long, sector_never, sector_rests, sector_wrote}
-
--- ---- places moved on twice
-
-moved_again : (n m : ℕ) (h : History) → moved n (moved m h) ≡ moved (n + m) h
-moved_again n m [] = refl
-moved_again n m (e ∷ h) =
-    let at : n + (m + e.place) ≡ n + m + e.place = omega arith in
-    ap (λ (p : ℕ). entry e.access p ∷ moved n (moved m h)) at ∙ ap (λ (t : History). entry e.access (n + m + e.place) ∷ t) (moved_again n m h)
-
-moved_append : (n : ℕ) (g h : History) → moved n (g ++ h) ≡ moved n g ++ moved n h
-moved_append n [] h = refl
-moved_append n (e ∷ g) h = ap (λ (t : History). entry e.access (n + e.place) ∷ t) (moved_append n g h)
-
--- ---- an attempt that nothing has stopped
-
-ends_going : (part : PartData) (kept : Kept) (bytes : List ℕ) → stop_in part kept bytes ≡ None → ending_at part kept bytes ≡ (if phase_by part (startup_progress (history_of bytes) (length bytes)) == 7 then Some Started else None)
-ends_going part kept bytes none =
-    ap (λ (o : Option Stopped). if phase_by part (startup_progress (history_by o (history_of bytes)) (taken_by o (length bytes))) == 7 then Some Started else ending_by (why_of o)) none
-
-memory_going : (part : PartData) (kept : Kept) (bytes : List ℕ) → stop_in part kept bytes ≡ None → memory_in part kept bytes ≡ memory_of part (history_of bytes)
-memory_going part kept bytes none = ap (λ (o : Option Stopped). memory_of part (history_by o (history_of bytes))) none
-
-not_empty : (h : History) → h ≡ [] → BeginsClean h → ⊥
-not_empty _ e (clear place h l) = absurd (cc)
-not_empty _ e (later x h b) = absurd (cc)
-
-drop_past : (n : ℕ) (xs : List ℕ) → length xs ≤ n → drop n xs ≡ []
-drop_past n xs l = by (drop n xs) (omega (arith, l, length-drop n xs))
-  where
-    by : (ys : List ℕ) → length ys ≡ 0 → ys ≡ []
-    by [] e = refl
-    by (y ∷ ys) e = absurd (omega (arith, e))
 
 -- ---- the history of the first sector and of bytes behind it
 
@@ -124,7 +97,7 @@ module _ (flash : List ℕ) (number start : ℕ) (o : HasOpen flash number start
   fits_after = all_back (λ b. b < 256) (open_slot start) (after ++ s) fits_slot
 
   after_history : history_of (after ++ s) ≡ moved (length after) (history_of s)
-  after_history = history_behind after s fits_after none_later ∙ append-nil (moved (length after) (history_of s))
+  after_history = history_passed after s fits_after none_later
 
   slot_then : history_of (open_slot start ++ (after ++ s)) ≡ moved 32 (moved (length after) (history_of s)) ++ after_slot start
   slot_then =
@@ -138,8 +111,7 @@ module _ (flash : List ℕ) (number start : ℕ) (o : HasOpen flash number start
       let inner : History = moved 32 (moved (length after) (history_of s)) in
       let n : ℕ = length before in
       ap history_of whole_is
-      ∙ history_behind before (open_slot start ++ (after ++ s)) fits_all (slots.none_before flash number start o small (open_slot start ++ (after ++ s)) rest (split ∙ ap (λ (x : List ℕ). x ++ rest) whole_is))
-      ∙ append-nil (moved n (history_of (open_slot start ++ (after ++ s))))
+      ∙ history_passed before (open_slot start ++ (after ++ s)) fits_all (slots.none_before flash number start o small (open_slot start ++ (after ++ s)) rest (split ∙ ap (λ (x : List ℕ). x ++ rest) whole_is))
       ∙ ap (moved n) slot_then
       ∙ moved_append n inner (after_slot start)
       ∙ ap (λ (h : History). moved n h ++ moved n (after_slot start)) (moved_again 32 (length after) (history_of s))
@@ -164,7 +136,9 @@ module _ (o : Opened) (is : IsOpened o) (t : Trial) (c : StartsClean o.part o.fl
   long : 65536 ≤ length t.bytes
   long = elim (cases_lt (length t.bytes) 65536) [
     | inr past ↦ past
-    | inl few ↦ absurd (not_empty (history_of s) (ap history_of (drop_past 65536 t.bytes (omega (arith, few)))) c.clean)
+    | inl few ↦
+        let short : length t.bytes ≤ 65536 = omega (arith, few) in
+        absurd (not_empty (history_of s) (ap history_of (drop_of_length-le t.bytes short)) c.clean)
   ]
 
   bytes_are : t.bytes ≡ erased_sector ++ s
@@ -208,9 +182,7 @@ module _ (o : Opened) (is : IsOpened o) (t : Trial) (c : StartsClean o.part o.fl
     fall_long = length-append front' sk ∙ ap (λ (n : ℕ). n + length sk) front_long
 
     power_history : history_of (erased_sector ++ sk) ≡ moved 65536 (history_of sk)
-    power_history =
-        history_behind erased_sector sk (all-append (λ b. b < 256) erased_sector sk erased_fits sk_fits) (shut_none (erased_sector ++ sk) erased_sector sk (erased_shut sk) refl (omega (arith, erased_long)))
-        ∙ append-nil (moved (length erased_sector) (history_of sk)) ∙ ap (λ (n : ℕ). moved n (history_of sk)) erased_long
+    power_history = erased_history sk sk_fits
 
     fall_history : history_of (front' ++ sk) ≡ moved 65536 (history_of sk) ++ desync_at (32 * o.slot) o.start
     fall_history =
@@ -254,7 +226,7 @@ module _ (o : Opened) (is : IsOpened o) (t : Trial) (c : StartsClean o.part o.fl
 
       memory_alike : memory_in o.part kept (front' ++ sk) ≡ memory_in o.part at_power (erased_sector ++ sk)
       memory_alike =
-          memory_going o.part kept (front' ++ sk) fall_going ∙ ap (memory_of o.part) fall_history ∙ alike.memory ∙ ap (memory_of o.part) (sym power_history) ∙ sym (memory_going o.part at_power (erased_sector ++ sk) power_going)
+          memory_all o.part kept (front' ++ sk) fall_going ∙ ap (memory_of o.part) fall_history ∙ alike.memory ∙ ap (memory_of o.part) (sym power_history) ∙ sym (memory_all o.part at_power (erased_sector ++ sk) power_going)
 
   module _ (kept : Kept) (fell : is_fallback kept.kind ≡ true) where
     all_of : take (length s) s ≡ s
@@ -263,40 +235,38 @@ module _ (o : Opened) (is : IsOpened o) (t : Trial) (c : StartsClean o.part o.fl
     abbrev fallen : Trial
     fallen = record { kept = kept; address = 0; bytes = front' ++ s; wrapped = false; ending = Started }
 
-    fallen_ends : ending_at o.part kept (front' ++ s) ≡ Some Started
-    fallen_ends =
-        ap (λ (y : List ℕ). ending_at o.part kept (front' ++ y)) (sym all_of)
-        ∙ ending_alike (length s) kept fell
-        ∙ ap (λ (y : List ℕ). ending_at o.part at_power (erased_sector ++ y)) all_of
-        ∙ ap (ending_at o.part at_power) (sym bytes_are)
-        ∙ ap (λ (k : Kept). ending_at o.part k t.bytes) (sym c.starts.kept)
-        ∙ x.ends ∙ ap Some c.starts.started
-
-    fallen_first : (k : ℕ) → k < length (front' ++ s) → ending_at o.part kept (take k o.flash) ≡ None
-    fallen_first k few =
-        let within : k ≤ length (front' ++ s) = omega (arith, few) in
-        let here : take k o.flash ≡ take k (front' ++ s) = ap (take k) flash_is ∙ take-append-le k (front' ++ s) x.rest within in
+    fallen_alike : (k : ℕ) → k ≤ length t.bytes → ending_at o.part kept (take k o.flash) ≡ ending_at o.part t.kept (take k one)
+    fallen_alike k within =
+        let most : k ≤ length (front' ++ s) = omega (arith, within, length-append front' s, front_long, length-drop 65536 t.bytes, long) in
+        let here : take k o.flash ≡ take k (front' ++ s) = ap (take k) flash_is ∙ take-append-le k (front' ++ s) x.rest most in
         elim (cases_lt k 65536) [
           | inl early ↦
-              let in_front : k ≤ length front' = omega (arith, early, front_long) in
-              ap (ending_at o.part kept) (here ∙ take-append-le k front' s in_front)
+              ap (ending_at o.part kept) (here ∙ take-append-le k front' s (omega (arith, early, front_long)))
               ∙ front_open o.part kept k front' is.has.fits (sector_never o.flash o.slot o.start is.has is.small) (front_goes o.part kept k front' is.has.fits (sector_rests o.flash o.slot o.start is.has is.small o.part kept fell).no_stop)
+              ∙ sym (x.first k (omega (arith, early, long)))
           | inr late ↦
               let j : ℕ = k - 65536 in
               let sum : length front' + j ≡ k = omega (arith, late, front_long) in
-              let at : ℕ = length erased_sector + j in
-              let less : at < length t.bytes = omega (arith, few, late, erased_long, length-append front' s, front_long, length-drop 65536 t.bytes, long) in
-              let whole : at ≤ length (erased_sector ++ s) = omega (arith, less, ap length bytes_are) in
-              let taken : take at one ≡ erased_sector ++ take j s = ap (take at) one_is ∙ take-append-le at (erased_sector ++ s) x.rest whole ∙ take-append-add erased_sector s j in
+              let same : length erased_sector + j ≡ k = omega (arith, late, erased_long) in
+              let whole : k ≤ length (erased_sector ++ s) = omega (arith, within, ap length bytes_are) in
+              let taken : take k one ≡ erased_sector ++ take j s =
+              ap (take k) one_is ∙ take-append-le k (erased_sector ++ s) x.rest whole ∙ ap (λ (n : ℕ). take n (erased_sector ++ s)) (sym same) ∙ take-append-add erased_sector s j in
               ap (ending_at o.part kept) (here ∙ ap (λ (n : ℕ). take n (front' ++ s)) (sym sum) ∙ take-append-add front' s j)
               ∙ ending_alike j kept fell
               ∙ ap (ending_at o.part at_power) (sym taken)
-              ∙ ap (λ (q : Kept). ending_at o.part q (take at one)) (sym c.starts.kept)
-              ∙ x.first at less
+              ∙ ap (λ (q : Kept). ending_at o.part q (take k one)) (sym c.starts.kept)
         ]
 
     pub fallen_is : IsTrial o.part o.flash fallen
-    fallen_is = inl (record { rest = x.rest; taken = flash_is; ends = fallen_ends; first = fallen_first; in_flash = refl })
+    fallen_is =
+        let count : length (front' ++ s) ≡ length t.bytes = omega (arith, length-append front' s, front_long, length-drop 65536 t.bytes, long) in
+        inl (ends_alike o.part one o.flash t fallen x (record {
+          bytes = sym (ap (take (length t.bytes)) flash_is ∙ ap (λ (n : ℕ). take n ((front' ++ s) ++ x.rest)) (sym count) ∙ take-append_seam (front' ++ s) x.rest);
+          long = omega (arith, ap length flash_is, length-append (front' ++ s) x.rest, count);
+          ending = sym c.starts.started;
+          in_flash = refl;
+          prefixes = fallen_alike;
+        }))
 
     fallen_memory : memory_in o.part kept (front' ++ s) ≡ memory_in o.part t.kept t.bytes
     fallen_memory =

@@ -8,7 +8,7 @@ use Rattle.x7_boot.specs.Boot.{BootedState, IsBoot}
 use Rattle.x7_update.specs.After.{MayBeLeft}
 use Rattle.x7_recovery.specs.Golden as any
 use Rattle.x7_recovery.specs.Golden.{BootsAlike, StartsAlike, StartsAsPlanned, UpdatingAny}
-use Rattle.x7_recovery.specs.Course.{BootCourse}
+use Rattle.x7_boot.specs.Course.{BootCourse}
 use Rattle.x7_recovery.specs.Recovery.{BootsAs, IsPrepared, StartsGolden, Updating, as_after, as_before, golden}
 use Rattle.x7_recovery.proofs.GoldenLemmas.{found_alike, full_golden}
 

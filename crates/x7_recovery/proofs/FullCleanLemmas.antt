@@ -1,14 +1,13 @@
 -- The full stream of a plan begins clean: behind an erased first sector it starts, and nothing has stopped the device by then.
-use Rattle.std.proofs.Common.{◌≡◌, ◌==◌, ◌+◌, ◌-◌, ◌*◌, ◌<◌, ◌≤◌, ◌⊎◌, inl, inr, ℕ, Bool, true, false, if◌then◌else◌, Option, None, Some, List, [], ◌∷◌, ◌++◌, drop, take, length, length-append, refl, ap, sym, subst, ◌∙◌, append_assoc, append-nil, arith}
+use Rattle.std.proofs.Common.{◌≡◌, ◌==◌, ◌+◌, ◌-◌, ◌*◌, ◌<◌, ◌≤◌, ◌⊎◌, inl, inr, ℕ, Bool, true, false, if◌then◌else◌, Option, None, Some, List, [], ◌∷◌, ◌++◌, drop, take, length, length-append, refl, ap, sym, subst, ◌∙◌, append_assoc, arith}
 use Rattle.std.proofs.lemmas.Bool.{cases_lt}
 use Rattle.std.proofs.lemmas.List.{take-append-le}
 use Rattle.std.proofs.Math.Seq.{drop-append_seam, take-append-add, take-append_seam}
 use Rattle.x7_words.specs.Word.{AreBytes}
 use Rattle.x7_words.proofs.ListLemmas.{all-append, all_take}
-use Rattle.x7_packets.specs.Appended.{moved}
 use Rattle.x7_packets.specs.History as access
-use Rattle.x7_packets.specs.History.{Access, Entry, History, entry, history_of}
-use Rattle.x7_packets.proofs.AppendedLemmas.{nothing_read}
+use Rattle.x7_packets.specs.History.{History, entry, history_of}
+use Rattle.x7_packets.proofs.MovedLemmas.{moved_same}
 use Rattle.x7_part.specs.Part.{PartData}
 use Rattle.x7_part.specs.PartRange.{IsPart}
 use Rattle.x7_part.specs.Slots.{slots_in}
@@ -38,9 +37,9 @@ use Rattle.x7_boot.proofs.StartLemmas.{front_goes}
 use Rattle.x7_recovery.specs.Clean.{BeginsClean, StartsClean, clear, later, nothing, shutdown}
 use Rattle.x7_recovery.specs.Golden.{StartsAsPlanned, erased_sector, with_erased}
 use Rattle.x7_recovery.specs.Recovery.{IsPrepared, Updating}
-use Rattle.x7_recovery.proofs.BehindLemmas.{gap_empty, history_behind}
+use Rattle.x7_recovery.proofs.CleanStopLemmas.{not_empty}
 use Rattle.x7_recovery.proofs.FullTrialLemmas.{full_ends, full_stream_fits, seven_whole}
-use Rattle.x7_recovery.proofs.GoldenLemmas.{ended, erased_fits, erased_long, erased_shut, never_erased, rest_erased, shut_none}
+use Rattle.x7_recovery.proofs.GoldenLemmas.{ended, erased_fits, erased_front, erased_history, erased_long, never_erased, rest_erased}
 
 -- ---- the history of a full stream begins clean
 
@@ -59,28 +58,6 @@ stream_clean part plan is for =
     ap (λ (s : List ℕ). history_of ([] ++ s)) (full_same part plan is for.is_plan for.width)
     ∙ stream_history [] (items.full_pieces part plan) 16 tt refl (full_fits part plan is for.is_plan for.width (have_words plan.rows for.is_plan.each)) (full_clears part plan) in
     subst BeginsClean (sym is_history) (later _ _ (pieces_clean part plan (0 + 36)))
-
--- ---- moved histories
-
-access_is : (a b : Access) (p q : ℕ) (g h : History) → entry a p ∷ g ≡ entry b q ∷ h → a ≡ b
-access_is a b p q g h e = let first : entry a p ≡ entry b q = cc in ap (λ (x : Entry). x.access) first
-
-place_is : (a b : Access) (p q : ℕ) (g h : History) → entry a p ∷ g ≡ entry b q ∷ h → p ≡ q
-place_is a b p q g h e = let first : entry a p ≡ entry b q = cc in ap (λ (x : Entry). x.place) first
-
-rest_is : (a b : Access) (p q : ℕ) (g h : History) → entry a p ∷ g ≡ entry b q ∷ h → g ≡ h
-rest_is a b p q g h e = cc
-
-moved_same : (n : ℕ) (g h : History) → moved n g ≡ moved n h → g ≡ h
-moved_same n [] [] e = refl
-moved_same n [] (f ∷ h) e = absurd (cc)
-moved_same n (x ∷ g) [] e = absurd (cc)
-moved_same n (x ∷ g) (f ∷ h) e =
-    let a : x.access ≡ f.access = access_is x.access f.access (n + x.place) (n + f.place) (moved n g) (moved n h) e in
-    let sum : n + x.place ≡ n + f.place = place_is x.access f.access (n + x.place) (n + f.place) (moved n g) (moved n h) e in
-    let p : x.place ≡ f.place = omega (arith, sum) in
-    let r : g ≡ h = moved_same n g h (rest_is x.access f.access (n + x.place) (n + f.place) (moved n g) (moved n h) e) in
-    ap (λ (y : Access). entry y x.place ∷ g) a ∙ ap (λ (y : ℕ). entry f.access y ∷ g) p ∙ ap (λ (y : History). entry f.access f.place ∷ y) r
 
 -- ---- phase 7 is what started it
 
@@ -138,11 +115,6 @@ module _ (u : Updating) (p : IsPrepared u) (t : Trial) (s : StartsAsPlanned u t)
   same_history : history_of (take (length t.bytes) short) ≡ history_of short
   same_history = seven_whole u.part at_power erased_sector stream (length t.bytes) short_fits (full_ends u.part u.golden erased_sector erased_fits (rest_erased u.part).searching p.is_part p.plan never_erased) at_seven
 
-  behind : (y : List ℕ) → AreBytes y → history_of (erased_sector ++ y) ≡ moved 65536 (history_of y)
-  behind y fits =
-      history_behind erased_sector y (all-append (λ b. b < 256) erased_sector y erased_fits fits) (shut_none (erased_sector ++ y) erased_sector y (erased_shut y) refl (omega (arith, erased_long)))
-      ∙ append-nil (moved (length erased_sector) (history_of y)) ∙ ap (λ (n : ℕ). moved n (history_of y)) erased_long
-
   abbrev part_of : List ℕ
   part_of = take (length t.bytes - length erased_sector) stream
 
@@ -156,15 +128,8 @@ module _ (u : Updating) (p : IsPrepared u) (t : Trial) (s : StartsAsPlanned u t)
   not_fewer few =
       let l : length t.bytes ≤ length erased_sector = omega (arith, few) in
       let cut : take (length t.bytes) short ≡ take (length t.bytes) erased_sector = take-append-le (length t.bytes) erased_sector stream l in
-      let empty : history_of (take (length t.bytes) short) ≡ [] = ap history_of cut ∙ (nothing_read (take (length t.bytes) erased_sector) (all_take (λ b. b < 256) (length t.bytes) erased_sector erased_fits) (gap_empty erased_sector [] (length t.bytes) l (shut_none (erased_sector ++ []) erased_sector [] (erased_shut []) refl (omega (arith, erased_long))))).1 in
-      not_clean (moved_same 65536 (history_of stream) [] (sym (behind stream stream_fits) ∙ sym same_history ∙ empty)) (stream_clean u.part u.golden p.is_part p.plan)
-    where
-      not_clean : history_of stream ≡ [] → BeginsClean (history_of stream) → ⊥
-      not_clean e b = empty_not (history_of stream) e b
-        where
-          empty_not : (h : History) → h ≡ [] → BeginsClean h → ⊥
-          empty_not _ e (clear place h l) = absurd (cc)
-          empty_not _ e (later y h b) = absurd (cc)
+      let empty : history_of (take (length t.bytes) short) ≡ [] = ap history_of cut ∙ erased_front (length t.bytes) (omega (arith, l, erased_long)) in
+      not_empty (history_of stream) (moved_same 65536 (history_of stream) [] (sym (erased_history stream stream_fits) ∙ sym same_history ∙ empty)) (stream_clean u.part u.golden p.is_part p.plan)
 
   pub full_clean : StartsClean u.part u.flash t
   full_clean = by (cases_lt (length t.bytes) (length erased_sector))
@@ -180,6 +145,6 @@ module _ (u : Updating) (p : IsPrepared u) (t : Trial) (s : StartsAsPlanned u t)
       by (inr l) =
           let part_fits : AreBytes part_of = all_take (λ b. b < 256) (length t.bytes - length erased_sector) stream stream_fits in
           let same : history_of part_of ≡ history_of stream =
-          moved_same 65536 (history_of part_of) (history_of stream) (sym (behind part_of part_fits) ∙ ap history_of (sym (split l) ∙ taken) ∙ same_history ∙ behind stream stream_fits) in
+          moved_same 65536 (history_of part_of) (history_of stream) (sym (erased_history part_of part_fits) ∙ ap history_of (sym (split l) ∙ taken) ∙ same_history ∙ erased_history stream stream_fits) in
           let dropped : drop 65536 t.bytes ≡ part_of = ap (drop 65536) (split l) ∙ ap (λ (n : ℕ). drop n (erased_sector ++ part_of)) (sym erased_long) ∙ drop-append_seam erased_sector part_of in
           record { starts = s.golden.starts; going = going; clean = subst BeginsClean (sym (ap history_of dropped ∙ same)) (stream_clean u.part u.golden p.is_part p.plan); fits = fits }

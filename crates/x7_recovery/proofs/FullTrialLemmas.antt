@@ -2,6 +2,7 @@
 use Rattle.std.proofs.Common.{◌≡◌, ◌==◌, ◌&&◌, ◌||◌, ◌+◌, ◌*◌, ◌<◌, ◌≤◌, inl, ℕ, Bool, true, false, if◌then◌else◌, Option, None, List, [], ◌∷◌, ◌++◌, drop, take, length, refl, ap, sym, subst, ◌∙◌, take-append-drop, length-take-le, append_assoc, arith}
 use Rattle.std.specs.Prelude.{nat_lt}
 use Rattle.std.proofs.Math.Seq.{take-length}
+use Rattle.std.proofs.lemmas.Bool.{or_right}
 use Rattle.std.proofs.lemmas.List.{take-append-le}
 use Rattle.x7_words.specs.Word.{AreBytes}
 use Rattle.x7_words.proofs.ListLemmas.{all-append, all_take}
@@ -155,11 +156,7 @@ full_starts part kept bytes plan address flash more ignored fits rest never is f
 
 pub iprog_stays : (newer h : History) → wrote_iprog h ≡ true → wrote_iprog (newer ++ h) ≡ true
 iprog_stays [] h e = e
-iprog_stays (x ∷ newer) h e = or_true _ (wrote_iprog (newer ++ h)) (iprog_stays newer h e)
-  where
-    or_true : (a b : Bool) → b ≡ true → (a || b) ≡ true
-    or_true true b e = refl
-    or_true false b e = e
+iprog_stays (x ∷ newer) h e = or_right _ (wrote_iprog (newer ++ h)) (iprog_stays newer h e)
 
 pub iprog_later : (bytes more : List ℕ) → AreBytes (bytes ++ more) → wrote_iprog (history_of bytes) ≡ true → wrote_iprog (history_of (bytes ++ more)) ≡ true
 iprog_later bytes more fits e =

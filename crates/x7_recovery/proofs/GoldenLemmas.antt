@@ -1,37 +1,42 @@
 -- A golden stream that starts behind one first sector that leads nowhere starts behind each.
-use Rattle.std.proofs.Common.{◌≡◌, ℕ, ◌+◌, ◌-◌, ◌<◌, ◌≤◌, inl, inr, false, List, [], ◌∷◌, ◌++◌, length, get_or, take, drop, refl, ap, sym, subst, ◌∙◌, arith, length-append, length-drop, take-append-drop, append_assoc, append-nil, map, reverse, length-take-le}
+use Rattle.std.proofs.Common.{◌≡◌, ℕ, ◌+◌, ◌-◌, ◌<◌, ◌≤◌, inl, inr, Bool, false, List, [], ◌∷◌, ◌++◌, length, get_or, take, drop, refl, ap, sym, subst, ◌∙◌, arith, length-append, length-drop, take-append-drop, append_assoc, append-nil, length-take-le}
 use Rattle.std.specs.Prelude.{slice_range}
 use Rattle.std.proofs.lemmas.List.{length-replicate, get_or-take, get_or-drop, get_or_append_left, get_or-append_right, ext_get_or, take-append-le}
-use Rattle.std.proofs.Math.Seq.{take-append_seam, drop-append_seam}
+use Rattle.std.proofs.Math.Seq.{take-append_seam, take-length, drop-append_seam}
 use Rattle.std.proofs.lemmas.Bool.{cases_lt}
 use lib.ListN.{get_or-replicate}
 use Rattle.x7_words.specs.Word.{AreBytes}
 use Rattle.x7_words.proofs.ListLemmas.{all-append, all_back, all_front, all_take}
+use Rattle.x7_packets.specs.Appended.{moved}
+use Rattle.x7_packets.specs.Gap.{AreAlike, AreGaps, NoneBegins}
 use Rattle.x7_packets.specs.History.{history_of}
 use Rattle.x7_packets.specs.SyncWord.{HasNoSync, sync_bytes}
+use Rattle.x7_packets.proofs.GapLemmas.{alike_prefixes, front_asks_nothing, history_passed}
+use Rattle.x7_packets.proofs.SeamLemmas.{none_before_front, none_in_gap}
 use Rattle.x7_part.specs.Part.{PartData}
+use Rattle.x7_regs.specs.declared.boot_status.Kind.TheVariants.{Power}
 use Rattle.x7_planner.specs.Full.{full_stream}
 use Rattle.x7_engine.specs.Rest.{AtRest, GoesOn}
-use Rattle.x7_engine.specs.State.{memory_in}
+use Rattle.x7_engine.specs.State.{memory_in, state_of}
+use Rattle.x7_engine.proofs.AlikeLemmas.{alike_memory, alike_state}
 use Rattle.x7_engine.proofs.RestLemmas.{history_on, rest_on}
 use Rattle.x7_engine.specs.declared.kept.Kept.{Kept}
 use Rattle.x7_boot.specs.Attempt.{EndsFirst, IsTrial, Trial}
-use Rattle.x7_boot.specs.Boot.{BootedState, IsBoot, LeadsToEnd, at_power, end_state, next_by, tried}
-use Rattle.x7_boot.specs.declared.attempt.Ending.{Ending}
+use Rattle.x7_boot.specs.Boot.{BootedState, IsBoot, LeadsToEnd, at_power, end_state, next_by}
+use Rattle.x7_boot.specs.Course.{BootCourse, course_along, course_of}
 use Rattle.x7_boot.specs.declared.attempt.Ending.TheVariants as ending
 use Rattle.x7_boot.specs.declared.boots.BootEnd.TheVariants as boot_end
-use Rattle.x7_boot.proofs.OneBootLemmas.{one_chain}
+use Rattle.x7_boot.specs.declared.boots.Tried.{Tried}
+use Rattle.x7_boot.proofs.CourseLemmas.{along, boot_course, tried_is}
+use Rattle.x7_boot.proofs.OverLemmas.{alike_ends, alike_trial, started_first, taken_is, trial_over}
 use Rattle.x7_boot.proofs.StartLemmas.{NeverStarts}
 use Rattle.x7_update.specs.Layout.{HasLayout, four_at, open_word, update_place}
 use Rattle.x7_update.specs.After.{IsBetween, MayBeLeft, after, between, untouched}
 use Rattle.x7_update.proofs.LawLemmas.{no_sync}
-use Rattle.x7_recovery.specs.Course.{course_of}
 use Rattle.x7_recovery.specs.Golden.{BootsAlike, GoldenStarts, HaveSameGolden, IsPreparedAny, IsShut, StartsAlike, StartsAsPlanned, StartsAtPower, UpdatingAny, as_after, as_before, erased_sector, golden, with_erased}
 use Rattle.x7_recovery.specs.Recovery.{IsPrepared, Updating}
-use Rattle.x7_recovery.proofs.OverLemmas.{trial_over}
 use Rattle.x7_recovery.proofs.FullTrialLemmas.{StartsWith, full_starts}
 use Rattle.x7_recovery.proofs.SlotLemmas.{fill_fits}
-use Rattle.x7_recovery.proofs.BehindLemmas.{AreAlike, NoneBegins, alike_ends, alike_fronts, alike_trial, same_memory, same_state, taken_is}
 
 -- ---- no sync word begins in the first sector
 
@@ -52,32 +57,24 @@ shut_none flash gap more shut e l prefix back split = elim (cases_lt (length pre
 ]
 
 none_in_front : (flash gap s rest : List ℕ) → IsShut flash → flash ≡ (gap ++ s) ++ rest → length gap ≤ 65536 → NoneBegins gap s
-none_in_front flash gap s rest shut e l prefix back split =
-    let longer : (prefix ++ (sync_bytes ++ back)) ++ rest ≡ prefix ++ (sync_bytes ++ (back ++ rest)) = simp append_assoc in
-    shut_none flash gap (s ++ rest) shut (e ∙ append_assoc gap s rest) l prefix (back ++ rest) (sym (append_assoc gap s rest) ∙ ap (λ (x : List ℕ). x ++ rest) split ∙ longer)
+none_in_front flash gap s rest shut e l = none_before_front gap s rest (shut_none flash gap (s ++ rest) shut (e ∙ append_assoc gap s rest) l)
 
 -- ---- an attempt over the other flash
 
 pub ended : (part : PartData) (flash : List ℕ) (t : Trial) → StartsAtPower part flash t → EndsFirst part flash t
-ended part flash t s = by s.is
-  where
-    by : IsTrial part flash t → EndsFirst part flash t
-    by (inl x) = subst (λ (n : ℕ). EndsFirst part (drop n flash) t) s.address x
-    by (inr x) = (let no : ending.Failed _ ≡ ending.Started = sym x.failed ∙ s.started in absurd (cc))
+ended part flash t s = subst (λ (n : ℕ). EndsFirst part (drop n flash) t) s.address (started_first part flash t s.is s.started)
 
 -- behind gaps of a sector the same bytes, up to those that the attempt took
-pub starts_behind : (part : PartData) (g h s f r : List ℕ) (t : Trial) → length g ≡ length h → AreBytes (g ++ s) → AreBytes (h ++ s) → NoneBegins g s → NoneBegins h s → StartsAtPower part ((g ++ s) ++ f) t → length t.bytes ≤ length (g ++ s)
+pub starts_behind : (part : PartData) (g h s f r : List ℕ) (t : Trial) → AreGaps g h s → StartsAtPower part ((g ++ s) ++ f) t → length t.bytes ≤ length (g ++ s)
     → StartsAtPower part ((h ++ s) ++ r) (alike_trial t ((h ++ s) ++ r)) × AreAlike t.bytes (alike_trial t ((h ++ s) ++ r)).bytes
-starts_behind part g h s f r t long gf hf gn hn starts within =
+starts_behind part g h s f r t gaps starts within =
     let one : List ℕ = (g ++ s) ++ f in
     let other : List ℕ = (h ++ s) ++ r in
     let x : EndsFirst part one t = ended part one t starts in
-    let as_long : length (h ++ s) ≡ length (g ++ s) = length-append h s ∙ ap (λ (n : ℕ). n + length s) (sym long) ∙ sym (length-append g s) in
+    let as_long : length (h ++ s) ≡ length (g ++ s) = length-append h s ∙ ap (λ (n : ℕ). n + length s) (sym gaps.long) ∙ sym (length-append g s) in
     let alike : (k : ℕ) → k ≤ length t.bytes → AreAlike (take k one) (take k other) =
-    λ k l. (let l_one : k ≤ length (g ++ s) = omega (arith, l, within) in
-    let l_other : k ≤ length (h ++ s) = omega (arith, l, within, as_long) in
-    subst (λ (b : List ℕ). AreAlike b (take k other)) (sym (take-append-le k (g ++ s) f l_one))
-    (subst (λ (b : List ℕ). AreAlike (take k (g ++ s)) b) (sym (take-append-le k (h ++ s) r l_other)) (alike_fronts g h s k long gf hf gn hn))) in
+    λ k l. subst (λ (b : List ℕ). AreAlike b (take k other)) (sym (take-append-le k (g ++ s) f (omega (arith, l, within))))
+    (subst (AreAlike (take k (g ++ s))) (sym (take-append-le k (h ++ s) r (omega (arith, l, within, as_long)))) (alike_prefixes g h s k gaps)) in
     let enough : length t.bytes ≤ length other = omega (arith, within, as_long, length-append (h ++ s) r) in (
       record {
         is = subst (λ (n : ℕ). IsTrial part (drop n other) (alike_trial t other)) (refl {a = 0}) (inl (subst (λ (n : ℕ). EndsFirst part (drop n other) (alike_trial t other)) (sym starts.address) (alike_ends part one other t x enough alike)));
@@ -90,43 +87,22 @@ starts_behind part g h s f r t long gf hf gn hn starts within =
 
 -- ---- one attempt that starts is the whole boot
 
--- the boot is this attempt alone
-pub record IsAlone (part : PartData) (b : BootedState) (last u : Trial) : Type 0 where
-  pub last_is : last ≡ u
-  pub attempts_are : b.attempts ≡ tried u ∷ []
-  pub started : b.end ≡ boot_end.Started
-
-pub head_is : (x y : Trial) (xs ys : List Trial) → x ∷ xs ≡ y ∷ ys → x ≡ y
-head_is x y xs ys e = cc
-
-pub alone : (part : PartData) (flash : List ℕ) (u : Trial) (b : BootedState) → StartsAtPower part flash u → (boot : IsBoot part flash b) → IsAlone part b boot.last u
+alone : (part : PartData) (flash : List ℕ) (u : Trial) (b : BootedState) → StartsAtPower part flash u → (boot : IsBoot part flash b) → course_of b boot.last ≡ course_along u [] boot_end.Started
 alone part flash u b s boot =
     let kept_is : u.kept ≡ at_power = s.kept in
     let address_is : u.address ≡ 0 = s.address in
     let led : LeadsToEnd part flash (u ∷ []) boot_end.Started = (cc, s.is, sym (ap (next_by part 1 u) s.started)) in
-    let same : (boot.last ∷ boot.older ≡ u ∷ []) × (b.end ≡ boot_end.Started) = one_chain part flash (boot.last ∷ boot.older) (u ∷ []) b.end boot_end.Started boot.leads led in
-    record {
-      last_is = head_is boot.last u boot.older [] same.0;
-      attempts_are = boot.attempts ∙ ap (λ (l : List Trial). reverse (map tried l)) same.0;
-      started = same.1;
-    }
-
-told : (u : Trial) → u.kept ≡ at_power → u.address ≡ 0 → u.ending ≡ ending.Started → tried u ≡ record { kind = at_power.kind; address = 0; ending = ending.Started }
-told u kept address started =
-    ap (λ (k : Kept). record { kind = k.kind; address = u.address; ending = u.ending }) kept
-    ∙ ap (λ (n : ℕ). record { kind = at_power.kind; address = n; ending = u.ending }) address
-    ∙ ap (λ (e : Ending). record { kind = at_power.kind; address = 0; ending = e }) started
+    along part flash (course_of b boot.last) u [] boot_end.Started (boot_course part flash b boot) led
 
 alike_alone : (part : PartData) (flash : List ℕ) (t u : Trial) (b : BootedState) → StartsAtPower part flash u → u.kept ≡ t.kept → u.wrapped ≡ t.wrapped → AreAlike t.bytes u.bytes → (boot : IsBoot part flash b) → StartsAlike part t (course_of b boot.last)
 alike_alone part flash t u b s kept wrapped a boot =
-    let c : IsAlone part b boot.last u = alone part flash u b s boot in
+    let c : course_of b boot.last ≡ course_along u [] boot_end.Started = alone part flash u b s boot in
+    let last : boot.last ≡ u = ap (λ (x : BootCourse). x.last) c in
     record {
-      attempts_are = c.attempts_are ∙ ap (λ x. x ∷ []) (told u s.kept s.address s.started);
-      started = c.started;
-      memory = ap (λ (v : Trial). memory_in part v.kept v.bytes) c.last_is ∙ ap (λ (k : Kept). memory_in part k u.bytes) kept ∙ sym (same_memory part t.kept t.bytes u.bytes a);
-      registers = ap (end_state part) c.last_is ∙ ap (λ (k : Kept). end_state part (record { kept = k; address = u.address; bytes = u.bytes; wrapped = u.wrapped; ending = u.ending })) kept
-          ∙ ap (λ w. end_state part (record { kept = t.kept; address = u.address; bytes = u.bytes; wrapped = w; ending = u.ending })) wrapped
-          ∙ sym (same_state part t.kept t.wrapped t.bytes u.bytes a);
+      attempts_are = ap (λ (x : BootCourse). x.attempts) c ∙ ap (λ (x : Tried). x ∷ []) (tried_is u Power 0 ending.Started (ap (λ (k : Kept). k.kind) s.kept) s.address s.started);
+      started = ap (λ (x : BootCourse). x.end) c;
+      memory = ap (λ (v : Trial). memory_in part v.kept v.bytes) last ∙ ap (λ (k : Kept). memory_in part k u.bytes) kept ∙ sym (alike_memory part t.kept t.bytes u.bytes a);
+      registers = ap (end_state part) last ∙ ap (λ (k : Kept). state_of part k u.wrapped u.bytes) kept ∙ ap (λ (w : Bool). state_of part t.kept w u.bytes) wrapped ∙ sym (alike_state part t.kept t.bytes u.bytes a t.wrapped);
     }
 
 pub in_flash : (part : PartData) (flash : List ℕ) (t : Trial) → StartsAtPower part flash t → t.wrapped ≡ false
@@ -178,8 +154,11 @@ module _ (part : PartData) (one other : List ℕ) (t : Trial) (shut : IsShut one
 
   both : StartsAtPower part ((h ++ s) ++ r) there × AreAlike t.bytes there.bytes
   both =
-      starts_behind part g h s f r t (g_long ∙ sym h_long) (all-append (λ x. x < 256) g s fits (all_back (λ x. x < 256) h s other_sum)) other_sum
-      (none_in_front one g s f shut one_is (omega (arith, g_long))) (none_in_front other h s r other_shut other_is (omega (arith, h_long))) (subst (λ (x : List ℕ). StartsAtPower part x t) one_is starts) within
+      starts_behind part g h s f r t (record {
+        long = g_long ∙ sym h_long;
+        fits = (all-append (λ x. x < 256) g s fits (all_back (λ x. x < 256) h s other_sum), other_sum);
+        none = (none_in_front one g s f shut one_is (omega (arith, g_long)), none_in_front other h s r other_shut other_is (omega (arith, h_long)));
+      }) (subst (λ (x : List ℕ). StartsAtPower part x t) one_is starts) within
 
   pub shut_alike : (b : BootedState) → (boot : IsBoot part other b) → StartsAlike part t (course_of b boot.last)
   shut_alike b boot = alike_alone part other t there b (subst (λ (x : List ℕ). StartsAtPower part x there) (sym other_is) both.0) refl (sym (in_flash part one t starts)) both.1 boot
@@ -212,6 +191,15 @@ erased_take more = ap (λ (n : ℕ). take n (erased_sector ++ more)) (sym erased
 
 pub erased_drop : (more : List ℕ) → drop 65536 (erased_sector ++ more) ≡ more
 erased_drop more = ap (λ (n : ℕ). drop n (erased_sector ++ more)) (sym erased_long) ∙ drop-append_seam erased_sector more
+
+erased_none : (more : List ℕ) → NoneBegins erased_sector more
+erased_none more = shut_none (erased_sector ++ more) erased_sector more (erased_shut more) refl (omega (arith, erased_long))
+
+pub erased_history : (more : List ℕ) → AreBytes more → history_of (erased_sector ++ more) ≡ moved 65536 (history_of more)
+erased_history more fits = history_passed erased_sector more (all-append (λ x. x < 256) erased_sector more erased_fits fits) (erased_none more) ∙ ap (λ (n : ℕ). moved n (history_of more)) erased_long
+
+pub erased_front : (k : ℕ) → k ≤ 65536 → history_of (take k erased_sector) ≡ []
+erased_front k l = (front_asks_nothing erased_sector [] k (omega (arith, l, erased_long)) erased_fits (erased_none [])).1
 
 -- ---- what a power loss leaves
 
@@ -249,17 +237,8 @@ found_alike u found b p (after l done) boot = as_after done boot
 
 -- ---- a full stream is such a golden stream
 
-erased_none : HasNoSync erased_sector
-erased_none = record {
-  none = λ prefix back e.
-      let split : erased_sector ≡ prefix ++ (sync_bytes ++ back) = e ∙ append_assoc prefix sync_bytes back in
-      let within : length prefix < 65536 = omega (arith, erased_long, ap length split, length-append prefix (sync_bytes ++ back), length-append sync_bytes back) in
-      let first : get_or erased_sector (length prefix) 0 ≡ 0xAA = ap (λ (w : List ℕ). get_or w 0 0) (word_at erased_sector prefix back split) in
-      absurd (omega (arith, erased_at (length prefix) within, first));
-}
-
 goes : GoesOn [] erased_sector
-goes = record { gap = []; searching = refl; none = erased_none }
+goes = record { gap = []; searching = refl; none = subst HasNoSync (take-length erased_sector) (none_in_gap erased_sector [] (length erased_sector) (omega arith) (erased_none [])) }
 
 pub rest_erased : (part : PartData) → AtRest part at_power erased_sector
 rest_erased part =
@@ -269,15 +248,6 @@ rest_erased part =
 pub never_erased : NeverStarts (history_of erased_sector)
 never_erased = subst NeverStarts (sym (history_on [] erased_sector erased_fits goes)) tt
 
-first_of : (part : PartData) (flash : List ℕ) (t : Trial) → IsTrial part flash t → t.ending ≡ ending.Started → t.address ≡ 0 → (t.wrapped ≡ false) × (length t.bytes ≤ length flash)
-first_of part flash t is started address =
-    let x : EndsFirst part flash t = by is in
-    (x.in_flash, omega (arith, ap length x.taken, length-append t.bytes x.rest))
-  where
-    by : IsTrial part flash t → EndsFirst part flash t
-    by (inl x) = subst (λ (n : ℕ). EndsFirst part (drop n flash) t) address x
-    by (inr x) = (let no : ending.Failed _ ≡ ending.Started = sym x.failed ∙ started in absurd (cc))
-
 pub full_golden : (u : Updating) → IsPrepared u → (t : Trial) × StartsAsPlanned u t
 full_golden u p =
     let stream : List ℕ = full_stream u.part u.golden in
@@ -285,15 +255,16 @@ full_golden u p =
     let s : StartsWith u.part at_power 0 short u.golden false =
     full_starts u.part at_power erased_sector u.golden 0 short [] false erased_fits (rest_erased u.part) never_erased p.is_part p.plan (sym (append-nil short)) refl in
     let t : Trial = s.trial in
-    let bounds : (t.wrapped ≡ false) × (length t.bytes ≤ length short) = first_of u.part short t s.is s.ending_is s.address_is in
+    let x : EndsFirst u.part short t = subst (λ (n : ℕ). EndsFirst u.part (drop n short) t) s.address_is (started_first u.part short t s.is s.ending_is) in
+    let most : length t.bytes ≤ length short = omega (arith, ap length x.taken, length-append t.bytes x.rest) in
     let whole : with_erased u.flash ≡ short ++ p.golden.rest = ap (λ (x : List ℕ). erased_sector ++ x) p.golden.stands ∙ sym (append_assoc erased_sector stream p.golden.rest) in
-    let within : length t.bytes ≤ 65536 + length stream = omega (arith, bounds.1, length-append erased_sector stream, erased_long) in
+    let within : length t.bytes ≤ 65536 + length stream = omega (arith, most, length-append erased_sector stream, erased_long) in
     let same : take (t.address + length t.bytes) (with_erased u.flash) ≡ take (t.address + length t.bytes) short =
-    ap (take (t.address + length t.bytes)) whole ∙ take-append-le (t.address + length t.bytes) short p.golden.rest (omega (arith, bounds.1, s.address_is)) in (
+    ap (take (t.address + length t.bytes)) whole ∙ take-append-le (t.address + length t.bytes) short p.golden.rest (omega (arith, most, s.address_is)) in (
       t,
       record {
         golden = record {
-          starts = record { is = trial_over u.part short (with_erased u.flash) t s.is bounds.0 same; kept = s.kept_is; address = s.address_is; started = s.ending_is };
+          starts = record { is = trial_over u.part short (with_erased u.flash) t s.is x.in_flash same; kept = s.kept_is; address = s.address_is; started = s.ending_is };
           ends = omega (arith, within, p.golden.ends);
         };
         within = within;

@@ -5,6 +5,7 @@ use Rattle.std.proofs.lemmas.List.{ext_get_or, get_or-drop, get_or-take, get_or_
 use Rattle.std.proofs.Math.Seq.{drop-append_seam, take-append_seam}
 use Rattle.x7_words.specs.Word.{AreBytes, bytes_of_word, word_of_bytes}
 use Rattle.x7_words.proofs.WordLemmas.{bytes-words}
+use Rattle.x7_packets.specs.FlashSlot.{flash_slot}
 use Rattle.x7_packets.specs.SyncWord.{HasNoSync, sync_bytes}
 use Rattle.x7_part.specs.Part.{PartData}
 use Rattle.x7_part.specs.PartRange.{IsPart}
@@ -13,7 +14,7 @@ use Rattle.x7_planner.specs.Full.{full_stream}
 use Rattle.x7_boot.specs.Image as image
 use Rattle.x7_boot.specs.Image.{closed_slot, closed_slots, first_sector, flash_limit, image_of, image_size, open_slot, slot}
 use Rattle.x7_update.specs.After.{IsAfter, IsBetween, spends, switched, with_stream}
-use Rattle.x7_update.specs.Layout.{HasLayout, IsOpen, first_slot, four_at, open_word, slot_with, spent_word, switch_of, update_place}
+use Rattle.x7_update.specs.Layout.{HasLayout, IsOpen, first_slot, four_at, open_word, spent_word, switch_of, update_place}
 use Rattle.x7_update.proofs.CaseLemmas.{behind, between_below, between_closed, stream_keeps}
 use Rattle.x7_update.proofs.LawLemmas.{no_sync}
 use Rattle.x7_update.proofs.SwitchLemmas.{length-switched, same_four, switch_switched, switched_others}
@@ -117,7 +118,7 @@ module _ (flash now found : List ℕ) (number : ℕ) (l : HasLayout flash) (b : 
       let start : bytes_of_word (update_place flash) ≡ four_at flash 12 = bytes_back (get_or flash 12 0) (get_or flash (12 + 1) 0) (get_or flash (12 + 2) 0) (get_or flash (12 + 3) 0) start_fits in
       record {
         within = within;
-        stands = slot_stands ∙ ap (slot_with open_word) (sym start) ∙ open_is (update_place flash);
+        stands = slot_stands ∙ ap (flash_slot open_word) (sym start) ∙ open_is (update_place flash);
         alone = alone;
         long = omega (arith, found_long);
         fits = fits;

@@ -5,6 +5,7 @@ use Rattle.std.proofs.lemmas.List.{length-replicate, get_or-drop, get_or_append_
 use Rattle.x7_words.proofs.WordLemmas.{word-whole}
 use Rattle.x7_words.specs.Word.{bytes_of_word, word_of_bytes}
 use Rattle.std.proofs.Math.Seq.{drop-append_seam}
+use Rattle.x7_packets.specs.FlashSlot.{flash_slot}
 use Rattle.x7_boot.specs.Image as image
 use Rattle.x7_boot.specs.Image.{closed_slot, closed_slots, filled_to, first_sector, image_of, image_size, open_slot, sector_from, slot}
 use Rattle.x7_recovery.proofs.SlotLemmas.{image_begins, place_whole, sector_long, size_behind, slot_long, update_behind}
@@ -13,7 +14,7 @@ use Rattle.x7_part.specs.Part.{PartData}
 use Rattle.x7_memory.specs.Planned.{PlanData}
 use Rattle.x7_planner.specs.Full.{full_stream}
 use Rattle.x7_recovery.specs.Recovery.{IsPrepared}
-use Rattle.x7_update.specs.Layout.{HasLayout, Leads, IsOpen, four_at, first_slot, free_word, open_word, slot_with, switch_of, update_place}
+use Rattle.x7_update.specs.Layout.{HasLayout, Leads, IsOpen, four_at, first_slot, free_word, open_word, switch_of, update_place}
 
 -- the byte of a slot among equal ones
 slot_among : (one rest : List ℕ) (n k i : ℕ) → length one ≡ 32 → k < n → i < 32 → get_or (repeat n one ++ rest) (32 * k + i) 0 ≡ get_or one i 0
@@ -40,7 +41,7 @@ same_behind start i h =
     ∙ get_or-drop 4 (open_slot start) (i - 4) 0
     ∙ ap (λ m. get_or (open_slot start) m 0) at
 
-pub open_is : (start : ℕ) → slot_with open_word (bytes_of_word start) ≡ open_slot start
+pub open_is : (start : ℕ) → flash_slot open_word (bytes_of_word start) ≡ open_slot start
 unfolding slot
 open_is start = refl
 
@@ -76,7 +77,7 @@ module _ (start : ℕ) (all rest : List ℕ) (begins : all ≡ first_sector star
   start_is = rw (open_byte 12 (omega arith), open_byte 13 (omega arith), open_byte 14 (omega arith), open_byte 15 (omega arith)) (start_at start)
 
   first_is : first_slot all ≡ open_slot start
-  first_is = ap (slot_with open_word) start_is ∙ open_is start
+  first_is = ap (flash_slot open_word) start_is ∙ open_is start
 
   pub place_is : start < 2 ^ 32 → update_place all ≡ start
   place_is h = ap word_of_bytes start_is ∙ word-whole start h

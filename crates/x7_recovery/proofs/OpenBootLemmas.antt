@@ -1,5 +1,5 @@
 -- A boot from a flash with an open slot: at power to the update, and from there to its start or to the fallback.
-use Rattle.std.proofs.Common.{◌≡◌, ◌&&◌, ◌||◌, ◌<◌, inl, inr, ℕ, Bool, true, false, if◌then◌else◌, Option, None, Some, List, [], ◌∷◌, ◌++◌, drop, take, map, reverse, refl, ap, sym, subst, ◌∙◌, append_assoc, take-append-drop}
+use Rattle.std.proofs.Common.{◌≡◌, ◌&&◌, ◌<◌, inl, ℕ, Bool, true, false, Option, None, Some, List, [], ◌∷◌, ◌++◌, drop, take, map, reverse, refl, ap, sym, subst, ◌∙◌, append_assoc, take-append-drop}
 use Rattle.std.proofs.lemmas.List.{reverse-append}
 use Rattle.x7_words.specs.Word.{AreBytes}
 use Rattle.x7_words.proofs.ListLemmas.{all-append, map-append}
@@ -12,14 +12,15 @@ use Rattle.x7_regs.specs.declared.boot_status.Kind.TheVariants.{Power, Iprog, Fa
 use Rattle.x7_memory.specs.FrameMap.{AreSame}
 use Rattle.x7_memory.specs.Planned.{PlanData, total}
 use Rattle.x7_planner.specs.Full.{full_stream}
-use Rattle.x7_engine.specs.Kept.{is_fallback}
+use Rattle.x7_engine.specs.Kept.{AreFallbacks, is_fallback, without_kept}
 use Rattle.x7_engine.specs.Registers.{wrote_iprog}
 use Rattle.x7_engine.specs.Rest.{AtRest}
 use Rattle.x7_engine.specs.State.{attempt_in, history_by, history_taken, kept_after, memory_in, stop_in, why_of}
 use Rattle.x7_engine.specs.Stops.{Stopped, fault_of}
 use Rattle.x7_engine.specs.Values.{cause_of}
 use Rattle.x7_engine.specs.declared.kept.Kept.{Kept}
-use Rattle.x7_boot.specs.Attempt.{EndsFirst, IsTrial, Trial}
+use Rattle.x7_engine.proofs.FallbackLemmas.{kept_memory, kept_state, kept_stop}
+use Rattle.x7_boot.specs.Attempt.{IsTrial, Trial}
 use Rattle.x7_boot.specs.Boot.{LeadsTo, end_state, next_by, tried}
 use Rattle.x7_boot.specs.declared.attempt.Ending.{Ending}
 use Rattle.x7_boot.specs.declared.attempt.Ending.TheVariants as ending
@@ -28,13 +29,13 @@ use Rattle.x7_boot.specs.declared.boots.BootEnd.TheVariants as boot_end
 use Rattle.x7_boot.specs.declared.boots.Tried.{Tried}
 use Rattle.x7_boot.specs.declared.next.Next.{Next}
 use Rattle.x7_boot.specs.declared.next.Next.TheVariants.{Again, Ends}
+use Rattle.x7_boot.specs.Course.{BootCourse, IsCourse, course_along}
+use Rattle.x7_boot.proofs.CourseLemmas.{along, cause_is, fallback_next, stops_next, tried_is}
 use Rattle.x7_boot.proofs.OneBootLemmas.{GoesThrough, goes_through}
-use Rattle.x7_recovery.specs.Course.{BootCourse, IsCourse, kept_at_update}
-use Rattle.x7_recovery.specs.OpenBoot.{EndsAtUpdate, FallsBack, FallsBackAlike, HasFullUpdate, HasPlanned, StartsAsFallback, StartsUpdate, TriesUpdate, UpdateEnds, UpdateFails, without_kept}
+use Rattle.x7_boot.proofs.OverLemmas.{kept_ends, started_first, with_kept}
+use Rattle.x7_recovery.specs.OpenBoot.{EndsAtUpdate, FallsBack, FallsBackAlike, HasFullUpdate, HasPlanned, StartsAsFallback, StartsUpdate, TriesUpdate, UpdateEnds, UpdateFails, kept_at_update}
 use Rattle.x7_recovery.specs.OpenSlot.{IsOpened, Opened}
 use Rattle.x7_recovery.proofs.FullTrialLemmas.{StartsWith, full_starts, full_stream_fits, iprog_later}
-use Rattle.x7_recovery.proofs.CourseLemmas.{IsAlong, along, cause_is, fallback_next, or_true, told}
-use Rattle.x7_recovery.proofs.KeptLemmas.{kept_ends, kept_memory, kept_state, kept_stop, with_kept}
 use Rattle.x7_recovery.proofs.OpenLemmas.{power, power_leads, sector_never, sector_rests, sector_wrote}
 
 -- the first attempt, as it is told
@@ -53,6 +54,9 @@ module _ (o : Opened) (is : IsOpened o) where
       let same : Again t.kept t.address ≡ Again (kept_at_update o.start) o.place = ap (λ (k : Kept). Again k t.address) kept ∙ ap (Again (kept_at_update o.start)) address in
       (subst (λ (n : Next). LeadsTo o.part o.flash (first ∷ []) n) (sym same) to_place, tries, e)
 
+  told : (t : Trial) (e : Ending) → t.kept ≡ kept_at_update o.start → t.address ≡ o.place → t.ending ≡ e → tried t ≡ record { kind = Iprog; address = o.place; ending = e }
+  told t e kept address ends = tried_is t Iprog o.place e (ap (λ (k : Kept). k.kind) kept) address ends
+
   -- ---- the attempt at the update is the second
 
   pub tries : (c : BootCourse) → IsCourse o.part o.flash c → TriesUpdate o c.attempts
@@ -67,7 +71,7 @@ module _ (o : Opened) (is : IsOpened o) where
         attempts_are = course.attempts_are ∙ ap (λ (l : List Trial). reverse (map tried l)) g.split
             ∙ ap reverse (map-append tried g.newer (t ∷ first ∷ []))
             ∙ reverse-append (map tried g.newer) (tried t ∷ obeyed ∷ [])
-            ∙ ap (λ (x : Tried). obeyed ∷ x ∷ reverse (map tried g.newer)) (told t o.start o.place t.ending g.kept_is g.address_is refl);
+            ∙ ap (λ (x : Tried). obeyed ∷ x ∷ reverse (map tried g.newer)) (told t t.ending g.kept_is g.address_is refl);
       }
 
   -- ---- it is the last
@@ -75,22 +79,18 @@ module _ (o : Opened) (is : IsOpened o) where
   ends_second : (c : BootCourse) (t : Trial) (e : Ending) (by_end : BootEnd) → IsCourse o.part o.flash c → UpdateEnds o t e → next_by o.part 2 t e ≡ Ends by_end → EndsAtUpdate o t by_end c
   ends_second c t e by_end course ended next =
       let leads : LeadsTo o.part o.flash (t ∷ first ∷ []) (Ends by_end) = through t (Ends by_end) ended.is ended.kept ended.address (sym (ap (next_by o.part 2 t) ended.ends ∙ next)) in
-      let a : IsAlong c t (first ∷ []) by_end = along o.part o.flash c t (first ∷ []) by_end course leads in
+      let a : c ≡ course_along t (first ∷ []) by_end = along o.part o.flash c t (first ∷ []) by_end course leads in
       record {
-        attempts_are = a.attempts_are ∙ ap (λ (x : Tried). obeyed ∷ x ∷ []) (told t o.start o.place t.ending ended.kept ended.address refl);
-        end_is = a.end_is;
-        last_is = a.last_is;
+        attempts_are = ap (λ (x : BootCourse). x.attempts) a ∙ ap (λ (x : Tried). obeyed ∷ x ∷ []) (told t t.ending ended.kept ended.address refl);
+        end_is = ap (λ (x : BootCourse). x.end) a;
+        last_is = ap (λ (x : BootCourse). x.last) a;
       }
 
   pub starts : (c : BootCourse) (t : Trial) → IsCourse o.part o.flash c → UpdateEnds o t ending.Started → EndsAtUpdate o t boot_end.Started c
   starts c t course ended = ends_second c t ending.Started boot_end.Started course ended refl
 
   pub stops : (c : BootCourse) (t : Trial) (cause : Cause) → IsCourse o.part o.flash c → UpdateFails o t cause true → EndsAtUpdate o t boot_end.Stopped c
-  stops c t cause course fails =
-      let again : Next = Again (kept_after o.part t.kept t.wrapped t.bytes Fallback) 0 in
-      let next : next_by o.part 2 t (ending.Failed cause) ≡ Ends boot_end.Stopped =
-      ap (λ (x : Bool). if is_fallback t.kept.kind || x then Ends boot_end.Stopped else again) fails.forbids ∙ ap (λ (x : Bool). if x then Ends boot_end.Stopped else again) (or_true (is_fallback t.kept.kind)) in
-      ends_second c t (ending.Failed cause) boot_end.Stopped course fails.ended next
+  stops c t cause course fails = ends_second c t (ending.Failed cause) boot_end.Stopped course fails.ended (stops_next o.part 2 t cause fails.forbids)
 
   -- an update that is a full stream
   pub full : (c : BootCourse) (update : PlanData) → IsCourse o.part o.flash c → HasFullUpdate o update → StartsUpdate o update c
@@ -129,22 +129,17 @@ module _ (o : Opened) (is : IsOpened o) where
   pub falls : (c : BootCourse) (t l : Trial) (cause : Cause) → IsCourse o.part o.flash c → UpdateFails o t cause false → IsTrial o.part o.flash l → l.kept ≡ kept_then t → l.address ≡ 0 → l.ending ≡ ending.Started → Falls c l cause
   falls c t l cause course fails l_tries l_kept l_address l_ends =
       let ended : UpdateEnds o t (ending.Failed cause) = fails.ended in
-      let kind : t.kept.kind ≡ Iprog = ap (λ (k : Kept). k.kind) ended.kept in
-      let next : Again (kept_then t) 0 ≡ next_by o.part 2 t t.ending = sym (ap (next_by o.part 2 t) ended.ends ∙ fallback_next o.part t cause kind fails.forbids) in
+      let next : Again (kept_then t) 0 ≡ next_by o.part 2 t t.ending = sym (ap (next_by o.part 2 t) ended.ends ∙ fallback_next o.part 2 t cause (ap (λ (k : Kept). is_fallback k.kind) ended.kept) fails.forbids) in
       let same : Again (kept_then t) 0 ≡ Again l.kept l.address = sym (ap (λ (k : Kept). Again k l.address) l_kept ∙ ap (Again (kept_then t)) l_address) in
       let before : LeadsTo o.part o.flash (t ∷ first ∷ []) (Again l.kept l.address) = subst (λ (n : Next). LeadsTo o.part o.flash (t ∷ first ∷ []) n) same (through t (Again (kept_then t) 0) ended.is ended.kept ended.address next) in
       let leads : LeadsTo o.part o.flash (l ∷ t ∷ first ∷ []) (Ends boot_end.Started) = (before, l_tries, ap (next_by o.part 3 l) (sym l_ends)) in
-      let a : IsAlong c l (t ∷ first ∷ []) boot_end.Started = along o.part o.flash c l (t ∷ first ∷ []) boot_end.Started course leads in
-      let newest : tried l ≡ record { kind = Fallback; address = 0; ending = ending.Started } =
-      ap (λ (k : Kept). record { kind = k.kind; address = l.address; ending = l.ending }) l_kept
-      ∙ ap (λ (n : ℕ). record { kind = Fallback; address = n; ending = l.ending }) l_address
-      ∙ ap (λ (x : Ending). record { kind = Fallback; address = 0; ending = x }) l_ends in
+      let a : c ≡ course_along l (t ∷ first ∷ []) boot_end.Started = along o.part o.flash c l (t ∷ first ∷ []) boot_end.Started course leads in
       record {
-        attempts_are = a.attempts_are
-            ∙ ap (λ (x : Tried). obeyed ∷ x ∷ tried l ∷ []) (told t o.start o.place (ending.Failed cause) ended.kept ended.address ended.ends)
-            ∙ ap (λ (x : Tried). obeyed ∷ record { kind = Iprog; address = o.place; ending = ending.Failed cause } ∷ x ∷ []) newest;
-        started = a.end_is;
-        last_is = a.last_is;
+        attempts_are = ap (λ (x : BootCourse). x.attempts) a
+            ∙ ap (λ (x : Tried). obeyed ∷ x ∷ tried l ∷ []) (told t (ending.Failed cause) ended.kept ended.address ended.ends)
+            ∙ ap (λ (x : Tried). obeyed ∷ record { kind = Iprog; address = o.place; ending = ending.Failed cause } ∷ x ∷ []) (tried_is l Fallback 0 ending.Started (ap (λ (k : Kept). k.kind) l_kept) l_address l_ends);
+        started = ap (λ (x : BootCourse). x.end) a;
+        last_is = ap (λ (x : BootCourse). x.last) a;
       }
 
   -- to the full stream of a plan
@@ -173,27 +168,22 @@ module _ (o : Opened) (is : IsOpened o) where
   -- to a golden stream of any kind
   kept_attempt : (one other : Kept) (wrapped : Bool) (bytes : List ℕ) → one.kind ≡ Fallback → other.kind ≡ Fallback → attempt_in o.part one wrapped bytes ≡ attempt_in o.part other wrapped bytes
   kept_attempt one other wrapped bytes e f =
-      ap (λ (s : Option Stopped). record { kind = one.kind; cause = cause_of (fault_of (why_of s)) wrapped; ignored = is_fallback one.kind && wrote_iprog (history_by s (history_of bytes)) }) (kept_stop o.part one other bytes (ap is_fallback e) (ap is_fallback f))
+      ap (λ (s : Option Stopped). record { kind = one.kind; cause = cause_of (fault_of (why_of s)) wrapped; ignored = is_fallback one.kind && wrote_iprog (history_by s (history_of bytes)) }) (kept_stop o.part one other bytes (ap is_fallback e, ap is_fallback f))
       ∙ ap (λ (k : Kind). record { kind = k; cause = cause_of (fault_of (why_of (stop_in o.part other bytes))) wrapped; ignored = is_fallback k && wrote_iprog (history_taken o.part other bytes) }) (e ∙ sym f)
 
   pub falls_alike : (c : BootCourse) (t : Trial) (cause : Cause) (f : Trial) → IsCourse o.part o.flash c → StartsAsFallback o f → UpdateFails o t cause false → FallsBackAlike o cause f c
   falls_alike c t cause f course s fails =
       let kept : Kept = kept_then t in
       let l : Trial = with_kept f kept in
-      let fell : is_fallback f.kept.kind ≡ true = ap is_fallback s.kind in
-      let x : EndsFirst o.part (drop f.address o.flash) f = by s.is in
-      let a : Falls c l cause = falls c t l cause course fails (inl (kept_ends o.part (drop f.address o.flash) f kept fell refl x)) refl s.address s.started in
+      let both : AreFallbacks kept f.kept = (refl, ap is_fallback s.kind) in
+      let a : Falls c l cause = falls c t l cause course fails (inl (kept_ends o.part (drop f.address o.flash) f kept both (started_first o.part o.flash f s.is s.started))) refl s.address s.started in
       record {
         attempts_are = a.attempts_are;
         started = a.started;
         taken = ap (λ (u : Trial). u.bytes) a.last_is;
-        memory = ap (λ (u : Trial). memory_in o.part u.kept u.bytes) a.last_is ∙ kept_memory o.part kept f.kept f.bytes refl fell;
-        registers = ap (λ (u : Trial). without_kept (end_state o.part u)) a.last_is ∙ kept_state o.part kept f.kept f.wrapped f.bytes refl fell;
+        memory = ap (λ (u : Trial). memory_in o.part u.kept u.bytes) a.last_is ∙ kept_memory o.part kept f.kept f.bytes both;
+        registers = ap (λ (u : Trial). without_kept (end_state o.part u)) a.last_is ∙ kept_state o.part kept f.kept f.bytes both f.wrapped;
         bootsts = ap (λ (u : Trial). (end_state o.part u).bootsts) a.last_is
             ∙ ap (λ (a : Attempt). boot_status_of a kept.before) (kept_attempt kept f.kept f.wrapped f.bytes refl s.kind)
             ∙ ap (λ (a : Attempt). boot_status_of (attempt_in o.part f.kept f.wrapped f.bytes) (Some a)) (failed_attempt t cause fails);
       }
-    where
-      by : IsTrial o.part o.flash f → EndsFirst o.part (drop f.address o.flash) f
-      by (inl x) = x
-      by (inr x) = (let no : ending.Failed _ ≡ ending.Started = sym x.failed ∙ s.started in absurd (cc))

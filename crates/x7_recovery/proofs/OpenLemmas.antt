@@ -11,6 +11,9 @@ use Rattle.x7_packets.specs.History as access
 use Rattle.x7_packets.specs.History.{History, entry, history_of, last_word, until}
 use Rattle.x7_packets.specs.Reading.{is_synced}
 use Rattle.x7_packets.specs.SyncWord.{HasNoSync, sync_bytes}
+use Rattle.x7_packets.specs.Gap.{NoneBegins}
+use Rattle.x7_packets.proofs.GapLemmas.{history_passed, synced_passed}
+use Rattle.x7_packets.proofs.SeamLemmas.{none_before_front}
 use Rattle.x7_packets.proofs.GrowthLemmas.{placed_of, until_placed}
 use Rattle.x7_part.specs.Part.{PartData}
 use Rattle.x7_regs.specs.declared.boot_status.Kind.TheVariants.{Power, Iprog}
@@ -24,6 +27,7 @@ use Rattle.x7_engine.specs.Values.{cause_of}
 use Rattle.x7_engine.specs.declared.kept.Kept.{Kept}
 use Rattle.x7_engine.specs.declared.stop.Stop.TheVariants as stop
 use Rattle.x7_engine.proofs.ClockLemmas.{stop_of-access}
+use Rattle.x7_engine.proofs.FallbackLemmas.{fallback_off}
 use Rattle.x7_engine.proofs.RestLemmas.{history_on, rest_on}
 use Rattle.x7_engine.proofs.StateLemmas.{no_stop_before}
 use Rattle.x7_effects.proofs.Items.{bytes_of_words}
@@ -38,10 +42,9 @@ use Rattle.x7_boot.specs.declared.attempt.Ending.TheVariants as ending
 use Rattle.x7_boot.specs.declared.next.Next.TheVariants.{Again}
 use Rattle.x7_boot.proofs.StartLemmas.{NeverStarts, front_open, never_seven}
 use Rattle.x7_boot.proofs.TookLemmas.{ends_by_stop}
-use Rattle.x7_recovery.specs.Course.{kept_at_update}
+use Rattle.x7_recovery.specs.OpenBoot.{kept_at_update}
 use Rattle.x7_recovery.specs.OpenSlot.{HasOpen}
-use Rattle.x7_recovery.proofs.BehindLemmas.{NoneBegins, history_behind, synced_behind}
-use Rattle.x7_recovery.proofs.OpenSlotLemmas.{fallback_off, power_bytes, power_history, slot_history, slot_place, slot_rests}
+use Rattle.x7_recovery.proofs.OpenSlotLemmas.{power_bytes, power_history, slot_history, slot_place, slot_rests}
 use Rattle.x7_recovery.proofs.GoldenLemmas.{word_at}
 use Rattle.x7_recovery.proofs.SlotLemmas.{slot_fits, slot_long}
 
@@ -93,13 +96,12 @@ module _ (flash : List ℕ) (number start : ℕ) (o : HasOpen flash number start
 
   -- no sync word begins before the slot
   pub none_before : (s more : List ℕ) → flash ≡ (gap ++ s) ++ more → NoneBegins gap s
-  none_before s more e prefix back f = elim (cases_lt (length prefix) (length gap)) [
+  none_before s more e = none_before_front gap s more (λ prefix back f. elim (cases_lt (length prefix) (length gap)) [
     | inr past ↦ past
     | inl less ↦
-        let longer : (prefix ++ (sync_bytes ++ back)) ++ more ≡ prefix ++ (sync_bytes ++ (back ++ more)) = simp append_assoc in
-        let there : length prefix ≡ 32 * number = o.alone (length prefix) (omega (arith, less, gap_long, o.within)) (word_at flash prefix (back ++ more) (e ∙ ap (λ (x : List ℕ). x ++ more) f ∙ longer)) in
+        let there : length prefix ≡ 32 * number = o.alone (length prefix) (omega (arith, less, gap_long, o.within)) (word_at flash prefix back (e ∙ append_assoc gap s more ∙ f)) in
         absurd (omega (arith, there, less, gap_long))
-  ]
+  ])
 
   -- ---- the attempt at power
 
@@ -122,8 +124,8 @@ module _ (flash : List ℕ) (number start : ℕ) (o : HasOpen flash number start
 
   taken_history : history_of taken ≡ iprog_at (32 * number) start
   taken_history =
-      history_behind gap (power_bytes start) taken_fits (none_before (power_bytes start) left taken_split)
-      ∙ ap (λ (h : History). moved (length gap) h ++ []) (power_history start small)
+      history_passed gap (power_bytes start) taken_fits (none_before (power_bytes start) left taken_split)
+      ∙ ap (moved (length gap)) (power_history start small)
       ∙ ap (λ (m : ℕ). iprog_at m start) gap_long
 
   calm : (part : PartData) (kept : Kept) → IsOff kept [] → IsCalm part kept (wbstar_at (32 * number) start) (32 * number + 24)
@@ -250,8 +252,8 @@ module _ (flash : List ℕ) (number start : ℕ) (o : HasOpen flash number start
   pub sector_history : history_of sector ≡ desync_at (32 * number) start
   sector_history =
       ap history_of sector_is
-      ∙ history_behind gap from_slot (subst AreBytes sector_is o.fits) none_sector
-      ∙ ap (λ (h : History). moved (length gap) h ++ []) (history_on (open_slot start) more slot_fits' goes ∙ slot_history start small)
+      ∙ history_passed gap from_slot (subst AreBytes sector_is o.fits) none_sector
+      ∙ ap (moved (length gap)) (history_on (open_slot start) more slot_fits' goes ∙ slot_history start small)
       ∙ ap (λ (m : ℕ). desync_at m start) gap_long
 
   pub sector_going : (part : PartData) (kept : Kept) → is_fallback kept.kind ≡ true → IsGoing part kept NotBegun (desync_at (32 * number) start) 65536
@@ -270,7 +272,7 @@ module _ (flash : List ℕ) (number start : ℕ) (o : HasOpen flash number start
   pub sector_rests : (part : PartData) (kept : Kept) → is_fallback kept.kind ≡ true → AtRest part kept sector
   sector_rests part kept e =
       let searching : is_synced (reading_of sector).place ≡ false =
-      ap (λ (x : List ℕ). is_synced (reading_of x).place) sector_is ∙ synced_behind gap from_slot (subst AreBytes sector_is o.fits) none_sector
+      ap (λ (x : List ℕ). is_synced (reading_of x).place) sector_is ∙ synced_passed gap from_slot (subst AreBytes sector_is o.fits) none_sector
       ∙ (rest_on part kept (open_slot start) more slot_fits' goes (slot_rests part kept start small e)).searching in
       rests part kept NotBegun sector (desync_at (32 * number) start) 65536 sector_history sector_long searching (sector_going part kept e) refl
 

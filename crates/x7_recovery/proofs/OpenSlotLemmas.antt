@@ -1,5 +1,5 @@
 -- What the words of an open slot ask, and a fallback that meets them.
-use Rattle.std.proofs.Common.{◌≡◌, ◌&&◌, ◌^◌, ◌<◌, inl, ℕ, Bool, true, false, not, None, List, [], ◌∷◌, refl, ap, ◌∙◌, arith}
+use Rattle.std.proofs.Common.{◌≡◌, ◌^◌, ◌<◌, inl, ℕ, true, None, List, [], ◌∷◌, refl, ap, ◌∙◌, arith}
 use Rattle.x7_packets.specs.ByHand.{reading_of}
 use Rattle.x7_packets.specs.History as access
 use Rattle.x7_packets.specs.History.{History, entry, history_of}
@@ -9,8 +9,8 @@ use Rattle.x7_startup.specs.Calls.{NotBegun}
 use Rattle.x7_engine.specs.Kept.{is_fallback}
 use Rattle.x7_engine.specs.Rest.{AtRest}
 use Rattle.x7_engine.specs.Stops.{why_at}
-use Rattle.x7_engine.specs.Watching.{timer_held, turns_on}
 use Rattle.x7_engine.specs.declared.kept.Kept.{Kept}
+use Rattle.x7_engine.proofs.FallbackLemmas.{fallback_off}
 use Rattle.x7_effects.proofs.Items.{AreItems, Item, MayLead, Noop, Write, bytes_of_words, closed, opened}
 use Rattle.x7_effects.proofs.CalmLemmas.{IsCalm, IsOff}
 use Rattle.x7_effects.proofs.GoingLemmas.{IsGoing, going_access, going_desync, why_none}
@@ -63,14 +63,6 @@ slot_place start l = ap (λ (b : List ℕ). (reading_of b).place) (slot_is start
 
 calm_new : (part : PartData) (kept : Kept) → IsOff kept [] → IsCalm part kept [] 0
 calm_new part kept off = record { no_stop = refl; off = off; newest = omega arith }
-
-pub and_false : (b : Bool) → (b && false) ≡ false
-and_false true = refl
-and_false false = refl
-
--- no watchdog runs in a fallback
-pub fallback_off : (kept : Kept) (h : History) → is_fallback kept.kind ≡ true → IsOff kept h
-fallback_off kept h e = ap (λ (b : Bool). turns_on (timer_held kept h) && not b) e ∙ and_false (turns_on (timer_held kept h))
 
 pub iprog_ignored : (part : PartData) (kept : Kept) (start : ℕ) → is_fallback kept.kind ≡ true → why_at part kept (after_wbstar start) (access.Write 4 15) ≡ None
 iprog_ignored part kept start e = rw e refl

@@ -27,8 +27,7 @@ use Rattle.x7_recovery.specs.Recovery.{IsPrepared, updating_image}
 use Rattle.x7_recovery.proofs.LayoutLemmas.{image_prepared}
 use Rattle.x7_recovery.proofs.FullTrialLemmas.{full_stream_fits}
 use Rattle.x7_recovery.proofs.SlotLemmas.{image_begins, image_fits, place_whole, sector_long, slot_long, update_behind}
-use Rattle.x7_recovery.specs.Course.{kept_at_update}
-use Rattle.x7_recovery.specs.OpenBoot.{UpdateFails}
+use Rattle.x7_recovery.specs.OpenBoot.{UpdateFails, kept_at_update}
 use Rattle.x7_recovery.specs.OpenSlot.{image_of_flash}
 use Rattle.x7_recovery.specs.PlannedImage.{HasImage, golden_image, place_after}
 use Rattle.x7_boot.specs.declared.attempt.Ending.TheVariants as ending

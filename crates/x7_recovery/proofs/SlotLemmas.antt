@@ -9,7 +9,10 @@ use Rattle.std.specs.List.{repeat}
 use Rattle.x7_words.specs.Word.{AreBytes}
 use Rattle.x7_words.proofs.ListLemmas.{all-append}
 use Rattle.x7_packets.specs.Appended.{LacksFirst}
+use Rattle.x7_packets.specs.PacketWords.{command, no_op, write_one}
 use Rattle.x7_packets.specs.SyncWord.{HasNoSync, sync_bytes}
+use Rattle.x7_regs.specs.declared.command.Command.TheVariants.{Desync, Iprog}
+use Rattle.x7_regs.specs.declared.register.Reg.TheVariants.{Wbstar}
 use Rattle.x7_packets.proofs.SyncLemmas.{none_empty}
 use Rattle.x7_effects.proofs.StreamLemmas.{bytes_fit}
 use Rattle.x7_boot.specs.Image.{closed_slot, closed_slots, filled_to, first_sector, image_of, image_size, flash_limit, open_slot, sector_from, slot, update_place}
@@ -82,7 +85,7 @@ closed_none start whole low = slots_none 2047 start whole low
 
 pub slot_fits : (switch start : ℕ) → AreBytes (slot switch start)
 unfolding slot
-slot_fits switch start = bytes_fit (switch ∷ 0x20000000 ∷ 0x30020001 ∷ start ∷ 0x30008001 ∷ 0x0000000F ∷ 0x30008001 ∷ 0x0000000D ∷ [])
+slot_fits switch start = bytes_fit (switch ∷ no_op ∷ write_one Wbstar start ++ command Iprog ++ command Desync)
 
 repeat_fits : (n : ℕ) (bytes : List ℕ) → AreBytes bytes → AreBytes (repeat n bytes)
 repeat_fits zero bytes f = tt

@@ -10,7 +10,7 @@ use Rattle.x7_update.specs.Layout.{HasLayout, update_place}
 use Rattle.x7_recovery.specs.Clean.{StartsClean}
 use Rattle.x7_recovery.specs.Golden.{GoldenStarts, StartsAtPower, erased_sector, with_erased}
 use Rattle.x7_recovery.specs.Updated.{AfterUpdates, none, one_more}
-use Rattle.x7_recovery.proofs.OverLemmas.{trial_over}
+use Rattle.x7_boot.proofs.OverLemmas.{trial_over}
 use Rattle.x7_recovery.proofs.GoldenLemmas.{erased_long, in_flash}
 use Rattle.x7_recovery.proofs.HasOpenLemmas.{after_golden_same, after_place}
 

@@ -12,7 +12,7 @@ use Rattle.x7_boot.specs.Attempt.{IsTrial, Trial}
 use Rattle.x7_boot.specs.Boot.{BootedState, IsBoot, at_power, end_state}
 use Rattle.x7_boot.specs.declared.attempt.Ending.TheVariants as ending
 use Rattle.x7_boot.specs.declared.boots.BootEnd.TheVariants as boot_end
-use Rattle.x7_recovery.specs.Course.{BootCourse, course_of}
+use Rattle.x7_boot.specs.Course.{BootCourse, course_of}
 use Rattle.x7_recovery.specs.Recovery.{Updating}
 use Rattle.x7_update.specs.After.{IsAfter}
 use Rattle.x7_update.specs.Layout.{HasLayout, four_at, open_word, update_place}
@@ -35,7 +35,7 @@ pub record StartsAtPower (part : PartData) (flash : List ℕ) (t : Trial) : Type
   pub address : t.address ≡ 0
   pub started : t.ending ≡ ending.Started
 
--- Two flashes whose first sector leads nowhere have the same bytes behind it, up to where an attempt at power over the first of them ended, which starts.
+-- Two flashes whose first sector leads nowhere have the same bytes after it, up to where an attempt at power over the first of them ended, which starts.
 pub record HaveSameGolden (part : PartData) (one other : List ℕ) (t : Trial) : Type 0 where
   pub starts : StartsAtPower part one t
   pub same : slice_range other 65536 (length t.bytes) ≡ slice_range one 65536 (length t.bytes)
@@ -43,7 +43,7 @@ pub record HaveSameGolden (part : PartData) (one other : List ℕ) (t : Trial) :
   pub fits : AreBytes one × AreBytes other
   pub least : (65536 ≤ length one) × (65536 ≤ length other)
 
--- The golden stream starts: with the first sector erased, the attempt at power does, and it ends at U or before it.
+-- The golden stream starts: with the first sector erased the attempt at power starts, and it ends at U or before it.
 pub record GoldenStarts (part : PartData) (flash : List ℕ) (t : Trial) : Type 0 where
   pub starts : StartsAtPower part (with_erased flash) t
   pub ends : length t.bytes ≤ update_place flash
@@ -55,7 +55,8 @@ pub record StartsAlike (part : PartData) (t : Trial) (c : BootCourse) : Type 0 w
   pub memory : memory_in part c.last.kept c.last.bytes ≡ memory_in part t.kept t.bytes
   pub registers : end_state part c.last ≡ end_state part t
 
--- the golden stream of a flash starts so, at its end or before it, with the memory of its plan over zeros, and BOOTSTS tells of no other attempt
+-- the golden stream of a flash starts, at its end or before it, with the memory of its plan over zeros, and BOOTSTS shows no
+-- other attempt
 pub record StartsAsPlanned (u : Updating) (t : Trial) : Type 0 where
   pub golden : GoldenStarts u.part u.flash t
   pub within : length t.bytes ≤ 65536 + length (full_stream u.part u.golden)

@@ -1,5 +1,4 @@
 pub mod Clean
-pub mod Course
 pub mod Example
 pub mod Golden
 pub mod OpenBoot

@@ -9,10 +9,11 @@ use Rattle.x7_memory.specs.FrameMap.{AreSame}
 use Rattle.x7_memory.specs.Planned.{IsPlanFor, PlanData, total}
 use Rattle.x7_planner.specs.Full.{full_stream}
 use Rattle.x7_engine.specs.State.{attempt_in, memory_in}
-use Rattle.x7_engine.specs.declared.regs.End.TheVariants as at_end
-use Rattle.x7_engine.specs.declared.regs.Regs.{Regs}
+use Rattle.x7_engine.specs.declared.kept.Kept.{Kept}
+use Rattle.x7_engine.specs.Kept.{without_kept}
 use Rattle.x7_boot.specs.Attempt.{IsTrial, Trial}
 use Rattle.x7_boot.specs.Boot.{end_state, forbids_fallback}
+use Rattle.x7_boot.specs.Course.{BootCourse, IsCourse}
 use Rattle.x7_boot.specs.Image.{update_place}
 use Rattle.x7_boot.specs.declared.attempt.Ending.{Ending}
 use Rattle.x7_boot.specs.declared.attempt.Ending.TheVariants as ending
@@ -20,12 +21,20 @@ use Rattle.x7_boot.specs.declared.boots.BootEnd.{BootEnd}
 use Rattle.x7_boot.specs.declared.boots.BootEnd.TheVariants as boot_end
 use Rattle.x7_boot.specs.declared.boots.Tried.{Tried}
 use Rattle.x7_recovery.specs.Clean.{StartsClean}
-use Rattle.x7_recovery.specs.Course.{BootCourse, IsCourse, kept_at_update, through_update}
 use Rattle.x7_recovery.specs.OpenSlot.{BeginsAsImage, Opened, image_of_flash}
 
 -- ---- the attempt at the update
 
--- an attempt at the place to which the open slot leads ended so
+-- what an attempt at an update keeps that an IPROG of the attempt at power led to: the start address in WBSTAR, and the attempt at power, which did not fail
+abbrev pub kept_at_update : ℕ → Kept
+kept_at_update start = record { wbstar = start; timer = 0; bspi = 0; kind = Iprog; before = Some (record { kind = Power; cause = None; ignored = false }) }
+
+-- the attempts of a boot in which the attempt at power obeys an IPROG that leads to a place, where the next attempt ends by
+-- `e`, and then more
+abbrev pub through_update : ℕ → Ending → List Tried → List Tried
+through_update place e more = record { kind = Power; address = 0; ending = ending.Iprog } ∷ record { kind = Iprog; address = place; ending = e } ∷ more
+
+-- an attempt at the place to which the open slot leads ended by `e`
 pub record UpdateEnds (o : Opened) (t : Trial) (e : Ending) : Type 0 where
   pub is : IsTrial o.part o.flash t
   pub kept : t.kept ≡ kept_at_update o.start
@@ -44,7 +53,7 @@ pub record TriesUpdate (o : Opened) (attempts : List Tried) : Type 0 where
   pub more : List Tried
   pub attempts_are : attempts ≡ through_update o.place trial.ending more
 
--- the attempt at the update is the last one, and ends the boot so
+-- the attempt at the update is the last one, and the boot ends by `by_end`
 pub record EndsAtUpdate (o : Opened) (t : Trial) (by_end : BootEnd) (c : BootCourse) : Type 0 where
   pub attempts_are : c.attempts ≡ through_update o.place t.ending []
   pub end_is : c.end ≡ by_end
@@ -57,7 +66,7 @@ pub record HasFullUpdate (o : Opened) (update : PlanData) : Type 0 where
   pub rest : List ℕ
   pub stands : drop o.place o.flash ≡ full_stream o.part update ++ rest
 
--- The boot starts with the update: with the memory of its plan over zeros, and BOOTSTS tells of an attempt by IPROG, after one at power.
+-- The boot starts with the update: with the memory of its plan over zeros, and BOOTSTS shows an attempt by IPROG, after one at power.
 pub record StartsUpdate (o : Opened) (update : PlanData) (c : BootCourse) : Type 0 where
   pub attempts_are : c.attempts ≡ through_update o.place ending.Started []
   pub started : c.end ≡ boot_end.Started
@@ -74,21 +83,21 @@ fell_back place cause = through_update place (ending.Failed cause) (record { kin
 abbrev pub fallback_status : Cause → ℕ
 fallback_status cause = boot_status_of (record { kind = Fallback; cause = None; ignored = true }) (Some (record { kind = Iprog; cause = Some cause; ignored = false }))
 
--- behind the first sector the full stream of a plan stands
+-- after the first sector the full stream of a plan stands
 pub record HasPlanned (o : Opened) (golden : PlanData) : Type 0 where
   pub is_part : IsPart o.part
   pub plan : IsPlanFor o.part golden
   pub rest : List ℕ
   pub stands : drop 65536 o.flash ≡ full_stream o.part golden ++ rest
 
--- The boot falls back and starts with the memory of the golden plan over zeros, and BOOTSTS tells of the fallback and of the update's cause.
+-- The boot falls back and starts with the memory of the golden plan over zeros, and BOOTSTS shows the fallback and the update's cause.
 pub record FallsBack (o : Opened) (golden : PlanData) (cause : Cause) (c : BootCourse) : Type 0 where
   pub attempts_are : c.attempts ≡ fell_back o.place cause
   pub started : c.end ≡ boot_end.Started
   pub memory : AreSame (memory_in o.part c.last.kept c.last.bytes) (total o.part golden)
   pub bootsts : (end_state o.part c.last).bootsts ≡ fallback_status cause
 
--- The boot falls back and starts as another attempt did: at the same byte, with the same memory, and BOOTSTS tells of the fallback and of the update's cause.
+-- The boot falls back and starts as another attempt did: at the same byte, with the same memory, and BOOTSTS shows the fallback and the update's cause.
 pub record FallsBackClean (o : Opened) (cause : Cause) (t : Trial) (c : BootCourse) : Type 0 where
   pub attempts_are : c.attempts ≡ fell_back o.place cause
   pub started : c.end ≡ boot_end.Started
@@ -103,11 +112,7 @@ pub record StartsAsFallback (o : Opened) (f : Trial) : Type 0 where
   pub address : f.address ≡ 0
   pub started : f.ending ≡ ending.Started
 
--- the registers without those that tell what was kept over the reset
-abbrev pub without_kept : Regs → Regs
-without_kept r = record r { end = at_end.Searching; wbstar = 0; timer = 0; bspi = 0; bootsts = 0 }
-
--- The boot falls back and starts as another fallback does: with the same bytes, memory and registers but those kept over the reset; BOOTSTS tells of it, and of the update's cause.
+-- The boot falls back and starts as another fallback does: with the same bytes, memory and registers but those kept over the reset; BOOTSTS shows the fallback, and the update's cause.
 pub record FallsBackAlike (o : Opened) (cause : Cause) (f : Trial) (c : BootCourse) : Type 0 where
   pub attempts_are : c.attempts ≡ fell_back o.place cause
   pub started : c.end ≡ boot_end.Started
@@ -122,7 +127,7 @@ pub record FallsBackAlike (o : Opened) (cause : Cause) (f : Trial) (c : BootCour
 pub record BootsOpen (o : Opened) (c : BootCourse) : Type 0 where
   -- the second attempt is that at the update
   pub tries : TriesUpdate o c.attempts
-  -- where that starts, the boot has started with it
+  -- where the attempt at the update starts, the boot has started with the update
   pub starts : (t : Trial) → UpdateEnds o t ending.Started → EndsAtUpdate o t boot_end.Started c
   -- an update that is the full stream of a plan starts, with the memory of the plan
   pub full : (update : PlanData) → HasFullUpdate o update → StartsUpdate o update c
@@ -130,16 +135,18 @@ pub record BootsOpen (o : Opened) (c : BootCourse) : Type 0 where
   pub stops : (t : Trial) (cause : Cause) → UpdateFails o t cause true → EndsAtUpdate o t boot_end.Stopped c
   -- where the update fails and CTL0 allows a fallback, the full stream of a plan starts as golden stream, with the memory of the plan
   pub falls_back : (t : Trial) (cause : Cause) (golden : PlanData) → HasPlanned o golden → UpdateFails o t cause false → FallsBack o golden cause c
-  -- so does a golden stream of any kind that starts at power behind an erased first sector and begins clean, as it starts there
+  -- where the update fails and CTL0 allows a fallback, a golden stream of any kind that starts at power after an erased first
+  -- sector and begins clean starts as it did there
   pub falls_clean : (t : Trial) (cause : Cause) (golden : Trial) → StartsClean o.part o.flash golden → UpdateFails o t cause false → FallsBackClean o cause golden c
-  -- so does any other with which some fallback over the flash starts, as that one does
+  -- where the update fails and CTL0 allows a fallback, any golden stream with which some fallback over the flash starts does as
+  -- that fallback
   pub falls_alike : (t : Trial) (cause : Cause) (f : Trial) → StartsAsFallback o f → UpdateFails o t cause false → FallsBackAlike o cause f c
 
 -- every boot from the flash comes to what one from a flash with an open slot does
 abbrev pub EachBootsOpen : Opened → Type 0
 EachBootsOpen o = (c : BootCourse) → IsCourse o.part o.flash c → BootsOpen o c
 
--- A flash begins with the image of a golden and an update stream for the part: these stand in it, and every boot from it is one from a flash with its first slot open, which leads to the update.
+-- A flash begins with the image of a golden and an update stream for the part: both streams stand in it, and every boot from it is one from a flash with its first slot open, which leads to the update.
 pub record HasStreams (part : PartData) (golden update flash : List ℕ) : Type 0 where
   pub begins : BeginsAsImage part flash (update_place (length golden))
   pub has_golden : (rest : List ℕ) × (drop 65536 flash ≡ golden ++ rest)

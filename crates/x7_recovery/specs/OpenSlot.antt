@@ -1,4 +1,4 @@
--- A flash with an open slot, whichever slot that is and whatever stands behind the golden stream (UG470, MultiBoot; the layout is this project's choice).
+-- A flash with an open slot, whichever slot that is and whatever stands after the golden stream (UG470, MultiBoot and fallback; the layout is this project's choice).
 use Rattle.std.specs.Prelude.{◌≡◌, ℕ, ◌*◌, ◌/◌, ◌%◌, ◌^◌, ◌<◌, ◌≤◌, List, ◌++◌, length, take, drop}
 use Rattle.x7_words.specs.Word.{AreBytes}
 use Rattle.x7_part.specs.Part.{PartData}
@@ -6,7 +6,7 @@ use Rattle.x7_boot.specs.Boot.{start_address}
 use Rattle.x7_boot.specs.Image.{first_sector, flash_limit, open_slot}
 use Rattle.x7_update.specs.Layout.{four_at, open_word}
 
--- One slot of the first sector is open, with this start address: no sync word begins in the sector but that of the slot.
+-- One slot of the first sector is open, with the start address `start`: no sync word begins in the sector but that of the slot.
 pub record HasOpen (flash : List ℕ) (slot start : ℕ) : Type 0 where
   pub within : slot < 2048
   pub stands : take 32 (drop (32 * slot) flash) ≡ open_slot start
@@ -22,7 +22,7 @@ pub record Opened : Type 0 where
   pub start : ℕ
   pub place : ℕ
 
--- the flash has that slot open, which leads to that place
+-- the flash has the given slot open, which leads to the given place
 pub record IsOpened (o : Opened) : Type 0 where
   pub has : HasOpen o.flash o.slot o.start
   pub small : o.start < 2 ^ 32
@@ -37,7 +37,7 @@ pub record BeginsAsImage (part : PartData) (flash : List ℕ) (place : ℕ) : Ty
   pub whole : place % 65536 ≡ 0
   pub within : place ≤ flash_limit
 
--- such a flash with its first slot, which is the open one
+-- a flash that begins as an image does, with its first slot, which is the open one
 abbrev pub image_of_flash : PartData → List ℕ → ℕ → Opened
 image_of_flash part flash place = record { part = part; flash = flash; slot = 0; start = place / part.start_unit; place = place }
 

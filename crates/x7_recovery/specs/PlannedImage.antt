@@ -6,7 +6,7 @@ use Rattle.x7_memory.specs.Planned.{IsPlanFor, PlanData}
 use Rattle.x7_planner.specs.Full.{full_stream}
 use Rattle.x7_boot.specs.Image.{flash_limit, image_of, image_size, update_place}
 
--- where the update stands behind the full stream of a plan
+-- where the update stands after the full stream of a plan
 abbrev pub place_after : PartData → PlanData → ℕ
 place_after part golden = update_place (length (full_stream part golden))
 

@@ -8,9 +8,8 @@ use Rattle.x7_memory.specs.FrameMap.{AreSame}
 use Rattle.x7_memory.specs.Planned.{IsPlanFor, PlanData, total}
 use Rattle.x7_planner.specs.Full.{full_stream}
 use Rattle.x7_engine.specs.State.{memory_in}
-use Rattle.x7_boot.specs.Attempt.{Trial}
 use Rattle.x7_boot.specs.Boot.{BootedState, IsBoot, end_state}
-use Rattle.x7_recovery.specs.Course.{BootCourse, course_of}
+use Rattle.x7_boot.specs.Course.{BootCourse, course_of}
 use Rattle.x7_recovery.specs.PlannedImage.{golden_image}
 use Rattle.x7_boot.specs.declared.attempt.Ending.TheVariants as ending
 use Rattle.x7_boot.specs.declared.boots.BootEnd.TheVariants as boot_end
@@ -28,24 +27,21 @@ pub record Updating : Type 0 where
 abbrev pub updating_image : PartData → PlanData → List ℕ → List ℕ → Updating
 updating_image part golden update stream = record { part = part; golden = golden; flash = golden_image part golden update; stream = stream }
 
--- the place of the flash behind the last byte that an attempt took
-abbrev pub end_of : Trial → ℕ
-end_of t = t.address + length t.bytes
-
--- behind the first sector stands the full stream of the plan, which ends at U or before it
+-- after the first sector stands the full stream of the plan, which ends at U or before it
 pub record HasGolden (part : PartData) (golden : PlanData) (flash : List ℕ) : Type 0 where
   pub rest : List ℕ
   pub stands : drop 65536 flash ≡ full_stream part golden ++ rest
   pub ends : 65536 + length (full_stream part golden) ≤ update_place flash
 
--- the part is one, the plan is one for it, and the flash has a layout with the full stream of the plan
+-- an update is prepared: the part's numbers are in range, the plan is one for the part, and the flash has a layout with the
+-- full stream of the plan
 pub record IsPrepared (u : Updating) : Type 0 where
   pub is_part : IsPart u.part
   pub plan : IsPlanFor u.part u.golden
   pub layout : HasLayout u.flash
   pub golden : HasGolden u.part u.golden u.flash
 
--- The boot starts with the attempt at power: with the memory of the golden plan over zeros, and BOOTSTS tells of no other attempt.
+-- The boot starts with the attempt at power: with the memory of the golden plan over zeros, and BOOTSTS shows no other attempt.
 pub record StartsGolden (part : PartData) (golden : PlanData) (c : BootCourse) : Type 0 where
   pub attempts_are : c.attempts ≡ record { kind = Power; address = 0; ending = ending.Started } ∷ []
   pub started : c.end ≡ boot_end.Started

@@ -1,4 +1,4 @@
--- A flash after any number of updates, of which each stands behind the golden stream (this project's choice).
+-- A flash after any number of updates, of which each stands after the golden stream (this project's choice).
 use Rattle.std.specs.Prelude.{◌≡◌, ℕ, List, take}
 use Rattle.x7_words.specs.Word.{AreBytes}
 use Rattle.x7_part.specs.Part.{PartData}

@@ -6,13 +6,13 @@ ghost use Rattle.x7_boot.specs.Attempt.{Trial};
 ghost use Rattle.x7_boot.specs.Boot.{BootedState, IsBoot};
 ghost use Rattle.x7_recovery.specs.Clean.{StartsClean};
 ghost use Rattle.x7_recovery.specs.Golden.{BootsAlike, HaveSameGolden, IsPreparedAny, IsShut, StartsAlike, StartsAsPlanned, UpdatingAny, with_erased};
-ghost use Rattle.x7_recovery.specs.Course.{course_of};
+ghost use Rattle.x7_boot.specs.Course.{course_of};
 ghost use Rattle.x7_recovery.specs.Recovery.{IsPrepared, Updating};
 ghost use Rattle.x7_update.specs.After.{IsBetween, MayBeLeft};
 ghost use Rattle.x7_update.specs.Layout.{HasLayout};
 
 /// Where no sync word begins in the first sector, what stands there makes no difference: a golden stream with which the attempt
-/// at power over one such flash starts is started with over each that has the same bytes behind the first sector, at the same
+/// at power over one such flash starts is started with over each that has the same bytes after the first sector, at the same
 /// byte, with the same memory and the same registers.
 pub fn shut_flashes_start_alike()
     ensures { (part : PartData) (one other : List ℕ) (t : Trial) (b : BootedState) → HaveSameGolden part one other t
@@ -32,7 +32,7 @@ pub fn found_flashes_start()
         → MayBeLeft u.stream u.flash found → IsBoot u.part found b → BootsAlike u found b }
 {}
 
-/// The full stream of a plan is such a golden stream, starts with the memory of the plan, and begins clean.
+/// The full stream of a plan, as golden stream, starts with the memory of the plan, and begins clean.
 pub fn full_streams_start()
     ensures starts { (u : Updating) → IsPrepared u → (t : Trial) × StartsAsPlanned u t }
     ensures clean { (u : Updating) (t : Trial) → IsPrepared u → StartsAsPlanned u t → StartsClean u.part u.flash t }

@@ -1,15 +1,14 @@
 //! What a device does with a flash that a power loss left in an update. The functions do nothing: their contracts are the laws.
-ghost use Rattle.std.specs.Prelude.{◌≡◌, ◌≤◌, List, ℕ, false, length, take};
+ghost use Rattle.std.specs.Prelude.{◌≡◌, ◌≤◌, List, ℕ, length};
 ghost use Rattle.x7_words.specs.Flash.{flash_limit};
 ghost use Rattle.x7_part.specs.Part.{PartData};
 ghost use Rattle.x7_memory.specs.Planned.{PlanData};
-ghost use Rattle.x7_boot.specs.Attempt.{IsTrial, Trial};
 ghost use Rattle.x7_boot.specs.Boot.{BootedState, IsBoot};
 ghost use Rattle.x7_boot.specs.Image.{image_of, image_size};
 ghost use Rattle.x7_recovery.specs.PlannedImage.{HasImage};
 ghost use Rattle.x7_update.specs.After.{MayBeLeft};
 ghost use Rattle.x7_update.specs.Layout.{HasLayout};
-ghost use Rattle.x7_recovery.specs.Recovery.{BootsAs, end_of, IsPrepared, Updating, updating_image};
+ghost use Rattle.x7_recovery.specs.Recovery.{BootsAs, IsPrepared, Updating, updating_image};
 
 /// Of a flash whose golden stream is the full stream of a plan, whatever a power loss left in an update boots as the flash did
 /// before, or starts with the golden stream, or boots as the updated flash.
@@ -23,14 +22,9 @@ pub fn images_have_a_layout()
     ensures { (golden update : List ℕ) → image_size (length golden) (length update) ≤ flash_limit → HasLayout (image_of 1 golden update) }
 {}
 
-/// Such an image of the full stream of a plan and of any update is prepared for an update with any stream.
+/// The image of the full stream of a plan and of any update, for a part whose start address counts bytes, is prepared for an
+/// update with any stream.
 pub fn images_are_prepared()
     ensures { (part : PartData) (golden : PlanData) (update stream : List ℕ) → HasImage part golden update → part.start_unit ≡ 1
         → IsPrepared (updating_image part golden update stream) }
-{}
-
-/// An attempt that ended in the flash is one over each flash with the same bytes up to there.
-pub fn only_taken_bytes_count()
-    ensures { (part : PartData) (flash other : List ℕ) (t : Trial) → IsTrial part flash t → t.wrapped ≡ false
-        → take (end_of t) other ≡ take (end_of t) flash → IsTrial part other t }
 {}

@@ -1,12 +1,10 @@
-//! What a boot from a flash with an open slot comes to, whatever slot that is, and whatever stands behind the golden stream. The
+//! What a boot from a flash with an open slot comes to, whatever slot that is, and whatever stands after the golden stream. The
 //! functions do nothing: their contracts are the laws.
 ghost use Rattle.std.specs.Prelude.{◌≡◌, ◌<◌, ◌++◌, List, ℕ, drop, take};
 ghost use Rattle.x7_words.specs.Word.{AreBytes};
 ghost use Rattle.x7_part.specs.Part.{PartData};
 ghost use Rattle.x7_part.specs.PartRange.{IsPart};
 ghost use Rattle.x7_memory.specs.Planned.{PlanData};
-ghost use Rattle.x7_boot.specs.Boot.{BootedState, IsBoot};
-ghost use Rattle.x7_recovery.specs.Course.{IsCourse, course_of};
 ghost use Rattle.x7_recovery.specs.OpenBoot.{EachBootsOpen};
 ghost use Rattle.x7_recovery.specs.OpenSlot.{BeginsAsImage, IsOpened, Opened, image_of_flash, slot_of_flash};
 ghost use Rattle.x7_recovery.specs.Recovery.{HasGolden};
@@ -15,15 +13,15 @@ ghost use Rattle.x7_update.specs.Layout.{HasLayout, IsOpen, update_place};
 
 /// From a flash with an open slot a boot tries the update at the place to which the slot leads; where it starts the boot ends
 /// there, and where it fails and CTL0 forbids a fallback it stops. Else it falls back, and starts with the golden stream, where
-/// that is the full stream of a plan, or one of any kind that starts at power behind an erased first sector and begins clean, or
+/// that is the full stream of a plan, or one of any kind that starts at power after an erased first sector and begins clean, or
 /// one with which some fallback over this flash starts. An update that is a full stream starts with the memory of its plan.
 pub fn open_slots_boot()
-    ensures boots { (o : Opened) → IsOpened o → EachBootsOpen o }
-    ensures course { (part : PartData) (flash : List ℕ) (b : BootedState) → (boot : IsBoot part flash b) → IsCourse part flash (course_of b boot.last) }
+    ensures { (o : Opened) → IsOpened o → EachBootsOpen o }
 {}
 
-/// A flash that begins with the first sector of an image has its first slot open, whatever follows. One with a layout has a slot
-/// that is open open, and after an update the next; then the golden stream stands as it did, and the stream of the update at U.
+/// A flash that begins with the first sector of an image has its first slot open, whatever follows. A flash with a layout, one
+/// of whose slots begins with the sync word, has that slot open, and after an update the next; then the golden stream stands
+/// as it did, and the stream of the update at U.
 pub fn flashes_have_an_open_slot()
     ensures image { (part : PartData) (flash : List ℕ) (place : ℕ) → IsPart part → BeginsAsImage part flash place → IsOpened (image_of_flash part flash place) }
     ensures layout { (part : PartData) (flash : List ℕ) (slot : ℕ) → part.start_unit ≡ 1 → HasLayout flash → AreBytes (take 65536 flash) → slot < 2048 → IsOpen flash slot

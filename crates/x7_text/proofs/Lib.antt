@@ -5,6 +5,7 @@ pub mod CaseLemmas
 pub mod DigitLemmas
 pub mod FrontLemmas
 pub mod LineLemmas
+pub mod LineReadingLemmas
 pub mod PieceLemmas
 pub mod ReadRowLemmas
 pub mod RowLemmas

@@ -1,5 +1,5 @@
 -- The lines of a text that comes in pieces: its first line, its only line, and texts that hold no line end.
-use Rattle.std.proofs.Common.{◌≡◌, ◌==◌, ℕ, ◌/◌, ◌%◌, ◌^◌, ◌<◌, Bool, true, false, if◌then◌else◌, List, [], ◌∷◌, ◌++◌, Option, None, Some, MatchOption, Bor, length, map, refl, ap, sym, subst, ◌∙◌, arith, append_assoc}
+use Rattle.std.proofs.Common.{◌≡◌, ◌==◌, ℕ, ◌/◌, ◌%◌, ◌^◌, ◌<◌, Bool, true, false, if◌then◌else◌, List, [], ◌∷◌, ◌++◌, Option, None, Some, MatchOption, Bor, length, map, refl, ap, sym, subst, ◌∙◌, arith}
 use Rattle.std.proofs.lemmas.Grind.{common_steps}
 use Rattle.std.specs.List.{flat_map, AllByRecursion}
 use Rattle.x7_text.specs.Digits.{hex_byte, hex_digit, hex_word}
@@ -63,7 +63,7 @@ only-line text t e =
     let is : text ≡ t = sym (joined-split text) ∙ ap joined e in
     (is, subst (λ s. has_no_end s ≡ true) (sym is) (first-free text t [] e))
 
-joined-ahead : (t : List ℕ) (ts : List (List ℕ)) → (ts ≡ [] → ⊥) → joined (t ∷ ts) ≡ t ++ 10 ∷ joined ts
+pub joined-ahead : (t : List ℕ) (ts : List (List ℕ)) → (ts ≡ [] → ⊥) → joined (t ∷ ts) ≡ t ++ 10 ∷ joined ts
 joined-ahead t [] h = absurd (h refl)
 joined-ahead t (u ∷ us) h = refl
 
@@ -72,7 +72,3 @@ pub some-line : (text t more : List ℕ) → split text ≡ t ∷ split more →
 some-line text t more e =
     let is : text ≡ t ++ 10 ∷ more = sym (joined-split text) ∙ ap joined e ∙ joined-ahead t (split more) (split-some more) ∙ ap (λ s. t ++ 10 ∷ s) (joined-split more) in
     (is, first-free text t (split more) e)
-
--- the same with a text behind
-pub cut-line : (text t rest more : List ℕ) → split text ≡ t ∷ split rest → (text ++ more ≡ t ++ 10 ∷ (rest ++ more)) × (has_no_end t ≡ true)
-cut-line text t rest more e = let p = some-line text t rest e in (ap (λ s. s ++ more) p.0 ∙ append_assoc t (10 ∷ rest) more, p.1)

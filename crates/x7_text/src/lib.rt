@@ -6,6 +6,7 @@ mod digits;
 mod either_case;
 mod growing;
 mod law;
+mod line_reader;
 mod lines;
 mod read_row;
 mod reading;
@@ -20,6 +21,7 @@ pub use law::{
     digits_lead_back, either_case_leads_back, lines_in_parts, lines_lead_back, lines_one_by_one,
     rows_are_the_elements, whole_rows,
 };
+pub use line_reader::{LineReader, TakesLines, read_lines};
 pub use lines::first_line;
 pub use read_row::{put_byte_row, put_word_row};
 pub use reading::{HexPrefix, block_of_hex, decimal_below, prefix_of_hex, word_of_hex};

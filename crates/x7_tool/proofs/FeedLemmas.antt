@@ -1,5 +1,7 @@
--- A text that is taken while it is read.
+-- A text that is read line by line while it comes.
 use Rattle.std.proofs.Common.{◌≡◌, ℕ, List, [], ◌++◌, Result, Ok, Err, subst, sym, append_assoc, append-nil, ◌∷◌, Option, None, Some, inl, inr}
+use Rattle.x7_text.specs.LineReading.{ReaderState, StandsFor}
+use Rattle.x7_text.specs.Lines.{split}
 use Rattle.x7_tool.specs.Turns.{IsFed}
 use Rattle.x7_words.specs.Input.{InputsState}
 use Rattle.x7_forms.specs.Event.{Event}
@@ -7,18 +9,18 @@ use Rattle.x7_forms.specs.Known.{Answer, Known, Mishap, whole_in, with_inputs, w
 use Rattle.x7_forms.specs.Step.{AnswersBy, CameIn, DueBy, IsCaused, IsCausedBy, ReadsWhole, step_over}
 use Rattle.x7_forms.proofs.ReadLemmas.{outside_goes}
 
-module _ {T F : Type 0} (took : T → List ℕ → Type 0) (fails : F → List ℕ → Type 0) (read : Result T F) where
+module _ {T F : Type 0} (took : T → List (List ℕ) → Type 0) (fails : F → List (List ℕ) → Type 0) (read : Result (ReaderState T) F) where
   -- a piece behind a fault
   pub fed_on : (f : F) (text piece : List ℕ) → read ≡ Err f → IsFed took fails read text → IsFed took fails (Err f) (text ++ piece)
-  fed_on f text piece e h = λ more. subst (λ t. fails f t) (sym (append_assoc text piece more)) (subst (λ o. IsFed took fails o text) e h (piece ++ more))
+  fed_on f text piece e h = λ more. subst (λ t. fails f (split t)) (sym (append_assoc text piece more)) (subst (λ o. IsFed took fails o text) e h (piece ++ more))
 
   -- no fault was found
-  pub fed_ok : (taker : T) (text : List ℕ) → read ≡ Ok taker → IsFed took fails read text → took taker text
-  fed_ok taker text e h = subst (λ o. IsFed took fails o text) e h
+  pub fed_ok : (reader : ReaderState T) (text : List ℕ) → read ≡ Ok reader → IsFed took fails read text → StandsFor took reader text
+  fed_ok reader text e h = subst (λ o. IsFed took fails o text) e h
 
   -- the fault of a whole text
-  pub fed_fault : (f : F) (text : List ℕ) → read ≡ Err f → IsFed took fails read text → fails f text
-  fed_fault f text e h = subst (λ t. fails f t) (append-nil text) (subst (λ o. IsFed took fails o text) e h [])
+  pub fed_fault : (f : F) (text : List ℕ) → read ≡ Err f → IsFed took fails read text → fails f (split text)
+  fed_fault f text e h = subst (λ t. fails f (split t)) (append-nil text) (subst (λ o. IsFed took fails o text) e h [])
 
 -- a text that was not read is the event of whatever is made of it
 pub unread_by : (name : List ℕ) (limit : ℕ) (D : Known → Result Answer Event → Type 0) (old new : InputsState) (event : Event) → ((t : Known) → whole_in t limit name ≡ Err event → D t (Err event)) → ReadsWhole old new limit name (Err event)

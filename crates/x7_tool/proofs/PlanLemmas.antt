@@ -1,12 +1,13 @@
 -- A frames text that is read for its plan, and why a plan has no stream.
-use Rattle.std.proofs.Common.{◌≡◌, ◌∙◌, ◌⊎◌, ◌^◌, ◌<◌, ◌≤◌, arith, inl, inr, ℕ, List, [], ◌∷◌, Result, Ok, Err, IfOk, IfErr, length, refl, ap, sym, subst}
+use Rattle.std.proofs.Common.{◌≡◌, ◌∙◌, ◌⊎◌, inl, inr, ℕ, List, [], ◌∷◌, Result, Ok, Err, IfOk, IfErr, refl, ap, sym, subst}
 use Rattle.std.specs.Prelude.{Contains}
 use Rattle.std.proofs.lemmas.List.Sorted.{All-permutation}
 use Rattle.x7_part.specs.AddressOrder.{addresses_in}
 use Rattle.x7_part.specs.Part.{PartData}
 use Rattle.x7_memory.specs.Planned.{AreAddressed, PlanData, PlanRow}
 use Rattle.x7_frames.specs.FramesText.{IsPlanOf}
-use Rattle.x7_frames.specs.Reader.{ReaderState}
+use Rattle.x7_frames.specs.FrameLines.{AreRefused, ComeTo}
+use Rattle.x7_text.specs.Lines.{split}
 use Rattle.x7_frames.specs.declared.fault.FramesFault.{FramesFault}
 use Rattle.x7_frames.specs.declared.fault.FramesFault.TheVariants as fault
 use Rattle.x7_planner.specs.Full.{full_stream}
@@ -21,12 +22,11 @@ use Rattle.x7_forms.specs.Message.{event_of}
 use Rattle.x7_forms.specs.Step.{AnswersAs, AnswersBy, IsDecided, IsPossible, ReadsWhole, seen, step_over}
 use Rattle.x7_forms.proofs.ReadLemmas.{answers_by, answers_end, answers_go, answers_kept, answers_stop, first_of, part_steady, whole_steady}
 use Rattle.x7_tool.specs.Outcome.{IsUnplanned, PlanTexts, PlannedFull, PlannedPartial, frames_event, plan_texts, planner_event, text_limit}
-use Rattle.x7_tool.specs.Planned.{HasNoPlan, HasRead, IsFramesFault, IsRead, ReadsPlan}
+use Rattle.x7_tool.specs.Planned.{HasNoPlan, ReadsPlan}
 use Rattle.x7_tool.specs.FullText.{PlanFor, full_of}
 use Rattle.x7_tool.specs.Ready.{whole_of}
 use Rattle.x7_tool.specs.declared.text.Text.{Text}
-use Rattle.x7_tool.proofs.FeedLemmas.{fed_fault}
-use Rattle.x7_tool.specs.Turns.{IsFed}
+use Rattle.x7_tool.specs.Turns.{LinesGive}
 
 -- all its addresses are the part's
 pub plan_addressed : (part : PartData) (text : List ℕ) (plan : PlanData) → IsPlanOf part text (Ok plan) → AreAddressed part plan.rows
@@ -34,31 +34,23 @@ plan_addressed part text plan p = All-permutation (λ (row : PlanRow). Contains 
 
 -- ---- a text that is read
 
--- a fault of a text is why it has no plan
-text_fault : (name : List ℕ) (event : Event) (f : FramesFault) (part : PartData) (text : List ℕ) → (f ≡ fault.NoMemory → ⊥) → event ≡ frames_event name f → IsFramesFault part f text → HasNoPlan name part text event
-text_fault name event f part text other e (inl none) = absurd (other none)
-text_fault name event f part text other e (inr k) = (f, k, sym e)
+module _ (old new : InputsState) (part first : PartData) (name text : List ℕ) (whole : ReadsWhole old new text_limit name (Ok text)) (same : first ≡ part) where
+  refused_by : (f : FramesFault) (event : Event) → (f ≡ fault.NoMemory → ⊥) → event ≡ frames_event name f → AreRefused first f (split text) → ReadsPlan old new part name (Err event)
+  refused_by f event other e (inl none) = absurd (other none)
+  refused_by f event other e (inr k) = inr (text, whole, (f, subst (λ p. IsPlanOf p text (Err f)) same (k text refl), sym e))
 
--- a fault at the end of a text
-pub fault_end : (name : List ℕ) (f : FramesFault) (read : Result ReaderState FramesFault) (event : Event) → read ≡ Err f → event ≡ frames_event name f
-    → (event ≡ no_memory) ⊎ ((part : PartData) (text : List ℕ) → length text < 2 ^ 63 → IsRead part read text → HasNoPlan name part text event)
-fault_end name f read event r e = by f e (λ part text h. fed_fault (HasRead part) (IsFramesFault part) read f text r h)
-  where
-    by : (f : FramesFault) → event ≡ frames_event name f → ((part : PartData) (text : List ℕ) → IsRead part read text → IsFramesFault part f text)
-        → (event ≡ no_memory) ⊎ ((part : PartData) (text : List ℕ) → length text < 2 ^ 63 → IsRead part read text → HasNoPlan name part text event)
-    by fault.NoMemory e k = inl e
-    by (fault.Line n) e k = inr (λ part text fits h. text_fault name event (fault.Line n) part text (λ x. absurd (cc)) e (k part text h))
-    by (fault.Address n) e k = inr (λ part text fits h. text_fault name event (fault.Address n) part text (λ x. absurd (cc)) e (k part text h))
-    by (fault.Twice n) e k = inr (λ part text fits h. text_fault name event (fault.Twice n) part text (λ x. absurd (cc)) e (k part text h))
+  refused_as : (f : FramesFault) (event : Event) → event ≡ frames_event name f → AreRefused first f (split text) → ReadsPlan old new part name (Err event)
+  refused_as fault.NoMemory event e h = inl (λ flash. inl (inl e))
+  refused_as (fault.Line n) event e h = refused_by (fault.Line n) event (λ x. absurd cc) e h
+  refused_as (fault.Address n) event e h = refused_by (fault.Address n) event (λ x. absurd cc) e h
+  refused_as (fault.Twice n) event e h = refused_by (fault.Twice n) event (λ x. absurd cc) e h
 
--- a text that was read to its end for the part of the first reader: the plan that it gives, or why none
-module _ (old new : InputsState) (part first : PartData) (name text : List ℕ) (read : Result ReaderState FramesFault) (whole : ReadsWhole old new text_limit name (Ok text)) (short : length text ≤ text_limit) (same : first ≡ part)
-    (fed : IsFed (HasRead first) (IsFramesFault first) read text) where
-  pub plan_due : (r : Result PlanData Refusal) → IfOk r (λ plan. (p : PartData) (t : List ℕ) → IsRead p read t → IsPlanOf p t (Ok plan))
-      → IfErr r (λ x. (event_of x ≡ no_memory) ⊎ ((p : PartData) (t : List ℕ) → length t < 2 ^ 63 → IsRead p read t → HasNoPlan name p t (event_of x))) → ReadsPlan old new part name (seen (λ plan. plan) r)
-  plan_due (Ok plan) ok err = (text, whole, ok part text (subst (λ p. IsRead p read text) same fed))
-  plan_due (Err x) ok (inl none) = inl (λ flash. inl (inl none))
-  plan_due (Err x) ok (inr why) = inr (text, whole, why part text (omega (arith, short)) (subst (λ p. IsRead p read text) same fed))
+  module _ (read : Result PlanData FramesFault) (h : LinesGive (λ plan. ComeTo first (Ok plan)) (AreRefused first) read text) where
+    pub frames_given : (plan : PlanData) → read ≡ Ok plan → ReadsPlan old new part name (Ok plan)
+    frames_given plan r = (text, whole, subst (λ p. IsPlanOf p text (Ok plan)) same (subst (λ o. LinesGive (λ q. ComeTo first (Ok q)) (AreRefused first) o text) r h text refl))
+
+    pub frames_refused : (f : FramesFault) (event : Event) → read ≡ Err f → event ≡ frames_event name f → ReadsPlan old new part name (Err event)
+    frames_refused f event r e = refused_as f event e (subst (λ o. LinesGive (λ q. ComeTo first (Ok q)) (AreRefused first) o text) r h)
 
 -- ---- a part and a text
 

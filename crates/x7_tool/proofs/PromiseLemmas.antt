@@ -17,7 +17,7 @@ use Rattle.x7_engine.specs.State.{reads_of, taken_of}
 use Rattle.x7_boot.specs.declared.boots.BootEnd.{BootEnd}
 use Rattle.x7_boot.specs.declared.boots.BootEnd.TheVariants as boot_end
 use Rattle.x7_boot.specs.Image.{flash_limit, image_of, image_size}
-use Rattle.x7_recovery.specs.Course.{course_along}
+use Rattle.x7_boot.specs.Course.{course_along}
 use Rattle.x7_recovery.specs.OpenBoot.{HasStreams}
 use Rattle.x7_recovery.specs.OpenSlot.{Opened}
 use Rattle.x7_boot.proofs.CheckedLemmas.{attempt_checked, checked, last_checked}

@@ -4,25 +4,10 @@ use Rattle.x7_words.specs.Input.{InputsState}
 use Rattle.x7_part.specs.Part.{PartData}
 use Rattle.x7_memory.specs.Planned.{PlanData}
 use Rattle.x7_frames.specs.FramesText.{IsPlanOf}
-use Rattle.x7_frames.specs.Reader.{ReaderStandsFor, ReaderState}
 use Rattle.x7_frames.specs.declared.fault.FramesFault.{FramesFault}
-use Rattle.x7_frames.specs.declared.fault.FramesFault.TheVariants as fault
 use Rattle.x7_forms.specs.Event.{Event}
 use Rattle.x7_forms.specs.Step.{ReadsWhole}
 use Rattle.x7_tool.specs.Outcome.{frames_event, text_limit}
-use Rattle.x7_tool.specs.Turns.{IsFed}
-
--- a reader read this text for a part
-abbrev pub HasRead : PartData → ReaderState → List ℕ → Type 0
-HasRead part reader text = (reader.part ≡ part) × ReaderStandsFor reader text
-
--- the fault of a text for a part; want of memory says nothing
-abbrev pub IsFramesFault : PartData → FramesFault → List ℕ → Type 0
-IsFramesFault part f text = (f ≡ fault.NoMemory) ⊎ IsPlanOf part text (Err f)
-
--- a reader read this text for a part, or a first part of it, in which it found this fault
-abbrev pub IsRead : PartData → Result ReaderState FramesFault → List ℕ → Type 0
-IsRead part = IsFed (HasRead part) (IsFramesFault part)
 
 -- the event is that of the text's first line at fault
 abbrev pub HasNoPlan : List ℕ → PartData → List ℕ → Event → Type 0

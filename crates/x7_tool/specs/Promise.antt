@@ -12,7 +12,7 @@ use Rattle.x7_engine.specs.Rest.{AtRest}
 use Rattle.x7_planner.specs.Full.{full_stream}
 use Rattle.x7_boot.specs.Boot.{end_state}
 use Rattle.x7_boot.specs.Checked.{HasChecked}
-use Rattle.x7_recovery.specs.Course.{course_along}
+use Rattle.x7_boot.specs.Course.{course_along}
 use Rattle.x7_recovery.specs.OpenBoot.{BootsOpen, HasStreams}
 use Rattle.x7_recovery.specs.OpenSlot.{IsOpened, Opened}
 use Rattle.x7_jtag.specs.declared.statement.Statement.{Statement}

@@ -1,7 +1,9 @@
--- What stands between two turns: of a listing that is written, and of a text that is taken while it is read (this project's choice).
-use Rattle.std.specs.Prelude.{◌≡◌, ◌≤◌, ◌++◌, ℕ, List, [], Option, Result, Ok, Err, length, ◌+◌}
+-- What stands between two turns: of a listing that is written, and of a text that is read while it comes (this project's choice).
+use Rattle.std.specs.Prelude.{◌≡◌, ◌≤◌, ◌++◌, ℕ, List, [], Option, Result, Ok, MatchResult, length, ◌+◌}
 use Rattle.x7_words.specs.Sink.{PutsPrefix, appended}
 use Rattle.x7_words.specs.Word.{AreBytes}
+use Rattle.x7_text.specs.LineReading.{FailsFrom, ReaderState, StandsFor}
+use Rattle.x7_text.specs.Lines.{split}
 use Rattle.x7_listing.specs.Listing.{listing_of}
 use Rattle.x7_listing.specs.StreamListing.{stream_listing}
 use Rattle.x7_listing.specs.Telling.{ListerState, ListerStandsFor}
@@ -25,7 +27,10 @@ pub record ListsStream (l : ListerState) (first now : Option (List ℕ)) (bytes 
   pub goes : (rest : List ℕ) → stream_listing (bytes ++ rest) ≡ Ok (line ++ listing_of (sent ++ rest))
   pub close : length bytes ≤ length sent + 327706
 
--- the text was taken by the taker; or this fault is in it, whatever follows
-abbrev pub IsFed : {T F : Type 0} → (T → List ℕ → Type 0) → (F → List ℕ → Type 0) → Result T F → List ℕ → Type 0
-IsFed took fails (Ok taker) text = took taker text
-IsFed took fails (Err f) text = (more : List ℕ) → fails f (text ++ more)
+-- a text was read line by line by this, or a first part of it, in which there was this fault
+abbrev pub IsFed : {T F : Type 0} → (T → List (List ℕ) → Type 0) → (F → List (List ℕ) → Type 0) → Result (ReaderState T) F → List ℕ → Type 0
+IsFed took fails read text = MatchResult read (λ reader. StandsFor took reader text) (λ f. FailsFrom (fails f) text)
+
+-- the lines of a text give this, or are refused for this fault
+abbrev pub LinesGive : {A F : Type 0} → (A → List (List ℕ) → Type 0) → (F → List (List ℕ) → Type 0) → Result A F → List ℕ → Type 0
+LinesGive gives fails read text = MatchResult read (λ out. gives out (split text)) (λ f. fails f (split text))

@@ -1,51 +1,51 @@
-//! Texts that are taken while they are read.
-ghost use Rattle.std.specs.Prelude.{ℕ, ◌^◌, ◌<◌, ◌≤◌, List, [], ◌++◌, length, Ok, Err, IfOk, IfErr, MatchResult, ◌+◌};
+//! Texts that are read line by line while they come.
+ghost use Rattle.std.specs.Prelude.{ℕ, ◌^◌, ◌<◌, ◌≤◌, List, [], ◌++◌, length, Ok, Err, IfOk, IfErr, ◌+◌};
 ghost use Rattle.x7_words.specs.Input.{Stays};
 ghost use Rattle.x7_forms.specs.Message.{event_of};
 ghost use Rattle.x7_forms.specs.Step.{IsUnread, ReadsWhole};
 ghost use Rattle.x7_forms.specs.Turn.{StandsAt};
 ghost use Rattle.x7_tool.specs.Outcome.{text_limit};
-ghost use Rattle.x7_tool.specs.Turns.{IsFed};
+ghost use Rattle.x7_tool.specs.Turns.{IsFed, LinesGive};
 
+use std::alloc::Global;
 use x7_forms::{Refusal, TEXT_LIMIT, TURN, next_turn, open};
+use x7_text::{LineReader, TakesLines};
 use x7_words::Inputs;
 
-/// What takes a text in pieces, up to its first fault.
-pub(crate) trait TakesText: Sized + Drop {
-    /// Why a text is refused.
-    type Fault: Drop;
-
-    /// Whether the first taker has become the second one by taking this text, whatever follows it.
-    ghost took: { Self → Self → List ℕ → Type 0 };
-
-    /// Whether a text that is given to this taker is refused for this fault.
-    ghost fails: { Self → Self.Fault → List ℕ → Type 0 };
-
-    /// Takes the next piece of a text of fewer than 2^63 bytes. A fault is that of the whole text, whatever follows.
-    fn take(self, piece: &[u8]) -> Result<Self, Self::Fault>
-        ensures { (first : Self) (text : List ℕ) → length (text ++ piece.now) < 2 ^ 63 → took first self text
-            → MatchResult result (λ taker. took first taker (text ++ piece.now)) (λ fault. (more : List ℕ) → fails first fault ((text ++ piece.now) ++ more)) };
-}
-
 /// Takes the next piece, where no fault was found before it.
-fn take_turn<T: TakesText>(read: Result<T, T::Fault>, piece: &[u8]) -> Result<T, T::Fault>
+fn take_turn<T: TakesLines>(
+    read: Result<LineReader<T>, T::Fault>,
+    piece: &[u8],
+) -> Result<LineReader<T>, T::Fault>
     ensures { (first : T) (text : List ℕ) → length (text ++ piece.now) < 2 ^ 63 → IsFed (T.took first) (T.fails first) read text
         → IsFed (T.took first) (T.fails first) result (text ++ piece.now) }
 {
     match read {
-        Ok(taker) => taker.take(piece),
+        Ok(reader) => reader.feed(piece),
         Err(fault) => Err(fault),
     }
 }
 
-/// Feeds a whole text turn by turn, to its end also where there is a fault.
-pub(crate) fn feed_whole<'w, I: Inputs, T: TakesText>(
+/// Ends a text, where no fault was found in it.
+fn end_text<T: TakesLines>(read: Result<LineReader<T>, T::Fault>) -> Result<T::Out, T::Fault>
+    ensures { (first : T) (text : List ℕ) → length text < 2 ^ 63 → IsFed (T.took first) (T.fails first) read text
+        → LinesGive (T.gives first) (T.fails first) result text }
+{
+    match read {
+        Ok(reader) => reader.finish(),
+        Err(fault) => Err(fault),
+    }
+}
+
+/// Reads a whole text line by line while it comes, to its end also where there is a fault.
+pub(crate) fn feed_whole<'w, I: Inputs, T: TakesLines>(
+    alloc: Global,
     inputs: &mut I,
     name: &'w str,
     taker: T,
-) -> Result<Result<T, T::Fault>, Refusal<'w>>
+) -> Result<Result<T::Out, T::Fault>, Refusal<'w>>
     requires new { T.took taker taker [] }
-    ensures ok { IfOk result (λ read. (text : List ℕ) × (length text ≤ text_limit) × IsFed (T.took taker) (T.fails taker) read text × ReadsWhole (I.state inputs.old) (I.state inputs.new) text_limit name.now (Ok text)) }
+    ensures ok { IfOk result (λ read. (text : List ℕ) × LinesGive (T.gives taker) (T.fails taker) read text × ReadsWhole (I.state inputs.old) (I.state inputs.new) text_limit name.now (Ok text)) }
     ensures err { IfErr result (λ r. ReadsWhole (I.state inputs.old) (I.state inputs.new) text_limit name.now (Err (event_of r))) }
     ensures named { IfErr result (λ r. IsUnread name.now (event_of r)) }
     ensures stands { StandsAt name.now text_limit (I.state inputs.new) }
@@ -58,7 +58,7 @@ pub(crate) fn feed_whole<'w, I: Inputs, T: TakesText>(
     }
     let mut piece = [0u8; TURN];
     let mut left = TEXT_LIMIT;
-    let mut read = Ok(taker);
+    let mut read = Ok(LineReader::new(alloc, taker));
     loop {
         let turn = match next_turn(inputs, name, left, &mut piece) {
             Ok(turn) => turn,
@@ -67,7 +67,7 @@ pub(crate) fn feed_whole<'w, I: Inputs, T: TakesText>(
         read = take_turn(read, &piece[..turn.count]);
         left -= turn.count;
         if turn.last {
-            return Ok(read);
+            return Ok(end_text(read));
         }
     }
 }

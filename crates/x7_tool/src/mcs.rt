@@ -2,7 +2,6 @@
 ghost use Rattle.x7_tool.specs.Stopping.{Stops};
 ghost use Rattle.std.specs.Prelude.{◌≡◌, Some, ◌≤◌, ◌+◌};
 ghost use Rattle.x7_words.specs.Input.{Stays};
-ghost use Rattle.x7_mcs.specs.Reader.{IsFaultOf, ReaderStandsFor};
 ghost use Rattle.x7_forms.specs.Message.{event_of};
 ghost use Rattle.x7_tool.specs.Outcome.{mcs_event};
 ghost use Rattle.x7_tool.specs.Run.{AnswersForm};
@@ -10,11 +9,11 @@ ghost use Rattle.x7_forms.specs.Form.{FromMcs, ToMcs};
 ghost use Rattle.x7_tool.specs.Ready.{text_of_image, whole_of};
 ghost use Rattle.x7_forms.specs.Step.{seen};
 
-use crate::feeding::{TakesText, feed_whole};
+use crate::feeding::feed_whole;
 use crate::text::Text;
 use std::alloc::Global;
 use x7_forms::{InputFault, Refusal, Why, read_whole};
-use x7_mcs::{FLASH_LIMIT, McsFault, McsReader, McsText};
+use x7_mcs::{FLASH_LIMIT, McsFault, McsLines, McsText};
 use x7_words::Inputs;
 
 /// Why a text gives no flash.
@@ -56,24 +55,7 @@ pub(crate) fn mcs<'w, I: Inputs>(
     }
 }
 
-/// A reader of a flash text takes it in pieces.
-impl TakesText for McsReader {
-    type Fault = McsFault;
-
-    ghost took = { λ first. ReaderStandsFor };
-
-    ghost fails = { λ first fault text. IsFaultOf text fault };
-
-    fn take(self, piece: &[u8]) -> Result<McsReader, McsFault> {
-        let mut reader = self;
-        match reader.feed(piece) {
-            Ok(()) => Ok(reader),
-            Err(fault) => Err(fault),
-        }
-    }
-}
-
-/// The image of `unmcs TEXT`, which is read piece by piece.
+/// The image of `unmcs TEXT`, which is read line by line while it comes.
 pub(crate) fn unmcs<'w, I: Inputs>(
     alloc: Global,
     inputs: &mut I,
@@ -84,15 +66,11 @@ pub(crate) fn unmcs<'w, I: Inputs>(
     ensures asks { (I.state inputs.new).selects ≤ (I.state inputs.old).selects + 1 }
     ensures inputs { Stays (I.state inputs.old) (I.state inputs.new) }
 {
-    let read = match feed_whole(inputs, name, McsReader::new(alloc)) {
+    let read = match feed_whole(alloc, inputs, name, McsLines::new(alloc)) {
         Ok(read) => read,
         Err(refusal) => return Err(refusal),
     };
-    let reader = match read {
-        Ok(reader) => reader,
-        Err(fault) => return Err(refusal_of(name, fault)),
-    };
-    match reader.finish() {
+    match read {
         Ok(image) => Ok(Text {
             stopped: false,
             text: image,

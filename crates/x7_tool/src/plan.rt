@@ -1,27 +1,27 @@
 //! The commands `plan full`, `plan partial` and `plan read`: streams for plans.
 ghost use Rattle.x7_forms.specs.Stop.{IsAbout, StopsAmong, limited};
 ghost use Rattle.x7_tool.specs.Stopping.{Stops};
-ghost use Rattle.std.specs.Prelude.{◌≡◌, ◌⊎◌, ◌∷◌, [], ◌<◌, ◌^◌, ℕ, List, length, Ok, Err, IfOk, IfErr, Some, ◌≤◌, ◌+◌};
+ghost use Rattle.std.specs.Prelude.{◌≡◌, ◌⊎◌, ◌∷◌, [], ℕ, List, Ok, Err, IfOk, IfErr, Some, ◌≤◌, ◌+◌};
 ghost use Rattle.x7_words.specs.Input.{Stays};
-ghost use Rattle.x7_part.specs.Part.{PartData, frame_words};
+ghost use Rattle.x7_part.specs.Part.{frame_words};
 ghost use Rattle.x7_frames.specs.FramesText.{IsPlanOf};
 ghost use Rattle.x7_forms.specs.Message.{event_of};
 ghost use Rattle.x7_forms.specs.Event.{no_memory};
 ghost use Rattle.x7_tool.specs.Outcome.{PlannedPartial, PlannedRead, frames_event, planner_event, text_limit};
 ghost use Rattle.x7_forms.specs.Turn.{StandsAt};
 ghost use Rattle.x7_forms.specs.Form.{PlanningFull, PlanningPartial, PlanningRead};
-ghost use Rattle.x7_tool.specs.Planned.{HasNoPlan, HasRead, IsFramesFault, IsRead, ReadsPlan};
+ghost use Rattle.x7_tool.specs.Planned.{ReadsPlan};
 ghost use Rattle.x7_tool.specs.FullText.{full_of};
 ghost use Rattle.x7_tool.specs.Ready.{whole_of};
 ghost use Rattle.x7_forms.specs.Step.{seen};
 ghost use Rattle.x7_tool.specs.Run.{AnswersForm};
 
-use crate::feeding::{TakesText, feed_whole};
+use crate::feeding::feed_whole;
 use crate::full_text::FullText;
 use crate::text::Text;
 use std::alloc::Global;
 use x7_forms::{InputFault, Refusal, Why, read_part};
-use x7_frames::{FramesFault, FramesReader};
+use x7_frames::{FrameLines, FramesFault};
 use x7_memory::Plan;
 use x7_part::Part;
 use x7_planner::{PlanFault, partial, readback};
@@ -59,38 +59,6 @@ fn planner_refusal<'w>(name: &'w str, fault: PlanFault) -> Refusal<'w>
     }
 }
 
-/// A reader of a frames text takes it in pieces.
-impl<'p> TakesText for FramesReader<'p> {
-    type Fault = FramesFault;
-
-    ghost took = { λ first. HasRead first.part };
-
-    ghost fails = { λ first. IsFramesFault first.part };
-
-    fn take(self, piece: &[u8]) -> Result<FramesReader<'p>, FramesFault> {
-        self.feed(piece)
-    }
-}
-
-/// The plan of a text that was read to its end.
-fn plan_of_lines<'w>(
-    read: Result<FramesReader<'_>, FramesFault>,
-    name: &'w str,
-) -> Result<Plan, Refusal<'w>>
-    ensures ok { IfOk result (λ plan. (part : PartData) (text : List ℕ) → IsRead part read.entry text → IsPlanOf part text (Ok plan)) }
-    ensures err { IfErr result (λ r. (event_of r ≡ no_memory) ⊎ ((part : PartData) (text : List ℕ) → length text < 2 ^ 63 → IsRead part read.entry text → HasNoPlan name.now part text (event_of r))) }
-    ensures about { IfErr result (λ r. IsAbout name.now (event_of r)) }
-{
-    let reader = match read {
-        Ok(reader) => reader,
-        Err(fault) => return Err(frames_refusal(name, fault)),
-    };
-    match reader.finish() {
-        Ok(plan) => Ok(plan),
-        Err(fault) => Err(frames_refusal(name, fault)),
-    }
-}
-
 /// The plan of a frames text, which is read turn by turn, so that nobody has to hold it whole.
 fn read_plan<'w, I: Inputs>(
     alloc: Global,
@@ -104,14 +72,17 @@ fn read_plan<'w, I: Inputs>(
     ensures asks { (I.state inputs.new).selects ≤ (I.state inputs.old).selects + 1 }
     ensures inputs { Stays (I.state inputs.old) (I.state inputs.new) }
 {
-    let Ok(reader) = FramesReader::new(alloc, part) else {
+    let Ok(lines) = FrameLines::new(alloc, part) else {
         return Err(Refusal::unnamed(Why::NoMemory));
     };
-    let read = match feed_whole(inputs, name, reader) {
+    let read = match feed_whole(alloc, inputs, name, lines) {
         Ok(read) => read,
         Err(refusal) => return Err(refusal),
     };
-    plan_of_lines(read, name)
+    match read {
+        Ok(plan) => Ok(plan),
+        Err(fault) => Err(frames_refusal(name, fault)),
+    }
 }
 
 /// The stream of `plan full PART FRAMES`.

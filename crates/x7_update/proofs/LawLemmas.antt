@@ -3,7 +3,8 @@ use Rattle.std.proofs.Common.{◌≡◌, ◌≢◌, ℕ, zero, suc, ◌+◌, ◌
 use Rattle.std.proofs.lemmas.Bool.{cases_eq, cases_lt, cases_order}
 use Rattle.std.proofs.lemmas.List.{get_or-drop, get_or-take}
 use Rattle.x7_words.specs.Word.{word_of_bytes}
-use Rattle.x7_update.specs.Layout.{CanStandAt, HasLayout, HasSize, IsFree, IsNext, IsOpen, first_slot, four_at, open_word, slot_with, switch_of}
+use Rattle.x7_packets.specs.FlashSlot.{flash_slot}
+use Rattle.x7_update.specs.Layout.{CanStandAt, HasLayout, HasSize, IsFree, IsNext, IsOpen, first_slot, four_at, open_word, switch_of}
 use Rattle.x7_update.specs.After.{ClosesTo, already, spends, IsAfter, IsBetween, MayBeLeft, after, between, untouched, switched, with_stream}
 use Rattle.x7_update.specs.Layout.{spent_word, update_place}
 use Rattle.x7_update.proofs.CaseLemmas.{behind, between_below, between_closed, open_not_free, stream_keeps, true_or_false}
@@ -118,7 +119,7 @@ layout_with flash found l size slots one_open last_free =
       size = subst HasSize (sym size) l.size;
       slots = record {
         place = subst (λ u. CanStandAt (length found) u) (sym (ap word_of_bytes start)) (subst (λ n. CanStandAt n (update_place flash)) (sym size) l.slots.place);
-        leads = λ slot h i k m. slots (32 * slot + i) (omega arith) (omega arith) ∙ l.slots.leads slot h i k m ∙ sym (ap (λ w. get_or (slot_with open_word w) i 0) start);
+        leads = λ slot h i k m. slots (32 * slot + i) (omega arith) (omega arith) ∙ l.slots.leads slot h i k m ∙ sym (ap (λ w. get_or (flash_slot open_word w) i 0) start);
         one_open = one_open;
         last_free = last_free;
       };

@@ -1,7 +1,8 @@
 -- Lemmas on two lists with the same first sector: what holds of the slots of the one holds of those of the other.
 use Rattle.std.proofs.Common.{◌≡◌, ℕ, ◌+◌, ◌*◌, ◌<◌, ◌≤◌, inl, inr, List, Option, None, Some, get_or, refl, ap, sym, subst, ◌∙◌, arith}
 use Rattle.x7_words.specs.Word.{word_of_bytes}
-use Rattle.x7_update.specs.Layout.{CanStandAt, Leads, IsOpen, IsFree, four_at, switch_of, first_slot, slot_with, update_place, open_word}
+use Rattle.x7_packets.specs.FlashSlot.{flash_slot}
+use Rattle.x7_update.specs.Layout.{CanStandAt, Leads, IsOpen, IsFree, four_at, switch_of, first_slot, update_place, open_word}
 use Rattle.x7_update.specs.Refused.{BeginsWell, DiffersAt, IsBad, IsGood, NoLayoutAt, OpensAgain, bad_first, bad_place, bad_size, bad_slot, last_taken}
 use Rattle.x7_update.specs.Slots.{OpenAmong, Finds}
 use Rattle.x7_update.specs.declared.slots.Slots.{Slots}
@@ -14,7 +15,7 @@ module _ (first all : List ℕ) (same : (i : ℕ) → i < 65536 → get_or first
   switch_same slot h = four_same (32 * slot) (omega arith)
 
   first_slot_same : first_slot first ≡ first_slot all
-  first_slot_same = ap (slot_with open_word) (four_same 12 (omega arith))
+  first_slot_same = ap (flash_slot open_word) (four_same 12 (omega arith))
 
   pub place_same : update_place first ≡ update_place all
   place_same = ap word_of_bytes (four_same 12 (omega arith))

@@ -2,6 +2,7 @@
 use Rattle.std.specs.Prelude.{◌≡◌, ℕ, ◌+◌, ◌-◌, ◌*◌, ◌%◌, ◌<◌, ◌≤◌, List, ◌++◌, length, get_or, take, replicate}
 use Rattle.x7_words.specs.Flash.{replaced}
 use Rattle.x7_words.specs.Word.{AreBytes}
+use Rattle.x7_packets.specs.FlashSlot.{sector_bytes, slot_count}
 use Rattle.x7_update.specs.Layout.{HasLayout, IsClosed, IsNext, IsOpen, open_word, spent_word, switch_of, update_place}
 
 -- the flash with this switch word in a slot
@@ -15,7 +16,7 @@ with_stream place stream flash = take place flash ++ (stream ++ replicate (lengt
 -- the flash with its open slot spent, if it has one
 pub data ClosesTo (flash closed : List ℕ) : Type 0 where
   already : IsClosed flash → closed ≡ flash → ClosesTo flash closed
-  spends : (slot : ℕ) → slot < 2048 → IsOpen flash slot → closed ≡ switched slot spent_word flash → ClosesTo flash closed
+  spends : (slot : ℕ) → slot < slot_count → IsOpen flash slot → closed ≡ switched slot spent_word flash → ClosesTo flash closed
 
 -- The flash after an update with a stream: its open slot is spent, the stream stands at U with FF after it, and the first slot
 -- from which on all are free is open.
@@ -31,10 +32,10 @@ pub record IsAfter (stream flash after : List ℕ) : Type 0 where
 -- slot's and the next one's stays, the golden stream stands, and from U on there may be anything.
 pub record IsBetween (flash found : List ℕ) : Type 0 where
   pub size : length found ≡ length flash
-  pub slots : (i : ℕ) → i < 65536 → 4 ≤ i % 32 → get_or found i 0 ≡ get_or flash i 0
+  pub slots : (i : ℕ) → i < sector_bytes → 4 ≤ i % 32 → get_or found i 0 ≡ get_or flash i 0
   pub closed : IsClosed found
-  pub switches : (slot : ℕ) → slot < 2048 → (IsOpen flash slot → ⊥) → (IsNext flash slot → ⊥) → switch_of found slot ≡ switch_of flash slot
-  pub golden : (i : ℕ) → 65536 ≤ i → i < update_place flash → get_or found i 0 ≡ get_or flash i 0
+  pub switches : (slot : ℕ) → slot < slot_count → (IsOpen flash slot → ⊥) → (IsNext flash slot → ⊥) → switch_of found slot ≡ switch_of flash slot
+  pub golden : (i : ℕ) → sector_bytes ≤ i → i < update_place flash → get_or found i 0 ≡ get_or flash i 0
 
 -- What a power loss may leave of a flash that is being updated with a stream: itself; and of one with a layout bytes that are between, or
 -- the flash after the update.

@@ -6,9 +6,11 @@
 --     U         the update stream, and FF after it
 --
 -- A device takes the one slot whose switch word is the sync word: that slot is open. A slot of FFFFFFFF is free, any other is spent.
-use Rattle.std.specs.Prelude.{◌≡◌, ◌≢◌, ℕ, suc, ◌+◌, ◌*◌, ◌%◌, ◌<◌, ◌≤◌, List, [], ◌∷◌, ◌++◌, length, get_or}
+use Rattle.std.specs.Prelude.{◌≡◌, ◌≢◌, ℕ, suc, ◌+◌, ◌-◌, ◌*◌, ◌%◌, ◌<◌, ◌≤◌, List, [], ◌∷◌, length, get_or}
 use Rattle.x7_words.specs.Flash.{flash_limit}
 use Rattle.x7_words.specs.Word.{word_of_bytes}
+use Rattle.x7_packets.specs.FlashSlot.{flash_slot, sector_bytes, slot_count}
+use Rattle.x7_packets.specs.SyncWord.{sync_bytes}
 
 -- the four bytes from a place on
 abbrev pub four_at : List ℕ → ℕ → List ℕ
@@ -18,15 +20,15 @@ four_at flash place = get_or flash place 0 ∷ get_or flash (place + 1) 0 ∷ ge
 abbrev pub switch_of : List ℕ → ℕ → List ℕ
 switch_of flash slot = four_at flash (32 * slot)
 
--- AA995566
+-- the switch word of an open slot: the sync word
 abbrev pub open_word : List ℕ
-open_word = 0xAA ∷ 0x99 ∷ 0x55 ∷ 0x66 ∷ []
+open_word = sync_bytes
 
--- FFFFFFFF
+-- the switch word of a free slot: a dummy word
 abbrev pub free_word : List ℕ
 free_word = 0xFF ∷ 0xFF ∷ 0xFF ∷ 0xFF ∷ []
 
--- 00000000
+-- the switch word of a spent slot, as an update leaves it
 abbrev pub spent_word : List ℕ
 spent_word = 0 ∷ 0 ∷ 0 ∷ 0 ∷ []
 
@@ -34,26 +36,20 @@ spent_word = 0 ∷ 0 ∷ 0 ∷ 0 ∷ []
 abbrev pub update_place : List ℕ → ℕ
 update_place flash = word_of_bytes (four_at flash 12)
 
--- a slot with this switch word and these bytes of a start address: a write to WBSTAR and IPROG, and then DESYNC for a fallback
-abbrev pub slot_with : List ℕ → List ℕ → List ℕ
-slot_with switch start =
-    switch ++ (0x20 ∷ 0x00 ∷ 0x00 ∷ 0x00 ∷ 0x30 ∷ 0x02 ∷ 0x00 ∷ 0x01 ∷ [])
-    ++ start ++ (0x30 ∷ 0x00 ∷ 0x80 ∷ 0x01 ∷ 0x00 ∷ 0x00 ∷ 0x00 ∷ 0x0F ∷ 0x30 ∷ 0x00 ∷ 0x80 ∷ 0x01 ∷ 0x00 ∷ 0x00 ∷ 0x00 ∷ 0x0D ∷ [])
-
 -- a slot that leads to where the first one leads
 abbrev pub first_slot : List ℕ → List ℕ
-first_slot flash = slot_with open_word (four_at flash 12)
+first_slot flash = flash_slot open_word (four_at flash 12)
 
 -- the flash is whole sectors, two at least, and not too large
 pub record HasSize (size : ℕ) : Type 0 where
-  pub whole : size % 65536 ≡ 0
-  pub least : 131072 ≤ size
+  pub whole : size % sector_bytes ≡ 0
+  pub least : 2 * sector_bytes ≤ size
   pub most : size ≤ flash_limit
 
 -- a place at which an update may stand in a flash of a size
 pub record CanStandAt (size place : ℕ) : Type 0 where
-  pub whole : place % 65536 ≡ 0
-  pub least : 131072 ≤ place
+  pub whole : place % sector_bytes ≡ 0
+  pub least : 2 * sector_bytes ≤ place
   pub most : place ≤ size
 
 -- the slot leads to U: after its switch word it has the bytes that the first one has to have
@@ -69,9 +65,9 @@ IsFree flash slot = switch_of flash slot ≡ free_word
 -- The first sector of a flash of a size is slots that all lead to one U, of which at most one is open and from some on, one at least, all are free.
 pub record HasSlots (size : ℕ) (flash : List ℕ) : Type 0 where
   pub place : CanStandAt size (update_place flash)
-  pub leads : (slot : ℕ) → slot < 2048 → Leads flash slot
-  pub one_open : (slot other : ℕ) → slot < 2048 → other < 2048 → IsOpen flash slot → IsOpen flash other → slot ≡ other
-  pub last_free : IsFree flash 2047
+  pub leads : (slot : ℕ) → slot < slot_count → Leads flash slot
+  pub one_open : (slot other : ℕ) → slot < slot_count → other < slot_count → IsOpen flash slot → IsOpen flash other → slot ≡ other
+  pub last_free : IsFree flash (slot_count - 1)
 
 -- a flash that can be updated
 pub record HasLayout (flash : List ℕ) : Type 0 where
@@ -80,10 +76,10 @@ pub record HasLayout (flash : List ℕ) : Type 0 where
 
 -- no slot is open
 abbrev pub IsClosed : List ℕ → Type 0
-IsClosed flash = (slot : ℕ) → slot < 2048 → switch_of flash slot ≢ open_word
+IsClosed flash = (slot : ℕ) → slot < slot_count → switch_of flash slot ≢ open_word
 
 -- the first slot from which on all are free
 pub record IsNext (flash : List ℕ) (next : ℕ) : Type 0 where
-  pub within : next < 2048
-  pub free : (slot : ℕ) → next ≤ slot → slot < 2048 → IsFree flash slot
+  pub within : next < slot_count
+  pub free : (slot : ℕ) → next ≤ slot → slot < slot_count → IsFree flash slot
   pub first : (slot : ℕ) → suc slot ≡ next → switch_of flash slot ≢ free_word

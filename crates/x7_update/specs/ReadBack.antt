@@ -1,6 +1,7 @@
 -- That an update is read back before its slot is opened, and the slot's switch word after it (this project's choice).
 use Rattle.std.specs.Prelude.{◌≡◌, ℕ, ◌+◌, ◌*◌, ◌<◌, ◌≤◌, List}
 use Rattle.x7_words.specs.Flash.{FlashState, IfKnown, Sees}
+use Rattle.x7_packets.specs.FlashSlot.{slot_count}
 use Rattle.x7_update.specs.After.{IsAfter}
 use Rattle.x7_update.specs.Layout.{CanStandAt, HasLayout, IsClosed, IsNext, open_word, update_place}
 use Rattle.x7_update.specs.Writing.{SeesWanted}
@@ -30,6 +31,6 @@ module _ {F : Type 0} (state : F → FlashState) where
   pub record AllReadBack (stream : List ℕ) (old new : FlashState) : Type 0 where
     pub before : ReadBack stream old new
     pub slot : ℕ
-    pub within : slot < 2048
+    pub within : slot < slot_count
     pub next : IfKnown old.bytes (λ all. IsNext all slot)
     pub switch : Sees new (32 * slot) open_word

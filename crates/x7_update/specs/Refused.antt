@@ -1,6 +1,7 @@
 -- Why an update is refused, and where a flash has no layout (this project's choice).
-use Rattle.std.specs.Prelude.{◌≡◌, ◌≢◌, ℕ, ◌+◌, ◌*◌, ◌<◌, ◌≤◌, ◌⊎◌, IsTrue, true, false, List, length, get_or, None, Some}
+use Rattle.std.specs.Prelude.{◌≡◌, ◌≢◌, ℕ, ◌+◌, ◌-◌, ◌*◌, ◌<◌, ◌≤◌, ◌⊎◌, IsTrue, true, false, List, length, get_or, None, Some}
 use Rattle.x7_words.specs.Flash.{FlashFails, FlashState, IfKnown, WriteFails}
+use Rattle.x7_packets.specs.FlashSlot.{slot_count}
 use Rattle.x7_update.specs.Layout.{CanStandAt, HasLayout, HasSize, IsFree, IsOpen, Leads, first_slot, update_place}
 use Rattle.x7_update.specs.Writing.{IsReadWrong}
 use Rattle.x7_update.specs.declared.fault.UpdateFault.{UpdateFault}
@@ -43,9 +44,9 @@ pub data NoLayoutAt (size : ℕ) (flash : List ℕ) (place : ℕ) : Type 0 where
   bad_size : (HasSize size → ⊥) → place ≡ size → NoLayoutAt size flash place
   bad_first : HasSize size → DiffersAt flash 0 place → NoLayoutAt size flash place
   bad_place : HasSize size → Leads flash 0 → (CanStandAt size (update_place flash) → ⊥) → place ≡ 12 → NoLayoutAt size flash place
-  bad_slot : BeginsWell size flash → (slot : ℕ) → slot < 2048 → ((earlier : ℕ) → earlier < slot → IsGood flash earlier)
+  bad_slot : BeginsWell size flash → (slot : ℕ) → slot < slot_count → ((earlier : ℕ) → earlier < slot → IsGood flash earlier)
       → IsBad flash slot place → NoLayoutAt size flash place
-  last_taken : BeginsWell size flash → ((slot : ℕ) → slot < 2048 → IsGood flash slot) → (IsFree flash 2047 → ⊥) → place ≡ 65504
+  last_taken : BeginsWell size flash → ((slot : ℕ) → slot < slot_count → IsGood flash slot) → (IsFree flash (slot_count - 1) → ⊥) → place ≡ 65504
       → NoLayoutAt size flash place
 
 -- the stream passes the end of a flash with a layout

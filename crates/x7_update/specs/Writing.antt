@@ -2,6 +2,7 @@
 use Rattle.std.specs.Prelude.{◌≡◌, ◌≢◌, ℕ, ◌+◌, ◌-◌, ◌*◌, ◌<◌, ◌≤◌, ◌⊎◌, IsTrue, List, length, get_or, Option, Some, None, nat_lt, if◌then◌else◌, true, false}
 use Rattle.x7_words.specs.Flash.{Elapses, FlashFails, FlashState, IfKnown, WriteFails}
 use Rattle.x7_words.specs.Word.{AreBytes}
+use Rattle.x7_packets.specs.FlashSlot.{slot_count}
 use Rattle.x7_update.specs.After.{ClosesTo, IsBetween, switched, with_stream}
 use Rattle.x7_update.specs.Layout.{CanStandAt, HasSize, open_word, switch_of}
 use Rattle.x7_update.specs.declared.fault.UpdateFault.{UpdateFault}
@@ -107,7 +108,7 @@ IsWrong update stream place buffer NoMemory = ⊥
 pub data IsWritten (size : ℕ) (stream : List ℕ) (place byte : ℕ) : Type 0 where
   in_stream : (update : ℕ) → CanStandAt size update → update + length stream ≤ size → update ≤ place → place < size
       → byte ≡ wanted_at update stream place → IsWritten size stream place byte
-  in_switch : (slot : ℕ) → slot < 2048 → 32 * slot ≤ place → place < 32 * slot + 4
+  in_switch : (slot : ℕ) → slot < slot_count → 32 * slot ≤ place → place < 32 * slot + 4
       → byte ≡ wanted_at (32 * slot) open_word place → IsWritten size stream place byte
 
 -- a byte is another than the one that an update with this stream writes at a place of a flash of a size

@@ -2,19 +2,17 @@
 ghost use Rattle.std.specs.Prelude.{◌≡◌, ◌↔◌, ◌+◌, ◌≤◌, true, length};
 ghost use Rattle.x7_update.specs.Layout.{CanStandAt, HasSize, first_slot, four_at};
 
+use x7_packets::{SYNC_BYTES, flash_slot};
 use x7_words::{FLASH_LIMIT, SECTOR};
 
-/// The slots of a first sector.
-pub(crate) const SLOTS: u64 = 2048;
+/// The sync word: a slot with it is open.
+pub(crate) const OPEN: [u8; 4] = SYNC_BYTES;
 
-/// AA995566, the sync word: a slot with it is open.
-pub(crate) const OPEN: [u8; 4] = [0xAA, 0x99, 0x55, 0x66];
+/// A dummy word: a slot with it is free.
+pub(crate) const FREE: [u8; 4] = [0xFF; 4];
 
-/// FFFFFFFF: a slot with it is free.
-pub(crate) const FREE: [u8; 4] = [0xFF, 0xFF, 0xFF, 0xFF];
-
-/// 00000000: a slot with it is spent.
-pub(crate) const SPENT: [u8; 4] = [0x00, 0x00, 0x00, 0x00];
+/// Zeros: a slot with them is spent.
+pub(crate) const SPENT: [u8; 4] = [0; 4];
 
 /// The four bytes from a place on.
 pub(crate) fn four_at(first: &[u8], place: usize) -> [u8; 4]
@@ -39,16 +37,11 @@ pub(crate) fn is_word(word: [u8; 4], other: [u8; 4]) -> bool
 }
 
 /// What each slot has to be after its switch word.
-#[rattlefmt::skip]
 pub(crate) fn first_slot(first: &[u8]) -> [u8; 32]
     requires { 16 ≤ length first.now }
     ensures { result ≡ first_slot first.now }
 {
-    let [a, b, c, d] = four_at(first, 12);
-    [
-        0xAA, 0x99, 0x55, 0x66, 0x20, 0x00, 0x00, 0x00, 0x30, 0x02, 0x00, 0x01, a, b, c, d, //
-        0x30, 0x00, 0x80, 0x01, 0x00, 0x00, 0x00, 0x0F, 0x30, 0x00, 0x80, 0x01, 0x00, 0x00, 0x00, 0x0D,
-    ]
+    flash_slot(OPEN, four_at(first, 12))
 }
 
 /// Whether a flash of this size can be updated.

@@ -1,12 +1,14 @@
 //! A look at the first sector: where the update stands, which slot is open, and which is the next.
 ghost use Rattle.std.specs.Prelude.{◌≡◌, ◌+◌, ◌<◌, ℕ, List, true, length, IfErr, IfOk, IfNone, IfSome};
 ghost use Rattle.x7_words.specs.Flash.{KnowsBytes, OnlyReads, IfKnown};
+ghost use Rattle.x7_packets.specs.FlashSlot.{sector_bytes, slot_count};
 ghost use Rattle.x7_update.specs.Layout.{HasSize, Leads, first_slot};
 ghost use Rattle.x7_update.specs.Refused.{DiffersAt, HasCause, IsBad, IsGood, NoLayoutAt};
 ghost use Rattle.x7_update.specs.Slots.{Finds, Fits, SoFar};
 
 use crate::fault::UpdateFault;
-use crate::layout::{FREE, OPEN, SLOTS, can_stand, first_slot, four_at, has_size, is_word};
+use crate::layout::{FREE, OPEN, can_stand, first_slot, four_at, has_size, is_word};
+use x7_packets::SLOT_COUNT;
 use x7_words::{Flash, word_of};
 
 /// What the first slots say: which of them is open, and from which on all of them are free.
@@ -26,8 +28,8 @@ pub struct Slots {
 
 /// The first place of a slot, after its switch word, at which the slot differs from what it has to be.
 fn difference(first: &[u8], wanted: &[u8; 32], slot: usize) -> Option<u64>
-    requires slot { slot < 2048 }
-    requires first { length first.now ≡ 65536 }
+    requires slot { slot < slot_count }
+    requires first { length first.now ≡ sector_bytes }
     requires wanted { wanted.now ≡ first_slot first.now }
     ensures none { IfNone result (Leads first.now slot) }
     ensures some { IfSome result (λ place. DiffersAt first.now slot place) }
@@ -43,8 +45,8 @@ fn difference(first: &[u8], wanted: &[u8; 32], slot: usize) -> Option<u64>
 
 /// Takes a slot, by what the slots before it say.
 fn take_slot(first: &[u8], wanted: &[u8; 32], slot: u64, seen: Seen) -> Result<Seen, u64>
-    requires slot { slot < 2048 }
-    requires first { length first.now ≡ 65536 }
+    requires slot { slot < slot_count }
+    requires first { length first.now ≡ sector_bytes }
     requires wanted { wanted.now ≡ first_slot first.now }
     requires before { SoFar first.now slot seen }
     ensures ok { IfOk result (SoFar first.now (slot + 1)) }
@@ -75,17 +77,17 @@ fn take_slot(first: &[u8], wanted: &[u8; 32], slot: u64, seen: Seen) -> Result<S
 
 /// Takes all slots.
 fn take_slots(first: &[u8], wanted: &[u8; 32]) -> Result<Seen, u64>
-    requires first { length first.now ≡ 65536 }
+    requires first { length first.now ≡ sector_bytes }
     requires wanted { wanted.now ≡ first_slot first.now }
-    ensures ok { IfOk result (SoFar first.now 2048) }
-    ensures err { IfErr result (λ place. (slot : ℕ) × (slot < 2048)
+    ensures ok { IfOk result (SoFar first.now slot_count) }
+    ensures err { IfErr result (λ place. (slot : ℕ) × (slot < slot_count)
         × ((earlier : ℕ) → earlier < slot → IsGood first.now earlier) × IsBad first.now slot place) }
 {
     let mut seen = Seen {
         opened: None,
         next: 0,
     };
-    for slot in 0..SLOTS {
+    for slot in 0..SLOT_COUNT {
         match take_slot(first, wanted, slot, seen) {
             Ok(more) => seen = more,
             Err(place) => return Err(place),
@@ -96,7 +98,7 @@ fn take_slots(first: &[u8], wanted: &[u8; 32]) -> Result<Seen, u64>
 
 /// The slots of a first sector of a flash of a size, or the place at which there is no layout.
 fn slots_of(first: &[u8], size: u64) -> Result<Slots, u64>
-    requires first { length first.now ≡ 65536 }
+    requires first { length first.now ≡ sector_bytes }
     requires size { HasSize size }
     ensures found { IfOk result (Finds size first.now) }
     ensures fault { IfErr result (NoLayoutAt size first.now) }
@@ -110,12 +112,12 @@ fn slots_of(first: &[u8], size: u64) -> Result<Slots, u64>
         return Err(12);
     }
     match take_slots(first, &wanted) {
-        Ok(seen) if seen.next < SLOTS => Ok(Slots {
+        Ok(seen) if seen.next < SLOT_COUNT => Ok(Slots {
             update,
             opened: seen.opened,
             next: seen.next,
         }),
-        Ok(_) => Err(32 * (SLOTS - 1)),
+        Ok(_) => Err(32 * (SLOT_COUNT - 1)),
         Err(place) => Err(place),
     }
 }
@@ -123,7 +125,7 @@ fn slots_of(first: &[u8], size: u64) -> Result<Slots, u64>
 /// Reads the first sector of a flash into the buffer, and finds its slots.
 pub(crate) fn find_slots<F: Flash>(flash: &mut F, buffer: &mut [u8]) -> Result<Slots, UpdateFault>
     requires attached { (F.state flash.old).attached ≡ true }
-    requires buffer { length buffer.old ≡ 65536 }
+    requires buffer { length buffer.old ≡ sector_bytes }
     ensures fits { IfOk result (Fits (F.state flash.old).extent) }
     ensures finds { IfOk result (λ slots. IfKnown (F.state flash.old).bytes (λ all. Finds (length all) all slots)) }
     ensures fault { (stream : List ℕ) → IfErr result (HasCause stream (F.state flash.old) (F.state flash.new)) }

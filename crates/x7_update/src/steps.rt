@@ -1,6 +1,7 @@
 //! The steps of an update, in their order: look, close, write, read back, open.
 ghost use Rattle.std.specs.Prelude.{◌≡◌, ◌+◌, ◌*◌, ◌≤◌, ◌⊎◌, ℕ, List, true, length, IfErr, OnOk, OnErr, option_map};
 ghost use Rattle.x7_words.specs.Flash.{OnlyReads, OnlyWrites, IfKnown, Sees, WriteFails};
+ghost use Rattle.x7_packets.specs.FlashSlot.{sector_bytes};
 ghost use Rattle.x7_update.specs.After.{ClosesTo, IsAfter, MayBeLeft, switched};
 ghost use Rattle.x7_update.specs.Layout.{HasLayout, IsClosed, IsFree, open_word};
 ghost use Rattle.x7_update.specs.ReadBack.{AllReadBack, OpensReadBack, WasReady};
@@ -64,7 +65,7 @@ fn finish<F: Flash>(
     requires attached { (F.state flash.old).attached ≡ true }
     requires fits { Fits (F.state flash.old).extent slots }
     requires stream { slots.update + length stream.now ≤ (F.state flash.old).extent }
-    requires buffer { length buffer.old ≡ 65536 }
+    requires buffer { length buffer.old ≡ sector_bytes }
     requires written { IfKnown (F.state flash.old).bytes (HasWanted slots.update stream.now) }
     requires free { IfKnown (F.state flash.old).bytes (λ all. IsFree all slots.next) }
     requires closed { IfKnown (F.state flash.old).bytes IsClosed }

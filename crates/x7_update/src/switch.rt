@@ -1,6 +1,7 @@
 //! The switch words of slots: the open slot is closed, and the next is opened.
 ghost use Rattle.std.specs.Prelude.{◌≡◌, ◌+◌, ◌*◌, ◌<◌, ◌≤◌, true, OnOk, OnErr, option_map};
 ghost use Rattle.x7_words.specs.Flash.{OnlyWrites, IfKnown, WriteFails};
+ghost use Rattle.x7_packets.specs.FlashSlot.{slot_count};
 ghost use Rattle.x7_update.specs.After.{switched};
 ghost use Rattle.x7_update.specs.Layout.{IsFree, IsOpen, open_word, spent_word};
 ghost use Rattle.x7_update.specs.Writing.{AtAnyMoment, Closing, Opening, StaysBytes};
@@ -11,7 +12,7 @@ use x7_words::{Failed, Flash};
 /// Closes an open slot for ever.
 pub(crate) fn close_slot<F: Flash>(flash: &mut F, slot: u64) -> Result<(), Failed>
     requires attached { (F.state flash.old).attached ≡ true }
-    requires slot { slot < 2048 }
+    requires slot { slot < slot_count }
     requires within { 32 * slot + 4 ≤ (F.state flash.old).extent }
     requires opened { IfKnown (F.state flash.old).bytes (λ all. IsOpen all slot) }
     ensures closed { OnOk result ((F.state flash.new).bytes ≡ option_map (switched slot spent_word) (F.state flash.old).bytes) }
@@ -28,7 +29,7 @@ pub(crate) fn close_slot<F: Flash>(flash: &mut F, slot: u64) -> Result<(), Faile
 /// Opens a free slot.
 pub(crate) fn open_slot<F: Flash>(flash: &mut F, slot: u64) -> Result<(), Failed>
     requires attached { (F.state flash.old).attached ≡ true }
-    requires slot { slot < 2048 }
+    requires slot { slot < slot_count }
     requires within { 32 * slot + 4 ≤ (F.state flash.old).extent }
     requires free { IfKnown (F.state flash.old).bytes (λ all. IsFree all slot) }
     ensures opened { OnOk result ((F.state flash.new).bytes ≡ option_map (switched slot open_word) (F.state flash.old).bytes) }

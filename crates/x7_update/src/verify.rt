@@ -1,6 +1,7 @@
 //! What was written is read back and compared.
 ghost use Rattle.std.specs.Prelude.{◌≡◌, ◌+◌, ◌*◌, ◌<◌, ◌≤◌, ◌^◌, ℕ, List, true, length, IfErr, OnOk};
 ghost use Rattle.x7_words.specs.Flash.{OnlyReads, IfKnown, Sees};
+ghost use Rattle.x7_packets.specs.FlashSlot.{sector_bytes, slot_count};
 ghost use Rattle.x7_update.specs.Layout.{CanStandAt, HasSize, IsOpen, open_word};
 ghost use Rattle.x7_update.specs.Writing.{ReadsWanted, EndFails, HasWanted, IsWrong, SeesWanted, wanted_at};
 
@@ -51,7 +52,7 @@ pub(crate) fn verify_stream<F: Flash>(
     requires size { HasSize (F.state flash.old).extent }
     requires place { CanStandAt (F.state flash.old).extent update }
     requires fits { update + length stream.now ≤ (F.state flash.old).extent }
-    requires buffer { length buffer.old ≡ 65536 }
+    requires buffer { length buffer.old ≡ sector_bytes }
     requires written { IfKnown (F.state flash.old).bytes (HasWanted update stream.now) }
     ensures seen { OnOk result (SeesWanted update stream.now update (F.state flash.old).extent (F.state flash.new)) }
     ensures fault { IfErr result (EndFails stream.now (F.state flash.old) (F.state flash.new)) }
@@ -76,16 +77,16 @@ fn verify_sector<F: Flash>(
 ) -> Result<(), UpdateFault>
     requires attached { (F.state flash.old).attached ≡ true }
     requires size { HasSize (F.state flash.old).extent }
-    requires within { sector * 65536 + 65536 ≤ (F.state flash.old).extent }
-    requires behind { update ≤ sector * 65536 }
+    requires within { sector * sector_bytes + sector_bytes ≤ (F.state flash.old).extent }
+    requires behind { update ≤ sector * sector_bytes }
     requires place { CanStandAt (F.state flash.old).extent update }
     requires fits { update + length stream.now ≤ (F.state flash.old).extent }
-    requires buffer { length buffer.old ≡ 65536 }
+    requires buffer { length buffer.old ≡ sector_bytes }
     requires written { IfKnown (F.state flash.old).bytes (HasWanted update stream.now) }
-    ensures seen { OnOk result (SeesWanted update stream.now (sector * 65536) (sector * 65536 + 65536) (F.state flash.new)) }
+    ensures seen { OnOk result (SeesWanted update stream.now (sector * sector_bytes) (sector * sector_bytes + sector_bytes) (F.state flash.new)) }
     ensures fault { IfErr result (EndFails stream.now (F.state flash.old) (F.state flash.new)) }
     ensures only { OnlyReads (F.state flash.old) (F.state flash.new) (F.found_since flash.old) (F.found_since flash.new) }
-    ensures buffer { length buffer.new ≡ 65536 }
+    ensures buffer { length buffer.new ≡ sector_bytes }
 {
     match flash.read_at(sector * SECTOR, buffer) {
         Ok(()) => (),
@@ -98,7 +99,7 @@ fn verify_sector<F: Flash>(
 pub(crate) fn verify_switch<F: Flash>(flash: &mut F, slot: u64) -> Result<(), UpdateFault>
     requires attached { (F.state flash.old).attached ≡ true }
     requires size { HasSize (F.state flash.old).extent }
-    requires slot { slot < 2048 }
+    requires slot { slot < slot_count }
     requires opened { IfKnown (F.state flash.old).bytes (λ all. IsOpen all slot) }
     ensures seen { OnOk result (Sees (F.state flash.new) (32 * slot) open_word) }
     ensures fault { (stream : List ℕ) → IfErr result (EndFails stream (F.state flash.old) (F.state flash.new)) }

@@ -21,7 +21,7 @@ fn soonest(phase: u8) -> usize
     4 * 6usize.saturating_sub(phase as usize) + 1
 }
 
-/// What is answered where a piece is used up, or a stop has come, at this place of it.
+/// What is answered where a piece is used up, or a stop has come, at place `at` of the piece.
 fn answer(started: bool, at: usize, fed: Fed) -> UntilStarted
     ensures { result ≡ (if started then until.Started at else until.Fed fed) }
 {
@@ -33,7 +33,7 @@ fn answer(started: bool, at: usize, fed: Fed) -> UntilStarted
 }
 
 impl Device {
-    /// Where the next turn of a piece of so many bytes ends at the latest, so that startup ends at its last byte at the
+    /// Where the next turn of a piece of `length` bytes ends at the latest, so that startup ends at the turn's last byte at the
     /// soonest, or begins there.
     fn turn_end(&self, at: usize, length: usize) -> usize
         requires { at ≤ length }
@@ -71,7 +71,7 @@ impl Device {
         false
     }
 
-    /// Takes the bytes of a piece as `feed` does, and none behind the byte at which startup ends: the least at which the
+    /// Takes the bytes of a piece as `feed` does, and none after the byte at which startup ends: the least at which the
     /// phase is 7.
     pub fn feed_until_started(&mut self, piece: &[u8], read: &mut ReadBuf) -> UntilStarted
         requires { self.old.taken + length piece.now ≤ 2 ^ 63 }
@@ -114,7 +114,7 @@ impl Device {
         self.registers.clock.startup.has_begun()
     }
 
-    /// Takes the bytes of a piece as `feed` does, where words read out are dropped, and none behind the byte at which startup
+    /// Takes the bytes of a piece as `feed` does, where words read out are dropped, and none after the byte at which startup
     /// begins. Says how many these are.
     pub fn feed_until_begun(&mut self, piece: &[u8]) -> usize
         requires { self.old.taken + length piece.now ≤ 2 ^ 63 }

@@ -36,7 +36,7 @@ impl Model for Undo {
 }
 
 impl Undo {
-    /// Room for what is kept of a device of this part. Beside this no call takes memory.
+    /// Takes room for what is kept of a device of this part. No other call takes memory.
     pub fn new(alloc: Global, part: &Part) -> Result<Undo, NoMemory>
         ensures { IfOk result (IsUndoOf part.now) }
     {

@@ -19,7 +19,7 @@ impl Frames {
         self.pipeline.save(part, &self.memory, into);
     }
 
-    /// Makes them the frames to which the kept ones lead back.
+    /// Makes the frames those to which the kept ones lead back.
     pub fn restore(&mut self, part: &Part, from: &Saved)
         requires part { FramesFit part.now self.old }
         requires saved { IsSavedOf part.now from.now }

@@ -1,10 +1,10 @@
-//! A second cutter like one.
+//! A second cutter that is equal to a first one.
 ghost use Rattle.std.specs.Prelude.{◌≡◌};
 
 use super::Cutter;
 
 impl Cutter {
-    /// An equal cutter.
+    /// Gives an equal cutter.
     pub fn copy(&self) -> Cutter
         ensures { result ≡ self.now }
     {

@@ -62,7 +62,7 @@ fn copy_words(words: &mut Vec<u32>, from: &[u32])
     }
 }
 
-/// The same where some words are kept.
+/// Writes words over others, for which there is room, where `some` says that there are any.
 fn copy_some(words: &mut Vec<u32>, from: &[u32], some: bool)
     requires { some ≡ true → length from.now ≤ vec_capacity words.old }
     ensures items { some ≡ true → words.new.items ≡ from.now }
@@ -75,7 +75,7 @@ fn copy_some(words: &mut Vec<u32>, from: &[u32], some: bool)
 }
 
 impl Saved {
-    /// Room for a pipeline of this part and a frame. No other call takes memory.
+    /// Takes room for a pipeline of this part and a frame. No other call takes memory.
     pub fn new(alloc: Global, part: &Part) -> Result<Saved, NoMemory>
         ensures { IfOk result (IsSavedOf part.now) }
     {
@@ -124,7 +124,7 @@ impl Saved {
 }
 
 impl Pipeline {
-    /// Makes it another one of the same part.
+    /// Makes this pipeline equal to another one of the same part.
     fn copy_from(&mut self, other: &Pipeline)
         requires { self.old.width ≡ other.now.width }
         ensures { self.new ≡ other.now }
@@ -155,7 +155,7 @@ impl Pipeline {
         address(slot_at(part, self.base, self.frame_count - 1))
     }
 
-    /// Where a copy would put one.
+    /// Where a copy would put a frame.
     fn put_by_copy(&self, part: &Part) -> Option<u32>
         ensures value { result ≡ put_by_copy part.now self.now }
         ensures address { IfSome result (Contains (addresses_in part.now)) }
@@ -191,7 +191,7 @@ impl Pipeline {
         into.keep_frame(part, memory, self.next_put(part));
     }
 
-    /// Makes it the kept pipeline, and puts the kept frame into the memory, where there is one. Every other frame stays.
+    /// Makes this pipeline the kept one, and puts the kept frame into the memory, where there is one. Every other frame stays.
     pub fn restore(&mut self, part: &Part, memory: &mut Memory, from: &Saved)
         requires part { IsPipelineOf part.now self.old }
         requires memory { AreFramesOf part.now memory.old }

@@ -1,36 +1,67 @@
-use Rattle.std.proofs.Common.{◌∙◌}
-use Rattle.x7_flow.specs.Standing.{frames_state}
-use Rattle.x7_flow.proofs.StandingLemmas.{did_copy, did_load, did_order, did_other, did_reads, did_word, drop_is}
+use Rattle.std.proofs.Common.{false, subst, sym, true, ◌∙◌}
+use Rattle.x7_regs.specs.declared.command.Command.{Command}
+use Rattle.x7_flow.specs.Asked.{Order}
+use Rattle.x7_flow.specs.Standing.{Did, frames_state}
+use Rattle.x7_flow.proofs.StandingLemmas.{copies_asked, did_as, did_copy, did_load, did_order, did_other, did_word, fault_as, nothing_asked, word_asked}
 use Rattle.x7_flow.proofs.taking.take.Goals as goal
 
-pub returns-in-Load-clause-did : goal.returns-in-Load-clause-did
-returns-in-Load-clause-did c = rw c.in-Load.is (did_load c.args.part.now c.args.pipeline.now c.load.new.self c.args.memory.now c.in-Load.word c.load.ensures.stands)
+pub returns-in-Far-clause-did : goal.returns-in-Far-clause-did
+returns-in-Far-clause-did c = λ h s. rw c.in-Far.is (did_load c.args.part.now c.args.pipeline.now c.load.new.self c.args.memory.now c.args.word c.load.ensures.stands)
 
-pub returns-in-Load-clause-pipeline : goal.returns-in-Load-clause-pipeline
-returns-in-Load-clause-pipeline c = c.load.ensures.part c.args.part.now c.requires.pipeline
+pub returns-in-Far-clause-pipeline : goal.returns-in-Far-clause-pipeline
+returns-in-Far-clause-pipeline c = c.load.ensures.part c.args.part.now c.requires.pipeline
 
-pub returns-in-Order-clause-did : goal.returns-in-Order-clause-did
-returns-in-Order-clause-did c = rw c.in-Order.is (did_order c.args.part.now c.args.pipeline.now c.command.new.self c.args.memory.now c.in-Order.command c.command.ensures.stands)
+pub returns-in-Cmd-clause-did : goal.returns-in-Cmd-clause-did
+returns-in-Cmd-clause-did c = λ h s. rw c.in-Cmd.is
+    (subst (λ (x : Command). Did c.args.part.now (Order x) (frames_state c.args.pipeline.now c.args.memory.now) (frames_state c.command.new.self c.args.memory.now)) c.command_of.ensures
+    (did_order c.args.part.now c.args.pipeline.now c.command.new.self c.args.memory.now c.command_of.result c.command.ensures.stands))
 
 pub returns-in-Ok-clause-did : goal.returns-in-Ok-clause-did
-returns-in-Ok-clause-did c =
-    rw c.in-Word.is (did_word c.args.part.now c.args.pipeline.now c.write.new.self c.args.memory.now c.write.new.memory c.in-Word.word c.in-Ok.ensures.stands c.in-Ok.ensures.lands)
+returns-in-Ok-clause-did c = λ h s.
+    did_as c.args.part.now h c.args.reg c.args.word _ (frames_state c.args.pipeline.now c.args.memory.now) (frames_state c.write.new.self c.write.new.memory)
+    (word_asked c.args.part.now.idcode h c.args.reg c.args.word true c.in-Fdri.is (sym (c.takes_frames.ensures.after c.args.part.now.idcode h s) ∙ c.if-not-takes_frames.false))
+    (did_word c.args.part.now c.args.pipeline.now c.write.new.self c.args.memory.now c.write.new.memory c.args.word c.in-Ok.ensures.stands c.in-Ok.ensures.lands)
+
+pub returns-in-Ok-clause-fault : goal.returns-in-Ok-clause-fault
+returns-in-Ok-clause-fault c = λ h f s has.
+    c.in-Ok.ensures.fault f has.stands ∙ fault_as c.args.part.now h c.args.reg c.args.word _ f
+    (word_asked c.args.part.now.idcode h c.args.reg c.args.word true c.in-Fdri.is (sym (c.takes_frames.ensures.after c.args.part.now.idcode h s) ∙ c.if-not-takes_frames.false))
+
+pub returns-in-Err-clause-fault : goal.returns-in-Err-clause-fault
+returns-in-Err-clause-fault c = λ h f s has.
+    c.in-Err.ensures.fault f has.stands ∙ fault_as c.args.part.now h c.args.reg c.args.word _ f
+    (word_asked c.args.part.now.idcode h c.args.reg c.args.word true c.in-Fdri.is (sym (c.takes_frames.ensures.after c.args.part.now.idcode h s) ∙ c.if-not-takes_frames.false))
 
 pub returns-in-Ok-copy-clause-did : goal.returns-in-Ok-copy-clause-did
-returns-in-Ok-copy-clause-did c =
-    rw c.in-Copies.is (did_copy c.args.part.now c.args.pipeline.now c.copy.new.self c.args.memory.now c.copy.new.memory c.in-Ok-copy.ensures.same c.in-Ok-copy.ensures.put c.in-Ok-copy.ensures.fault)
+returns-in-Ok-copy-clause-did c = λ h s.
+    did_as c.args.part.now h c.args.reg c.args.word _ (frames_state c.args.pipeline.now c.args.memory.now) (frames_state c.copy.new.self c.copy.new.memory)
+    (copies_asked c.args.part.now.idcode h c.args.reg c.args.word true c.in-Mfwr.is (sym (c.takes_copies.ensures.after c.args.part.now.idcode h s) ∙ c.if-not-takes_copies.false))
+    (did_copy c.args.part.now c.args.pipeline.now c.copy.new.self c.args.memory.now c.copy.new.memory c.in-Ok-copy.ensures.same c.in-Ok-copy.ensures.put c.in-Ok-copy.ensures.fault)
 
-pub returns-in-Ok-drop_words-clause-did : goal.returns-in-Ok-drop_words-clause-did
-returns-in-Ok-drop_words-clause-did c =
-    rw c.in-Reads.is (did_reads c.args.part.now c.args.pipeline.now c.drop_words.new.self c.args.memory.now c.in-Reads.count c.in-Ok-drop_words.ensures.stands c.in-Ok-drop_words.ensures.fault)
+pub returns-in-Ok-copy-clause-fault : goal.returns-in-Ok-copy-clause-fault
+returns-in-Ok-copy-clause-fault c = λ h f s has.
+    c.in-Ok-copy.ensures.fault f has.stands ∙ fault_as c.args.part.now h c.args.reg c.args.word _ f
+    (copies_asked c.args.part.now.idcode h c.args.reg c.args.word true c.in-Mfwr.is (sym (c.takes_copies.ensures.after c.args.part.now.idcode h s) ∙ c.if-not-takes_copies.false))
 
-pub returns-in-Ok-drop_words-clause-fault : goal.returns-in-Ok-drop_words-clause-fault
-returns-in-Ok-drop_words-clause-fault c = λ f h.
-    rw c.in-Reads.is (c.in-Ok-drop_words.ensures.fault f h.stands ∙ drop_is c.args.part.now c.args.pipeline.now f c.in-Reads.count h)
+pub returns-in-Err-copy-clause-fault : goal.returns-in-Err-copy-clause-fault
+returns-in-Err-copy-clause-fault c = λ h f s has.
+    c.in-Err-copy.ensures.fault f has.stands ∙ fault_as c.args.part.now h c.args.reg c.args.word _ f
+    (copies_asked c.args.part.now.idcode h c.args.reg c.args.word true c.in-Mfwr.is (sym (c.takes_copies.ensures.after c.args.part.now.idcode h s) ∙ c.if-not-takes_copies.false))
 
-pub returns-in-Err-drop_words-clause-fault : goal.returns-in-Err-drop_words-clause-fault
-returns-in-Err-drop_words-clause-fault c = λ f h.
-    rw c.in-Reads.is (c.in-Err-drop_words.ensures.fault f h.stands ∙ drop_is c.args.part.now c.args.pipeline.now f c.in-Reads.count h)
+pub returns-then-not-takes_frames-clause-did : goal.returns-then-not-takes_frames-clause-did
+returns-then-not-takes_frames-clause-did c = λ h s.
+    did_as c.args.part.now h c.args.reg c.args.word _ (frames_state c.args.pipeline.now c.args.memory.now) (frames_state c.args.pipeline.now c.args.memory.now)
+    (word_asked c.args.part.now.idcode h c.args.reg c.args.word false c.in-Fdri.is (sym (c.takes_frames.ensures.after c.args.part.now.idcode h s) ∙ c.if-not-takes_frames.true))
+    (did_other c.args.part.now (frames_state c.args.pipeline.now c.args.memory.now))
 
-pub returns-in-Other-clause-did : goal.returns-in-Other-clause-did
-returns-in-Other-clause-did c = rw c.in-Other.is (did_other c.args.part.now (frames_state c.args.pipeline.now c.args.memory.now))
+pub returns-then-not-takes_copies-clause-did : goal.returns-then-not-takes_copies-clause-did
+returns-then-not-takes_copies-clause-did c = λ h s.
+    did_as c.args.part.now h c.args.reg c.args.word _ (frames_state c.args.pipeline.now c.args.memory.now) (frames_state c.args.pipeline.now c.args.memory.now)
+    (copies_asked c.args.part.now.idcode h c.args.reg c.args.word false c.in-Mfwr.is (sym (c.takes_copies.ensures.after c.args.part.now.idcode h s) ∙ c.if-not-takes_copies.true))
+    (did_other c.args.part.now (frames_state c.args.pipeline.now c.args.memory.now))
+
+pub returns-in_default-clause-did : goal.returns-in_default-clause-did
+returns-in_default-clause-did c = λ h s.
+    did_as c.args.part.now h c.args.reg c.args.word _ (frames_state c.args.pipeline.now c.args.memory.now) (frames_state c.args.pipeline.now c.args.memory.now)
+    (nothing_asked c.args.part.now.idcode h c.args.reg c.args.word c.in_default.not-Far c.in_default.not-Cmd c.in_default.not-Fdri c.in_default.not-Mfwr)
+    (did_other c.args.part.now (frames_state c.args.pipeline.now c.args.memory.now))

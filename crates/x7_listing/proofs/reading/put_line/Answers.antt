@@ -16,16 +16,16 @@ pub returns-in-Some-after-2-clause-reads : goal.returns-in-Some-after-2-clause-r
 returns-in-Some-after-2-clause-reads c = cmd-line c.args.check c.put_command.result c.args.line.now c.in-Some-after-2.name.now c.args.out.now.items c.put_command.new.out.items c.in-Some-after-2.ensures c.put_command.ensures.reads
 
 pub returns-in-Some-after-clause-reads : goal.returns-in-Some-after-clause-reads
-returns-in-Some-after-clause-reads c = write-line c.args.check c.put_access.result c.args.line.now c.in-Some-after.access.now c.args.out.now.items c.put_access.new.out.items c.in-Some-after.ensures c.put_access.ensures.reads
+returns-in-Some-after-clause-reads c = write-line c.args.check c.put_write.result c.args.line.now c.in-Some-after.access.now c.args.out.now.items c.put_write.new.out.items c.in-Some-after.ensures c.put_write.ensures.reads
 
 pub returns-in-Some-after-5-clause-reads : goal.returns-in-Some-after-5-clause-reads
-returns-in-Some-after-5-clause-reads c = read-line c.args.check c.put_access-in-Some-after-5.result c.args.line.now c.in-Some-after-5.access.now c.args.out.now.items c.put_access-in-Some-after-5.new.out.items c.in-Some-after-5.ensures c.put_access-in-Some-after-5.ensures.reads
+returns-in-Some-after-5-clause-reads c = read-line c.args.check c.put_read.result c.args.line.now c.in-Some-after-5.access.now c.args.out.now.items c.put_read.new.out.items c.in-Some-after-5.ensures c.put_read.ensures.reads
 
 pub returns-in-Some-after-6-clause-reads : goal.returns-in-Some-after-6-clause-reads
-returns-in-Some-after-6-clause-reads c = write2-line c.args.check c.put_count.result c.args.line.now c.in-Some-after-6.count.now c.args.out.now.items c.put_count.new.out.items c.in-Some-after-6.ensures c.put_count.ensures.reads
+returns-in-Some-after-6-clause-reads c = write2-line c.args.check c.put_write2.result c.args.line.now c.in-Some-after-6.count.now c.args.out.now.items c.put_write2.new.out.items c.in-Some-after-6.ensures c.put_write2.ensures.reads
 
 pub returns-in-Some-after-7-clause-reads : goal.returns-in-Some-after-7-clause-reads
-returns-in-Some-after-7-clause-reads c = read2-line c.args.check c.put_count-in-Some-after-7.result c.args.line.now c.in-Some-after-7.count.now c.args.out.now.items c.put_count-in-Some-after-7.new.out.items c.in-Some-after-7.ensures c.put_count-in-Some-after-7.ensures.reads
+returns-in-Some-after-7-clause-reads c = read2-line c.args.check c.put_read2.result c.args.line.now c.in-Some-after-7.count.now c.args.out.now.items c.put_read2.new.out.items c.in-Some-after-7.ensures c.put_read2.ensures.reads
 
 pub returns-then-is_some-clause-reads : goal.returns-then-is_some-clause-reads
 returns-then-is_some-clause-reads c = is-comment c.after-9.result c.args.check c.args.line.now c.args.out.now.items (sym c.if-is_some.ensures) c.after-9.ensures

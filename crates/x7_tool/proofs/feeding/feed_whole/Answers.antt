@@ -22,8 +22,7 @@ returns-then-turn-clause-ok g c =
     let short : length (taken ++ piece) ≤ text_limit = omega (arith, size, c.in-Ok-next_turn.ensures.within.0, v.told.1.2) in
     let fits : length (taken ++ piece) < 2 ^ 63 = omega (arith, short) in (
       taken ++ piece,
-      short,
-      c.take_turn-read.ensures c.args.taker taken fits v.told.1.1,
+      c.end_text.ensures c.args.taker (taken ++ piece) fits (c.take_turn-read.ensures c.args.taker taken fits v.told.1.1),
       λ flash.
           whole_read contents flash (CameIn (step_over (name ∷ []) (i.state c.args.inputs.now) (i.state c.next_turn.new.inputs))) name (taken ++ piece) (i.state c.next_turn.new.inputs).rest text_limit sel (c.in-Ok-next_turn.ensures.end c.if-turn.true) short,
     )

@@ -8,7 +8,7 @@ use Rattle.x7_tool.proofs.feeding.feed_whole.Given as goal
 abbrev pub invariant-loop-turn : goal.invariant-loop-turn
 invariant-loop-turn g l =
     let i = g.I.Inputs in
-    let t = g.T.TakesText in
+    let t = g.T.TakesLines in
     record {
       selected : (i.state l.inputs).selected ≡ true;
       inputs : Stays (i.state l.fn.inputs) (i.state l.inputs);

@@ -1,4 +1,4 @@
-use Rattle.std.proofs.Common.{◌≡◌, ◌+◌, ◌-◌, ◌≤◌, ◌++◌, ℕ, Bool, List, length, take, drop, refl, sym, ap, subst, ◌∙◌, arith, length-drop}
+use Rattle.std.proofs.Common.{◌≡◌, ◌+◌, ◌-◌, ◌*◌, ◌≤◌, ◌++◌, ℕ, Bool, List, length, take, drop, refl, sym, ap, subst, ◌∙◌, arith, length-drop}
 use Rattle.std.proofs.lemmas.List.{take_rest}
 use Rattle.x7_packets.specs.Cutting.{between}
 use Rattle.x7_packets.specs.History.{history_of}
@@ -21,23 +21,23 @@ device_after c = record {
   cutter = c.self.inside.cutter;
   registers = registers_in c.tick-left.new.self;
   wrapped = c.self.inside.wrapped;
-  taken = c.self.inside.taken + (c.nops-count.result - c.tick-left.result);
+  taken = c.self.inside.taken + ((4 * c.nop_count-count.result) - c.tick-left.result);
   fed = c.saturating_add-self-inside.result;
 }
 
 passed_here : (c : goal.After-self-2-1) (kept : Kept) (wrapped : Bool) (bytes : List ℕ) → (let part : PartData = c.self.inside.part in DeviceStandsFor part kept wrapped c.args.self.now bytes
-    → (let more : List ℕ = between c.args.piece.now c.args.at.now (c.args.at.now + (c.nops-count.result - c.tick-left.result)) in
+    → (let more : List ℕ = between c.args.piece.now c.args.at.now (c.args.at.now + ((4 * c.nop_count-count.result) - c.tick-left.result)) in
     DeviceStandsFor part kept wrapped (device_after c) (bytes ++ more) × (reads_of part kept (bytes ++ more) ≡ reads_of part kept bytes) × (history_of (bytes ++ more) ≡ history_of bytes)))
 passed_here c kept wrapped bytes s =
     let piece : List ℕ = c.args.piece.now in
     let from : ℕ = c.args.at.now in
-    let count : ℕ = c.nops-count.result in
+    let count : ℕ = 4 * c.nop_count-count.result in
     let left : ℕ = c.tick-left.result in
     let cut : List ℕ = between piece from (from + count) in
     let more : List ℕ = between piece from (from + (count - left)) in
     let few : left ≤ count = c.tick-left.ensures.within in
     let rest_is : length (take (length piece - from) (drop from piece)) ≡ length piece - from = ap length (take_rest piece from) ∙ length-drop from piece in
-    let room : count ≤ length piece - from = omega (arith, c.nops-count.ensures.within, rest_is) in
+    let room : count ≤ length piece - from = omega (arith, c.nop_count-count.ensures.within, rest_is) in
     let within : from + count ≤ length piece = omega (arith, room, c.requires.within) in
     let all : length cut ≡ count = length_between piece from (from + count) (omega arith) within ∙ omega arith in
     let taken : length more ≡ count - left = length_between piece from (from + (count - left)) (omega arith) (omega (arith, within)) ∙ omega arith in
@@ -50,7 +50,7 @@ passed_here c kept wrapped bytes s =
     passed c.self.inside.part kept wrapped (device_before c) (device_after c) bytes cut more rest count left inside
     (ap (λ (d : DeviceState). d.registers.stop) c.self.view_is ∙ c.requires.going)
     (ap (λ (d : DeviceState). due_count d.registers.due) c.self.view_is ∙ c.requires.none_due)
-    (λ sessions place i. subst (λ (b : List ℕ). Idles c.self.inside.cutter (bytes ++ b) sessions place) prefix (c.nops-count.ensures.idles bytes sessions place i))
+    (λ sessions place i. subst (λ (b : List ℕ). Idles c.self.inside.cutter (bytes ++ b) sessions place) prefix (c.nop_count-count.ensures.idles bytes sessions place i))
     (c.tick-left.ensures.stands kept) (sym all) split (length-drop (from + count - left - from) cut ∙ omega (arith, all, few))
     c.tick-left.ensures.goes_on c.tick-left.ensures.fired refl refl refl (omega (arith, taken))
     (ap due_count c.tick-left.ensures.due ∙ ap (λ (d : DeviceState). due_count d.registers.due) c.self.view_is ∙ c.requires.none_due)
@@ -58,14 +58,14 @@ passed_here c kept wrapped bytes s =
 pub returns-clause-stands : goal.returns-clause-stands
 returns-clause-stands c = λ part kept wrapped bytes s.
     let here : c.self.inside.part ≡ part = ap (λ (d : DeviceState). d.part) c.self.view_is ∙ s.part_is in
-    let more : List ℕ = between c.args.piece.now c.args.at.now (c.args.at.now + (c.nops-count.result - c.tick-left.result)) in
+    let more : List ℕ = between c.args.piece.now c.args.at.now (c.args.at.now + ((4 * c.nop_count-count.result) - c.tick-left.result)) in
     subst (λ (p : PartData). DeviceStandsFor p kept wrapped (device_after c) (bytes ++ more)) here
     (passed_here c kept wrapped bytes (subst (λ (p : PartData). DeviceStandsFor p kept wrapped c.args.self.now bytes) (sym here) s)).0
 
 pub returns-clause-silent : goal.returns-clause-silent
 returns-clause-silent c = λ part kept wrapped bytes s.
     let here : c.self.inside.part ≡ part = ap (λ (d : DeviceState). d.part) c.self.view_is ∙ s.part_is in
-    let more : List ℕ = between c.args.piece.now c.args.at.now (c.args.at.now + (c.nops-count.result - c.tick-left.result)) in
+    let more : List ℕ = between c.args.piece.now c.args.at.now (c.args.at.now + ((4 * c.nop_count-count.result) - c.tick-left.result)) in
     told_same part kept c.args.self.now (device_after c) bytes (bytes ++ more) c.requires.none_due
     (ap due_count c.tick-left.ensures.due ∙ ap (λ (d : DeviceState). due_count d.registers.due) c.self.view_is ∙ c.requires.none_due)
     (subst (λ (p : PartData). reads_of p kept (bytes ++ more) ≡ reads_of p kept bytes) here

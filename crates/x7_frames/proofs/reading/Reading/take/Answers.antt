@@ -10,7 +10,7 @@ use Rattle.x7_frames.specs.declared.fault.FramesFault.{FramesFault}
 use Rattle.x7_frames.specs.declared.fault.FramesFault.TheVariants as fault
 use Rattle.x7_frames.proofs.LineLemmas.{frame-long}
 use Rattle.x7_frames.proofs.GoodLemmas.{marks-more}
-use Rattle.x7_frames.proofs.ReaderLemmas.{all-err}
+use Rattle.x7_frames.proofs.FrameLinesLemmas.{all-err}
 use Rattle.x7_frames.proofs.reading.Reading.take.Goals as goal
 
 pub returns-in_default-clause-fault : goal.returns-in_default-clause-fault

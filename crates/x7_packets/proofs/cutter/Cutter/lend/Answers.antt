@@ -29,6 +29,6 @@ returns-clause-adds c = λ bytes sessions place s.
     ap (flat_map bytes_of_word) (words_of_payload c.self.inside.machine.register (words_of_bytes c.args.body.now)) ∙ bytes-words c.args.body.now (length c.args.body.now / 4) fits c.requires.whole ∙ ap (λ t. t ++ c.args.body.now) (sym none) in
     let turned = c.after_word-self-inside.ensures ∙ ap (λ (b : Bool). if b then Mode.Searching else Mode.Synced) c.pass-ended.ensures.ends in
     let went : Went old new (bytes ++ c.args.body.now) sessions place (Body c.self.inside.machine.register c.args.body) =
-    body_more old new bytes c.args.body.now sessions place c.self.inside.machine.register c.args.body (subst (λ (o : CutterState). CutterStandsFor o bytes sessions place) (sym c.self.view_is) s) synced c.pass-ended.ensures.grows fits word none turned c.new-self-inside.ensures in
+    body_more old new bytes c.args.body.now sessions place c.self.inside.machine.register c.args.body (subst (λ (o : CutterState). CutterStandsFor o bytes sessions place) (sym c.self.view_is) s) synced c.pass-ended.ensures.grows fits word none turned (λ _. c.new-self-inside.ensures) in
     subst (λ (o : CutterState). Went o new (bytes ++ c.args.body.now) sessions place (Body c.register-register.result c.args.body)) c.self.view_is
     (subst (λ (r : ℕ). Went old new (bytes ++ c.args.body.now) sessions place (Body r c.args.body)) (sym c.register-register.ensures.value) went)

@@ -1,9 +1,7 @@
-use Rattle.std.proofs.Common.{ℕ, Bool, if◌then◌else◌, ◌≡◌, [], ◌∷◌, ap, arith, sym, subst, ◌∙◌, refl, take}
-use Rattle.x7_packets.specs.AtOnce.{in_write, short_head, write_head}
-use Rattle.x7_packets.specs.declared.header.Step.TheVariants.{Open}
+use Rattle.std.proofs.Common.{ℕ, Bool, if◌then◌else◌, ◌≡◌, [], ◌∷◌, true, false, ap, arith, sym, subst, ◌∙◌, refl, take}
 use Rattle.x7_packets.specs.Mode.{Mode, mode_of}
 use Rattle.x7_packets.specs.Cutting.{CutterState}
-use Rattle.x7_packets.specs.Taking.{Grows, MachineStandsFor, MachineState}
+use Rattle.x7_packets.specs.Taking.{MachineStandsFor, MachineState}
 use Rattle.x7_packets.proofs.AtOnceLemmas.{writes_one}
 use Rattle.x7_packets.proofs.TakeLemmas.{calm_word}
 use Rattle.x7_packets.proofs.cutter.Cutter.take_write.Goals as goal
@@ -16,10 +14,9 @@ returns-then-register-number-clause-some c =
     let same_mode : mode_of c.self.inside.stage ≡ Mode.Synced = ap (λ (o : CutterState). o.mode) c.self.view_is ∙ synced in
     let same_kept : take c.self.inside.count c.self.inside.kept ≡ [] = ap (λ (o : CutterState). o.kept) c.self.view_is ∙ none in
     let w = c.in-Some.w in
-    let same_head : short_head c.in-Some.register 1 ≡ write_head c.in-Some.register = omega arith in
     let calm = calm_word c.in-Some.register w (λ e. c.if-register-number.true (e ∙ sym c.number.ensures.value)) in
-    writes_one c.args.self.now _ c.args.rest.now _ w synced (same_mode ∙ sym (ap (λ (b : Bool). if b then Mode.Searching else Mode.Synced) calm)) c.new-self-inside.ensures none same_kept c.in-Some.ensures
-    (λ ps s. subst (λ (h : ℕ). Grows ps ((h, Open c.in-Some.register 1) ∷ []) (in_write c.in-Some.register)) same_head (c.pass_words.ensures.head ps 1 (omega arith) (omega arith) (subst (λ (m : MachineState). MachineStandsFor m ps) (sym (ap (λ (o : CutterState). o.machine) c.self.view_is)) s)))
+    writes_one c.args.self.now _ c.args.rest.now _ w synced (same_mode ∙ sym (ap (λ (b : Bool). if b then Mode.Searching else Mode.Synced) calm)) (λ e. absurd (let f : true ≡ false = sym e ∙ calm in cc)) none same_kept c.in-Some.ensures
+    (λ ps s. c.pass_words.ensures.head ps 1 (omega arith) (omega arith) (subst (λ (m : MachineState). MachineStandsFor m ps) (sym (ap (λ (o : CutterState). o.machine) c.self.view_is)) s))
     (λ ps s. c.pass_words.ensures.words ps (w ∷ []) (c.in-Some.ensures.fits, tt) (omega arith) s)
 
 pub returns-clause-some : goal.returns-clause-some
@@ -28,5 +25,5 @@ returns-clause-some c =
     let synced : c.args.self.now.mode ≡ Mode.Synced = here.mode refl in
     let none : c.args.self.now.kept ≡ [] = here.kept refl in
     let same_kept : take c.self.inside.count c.self.inside.kept ≡ [] = ap (λ (o : CutterState). o.kept) c.self.view_is ∙ none in
-    writes_one c.args.self.now _ c.args.rest.now _ _ synced (c.after_word-self-inside.ensures ∙ ap (λ (b : Bool). if b then Mode.Searching else Mode.Synced) c.pass_write.ensures.ends) c.new-self-inside-2.ensures none same_kept c.in-Some.ensures
+    writes_one c.args.self.now _ c.args.rest.now _ _ synced (c.after_word-self-inside.ensures ∙ ap (λ (b : Bool). if b then Mode.Searching else Mode.Synced) c.pass_write.ensures.ends) (λ _. c.new-self-inside.ensures) none same_kept c.in-Some.ensures
     (λ ps s. c.pass_write.ensures.head ps (subst (λ (m : MachineState). MachineStandsFor m ps) (sym (ap (λ (o : CutterState). o.machine) c.self.view_is)) s)) c.pass_write.ensures.word

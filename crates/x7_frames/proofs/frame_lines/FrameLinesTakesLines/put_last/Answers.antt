@@ -1,0 +1,20 @@
+use Rattle.std.proofs.Common.{[], ◌∙◌, ap, subst, sym}
+use Rattle.x7_part.specs.Part.{frame_words}
+use Rattle.x7_frames.specs.FramesText.{AreGood}
+use Rattle.x7_frames.proofs.FrameLinesLemmas.{line-good, line-refused}
+use Rattle.x7_frames.proofs.frame_lines.FrameLinesTakesLines.put_last.Goals as goal
+
+pub returns-in-Ok : goal.returns-in-Ok
+returns-in-Ok c = λ first lines m t text is.
+    let new = c.take.new.self in
+    let read = line-good first.part c.args.self lines c.args.line.now c.args.n m t new c.take.ensures.part c.in-Ok.ensures.taken in
+    record {
+      rows = new.rows;
+      good = subst (λ ls. AreGood first.part ls new.rows) (sym is) read.1;
+      same = c.finish.ensures.rows;
+      is = c.finish.ensures.plan;
+      width = c.finish.ensures.width ∙ ap frame_words read.0;
+    }
+
+pub returns-in-Err : goal.returns-in-Err
+returns-in-Err c = λ first lines m t. line-refused first.part c.args.self lines c.args.line.now c.args.n m t c.in-Err.fault c.in-Err.ensures.fault []

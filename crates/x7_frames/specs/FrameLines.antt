@@ -1,0 +1,33 @@
+-- A frames text that is read line by line (this project's choice).
+use Rattle.std.specs.Prelude.{◌≡◌, ◌⊎◌, ◌≤◌, ℕ, Bool, List, Result, Err}
+use Rattle.x7_text.specs.Lines.{split}
+use Rattle.x7_part.specs.Part.{PartData, frame_words}
+use Rattle.x7_memory.specs.Planned.{AreApart, PlanData, PlanRow}
+use Rattle.x7_frames.specs.FramesText.{AreGood, IsPlanOf}
+use Rattle.x7_frames.specs.Steps.{HasMarks}
+use Rattle.x7_frames.specs.declared.fault.FramesFault.{FramesFault}
+use Rattle.x7_frames.specs.declared.fault.FramesFault.TheVariants as fault
+
+-- rows and their width, the marks of their addresses, and the room for a frame's words are those of a part
+pub record IsSound (part : PartData) (rows : List PlanRow) (width : ℕ) (marks : List Bool) (room : ℕ) : Type 0 where
+  pub wide : width ≡ frame_words part
+  pub marked : HasMarks part rows marks
+  pub roomy : frame_words part ≤ room
+  pub apart : AreApart rows
+
+-- the rows of a part that lines gave so far
+pub record Rows : Type 0 where
+  pub part : PartData
+  pub rows : List PlanRow
+
+-- good lines of a part gave these rows
+abbrev pub HasRows : PartData → Rows → List (List ℕ) → Type 0
+HasRows part r lines = (r.part ≡ part) × AreGood part lines r.rows
+
+-- a text of these lines comes to this
+abbrev pub ComeTo : PartData → Result PlanData FramesFault → List (List ℕ) → Type 0
+ComeTo part r lines = (text : List ℕ) → split text ≡ lines → IsPlanOf part text r
+
+-- a text of these lines has this fault; want of memory says nothing
+abbrev pub AreRefused : PartData → FramesFault → List (List ℕ) → Type 0
+AreRefused part f lines = (f ≡ fault.NoMemory) ⊎ ComeTo part (Err f) lines

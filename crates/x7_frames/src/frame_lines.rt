@@ -1,0 +1,97 @@
+//! What the lines of a frames text give, as they come.
+ghost use Rattle.std.specs.Prelude.{◌≡◌, ◌⊎◌, ℕ, List, [], Ok, IfErr, IfOk, OnOk, IsPermutation};
+ghost use Rattle.x7_part.specs.Part.{frame_words};
+ghost use Rattle.x7_memory.specs.Planned.{IsPlan};
+ghost use Rattle.x7_frames.specs.FrameLines.{AreRefused, ComeTo, HasRows, Rows};
+ghost use Rattle.x7_frames.specs.Steps.{IsFaultAt, IsGoodLine, Takes};
+ghost use Rattle.x7_frames.specs.declared.fault.FramesFault.{FramesFault};
+
+use crate::fault::FramesFault;
+use crate::reading::Reading;
+use std::alloc::Global;
+use std::marker::Model;
+use x7_memory::Plan;
+use x7_part::Part;
+use x7_text::TakesLines;
+use x7_words::NoMemory;
+
+/// The frames that the lines of a text for a part gave so far.
+#[derive(Drop)]
+pub struct FrameLines<'p> {
+    part: &'p Part,
+    reading: Reading,
+}
+
+impl<'p> Model for FrameLines<'p> {
+    ghost use Rattle.std.specs.Prelude.{vec_capacity};
+    ghost use Rattle.x7_frames.specs.FrameLines.{IsSound, Rows};
+
+    ghost Value = { Rows };
+
+    ghost view = { λ l. record { part = l.part.now; rows = l.reading.draft.rows } };
+
+    ghost invariant = { λ l. IsSound l.part.now l.reading.draft.rows l.reading.draft.width l.reading.marks.items (vec_capacity l.reading.frame) };
+}
+
+impl<'p> FrameLines<'p> {
+    /// Those of no line. There is room for all frames of the part.
+    pub fn new(alloc: Global, part: &'p Part) -> Result<FrameLines<'p>, NoMemory>
+        ensures begun { IfOk result (λ lines. HasRows lines.part lines []) }
+        ensures part { IfOk result (λ lines. lines.part ≡ part.now) }
+    {
+        match Reading::new(alloc, part) {
+            Ok(reading) => Ok(FrameLines { part, reading }),
+            Err(_) => Err(NoMemory),
+        }
+    }
+
+    /// Takes line `n`, after which nothing more may be taken where there is an error. Memory is wanting only for a good line.
+    pub fn take(&mut self, n: u64, line: &[u8]) -> Result<(), FramesFault>
+        ensures part { self.new.part ≡ self.old.part }
+        ensures taken { OnOk result (Takes self.old.part line.now self.old.rows self.new.rows) }
+        ensures fault { IfErr result (λ fault. (fault ≡ FramesFault.NoMemory) ⊎ IsFaultAt self.old.part self.old.rows n line.now fault) }
+        ensures memory { IfErr result (λ fault. fault ≡ FramesFault.NoMemory → IsGoodLine self.old.part self.old.rows line.now) }
+    {
+        self.reading.take(self.part, n, line)
+    }
+
+    /// The plan of the lines.
+    fn finish(self) -> Plan
+        ensures rows { IsPermutation self.entry.rows result.rows }
+        ensures plan { IsPlan result }
+        ensures width { result.width ≡ frame_words self.entry.part }
+    {
+        let FrameLines { part, reading } = self;
+        reading.draft.finish()
+    }
+}
+
+impl<'p> TakesLines for FrameLines<'p> {
+    type Fault = FramesFault;
+
+    type Out = Plan;
+
+    ghost took = { λ first. HasRows first.part };
+
+    ghost fails = { λ first. AreRefused first.part };
+
+    ghost gives = { λ first plan. ComeTo first.part (Ok plan) };
+
+    fn no_memory() -> FramesFault
+        ensures { (first : Rows) (lines : List (List ℕ)) → AreRefused first.part result lines }
+    {
+        FramesFault::NoMemory
+    }
+
+    fn put_line(&mut self, n: u64, line: &[u8]) -> Result<(), FramesFault> {
+        self.take(n, line)
+    }
+
+    fn put_last(self, n: u64, line: &[u8]) -> Result<Plan, FramesFault> {
+        let mut last = self;
+        match last.take(n, line) {
+            Ok(()) => Ok(last.finish()),
+            Err(fault) => Err(fault),
+        }
+    }
+}

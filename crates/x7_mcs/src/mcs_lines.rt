@@ -1,0 +1,150 @@
+//! What the lines of a flash text give, as they come.
+ghost use Rattle.std.specs.Prelude.{◌≡◌, ◌+◌, ◌<◌, ◌≤◌, ◌++◌, ◌∷◌, [], List, ℕ, length, Ok, IfOk, MatchOption, MatchResult};
+ghost use Rattle.x7_text.specs.Lines.{split};
+ghost use Rattle.x7_mcs.specs.Flash.{after_data, after_line};
+ghost use Rattle.x7_mcs.specs.Images.{HoldsIn, reading_at};
+ghost use Rattle.x7_mcs.specs.Places.{DataRecord};
+ghost use Rattle.x7_mcs.specs.McsLines.{HasMcsFault, HasRead, ReachesIn, TakesFirst, body_in, flash_of_lines};
+ghost use Rattle.x7_mcs.specs.declared.mcs_lines.McsLines.{McsLines};
+ghost use Rattle.x7_mcs.specs.declared.fault.McsFault.{McsFault};
+
+use crate::fault::McsFault;
+use crate::image::{Image, empty_image};
+use crate::lines::without_return;
+use crate::row::{Row, first_row};
+use crate::step::{Context, put_data, put_line};
+use std::alloc::Global;
+use x7_text::{TakesLines, first_line};
+
+/// The image that the lines of a flash text gave so far, and what stands for the lines that come. `decoded` is room for the
+/// bytes of a record.
+#[derive(Drop)]
+pub struct McsLines {
+    image: Image,
+    context: Context,
+    decoded: Vec<u8>,
+}
+
+impl McsLines {
+    /// What no line gives.
+    pub fn new(alloc: Global) -> McsLines
+        ensures { HasRead (body_in result) [] }
+    {
+        McsLines {
+            image: empty_image(alloc),
+            context: Context {
+                base: 0,
+                ended: false,
+            },
+            decoded: Vec::new(alloc),
+        }
+    }
+
+    /// Takes line `n`, that of a row as it is written here.
+    #[inline(always)]
+    fn put_row(&mut self, n: u64, row: &Row) -> Result<(), McsFault>
+        requires address { row.now.address ≤ 65520 }
+        requires content { length row.now.content ≡ 16 }
+        ensures { (xs : List DataRecord) → HoldsIn self.old.image xs
+            → ReachesIn result (after_data n (reading_at self.old.context xs) row.now.address row.now.content) self.new }
+    {
+        match put_data(&mut self.image, n, self.context, row.address, &row.content) {
+            Ok(context) => {
+                self.context = context;
+                Ok(())
+            }
+            Err(fault) => Err(fault),
+        }
+    }
+
+    /// Takes line `n`, which has no end here.
+    fn put_one(&mut self, n: u64, line: &[u8]) -> Result<(), McsFault>
+        ensures { (xs : List DataRecord) → HoldsIn self.old.image xs → ReachesIn result (after_line n (reading_at self.old.context xs) line.now) self.new }
+    {
+        match put_line(&mut self.image, &mut self.decoded, n, self.context, line) {
+            Ok(context) => {
+                self.context = context;
+                Ok(())
+            }
+            Err(fault) => Err(fault),
+        }
+    }
+
+    /// Takes the first line of a text, line `n`, if it has its end. Answers the text behind it.
+    #[inline(always)]
+    fn take_line<'t>(&mut self, n: u64, text: &'t [u8]) -> Result<Option<&'t [u8]>, McsFault>
+        ensures goes { (lines : List (List ℕ)) → n ≡ length lines + 1 → HasRead (body_in self.old) lines
+            → MatchResult result (λ found. MatchOption found (HasRead (body_in self.new) lines) (λ rest. TakesFirst lines text.now rest.now self.new))
+            (λ f. (more : List ℕ) → HasMcsFault f (lines ++ split (text.now ++ more))) }
+        ensures left { IfOk result (λ found. MatchOption found (split text.now ≡ text.now ∷ []) (λ rest. length rest.now < length text.now)) }
+    {
+        if !self.context.ended
+            && let Some((row, rest)) = first_row(text)
+            && row.address <= 65520
+        {
+            match self.put_row(n, &row) {
+                Ok(()) => return Ok(Some(rest)),
+                Err(fault) => return Err(fault),
+            }
+        }
+        let (line, more) = first_line(text);
+        let Some(rest) = more else {
+            return Ok(None);
+        };
+        match self.put_one(n, without_return(line)) {
+            Ok(()) => Ok(Some(rest)),
+            Err(fault) => Err(fault),
+        }
+    }
+}
+
+impl TakesLines for McsLines {
+    type Fault = McsFault;
+
+    type Out = Vec<u8>;
+
+    ghost took = { λ first b. HasRead (body_in b) };
+
+    ghost fails = { λ first. HasMcsFault };
+
+    ghost gives = { λ first image lines. flash_of_lines lines ≡ Ok image.items };
+
+    fn no_memory() -> McsFault
+        ensures { (first : McsLines) (lines : List (List ℕ)) → HasMcsFault result lines }
+    {
+        McsFault::NoMemory
+    }
+
+    fn put_line(&mut self, n: u64, line: &[u8]) -> Result<(), McsFault> {
+        self.put_one(n, without_return(line))
+    }
+
+    fn put_lines<'t>(&mut self, n: u64, text: &'t [u8]) -> Result<(&'t [u8], u64), McsFault> {
+        let mut rest = text;
+        let mut count = n;
+        loop {
+            let next = count.saturating_add(1);
+            let found = match self.take_line(next, rest) {
+                Ok(found) => found,
+                Err(fault) => return Err(fault),
+            };
+            let Some(after) = found else {
+                return Ok((rest, count));
+            };
+            rest = after;
+            count = next;
+        }
+    }
+
+    fn put_last(self, n: u64, line: &[u8]) -> Result<Vec<u8>, McsFault> {
+        let mut last = self;
+        match last.put_one(n, line) {
+            Ok(()) => (),
+            Err(fault) => return Err(fault),
+        }
+        if !last.context.ended {
+            return Err(McsFault::NoEnd);
+        }
+        Ok(last.image.bytes)
+    }
+}

@@ -1,0 +1,79 @@
+-- The words of packets, and those that stand between packets (UG470, packet types; configuration sequence).
+-- A header has its packet type in bits 31:29 and its opcode in 28:27; type 1 the register in 17:13 and the word count in 10:0, type 2 the word count in 26:0. Reserved bits are 0 here.
+use Rattle.std.specs.Prelude.{ℕ, ◌+◌, ◌*◌, ◌^◌, List, [], ◌∷◌}
+use Rattle.x7_regs.specs.Command.{code_of}
+use Rattle.x7_regs.specs.Register.{number_of}
+use Rattle.x7_regs.specs.declared.command.Command.{Command}
+use Rattle.x7_regs.specs.declared.register.Reg.{Reg}
+use Rattle.x7_regs.specs.declared.register.Reg.TheVariants.{Cmd, Fdri, Fdro}
+
+-- ---- words between packets
+
+-- the sync word, which begins a session
+abbrev pub sync_word : ℕ
+sync_word = 0xAA995566
+
+-- the dummy word, which has no effect
+abbrev pub dummy_word : ℕ
+dummy_word = 0xFFFFFFFF
+
+-- the bus width pattern: its first word, and the word by which a device finds the width
+abbrev pub bus_width_sync : ℕ
+bus_width_sync = 0x000000BB
+
+abbrev pub bus_width_detect : ℕ
+bus_width_detect = 0x11220044
+
+-- ---- headers
+
+-- the packet type and the opcode of a header as one number, bits 31:27, for each kind of packet
+abbrev pub no_op_kind : ℕ
+no_op_kind = 4
+
+abbrev pub type1_read_kind : ℕ
+type1_read_kind = 5
+
+abbrev pub type1_write_kind : ℕ
+type1_write_kind = 6
+
+abbrev pub type2_read_kind : ℕ
+type2_read_kind = 9
+
+abbrev pub type2_write_kind : ℕ
+type2_write_kind = 10
+
+-- a no-op, which is its header alone
+abbrev pub no_op : ℕ
+no_op = 0x20000000
+
+-- the headers of a type 1 read and of a type 1 write of `count` words, by the register's number
+abbrev pub type1_read : ℕ → ℕ → ℕ
+type1_read register count = 0x28000000 + 2 ^ 13 * register + count
+
+abbrev pub type1_write : ℕ → ℕ → ℕ
+type1_write register count = 0x30000000 + 2 ^ 13 * register + count
+
+-- the headers of a type 2 read and of a type 2 write of `count` words
+abbrev pub type2_read : ℕ → ℕ
+type2_read count = 0x48000000 + count
+
+abbrev pub type2_write : ℕ → ℕ
+type2_write count = 0x50000000 + count
+
+-- ---- packets
+
+-- one word written to a register: a header and the word
+abbrev pub write_one : Reg → ℕ → List ℕ
+write_one register word = type1_write (number_of register) 1 ∷ word ∷ []
+
+-- a command: its code written to CMD
+abbrev pub command : Command → List ℕ
+command c = write_one Cmd (code_of c)
+
+-- the headers of a write of `count` words to FDRI, and of a read of as many from FDRO: an empty type 1 packet, and a type 2
+-- packet
+abbrev pub frame_data : ℕ → List ℕ
+frame_data count = type1_write (number_of Fdri) 0 ∷ type2_write count ∷ []
+
+abbrev pub frame_read : ℕ → List ℕ
+frame_read count = type1_read (number_of Fdro) 0 ∷ type2_read count ∷ []

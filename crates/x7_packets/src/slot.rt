@@ -1,0 +1,31 @@
+//! A slot of a flash's first sector (UG470, MultiBoot and fallback).
+ghost use Rattle.std.specs.Prelude.{◌≡◌};
+ghost use Rattle.x7_packets.specs.FlashSlot.{flash_slot};
+
+use crate::words::{NO_OP, type1_write};
+use x7_regs::{Command, Reg};
+use x7_words::bytes_of;
+
+/// How many slots fill a sector.
+pub const SLOT_COUNT: u64 = 2048;
+
+/// The slot with this switch word and this start address. A device that finds it by its switch word, the sync word, goes to
+/// the start address by IPROG; a fallback ignores IPROG, and comes to its DESYNC.
+pub fn flash_slot(switch: [u8; 4], start: [u8; 4]) -> [u8; 32]
+    ensures { result ≡ flash_slot switch start }
+{
+    let write_command = bytes_of(type1_write(Reg::Cmd.number(), 1));
+    let words = [
+        switch,
+        bytes_of(NO_OP),
+        bytes_of(type1_write(Reg::Wbstar.number(), 1)),
+        start,
+        write_command,
+        bytes_of(Command::Iprog.code()),
+        write_command,
+        bytes_of(Command::Desync.code()),
+    ];
+    let mut slot = [0; 32];
+    slot.copy_from_slice(words.as_flattened());
+    slot
+}

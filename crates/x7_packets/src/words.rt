@@ -1,0 +1,110 @@
+//! The words of packets, and those that stand between packets (UG470, packet types; configuration sequence).
+ghost use Rattle.std.specs.Prelude.{◌≡◌, ◌<◌, ◌^◌};
+ghost use Rattle.x7_packets.specs.PacketWords.{command, frame_data, frame_read, type1_read, type1_write, type2_read, type2_write, write_one};
+
+use x7_regs::{Command, Reg};
+
+/// The sync word, which begins a session.
+pub const SYNC_WORD: u32 = 0xAA99_5566;
+
+/// The sync word's bytes.
+pub const SYNC_BYTES: [u8; 4] = [0xAA, 0x99, 0x55, 0x66];
+
+/// The dummy word, which has no effect.
+pub const DUMMY_WORD: u32 = 0xFFFF_FFFF;
+
+/// The first word of the bus width pattern.
+pub const BUS_WIDTH_SYNC: u32 = 0x0000_00BB;
+
+/// The word of the bus width pattern by which a device finds the width.
+pub const BUS_WIDTH_DETECT: u32 = 0x1122_0044;
+
+/// A no-op, which is its header alone.
+pub const NO_OP: u32 = 0x2000_0000;
+
+/// The packet type and the opcode of a no-op as one number, bits 31:27 of its header.
+pub const NO_OP_KIND: u32 = 4;
+
+/// The packet type and the opcode of a type 1 read as one number, bits 31:27 of its header.
+pub const TYPE1_READ_KIND: u32 = 5;
+
+/// The packet type and the opcode of a type 1 write as one number, bits 31:27 of its header.
+pub const TYPE1_WRITE_KIND: u32 = 6;
+
+/// The packet type and the opcode of a type 2 read as one number, bits 31:27 of its header.
+pub const TYPE2_READ_KIND: u32 = 9;
+
+/// The packet type and the opcode of a type 2 write as one number, bits 31:27 of its header.
+pub const TYPE2_WRITE_KIND: u32 = 10;
+
+/// The header of a type 1 read of `count` words, by the register's number. The reserved bits are 0.
+#[inline(always)]
+pub fn type1_read(register: u8, count: u32) -> u32
+    requires register { register < 32 }
+    requires count { count < 2 ^ 11 }
+    ensures { result ≡ type1_read register count }
+{
+    0x2800_0000 + 8192 * u32::from(register) + count
+}
+
+/// The header of a type 1 write of `count` words, by the register's number. The reserved bits are 0.
+#[inline(always)]
+pub fn type1_write(register: u8, count: u32) -> u32
+    requires register { register < 32 }
+    requires count { count < 2 ^ 11 }
+    ensures { result ≡ type1_write register count }
+{
+    0x3000_0000 + 8192 * u32::from(register) + count
+}
+
+/// The header of a type 2 read of `count` words.
+#[inline(always)]
+pub fn type2_read(count: u32) -> u32
+    requires { count < 2 ^ 27 }
+    ensures { result ≡ type2_read count }
+{
+    0x4800_0000 + count
+}
+
+/// The header of a type 2 write of `count` words.
+#[inline(always)]
+pub fn type2_write(count: u32) -> u32
+    requires { count < 2 ^ 27 }
+    ensures { result ≡ type2_write count }
+{
+    0x5000_0000 + count
+}
+
+/// One word written to a register: a header and the word.
+#[inline(always)]
+pub fn write_one(register: Reg, word: u32) -> [u32; 2]
+    ensures { result ≡ write_one register word }
+{
+    [type1_write(register.number(), 1), word]
+}
+
+/// A command: its code written to CMD.
+#[inline(always)]
+pub fn command(c: Command) -> [u32; 2]
+    ensures { result ≡ command c }
+{
+    write_one(Reg::Cmd, c.code())
+}
+
+/// The headers of a write of `count` words to FDRI: an empty type 1 packet, and a type 2 packet.
+#[inline(always)]
+pub fn frame_data(count: u32) -> [u32; 2]
+    requires { count < 2 ^ 27 }
+    ensures { result ≡ frame_data count }
+{
+    [type1_write(Reg::Fdri.number(), 0), type2_write(count)]
+}
+
+/// The headers of a read of `count` words from FDRO: an empty type 1 packet, and a type 2 packet.
+#[inline(always)]
+pub fn frame_read(count: u32) -> [u32; 2]
+    requires { count < 2 ^ 27 }
+    ensures { result ≡ frame_read count }
+{
+    [type1_read(Reg::Fdro.number(), 0), type2_read(count)]
+}

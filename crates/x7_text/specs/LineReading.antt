@@ -1,0 +1,38 @@
+-- A text that comes in pieces, and is taken line by line (this project's choice).
+use Rattle.std.specs.Prelude.{◌≡◌, ℕ, List, [], ◌∷◌, ◌++◌, length}
+use Rattle.x7_text.specs.Lines.{split}
+
+-- what a reader keeps: what takes the lines, the beginning of the line that comes, and how many lines were taken
+pub record ReaderState (B : Type 0) : Type 0 where
+  pub taker : B
+  pub held : List ℕ
+  pub count : ℕ
+
+-- a text begins with these lines, each with its end, and this is left of it, which has none
+abbrev pub IsCut : List ℕ → List (List ℕ) → List ℕ → Type 0
+IsCut text lines rest = split text ≡ lines ++ rest ∷ []
+
+-- A reader that was given this text: its lines were taken, and what has no end yet is held.
+pub record StandsFor {B : Type 0} (taken : B → List (List ℕ) → Type 0) (r : ReaderState B) (text : List ℕ) : Type 0 where
+  pub lines : List (List ℕ)
+  pub cut : IsCut text lines r.held
+  pub took : taken r.taker lines
+  pub count : r.count ≡ length lines
+
+-- a fault of every text that begins with this one
+abbrev pub FailsFrom : (List (List ℕ) → Type 0) → List ℕ → Type 0
+FailsFrom fails text = (more : List ℕ) → fails (split (text ++ more))
+
+-- after some lines, those of a text that have their end were taken, n in all, and a rest is left
+pub record TakesWhole {B : Type 0} (taken : B → List (List ℕ) → Type 0) (lines : List (List ℕ)) (text : List ℕ) (b : B) (rest : List ℕ) (n : ℕ) : Type 0 where
+  pub more : List (List ℕ)
+  pub cut : IsCut text more rest
+  pub took : taken b (lines ++ more)
+  pub count : n ≡ length (lines ++ more)
+
+-- a reader was given only a prefix of a piece, and holds nothing
+pub record TakesPrefix {B : Type 0} (taken : B → List (List ℕ) → Type 0) (r : ReaderState B) (text piece rest : List ℕ) : Type 0 where
+  pub prefix : List ℕ
+  pub is : piece ≡ prefix ++ rest
+  pub clear : r.held ≡ []
+  pub stands : StandsFor taken r (text ++ prefix)

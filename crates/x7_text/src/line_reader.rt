@@ -1,0 +1,179 @@
+//! A text that comes in pieces, line by line.
+ghost use Rattle.std.specs.Prelude.{◌≡◌, ◌+◌, ◌<◌, ◌^◌, ◌++◌, ◌∷◌, [], List, ℕ, length, MatchOption, MatchResult};
+ghost use Rattle.x7_text.specs.LineReading.{FailsFrom, StandsFor, TakesPrefix, TakesWhole};
+ghost use Rattle.x7_text.specs.Lines.{split};
+
+use crate::lines::first_line;
+use std::alloc::Global;
+use std::marker::Model;
+
+/// What takes the lines of a text in their order, up to the first one at fault. Lines count from 1, and are given without
+/// their end.
+pub trait TakesLines: Drop {
+    /// Why a text is refused.
+    type Fault: Drop;
+
+    /// What a text gives.
+    type Out: Drop;
+
+    /// What was the first of these has become the second, which took these lines.
+    ghost took: { Self → Self → List (List ℕ) → Type 0 };
+
+    /// A text of these lines, the last of which has no end, is refused for this fault. Want of memory says nothing.
+    ghost fails: { Self → Self.Fault → List (List ℕ) → Type 0 };
+
+    /// A text of these lines, the last of which has no end, gives this.
+    ghost gives: { Self → Self.Out → List (List ℕ) → Type 0 };
+
+    /// The fault where memory runs out.
+    fn no_memory() -> Self::Fault
+        ensures { (first : Self) (lines : List (List ℕ)) → fails first result lines };
+
+    /// Takes line `n`, which has its end. After an error nothing more may be taken.
+    fn put_line(&mut self, n: u64, line: &[u8]) -> Result<(), Self::Fault>
+        ensures { (first : Self) (lines : List (List ℕ)) → n ≡ length lines + 1 → took first self.old lines
+            → MatchResult result (λ _. took first self.new (lines ++ line.now ∷ [])) (λ fault. (more : List ℕ) → fails first fault (lines ++ line.now ∷ split more)) };
+
+    /// Takes the lines of a text that have their end, behind `n` lines. Answers what is left of the text, and how many lines
+    /// were taken in all. After an error nothing more may be taken.
+    fn put_lines<'t>(&mut self, n: u64, text: &'t [u8]) -> Result<(&'t [u8], u64), Self::Fault>
+        ensures { (first : Self) (lines : List (List ℕ)) → n ≡ length lines → n + length text.now < 2 ^ 63 → took first self.old lines
+            → MatchResult result (λ left. TakesWhole (took first) lines text.now self.new left.0.now left.1) (λ fault. (more : List ℕ) → fails first fault (lines ++ split (text.now ++ more))) }
+    {
+        let mut rest = text;
+        let mut count = n;
+        loop {
+            let (line, more) = first_line(rest);
+            let Some(after) = more else {
+                return Ok((line, count));
+            };
+            count = count.saturating_add(1);
+            match self.put_line(count, line) {
+                Ok(()) => rest = after,
+                Err(fault) => return Err(fault),
+            }
+        }
+    }
+
+    /// Takes line `n`, the last one, which has no end: what the text gives.
+    fn put_last(self, n: u64, line: &[u8]) -> Result<Self::Out, Self::Fault>
+        ensures { (first : Self) (lines : List (List ℕ)) → n ≡ length lines + 1 → took first self lines
+            → MatchResult result (λ out. gives first out (lines ++ line.now ∷ [])) (λ fault. fails first fault (lines ++ line.now ∷ [])) };
+}
+
+/// What a text gives that is there whole, or its fault. No line of it is copied.
+pub fn read_lines<T: TakesLines>(taker: T, text: &[u8]) -> Result<T::Out, T::Fault>
+    ensures { T.took taker taker [] → MatchResult result (λ out. T.gives taker out (split text.now)) (λ fault. T.fails taker fault (split text.now)) }
+{
+    let mut last = taker;
+    match last.put_lines(0, text) {
+        Ok(left) => last.put_last(left.1.saturating_add(1), left.0),
+        Err(fault) => Err(fault),
+    }
+}
+
+/// Reads a text that comes in pieces, line by line.
+#[derive(Drop)]
+pub struct LineReader<T> {
+    taker: T,
+    held: Vec<u8>,
+    count: u64,
+}
+
+impl<T> Model for LineReader<T> {
+    ghost use Rattle.x7_text.specs.LineReading.{ReaderState};
+
+    ghost Value = { ReaderState T };
+
+    ghost view = { λ r. record { taker = r.taker; held = r.held.items; count = r.count } };
+}
+
+impl<T: TakesLines> LineReader<T> {
+    /// One that was given no text.
+    pub fn new(alloc: Global, taker: T) -> LineReader<T>
+        ensures { (first : T) → T.took first taker [] → StandsFor (T.took first) result [] }
+    {
+        LineReader {
+            taker,
+            held: Vec::new(alloc),
+            count: 0,
+        }
+    }
+
+    /// Takes the line that a piece completes, if it completes the one that is held. Answers the text behind it.
+    fn complete<'t>(&mut self, piece: &'t [u8]) -> Result<Option<&'t [u8]>, T::Fault>
+        ensures { (first : T) (text : List ℕ) → length (text ++ piece.now) < 2 ^ 63 → StandsFor (T.took first) self.old text
+            → MatchResult result (λ found. MatchOption found (StandsFor (T.took first) self.new (text ++ piece.now)) (λ rest. TakesPrefix (T.took first) self.new text piece.now rest.now))
+            (λ fault. FailsFrom (T.fails first fault) (text ++ piece.now)) }
+    {
+        let (line, more) = first_line(piece);
+        match self.held.extend_from_slice(line) {
+            Ok(()) => (),
+            Err(_) => return Err(T::no_memory()),
+        }
+        let Some(rest) = more else {
+            return Ok(None);
+        };
+        self.count = self.count.saturating_add(1);
+        match self.taker.put_line(self.count, &self.held) {
+            Ok(()) => (),
+            Err(fault) => return Err(fault),
+        }
+        self.held.clear();
+        Ok(Some(rest))
+    }
+
+    /// Takes a piece where no line is held.
+    fn take_lines(&mut self, piece: &[u8]) -> Result<(), T::Fault>
+        ensures { (first : T) (text : List ℕ) → length (text ++ piece.now) < 2 ^ 63 → self.old.held ≡ [] → StandsFor (T.took first) self.old text
+            → MatchResult result (λ _. StandsFor (T.took first) self.new (text ++ piece.now)) (λ fault. FailsFrom (T.fails first fault) (text ++ piece.now)) }
+    {
+        let (rest, count) = match self.taker.put_lines(self.count, piece) {
+            Ok(left) => left,
+            Err(fault) => return Err(fault),
+        };
+        match self.held.extend_from_slice(rest) {
+            Ok(()) => (),
+            Err(_) => return Err(T::no_memory()),
+        }
+        self.count = count;
+        Ok(())
+    }
+
+    /// Takes the next piece of a text.
+    fn take(&mut self, piece: &[u8]) -> Result<(), T::Fault>
+        ensures { (first : T) (text : List ℕ) → length (text ++ piece.now) < 2 ^ 63 → StandsFor (T.took first) self.old text
+            → MatchResult result (λ _. StandsFor (T.took first) self.new (text ++ piece.now)) (λ fault. FailsFrom (T.fails first fault) (text ++ piece.now)) }
+    {
+        let found = match self.complete(piece) {
+            Ok(found) => found,
+            Err(fault) => return Err(fault),
+        };
+        match found {
+            Some(rest) => self.take_lines(rest),
+            None => Ok(()),
+        }
+    }
+
+    /// Takes the next piece of a text of fewer than 2^63 bytes, which may end inside a line. A fault is that of the whole
+    /// text, whatever follows.
+    pub fn feed(self, piece: &[u8]) -> Result<LineReader<T>, T::Fault>
+        ensures { (first : T) (text : List ℕ) → length (text ++ piece.now) < 2 ^ 63 → StandsFor (T.took first) self text
+            → MatchResult result (λ reader. StandsFor (T.took first) reader (text ++ piece.now)) (λ fault. FailsFrom (T.fails first fault) (text ++ piece.now)) }
+    {
+        let mut reader = self;
+        match reader.take(piece) {
+            Ok(()) => Ok(reader),
+            Err(fault) => Err(fault),
+        }
+    }
+
+    /// Ends the text: what it gives, or its fault.
+    pub fn finish(self) -> Result<T::Out, T::Fault>
+        ensures { (first : T) (text : List ℕ) → length text < 2 ^ 63 → StandsFor (T.took first) self text
+            → MatchResult result (λ out. T.gives first out (split text)) (λ fault. T.fails first fault (split text)) }
+    {
+        let LineReader { taker, held, count } = self;
+        taker.put_last(count.saturating_add(1), &held)
+    }
+}
