@@ -71,6 +71,14 @@ class Case:
         return self.inputs.get(name, self.streams.get(name, self.kept.get(name)))
 
 
+def put_file(folder, name, data):
+    """Writes a file with these bytes, or this text, and gives its path."""
+    path = os.path.join(folder, name)
+    with open(path, "wb") as file:
+        file.write(data if isinstance(data, bytes) else data.encode())
+    return path
+
+
 def cases_of(path):
     """The cases of a file."""
     streams, kept, case = {}, {}, None

@@ -1,7 +1,7 @@
 #!/usr/bin/env python3
 """Tests the device without frames against every report of the repository's worked cases: taken, end, phase, and registers; and the
 whole report of a plain program, frames included, against those of short streams."""
-from casefiles import Tally, all_cases, line_text, os
+from casefiles import Tally, all_cases, line_text, os, put_file
 import tempfile
 import x7formats as x7
 import x7report
@@ -13,10 +13,7 @@ SHORT, MOST_READS = 20000, 100000
 
 
 def in_file(name, data):
-    path = os.path.join(FOLDER, name)
-    with open(path, "wb") as file:
-        file.write(data)
-    return path
+    return put_file(FOLDER, name, data)
 
 
 def wanted_lines(case):

@@ -1,6 +1,6 @@
 #!/usr/bin/env python3
 """Tests the shared module against every listing, check, part file and report of the repository's worked cases."""
-from casefiles import Tally, all_cases, os
+from casefiles import Tally, all_cases, put_file
 import tempfile
 import x7formats as x7
 
@@ -13,10 +13,7 @@ def listing_text(raw):
 
 def in_file(data):
     """A file with these bytes, for a reader that takes a path."""
-    path = os.path.join(FOLDER, "file")
-    with open(path, "wb") as file:
-        file.write(data)
-    return path
+    return put_file(FOLDER, "file", data)
 
 
 def listing_case(name, case):

@@ -1,6 +1,6 @@
 #!/usr/bin/env python3
 """Tests tools/frame_map: the picture of docs, the addresses at the pointer, and what isn't drawn."""
-from casefiles import TOP, Tally, os
+from casefiles import TOP, Tally, os, put_file
 import tempfile
 import xml.dom.minidom
 
@@ -12,10 +12,7 @@ EXAMPLES = os.path.join(TOP, "examples")
 
 
 def in_file(text, name):
-    path = os.path.join(FOLDER, name)
-    with open(path, "w", encoding="ascii") as file:
-        file.write(text)
-    return path
+    return put_file(FOLDER, name, text)
 
 
 def report(frames, name="chip"):

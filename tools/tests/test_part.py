@@ -1,7 +1,7 @@
 #!/usr/bin/env python3
 """Tests tools/part: a part from a compressed stream and its listing, from the open database's part.json and part.yaml in both of
 their forms; and the streams and files of which it makes none, and leaves the file as it was."""
-from casefiles import Tally, os
+from casefiles import Tally, os, put_file
 import json
 import re
 import tempfile
@@ -17,10 +17,7 @@ NAMES = {0: "CLB_IO_CLK", 1: "BLOCK_RAM"}
 
 
 def in_file(data, name):
-    path = os.path.join(FOLDER, name)
-    with open(path, "wb") as file:
-        file.write(data if isinstance(data, bytes) else data.encode())
-    return path
+    return put_file(FOLDER, name, data)
 
 
 def made(name, path, *more):

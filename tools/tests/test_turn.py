@@ -1,7 +1,7 @@
 #!/usr/bin/env python3
 """Tests tools/turn: each way of turning comes back, from the file's first byte on, a few bytes later and behind headers of all
 lengths; text and packed files; and what isn't taken leaves no output."""
-from casefiles import Tally, os
+from casefiles import Tally, os, put_file
 import gzip
 import tempfile
 
@@ -14,10 +14,7 @@ DATA = streams.data_of(streams.full())
 
 
 def in_file(data, name="file"):
-    path = os.path.join(FOLDER, name)
-    with open(path, "wb") as file:
-        file.write(data)
-    return path
+    return put_file(FOLDER, name, data)
 
 
 def turned(name, raw, wanted, said=""):

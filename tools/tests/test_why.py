@@ -1,7 +1,7 @@
 #!/usr/bin/env python3
 """Tests tools/why: the kinds of damage that streams meet, each with the cause that is to be said, from the stream alone, from its
 listing, and, where x7 is built, from a play; reports of boots; and what isn't taken."""
-from casefiles import TOP, Tally, os
+from casefiles import TOP, Tally, os, put_file
 import bz2
 import gzip
 import lzma
@@ -94,10 +94,7 @@ NOTES = [
 
 
 def in_file(data, name):
-    path = os.path.join(FOLDER, name)
-    with open(path, "wb") as file:
-        file.write(data)
-    return path
+    return put_file(FOLDER, name, data)
 
 
 def files_of(raws):
