@@ -17,6 +17,7 @@ with tempfile.TemporaryDirectory() as folder:
         came = run(folder, [install, "there"])
         tally.same("install, status", came.status, 0)
         files = came.out.decode().split("\n")[:-1]
+        tally.check("the pages are put too", b"there/share/doc/x7/BOARD.md\n" in came.out, came.out)
         tally.check("install says what it put", files and all(os.path.isfile(os.path.join(folder, it)) for it in files), files)
         os.environ["PATH"] = os.path.join(folder, "there", "bin") + os.pathsep + os.environ["PATH"]
         del os.environ["X7"]
