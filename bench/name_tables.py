@@ -32,13 +32,13 @@ def by_four_bytes(name, behind):
     return (int.from_bytes(four, "little") * SPREAD % 2**32) >> 26
 
 
-def table(names, place, behind):
+def table(what, names, place, behind):
     result = [0] * 64
     taken = {}
     for number, name in names.items():
         at = place(name, behind)
         if at in taken:
-            sys.exit(f"{name} and {taken[at]} have one place")
+            sys.exit(f"{what}: {name} and {taken[at]} have one place; other factors are wanted")
         taken[at] = name
         result[at] = number
     return result
@@ -53,12 +53,13 @@ def table_in(path, name):
 def main():
     registers = {number: register_name(number) for number in range(32)}
     wanted = [
-        ("crates/x7_regs/src/named.rt", "REGISTERS", table(registers, by_letters, "")),
-        ("crates/x7_regs/src/named.rt", "COMMANDS", table(COMMANDS, by_letters, "")),
-        ("crates/x7_listing/src/pairs.rt", "REGISTERS", table(registers, by_four_bytes, " ")),
-        ("crates/x7_listing/src/pairs.rt", "COMMANDS", table(COMMANDS, by_four_bytes, "\n")),
+        ("crates/x7_regs/src/named.rt", "REGISTERS", registers, by_letters, ""),
+        ("crates/x7_regs/src/named.rt", "COMMANDS", COMMANDS, by_letters, ""),
+        ("crates/x7_listing/src/pairs.rt", "REGISTERS", registers, by_four_bytes, " "),
+        ("crates/x7_listing/src/pairs.rt", "COMMANDS", COMMANDS, by_four_bytes, "\n"),
     ]
-    for path, name, numbers in wanted:
+    for path, name, names, place, behind in wanted:
+        numbers = table(f"{path} {name}", names, place, behind)
         if "--print" in sys.argv:
             print(f"{path} {name}")
             for row in range(0, 64, 16):
