@@ -19,8 +19,8 @@ use Rattle.x7_listing.specs.HeadLine.{command_line, head_line, head_text, line_t
 use Rattle.x7_listing.specs.Listing.{listing_of, packet_text, place_text, session_text}
 use Rattle.x7_listing.specs.Telling.{GapListed, ListerStandsFor, ListerState, HasListedAt, TakerStandsFor, open_payload, word_next, open_word, open_words, words_place, written_of}
 use Rattle.x7_packets.specs.Mode.{Mode}
-use Rattle.x7_listing.specs.declared.line.HeadLine.{HeadLine}
-use Rattle.x7_listing.specs.declared.line.HeadLine.TheVariants as line
+use Rattle.x7_listing.specs.declared.line.head_line.HeadLine.{HeadLine}
+use Rattle.x7_listing.specs.declared.line.head_line.HeadLine.TheVariants as line
 use Rattle.x7_listing.proofs.FrontLemmas.{place_sure, session_over, sure_behind, sure_place, sure_text, told_behind}
 use Rattle.x7_listing.proofs.SessionLemmas.{session_closed}
 

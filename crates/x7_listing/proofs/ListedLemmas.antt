@@ -11,8 +11,8 @@ use Rattle.x7_text.specs.Digits.{hex_word}
 use Rattle.x7_text.specs.Row.{bytes_text, data_text, rows}
 use Rattle.x7_listing.specs.HeadLine.{command_line, head_line, line_text}
 use Rattle.x7_listing.specs.Listing.{listing_of, packet_text, packets_text, place_text, session_text}
-use Rattle.x7_listing.specs.declared.line.HeadLine.{HeadLine}
-use Rattle.x7_listing.specs.declared.line.HeadLine.TheVariants as head
+use Rattle.x7_listing.specs.declared.line.head_line.HeadLine.{HeadLine}
+use Rattle.x7_listing.specs.declared.line.head_line.HeadLine.TheVariants as head
 use Rattle.x7_listing.specs.Line.{Line, Bytes, Cmd, Data, Sync}
 use Rattle.x7_listing.specs.Listed.{cmd_line, ended_text, gap_lines, line_as, listing_lines, packet_lines, packets_lines, place_lines, session_lines, texts_of}
 

@@ -23,7 +23,7 @@ use Rattle.x7_listing.specs.Line.{Line, Empty, Comment, Bytes, Sync, Nop, Write,
 use Rattle.x7_listing.specs.Listed.{listing_lines, texts_of}
 use Rattle.x7_listing.proofs.GuessLemmas.{own, each_name, each_holds}
 use Rattle.x7_listing.proofs.ListedLemmas.{listing-text}
-use Rattle.x7_listing.proofs.StandLemmas.{Listed, Stands, listing-stands}
+use Rattle.x7_listing.proofs.ListedBytesLemmas.{Listed, Stands, listing-stands}
 
 -- texts that hold no line end
 words-free : (ws : List ℕ) → has_no_end (flat_map spaced ws) ≡ true

@@ -12,7 +12,7 @@ use Rattle.x7_packets.specs.declared.cutter.Cut.TheVariants.{Need, Skip, Sync, H
 use Rattle.x7_text.specs.Row.{close}
 use Rattle.x7_listing.specs.HeadLine.{head_text}
 use Rattle.x7_listing.specs.Telling.{GapListed, HasListed, words_place, open_words, Writes, Written, written_of}
-use Rattle.x7_listing.proofs.PlaceLemmas.{skip_told, sync_told, words_told_at}
+use Rattle.x7_listing.proofs.TellingLemmas.{skip_told, sync_told, words_told_at}
 use Rattle.x7_listing.proofs.SessionLemmas.{head_next, head_told}
 
 -- a statement for a run is one for what the run is

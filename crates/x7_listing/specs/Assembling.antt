@@ -8,7 +8,7 @@ use Rattle.x7_listing.specs.Line.{Line, bytes_of, FitsLine, IsListed}
 use Rattle.x7_listing.specs.Listed.{texts_of}
 use Rattle.x7_listing.specs.Assembly.{AreHeadedAsm, asm_limit, assembled, Begins, HasNoHead}
 use Rattle.x7_listing.specs.declared.assembler.AsmFault.{AsmFault}
-use Rattle.x7_listing.specs.declared.asm_lines.AsmLines.{AsmLines}
+use Rattle.x7_listing.specs.declared.asm.lines.AsmLines.{AsmLines}
 use Rattle.x7_listing.specs.declared.assembler.AsmFault.TheVariants as fault
 
 -- the first texts are those of lines, whose bytes these are, and the others are left

@@ -7,8 +7,8 @@ use Rattle.x7_packets.specs.Packet.{register_of, type_and_opcode_of}
 use Rattle.x7_packets.specs.PacketWords.{no_op, sync_word, type1_read, type1_write, type2_read, type2_read_kind, type2_write, type2_write_kind}
 use Rattle.x7_packets.specs.declared.header.Step.{Step}
 use Rattle.x7_packets.specs.declared.header.Step.TheVariants.{Bad}
-use Rattle.x7_listing.specs.declared.line.HeadLine.{HeadLine}
-use Rattle.x7_listing.specs.declared.line.HeadLine.TheVariants.{Nop, Sync, Write, Read, Write2, Read2, Word}
+use Rattle.x7_listing.specs.declared.line.head_line.HeadLine.{HeadLine}
+use Rattle.x7_listing.specs.declared.line.head_line.HeadLine.TheVariants.{Nop, Sync, Write, Read, Write2, Read2, Word}
 
 -- the word that a line stands for
 abbrev pub line_word : HeadLine → ℕ

@@ -1,13 +1,12 @@
-pub mod Assembly
-pub mod AtOnce
 pub mod Assembling
+pub mod Assembly
 pub mod BitLine
+pub mod Fast
 pub mod HeadLine
 pub mod Line
 pub mod Listed
+pub mod ListerOfRuns
 pub mod Listing
+pub mod Pens
 pub mod StreamListing
 pub mod Telling
-pub mod Taking
-pub mod TakingAtOnce
-pub mod Pens

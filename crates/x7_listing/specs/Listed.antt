@@ -9,8 +9,8 @@ use Rattle.x7_regs.specs.Register.{number_of}
 use Rattle.x7_regs.specs.declared.register.Reg.TheVariants.{Cmd}
 use Rattle.x7_text.specs.Row.{rows}
 use Rattle.x7_listing.specs.HeadLine.{head_line}
-use Rattle.x7_listing.specs.declared.line.HeadLine.{HeadLine}
-use Rattle.x7_listing.specs.declared.line.HeadLine.TheVariants as head
+use Rattle.x7_listing.specs.declared.line.head_line.HeadLine.{HeadLine}
+use Rattle.x7_listing.specs.declared.line.head_line.HeadLine.TheVariants as head
 use Rattle.x7_listing.specs.Line.{Line, Bytes, Sync, Nop, Write, Read, Write2, Read2, Word, Data, Cmd, text_of}
 
 -- the text of a line with its end, and of lines

@@ -8,7 +8,7 @@ use Rattle.x7_packets.specs.declared.header.Step.{Step}
 use Rattle.x7_packets.specs.Reading.{Place, Session, tail_of}
 use Rattle.x7_listing.specs.Listing.{reading_text}
 use Rattle.x7_listing.specs.Telling.{GapListed, HasListedAll, ListerState, ListerStandsFor, Tells, Written, lister_of, written_of}
-use Rattle.x7_listing.specs.declared.pen.state.Pen.{Pen}
+use Rattle.x7_listing.specs.declared.list.pen.state.Pen.{Pen}
 
 -- a lister with this pen
 abbrev pub lister_with : CutterState → Pen → List ℕ → ListerState

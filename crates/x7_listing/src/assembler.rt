@@ -4,7 +4,7 @@ ghost use Rattle.x7_words.specs.Word.{AreBytes};
 ghost use Rattle.x7_listing.specs.Assembly.{IsAsm};
 ghost use Rattle.x7_listing.specs.StreamListing.{stream_listing};
 
-use crate::asm_lines::AsmLines;
+use crate::asm::AsmLines;
 use std::alloc::{AllocError, Global};
 use thiserror::Error;
 use x7_text::read_lines;

@@ -1,4 +1,4 @@
-use Rattle.x7_listing.proofs.ShortLemmas.{stream-short}
+use Rattle.x7_listing.proofs.ListingLengthLemmas.{stream-short}
 use Rattle.x7_listing.proofs.laws.listing_is_short.Goals as goal
 
 pub returns : goal.returns

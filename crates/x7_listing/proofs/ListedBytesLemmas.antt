@@ -1,0 +1,169 @@
+-- The lines of a listing stand for the bytes that it is of.
+use Rattle.std.proofs.Common.{◌≡◌, ℕ, ◌+◌, ◌*◌, ◌/◌, ◌%◌, ◌^◌, ◌<◌, ◌==◌, if◌then◌else◌, Bool, true, false, List, [], ◌∷◌, ◌++◌, None, map, refl, ap, ap₂, sym, subst, ◌∙◌, arith, append_assoc}
+use Rattle.std.proofs.lemmas.Grind.{common_steps, flat_map-append}
+use Rattle.std.specs.List.{AllByRecursion, flat_map}
+use Rattle.x7_words.specs.Word.{AreBytes, AreWords, bytes_of_word}
+use Rattle.x7_words.proofs.ListLemmas.{all-append, all_back, all_front}
+use Rattle.x7_regs.specs.Command.{code_of, command_by}
+use Rattle.x7_packets.specs.Packet.{named_by, Packet, register_of, type_and_opcode_of, words}
+use Rattle.x7_packets.specs.PacketWords.{no_op, sync_word, type1_read, type1_write, type2_read_kind, type2_write_kind}
+use Rattle.x7_packets.specs.Reading.{IsPlace, IsReading, IsSession, packet_bytes, Place, place_bytes, Searching, Session, session_bytes, Synced}
+use Rattle.x7_packets.specs.SyncWord.{sync_bytes}
+use Rattle.x7_packets.specs.ByHand.{reading_of}
+use Rattle.x7_packets.specs.declared.header.Step.{Step}
+use Rattle.x7_packets.specs.declared.header.Step.TheVariants as step
+use Rattle.x7_packets.proofs.ByHandLemmas.{reading_is_found}
+use Rattle.x7_packets.proofs.UniqueLemmas.{each_fits}
+use Rattle.x7_text.specs.Row.{AreFullButLast, rows}
+use Rattle.x7_text.proofs.RowLemmas.{rows_full, rows_joined}
+use Rattle.x7_listing.specs.HeadLine.{best_line, head_line, line_word}
+use Rattle.x7_listing.specs.declared.line.head_line.HeadLine.{HeadLine}
+use Rattle.x7_listing.specs.declared.line.head_line.HeadLine.TheVariants as head
+use Rattle.x7_listing.specs.Line.{Line, Bytes, Sync, Data, Cmd, bytes_of, FitsLine, IsListed}
+use Rattle.x7_listing.specs.Listed.{cmd_line, gap_lines, line_as, listing_lines, packet_lines, packets_lines, payload_lines, place_lines, session_lines}
+
+abbrev pub Listed : Line → Type 0
+Listed l = FitsLine l × IsListed l
+
+-- each is a line of a listing, and these are their bytes
+pub record Stands (lines : List Line) (bytes : List ℕ) : Type 0 where
+  pub are : flat_map (bytes_of 0) lines ≡ bytes
+  pub each : AllByRecursion Listed lines
+
+both-stand : (a b : List Line) (x y : List ℕ) → Stands a x → Stands b y → Stands (a ++ b) (x ++ y)
+both-stand a b x y s t = record { are = flat_map-append (bytes_of 0) a b ∙ ap₂ (λ (p q : List ℕ). p ++ q) s.are t.are; each = all-append Listed a b s.each t.each }
+
+one-stands : (l : Line) (ls : List Line) (x y : List ℕ) → bytes_of 0 l ≡ x → Listed l → Stands ls y → Stands (l ∷ ls) (x ++ y)
+one-stands l ls x y e h s = record { are = ap₂ (λ (p q : List ℕ). p ++ q) e s.are; each = (h, s.each) }
+
+stands-for : (ls : List Line) (x y : List ℕ) → x ≡ y → Stands ls x → Stands ls y
+stands-for ls x y e s = subst (λ t. Stands ls t) e s
+
+none-stand : Stands [] []
+none-stand = record { are = refl; each = tt }
+
+abbrev pub joined : List (List ℕ) → List ℕ
+joined rs = flat_map (λ (r : List ℕ). r) rs
+
+byte-rows : (rs : List (List ℕ)) → AreFullButLast 32 rs → AreBytes (joined rs) → Stands (map Bytes rs) (joined rs)
+byte-rows [] f a = none-stand
+byte-rows (r ∷ []) f a = one-stands (Bytes r) [] r [] refl ((all_front (λ b. b < 256) r [] a, f.0, f.1), tt) none-stand
+byte-rows (r ∷ s ∷ rs) f a = one-stands (Bytes r) (map Bytes (s ∷ rs)) r (joined (s ∷ rs)) refl ((all_front (λ b. b < 256) r (joined (s ∷ rs)) a, omega (arith, f.0), omega (arith, f.0)), tt) (byte-rows (s ∷ rs) f.1 (all_back (λ b. b < 256) r (joined (s ∷ rs)) a))
+
+word-rows : (rs : List (List ℕ)) → AreFullButLast 8 rs → AreWords (joined rs) → Stands (map Data rs) (flat_map bytes_of_word (joined rs))
+word-rows [] f a = none-stand
+word-rows (r ∷ []) f a = stands-for (Data r ∷ []) (flat_map bytes_of_word r ++ []) (flat_map bytes_of_word (r ++ [])) (sym (flat_map-append bytes_of_word r [])) (one-stands (Data r) [] (flat_map bytes_of_word r) [] refl ((all_front (λ w. w < 2 ^ 32) r [] a, f.0, f.1), tt) none-stand)
+word-rows (r ∷ s ∷ rs) f a =
+    stands-for (Data r ∷ map Data (s ∷ rs)) (flat_map bytes_of_word r ++ flat_map bytes_of_word (joined (s ∷ rs))) (flat_map bytes_of_word (r ++ joined (s ∷ rs))) (sym (flat_map-append bytes_of_word r (joined (s ∷ rs))))
+    (one-stands (Data r) (map Data (s ∷ rs)) (flat_map bytes_of_word r) (flat_map bytes_of_word (joined (s ∷ rs))) refl ((all_front (λ w. w < 2 ^ 32) r (joined (s ∷ rs)) a, omega (arith, f.0), omega (arith, f.0)), tt) (word-rows (s ∷ rs) f.1 (all_back (λ w. w < 2 ^ 32) r (joined (s ∷ rs)) a)))
+
+gap-stands : (bs : List ℕ) → AreBytes bs → Stands (gap_lines bs) bs
+gap-stands bs a =
+    let same : joined (rows 32 bs) ≡ bs = rows_joined 32 [] bs in
+    stands-for (gap_lines bs) (joined (rows 32 bs)) bs same (byte-rows (rows 32 bs) (rows_full 32 [] bs (omega arith)) (subst (λ t. AreBytes t) (sym same) a))
+
+data-stands : (ws : List ℕ) → AreWords ws → Stands (map Data (rows 8 ws)) (flat_map bytes_of_word ws)
+data-stands ws a =
+    let same : joined (rows 8 ws) ≡ ws = rows_joined 8 [] ws in
+    stands-for (map Data (rows 8 ws)) (flat_map bytes_of_word (joined (rows 8 ws))) (flat_map bytes_of_word ws) (ap (flat_map bytes_of_word) same) (word-rows (rows 8 ws) (rows_full 8 [] ws (omega arith)) (subst (λ t. AreWords t) (sym same) a))
+
+pub is-eq : (a b : ℕ) → (a == b) ≡ true → a ≡ b
+is-eq a b e = grind (arith, common_steps)
+
+-- one line of a word
+abbrev pub IsLineOf : ℕ → Line → Type 0
+IsLineOf w l = (bytes_of 0 l ≡ bytes_of_word w) × Listed l
+
+cmd-by : (b : Bool) (w : ℕ) → w < 2 ^ 32 → (b ≡ true → code_of (command_by w) ≡ w) → IsLineOf w (if b then Cmd (command_by w) else Data (w ∷ []))
+cmd-by true w h e = (ap bytes_of_word (e refl), (tt, tt))
+cmd-by false w h e = (refl, (((h, tt), omega arith, omega arith), tt))
+
+pub cmd-stands : (w : ℕ) → w < 2 ^ 32 → IsLineOf w (cmd_line w)
+cmd-stands w h = cmd-by (code_of (command_by w) == w) w h (is-eq (code_of (command_by w)) w)
+
+cmds-stand : (ws : List ℕ) → AreWords ws → Stands (map cmd_line ws) (flat_map bytes_of_word ws)
+cmds-stand [] a = none-stand
+cmds-stand (w ∷ ws) a = let p : IsLineOf w (cmd_line w) = cmd-stands w a.0 in
+    one-stands (cmd_line w) (map cmd_line ws) (bytes_of_word w) (flat_map bytes_of_word ws) p.0 p.1 (cmds-stand ws a.1)
+
+payload-by : (b : Bool) (ws : List ℕ) → AreWords ws → Stands (if b then map cmd_line ws else map Data (rows 8 ws)) (flat_map bytes_of_word ws)
+payload-by true ws a = cmds-stand ws a
+payload-by false ws a = data-stands ws a
+
+as-bytes : (h : HeadLine) → bytes_of 0 (line_as h) ≡ bytes_of_word (line_word h)
+as-bytes head.Nop = refl
+as-bytes head.Sync = refl
+as-bytes (head.Write r c) = refl
+as-bytes (head.Read r c) = refl
+as-bytes (head.Write2 c) = refl
+as-bytes (head.Read2 c) = refl
+as-bytes (head.Word w) = refl
+
+abbrev pub IsHeadOf : ℕ → HeadLine → Type 0
+IsHeadOf w h = (line_word h ≡ w) × Listed (line_as h)
+
+pick : (P : HeadLine → Type 0) (b : Bool) (x y : HeadLine) → (b ≡ true → P x) → P y → P (if b then x else y)
+pick P true x y f g = f refl
+pick P false x y f g = g
+
+best : (w : ℕ) → w < 2 ^ 32 → IsHeadOf w (best_line w)
+best w h =
+    let r : register_of w < 32 = omega arith in
+    pick (IsHeadOf w) (w == no_op) head.Nop _ (λ e. (sym (is-eq w no_op e), (tt, tt)))
+    (pick (IsHeadOf w) (w == sync_word) head.Sync _ (λ e. (sym (is-eq w sync_word e), (tt, tt)))
+    (pick (IsHeadOf w) (w == type1_write (register_of w) (w % 2 ^ 11)) (head.Write (register_of w) (w % 2 ^ 11)) _ (λ e. (sym (is-eq w (type1_write (register_of w) (w % 2 ^ 11)) e), ((r, omega arith), tt)))
+    (pick (IsHeadOf w) (w == type1_read (register_of w) (w % 2 ^ 11)) (head.Read (register_of w) (w % 2 ^ 11)) _ (λ e. (sym (is-eq w (type1_read (register_of w) (w % 2 ^ 11)) e), ((r, omega arith), tt)))
+    (pick (IsHeadOf w) (type_and_opcode_of w == type2_write_kind) (head.Write2 (w % 2 ^ 27)) _ (λ e. let k : w / 2 ^ 27 ≡ 10 = is-eq (w / 2 ^ 27) 10 e in (omega arith, (omega arith, tt)))
+    (pick (IsHeadOf w) (type_and_opcode_of w == type2_read_kind) (head.Read2 (w % 2 ^ 27)) (head.Word w) (λ e. let k : w / 2 ^ 27 ≡ 9 = is-eq (w / 2 ^ 27) 9 e in (omega arith, (omega arith, tt))) (refl, (h, tt)))))))
+
+head-of : (s : Step) (w : ℕ) → w < 2 ^ 32 → IsHeadOf w (head_line s w)
+head-of (step.Bad x) w h = (refl, (h, tt))
+head-of step.Filler w h = best w h
+head-of step.Nop w h = best w h
+head-of (step.Open r c) w h = best w h
+head-of (step.Payload r x) w h = best w h
+head-of (step.Read r c) w h = best w h
+
+packet-stands : (p : Packet) → AreWords (words p) → Stands (packet_lines p) (flat_map bytes_of_word (words p))
+packet-stands p a = let q : IsHeadOf p.head (head_line p.step p.head) = head-of p.step p.head a.0 in
+    one-stands (line_as (head_line p.step p.head)) (payload_lines (named_by p.step) p.payload) (bytes_of_word p.head) (flat_map bytes_of_word p.payload) (as-bytes (head_line p.step p.head) ∙ ap bytes_of_word q.0) q.1 (payload-by (named_by p.step == 4) p.payload a.1)
+
+packets-stand : (ps : List Packet) → AreWords (flat_map words ps) → Stands (flat_map packet_lines ps) (packet_bytes ps)
+packets-stand [] a = none-stand
+packets-stand (p ∷ ps) a =
+    stands-for (flat_map packet_lines (p ∷ ps)) (flat_map bytes_of_word (words p) ++ packet_bytes ps) (packet_bytes (p ∷ ps)) (sym (flat_map-append bytes_of_word (words p) (flat_map words ps)))
+    (both-stand (packet_lines p) (flat_map packet_lines ps) (flat_map bytes_of_word (words p)) (packet_bytes ps) (packet-stands p (all_front (λ w. w < 2 ^ 32) (words p) (flat_map words ps) a)) (packets-stand ps (all_back (λ w. w < 2 ^ 32) (words p) (flat_map words ps) a)))
+
+session-stands : (gap : List ℕ) (ps : List Packet) → AreBytes gap → AreWords (flat_map words ps) → Stands (packets_lines gap ps) (gap ++ (sync_bytes ++ packet_bytes ps))
+session-stands gap ps g a = both-stand (gap_lines gap) (Sync ∷ flat_map packet_lines ps) gap (sync_bytes ++ packet_bytes ps) (gap-stands gap g) (one-stands Sync (flat_map packet_lines ps) sync_bytes (packet_bytes ps) refl (tt, tt) (packets-stand ps a))
+
+ended-session : (s : Session) → AreBytes (session_bytes s) → AreWords (flat_map words s.packets) → Stands (session_lines s) (session_bytes s)
+ended-session s b a = stands-for (session_lines s) (s.gap ++ (sync_bytes ++ packet_bytes s.packets)) (session_bytes s) (sym (append_assoc s.gap sync_bytes (packet_bytes s.packets)))
+    (session-stands s.gap s.packets (all_front (λ x. x < 256) s.gap (sync_bytes ++ packet_bytes s.packets) (subst (λ t. AreBytes t) (append_assoc s.gap sync_bytes (packet_bytes s.packets)) b)) a)
+
+sessions-stand : (ss : List Session) → AreBytes (flat_map session_bytes ss) → AllByRecursion IsSession ss → Stands (flat_map session_lines ss) (flat_map session_bytes ss)
+sessions-stand [] b a = none-stand
+sessions-stand (s ∷ ss) b a =
+    both-stand (session_lines s) (flat_map session_lines ss) (session_bytes s) (flat_map session_bytes ss) (ended-session s (all_front (λ x. x < 256) (session_bytes s) (flat_map session_bytes ss) b) (each_fits None s.packets a.0.packets))
+    (sessions-stand ss (all_back (λ x. x < 256) (session_bytes s) (flat_map session_bytes ss) b) a.1)
+
+place-stands : (p : Place) → AreBytes (place_bytes p) → IsPlace p → Stands (place_lines p) (place_bytes p)
+place-stands (Searching gap) b i = gap-stands gap b
+place-stands (Synced gap ps tail) b i =
+    let e : gap ++ sync_bytes ++ packet_bytes ps ++ tail ≡ gap ++ (sync_bytes ++ packet_bytes ps) ++ tail = ap (λ t. t ++ tail) (append_assoc gap sync_bytes (packet_bytes ps)) in
+    let prefix : AreBytes (gap ++ (sync_bytes ++ packet_bytes ps)) = all_front (λ x. x < 256) (gap ++ (sync_bytes ++ packet_bytes ps)) tail (subst (λ t. AreBytes t) e b) in
+    stands-for (place_lines (Synced gap ps tail)) (gap ++ (sync_bytes ++ packet_bytes ps) ++ tail) (gap ++ sync_bytes ++ packet_bytes ps ++ tail) (sym e)
+    (both-stand (packets_lines gap ps) (gap_lines tail) (gap ++ (sync_bytes ++ packet_bytes ps)) tail
+    (session-stands gap ps (all_front (λ x. x < 256) gap (sync_bytes ++ packet_bytes ps) prefix) (each_fits None ps i.1))
+    (gap-stands tail (all_back (λ x. x < 256) (gap ++ sync_bytes ++ packet_bytes ps) tail b)))
+
+pub reading-stands : (bytes : List ℕ) (ss : List Session) (p : Place) → IsReading bytes ss p → Stands (flat_map session_lines ss ++ place_lines p) bytes
+reading-stands bytes ss p r =
+    let b : AreBytes (flat_map session_bytes ss ++ place_bytes p) = subst (λ t. AreBytes t) r.joined r.fits in
+    stands-for (flat_map session_lines ss ++ place_lines p) (flat_map session_bytes ss ++ place_bytes p) bytes (sym r.joined)
+    (both-stand (flat_map session_lines ss) (place_lines p) (flat_map session_bytes ss) (place_bytes p)
+    (sessions-stand ss (all_front (λ x. x < 256) (flat_map session_bytes ss) (place_bytes p) b) r.each)
+    (place-stands p (all_back (λ x. x < 256) (flat_map session_bytes ss) (place_bytes p) b) r.ends))
+
+pub listing-stands : (bytes : List ℕ) → AreBytes bytes → Stands (listing_lines bytes) bytes
+listing-stands bytes a = reading-stands bytes (reading_of bytes).sessions (reading_of bytes).place (reading_is_found bytes a)

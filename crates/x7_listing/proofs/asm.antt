@@ -1,0 +1,2 @@
+pub mod AsmLinesLemmas
+pub mod DigitPairsLemmas

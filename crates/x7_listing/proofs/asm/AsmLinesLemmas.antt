@@ -1,0 +1,136 @@
+-- A text that is assembled line by line.
+use Rattle.std.proofs.Common.{◌≡◌, inl, inr, ℕ, ◌+◌, ◌-◌, ◌≤◌, List, [], ◌∷◌, ◌++◌, Option, Some, IfSome, Result, Ok, Err, IfErr, OnOk, MatchResult, length, map, take, drop, refl, ap, sym, subst, ◌∙◌, arith, append_assoc, append-nil, length-append, take_all}
+use Rattle.std.proofs.lemmas.List.{length-map}
+use Rattle.std.proofs.Math.ListN.{drop_of_length-le}
+use Rattle.std.proofs.Math.Seq.{drop-nil}
+use Rattle.std.specs.List.{flat_map}
+use Rattle.x7_crc.specs.Checking.{CheckerState, Keeps}
+use Rattle.x7_header.specs.Header.{Contents}
+use Rattle.x7_text.specs.LineReading.{TakesWhole}
+use Rattle.x7_text.specs.Lines.{split}
+use Rattle.x7_text.proofs.LineReadingLemmas.{HasTaken}
+use Rattle.x7_listing.specs.Assembly.{AreHeadedAsm}
+use Rattle.x7_listing.specs.Assembling.{BodyState, FailsFirst, FailsNext, Goes, HasAsmFault, HasRead, Output, ReadsFirst, ReadsNext, TakesLines, Unbegun, Waits, Went, behind, body_by, has_any, output_of}
+use Rattle.x7_listing.specs.BitLine.{bit_text, IsHeaderOf, IsHeld}
+use Rattle.x7_listing.specs.Line.{Line, bytes_of, text_of}
+use Rattle.x7_listing.specs.declared.assembler.AsmFault.{AsmFault}
+use Rattle.x7_listing.specs.declared.asm.lines.AsmLines.{AsmLines}
+use Rattle.x7_listing.proofs.AssemblingLemmas.{goes-whole, went-nothing}
+use Rattle.x7_listing.proofs.asm.fast.QuickLemmas.{goes-quick, quick-texts}
+
+-- where no text is read
+pub goes-header : (all left : List (List ℕ)) (held out header : List ℕ) (start len c n : ℕ) (checker : CheckerState) → IsHeaderOf held header → length header ≤ 262170 → len ≡ length header → c ≡ n + 1
+    → Unbegun all (held ∷ left) (body_by out start checker n) → Goes all left (body_by header len checker c)
+goes-header all left held out header start len c n checker h short size up u =
+    let none : drop len header ≡ [] = drop_of_length-le header (omega (arith, size)) in
+    record {
+      others = left;
+      first = 1;
+      read = 0;
+      long = omega (arith, size);
+      short = omega (arith, size, short);
+      keeps = subst (λ (b : List ℕ). Keeps checker b) (sym none) u.keeps;
+      opens = inl (record { header = h.header; held = h.held; texts = u.texts ∙ ap (λ t. t ∷ left) h.text; are = take_all len header (omega (arith, size)) ∙ h.are; one = refl });
+      went = subst (λ (b : List ℕ). Went (67108864 - len) left left b 0) (sym none) (went-nothing (67108864 - len) left);
+      count_is = omega (arith, up, u.count_is);
+    }
+
+first-is : (s t : List ℕ) (ss ts : List (List ℕ)) → s ∷ ss ≡ t ∷ ts → s ≡ t
+first-is s t ss ts e = cc
+
+pub goes-plain : (all left : List (List ℕ)) (held out : List ℕ) (start n : ℕ) (checker : CheckerState) → ((x : Contents) → IsHeld x → held ≡ bit_text x → ⊥) → Unbegun all (held ∷ left) (body_by out start checker n) → Goes all (held ∷ left) (body_by out start checker n)
+goes-plain all left held out start n checker none u =
+    let empty : drop start out ≡ [] = ap (drop start) u.out_is ∙ drop-nil start in
+    record {
+      others = held ∷ left;
+      first = 0;
+      read = 0;
+      long = omega (arith, u.start_is);
+      short = omega (arith, u.start_is);
+      keeps = subst (λ (b : List ℕ). Keeps checker b) (sym empty) u.keeps;
+      opens = inr (record {
+        no_head = λ x others hx e. none x hx (first-is held (bit_text x) left others (sym u.texts ∙ e));
+        texts = u.texts;
+        are = ap (λ (k : ℕ). take k out) u.start_is;
+        none = refl;
+      });
+      went = subst (λ (b : List ℕ). Went (67108864 - start) (held ∷ left) (held ∷ left) b 0) (sym empty) (went-nothing (67108864 - start) (held ∷ left));
+      count_is = u.count_is;
+    }
+
+pub err-weaker : {A E : Type 0} → {P Q : E → Type 0} → (r : Result A E) → ((e : E) → P e → Q e) → IfErr r P → IfErr r Q
+err-weaker (Ok a) f h = tt
+err-weaker (Err e) f h = f e h
+
+pub if-some : {X : Type 0} → (P : X → Type 0) (o : Option X) (x : X) → o ≡ Some x → IfSome o P → P x
+if-some P o x e h = subst (λ p. IfSome p P) e h
+
+-- ---- one line more
+
+pub first-read : {A : Type 0} (r : Result A AsmFault) (old new : Output) (line : List ℕ) (lines : List (List ℕ)) → length lines ≡ 0 → OnOk r (ReadsFirst old new line) → IfErr r (FailsFirst old line) → HasRead old lines
+    → MatchResult r (λ _. HasRead new (lines ++ line ∷ [])) (λ f. (left : List (List ℕ)) → HasAsmFault f (lines ++ line ∷ left))
+first-read (Ok _) old new line [] none reads fails h = λ left. reads (line ∷ left) left (h (line ∷ left))
+first-read (Err f) old new line [] none reads (inl want) h = λ left. inl want
+first-read (Err f) old new line [] none reads (inr bad) h = λ left. inr (bad (line ∷ left) left (h (line ∷ left)))
+first-read r old new line (t ∷ ts) none reads fails h = absurd (omega (arith, none))
+
+pub next-read : {A : Type 0} (r : Result A AsmFault) (old new : Output) (n : ℕ) (line : List ℕ) (lines : List (List ℕ)) → n ≡ length lines + 1 → (n ≡ 1 → ⊥) → OnOk r (ReadsNext old new n line) → IfErr r (FailsNext old n line) → HasRead old lines
+    → MatchResult r (λ _. HasRead new (lines ++ line ∷ [])) (λ f. (left : List (List ℕ)) → HasAsmFault f (lines ++ line ∷ left))
+next-read r old new n line [] m more reads fails h = absurd (more m)
+next-read (Ok _) old new n line (t ∷ ts) m more reads fails h = λ left.
+    let k : n ≡ length ((t ∷ ts) ++ line ∷ []) = m ∙ sym (length-append (t ∷ ts) (line ∷ [])) in
+    subst (λ all. Goes all left (behind new (length ((t ∷ ts) ++ line ∷ [])))) (sym (append_assoc (t ∷ ts) (line ∷ []) left))
+    (subst (λ (j : ℕ). Goes ((t ∷ ts) ++ line ∷ left) left (behind new j)) k (reads ((t ∷ ts) ++ line ∷ left) left (length (t ∷ ts)) m (h (line ∷ left))))
+next-read (Err f) old new n line (t ∷ ts) m more reads (inl want) h = λ left. inl want
+next-read (Err f) old new n line (t ∷ ts) m more reads (inr bad) h = λ left. inr (bad ((t ∷ ts) ++ line ∷ left) left (length (t ∷ ts)) m (h (line ∷ left)))
+
+pub with-more : {A : Type 0} (r : Result A AsmFault) (new : Output) (line : List ℕ) (lines : List (List ℕ)) → MatchResult r (λ _. HasRead new (lines ++ line ∷ [])) (λ f. (left : List (List ℕ)) → HasAsmFault f (lines ++ line ∷ left))
+    → MatchResult r (λ _. HasRead new (lines ++ line ∷ [])) (λ f. (more : List ℕ) → HasAsmFault f (lines ++ line ∷ split more))
+with-more (Ok _) new line lines h = h
+with-more (Err f) new line lines h = λ more. h (split more)
+
+-- ---- lines that are read at once
+
+abbrev pub output_by : List ℕ → ℕ → CheckerState → Output
+output_by out start checker = record { out = out; start = start; checker = checker }
+
+no-lines : (ls : List Line) → length ls ≡ 0 → ls ≡ []
+no-lines [] e = refl
+no-lines (l ∷ ls) e = absurd (omega (arith, e))
+
+pub quick-read : (out new text rest : List ℕ) (start k : ℕ) (checker : CheckerState) (lines : List (List ℕ)) (t : TakesLines text rest out new k) → (length lines ≡ 0 → k ≡ 0) → (length out ≤ 67108864 → length new ≤ 67108864)
+    → HasRead (output_by out start checker) lines → HasRead (output_by new start checker) (lines ++ map text_of t.lines)
+quick-read out new text rest start k checker [] t none limit h =
+    let empty : t.lines ≡ [] = no-lines t.lines (sym t.count_is ∙ none refl) in
+    let same : new ≡ out = t.appended ∙ ap (λ ls. out ++ flat_map (bytes_of 0) ls) empty ∙ append-nil out in
+    subst (λ ls. HasRead (output_by new start checker) (map text_of ls)) (sym empty) (subst (λ b. HasRead (output_by b start checker) []) (sym same) h)
+quick-read out new text rest start k checker (u ∷ us) t none limit h = λ left.
+    let texts : List (List ℕ) = map text_of t.lines in
+    goes-quick (((u ∷ us) ++ map text_of t.lines) ++ left) left text rest out new start k (length (u ∷ us)) (length ((u ∷ us) ++ map text_of t.lines)) checker t limit
+    (length-append (u ∷ us) (map text_of t.lines) ∙ ap (λ (j : ℕ). length (u ∷ us) + j) (length-map t.lines text_of ∙ sym t.count_is))
+    (subst (λ all. Goes all (map text_of t.lines ++ left) (body_by out start checker (length (u ∷ us)))) (sym (append_assoc (u ∷ us) (map text_of t.lines) left)) (h (map text_of t.lines ++ left)))
+
+pub quick-taken : (out new text rest left : List ℕ) (start k n c size : ℕ) (checker : CheckerState) (lines : List (List ℕ)) → left ≡ drop size rest → TakesLines rest (drop size rest) out new k → (n ≡ 0 → k ≡ 0) → (length out ≤ 67108864 → length new ≤ 67108864) → c ≡ n + k
+    → HasTaken HasRead lines text rest (output_by out start checker) n → HasTaken HasRead lines text left (output_by new start checker) c
+quick-taken out new text rest left start k n c size checker lines is t none limit up h = record {
+  more = h.more ++ map text_of t.lines;
+  texts = h.texts ∙ ap (λ ls. h.more ++ ls) (quick-texts rest (drop size rest) out new k t ∙ ap (λ x. map text_of t.lines ++ split x) (sym is)) ∙ sym (append_assoc h.more (map text_of t.lines) (split left));
+  took = subst (HasRead (output_by new start checker)) (append_assoc lines h.more (map text_of t.lines))
+      (quick-read out new rest (drop size rest) start k checker (lines ++ h.more) t (λ e. none (h.counts ∙ e)) limit h.took);
+  counts = up ∙ ap (λ (j : ℕ). j + k) h.counts ∙ ap (λ (j : ℕ). length (lines ++ h.more) + j) (t.count_is ∙ sym (length-map t.lines text_of)) ∙ sym (length-append (lines ++ h.more) (map text_of t.lines)) ∙ ap length (append_assoc lines h.more (map text_of t.lines));
+}
+
+pub as-whole : (lines : List (List ℕ)) (text rest : List ℕ) (b : AsmLines) (n : ℕ) → TakesWhole HasRead lines text (output_of b) rest n → TakesWhole (λ x. HasRead (output_of x)) lines text b rest n
+as-whole lines text rest b n w = record { more = w.more; cut = w.cut; took = w.took; count = w.count }
+
+-- ---- the last line
+
+goes-any : (lines : List (List ℕ)) (line : List ℕ) (all left : List (List ℕ)) (b : BodyState) → Waits (has_any (lines ++ line ∷ [])) all left b → Goes all left b
+goes-any [] line all left b w = w
+goes-any (t ∷ ts) line all left b w = w
+
+pub last-read : (b : Output) (lines : List (List ℕ)) (line : List ℕ) → HasRead b (lines ++ line ∷ []) → AreHeadedAsm (lines ++ line ∷ []) (Ok b.out)
+last-read b lines line h =
+    let all : List (List ℕ) = lines ++ line ∷ [] in
+    subst (λ ls. AreHeadedAsm ls (Ok b.out)) (append-nil all)
+    (goes-whole (all ++ []) b.out b.start b.checker (length all) (goes-any lines line (all ++ []) [] (behind b (length all)) (h [])))

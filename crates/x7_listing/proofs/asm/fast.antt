@@ -1,0 +1,4 @@
+pub mod LineEndLemmas
+pub mod QuickLemmas
+pub mod WordsAtLemmas
+pub mod WritePairsLemmas

@@ -1,0 +1,22 @@
+use Rattle.std.proofs.Common.{[], ◌∷◌, refl, arith, ap, sym, ◌∙◌, drop, ◌++◌}
+use Rattle.std.proofs.lemmas.List.{take-append-drop}
+use Rattle.x7_listing.specs.Line.{Nop}
+use Rattle.x7_listing.proofs.asm.fast.WritePairsLemmas.{same-by-mask}
+use Rattle.x7_listing.proofs.asm.fast.quick.put_nops.Goals as goal
+
+pub returns-clause-takes : goal.returns-clause-takes
+returns-clause-takes c =
+    let same = same-by-mask 32 c.differences.result c.args.text.now _ (omega arith) refl (omega arith) c.differences.ensures (omega arith) in
+    record {
+      some = omega arith;
+      within = omega arith;
+      few = omega arith;
+      takes = record {
+        lines = Nop ∷ Nop ∷ Nop ∷ Nop ∷ Nop ∷ Nop ∷ Nop ∷ Nop ∷ [];
+        fit = (tt, (tt, (tt, (tt, (tt, (tt, (tt, (tt, tt))))))));
+        listed = (tt, (tt, (tt, (tt, (tt, (tt, (tt, (tt, tt))))))));
+        text_is = sym (take-append-drop 32 c.args.text.now) ∙ ap (λ t. t ++ drop 32 c.args.text.now) same;
+        appended = c.put.ensures.appends.items;
+        count_is = refl;
+      };
+    }

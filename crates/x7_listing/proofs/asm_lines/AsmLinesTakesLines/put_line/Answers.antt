@@ -1,6 +1,0 @@
-use Rattle.x7_listing.specs.Assembling.{output_of}
-use Rattle.x7_listing.proofs.AssemblerLemmas.{with-more}
-use Rattle.x7_listing.proofs.asm_lines.AsmLinesTakesLines.put_line.Goals as goal
-
-pub returns : goal.returns
-returns c = λ first lines m t. with-more c.put_next.result (output_of c.put_next.new.self) c.args.line.now lines (c.put_next.ensures lines m t)

@@ -1,8 +1,0 @@
-use Rattle.x7_listing.proofs.NameLemmas.{cut-at, no-space-at-all}
-use Rattle.x7_listing.proofs.bit_line.at_space.Goals as goal
-
-pub returns-in_default : goal.returns-in_default
-returns-in_default c = no-space-at-all c.args.text.now c.in_default.ensures
-
-pub returns : goal.returns
-returns c = cut-at c.args.text.now c.in-Some.at c.in-Some.ensures.0.before c.in-Some.ensures.0.high c.in-Some.ensures.1

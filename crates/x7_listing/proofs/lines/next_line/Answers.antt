@@ -1,6 +1,0 @@
-use Rattle.std.proofs.Common.{arith}
-use Rattle.x7_listing.proofs.NearLemmas.{near-end}
-use Rattle.x7_listing.proofs.lines.next_line.Goals as goal
-
-pub returns : goal.returns
-returns c = near-end c.args.text.now c.line_ends.result (omega arith) c.line_ends.ensures (omega arith)

@@ -1,0 +1,2 @@
+pub mod ListerLemmas
+pub mod ListerOfRunsLemmas

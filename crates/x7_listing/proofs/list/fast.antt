@@ -1,0 +1,3 @@
+pub mod AtOnceLemmas
+pub mod OnSheetLemmas
+pub mod SheetLemmas

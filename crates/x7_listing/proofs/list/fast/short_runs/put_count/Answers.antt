@@ -1,0 +1,10 @@
+use Rattle.std.proofs.Common.{◌∷◌, ◌++◌, [], ◌∙◌, ap, arith, sym, take, List, ℕ}
+use Rattle.std.proofs.lemmas.Fmt.{decimal_digit}
+use Rattle.x7_listing.proofs.list.fast.AtOnceLemmas.{two_digits}
+use Rattle.x7_listing.proofs.list.fast.short_runs.put_count.Goals as goal
+
+pub returns-then-count-lt10-clause-text : goal.returns-then-count-lt10-clause-text
+returns-then-count-lt10-clause-text c = c.put_whole.ensures.text ∙ ap (λ (t : List ℕ). take c.args.len c.args.sheet.now ++ (t ++ 10 ∷ [])) (sym (decimal_digit c.args.count c.if-count-lt10.true))
+
+pub returns-clause-text : goal.returns-clause-text
+returns-clause-text c = c.put_whole-2.ensures.text ∙ ap (λ (t : List ℕ). take c.args.len c.args.sheet.now ++ (t ++ 10 ∷ [])) (sym (two_digits c.args.count (omega (arith, c.if-count-lt10.false)) c.requires.few))

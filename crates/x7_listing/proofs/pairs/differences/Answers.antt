@@ -1,7 +1,0 @@
-use Rattle.std.proofs.Common.{arith}
-use Rattle.std.proofs.lemmas.List.{length-take-le}
-use Rattle.x7_listing.proofs.RowLemmas.{mask-of}
-use Rattle.x7_listing.proofs.pairs.differences.Goals as goal
-
-pub returns : goal.returns
-returns c = mask-of _ c.args.row.now (length-take-le 32 c.args.text.now (omega (arith, c.requires))) (omega arith)

@@ -1,6 +1,0 @@
-use Rattle.std.proofs.Common.{codes}
-use Rattle.x7_listing.proofs.WordsAtLemmas.{front-six}
-use Rattle.x7_listing.proofs.quick.is_bytes.Goals as goal
-
-pub returns : goal.returns
-returns c h = front-six c.args.text.now (codes "bytes ") c.requires c.eq.result c.eq.ensures h

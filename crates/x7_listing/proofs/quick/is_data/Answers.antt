@@ -1,6 +1,0 @@
-use Rattle.std.proofs.Common.{codes}
-use Rattle.x7_listing.proofs.WordsAtLemmas.{front-four}
-use Rattle.x7_listing.proofs.quick.is_data.Goals as goal
-
-pub returns : goal.returns
-returns c h = front-four c.args.text.now (codes "data") c.requires c.eq.result c.eq.ensures h

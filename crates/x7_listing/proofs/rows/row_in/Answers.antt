@@ -1,6 +1,0 @@
-use Rattle.std.proofs.Common.{arith}
-use Rattle.x7_listing.proofs.AtOnceLemmas.{row_at}
-use Rattle.x7_listing.proofs.rows.row_in.Goals as goal
-
-pub returns : goal.returns
-returns c = λ text a. row_at text 0 c.args.rows.now c.args.n c.args.n _ a (omega (arith, c.requires)) (omega arith)

@@ -1,6 +1,0 @@
-use Rattle.std.proofs.Common.{refl}
-use Rattle.x7_listing.specs.AtOnce.{write_start}
-use Rattle.x7_listing.proofs.rows.write_row.Goals as goal
-
-pub returns : goal.returns
-returns c = c.row_in.ensures write_start (refl, (refl, (refl, (refl, (refl, (refl, (refl, (refl, (refl, (refl, (refl, (refl, (refl, (refl, (refl, (refl, (refl, (refl, (refl, (refl, (refl, (refl, (refl, (refl, (refl, (refl, (refl, (refl, (refl, (refl, (refl, (refl, tt))))))))))))))))))))))))))))))))

@@ -1,5 +1,0 @@
-use Rattle.x7_listing.proofs.SheetLemmas.{stored}
-use Rattle.x7_listing.proofs.sheet.put_prefix.Goals as goal
-
-pub returns-clause-text : goal.returns-clause-text
-returns-clause-text c = stored c.args.sheet.now c.args.piece.now c.copy_from_slice.new.self _ c.args.len c.args.count c.told-sheet c.requires.room c.requires.part c.copy_from_slice.ensures.after

@@ -1,0 +1,3 @@
+-- Definitions of the fast ways (this project's choice), which may be skipped: no clause of a public function cites one.
+pub mod AtOnce
+pub mod TakingAtOnce

@@ -1,0 +1,307 @@
+//! Lines of a listing that are read at once: rows of words, bytes, writes, and no-ops by eight.
+ghost use Rattle.std.specs.Prelude.{◌≡◌, ℕ, List, ◌<◌, ◌≤◌, ◌+◌, ◌*◌, ◌++◌, codes, drop, length, slice_index, take, vec_len, vec_capacity, IfOk, IsTrue, MatchOption};
+ghost use Rattle.std.specs.List.{flat_map};
+ghost use Rattle.std.specs.Simd.Lanes.{chunk};
+ghost use Rattle.x7_listing.specs.Fast.AtOnce.{words_at};
+ghost use Rattle.x7_text.specs.Reads.{StaysWithin};
+ghost use Rattle.x7_listing.specs.Assembling.{TakesFirst, TakesLines};
+
+use super::write_pairs::{differences, put_pair};
+use crate::asm::reading::{access_at, put_word};
+use crate::assembler::ASM_LIMIT;
+use std::simd::prelude::*;
+use x7_packets::type1_write;
+use x7_text::{prefix_of_hex, put};
+use x7_words::{NoMemory, is_same};
+
+/// The lines of eight no-ops.
+const NOPS: &[u8; 32] = b"nop\nnop\nnop\nnop\nnop\nnop\nnop\nnop\n";
+
+/// The bytes of eight no-ops.
+const NOP_BYTES: &[u8; 32] =
+    b"\x20\0\0\0\x20\0\0\0\x20\0\0\0\x20\0\0\0\x20\0\0\0\x20\0\0\0\x20\0\0\0\x20\0\0\0";
+
+/// Some whole lines that were read: how many bytes of the text they are, and how many lines.
+#[derive(Clone, Copy, Drop)]
+pub(crate) struct WholeLines {
+    pub(crate) size: usize,
+    pub(crate) count: u64,
+}
+
+/// Appends the bytes of eight no-ops, if their lines begin the text.
+#[inline(always)]
+fn put_nops(out: &mut Vec<u8>, text: &[u8]) -> Option<WholeLines>
+    requires room { vec_len out.old + 32 ≤ vec_capacity out.old }
+    requires long { 77 ≤ length text.now }
+    ensures takes { MatchOption result (out.new.items ≡ out.old.items) (λ taken. TakesFirst text.now out.old.items out.new.items taken.size taken.count) }
+    ensures room { StaysWithin out.old out.new 32 }
+{
+    if (differences(text, NOPS).trailing_zeros() as usize) < 32 {
+        return None;
+    }
+    put(out, NOP_BYTES);
+    Some(WholeLines { size: 32, count: 8 })
+}
+
+/// Twice eight bytes of the text, from two places on.
+#[inline(always)]
+fn two_eights(text: &[u8], one: usize, other: usize) -> u8x16
+    requires one { one + 8 ≤ length text.now }
+    requires other { other + 8 ≤ length text.now }
+    ensures { result ≡ chunk one 8 text.now ++ chunk other 8 text.now }
+{
+    let (a, b) = (
+        u8x8::from_slice(&text[one..]),
+        u8x8::from_slice(&text[other..]),
+    );
+    a.shuffle(b, [0, 1, 2, 3, 4, 5, 6, 7, 8, 9, 10, 11, 12, 13, 14, 15])
+}
+
+/// Sixteen bytes and sixteen more.
+#[inline(always)]
+fn both(a: u8x16, b: u8x16) -> u8x32
+    requires a { length a ≡ 16 }
+    requires b { length b ≡ 16 }
+    ensures { result ≡ a ++ b }
+{
+    a.shuffle(
+        b,
+        [
+            0, 1, 2, 3, 4, 5, 6, 7, 8, 9, 10, 11, 12, 13, 14, 15, 16, 17, 18, 19, 20, 21, 22, 23,
+            24, 25, 26, 27, 28, 29, 30, 31,
+        ],
+    )
+}
+
+/// What stands where a full `data` line has its digits.
+#[inline(always)]
+fn row_digits(text: &[u8]) -> [u8; 64]
+    requires { 77 ≤ length text.now }
+    ensures { result ≡ flat_map (λ (word : List ℕ). word) (words_at text.now 4 8) }
+{
+    let low = both(two_eights(text, 5, 14), two_eights(text, 23, 32));
+    let high = both(two_eights(text, 41, 50), two_eights(text, 59, 68));
+    let all: u8x64 = low.shuffle(
+        high,
+        [
+            0, 1, 2, 3, 4, 5, 6, 7, 8, 9, 10, 11, 12, 13, 14, 15, 16, 17, 18, 19, 20, 21, 22, 23,
+            24, 25, 26, 27, 28, 29, 30, 31, 32, 33, 34, 35, 36, 37, 38, 39, 40, 41, 42, 43, 44, 45,
+            46, 47, 48, 49, 50, 51, 52, 53, 54, 55, 56, 57, 58, 59, 60, 61, 62, 63,
+        ],
+    );
+    all.to_array()
+}
+
+/// Whether spaces stand where a `data` line of so many words has them.
+#[inline(always)]
+fn has_spaces(text: &[u8], count: usize) -> bool
+    requires long { 77 ≤ length text.now }
+    requires few { count ≤ 8 }
+    ensures { IsTrue result → (k : ℕ) → k < count → slice_index text.now (4 + 9 * k) ≡ 32 }
+{
+    for k in 0..count {
+        if text[4 + 9 * k] != b' ' {
+            return false;
+        }
+    }
+    true
+}
+
+/// Whether spaces stand so, with the loop of a full row, which is the longest, laid out by the compiler.
+#[inline(always)]
+fn is_spaced(text: &[u8], count: usize) -> bool
+    requires long { 77 ≤ length text.now }
+    requires few { count ≤ 8 }
+    ensures { IsTrue result → (k : ℕ) → k < count → slice_index text.now (4 + 9 * k) ≡ 32 }
+{
+    if count == 8 {
+        return has_spaces(text, 8);
+    }
+    has_spaces(text, count)
+}
+
+/// Whether a text begins with the word `data`.
+#[inline(always)]
+fn is_data(text: &[u8]) -> bool
+    requires { 77 ≤ length text.now }
+    ensures { IsTrue result → take 4 text.now ≡ codes "data" }
+{
+    [text[0], text[1], text[2], text[3]] == *b"data"
+}
+
+/// Appends the bytes of a `data` line of one to eight words, if one begins the text.
+#[inline(always)]
+fn put_data_row(out: &mut Vec<u8>, text: &[u8]) -> Option<WholeLines>
+    requires room { vec_len out.old + 32 ≤ vec_capacity out.old }
+    requires long { 77 ≤ length text.now }
+    ensures takes { MatchOption result (out.new.items ≡ out.old.items) (λ taken. TakesFirst text.now out.old.items out.new.items taken.size taken.count) }
+    ensures room { StaysWithin out.old out.new 32 }
+{
+    let prefix = prefix_of_hex(&row_digits(text));
+    let count = prefix.digits / 8;
+    if count == 0 || text[4 + 9 * count] != b'\n' || !is_data(text) {
+        return None;
+    }
+    if !is_spaced(text, count) {
+        return None;
+    }
+    let end = out.len() + 4 * count;
+    put(out, &prefix.bytes);
+    out.truncate(end);
+    Some(WholeLines {
+        size: 5 + 9 * count,
+        count: 1,
+    })
+}
+
+/// Whether a text begins with the word of a `bytes` line and the space after it.
+#[inline(always)]
+fn is_bytes(text: &[u8]) -> bool
+    requires { 77 ≤ length text.now }
+    ensures { IsTrue result → take 6 text.now ≡ codes "bytes " }
+{
+    [text[0], text[1], text[2], text[3], text[4], text[5]] == *b"bytes "
+}
+
+/// The 64 bytes after the first six.
+#[inline(always)]
+fn after_word(text: &[u8]) -> [u8; 64]
+    requires { 77 ≤ length text.now }
+    ensures { result ≡ take 64 (drop 6 text.now) }
+{
+    u8x64::from_slice(&text[6..]).to_array()
+}
+
+/// Appends the bytes of a `bytes` line, if one begins the text.
+#[inline(always)]
+fn put_bytes(out: &mut Vec<u8>, text: &[u8]) -> Option<WholeLines>
+    requires room { vec_len out.old + 32 ≤ vec_capacity out.old }
+    requires long { 77 ≤ length text.now }
+    ensures takes { MatchOption result (out.new.items ≡ out.old.items) (λ taken. TakesFirst text.now out.old.items out.new.items taken.size taken.count) }
+    ensures room { StaysWithin out.old out.new 32 }
+{
+    if !is_bytes(text) {
+        return None;
+    }
+    let prefix = prefix_of_hex(&after_word(text));
+    if prefix.digits == 64 && text[70] == b'\n' {
+        put(out, &prefix.bytes);
+        return Some(WholeLines { size: 71, count: 1 });
+    }
+    let count = prefix.digits / 2;
+    if count == 0 || prefix.digits != 2 * count || text[6 + prefix.digits] != b'\n' {
+        return None;
+    }
+    let end = out.len() + count;
+    put(out, &prefix.bytes);
+    out.truncate(end);
+    Some(WholeLines {
+        size: 7 + prefix.digits,
+        count: 1,
+    })
+}
+
+/// The place of the first of these bytes among 16, or one after them.
+#[inline(always)]
+fn place_of(byte: u8, bytes: u8x16) -> usize {
+    bytes
+        .simd_eq(u8x16::splat(byte))
+        .to_bitmask()
+        .trailing_zeros() as usize
+}
+
+/// Appends the bytes of a `write` line with a count of one digit, if one begins the text.
+#[inline(always)]
+fn put_write(out: &mut Vec<u8>, text: &[u8]) -> Option<WholeLines>
+    requires room { vec_len out.old + 32 ≤ vec_capacity out.old }
+    requires long { 77 ≤ length text.now }
+    ensures takes { MatchOption result (out.new.items ≡ out.old.items) (λ taken. TakesFirst text.now out.old.items out.new.items taken.size taken.count) }
+    ensures room { StaysWithin out.old out.new 32 }
+{
+    let space = place_of(b' ', u8x16::from_slice(&text[6..]));
+    if space > 16 || !is_same(&text[..6], b"write ") || text[8 + space] != b'\n' {
+        return None;
+    }
+    let Some((register, count)) = access_at(&text[6..8 + space], space) else {
+        return None;
+    };
+    put_word(out, type1_write(register, count));
+    Some(WholeLines {
+        size: 9 + space,
+        count: 1,
+    })
+}
+
+/// Appends the bytes of the two lines of a write of one word, or of a `write` line, if they begin the text.
+#[inline(always)]
+fn put_writes(out: &mut Vec<u8>, text: &[u8]) -> Option<WholeLines>
+    requires room { vec_len out.old + 32 ≤ vec_capacity out.old }
+    requires long { 77 ≤ length text.now }
+    ensures takes { MatchOption result (out.new.items ≡ out.old.items) (λ taken. TakesFirst text.now out.old.items out.new.items taken.size taken.count) }
+    ensures room { StaysWithin out.old out.new 32 }
+{
+    match put_pair(out, text) {
+        Some(taken) => Some(taken),
+        None => put_write(out, text),
+    }
+}
+
+/// Appends the bytes of some first lines of the text, if they are of those that are read at once.
+#[inline(always)]
+fn put_some(out: &mut Vec<u8>, text: &[u8]) -> Option<WholeLines>
+    requires room { vec_len out.old + 32 ≤ vec_capacity out.old }
+    ensures takes { MatchOption result (out.new.items ≡ out.old.items) (λ taken. TakesFirst text.now out.old.items out.new.items taken.size taken.count) }
+    ensures room { StaysWithin out.old out.new 32 }
+{
+    if text.len() < 77 {
+        return None;
+    }
+    match text[0] {
+        b'd' => put_data_row(out, text),
+        b'w' => put_writes(out, text),
+        b'b' => put_bytes(out, text),
+        b'n' => put_nops(out, text),
+        _ => None,
+    }
+}
+
+/// Appends the bytes of the text's first lines, as far as they are read at once and their bytes are within the limit.
+fn put_quick(out: &mut Vec<u8>, text: &[u8]) -> Result<WholeLines, NoMemory>
+    ensures takes { IfOk result (λ taken. TakesLines text.now (drop taken.size text.now) out.old.items out.new.items taken.count) }
+    ensures few { IfOk result (λ taken. (taken.size ≤ length text.now) × (taken.count ≤ taken.size)) }
+    ensures within { vec_len out.old ≤ ASM_LIMIT → vec_len out.new ≤ ASM_LIMIT }
+{
+    let mut all = WholeLines { size: 0, count: 0 };
+    loop {
+        out.reserve(32)?;
+        if out.len() > ASM_LIMIT - 32 {
+            return Ok(all);
+        }
+        let Some(taken) = put_some(out, &text[all.size..]) else {
+            return Ok(all);
+        };
+        all = WholeLines {
+            size: all.size + taken.size,
+            count: all.count + taken.count,
+        };
+    }
+}
+
+/// Appends the bytes of the text's first lines, as far as they are read at once. Before any line none is, since the first one
+/// may be a header's.
+#[inline(always)]
+pub(crate) fn put_quick_behind(
+    out: &mut Vec<u8>,
+    n: u64,
+    text: &[u8],
+) -> Result<WholeLines, NoMemory>
+    ensures takes { IfOk result (λ taken. TakesLines text.now (drop taken.size text.now) out.old.items out.new.items taken.count) }
+    ensures few { IfOk result (λ taken. (taken.size ≤ length text.now) × (taken.count ≤ taken.size)) }
+    ensures within { vec_len out.old ≤ ASM_LIMIT → vec_len out.new ≤ ASM_LIMIT }
+    ensures none { IfOk result (λ taken. n ≡ 0 → taken.count ≡ 0) }
+{
+    if n == 0 {
+        return Ok(WholeLines { size: 0, count: 0 });
+    }
+    put_quick(out, text)
+}

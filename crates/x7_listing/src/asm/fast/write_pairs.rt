@@ -1,0 +1,139 @@
+//! A write of one word read at once: its two lines are compared with a row of the tables that list writes them from.
+ghost use Rattle.std.specs.Prelude.{◌≡◌, ◌<◌, ◌≤◌, ◌+◌, ◌++◌, length, take, vec_len, vec_capacity, IfSome, MatchOption};
+ghost use Rattle.std.specs.Simd.Lanes.{chunk, mask_l, zip2};
+ghost use Rattle.x7_words.specs.Word.{bytes_of_word};
+ghost use Rattle.x7_text.specs.Appends.{Appends};
+ghost use Rattle.x7_text.specs.Reads.{StaysWithin};
+ghost use Rattle.x7_listing.specs.Fast.AtOnce.{differs, row_text};
+ghost use Rattle.x7_listing.specs.Assembling.{TakesFirst};
+
+use super::quick::WholeLines;
+use crate::line::{command_row, write_row};
+use std::simd::prelude::*;
+use x7_packets::type1_write;
+use x7_regs::Reg;
+use x7_text::{put, word_of_hex};
+use x7_words::bytes_of;
+
+/// The factor by which the first four bytes of a name give its place in a table of 64, the highest six bits of the product:
+/// no two registers have one place, nor two commands. `bench/name_tables.py` makes the tables.
+const SPREAD: u32 = 0x3F20_35EB;
+
+/// The register numbers by the places of their names, of which a space ends the short ones. A place of no name has 0.
+#[rattlefmt::skip]
+static REGISTERS: [u8; 64] = [
+     0,  0,  0, 25, 24,  1,  2, 30,  0,  0,  5,  0, 12, 21,  0,  0,
+    26,  0,  0, 11,  0,  0, 16,  0,  0, 10,  0,  0,  0, 17, 27,  6,
+     0,  0,  0, 18,  0, 31,  3,  0, 23,  0,  0, 28,  8, 14,  0,  0,
+    19, 13,  9,  0,  0,  7,  0,  0,  0, 29,  4, 15,  0, 22,  0, 20,
+];
+
+/// The codes of the commands by the places of their names, of which a line end ends the short one. A place of no name has 0.
+#[rattlefmt::skip]
+static COMMANDS: [u8; 64] = [
+     0,  0,  0,  0, 12,  0,  0,  0,  8,  0,  0,  0,  0, 19,  0,  0,
+     0,  0,  0,  2,  0,  0,  0, 17,  0,  0,  0,  7,  0, 16,  0,  0,
+     3,  0, 11, 10,  4, 18,  0,  0, 13,  0,  0,  0,  0,  0,  0,  0,
+     0,  6,  0,  1,  0,  0, 15,  0,  0,  9,  0,  0,  0,  0,  0,  5,
+];
+
+/// The number below 32 that a table has for the name from `at` on. Of what is no name it gives any.
+#[inline(always)]
+fn number_at(table: &[u8; 64], text: &[u8], at: usize) -> u8
+    requires { at + 4 ≤ length text.now }
+    ensures { result < 32 }
+{
+    let name = u32::from_le_bytes([text[at], text[at + 1], text[at + 2], text[at + 3]]);
+    table[(name.wrapping_mul(SPREAD) >> 26) as usize] & 31
+}
+
+/// A bit for each of the first 32 bytes that differs from that of a row, that of the first byte lowest.
+#[inline(always)]
+pub(crate) fn differences(text: &[u8], row: &[u8; 32]) -> u64
+    requires { 32 ≤ length text.now }
+    ensures { result ≡ mask_l (zip2 differs (chunk 0 32 text.now) row.now) }
+{
+    u8x32::from_slice(text)
+        .simd_ne(u8x32::from_array(*row))
+        .to_bitmask()
+}
+
+/// How long the text of a row is, if the text begins with it.
+#[inline(always)]
+fn begun(text: &[u8], row: &[u8; 32]) -> Option<usize>
+    requires { 32 ≤ length text.now }
+    ensures { IfSome result (λ size. (size ≤ 32) × (take size text.now ≡ row_text row.now)) }
+{
+    let size = row[31] as usize;
+    if size > 32 || (differences(text, row).trailing_zeros() as usize) < size {
+        return None;
+    }
+    Some(size)
+}
+
+/// Appends the bytes of two words.
+#[inline(always)]
+fn put_two(out: &mut Vec<u8>, one: u32, other: u32)
+    requires { vec_len out.old + 32 ≤ vec_capacity out.old }
+    ensures appends { Appends out.old out.new (bytes_of_word one ++ bytes_of_word other) 32 }
+{
+    put(out, &bytes_of(one));
+    put(out, &bytes_of(other));
+}
+
+/// Appends the bytes of a write of one word to this register, if its two lines begin the text.
+#[inline(always)]
+fn put_word_pair(out: &mut Vec<u8>, text: &[u8], register: u8) -> Option<WholeLines>
+    requires range { register < 32 }
+    requires room { vec_len out.old + 32 ≤ vec_capacity out.old }
+    requires long { 77 ≤ length text.now }
+    ensures takes { MatchOption result (out.new.items ≡ out.old.items) (λ taken. TakesFirst text.now out.old.items out.new.items taken.size taken.count) }
+    ensures room { StaysWithin out.old out.new 32 }
+{
+    let Some(size) = begun(text, write_row(register)) else {
+        return None;
+    };
+    if text[size + 8] != b'\n' {
+        return None;
+    }
+    let Some(word) = word_of_hex(&text[size..size + 8]) else {
+        return None;
+    };
+    put_two(out, type1_write(register, 1), word);
+    Some(WholeLines {
+        size: size + 9,
+        count: 2,
+    })
+}
+
+/// Appends the bytes of a write of this code to CMD, if its two lines begin the text.
+#[inline(always)]
+fn put_command_pair(out: &mut Vec<u8>, text: &[u8], code: u32) -> Option<WholeLines>
+    requires range { code < 32 }
+    requires room { vec_len out.old + 32 ≤ vec_capacity out.old }
+    requires long { 77 ≤ length text.now }
+    ensures takes { MatchOption result (out.new.items ≡ out.old.items) (λ taken. TakesFirst text.now out.old.items out.new.items taken.size taken.count) }
+    ensures room { StaysWithin out.old out.new 32 }
+{
+    let Some(size) = begun(text, command_row(code)) else {
+        return None;
+    };
+    put_two(out, type1_write(Reg::Cmd.number(), 1), code);
+    Some(WholeLines { size, count: 2 })
+}
+
+/// Appends the bytes of a write of one word, if its two lines begin the text.
+#[inline(always)]
+pub(crate) fn put_pair(out: &mut Vec<u8>, text: &[u8]) -> Option<WholeLines>
+    requires room { vec_len out.old + 32 ≤ vec_capacity out.old }
+    requires long { 77 ≤ length text.now }
+    ensures takes { MatchOption result (out.new.items ≡ out.old.items) (λ taken. TakesFirst text.now out.old.items out.new.items taken.size taken.count) }
+    ensures room { StaysWithin out.old out.new 32 }
+{
+    let register = number_at(&REGISTERS, text, 6);
+    if register == Reg::Cmd.number() {
+        put_command_pair(out, text, u32::from(number_at(&COMMANDS, text, 16)))
+    } else {
+        put_word_pair(out, text, register)
+    }
+}

@@ -1,0 +1,105 @@
+//! The line of a header, read back.
+ghost use Rattle.std.specs.Prelude.{◌≡◌, ◌≢◌, ℕ, List, ◌∷◌, ◌++◌, ◌≤◌, vec_len, IfOk, IfSome, MatchOption};
+ghost use Rattle.std.specs.List.{flat_map};
+ghost use Rattle.x7_words.specs.Word.{AreBytes};
+ghost use Rattle.x7_header.specs.Header.{Contents};
+ghost use Rattle.x7_text.specs.Digits.{hex_byte};
+ghost use Rattle.x7_listing.specs.BitLine.{bit_text, field_text, HasFieldFirst, IsCut, IsField, IsHeaderOf, IsHeld};
+
+use super::reading::after;
+use memchr::memchr;
+use std::alloc::Global;
+use x7_header::{Head, write_header};
+use x7_text::{decimal_below, make_room, put_byte_row};
+use x7_words::{NoMemory, is_same};
+
+/// The bytes of pairs of digits, exactly where the text is of such.
+fn bytes_of_pairs(alloc: Global, digits: &[u8]) -> Result<Option<Vec<u8>>, NoMemory>
+    ensures { IfOk result (λ found. MatchOption found ((bs : List ℕ) → AreBytes bs → digits.now ≢ flat_map hex_byte bs)
+        (λ bytes. AreBytes bytes.items × (digits.now ≡ flat_map hex_byte bytes.items))) }
+{
+    let mut bytes = Vec::new(alloc);
+    let mut rest = digits;
+    while !rest.is_empty() {
+        let (row, more) = rest.split_at(rest.len().min(64));
+        make_room(&mut bytes, 32)?;
+        if !put_byte_row(&mut bytes, row) {
+            return Ok(None);
+        }
+        rest = more;
+    }
+    Ok(Some(bytes))
+}
+
+/// What a field holds, exactly where the text is that of a field.
+fn field_of(alloc: Global, text: &[u8]) -> Result<Option<Vec<u8>>, NoMemory>
+    ensures { IfOk result (λ found. MatchOption found ((field : List ℕ) → IsField field → text.now ≢ field_text field)
+        (λ field. IsField field.items × (text.now ≡ field_text field.items))) }
+{
+    if is_same(text, b"-") {
+        return Ok(Some(Vec::new(alloc)));
+    }
+    if text.is_empty() || text.len() > 2 * 65_535 {
+        return Ok(None);
+    }
+    bytes_of_pairs(alloc, text)
+}
+
+/// What stands before the first space, and what stands after it.
+fn at_space(text: &[u8]) -> Option<(&[u8], &[u8])>
+    ensures { MatchOption result ((word rest : List ℕ) → text.now ≢ word ++ 32 ∷ rest) (λ parts. IsCut text.now parts.0.now parts.1.now) }
+{
+    let Some(at) = memchr(b' ', text) else {
+        return None;
+    };
+    Some((&text[..at], &text[at + 1..]))
+}
+
+/// What the first field holds, and the text after the space that follows it.
+fn first_field(alloc: Global, text: &[u8]) -> Result<Option<(Vec<u8>, &[u8])>, NoMemory>
+    ensures { IfOk result (λ found. MatchOption found ((field rest : List ℕ) → IsField field → text.now ≢ field_text field ++ 32 ∷ rest)
+        (λ parts. HasFieldFirst text.now parts.0.items parts.1.now)) }
+{
+    let Some((digits, rest)) = at_space(text) else {
+        return Ok(None);
+    };
+    let Some(field) = field_of(alloc, digits)? else {
+        return Ok(None);
+    };
+    Ok(Some((field, rest)))
+}
+
+/// The header whose line this is, as bytes; `None` where the text is no header's line.
+pub(crate) fn header_of_line(alloc: Global, line: &[u8]) -> Result<Option<Vec<u8>>, NoMemory>
+    ensures found { IfOk result (λ found. MatchOption found ((x : Contents) → IsHeld x → line.now ≢ bit_text x) (λ bytes. IsHeaderOf line.now bytes.items)) }
+    // Four texts of at most 65,535 bytes each, with the fixed bytes, five letters and the counts.
+    ensures short { IfOk result (λ found. IfSome found (λ bytes. vec_len bytes ≤ 262170)) }
+{
+    let Some(fields) = after(line, b"bit ") else {
+        return Ok(None);
+    };
+    let Some((a, rest)) = first_field(alloc, fields)? else {
+        return Ok(None);
+    };
+    let Some((b, rest)) = first_field(alloc, rest)? else {
+        return Ok(None);
+    };
+    let Some((c, rest)) = first_field(alloc, rest)? else {
+        return Ok(None);
+    };
+    let Some((d, digits)) = first_field(alloc, rest)? else {
+        return Ok(None);
+    };
+    let Some(length) = decimal_below(digits, 1 << 32) else {
+        return Ok(None);
+    };
+    let head = Head {
+        a: &a,
+        b: &b,
+        c: &c,
+        d: &d,
+        length: length as u32,
+        size: 0,
+    };
+    Ok(Some(write_header(alloc, &head)?))
+}

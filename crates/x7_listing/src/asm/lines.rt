@@ -1,0 +1,144 @@
+//! The bytes of a text's lines, as the lines come.
+ghost use Rattle.std.specs.Prelude.{◌≡◌, ℕ, List, [], ◌∷◌, ◌++◌, ◌+◌, ◌≤◌, drop, length, vec_len, vec_capacity, Ok, IfErr, OnOk, MatchResult};
+ghost use Rattle.x7_text.specs.Reads.{Reads};
+ghost use Rattle.x7_crc.specs.Checking.{check_of_bytes, Keeps};
+ghost use Rattle.x7_listing.specs.Assembly.{AreHeadedAsm};
+ghost use Rattle.x7_listing.specs.Assembling.{FailsFirst, FailsNext, HasAsmFault, HasRead, ReadsFirst, ReadsNext, output_of};
+ghost use Rattle.x7_listing.specs.Line.{bytes_of, FitsLine, text_of};
+ghost use Rattle.x7_listing.specs.declared.assembler.AsmFault.{AsmFault};
+ghost use Rattle.x7_listing.specs.declared.asm.lines.AsmLines.{AsmLines};
+
+use super::fast::{next_line, put_quick_behind};
+use super::header::header_of_line;
+use super::reading::put_line;
+use crate::assembler::{ASM_LIMIT, AsmFault};
+use std::alloc::Global;
+use x7_crc::Checker;
+use x7_text::TakesLines;
+use x7_words::is_same;
+
+/// Appends the bytes of a line to those of the lines before, which stand from `start` on. `false`: the text is that of no line.
+fn put_checked(out: &mut Vec<u8>, start: usize, checker: &mut Checker, line: &[u8]) -> bool
+    requires room { vec_len out.old + 32 ≤ vec_capacity out.old }
+    requires start { start ≤ vec_len out.old }
+    ensures reads { Keeps checker.old (drop start out.old.items)
+        → Reads FitsLine text_of (bytes_of (check_of_bytes (drop start out.old.items))) result line.now out.old.items out.new.items }
+    ensures keeps { Keeps checker.old (drop start out.old.items) → Keeps checker.new (drop start out.new.items) }
+{
+    if !is_same(line, b"crc") {
+        return put_line(out, 0, line);
+    }
+    let check = checker.check_of(&out[start..]);
+    put_line(out, check, line)
+}
+
+/// The bytes that the lines of a text gave so far, where those behind a header's begin, and their check.
+#[derive(Drop)]
+pub struct AsmLines {
+    alloc: Global,
+    out: Vec<u8>,
+    start: usize,
+    checker: Checker,
+}
+
+impl AsmLines {
+    /// What no line gives.
+    pub fn new(alloc: Global) -> AsmLines
+        ensures { HasRead (output_of result) [] }
+    {
+        AsmLines {
+            alloc,
+            out: Vec::new(alloc),
+            start: 0,
+            checker: Checker::new(),
+        }
+    }
+
+    /// Appends the bytes of line `n`, which is no header's.
+    fn put_one(&mut self, n: u64, line: &[u8]) -> Result<(), AsmFault>
+        ensures ok { OnOk result (ReadsNext (output_of self.old) (output_of self.new) n line.now) }
+        ensures fault { IfErr result (FailsNext (output_of self.old) n line.now) }
+    {
+        self.out.reserve(32)?;
+        let start = self.start.min(self.out.len());
+        if !put_checked(&mut self.out, start, &mut self.checker, line) {
+            return Err(AsmFault::Line(n));
+        }
+        if self.out.len() > ASM_LIMIT {
+            return Err(AsmFault::TooLong(n));
+        }
+        Ok(())
+    }
+
+    /// Appends the bytes of the first line, which may be a header's.
+    fn put_first(&mut self, line: &[u8]) -> Result<(), AsmFault>
+        ensures ok { OnOk result (ReadsFirst (output_of self.old) (output_of self.new) line.now) }
+        ensures fault { IfErr result (FailsFirst (output_of self.old) line.now) }
+    {
+        if let Some(header) = header_of_line(self.alloc, line)? {
+            self.start = header.len();
+            self.out = header;
+            return Ok(());
+        }
+        self.put_one(1, line)
+    }
+
+    /// Appends the bytes of line `n`.
+    fn put_next(&mut self, n: u64, line: &[u8]) -> Result<(), AsmFault>
+        ensures { (lines : List (List ℕ)) → n ≡ length lines + 1 → HasRead (output_of self.old) lines
+            → MatchResult result (λ _. HasRead (output_of self.new) (lines ++ line.now ∷ [])) (λ f. (left : List (List ℕ)) → HasAsmFault f (lines ++ line.now ∷ left)) }
+    {
+        if n == 1 {
+            return self.put_first(line);
+        }
+        self.put_one(n, line)
+    }
+}
+
+impl TakesLines for AsmLines {
+    type Fault = AsmFault;
+
+    type Out = Vec<u8>;
+
+    ghost took = { λ first b. HasRead (output_of b) };
+
+    ghost fails = { λ first. HasAsmFault };
+
+    ghost gives = { λ first out lines. AreHeadedAsm lines (Ok out.items) };
+
+    fn no_memory() -> AsmFault
+        ensures { (first : AsmLines) (lines : List (List ℕ)) → HasAsmFault result lines }
+    {
+        AsmFault::NoMemory
+    }
+
+    fn put_line(&mut self, n: u64, line: &[u8]) -> Result<(), AsmFault> {
+        self.put_next(n, line)
+    }
+
+    fn put_lines<'t>(&mut self, n: u64, text: &'t [u8]) -> Result<(&'t [u8], u64), AsmFault> {
+        let mut rest = text;
+        let mut count = n;
+        loop {
+            let quick = put_quick_behind(&mut self.out, count, rest)?;
+            count = count.saturating_add(quick.count);
+            let (line, more) = next_line(&rest[quick.size..]);
+            let Some(after) = more else {
+                return Ok((line, count));
+            };
+            count = count.saturating_add(1);
+            match self.put_next(count, line) {
+                Ok(()) => rest = after,
+                Err(fault) => return Err(fault),
+            }
+        }
+    }
+
+    fn put_last(self, n: u64, line: &[u8]) -> Result<Vec<u8>, AsmFault> {
+        let mut last = self;
+        match last.put_next(n, line) {
+            Ok(()) => Ok(last.out),
+            Err(fault) => Err(fault),
+        }
+    }
+}

@@ -1,0 +1,150 @@
+//! The lines of single words.
+ghost use Rattle.std.specs.Prelude.{◌≡◌, [], ◌∷◌, ◌++◌, ◌<◌, ◌≤◌, ◌+◌, length, vec_len, vec_capacity, codes, decimal};
+ghost use Rattle.x7_regs.specs.Register.{reg_name};
+ghost use Rattle.x7_text.specs.Appends.{Appends};
+ghost use Rattle.x7_text.specs.Digits.{hex_word};
+ghost use Rattle.x7_text.specs.Row.{close};
+ghost use Rattle.x7_listing.specs.HeadLine.{command_line, head_line, head_text};
+
+use x7_packets::{
+    NO_OP, SYNC_WORD, Step, TYPE2_READ_KIND, TYPE2_WRITE_KIND, type1_read, type1_write,
+};
+use x7_regs::{command_of, command_text, name_of};
+use x7_text::{hex_of_word, put, put_close, put_decimal};
+
+/// The line of a word in a header's place.
+#[derive(Clone, Copy, Debug, PartialEq, Eq)]
+pub enum HeadLine {
+    /// The no-op.
+    Nop,
+    /// The sync word.
+    Sync,
+    /// A type 1 write: the register's number, and the word count.
+    Write(u8, u32),
+    /// A type 1 read: the register's number, and the word count.
+    Read(u8, u32),
+    /// A type 2 write: the word count.
+    Write2(u32),
+    /// A type 2 read: the word count.
+    Read2(u32),
+    /// Any other word.
+    Word(u32),
+}
+
+impl HeadLine {
+    ghost use Rattle.x7_listing.specs.HeadLine.{head_line, HasRegister, line_text, line_word};
+
+    /// The line that stands for just this word, where the word isn't bad and there is one.
+    pub(crate) fn new(step: Step, w: u32) -> HeadLine
+        ensures line { result ≡ head_line step w }
+        ensures back { line_word result ≡ w }
+        ensures register { HasRegister result }
+    {
+        if let Step::Bad(_) = step {
+            return HeadLine::Word(w);
+        }
+        let register = (w >> 13 & 31) as u8;
+        let count = w & 0x7FF;
+        if w == NO_OP {
+            HeadLine::Nop
+        } else if w == SYNC_WORD {
+            HeadLine::Sync
+        } else if w == type1_write(register, count) {
+            HeadLine::Write(register, count)
+        } else if w == type1_read(register, count) {
+            HeadLine::Read(register, count)
+        } else if w >> 27 == TYPE2_WRITE_KIND {
+            HeadLine::Write2(w & 0x7FF_FFFF)
+        } else if w >> 27 == TYPE2_READ_KIND {
+            HeadLine::Read2(w & 0x7FF_FFFF)
+        } else {
+            HeadLine::Word(w)
+        }
+    }
+
+    /// Appends the line.
+    fn put(self, text: &mut Vec<u8>)
+        requires room { vec_len text.old + 47 ≤ vec_capacity text.old }
+        requires register { HasRegister self }
+        ensures appends { Appends text.old text.new (line_text self) 47 }
+    {
+        match self {
+            HeadLine::Nop => put(text, b"nop\n"),
+            HeadLine::Sync => put(text, b"sync\n"),
+            HeadLine::Write(register, count) => put_access(text, b"write ", register, count),
+            HeadLine::Read(register, count) => put_access(text, b"read ", register, count),
+            HeadLine::Write2(count) => put_count(text, b"write2 ", count),
+            HeadLine::Read2(count) => put_count(text, b"read2 ", count),
+            HeadLine::Word(w) => put_whole_word(text, b"word ", w),
+        }
+    }
+}
+
+/// Appends a line of a register's name and a word count.
+fn put_access(text: &mut Vec<u8>, word: &[u8], register: u8, count: u32)
+    requires room { vec_len text.old + 47 ≤ vec_capacity text.old }
+    requires short { length word.now ≤ 6 }
+    requires register { register < 32 }
+    ensures appends { Appends text.old text.new (word.now ++ reg_name register ++ 32 ∷ decimal count ++ 10 ∷ []) 47 }
+{
+    put(text, word);
+    put(text, name_of(register).bytes());
+    put(text, b" ");
+    put_decimal(text, u64::from(count));
+    put(text, b"\n");
+}
+
+/// Appends a line of a word count.
+fn put_count(text: &mut Vec<u8>, word: &[u8], count: u32)
+    requires room { vec_len text.old + 47 ≤ vec_capacity text.old }
+    requires short { length word.now ≤ 7 }
+    ensures appends { Appends text.old text.new (word.now ++ decimal count ++ 10 ∷ []) 47 }
+{
+    put(text, word);
+    put_decimal(text, u64::from(count));
+    put(text, b"\n");
+}
+
+/// Appends a line of one word, behind four letters and a space.
+fn put_whole_word(text: &mut Vec<u8>, word: &[u8; 5], w: u32)
+    requires { vec_len text.old + 47 ≤ vec_capacity text.old }
+    ensures appends { Appends text.old text.new (word.now ++ hex_word w ++ 10 ∷ []) 47 }
+{
+    let mut line = [b'\n'; 14];
+    line[5..13].copy_from_slice(&hex_of_word(w));
+    line[..5].copy_from_slice(word);
+    put(text, &line);
+}
+
+/// Appends the line of a word in a header's place, behind an open line of `in_line` words.
+pub(crate) fn put_head(text: &mut Vec<u8>, in_line: usize, step: Step, w: u32)
+    requires { vec_len text.old + 48 ≤ vec_capacity text.old }
+    ensures appends { Appends text.old text.new (close in_line ++ head_text step w) 48 }
+{
+    put_close(text, in_line);
+    HeadLine::new(step, w).put(text);
+}
+
+/// Appends the line of a payload word of CMD, behind an open line of `in_line` words.
+pub(crate) fn put_command(text: &mut Vec<u8>, in_line: usize, w: u32)
+    requires { vec_len text.old + 48 ≤ vec_capacity text.old }
+    ensures appends { Appends text.old text.new (close in_line ++ command_line w) 48 }
+{
+    put_close(text, in_line);
+    let command = command_of(w);
+    if command.code() != w {
+        return put_whole_word(text, b"data ", w);
+    }
+    put(text, b"cmd ");
+    put(text, command_text(command).bytes());
+    put(text, b"\n");
+}
+
+/// Appends the line of a sync word, behind an open line of `in_line` bytes.
+pub(crate) fn put_sync(text: &mut Vec<u8>, in_line: usize)
+    requires { vec_len text.old + 48 ≤ vec_capacity text.old }
+    ensures appends { Appends text.old text.new (close in_line ++ codes "sync\n") 48 }
+{
+    put_close(text, in_line);
+    put(text, b"sync\n");
+}

@@ -1,0 +1,42 @@
+//! A sheet of text: each piece is stored whole, as a fixed number of bytes, and the next one behind what of it is text. How
+//! many bytes are text stands beside the sheet, not in it, so that it may stay in a register.
+ghost use Rattle.std.specs.Prelude.{◌≡◌, ◌≤◌, ◌+◌, ◌++◌, length, take};
+ghost use Rattle.x7_listing.specs.Fast.AtOnce.{row_text};
+
+use std::simd::prelude::*;
+
+/// How many bytes a sheet has.
+pub(crate) const SHEET: usize = 2048;
+
+/// Stores a piece behind a text of `len` bytes, which its first `count` bytes go on. Gives how long the text is then.
+#[inline(always)]
+pub(crate) fn put_prefix(sheet: &mut [u8; SHEET], len: usize, piece: &[u8], count: usize) -> usize
+    requires room { len + length piece.now ≤ 2048 }
+    requires part { count ≤ length piece.now }
+    ensures len { result ≡ len + count }
+    ensures text { take result sheet.new ≡ take len sheet.old ++ take count piece.now }
+{
+    sheet[len..len + piece.len()].copy_from_slice(piece);
+    len + count
+}
+
+/// Stores a piece behind a text of `len` bytes, which it goes on. Gives how long the text is then.
+#[inline(always)]
+pub(crate) fn put_whole(sheet: &mut [u8; SHEET], len: usize, piece: &[u8]) -> usize
+    requires room { len + length piece.now ≤ 2048 }
+    ensures len { result ≡ len + length piece.now }
+    ensures text { take result sheet.new ≡ take len sheet.old ++ piece.now }
+{
+    put_prefix(sheet, len, piece, piece.len())
+}
+
+/// Stores a row behind a text of `len` bytes, which the row's text goes on. Gives how long the text is then.
+#[inline(always)]
+pub(crate) fn put_row(sheet: &mut [u8; SHEET], len: usize, row: &[u8; 32]) -> usize
+    requires room { len + 32 ≤ 2048 }
+    ensures len { result ≤ len + 32 }
+    ensures text { take result sheet.new ≡ take len sheet.old ++ row_text row.now }
+{
+    u8x32::from_array(*row).copy_to_slice(&mut sheet[len..]);
+    len + (row[31] as usize).min(32)
+}

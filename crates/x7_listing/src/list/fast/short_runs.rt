@@ -1,0 +1,389 @@
+//! Short runs, listed at once on a sheet: writes of one word and of up to sixteen, a few no-ops, and a short gap with the sync
+//! word after it.
+ghost use Rattle.std.specs.Prelude.{◌≡◌, ℕ, ◌+◌, ◌*◌, ◌<◌, ◌≤◌, true, List, [], ◌∷◌, ◌++◌, IfNone, IfSome, codes, decimal, length, take, vec_len, vec_capacity};
+ghost use Rattle.x7_words.specs.Word.{words_of_bytes};
+ghost use Rattle.x7_packets.specs.AtOnce.{EndsGap, WritesFew, WritesOne};
+ghost use Rattle.x7_packets.specs.Cutting.{CutterState};
+ghost use Rattle.x7_packets.specs.Nops.{nop_bytes};
+ghost use Rattle.x7_packets.specs.PacketWords.{no_op, type1_write};
+ghost use Rattle.x7_packets.specs.Packet.{payload_steps};
+ghost use Rattle.x7_text.specs.Row.{bytes_text, close, in_line_after, open_text, spaced};
+ghost use Rattle.x7_listing.specs.Fast.TakingAtOnce.{TakesAtOnce, TakesOnSheet};
+ghost use Rattle.x7_listing.specs.Fast.AtOnce.{command_lines};
+ghost use Rattle.x7_listing.specs.HeadLine.{head_text};
+ghost use Rattle.x7_listing.specs.Pens.{TakesHead, TellsAfter, TellsOn, lister_with, on_sheet};
+ghost use Rattle.x7_listing.specs.Telling.{words_place, open_words};
+
+use super::sheet::{SHEET, put_prefix, put_row, put_whole};
+use crate::line::{command_row, name_row, write_row};
+use crate::list::pen::{Pen, in_session, session_line};
+use x7_packets::{Cutter, Step};
+use x7_regs::Reg;
+use x7_text::{bytes_line, data_line, hex_of_word, put};
+
+/// How many bytes of a sheet are free where something is put on it: more than any of these is stored in.
+const FREE: usize = 256;
+
+/// So many no-ops at most are put on a sheet at once.
+const FEW: usize = 32;
+
+/// The lines of so many no-ops.
+static NOPS: [[u8; 4]; FEW] = [*b"nop\n"; FEW];
+
+/// Where the text of a sheet ends, and how many words stand in the open line then.
+#[derive(Clone, Copy)]
+struct End {
+    len: usize,
+    line: usize,
+}
+
+/// Puts the end of an open line of `in_line` words, and nothing where none is open.
+#[inline(always)]
+fn put_close(sheet: &mut [u8; SHEET], len: usize, in_line: usize) -> usize
+    requires room { len + 1 ≤ 2048 }
+    ensures len { result ≤ len + 1 }
+    ensures text { take result sheet.new ≡ take len sheet.old ++ close in_line }
+{
+    if in_line == 0 {
+        return len;
+    }
+    put_whole(sheet, len, b"\n")
+}
+
+/// Puts the lines of a write of a word to CMD, behind an open line of `in_line` words.
+#[inline(always)]
+fn put_command(sheet: &mut [u8; SHEET], len: usize, in_line: usize, w: u32) -> usize
+    requires room { len + 42 ≤ 2048 }
+    ensures len { result ≤ len + 42 }
+    ensures text { take result sheet.new ≡ take len sheet.old ++ (close in_line ++ command_lines w) }
+{
+    let begin = put_close(sheet, len, in_line);
+    if w < 32 {
+        return put_row(sheet, begin, command_row(w));
+    }
+    let start = put_row(sheet, begin, write_row(Reg::Cmd.number()));
+    let end = put_whole(sheet, start, &hex_of_word(w));
+    put_whole(sheet, end, b"\n")
+}
+
+/// Puts the lines of a write of one word, behind an open line of `in_line` words.
+#[inline(always)]
+fn put_one_word(sheet: &mut [u8; SHEET], len: usize, in_line: usize, register: u8, w: u32) -> End
+    requires range { register < 32 }
+    requires room { len + 42 ≤ 2048 }
+    ensures within { result.line < 8 }
+    ensures count { result.line ≡ words_place 0 (payload_steps register (w ∷ [])) }
+    ensures len { result.len ≤ len + 42 }
+    ensures text { take result.len sheet.new ≡ take len sheet.old ++ (close in_line ++ head_text (Step.Open register 1) (type1_write register 1) ++ open_words 0 (payload_steps register (w ∷ []))) }
+{
+    if register == Reg::Cmd.number() {
+        return End {
+            len: put_command(sheet, len, in_line, w),
+            line: 0,
+        };
+    }
+    let begin = put_close(sheet, len, in_line);
+    let start = put_row(sheet, begin, write_row(register));
+    End {
+        len: put_whole(sheet, start, &hex_of_word(w)),
+        line: 1,
+    }
+}
+
+/// Puts a count of one or two digits, the first of two being 1, and the end of its line.
+#[inline(always)]
+fn put_count(sheet: &mut [u8; SHEET], len: usize, count: usize) -> usize
+    requires few { count < 20 }
+    requires room { len + 3 ≤ 2048 }
+    ensures len { result ≤ len + 3 }
+    ensures text { take result sheet.new ≡ take len sheet.old ++ (decimal count ++ 10 ∷ []) }
+{
+    if count < 10 {
+        return put_whole(sheet, len, &[b'0' + count as u8, b'\n']);
+    }
+    put_whole(sheet, len, &[b'1', b'0' + (count - 10) as u8, b'\n'])
+}
+
+/// Puts the line of the header of a write of a few words, behind an open line of `in_line` words.
+#[inline(always)]
+fn put_head(
+    sheet: &mut [u8; SHEET],
+    len: usize,
+    in_line: usize,
+    register: u8,
+    count: usize,
+) -> usize
+    requires range { register < 32 }
+    requires few { count ≤ 16 }
+    requires room { len + 36 ≤ 2048 }
+    ensures len { result ≤ len + 36 }
+    ensures text { take result sheet.new ≡ take len sheet.old ++ (close in_line ++ head_text (Step.Open register count) (type1_write register count)) }
+{
+    let begin = put_close(sheet, len, in_line);
+    let start = put_row(sheet, begin, name_row(register));
+    put_count(sheet, start, count)
+}
+
+/// Puts the first of eight words, one or more, in a new `data` line.
+#[inline(always)]
+fn put_in_row(sheet: &mut [u8; SHEET], len: usize, bytes: &[u8; 32], count: usize) -> End
+    requires some { 0 < count }
+    requires few { count ≤ 8 }
+    requires room { len + 77 ≤ 2048 }
+    ensures within { result.line < 8 }
+    ensures count { result.line ≡ in_line_after 8 0 (words_of_bytes (take (4 * count) bytes.now)) }
+    ensures len { result.len ≤ len + 77 }
+    ensures text { take result.len sheet.new ≡ take len sheet.old ++ open_text 8 (codes "data") spaced 0 (words_of_bytes (take (4 * count) bytes.now)) }
+{
+    let line = data_line(bytes);
+    if count == 8 {
+        return End {
+            len: put_whole(sheet, len, &line),
+            line: 0,
+        };
+    }
+    End {
+        len: put_prefix(sheet, len, &line, 4 + 9 * count),
+        line: count,
+    }
+}
+
+/// Puts the first of sixteen words, one or more, in new `data` lines.
+#[inline(always)]
+fn put_words(sheet: &mut [u8; SHEET], len: usize, bytes: &[u8; 64], count: usize) -> End
+    requires some { 0 < count }
+    requires few { count ≤ 16 }
+    requires room { len + 154 ≤ 2048 }
+    ensures within { result.line < 8 }
+    ensures count { result.line ≡ in_line_after 8 0 (words_of_bytes (take (4 * count) bytes.now)) }
+    ensures len { result.len ≤ len + 154 }
+    ensures text { take result.len sheet.new ≡ take len sheet.old ++ open_text 8 (codes "data") spaced 0 (words_of_bytes (take (4 * count) bytes.now)) }
+{
+    let (rows, _) = bytes.as_chunks::<32>();
+    if count <= 8 {
+        return put_in_row(sheet, len, &rows[0], count);
+    }
+    let start = put_whole(sheet, len, &data_line(&rows[0]));
+    put_in_row(sheet, start, &rows[1], count - 8)
+}
+
+/// Puts the lines of a short gap and of the sync word behind it.
+#[inline(always)]
+fn put_bytes_and_sync(sheet: &mut [u8; SHEET], len: usize, bytes: &[u8; 32], count: usize) -> usize
+    requires few { count < 32 }
+    requires room { len + 77 ≤ 2048 }
+    ensures len { result ≤ len + 77 }
+    ensures text { take result sheet.new ≡ take len sheet.old ++ (bytes_text (take count bytes.now) ++ codes "sync\n") }
+{
+    if count == 0 {
+        return put_whole(sheet, len, b"sync\n");
+    }
+    let end = put_prefix(sheet, len, &bytes_line(bytes), 6 + 2 * count);
+    put_whole(sheet, end, b"\nsync\n")
+}
+
+/// What was put on a sheet: the pen behind it, how long the sheet's text is then, and how many bytes of the piece it was.
+#[derive(Clone, Copy)]
+struct Next {
+    pen: Pen,
+    len: usize,
+    size: usize,
+}
+
+/// Puts what a write of one word adds.
+#[inline(always)]
+fn put_write(sheet: &mut [u8; SHEET], len: usize, pen: Pen, register: u8, w: u32) -> Next
+    requires range { register < 32 }
+    requires room { len + 42 ≤ 2048 }
+    ensures size { result.size ≡ 8 }
+    ensures len { result.len ≤ len + 42 }
+    ensures listed { (c d : CutterState) (rest : List ℕ) → WritesOne c d rest register w
+        → TellsAfter (on_sheet c pen sheet.old len) (on_sheet d result.pen sheet.new result.len) (take 8 rest) }
+{
+    let end = put_one_word(sheet, len, session_line(pen), register, w);
+    Next {
+        pen: in_session(end.line),
+        len: end.len,
+        size: 8,
+    }
+}
+
+/// The first 32 bytes.
+#[inline(always)]
+fn first_32(bytes: &[u8]) -> &[u8; 32]
+    requires { 32 ≤ length bytes.now }
+    ensures { result.now ≡ take 32 bytes.now }
+{
+    let (blocks, _) = bytes.as_chunks::<32>();
+    &blocks[0]
+}
+
+/// The first 64 bytes.
+#[inline(always)]
+fn first_64(bytes: &[u8]) -> &[u8; 64]
+    requires { 64 ≤ length bytes.now }
+    ensures { result.now ≡ take 64 bytes.now }
+{
+    let (blocks, _) = bytes.as_chunks::<64>();
+    &blocks[0]
+}
+
+/// Puts what a write of a few words adds, whose packet begins these bytes.
+#[inline(always)]
+fn put_short_write(
+    sheet: &mut [u8; SHEET],
+    len: usize,
+    pen: Pen,
+    register: u8,
+    count: usize,
+    rest: &[u8],
+) -> Next
+    requires range { register < 32 }
+    requires some { 0 < count }
+    requires few { count ≤ 16 }
+    requires long { 68 ≤ length rest.now }
+    requires room { len + 190 ≤ 2048 }
+    ensures size { result.size ≡ 4 + 4 * count }
+    ensures len { result.len ≤ len + 190 }
+    ensures listed { (c d : CutterState) → WritesFew c d rest.now register count
+        → TellsAfter (on_sheet c pen sheet.old len) (on_sheet d result.pen sheet.new result.len) (take (4 + 4 * count) rest.now) }
+{
+    let start = put_head(sheet, len, session_line(pen), register, count);
+    let end = put_words(sheet, start, first_64(&rest[4..]), count);
+    Next {
+        pen: in_session(end.line),
+        len: end.len,
+        size: 4 + 4 * count,
+    }
+}
+
+/// Puts what a few no-ops in a row add, one or more.
+#[inline(always)]
+fn put_few_nops(sheet: &mut [u8; SHEET], len: usize, pen: Pen, count: usize) -> Next
+    requires some { 0 < count }
+    requires few { count ≤ 32 }
+    requires room { len + 129 ≤ 2048 }
+    ensures size { result.size ≡ 4 * count }
+    ensures len { result.len ≤ len + (4 * count + 1) }
+    ensures listed { (c : CutterState) → TakesHead c no_op Step.Nop
+        → TellsAfter (on_sheet c pen sheet.old len) (on_sheet c result.pen sheet.new result.len) (nop_bytes count) }
+{
+    let start = put_close(sheet, len, session_line(pen));
+    Next {
+        pen: in_session(0),
+        len: put_prefix(sheet, start, NOPS.as_flattened(), 4 * count),
+        size: 4 * count,
+    }
+}
+
+/// Puts what a gap behind a session adds, and the sync word behind it, which begin these bytes.
+#[inline(always)]
+fn put_gap(sheet: &mut [u8; SHEET], len: usize, pen: Pen, count: usize, rest: &[u8]) -> Next
+    requires session { pen.synced ≡ true }
+    requires near { count + 4 ≤ 32 }
+    requires long { 36 ≤ length rest.now }
+    requires room { len + 77 ≤ 2048 }
+    ensures size { result.size ≡ count + 4 }
+    ensures len { result.len ≤ len + 77 }
+    ensures listed { (c d : CutterState) → EndsGap c d rest.now count
+        → TellsAfter (on_sheet c pen sheet.old len) (on_sheet d result.pen sheet.new result.len) (take (count + 4) rest.now) }
+{
+    Next {
+        pen: in_session(0),
+        len: put_bytes_and_sync(sheet, len, first_32(rest), count),
+        size: count + 4,
+    }
+}
+
+/// Takes what comes next, where it is short, and puts what that adds.
+#[inline(always)]
+fn take_next(
+    sheet: &mut [u8; SHEET],
+    len: usize,
+    cutter: &mut Cutter,
+    pen: Pen,
+    rest: &[u8],
+) -> Option<Next>
+    requires room { len + 256 ≤ 2048 }
+    ensures some { IfSome result (λ n. TakesOnSheet cutter.old cutter.new rest.now n.size len n.len) }
+    ensures listed { IfSome result (λ n. TellsAfter (on_sheet cutter.old pen sheet.old len) (on_sheet cutter.new n.pen sheet.new n.len) (take n.size rest.now)) }
+    ensures none { IfNone result (cutter.new ≡ cutter.old) }
+    ensures same { IfNone result (sheet.new ≡ sheet.old) }
+{
+    if let Some((register, w)) = cutter.take_write(rest) {
+        return Some(put_write(sheet, len, pen, register, w));
+    }
+    if let Some((register, count)) = cutter.take_short_write(rest) {
+        return Some(put_short_write(sheet, len, pen, register, count, rest));
+    }
+    let nops = cutter.nop_count(&rest[..rest.len().min(4 * FEW)]);
+    if nops > 0 {
+        return Some(put_few_nops(sheet, len, pen, nops));
+    }
+    if !pen.synced {
+        return None;
+    }
+    let Some(count) = cutter.take_gap(rest) else {
+        return None;
+    };
+    Some(put_gap(sheet, len, pen, count, rest))
+}
+
+/// The first byte of a write's header whose reserved bits are 0.
+const WRITE: u8 = 0x30;
+
+/// The first byte of the no-op.
+const NO_OP: u8 = 0x20;
+
+/// Whether the next word may be a write or a no-op.
+#[inline(always)]
+fn may_come(rest: &[u8]) -> bool {
+    let [first, ..] = rest else {
+        return false;
+    };
+    *first == WRITE || *first == NO_OP
+}
+
+/// What was taken at once: the pen behind it, and how many bytes it has.
+#[derive(Clone, Copy)]
+pub(crate) struct Taken {
+    pub(crate) pen: Pen,
+    pub(crate) size: usize,
+}
+
+/// Takes the short runs of a session that come next, one after another, and appends what they add, which is put on the sheet first.
+#[inline(always)]
+pub(crate) fn take_short(
+    text: &mut Vec<u8>,
+    sheet: &mut [u8; SHEET],
+    cutter: &mut Cutter,
+    pen: Pen,
+    rest: &[u8],
+) -> Option<Taken>
+    requires { vec_len text.old + 131 * length rest.now ≤ vec_capacity text.old }
+    ensures some { IfSome result (λ t. TakesAtOnce cutter.old cutter.new rest.now t.size (vec_len text.old) (vec_len text.new)) }
+    ensures listed { IfSome result (λ t. TellsOn (lister_with cutter.old pen text.old.items) (lister_with cutter.new t.pen text.new.items) (take t.size rest.now)) }
+    ensures none { IfNone result (cutter.new ≡ cutter.old) }
+    ensures same { IfNone result (text.new ≡ text.old) }
+    ensures room { vec_capacity text.old ≤ vec_capacity text.new }
+{
+    if !pen.synced || !may_come(rest) {
+        return None;
+    }
+    let mut now = in_session(session_line(pen));
+    let mut at = 0;
+    let mut len = 0;
+    while len <= SHEET - FREE {
+        let Some(next) = take_next(sheet, len, cutter, now, &rest[at..]) else {
+            break;
+        };
+        now = next.pen;
+        len = next.len;
+        at += next.size;
+    }
+    if at == 0 {
+        return None;
+    }
+    put(text, &sheet[..len]);
+    Some(Taken { pen: now, size: at })
+}

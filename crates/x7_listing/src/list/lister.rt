@@ -1,0 +1,115 @@
+//! A lister of streams that come in pieces.
+ghost use Rattle.std.specs.Prelude.{◌≡◌, ℕ, ◌+◌, ◌*◌, ◌≤◌, List, [], ◌++◌, OnOk, OnErr, length, take, vec_len, vec_capacity};
+ghost use Rattle.x7_packets.specs.Mode.{Mode};
+ghost use Rattle.x7_listing.specs.Telling.{TakerStandsFor, Finished, ListerStandsFor};
+ghost use Rattle.x7_listing.specs.Pens.{RestsOn, lister_with};
+
+mod runs;
+
+use super::fast::{SHEET, take_short};
+use super::pen::{Pen, new_pen, put_end, put_run};
+use std::alloc::Global;
+use std::marker::Model;
+use x7_packets::{Cut, Cutter};
+use x7_words::NoMemory;
+
+/// Takes a whole piece, and writes what it tells.
+fn take_all(text: &mut Vec<u8>, cutter: &mut Cutter, pen: Pen, piece: &[u8]) -> Pen
+    requires { vec_len text.old + (131 * length piece.now + (3 * length cutter.old.kept + 128)) ≤ vec_capacity text.old }
+    ensures rests { RestsOn (lister_with cutter.old pen text.old.items) (lister_with cutter.new result text.new.items) piece.now }
+{
+    let mut sheet = [0; SHEET];
+    let mut now = pen;
+    let mut at = 0;
+    loop {
+        let rest = &piece[at..];
+        if let Some(taken) = take_short(text, &mut sheet, cutter, now, rest) {
+            now = taken.pen;
+            at += taken.size;
+            continue;
+        }
+        let mut after = at;
+        let run = cutter.cut(piece, &mut after);
+        at = after;
+        if let Cut::Need = run {
+            return now;
+        }
+        now = put_run(text, now, run);
+    }
+}
+
+/// Lists what it is fed.
+#[derive(Drop)]
+pub struct Lister {
+    cutter: Cutter,
+    pen: Pen,
+    text: Vec<u8>,
+}
+
+impl Model for Lister {
+    ghost use Rattle.std.specs.Prelude.{take};
+    ghost use Rattle.x7_listing.specs.Telling.{ListerState};
+
+    ghost Value = { ListerState };
+
+    ghost view = { λ l. record { cutter = l.cutter; synced = l.pen.synced; line = l.pen.line; held = take l.pen.count l.pen.held; text = l.text.items } };
+}
+
+impl Lister {
+    /// A lister that has taken no byte. Its text grows by the allocator given.
+    pub fn new(alloc: Global) -> Lister
+        ensures cleared { result.text ≡ [] }
+        ensures begins { ListerStandsFor result [] [] [] }
+        ensures takes { TakerStandsFor result [] [] [] Mode.Searching }
+    {
+        Lister {
+            cutter: Cutter::new(),
+            pen: new_pen(),
+            text: Vec::new(alloc),
+        }
+    }
+
+    /// The text since it was last cleared. It may end inside a line.
+    pub fn text(&self) -> &[u8]
+        ensures { result.now ≡ self.now.text }
+    {
+        &self.text
+    }
+
+    /// Clears the text.
+    pub fn clear_text(&mut self)
+        ensures cleared { self.new.text ≡ [] }
+        ensures given { (given before bytes : List ℕ) → ListerStandsFor self.old given before bytes → ListerStandsFor self.new (given ++ self.old.text) before bytes }
+        ensures taken { (given before bytes : List ℕ) (due : Mode) → TakerStandsFor self.old given before bytes due → TakerStandsFor self.new (given ++ self.old.text) before bytes due }
+    {
+        self.text.clear();
+    }
+
+    /// Takes a piece. `NoMemory` changes nothing.
+    pub fn feed(&mut self, piece: &[u8]) -> Result<(), NoMemory>
+        ensures ok { OnOk result ((given before bytes : List ℕ) → ListerStandsFor self.old given before bytes → ListerStandsFor self.new given before (bytes ++ piece.now)) }
+        ensures err { OnErr result (self.new ≡ self.old) }
+    {
+        let Some(room) = piece.len().checked_mul(131) else {
+            return Err(NoMemory);
+        };
+        let Some(room) = room.checked_add(3 * self.cutter.kept().len() + 128) else {
+            return Err(NoMemory);
+        };
+        self.text.reserve(room)?;
+        self.pen = take_all(&mut self.text, &mut self.cutter, self.pen, piece);
+        Ok(())
+    }
+
+    /// Ends the listing of the bytes that were fed, and begins a new one. `NoMemory` changes nothing.
+    pub fn finish(&mut self) -> Result<(), NoMemory>
+        ensures ok { OnOk result ((given before bytes : List ℕ) → ListerStandsFor self.old given before bytes → Finished self.new given before bytes) }
+        ensures err { OnErr result (self.new ≡ self.old) }
+    {
+        self.text.reserve(64)?;
+        put_end(&mut self.text, self.pen, self.cutter.kept());
+        self.cutter = Cutter::new();
+        self.pen = new_pen();
+        Ok(())
+    }
+}

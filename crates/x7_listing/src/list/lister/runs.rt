@@ -1,0 +1,105 @@
+//! A lister of runs: those of a stream, one after another.
+ghost use Rattle.std.specs.Prelude.{◌≡◌, ◌+◌, ◌*◌, ◌≤◌, ◌<◌, OnOk, OnErr, if◌then◌else◌, length, min, take, vec_len, vec_capacity};
+ghost use Rattle.x7_packets.specs.Cutting.{CutterState};
+ghost use Rattle.x7_packets.specs.Run.{cut_of, FitsRun, bytes_of_run};
+ghost use Rattle.x7_listing.specs.Pens.{EndsHeld, lister_with, written_with};
+ghost use Rattle.x7_listing.specs.ListerOfRuns.{TakesNext};
+
+use super::Lister;
+use crate::list::pen::{Pen, new_pen, put_end, put_run};
+use x7_packets::{Cut, Run};
+use x7_words::NoMemory;
+
+/// A run as a cutter gives it; nothing for the tail and the end.
+fn cut_of<'b>(run: Run<'b>) -> Cut<'b>
+    ensures { result ≡ cut_of run.entry }
+{
+    match run {
+        Run::Skip(bytes) => Cut::Skip(bytes),
+        Run::Sync => Cut::Sync,
+        Run::Head(w, step) => Cut::Head(w, step),
+        Run::Word(register, w) => Cut::Word(register, w),
+        Run::Body(register, bytes) => Cut::Body(register, bytes),
+        Run::Tail(_) | Run::End => Cut::Need,
+    }
+}
+
+/// How many bytes a run tells.
+fn told_len(run: Run) -> usize
+    ensures { result ≡ length (bytes_of_run run.entry) }
+{
+    match run {
+        Run::Skip(bytes) => bytes.len(),
+        Run::Head(_, _) | Run::Word(_, _) => 4,
+        Run::Body(_, bytes) => bytes.len(),
+        Run::Tail(bytes) => bytes.len(),
+        Run::Sync | Run::End => 0,
+    }
+}
+
+/// A pen that holds the tail of a stream.
+fn with_tail(pen: Pen, tail: &[u8]) -> Pen
+    requires { length tail.now < 4 }
+    ensures synced { result.synced ≡ pen.synced }
+    ensures line { result.line ≡ pen.line }
+    ensures held { take result.count result.held ≡ tail.now }
+{
+    let mut held = [0; 4];
+    held[..tail.len()].copy_from_slice(tail);
+    Pen {
+        synced: pen.synced,
+        line: pen.line,
+        held,
+        count: tail.len(),
+    }
+}
+
+/// How many bytes of no whole word a pen holds.
+fn tail_len(pen: Pen) -> usize
+    ensures { result ≡ (if pen.synced then min pen.count 3 else 0) }
+{
+    if pen.synced { pen.count.min(3) } else { 0 }
+}
+
+/// Appends what is left at the end of a stream, whose tail the pen holds.
+fn put_last(text: &mut Vec<u8>, pen: Pen)
+    requires room { vec_len text.old + 64 ≤ vec_capacity text.old }
+    ensures listed { EndsHeld (written_with pen text.old.items) text.new.items }
+{
+    put_end(text, pen, &pen.held[..tail_len(pen)]);
+}
+
+/// Appends what the next run of a stream adds.
+fn put_next(text: &mut Vec<u8>, pen: Pen, run: Run) -> Pen
+    requires run { FitsRun run }
+    requires room { vec_len text.old + (64 + 3 * length (bytes_of_run run)) ≤ vec_capacity text.old }
+    ensures takes { (cutter : CutterState) → TakesNext run.entry (lister_with cutter pen text.old.items) (lister_with cutter result text.new.items) }
+{
+    match run {
+        Run::Tail(tail) => with_tail(pen, tail),
+        Run::End => {
+            put_last(text, pen);
+            new_pen()
+        }
+        run => put_run(text, pen, cut_of(run)),
+    }
+}
+
+impl Lister {
+    /// Takes the next run of a stream. The end ends the listing, and begins a new one. `NoMemory` changes nothing.
+    pub fn take(&mut self, run: &Run<'_>) -> Result<(), NoMemory>
+        requires { FitsRun run.now }
+        ensures ok { OnOk result (TakesNext run.now self.old self.new) }
+        ensures err { OnErr result (self.new ≡ self.old) }
+    {
+        let Some(room) = told_len(*run).checked_mul(3) else {
+            return Err(NoMemory);
+        };
+        let Some(room) = room.checked_add(64) else {
+            return Err(NoMemory);
+        };
+        self.text.reserve(room)?;
+        self.pen = put_next(&mut self.text, self.pen, *run);
+        Ok(())
+    }
+}
