@@ -93,7 +93,7 @@ four_writes v register a b c d none h k ha hb hc hd e =
     ap (bit_xor (bit_xor (bit_xor (bit_xor (advanced 148 (bit_xor v a)) (advanced 111 b)) (advanced 74 c)) (advanced 37 d))) (e ∙ whole0)
     ∙ sym (whole ∙ e4)
 
--- the same, as the code adds them
+-- the check after four writes to one register, as the code adds what each byte gives
 pub four_at_once : (v register a b c d none : ℕ) → v < 2 ^ 32 → register < 2 ^ 5 → a < 2 ^ 32 → b < 2 ^ 32 → c < 2 ^ 32 → d < 2 ^ 32 →
     none ≡ check_after 0 (writes_to register (0 ∷ 0 ∷ 0 ∷ 0 ∷ [])) →
     bit_xor (advanced 148 (bit_xor v a)) (bit_xor (bit_xor (bit_xor (advanced 111 b) (advanced 74 c)) (advanced 37 d)) none)
@@ -144,7 +144,7 @@ blocks_and_rest v register prefix whole n bs h l e f =
     ∙ sym (check_after-append v (writes_to register a) (writes_to register b) h)
     ∙ ap (check_after v) (sym (map-append (λ word. (register, word)) a b) ∙ ap (writes_to register) (sym (words_by_blocks n bs l)))
 
--- one block more
+-- the check of a slice after one block more
 pub block_taken : (v register i next whole : ℕ) (blocks : List (List ℕ)) → v < 2 ^ 32 → i < length blocks →
     next ≡ check_after v (writes_to register (words_of_bytes (get_or blocks i []))) →
     check_after v (writes_to register (flat_map words_of_bytes (drop i blocks))) ≡ whole →

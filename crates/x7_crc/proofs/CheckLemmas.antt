@@ -53,7 +53,7 @@ check_after-append v a b h =
     ∙ ap (λ x. shifted_all x (bits_of_writes b)) (sym (check_after-shifted v a h))
     ∙ sym (check_after-shifted (check_after v a) b (check_after_fits v a))
 
--- one write, as the register takes it
+-- the check after one write, as the shift register takes it
 pub check_after-write : (v register word : ℕ) → v < 2 ^ 32 →
     check_after v ((register, word) ∷ []) ≡ shifted_all (shifted_all v (low_bits 32 word)) (low_bits 5 register)
 unfolding bits_of_write
@@ -62,7 +62,7 @@ check_after-write v register word h =
     ∙ ap (shifted_all v) (append-nil (low_bits 32 word ++ low_bits 5 register))
     ∙ shifted_all-append v (low_bits 32 word) (low_bits 5 register)
 
--- the same by the bits of both at once, as tables give it
+-- the check after one write by the bits of word and register at once, as tables give it
 pub advanced_by_write : (v register word : ℕ) → v < 2 ^ 32 → register < 2 ^ 5 → word < 2 ^ 32 →
     check_after v ((register, word) ∷ []) ≡ advanced 5 (bit_xor (advanced 32 (bit_xor v word)) register)
 advanced_by_write v register word h k l =
@@ -89,7 +89,7 @@ check_after_next v register i chunks h k =
     let prefix : writes_to register (map word_of_bytes (drop i chunks)) ≡ (register, w) ∷ rest = rw (add-one, drop-cons chunks i []) refl in
     ap (check_after v) prefix ∙ check_after-append v ((register, w) ∷ []) rest h
 
--- one chunk more
+-- the check of a slice after one chunk more
 pub chunk_taken : (v register i word next whole : ℕ) (chunks : List (List ℕ)) → v < 2 ^ 32 → i < length chunks →
     word ≡ word_of_bytes (get_or chunks i []) → next ≡ check_after v ((register, word) ∷ []) →
     check_after v (writes_to register (map word_of_bytes (drop i chunks))) ≡ whole →

@@ -28,7 +28,7 @@ check-folded h register word place e n = rw (e, n) (sym (check_of-more (running_
 pub check-reset : (h : History) (register word place : ℕ) → executes 7 h (Write register word) ≡ true → running_check (entry (Write register word) place ∷ h) ≡ 0
 check-reset h register word place e = check-cleared h register word place (ap (λ b. b || (register == 0)) e)
 
--- one payload word more
+-- a history with one payload word more
 pub entered-more : (register n : ℕ) (ws : List ℕ) (w : ℕ) (h : History) → entered_all n (payload_steps register (ws ++ w ∷ [])) h ≡ entry (Write register w) (n + 4 * length ws + 4) ∷ entered_all n (payload_steps register ws) h
 entered-more register n [] w h = let e : n + 4 ≡ n + 4 * 0 + 4 = omega arith in ap (λ (k : ℕ). entry (Write register w) k ∷ h) e
 entered-more register n (v ∷ ws) w h = let e : n + 4 + 4 * length ws + 4 ≡ n + 4 * length (v ∷ ws) + 4 = omega arith in
@@ -66,21 +66,17 @@ took_all c d run check held at to bytes piece s h full is went =
     λ bs sessions spot t. subst (λ r. Went c d (bs ++ between piece at to) sessions spot r) is (went bs sessions spot t) in
     subst (λ t. Checks d check held (bytes ++ t)) (take_all to piece full) (took c d Need check held check held at to bytes piece s h went2 (λ g n t. t))
 
-whole : (bytes : List ℕ) (taken m : ℕ) → taken ≤ length bytes → m ≡ min taken (length bytes) → take taken bytes ++ take (length bytes - m) (drop m bytes) ≡ bytes
-whole bytes taken m h e =
-    let same : m ≡ taken = omega arith in
-    ap (λ (j : ℕ). take taken bytes ++ take (length bytes - j) (drop j bytes)) same
-    ∙ ap (λ t. take taken bytes ++ t) (take_all (length bytes - taken) (drop taken bytes) (omega (arith, length-drop taken bytes))) ∙ take-append-drop taken bytes
-
--- all bytes are taken
-pub caught-up : (c d : CheckerState) (m : ℕ) (bytes : List ℕ) → m ≡ min c.taken (length bytes) → d.taken ≡ length bytes → Keeps c bytes
-    → ((bs : List ℕ) → HasTaken c.pieces bs → HasTaken d.pieces (bs ++ take (length bytes - m) (drop m bytes)))
+-- the bytes after those taken are taken, and so all are
+pub caught-up : (c d : CheckerState) (bytes : List ℕ) → d.taken ≡ length bytes → Keeps c bytes
+    → ((bs : List ℕ) → HasTaken c.pieces bs → HasTaken d.pieces (bs ++ take (length bytes - c.taken) (drop c.taken bytes)))
     → HasTaken d.pieces bytes × Keeps d bytes
-caught-up c d m bytes e f k took =
-    let all : HasTaken d.pieces bytes = subst (λ t. HasTaken d.pieces t) (whole bytes c.taken m k.within e) (took (take c.taken bytes) k.checks) in
+caught-up c d bytes f k took =
+    let rest : take (length bytes - c.taken) (drop c.taken bytes) ≡ drop c.taken bytes = take_all (length bytes - c.taken) (drop c.taken bytes) (omega (arith, length-drop c.taken bytes)) in
+    let whole : take c.taken bytes ++ take (length bytes - c.taken) (drop c.taken bytes) ≡ bytes = ap (λ t. take c.taken bytes ++ t) rest ∙ take-append-drop c.taken bytes in
+    let all : HasTaken d.pieces bytes = subst (λ t. HasTaken d.pieces t) whole (took (take c.taken bytes) k.checks) in
     (all, record { within = omega (arith, f); checks = subst (λ t. HasTaken d.pieces t) (sym (take_all d.taken bytes (omega (arith, f)))) all })
 
--- more bytes
+-- a checker of some bytes is one of longer bytes that begin with them
 pub still-keeps : (c : CheckerState) (bytes more new : List ℕ) → new ≡ bytes ++ more → Keeps c bytes → Keeps c new
 still-keeps c bytes more new e k =
     subst (λ t. Keeps c t) (sym e) (record { within = omega (arith, k.within, length-append bytes more); checks = subst (λ t. HasTaken c.pieces t) (sym (take-append-le c.taken bytes more k.within)) k.checks })

@@ -79,7 +79,7 @@ four_bytes n v a b c d ea eb ec ed =
     ∙ ap (λ x. bit_xor (advanced (16 + n) (v / 256 % 256)) x) low)
     ∙ rw (ra, rb, rc, rd) refl)
 
--- the same, as the entries are looked up
+-- a word by the entries of its four bytes, as they are looked up
 pub four_entries : (n v a b c d : ℕ) → a ≡ bit_and v 255 → b ≡ bit_and (v / 256) 255 → c ≡ bit_and (v / 65536) 255 → d ≡ v / 16777216 →
     bit_xor (advanced (n + 8 * 3) a) (bit_xor (advanced (n + 8 * 2) b) (bit_xor (advanced (n + 8 * 1) c) (advanced (n + 8 * 0) d))) ≡ advanced (n + 24) v
 four_entries n v a b c d ea eb ec ed =

@@ -143,7 +143,7 @@ impl PieceChecker {
         }
     }
 
-    /// Takes one piece of bytes more.
+    /// Takes one more piece of bytes.
     pub fn take(&mut self, piece: &[u8])
         ensures { (bytes : List ℕ) → HasTaken self.old bytes → HasTaken self.new (bytes ++ piece.now) }
     {
@@ -187,10 +187,11 @@ impl Checker {
 
     /// The check of the bytes, which begin with those of the call before.
     pub fn check_of(&mut self, bytes: &[u8]) -> u32
-        ensures { Keeps self.old bytes.now → (result ≡ check_of_bytes bytes.now) × Keeps self.new bytes.now }
+        requires { Keeps self.old bytes.now }
+        ensures check { result ≡ check_of_bytes bytes.now }
+        ensures keeps { Keeps self.new bytes.now }
     {
-        let taken = self.taken.min(bytes.len());
-        self.pieces.take(&bytes[taken..]);
+        self.pieces.take(&bytes[self.taken..]);
         self.taken = bytes.len();
         self.pieces.check()
     }

@@ -17,7 +17,7 @@ pub fn checks_are_remainders()
     ensures only { (before check : ℕ) (writes : List (ℕ × ℕ)) → before < 2 ^ 32 → check < 2 ^ 32 → IsCheckAfter before writes check → check ≡ check_after before writes }
 {}
 
-/// No writes leave the check, and writes in two parts have the check of both.
+/// The check of no writes is the check before them, and writes in two parts have the check of both.
 pub fn checks_continue()
     ensures none { (before : ℕ) → before < 2 ^ 32 → check_after before [] ≡ before }
     ensures parts { (before : ℕ) (first second : List (ℕ × ℕ)) → before < 2 ^ 32 → check_after before (first ++ second) ≡ check_after (check_after before first) second }

@@ -1,4 +1,4 @@
--- Texts cut at their line ends, and one line more.
+-- Lemmas on specs/Assembling: a text of which one line more is read.
 use Rattle.std.proofs.Common.{◌≡◌, inl, inr, ℕ, ◌+◌, ◌-◌, ◌<◌, ◌≤◌, Bool, true, false, List, [], ◌∷◌, ◌++◌, Ok, Err, length, map, refl, ap, sym, subst, ◌∙◌, arith, append_assoc, length-append, length-drop, take, drop}
 use Rattle.std.proofs.lemmas.List.{drop-append-le, length-take-le, take-append-drop, take-append-le}
 use Rattle.std.proofs.lemmas.List.Sums.{fold-append}
@@ -58,7 +58,7 @@ went-nothing limit texts = record { lines = []; begins = record { texts = refl; 
 pub went-all : (limit : ℕ) (texts : List (List ℕ)) (bytes : List ℕ) (n : ℕ) → Went limit texts [] bytes n → Assembles limit texts bytes
 went-all limit texts bytes n g = record { lines = g.lines; begins = g.begins; is = g.is }
 
--- the same where other bytes stand in front
+-- a line is read behind a header's bytes as it is without them
 pub dropped : (start a : ℕ) (r : Bool) (t old new : List ℕ) → start ≤ length old → Reads FitsLine text_of (bytes_of a) r t old new → Reads FitsLine text_of (bytes_of a) r t (drop start old) (drop start new)
 dropped start a true t old new h r = (r.0, r.1, r.2, ap (drop start) r.3 ∙ drop-append-le start old (bytes_of a r.0) h)
 dropped start a false t old new h r = (r.0, ap (drop start) r.1)
@@ -118,26 +118,16 @@ close-long all others prefix start first m n s (inr p) b e =
     let c : IsTooLong 67108864 others m = subst (λ (k : ℕ). IsTooLong (67108864 - k) others m) zero b in
     inr (p.no_head, subst (λ (t : List (List ℕ)). IsTooLong 67108864 t n) (sym p.texts) (subst (IsTooLong 67108864 others) same c))
 
--- all texts are read
+-- the outcome of a text all of whose lines are read
 pub goes-whole : (all : List (List ℕ)) (out : List ℕ) (start : ℕ) (checker : CheckerState) (n : ℕ) → Goes all [] (body_by out start checker n) → AreHeadedAsm all (Ok out)
 goes-whole all out start checker n g = close-ok all g.others (take start out) out start g.first (sym (length-take-le start out g.long)) g.opens (went-all (67108864 - start) g.others (drop start out) g.read g.went) refl
 
--- one text more is read
-module _ (line out mid new : List ℕ) (start at n c : ℕ) (old-checker new-checker : CheckerState) (r : Bool) (same : mid ≡ out) (at-is : start ≤ length mid → at ≡ start) (n-is : c ≡ n + 1)
-    (reads : Keeps old-checker (drop at mid) → Reads FitsLine text_of (bytes_of (check_of_bytes (drop at mid))) r line mid new)
-    (keeps : Keeps old-checker (drop at mid) → Keeps new-checker (drop at new)) where
+-- one line more is read: it is bad, passes the limit, or is taken
+module _ (line out mid new : List ℕ) (start n c : ℕ) (old-checker new-checker : CheckerState) (r : Bool) (same : mid ≡ out) (n-is : c ≡ n + 1)
+    (reads : Reads FitsLine text_of (bytes_of (check_of_bytes (drop start mid))) r line mid new) (keeps : Keeps new-checker (drop start new)) where
   module _ (all left : List (List ℕ)) (g : Goes all (line ∷ left) (body_by out start old-checker n)) where
-    long-mid : start ≤ length mid
-    long-mid = subst (λ (b : List ℕ). start ≤ length b) (sym same) g.long
-
-    at-start : at ≡ start
-    at-start = at-is long-mid
-
-    held : Keeps old-checker (drop at mid)
-    held = subst (λ (b : List ℕ). Keeps old-checker b) (ap (drop start) (sym same) ∙ ap (λ (k : ℕ). drop k mid) (sym at-start)) g.keeps
-
     got : Reads FitsLine text_of (bytes_of (check_of_bytes (drop start out))) r line out new
-    got = subst (λ (m : List ℕ). Reads FitsLine text_of (bytes_of (check_of_bytes (drop start m))) r line m new) same (subst (λ (k : ℕ). Reads FitsLine text_of (bytes_of (check_of_bytes (drop k mid))) r line mid new) at-start (reads held))
+    got = subst (λ (m : List ℕ). Reads FitsLine text_of (bytes_of (check_of_bytes (drop start m))) r line m new) same reads
 
     behind-front : Reads FitsLine text_of (bytes_of (check_of_bytes (drop start out))) r line (drop start out) (drop start new)
     behind-front = dropped start (check_of_bytes (drop start out)) r line out new g.long got
@@ -164,7 +154,7 @@ module _ (line out mid new : List ℕ) (start at n c : ℕ) (old-checker new-che
           read = g.read + 1;
           long = f.1;
           short = g.short;
-          keeps = subst (λ (k : ℕ). Keeps new-checker (drop k new)) at-start (keeps held);
+          keeps = keeps;
           opens = subst (λ (b : List ℕ). Opens all g.others b g.first) (sym f.0) g.opens;
           went = next (67108864 - start) g.others line (drop start out) (drop start new) left g.read g.went (yes e) (omega (arith, h, length-drop start new));
           count_is = omega (arith, n-is, g.count_is);

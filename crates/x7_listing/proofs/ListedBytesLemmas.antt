@@ -70,7 +70,7 @@ data-stands ws a =
 pub is-eq : (a b : ℕ) → (a == b) ≡ true → a ≡ b
 is-eq a b e = grind (arith, common_steps)
 
--- one line of a word
+-- the line of a word in a header's place stands for the word
 abbrev pub IsLineOf : ℕ → Line → Type 0
 IsLineOf w l = (bytes_of 0 l ≡ bytes_of_word w) × Listed l
 

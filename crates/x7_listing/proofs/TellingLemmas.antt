@@ -1,4 +1,4 @@
--- What is listed at each place of a stream, after each kind of run and at the end.
+-- Lemmas on specs/Telling: what is listed at each place of a stream, after each kind of run and at the end.
 use Rattle.std.proofs.Common.{◌≡◌, ℕ, ◌==◌, ◌&&◌, Bool, true, false, if◌then◌else◌, inl, inr, Bor, List, [], ◌∷◌, ◌++◌, None, length, refl, ap, sym, subst, ◌∙◌, append_assoc, append-nil, arith, length-append, codes, flat_map}
 use Rattle.std.proofs.lemmas.Grind.{flat_map-append}
 use Rattle.std.specs.List.{AllByRecursion}

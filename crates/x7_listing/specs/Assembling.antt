@@ -8,7 +8,6 @@ use Rattle.x7_listing.specs.Line.{Line, bytes_of, FitsLine, IsListed}
 use Rattle.x7_listing.specs.Listed.{texts_of}
 use Rattle.x7_listing.specs.Assembly.{AreHeadedAsm, asm_limit, assembled, Begins, HasNoHead}
 use Rattle.x7_listing.specs.declared.assembler.AsmFault.{AsmFault}
-use Rattle.x7_listing.specs.declared.asm.lines.AsmLines.{AsmLines}
 use Rattle.x7_listing.specs.declared.assembler.AsmFault.TheVariants as fault
 
 -- the first texts are those of lines, whose bytes these are, and the others are left
@@ -26,7 +25,7 @@ pub record OpensHeaded (all others : List (List ℕ)) (prefix : List ℕ) (n : �
   pub are : prefix ≡ header_bytes header
   pub one : n ≡ 1
 
--- no header's line stands first
+-- the first of the texts is no header's line
 pub record OpensPlain (all others : List (List ℕ)) (prefix : List ℕ) (n : ℕ) : Type 0 where
   pub no_head : HasNoHead all
   pub texts : all ≡ others
@@ -54,8 +53,10 @@ pub record Output : Type 0 where
   pub start : ℕ
   pub checker : CheckerState
 
-abbrev pub output_of : AsmLines → Output
-output_of b = record { out = b.out.items; start = b.start; checker = b.checker }
+-- the bytes of lines begin within the bytes so far, and the checker keeps theirs
+pub record IsSound (out : List ℕ) (start : ℕ) (checker : CheckerState) : Type 0 where
+  pub begun : start ≤ length out
+  pub keeps : Keeps checker (drop start out)
 
 -- a `BodyState` of these lines' output
 abbrev pub behind : Output → ℕ → BodyState
@@ -73,7 +74,7 @@ pub record Goes (all left : List (List ℕ)) (b : BodyState) : Type 0 where
   pub went : Went (asm_limit - b.start) others left (drop b.start b.out) read
   pub count_is : b.count ≡ first + read
 
--- no text is read yet
+-- none of the texts is read yet
 pub record Unbegun (all left : List (List ℕ)) (b : BodyState) : Type 0 where
   pub texts : all ≡ left
   pub out_is : b.out ≡ []
@@ -81,7 +82,7 @@ pub record Unbegun (all left : List (List ℕ)) (b : BodyState) : Type 0 where
   pub keeps : Keeps b.checker []
   pub count_is : b.count ≡ 0
 
--- the same, whether the first text is read or not
+-- the texts are read but for those that are left: from the first on, or none yet
 abbrev pub Waits : Bool → List (List ℕ) → List (List ℕ) → BodyState → Type 0
 Waits true = Goes
 Waits false = Unbegun
@@ -95,7 +96,7 @@ pub record TakesLines (text rest old new : List ℕ) (count : ℕ) : Type 0 wher
   pub appended : new ≡ old ++ flat_map (bytes_of 0) lines
   pub count_is : count ≡ length lines
 
--- so many bytes of the text are such lines, of which there is one at least
+-- the first bytes of the text, `size` of them, are whole lines, one at least, none of which is a comment or the check
 pub record TakesFirst (text old new : List ℕ) (size count : ℕ) : Type 0 where
   pub some : 0 < size
   pub within : size ≤ length text
@@ -119,6 +120,7 @@ HasAsmFault f lines = (f ≡ fault.NoMemory) ⊎ AreHeadedAsm lines (Err f)
 abbrev pub ReadsFirst : Output → Output → List ℕ → Type 0
 ReadsFirst old new line = (all left : List (List ℕ)) → Unbegun all (line ∷ left) (behind old 0) → Goes all left (behind new 1)
 
+-- a first line is refused for this fault; want of memory says nothing
 abbrev pub FailsFirst : Output → List ℕ → AsmFault → Type 0
 FailsFirst old line f = (f ≡ fault.NoMemory) ⊎ ((all left : List (List ℕ)) → Unbegun all (line ∷ left) (behind old 0) → AreHeadedAsm all (Err f))
 
@@ -126,5 +128,6 @@ FailsFirst old line f = (f ≡ fault.NoMemory) ⊎ ((all left : List (List ℕ))
 abbrev pub ReadsNext : Output → Output → ℕ → List ℕ → Type 0
 ReadsNext old new n line = (all left : List (List ℕ)) (k : ℕ) → n ≡ k + 1 → Goes all (line ∷ left) (behind old k) → Goes all left (behind new n)
 
+-- line n, behind others, is refused for this fault; want of memory says nothing
 abbrev pub FailsNext : Output → ℕ → List ℕ → AsmFault → Type 0
 FailsNext old n line f = (f ≡ fault.NoMemory) ⊎ ((all left : List (List ℕ)) (k : ℕ) → n ≡ k + 1 → Goes all (line ∷ left) (behind old k) → AreHeadedAsm all (Err f))

@@ -14,7 +14,7 @@ field_text (x ∷ xs) = flat_map hex_byte (x ∷ xs)
 abbrev pub bit_text : Contents → List ℕ
 bit_text x = codes "bit " ++ (field_text x.a ++ 32 ∷ (field_text x.b ++ 32 ∷ (field_text x.c ++ 32 ∷ (field_text x.d ++ 32 ∷ decimal x.data_length))))
 
--- what a header can hold, byte by byte
+-- contents that a header can hold, byte by byte
 pub record IsHeld (x : Contents) : Type 0 where
   pub have : HaveHeader x
   pub a : AreBytes x.a
@@ -31,7 +31,7 @@ pub record IsField (field : List ℕ) : Type 0 where
 abbrev pub HasFieldFirst : List ℕ → List ℕ → List ℕ → Type 0
 HasFieldFirst text field rest = IsField field × (text ≡ field_text field ++ 32 ∷ rest)
 
--- these are the bytes of a header whose line this is
+-- `bytes` are those of a header whose line is `line`
 pub record IsHeaderOf (line bytes : List ℕ) : Type 0 where
   pub header : Contents
   pub held : IsHeld header

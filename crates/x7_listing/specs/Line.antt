@@ -46,6 +46,7 @@ text_of Check = codes "crc"
 abbrev pub IsAccess : ℕ × ℕ → Type 0
 IsAccess a = (a.0 < 32) × (a.1 < 2 ^ 11)
 
+-- the text of a register's name and a word count
 abbrev pub access_text : ℕ × ℕ → List ℕ
 access_text a = reg_name a.0 ++ 32 ∷ decimal a.1
 

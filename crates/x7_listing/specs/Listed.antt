@@ -13,10 +13,11 @@ use Rattle.x7_listing.specs.declared.line.head_line.HeadLine.{HeadLine}
 use Rattle.x7_listing.specs.declared.line.head_line.HeadLine.TheVariants as head
 use Rattle.x7_listing.specs.Line.{Line, Bytes, Sync, Nop, Write, Read, Write2, Read2, Word, Data, Cmd, text_of}
 
--- the text of a line with its end, and of lines
+-- the text of a line with its end
 abbrev pub ended_text : Line → List ℕ
 ended_text l = text_of l ++ 10 ∷ []
 
+-- the texts of lines, each with its end
 abbrev pub texts_of : List Line → List ℕ
 texts_of ls = flat_map ended_text ls
 
@@ -30,29 +31,36 @@ line_as (head.Write2 count) = Write2 count
 line_as (head.Read2 count) = Read2 count
 line_as (head.Word w) = Word w
 
--- a payload word of CMD
+-- the line of a payload word of CMD
 abbrev pub cmd_line : ℕ → Line
 cmd_line w = if code_of (command_by w) == w then Cmd (command_by w) else Data (w ∷ [])
 
+-- the lines of a payload: one a word where the register is CMD, else one for each eight words
 abbrev pub payload_lines : ℕ → List ℕ → List Line
 payload_lines register ws = if register == number_of Cmd then map cmd_line ws else map Data (rows 8 ws)
 
+-- the lines of a packet
 abbrev pub packet_lines : Packet → List Line
 packet_lines p = line_as (head_line p.step p.head) ∷ payload_lines (named_by p.step) p.payload
 
+-- the lines of bytes of a gap, and of no whole word
 abbrev pub gap_lines : List ℕ → List Line
 gap_lines bs = map Bytes (rows 32 bs)
 
+-- the lines of a gap, the sync word behind it and packets
 abbrev pub packets_lines : List ℕ → List Packet → List Line
 packets_lines gap packets = gap_lines gap ++ Sync ∷ flat_map packet_lines packets
 
+-- the lines of a session that ended
 abbrev pub session_lines : Session → List Line
 session_lines s = packets_lines s.gap s.packets
 
+-- the lines of where the bytes end
 abbrev pub place_lines : Place → List Line
 place_lines (Searching gap) = gap_lines gap
 place_lines (Synced gap packets tail) = packets_lines gap packets ++ gap_lines tail
 
+-- the lines of a reading
 abbrev pub reading_lines : List Session → Place → List Line
 reading_lines sessions place = flat_map session_lines sessions ++ place_lines place
 

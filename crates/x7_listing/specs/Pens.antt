@@ -1,4 +1,4 @@
--- What a lister tells with its pen (this project's choice).
+-- What a lister lists with its pen (this project's choice).
 use Rattle.std.specs.Prelude.{◌≡◌, List, ℕ, ◌++◌, take, true}
 use Rattle.x7_words.specs.Word.{bytes_of_word}
 use Rattle.x7_packets.specs.AtOnce.{Takes}
@@ -18,11 +18,11 @@ lister_with cutter pen text = lister_of cutter pen.synced pen.line (take pen.cou
 abbrev pub TakesHead : CutterState → ℕ → Step → Type 0
 TakesHead c w step = Takes c c (bytes_of_word w) (Head w step)
 
--- the lister tells these bytes more
+-- the lister has listed these bytes too
 abbrev pub TellsOn : ListerState → ListerState → List ℕ → Type 0
 TellsOn old new more = (given before bytes : List ℕ) → Tells old given before bytes → Tells new given before (bytes ++ more)
 
--- the same, and then no sync word is still to be listed
+-- the lister has listed these bytes too, and no sync word is still to be listed
 abbrev pub RestsOn : ListerState → ListerState → List ℕ → Type 0
 RestsOn old new more = (given before bytes : List ℕ) → Tells old given before bytes → ListerStandsFor new given before (bytes ++ more)
 
@@ -39,7 +39,7 @@ abbrev pub EndsWith : Written → List ℕ → List ℕ → Type 0
 EndsWith w kept text = (given before : List ℕ) (sessions : List Session) (place : Place)
     → HasListedAll (written_of w.synced w.line w.held (given ++ w.text)) before sessions place → kept ≡ tail_of place → given ++ text ≡ before ++ reading_text sessions place
 
--- the same of a pen that holds those bytes itself
+-- with this text what is left at an end is listed, whatever texts were given, by a pen that holds the bytes of no whole word itself
 abbrev pub EndsHeld : Written → List ℕ → Type 0
 EndsHeld w text = (given before : List ℕ) (sessions : List Session) (place : Place)
     → HasListedAll (written_of w.synced w.line w.held (given ++ w.text)) before sessions place → (w.synced ≡ true → w.held ≡ tail_of place)
@@ -49,10 +49,10 @@ EndsHeld w text = (given before : List ℕ) (sessions : List Session) (place : P
 abbrev pub lister_after : CutterState → Pen → List ℕ → List ℕ → ListerState
 lister_after cutter pen shown text = lister_with cutter pen (text ++ shown)
 
--- the same, where that text is the first bytes of a sheet
+-- a lister with this pen, whose text is any text and then the first bytes of a sheet
 abbrev pub on_sheet : CutterState → Pen → List ℕ → ℕ → List ℕ → ListerState
 on_sheet cutter pen sheet len = lister_after cutter pen (take len sheet)
 
--- the lister tells these bytes more, whatever text stands before
+-- the lister has listed these bytes too, whatever text stands before
 abbrev pub TellsAfter : (List ℕ → ListerState) → (List ℕ → ListerState) → List ℕ → Type 0
 TellsAfter old new more = (text : List ℕ) → TellsOn (old text) (new text) more

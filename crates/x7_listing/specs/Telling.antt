@@ -16,10 +16,11 @@ use Rattle.x7_text.specs.Row.{bytes_text, close, element_text, in_line_after, ne
 use Rattle.x7_listing.specs.HeadLine.{command_line, head_text}
 use Rattle.x7_listing.specs.Listing.{IsListing, session_text}
 
--- what a payload word adds where i words stand in an open `data` line, and how many stand in one then
+-- what a payload word adds where i words stand in an open `data` line (0: none is open)
 abbrev pub open_payload : Bool → ℕ → ℕ → List ℕ
 open_payload is_cmd i w = if is_cmd then close i ++ command_line w else element_text 8 (codes "data") spaced i w
 
+-- how many words stand in an open `data` line after one payload word more
 abbrev pub payload_next : Bool → ℕ → ℕ
 payload_next is_cmd i = if is_cmd then 0 else next_in_line 8 i
 
@@ -28,6 +29,7 @@ abbrev pub open_word : ℕ → ℕ → Step → List ℕ
 open_word i w (Payload register x) = open_payload (register == number_of Cmd) i w
 open_word i w step = close i ++ head_text step w
 
+-- how many words stand in an open `data` line after one word more of a session
 abbrev pub word_next : ℕ → Step → ℕ
 word_next i (Payload register x) = payload_next (register == number_of Cmd) i
 word_next i step = 0
@@ -37,6 +39,7 @@ abbrev pub open_words : ℕ → List (ℕ × Step) → List ℕ
 open_words i [] = []
 open_words i (s ∷ ss) = open_word i s.0 s.1 ++ open_words (word_next i s.1) ss
 
+-- how many words stand in an open `data` line after these words of a session
 abbrev pub words_place : ℕ → List (ℕ × Step) → ℕ
 words_place i [] = i
 words_place i (s ∷ ss) = words_place (word_next i s.1) ss
@@ -63,7 +66,7 @@ pub record Written : Type 0 where
   pub held : List ℕ
   pub text : List ℕ
 
--- that by its parts
+-- what is written of a listing, by its parts
 abbrev pub written_of : Bool → ℕ → List ℕ → List ℕ → Written
 written_of synced line held text = record { synced = synced; line = line; held = held; text = text }
 
@@ -74,6 +77,7 @@ HasListedBy false w start (Synced gap packets tail) m = (m ≡ Mode.Due) × (pac
 HasListedBy true w start (Searching gap) m = (gap ≡ []) × (w.line ≡ 0) × (w.text ≡ start)
 HasListedBy true w start (Synced gap packets tail) m = (m ≡ Mode.Due → ⊥) × SessionListed w.text start w.line gap packets
 
+-- what was listed at a place by what is written, in a gap or in a session
 abbrev pub HasListedAt : Written → List ℕ → Place → Mode → Type 0
 HasListedAt w start place m = HasListedBy w.synced w start place m
 
@@ -105,7 +109,7 @@ pub record ListerState : Type 0 where
   pub held : List ℕ
   pub text : List ℕ
 
--- that by its parts
+-- a lister by its parts
 abbrev pub lister_of : CutterState → Bool → ℕ → List ℕ → List ℕ → ListerState
 lister_of cutter synced line held text = record { cutter = cutter; synced = synced; line = line; held = held; text = text }
 
@@ -120,7 +124,7 @@ pub record Tells (l : ListerState) (given before bytes : List ℕ) : Type 0 wher
   pub cut : CutterStandsFor l.cutter bytes sessions at
   pub listed : HasListed (written_by l given) before sessions at l.cutter.mode
 
--- the same, where no sync word is still to be listed
+-- A lister of pieces: the texts given and its own are those of listings before, and then what is listed of these bytes; no sync word is still to be listed.
 pub record ListerStandsFor (l : ListerState) (given before bytes : List ℕ) : Type 0 where
   pub tells : Tells l given before bytes
   pub ready : l.cutter.mode ≡ Mode.Due → ⊥

@@ -36,7 +36,7 @@ pub fn little_text_is_held()
         → length before + length (listing_of bytes) ≤ length (given ++ l.text) + 64 }
 {}
 
-/// The same of a lister that takes runs.
+/// A lister that takes runs is never more than four bytes of text behind their bytes.
 pub fn few_bytes_of_runs_are_held()
     ensures { (l : ListerState) (given before bytes : List ℕ) (due : Mode) → TakerStandsFor l given before bytes due
         → length before + length bytes ≤ length (given ++ l.text) + 4 }

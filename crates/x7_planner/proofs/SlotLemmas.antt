@@ -48,7 +48,7 @@ slot-more part plan old mid new start n s le h e f g =
     written-on old mid new (slot_words part plan (drop start (take n places))) (frame_at_slot part plan s) f g
     ∙ ap (λ t. old ++ bytes_of_words t) (sym (flat_map-last (frame_at_slot part plan) (drop start (take n places)) s) ∙ ap (slot_words part plan) (sym one))
 
--- no slot at first
+-- the words of no slot add nothing
 pub slots-none : (part : PartData) (plan : PlanData) (old : List ℕ) (start : ℕ) → old ≡ old ++ bytes_of_words (slot_words part plan (drop start (take start (slots_in part))))
 slots-none part plan old start =
     sym (ap (λ (t : List Slot). old ++ bytes_of_words (slot_words part plan t)) (drop_of_length-le (take start (slots_in part)) (omega (arith, length-take start (slots_in part)))) ∙ append-nil old)

@@ -49,6 +49,7 @@ calls_from slots next.LastCheck = 2
 calls_from slots next.Desync = 1
 calls_from slots next.Nothing = 0
 
+-- how often there may be a piece more of a full stream that is written piece by piece
 abbrev pub calls_left : FullStreamState → ℕ
 calls_left s = calls_from (length (slots_in s.part)) s.next
 
@@ -57,7 +58,7 @@ pub record IsFullStream (s : FullStreamState) : Type 0 where
   pub width : s.plan.width ≡ frame_words s.part
   pub inside : slot_next s.next ≤ length (slots_in s.part)
 
--- these bytes of the stream were written: they stand before what is next, they were checked, and others are still left
+-- `given` of the stream was written: it stands before what is next, it was checked, and other bytes are still left
 pub record HasGiven (s : FullStreamState) (given : List ℕ) : Type 0 where
   pub before : given ≡ stream_of (pieces_before s.part s.plan s.next)
   pub checked : HasTaken s.check given

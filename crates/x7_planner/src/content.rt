@@ -46,7 +46,7 @@ pub(crate) fn grouped(alloc: Global, plan: &Plan) -> Result<Vec<Content<'_>>, Al
     Ok(contents)
 }
 
-/// Where the content at a place begins; that of the place before it is known.
+/// The place where the content at a place begins; where the content at the place before it begins is known.
 fn start_at(contents: &[Content], start: usize, place: usize) -> usize
     requires begun { IsBegun (rows_of contents.now) start place }
     requires inside { place < length contents.now }
@@ -59,7 +59,7 @@ fn start_at(contents: &[Content], start: usize, place: usize) -> usize
     place
 }
 
-/// Where the content at each place begins.
+/// The place where the content at each place begins.
 pub(crate) fn firsts_of(alloc: Global, contents: &[Content]) -> Result<Vec<usize>, AllocError>
     ensures { IfOk result (λ firsts. AreFirsts (rows_of contents.now) firsts.items) }
 {
@@ -72,7 +72,7 @@ pub(crate) fn firsts_of(alloc: Global, contents: &[Content]) -> Result<Vec<usize
     Ok(firsts)
 }
 
-/// Where each row's content begins; that of each place is known.
+/// The place where each row's content begins; where the content at each place begins is known.
 pub(crate) fn starts_of(
     alloc: Global,
     plan: &Plan,

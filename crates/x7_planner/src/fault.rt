@@ -13,7 +13,7 @@ pub enum PlanFault {
     /// The first address that the part lacks.
     #[error("the part has no frame at {0:08X}")]
     Foreign(u32),
-    /// So many slots can't be read: none, or more than there are.
+    /// The count of slots that can't be read: 0, or more than there are from the address on.
     #[error("{0} slots can't be read")]
     Range(u32),
     /// There was no memory for the stream.

@@ -1,27 +1,26 @@
--- A text that is assembled line by line.
+-- The lines that AsmLines takes: the first, one more, many at once, and the last.
 use Rattle.std.proofs.Common.{◌≡◌, inl, inr, ℕ, ◌+◌, ◌-◌, ◌≤◌, List, [], ◌∷◌, ◌++◌, Option, Some, IfSome, Result, Ok, Err, IfErr, OnOk, MatchResult, length, map, take, drop, refl, ap, sym, subst, ◌∙◌, arith, append_assoc, append-nil, length-append, take_all}
-use Rattle.std.proofs.lemmas.List.{length-map}
+use Rattle.std.proofs.lemmas.List.{drop-append-le, length-map}
 use Rattle.std.proofs.Math.ListN.{drop_of_length-le}
 use Rattle.std.proofs.Math.Seq.{drop-nil}
 use Rattle.std.specs.List.{flat_map}
 use Rattle.x7_crc.specs.Checking.{CheckerState, Keeps}
+use Rattle.x7_crc.proofs.CheckerLemmas.{still-keeps}
 use Rattle.x7_header.specs.Header.{Contents}
-use Rattle.x7_text.specs.LineReading.{TakesWhole}
 use Rattle.x7_text.specs.Lines.{split}
 use Rattle.x7_text.proofs.LineReadingLemmas.{HasTaken}
 use Rattle.x7_listing.specs.Assembly.{AreHeadedAsm}
-use Rattle.x7_listing.specs.Assembling.{BodyState, FailsFirst, FailsNext, Goes, HasAsmFault, HasRead, Output, ReadsFirst, ReadsNext, TakesLines, Unbegun, Waits, Went, behind, body_by, has_any, output_of}
+use Rattle.x7_listing.specs.Assembling.{BodyState, FailsFirst, FailsNext, Goes, HasAsmFault, HasRead, IsSound, Output, ReadsFirst, ReadsNext, TakesLines, Unbegun, Waits, Went, behind, body_by, has_any}
 use Rattle.x7_listing.specs.BitLine.{bit_text, IsHeaderOf, IsHeld}
 use Rattle.x7_listing.specs.Line.{Line, bytes_of, text_of}
 use Rattle.x7_listing.specs.declared.assembler.AsmFault.{AsmFault}
-use Rattle.x7_listing.specs.declared.asm.lines.AsmLines.{AsmLines}
 use Rattle.x7_listing.proofs.AssemblingLemmas.{goes-whole, went-nothing}
 use Rattle.x7_listing.proofs.asm.fast.QuickLemmas.{goes-quick, quick-texts}
 
--- where no text is read
-pub goes-header : (all left : List (List ℕ)) (held out header : List ℕ) (start len c n : ℕ) (checker : CheckerState) → IsHeaderOf held header → length header ≤ 262170 → len ≡ length header → c ≡ n + 1
-    → Unbegun all (held ∷ left) (body_by out start checker n) → Goes all left (body_by header len checker c)
-goes-header all left held out header start len c n checker h short size up u =
+-- before any line is read: a header's line, and a line that is no header's
+pub goes-header : (all left : List (List ℕ)) (held out header : List ℕ) (start len c n : ℕ) (checker fresh : CheckerState) → IsHeaderOf held header → length header ≤ 262170 → len ≡ length header → c ≡ n + 1 → Keeps fresh []
+    → Unbegun all (held ∷ left) (body_by out start checker n) → Goes all left (body_by header len fresh c)
+goes-header all left held out header start len c n checker fresh h short size up new u =
     let none : drop len header ≡ [] = drop_of_length-le header (omega (arith, size)) in
     record {
       others = left;
@@ -29,7 +28,7 @@ goes-header all left held out header start len c n checker h short size up u =
       read = 0;
       long = omega (arith, size);
       short = omega (arith, size, short);
-      keeps = subst (λ (b : List ℕ). Keeps checker b) (sym none) u.keeps;
+      keeps = subst (λ (b : List ℕ). Keeps fresh b) (sym none) new;
       opens = inl (record { header = h.header; held = h.held; texts = u.texts ∙ ap (λ t. t ∷ left) h.text; are = take_all len header (omega (arith, size)) ∙ h.are; one = refl });
       went = subst (λ (b : List ℕ). Went (67108864 - len) left left b 0) (sym none) (went-nothing (67108864 - len) left);
       count_is = omega (arith, up, u.count_is);
@@ -94,6 +93,20 @@ with-more (Err f) new line lines h = λ more. h (split more)
 abbrev pub output_by : List ℕ → ℕ → CheckerState → Output
 output_by out start checker = record { out = out; start = start; checker = checker }
 
+-- what was appended leaves lines' bytes and their check
+pub still-sound : (out new : List ℕ) (start : ℕ) (checker : CheckerState) (more : List ℕ) → new ≡ out ++ more → IsSound out start checker → IsSound new start checker
+still-sound out new start checker more e s = record {
+  begun = omega (arith, s.begun, ap length e, length-append out more);
+  keeps = still-keeps checker (drop start out) more (drop start new) (ap (drop start) e ∙ drop-append-le start out more s.begun) s.keeps;
+}
+
+-- a header's bytes and a new checker
+pub header-sound : (header : List ℕ) (len : ℕ) (fresh : CheckerState) → len ≡ length header → Keeps fresh [] → IsSound header len fresh
+header-sound header len fresh size new = record {
+  begun = omega (arith, size);
+  keeps = subst (λ (b : List ℕ). Keeps fresh b) (sym (drop_of_length-le header (omega (arith, size)))) new;
+}
+
 no-lines : (ls : List Line) → length ls ≡ 0 → ls ≡ []
 no-lines [] e = refl
 no-lines (l ∷ ls) e = absurd (omega (arith, e))
@@ -120,8 +133,13 @@ quick-taken out new text rest left start k n c size checker lines is t none limi
   counts = up ∙ ap (λ (j : ℕ). j + k) h.counts ∙ ap (λ (j : ℕ). length (lines ++ h.more) + j) (t.count_is ∙ sym (length-map t.lines text_of)) ∙ sym (length-append (lines ++ h.more) (map text_of t.lines)) ∙ ap length (append_assoc lines h.more (map text_of t.lines));
 }
 
-pub as-whole : (lines : List (List ℕ)) (text rest : List ℕ) (b : AsmLines) (n : ℕ) → TakesWhole HasRead lines text (output_of b) rest n → TakesWhole (λ x. HasRead (output_of x)) lines text b rest n
-as-whole lines text rest b n w = record { more = w.more; cut = w.cut; took = w.took; count = w.count }
+-- the lines that AsmLines takes at once
+pub at-once-taken : (old new : Output) (text rest left : List ℕ) (k n c size : ℕ) (lines : List (List ℕ)) → left ≡ drop size rest → TakesLines rest (drop size rest) old.out new.out k → new.start ≡ old.start → new.checker ≡ old.checker
+    → (n ≡ 0 → k ≡ 0) → (length old.out ≤ 67108864 → length new.out ≤ 67108864) → c ≡ n + k → HasTaken HasRead lines text rest old n → HasTaken HasRead lines text left new c
+at-once-taken old new text rest left k n c size lines is t start checker none limit up h =
+    subst (λ (s : ℕ). HasTaken HasRead lines text left (output_by new.out s new.checker) c) (sym start)
+    (subst (λ (x : CheckerState). HasTaken HasRead lines text left (output_by new.out old.start x) c) (sym checker)
+    (quick-taken old.out new.out text rest left old.start k n c size old.checker lines is t none limit up h))
 
 -- ---- the last line
 

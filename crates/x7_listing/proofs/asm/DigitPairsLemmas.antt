@@ -1,4 +1,4 @@
--- Pairs of digits, read row by row.
+-- Pairs of digits read row by row, as in a field of a header's line.
 use Rattle.std.proofs.Common.{◌≡◌, ℕ, zero, suc, ◌*◌, ◌<◌, Bool, true, false, List, [], ◌∷◌, ◌++◌, length, take, drop, min, inl, inr, refl, ap, sym, ◌∙◌, arith, append-nil, take-append-drop, length-drop}
 use Rattle.std.proofs.lemmas.List.{length-take-le}
 use Rattle.std.proofs.lemmas.Bool.{cases_lt}

@@ -1,4 +1,4 @@
--- What a lister stands for after a run, a piece, and at the end of a listing.
+-- What a lister of pieces stands for after a run, after a piece, and at the end of a listing.
 use Rattle.std.proofs.Common.{◌≡◌, ℕ, ◌+◌, ◌-◌, ◌<◌, ◌≤◌, Bool, true, false, List, [], ◌++◌, length, take, drop, take-add, take_all, length-take-le, length-drop, length-append, refl, ap, sym, subst, ◌∙◌, append_assoc, append-nil, arith, codes, Vec}
 use Rattle.std.specs.declared.alloc.Global.{Global}
 use Rattle.x7_packets.specs.Reading.{Place, Searching, Session, IsReading, tail_of}

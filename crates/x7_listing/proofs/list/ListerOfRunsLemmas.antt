@@ -1,4 +1,4 @@
--- Lemmas on specs/Taking.
+-- Lemmas on specs/ListerOfRuns.
 use Rattle.std.proofs.Common.{◌≡◌, ℕ, zero, suc, ◌<◌, Bool, true, false, List, [], ◌++◌, length, take, min, Bor, if◌then◌else◌, refl, ap, sym, subst, ◌∙◌, append-nil, arith}
 use Rattle.std.proofs.lemmas.List.{take-take, take_all}
 use Rattle.std.specs.List.{flat_map}
@@ -81,7 +81,7 @@ takes_run l n r given before bytes due next on same writes none t x =
       cutter = rw same t.cutter;
     })
 
--- the same, of the run as a cutter's
+-- a run that is no tail and no end is taken as the run of a cutter
 pub takes_cut : (l n : ListerState) (r : Run) (k : Cut) (given before bytes : List ℕ) (due next : Mode) → ((tail : Bor (List ℕ)) → r ≡ run.Tail tail → ⊥) → (r ≡ run.End → ⊥) → n.cutter ≡ l.cutter → k ≡ cut_of r
     → Writes k (written_of l.synced l.line l.held (given ++ l.text)) (written_of n.synced n.line n.held (given ++ n.text)) → ((IsNeed k → ⊥) → n.synced ≡ true → n.held ≡ [])
     → TakerStandsFor l given before bytes due → IsNext bytes due r next → TakesRun r n given before (bytes ++ bytes_of_run r) next

@@ -3,27 +3,29 @@ ghost use Rattle.std.specs.Prelude.{◌≡◌, ℕ, List, [], ◌∷◌, ◌++�
 ghost use Rattle.x7_text.specs.Reads.{Reads};
 ghost use Rattle.x7_crc.specs.Checking.{check_of_bytes, Keeps};
 ghost use Rattle.x7_listing.specs.Assembly.{AreHeadedAsm};
-ghost use Rattle.x7_listing.specs.Assembling.{FailsFirst, FailsNext, HasAsmFault, HasRead, ReadsFirst, ReadsNext, output_of};
+ghost use Rattle.x7_listing.specs.Assembling.{FailsFirst, FailsNext, HasAsmFault, HasRead, Output, ReadsFirst, ReadsNext, TakesLines};
 ghost use Rattle.x7_listing.specs.Line.{bytes_of, FitsLine, text_of};
 ghost use Rattle.x7_listing.specs.declared.assembler.AsmFault.{AsmFault};
-ghost use Rattle.x7_listing.specs.declared.asm.lines.AsmLines.{AsmLines};
 
-use super::fast::{next_line, put_quick_behind};
+use super::fast::{WholeLines, next_line, put_quick_behind};
 use super::header::header_of_line;
 use super::reading::put_line;
 use crate::assembler::{ASM_LIMIT, AsmFault};
 use std::alloc::Global;
+use std::marker::Model;
 use x7_crc::Checker;
 use x7_text::TakesLines;
 use x7_words::is_same;
 
-/// Appends the bytes of a line to those of the lines before, which stand from `start` on. `false`: the text is that of no line.
+/// Appends the bytes of a line to those of the lines before, which stand from `start` on and whose check the checker keeps.
+/// `false`: the text is that of no line.
 fn put_checked(out: &mut Vec<u8>, start: usize, checker: &mut Checker, line: &[u8]) -> bool
     requires room { vec_len out.old + 32 ≤ vec_capacity out.old }
-    requires start { start ≤ vec_len out.old }
-    ensures reads { Keeps checker.old (drop start out.old.items)
-        → Reads FitsLine text_of (bytes_of (check_of_bytes (drop start out.old.items))) result line.now out.old.items out.new.items }
-    ensures keeps { Keeps checker.old (drop start out.old.items) → Keeps checker.new (drop start out.new.items) }
+    requires start { start ≤ length out.old.items }
+    requires keeps { Keeps checker.old (drop start out.old.items) }
+    ensures reads { Reads FitsLine text_of (bytes_of (check_of_bytes (drop start out.old.items))) result line.now out.old.items out.new.items }
+    ensures start { start ≤ length out.new.items }
+    ensures keeps { Keeps checker.new (drop start out.new.items) }
 {
     if !is_same(line, b"crc") {
         return put_line(out, 0, line);
@@ -41,10 +43,20 @@ pub struct AsmLines {
     checker: Checker,
 }
 
+impl Model for AsmLines {
+    ghost use Rattle.x7_listing.specs.Assembling.{IsSound, Output};
+
+    ghost Value = { Output };
+
+    ghost view = { λ b. record { out = b.out.items; start = b.start; checker = b.checker } };
+
+    ghost invariant = { λ b. IsSound b.out.items b.start b.checker };
+}
+
 impl AsmLines {
     /// What no line gives.
     pub fn new(alloc: Global) -> AsmLines
-        ensures { HasRead (output_of result) [] }
+        ensures { HasRead result [] }
     {
         AsmLines {
             alloc,
@@ -56,12 +68,11 @@ impl AsmLines {
 
     /// Appends the bytes of line `n`, which is no header's.
     fn put_one(&mut self, n: u64, line: &[u8]) -> Result<(), AsmFault>
-        ensures ok { OnOk result (ReadsNext (output_of self.old) (output_of self.new) n line.now) }
-        ensures fault { IfErr result (FailsNext (output_of self.old) n line.now) }
+        ensures ok { OnOk result (ReadsNext self.old self.new n line.now) }
+        ensures fault { IfErr result (FailsNext self.old n line.now) }
     {
         self.out.reserve(32)?;
-        let start = self.start.min(self.out.len());
-        if !put_checked(&mut self.out, start, &mut self.checker, line) {
+        if !put_checked(&mut self.out, self.start, &mut self.checker, line) {
             return Err(AsmFault::Line(n));
         }
         if self.out.len() > ASM_LIMIT {
@@ -72,12 +83,13 @@ impl AsmLines {
 
     /// Appends the bytes of the first line, which may be a header's.
     fn put_first(&mut self, line: &[u8]) -> Result<(), AsmFault>
-        ensures ok { OnOk result (ReadsFirst (output_of self.old) (output_of self.new) line.now) }
-        ensures fault { IfErr result (FailsFirst (output_of self.old) line.now) }
+        ensures ok { OnOk result (ReadsFirst self.old self.new line.now) }
+        ensures fault { IfErr result (FailsFirst self.old line.now) }
     {
         if let Some(header) = header_of_line(self.alloc, line)? {
             self.start = header.len();
             self.out = header;
+            self.checker = Checker::new();
             return Ok(());
         }
         self.put_one(1, line)
@@ -85,13 +97,26 @@ impl AsmLines {
 
     /// Appends the bytes of line `n`.
     fn put_next(&mut self, n: u64, line: &[u8]) -> Result<(), AsmFault>
-        ensures { (lines : List (List ℕ)) → n ≡ length lines + 1 → HasRead (output_of self.old) lines
-            → MatchResult result (λ _. HasRead (output_of self.new) (lines ++ line.now ∷ [])) (λ f. (left : List (List ℕ)) → HasAsmFault f (lines ++ line.now ∷ left)) }
+        ensures { (lines : List (List ℕ)) → n ≡ length lines + 1 → HasRead self.old lines
+            → MatchResult result (λ _. HasRead self.new (lines ++ line.now ∷ [])) (λ f. (left : List (List ℕ)) → HasAsmFault f (lines ++ line.now ∷ left)) }
     {
         if n == 1 {
             return self.put_first(line);
         }
         self.put_one(n, line)
+    }
+
+    /// Appends the bytes of the text's first lines behind `n` lines, as far as they are read at once.
+    fn put_at_once(&mut self, n: u64, text: &[u8]) -> WholeLines
+        ensures takes { TakesLines text.now (drop result.size text.now) self.old.out self.new.out result.count }
+        ensures start { self.new.start ≡ self.old.start }
+        ensures checker { self.new.checker ≡ self.old.checker }
+        ensures within { result.size ≤ length text.now }
+        ensures few { result.count ≤ result.size }
+        ensures limit { length self.old.out ≤ ASM_LIMIT → length self.new.out ≤ ASM_LIMIT }
+        ensures none { n ≡ 0 → result.count ≡ 0 }
+    {
+        put_quick_behind(&mut self.out, n, text)
     }
 }
 
@@ -100,14 +125,14 @@ impl TakesLines for AsmLines {
 
     type Out = Vec<u8>;
 
-    ghost took = { λ first b. HasRead (output_of b) };
+    ghost took = { λ first. HasRead };
 
     ghost fails = { λ first. HasAsmFault };
 
     ghost gives = { λ first out lines. AreHeadedAsm lines (Ok out.items) };
 
     fn no_memory() -> AsmFault
-        ensures { (first : AsmLines) (lines : List (List ℕ)) → HasAsmFault result lines }
+        ensures { (first : Output) (lines : List (List ℕ)) → HasAsmFault result lines }
     {
         AsmFault::NoMemory
     }
@@ -120,7 +145,7 @@ impl TakesLines for AsmLines {
         let mut rest = text;
         let mut count = n;
         loop {
-            let quick = put_quick_behind(&mut self.out, count, rest)?;
+            let quick = self.put_at_once(count, rest);
             count = count.saturating_add(quick.count);
             let (line, more) = next_line(&rest[quick.size..]);
             let Some(after) = more else {

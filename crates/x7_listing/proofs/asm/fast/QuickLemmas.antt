@@ -1,4 +1,4 @@
--- Lines that are read at once, and the texts behind them.
+-- Lemmas on `TakesLines` of specs/Assembling: lines that are read at once, and the texts behind them.
 use Rattle.std.proofs.Math.Seq.{drop-nil}
 use Rattle.std.proofs.Common.{◌≡◌, ℕ, zero, suc, ◌+◌, ◌-◌, ◌<◌, ◌≤◌, List, [], ◌∷◌, ◌++◌, length, map, fold, take, drop, get_or, refl, ap, sym, subst, ◌∙◌, arith, append_assoc, append-nil, length-append, length-drop, take_all}
 use Rattle.std.proofs.lemmas.Grind.{flat_map-append}
@@ -31,7 +31,7 @@ dropped-twice zero b t = ap (λ (k : ℕ). drop k t) (omega arith)
 dropped-twice (suc a) b [] = drop-nil b ∙ sym (drop-nil (suc a + b))
 dropped-twice (suc a) b (c ∷ cs) = let e : suc (a + b) ≡ suc a + b = omega arith in dropped-twice a b cs ∙ ap (λ (k : ℕ). drop k (c ∷ cs)) e
 
--- one line at the beginning
+-- a text begins with one line, of a word and a row
 pub takes-row : (l : Line) (word row text old new : List ℕ) (a b : ℕ) → FitsLine l → IsListed l → text_of l ≡ word ++ row → take a text ≡ word → take b (drop a text) ≡ row → get_or text (a + b) 0 ≡ 10 → a + b < length text → new ≡ old ++ bytes_of 0 l
     → TakesFirst text old new (a + b + 1) 1
 takes-row l word row text old new a b f i e w r end h n =
@@ -60,18 +60,18 @@ takes-both text mid rest old out new j k s t = record {
 pub left-from : (n : ℕ) (t : List ℕ) → n ≤ length t → take (length t - n) (drop n t) ≡ drop n t
 left-from n t h = take_all (length t - n) (drop n t) (omega (arith, length-drop n t))
 
--- so many more of them
+-- lines that are read at once, and further ones behind them
 pub takes-more : (text old out new : List ℕ) (a n j k : ℕ) → a ≤ length text → TakesLines text (drop a text) old out j → TakesFirst (take (length text - a) (drop a text)) out new n k
     → (a + n ≤ length text) × TakesLines text (drop (a + n) text) old new (j + k)
 takes-more text old out new a n j k h s t =
     let f : TakesFirst (drop a text) out new n k = subst (λ r. TakesFirst r out new n k) (left-from a text h) t in
     (omega (arith, f.within, length-drop a text, h), subst (λ r. TakesLines text r old new (j + k)) (dropped-twice a n text) (takes-both text (drop a text) (drop n (drop a text)) old out new j k s f.takes))
 
--- their texts stand first
+-- the texts of lines that are read at once stand first among those of the text
 pub quick-texts : (text rest old new : List ℕ) (k : ℕ) (t : TakesLines text rest old new k) → split text ≡ map text_of t.lines ++ split rest
 quick-texts text rest old new k t = ap split t.text_is ∙ texts-ahead t.lines rest t.fit t.listed
 
--- lines more are read
+-- a text of which lines are read at once is read so much further
 pub goes-quick : (all left : List (List ℕ)) (text rest out new : List ℕ) (start k n c : ℕ) (checker : CheckerState) (t : TakesLines text rest out new k) → (length out ≤ 67108864 → length new ≤ 67108864) → c ≡ n + k
     → Goes all (map text_of t.lines ++ left) (body_by out start checker n) → Goes all left (body_by new start checker c)
 goes-quick all left text rest out new start k n c checker t limit e g =
@@ -104,7 +104,7 @@ goes-quick all left text rest out new start k n c checker t limit e g =
       count_is = omega (arith, e, g.count_is);
     }
 
--- the same, where the place of the line's end and the size are written otherwise
+-- a text begins with one line, of a word and a row, whose end stands at a given place
 pub takes-line : (l : Line) (word row text old new : List ℕ) (a b end size : ℕ) → FitsLine l → IsListed l → text_of l ≡ word ++ row → take a text ≡ word → take b (drop a text) ≡ row → end ≡ a + b → size ≡ a + b + 1 → get_or text end 0 ≡ 10 → a + b < length text → new ≡ old ++ bytes_of 0 l
     → TakesFirst text old new size 1
 takes-line l word row text old new a b end size f i e w r at whole is h n =

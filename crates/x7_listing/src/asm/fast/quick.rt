@@ -1,5 +1,5 @@
 //! Lines of a listing that are read at once: rows of words, bytes, writes, and no-ops by eight.
-ghost use Rattle.std.specs.Prelude.{◌≡◌, ℕ, List, ◌<◌, ◌≤◌, ◌+◌, ◌*◌, ◌++◌, codes, drop, length, slice_index, take, vec_len, vec_capacity, IfOk, IsTrue, MatchOption};
+ghost use Rattle.std.specs.Prelude.{◌≡◌, ℕ, List, ◌<◌, ◌≤◌, ◌+◌, ◌*◌, ◌++◌, codes, drop, length, slice_index, take, vec_len, vec_capacity, IsTrue, MatchOption};
 ghost use Rattle.std.specs.List.{flat_map};
 ghost use Rattle.std.specs.Simd.Lanes.{chunk};
 ghost use Rattle.x7_listing.specs.Fast.AtOnce.{words_at};
@@ -12,7 +12,7 @@ use crate::assembler::ASM_LIMIT;
 use std::simd::prelude::*;
 use x7_packets::type1_write;
 use x7_text::{prefix_of_hex, put};
-use x7_words::{NoMemory, is_same};
+use x7_words::is_same;
 
 /// The lines of eight no-ops.
 const NOPS: &[u8; 32] = b"nop\nnop\nnop\nnop\nnop\nnop\nnop\nnop\n";
@@ -265,20 +265,24 @@ fn put_some(out: &mut Vec<u8>, text: &[u8]) -> Option<WholeLines>
     }
 }
 
-/// Appends the bytes of the text's first lines, as far as they are read at once and their bytes are within the limit.
-fn put_quick(out: &mut Vec<u8>, text: &[u8]) -> Result<WholeLines, NoMemory>
-    ensures takes { IfOk result (λ taken. TakesLines text.now (drop taken.size text.now) out.old.items out.new.items taken.count) }
-    ensures few { IfOk result (λ taken. (taken.size ≤ length text.now) × (taken.count ≤ taken.size)) }
-    ensures within { vec_len out.old ≤ ASM_LIMIT → vec_len out.new ≤ ASM_LIMIT }
+/// Appends the bytes of the text's first lines, as far as they are read at once, there is room, and their bytes are within
+/// the limit.
+fn put_quick(out: &mut Vec<u8>, text: &[u8]) -> WholeLines
+    ensures takes { TakesLines text.now (drop result.size text.now) out.old.items out.new.items result.count }
+    ensures within { result.size ≤ length text.now }
+    ensures few { result.count ≤ result.size }
+    ensures limit { vec_len out.old ≤ ASM_LIMIT → vec_len out.new ≤ ASM_LIMIT }
 {
     let mut all = WholeLines { size: 0, count: 0 };
     loop {
-        out.reserve(32)?;
+        if out.reserve(32).is_err() {
+            return all;
+        }
         if out.len() > ASM_LIMIT - 32 {
-            return Ok(all);
+            return all;
         }
         let Some(taken) = put_some(out, &text[all.size..]) else {
-            return Ok(all);
+            return all;
         };
         all = WholeLines {
             size: all.size + taken.size,
@@ -290,18 +294,15 @@ fn put_quick(out: &mut Vec<u8>, text: &[u8]) -> Result<WholeLines, NoMemory>
 /// Appends the bytes of the text's first lines, as far as they are read at once. Before any line none is, since the first one
 /// may be a header's.
 #[inline(always)]
-pub(crate) fn put_quick_behind(
-    out: &mut Vec<u8>,
-    n: u64,
-    text: &[u8],
-) -> Result<WholeLines, NoMemory>
-    ensures takes { IfOk result (λ taken. TakesLines text.now (drop taken.size text.now) out.old.items out.new.items taken.count) }
-    ensures few { IfOk result (λ taken. (taken.size ≤ length text.now) × (taken.count ≤ taken.size)) }
-    ensures within { vec_len out.old ≤ ASM_LIMIT → vec_len out.new ≤ ASM_LIMIT }
-    ensures none { IfOk result (λ taken. n ≡ 0 → taken.count ≡ 0) }
+pub(crate) fn put_quick_behind(out: &mut Vec<u8>, n: u64, text: &[u8]) -> WholeLines
+    ensures takes { TakesLines text.now (drop result.size text.now) out.old.items out.new.items result.count }
+    ensures within { result.size ≤ length text.now }
+    ensures few { result.count ≤ result.size }
+    ensures limit { vec_len out.old ≤ ASM_LIMIT → vec_len out.new ≤ ASM_LIMIT }
+    ensures none { n ≡ 0 → result.count ≡ 0 }
 {
     if n == 0 {
-        return Ok(WholeLines { size: 0, count: 0 });
+        return WholeLines { size: 0, count: 0 };
     }
     put_quick(out, text)
 }

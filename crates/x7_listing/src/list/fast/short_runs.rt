@@ -21,13 +21,13 @@ use x7_packets::{Cutter, Step};
 use x7_regs::Reg;
 use x7_text::{bytes_line, data_line, hex_of_word, put};
 
-/// How many bytes of a sheet are free where something is put on it: more than any of these is stored in.
+/// How many bytes of a sheet are free where a run is put on it: more than any short run is stored in.
 const FREE: usize = 256;
 
-/// So many no-ops at most are put on a sheet at once.
+/// How many no-ops at most are put on a sheet at once.
 const FEW: usize = 32;
 
-/// The lines of so many no-ops.
+/// The lines of as many no-ops as are put on a sheet at once.
 static NOPS: [[u8; 4]; FEW] = [*b"nop\n"; FEW];
 
 /// Where the text of a sheet ends, and how many words stand in the open line then.

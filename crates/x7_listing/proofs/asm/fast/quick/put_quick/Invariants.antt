@@ -2,13 +2,13 @@ use Rattle.std.proofs.Common.{◌≤◌, ◌-◌, drop, length, vec_len}
 use Rattle.x7_listing.specs.Assembling.{TakesLines}
 use Rattle.x7_listing.proofs.asm.fast.quick.put_quick.Given as goal
 
-abbrev pub invariant-loop-out : goal.invariant-loop-out
-invariant-loop-out l = record {
+abbrev pub invariant-loop-all : goal.invariant-loop-all
+invariant-loop-all l = record {
   within : l.all.size ≤ length l.text;
   few : l.all.count ≤ l.all.size;
   takes : TakesLines l.text (drop l.all.size l.text) l.fn.out.items l.out.items l.all.count;
   limit : vec_len l.fn.out ≤ 67108864 → vec_len l.out ≤ 67108864;
 }
 
-abbrev pub decreases-loop-out : goal.decreases-loop-out
-decreases-loop-out l = length l.text - l.all.size
+abbrev pub decreases-loop-all : goal.decreases-loop-all
+decreases-loop-all l = length l.text - l.all.size
