@@ -68,7 +68,7 @@ pub due-is : (part : PartData) (t : TapState) (d : DeviceState) (cs : List Clock
     → due_count d.registers.due ≡ length (words_read part (port_after part cs).queue.given) - ((port_after part cs).queue.out / 32 + 1)
 due-is part t d cs s = due-by part t.queue d (port_after part cs).queue.given (port_after part cs).queue.held (port_after part cs).queue.out s.queue_is
 
--- and so is what it shows
+-- what a device shows is what the clocks' port says
 pub shows-is : (part : PartData) (t : TapState) (d : DeviceState) (cs : List Clock) → TapStandsFor part t d cs
     → state_owing part on_the_bench false (bytes_taken part (port_after part cs)) (frames_due d.registers.due) ≡ state_shown part (port_after part cs)
 shows-is part t d cs s =

@@ -53,6 +53,3 @@ module _ (ps before : List Piece) (ss : List Statement) (p : Piece) (left : List
   one-on rest s a is =
       by-first ∙ sym (ap (λ (o : Option Statement). after_all ss (with_first p.line o (outcome (behind (pieces_after before))))) is) ∙ one-more p.line ss s (outcome (behind (pieces_after before)))
       ∙ ap (λ (r : Option (List Piece)). after_all (ss ++ s ∷ []) (outcome (behind r))) a
-
-  pub bad-here : (line : ℕ) → line ≡ p.line → None ≡ first_statement before → outcome ps ≡ Err (fault.Line line)
-  bad-here line l n = by-first ∙ sym (ap (λ (o : Option Statement). after_all ss (with_first p.line o (outcome (behind (pieces_after before))))) n) ∙ sym (ap (λ (x : ℕ). Err (fault.Line x)) l)

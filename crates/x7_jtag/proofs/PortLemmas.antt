@@ -11,7 +11,7 @@ use Rattle.x7_jtag.specs.declared.instruction.Instruction.TheVariants as instruc
 use Rattle.x7_jtag.specs.declared.state.State.{State}
 use Rattle.x7_jtag.specs.declared.state.State.TheVariants as state
 use Rattle.x7_jtag.specs.Instructions.{instruction_of}
-use Rattle.x7_jtag.specs.Port.{Port, acted, clocked, data_shifted, idled, new_port, port_after, programmed, words_read, status, status_of, updated, with_bit}
+use Rattle.x7_jtag.specs.Port.{Port, acted, clocked, data_shifted, idled, new_port, port_after, programmed, words_read, status, ir_status, updated, with_bit}
 use Rattle.x7_jtag.specs.Queue.{Queue, empty, offered}
 use Rattle.x7_jtag.specs.States.{Clock, next_of}
 use Rattle.x7_jtag.specs.Tap.{QueueStandsFor, QueueState, StandsForPort, TapState, TapStandsFor, Took}
@@ -19,7 +19,7 @@ use Rattle.x7_jtag.proofs.StandingLemmas.{resets}
 use Rattle.x7_jtag.proofs.TookLemmas.{state-took}
 
 -- what a device shows, whatever words of it are due
-pub status-is : (part : PartData) (given bytes : List ℕ) (regs : Regs) (due n : ℕ) → Took part given bytes → regs ≡ state_owing part on_the_bench false bytes due → n ≡ status regs.lines.done (regs.stat / 2 ^ 12 % 2 == 1) → n ≡ status_of part given
+pub status-is : (part : PartData) (given bytes : List ℕ) (regs : Regs) (due n : ℕ) → Took part given bytes → regs ≡ state_owing part on_the_bench false bytes due → n ≡ status regs.lines.done (regs.stat / 2 ^ 12 % 2 == 1) → n ≡ ir_status part given
 status-is part given bytes regs due n t e f =
     f ∙ ap (λ (r : Regs). status r.lines.done (r.stat / 2 ^ 12 % 2 == 1)) e ∙ ap (λ (r : Regs). status r.lines.done (r.stat / 2 ^ 12 % 2 == 1)) (sym (state-took part given bytes t))
 
@@ -79,7 +79,7 @@ programs part k n d e p i s is named with q =
 pub acts : (part : PartData) (k n : TapState) (d e : DeviceState) (p : Port) (tdi : Bool) (s : State) → StandsForPort part k d p → k.state ≡ s → StandsForPort part n e (acted part s p tdi) → StandsForPort part n e (acted part p.state p tdi)
 acts part k n d e p tdi s t is a = subst (λ (x : State). StandsForPort part n e (acted part x p tdi)) (sym is ∙ t.state_is) a
 
-pub captures : (part : PartData) (k n : TapState) (d : DeviceState) (p : Port) (r : ℕ) → StandsForPort part k d p → r ≡ status_of part p.queue.given → n ≡ record k { register = r } → StandsForPort part n d (record p { register = status_of part p.queue.given })
+pub captures : (part : PartData) (k n : TapState) (d : DeviceState) (p : Port) (r : ℕ) → StandsForPort part k d p → r ≡ ir_status part p.queue.given → n ≡ record k { register = r } → StandsForPort part n d (record p { register = ir_status part p.queue.given })
 captures part k n d p r s is with = record {
   state_is = ap (λ (x : TapState). x.state) with ∙ s.state_is;
   instruction_is = ap (λ (x : TapState). x.instruction) with ∙ s.instruction_is;

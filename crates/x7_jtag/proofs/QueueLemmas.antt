@@ -35,7 +35,7 @@ is-below m n h = grind (arith, h)
 
 -- ---- held bytes in their turn
 
--- they are given one by one until a word waits
+-- held bytes are given one by one until a word waits
 abbrev pub given_on : (List ℕ → List ℕ) → List ℕ → List ℕ → ℕ → Queue
 given_on reads given [] out = record { given = given; held = []; out = out }
 given_on reads given (h ∷ hs) out = if waits reads given out then record { given = given; held = h ∷ hs; out = out } else given_on reads (given ++ h ∷ []) hs out

@@ -117,7 +117,7 @@ clocks-size part p (c ∷ cs) =
     let step : size (clocked part p c).queue ≤ size p.queue + 1 = acted-size part p.state p c.tdi in
     omega (arith, step, clocks-size part (clocked part p c) cs)
 
--- so its device took no more, with the bytes held
+-- a device took no more bytes than there were clocks, with the bytes held
 pub held-short : (part : PartData) (t : TapState) (d : DeviceState) (cs : List Clock) → TapStandsFor part t d cs → d.taken + length t.queue.held ≤ length cs
 held-short part t d cs s =
     let h : Holds part t.queue d (port_after part cs).queue = s.queue_is.holds in

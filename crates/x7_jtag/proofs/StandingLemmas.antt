@@ -166,7 +166,7 @@ fed-by part k n d e given held piece (v ∷ []) out read f h z fits few none w s
     })
 fed-by part k n d e given held piece (v ∷ u ∷ us) out read f h z fits few none w stands a grown stopped is l with = absurd (omega (arith, l))
 
--- the same, where the buffer had no word before
+-- a feed of at most one byte, where the buffer had no word before
 pub fed : (part : PartData) (k n : QueueState) (d e : DeviceState) (given held piece words : List ℕ) (out : ℕ) (old read : ReadBufState) (f : Fed) → (h : Holds part k d (queue_of given held out)) → k.left ≡ 0 → AreBytes piece → length piece ≤ 1
     → (0 < length piece → NoWordDue d) → taken_in (length piece) f ≤ length piece
     → DeviceStandsFor part on_the_bench false e (h.bytes ++ take (taken_in (length piece) f) piece)

@@ -33,7 +33,7 @@ module _ (ps : List Piece) (before here after : SourceState) (out new : List Sto
       let few : length before.kept ≤ length after.kept = front-long before.kept after.kept front-here in
       subst (AreStoredWithin (length after.kept)) (sym e) (all-append (IsStoredWithin (length after.kept)) out (one ∷ []) (all-stored-more (length before.kept) (length after.kept) out few w) (o, tt))
 
-  -- they begin with one, the first of all or this
+  -- pieces begin with a statement, the first of all or this one
   pub one-begins : (length out ≡ 0) × (pieces_left before ≡ ps) ⊎ BeginWithOne ps → pieces_left before ≡ pieces_left here → stored_if after.kept (Some one) ≡ first_statement (pieces_left here) → BeginWithOne ps
   one-begins (inl z) there is = (statement_in after.kept one, ap first_statement (sym z.1 ∙ there) ∙ sym is)
   one-begins (inr b) there is = b

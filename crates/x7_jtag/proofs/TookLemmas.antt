@@ -98,7 +98,7 @@ taken-few part d bytes =
 
 -- ---- what a feed of at most one byte came to, by its answer
 
--- it has stopped, or took the whole piece; a word that is due has come with its byte
+-- the device has stopped, or took the whole piece; a word that is due has come with its byte
 pub goes-on : (part : PartData) (d e : DeviceState) (bytes piece more : List ℕ) (read : ReadBufState) (f : Fed) → Answers (past_of part on_the_bench false (bytes ++ take (taken_in (length piece) f) piece)) e read f → taken_in (length piece) f ≤ length piece → length piece ≤ 1
     → (0 < length piece → NoWordDue d) → (IsFull read → length more ≡ 1) → words_taken part e (bytes ++ take (taken_in (length piece) f) piece) ≡ words_taken part d bytes ++ more
     → IsSome (stop_in part on_the_bench (bytes ++ take (taken_in (length piece) f) piece)) ⊎ (taken_in (length piece) f ≡ length piece)

@@ -15,6 +15,7 @@ abbrev pub bits_from : List ℕ → ℕ → ℕ → List Bool
 bits_from ds i zero = []
 bits_from ds i (suc n) = bit_of ds i ∷ bits_from ds (i + 1) n
 
+-- the first n bits of digits
 abbrev pub bits_of : ℕ → List ℕ → List Bool
 bits_of n ds = bits_from ds 0 n
 

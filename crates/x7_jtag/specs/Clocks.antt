@@ -6,6 +6,7 @@ use Rattle.x7_jtag.specs.States.{Clock, state_after}
 use Rattle.x7_jtag.specs.declared.statement.Statement.{Statement}
 use Rattle.x7_jtag.specs.declared.statement.Statement.TheVariants as statement
 
+-- a clock with these values of TMS and TDI
 abbrev pub clock : Bool → Bool → Clock
 clock tms tdi = record { tms = tms; tdi = tdi }
 
@@ -29,6 +30,7 @@ abbrev pub to_shift : Bool → List Clock
 to_shift true = clock true false ∷ clock true false ∷ clock false false ∷ clock false false ∷ []
 to_shift false = clock true false ∷ clock false false ∷ clock false false ∷ []
 
+-- from Exit1 to Run-Test/Idle
 abbrev pub from_exit : List Clock
 from_exit = clock true false ∷ clock false false ∷ []
 

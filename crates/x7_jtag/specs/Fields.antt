@@ -21,6 +21,7 @@ field_of w =
 abbrev pub is_hex : ℕ → Bool
 is_hex c = is_digit c || (nat_le 65 c && nat_le c 70) || (nat_le 97 c && nat_le c 102)
 
+-- a word of hexadecimal digits alone
 abbrev pub are_hex : List ℕ → Bool
 are_hex w = list_all is_hex w
 
@@ -37,10 +38,12 @@ pub record Fields : Type 0 where
   pub mask : Option (List ℕ)
   pub smask : Option (List ℕ)
 
+-- where a reader of a scan stands, and the fields so far
 pub record Scanning : Type 0 where
   pub at : At
   pub fields : Fields
 
+-- there are no digits
 abbrev pub is_none : Option (List ℕ) → Bool
 is_none None = true
 is_none (Some ds) = false
@@ -61,12 +64,12 @@ named_by f (Some k) = Some (record { at = Named k; fields = f })
 abbrev pub closed_field : Fields → Field → List ℕ → Option Fields
 closed_field f k ds = if nat_lt 0 (length ds) then put_field f k ds else None
 
--- after its brackets another may come
+-- after the brackets of a field another field may come
 abbrev pub closed_by : Option Fields → Option Scanning
 closed_by None = None
 closed_by (Some f) = Some (record { at = Between; fields = f })
 
--- one mark more
+-- what a mark more comes to
 abbrev pub scan_step : At → Fields → Mark → Option Scanning
 scan_step Between f (Word w) = named_by f (field_of w)
 scan_step (Named k) f Open = Some (record { at = Inside k []; fields = f })
@@ -80,6 +83,7 @@ done Between f = Some f
 done (Named k) f = None
 done (Inside k ds) f = None
 
+-- the fields that a reader of a scan comes to who goes on from where it stands
 abbrev pub and_so : Option Scanning → (At → Fields → Option Fields) → Option Fields
 and_so None next = None
 and_so (Some s) next = next s.at s.fields
@@ -89,6 +93,7 @@ abbrev pub scan_from : At → Fields → List Mark → Option Fields
 scan_from at f [] = done at f
 scan_from at f (m ∷ ms) = and_so (scan_step at f m) (λ a g. scan_from a g ms)
 
+-- no field as yet
 abbrev pub no_fields : Fields
 no_fields = record { tdi = None; tdo = None; mask = None; smask = None }
 
@@ -97,19 +102,22 @@ abbrev pub value_of : List ℕ → ℕ
 value_of [] = 0
 value_of (c ∷ cs) = hex_digit c * 2 ^ (4 * length cs) + value_of cs
 
--- the bits of digits without leading zeros: a value fits n bits where these are at most n
+-- how many bits the value of a digit has
 abbrev pub digit_width : ℕ → ℕ
 digit_width c =
     if nat_lt (hex_digit c) 1 then 0 else (if nat_lt (hex_digit c) 2 then 1 else (if nat_lt (hex_digit c) 4 then 2 else (if nat_lt (hex_digit c) 8 then 3 else 4)))
 
+-- how many bits the value of digits has
 abbrev pub width : List ℕ → ℕ
 width [] = 0
 width (c ∷ cs) = if digit_width c == 0 then width cs else 4 * length cs + digit_width c
 
+-- the value of a field's digits, if it has any, fits n bits
 abbrev pub fits : ℕ → Option (List ℕ) → Bool
 fits n None = true
 fits n (Some ds) = nat_le (width ds) n
 
+-- the values of all fields fit n bits
 abbrev pub all_fit : ℕ → Fields → Bool
 all_fit n f = fits n f.tdi && fits n f.tdo && fits n f.mask && fits n f.smask
 

@@ -10,6 +10,7 @@ pub data Mark : Type 0 where
   Close : Mark
   End : Mark
 
+-- a mark and the line on which it begins
 pub record Piece : Type 0 where
   pub line : ℕ
   pub mark : Mark
@@ -64,7 +65,7 @@ mark_of token.Open text = Open
 mark_of token.Close text = Close
 mark_of token.End text = End
 
--- how many bytes it has
+-- how many bytes a token has
 abbrev pub size_of : Token → ℕ
 size_of (token.Word n) = n
 size_of _ = 1

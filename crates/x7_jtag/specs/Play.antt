@@ -16,6 +16,7 @@ abbrev pub bit_or_0 : Option Bool → Bool
 bit_or_0 None = false
 bit_or_0 (Some b) = b
 
+-- bit i of a scan, and 0 past the last
 abbrev pub bit_at : List Bool → ℕ → Bool
 bit_at bits i = bit_or_0 (slice_get bits i)
 
@@ -24,6 +25,7 @@ abbrev pub counts : Option (List Bool) → ℕ → Bool
 counts None i = true
 counts (Some mask) i = bit_at mask i
 
+-- two bits differ
 abbrev pub are_apart : Bool → Bool → Bool
 are_apart true b = not b
 are_apart false b = b
@@ -41,7 +43,7 @@ abbrev pub is_apart : Option (List Bool) → Option (List Bool) → ℕ → Bool
 is_apart None mask i shown = false
 is_apart (Some tdo) mask i shown = counts mask i && are_apart (bit_at tdo i) shown
 
--- the first place found, and this one where there is none yet
+-- the first place found: `i`, if something differs there, where no place was found before
 abbrev pub found_more : Option ℕ → Bool → ℕ → Option ℕ
 found_more None differs i = if differs then Some i else None
 found_more (Some first) differs i = Some first
@@ -57,6 +59,7 @@ pub record ScanBits : Type 0 where
   pub tdo : Option (List Bool)
   pub mask : Option (List Bool)
 
+-- a scan of these bits
 abbrev pub scan_bits : List Bool → Option (List Bool) → Option (List Bool) → ScanBits
 scan_bits tdi tdo mask = record { tdi = tdi; tdo = tdo; mask = mask }
 
@@ -83,6 +86,7 @@ abbrev pub first_from : PartData → Port → ℕ → List Statement → Option 
 first_from part p n [] = None
 first_from part p n (s ∷ ss) = first_by (difference part p s) n (first_from part (after_clocks part p (clocks_of p.state s)) (n + 1) ss)
 
+-- the first of a text's statements that differs, by its number from 1, with its least differing bit
 abbrev pub first_difference : PartData → List Statement → Option Differ
 first_difference part ss = first_from part new_port 1 ss
 
@@ -91,6 +95,7 @@ abbrev pub statements_played : List Statement → Option Differ → List Stateme
 statements_played ss None = ss
 statements_played ss (Some differ) = take differ.statement ss
 
+-- the clocks of the statements that are played
 abbrev pub clocks_played : List Statement → Option Differ → List Clock
 clocks_played ss result = clocks test_logic_reset (statements_played ss result)
 
@@ -104,11 +109,11 @@ walk_clocks path = map (λ tms. clock tms false) path
 
 -- ---- what a step does to a tap and its device
 
--- it makes these clocks, by the port before them
+-- the step makes these clocks, by the port before them
 abbrev pub Makes : TapState → DeviceState → TapState → DeviceState → (Port → List Clock) → Type 0
 Makes t d u e made = (part : PartData) (cs : List Clock) → TapStandsFor part t d cs → TapStandsFor part u e (cs ++ made (port_after part cs))
 
--- it finds what is sought, by the port before it
+-- the step finds what is sought, by the port before it
 abbrev pub Finds : TapState → DeviceState → (PartData → Port → Option ℕ) → Option ℕ → Type 0
 Finds t d sought found = (part : PartData) (cs : List Clock) → TapStandsFor part t d cs → found ≡ sought part (port_after part cs)
 

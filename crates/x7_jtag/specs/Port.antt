@@ -28,6 +28,7 @@ abbrev pub number_of_bit : Bool → ℕ
 number_of_bit false = 0
 number_of_bit true = 1
 
+-- the lowest bit of a register
 abbrev pub lowest : ℕ → Bool
 lowest register = register % 2 == 1
 
@@ -43,8 +44,9 @@ with_bit byte tdi = byte % 128 * 2 + number_of_bit tdi
 abbrev pub status : Bool → Bool → ℕ
 status done init = 32 * number_of_bit done + 16 * number_of_bit init + 1
 
-abbrev pub status_of : PartData → List ℕ → ℕ
-status_of part given = status (state_of part on_the_bench false given).lines.done ((state_of part on_the_bench false given).stat / 2 ^ 12 % 2 == 1)
+-- what Capture-IR loads for a device of the part to which these bytes were given
+abbrev pub ir_status : PartData → List ℕ → ℕ
+ir_status part given = status (state_of part on_the_bench false given).lines.done ((state_of part on_the_bench false given).stat / 2 ^ 12 % 2 == 1)
 
 -- ---- the actions of the states
 
@@ -87,18 +89,20 @@ acted part state.TestLogicReset p tdi = record p { instruction = instruction.Idc
 acted part state.RunTestIdle p tdi = idled part p.instruction p
 acted part state.CaptureDr p tdi = captured part p.instruction p
 acted part state.ShiftDr p tdi = data_shifted part p.instruction p tdi
-acted part state.CaptureIr p tdi = record p { register = status_of part p.queue.given }
+acted part state.CaptureIr p tdi = record p { register = ir_status part p.queue.given }
 acted part state.ShiftIr p tdi = record p { register = shifted 32 p.register tdi }
 acted part state.UpdateIr p tdi = updated p
 acted part _ p tdi = p
 
 -- ---- TDO
 
+-- TDO in Shift-DR
 abbrev pub data_shown : PartData → Instruction → Port → Bool
 data_shown part instruction.CfgIn p = false
 data_shown part instruction.CfgOut p = bit_shown (words_read part) p.queue
 data_shown part _ p = lowest p.register
 
+-- TDO in a state
 abbrev pub shown_in : PartData → State → Port → Bool
 shown_in part state.ShiftDr p = data_shown part p.instruction p
 shown_in part state.ShiftIr p = lowest p.register

@@ -15,6 +15,7 @@ pub record Queue : Type 0 where
   pub held : List ℕ
   pub out : ℕ
 
+-- a queue of these bytes given, these held, and this count of bits
 abbrev pub queue_of : List ℕ → List ℕ → ℕ → Queue
 queue_of given held out = record { given = given; held = held; out = out }
 
@@ -69,14 +70,17 @@ word_bit words n = slice_index words (n / 32) / 2 ^ (31 - n % 32) % 2 == 1
 abbrev pub bit_shown : (List ℕ → List ℕ) → Queue → Bool
 bit_shown reads q = if waits reads q.given q.out then word_bit (reads q.given) q.out else false
 
+-- the queue of a new port
 abbrev pub empty : Queue
 empty = record { given = []; held = []; out = 0 }
 
+-- a queue after an event
 abbrev pub by_event : (List ℕ → List ℕ) → Queue → Event → Queue
 by_event reads q (Byte x) = offered reads q x
 by_event reads q Bit = shifted_out reads q
 by_event reads q Program = empty
 
+-- the queue of a new port after events
 abbrev pub queue_after : (List ℕ → List ℕ) → List Event → Queue
 queue_after reads es = fold (by_event reads) empty es
 

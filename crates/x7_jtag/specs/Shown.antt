@@ -10,26 +10,26 @@ use Rattle.x7_engine.specs.declared.fault.Fault.{Fault}
 use Rattle.x7_memory.specs.FrameMap.{FrameMap}
 use Rattle.x7_jtag.specs.Port.{Port, words_read}
 
--- the bytes that it took of those given: all, or those up to its stop
+-- the bytes that the device took of those given: all, or those up to the device's stop
 abbrev pub bytes_taken : PartData → Port → List ℕ
 bytes_taken part p = take (taken_of part on_the_bench p.queue.given) p.queue.given
 
--- how many words are due: those after the one whose bits go out
+-- the number of words that are due: those after the one whose bits go out
 abbrev pub words_due : PartData → Port → ℕ
 words_due part p = length (words_read part p.queue.given) - (p.queue.out / 32 + 1)
 
--- its registers and the rest of its state, where so many words of frame data are due
+-- the device's registers and the rest of its state, where `due` words of frame data are due
 abbrev pub state_with : PartData → Port → ℕ → Regs
 state_with part p due = state_owing part on_the_bench false (bytes_taken part p) due
 
--- the same; FAR counts the words of frame data that were taken of it
+-- the device's registers and the rest of its state; FAR counts the words of frame data that the port took
 abbrev pub state_shown : PartData → Port → Regs
 state_shown part p = state_with part p (frames_among (history_taken part on_the_bench (bytes_taken part p)) (words_due part p))
 
--- the fault that stopped it
+-- the fault that stopped the device
 abbrev pub fault_shown : PartData → Port → Option Fault
 fault_shown part p = fault_of (why_of (stop_in part on_the_bench (bytes_taken part p)))
 
--- its frames
+-- the device's frames
 abbrev pub memory_shown : PartData → Port → FrameMap
 memory_shown part p = memory_in part on_the_bench (bytes_taken part p)

@@ -13,9 +13,10 @@ pub record SourceState : Type 0 where
 abbrev pub pieces_left : SourceState → List Piece
 pieces_left s = pieces s.line s.rest
 
--- the pieces after a token that the rest begins with, and those from it on
+-- the pieces after a token that the rest begins with
 abbrev pub left_after : SourceState → Token → List Piece
 left_after s t = pieces s.line (drop (size_of t) s.rest)
 
+-- the pieces from a token on that the rest begins with
 abbrev pub left_from : SourceState → Token → List Piece
 left_from s t = record { line = s.line; mark = mark_of t s.rest } ∷ left_after s t

@@ -13,6 +13,7 @@ use Rattle.x7_jtag.specs.declared.words.Words.TheVariants as words
 abbrev pub bytes_in : List ℕ → Span → List ℕ
 bytes_in kept s = take s.count (drop s.from kept)
 
+-- the digits of a field, if it has any
 abbrev pub digits_if : List ℕ → Option Span → Option (List ℕ)
 digits_if kept None = None
 digits_if kept (Some s) = Some (bytes_in kept s)
@@ -21,6 +22,7 @@ digits_if kept (Some s) = Some (bytes_in kept s)
 abbrev pub fields_of : List ℕ → Given → Fields
 fields_of kept g = record { tdi = digits_if kept g.tdi; tdo = digits_if kept g.tdo; mask = digits_if kept g.mask; smask = digits_if kept g.smask }
 
+-- the fields of a scan, if they are any
 abbrev pub given_as : List ℕ → Option Given → Option Fields
 given_as kept None = None
 given_as kept (Some g) = Some (fields_of kept g)
@@ -31,7 +33,7 @@ at_of kept place.Between = Between
 at_of kept (place.Named k) = Named k
 at_of kept (place.Inside k from) = Inside k (drop from kept)
 
--- that, and the fields so far
+-- where a reader of a scan stands, and the fields so far
 abbrev pub scanning_of : List ℕ → Option Scanner → Option Scanning
 scanning_of kept None = None
 scanning_of kept (Some s) = Some (record { at = at_of kept s.place; fields = fields_of kept s.given })
@@ -46,19 +48,22 @@ IsPrefix prefix all = take (length prefix) all ≡ prefix
 abbrev pub end_of : Span → ℕ
 end_of s = s.from + s.count
 
+-- where the digits of a field end, and 0 where it has none
 abbrev pub end_if : Option Span → ℕ
 end_if None = 0
 end_if (Some s) = end_of s
 
--- the digits of fields, and of the open one, are among so many bytes
+-- the digits of all fields are among the first n bytes
 abbrev pub AreWithin : ℕ → Given → Type 0
 AreWithin n g = (end_if g.tdi ≤ n) × (end_if g.tdo ≤ n) × (end_if g.mask ≤ n) × (end_if g.smask ≤ n)
 
+-- the open field, if there is one, begins among the first n bytes
 abbrev pub IsPlaceWithin : ℕ → Place → Type 0
 IsPlaceWithin n place.Between = ⊤
 IsPlaceWithin n (place.Named k) = ⊤
 IsPlaceWithin n (place.Inside k from) = from ≤ n
 
+-- the digits of all fields, and of the open one, are among the first n bytes
 abbrev pub IsWithin : ℕ → Scanner → Type 0
 IsWithin n s = IsPlaceWithin n s.place × AreWithin n s.given
 
@@ -72,7 +77,7 @@ words_at kept (words.Two a b) = bytes_in kept a ∷ bytes_in kept b ∷ []
 words_at kept (words.Three a b c) = bytes_in kept a ∷ bytes_in kept b ∷ bytes_in kept c ∷ []
 words_at kept (words.Four a b c d) = bytes_in kept a ∷ bytes_in kept b ∷ bytes_in kept c ∷ bytes_in kept d ∷ []
 
--- they are among so many bytes
+-- the words are among the first n bytes
 abbrev pub AreWordsWithin : ℕ → Words → Type 0
 AreWordsWithin n words.None = ⊤
 AreWordsWithin n (words.One a) = end_of a ≤ n

@@ -22,18 +22,21 @@ statement_in kept (stored.Run n) = statement.Run n
 statement_in kept (stored.Scan s) = scan_in kept s
 statement_in kept stored.Nothing = statement.Nothing
 
+-- the statement that is stored, if one is
 abbrev pub stored_if : List ℕ → Option Stored → Option Statement
 stored_if kept None = None
 stored_if kept (Some s) = Some (statement_in kept s)
 
+-- the statements that are stored
 abbrev pub statements_in : List ℕ → List Stored → List Statement
 statements_in kept ss = map (statement_in kept) ss
 
--- the digits are among so many bytes
+-- the digits of a stored statement are among the first n bytes
 abbrev pub IsStoredWithin : ℕ → Stored → Type 0
 IsStoredWithin n (stored.Scan s) = (end_of s.tdi ≤ n) × (end_if s.tdo ≤ n) × (end_if s.mask ≤ n)
 IsStoredWithin n _ = ⊤
 
+-- the digits of all stored statements are among the first n bytes
 abbrev pub AreStoredWithin : ℕ → List Stored → Type 0
 AreStoredWithin n ss = AllByRecursion (IsStoredWithin n) ss
 

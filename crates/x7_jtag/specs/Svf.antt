@@ -36,12 +36,12 @@ if_ended (Some after) s = s
 abbrev pub first_statement : List Piece → Option Statement
 first_statement ps = if_ended (pieces_after ps) (statement_of (marks_before ps))
 
--- the pieces behind a statement, none where it never ends
+-- the pieces after a statement, none where it never ends
 abbrev pub behind : Option (List Piece) → List Piece
 behind None = []
 behind (Some after) = after
 
--- a statement before what the pieces behind it come to, or the line on which one begins that is none
+-- a statement before what the pieces after it come to, or the line on which one begins that is none
 abbrev pub with_first : ℕ → Option Statement → Result (List Statement) SvfFault → Result (List Statement) SvfFault
 with_first line None more = Err (fault.Line line)
 with_first line (Some s) (Ok ss) = Ok (s ∷ ss)
@@ -53,10 +53,11 @@ outcome_by n [] = Ok []
 outcome_by zero (p ∷ ps) = Err (fault.Line p.line)
 outcome_by (suc n) (p ∷ ps) = with_first p.line (first_statement (p ∷ ps)) (outcome_by n (behind (pieces_after (p ∷ ps))))
 
+-- what pieces come to
 abbrev pub outcome : List Piece → Result (List Statement) SvfFault
 outcome ps = outcome_by (length ps) ps
 
--- they begin with a statement
+-- the pieces begin with a statement
 abbrev pub BeginWithOne : List Piece → Type 0
 BeginWithOne ps = (one : Statement) × (first_statement ps ≡ Some one)
 

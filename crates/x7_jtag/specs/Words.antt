@@ -11,6 +11,7 @@ use Rattle.x7_jtag.specs.declared.statement.Statement.TheVariants as statement
 abbrev pub is_key : List ℕ → List ℕ → Bool
 is_key word key = str_eq_ignore_ascii_case word key
 
+-- a decimal digit
 abbrev pub is_digit : ℕ → Bool
 is_digit c = nat_le 48 c && nat_le c 57
 
@@ -20,6 +21,7 @@ number_from limit so_far [] = Some so_far
 number_from limit so_far (c ∷ cs) =
     if is_digit c && nat_le (so_far * 10 + (c - 48)) limit then number_from limit (so_far * 10 + (c - 48)) cs else None
 
+-- the number of a word of decimal digits, within a limit
 abbrev pub number_of : ℕ → List ℕ → Option ℕ
 number_of limit [] = None
 number_of limit (c ∷ cs) = number_from limit 0 (c ∷ cs)
@@ -32,6 +34,7 @@ most_clocks = 16777216
 abbrev pub is_time_byte : ℕ → Bool
 is_time_byte c = is_digit c || c == 46 || c == 69 || c == 43 || c == 45
 
+-- a word of a time, one byte at least
 abbrev pub is_time : List ℕ → Bool
 is_time w = nat_lt 0 (length w) && list_all is_time_byte w
 
@@ -39,14 +42,16 @@ is_time w = nat_lt 0 (length w) && list_all is_time_byte w
 abbrev pub is_free_byte : ℕ → Bool
 is_free_byte c = not (c == 13)
 
+-- a word without 0D
 abbrev pub is_free : List ℕ → Bool
 is_free w = list_all is_free_byte w
 
--- the words of marks without brackets
+-- a word before others, if these are words
 abbrev pub with_word : List ℕ → Option (List (List ℕ)) → Option (List (List ℕ))
 with_word w None = None
 with_word w (Some ws) = Some (w ∷ ws)
 
+-- the words of marks without brackets
 abbrev pub words_of : List Mark → Option (List (List ℕ))
 words_of [] = Some []
 words_of (Word w ∷ ms) = with_word w (words_of ms)
@@ -54,13 +59,16 @@ words_of (Open ∷ ms) = None
 words_of (Close ∷ ms) = None
 words_of (End ∷ ms) = None
 
+-- a statement, where the test holds
 abbrev pub some_if : Bool → Statement → Option Statement
 some_if b s = if b then Some s else None
 
+-- a run of this number of clocks, if there is a number
 abbrev pub run_by : Option ℕ → Option Statement
 run_by None = None
 run_by (Some n) = Some (statement.Run n)
 
+-- a run of as many clocks as the digits say, where the test holds
 abbrev pub run_if : Bool → List ℕ → Option Statement
 run_if b n = if b then run_by (number_of most_clocks n) else None
 
@@ -101,7 +109,7 @@ statement_of_words k ws =
     else (if is_key k (codes "HIR") || is_key k (codes "HDR") || is_key k (codes "TIR") || is_key k (codes "TDR") then zero_words ws
     else (if is_key k (codes "TRST") then reset_words ws else None))))
 
--- the same of marks that are words
+-- the statement of a keyword and the marks after it, where these are words
 abbrev pub statement_if_words : List ℕ → Option (List (List ℕ)) → Option Statement
 statement_if_words k None = None
 statement_if_words k (Some ws) = statement_of_words k ws

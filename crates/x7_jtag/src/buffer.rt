@@ -21,6 +21,7 @@ impl<const MOST: usize> Model for Buffer<MOST> {
 }
 
 impl<const MOST: usize> Buffer<MOST> {
+    /// A buffer without bytes.
     pub(crate) fn new() -> Buffer<MOST>
         ensures { result ≡ [] }
     {

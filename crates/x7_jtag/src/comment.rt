@@ -12,12 +12,14 @@ fn begins_with(text: &[u8], byte: u8) -> bool
     }
 }
 
+/// Whether a comment begins at a byte, by the bytes after it.
 fn comment_begins(byte: u8, after: &[u8]) -> bool
     ensures { result ≡ begins_comment byte after.now }
 {
     byte == b'!' || byte == b'/' && begins_with(after, b'/')
 }
 
+/// Whether a text is inside a comment after a byte.
 fn comment_after(inside: bool, byte: u8, after: &[u8]) -> bool
     ensures { result ≡ is_inside inside byte after.now }
 {
@@ -28,6 +30,7 @@ fn comment_after(inside: bool, byte: u8, after: &[u8]) -> bool
     }
 }
 
+/// The byte that stands in the place of one: a blank for a byte of a comment, and for 0D before 0A.
 fn stand_in(inside: bool, byte: u8, after: &[u8]) -> u8
     ensures { result ≡ shown inside byte after.now }
 {

@@ -21,7 +21,7 @@ use x7_engine::Device;
 pub struct Differ {
     /// The statement, from 1.
     pub statement: u32,
-    /// Its least differing bit, from 0.
+    /// The statement's least differing bit, from 0.
     pub bit: u32,
 }
 
@@ -91,6 +91,7 @@ fn counts(mask: &Option<Bits<'_>>, i: u32) -> bool
     }
 }
 
+/// Whether two bits differ.
 fn are_apart(wanted: bool, shown: bool) -> bool
     ensures { result ≡ apart wanted shown }
 {
@@ -233,7 +234,7 @@ fn play_statement(statement: &Statement<'_>, tap: &mut Tap, device: &mut Device)
     }
 }
 
-/// The same of statement i of a text.
+/// The clocks of statement i of a text, from 0, and the least bit at which TDO differs from what is wanted.
 fn play_at(svf: &Svf, i: usize, tap: &mut Tap, device: &mut Device) -> Option<u32>
     requires { Ready tap.old device.old (2 ^ 33) }
     ensures stands { (x : StatementData) → slice_get svf.now i ≡ Some x → Makes tap.old device.old tap.new device.new (λ p. clocks_of p.state x) }

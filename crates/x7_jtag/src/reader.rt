@@ -19,7 +19,10 @@ use crate::stored::{Stored, StoredScan};
 use crate::token::{Token, next_within, pass_end};
 use crate::words::{Words, is_any_word, is_keyword, number, statement_said, with_one};
 
-/// Whether a token at the front of a text may stand among any words.
+/// The most bits of a scan.
+const MOST_BITS: u32 = 536_870_912;
+
+/// Whether a token that a text begins with may stand among any words.
 fn is_free_token(token: Token, text: &[u8]) -> bool
     requires { size_of token ≤ length text.now }
     ensures { result ≡ is_free_mark (mark_of token text.now) }
@@ -114,6 +117,7 @@ fn digit_bits(digit: u8) -> u64
     }
 }
 
+/// How many bits a number has whose first digit has `bits` of them, with `after` digits after it.
 fn width_with(after: usize, bits: u64) -> u128
     ensures { result ≡ 4 * after + bits }
 {
@@ -135,6 +139,7 @@ fn width_of(digits: &[u8]) -> u128
     0
 }
 
+/// Whether the value of digits, if there are any, fits `count` bits.
 fn does_fit(kept: &[u8], count: u32, digits: Option<Span>) -> bool
     requires { end_if digits ≤ length kept.now }
     ensures { result ≡ fits count (digits_if kept.now digits) }
@@ -145,6 +150,7 @@ fn does_fit(kept: &[u8], count: u32, digits: Option<Span>) -> bool
     }
 }
 
+/// Whether the values of all fields fit `count` bits.
 fn do_all_fit(kept: &[u8], count: u32, given: Given) -> bool
     requires { AreWithin (length kept.now) given }
     ensures { result ≡ all_fit count (fields_of kept.now given) }
@@ -183,7 +189,7 @@ fn scan_count(source: &mut Source) -> Option<u32>
     let Token::Word(length) = next_within(source)? else {
         return None;
     };
-    let count = number(&source.rest()[..length], 536_870_912)?;
+    let count = number(&source.rest()[..length], MOST_BITS)?;
     source.skip(length);
     if count == 0 {
         return None;

@@ -26,6 +26,7 @@ impl Model for Source {
     ghost invariant = { λ s. (s.kept ≤ s.at) × (s.at ≤ length s.text.items) × (length s.text.items ≤ 2 ^ 29) × (s.line ≤ s.at + 1) };
 }
 
+/// The line after a byte that stands on this one.
 fn next_line(byte: u8, line: u64) -> u64
     requires { line < 2 ^ 63 }
     ensures { result ≡ line_after byte line }
@@ -54,14 +55,14 @@ impl Source {
         &self.text[self.at..]
     }
 
-    /// The line on which that begins.
+    /// The line on which the rest begins.
     pub(crate) fn line(&self) -> u64
         ensures { result ≡ self.now.line }
     {
         self.line
     }
 
-    /// What is kept.
+    /// The bytes that are kept.
     pub(crate) fn kept(&self) -> &[u8]
         ensures now { result.now ≡ self.now.kept }
         ensures few { length result.now ≤ 2 ^ 29 }
@@ -86,7 +87,7 @@ impl Source {
         self.at += count;
     }
 
-    /// The same, and keeps them.
+    /// Keeps so many bytes that come next, none of which is a line end.
     pub(crate) fn keep(&mut self, count: usize)
         requires { count ≤ length self.old.rest }
         ensures { self.new ≡ record { kept = self.old.kept ++ take count self.old.rest; line = self.old.line; rest = drop count self.old.rest } }

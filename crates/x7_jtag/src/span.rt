@@ -23,7 +23,7 @@ impl Span {
         }
     }
 
-    /// These bytes of all.
+    /// The bytes of the run.
     pub(crate) fn of(self, all: &[u8]) -> &[u8]
         requires { end_of self ≤ length all.now }
         ensures { result.now ≡ bytes_in all.now self }

@@ -3,7 +3,7 @@ ghost use Rattle.std.specs.Prelude.{◌≡◌, ◌≤◌, ◌<◌, ◌+◌, ◌*
 ghost use Rattle.x7_part.specs.Part.{PartData};
 ghost use Rattle.x7_engine.specs.Kept.{on_the_bench};
 ghost use Rattle.x7_engine.specs.Standing.{DeviceStandsFor, DeviceState};
-ghost use Rattle.x7_jtag.specs.Port.{Port, acted, captured, data_shifted, data_shown, idled, lowest, number_of_bit, port_after, shifted as shifted_in, status as status_by, status_of, tdo_of, updated, with_bit as with_bit_in};
+ghost use Rattle.x7_jtag.specs.Port.{Port, acted, captured, data_shifted, data_shown, idled, lowest, number_of_bit, port_after, shifted as shifted_in, status as status_by, ir_status, tdo_of, updated, with_bit as with_bit_in};
 ghost use Rattle.x7_jtag.specs.States.{Clock};
 ghost use Rattle.x7_jtag.specs.declared.instruction.Instruction.TheVariants.{CfgIn};
 ghost use Rattle.x7_jtag.specs.Tap.{StandsForPort, TakesBytes, TapStandsFor, Took, last_or};
@@ -79,7 +79,7 @@ fn status_with(done: bool, stat: u32) -> u32
 
 /// What Capture-IR loads.
 fn status(device: &Device) -> u32
-    ensures { (part : PartData) (given bytes : List ℕ) → DeviceStandsFor part on_the_bench false device.now bytes → Took part given bytes → result ≡ status_of part given }
+    ensures { (part : PartData) (given bytes : List ℕ) → DeviceStandsFor part on_the_bench false device.now bytes → Took part given bytes → result ≡ ir_status part given }
 {
     let state = device.state();
     status_with(state.lines.done, state.stat)

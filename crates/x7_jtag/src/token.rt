@@ -7,7 +7,7 @@ ghost use Rattle.x7_jtag.specs.Svf.{marks_before, pieces_after};
 use crate::source::Source;
 
 /// A word, of so many bytes, a bracket or the end of a statement.
-#[derive(Clone, Copy, Debug)]
+#[derive(Clone, Copy)]
 pub(crate) enum Token {
     Word(usize),
     Open,
@@ -16,7 +16,7 @@ pub(crate) enum Token {
 }
 
 impl Token {
-    /// How many bytes it has.
+    /// How many bytes the token has.
     pub(crate) fn size(self) -> usize
         ensures { result ≡ size_of self }
     {
@@ -27,6 +27,7 @@ impl Token {
     }
 }
 
+/// Whether a byte may stand in a word.
 fn is_in_word(byte: u8) -> bool
     ensures { result ≡ is_word_byte byte }
 {
@@ -48,12 +49,14 @@ fn word_length(text: &[u8]) -> usize
     end
 }
 
+/// Whether a byte is a blank.
 fn is_between(byte: u8) -> bool
     ensures { result ≡ is_blank byte }
 {
     byte == b' ' || byte == b'\t' || byte == b'\n'
 }
 
+/// The bracket or end that a byte is.
 fn token_of(byte: u8) -> Token
     ensures mark { (text : List ℕ) → mark_of result text ≡ byte_mark byte }
     ensures size { size_of result ≡ 1 }
@@ -94,7 +97,7 @@ fn skip_blanks(source: &mut Source)
     }
 }
 
-/// The piece that comes next, behind blanks, which are passed; none where the text ends.
+/// The piece that comes next, after blanks, which are passed; none where the text ends.
 pub(crate) fn next(source: &mut Source) -> Option<Token>
     ensures is { MatchOption result (pieces_left source.old ≡ [])
         (λ t. pieces_left source.old ≡ left_from source.new t) }
@@ -112,7 +115,7 @@ pub(crate) fn next(source: &mut Source) -> Option<Token>
     Some(first(rest))
 }
 
-/// The word or bracket of a statement that comes next, behind blanks, which are passed; none where the statement, or the text,
+/// The word or bracket of a statement that comes next, after blanks, which are passed; none where the statement, or the text,
 /// ends.
 pub(crate) fn next_within(source: &mut Source) -> Option<Token>
     ensures is { MatchOption result (marks_before (pieces_left source.old) ≡ [])

@@ -9,18 +9,24 @@ ghost use Rattle.std.specs.List.{list_all};
 use crate::span::Span;
 use crate::stored::Stored;
 
+/// The most clocks of a run.
+const MOST_CLOCKS: u32 = 16_777_216;
+
+/// Whether a word is a keyword, in either case.
 pub(crate) fn is_keyword(word: &[u8], key: &[u8]) -> bool
     ensures { result ≡ is_key word.now key.now }
 {
     word.eq_ignore_ascii_case(key)
 }
 
+/// Whether a byte is a decimal digit.
 fn is_decimal(byte: u8) -> bool
     ensures { result ≡ is_digit byte }
 {
     b'0' <= byte && byte <= b'9'
 }
 
+/// Whether a byte may stand in a time.
 fn is_of_time(byte: u8) -> bool
     ensures { result ≡ is_time_byte byte }
 {
@@ -51,6 +57,7 @@ pub(crate) fn number(word: &[u8], limit: u32) -> Option<u32>
     Some(value)
 }
 
+/// Whether all bytes of a word may stand in a time.
 fn all_of_time(word: &[u8]) -> bool
     ensures { result ≡ list_all is_time_byte word.now }
 {
@@ -61,12 +68,14 @@ fn all_of_time(word: &[u8]) -> bool
     )
 }
 
+/// Whether a word is a time.
 fn is_any_time(word: &[u8]) -> bool
     ensures { result ≡ is_time word.now }
 {
     !word.is_empty() && all_of_time(word)
 }
 
+/// Whether a word has no byte 0D.
 pub(crate) fn is_any_word(word: &[u8]) -> bool
     ensures { result ≡ is_free word.now }
 {
@@ -77,16 +86,16 @@ pub(crate) fn is_any_word(word: &[u8]) -> bool
     )
 }
 
+/// The run of as many clocks as the digits say.
 fn run(digits: &[u8]) -> Option<Stored>
     ensures is { stored_if [] result ≡ run_by (number_of most_clocks digits.now) }
     ensures alone { IfSome result (IsStoredWithin 0) }
 {
-    match number(digits, 16_777_216) {
-        Some(count) => Some(Stored::Run(count)),
-        None => None,
-    }
+    let count = number(digits, MOST_CLOCKS)?;
+    Some(Stored::Run(count))
 }
 
+/// The run of as many clocks as the digits say, where the test holds.
 fn run_if(test: bool, digits: &[u8]) -> Option<Stored>
     ensures is { stored_if [] result ≡ run_clocks test digits.now }
     ensures alone { IfSome result (IsStoredWithin 0) }
@@ -94,6 +103,7 @@ fn run_if(test: bool, digits: &[u8]) -> Option<Stored>
     if test { run(digits) } else { None }
 }
 
+/// A statement that asks for nothing, where the test holds.
 fn nothing_if(test: bool) -> Option<Stored>
     ensures is { stored_if [] result ≡ some_if test StatementData.Nothing }
     ensures alone { IfSome result (IsStoredWithin 0) }
@@ -101,6 +111,7 @@ fn nothing_if(test: bool) -> Option<Stored>
     if test { Some(Stored::Nothing) } else { None }
 }
 
+/// The statement of the words after STATE.
 fn state(words: &[&[u8]]) -> Option<Stored>
     ensures is { stored_if [] result ≡ state_words (word_list words.now) }
     ensures alone { IfSome result (IsStoredWithin 0) }
@@ -119,18 +130,21 @@ fn state(words: &[&[u8]]) -> Option<Stored>
     }
 }
 
+/// Whether two words are IDLE and TCK.
 fn are_idle_clocks(state: &[u8], unit: &[u8]) -> bool
     ensures { result ≡ (is_key state.now (codes "IDLE") && is_key unit.now (codes "TCK")) }
 {
     is_keyword(state, b"IDLE") && is_keyword(unit, b"TCK")
 }
 
+/// Whether three words are TCK, a time, and SEC.
 fn are_timed_clocks(unit: &[u8], time: &[u8], second: &[u8]) -> bool
     ensures { result ≡ (is_key unit.now (codes "TCK") && is_time time.now && is_key second.now (codes "SEC")) }
 {
     is_keyword(unit, b"TCK") && is_any_time(time) && is_keyword(second, b"SEC")
 }
 
+/// The statement of the words after RUNTEST.
 fn run_of(words: &[&[u8]]) -> Option<Stored>
     ensures is { stored_if [] result ≡ run_words (word_list words.now) }
     ensures alone { IfSome result (IsStoredWithin 0) }
@@ -149,6 +163,7 @@ fn run_of(words: &[&[u8]]) -> Option<Stored>
     }
 }
 
+/// The statement of the words after ENDIR and ENDDR.
 fn end(words: &[&[u8]]) -> Option<Stored>
     ensures is { stored_if [] result ≡ end_words (word_list words.now) }
     ensures alone { IfSome result (IsStoredWithin 0) }
@@ -159,6 +174,7 @@ fn end(words: &[&[u8]]) -> Option<Stored>
     }
 }
 
+/// The statement of the words after HIR, HDR, TIR and TDR.
 fn no_others(words: &[&[u8]]) -> Option<Stored>
     ensures is { stored_if [] result ≡ zero_words (word_list words.now) }
     ensures alone { IfSome result (IsStoredWithin 0) }
@@ -169,6 +185,7 @@ fn no_others(words: &[&[u8]]) -> Option<Stored>
     }
 }
 
+/// The statement of the words after TRST.
 fn reset_line(words: &[&[u8]]) -> Option<Stored>
     ensures is { stored_if [] result ≡ reset_words (word_list words.now) }
     ensures alone { IfSome result (IsStoredWithin 0) }
@@ -207,7 +224,7 @@ fn statement_of_words(key: &[u8], words: &[&[u8]]) -> Option<Stored>
 }
 
 /// The words after a keyword by where they are kept. No statement has more than four.
-#[derive(Clone, Copy, Debug)]
+#[derive(Clone, Copy)]
 pub(crate) enum Words {
     None,
     One(Span),
