@@ -24,7 +24,7 @@ fn may_read(ctl0: u32) -> bool
 }
 
 /// Whether words of MFWR ask for copies.
-pub fn takes_copies(settings: FrameSettings) -> bool
+pub(crate) fn takes_copies(settings: FrameSettings) -> bool
     ensures value { result ≡ (settings.matched && not (forbids_writing settings.ctl0)) }
     ensures after { (idcode : ℕ) (h : History) → AreSettingsAfter idcode settings h → result ≡ takes_copies_by (settings_of idcode h) }
 {
@@ -32,7 +32,7 @@ pub fn takes_copies(settings: FrameSettings) -> bool
 }
 
 /// Whether words of FDRI go to the memory.
-pub fn takes_frames(settings: FrameSettings) -> bool
+pub(crate) fn takes_frames(settings: FrameSettings) -> bool
     ensures value { result ≡ (settings.matched && (settings.held == 1 && not (forbids_writing settings.ctl0))) }
     ensures after { (idcode : ℕ) (h : History) → AreSettingsAfter idcode settings h → result ≡ takes_frames_by (settings_of idcode h) }
 {

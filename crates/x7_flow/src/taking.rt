@@ -18,7 +18,7 @@ use x7_pipeline::{Pipeline, RunFault};
 use x7_regs::{Reg, command_of};
 
 /// Does what a word written to a register asks, and says why it can't.
-pub fn take(
+pub(crate) fn take(
     settings: FrameSettings,
     reg: Reg,
     word: u32,
@@ -73,7 +73,7 @@ pub fn take(
 }
 
 /// Whether a read of frame data is refused, before a word of it is given.
-pub fn refuses_read(count: u32, part: &Part, pipeline: &Pipeline) -> Option<RunFault>
+pub(crate) fn refuses_read(count: u32, part: &Part, pipeline: &Pipeline) -> Option<RunFault>
     ensures { (f : Flow) → HasFlow part.now pipeline.now f → result ≡ fault_by part.now (Reads count) f }
 {
     if count == 0 {
@@ -83,7 +83,7 @@ pub fn refuses_read(count: u32, part: &Part, pipeline: &Pipeline) -> Option<RunF
 }
 
 /// The next of the words of frame data that are due.
-pub fn next_word(part: &Part, pipeline: &mut Pipeline, memory: &Memory) -> u32
+pub(crate) fn next_word(part: &Part, pipeline: &mut Pipeline, memory: &Memory) -> u32
     requires pipeline { IsPipelineOf part.now pipeline.old }
     requires memory { AreFramesOf part.now memory.now }
     ensures stands { (h : History) (due : ℕ) → AreFramesAfter part.now pipeline.old memory.now h (due + 1) → AreFramesAfter part.now pipeline.new memory.now h due }
@@ -98,7 +98,7 @@ pub fn next_word(part: &Part, pipeline: &mut Pipeline, memory: &Memory) -> u32
 
 /// Takes words of frame data at once, four bytes each, up to the first that is refused. The answer is the number of words
 /// looked at, a refused one included, and the fault.
-pub fn take_words(
+pub(crate) fn take_words(
     bytes: &[u8],
     part: &Part,
     pipeline: &mut Pipeline,
@@ -117,7 +117,7 @@ pub fn take_words(
 
 /// Takes words written to MFWR at once, four bytes each: the first puts the source, and each later one would put it there again.
 /// The answer is the number of words looked at, a refused one included, and the fault.
-pub fn take_copies(
+pub(crate) fn take_copies(
     bytes: &[u8],
     part: &Part,
     pipeline: &mut Pipeline,
@@ -141,7 +141,7 @@ pub fn take_copies(
 }
 
 /// Passes over `count` of the words of frame data that are due.
-pub fn pass_words(count: u32, part: &Part, pipeline: &mut Pipeline)
+pub(crate) fn pass_words(count: u32, part: &Part, pipeline: &mut Pipeline)
     requires pipeline { IsPipelineOf part.now pipeline.old }
     ensures stands { (frames : List (List ℕ)) (h : History) (due : ℕ) → AreFramesAfter part.now pipeline.old frames h (due + count) → AreFramesAfter part.now pipeline.new frames h due }
     ensures pipeline { IsPipelineOf part.now pipeline.new }

@@ -7,12 +7,12 @@ use std::marker::Model;
 
 /// The widths of the fields in bits, each field right above the one before it, from bit 0.
 #[derive(Clone, Copy, Drop)]
-pub struct Fields {
-    pub minor: u8,
-    pub column: u8,
-    pub row: u8,
-    pub half: u8,
-    pub block: u8,
+pub(crate) struct Fields {
+    pub(crate) minor: u8,
+    pub(crate) column: u8,
+    pub(crate) row: u8,
+    pub(crate) half: u8,
+    pub(crate) block: u8,
 }
 
 impl Model for Fields {
@@ -27,7 +27,7 @@ impl Model for Fields {
 
 impl Fields {
     /// The fields of an address in the 7 series.
-    pub fn usual() -> Fields
+    pub(crate) fn usual() -> Fields
         ensures { result ≡ record { minor = 7; column = 10; row = 5; half = 1; block = 3 } }
     {
         Fields {
@@ -40,7 +40,7 @@ impl Fields {
     }
 
     /// Fields of these widths, where they have 32 bits together.
-    pub fn of(minor: u8, column: u8, row: u8, half: u8, block: u8) -> Option<Fields>
+    pub(crate) fn of(minor: u8, column: u8, row: u8, half: u8, block: u8) -> Option<Fields>
         requires minor { (7 ≤ minor) × (minor ≤ 12) }
         requires column { (10 ≤ column) × (column ≤ 12) }
         requires row { (5 ≤ row) × (row ≤ 8) }
@@ -62,7 +62,7 @@ impl Fields {
     }
 
     /// What one column more adds to an address.
-    pub fn column_weight(self) -> u32
+    pub(crate) fn column_weight(self) -> u32
         ensures value { result ≡ 2 ^ column_low self }
         ensures widths { AreWidths self }
     {
@@ -70,21 +70,21 @@ impl Fields {
     }
 
     /// What one row more adds to an address.
-    pub fn row_weight(self) -> u32
+    pub(crate) fn row_weight(self) -> u32
         ensures { result ≡ 2 ^ row_low self }
     {
         1 << (self.minor + self.column)
     }
 
     /// What the bottom half adds to an address.
-    pub fn half_weight(self) -> u32
+    pub(crate) fn half_weight(self) -> u32
         ensures { result ≡ 2 ^ half_low self }
     {
         1 << (self.minor + self.column + self.row)
     }
 
     /// What one block type more adds to an address.
-    pub fn block_weight(self) -> u32
+    pub(crate) fn block_weight(self) -> u32
         ensures value { result ≡ 2 ^ block_low self }
         ensures widths { AreWidths self }
     {
@@ -92,7 +92,7 @@ impl Fields {
     }
 
     /// The width of an address in bits.
-    pub fn width(self) -> u32
+    pub(crate) fn width(self) -> u32
         ensures value { result ≡ address_width self }
         ensures least { 25 ≤ result }
         ensures most { result ≤ 32 }

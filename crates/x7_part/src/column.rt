@@ -10,14 +10,14 @@ use crate::slot::Slot;
 
 /// A column of a row: its addresses are `count` numbers from `first` on, and `pads` pads follow.
 #[derive(Clone, Copy, Drop)]
-pub struct Column {
-    pub first: u32,
-    pub count: u32,
-    pub pads: u32,
+pub(crate) struct Column {
+    pub(crate) first: u32,
+    pub(crate) count: u32,
+    pub(crate) pads: u32,
     /// The number of the part's addresses before the column.
-    pub rank: u32,
+    pub(crate) rank: u32,
     /// The number of the part's slots before the column.
-    pub slot: u64,
+    pub(crate) slot: u64,
 }
 
 /// The number of columns that begin at or before an address.
@@ -51,7 +51,7 @@ fn begun_by_slot(columns: &[Column], place: u64) -> usize
 }
 
 /// The place of the column that has the address.
-pub fn column_of(columns: &[Column], far: u32) -> Option<usize>
+pub(crate) fn column_of(columns: &[Column], far: u32) -> Option<usize>
     requires { IsTable 0 0 0 columns.now }
     ensures found { IfSome result (λ i. (i < length columns.now) × ((d : Column) → IsIn (slice_index_or columns.now i d) far)) }
     ensures address { IfSome result (λ i. Contains (column_addresses columns.now) far) }
@@ -70,7 +70,7 @@ pub fn column_of(columns: &[Column], far: u32) -> Option<usize>
 }
 
 /// The number of the part's addresses below this one.
-pub fn rank_of(columns: &[Column], far: u32) -> Option<u32>
+pub(crate) fn rank_of(columns: &[Column], far: u32) -> Option<u32>
     requires table { IsTable 0 0 0 columns.now }
     requires fits { length (column_addresses columns.now) < 2 ^ 32 }
     ensures found { IfSome result (λ r. (r < length (column_addresses columns.now)) × (slice_index (column_addresses columns.now) r ≡ far)) }
@@ -82,7 +82,7 @@ pub fn rank_of(columns: &[Column], far: u32) -> Option<u32>
 }
 
 /// The address with `rank` smaller ones.
-pub fn address_of(columns: &[Column], rank: u32) -> Option<u32>
+pub(crate) fn address_of(columns: &[Column], rank: u32) -> Option<u32>
     requires { IsTable 0 0 0 columns.now }
     ensures found { IfSome result (λ far. (rank < length (column_addresses columns.now)) × (slice_index (column_addresses columns.now) rank ≡ far)) }
     ensures none { IfNone result (length (column_addresses columns.now) ≤ rank) }
@@ -101,7 +101,7 @@ pub fn address_of(columns: &[Column], rank: u32) -> Option<u32>
 }
 
 /// The address after an address.
-pub fn next_of(columns: &[Column], far: u32) -> Option<u32>
+pub(crate) fn next_of(columns: &[Column], far: u32) -> Option<u32>
     requires { IsTable 0 0 0 columns.now }
     ensures found { IfSome result (λ y. Follows (column_addresses columns.now) far y) }
     ensures none { IfNone result (IsLast (column_addresses columns.now) far ⊎ (¬ Contains (column_addresses columns.now) far)) }
@@ -137,18 +137,21 @@ fn slot_at(columns: &[Column], place: u64) -> Slot
     }
 }
 
-/// The number of addresses before the frame at a place of the slots, none at a pad and past the last slot.
-pub fn rank_at(columns: &[Column], place: u64) -> Option<u32>
+/// The rank of the frame at a place of the slots, where the column of number `at` has that frame, and else none.
+fn rank_in(columns: &[Column], at: usize, place: u64) -> Option<u32>
     requires table { IsTable 0 0 0 columns.now }
     requires fits { length (column_addresses columns.now) < 2 ^ 32 }
     ensures found { IfSome result (λ r. HasFrameOf (column_addresses columns.now) (column_slots columns.now) place r) }
-    ensures none { IfNone result ((far : ℕ) → slice_index_or (column_slots columns.now) place Slot.End ≡ Slot.Frame far → ⊥) }
+    ensures none { IfNone result ((d : Column) → at < length columns.now → (slice_index_or columns.now at d).slot ≤ place →
+        (slice_index_or columns.now at d).count ≤ place - (slice_index_or columns.now at d).slot) }
 {
-    let after = begun_by_slot(columns, place);
-    if after == 0 {
+    if columns.len() <= at {
         return None;
     }
-    let column = columns[after - 1];
+    let column = columns[at];
+    if place < column.slot {
+        return None;
+    }
     let offset = place - column.slot;
     if offset < u64::from(column.count) {
         Some(column.rank + offset as u32)
@@ -157,8 +160,27 @@ pub fn rank_at(columns: &[Column], place: u64) -> Option<u32>
     }
 }
 
+/// The number of addresses before the frame at a place of the slots, none at a pad and past the last slot. `near` is the number of
+/// the column that is looked at first, and then of the one that begins last at or before the place; the answer doesn't hang on it.
+pub(crate) fn rank_at(columns: &[Column], place: u64, near: &mut usize) -> Option<u32>
+    requires table { IsTable 0 0 0 columns.now }
+    requires fits { length (column_addresses columns.now) < 2 ^ 32 }
+    ensures found { IfSome result (λ r. HasFrameOf (column_addresses columns.now) (column_slots columns.now) place r) }
+    ensures none { IfNone result ((far : ℕ) → slice_index_or (column_slots columns.now) place Slot.End ≡ Slot.Frame far → ⊥) }
+{
+    if let Some(rank) = rank_in(columns, *near, place) {
+        return Some(rank);
+    }
+    let after = begun_by_slot(columns, place);
+    if after == 0 {
+        return None;
+    }
+    *near = after - 1;
+    rank_in(columns, after - 1, place)
+}
+
 /// The place of an address among the slots.
-pub fn slot_of(columns: &[Column], far: u32) -> u64
+pub(crate) fn slot_of(columns: &[Column], far: u32) -> u64
     requires table { IsTable 0 0 0 columns.now }
     requires address { Contains (column_addresses columns.now) far }
     requires fits { length (column_slots columns.now) < 2 ^ 63 }
@@ -174,7 +196,7 @@ pub fn slot_of(columns: &[Column], far: u32) -> u64
 }
 
 /// Slot n of the slots from an address.
-pub fn slot_after(columns: &[Column], far: u32, n: u64) -> Slot
+pub(crate) fn slot_after(columns: &[Column], far: u32, n: u64) -> Slot
     requires table { IsTable 0 0 0 columns.now }
     requires address { Contains (column_addresses columns.now) far }
     requires fits { length (column_slots columns.now) < 2 ^ 63 }
@@ -187,7 +209,7 @@ pub fn slot_after(columns: &[Column], far: u32, n: u64) -> Slot
 }
 
 /// The number of addresses of all columns.
-pub fn frame_count(columns: &[Column]) -> u32
+pub(crate) fn frame_count(columns: &[Column]) -> u32
     requires table { IsTable 0 0 0 columns.now }
     requires fits { length (column_addresses columns.now) < 2 ^ 32 }
     ensures { result ≡ length (column_addresses columns.now) }
@@ -211,7 +233,7 @@ fn slot_count(columns: &[Column]) -> u64
 }
 
 /// The number of slots from an address on.
-pub fn slots_from(columns: &[Column], far: u32) -> u64
+pub(crate) fn slots_from(columns: &[Column], far: u32) -> u64
     requires table { IsTable 0 0 0 columns.now }
     requires address { Contains (column_addresses columns.now) far }
     requires fits { length (column_slots columns.now) < 2 ^ 63 }

@@ -7,7 +7,7 @@ use crate::fault::PartKey;
 use toml::Table;
 
 /// The keys of the top table.
-pub const TOP_KEYS: [PartKey; 10] = [
+pub(crate) const TOP_KEYS: [PartKey; 10] = [
     PartKey::Name,
     PartKey::Idcode,
     PartKey::Mode,
@@ -21,7 +21,12 @@ pub const TOP_KEYS: [PartKey; 10] = [
 ];
 
 /// The keys of a row.
-pub const ROW_KEYS: [PartKey; 4] = [PartKey::Block, PartKey::Half, PartKey::Row, PartKey::Minors];
+pub(crate) const ROW_KEYS: [PartKey; 4] = [
+    PartKey::Block,
+    PartKey::Half,
+    PartKey::Row,
+    PartKey::Minors,
+];
 
 /// Whether one of the keys has this name.
 fn is_known(keys: &[PartKey], name: &str) -> bool
@@ -36,7 +41,7 @@ fn is_known(keys: &[PartKey], name: &str) -> bool
 }
 
 /// Whether the table has these keys alone.
-pub fn has_only(keys: &[PartKey], table: &Table) -> bool
+pub(crate) fn has_only(keys: &[PartKey], table: &Table) -> bool
     ensures { result ≡ has_only keys.now (table_view table.now) }
 {
     'members: for (name, _value) in table.iter() {

@@ -9,14 +9,14 @@ use crate::fault::{PartFault, Which};
 use std::alloc::Global;
 
 /// The fault, unless the test holds.
-pub fn require(holds: bool, fault: PartFault) -> Result<(), PartFault>
+pub(crate) fn require(holds: bool, fault: PartFault) -> Result<(), PartFault>
     ensures { fault_of_call result ≡ unless holds fault }
 {
     if holds { Ok(()) } else { Err(fault) }
 }
 
 /// Whether a length lies in the range.
-pub fn is_long(length: usize, low: usize, high: usize) -> bool
+pub(crate) fn is_long(length: usize, low: usize, high: usize) -> bool
     ensures { result ≡ is_long low high length }
 {
     low <= length && length <= high
@@ -36,7 +36,7 @@ fn are_printed(bytes: &[u8]) -> bool
 
 /// Whether a text can be a name.
 #[tactic(auto, unfolding(crate::specs::PartChecks::is_name))]
-pub fn is_name(text: &str) -> bool
+pub(crate) fn is_name(text: &str) -> bool
     ensures { result ≡ is_name text.now }
 {
     is_long(text.len(), 1, 64) && are_printed(text.as_bytes())
@@ -44,7 +44,7 @@ pub fn is_name(text: &str) -> bool
 
 /// The number, where it lies in the range; else the fault `Range`.
 #[tactic(auto, unfolding(crate::specs::PartChecks::is_in))]
-pub fn within(number: i64, low: u32, high: u32, at: Which) -> Result<u32, PartFault>
+pub(crate) fn within(number: i64, low: u32, high: u32, at: Which) -> Result<u32, PartFault>
     ensures fault { fault_of_call result ≡ unless (is_in low high number) (Range at) }
     ensures value { IfOk result (λ n. n ≡ natural number) }
     ensures range { IfOk result (λ n. (low ≤ n) × (n ≤ high)) }
@@ -58,7 +58,7 @@ pub fn within(number: i64, low: u32, high: u32, at: Which) -> Result<u32, PartFa
 
 /// The number, where it is odd, positive and below 2^32; else the fault `Range`.
 #[tactic(auto, unfolding(crate::specs::PartChecks::is_odd))]
-pub fn odd(number: i64, at: Which) -> Result<u32, PartFault>
+pub(crate) fn odd(number: i64, at: Which) -> Result<u32, PartFault>
     ensures fault { fault_of_call result ≡ unless (is_odd number) (Range at) }
     ensures value { IfOk result (λ n. n ≡ natural number) }
 {
@@ -69,7 +69,7 @@ pub fn odd(number: i64, at: Which) -> Result<u32, PartFault>
 
 /// The number, where it is 1 or 256; else the fault `Range`.
 #[tactic(auto, unfolding(crate::specs::PartChecks::is_unit, crate::specs::PartChecks::is_in))]
-pub fn unit(number: i64, at: Which) -> Result<u16, PartFault>
+pub(crate) fn unit(number: i64, at: Which) -> Result<u16, PartFault>
     ensures fault { fault_of_call result ≡ unless (is_unit number) (Range at) }
     ensures value { IfOk result (λ n. n ≡ natural number) }
 {
@@ -108,7 +108,7 @@ fn fields_of(minor: i64, column: i64, row: i64, half: i64, block: i64) -> Option
 }
 
 /// The widths of the fields of an address, each in its range, with 32 bits together.
-pub fn widths(numbers: &[i64], at: Which) -> Result<Fields, PartFault>
+pub(crate) fn widths(numbers: &[i64], at: Which) -> Result<Fields, PartFault>
     ensures fault { fault_of_call result ≡ unless (are_widths numbers.now) (Range at) }
     ensures value { IfOk result (λ far. far ≡ widths_of numbers.now) }
 {
@@ -123,7 +123,7 @@ pub fn widths(numbers: &[i64], at: Which) -> Result<Fields, PartFault>
 
 /// The numbers of minors of a row's columns.
 #[tactic(auto, unfolding(crate::specs::PartChecks::is_in))]
-pub fn minors(alloc: Global, numbers: &[i64], at: Which) -> Result<Vec<u8>, PartFault>
+pub(crate) fn minors(alloc: Global, numbers: &[i64], at: Which) -> Result<Vec<u8>, PartFault>
     ensures fault { Tells (unless (are_minors numbers.now) (Range at)) result }
     ensures value { IfOk result (λ minors. minors.items ≡ map natural numbers.now) }
 {

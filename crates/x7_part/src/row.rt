@@ -16,11 +16,11 @@ use std::marker::Model;
 
 /// A row of one block type, with the number of minors of each column.
 #[derive(Drop)]
-pub struct Row {
-    pub block: u8,
-    pub half: u8,
-    pub row: u8,
-    pub minors: Vec<u8>,
+pub(crate) struct Row {
+    pub(crate) block: u8,
+    pub(crate) half: u8,
+    pub(crate) row: u8,
+    pub(crate) minors: Vec<u8>,
 }
 
 impl Model for Row {
@@ -52,7 +52,7 @@ impl Row {
     }
 
     /// The address of the row's column 0, minor 0.
-    pub fn address(&self, far: Fields) -> u32
+    pub(crate) fn address(&self, far: Fields) -> u32
         ensures { result ≡ row_address far self.now }
     {
         u32::from(self.block) * far.block_weight()
@@ -61,7 +61,7 @@ impl Row {
     }
 
     /// The number of the row's frames.
-    pub fn frames(&self) -> u32
+    pub(crate) fn frames(&self) -> u32
         ensures value { result ≡ sum self.now.minors }
         ensures most { result ≤ 261120 }
     {
@@ -91,7 +91,7 @@ fn row_in(alloc: Global, number: u32, values: &RowValues) -> Result<Row, PartFau
 }
 
 /// The rows of these values, which count from 1, or the first value that is out of range.
-pub fn rows_in(alloc: Global, values: &[RowValues]) -> Result<Vec<Row>, PartFault>
+pub(crate) fn rows_in(alloc: Global, values: &[RowValues]) -> Result<Vec<Row>, PartFault>
     ensures fault { Tells (rows_fault row_range_fault 1 values.now) result }
     ensures value { IfOk result (λ rows. rows.items ≡ map row_of values.now) }
 {
@@ -117,7 +117,7 @@ fn has_same(row: &Row, rows: &[Row]) -> bool
 }
 
 /// The first row that is the same as an earlier one. Rows count from 1.
-pub fn check_same_rows(rows: &[Row]) -> Result<(), PartFault>
+pub(crate) fn check_same_rows(rows: &[Row]) -> Result<(), PartFault>
     requires { length rows.now ≤ 192 }
     ensures { fault_of_call result ≡ same_row_fault [] rows.now }
 {
@@ -129,7 +129,7 @@ pub fn check_same_rows(rows: &[Row]) -> Result<(), PartFault>
 }
 
 /// The number of frames of the rows.
-pub fn frame_count(rows: &[Row]) -> u32
+pub(crate) fn frame_count(rows: &[Row]) -> u32
     requires { length rows.now ≤ 192 }
     ensures { result ≡ sum_by (λ row. sum row.minors) rows.now }
 {
@@ -141,7 +141,7 @@ pub fn frame_count(rows: &[Row]) -> u32
 }
 
 /// Puts rows in number order, no two of which are the same.
-pub fn in_order(rows: &mut Vec<Row>, far: Fields)
+pub(crate) fn in_order(rows: &mut Vec<Row>, far: Fields)
     requires widths { AreWidths far }
     requires rows { All IsRow rows.old.items }
     requires apart { same_row_fault [] rows.old.items ≡ None }
@@ -151,7 +151,7 @@ pub fn in_order(rows: &mut Vec<Row>, far: Fields)
 }
 
 /// Gives equal rows, in the order of the given ones.
-pub fn copy_of(alloc: Global, rows: &[Row]) -> Result<Vec<Row>, AllocError>
+pub(crate) fn copy_of(alloc: Global, rows: &[Row]) -> Result<Vec<Row>, AllocError>
     ensures { IfOk result (λ copies. copies.items ≡ rows.now) }
 {
     let mut copies = Vec::with_capacity(alloc, rows.len())?;

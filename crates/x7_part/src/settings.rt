@@ -11,15 +11,15 @@ use crate::values::Values;
 
 /// The numbers of a part, each in its range.
 #[derive(Clone, Copy, Drop)]
-pub struct Settings {
-    pub idcode: u32,
-    pub mode: u8,
-    pub bus_width: u8,
-    pub lock: u16,
-    pub matched: u16,
-    pub words: u8,
-    pub far: Fields,
-    pub start_unit: u16,
+pub(crate) struct Settings {
+    pub(crate) idcode: u32,
+    pub(crate) mode: u8,
+    pub(crate) bus_width: u8,
+    pub(crate) lock: u16,
+    pub(crate) matched: u16,
+    pub(crate) words: u8,
+    pub(crate) far: Fields,
+    pub(crate) start_unit: u16,
 }
 
 /// The widths of the fields of an address, those of the 7 series where they aren't given.
@@ -54,7 +54,7 @@ fn numbers_in(values: &Values) -> Result<Settings, PartFault>
 
 /// The settings of a top table, or its first value that is out of range.
 #[tactic(auto, unfolding(crate::specs::PartChecks::top_range_fault))]
-pub fn settings_in(values: &Values) -> Result<Settings, PartFault>
+pub(crate) fn settings_in(values: &Values) -> Result<Settings, PartFault>
     ensures fault { fault_of_call result ≡ top_range_fault values.now }
     ensures value { IfOk result (λ settings. settings ≡ settings_of values.now) }
 {

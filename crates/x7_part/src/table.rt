@@ -50,7 +50,7 @@ fn add_row(
 }
 
 /// The table of rows that stand in number order.
-pub fn table_of(alloc: Global, far: Fields, rows: &[Row]) -> Result<Vec<Column>, AllocError>
+pub(crate) fn table_of(alloc: Global, far: Fields, rows: &[Row]) -> Result<Vec<Column>, AllocError>
     requires rows { AreRows far 0 rows.now }
     requires count { length rows.now ≤ 192 }
     requires frames { length (addresses far rows.now) ≤ 131072 }

@@ -19,7 +19,7 @@ fn value_under(table: &Table, key: PartKey) -> Option<&Value>
 }
 
 /// The text under a key.
-pub fn text(alloc: Global, table: &Table, at: Which) -> Result<String, PartFault>
+pub(crate) fn text(alloc: Global, table: &Table, at: Which) -> Result<String, PartFault>
     ensures fault { Tells (unless (has is_text (under at.key (table_view table.now))) (Key at)) result }
     ensures value { IfOk result (λ made. string_bytes made ≡ text at.key (table_view table.now)) }
 {
@@ -33,7 +33,7 @@ pub fn text(alloc: Global, table: &Table, at: Which) -> Result<String, PartFault
 }
 
 /// The whole number under a key.
-pub fn number(table: &Table, at: Which) -> Result<i64, PartFault>
+pub(crate) fn number(table: &Table, at: Which) -> Result<i64, PartFault>
     ensures fault { fault_of_call result ≡ unless (has is_whole (under at.key (table_view table.now))) (Key at) }
     ensures value { IfOk result (λ z. z ≡ number_or 0 at.key (table_view table.now)) }
 {
@@ -47,7 +47,7 @@ pub fn number(table: &Table, at: Which) -> Result<i64, PartFault>
 }
 
 /// The whole number under a key, `usual` where the key is left out.
-pub fn number_or(usual: u32, table: &Table, at: Which) -> Result<i64, PartFault>
+pub(crate) fn number_or(usual: u32, table: &Table, at: Which) -> Result<i64, PartFault>
     ensures fault { fault_of_call result ≡ unless (may_have is_whole (under at.key (table_view table.now))) (Key at) }
     ensures value { IfOk result (λ z. z ≡ number_or usual at.key (table_view table.now)) }
 {
@@ -77,7 +77,11 @@ fn wholes(alloc: Global, items: &[Value]) -> Result<Option<Vec<i64>>, AllocError
 }
 
 /// The whole numbers of the list under a key, none where the key is left out.
-pub fn numbers(alloc: Global, table: &Table, at: Which) -> Result<Option<Vec<i64>>, PartFault>
+pub(crate) fn numbers(
+    alloc: Global,
+    table: &Table,
+    at: Which,
+) -> Result<Option<Vec<i64>>, PartFault>
     ensures fault { Tells (unless (may_have is_list_of_wholes (under at.key (table_view table.now))) (Key at)) result }
     ensures value { IfOk result (λ made. option_map (λ zs. zs.items) made ≡ numbers_under at.key (table_view table.now)) }
 {
@@ -110,7 +114,7 @@ fn tables_among<'t>(alloc: Global, items: &'t [Value]) -> Result<Option<Vec<&'t 
 }
 
 /// The tables of the rows.
-pub fn rows<'t>(alloc: Global, table: &'t Table) -> Result<Vec<&'t Table>, PartFault>
+pub(crate) fn rows<'t>(alloc: Global, table: &'t Table) -> Result<Vec<&'t Table>, PartFault>
     ensures fault { Tells (unless (has is_list_of_tables (under key.Row (table_view table.now))) (Key (top key.Row))) result }
     ensures value { IfOk result (λ rows. map (λ t. table_view t.now) rows.items ≡ row_tables (table_view table.now)) }
 {

@@ -17,12 +17,12 @@ const USUAL_WORDS: u32 = 101;
 
 /// A row's values, and whether the row has these keys alone.
 #[derive(Drop)]
-pub struct RowValues {
-    pub block: i64,
-    pub half: i64,
-    pub row: i64,
-    pub minors: Vec<i64>,
-    pub known: bool,
+pub(crate) struct RowValues {
+    pub(crate) block: i64,
+    pub(crate) half: i64,
+    pub(crate) row: i64,
+    pub(crate) minors: Vec<i64>,
+    pub(crate) known: bool,
 }
 
 impl Model for RowValues {
@@ -33,18 +33,18 @@ impl Model for RowValues {
 
 /// The top table's values, and whether it has these keys alone. A number that is left out has its usual value.
 #[derive(Drop)]
-pub struct Values {
-    pub name: String,
-    pub idcode: i64,
-    pub mode: i64,
-    pub bus_width: i64,
-    pub lock: i64,
-    pub matched: i64,
-    pub words: i64,
-    pub far: Option<Vec<i64>>,
-    pub start_unit: i64,
-    pub rows: Vec<RowValues>,
-    pub known: bool,
+pub(crate) struct Values {
+    pub(crate) name: String,
+    pub(crate) idcode: i64,
+    pub(crate) mode: i64,
+    pub(crate) bus_width: i64,
+    pub(crate) lock: i64,
+    pub(crate) matched: i64,
+    pub(crate) words: i64,
+    pub(crate) far: Option<Vec<i64>>,
+    pub(crate) start_unit: i64,
+    pub(crate) rows: Vec<RowValues>,
+    pub(crate) known: bool,
 }
 
 impl Model for Values {
@@ -87,7 +87,7 @@ fn rows_values(alloc: Global, rows: &[&Table]) -> Result<Vec<RowValues>, PartFau
 
 /// The values of a part file, or the first key that is missing or of another type.
 #[tactic(auto, unfolding(crate::specs::PartChecks::type_fault))]
-pub fn values_of(alloc: Global, table: &Table) -> Result<Values, PartFault>
+pub(crate) fn values_of(alloc: Global, table: &Table) -> Result<Values, PartFault>
     ensures fault { Tells (type_fault (table_view table.now)) result }
     ensures value { IfOk result (λ values. values ≡ top_values (table_view table.now)) }
 {
@@ -108,7 +108,7 @@ pub fn values_of(alloc: Global, table: &Table) -> Result<Values, PartFault>
 
 /// An unknown key, at the top and then row by row.
 #[tactic(auto, unfolding(crate::specs::PartChecks::other_fault))]
-pub fn check_known(values: &Values) -> Result<(), PartFault>
+pub(crate) fn check_known(values: &Values) -> Result<(), PartFault>
     ensures { fault_of_call result ≡ other_fault values.now }
 {
     require(values.known, PartFault::Key(Which::top(PartKey::Other)))?;

@@ -170,7 +170,8 @@ impl Pipeline {
             return Err(RunFault::Overrun);
         }
         let first = part.place_of(self.base);
-        self.put_held(first, part, memory);
+        let mut near = 0;
+        self.put_held(first, &mut near, part, memory);
         push_word(&mut self.rest, word);
         std::mem::swap(&mut self.rest, &mut self.held);
         self.rest.clear();
@@ -265,10 +266,11 @@ impl Pipeline {
         let size = 4 * self.width as usize;
         let slots = slot_count(part, self.base);
         let first = part.place_of(self.base);
-        self.write_frame(&bytes[..size], first, part, memory);
+        let mut near = 0;
+        self.write_frame(&bytes[..size], first, &mut near, part, memory);
         let mut at = size;
         'frames: while self.has_next(size, bytes.len() - at, slots) {
-            self.write_frame(&bytes[at..at + size], first, part, memory);
+            self.write_frame(&bytes[at..at + size], first, &mut near, part, memory);
             at += size;
         }
         at
@@ -281,8 +283,16 @@ impl Pipeline {
         size <= left && self.frame_count < slots
     }
 
-    /// Puts the newest whole frame, and holds the next one. `first` slots stand before those from the base on.
-    fn write_frame(&mut self, bytes: &[u8], first: u64, part: &Part, memory: &mut Memory)
+    /// Puts the newest whole frame, and holds the next one. `first` slots stand before those from the base on, and `near` keeps
+    /// where the part looks for a slot first.
+    fn write_frame(
+        &mut self,
+        bytes: &[u8],
+        first: u64,
+        near: &mut usize,
+        part: &Part,
+        memory: &mut Memory,
+    )
         requires part { IsPipelineOf part.now self.old }
         requires memory { AreFramesOf part.now memory.old }
         requires frame { length bytes.now ≡ 4 * self.old.width }
@@ -294,7 +304,7 @@ impl Pipeline {
         ensures put { PutsNewest part.now self.old (frame_at part.now memory.old) (frame_at part.now memory.new) }
         ensures memory { AreFramesOf part.now memory.new }
     {
-        self.put_held(first, part, memory);
+        self.put_held(first, near, part, memory);
         hold(&mut self.held, bytes);
         self.frame_count += 1;
     }
@@ -307,8 +317,8 @@ impl Pipeline {
     }
 
     /// Puts the newest whole frame, where there is one and its slot is an address. `first` slots stand before those from the
-    /// base on.
-    fn put_held(&self, first: u64, part: &Part, memory: &mut Memory)
+    /// base on, and `near` keeps where the part looks for a slot first.
+    fn put_held(&self, first: u64, near: &mut usize, part: &Part, memory: &mut Memory)
         requires part { IsPipelineOf part.now self.now }
         requires memory { AreFramesOf part.now memory.old }
         requires slot { self.now.frame_count < length (slots_from part.now self.now.base) }
@@ -321,7 +331,7 @@ impl Pipeline {
         if self.frame_count == 0 {
             return;
         }
-        if let Some(rank) = part.rank_at(first + (self.frame_count - 1)) {
+        if let Some(rank) = part.rank_at(first + (self.frame_count - 1), near) {
             memory.put_at_rank(part, rank, &self.held);
         }
     }

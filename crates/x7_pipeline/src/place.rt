@@ -7,14 +7,14 @@ ghost use Rattle.x7_pipeline.specs.FarAsRead.{far_at as address_at, last_address
 use x7_part::{Part, Slot};
 
 /// Whether the part has a frame at the address.
-pub fn is_base(part: &Part, far: u32) -> bool
+pub(crate) fn is_base(part: &Part, far: u32) -> bool
     ensures { result ≡ has_frame_at part.now far }
 {
     part.is_address(far)
 }
 
 /// The number of slots from an address on, 0 for what is no address.
-pub fn slot_count(part: &Part, far: u32) -> u64
+pub(crate) fn slot_count(part: &Part, far: u32) -> u64
     ensures value { result ≡ length (slots_from part.now far) }
     ensures limit { result < 2 ^ 31 }
 {
@@ -28,7 +28,7 @@ pub fn slot_count(part: &Part, far: u32) -> u64
 }
 
 /// Slot n of the slots from an address on, `End` where there is none, and for what is no address.
-pub fn slot_at(part: &Part, far: u32, n: u64) -> Slot
+pub(crate) fn slot_at(part: &Part, far: u32, n: u64) -> Slot
     ensures { result ≡ slice_index_or (slots_from part.now far) n Slot.End }
 {
     if part.is_address(far) {
@@ -39,7 +39,7 @@ pub fn slot_at(part: &Part, far: u32, n: u64) -> Slot
 }
 
 /// The slot of frame `frame` of a readback, from 0 on: a pad, and then the slots from the address on.
-pub fn slot_read(part: &Part, far: u32, frame: u64) -> Slot
+pub(crate) fn slot_read(part: &Part, far: u32, frame: u64) -> Slot
     ensures { result ≡ slice_index_or (Slot.Pad ∷ slots_from part.now far) frame Slot.End }
 {
     if frame == 0 {
@@ -50,7 +50,7 @@ pub fn slot_read(part: &Part, far: u32, frame: u64) -> Slot
 
 /// The first address at or after slot n of those from the base on, and the last address where there is none; the base
 /// itself where it is no address.
-pub fn far_at(part: &Part, base: u32, n: u64) -> u32
+pub(crate) fn far_at(part: &Part, base: u32, n: u64) -> u32
     ensures { result ≡ address_at part.now base n }
 {
     if !part.is_address(base) {

@@ -1,22 +1,19 @@
-use Rattle.std.proofs.Common.{◌-◌, arith}
-use Rattle.x7_part.proofs.ColumnLemmas.{slot_rank, no_frame, no_frame_first, nothing}
+use Rattle.std.proofs.Common.{◌-◌, ℕ, Option, Some, None, arith}
+use Rattle.std.specs.Prelude.{IfNone}
+use Rattle.x7_part.proofs.ColumnLemmas.{no_frame, no_frame_first, nothing}
 use Rattle.x7_part.proofs.column.rank_at.Goals as goal
 
-pub overflow_add-result : goal.overflow_add-result
-overflow_add-result c =
-    let r = slot_rank c.args.columns.now c.requires.table (c.begun_by_slot-after.result - 1) c.args.place nothing (omega arith)
-    (c.begun_by_slot-after.ensures.before (c.begun_by_slot-after.result - 1) nothing (omega arith)) (omega (arith, c.if-offset-from.true, c.from.ensures)) in
-    let here = r.0 in let few = c.requires.fits in record { fits = omega (arith, here, few) }
+none_by : (rank : Option ℕ) (P Q : Type 0) → (P → Q) → IfNone rank P → IfNone rank Q
+none_by None P Q f p = f p
+none_by (Some r) P Q f p = tt
 
 pub returns-then-after-eq0-clause-none : goal.returns-then-after-eq0-clause-none
 returns-then-after-eq0-clause-none c far = no_frame_first c.args.columns.now c.args.place far c.requires.table (λ k d h. c.begun_by_slot-after.ensures.after k d (omega arith) h)
 
-pub returns-then-offset-from-clause-found : goal.returns-then-offset-from-clause-found
-returns-then-offset-from-clause-found c =
-    slot_rank c.args.columns.now c.requires.table (c.begun_by_slot-after.result - 1) c.args.place nothing (omega arith)
-    (c.begun_by_slot-after.ensures.before (c.begun_by_slot-after.result - 1) nothing (omega arith)) (omega (arith, c.if-offset-from.true, c.from.ensures))
-
-pub returns-else-offset-from-clause-none : goal.returns-else-offset-from-clause-none
-returns-else-offset-from-clause-none c far =
-    no_frame c.args.columns.now c.args.place c.begun_by_slot-after.result far c.requires.table c.begun_by_slot-after.ensures.within
-    c.if-after-eq0.false c.begun_by_slot-after.ensures.before c.begun_by_slot-after.ensures.after (omega (arith, c.if-offset-from.false, c.from.ensures))
+pub returns-clause-none : goal.returns-clause-none
+returns-clause-none c =
+    let before = c.begun_by_slot-after.ensures.before (c.begun_by_slot-after.result - 1) nothing (omega arith) in
+    let within = c.begun_by_slot-after.ensures.within in
+    none_by c.rank_in-2.result _ _
+    (λ past far. no_frame c.args.columns.now c.args.place c.begun_by_slot-after.result far c.requires.table within
+    c.if-after-eq0.false c.begun_by_slot-after.ensures.before c.begun_by_slot-after.ensures.after (past nothing (omega arith) before)) c.rank_in-2.ensures.none
