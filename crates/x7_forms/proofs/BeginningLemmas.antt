@@ -21,7 +21,7 @@ use Rattle.x7_listing.specs.StreamListing.{listing_by, stream_listing}
 use Rattle.x7_listing.proofs.BitLemmas.{header-limit}
 use Rattle.x7_forms.specs.Event.{Event, read_fault, too_large}
 use Rattle.x7_forms.specs.Known.{stream_limit}
-use Rattle.x7_forms.specs.Turn.{BeginAt, ReadsBeginning, HoldsFew, IsBeginning, IsRefused, NoLetterGiven, Reads, RefusedAt, UnreadBeginning, Unread}
+use Rattle.x7_forms.specs.Turn.{BeginAt, ReadsBeginning, HoldsFew, IsBeginning, IsRefused, NoLetterGiven, Reads, RefusedAt, UnreadBeginning, Unread, longest_header, turn_bytes}
 use Rattle.x7_forms.proofs.HeadLemmas.{gives_self}
 use Rattle.x7_forms.proofs.ReadLemmas.{reads_as, reads_on}
 
@@ -82,7 +82,7 @@ pub cut_refused : (bytes : List ℕ) (last : Bool) (place : ℕ) → last ≡ tr
 cut_refused bytes last place e h = λ rest more. ap (λ r. stream_listing (bytes ++ r)) (more e) ∙ ap stream_listing (append-nil bytes) ∙ ap (listing_by bytes) h
 
 -- bytes that end inside a header are few
-pub few_in_header : (bytes : List ℕ) → EndsInHeader bytes → length bytes ≤ 262170
+pub few_in_header : (bytes : List ℕ) → EndsInHeader bytes → length bytes ≤ longest_header
 few_in_header bytes h = omega (arith, header-limit h.header h.have_header, ap length h.goes_on, length-append bytes (h.next ∷ h.missing))
 
 -- a turn more of a stream's beginning
@@ -91,7 +91,7 @@ joined_taken old mid new a b c d e f g h = e ∙ ap (preceded a) f ∙ preceded-
 
 -- ---- no byte is read behind the one that judges a header
 
--- these bytes judge a header, whatever follows
+-- a prefix judges a header, whatever follows
 abbrev Judge : List ℕ → Type 0
 Judge prefix = (rest : List ℕ) (place : ℕ) → header_at (prefix ++ rest) ≡ Err (header.Cut place) → ⊥
 
@@ -218,7 +218,7 @@ letter_late (x ∷ old) rest all n place some e fixed waits waiting h =
         let less : place + 1 < length (x ∷ old) + n = grind (arith, l) in
         absurd (judged_late (x ∷ old) rest f.prefix f.more n (nat_le (length f.prefix) (length (x ∷ old))) refl w some f.parts f.judges (omega (arith, f.size, less)))
 
--- none was given where the bytes before are those that were read, and fewer than so many more were given
+-- no letter at which a header would be refused was given, where the bytes before were read and fewer more were given than are wanted
 pub none_given : (old mid new : InputsState) (bytes all : List ℕ) (n count : ℕ) → 0 < n → count ≤ n → all ≡ bytes → (length all < 13 → length all + n ≡ 13) → (EndsInHeader all → HeaderWaits all n) → (0 < length bytes → EndsInHeader bytes)
     → Reads old bytes mid → new.given < mid.given + count → NoLetterGiven old new
 none_given old mid new bytes all n count some few e fixed waits waiting r g told place is h = by mid.rest refl
@@ -280,7 +280,7 @@ piece_of (x ∷ old) mid piece all bytes n a b c e s f h g = record {
 
 -- the beginning that was read
 pub beginning_read : (old mid piece bytes line : List ℕ) (n start : ℕ) (last : Bool) (s0 s1 s2 : InputsState) → IsPiece old piece bytes n → mid ≡ old ++ piece → bytes ≡ mid → Reads s0 old s1 → Takes s1 piece s2 → s2.asked ≡ s1.asked → Stays s1 s2 → (last ≡ true → AtEnd s2.rest)
-    → length old ≤ 262170 → length piece ≤ 65536 → (start ≤ length bytes) × IsBeginning bytes last line start → BeginAt bytes start → ReadsBeginning mid line start last s0 s2
+    → length old ≤ longest_header → length piece ≤ turn_bytes → (start ≤ length bytes) × IsBeginning bytes last line start → BeginAt bytes start → ReadsBeginning mid line start last s0 s2
 beginning_read old mid piece bytes line n start last s0 s1 s2 p a b r t q k e few short j begin =
     subst (λ (m : List ℕ). ReadsBeginning m line start last s0 s2) b (record {
       reads = reads_as s0 s2 bytes (old ++ piece) (b ∙ a) (reads_on s0 s1 s2 old piece r t q k);

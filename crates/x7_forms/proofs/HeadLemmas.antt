@@ -14,6 +14,7 @@ use Rattle.x7_header.specs.declared.fault.HeaderFault.{HeaderFault}
 use Rattle.x7_header.specs.declared.fault.HeaderFault.TheVariants as header
 use Rattle.x7_header.proofs.CutLemmas.{is_cut}
 use Rattle.x7_header.proofs.HeaderLemmas.{field_at_place, header_again, header_refused, header_takes, is_short, raw_at}
+use Rattle.x7_forms.specs.Turn.{longest_header}
 use Rattle.x7_forms.specs.Event.{Event}
 use Rattle.x7_forms.specs.Known.{and_so, data_by, data_in}
 
@@ -74,7 +75,7 @@ gives_self (Ok x) = refl
 gives_self (Err e) = refl
 
 -- a header that is cut has fewer bytes than the longest
-cut_short : (bytes : List ℕ) (place : ℕ) → AreBytes bytes → header_at bytes ≡ Err (header.Cut place) → length bytes < 262170
+cut_short : (bytes : List ℕ) (place : ℕ) → AreBytes bytes → header_at bytes ≡ Err (header.Cut place) → length bytes < longest_header
 cut_short bytes place fits e =
     let ends : EndsInHeader bytes = ((is_cut (λ (x : Contents × ℕ). x) (header_at bytes) bytes fits (gives_self (header_at bytes)) place).0 e).1 in
     let whole : header_bytes ends.header ++ [] ≡ bytes ++ ends.next ∷ ends.missing = append-nil (header_bytes ends.header) ∙ ends.goes_on in
@@ -87,7 +88,7 @@ with_none : (r : Result (List ℕ) Event) → r ≡ and_so r (λ after. Ok (afte
 with_none (Ok after) = ap Ok (sym (append-nil after))
 with_none (Err event) = refl
 
-data_long : (name bytes more : List ℕ) → AreBytes bytes → 262170 ≤ length bytes → (r : Result (Contents × ℕ) HeaderFault) → header_at bytes ≡ r → data_in name (bytes ++ more) ≡ and_so (data_by name bytes r) (λ after. Ok (after ++ more))
+data_long : (name bytes more : List ℕ) → AreBytes bytes → longest_header ≤ length bytes → (r : Result (Contents × ℕ) HeaderFault) → header_at bytes ≡ r → data_in name (bytes ++ more) ≡ and_so (data_by name bytes r) (λ after. Ok (after ++ more))
 data_long name bytes more fits long (Ok x) e =
     let m = read_more bytes more x fits e in
     ap (data_by name (bytes ++ more)) m.0 ∙ ap Ok m.1
@@ -96,7 +97,7 @@ data_long name bytes more fits long (Err (header.Field place)) e = ap (data_by n
 data_long name bytes more fits long (Err (header.Cut place)) e = absurd (omega (arith, long, cut_short bytes place fits e))
 
 -- the data of a stream by its first bytes, which are all of it or as many as the longest header has
-pub data_more : (name bytes more : List ℕ) → AreBytes bytes → (more ≡ []) ⊎ (262170 ≤ length bytes) → data_in name (bytes ++ more) ≡ and_so (data_in name bytes) (λ after. Ok (after ++ more))
+pub data_more : (name bytes more : List ℕ) → AreBytes bytes → (more ≡ []) ⊎ (longest_header ≤ length bytes) → data_in name (bytes ++ more) ≡ and_so (data_in name bytes) (λ after. Ok (after ++ more))
 data_more name bytes more fits (inr long) = data_long name bytes more fits long (header_at bytes) refl
 data_more name bytes more fits (inl none) =
     ap (λ m. data_in name (bytes ++ m)) none ∙ ap (data_in name) (append-nil bytes) ∙ with_none (data_in name bytes) ∙ ap (λ m. and_so (data_in name bytes) (λ after. Ok (after ++ m))) (sym none)

@@ -12,7 +12,7 @@ use Rattle.x7_engine.specs.State.{memory_in, reads_of, state_of, stop_in}
 use Rattle.x7_engine.specs.Stops.{Stopped}
 use Rattle.x7_forms.specs.Known.{Known, part_by, reads_limit, Mishap}
 use Rattle.x7_part.specs.PartFile.{part_in}
-use Rattle.x7_forms.specs.Play.{IsPlayed, emptied, part_event}
+use Rattle.x7_forms.specs.Play.{IsPlayed, emptied, part_event, reads_room}
 use Rattle.x7_forms.specs.Step.{IsCaused}
 use Rattle.x7_forms.proofs.ReadLemmas.{works}
 use Rattle.x7_engine.proofs.ReadsLemmas.{reads_grow}
@@ -35,20 +35,20 @@ refused known C name text (part.TooMany n) (inr h) = works known C (part_by name
 pub words_are : (old new : ReadBufState) (more : List ℕ) → new ≡ with_words old more → old ≡ emptied → new.words ≡ more
 words_are old new more e o = ap (λ (b : ReadBufState). b.words) e ∙ ap (λ (b : ReadBufState). gathered b.most b.words more) o
 
-pub most_is : (old new : ReadBufState) (more : List ℕ) → new ≡ with_words old more → old ≡ emptied → new.most ≡ Some 4096
+pub most_is : (old new : ReadBufState) (more : List ℕ) → new ≡ with_words old more → old ≡ emptied → new.most ≡ Some reads_room
 most_is old new more e o = ap (λ (b : ReadBufState). b.most) e ∙ ap (λ (b : ReadBufState). b.most) o
 
-pub emptied_again : (full empty : ReadBufState) → empty ≡ record full { words = [] } → full.most ≡ Some 4096 → empty ≡ emptied
+pub emptied_again : (full empty : ReadBufState) → empty ≡ record full { words = [] } → full.most ≡ Some reads_room → empty ≡ emptied
 emptied_again full empty e m = e ∙ ap (λ (most : Option ℕ). record { most = most; words = [] }) m
 
-pub full_words : (b : ReadBufState) → b.most ≡ Some 4096 → IsFull b → length b.words ≡ 4096
+pub full_words : (b : ReadBufState) → b.most ≡ Some reads_room → IsFull b → length b.words ≡ reads_room
 full_words b m f = subst (λ (most : Option ℕ). IsFullBy most (length b.words)) m f
 
 -- ---- the ends of a play
 
 -- more words than the limit were told
-pub over_limit : (part : PartData) (d : DeviceState) (bytes reads words prefix rest : List ℕ) → AreBytes bytes → bytes ≡ prefix ++ rest → reads_given part on_the_bench d prefix ≡ reads ++ words → 16777216 < length reads + length words
-    → 16777216 < length (reads_of part on_the_bench bytes)
+pub over_limit : (part : PartData) (d : DeviceState) (bytes reads words prefix rest : List ℕ) → AreBytes bytes → bytes ≡ prefix ++ rest → reads_given part on_the_bench d prefix ≡ reads ++ words → reads_limit < length reads + length words
+    → reads_limit < length (reads_of part on_the_bench bytes)
 over_limit part d bytes reads words prefix rest fits split told k =
     let grown = reads_grow part on_the_bench prefix rest (subst (λ x. AreBytes x) split fits) in
     let all : length (reads_of part on_the_bench bytes) ≡ length (reads_of part on_the_bench prefix) + length grown.0

@@ -176,7 +176,7 @@ on_none p = λ part bytes h. subst (λ b. HasPlayed part b p) (sym (append-nil b
 pub on_on : (p q r : Player) (first second : List ℕ) → PlaysOn p q first → PlaysOn q r second → PlaysOn p r (first ++ second)
 on_on p q r first second a b = λ part bytes h. subst (λ x. HasPlayed part x r) (append_assoc bytes first second) (b part (bytes ++ first) (a part bytes h))
 
--- which of both a player is
+-- what a player was given, by whether it is over
 pub is_over : (over : Bool) (part : PartData) (bytes : List ℕ) (s : PlayState) → over ≡ true → HasPlayedBy over part bytes s → ReadsOver part bytes
 is_over true part bytes s e h = h
 is_over false part bytes s e h = absurd (cc)
@@ -201,7 +201,7 @@ some_fits : (piece : List ℕ) (n : ℕ) → AreBytes piece → AreBytes (take n
 some_fits piece n fits = all_front (λ b. b < 256) (take n piece) (drop n piece) (subst (λ x. AreBytes x) (sym (take-append-drop n piece)) fits)
 
 pub turn_over : (part : PartData) (bytes piece : List ℕ) (at n : ℕ) (d e : DeviceState) (reads more : List ℕ) → AreBytes bytes → AreBytes piece → (s : Plays part (bytes ++ take at piece) d reads) → (IsSome (stop_in part on_the_bench s.taken) → n ≡ 0)
-    → reads_given part on_the_bench e (s.taken ++ take n (drop at piece)) ≡ reads_given part on_the_bench d s.taken ++ more → 16777216 < length reads + length more → ReadsOver part (bytes ++ piece)
+    → reads_given part on_the_bench e (s.taken ++ take n (drop at piece)) ≡ reads_given part on_the_bench d s.taken ++ more → reads_limit < length reads + length more → ReadsOver part (bytes ++ piece)
 turn_over part bytes piece at n d e reads more fb fp s still told many =
     let fits : AreBytes (bytes ++ piece) = all-append (λ b. b < 256) bytes piece fb fp in
     let rest = behind part (bytes ++ take at piece) (drop at piece) n d reads s still in

@@ -20,7 +20,7 @@ use Rattle.x7_part.specs.PartFile.{part_in}
 use Rattle.x7_forms.specs.declared.bad_input.InputFault.TheVariants as input
 use Rattle.x7_forms.specs.Event.{Event, bad_input, missing, no_memory, read_fault, too_large}
 use Rattle.x7_forms.specs.Known.{Absent, Broken, Failing, Found, Held, Known, Lacking, Mishap, StreamRead, and_so, broken_at, data_by, data_in, data_of, found, known_of, mishap_event, part_by, part_limit, part_of, put_before, read_of, spoiled, spoiled_name, taken_whole, whole_in, with_inputs, with_mishap}
-use Rattle.x7_forms.specs.Turn.{Breaks, IsAt, Reads, Unopened, Unread, UnreadRest}
+use Rattle.x7_forms.specs.Turn.{Breaks, IsAt, Reads, Unopened, Unread, UnreadRest, longest_header}
 use Rattle.x7_forms.proofs.HeadLemmas.{data_more}
 use Rattle.x7_forms.specs.Step.{Among, AnswersAs, AnswersBy, CameIn, DueBy, FailsAmong, IsCaused, IsCausedBy, IsDecided, IsDue, IsFromOutside, IsNoPart, IsOneUnplayed, IsPossible, IsUnplayed, IsUnread, LacksAmong, step_over}
 use Rattle.x7_forms.specs.Play.{part_event}
@@ -114,13 +114,13 @@ pub outside_goes : (A B : Type 0) (known : Option Known) (C D : Mishap → Type 
 outside_goes A B known C D Due Next event f g (inl h) = inl h
 outside_goes A B known C D Due Next event f g (inr h) = inr (record { mishap = h.mishap; came = f h.mishap h.came; is = h.is; due = g h.mishap h.is h.due })
 
--- the same of other names, and of counts of more calls
+-- a cause over some names and counts of calls is one over more names and later counts
 pub caused_on_by : (A : Type 0) (known : Option Known) (C D : Mishap → Type 0) (Due : Known → Result A Event → Type 0) (got : Result A Event) → ((m : Mishap) → C m → D m) → IsCausedBy known C Due got → IsCausedBy known D Due got
 caused_on_by A known C D Due (Ok a) f (inl h) = absurd h
 caused_on_by A known C D Due (Err event) f (inl h) = inl (outside_goes A A known C D Due Due event f (λ m e q. q) h)
 caused_on_by A known C D Due got f (inr h) = inr h
 
--- the same event
+-- a cause of an event, by an equal event
 pub caused_event : {A : Type 0} (known : Option Known) (C : Mishap → Type 0) (due : Known → Result A Event) (x y : Event) → x ≡ y → IsCaused known C due (Err y) → IsCaused known C due (Err x)
 caused_event known C due x y e h = subst (λ (event : Event). IsCaused known C due (Err event)) (sym e) h
 
@@ -360,7 +360,7 @@ reads_on old mid new taken piece r t a s = record { takes = takes_on old mid new
 pub reads_none : (s : InputsState) → s.selected ≡ true → Reads s [] s
 reads_none s e = record { takes = takes_none s e; asked = refl; stays = stays_at s }
 
--- the same bytes by another name
+-- bytes that were read, by equal bytes
 pub reads_as : (old new : InputsState) (bytes same : List ℕ) → bytes ≡ same → Reads old same new → Reads old bytes new
 reads_as old new bytes same e r = subst (λ (b : List ℕ). Reads old b new) (sym e) r
 
@@ -402,8 +402,8 @@ none_more inputs name first [] mid (Some rest) s e h = refl
 none_more inputs name first (x ∷ more) mid (Some rest) s e h = let none = rw e at h in absurd (cc)
 
 -- the first turn is the whole stream, or has as many bytes as the longest header
-enough : (inputs : List ℕ → Option (List ℕ)) (name first more : List ℕ) (mid rest : Option (List ℕ)) (last : Bool) → Selects (Some inputs) name (preceded first mid) → mid ≡ preceded more rest → (last ≡ true → AtEnd mid) → (last ≡ false → 262170 ≤ length first)
-    → (more ≡ []) ⊎ (262170 ≤ length first)
+enough : (inputs : List ℕ → Option (List ℕ)) (name first more : List ℕ) (mid rest : Option (List ℕ)) (last : Bool) → Selects (Some inputs) name (preceded first mid) → mid ≡ preceded more rest → (last ≡ true → AtEnd mid) → (last ≡ false → longest_header ≤ length first)
+    → (more ≡ []) ⊎ (longest_header ≤ length first)
 enough inputs name first more mid rest true s e end long = inl (none_more inputs name first more mid rest s e (end refl))
 enough inputs name first more mid rest false s e end long = inr (long refl)
 
@@ -412,7 +412,7 @@ sum_more first more left limit n l = (omega (arith, n, l, length-append first mo
 
 -- a stream whose data were read turn by turn
 pub stream_read : (contents : Option (List ℕ → Option (List ℕ))) (flash : Option (List ℕ)) (C : Mishap → Type 0) (name first more after : List ℕ) (mid rest : Option (List ℕ)) (limit left : ℕ) (last : Bool) → Selects contents name (preceded first mid) → mid ≡ preceded more rest → AtEnd rest
-    → (last ≡ true → AtEnd mid) → (last ≡ false → 262170 ≤ length first) → AreBytes first → length more + left ≡ limit - length first → length first ≤ limit → Ok after ≡ data_in name first
+    → (last ≡ true → AtEnd mid) → (last ≡ false → longest_header ≤ length first) → AreBytes first → length more + left ≡ limit - length first → length first ≤ limit → Ok after ≡ data_in name first
     → IsCaused (with_inputs contents flash) C (λ t. read_of t limit name) (Ok (record { bytes = after ++ more; room = left }))
 stream_read None flash C name first more after mid rest limit left last s e end ends long fits n l head = inr tt
 stream_read (Some inputs) flash C name first more after mid rest limit left last s e end ends long fits n l head =
@@ -503,9 +503,6 @@ at_open name s a = record { asked = a.asked; given = omega (arith, a.given) }
 pub at_on : (name taken piece : List ℕ) (mid new : InputsState) → IsAt name taken mid → Takes mid piece new → new.asked ≡ mid.asked → IsAt name (taken ++ piece) new
 at_on name taken piece mid new a t q = record { asked = subst (λ (k : Option (List ℕ)). IfSome k (λ kept. kept ≡ name)) (sym q) a.asked; given = omega (arith, a.given, t.given, length-append taken piece) }
 
-pub at_read : (name bytes : List ℕ) (opened now : InputsState) → Asks name opened → Reads opened bytes now → IsAt name bytes now
-at_read name bytes opened now a r = record { asked = asked_on name opened now a r.asked; given = omega (arith, a.given, r.takes.given) }
-
 -- an input that failed within its limit
 pub at_fault : (old mid new : InputsState) (name taken : List ℕ) (left : ℕ) → Stays old mid → IsAt name taken mid → Breaks mid (left + 1) new → new.asked ≡ mid.asked → FailsAmong (name ∷ []) old new name × (new.given ≤ length taken + left)
 at_fault old mid new name taken left k a b q =
@@ -524,7 +521,7 @@ turn_refused old mid new flash name taken limit left event k s a n (inr h) q =
     caused_event (with_inputs old.contents flash) (CameIn (step_over (name ∷ []) old new)) (λ t. whole_in t limit name) event (too_large name) h.0
     (over_whole old.contents flash (CameIn (step_over (name ∷ []) old new)) name (taken ++ piece) new.rest limit all (omega (arith, n, h.1.1.1, length-append taken piece)))
 
--- the same of a stream whose data are read
+-- a stream whose data are read, and whose rest was not
 pub stream_unread : (old opened new : InputsState) (flash : Option (List ℕ)) (name : List ℕ) (limit : ℕ) (event : Event) → Stays old opened → Selects old.contents name opened.rest → Asks name opened → (event ≡ no_memory) ⊎ UnreadRest opened name new limit event
     → IsCaused (with_inputs old.contents flash) (CameIn (step_over (name ∷ []) old new)) (λ t. read_of t limit name) (Err event)
 stream_unread old opened new flash name limit event k s a h =
@@ -539,7 +536,7 @@ stream_unopened old new flash name limit event u a =
 
 -- a stream whose header is refused, after it was read to its end
 pub stream_refused : (contents : Option (List ℕ → Option (List ℕ))) (flash : Option (List ℕ)) (C : Mishap → Type 0) (name first more : List ℕ) (mid rest : Option (List ℕ)) (limit : ℕ) (last : Bool) (event : Event) → Selects contents name (preceded first mid) → mid ≡ preceded more rest → AtEnd rest
-    → (last ≡ true → AtEnd mid) → (last ≡ false → 262170 ≤ length first) → AreBytes first → length more ≤ limit - length first → length first ≤ limit → Err event ≡ data_in name first
+    → (last ≡ true → AtEnd mid) → (last ≡ false → longest_header ≤ length first) → AreBytes first → length more ≤ limit - length first → length first ≤ limit → Err event ≡ data_in name first
     → IsCaused (with_inputs contents flash) C (λ t. read_of t limit name) (Err event)
 stream_refused None flash C name first more mid rest limit last event s e end ends long fits n l head = inr (head_by StreamRead name first (header_at first) event (sym head)).0
 stream_refused (Some inputs) flash C name first more mid rest limit last event s e end ends long fits n l head =
@@ -587,7 +584,7 @@ answers_end A B names old new due next a got steady h (inr q) flash =
     follows (with_inputs old.contents flash) (CameIn (step_over names old new)) (CameIn (step_over names old new)) due (λ t x. next x) a got steady (h flash)
     (works (with_inputs old.contents flash) (CameIn (step_over names old new)) (next a) got q.0 q.1 q.2)
 
--- the same where a relation says what the next step comes to
+-- a step that ended the command, where a relation says what the next step comes to
 pub answers_kept : (A B : Type 0) (names : List (List ℕ)) (old new : InputsState) (due : Known → Result A Event) (Next : Result A Event → Result B Event → Type 0) (event : Event) → ((x : Event) → Next (Err x) (Err x))
     → AnswersAs {A = A} (step_over names old new) due (Err event) → AnswersBy {A = B} (step_over names old new) (λ t end. Next (due t) end) (Err event)
 answers_kept A B names old new due Next event keeps h flash = unread_by (with_inputs old.contents flash) (CameIn (step_over names old new)) due event Next keeps (h flash)

@@ -10,10 +10,6 @@ use Rattle.x7_forms.specs.Stop.{IsAbout, Limited, StopsAmong, limited, limited_t
 use Rattle.x7_forms.specs.Turn.{GivesFew, IsAt, Reads, StandsAt, UnreadBeginning, Unopened}
 use Rattle.x7_forms.proofs.ReadLemmas.{asked_on, left_at}
 
--- nothing was read
-pub gives_none : (s : InputsState) (left : ℕ) → GivesFew s left s
-gives_none s left = record { asked = refl; selects = refl; given = omega arith }
-
 -- a turn behind what was read
 pub gives_on : (old mid new : InputsState) (taken : List ℕ) (limit left : ℕ) → Reads old taken mid → length taken + left ≡ limit → GivesFew mid left new → GivesFew old limit new
 gives_on old mid new taken limit left r n g = record { asked = g.asked ∙ r.asked; selects = g.selects ∙ r.takes.selects; given = omega (arith, n, r.takes.given, g.given) }

@@ -28,9 +28,13 @@ pub record ReadsOver (part : PartData) (bytes : List ℕ) : Type 0 where
   pub fits : AreBytes bytes
   pub many : reads_limit < length (reads_of part on_the_bench bytes)
 
+-- how many words a device reads out before they are moved out of the buffer
+abbrev pub reads_room : ℕ
+reads_room = 4096
+
 -- a buffer for words read out that holds none
 abbrev pub emptied : ReadBufState
-emptied = record { most = Some 4096; words = [] }
+emptied = record { most = Some reads_room; words = [] }
 
 -- what a player has: its device, the words read out that are still in its buffer, and those that were moved out of it
 pub record PlayState : Type 0 where

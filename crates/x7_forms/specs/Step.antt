@@ -40,7 +40,7 @@ pub record InputStep : Type 0 where
 abbrev pub step_over : List (List ℕ) → InputsState → InputsState → InputStep
 step_over names before after = record { names = names; before = before; after = after }
 
--- this mishap came in a step: an input of one of its names failed after the bytes that were given of it, or was missing
+-- a mishap came in a step: an input of one of its names failed after the bytes that were given of it, or was missing
 abbrev pub CameIn : InputStep → Mishap → Type 0
 CameIn step (Failing name given) = (given ≡ step.after.given) × FailsAmong step.names step.before step.after name
 CameIn step (Lacking name) = LacksAmong step.names step.before step.after name

@@ -8,6 +8,22 @@ use Rattle.x7_forms.specs.Known.{stream_limit}
 use Rattle.x7_listing.specs.Listing.{listing_of}
 use Rattle.x7_listing.specs.StreamListing.{stream_listing}
 
+-- the most bytes that one turn of a whole input or of a listing reads
+abbrev pub turn_bytes : ℕ
+turn_bytes = 65536
+
+-- the most bytes of a stream's header: the fixed 13, four fields of a letter, two bytes of a count and up to 65,535 others, and a letter with four bytes
+abbrev pub longest_header : ℕ
+longest_header = 262170
+
+-- the most bytes that are read of a stream until its header is judged: a turn more than a header may have
+abbrev pub longest_beginning : ℕ
+longest_beginning = 327706
+
+-- the most bytes that one turn of a stream that is played reads: no fewer than a header may have, so that the first turn judges it
+abbrev pub play_turn_bytes : ℕ
+play_turn_bytes = 266240
+
 -- an input was not opened: its name isn't there, or the inputs failed
 abbrev pub Unopened : InputsState → List ℕ → InputsState → Event → Type 0
 Unopened old name new event = (((event ≡ missing name) × Misses old name new) ⊎ ((event ≡ read_fault name) × Fails old new)) × (new.selected ≡ false)
@@ -78,14 +94,14 @@ IsBeginning bytes last line start = (rest : List ℕ) → MayFollow last rest �
 
 -- bytes that end inside a header, of a stream that may have more
 abbrev pub HeaderGoesOn : List ℕ → Bool → Type 0
-HeaderGoesOn bytes last = (last ≡ false) × (length bytes ≤ 262170) × EndsInHeader bytes
+HeaderGoesOn bytes last = (last ≡ false) × (length bytes ≤ longest_header) × EndsInHeader bytes
 
 -- what was read of a stream when its header is judged
 pub record ReadsBeginning (bytes line : List ℕ) (start : ℕ) (last : Bool) (old new : InputsState) : Type 0 where
   pub reads : Reads old bytes new
   pub end : last ≡ true → AtEnd new.rest
   pub within : start ≤ length bytes
-  pub few : length bytes ≤ 327706
+  pub few : length bytes ≤ longest_beginning
   pub holds_few : HoldsFew bytes start
   pub begins : IsBeginning bytes last line start
 

@@ -4,7 +4,7 @@ ghost use Rattle.x7_words.specs.Input.{Stays};
 ghost use Rattle.x7_forms.specs.Event.{bad_input, no_memory};
 ghost use Rattle.x7_forms.specs.Message.{event_of};
 ghost use Rattle.x7_forms.specs.Known.{stream_limit};
-ghost use Rattle.x7_forms.specs.Turn.{BeginAt, GivesFew, HeaderGoesOn, IsBeginning, IsRefused, ReadsBeginning, RefusedAt, UnreadBeginning};
+ghost use Rattle.x7_forms.specs.Turn.{BeginAt, GivesFew, HeaderGoesOn, IsBeginning, IsRefused, ReadsBeginning, RefusedAt, UnreadBeginning, longest_beginning};
 ghost use Rattle.x7_forms.specs.declared.bad_input.InputFault.TheVariants as input;
 
 use crate::bad_input::InputFault;
@@ -43,7 +43,8 @@ fn judge<'w>(
     ensures judged { IfOk result (λ found. MatchOption found (HeaderGoesOn bytes.now last)
         (λ judged. (judged.start ≤ length bytes.now) × IsBeginning bytes.now last judged.line.items judged.start)) }
     ensures begin { IfOk result (λ found. MatchOption found (Unit {0}) (λ judged. BeginAt bytes.now judged.start)) }
-    ensures refused { IfErr result (λ r. (event_of r ≡ no_memory) ⊎ ((place : ℕ) × (event_of r ≡ bad_input name.now (input.Byte place)) × IsRefused bytes.now last place × RefusedAt bytes.now place)) }
+    ensures refused { IfErr result (λ r. (event_of r ≡ no_memory)
+        ⊎ ((place : ℕ) × (event_of r ≡ bad_input name.now (input.Byte place)) × IsRefused bytes.now last place × RefusedAt bytes.now place)) }
 {
     match header_of(bytes) {
         Ok(head) => match header_line(alloc, &head) {
@@ -92,7 +93,7 @@ pub fn read_beginning<'w, I: Inputs>(
     ensures begins { IfOk result (λ first. ReadsBeginning first.bytes.items first.line.items first.start first.last (I.state inputs.old) (I.state inputs.new)) }
     ensures err { IfErr result (λ r. UnreadBeginning (I.state inputs.old) stream.now (I.state inputs.new) (event_of r)) }
     ensures few { GivesFew (I.state inputs.old) stream_limit (I.state inputs.new) }
-    ensures short { (I.state inputs.new).given ≤ (I.state inputs.old).given + 327706 }
+    ensures short { (I.state inputs.new).given ≤ (I.state inputs.old).given + longest_beginning }
     ensures inputs { Stays (I.state inputs.old) (I.state inputs.new) }
 {
     let mut bytes = Vec::new(alloc);

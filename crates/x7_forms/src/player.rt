@@ -1,6 +1,7 @@
 //! A device that plays bytes piece by piece, and the words that it reads out.
 ghost use Rattle.std.specs.Prelude.{◌≡◌, ◌++◌, ◌+◌, ◌<◌, ◌≤◌, [], true, false, Ok, Err, length, vec_capacity, vec_len, IfOk, IsOk, OnErr, OnOk};
-ghost use Rattle.x7_forms.specs.Play.{HasPlayed, MayPlay, MayPlayBy, PlaysOn, emptied, FeedsOn, FeedsPrefix, OfPrefix, PlaysPrefix, play_state};
+ghost use Rattle.x7_forms.specs.Known.{reads_limit};
+ghost use Rattle.x7_forms.specs.Play.{HasPlayed, MayPlay, MayPlayBy, PlaysOn, emptied, FeedsOn, FeedsPrefix, OfPrefix, PlaysPrefix, play_state, reads_room};
 
 use std::alloc::Global;
 use x7_engine::{Device, Fed, ReadBuf};
@@ -16,13 +17,13 @@ const READS_ROOM: u32 = 4_096;
 /// Moves the words of a buffer after those that were read out before, for which there is room, and says whether they are
 /// over the limit together.
 fn gather(buffer: &mut ReadBuf, reads: &mut Vec<u32>) -> bool
-    requires few { vec_len reads.old ≤ 16777216 }
-    requires most { buffer.old.most ≡ Some 4096 }
-    requires room { vec_len reads.old + 4096 ≤ vec_capacity reads.old }
+    requires few { vec_len reads.old ≤ reads_limit }
+    requires most { buffer.old.most ≡ Some reads_room }
+    requires room { vec_len reads.old + reads_room ≤ vec_capacity reads.old }
     ensures words { result ≡ false → reads.new.items ≡ reads.old.items ++ buffer.old.words }
-    ensures within { result ≡ false → vec_len reads.new ≤ 16777216 }
+    ensures within { result ≡ false → vec_len reads.new ≤ reads_limit }
     ensures cleared { result ≡ false → buffer.new ≡ record buffer.old { words = [] } }
-    ensures over { result ≡ true → 16777216 < vec_len reads.old + length buffer.old.words }
+    ensures over { result ≡ true → reads_limit < vec_len reads.old + length buffer.old.words }
 {
     if buffer.words().len() > READS_LIMIT - reads.len() {
         return true;
@@ -110,12 +111,5 @@ impl Player {
             }
             Err(NoMemory) => Err(NoMemory),
         }
-    }
-
-    /// The device.
-    pub fn device(&self) -> &Device
-        ensures { result.now ≡ self.now.device }
-    {
-        &self.device
     }
 }

@@ -5,7 +5,7 @@ ghost use Rattle.x7_forms.specs.Message.{event_of};
 ghost use Rattle.x7_forms.specs.Event.{no_memory};
 ghost use Rattle.x7_forms.specs.Known.{part_limit, part_of as part_due, stream_limit};
 ghost use Rattle.x7_forms.specs.Play.{HasPlayed, MayPlay, PlaysOn, part_event, PlaysStream};
-ghost use Rattle.x7_forms.specs.Turn.{GivesFew, ReadsRest, StandsAt, UnreadRest};
+ghost use Rattle.x7_forms.specs.Turn.{GivesFew, ReadsRest, StandsAt, UnreadRest, play_turn_bytes};
 ghost use Rattle.x7_forms.specs.Stop.{StopsAmong, limited_together};
 ghost use Rattle.x7_forms.specs.Step.{AnswersAs, IsNoPart, IsOneUnplayed, IsUnplayed, seen, ReadsStream, ReadsStreams, step_over};
 
@@ -19,8 +19,9 @@ use x7_words::Inputs;
 /// The most bytes of a part file.
 const PART_LIMIT: usize = 1_048_576;
 
-/// How many bytes one turn of a stream reads: no fewer than the longest header has, so that the first turn judges it.
-const TURN: usize = 266_240;
+/// How many bytes one turn of a stream that is played reads: no fewer than the longest header has, so that the first turn
+/// judges it.
+const PLAY_TURN: usize = 266_240;
 
 /// Why there is no part of the part file of this name.
 fn refusal_of<'w>(name: &'w str, fault: PartFault) -> Refusal<'w>
@@ -69,7 +70,7 @@ fn play_rest<'w, I: Inputs>(
     piece: &mut [u8],
 ) -> Result<usize, Refusal<'w>>
     requires selected { (I.state inputs.old).selected ≡ true }
-    requires buffer { length piece.old ≡ 266240 }
+    requires buffer { length piece.old ≡ play_turn_bytes }
     requires end { last ≡ true → AtEnd (I.state inputs.old).rest }
     requires may { MayPlay player.old limit }
     ensures ok { IfOk result (λ left. (more : List ℕ) × (length more + left ≡ limit) × PlaysOn player.old player.new more × ReadsRest (I.state inputs.old) (I.state inputs.new) more) }
@@ -106,7 +107,7 @@ fn play_stream<'w, I: Inputs>(
     limit: usize,
     piece: &mut [u8],
 ) -> Result<usize, Refusal<'w>>
-    requires buffer { length piece.old ≡ 266240 }
+    requires buffer { length piece.old ≡ play_turn_bytes }
     requires may { MayPlay player.old limit }
     ensures ok { IfOk result (λ left. PlaysStream limit left (PlaysOn player.old player.new) (ReadsStream (I.state inputs.old) (I.state inputs.new) limit name.now)) }
     ensures err { IfErr result (λ r. ReadsStream (I.state inputs.old) (I.state inputs.new) limit name.now (Err (event_of r))) }
@@ -150,14 +151,15 @@ pub fn play_streams<'w, I: Inputs>(
     ensures ok { IfOk result (λ player. (bytes : List ℕ) × HasPlayed part.now bytes player × ReadsStreams (I.state inputs.old) (I.state inputs.new) (map string_bytes streams.now) (Ok bytes)) }
     ensures err { IfErr result (λ r. ReadsStreams (I.state inputs.old) (I.state inputs.new) (map string_bytes streams.now) (Err (event_of r))) }
     ensures named { IfErr result (λ r. IsOneUnplayed (map string_bytes streams.now) (event_of r)) }
-    ensures stops { IfErr result (λ r. StopsAmong (limited_together (I.state inputs.old).contents stream_limit (map string_bytes streams.now)) (I.state inputs.old) (I.state inputs.new) (event_of r)) }
+    ensures stops { IfErr result (λ r. StopsAmong (limited_together (I.state inputs.old).contents stream_limit (map string_bytes streams.now))
+        (I.state inputs.old) (I.state inputs.new) (event_of r)) }
     ensures once { (I.state inputs.new).selects ≤ (I.state inputs.old).selects + length streams.now }
     ensures inputs { Stays (I.state inputs.old) (I.state inputs.new) }
 {
     let Ok(mut player) = Player::new(alloc, part) else {
         return Err(Refusal::unnamed(Why::NoMemory));
     };
-    let Ok(mut piece) = vec![in alloc; 0u8; TURN] else {
+    let Ok(mut piece) = vec![in alloc; 0u8; PLAY_TURN] else {
         return Err(Refusal::unnamed(Why::NoMemory));
     };
     let mut left = STREAM_LIMIT;

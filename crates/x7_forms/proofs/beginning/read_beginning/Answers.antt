@@ -3,7 +3,8 @@ use Rattle.x7_header.specs.Header.{EndsInHeader}
 use Rattle.x7_words.proofs.InputLemmas.{stays_on}
 use Rattle.x7_forms.specs.declared.beginning.Judged.{Judged}
 use Rattle.x7_forms.specs.Message.{event_of}
-use Rattle.x7_forms.specs.Turn.{BeginAt, IsBeginning}
+use Rattle.x7_forms.specs.Known.{stream_limit}
+use Rattle.x7_forms.specs.Turn.{BeginAt, IsBeginning, longest_header}
 use Rattle.std.proofs.lemmas.List.{take-append-le}
 use Rattle.x7_forms.proofs.BeginningLemmas.{found_none, found_some, beginning_read, joined_taken, none_given, piece_of, reads_by, refused_soon, unread_turn}
 use Rattle.x7_forms.proofs.beginning.read_beginning.Goals as goal
@@ -56,7 +57,7 @@ returns-in-Err-clause-err g c =
     let i = g.I.Inputs in
     let v = c.loop-turn.invariant in
     let old = c.loop-turn.bytes.items in
-    unread_turn (i.state c.args.inputs.now) (i.state c.loop-turn.inputs) (i.state c.next_turn.new.inputs) c.args.stream.now old (67108864 - c.len-left.result) (event_of c.in-Err.refusal)
+    unread_turn (i.state c.args.inputs.now) (i.state c.loop-turn.inputs) (i.state c.next_turn.new.inputs) c.args.stream.now old (stream_limit - c.len-left.result) (event_of c.in-Err.refusal)
     (reads_by (i.state c.args.inputs.now) (i.state c.loop-turn.inputs) old v.selected v.taken v.given v.asked v.inputs v.selects) (omega (arith, v.few, c.len-left.ensures)) c.next_turn.ensures.asked
     (λ e. absurd (omega (arith, c.in-Err.ensures.over e, v.few, c.len-left.ensures, v.piece, c.min-count.ensures, length-take-le c.min-count.result c.loop-turn.piece (omega (arith, c.min-count.ensures, v.piece)))))
     (λ e. none_given (i.state c.args.inputs.now) (i.state c.loop-turn.inputs) (i.state c.next_turn.new.inputs) old c.deref.result.now c.wanted.result (length (take c.min-count.result c.loop-turn.piece)) c.wanted.ensures.some
@@ -76,7 +77,7 @@ loop-turn-preserved g c =
     let asked_for : length (take c.min-count.result c.loop-turn.piece) ≡ c.min-count.result = length-take-le c.min-count.result c.loop-turn.piece (omega (arith, c.min-count.ensures, v.piece)) in
     let within : count ≤ length buf = omega (arith, c.in-Ok.ensures.within.1, c.next_turn.ensures.length) in
     let joined = c.in-Ok-extend_from_slice.ensures.items ∙ ap (λ t. old ++ t) (take-append-le count buf _ within) in
-    let none = found_none c.in-Ok-None.field-0 ((c.in-Ok.turn.last ≡ false) × (length bytes ≤ 262170) × EndsInHeader bytes) (λ (j : Judged). (j.start ≤ length bytes) × IsBeginning bytes c.in-Ok.turn.last j.line.items j.start) c.in-Ok-None.field-0-is c.in-Ok-None.ensures.judged in
+    let none = found_none c.in-Ok-None.field-0 ((c.in-Ok.turn.last ≡ false) × (length bytes ≤ longest_header) × EndsInHeader bytes) (λ (j : Judged). (j.start ≤ length bytes) × IsBeginning bytes c.in-Ok.turn.last j.line.items j.start) c.in-Ok-None.field-0-is c.in-Ok-None.ensures.judged in
     record {
       selected = c.in-Ok.ensures.ok.selected;
       inputs = stays_on _ _ _ v.inputs c.next_turn.ensures.inputs;

@@ -1,6 +1,8 @@
 use Rattle.std.proofs.Common.{◌≡◌, ◌≤◌, ◌<◌, ◌+◌, ◌-◌, length, true}
 use Rattle.x7_header.specs.Header.{EndsInHeader}
 use Rattle.x7_words.specs.Input.{Stays, preceded}
+use Rattle.x7_forms.specs.Known.{stream_limit}
+use Rattle.x7_forms.specs.Turn.{longest_header, turn_bytes}
 use Rattle.x7_forms.proofs.beginning.read_beginning.Given as goal
 
 abbrev pub invariant-loop-turn : goal.invariant-loop-turn
@@ -9,8 +11,8 @@ invariant-loop-turn g l =
     record {
       selected : (i.state l.inputs).selected ≡ true;
       inputs : Stays (i.state l.fn.inputs) (i.state l.inputs);
-      piece : length l.piece ≡ 65536;
-      few : length l.bytes.items ≤ 262170;
+      piece : length l.piece ≡ turn_bytes;
+      few : length l.bytes.items ≤ longest_header;
       waiting : 0 < length l.bytes.items → EndsInHeader l.bytes.items;
       asked : (i.state l.inputs).asked ≡ (i.state l.fn.inputs).asked;
       selects : (i.state l.inputs).selects ≡ (i.state l.fn.inputs).selects;
@@ -19,4 +21,4 @@ invariant-loop-turn g l =
     }
 
 abbrev pub decreases-loop-turn : goal.decreases-loop-turn
-decreases-loop-turn g l = 67108864 - length l.bytes.items
+decreases-loop-turn g l = stream_limit - length l.bytes.items

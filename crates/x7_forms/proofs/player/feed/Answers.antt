@@ -4,7 +4,7 @@ use Rattle.x7_words.specs.Word.{AreBytes}
 use Rattle.x7_words.proofs.ListLemmas.{all_from_places}
 use Rattle.x7_engine.specs.Kept.{on_the_bench}
 use Rattle.x7_engine.specs.Standing.{taken_in}
-use Rattle.x7_forms.specs.Play.{Plays}
+use Rattle.x7_forms.specs.Play.{Plays, reads_room}
 use Rattle.x7_forms.proofs.PlayLemmas.{emptied_again, full_words, is_end, most_is, words_are}
 use Rattle.x7_forms.proofs.PlayerLemmas.{may_feed, turn_end, turn_full, turn_over}
 use Rattle.x7_forms.proofs.player.feed.Goals as goal
@@ -64,7 +64,7 @@ feeds-smaller c =
     let reads = c.feed-fed.ensures.reads m.0 on_the_bench false s.taken s.stands in
     let most = most_is c.feeds.buffer c.feed-fed.new.read reads.0 reads.1 v.buffer in
     let answer = c.in-ReadFull.ensures.answer m.0 on_the_bench false s.taken s.stands in
-    let full : length c.feed-fed.new.read.words ≡ 4096 = full_words c.feed-fed.new.read most answer.2 in
+    let full : length c.feed-fed.new.read.words ≡ reads_room = full_words c.feed-fed.new.read most answer.2 in
     let size : length c.gather.new.reads.items ≡ length c.feeds.reads.items + length c.feed-fed.new.read.words =
     ap length (c.gather.ensures.words c.if-gather.false ∙ ap (λ r. r ++ c.feed-fed.new.read.words) c.reserve.ensures.items) ∙ length-append c.feeds.reads.items c.feed-fed.new.read.words in
     omega (arith, full, size, c.feeds.reads.ok.0, c.gather.new.reads.ok.0, c.gather.ensures.within c.if-gather.false)

@@ -1,5 +1,6 @@
 use Rattle.std.proofs.Common.{◌≡◌, ◌-◌, ◌≤◌, ◌++◌, ℕ, List, length, take, vec_len, false}
 use Rattle.x7_part.specs.Part.{PartData}
+use Rattle.x7_forms.specs.Known.{reads_limit}
 use Rattle.x7_forms.specs.Play.{HasPlayedBy, Plays, emptied, play_state}
 use Rattle.x7_forms.proofs.player.feed.Given as goal
 
@@ -7,9 +8,9 @@ abbrev pub invariant-feeds : goal.invariant-feeds
 invariant-feeds l = record {
   at : l.at ≤ length l.piece;
   buffer : l.buffer ≡ emptied;
-  few : vec_len l.reads ≤ 16777216;
+  few : vec_len l.reads ≤ reads_limit;
   plays : (part : PartData) (bytes : List ℕ) → HasPlayedBy false part bytes (play_state l.fn.device l.fn.buffer l.fn.reads.items) → Plays part (bytes ++ take l.at l.piece) l.device l.reads.items;
 }
 
 abbrev pub decreases-feeds : goal.decreases-feeds
-decreases-feeds l = 16777216 - vec_len l.reads
+decreases-feeds l = reads_limit - vec_len l.reads

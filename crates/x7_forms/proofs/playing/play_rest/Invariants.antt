@@ -1,6 +1,6 @@
 use Rattle.std.proofs.Common.{◌≡◌, ℕ, List, ◌+◌, ◌≤◌, length, true}
 use Rattle.x7_words.specs.Input.{Stays}
-use Rattle.x7_forms.specs.Turn.{Reads}
+use Rattle.x7_forms.specs.Turn.{Reads, play_turn_bytes}
 use Rattle.x7_forms.specs.Play.{MayPlay, PlaysOn}
 use Rattle.x7_forms.proofs.playing.play_rest.Given as goal
 
@@ -11,7 +11,7 @@ invariant-loop-turn g l =
       selected : (i.state l.inputs).selected ≡ true;
       inputs : Stays (i.state l.fn.inputs) (i.state l.inputs);
       left : l.left ≤ l.limit;
-      piece : length l.piece ≡ 266240;
+      piece : length l.piece ≡ play_turn_bytes;
       may : MayPlay l.player l.left;
       told : (taken : List ℕ) × ((length taken + l.left ≡ l.limit) × PlaysOn l.fn.player l.player taken × Reads (i.state l.fn.inputs) taken (i.state l.inputs));
     }

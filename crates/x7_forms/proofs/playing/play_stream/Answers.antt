@@ -2,6 +2,7 @@ use Rattle.std.proofs.Common.{◌≡◌, ℕ, List, [], ◌∷◌, ◌++◌, ◌
 use Rattle.std.proofs.lemmas.List.{length-take}
 use Rattle.x7_words.specs.Input.{Selects, preceded}
 use Rattle.x7_words.specs.Word.{AreBytes}
+use Rattle.x7_forms.specs.Turn.{longest_header}
 use Rattle.x7_forms.specs.Message.{event_of}
 use Rattle.x7_forms.specs.Known.{read_of, with_inputs}
 use Rattle.x7_forms.specs.Play.{PlaysOn}
@@ -37,7 +38,7 @@ returns-else-is_err-clause-ok g c =
     let size : length first ≡ count = length-take-le count buf (omega (arith, c.in-Ok-next_turn.ensures.within.1, c.next_turn.ensures.length)) in
     let fits : AreBytes first = c.data_start.ensures.fits in
     let within : length first ≤ c.args.limit = omega (arith, size, c.in-Ok-next_turn.ensures.within.0) in
-    let long : c.in-Ok-next_turn.turn.last ≡ false → 262170 ≤ length first = λ e. omega (arith, size, c.in-Ok-next_turn.ensures.goes e, c.requires.buffer) in
+    let long : c.in-Ok-next_turn.turn.last ≡ false → longest_header ≤ length first = λ e. omega (arith, size, c.in-Ok-next_turn.ensures.goes e, c.requires.buffer) in
     let select : Selects contents name (preceded first (i.state c.next_turn.new.inputs).rest) = subst (λ r. Selects contents name r) c.in-Ok-next_turn.ensures.ok.taken c.in-Ok.ensures.ok.found in
     let start = c.in-Ok-data_start.start in
     let slice = take (count - start) (drop start buf) in
@@ -99,7 +100,7 @@ returns-in-Ok-skip_rest-clause-err g c = λ flash.
     let size : length first ≡ count = length-take-le count buf (omega (arith, c.in-Ok-next_turn.ensures.within.1, c.next_turn.ensures.length)) in
     let fits : AreBytes first = c.data_start.ensures.fits in
     let within : length first ≤ c.args.limit = omega (arith, size, c.in-Ok-next_turn.ensures.within.0) in
-    let long : c.in-Ok-next_turn.turn.last ≡ false → 262170 ≤ length first = λ e. omega (arith, size, c.in-Ok-next_turn.ensures.goes e, c.requires.buffer) in
+    let long : c.in-Ok-next_turn.turn.last ≡ false → longest_header ≤ length first = λ e. omega (arith, size, c.in-Ok-next_turn.ensures.goes e, c.requires.buffer) in
     let select : Selects contents name (preceded first (i.state c.next_turn.new.inputs).rest) = subst (λ r. Selects contents name r) c.in-Ok-next_turn.ensures.ok.taken c.in-Ok.ensures.ok.found in
     let C = CameIn (step_over (name ∷ []) (i.state c.args.inputs.now) (i.state c.skip_rest.new.inputs)) in
     let p = c.in-Ok-skip_rest.ensures.ok in

@@ -1,5 +1,6 @@
 use Rattle.std.proofs.Common.{◌≡◌, ℕ, List, ◌+◌, ◌≤◌, drop, length, map, string_bytes}
 use Rattle.x7_words.specs.Input.{Stays}
+use Rattle.x7_forms.specs.Turn.{play_turn_bytes}
 use Rattle.x7_forms.specs.Known.{stream_limit}
 use Rattle.x7_forms.specs.Play.{HasPlayed}
 use Rattle.x7_forms.specs.Stop.{limited_together}
@@ -15,6 +16,6 @@ invariant-loop-name g l =
       selects : (i.state l.inputs).selects ≤ (i.state l.fn.inputs).selects + l.name-index;
       within : l.name-index ≤ length l.streams;
       limits : LimitsFrom (limited_together (i.state l.fn.inputs).contents stream_limit (map string_bytes l.streams)) (i.state l.fn.inputs).contents l.name-index l.left (map string_bytes (drop l.name-index l.streams));
-      piece : length l.piece.items ≡ 266240;
+      piece : length l.piece.items ≡ play_turn_bytes;
       played : (whole : List ℕ) × (HasPlayed l.part whole l.player × (length whole + l.left ≤ stream_limit) × Rests (i.state l.fn.inputs).contents (map string_bytes l.streams) stream_limit (map string_bytes (drop l.name-index l.streams)) l.left whole);
     }

@@ -1,6 +1,6 @@
 use Rattle.std.proofs.Common.{◌≡◌, ℕ, List, ◌+◌, ◌≤◌, ◌++◌, length, true}
 use Rattle.x7_words.specs.Input.{Stays}
-use Rattle.x7_forms.specs.Turn.{Reads}
+use Rattle.x7_forms.specs.Turn.{Reads, turn_bytes}
 use Rattle.x7_forms.proofs.read.read_rest.Given as goal
 
 abbrev pub invariant-loop-turn : goal.invariant-loop-turn
@@ -10,7 +10,7 @@ invariant-loop-turn g l =
       selected : (i.state l.inputs).selected ≡ true;
       inputs : Stays (i.state l.fn.inputs) (i.state l.inputs);
       left : l.left ≤ l.limit;
-      piece : length l.piece ≡ 65536;
+      piece : length l.piece ≡ turn_bytes;
       told : (taken : List ℕ) × ((l.onto.items ≡ l.fn.onto.items ++ taken) × (length taken + l.left ≡ l.limit) × Reads (i.state l.fn.inputs) taken (i.state l.inputs));
     }
 
