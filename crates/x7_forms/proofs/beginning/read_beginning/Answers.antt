@@ -7,6 +7,7 @@ use Rattle.x7_forms.specs.Known.{stream_limit}
 use Rattle.x7_forms.specs.Turn.{BeginAt, IsBeginning, longest_header}
 use Rattle.std.proofs.lemmas.List.{take-append-le}
 use Rattle.x7_forms.proofs.BeginningLemmas.{found_none, found_some, beginning_read, joined_taken, none_given, piece_of, reads_by, refused_soon, unread_turn}
+use Rattle.x7_forms.proofs.StandLemmas.{gives_on}
 use Rattle.x7_forms.proofs.beginning.read_beginning.Goals as goal
 
 pub returns-in-Ok-Some-clause-begins : goal.returns-in-Ok-Some-clause-begins
@@ -89,3 +90,63 @@ loop-turn-preserved g c =
       given = omega (arith, v.given, c.in-Ok.ensures.ok.given, ap length joined, length-append old piece);
       taken = joined_taken (i.state c.args.inputs.now).rest (i.state c.loop-turn.inputs).rest (i.state c.next_turn.new.inputs).rest old piece mid mid v.taken c.in-Ok.ensures.ok.taken joined refl;
     }
+
+pub returns-in-Err-clause-few : goal.returns-in-Err-clause-few
+returns-in-Err-clause-few g c =
+    let i = g.I.Inputs in
+    let v = c.loop-turn.invariant in
+    gives_on (i.state c.args.inputs.now) (i.state c.loop-turn.inputs) (i.state c.next_turn.new.inputs) c.loop-turn.bytes.items stream_limit (stream_limit - c.len-left.result)
+    (reads_by (i.state c.args.inputs.now) (i.state c.loop-turn.inputs) c.loop-turn.bytes.items v.selected v.taken v.given v.asked v.inputs v.selects) (omega (arith, v.few, c.len-left.ensures)) c.next_turn.ensures.few
+
+pub returns-in-Err-clause-short : goal.returns-in-Err-clause-short
+returns-in-Err-clause-short g c =
+    let v = c.loop-turn.invariant in
+    omega (arith, v.given, v.few, c.next_turn.ensures.turn, v.piece, c.min-count.ensures, length-take-le c.min-count.result c.loop-turn.piece (omega (arith, c.min-count.ensures, v.piece)))
+
+pub returns-in-Err-clause-inputs : goal.returns-in-Err-clause-inputs
+returns-in-Err-clause-inputs g c = stays_on _ _ _ c.loop-turn.invariant.inputs c.next_turn.ensures.inputs
+
+pub returns-in-Err-extend_from_slice-clause-few : goal.returns-in-Err-extend_from_slice-clause-few
+returns-in-Err-extend_from_slice-clause-few g c =
+    let i = g.I.Inputs in
+    let v = c.loop-turn.invariant in
+    gives_on (i.state c.args.inputs.now) (i.state c.loop-turn.inputs) (i.state c.next_turn.new.inputs) c.loop-turn.bytes.items stream_limit (stream_limit - c.len-left.result)
+    (reads_by (i.state c.args.inputs.now) (i.state c.loop-turn.inputs) c.loop-turn.bytes.items v.selected v.taken v.given v.asked v.inputs v.selects) (omega (arith, v.few, c.len-left.ensures)) c.next_turn.ensures.few
+
+pub returns-in-Err-extend_from_slice-clause-short : goal.returns-in-Err-extend_from_slice-clause-short
+returns-in-Err-extend_from_slice-clause-short g c =
+    let v = c.loop-turn.invariant in
+    omega (arith, v.given, v.few, c.next_turn.ensures.turn, v.piece, c.min-count.ensures, length-take-le c.min-count.result c.loop-turn.piece (omega (arith, c.min-count.ensures, v.piece)))
+
+pub returns-in-Err-extend_from_slice-clause-inputs : goal.returns-in-Err-extend_from_slice-clause-inputs
+returns-in-Err-extend_from_slice-clause-inputs g c = stays_on _ _ _ c.loop-turn.invariant.inputs c.next_turn.ensures.inputs
+
+pub returns-in-Ok-Some-clause-few : goal.returns-in-Ok-Some-clause-few
+returns-in-Ok-Some-clause-few g c =
+    let i = g.I.Inputs in
+    let v = c.loop-turn.invariant in
+    gives_on (i.state c.args.inputs.now) (i.state c.loop-turn.inputs) (i.state c.next_turn.new.inputs) c.loop-turn.bytes.items stream_limit (stream_limit - c.len-left.result)
+    (reads_by (i.state c.args.inputs.now) (i.state c.loop-turn.inputs) c.loop-turn.bytes.items v.selected v.taken v.given v.asked v.inputs v.selects) (omega (arith, v.few, c.len-left.ensures)) c.next_turn.ensures.few
+
+pub returns-in-Ok-Some-clause-short : goal.returns-in-Ok-Some-clause-short
+returns-in-Ok-Some-clause-short g c =
+    let v = c.loop-turn.invariant in
+    omega (arith, v.given, v.few, c.next_turn.ensures.turn, v.piece, c.min-count.ensures, length-take-le c.min-count.result c.loop-turn.piece (omega (arith, c.min-count.ensures, v.piece)))
+
+pub returns-in-Ok-Some-clause-inputs : goal.returns-in-Ok-Some-clause-inputs
+returns-in-Ok-Some-clause-inputs g c = stays_on _ _ _ c.loop-turn.invariant.inputs c.next_turn.ensures.inputs
+
+pub returns-in-Err-judge-clause-few : goal.returns-in-Err-judge-clause-few
+returns-in-Err-judge-clause-few g c =
+    let i = g.I.Inputs in
+    let v = c.loop-turn.invariant in
+    gives_on (i.state c.args.inputs.now) (i.state c.loop-turn.inputs) (i.state c.next_turn.new.inputs) c.loop-turn.bytes.items stream_limit (stream_limit - c.len-left.result)
+    (reads_by (i.state c.args.inputs.now) (i.state c.loop-turn.inputs) c.loop-turn.bytes.items v.selected v.taken v.given v.asked v.inputs v.selects) (omega (arith, v.few, c.len-left.ensures)) c.next_turn.ensures.few
+
+pub returns-in-Err-judge-clause-short : goal.returns-in-Err-judge-clause-short
+returns-in-Err-judge-clause-short g c =
+    let v = c.loop-turn.invariant in
+    omega (arith, v.given, v.few, c.next_turn.ensures.turn, v.piece, c.min-count.ensures, length-take-le c.min-count.result c.loop-turn.piece (omega (arith, c.min-count.ensures, v.piece)))
+
+pub returns-in-Err-judge-clause-inputs : goal.returns-in-Err-judge-clause-inputs
+returns-in-Err-judge-clause-inputs g c = stays_on _ _ _ c.loop-turn.invariant.inputs c.next_turn.ensures.inputs
