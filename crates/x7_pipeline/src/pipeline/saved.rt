@@ -1,9 +1,10 @@
 //! A pipeline as it stood, kept so that the next word or copy can be taken back.
-ghost use Rattle.std.specs.Prelude.{◌≡◌, ◌≤◌, true, length, vec_len, vec_capacity, Contains, IfOk, IfSome};
+ghost use Rattle.std.specs.Prelude.{◌≡◌, ◌≤◌, [], true, length, vec_len, vec_capacity, Contains, IfOk, IfSome};
 ghost use Rattle.std.specs.List.{AllByRecursion};
 ghost use Rattle.x7_part.specs.AddressOrder.{addresses_in};
 ghost use Rattle.x7_memory.specs.FrameMap.{AreSame};
 ghost use Rattle.x7_memory.specs.Frames.{AreFramesOf, frame_at};
+ghost use Rattle.x7_pipeline.specs.Flow.{HoldsFlow, first_flow};
 ghost use Rattle.x7_pipeline.specs.Pipeline.{IsPipelineOf};
 ghost use Rattle.x7_pipeline.specs.Runs.{put_over};
 ghost use Rattle.x7_pipeline.specs.Saving.{IsPairOf, IsSavedOf, address_of, next_put, pair_at, put_by_copy, put_by_word};
@@ -75,9 +76,12 @@ fn copy_some(words: &mut Vec<u32>, from: &[u32], some: bool)
 }
 
 impl Saved {
-    /// Takes room for a pipeline of this part and a frame. No other call takes memory.
+    /// Takes room for a pipeline of this part and a frame. What is kept at first is a new pipeline, and no frame. No other call
+    /// takes memory.
     pub fn new(alloc: Global, part: &Part) -> Result<Saved, NoMemory>
-        ensures { IfOk result (IsSavedOf part.now) }
+        ensures pipeline { IfOk result (λ saved. HoldsFlow part.now saved.pipeline first_flow) }
+        ensures pair { IfOk result (λ saved. saved.pair ≡ []) }
+        ensures part { IfOk result (IsSavedOf part.now) }
     {
         let pipeline = Pipeline::new(alloc, part)?;
         let frame = room_for(alloc, part.words())?;
