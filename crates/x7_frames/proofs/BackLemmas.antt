@@ -89,7 +89,7 @@ back part plan fits = record {
   width = fits.width;
 }
 
--- what reading such a text came to
+-- what the reading of a plan's text came to
 pub read-back : {P : Type 0} (value : P → PlanData) (part : PartData) (text : List ℕ) (r : Result P FramesFault) → MatchResult r (λ p. Plans part text (value p)) (λ f. (f ≡ fault.NoMemory) ⊎ IsPlanOf part text (Err f))
     → (plan : PlanData) → IsPlanFor part plan → text ≡ plan_text plan → MatchResult r (λ p. value p ≡ plan) (λ f. f ≡ fault.NoMemory)
 read-back value part text (Ok p) h plan fits e = one-plan part text (value p) plan h (subst (λ t. Plans part t plan) (sym e) (back part plan fits))

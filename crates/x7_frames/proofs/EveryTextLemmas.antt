@@ -99,10 +99,10 @@ frame-or width line = by-head (lists-or line (frame_head far ++ digits))
 
 -- ---- a line is good behind these rows, or it is line n at fault
 
-LineOr : PartData → List PlanRow → ℕ → List ℕ → Type 0
+unfoldable pub LineOr : PartData → List PlanRow → ℕ → List ℕ → Type 0
 LineOr part rows n line = ((new : List PlanRow) × Takes part line rows new) ⊎ ((f : FramesFault) × IsFaultAt part rows n line f)
 
-line-or : (part : PartData) (rows : List PlanRow) (n : ℕ) (line : List ℕ) → LineOr part rows n line
+pub line-or : (part : PartData) (rows : List PlanRow) (n : ℕ) (line : List ℕ) → LineOr part rows n line
 unfolding FrameOr LineOr
 line-or part rows n line = by (means_nothing line) refl
   where

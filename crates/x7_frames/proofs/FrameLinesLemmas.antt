@@ -3,9 +3,9 @@ use Rattle.std.proofs.Common.{◌≡◌, ◌⊎◌, inl, inr, ℕ, ◌+◌, List
 use Rattle.x7_text.specs.Lines.{split}
 use Rattle.x7_part.specs.Part.{PartData}
 use Rattle.x7_memory.specs.Planned.{PlanData}
-use Rattle.x7_frames.specs.FrameLines.{AreRefused, ComeTo, HasRows, Rows}
+use Rattle.x7_frames.specs.FrameLines.{AreGoodWith, AreRefused, ComeTo, HasRows, Rows}
 use Rattle.x7_frames.specs.FramesText.{IsPlanOf}
-use Rattle.x7_frames.specs.Steps.{IsFaultAt, Takes}
+use Rattle.x7_frames.specs.Steps.{IsFaultAt, IsGoodLine, Takes}
 use Rattle.x7_frames.specs.declared.fault.FramesFault.{FramesFault}
 use Rattle.x7_frames.specs.declared.fault.FramesFault.TheVariants as fault
 use Rattle.x7_frames.proofs.GoodLemmas.{fault-of, good-next}
@@ -28,6 +28,14 @@ module _ (part : PartData) (a : Rows) (lines : List (List ℕ)) (line : List ℕ
       → MatchResult r (λ _. HasRows part b (lines ++ line ∷ [])) (λ f. (more : List ℕ) → AreRefused part f (lines ++ line ∷ split more))
   line-read (Ok _) b same takes fails = line-good b same takes
   line-read (Err f) b same takes fails = λ more. line-refused f fails (split more)
+
+  -- memory is wanting at a good line
+  pub line-wants : IsGoodLine a.part a.rows line → AreGoodWith part lines line
+  line-wants good = (good.0, good-next part lines line a.rows good.0 t.1 (subst (λ (p : PartData). Takes p line a.rows good.0) t.0 good.1))
+
+  pub line-wanted : {A : Type 0} (r : Result A FramesFault) → IfErr r (λ f. f ≡ fault.NoMemory → IsGoodLine a.part a.rows line) → IfErr r (λ f. f ≡ fault.NoMemory → AreGoodWith part lines line)
+  line-wanted (Ok _) good = tt
+  line-wanted (Err f) good = λ want. line-wants (good want)
 
 -- a text that is there whole
 pub whole-read : {P : Type 0} (value : P → PlanData) (part : PartData) (lines : Rows) (text : List ℕ) (r : Result P FramesFault) → lines.part ≡ part

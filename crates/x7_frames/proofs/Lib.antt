@@ -8,3 +8,4 @@ pub mod OneFaultLemmas
 pub mod OneLemmas
 pub mod BackLemmas
 pub mod FrameLinesLemmas
+pub mod WantLemmas

@@ -77,7 +77,7 @@ foreign-or-repeated part rows line f r =
     let same : r.row ≡ f.row = one-row (frame_words part) line r.row f.row r.is f.is in
     f.foreign (subst (λ (row : PlanRow). Contains (addresses_in part) row.far) same r.address)
 
--- one thing is wrong with it
+-- one thing is wrong with a line
 one-kind : (part : PartData) (rows : List PlanRow) (line : List ℕ) (f g : FramesFault) → IsWrong part rows line f → IsWrong part rows line g → place_of f ≡ place_of g → f ≡ g
 one-kind part rows line (fault.Line n) (fault.Line m) a b e = ap fault.Line e
 one-kind part rows line (fault.Line n) (fault.Address m) a b e = absurd (a.no_frame b.row b.is)

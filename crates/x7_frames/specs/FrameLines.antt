@@ -1,5 +1,5 @@
 -- A frames text that is read line by line (this project's choice).
-use Rattle.std.specs.Prelude.{◌≡◌, ◌⊎◌, ◌≤◌, ℕ, Bool, List, Result, Err}
+use Rattle.std.specs.Prelude.{◌≡◌, ◌⊎◌, ◌≤◌, ℕ, Bool, List, [], ◌∷◌, ◌++◌, Result, Err}
 use Rattle.x7_text.specs.Lines.{split}
 use Rattle.x7_part.specs.Part.{PartData, frame_words}
 use Rattle.x7_memory.specs.Planned.{AreApart, PlanData, PlanRow}
@@ -24,10 +24,14 @@ pub record Rows : Type 0 where
 abbrev pub HasRows : PartData → Rows → List (List ℕ) → Type 0
 HasRows part r lines = (r.part ≡ part) × AreGood part lines r.rows
 
+-- these lines and one behind them are good: memory may be wanting at it
+abbrev pub AreGoodWith : PartData → List (List ℕ) → List ℕ → Type 0
+AreGoodWith part lines line = (rows : List PlanRow) × AreGood part (lines ++ line ∷ []) rows
+
 -- a text of these lines comes to this
 abbrev pub ComeTo : PartData → Result PlanData FramesFault → List (List ℕ) → Type 0
 ComeTo part r lines = (text : List ℕ) → split text ≡ lines → IsPlanOf part text r
 
--- a text of these lines has this fault; want of memory says nothing
+-- a text of these lines has this fault; of want of memory nothing is said here
 abbrev pub AreRefused : PartData → FramesFault → List (List ℕ) → Type 0
 AreRefused part f lines = (f ≡ fault.NoMemory) ⊎ ComeTo part (Err f) lines

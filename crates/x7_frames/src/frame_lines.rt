@@ -2,7 +2,7 @@
 ghost use Rattle.std.specs.Prelude.{◌≡◌, ◌⊎◌, ℕ, List, [], Ok, IfErr, IfOk, OnOk, IsPermutation};
 ghost use Rattle.x7_part.specs.Part.{frame_words};
 ghost use Rattle.x7_memory.specs.Planned.{IsPlan};
-ghost use Rattle.x7_frames.specs.FrameLines.{AreRefused, ComeTo, HasRows, Rows};
+ghost use Rattle.x7_frames.specs.FrameLines.{AreGoodWith, AreRefused, ComeTo, HasRows, Rows};
 ghost use Rattle.x7_frames.specs.Steps.{IsFaultAt, IsGoodLine, Takes};
 ghost use Rattle.x7_frames.specs.declared.fault.FramesFault.{FramesFault};
 
@@ -34,7 +34,7 @@ impl<'p> Model for FrameLines<'p> {
 }
 
 impl<'p> FrameLines<'p> {
-    /// Those of no line. There is room for all frames of the part.
+    /// The frames of no line. There is room for all frames of the part.
     pub fn new(alloc: Global, part: &'p Part) -> Result<FrameLines<'p>, NoMemory>
         ensures begun { IfOk result (λ lines. HasRows lines.part lines []) }
         ensures part { IfOk result (λ lines. lines.part ≡ part.now) }
@@ -76,6 +76,10 @@ impl<'p> TakesLines for FrameLines<'p> {
     ghost fails = { λ first. AreRefused first.part };
 
     ghost gives = { λ first plan. ComeTo first.part (Ok plan) };
+
+    ghost is_want = { λ fault. fault ≡ FramesFault.NoMemory };
+
+    ghost wants = { λ first. AreGoodWith first.part };
 
     fn no_memory() -> FramesFault
         ensures { (first : Rows) (lines : List (List ℕ)) → AreRefused first.part result lines }

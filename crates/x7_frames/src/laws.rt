@@ -1,8 +1,12 @@
 //! Laws of frame texts. The functions do nothing: their contracts are the laws.
-ghost use Rattle.std.specs.Prelude.{◌≡◌, ℕ, List, Ok, Err};
+ghost use Rattle.std.specs.Prelude.{◌≡◌, ◌∷◌, ℕ, List, Ok, Err};
+ghost use Rattle.x7_text.specs.Lines.{split};
+ghost use Rattle.x7_text.specs.LineReading.{ReaderState, StandsFor, WantsIn};
 ghost use Rattle.x7_part.specs.Part.{PartData};
 ghost use Rattle.x7_memory.specs.Planned.{IsPlanFor, PlanData};
-ghost use Rattle.x7_frames.specs.FramesText.{HasPlan, IsPlanOf, plan_text};
+ghost use Rattle.x7_frames.specs.FrameLines.{AreGoodWith, HasRows, Rows};
+ghost use Rattle.x7_frames.specs.FramesText.{HasPlan, IsGoodText, IsPlanOf, plan_text};
+ghost use Rattle.x7_frames.specs.Steps.{IsGoodLine};
 ghost use Rattle.x7_frames.specs.declared.fault.FramesFault.{FramesFault};
 
 /// A text comes to one thing: it has at most one plan, one that has a plan has no fault, and another has one fault.
@@ -15,6 +19,15 @@ pub fn one_plan()
 /// A text comes to something: its plan, or its first line at fault.
 pub fn every_text_is_read()
     ensures { (part : PartData) (text : List ℕ) → HasPlan part text }
+{}
+
+/// Where memory is wanting as the lines of a text for a part are taken: while a piece is taken and no beginning of a line was
+/// held, the first line that ends in it is good; at the end of the text, the text has a plan.
+pub fn memory_wants_for_good_lines()
+    ensures piece { (part : PartData) (r : ReaderState Rows) (text piece line after : List ℕ) (s : StandsFor (HasRows part) r text)
+        → WantsIn (HasRows part) (AreGoodWith part) s.lines piece → split piece ≡ line ∷ split after → IsGoodLine part r.taker.rows line }
+    ensures end { (part : PartData) (r : ReaderState Rows) (text : List ℕ) (s : StandsFor (HasRows part) r text)
+        → AreGoodWith part s.lines r.held → IsGoodText part text }
 {}
 
 /// The text of a plan for the part is that of the plan.

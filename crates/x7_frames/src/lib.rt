@@ -10,6 +10,6 @@ mod text;
 
 pub use fault::FramesFault;
 pub use frame_lines::FrameLines;
-pub use laws::{every_text_is_read, one_plan, plan_text_leads_back};
+pub use laws::{every_text_is_read, memory_wants_for_good_lines, one_plan, plan_text_leads_back};
 pub use reading::plan_of;
 pub use text::plan_text;

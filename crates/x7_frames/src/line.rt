@@ -5,7 +5,7 @@ ghost use Rattle.x7_words.specs.Word.{AreBytes, words_of_bytes};
 ghost use Rattle.x7_memory.specs.Planned.{PlanRow};
 ghost use Rattle.x7_frames.specs.FramesText.{HasNoHead, frame_head, means_nothing, IsFrameLine};
 
-use x7_text::{block_of_hex, word_of_hex};
+use x7_text::{block_of_hex, read_pairs, word_of_hex};
 use x7_words::{is_same, word_of};
 
 /// The most bytes of a frame.
@@ -83,16 +83,7 @@ fn read_digits(bytes: &mut [u8], digits: &[u8]) -> bool
     ensures long { length bytes.new ≡ length bytes.old }
 {
     let read = read_blocks(bytes, digits);
-    read_others(&mut bytes[read..], &digits[2 * read..])
-}
-
-/// Reads the bytes of digits of either case, pair by pair.
-fn read_others(bytes: &mut [u8], digits: &[u8]) -> bool
-    requires { length digits.now ≡ 2 * length bytes.old }
-    ensures value { MatchBool result (pairs digits.now ≡ Some bytes.new) (pairs digits.now ≡ None) }
-    ensures long { length bytes.new ≡ length bytes.old }
-{
-    hex::decode_to_slice(digits, bytes).is_ok()
+    read_pairs(&mut bytes[read..], &digits[2 * read..])
 }
 
 /// Puts the words of bytes in the place of others.

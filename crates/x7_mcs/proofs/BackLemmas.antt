@@ -64,7 +64,7 @@ front-more xs x done f e h = record {
   marked = λ p. ap (λ (b : Bool). covers x p || b) (f.marked p ∙ ap (nat_lt p) (sym e)) ∙ marks-more x p ∙ ap (λ (k : ℕ). nat_lt p (k + length x.bytes)) e ∙ ap (nat_lt p) (sym (length-append done x.bytes));
 }
 
--- what a text gives
+-- what the text of bytes gives
 pub record Ends (n base : ℕ) (xs : List DataRecord) (text all : List ℕ) : Type 0 where
   pub reading : Reading
   pub is : with_end (after_lines n (at_base base false xs) (lines_of text)) ≡ Ok reading

@@ -29,5 +29,5 @@ module _ (lines : List (List ℕ)) where
   gives-no-end base ended bytes marks t e = ap (λ r. flash_in (with_end r)) t.is ∙ ap (λ (b : Bool). flash_in (if b then Ok (at_base base ended t.records) else Err fault.NoEnd)) e
 
   pub gives-fault : (f : McsFault) → Fails (after_lines 1 of_no_line (bare lines)) f → HasMcsFault f lines
-  gives-fault f (inl h) = inl h
+  gives-fault f (inl h) = inl h.0
   gives-fault f (inr h) = inr (ap (λ r. flash_in (with_end r)) h)

@@ -1,4 +1,4 @@
--- What a text gives, said in other words.
+-- Laws of what a flash text gives.
 use Rattle.std.proofs.Common.{◌≡◌, ℕ, zero, suc, ◌+◌, ◌-◌, ◌*◌, ◌/◌, ◌%◌, ◌^◌, ◌==◌, ◌&&◌, ◌||◌, nat_le, nat_lt, ◌<◌, ◌≤◌, Bool, true, false, not, if◌then◌else◌, List, [], ◌∷◌, ◌++◌, Option, None, Some, Result, Ok, Err, length, take, drop, get_or, refl, ap, ap₂, sym, subst, ◌∙◌, arith, append_assoc, length-append, length-drop}
 use Rattle.std.proofs.lemmas.Grind.{common_steps}
 use Rattle.std.proofs.lemmas.List.{take-append-le}
@@ -227,7 +227,7 @@ told-colon : (b : Bool) (o : Option (List ℕ)) (n : ℕ) (r : Reading) → Told
 told-colon true o n r e = told-bytes o n r e
 told-colon false o n r e = absurd cc
 
-told-one : (t : List ℕ) (n : ℕ) (r : Reading) → Told (after_line n r t)
+pub told-one : (t : List ℕ) (n : ℕ) (r : Reading) → Told (after_line n r t)
 told-one [] n r e = absurd cc
 told-one (c ∷ cs) n r e = told-colon (c == 58) (pairs cs) n r e
 

@@ -7,7 +7,6 @@ pub mod OutcomeLemmas
 pub mod PlaceLemmas
 pub mod ReadLemmas
 pub mod McsLinesLemmas
-pub mod RecordLemmas
 pub mod RoundLemmas
 pub mod RowLemmas
 pub mod RowsLemmas

@@ -1,7 +1,6 @@
 -- The lines of a text without their ends.
 use Rattle.std.proofs.Common.{◌≡◌, ◌==◌, ℕ, Bool, true, false, if◌then◌else◌, List, [], ◌∷◌, ◌++◌, refl, ap, sym, ◌∙◌}
 use Rattle.x7_text.specs.Lines.{has_no_end}
-use Rattle.x7_text.proofs.PieceLemmas.{split-alone}
 use Rattle.x7_text.proofs.SplitLemmas.{split-line}
 use Rattle.x7_mcs.specs.Lines.{bare, lines_of, on_first, split, without_return}
 
@@ -20,6 +19,3 @@ line-ends text t more e =
 
 pub line-first : (line after : List ℕ) → has_no_end line ≡ true → lines_of (line ++ 10 ∷ after) ≡ without_return line ∷ lines_of after
 line-first line after free = line-ends (line ++ 10 ∷ after) line after (split-line line after free)
-
-pub line-last : (t : List ℕ) → has_no_end t ≡ true → lines_of t ≡ t ∷ []
-line-last t h = ap bare (split-alone t h)

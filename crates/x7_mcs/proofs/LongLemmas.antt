@@ -1,5 +1,5 @@
--- A line that is too long for a record.
-use Rattle.std.proofs.Common.{◌≡◌, ◌==◌, ◌&&◌, ℕ, ◌+◌, ◌-◌, ◌*◌, ◌<◌, ◌≤◌, nat_le, not, Bool, true, false, if◌then◌else◌, List, [], ◌∷◌, Option, None, Some, Err, length, drop, get_or, refl, ap, ◌∙◌, arith}
+-- Lines that are too long for a record, or no pairs of digits.
+use Rattle.std.proofs.Common.{◌≡◌, ◌==◌, ◌&&◌, ℕ, ◌+◌, ◌-◌, ◌*◌, ◌%◌, ◌<◌, ◌≤◌, nat_le, not, Bool, true, false, if◌then◌else◌, List, [], ◌∷◌, Option, None, Some, Err, length, drop, get_or, refl, ap, sym, ◌∙◌, arith}
 use Rattle.std.proofs.lemmas.Bool.{and_parts, leb-true}
 use Rattle.std.proofs.lemmas.Grind.{common_steps}
 use Rattle.x7_mcs.specs.Record.{byte_of, count_of, digit_of, got_of, led, meaning_by_type, pairs, wanted_of}
@@ -61,8 +61,18 @@ too-long n r digits h = long-by (pairs digits) n r digits refl h
 same : (c : ℕ) → c ≡ 58 → (c == 58) ≡ true
 same c e = grind (arith, common_steps)
 
+-- a line of `:` and digits whose bytes are at fault
+colon-line : (n : ℕ) (r : Reading) (line digits : List ℕ) → get_or line 0 0 ≡ 58 → digits ≡ drop 1 line → 0 < length digits → after_bytes n r (pairs digits) ≡ Err (fault.Line n) → after_line n r line ≡ Err (fault.Line n)
+colon-line n r [] digits e f h bad = absurd (omega (arith, h, ap length f))
+colon-line n r (c ∷ cs) digits e f h bad = ap (λ (b : Bool). if b then after_bytes n r (pairs cs) else Err (fault.Line n)) (same c e) ∙ ap (λ (t : List ℕ). after_bytes n r (pairs t)) (sym f) ∙ bad
+
 pub long-line : (n : ℕ) (r : Reading) (line digits : List ℕ) → get_or line 0 0 ≡ 58 → digits ≡ drop 1 line → 520 < length digits → after_line n r line ≡ Err (fault.Line n)
-long-line n r [] digits e f h = absurd (omega (arith, h, ap length f))
-long-line n r (c ∷ cs) digits e f h =
-    let long : 520 < length cs = omega (arith, h, ap length f) in
-    ap (λ (b : Bool). if b then after_bytes n r (pairs cs) else Err (fault.Line n)) (same c e) ∙ too-long n r cs long
+long-line n r line digits e f h = colon-line n r line digits e f (omega (arith, h)) (too-long n r digits h)
+
+-- an odd count of digits is no pairs
+odd-by : (o : Option (List ℕ)) (n : ℕ) (r : Reading) (digits : List ℕ) → pairs digits ≡ o → length digits % 2 ≡ 1 → after_bytes n r o ≡ Err (fault.Line n)
+odd-by None n r digits e h = refl
+odd-by (Some bs) n r digits e h = absurd (omega (arith, pairs-long digits bs e, h))
+
+pub odd-line : (n : ℕ) (r : Reading) (line digits : List ℕ) → get_or line 0 0 ≡ 58 → digits ≡ drop 1 line → length digits % 2 ≡ 1 → after_line n r line ≡ Err (fault.Line n)
+odd-line n r line digits e f h = colon-line n r line digits e f (omega (arith, h)) (odd-by (pairs digits) n r digits refl h)

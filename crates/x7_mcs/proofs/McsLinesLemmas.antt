@@ -1,5 +1,5 @@
 -- A flash text that is read line by line.
-use Rattle.std.proofs.Common.{◌≡◌, inl, inr, ℕ, ◌+◌, ◌/◌, ◌%◌, ◌≤◌, Bool, true, false, List, [], ◌∷◌, ◌++◌, Result, Ok, Err, MatchResult, length, map, refl, ap, sym, subst, ◌∙◌, append_assoc, append-nil, arith}
+use Rattle.std.proofs.Common.{◌≡◌, inl, inr, ℕ, ◌+◌, ◌/◌, ◌%◌, ◌≤◌, Bool, true, false, List, [], ◌∷◌, ◌++◌, Result, Ok, Err, IfErr, MatchResult, length, map, refl, ap, sym, subst, ◌∙◌, append_assoc, append-nil, arith}
 use Rattle.std.proofs.lemmas.List.{map_push, length-map}
 use Rattle.std.specs.List.{flat_map}
 use Rattle.x7_words.specs.Word.{AreBytes}
@@ -10,14 +10,14 @@ use Rattle.x7_text.proofs.SplitLemmas.{split-line, split-some}
 use Rattle.x7_mcs.specs.Flash.{Reading, after_data, after_line, after_lines, and_then, of_no_line}
 use Rattle.x7_mcs.specs.Lines.{bare, lines_of, without_return}
 use Rattle.x7_mcs.specs.Places.{DataRecord}
-use Rattle.x7_mcs.specs.McsLines.{HasMcsFault, HasRead, flash_of_lines}
+use Rattle.x7_mcs.specs.McsLines.{AreGoodWith, HasMcsFault, HasRead, flash_of_lines}
 use Rattle.x7_mcs.specs.Record.{sum_byte}
 use Rattle.x7_mcs.specs.State.{BodyState, Fails, Took, at_base}
 use Rattle.x7_mcs.specs.Text.{data_line}
 use Rattle.x7_mcs.specs.declared.fault.McsFault.{McsFault}
 use Rattle.x7_mcs.specs.declared.fault.McsFault.TheVariants as fault
 use Rattle.x7_mcs.proofs.GoesLemmas.{gives-bytes, gives-fault, gives-no-end}
-use Rattle.x7_mcs.proofs.LawLemmas.{in-turn}
+use Rattle.x7_mcs.proofs.LawLemmas.{in-turn, told-one}
 use Rattle.x7_mcs.proofs.LineLemmas.{line-first}
 use Rattle.x7_mcs.proofs.ReadLemmas.{read-data}
 
@@ -59,7 +59,7 @@ module _ (b : BodyState) (lines : List (List ℕ)) (n : ℕ) (m : n ≡ length l
   }
 
   pub line-fails : (f : McsFault) (line more : List ℕ) → Fails (after_line n (at_base b.base b.ended t.records) (without_return line)) f → HasMcsFault f (lines ++ line ∷ split more)
-  line-fails f line more (inl none) = inl none
+  line-fails f line more (inl none) = inl none.0
   line-fails f line more (inr h) = gives-fault (lines ++ line ∷ split more) f (inr (
       ap (after_lines 1 of_no_line) (bare-behind lines (line ∷ split more) (some-behind line (split more)) ∙ ap (λ ts. map without_return lines ++ ts) (bare-more line (split more) (split-some more)))
       ∙ read-behind (without_return line ∷ bare (split more)) ∙ ap (λ r. and_then r (λ s. after_lines (n + 1) s (bare (split more)))) h
@@ -70,6 +70,18 @@ module _ (b : BodyState) (lines : List (List ℕ)) (n : ℕ) (m : n ≡ length l
       → MatchResult r (λ _. HasRead d (lines ++ line ∷ [])) (λ f. (more : List ℕ) → HasMcsFault f (lines ++ line ∷ split more))
   line-came (Ok _) d line bare e w = line-read d line (subst (λ l. Took (after_line n (at_base b.base b.ended t.records) l) d.base d.ended d.bytes d.marks) e w)
   line-came (Err f) d line bare e w = λ more. line-fails f line more (subst (λ l. Fails (after_line n (at_base b.base b.ended t.records) l) f) e w)
+
+  -- memory is wanting at a good line
+  pub line-wants : (f : McsFault) (line : List ℕ) → Fails (after_line n (at_base b.base b.ended t.records) (without_return line)) f → f ≡ fault.NoMemory → AreGoodWith lines line
+  line-wants f line (inl none) want =
+      inl (none.1.0, ap (after_lines 1 of_no_line) (map_push without_return lines line) ∙ read-behind (without_return line ∷ []) ∙ then-ok (after_line n (at_base b.base b.ended t.records) (without_return line)) ∙ none.1.1)
+  line-wants f line (inr h) want = absurd (told-one (without_return line) n (at_base b.base b.ended t.records) (h ∙ ap Err want))
+
+  pub line-wanted : {A : Type 0} (r : Result A McsFault) (d : BodyState) (line bare : List ℕ) → bare ≡ without_return line
+      → MatchResult r (λ _. Took (after_line n (at_base b.base b.ended t.records) bare) d.base d.ended d.bytes d.marks) (λ f. Fails (after_line n (at_base b.base b.ended t.records) bare) f)
+      → IfErr r (λ f. f ≡ fault.NoMemory → AreGoodWith lines line)
+  line-wanted (Ok _) d line bare e w = tt
+  line-wanted (Err f) d line bare e w = line-wants f line (subst (λ l. Fails (after_line n (at_base b.base b.ended t.records) l) f) e w)
 
   -- the last line
   module _ (line : List ℕ) where
@@ -88,8 +100,12 @@ module _ (b : BodyState) (lines : List (List ℕ)) (n : ℕ) (m : n ≡ length l
     last-no-end d w e = inr (gives-no-end (lines ++ line ∷ []) d.base d.ended d.bytes d.marks (last-took d w) e)
 
     pub last-fault : (f : McsFault) → Fails (after_line n (at_base b.base b.ended t.records) line) f → HasMcsFault f (lines ++ line ∷ [])
-    last-fault f (inl none) = inl none
+    last-fault f (inl none) = inl none.0
     last-fault f (inr h) = gives-fault (lines ++ line ∷ []) f (inr (last-is ∙ h))
+
+    pub last-wants : (f : McsFault) → Fails (after_line n (at_base b.base b.ended t.records) line) f → f ≡ fault.NoMemory → AreGoodWith lines line
+    last-wants f (inl none) want = inr (none.1.0, last-is ∙ none.1.1)
+    last-wants f (inr h) want = absurd (told-one line n (at_base b.base b.ended t.records) (h ∙ ap Err want))
 
 -- ---- the line of a row
 

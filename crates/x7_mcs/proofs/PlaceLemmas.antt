@@ -104,6 +104,3 @@ end-is x h = ap (λ (b : Bool). if b then 0 else x.place + length x.bytes) (no_z
 
 pub within : (n : ℕ) (xs : List DataRecord) (x : DataRecord) → 0 < length x.bytes → x.place + length x.bytes ≤ 2 ^ 27 → with_record n xs x ≡ unless_covered (overlap xs x.place (length x.bytes)) (x ∷ xs)
 within n xs x h l = ap (λ (b : Bool). if b then Err (fault.TooLarge n) else unless_covered (overlap xs x.place (length x.bytes)) (x ∷ xs)) (not_less (2 ^ 27) (end_of x) (omega (arith, l, end-is x h)))
-
-pub taken : (n : ℕ) (xs : List DataRecord) (x : DataRecord) (o : Option ℕ) (q : ℕ) → 0 < length x.bytes → x.place + length x.bytes ≤ 2 ^ 27 → o ≡ Some q → o ≡ overlap xs x.place (length x.bytes) → with_record n xs x ≡ Err (fault.Overlap q)
-taken n xs x o q h l s e = within n xs x h l ∙ ap (λ p. unless_covered p (x ∷ xs)) (sym e ∙ s)

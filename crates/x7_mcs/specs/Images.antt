@@ -22,9 +22,9 @@ data_at place bytes = record { place = place; bytes = bytes }
 abbrev pub HoldsMore : Image → ℕ → List DataRecord → DataRecord → Type 0
 HoldsMore image n records r = (with_record n records r ≡ Ok (r ∷ records)) × HoldsIn image (r ∷ records)
 
--- it is refused; want of memory says nothing
+-- the record is refused, or memory is wanting for one that may be taken
 abbrev pub IsRefused : ℕ → List DataRecord → DataRecord → McsFault → Type 0
-IsRefused n records r f = (f ≡ fault.NoMemory) ⊎ (with_record n records r ≡ Err f)
+IsRefused n records r f = ((f ≡ fault.NoMemory) × (with_record n records r ≡ Ok (r ∷ records))) ⊎ (with_record n records r ≡ Err f)
 
 -- ---- a text up to a line
 

@@ -4,7 +4,7 @@ use Rattle.x7_text.specs.Lines.{split}
 use Rattle.x7_mcs.specs.Flash.{Reading, after_lines, flash_in, of_no_line, with_end}
 use Rattle.x7_mcs.specs.Images.{CameTo}
 use Rattle.x7_mcs.specs.Lines.{bare, without_return}
-use Rattle.x7_mcs.specs.State.{BodyState, Fails, Took}
+use Rattle.x7_mcs.specs.State.{BodyState, Fails, IsGood, Took}
 use Rattle.x7_mcs.specs.declared.mcs_lines.McsLines.{McsLines}
 use Rattle.x7_mcs.specs.declared.fault.McsFault.{McsFault}
 use Rattle.x7_mcs.specs.declared.fault.McsFault.TheVariants as fault
@@ -20,7 +20,11 @@ HasRead b lines = Took (after_lines 1 of_no_line (map without_return lines)) b.b
 abbrev pub flash_of_lines : List (List ℕ) → Result (List ℕ) McsFault
 flash_of_lines lines = flash_in (with_end (after_lines 1 of_no_line (bare lines)))
 
--- a text of these lines has this fault; want of memory says nothing
+-- these lines and one behind them, with its end or as the last of a text, are read without a fault: memory may be wanting at it
+abbrev pub AreGoodWith : List (List ℕ) → List ℕ → Type 0
+AreGoodWith lines line = IsGood (after_lines 1 of_no_line (map without_return (lines ++ line ∷ []))) ⊎ IsGood (after_lines 1 of_no_line (bare (lines ++ line ∷ [])))
+
+-- a text of these lines has this fault; of want of memory nothing is said here
 abbrev pub HasMcsFault : McsFault → List (List ℕ) → Type 0
 HasMcsFault f lines = (f ≡ fault.NoMemory) ⊎ (flash_of_lines lines ≡ Err f)
 

@@ -4,6 +4,10 @@ use Rattle.std.specs.List.{range_with_len}
 use Rattle.x7_mcs.specs.declared.fault.McsFault.{McsFault}
 use Rattle.x7_mcs.specs.declared.fault.McsFault.TheVariants as fault
 
+-- how many places a flash has at most (this project's choice)
+abbrev pub flash_limit : ℕ
+flash_limit = 2 ^ 27
+
 -- the first place of a data record, and its bytes
 pub record DataRecord : Type 0 where
   pub place : ℕ
@@ -51,5 +55,5 @@ unless_covered None xs = Ok xs
 -- the records with that of line n, or its fault
 abbrev pub with_record : ℕ → List DataRecord → DataRecord → Result (List DataRecord) McsFault
 with_record n xs x =
-    if nat_lt (2 ^ 27) (end_of x) then Err (fault.TooLarge n)
+    if nat_lt flash_limit (end_of x) then Err (fault.TooLarge n)
     else unless_covered (overlap xs x.place (length x.bytes)) (x ∷ xs)

@@ -5,6 +5,10 @@ pub use Rattle.x7_text.specs.EitherCase.{byte_of, digit_of, led, pairs}
 use Rattle.x7_mcs.specs.declared.fault.McsFault.{McsFault}
 use Rattle.x7_mcs.specs.declared.fault.McsFault.TheVariants as fault
 
+-- how many bytes a record of 16 address bits reaches over from its base on: those of a block
+abbrev pub block_size : ℕ
+block_size = 65536
+
 -- the fields of a record's bytes
 abbrev pub count_of : List ℕ → ℕ
 count_of bs = get_or bs 0 0
@@ -49,10 +53,10 @@ pub data Meaning : Type 0 where
 -- 04 the base by 65,536; 03 and 05 a start address, without effect
 abbrev pub meaning_by_type : ℕ → List ℕ → Result Meaning McsFault
 meaning_by_type n bs =
-    if type_of bs == 0 && nat_le (address_of bs + count_of bs) 65536 then Ok (Meaning.Data (address_of bs))
+    if type_of bs == 0 && nat_le (address_of bs + count_of bs) block_size then Ok (Meaning.Data (address_of bs))
     else if type_of bs == 1 && count_of bs == 0 then Ok Meaning.End
     else if type_of bs == 2 && count_of bs == 2 then Ok (Meaning.Base (16 * value_of bs))
-    else if type_of bs == 4 && count_of bs == 2 then Ok (Meaning.Base (65536 * value_of bs))
+    else if type_of bs == 4 && count_of bs == 2 then Ok (Meaning.Base (block_size * value_of bs))
     else if (type_of bs == 3 || type_of bs == 5) && count_of bs == 4 then Ok Meaning.Start
     else Err (fault.Line n)
 

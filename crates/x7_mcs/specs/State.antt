@@ -68,6 +68,10 @@ pub record Took (reading : Result Reading McsFault) (base : ℕ) (ended : Bool) 
 abbrev pub at_base : ℕ → Bool → List DataRecord → Reading
 at_base base ended records = record { base = base; ended = ended; records = records }
 
--- a reading has this fault; want of memory says nothing
+-- a reading has no fault
+abbrev pub IsGood : Result Reading McsFault → Type 0
+IsGood reading = (r : Reading) × (reading ≡ Ok r)
+
+-- a call gave this fault for a reading: the reading's, or want of memory where the reading has no fault
 abbrev pub Fails : Result Reading McsFault → McsFault → Type 0
-Fails reading f = (f ≡ fault.NoMemory) ⊎ (reading ≡ Err f)
+Fails reading f = ((f ≡ fault.NoMemory) × IsGood reading) ⊎ (reading ≡ Err f)

@@ -1,9 +1,21 @@
 -- The text of a flash's bytes (Intel HEX; rows of 16 bytes are this project's choice).
-use Rattle.std.specs.Prelude.{ℕ, ◌+◌, ◌/◌, ◌%◌, ◌==◌, if◌then◌else◌, List, [], ◌∷◌, ◌++◌, length, codes}
+use Rattle.std.specs.Prelude.{ℕ, ◌+◌, ◌*◌, ◌/◌, ◌%◌, ◌==◌, if◌then◌else◌, List, [], ◌∷◌, ◌++◌, length, codes}
 use Rattle.std.specs.List.{flat_map}
 use Rattle.x7_text.specs.Digits.{hex_byte}
 use Rattle.x7_text.specs.Row.{rows}
-use Rattle.x7_mcs.specs.Record.{sum_byte}
+use Rattle.x7_mcs.specs.Record.{block_size, sum_byte}
+
+-- how many bytes of a flash a row has, each but the last
+abbrev pub row_size : ℕ
+row_size = 16
+
+-- the last address at which a row ends within its block
+abbrev pub last_row : ℕ
+last_row = 65520
+
+-- the bytes that the text of a block takes at most: four for each byte, and its record 04
+abbrev pub block_room : ℕ
+block_room = 4 * block_size + 60
 
 -- the line of a record's bytes, with the byte that makes their sum 0
 abbrev pub record_line : List ℕ → List ℕ
@@ -19,13 +31,13 @@ data_line address bs = record_line (length bs ∷ address / 256 ∷ address % 25
 
 -- where a block of 65,536 bytes begins, its record 04
 abbrev pub block_start : ℕ → List ℕ
-block_start place = if place % 65536 == 0 then base_line (place / 65536) else []
+block_start place = if place % block_size == 0 then base_line (place / block_size) else []
 
 -- the lines of rows from a place on
 abbrev pub row_lines : ℕ → List (List ℕ) → List ℕ
 row_lines place [] = []
-row_lines place (r ∷ rs) = block_start place ++ data_line (place % 65536) r ++ row_lines (place + length r) rs
+row_lines place (r ∷ rs) = block_start place ++ data_line (place % block_size) r ++ row_lines (place + length r) rs
 
 -- the text of a flash's bytes: rows of 16, the last of which may be shorter, and the record 01
 abbrev pub mcs_text : List ℕ → List ℕ
-mcs_text bytes = row_lines 0 (rows 16 bytes) ++ codes ":00000001FF\n"
+mcs_text bytes = row_lines 0 (rows row_size bytes) ++ codes ":00000001FF\n"

@@ -1,34 +1,33 @@
 //! The text of a flash's bytes, written block by block in one buffer.
-ghost use Rattle.std.specs.Prelude.{◌≡◌, ℕ, List, ◌≤◌, ◌^◌, length, vec_capacity, IfOk, OnOk, OnErr};
+ghost use Rattle.std.specs.Prelude.{◌≡◌, ℕ, List, ◌≤◌, length, vec_capacity, IfOk, OnOk, OnErr};
 ghost use Rattle.x7_text.specs.Row.{rows};
 ghost use Rattle.x7_words.specs.Sink.{Counts, PutsAll, PutsSome, SinkFails};
-ghost use Rattle.x7_mcs.specs.Text.{mcs_text, row_lines};
+ghost use Rattle.x7_mcs.specs.Places.{flash_limit};
+ghost use Rattle.x7_mcs.specs.Text.{block_room, mcs_text, row_lines, row_size};
 
+use crate::record::BLOCK_SIZE;
 use crate::text::{END_LINE, put_rows};
 use std::alloc::Global;
 use std::marker::Model;
 use x7_words::{Failed, NoMemory, Sink, write_all};
 
-/// How many bytes of a flash a block is of.
-const BLOCK: usize = 65_536;
-
-/// The room that the lines of a block take at most.
-const BLOCK_ROOM: usize = 4 * BLOCK + 60;
+/// The bytes that the lines of a block take at most.
+const BLOCK_ROOM: usize = 4 * BLOCK_SIZE as usize + 60;
 
 /// Writes the lines of a flash's rows, those of a block at a time. It takes no memory.
 fn write_rows<S: Sink>(out: &mut S, flash: &[u8], block: &mut Vec<u8>) -> Result<(), Failed>
-    requires flash { length flash.now ≤ 2 ^ 27 }
-    requires room { 262204 ≤ vec_capacity block.old }
-    ensures whole { OnOk result (PutsAll (S.state out.old) (row_lines 0 (rows 16 flash.now)) (S.state out.new)) }
-    ensures prefix { PutsSome (S.state out.old) (row_lines 0 (rows 16 flash.now)) (S.state out.new) }
+    requires flash { length flash.now ≤ flash_limit }
+    requires room { block_room ≤ vec_capacity block.old }
+    ensures whole { OnOk result (PutsAll (S.state out.old) (row_lines 0 (rows row_size flash.now)) (S.state out.new)) }
+    ensures prefix { PutsSome (S.state out.old) (row_lines 0 (rows row_size flash.now)) (S.state out.new) }
     ensures failed { OnErr result (SinkFails (S.state out.old) (S.state out.new)) }
     ensures counts { Counts (S.state out.old) (S.state out.new) }
-    ensures room { 262204 ≤ vec_capacity block.new }
+    ensures room { block_room ≤ vec_capacity block.new }
 {
     let mut place = 0u32;
     let mut rest = flash;
     while rest.len() > 0 {
-        let (bytes, more) = rest.split_at(rest.len().min(BLOCK));
+        let (bytes, more) = rest.split_at(rest.len().min(BLOCK_SIZE as usize));
         block.clear();
         put_rows(block, place, bytes);
         write_all(out, block)?;
@@ -50,13 +49,13 @@ impl Model for McsText {
 
     ghost view = { λ t. t.image.items };
 
-    ghost invariant = { λ t. (length t.image.items ≤ 2 ^ 27) × (262204 ≤ vec_capacity t.block) };
+    ghost invariant = { λ t. (length t.image.items ≤ flash_limit) × (block_room ≤ vec_capacity t.block) };
 }
 
 impl McsText {
     /// The text of an image.
     pub fn new(alloc: Global, image: Vec<u8>) -> Result<McsText, NoMemory>
-        requires { length image.items ≤ 2 ^ 27 }
+        requires { length image.items ≤ flash_limit }
         ensures { IfOk result (λ text. text ≡ image.items) }
     {
         let Ok(block) = Vec::with_capacity(alloc, BLOCK_ROOM) else {

@@ -1,6 +1,9 @@
 //! The bytes of a flash text.
-ghost use Rattle.std.specs.Prelude.{◌≡◌, ℕ, ◌≤◌, ◌^◌, ◌⊎◌, List, length, Ok, Err, MatchResult, IfOk, IfErr};
+ghost use Rattle.std.specs.Prelude.{◌≡◌, ℕ, ◌≤◌, ◌⊎◌, List, [], length, Ok, Err, MatchResult, IfOk, IfErr};
+ghost use Rattle.x7_text.specs.LineReading.{WantsAt};
 ghost use Rattle.x7_mcs.specs.Flash.{mcs_of};
+ghost use Rattle.x7_mcs.specs.McsLines.{AreGoodWith};
+ghost use Rattle.x7_mcs.specs.Places.{flash_limit};
 ghost use Rattle.x7_mcs.specs.Text.{mcs_text};
 ghost use Rattle.x7_mcs.specs.declared.fault.McsFault.{McsFault};
 ghost use Rattle.x7_words.specs.Word.{AreBytes};
@@ -10,11 +13,13 @@ use crate::mcs_lines::McsLines;
 use std::alloc::Global;
 use x7_text::read_lines;
 
-/// The bytes that a flash text gives, FF where no record gave one, or its first fault.
+/// The bytes that a flash text gives, FF where no record gave one, or its first fault. Memory is wanting only at a line that
+/// is good, behind good ones.
 pub fn flash_of(alloc: Global, text: &[u8]) -> Result<Vec<u8>, McsFault>
     ensures bytes { IfOk result (λ bytes. mcs_of text.now ≡ Ok bytes.items) }
     ensures fault { IfErr result (λ fault. (fault ≡ McsFault.NoMemory) ⊎ (mcs_of text.now ≡ Err fault)) }
-    ensures back { (x : List ℕ) → AreBytes x → length x ≤ 2 ^ 27 → text.now ≡ mcs_text x
+    ensures memory { IfErr result (λ fault. fault ≡ McsFault.NoMemory → WantsAt AreGoodWith [] text.now) }
+    ensures back { (x : List ℕ) → AreBytes x → length x ≤ flash_limit → text.now ≡ mcs_text x
         → MatchResult result (λ bytes. bytes.items ≡ x) (λ fault. fault ≡ McsFault.NoMemory) }
 {
     read_text(alloc, text)
@@ -22,7 +27,8 @@ pub fn flash_of(alloc: Global, text: &[u8]) -> Result<Vec<u8>, McsFault>
 
 /// The bytes that a flash text gives, line by line.
 fn read_text(alloc: Global, text: &[u8]) -> Result<Vec<u8>, McsFault>
-    ensures { MatchResult result (λ bytes. mcs_of text.now ≡ Ok bytes.items) (λ fault. (fault ≡ McsFault.NoMemory) ⊎ (mcs_of text.now ≡ Err fault)) }
+    ensures read { MatchResult result (λ bytes. mcs_of text.now ≡ Ok bytes.items) (λ fault. (fault ≡ McsFault.NoMemory) ⊎ (mcs_of text.now ≡ Err fault)) }
+    ensures memory { IfErr result (λ fault. fault ≡ McsFault.NoMemory → WantsAt AreGoodWith [] text.now) }
 {
     read_lines(McsLines::new(alloc), text)
 }

@@ -1,15 +1,15 @@
 //! What a text gives, said in other words: laws of the definitions, for the proofs of crates above.
-ghost use Rattle.std.specs.Prelude.{◌≡◌, ℕ, true, false, ◌≤◌, ◌<◌, ◌+◌, ◌-◌, ◌*◌, ◌%◌, ◌^◌, List, ◌∷◌, ◌++◌, length, get_or, Some, None, Ok, Err};
+ghost use Rattle.std.specs.Prelude.{◌≡◌, ℕ, true, false, ◌≤◌, ◌<◌, ◌+◌, ◌-◌, ◌*◌, ◌%◌, List, ◌∷◌, ◌++◌, length, get_or, Some, None, Ok, Err};
 ghost use Rattle.x7_text.specs.Row.{rows};
 ghost use Rattle.x7_words.specs.Word.{AreBytes};
 ghost use Rattle.x7_mcs.specs.Flash.{Reading, after_lines, and_then, mcs_of, reading_of};
-ghost use Rattle.x7_mcs.specs.Places.{AreApart, DataRecord, byte_at, covered, covers, extent, image_of, overlap};
-ghost use Rattle.x7_mcs.specs.Text.{mcs_text, row_lines};
+ghost use Rattle.x7_mcs.specs.Places.{AreApart, DataRecord, byte_at, covered, covers, extent, flash_limit, image_of, overlap};
+ghost use Rattle.x7_mcs.specs.Text.{mcs_text, row_lines, row_size};
 ghost use Rattle.x7_mcs.specs.declared.fault.McsFault.{McsFault};
 
 /// The text of bytes gives them back.
 pub fn text_leads_back()
-    ensures { (bytes : List ℕ) → AreBytes bytes → length bytes ≤ 2 ^ 27 → mcs_of (mcs_text bytes) ≡ Ok bytes }
+    ensures { (bytes : List ℕ) → AreBytes bytes → length bytes ≤ flash_limit → mcs_of (mcs_text bytes) ≡ Ok bytes }
 {}
 
 /// The text of bytes has at most 15 characters for each four of them, and 40 more.
@@ -50,5 +50,5 @@ pub fn overlap_is_the_least()
 
 /// The lines of bytes in two parts, the first of which ends where a row does.
 pub fn rows_in_parts()
-    ensures { (place : ℕ) (xs ys : List ℕ) → length xs % 16 ≡ 0 → row_lines place (rows 16 (xs ++ ys)) ≡ row_lines place (rows 16 xs) ++ row_lines (place + length xs) (rows 16 ys) }
+    ensures { (place : ℕ) (xs ys : List ℕ) → length xs % row_size ≡ 0 → row_lines place (rows row_size (xs ++ ys)) ≡ row_lines place (rows row_size xs) ++ row_lines (place + length xs) (rows row_size ys) }
 {}

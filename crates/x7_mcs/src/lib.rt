@@ -2,7 +2,6 @@
 #![tactic(auto)]
 
 mod blocks;
-mod digits;
 mod fault;
 mod flash;
 mod image;

@@ -1,10 +1,12 @@
 //! What the lines of a flash text give, as they come.
-ghost use Rattle.std.specs.Prelude.{◌≡◌, ◌+◌, ◌<◌, ◌≤◌, ◌++◌, ◌∷◌, [], List, ℕ, length, Ok, IfOk, MatchOption, MatchResult};
+ghost use Rattle.std.specs.Prelude.{◌≡◌, ◌+◌, ◌<◌, ◌≤◌, ◌++◌, ◌∷◌, [], List, ℕ, length, Ok, IfErr, IfOk, MatchOption, MatchResult};
+ghost use Rattle.x7_text.specs.LineReading.{WantsAt};
 ghost use Rattle.x7_text.specs.Lines.{split};
 ghost use Rattle.x7_mcs.specs.Flash.{after_data, after_line};
 ghost use Rattle.x7_mcs.specs.Images.{HoldsIn, reading_at};
 ghost use Rattle.x7_mcs.specs.Places.{DataRecord};
-ghost use Rattle.x7_mcs.specs.McsLines.{HasMcsFault, HasRead, ReachesIn, TakesFirst, body_in, flash_of_lines};
+ghost use Rattle.x7_mcs.specs.Text.{last_row, row_size};
+ghost use Rattle.x7_mcs.specs.McsLines.{AreGoodWith, HasMcsFault, HasRead, ReachesIn, TakesFirst, body_in, flash_of_lines};
 ghost use Rattle.x7_mcs.specs.declared.mcs_lines.McsLines.{McsLines};
 ghost use Rattle.x7_mcs.specs.declared.fault.McsFault.{McsFault};
 
@@ -16,13 +18,14 @@ use crate::step::{Context, put_data, put_line};
 use std::alloc::Global;
 use x7_text::{TakesLines, first_line};
 
-/// The image that the lines of a flash text gave so far, and what stands for the lines that come. `decoded` is room for the
-/// bytes of a record.
+/// The last address at which a row ends within its block.
+const LAST_ROW: u32 = 65_520;
+
+/// The image that the lines of a flash text gave so far, and what stands for the lines that come.
 #[derive(Drop)]
 pub struct McsLines {
     image: Image,
     context: Context,
-    decoded: Vec<u8>,
 }
 
 impl McsLines {
@@ -36,15 +39,14 @@ impl McsLines {
                 base: 0,
                 ended: false,
             },
-            decoded: Vec::new(alloc),
         }
     }
 
     /// Takes line `n`, that of a row as it is written here.
     #[inline(always)]
     fn put_row(&mut self, n: u64, row: &Row) -> Result<(), McsFault>
-        requires address { row.now.address ≤ 65520 }
-        requires content { length row.now.content ≡ 16 }
+        requires address { row.now.address ≤ last_row }
+        requires content { length row.now.content ≡ row_size }
         ensures { (xs : List DataRecord) → HoldsIn self.old.image xs
             → ReachesIn result (after_data n (reading_at self.old.context xs) row.now.address row.now.content) self.new }
     {
@@ -61,7 +63,7 @@ impl McsLines {
     fn put_one(&mut self, n: u64, line: &[u8]) -> Result<(), McsFault>
         ensures { (xs : List DataRecord) → HoldsIn self.old.image xs → ReachesIn result (after_line n (reading_at self.old.context xs) line.now) self.new }
     {
-        match put_line(&mut self.image, &mut self.decoded, n, self.context, line) {
+        match put_line(&mut self.image, n, self.context, line) {
             Ok(context) => {
                 self.context = context;
                 Ok(())
@@ -76,11 +78,13 @@ impl McsLines {
         ensures goes { (lines : List (List ℕ)) → n ≡ length lines + 1 → HasRead (body_in self.old) lines
             → MatchResult result (λ found. MatchOption found (HasRead (body_in self.new) lines) (λ rest. TakesFirst lines text.now rest.now self.new))
             (λ f. (more : List ℕ) → HasMcsFault f (lines ++ split (text.now ++ more))) }
+        ensures memory { (lines : List (List ℕ)) → n ≡ length lines + 1 → HasRead (body_in self.old) lines
+            → IfErr result (λ f. f ≡ McsFault.NoMemory → WantsAt AreGoodWith lines text.now) }
         ensures left { IfOk result (λ found. MatchOption found (split text.now ≡ text.now ∷ []) (λ rest. length rest.now < length text.now)) }
     {
         if !self.context.ended
             && let Some((row, rest)) = first_row(text)
-            && row.address <= 65520
+            && row.address <= LAST_ROW
         {
             match self.put_row(n, &row) {
                 Ok(()) => return Ok(Some(rest)),
@@ -108,6 +112,10 @@ impl TakesLines for McsLines {
     ghost fails = { λ first. HasMcsFault };
 
     ghost gives = { λ first image lines. flash_of_lines lines ≡ Ok image.items };
+
+    ghost is_want = { λ fault. fault ≡ McsFault.NoMemory };
+
+    ghost wants = { λ first. AreGoodWith };
 
     fn no_memory() -> McsFault
         ensures { (first : McsLines) (lines : List (List ℕ)) → HasMcsFault result lines }

@@ -6,6 +6,9 @@ ghost use Rattle.x7_mcs.specs.State.{Says};
 
 use crate::fault::McsFault;
 
+/// How many bytes a record of 16 address bits reaches over from its base on: those of a block.
+pub(crate) const BLOCK_SIZE: u32 = 65_536;
+
 /// What a record says.
 #[derive(Clone, Copy)]
 pub(crate) enum Meaning {
@@ -47,7 +50,7 @@ fn meaning_by_type(n: u64, bytes: &[u8]) -> Result<Meaning, McsFault>
     let count = u32::from(bytes[0]);
     let address = 256 * u32::from(bytes[1]) + u32::from(bytes[2]);
     let kind = bytes[3];
-    if kind == 0 && address + count <= 65536 {
+    if kind == 0 && address + count <= BLOCK_SIZE {
         return Ok(Meaning::Data(address));
     }
     if kind == 1 && count == 0 {
@@ -57,7 +60,7 @@ fn meaning_by_type(n: u64, bytes: &[u8]) -> Result<Meaning, McsFault>
         return Ok(Meaning::Base(16 * (256 * u32::from(bytes[4]) + u32::from(bytes[5]))));
     }
     if kind == 4 && count == 2 {
-        return Ok(Meaning::Base(65536 * (256 * u32::from(bytes[4]) + u32::from(bytes[5]))));
+        return Ok(Meaning::Base(BLOCK_SIZE * (256 * u32::from(bytes[4]) + u32::from(bytes[5]))));
     }
     if (kind == 3 || kind == 5) && count == 4 {
         return Ok(Meaning::Start);

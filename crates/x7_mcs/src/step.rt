@@ -6,13 +6,13 @@ ghost use Rattle.x7_mcs.specs.Flash.{after_data, after_line};
 ghost use Rattle.x7_mcs.specs.Images.{ComesTo, HoldsIn, after_record, reading_at};
 ghost use Rattle.x7_mcs.specs.declared.fault.McsFault.{McsFault};
 
-use crate::digits::put_pairs;
 use crate::fault::McsFault;
 use crate::image::{Image, put_content};
 use crate::record::{Meaning, data_of, meaning_of};
+use x7_text::read_pairs;
 
-/// The digits of the longest record: 255 bytes of data, and five beside them.
-const MOST_DIGITS: usize = 520;
+/// The bytes of the longest record: 255 of data, and five beside them.
+const MOST_BYTES: usize = 260;
 
 /// The base that stands, and whether a record 01 stood.
 #[derive(Clone, Copy)]
@@ -64,10 +64,9 @@ fn put_record(
     }
 }
 
-/// After line `n`. `decoded` is room for the bytes of a record.
+/// After line `n`.
 pub(crate) fn put_line(
     image: &mut Image,
-    decoded: &mut Vec<u8>,
     n: u64,
     context: Context,
     line: &[u8],
@@ -81,15 +80,16 @@ pub(crate) fn put_line(
         return Err(McsFault::Line(n));
     }
     let (_, digits) = line.split_at(1);
-    if digits.len() > MOST_DIGITS {
+    if digits.len() > 2 * MOST_BYTES {
         return Err(McsFault::Line(n));
     }
-    decoded.clear();
-    let Ok(()) = decoded.reserve(digits.len()) else {
-        return Err(McsFault::NoMemory);
-    };
-    if !put_pairs(decoded, digits) {
+    if digits.len() % 2 != 0 {
         return Err(McsFault::Line(n));
     }
-    put_record(image, n, context, decoded)
+    let mut room = [0; MOST_BYTES];
+    let bytes = &mut room[..digits.len() / 2];
+    if !read_pairs(bytes, digits) {
+        return Err(McsFault::Line(n));
+    }
+    put_record(image, n, context, bytes)
 }

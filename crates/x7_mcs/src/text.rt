@@ -5,9 +5,11 @@ ghost use Rattle.x7_text.specs.Digits.{hex_byte};
 ghost use Rattle.x7_text.specs.Row.{rows};
 ghost use Rattle.x7_words.specs.Word.{AreBytes};
 ghost use Rattle.x7_mcs.specs.Flash.{mcs_of};
-ghost use Rattle.x7_mcs.specs.Text.{block_start, data_line, mcs_text, record_line, row_lines};
+ghost use Rattle.x7_mcs.specs.Places.{flash_limit};
+ghost use Rattle.x7_mcs.specs.Record.{block_size};
+ghost use Rattle.x7_mcs.specs.Text.{block_start, data_line, mcs_text, record_line, row_lines, row_size};
 
-use crate::record::sum_byte;
+use crate::record::{BLOCK_SIZE, sum_byte};
 use crate::row::row_line;
 use std::alloc::Global;
 use x7_text::{hex_of_byte, put};
@@ -42,17 +44,17 @@ fn put_record(out: &mut Vec<u8>, fields: &[u8], content: &[u8])
     put(out, b"\n");
 }
 
-/// Appends the record 04 where a block of 65,536 bytes begins.
+/// Appends the record 04 where a block begins.
 #[inline(always)]
 fn put_block_start(out: &mut Vec<u8>, place: u32)
     requires room { vec_len out.old + 16 ≤ vec_capacity out.old }
-    requires within { place < 2 ^ 27 }
+    requires within { place < flash_limit }
     ensures items { out.new.items ≡ out.old.items ++ block_start place }
     ensures length { vec_len out.new ≤ vec_len out.old + 16 }
     ensures room { vec_capacity out.old ≤ vec_capacity out.new }
 {
-    if place % 65536 == 0 {
-        let block = place / 65536;
+    if place % BLOCK_SIZE == 0 {
+        let block = place / BLOCK_SIZE;
         put_record(
             out,
             &[2, 0, 0, 4, (block / 256) as u8, (block % 256) as u8],
@@ -88,22 +90,22 @@ fn put_data(out: &mut Vec<u8>, address: u32, row: &[u8])
 #[inline(always)]
 fn put_row(out: &mut Vec<u8>, place: u32, row: &[u8])
     requires room { vec_len out.old + 60 ≤ vec_capacity out.old }
-    requires within { place < 2 ^ 27 }
+    requires within { place < flash_limit }
     requires row { length row.now ≤ 16 }
-    ensures items { out.new.items ≡ out.old.items ++ (block_start place ++ data_line (place % 65536) row.now) }
+    ensures items { out.new.items ≡ out.old.items ++ (block_start place ++ data_line (place % block_size) row.now) }
     ensures length { vec_len out.new ≤ vec_len out.old + 60 }
     ensures room { vec_capacity out.old ≤ vec_capacity out.new }
 {
     put_block_start(out, place);
-    put_data(out, place % 65536, row);
+    put_data(out, place % BLOCK_SIZE, row);
 }
 
 /// Appends the lines of rows of 16 bytes, the first of which stands at a place where a row begins. It takes no memory.
 pub fn put_rows(text: &mut Vec<u8>, place: u32, bytes: &[u8])
     requires begins { place % 16 ≡ 0 }
-    requires within { place + length bytes.now ≤ 2 ^ 27 }
+    requires within { place + length bytes.now ≤ flash_limit }
     requires room { vec_len text.old + (4 * length bytes.now + 60) ≤ vec_capacity text.old }
-    ensures items { text.new.items ≡ text.old.items ++ row_lines place (rows 16 bytes.now) }
+    ensures items { text.new.items ≡ text.old.items ++ row_lines place (rows row_size bytes.now) }
     ensures room { vec_capacity text.old ≤ vec_capacity text.new }
 {
     let mut at = place;
@@ -116,9 +118,9 @@ pub fn put_rows(text: &mut Vec<u8>, place: u32, bytes: &[u8])
     }
 }
 
-/// The text of a flash's bytes: a record 04 for each 65,536 begun, data records of 16 bytes, and a record 01.
+/// The text of a flash's bytes: a record 04 for each block of 65,536 bytes begun, data records of 16 bytes, and a record 01.
 pub fn mcs_text(alloc: Global, flash: &[u8]) -> Result<Vec<u8>, NoMemory>
-    requires { length flash.now ≤ 2 ^ 27 }
+    requires { length flash.now ≤ flash_limit }
     ensures text { IfOk result (λ text. text.items ≡ mcs_text flash.now) }
     ensures back { AreBytes flash.now → IfOk result (λ text. mcs_of text.items ≡ Ok flash.now) }
 {

@@ -1,15 +1,10 @@
 -- Digits of either case.
-use Rattle.std.proofs.Common.{◌≡◌, ℕ, ◌+◌, ◌*◌, ◌/◌, ◌%◌, ◌^◌, ◌<◌, ◌⊎◌, List, [], ◌∷◌, Some, map, get_or, refl, ap, ap₂, ◌∙◌, arith}
+use Rattle.std.proofs.Common.{◌≡◌, ℕ, ◌+◌, ◌*◌, ◌/◌, ◌%◌, ◌^◌, ◌<◌, ◌⊎◌, List, [], ◌∷◌, Some, refl, ap, ap₂, ◌∙◌, arith}
 use Rattle.std.proofs.lemmas.Grind.{common_steps}
-use Rattle.std.proofs.lemmas.List.FromFn.{get_or-map-range_with_len}
-use Rattle.std.specs.List.{flat_map, range_with_len}
+use Rattle.std.specs.List.{flat_map}
 use Rattle.x7_words.specs.Word.{AreBytes}
 use Rattle.x7_text.specs.Digits.{hex_byte, hex_digit}
-use Rattle.x7_text.specs.EitherCase.{byte_of, digit_of, led, number_or_16_of, pairs}
-
--- the table of digits
-pub number-at : (table : List ℕ) (c : ℕ) → table ≡ map number_or_16_of (range_with_len 0 256) → c < 256 → get_or table c 0 ≡ number_or_16_of c
-number-at table c e h = ap (λ t. get_or t c 0) e ∙ get_or-map-range_with_len number_or_16_of 0 256 c c 0 h (omega arith)
+use Rattle.x7_text.specs.EitherCase.{byte_of, digit_of, led, pairs}
 
 pub digit-upper : (n : ℕ) → n < 16 → digit_of (hex_digit n) ≡ Some n
 digit-upper n h = grind (arith, common_steps)

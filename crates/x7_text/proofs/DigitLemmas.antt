@@ -59,7 +59,7 @@ raw-paired xs e = let h : Paired (pick_l 0 xs (range_with_len 0 64)) = refl in s
 pub paired : (xs : List ℕ) → length xs ≡ 64 → FromPairs xs
 paired xs e = raw-paired xs e ∙ raw-are xs
 
--- the same of eight halves
+-- the bytes of eight halves by their shuffled lanes
 abbrev pub EightPaired : List ℕ → Type 0
 EightPaired xs = zip2 (λ a b. (a + b) % 256) (zip2 (λ a b. a * 2 ^ b % 256) (pick_l 0 (xs ++ xs) (0 ∷ 2 ∷ 4 ∷ 6 ∷ [])) (replicate 4 4)) (pick_l 0 (xs ++ xs) (1 ∷ 3 ∷ 5 ∷ 7 ∷ [])) ≡ raw_pairs xs
 

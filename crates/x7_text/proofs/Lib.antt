@@ -2,6 +2,7 @@ pub mod AppendsLemmas
 pub mod BlockLemmas
 pub mod ByteLemmas
 pub mod CaseLemmas
+pub mod DecodeLemmas
 pub mod DigitLemmas
 pub mod FrontLemmas
 pub mod LineLemmas

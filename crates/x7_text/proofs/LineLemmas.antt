@@ -54,11 +54,11 @@ closing n word text [] k [] same = rw same refl
 closing n word text (y ∷ ys) k [] same = rw (same, close-more (length ys)) (simp (append_assoc, append-nil))
 closing n word text part k (x ∷ xs) same = closing_by n word text part k x xs (length part + 1 == n) same refl (closing n word text [] 0 xs refl) (closing n word text (part ++ x ∷ []) (length part + 1) xs (sym (length-append part (x ∷ []))))
 
--- bytes told one by one are the lines of 32
+-- bytes given one by one are the lines of 32
 pub bytes_closed : (bs : List ℕ) → open_text 32 (codes "bytes ") hex_byte 0 bs ++ close (in_line_after 32 0 bs) ≡ bytes_text bs
 bytes_closed bs = closing 32 (codes "bytes ") hex_byte [] 0 bs refl
 
--- words told one by one are the lines of eight
+-- words given one by one are the lines of eight
 pub data_closed : (ws : List ℕ) → open_text 8 (codes "data") spaced 0 ws ++ close (in_line_after 8 0 ws) ≡ data_text ws
 data_closed ws = closing 8 (codes "data") spaced [] 0 ws refl
 

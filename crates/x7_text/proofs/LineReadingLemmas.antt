@@ -1,8 +1,8 @@
 -- A text by its whole lines and what is left, and readers that take it in pieces.
-use Rattle.std.proofs.Common.{◌≡◌, ℕ, ◌+◌, ◌≤◌, true, List, [], ◌∷◌, ◌++◌, length, refl, ap, sym, subst, ◌∙◌, arith, append_assoc, length-append}
+use Rattle.std.proofs.Common.{◌≡◌, ℕ, ◌+◌, ◌≤◌, true, List, [], ◌∷◌, ◌++◌, Result, Ok, Err, IfErr, length, refl, ap, sym, subst, ◌∙◌, arith, append_assoc, length-append}
 use Rattle.std.specs.List.{flat_map, AllByRecursion}
 use Rattle.x7_text.specs.Lines.{has_no_end, joined, split}
-use Rattle.x7_text.specs.LineReading.{FailsFrom, IsCut, ReaderState, StandsFor, TakesPrefix, TakesWhole}
+use Rattle.x7_text.specs.LineReading.{FailsFrom, IsCut, ReaderState, StandsFor, TakesPrefix, TakesWhole, WantsAt}
 use Rattle.x7_text.proofs.PieceLemmas.{free-both, joined-ahead, some-line, split-alone}
 use Rattle.x7_text.proofs.SplitLemmas.{joined-split, split-free, split-line, split-some}
 
@@ -108,9 +108,56 @@ module _ {B : Type 0} (taken : B → List (List ℕ) → Type 0) (ls : List (Lis
       let q : split (rest ++ more) ≡ line ∷ split (after ++ more) = ap (λ x. split (x ++ more)) p.0 ∙ ap split (append_assoc line (10 ∷ after) more) ∙ split-line line (after ++ more) p.1 in
       subst fails (append_assoc ls h.more (line ∷ split (after ++ more)) ∙ ap (λ x. ls ++ (h.more ++ x)) (sym q) ∙ ap (λ x. ls ++ x) (sym (prefix-on text rest h.more h.texts more))) (f (after ++ more))
 
+-- ---- want of memory
+
+module _ (wants : List (List ℕ) → List ℕ → Type 0) (lines : List (List ℕ)) where
+  -- at a line that has its end, behind others of its text
+  pub wants-here : (more : List (List ℕ)) (text rest line after : List ℕ) → split text ≡ more ++ split rest → split rest ≡ line ∷ split after → wants (lines ++ more) line → WantsAt wants lines text
+  wants-here more text rest line after e f w = record { before = more; line = line; after = split after; texts = e ∙ ap (λ x. more ++ x) f; wanting = w }
+
+  -- at a line of what is left, behind lines of the text
+  pub wants-behind : (more : List (List ℕ)) (text rest : List ℕ) → split text ≡ more ++ split rest → WantsAt wants (lines ++ more) rest → WantsAt wants lines text
+  wants-behind more text rest e w = record {
+    before = more ++ w.before;
+    line = w.line;
+    after = w.after;
+    texts = e ∙ ap (λ x. more ++ x) w.texts ∙ sym (append_assoc more w.before (w.line ∷ w.after));
+    wanting = subst (λ x. wants x w.line) (append_assoc lines more w.before) w.wanting;
+  }
+
+  -- at the last line of a text
+  pub wants-last : {A F : Type 0} (r : Result A F) (is_want : F → Type 0) (more : List (List ℕ)) (text rest : List ℕ) → IsCut text more rest
+      → IfErr r (λ f. is_want f → wants (lines ++ more) rest) → IfErr r (λ f. is_want f → WantsAt wants lines text)
+  wants-last (Ok _) is_want more text rest e w = tt
+  wants-last (Err f) is_want more text rest e w = λ want. record { before = more; line = rest; after = []; texts = e; wanting = w want }
+
+  -- at any line, where nothing is said of it
+  pub wants-any : ((before : List (List ℕ)) (line : List ℕ) → wants before line) → (text : List ℕ) → WantsAt wants lines text
+  wants-any all text = by (split text) refl
+    where
+      by : (ts : List (List ℕ)) → split text ≡ ts → WantsAt wants lines text
+      by [] e = absurd (split-some text e)
+      by (t ∷ ts) e = record { before = []; line = t; after = ts; texts = e; wanting = all (lines ++ []) t }
+
+-- what holds of each fault holds of that of a result
+pub each-fault : {A F : Type 0} (r : Result A F) (P : F → Type 0) → ((f : F) → P f) → IfErr r P
+each-fault (Ok _) P f = tt
+each-fault (Err e) P f = f e
+
 -- ---- readers
 
+pub none-left : (xs : List ℕ) → length xs ≡ 0 → xs ≡ []
+none-left [] e = refl
+none-left (x ∷ xs) e = absurd (omega (arith, e))
+
 module _ {B : Type 0} (taken : B → List (List ℕ) → Type 0) where
+  -- what a reader took, and how many lines, is that of its view
+  pub view-took : (r q : ReaderState B) (lines : List (List ℕ)) → r ≡ q → taken q.taker lines → taken r.taker lines
+  view-took r q lines e t = subst (λ (x : ReaderState B). taken x.taker lines) (sym e) t
+
+  pub view-count : (r q : ReaderState B) (n : ℕ) → r ≡ q → q.count ≡ n → r.count ≡ n
+  view-count r q n e h = ap (λ (x : ReaderState B). x.count) e ∙ h
+
   -- how many lines a reader took
   pub few-lines : (r : ReaderState B) (text : List ℕ) → StandsFor taken r text → r.count + length r.held ≤ length text
   few-lines r text s = omega (arith, cut-long text r.held s.lines s.cut, s.count)

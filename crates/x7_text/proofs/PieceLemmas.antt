@@ -37,7 +37,7 @@ alone-by : (b : Bool) (c : ℕ) (cs : List ℕ) → (if b then false else has_no
 alone-by true c cs h f = absurd cc
 alone-by false c cs h f = ap (on_first c) (f h)
 
--- such a text is one line
+-- a text that holds no line end is one line
 pub split-alone : (t : List ℕ) → has_no_end t ≡ true → split t ≡ t ∷ []
 split-alone [] h = refl
 split-alone (c ∷ cs) h = alone-by (c == 10) c cs h (split-alone cs)

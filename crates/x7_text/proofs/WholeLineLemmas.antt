@@ -1,4 +1,4 @@
--- Whole lines at once, and the parts of a text that is told in three parts.
+-- Whole lines at once, and the parts of a text that is given in three parts.
 use Rattle.std.proofs.Common.{◌≡◌, ℕ, zero, suc, ◌+◌, ◌*◌, ◌<◌, ◌≤◌, List, [], ◌∷◌, ◌++◌, length, take, drop, codes, refl, ap, sym, ◌∙◌, append_assoc, arith, length-drop}
 use Rattle.std.proofs.lemmas.List.{drop-drop, length-take-le, take-append-drop}
 use Rattle.std.proofs.lemmas.List.Folds.{flat_map-map}

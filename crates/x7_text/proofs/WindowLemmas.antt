@@ -115,7 +115,7 @@ first_bytes old begun all told cut new bytes n count some few long is b e f g h 
     h ∙ ap (λ t. t ++ 10 ∷ []) (shown ∙ ap (λ t. t ++ flat_map hex_byte (take count bytes)) b ∙ append_assoc old (codes "bytes ") (flat_map hex_byte (take count bytes)))
     ∙ append_assoc old (codes "bytes " ++ flat_map hex_byte (take count bytes)) (10 ∷ []) ∙ ap (λ t. old ++ t) (sym text)
 
--- the same, where all of the line was written
+-- the first elements of a line that was written whole
 pub first_of_line : (old all cut new bytes : List ℕ) (n count : ℕ) → 0 < count → count < 32 → length bytes ≡ 32 → all ≡ old ++ line (codes "bytes ") hex_byte bytes → n ≡ length old + (6 + 2 * count) → cut ≡ take n all → new ≡ cut ++ 10 ∷ []
     → new ≡ old ++ bytes_text (take count bytes)
 first_of_line old all cut new bytes n count some few long e at f g =

@@ -9,14 +9,6 @@ digit_of c =
     else if nat_le 97 c && nat_le c 102 then Some (c - 87)
     else None
 
--- the same, and 16 for what is no digit
-abbrev pub or_16 : Option ℕ → ℕ
-or_16 None = 16
-or_16 (Some n) = n
-
-abbrev pub number_or_16_of : ℕ → ℕ
-number_or_16_of c = or_16 (digit_of c)
-
 -- the byte of two digits
 abbrev pub byte_of : Option ℕ → Option ℕ → Option ℕ
 byte_of (Some high) (Some low) = Some (16 * high + low)

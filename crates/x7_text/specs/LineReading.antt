@@ -1,5 +1,5 @@
 -- A text that comes in pieces, and is taken line by line (this project's choice).
-use Rattle.std.specs.Prelude.{◌≡◌, ℕ, List, [], ◌∷◌, ◌++◌, length}
+use Rattle.std.specs.Prelude.{◌≡◌, ◌⊎◌, ℕ, List, [], ◌∷◌, ◌++◌, length}
 use Rattle.x7_text.specs.Lines.{split}
 
 -- what a reader keeps: what takes the lines, the beginning of the line that comes, and how many lines were taken
@@ -36,3 +36,26 @@ pub record TakesPrefix {B : Type 0} (taken : B → List (List ℕ) → Type 0) (
   pub is : piece ≡ prefix ++ rest
   pub clear : r.held ≡ []
   pub stands : StandsFor taken r (text ++ prefix)
+
+-- ---- where memory may be wanting
+
+-- behind some lines, memory may be wanting at one of the lines of a text
+pub record WantsAt (wants : List (List ℕ) → List ℕ → Type 0) (lines : List (List ℕ)) (text : List ℕ) : Type 0 where
+  pub before : List (List ℕ)
+  pub line : List ℕ
+  pub after : List (List ℕ)
+  pub texts : split text ≡ before ++ line ∷ after
+  pub wanting : wants (lines ++ before) line
+
+-- behind some lines, all lines of a text that have their end were taken, and the beginning of one that comes is to be held
+pub record HoldsPart {B : Type 0} (taken : B → List (List ℕ) → Type 0) (lines : List (List ℕ)) (text : List ℕ) : Type 0 where
+  pub taker : B
+  pub more : List (List ℕ)
+  pub rest : List ℕ
+  pub cut : IsCut text more rest
+  pub took : taken taker (lines ++ more)
+  pub begun : rest ≡ [] → ⊥
+
+-- behind some lines, memory may be wanting as a piece is taken: at one of its lines, or to hold the beginning of a line
+abbrev pub WantsIn : {B : Type 0} → (B → List (List ℕ) → Type 0) → (List (List ℕ) → List ℕ → Type 0) → List (List ℕ) → List ℕ → Type 0
+WantsIn taken wants lines piece = WantsAt wants lines piece ⊎ HoldsPart taken lines piece

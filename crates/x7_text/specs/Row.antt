@@ -40,7 +40,7 @@ bytes_text bs = flat_map (line (codes "bytes ") hex_byte) (rows 32 bs)
 abbrev pub data_text : List ℕ → List ℕ
 data_text ws = flat_map (line (codes "data") spaced) (rows 8 ws)
 
--- the same lines element by element, where i elements stand in the open line (0 where none is open)
+-- ---- the lines of rows element by element, where i elements stand in the open line (0 where none is open)
 
 -- what stands before an element: the line's word before its first one
 abbrev pub line_start : List ℕ → ℕ → List ℕ
@@ -63,7 +63,7 @@ abbrev pub open_text : ℕ → List ℕ → (ℕ → List ℕ) → ℕ → List 
 open_text n word text i [] = []
 open_text n word text i (x ∷ xs) = element_text n word text i x ++ open_text n word text (next_in_line n i) xs
 
--- the count of elements in the open line after these
+-- the count of elements in the open line after some elements
 abbrev pub in_line_after : ℕ → ℕ → List ℕ → ℕ
 in_line_after n i [] = i
 in_line_after n i (x ∷ xs) = in_line_after n (next_in_line n i) xs
@@ -72,9 +72,10 @@ in_line_after n i (x ∷ xs) = in_line_after n (next_in_line n i) xs
 abbrev pub close : ℕ → List ℕ
 close i = if i == 0 then [] else 10 ∷ []
 
--- the bytes of one `bytes` line, and the words of one `data` line
+-- the bytes of one `bytes` line
 abbrev pub IsByteRow : List ℕ → Type 0
 IsByteRow bytes = AreBytes bytes × (0 < length bytes) × (length bytes ≤ 32)
 
+-- the words of one `data` line
 abbrev pub IsWordRow : List ℕ → Type 0
 IsWordRow words = AreWords words × (0 < length words) × (length words ≤ 8)

@@ -1,44 +1,12 @@
 //! Digits of either case, as other tools write them.
-ghost use Rattle.std.specs.Prelude.{◌≡◌};
-ghost use Rattle.x7_text.specs.EitherCase.{byte_of, digit_of, number_or_16_of};
+ghost use Rattle.std.specs.Prelude.{◌≡◌, ◌*◌, length, Some, None, MatchBool};
+ghost use Rattle.x7_text.specs.EitherCase.{pairs};
 
-/// The number of each digit of either case, and 16 for what is no digit.
-#[rattlefmt::skip]
-static NUMBERS: [u8; 256] = [
-    16, 16, 16, 16, 16, 16, 16, 16, 16, 16, 16, 16, 16, 16, 16, 16,
-    16, 16, 16, 16, 16, 16, 16, 16, 16, 16, 16, 16, 16, 16, 16, 16,
-    16, 16, 16, 16, 16, 16, 16, 16, 16, 16, 16, 16, 16, 16, 16, 16,
-     0,  1,  2,  3,  4,  5,  6,  7,  8,  9, 16, 16, 16, 16, 16, 16, // 0 to 9
-    16, 10, 11, 12, 13, 14, 15, 16, 16, 16, 16, 16, 16, 16, 16, 16, // A to F
-    16, 16, 16, 16, 16, 16, 16, 16, 16, 16, 16, 16, 16, 16, 16, 16,
-    16, 10, 11, 12, 13, 14, 15, 16, 16, 16, 16, 16, 16, 16, 16, 16, // a to f
-    16, 16, 16, 16, 16, 16, 16, 16, 16, 16, 16, 16, 16, 16, 16, 16,
-    16, 16, 16, 16, 16, 16, 16, 16, 16, 16, 16, 16, 16, 16, 16, 16,
-    16, 16, 16, 16, 16, 16, 16, 16, 16, 16, 16, 16, 16, 16, 16, 16,
-    16, 16, 16, 16, 16, 16, 16, 16, 16, 16, 16, 16, 16, 16, 16, 16,
-    16, 16, 16, 16, 16, 16, 16, 16, 16, 16, 16, 16, 16, 16, 16, 16,
-    16, 16, 16, 16, 16, 16, 16, 16, 16, 16, 16, 16, 16, 16, 16, 16,
-    16, 16, 16, 16, 16, 16, 16, 16, 16, 16, 16, 16, 16, 16, 16, 16,
-    16, 16, 16, 16, 16, 16, 16, 16, 16, 16, 16, 16, 16, 16, 16, 16,
-    16, 16, 16, 16, 16, 16, 16, 16, 16, 16, 16, 16, 16, 16, 16, 16,
-];
-
-/// The number of a digit of either case, and 16 for what is no digit.
-#[inline(always)]
-fn number_or_16(digit: u8) -> u8
-    ensures { result ≡ number_or_16_of digit }
+/// Reads the bytes of pairs of hexadecimal digits of either case. `false`: one of the digits is none.
+pub fn read_pairs(bytes: &mut [u8], digits: &[u8]) -> bool
+    requires { length digits.now ≡ 2 * length bytes.old }
+    ensures value { MatchBool result (pairs digits.now ≡ Some bytes.new) (pairs digits.now ≡ None) }
+    ensures long { length bytes.new ≡ length bytes.old }
 {
-    NUMBERS[usize::from(digit)]
-}
-
-/// The byte of two hexadecimal digits of either case.
-#[inline(always)]
-pub fn byte_of_pair(high: u8, low: u8) -> Option<u8>
-    ensures { result ≡ byte_of (digit_of high) (digit_of low) }
-{
-    let (h, l) = (number_or_16(high), number_or_16(low));
-    if h > 15 || l > 15 {
-        return None;
-    }
-    Some(16 * h + l)
+    hex::decode_to_slice(digits, bytes).is_ok()
 }

@@ -15,7 +15,7 @@ mod row;
 
 pub use block::{bytes_line, data_line, hex_of_block};
 pub use digits::{hex_of_byte, hex_of_word, put_decimal};
-pub use either_case::byte_of_pair;
+pub use either_case::read_pairs;
 pub use growing::{put_number, put_text};
 pub use law::{
     digits_lead_back, either_case_leads_back, lines_in_parts, lines_lead_back, lines_one_by_one,

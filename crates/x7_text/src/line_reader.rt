@@ -1,6 +1,6 @@
 //! A text that comes in pieces, line by line.
-ghost use Rattle.std.specs.Prelude.{◌≡◌, ◌+◌, ◌<◌, ◌^◌, ◌++◌, ◌∷◌, [], List, ℕ, length, MatchOption, MatchResult};
-ghost use Rattle.x7_text.specs.LineReading.{FailsFrom, StandsFor, TakesPrefix, TakesWhole};
+ghost use Rattle.std.specs.Prelude.{◌≡◌, ◌+◌, ◌<◌, ◌^◌, ◌++◌, ◌∷◌, [], List, ℕ, length, IfErr, MatchOption, MatchResult};
+ghost use Rattle.x7_text.specs.LineReading.{FailsFrom, StandsFor, TakesPrefix, TakesWhole, WantsAt, WantsIn};
 ghost use Rattle.x7_text.specs.Lines.{split};
 
 use crate::lines::first_line;
@@ -25,20 +25,30 @@ pub trait TakesLines: Drop {
     /// A text of these lines, the last of which has no end, gives this.
     ghost gives: { Self → Self.Out → List (List ℕ) → Type 0 };
 
+    /// The fault is want of memory.
+    ghost is_want: { Self.Fault → Type 0 } = { λ _. Unit {0} };
+
+    /// Behind these lines memory may be wanting at this line. Where an impl says nothing, it may be wanting at each.
+    ghost wants: { Self → List (List ℕ) → List ℕ → Type 0 } = { λ _ _ _. Unit {0} };
+
     /// The fault where memory runs out.
     fn no_memory() -> Self::Fault
         ensures { (first : Self) (lines : List (List ℕ)) → fails first result lines };
 
     /// Takes line `n`, which has its end. After an error nothing more may be taken.
     fn put_line(&mut self, n: u64, line: &[u8]) -> Result<(), Self::Fault>
-        ensures { (first : Self) (lines : List (List ℕ)) → n ≡ length lines + 1 → took first self.old lines
-            → MatchResult result (λ _. took first self.new (lines ++ line.now ∷ [])) (λ fault. (more : List ℕ) → fails first fault (lines ++ line.now ∷ split more)) };
+        ensures read { (first : Self) (lines : List (List ℕ)) → n ≡ length lines + 1 → took first self.old lines
+            → MatchResult result (λ _. took first self.new (lines ++ line.now ∷ [])) (λ fault. (more : List ℕ) → fails first fault (lines ++ line.now ∷ split more)) }
+        ensures memory { (first : Self) (lines : List (List ℕ)) → n ≡ length lines + 1 → took first self.old lines
+            → IfErr result (λ fault. is_want fault → wants first lines line.now) };
 
     /// Takes the lines of a text that have their end, behind `n` lines. Answers what is left of the text, and how many lines
     /// were taken in all. After an error nothing more may be taken.
     fn put_lines<'t>(&mut self, n: u64, text: &'t [u8]) -> Result<(&'t [u8], u64), Self::Fault>
-        ensures { (first : Self) (lines : List (List ℕ)) → n ≡ length lines → n + length text.now < 2 ^ 63 → took first self.old lines
+        ensures read { (first : Self) (lines : List (List ℕ)) → n ≡ length lines → n + length text.now < 2 ^ 63 → took first self.old lines
             → MatchResult result (λ left. TakesWhole (took first) lines text.now self.new left.0.now left.1) (λ fault. (more : List ℕ) → fails first fault (lines ++ split (text.now ++ more))) }
+        ensures memory { (first : Self) (lines : List (List ℕ)) → n ≡ length lines → n + length text.now < 2 ^ 63 → took first self.old lines
+            → IfErr result (λ fault. is_want fault → WantsAt (wants first) lines text.now) }
     {
         let mut rest = text;
         let mut count = n;
@@ -57,13 +67,16 @@ pub trait TakesLines: Drop {
 
     /// Takes line `n`, the last one, which has no end: what the text gives.
     fn put_last(self, n: u64, line: &[u8]) -> Result<Self::Out, Self::Fault>
-        ensures { (first : Self) (lines : List (List ℕ)) → n ≡ length lines + 1 → took first self lines
-            → MatchResult result (λ out. gives first out (lines ++ line.now ∷ [])) (λ fault. fails first fault (lines ++ line.now ∷ [])) };
+        ensures read { (first : Self) (lines : List (List ℕ)) → n ≡ length lines + 1 → took first self lines
+            → MatchResult result (λ out. gives first out (lines ++ line.now ∷ [])) (λ fault. fails first fault (lines ++ line.now ∷ [])) }
+        ensures memory { (first : Self) (lines : List (List ℕ)) → n ≡ length lines + 1 → took first self lines
+            → IfErr result (λ fault. is_want fault → wants first lines line.now) };
 }
 
-/// What a text gives that is there whole, or its fault. No line of it is copied.
+/// What a text gives that is there whole, or its fault. No line of it is copied: memory is wanting only at a line.
 pub fn read_lines<T: TakesLines>(taker: T, text: &[u8]) -> Result<T::Out, T::Fault>
-    ensures { T.took taker taker [] → MatchResult result (λ out. T.gives taker out (split text.now)) (λ fault. T.fails taker fault (split text.now)) }
+    ensures read { T.took taker taker [] → MatchResult result (λ out. T.gives taker out (split text.now)) (λ fault. T.fails taker fault (split text.now)) }
+    ensures memory { T.took taker taker [] → IfErr result (λ fault. T.is_want fault → WantsAt (T.wants taker) [] text.now) }
 {
     let mut last = taker;
     match last.put_lines(0, text) {
@@ -107,10 +120,9 @@ impl<T: TakesLines> LineReader<T> {
             (λ fault. FailsFrom (T.fails first fault) (text ++ piece.now)) }
     {
         let (line, more) = first_line(piece);
-        match self.held.extend_from_slice(line) {
-            Ok(()) => (),
-            Err(_) => return Err(T::no_memory()),
-        }
+        let Ok(()) = self.held.extend_from_slice(line) else {
+            return Err(T::no_memory());
+        };
         let Some(rest) = more else {
             return Ok(None);
         };
@@ -125,26 +137,35 @@ impl<T: TakesLines> LineReader<T> {
 
     /// Takes a piece where no line is held.
     fn take_lines(&mut self, piece: &[u8]) -> Result<(), T::Fault>
-        ensures { (first : T) (text : List ℕ) → length (text ++ piece.now) < 2 ^ 63 → self.old.held ≡ [] → StandsFor (T.took first) self.old text
+        ensures read { (first : T) (text : List ℕ) → length (text ++ piece.now) < 2 ^ 63 → self.old.held ≡ [] → StandsFor (T.took first) self.old text
             → MatchResult result (λ _. StandsFor (T.took first) self.new (text ++ piece.now)) (λ fault. FailsFrom (T.fails first fault) (text ++ piece.now)) }
+        ensures memory { (first : T) (text : List ℕ) → length (text ++ piece.now) < 2 ^ 63 → self.old.held ≡ [] → (s : StandsFor (T.took first) self.old text)
+            → IfErr result (λ fault. T.is_want fault → WantsIn (T.took first) (T.wants first) s.lines piece.now) }
     {
         let (rest, count) = match self.taker.put_lines(self.count, piece) {
             Ok(left) => left,
             Err(fault) => return Err(fault),
         };
-        match self.held.extend_from_slice(rest) {
-            Ok(()) => (),
-            Err(_) => return Err(T::no_memory()),
-        }
         self.count = count;
+        if rest.is_empty() {
+            return Ok(());
+        }
+        let Ok(()) = self.held.extend_from_slice(rest) else {
+            return Err(T::no_memory());
+        };
         Ok(())
     }
 
     /// Takes the next piece of a text.
     fn take(&mut self, piece: &[u8]) -> Result<(), T::Fault>
-        ensures { (first : T) (text : List ℕ) → length (text ++ piece.now) < 2 ^ 63 → StandsFor (T.took first) self.old text
+        ensures read { (first : T) (text : List ℕ) → length (text ++ piece.now) < 2 ^ 63 → StandsFor (T.took first) self.old text
             → MatchResult result (λ _. StandsFor (T.took first) self.new (text ++ piece.now)) (λ fault. FailsFrom (T.fails first fault) (text ++ piece.now)) }
+        ensures memory { (first : T) (text : List ℕ) → length (text ++ piece.now) < 2 ^ 63 → self.old.held ≡ [] → (s : StandsFor (T.took first) self.old text)
+            → IfErr result (λ fault. T.is_want fault → WantsIn (T.took first) (T.wants first) s.lines piece.now) }
     {
+        if self.held.is_empty() {
+            return self.take_lines(piece);
+        }
         let found = match self.complete(piece) {
             Ok(found) => found,
             Err(fault) => return Err(fault),
@@ -156,10 +177,13 @@ impl<T: TakesLines> LineReader<T> {
     }
 
     /// Takes the next piece of a text of fewer than 2^63 bytes, which may end inside a line. A fault is that of the whole
-    /// text, whatever follows.
+    /// text, whatever follows. Where no beginning of a line is held, memory is wanting only at a line of the piece, or to
+    /// hold the beginning of a line behind them.
     pub fn feed(self, piece: &[u8]) -> Result<LineReader<T>, T::Fault>
-        ensures { (first : T) (text : List ℕ) → length (text ++ piece.now) < 2 ^ 63 → StandsFor (T.took first) self text
+        ensures read { (first : T) (text : List ℕ) → length (text ++ piece.now) < 2 ^ 63 → StandsFor (T.took first) self text
             → MatchResult result (λ reader. StandsFor (T.took first) reader (text ++ piece.now)) (λ fault. FailsFrom (T.fails first fault) (text ++ piece.now)) }
+        ensures memory { (first : T) (text : List ℕ) → length (text ++ piece.now) < 2 ^ 63 → self.held ≡ [] → (s : StandsFor (T.took first) self text)
+            → IfErr result (λ fault. T.is_want fault → WantsIn (T.took first) (T.wants first) s.lines piece.now) }
     {
         let mut reader = self;
         match reader.take(piece) {
@@ -168,10 +192,12 @@ impl<T: TakesLines> LineReader<T> {
         }
     }
 
-    /// Ends the text: what it gives, or its fault.
+    /// Ends the text: what it gives, or its fault. Memory is wanting only at its last line.
     pub fn finish(self) -> Result<T::Out, T::Fault>
-        ensures { (first : T) (text : List ℕ) → length text < 2 ^ 63 → StandsFor (T.took first) self text
+        ensures read { (first : T) (text : List ℕ) → length text < 2 ^ 63 → StandsFor (T.took first) self text
             → MatchResult result (λ out. T.gives first out (split text)) (λ fault. T.fails first fault (split text)) }
+        ensures memory { (first : T) (text : List ℕ) → length text < 2 ^ 63 → (s : StandsFor (T.took first) self text)
+            → IfErr result (λ fault. T.is_want fault → T.wants first s.lines self.held) }
     {
         let LineReader { taker, held, count } = self;
         taker.put_last(count.saturating_add(1), &held)

@@ -1,11 +1,11 @@
 use Rattle.std.proofs.Common.{[], ◌∙◌, ap, subst, sym}
 use Rattle.x7_part.specs.Part.{frame_words}
 use Rattle.x7_frames.specs.FramesText.{AreGood}
-use Rattle.x7_frames.proofs.FrameLinesLemmas.{line-good, line-refused}
+use Rattle.x7_frames.proofs.FrameLinesLemmas.{line-good, line-refused, line-wants}
 use Rattle.x7_frames.proofs.frame_lines.FrameLinesTakesLines.put_last.Goals as goal
 
-pub returns-in-Ok : goal.returns-in-Ok
-returns-in-Ok c = λ first lines m t text is.
+pub returns-in-Ok-clause-read : goal.returns-in-Ok-clause-read
+returns-in-Ok-clause-read c = λ first lines m t text is.
     let new = c.take.new.self in
     let read = line-good first.part c.args.self lines c.args.line.now c.args.n m t new c.take.ensures.part c.in-Ok.ensures.taken in
     record {
@@ -16,5 +16,8 @@ returns-in-Ok c = λ first lines m t text is.
       width = c.finish.ensures.width ∙ ap frame_words read.0;
     }
 
-pub returns-in-Err : goal.returns-in-Err
-returns-in-Err c = λ first lines m t. line-refused first.part c.args.self lines c.args.line.now c.args.n m t c.in-Err.fault c.in-Err.ensures.fault []
+pub returns-in-Err-clause-read : goal.returns-in-Err-clause-read
+returns-in-Err-clause-read c = λ first lines m t. line-refused first.part c.args.self lines c.args.line.now c.args.n m t c.in-Err.fault c.in-Err.ensures.fault []
+
+pub returns-in-Err-clause-memory : goal.returns-in-Err-clause-memory
+returns-in-Err-clause-memory c = λ first lines m t want. line-wants first.part c.args.self lines c.args.line.now c.args.n m t (c.in-Err.ensures.memory want)
