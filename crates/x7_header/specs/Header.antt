@@ -1,11 +1,19 @@
 -- The header before a stream's data, as a list of fields (not in UG470: the layout that the vendor's tool writes).
-use Rattle.std.specs.Prelude.{◌≡◌, ◌≢◌, ◌≤◌, ◌-◌, ℕ, ◌/◌, ◌%◌, ◌<◌, ◌^◌, List, [], ◌∷◌, ◌++◌, length, drop}
+use Rattle.std.specs.Prelude.{◌≡◌, ◌≢◌, ◌≤◌, ◌+◌, ◌*◌, ◌-◌, ℕ, ◌/◌, ◌%◌, ◌<◌, ◌^◌, List, [], ◌∷◌, ◌++◌, length, drop}
 use Rattle.x7_words.specs.Word.{AreBytes, bytes_of_word}
 use Rattle.x7_header.specs.declared.header.Head.{Head}
 
 -- the bytes before the first field
 abbrev pub fixed_bytes : List ℕ
 fixed_bytes = 0x00 ∷ 0x09 ∷ 0x0F ∷ 0xF0 ∷ 0x0F ∷ 0xF0 ∷ 0x0F ∷ 0xF0 ∷ 0x0F ∷ 0xF0 ∷ 0x00 ∷ 0x00 ∷ 0x01 ∷ []
+
+-- how many bytes stand before the first field
+abbrev pub fixed_size : ℕ
+fixed_size = 13
+
+-- the most bytes of a header: the fixed ones, four texts of at most 65,535 with a letter and a count each, and a number with its letter
+abbrev pub longest_header : ℕ
+longest_header = fixed_size + 4 * (3 + 65535) + 5
 
 -- what stands after a field's letter
 pub data Kind : Type 0 where

@@ -2,7 +2,7 @@
 use Rattle.std.specs.Prelude.{◌≡◌, ℕ, ◌+◌, ◌-◌, ◌*◌, ◌<◌, List, [], ◌∷◌, ◌++◌, length, take, drop, Result, Ok, Err, nat_le, nat_lt, nat_eq, max, ◌==◌, if◌then◌else◌}
 use Rattle.std.specs.List.{starts_with}
 use Rattle.x7_words.specs.Word.{word_of_bytes}
-use Rattle.x7_header.specs.Header.{fixed_bytes, Kind, Field, layout, Contents}
+use Rattle.x7_header.specs.Header.{fixed_bytes, fixed_size, Kind, Field, layout, Contents}
 use Rattle.x7_header.specs.declared.fault.HeaderFault.{HeaderFault}
 use Rattle.x7_header.specs.declared.fault.HeaderFault.TheVariants as fault
 
@@ -130,4 +130,4 @@ lacks_after (Err f) = 0
 
 -- how many bytes the bytes of a header lack: of the fixed bytes, or of its fields; 1 where they lack none
 abbrev pub header_lacks : List ℕ → ℕ
-header_lacks bytes = if nat_lt (length bytes) 13 then 13 - length bytes else max 1 (lacks_after (fixed_at bytes))
+header_lacks bytes = if nat_lt (length bytes) fixed_size then fixed_size - length bytes else max 1 (lacks_after (fixed_at bytes))

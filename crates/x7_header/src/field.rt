@@ -4,6 +4,7 @@
 //! has, or how many of it were read so far. A `Cut` is final only where the input has ended.
 ghost use Rattle.std.specs.Prelude.{◌≡◌, ◌≤◌, ◌<◌, ◌+◌, ◌++◌, ℕ, List, length, IfOk, IsErrOf, Ok, Err};
 ghost use Rattle.x7_words.specs.Word.{bytes_of_word, word_of_bytes};
+ghost use Rattle.x7_header.specs.Header.{fixed_size};
 ghost use Rattle.x7_header.specs.Reading.{Gives, letter_at, bytes_at, field_at, fixed_at, number_of_letter, text_of_letter};
 
 use crate::fault::HeaderFault;
@@ -15,7 +16,7 @@ pub fn after_fixed_bytes(bytes: &[u8]) -> Result<&[u8], HeaderFault>
     ensures value { Gives (λ rest. rest.now) result (fixed_at bytes.now) }
     // Thirteen bytes are judged alike whatever follows.
     ensures more { IfOk result (λ x. (rest : List ℕ) → fixed_at (bytes.now ++ rest) ≡ Ok (x.now ++ rest)) }
-    ensures raw { (rest : List ℕ) → 13 ≤ length bytes.now → IsErrOf result HeaderFault.Raw →
+    ensures raw { (rest : List ℕ) → fixed_size ≤ length bytes.now → IsErrOf result HeaderFault.Raw →
         fixed_at (bytes.now ++ rest) ≡ Err HeaderFault.Raw }
 {
     if !bytes.starts_with(&FIXED_BYTES) {

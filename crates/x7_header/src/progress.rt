@@ -1,6 +1,6 @@
 //! How many bytes to read next of a header, for a caller who reads an input piece by piece.
 ghost use Rattle.std.specs.Prelude.{◌≡◌, ◌<◌, ◌+◌, ◌++◌, ℕ, List, length, IfErr, IfOk, MatchResult, Ok};
-ghost use Rattle.x7_header.specs.Header.{EndsInHeader, layout};
+ghost use Rattle.x7_header.specs.Header.{EndsInHeader, fixed_size, layout};
 ghost use Rattle.x7_header.specs.Reading.{FieldWaits, HeaderWaits, LayoutWaits, field_at, fields_lack, header_lacks, number_lacks, number_of_letter, number_wants, text_lacks, text_of_letter, text_wants};
 
 use crate::fault::HeaderFault;
@@ -78,7 +78,7 @@ fn after_fields(bytes: &[u8]) -> Result<(), usize>
 pub fn wanted(bytes: &[u8]) -> usize
     ensures some { 0 < result }
     // At first the fixed bytes.
-    ensures fixed { length bytes.now < 13 → length bytes.now + result ≡ 13 }
+    ensures fixed { length bytes.now < fixed_size → length bytes.now + result ≡ fixed_size }
     // With fewer bytes more the input would still end inside the header, so none is read after it, nor after a wrong letter.
     ensures waits { EndsInHeader bytes.now → HeaderWaits bytes.now result }
     // All that is lacked is wanted at once.

@@ -1,6 +1,6 @@
 //! Reading a header, field by field.
 ghost use Rattle.std.specs.Prelude.{◌≡◌, ◌≢◌, ◌↔◌, IsOkAnd, IsErrOf, ◌≤◌, ◌++◌, ℕ, List, length, IfOk, Ok};
-ghost use Rattle.x7_header.specs.Header.{BeginsWith, Contents, HaveHeader, EndsInHeader, HasOtherLetterAt, contents_of, fixed_bytes, header_bytes};
+ghost use Rattle.x7_header.specs.Header.{BeginsWith, Contents, HaveHeader, EndsInHeader, HasOtherLetterAt, contents_of, fixed_bytes, header_bytes, longest_header};
 ghost use Rattle.x7_header.specs.Reading.{Gives, layout_at, header_at};
 
 use crate::fault::HeaderFault;
@@ -32,8 +32,8 @@ fn fields(bytes: &[u8], total: usize) -> Result<Head<'_>, HeaderFault>
 pub fn header_of(bytes: &[u8]) -> Result<Head<'_>, HeaderFault>
     // What is read is the header that stands at the beginning, with its size.
     ensures found { IfOk result (λ head. BeginsWith (contents_of head) head.size bytes.now) }
-    // Four texts of at most 65,535 bytes each, with the fixed bytes, five letters and the counts.
-    ensures limit { IfOk result (λ head. head.size ≤ 262170) }
+    // A header has at most 262,170 bytes.
+    ensures limit { IfOk result (λ head. head.size ≤ longest_header) }
     // Each header that stands at the beginning is read, whatever follows it.
     ensures only { (x : Contents) (rest : List ℕ) → HaveHeader x → bytes.now ≡ header_bytes x ++ rest →
         IsOkAnd result (λ head. contents_of head ≡ x) }
