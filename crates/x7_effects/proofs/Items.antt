@@ -55,7 +55,7 @@ item_entered place (WriteLong register ws) h = writes_entered (place + 8) regist
 item_entered place (Read register count) h = entry (access.Read register count) (place + 4) ∷ h
 item_entered place (ReadLong register count) h = entry (access.Read register count) (place + 8) ∷ h
 
--- the same of items in order
+-- a history after items in order
 abbrev pub items_entered : ℕ → List Item → History → History
 items_entered place [] h = h
 items_entered place (i ∷ items) h = items_entered (place + 4 * length (item_words i)) items (item_entered place i h)
@@ -72,7 +72,7 @@ bytes_of_words ws = flat_map bytes_of_word ws
 abbrev pub opened : List ℕ → List Item → List ℕ
 opened leading items = leading ++ sync_word ∷ items_words items
 
--- the same, then DESYNC and so many no-ops
+-- words before the sync word, the sync word, items, DESYNC and a number of no-ops
 abbrev pub closed : List ℕ → List Item → ℕ → List ℕ
 closed leading items noops = opened leading (items ++ desync ∷ []) ++ replicate noops no_op
 

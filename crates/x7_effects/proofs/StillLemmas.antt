@@ -83,7 +83,7 @@ disarmed h access place n cor0 e l =
 
 -- ---- startup that hasn't begun and isn't armed, or has ended, as in a progress: the phase and the COR0 that it began with
 
--- it has ended in both, with one COR0
+-- startup has ended in a history and in a progress, with one COR0
 pub record HasEndedAs (part : PartData) (startup : StartupProgress) (h : History) (n : ℕ) : Type 0 where
   pub seven : phase_of part h n ≡ 7
   pub before : phase_by part startup ≡ 7

@@ -84,7 +84,7 @@ pub record IsReady (part : PartData) (kept : Kept) (startup : StartupProgress) (
   pub allows : forbids_reading (ctl0_held h) ≡ false
   pub memory : AreSame (memory_of part h) m
 
--- the same after a command and a FAR load
+-- a matched device that may be written, after a command and a FAR load
 pub record IsLoaded (part : PartData) (kept : Kept) (startup : StartupProgress) (held far : ℕ) (h : History) (n : ℕ) (m : FrameMap) : Type 0 where
   pub ready : IsReady part kept startup h n m
   pub held_is : command_held h ≡ held

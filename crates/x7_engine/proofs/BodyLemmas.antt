@@ -2,7 +2,6 @@
 use Rattle.std.proofs.Common.{◌≡◌, ◌+◌, ◌-◌, ◌*◌, ◌/◌, ◌<◌, ◌≤◌, ℕ, zero, suc, Bool, if◌then◌else◌, Option, None, [], ◌∷◌, ◌++◌, List, length, take, get_or, map, refl, sym, ap, subst, ◌∙◌, arith}
 use Rattle.std.proofs.lemmas.Bool.{le-ltb}
 use Rattle.std.proofs.lemmas.List.{get_or-map, length-map, length-take-le, map-append, take-map, take_all, take_more}
-use Rattle.std.proofs.Math.Seq.{take-length}
 use Rattle.std.specs.Simd.{first_chunks}
 use Rattle.x7_words.specs.Word.{word_of_bytes, words_of_bytes}
 use Rattle.x7_packets.specs.History.{History, Write, entered_all, entry, until}
@@ -46,9 +45,6 @@ length_of_words bytes = by_fours (length bytes / 4) bytes refl
     by_fours (suc n) (a ∷ b ∷ []) h = absurd (omega arith)
     by_fours (suc n) (a ∷ b ∷ c ∷ []) h = absurd (omega arith)
     by_fours (suc n) (a ∷ b ∷ c ∷ d ∷ bs) h = ap suc (by_fours n bs (omega arith))
-
-pub all_words : (bytes : List ℕ) → take (length bytes / 4) (words_of_bytes bytes) ≡ words_of_bytes bytes
-all_words bytes = ap (λ (k : ℕ). take k (words_of_bytes bytes)) (sym (length_of_words bytes)) ∙ take-length (words_of_bytes bytes)
 
 -- all chunks are all words
 pub chunks_are : (bytes : List ℕ) (chunks : List (List ℕ)) → chunks ≡ first_chunks 4 (length bytes / 4) bytes → length (words_of_bytes bytes) ≡ length chunks

@@ -1,5 +1,5 @@
 -- Lemmas on frame data that is taken at once.
-use Rattle.std.proofs.Common.{◌≡◌, ◌+◌, ◌*◌, ◌/◌, ◌%◌, ◌-◌, ◌≤◌, ℕ, true, false, inl, inr, List, [], ◌∷◌, ◌++◌, length, take, drop, Option, None, Some, refl, sym, ap, subst, ◌∙◌, arith}
+use Rattle.std.proofs.Common.{◌≡◌, ◌+◌, ◌*◌, ◌/◌, ◌%◌, ◌-◌, ◌≤◌, ℕ, true, inl, inr, List, [], ◌∷◌, ◌++◌, length, take, drop, Option, None, Some, refl, sym, ap, subst, ◌∙◌, arith}
 use Rattle.std.proofs.lemmas.List.{length-drop, length-map, length-take-le, map-append, take-append-drop, take_all}
 use Rattle.x7_words.specs.Word.{words_of_bytes}
 use Rattle.x7_words.proofs.WordLemmas.{words_of_bytes-append}
@@ -15,7 +15,6 @@ use Rattle.x7_flow.specs.Words.{NoneRefused, TakesWords, WordsTaken, WordsTo, wi
 use Rattle.x7_regs.specs.declared.register.Reg.{Reg}
 use Rattle.x7_regs.specs.declared.register.Reg.TheVariants as reg
 use Rattle.x7_regs.specs.Register.{number_of}
-use Rattle.x7_engine.specs.Registers.{is_controlling}
 use Rattle.x7_engine.specs.declared.kept.Kept.{Kept}
 use Rattle.x7_engine.specs.declared.stop.Stop.{Stop}
 use Rattle.x7_engine.specs.Stops.{why_by_frames, why_by_write, why_at, or_else}
@@ -43,12 +42,6 @@ pub data_quiet : (r : Reg) → TakesWords r → IsQuiet (number_of r)
 data_quiet r t = elim t [
   | inl e ↦ rw e fdri_quiet
   | inr e ↦ rw e mfwr_quiet
-]
-
-pub data_controls : (r : Reg) → TakesWords r → is_controlling (number_of r) ≡ false
-data_controls r t = elim t [
-  | inl e ↦ rw e refl
-  | inr e ↦ rw e refl
 ]
 
 take_front : (prefix rest : List ℕ) → take (length prefix) (prefix ++ rest) ≡ prefix
@@ -87,7 +80,7 @@ data_entered register n m bytes h whole l =
     ∙ entered_all-append n (payload_steps register prefix) (payload_steps register rest) h
     ∙ ap (λ (k : ℕ). entered_all k (payload_steps register rest) (entered_all n (payload_steps register prefix) h)) place)
 
--- the same where the rest is cut out of the bytes
+-- words written in two parts are all of them, where the second part is cut out of the bytes
 pub rest_entered : (register n m : ℕ) (bytes : List ℕ) (h : History) → m % 4 ≡ 0 → m ≤ length bytes
     → entered_all (n + m) (payload_steps register (words_of_bytes (take (length bytes - m) (drop m bytes)))) (entered_all n (payload_steps register (words_of_bytes (take m bytes))) h) ≡ entered_all n (payload_steps register (words_of_bytes bytes)) h
 rest_entered register n m bytes h whole l =

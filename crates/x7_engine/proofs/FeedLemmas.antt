@@ -91,7 +91,7 @@ now_told part kept wrapped d e first read next taken told g m = (
   g.given_are ∙ ap (λ t. t ++ g.more) m.2 ∙ append_assoc told m.0 g.more,
 )
 
--- and then a run more is taken
+-- the words told once a run more is taken, which gives none
 pub read_here : (part : PartData) (kept : Kept) (wrapped : Bool) (old new next : DeviceState) (first read last : ReadBufState) (bytes piece told : List ℕ) (from to : ℕ) → Gives (record { part = part; kept = kept; wrapped = wrapped; bytes = bytes ++ take from piece }) old new read last → from ≤ to
     → ((b : List ℕ) → DeviceStandsFor part kept wrapped new b → reads_given part kept next (b ++ between piece from to) ≡ reads_given part kept new b)
     → ((more : List ℕ) × (read ≡ with_words first more) × (reads_given part kept old (bytes ++ take from piece) ≡ told ++ more))

@@ -119,10 +119,6 @@ found stops whys most (suc n) r l =
     subst (λ (o : Option Stopped). Found whys (suc n) o) (sym (r.1 n (omega (arith, l))))
     (found_more whys n (stops n) (whys (suc n)) refl (found stops whys most n r (omega (arith, l))))
 
-place_of : Option Stopped → ℕ
-place_of None = 0
-place_of (Some s) = s.place
-
 -- two that are least are one
 one_least : (whys : ℕ → Option Stop) (most : ℕ) (o : Option Stopped) (s : Stopped) → Found whys most o → IsLeast whys most s → o ≡ Some s
 one_least whys most None s f i = absurd (let no : Some s.why ≡ None = sym i.holds ∙ f s.place i.some i.within in cc)

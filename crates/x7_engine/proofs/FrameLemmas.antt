@@ -149,7 +149,7 @@ one_why part kept h (Write r w) fault e = by (r == 1) (r == 4) (r == 2 && takes_
     by false false false true e p q = q refl
     by false false false false e p q = absurd (none-some _ e)
 
--- and by its register alone it gives no refusal of the frames
+-- an access by its register alone is no refusal of the frames
 no_refusal : (part : PartData) (kept : Kept) (h : History) (access : Access) → is_refusal (why_by_access part kept h access) ≡ false
 no_refusal part kept h (Read r count) = refl
 no_refusal part kept h (Bad w) = refl

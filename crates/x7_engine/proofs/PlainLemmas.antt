@@ -93,14 +93,14 @@ fdri_quiet = record { crc = refl; far = refl; cmd = refl; ctl0 = refl; lout = re
 pub mfwr_quiet : IsQuiet 10
 mfwr_quiet = record { crc = refl; far = refl; cmd = refl; ctl0 = refl; lout = refl; idcode = refl; timer = refl; ctl1 = refl }
 
--- its words execute no command, clear no check and stop nothing
+-- a word written to a quiet register executes no command, and clears no check
 pub executes_none : (held register w : ℕ) → IsQuiet register → executed_by held (Write register w) ≡ None
 executes_none held register w p = rw (p.cmd, p.far) refl
 
 pub clears_none : (h : History) (register w : ℕ) → IsQuiet register → clears h (Write register w) ≡ false
 clears_none h register w p = rw (executes_none (command_held h) register w p, p.crc) refl
 
--- they ask nothing of the frames
+-- a word written to a plain register asks nothing of the frames
 pub plain_asks : (idcode : ℕ) (h : History) (register w : ℕ) → IsPlain register → asks idcode h (Write register w) ≡ Other
 plain_asks idcode h register w p = let q = p.quiet in rw (q.far, q.cmd, p.fdri, p.mfwr) refl
 
@@ -119,7 +119,7 @@ pub record AreFlags (idcode : ℕ) (matched pending ghigh iprog : Bool) (h : His
   pub ghigh_is : ghigh ≡ has_ghigh h
   pub iprog_is : iprog ≡ wrote_iprog h
 
--- and so they are behind a word of it
+-- the flags stay after a word written to a quiet register
 pub flags_more : (idcode : ℕ) (matched pending ghigh iprog : Bool) (h : History) (register w place : ℕ) → IsQuiet register → AreFlags idcode matched pending ghigh iprog h → AreFlags idcode matched pending ghigh iprog (entry (Write register w) place ∷ h)
 flags_more idcode matched pending ghigh iprog h register w place p s =
     let none : executed_by (command_held h) (Write register w) ≡ None = executes_none (command_held h) register w p in
@@ -131,7 +131,7 @@ flags_more idcode matched pending ghigh iprog h register w place p s =
       iprog_is = s.iprog_is ∙ sym (ap (λ b. b && w % 2 ^ 5 == 15 || wrote_iprog h) p.cmd);
     }
 
--- a read or a word that is no header asks nothing of it
+-- a read or a word that is no header asks nothing of the clock
 pub clock_other : (part : PartData) (kept : Kept) (c : ClockState) (h : History) (access : Access) (place : ℕ) → startup_call h access ≡ [] → watch_call h access ≡ [] → IsClock part kept c h place → IsClock part kept c (entry access place ∷ h) place
 clock_other part kept c h access place start watch s =
     let calls : startup_calls (entry access place ∷ h) place ≡ startup_calls h place = startup_entered h access place ∙ ap (λ t. startup_calls h place ++ t) start ∙ append-nil (startup_calls h place) in
@@ -141,7 +141,7 @@ clock_other part kept c h access place start watch s =
       watchdog = subst (λ t. WatchesFor (is_fallback kept.kind) kept.timer c.watchdog t) (sym watched) s.watchdog;
     }
 
--- its words ask nothing of the clock
+-- a word written to a quiet register asks nothing of the clock
 pub clock_plain : (part : PartData) (kept : Kept) (c : ClockState) (h : History) (register w place : ℕ) → IsQuiet register → IsClock part kept c h place → IsClock part kept c (entry (Write register w) place ∷ h) place
 clock_plain part kept c h register w place p s =
     let start : startup_call h (Write register w) ≡ [] = rw (executes_none (command_held h) register w p, p.crc) refl in

@@ -108,7 +108,7 @@ module _ (part : PartData) (low : ℕ) (g h : History) (s : IsSame part low g h)
       ∙ ap (λ (f : Flow). put_over (puts part (asks part.idcode h e.access) f) (memory_of part g)) s.flow
       ∙ ap (put_over (puts part (asks part.idcode h e.access) (flow_of part h))) s.memory
 
-  -- and so with an access more
+  -- two histories that are the same to the device stay so with an access more
   pub same_more : (e : Entry) → low ≤ e.place → IsSame part low (e ∷ g) (e ∷ h)
   same_more e l =
       let a : Access = e.access in record {

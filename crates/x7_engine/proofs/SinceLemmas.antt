@@ -10,11 +10,11 @@ since_none Is ends s = by s.newer s.split
     by [] p = absurd (cc)
     by (x ∷ newer) p = absurd (cc)
 
--- it is of the kind itself
+-- the newest access is of the kind
 pub since_here : (Is : History → Access → Type 0) (ends : History → Access → Bool) (e : Entry) (h : History) → Is h e.access → Since Is ends (e ∷ h)
 since_here Is ends e h i = record { newer = []; latest = e; older = h; split = refl; is = i; lasts = tt }
 
--- or it doesn't end it
+-- the newest access doesn't end what the kind began
 pub since_more : (Is : History → Access → Type 0) (ends : History → Access → Bool) (e : Entry) (h : History) → ends h e.access ≡ false → Since Is ends h → Since Is ends (e ∷ h)
 since_more Is ends e h n s = record {
   newer = e ∷ s.newer;

@@ -92,11 +92,11 @@ unbegun_later (x ∷ newer) h w f m =
 
 -- ---- the accesses of a run
 
--- newer accesses that write other registers than CMD
+-- a history has newer accesses that write other registers than CMD
 abbrev IsQuieter : History → History → Type 0
 IsQuieter h all = (newer : History) × (all ≡ newer ++ h) × AreOtherWrites newer
 
--- those of them up to a byte
+-- newer accesses up to a byte still write other registers than CMD
 quieter_until : (m : ℕ) (newer h : History) → until m h ≡ h → AreOtherWrites newer → IsQuieter h (until m (newer ++ h))
 quieter_until m [] h e w = ([], e, tt)
 quieter_until m (x ∷ newer) h e w = by (nat_lt m x.place) (quieter_until m newer h e w.1)
@@ -172,7 +172,7 @@ quiet_commands bytes more fits e = λ k l.
     sym (front_of (bytes ++ take k more) (drop k more) (subst AreBytes (sym joined) fits)) ∙ ap (until m) (ap history_of joined ∙ e) in
     ([], prefix ∙ until_placed m (history_of bytes) (placed_within (length bytes) m (history_of bytes) (omega (arith, length-append bytes (take k more))) (placed_of bytes here)), tt)
 
--- and then bytes of a run
+-- of bytes without an access and then bytes of a run none but the last ends a command
 pub then_commands : (bytes quiet more : List ℕ) → AreBytes (bytes ++ quiet) → history_of (bytes ++ quiet) ≡ history_of bytes → CommandsLast (bytes ++ quiet) more → CommandsLast bytes (quiet ++ more)
 then_commands bytes quiet more fits e f = λ k l. elim (cases_lt k (length quiet)) [
   | inl before ↦

@@ -67,7 +67,7 @@ written_last bytes more register w count fits placed longer = λ k l.
       tt,
     )
 
--- the device behind the write
+-- the device after the write of one word
 pub write_taken : (part : PartData) (kept : Kept) (wrapped : Bool) (d e : DeviceState) (bytes rest : List ℕ) (register w : ℕ) → DeviceStandsFor part kept wrapped d bytes → d.registers.stop ≡ None
     → d.registers.clock.startup.begun ≡ None → d.registers.clock.watchdog.limit ≡ 0 → WritesOne d.cutter e.cutter rest register w
     → ((h : History) (place : ℕ) → IsNext place h → RegistersStandFor part kept d.registers h place → RegistersStandFor part kept e.registers (entry (Write register w) place ∷ h) place)
@@ -110,7 +110,7 @@ write_taken part kept wrapped d e bytes rest register w s going begun limit one 
       written_last bytes (take 8 rest) register w eight is.fits before.places is.history,
     )
 
--- the same in a piece
+-- the device after the write of one word at a place of a piece
 pub write_at : (part : PartData) (kept : Kept) (wrapped : Bool) (d e : DeviceState) (bytes piece : List ℕ) (from register w : ℕ) → DeviceStandsFor part kept wrapped d bytes → d.registers.stop ≡ None
     → d.registers.clock.startup.begun ≡ None → d.registers.clock.watchdog.limit ≡ 0 → WritesOne d.cutter e.cutter (take (length piece - from) (drop from piece)) register w
     → ((h : History) (place : ℕ) → IsNext place h → RegistersStandFor part kept d.registers h place → RegistersStandFor part kept e.registers (entry (Write register w) place ∷ h) place)
