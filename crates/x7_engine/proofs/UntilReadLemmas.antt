@@ -10,7 +10,7 @@ use Rattle.x7_engine.specs.declared.kept.Kept.{Kept}
 use Rattle.x7_engine.specs.Standing.{DeviceStandsFor, DeviceState, NoWordDue, reads_given}
 use Rattle.x7_engine.specs.State.{history_by, reads_of, stop_in}
 use Rattle.x7_engine.specs.Stops.{Stopped, stopped_at}
-use Rattle.x7_engine.specs.UntilRead.{ReadBefore, RoomBefore}
+use Rattle.x7_engine.specs.UntilRead.{RoomBefore}
 use Rattle.x7_engine.specs.UntilStarted.{AreOtherWrites, CommandsLast, IsOtherWrite}
 use Rattle.x7_engine.specs.Values.{answer_of, read_out}
 use Rattle.x7_engine.proofs.DeviceLemmas.{length_between}
@@ -54,17 +54,6 @@ turn_piece part kept wrapped d e bytes piece from to k l m going due s after f m
     let all : taken ++ take j (between piece from to) ≡ bytes ++ take k piece = ap (λ (t : List ℕ). taken ++ t) here ∙ taken_more bytes piece from k more in
     let inside : j < length (between piece from to) = omega (arith, length_between piece from to l m, n, more) in
     ap (reads_of part kept) (sym all) ∙ turn_reads_none part kept wrapped d e taken (between piece from to) going s after f j inside ∙ sym (told_all part kept d taken due)
-
--- nothing before, and nothing in a turn more but at its last byte
-pub none_read_on : (part : PartData) (kept : Kept) (wrapped : Bool) (d e : DeviceState) (bytes piece words : List ℕ) (from to : ℕ) → from ≤ to → to ≤ length piece → d.registers.stop ≡ None → NoWordDue d
-    → DeviceStandsFor part kept wrapped d (bytes ++ take from piece) → DeviceStandsFor part kept wrapped e ((bytes ++ take from piece) ++ between piece from to) → CommandsLast (bytes ++ take from piece) (between piece from to)
-    → reads_given part kept d (bytes ++ take from piece) ≡ words → ReadBefore (record { part = part; kept = kept; wrapped = wrapped; bytes = bytes }) piece from words → ReadBefore (record { part = part; kept = kept; wrapped = wrapped; bytes = bytes }) piece to words
-none_read_on part kept wrapped d e bytes piece words from to l m going due s after f told before = λ k n. elim (cases_lt k from) [
-  | inl less ↦ before k less
-  | inr more ↦ turn_piece part kept wrapped d e bytes piece from to k l m going due s after f more n ∙ told
-]
-
--- ---- and with a buffer
 
 -- the words that a buffer got had room in it
 room_for : (b : ReadBufState) (more : List ℕ) → HoldsFew b.most (with_words b more).words → HasRoomFor b more

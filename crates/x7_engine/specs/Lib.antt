@@ -8,6 +8,7 @@ pub mod Past
 pub mod Phases
 pub mod ReadBuffer
 pub mod Readout
+pub mod Ready
 pub mod Registers
 pub mod Rest
 pub mod Sequence

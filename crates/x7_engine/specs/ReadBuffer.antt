@@ -8,6 +8,10 @@ pub record ReadBufState : Type 0 where
   pub most : Option ℕ
   pub words : List ℕ
 
+-- a buffer that has room for no word
+abbrev pub no_room : ReadBufState
+no_room = record { most = Some 0; words = [] }
+
 -- the words of a buffer after more of them
 abbrev pub gathered : Option ℕ → List ℕ → List ℕ → List ℕ
 gathered None words more = words
@@ -37,18 +41,21 @@ abbrev pub HoldsFew : Option ℕ → List ℕ → Type 0
 HoldsFew None words = words ≡ []
 HoldsFew (Some most) words = length words ≤ most
 
--- where a buffer has its words: nowhere, in place, or in a vector with room for the most
+-- where a buffer has its words: nowhere (it drops each, or has room for none), in place, or in a vector with room for the most
 abbrev pub words_in : Room → List ℕ
 words_in room.Nothing = []
+words_in room.Full = []
 words_in (room.One words) = words
 words_in (room.Many words most) = words.items
 
 abbrev pub most_in : Room → Option ℕ
 most_in room.Nothing = None
+most_in room.Full = Some 0
 most_in (room.One words) = Some 1
 most_in (room.Many words most) = Some most
 
 abbrev pub HasRoom : Room → Type 0
 HasRoom room.Nothing = Unit {0}
+HasRoom room.Full = Unit {0}
 HasRoom (room.One words) = length words ≤ 1
 HasRoom (room.Many words most) = (vec_len words ≤ most) × (most ≤ vec_capacity words)

@@ -1,8 +1,16 @@
 -- What one turn of a device does over bytes of a piece (this project's choice).
-use Rattle.std.specs.Prelude.{◌≡◌, ℕ, List}
+use Rattle.std.specs.Prelude.{◌≡◌, ℕ, ◌+◌, ◌-◌, ◌^◌, ◌<◌, ◌≤◌, List, length, None}
+use Rattle.x7_packets.specs.Cutting.{between, calls_left}
 use Rattle.x7_engine.specs.Past.{GivesNone, OfPast, Takes}
-use Rattle.x7_engine.specs.Standing.{DeviceState}
+use Rattle.x7_engine.specs.Standing.{DeviceState, NoWordDue, fed_more, fed_of}
 use Rattle.x7_engine.specs.UntilStarted.{CommandsLast}
+
+-- a device that can take the bytes of a piece from a place on: nothing stopped it, no word is due, and the count of its bytes has room for them
+pub record MayTake (d : DeviceState) (piece : List ℕ) (at : ℕ) : Type 0 where
+  pub within : at ≤ length piece
+  pub going : d.registers.stop ≡ None
+  pub none_due : NoWordDue d
+  pub fits : d.taken + (length piece - at) ≤ 2 ^ 63
 
 -- in a turn a device keeps its part, takes just the bytes `more` and gives no word, and none of the bytes but the last ends a
 -- write to CMD, a read or a word that is no header
@@ -11,3 +19,21 @@ pub record TakesTurn (old new : DeviceState) (more : List ℕ) : Type 0 where
   pub stands : Takes old new more
   pub silent : GivesNone old new more
   pub commands : OfPast old (λ p. CommandsLast p.bytes more)
+
+-- a device took a turn over the bytes of a piece between two places, and counted them
+pub record Turned (old new : DeviceState) (piece : List ℕ) (from to : ℕ) : Type 0 where
+  pub forward : from ≤ to
+  pub within : to ≤ length piece
+  pub taken : new.taken ≡ old.taken + (to - from)
+  pub fed : fed_of new ≡ fed_more old (to - from)
+  pub turn : TakesTurn old new (between piece from to)
+
+-- a device used up a piece: it is at the piece's end, nothing stopped it, and no word is due
+pub record IsUsedUp (d : DeviceState) (piece : List ℕ) (at : ℕ) : Type 0 where
+  pub all : at ≡ length piece
+  pub going : d.registers.stop ≡ None
+  pub none_due : NoWordDue d
+
+-- where nothing stopped the device, fewer calls of its cutter are left in the piece than before
+abbrev pub HasFewerCalls : DeviceState → DeviceState → List ℕ → ℕ → ℕ → Type 0
+HasFewerCalls old new piece from to = new.registers.stop ≡ None → calls_left new.cutter (length piece - to) < calls_left old.cutter (length piece - from)

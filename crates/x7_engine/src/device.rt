@@ -1,25 +1,24 @@
 //! A device.
 ghost use Rattle.std.specs.Prelude.{◌≡◌, ◌≤◌, ◌<◌, ◌+◌, ◌-◌, ◌^◌, ◌++◌, [], false, true, length, IfOk, IsSome, IsTrue, is_some, ◌↔◌, ◌==◌, Option, None, Some};
-ghost use Rattle.x7_packets.specs.Cutting.{between, calls_left, IsNeed};
+ghost use Rattle.x7_packets.specs.Cutting.{between, IsNeed};
 ghost use Rattle.x7_packets.specs.History.{history_of};
 ghost use Rattle.x7_memory.specs.FrameMap.{AreSame};
 ghost use Rattle.x7_memory.specs.Frames.{AreFramesOf, frame_at};
 ghost use Rattle.x7_engine.specs.UntilRead.{RoomBefore};
 ghost use Rattle.x7_engine.specs.Kept.{on_the_bench};
 ghost use Rattle.x7_engine.specs.Readout.{Gives};
-ghost use Rattle.x7_engine.specs.ReadBuffer.{IsFull};
+ghost use Rattle.x7_engine.specs.ReadBuffer.{HoldsFew, IsFull};
 ghost use Rattle.x7_engine.specs.Standing.{DeviceStandsFor, MayWrap, NoWordDue, due_count, fed_by, fed_more, fed_of, frames_due, taken_in, with_wrap};
 ghost use Rattle.x7_engine.specs.State.{attempt_in, end_by, kept_after, why_of, memory_in, state_owing};
 ghost use Rattle.x7_engine.specs.Stops.{fault_of};
-ghost use Rattle.x7_engine.specs.Turns.{TakesTurn};
+ghost use Rattle.x7_engine.specs.Turns.{HasFewerCalls, IsUsedUp, MayTake, Turned};
 ghost use Rattle.x7_engine.specs.Values.{cause_of};
 ghost use Rattle.x7_engine.specs.declared.fault.Fault.{Fault as FaultData};
-ghost use Rattle.x7_engine.specs.Past.{AnswersFor, OfPast, Takes, GivesNext, GivesNone, part_taken, state_at, stop_at, reads_given_at};
+ghost use Rattle.x7_engine.specs.Past.{AnswersFor, OfPast, Takes, GivesNext, part_taken, state_at, stop_at, reads_given_at};
 
 mod boot;
 mod started;
 mod undo;
-mod until_read;
 
 use crate::fault::Fault;
 use crate::fed::Fed;
@@ -213,6 +212,7 @@ impl Device {
         requires going { self.old.registers.stop ≡ None }
         ensures none_left { IsTrue result ↔ NoWordDue self.new }
         ensures full { 0 < due_count self.new.registers.due → IsFull read.new }
+        ensures few { HoldsFew read.new.most read.new.words }
         ensures going { self.new.registers.stop ≡ None }
         ensures taken { self.new.taken ≡ self.old.taken }
         ensures part { self.new.part ≡ self.old.part }
@@ -225,19 +225,10 @@ impl Device {
 
     /// Takes the no-ops that come next in a session, all at once, up to a byte at which the watchdog fires.
     fn pass_nops(&mut self, piece: &[u8], at: &mut usize)
-        requires within { at.old ≤ length piece.now }
-        requires going { self.old.registers.stop ≡ None }
-        requires none_due { NoWordDue self.old }
-        requires fits { self.old.taken + (length piece.now - at.old) ≤ 2 ^ 63 }
-        ensures forward { at.old ≤ at.new }
-        ensures within { at.new ≤ length piece.now }
-        ensures taken { self.new.taken ≡ self.old.taken + (at.new - at.old) }
-        ensures part { self.new.part ≡ self.old.part }
-        ensures fed { fed_of self.new ≡ fed_more self.old (at.new - at.old) }
+        requires { MayTake self.old piece.now at.old }
+        ensures turned { Turned self.old self.new piece.now at.old at.new }
         ensures due { NoWordDue self.new }
         ensures cutter { self.new.cutter ≡ self.old.cutter }
-        ensures stands { Takes self.old self.new (between piece.now at.old at.new) }
-        ensures silent { GivesNone self.old self.new (between piece.now at.old at.new) }
         ensures quiet { OfPast self.old (λ p. history_of (p.bytes ++ between piece.now at.old at.new) ≡ history_of p.bytes) }
     {
         let count = 4 * self.cutter.nop_count(&piece[*at..]);
@@ -250,18 +241,10 @@ impl Device {
     /// Takes the next run of the piece from place `at` on, moves `at` past the bytes taken, and says whether the piece is
     /// used up.
     fn take_run(&mut self, piece: &[u8], at: &mut usize) -> bool
-        requires within { at.old ≤ length piece.now }
-        requires going { self.old.registers.stop ≡ None }
-        requires none_due { NoWordDue self.old }
-        requires fits { self.old.taken + (length piece.now - at.old) ≤ 2 ^ 63 }
-        ensures forward { at.old ≤ at.new }
-        ensures within { at.new ≤ length piece.now }
-        ensures taken { self.new.taken ≡ self.old.taken + (at.new - at.old) }
-        ensures fed { fed_of self.new ≡ fed_more self.old (at.new - at.old) }
-        ensures turns { TakesTurn self.old self.new (between piece.now at.old at.new) }
-        ensures used_up { IsTrue result → (at.new ≡ length piece.now) × (self.new.registers.stop ≡ None) × NoWordDue self.new }
-        ensures goes { result ≡ false → self.new.registers.stop ≡ None
-            → calls_left self.new.cutter (length piece.now - at.new) < calls_left self.old.cutter (length piece.now - at.old) }
+        requires { MayTake self.old piece.now at.old }
+        ensures turned { Turned self.old self.new piece.now at.old at.new }
+        ensures used_up { IsTrue result → IsUsedUp self.new piece.now at.new }
+        ensures goes { result ≡ false → HasFewerCalls self.old self.new piece.now at.old at.new }
     {
         let from = *at;
         let run = self.cutter.cut(piece, at);
@@ -277,16 +260,11 @@ impl Device {
     /// past it, and says whether there is one.
     #[inline(always)]
     fn take_write(&mut self, piece: &[u8], at: &mut usize) -> bool
-        requires within { at.old ≤ length piece.now }
-        requires going { self.old.registers.stop ≡ None }
-        requires none_due { NoWordDue self.old }
-        requires fits { self.old.taken + (length piece.now - at.old) ≤ 2 ^ 63 }
+        requires { MayTake self.old piece.now at.old }
         ensures none { result ≡ false → (self.new ≡ self.old) × (at.new ≡ at.old) }
-        ensures one { IsTrue result → (at.new ≡ at.old + 8) × (at.new ≤ length piece.now) }
-        ensures taken { self.new.taken ≡ self.old.taken + (at.new - at.old) }
-        ensures fed { fed_of self.new ≡ fed_more self.old (at.new - at.old) }
+        ensures one { IsTrue result → at.new ≡ at.old + 8 }
         ensures due { NoWordDue self.new }
-        ensures turns { IsTrue result → TakesTurn self.old self.new (between piece.now at.old at.new) }
+        ensures turned { IsTrue result → Turned self.old self.new piece.now at.old at.new }
     {
         if !self.registers.clock.is_idle() {
             return false;
@@ -305,18 +283,10 @@ impl Device {
     /// `take_next` does.
     #[inline(always)]
     fn turn(&mut self, piece: &[u8], at: &mut usize) -> bool
-        requires within { at.old ≤ length piece.now }
-        requires going { self.old.registers.stop ≡ None }
-        requires none_due { NoWordDue self.old }
-        requires fits { self.old.taken + (length piece.now - at.old) ≤ 2 ^ 63 }
-        ensures forward { at.old ≤ at.new }
-        ensures within { at.new ≤ length piece.now }
-        ensures taken { self.new.taken ≡ self.old.taken + (at.new - at.old) }
-        ensures fed { fed_of self.new ≡ fed_more self.old (at.new - at.old) }
-        ensures turns { TakesTurn self.old self.new (between piece.now at.old at.new) }
-        ensures used_up { IsTrue result → (at.new ≡ length piece.now) × (self.new.registers.stop ≡ None) × NoWordDue self.new }
-        ensures goes { result ≡ false → self.new.registers.stop ≡ None
-            → calls_left self.new.cutter (length piece.now - at.new) < calls_left self.old.cutter (length piece.now - at.old) }
+        requires { MayTake self.old piece.now at.old }
+        ensures turned { Turned self.old self.new piece.now at.old at.new }
+        ensures used_up { IsTrue result → IsUsedUp self.new piece.now at.new }
+        ensures goes { result ≡ false → HasFewerCalls self.old self.new piece.now at.old at.new }
     {
         if self.take_write(piece, at) {
             return false;
@@ -328,18 +298,10 @@ impl Device {
     /// used up.
     #[inline(never)]
     fn take_next(&mut self, piece: &[u8], at: &mut usize) -> bool
-        requires within { at.old ≤ length piece.now }
-        requires going { self.old.registers.stop ≡ None }
-        requires none_due { NoWordDue self.old }
-        requires fits { self.old.taken + (length piece.now - at.old) ≤ 2 ^ 63 }
-        ensures forward { at.old ≤ at.new }
-        ensures within { at.new ≤ length piece.now }
-        ensures taken { self.new.taken ≡ self.old.taken + (at.new - at.old) }
-        ensures fed { fed_of self.new ≡ fed_more self.old (at.new - at.old) }
-        ensures turns { TakesTurn self.old self.new (between piece.now at.old at.new) }
-        ensures used_up { IsTrue result → (at.new ≡ length piece.now) × (self.new.registers.stop ≡ None) × NoWordDue self.new }
-        ensures goes { result ≡ false → self.new.registers.stop ≡ None
-            → calls_left self.new.cutter (length piece.now - at.new) < calls_left self.old.cutter (length piece.now - at.old) }
+        requires { MayTake self.old piece.now at.old }
+        ensures turned { Turned self.old self.new piece.now at.old at.new }
+        ensures used_up { IsTrue result → IsUsedUp self.new piece.now at.new }
+        ensures goes { result ≡ false → HasFewerCalls self.old self.new piece.now at.old at.new }
     {
         self.pass_nops(piece, at);
         if self.has_stopped() {
@@ -359,10 +321,12 @@ impl Device {
         ensures stands { Takes self.old self.new (part_taken piece.now result) }
         ensures answer { AnswersFor self.old self.new (part_taken piece.now result) read.new result }
         ensures reads { GivesNext self.old self.new (part_taken piece.now result) read.old read.new }
+        ensures few { HoldsFew read.new.most read.new.words }
         ensures first { OfPast self.old (λ p. RoomBefore p piece.now (taken_in (length piece.now) result) (reads_given_at self.old p) read.old) }
         ensures stopped { OfPast self.old (λ p. IsSome (stop_at p) → (self.new ≡ self.old) × (read.new ≡ read.old) × (taken_in (length piece.now) result ≡ 0)) }
         ensures stays { (why : Stop) → self.old.registers.stop ≡ Some why → (self.new ≡ self.old) × (read.new ≡ read.old) × (result ≡ fed_by why 0) }
     {
+        read.holds_few();
         let mut at = 0;
         'runs: loop {
             if let Some(stop) = self.stop() {
@@ -371,7 +335,6 @@ impl Device {
             if !self.give(read) {
                 return Fed::ReadFull(at);
             }
-            read.holds_few();
             if self.turn(piece, &mut at) {
                 return Fed::All;
             }

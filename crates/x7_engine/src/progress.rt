@@ -113,7 +113,8 @@ impl Progress {
 
     /// Takes a written word that executes a command, or none, and says whether it takes a pending shutdown.
     pub(crate) fn write(&mut self, idcode: u32, reg: Reg, word: u32, executed: Option<u8>) -> bool
-        ensures stands { (h : History) (place : ℕ) → executed ≡ executed_after h reg word → IsProgress idcode (progress_in self.old) h → IsProgress idcode (progress_in self.new) (written_to reg word place ∷ h) }
+        ensures stands { (h : History) (place : ℕ) → executed ≡ executed_after h reg word → IsProgress idcode (progress_in self.old) h
+            → IsProgress idcode (progress_in self.new) (written_to reg word place ∷ h) }
         ensures takes { (h : History) → executed ≡ executed_after h reg word → IsProgress idcode (progress_in self.old) h → result ≡ takes_shutdown h (word_to reg word) }
     {
         let cleared = clears(executed, self.check, reg, word);

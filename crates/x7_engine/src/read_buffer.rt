@@ -1,6 +1,6 @@
 //! Words read out of a device.
 ghost use Rattle.std.specs.Prelude.{◌≡◌, ◌≤◌, ◌<◌, ◌-◌, ◌∷◌, [], false, length, replicate, ◌==◌, ℕ, List, IfOk, IsTrue, Some, None};
-ghost use Rattle.x7_engine.specs.ReadBuffer.{HoldsFew, IsFull, with_words};
+ghost use Rattle.x7_engine.specs.ReadBuffer.{HoldsFew, IsFull, no_room, with_words};
 
 use std::alloc::Global;
 use std::marker::Model;
@@ -65,6 +65,8 @@ impl Slot {
 pub(crate) enum Room {
     /// Nowhere: the buffer drops each word.
     Nothing,
+    /// Nowhere: the buffer has room for no word.
+    Full,
     /// In place, for one word.
     One(Slot),
     /// In a vector, for the number of words given second.
@@ -110,6 +112,13 @@ impl ReadBuf {
         }
     }
 
+    /// A buffer that has room for no word: a feed with it ends at the first word that is read out.
+    pub fn full() -> ReadBuf
+        ensures { result ≡ no_room }
+    {
+        ReadBuf { room: Room::Full }
+    }
+
     /// A buffer that gathers one word, for which it takes no memory.
     pub fn one() -> ReadBuf
         ensures { result ≡ record { most = Some 1; words = [] } }
@@ -125,7 +134,7 @@ impl ReadBuf {
         ensures few { HoldsFew self.now.most result.now }
     {
         match &self.room {
-            Room::Nothing => &[],
+            Room::Nothing | Room::Full => &[],
             Room::One(slot) => slot.words(),
             Room::Many(words, _) => words.as_slice(),
         }
@@ -136,13 +145,13 @@ impl ReadBuf {
         ensures { self.new ≡ record self.old { words = [] } }
     {
         match &mut self.room {
-            Room::Nothing => (),
+            Room::Nothing | Room::Full => (),
             Room::One(slot) => slot.clear(),
             Room::Many(words, _) => words.clear(),
         }
     }
 
-    /// A buffer never holds more words than its most.
+    /// A buffer never holds more words than its most. The call is for proofs alone, and does nothing.
     pub(crate) fn holds_few(&self)
         ensures { HoldsFew self.now.most self.now.words }
     {
@@ -158,6 +167,7 @@ impl ReadBuf {
     {
         match &mut self.room {
             Room::Nothing => 0,
+            Room::Full => count,
             Room::One(slot) => {
                 if slot.is_full() || count == 0 {
                     return count;
@@ -169,7 +179,7 @@ impl ReadBuf {
                 let some = (*most - words.len()).min(count as usize);
                 match words.resize(words.len() + some, word) {
                     Ok(()) => (),
-                    Err(_) => (),
+                    Err(_) => unreachable!(),
                 }
                 count - some as u32
             }
@@ -193,6 +203,7 @@ impl ReadBuf {
     {
         match &self.room {
             Room::Nothing => false,
+            Room::Full => true,
             Room::One(slot) => slot.is_full(),
             Room::Many(words, most) => words.len() == *most,
         }
@@ -205,10 +216,11 @@ impl ReadBuf {
     {
         match &mut self.room {
             Room::Nothing => (),
+            Room::Full => unreachable!(),
             Room::One(slot) => slot.put(word),
             Room::Many(words, _) => match words.push(word) {
                 Ok(()) => (),
-                Err(_) => (),
+                Err(_) => unreachable!(),
             },
         }
     }

@@ -1,11 +1,11 @@
 //! The words that a device reads out: a read makes them due, and a buffer takes them.
-ghost use Rattle.std.specs.Prelude.{◌≡◌, ◌≤◌, ◌<◌, ℕ, nat_lt, IsTrue, ◌↔◌, None, Some};
+ghost use Rattle.std.specs.Prelude.{◌≡◌, ◌≤◌, ◌<◌, ℕ, IsTrue, ◌↔◌, None, Some};
 ghost use Rattle.x7_packets.specs.History.{History};
 ghost use Rattle.x7_flow.specs.Standing.{FramesFit, FramesStandFor, read_of, words_due};
 ghost use Rattle.x7_engine.specs.Readout.{GotAllBut};
-ghost use Rattle.x7_engine.specs.ReadBuffer.{IsFull};
+ghost use Rattle.x7_engine.specs.ReadBuffer.{HoldsFew, IsFull};
+ghost use Rattle.x7_engine.specs.Ready.{AreReady, RestsAtStop};
 ghost use Rattle.x7_engine.specs.Standing.{due_count};
-ghost use Rattle.x7_engine.specs.declared.stop.Stop.{Stop};
 ghost use Rattle.x7_engine.specs.Entering.{AreAnswer, EntersAt, OfHistory, change_of, read_entered};
 
 use crate::due::Due;
@@ -54,11 +54,9 @@ impl Registers {
 
     /// A read of `count` words of a register, which are due from now on.
     pub(crate) fn read(&mut self, part: &Part, register: u8, count: u32)
-        requires going { self.old.stop ≡ None }
-        requires none_due { due_count self.old.due ≡ 0 }
-        requires frames { FramesFit part.now self.old.frames }
+        requires ready { AreReady part.now self.old }
         requires some { 0 < count }
-        ensures at_rest { (why : Stop) → self.new.stop ≡ Some why → due_count self.new.due ≡ 0 }
+        ensures at_rest { RestsAtStop self.new }
         ensures counts { (n : ℕ) → counted_in self.new.stop n ≡ n }
         ensures frames { self.new.frames ≡ self.old.frames }
         ensures stands { EntersAt (change_of part.now self.old self.new) (read_entered register count) }
@@ -72,13 +70,6 @@ impl Registers {
             Some(fault) => self.stop = Some(stop_of_refused(fault)),
             None => self.due = Due::Frames(count),
         }
-    }
-
-    /// Whether a word is due.
-    pub(crate) fn has_word_due(&self) -> bool
-        ensures { result ≡ nat_lt 0 (due_count self.now.due) }
-    {
-        count_of(self.due) > 0
     }
 
     /// Gives the words due to a buffer, as many as it has room for.
@@ -109,11 +100,13 @@ impl Registers {
         requires frames { FramesFit part.now self.old.frames }
         ensures none_left { IsTrue result ↔ (due_count self.new.due ≡ 0) }
         ensures full { 0 < due_count self.new.due → IsFull read.new }
+        ensures few { HoldsFew read.new.most read.new.words }
         ensures going { self.new.stop ≡ None }
         ensures frames { FramesFit part.now self.new.frames }
         ensures given { OfHistory part.now (registers_in self.old) (λ kept h n. Gave (course_at part.now kept h n) (registers_in self.old) (registers_in self.new) read.old read.new) }
     {
         self.give_due(part, read);
+        read.holds_few();
         count_of(self.due) == 0
     }
 }

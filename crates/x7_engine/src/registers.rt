@@ -9,6 +9,7 @@ ghost use Rattle.x7_flow.specs.Standing.{FramesFit, FramesStandFor, word_to};
 ghost use Rattle.x7_flow.specs.Words.{TakesWords, words_before};
 ghost use Rattle.x7_engine.specs.Kept.{is_fallback};
 ghost use Rattle.x7_crc.specs.OpenWrites.{executed_after};
+ghost use Rattle.x7_engine.specs.Ready.{AreReady, LeavesBytes, LeavesDue, RestsAtStop, TakesUpTo};
 ghost use Rattle.x7_engine.specs.Registers.{has_effect};
 ghost use Rattle.x7_engine.specs.Standing.{counted_in, due_count};
 ghost use Rattle.x7_engine.specs.State.{last_counted};
@@ -235,13 +236,10 @@ impl Registers {
 
     /// Takes a written word: it is folded, then stored, and then come its faults and effects.
     fn write(&mut self, part: &Part, reg: Reg, word: u32)
-        requires going { self.old.stop ≡ None }
-        requires none_due { due_count self.old.due ≡ 0 }
-        requires frames { FramesFit part.now self.old.frames }
+        requires ready { AreReady part.now self.old }
         ensures stands { EntersAt (change_of part.now self.old self.new) (λ place h. entry (Write (number_of reg) word) place ∷ h) }
         ensures counts { (n : ℕ) → counted_in self.new.stop n ≡ n }
-        ensures due { self.new.due ≡ self.old.due }
-        ensures frames { FramesFit part.now self.new.frames }
+        ensures leaves { LeavesDue part.now self.old self.new }
     {
         let idcode = part.idcode();
         let settings = self.settings();
@@ -275,13 +273,10 @@ impl Registers {
     /// Takes a word written to a register by its number.
     pub(crate) fn write_to(&mut self, part: &Part, register: u8, word: u32)
         requires register { register < 32 }
-        requires going { self.old.stop ≡ None }
-        requires none_due { due_count self.old.due ≡ 0 }
-        requires frames { FramesFit part.now self.old.frames }
+        requires ready { AreReady part.now self.old }
         ensures stands { EntersAt (change_of part.now self.old self.new) (λ place h. entry (Write register word) place ∷ h) }
         ensures counts { (n : ℕ) → counted_in self.new.stop n ≡ n }
-        ensures due { self.new.due ≡ self.old.due }
-        ensures frames { FramesFit part.now self.new.frames }
+        ensures leaves { LeavesDue part.now self.old self.new }
     {
         let Some(reg) = effective(register) else {
             self.pass(register, word);
@@ -294,8 +289,7 @@ impl Registers {
     #[inline(always)]
     pub(crate) fn tick(&mut self, part: &Part, count: usize) -> usize
         requires going { self.old.stop ≡ None }
-        ensures within { result ≤ count }
-        ensures goes_on { self.new.stop ≡ None → result ≡ 0 }
+        ensures left { LeavesBytes count result self.new }
         ensures some { 0 < count → result < count }
         ensures fired { (why : Stop) → self.new.stop ≡ Some why → (why ≡ Stop.Fault Fault.Watchdog) × (result < count) }
         ensures due { self.new.due ≡ self.old.due }
@@ -312,14 +306,10 @@ impl Registers {
     /// Takes the last bytes of a payload word, and then the word. Says how many bytes are left.
     fn word(&mut self, part: &Part, register: u8, word: u32, count: usize) -> usize
         requires register { register < 32 }
-        requires going { self.old.stop ≡ None }
-        requires none_due { due_count self.old.due ≡ 0 }
-        requires frames { FramesFit part.now self.old.frames }
-        ensures within { result ≤ count }
+        requires ready { AreReady part.now self.old }
+        ensures left { LeavesBytes count result self.new }
         ensures some { 0 < count → result < count }
-        ensures goes_on { self.new.stop ≡ None → result ≡ 0 }
-        ensures due { self.new.due ≡ self.old.due }
-        ensures frames { FramesFit part.now self.new.frames }
+        ensures leaves { LeavesDue part.now self.old self.new }
         ensures stands { EntersIf (0 < count) (change_of part.now self.old self.new)
             (up_to_stop (registers_in self.new) (word_entered register word count) (count - result)) (count - result) }
     {
@@ -334,15 +324,11 @@ impl Registers {
     /// Takes words written to a register without an effect beside the check, up to a byte at which the watchdog fires, and
     /// says how many bytes these are.
     fn pass_all(&mut self, part: &Part, register: u8, bytes: &[u8]) -> usize
-        requires going { self.old.stop ≡ None }
-        requires none_due { due_count self.old.due ≡ 0 }
+        requires ready { AreReady part.now self.old }
         requires register { register < 32 }
         requires plain { has_effect register ≡ false }
-        ensures within { result ≤ length bytes.now }
-        ensures some { 0 < length bytes.now → 0 < result }
-        ensures goes_on { self.new.stop ≡ None → result ≡ length bytes.now }
-        ensures due { self.new.due ≡ self.old.due }
-        ensures frames { self.new.frames ≡ self.old.frames }
+        ensures takes { TakesUpTo (length bytes.now) result self.new }
+        ensures leaves { LeavesDue part.now self.old self.new }
         ensures stands { EntersIf (length bytes.now % 4 ≡ 0) (change_of part.now self.old self.new)
             (up_to_stop (registers_in self.new) (words_entered register bytes.now) result) result }
     {
@@ -358,16 +344,13 @@ impl Registers {
     /// Takes frame data or copies of a matched device at once: the words before the first that is refused or in which the
     /// watchdog fires. Says how many bytes these are.
     fn frame_words(&mut self, part: &Part, reg: Reg, bytes: &[u8]) -> usize
-        requires going { self.old.stop ≡ None }
-        requires none_due { due_count self.old.due ≡ 0 }
-        requires frames { FramesFit part.now self.old.frames }
+        requires ready { AreReady part.now self.old }
         requires register { TakesWords reg }
         requires matched { self.old.progress.matched ≡ true }
         ensures within { result ≤ length bytes.now }
         ensures whole { result % 4 ≡ 0 }
         ensures going { self.new.stop ≡ None }
-        ensures due { self.new.due ≡ self.old.due }
-        ensures frames { FramesFit part.now self.new.frames }
+        ensures leaves { LeavesDue part.now self.old self.new }
         ensures stands { Enters (change_of part.now self.old self.new) (words_entered (number_of reg) (take result bytes.now)) result }
     {
         let settings = self.settings();
@@ -385,14 +368,11 @@ impl Registers {
 
     /// Takes those of a payload's words that can be taken at once, and says how many bytes these are.
     fn at_once(&mut self, part: &Part, reg: Reg, bytes: &[u8]) -> usize
-        requires going { self.old.stop ≡ None }
-        requires none_due { due_count self.old.due ≡ 0 }
-        requires frames { FramesFit part.now self.old.frames }
+        requires ready { AreReady part.now self.old }
         ensures within { result ≤ length bytes.now }
         ensures whole { result % 4 ≡ 0 }
         ensures going { self.new.stop ≡ None }
-        ensures due { self.new.due ≡ self.old.due }
-        ensures frames { FramesFit part.now self.new.frames }
+        ensures leaves { LeavesDue part.now self.old self.new }
         ensures stands { Enters (change_of part.now self.old self.new) (words_entered (number_of reg) (take result bytes.now)) result }
     {
         match reg {
@@ -403,16 +383,11 @@ impl Registers {
 
     /// Takes payload words one by one up to a byte that stops the device, and says how many bytes these are.
     fn each(&mut self, part: &Part, register: u8, bytes: &[u8]) -> usize
-        requires going { self.old.stop ≡ None }
-        requires none_due { due_count self.old.due ≡ 0 }
-        requires frames { FramesFit part.now self.old.frames }
+        requires ready { AreReady part.now self.old }
         requires register { register < 32 }
         requires whole { length bytes.now % 4 ≡ 0 }
-        ensures within { result ≤ length bytes.now }
-        ensures some { 0 < length bytes.now → 0 < result }
-        ensures goes_on { self.new.stop ≡ None → result ≡ length bytes.now }
-        ensures due { self.new.due ≡ self.old.due }
-        ensures frames { FramesFit part.now self.new.frames }
+        ensures takes { TakesUpTo (length bytes.now) result self.new }
+        ensures leaves { LeavesDue part.now self.old self.new }
         ensures stands { Enters (change_of part.now self.old self.new) (up_to_stop (registers_in self.new) (words_entered register bytes.now) result) result }
     {
         let (words, _) = bytes.as_chunks::<4>();
@@ -430,16 +405,11 @@ impl Registers {
     /// Takes the payload words of a packet up to a byte that stops the device, and says how many bytes these are.
     #[inline(always)]
     fn body(&mut self, part: &Part, register: u8, bytes: &[u8]) -> usize
-        requires going { self.old.stop ≡ None }
-        requires none_due { due_count self.old.due ≡ 0 }
-        requires frames { FramesFit part.now self.old.frames }
+        requires ready { AreReady part.now self.old }
         requires register { register < 32 }
         requires whole { length bytes.now % 4 ≡ 0 }
-        ensures within { result ≤ length bytes.now }
-        ensures some { 0 < length bytes.now → 0 < result }
-        ensures goes_on { self.new.stop ≡ None → result ≡ length bytes.now }
-        ensures due { self.new.due ≡ self.old.due }
-        ensures frames { FramesFit part.now self.new.frames }
+        ensures takes { TakesUpTo (length bytes.now) result self.new }
+        ensures leaves { LeavesDue part.now self.old self.new }
         ensures stands { Enters (change_of part.now self.old self.new) (up_to_stop (registers_in self.new) (words_entered register bytes.now) result) result }
     {
         let Some(reg) = effective(register) else {
@@ -451,11 +421,9 @@ impl Registers {
 
     /// Takes a word in a header's place.
     fn head(&mut self, part: &Part, step: Step)
-        requires going { self.old.stop ≡ None }
-        requires none_due { due_count self.old.due ≡ 0 }
-        requires frames { FramesFit part.now self.old.frames }
+        requires ready { AreReady part.now self.old }
         requires header { IsHeaderStep step }
-        ensures at_rest { (why : Stop) → self.new.stop ≡ Some why → due_count self.new.due ≡ 0 }
+        ensures at_rest { RestsAtStop self.new }
         ensures counts { (n : ℕ) → counted_in self.new.stop n ≡ n }
         ensures frames { FramesFit part.now self.new.frames }
         ensures stands { EntersAt (change_of part.now self.old self.new) (λ place h. entered place step h) }
@@ -471,13 +439,10 @@ impl Registers {
     /// Takes the last bytes of a word in a header's place, and then the word. Says how many bytes are left.
     #[inline(always)]
     fn header(&mut self, part: &Part, step: Step, count: usize) -> usize
-        requires going { self.old.stop ≡ None }
-        requires none_due { due_count self.old.due ≡ 0 }
-        requires frames { FramesFit part.now self.old.frames }
+        requires ready { AreReady part.now self.old }
         requires header { IsHeaderStep step }
-        ensures within { result ≤ count }
-        ensures goes_on { self.new.stop ≡ None → result ≡ 0 }
-        ensures at_rest { (why : Stop) → self.new.stop ≡ Some why → due_count self.new.due ≡ 0 }
+        ensures left { LeavesBytes count result self.new }
+        ensures at_rest { RestsAtStop self.new }
         ensures frames { FramesFit part.now self.new.frames }
         ensures stands { EntersIf (0 < count) (change_of part.now self.old self.new)
             (up_to_stop (registers_in self.new) (step_entered step count) (count - result)) (count - result) }
@@ -495,15 +460,12 @@ impl Registers {
     /// last bytes are left.
     #[inline(always)]
     pub(crate) fn run(&mut self, part: &Part, run: Cut<'_>, count: usize) -> usize
-        requires going { self.old.stop ≡ None }
-        requires none_due { due_count self.old.due ≡ 0 }
-        requires frames { FramesFit part.now self.old.frames }
+        requires ready { AreReady part.now self.old }
         requires run { IsRun run }
         requires holds { HoldsRun run count }
-        ensures within { result ≤ count }
-        ensures goes_on { self.new.stop ≡ None → result ≡ 0 }
+        ensures left { LeavesBytes count result self.new }
         ensures quiet { TellsNothing run.entry → due_count self.new.due ≡ 0 }
-        ensures at_rest { (why : Stop) → self.new.stop ≡ Some why → due_count self.new.due ≡ 0 }
+        ensures at_rest { RestsAtStop self.new }
         ensures frames { FramesFit part.now self.new.frames }
         ensures stands { RunEnters run.entry count (change_of part.now self.old self.new) (count - result) }
         ensures reads { RunReads run.entry count (change_of part.now self.old self.new) (count - result) }

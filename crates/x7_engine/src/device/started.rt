@@ -1,10 +1,10 @@
 //! Feeding up to the end of startup.
-ghost use Rattle.std.specs.Prelude.{◌≡◌, ◌≤◌, ◌<◌, ◌+◌, ◌-◌, ◌^◌, ◌⊎◌, false, if◌then◌else◌, length, take, is_some, None, IsSome, IsTrue};
-ghost use Rattle.x7_packets.specs.Cutting.{between, calls_left};
+ghost use Rattle.std.specs.Prelude.{◌≡◌, ◌≤◌, ◌<◌, ◌+◌, ◌-◌, ◌^◌, ◌⊎◌, false, if◌then◌else◌, length, take, is_some, IsSome, IsTrue};
+ghost use Rattle.x7_packets.specs.Cutting.{between};
 ghost use Rattle.x7_engine.specs.UntilRead.{RoomBefore};
 ghost use Rattle.x7_engine.specs.Phases.{soonest};
 ghost use Rattle.x7_engine.specs.Standing.{HasBegun, HasStopped, NoWordDue, fed_more, fed_of};
-ghost use Rattle.x7_engine.specs.Turns.{TakesTurn};
+ghost use Rattle.x7_engine.specs.Turns.{HasFewerCalls, IsUsedUp, MayTake, Turned};
 ghost use Rattle.x7_engine.specs.UntilStarted.{HasNotBegun, NoneStarted, says_started, taken_until};
 ghost use Rattle.x7_engine.specs.declared.until_started.UntilStarted.TheVariants as until;
 ghost use Rattle.x7_engine.specs.Past.{AnswersUntilFor, OfPast, Takes, GivesNext, later, part_until, StaysAtZero, started_at, state_at, stop_at, reads_given_at};
@@ -50,18 +50,10 @@ impl Device {
 
     /// Takes the next turn of a piece, up to a byte at which startup may end, and says whether the piece is used up.
     fn turn_until_started(&mut self, piece: &[u8], at: &mut usize) -> bool
-        requires within { at.old ≤ length piece.now }
-        requires going { self.old.registers.stop ≡ None }
-        requires none_due { NoWordDue self.old }
-        requires fits { self.old.taken + (length piece.now - at.old) ≤ 2 ^ 63 }
-        ensures forward { at.old ≤ at.new }
-        ensures within { at.new ≤ length piece.now }
-        ensures taken { self.new.taken ≡ self.old.taken + (at.new - at.old) }
-        ensures fed { fed_of self.new ≡ fed_more self.old (at.new - at.old) }
-        ensures turns { TakesTurn self.old self.new (between piece.now at.old at.new) }
-        ensures used_up { IsTrue result → (at.new ≡ length piece.now) × (self.new.registers.stop ≡ None) × NoWordDue self.new }
-        ensures goes { result ≡ false → self.new.registers.stop ≡ None
-            → calls_left self.new.cutter (length piece.now - at.new) < calls_left self.old.cutter (length piece.now - at.old) }
+        requires { MayTake self.old piece.now at.old }
+        ensures turned { Turned self.old self.new piece.now at.old at.new }
+        ensures used_up { IsTrue result → IsUsedUp self.new piece.now at.new }
+        ensures goes { result ≡ false → HasFewerCalls self.old self.new piece.now at.old at.new }
         ensures first { OfPast self.old (λ p. started_at p ≡ false → NoneStarted p.part p.kept p.bytes (between piece.now at.old at.new) (at.new - at.old)) }
     {
         let end = self.turn_end(*at, piece.len());
@@ -99,7 +91,6 @@ impl Device {
             if self.started() {
                 return UntilStarted::Started(at);
             }
-            read.holds_few();
             if self.turn_until_started(piece, &mut at) {
                 return answer(self.started(), at, Fed::All);
             }

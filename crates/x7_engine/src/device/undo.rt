@@ -98,28 +98,13 @@ impl Device {
         ensures undo { IsUndoOf self.old.part undo.new }
     {
         self.save(undo);
-        let fed = self.feed_dropping(piece);
+        let mut read = ReadBuf::dropping();
+        let fed = self.feed(piece, &mut read);
         self.frames_fit();
         fed
     }
 
-    /// Takes bytes as `feed` does, where words read out are dropped.
-    fn feed_dropping(&mut self, piece: &[u8]) -> Fed
-        requires { self.old.taken + length piece.now ≤ 2 ^ 63 }
-        ensures within { taken_in (length piece.now) result ≤ length piece.now }
-        ensures stands { Takes self.old self.new (part_taken piece.now result) }
-        ensures answer { AnswersFor self.old self.new (part_taken piece.now result) dropping result }
-        ensures part { self.new.part ≡ self.old.part }
-        ensures taken { self.new.taken ≡ self.old.taken + taken_in (length piece.now) result }
-        ensures fed { fed_of self.new ≡ fed_more self.old (taken_in (length piece.now) result) }
-        ensures stays { (why : Stop) → self.old.registers.stop ≡ Some why → (self.new ≡ self.old) × (result ≡ fed_by why 0) }
-        ensures stopped { OfPast self.old (λ p. IsSome (stop_at p) → (self.new ≡ self.old) × (taken_in (length piece.now) result ≡ 0)) }
-    {
-        let mut read = ReadBuf::dropping();
-        self.feed(piece, &mut read)
-    }
-
-    /// The frames of a device are those of its part.
+    /// The frames of a device are those of its part. The call is for proofs alone, and does nothing.
     fn frames_fit(&self)
         ensures { FramesFit self.now.part self.now.registers.frames }
     {

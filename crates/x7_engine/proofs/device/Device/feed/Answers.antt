@@ -21,6 +21,7 @@ runs-init c = record {
   stands = λ part kept wrapped bytes s. subst (λ (b : List ℕ). DeviceStandsFor part kept wrapped c.args.self.now b) (sym (append-nil bytes)) s;
   reads = λ part kept wrapped bytes s. ([], words_none c.args.read.now, ap (reads_given part kept c.args.self.now) (append-nil bytes) ∙ sym (append-nil (reads_given part kept c.args.self.now bytes)));
   first = λ part kept wrapped bytes s k l. absurd (omega (arith, l));
+  few = c.holds_few.ensures;
   stopped = λ e. (refl, refl, refl);
 }
 
@@ -62,12 +63,12 @@ returns-then-not-give-clause-reads c = λ part kept wrapped bytes s.
 
 pub returns-then-turn-clause-first : goal.returns-then-turn-clause-first
 returns-then-turn-clause-first c = λ part kept wrapped bytes s.
-    subst (λ (k : ℕ). RoomBefore (record { part = part; kept = kept; wrapped = wrapped; bytes = bytes }) c.args.piece.now k (reads_given part kept c.args.self.now bytes) c.args.read.now) (c.turn.ensures.used_up c.if-turn.true).0 (
+    subst (λ (k : ℕ). RoomBefore (record { part = part; kept = kept; wrapped = wrapped; bytes = bytes }) c.args.piece.now k (reads_given part kept c.args.self.now bytes) c.args.read.now) (c.turn.ensures.used_up c.if-turn.true).all (
     let taken : List ℕ = bytes ++ take c.runs.at c.args.piece.now in
     let gives = c.give.ensures.given part kept wrapped taken (c.runs.invariant.stands part kept wrapped bytes s) in
     let due : NoWordDue c.give.new.self = c.give.ensures.none_left.0 c.if-not-give.false in
-    room_read_on part kept wrapped c.give.new.self c.turn.new.self c.args.read.now c.give.new.read bytes c.args.piece.now (reads_given part kept c.args.self.now bytes) c.runs.at c.turn.new.at c.turn.ensures.forward c.turn.ensures.within
-    c.give.ensures.going due gives.stands (c.turn.ensures.turns.stands part kept wrapped taken gives.stands) (c.turn.ensures.turns.commands part kept wrapped taken gives.stands) c.holds_few.ensures
+    room_read_on part kept wrapped c.give.new.self c.turn.new.self c.args.read.now c.give.new.read bytes c.args.piece.now (reads_given part kept c.args.self.now bytes) c.runs.at c.turn.new.at c.turn.ensures.turned.forward c.turn.ensures.turned.within
+    c.give.ensures.going due gives.stands (c.turn.ensures.turned.turn.stands part kept wrapped taken gives.stands) (c.turn.ensures.turned.turn.commands part kept wrapped taken gives.stands) c.give.ensures.few
     (now_told part kept wrapped c.runs.self c.give.new.self c.args.read.now c.runs.read c.give.new.read taken (reads_given part kept c.args.self.now bytes) gives (c.runs.invariant.reads part kept wrapped bytes s))
     (c.runs.invariant.first part kept wrapped bytes s))
 
@@ -75,8 +76,8 @@ pub returns-then-turn-clause-stands : goal.returns-then-turn-clause-stands
 returns-then-turn-clause-stands c = λ part kept wrapped bytes s.
     let piece : List ℕ = c.args.piece.now in
     let used = c.turn.ensures.used_up c.if-turn.true in
-    subst (λ (k : ℕ). DeviceStandsFor part kept wrapped c.turn.new.self (bytes ++ take k piece)) used.0
-    (stands_on part kept wrapped c.give.new.self c.turn.new.self bytes piece c.runs.at c.turn.new.at c.turn.ensures.forward (c.turn.ensures.turns.stands part kept wrapped)
+    subst (λ (k : ℕ). DeviceStandsFor part kept wrapped c.turn.new.self (bytes ++ take k piece)) used.all
+    (stands_on part kept wrapped c.give.new.self c.turn.new.self bytes piece c.runs.at c.turn.new.at c.turn.ensures.turned.forward (c.turn.ensures.turned.turn.stands part kept wrapped)
     (c.give.ensures.given part kept wrapped (bytes ++ take c.runs.at piece) (c.runs.invariant.stands part kept wrapped bytes s)).stands)
 
 pub returns-then-turn-clause-answer : goal.returns-then-turn-clause-answer
@@ -84,7 +85,7 @@ returns-then-turn-clause-answer c = λ part kept wrapped bytes s.
     let piece : List ℕ = c.args.piece.now in
     let used = c.turn.ensures.used_up c.if-turn.true in
     let stands : DeviceStandsFor part kept wrapped c.turn.new.self (bytes ++ take (length piece) piece) = returns-then-turn-clause-stands c part kept wrapped bytes s in
-    (stands.stop_is ∙ ap (stopped_at (length (bytes ++ take (length piece) piece))) used.1, used.2)
+    (stands.stop_is ∙ ap (stopped_at (length (bytes ++ take (length piece) piece))) used.going, used.none_due)
 
 pub returns-then-turn-clause-reads : goal.returns-then-turn-clause-reads
 returns-then-turn-clause-reads c = λ part kept wrapped bytes s.
@@ -92,32 +93,33 @@ returns-then-turn-clause-reads c = λ part kept wrapped bytes s.
     let used = c.turn.ensures.used_up c.if-turn.true in
     let told : (more : List ℕ) × (c.give.new.read ≡ with_words c.args.read.now more) × (reads_given part kept c.turn.new.self (bytes ++ take c.turn.new.at piece) ≡ reads_given part kept c.args.self.now bytes ++ more) =
     read_here part kept wrapped c.runs.self c.give.new.self c.turn.new.self c.args.read.now c.runs.read c.give.new.read bytes piece (reads_given part kept c.args.self.now bytes) c.runs.at c.turn.new.at
-    (c.give.ensures.given part kept wrapped (bytes ++ take c.runs.at piece) (c.runs.invariant.stands part kept wrapped bytes s)) c.turn.ensures.forward (c.turn.ensures.turns.silent part kept wrapped) (c.runs.invariant.reads part kept wrapped bytes s) in
-    (told.0, told.1, ap (λ (k : ℕ). reads_given part kept c.turn.new.self (bytes ++ take k piece)) (sym used.0) ∙ told.2)
+    (c.give.ensures.given part kept wrapped (bytes ++ take c.runs.at piece) (c.runs.invariant.stands part kept wrapped bytes s)) c.turn.ensures.turned.forward (c.turn.ensures.turned.turn.silent part kept wrapped) (c.runs.invariant.reads part kept wrapped bytes s) in
+    (told.0, told.1, ap (λ (k : ℕ). reads_given part kept c.turn.new.self (bytes ++ take k piece)) (sym used.all) ∙ told.2)
 
 pub runs-preserved : goal.runs-preserved
 runs-preserved c =
     let piece : List ℕ = c.args.piece.now in
     let taken : c.give.new.self.taken ≡ c.runs.self.taken = c.give.ensures.taken in
     record {
-      within = c.turn.ensures.within;
-      part = c.turn.ensures.turns.part ∙ c.give.ensures.part ∙ c.runs.invariant.part;
-      fed = omega (arith, c.turn.ensures.fed, c.give.ensures.fed, c.runs.invariant.fed, c.turn.ensures.forward);
-      taken = omega (arith, taken, c.turn.ensures.taken, c.turn.ensures.forward, c.runs.invariant.taken);
-      fits = omega (arith, taken, c.turn.ensures.taken, c.turn.ensures.forward, c.turn.ensures.within, c.runs.invariant.fits);
+      within = c.turn.ensures.turned.within;
+      part = c.turn.ensures.turned.turn.part ∙ c.give.ensures.part ∙ c.runs.invariant.part;
+      fed = omega (arith, c.turn.ensures.turned.fed, c.give.ensures.fed, c.runs.invariant.fed, c.turn.ensures.turned.forward);
+      taken = omega (arith, taken, c.turn.ensures.turned.taken, c.turn.ensures.turned.forward, c.runs.invariant.taken);
+      fits = omega (arith, taken, c.turn.ensures.turned.taken, c.turn.ensures.turned.forward, c.turn.ensures.turned.within, c.runs.invariant.fits);
       stands = λ part kept wrapped bytes s.
-          stands_on part kept wrapped c.give.new.self c.turn.new.self bytes piece c.runs.at c.turn.new.at c.turn.ensures.forward (c.turn.ensures.turns.stands part kept wrapped)
+          stands_on part kept wrapped c.give.new.self c.turn.new.self bytes piece c.runs.at c.turn.new.at c.turn.ensures.turned.forward (c.turn.ensures.turned.turn.stands part kept wrapped)
           (c.give.ensures.given part kept wrapped (bytes ++ take c.runs.at piece) (c.runs.invariant.stands part kept wrapped bytes s)).stands;
       reads = λ part kept wrapped bytes s.
           read_here part kept wrapped c.runs.self c.give.new.self c.turn.new.self c.args.read.now c.runs.read c.give.new.read bytes piece (reads_given part kept c.args.self.now bytes) c.runs.at c.turn.new.at
-          (c.give.ensures.given part kept wrapped (bytes ++ take c.runs.at piece) (c.runs.invariant.stands part kept wrapped bytes s)) c.turn.ensures.forward (c.turn.ensures.turns.silent part kept wrapped) (c.runs.invariant.reads part kept wrapped bytes s);
+          (c.give.ensures.given part kept wrapped (bytes ++ take c.runs.at piece) (c.runs.invariant.stands part kept wrapped bytes s)) c.turn.ensures.turned.forward (c.turn.ensures.turned.turn.silent part kept wrapped) (c.runs.invariant.reads part kept wrapped bytes s);
       first = λ part kept wrapped bytes s. (
           let taken : List ℕ = bytes ++ take c.runs.at c.args.piece.now in
           let gives = c.give.ensures.given part kept wrapped taken (c.runs.invariant.stands part kept wrapped bytes s) in
           let due : NoWordDue c.give.new.self = c.give.ensures.none_left.0 c.if-not-give.false in
-          room_read_on part kept wrapped c.give.new.self c.turn.new.self c.args.read.now c.give.new.read bytes c.args.piece.now (reads_given part kept c.args.self.now bytes) c.runs.at c.turn.new.at c.turn.ensures.forward c.turn.ensures.within
-          c.give.ensures.going due gives.stands (c.turn.ensures.turns.stands part kept wrapped taken gives.stands) (c.turn.ensures.turns.commands part kept wrapped taken gives.stands) c.holds_few.ensures
+          room_read_on part kept wrapped c.give.new.self c.turn.new.self c.args.read.now c.give.new.read bytes c.args.piece.now (reads_given part kept c.args.self.now bytes) c.runs.at c.turn.new.at c.turn.ensures.turned.forward c.turn.ensures.turned.within
+          c.give.ensures.going due gives.stands (c.turn.ensures.turned.turn.stands part kept wrapped taken gives.stands) (c.turn.ensures.turned.turn.commands part kept wrapped taken gives.stands) c.give.ensures.few
           (now_told part kept wrapped c.runs.self c.give.new.self c.args.read.now c.runs.read c.give.new.read taken (reads_given part kept c.args.self.now bytes) gives (c.runs.invariant.reads part kept wrapped bytes s))
           (c.runs.invariant.first part kept wrapped bytes s));
+      few = c.give.ensures.few;
       stopped = λ e. absurd (let none : true ≡ false = sym e ∙ ap (λ (d : DeviceState). is_some d.registers.stop) (sym (c.runs.invariant.stopped e).0) ∙ sym (ap (λ (o : Option Stop). is_some o) c.in_default.ensures) in cc);
     }

@@ -59,15 +59,15 @@ returns-then-has_begun-clause-ends c = λ part kept wrapped bytes s l. inr (sym 
 -- a turn
 pub returns-then-turn-clause-stands : goal.returns-then-turn-clause-stands
 returns-then-turn-clause-stands c = λ part kept wrapped bytes s.
-    stands_on part kept wrapped c.give.new.self c.turn.new.self bytes c.args.piece.now c.runs.at c.turn.new.at c.turn.ensures.forward (c.turn.ensures.turns.stands part kept wrapped)
+    stands_on part kept wrapped c.give.new.self c.turn.new.self bytes c.args.piece.now c.runs.at c.turn.new.at c.turn.ensures.turned.forward (c.turn.ensures.turned.turn.stands part kept wrapped)
     (c.give.ensures.given part kept wrapped (bytes ++ take c.runs.at c.args.piece.now) (c.runs.invariant.stands part kept wrapped bytes s)).stands
 
 pub returns-then-turn-clause-first : goal.returns-then-turn-clause-first
 returns-then-turn-clause-first c = λ part kept wrapped bytes s.
     let taken : List ℕ = bytes ++ take c.runs.at c.args.piece.now in
     let given : DeviceStandsFor part kept wrapped c.give.new.self taken = (c.give.ensures.given part kept wrapped taken (c.runs.invariant.stands part kept wrapped bytes s)).stands in
-    zero_on part kept wrapped c.give.new.self c.turn.new.self bytes c.args.piece.now c.runs.at c.turn.new.at c.turn.ensures.forward c.turn.ensures.within c.give.ensures.going given
-    (c.turn.ensures.turns.stands part kept wrapped taken given) (c.turn.ensures.turns.commands part kept wrapped taken given)
+    zero_on part kept wrapped c.give.new.self c.turn.new.self bytes c.args.piece.now c.runs.at c.turn.new.at c.turn.ensures.turned.forward c.turn.ensures.turned.within c.give.ensures.going given
+    (c.turn.ensures.turned.turn.stands part kept wrapped taken given) (c.turn.ensures.turned.turn.commands part kept wrapped taken given)
     (c.has_begun.ensures.not part kept wrapped taken given c.if-has_begun.false) (c.runs.invariant.first part kept wrapped bytes s)
 
 pub runs-preserved : goal.runs-preserved
@@ -76,21 +76,21 @@ runs-preserved c =
     let at : ℕ = c.turn.new.at in
     let same : c.give.new.self.taken ≡ c.runs.self.taken = c.give.ensures.taken in
     record {
-      within = c.turn.ensures.within;
-      part = c.turn.ensures.turns.part ∙ c.give.ensures.part ∙ c.runs.invariant.part;
-      taken = omega (arith, same, c.turn.ensures.taken, c.turn.ensures.forward, c.runs.invariant.taken);
-      fed = omega (arith, c.turn.ensures.fed, c.give.ensures.fed, c.runs.invariant.fed, c.turn.ensures.forward);
-      fits = omega (arith, same, c.turn.ensures.taken, c.turn.ensures.forward, c.turn.ensures.within, c.runs.invariant.fits);
+      within = c.turn.ensures.turned.within;
+      part = c.turn.ensures.turned.turn.part ∙ c.give.ensures.part ∙ c.runs.invariant.part;
+      taken = omega (arith, same, c.turn.ensures.turned.taken, c.turn.ensures.turned.forward, c.runs.invariant.taken);
+      fed = omega (arith, c.turn.ensures.turned.fed, c.give.ensures.fed, c.runs.invariant.fed, c.turn.ensures.turned.forward);
+      fits = omega (arith, same, c.turn.ensures.turned.taken, c.turn.ensures.turned.forward, c.turn.ensures.turned.within, c.runs.invariant.fits);
       drops = λ part kept wrapped bytes s.
           let given = c.give.ensures.given part kept wrapped (bytes ++ take c.runs.at piece) (c.runs.invariant.stands part kept wrapped bytes s) in
           ap (λ (b : ReadBufState). b.most) given.read_is ∙ c.runs.invariant.drops part kept wrapped bytes s;
       stands = λ part kept wrapped bytes s.
-          stands_on part kept wrapped c.give.new.self c.turn.new.self bytes piece c.runs.at at c.turn.ensures.forward (c.turn.ensures.turns.stands part kept wrapped)
+          stands_on part kept wrapped c.give.new.self c.turn.new.self bytes piece c.runs.at at c.turn.ensures.turned.forward (c.turn.ensures.turned.turn.stands part kept wrapped)
           (c.give.ensures.given part kept wrapped (bytes ++ take c.runs.at piece) (c.runs.invariant.stands part kept wrapped bytes s)).stands;
       first = λ part kept wrapped bytes s.
           let taken : List ℕ = bytes ++ take c.runs.at piece in
           let given : DeviceStandsFor part kept wrapped c.give.new.self taken = (c.give.ensures.given part kept wrapped taken (c.runs.invariant.stands part kept wrapped bytes s)).stands in
-          zero_on part kept wrapped c.give.new.self c.turn.new.self bytes piece c.runs.at at c.turn.ensures.forward c.turn.ensures.within c.give.ensures.going given
-          (c.turn.ensures.turns.stands part kept wrapped taken given) (c.turn.ensures.turns.commands part kept wrapped taken given)
+          zero_on part kept wrapped c.give.new.self c.turn.new.self bytes piece c.runs.at at c.turn.ensures.turned.forward c.turn.ensures.turned.within c.give.ensures.going given
+          (c.turn.ensures.turned.turn.stands part kept wrapped taken given) (c.turn.ensures.turned.turn.commands part kept wrapped taken given)
           (c.has_begun.ensures.not part kept wrapped taken given c.if-has_begun.false) (c.runs.invariant.first part kept wrapped bytes s);
     }

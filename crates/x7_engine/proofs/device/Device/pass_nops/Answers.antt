@@ -1,4 +1,4 @@
-use Rattle.std.proofs.Common.{◌≡◌, ◌+◌, ◌-◌, ◌*◌, ◌≤◌, ◌++◌, ℕ, Bool, List, length, take, drop, refl, sym, ap, subst, ◌∙◌, arith, length-drop}
+use Rattle.std.proofs.Common.{◌≡◌, ◌+◌, ◌-◌, ◌*◌, ◌≤◌, ◌++◌, ℕ, Bool, List, length, take, drop, refl, sym, ap, subst, ◌∙◌, arith, length-drop, rules}
 use Rattle.std.proofs.lemmas.List.{take_rest}
 use Rattle.x7_packets.specs.Cutting.{between}
 use Rattle.x7_packets.specs.History.{history_of}
@@ -6,9 +6,11 @@ use Rattle.x7_packets.specs.Nops.{Idles}
 use Rattle.x7_part.specs.Part.{PartData}
 use Rattle.x7_engine.specs.declared.kept.Kept.{Kept}
 use Rattle.x7_engine.specs.Standing.{DeviceStandsFor, DeviceState, due_count, registers_in}
+use Rattle.x7_engine.specs.Past.{GivesNone, Takes}
 use Rattle.x7_engine.specs.State.{reads_of}
 use Rattle.x7_engine.proofs.DeviceLemmas.{between_front, length_between}
 use Rattle.x7_engine.proofs.PassLemmas.{passed, told_same}
+use Rattle.x7_engine.proofs.UntilLemmas.{quiet_commands}
 use Rattle.x7_engine.proofs.device.Device.pass_nops.Goals as goal
 
 -- the device before the no-ops, and behind them
@@ -35,7 +37,7 @@ passed_here c kept wrapped bytes s =
     let left : ℕ = c.tick-left.result in
     let cut : List ℕ = between piece from (from + count) in
     let more : List ℕ = between piece from (from + (count - left)) in
-    let few : left ≤ count = c.tick-left.ensures.within in
+    let few : left ≤ count = c.tick-left.ensures.left.within in
     let rest_is : length (take (length piece - from) (drop from piece)) ≡ length piece - from = ap length (take_rest piece from) ∙ length-drop from piece in
     let room : count ≤ length piece - from = omega (arith, c.nop_count-count.ensures.within, rest_is) in
     let within : from + count ≤ length piece = omega (arith, room, c.requires.within) in
@@ -52,18 +54,18 @@ passed_here c kept wrapped bytes s =
     (ap (λ (d : DeviceState). due_count d.registers.due) c.self.view_is ∙ c.requires.none_due)
     (λ sessions place i. subst (λ (b : List ℕ). Idles c.self.inside.cutter (bytes ++ b) sessions place) prefix (c.nop_count-count.ensures.idles bytes sessions place i))
     (c.tick-left.ensures.stands kept) (sym all) split (length-drop (from + count - left - from) cut ∙ omega (arith, all, few))
-    c.tick-left.ensures.goes_on c.tick-left.ensures.fired refl refl refl (omega (arith, taken))
+    c.tick-left.ensures.left.goes_on c.tick-left.ensures.fired refl refl refl (omega (arith, taken))
     (ap due_count c.tick-left.ensures.due ∙ ap (λ (d : DeviceState). due_count d.registers.due) c.self.view_is ∙ c.requires.none_due)
 
-pub returns-clause-stands : goal.returns-clause-stands
-returns-clause-stands c = λ part kept wrapped bytes s.
+stands_after : (c : goal.After-self-2-1) → Takes c.args.self.now (device_after c) (between c.args.piece.now c.args.at.now (c.args.at.now + ((4 * c.nop_count-count.result) - c.tick-left.result)))
+stands_after c = λ part kept wrapped bytes s.
     let here : c.self.inside.part ≡ part = ap (λ (d : DeviceState). d.part) c.self.view_is ∙ s.part_is in
     let more : List ℕ = between c.args.piece.now c.args.at.now (c.args.at.now + ((4 * c.nop_count-count.result) - c.tick-left.result)) in
     subst (λ (p : PartData). DeviceStandsFor p kept wrapped (device_after c) (bytes ++ more)) here
     (passed_here c kept wrapped bytes (subst (λ (p : PartData). DeviceStandsFor p kept wrapped c.args.self.now bytes) (sym here) s)).0
 
-pub returns-clause-silent : goal.returns-clause-silent
-returns-clause-silent c = λ part kept wrapped bytes s.
+silent_after : (c : goal.After-self-2-1) → GivesNone c.args.self.now (device_after c) (between c.args.piece.now c.args.at.now (c.args.at.now + ((4 * c.nop_count-count.result) - c.tick-left.result)))
+silent_after c = λ part kept wrapped bytes s.
     let here : c.self.inside.part ≡ part = ap (λ (d : DeviceState). d.part) c.self.view_is ∙ s.part_is in
     let more : List ℕ = between c.args.piece.now c.args.at.now (c.args.at.now + ((4 * c.nop_count-count.result) - c.tick-left.result)) in
     told_same part kept c.args.self.now (device_after c) bytes (bytes ++ more) c.requires.none_due
@@ -75,3 +77,18 @@ pub returns-clause-quiet : goal.returns-clause-quiet
 returns-clause-quiet c = λ part kept wrapped bytes s.
     let here : c.self.inside.part ≡ part = ap (λ (d : DeviceState). d.part) c.self.view_is ∙ s.part_is in
     (passed_here c kept wrapped bytes (subst (λ (p : PartData). DeviceStandsFor p kept wrapped c.args.self.now bytes) (sym here) s)).2
+
+pub returns-clause-turned : goal.returns-clause-turned
+returns-clause-turned c = record {
+  forward = search rules;
+  within = search rules;
+  taken = search rules;
+  fed = search rules;
+  turn = record {
+    part = ap (λ (d : DeviceState). d.part) c.self.view_is;
+    stands = stands_after c;
+    silent = silent_after c;
+    commands = λ part kept wrapped bytes s.
+        quiet_commands bytes (between c.args.piece.now c.args.at.now (c.args.at.now + ((4 * c.nop_count-count.result) - c.tick-left.result))) (stands_after c part kept wrapped bytes s).fits (returns-clause-quiet c part kept wrapped bytes s);
+  };
+}

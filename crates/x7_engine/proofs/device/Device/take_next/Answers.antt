@@ -1,9 +1,10 @@
-use Rattle.std.proofs.Common.{◌≡◌, ◌++◌, ℕ, List, sym, ap, subst, ◌∙◌, append_assoc}
+use Rattle.std.proofs.Common.{◌≡◌, ◌++◌, ℕ, List, sym, ap, subst, ◌∙◌, append_assoc, rules}
 use Rattle.x7_packets.specs.Cutting.{between}
 use Rattle.x7_engine.specs.Standing.{DeviceStandsFor, reads_given}
+use Rattle.x7_engine.specs.Turns.{TakesTurn}
 use Rattle.x7_engine.specs.UntilStarted.{CommandsLast}
 use Rattle.x7_engine.proofs.PassLemmas.{between_join}
-use Rattle.x7_engine.proofs.UntilLemmas.{quiet_commands, then_commands}
+use Rattle.x7_engine.proofs.UntilLemmas.{then_commands}
 use Rattle.x7_engine.proofs.device.Device.take_next.Goals as goal
 
 -- the bytes of the no-ops, and then those of the run
@@ -11,31 +12,31 @@ joined : (c : goal.After-take_run) (bytes : List ℕ)
     → (bytes ++ between c.args.piece.now c.args.at.now c.pass_nops.new.at) ++ between c.args.piece.now c.pass_nops.new.at c.take_run.new.at ≡ bytes ++ between c.args.piece.now c.args.at.now c.take_run.new.at
 joined c bytes =
     append_assoc bytes (between c.args.piece.now c.args.at.now c.pass_nops.new.at) (between c.args.piece.now c.pass_nops.new.at c.take_run.new.at)
-    ∙ ap (λ (t : List ℕ). bytes ++ t) (between_join c.args.piece.now c.args.at.now c.pass_nops.new.at c.take_run.new.at c.pass_nops.ensures.forward c.take_run.ensures.forward)
+    ∙ ap (λ (t : List ℕ). bytes ++ t) (between_join c.args.piece.now c.args.at.now c.pass_nops.new.at c.take_run.new.at c.pass_nops.ensures.turned.forward c.take_run.ensures.turned.forward)
 
-pub returns-then-has_stopped-clause-turns : goal.returns-then-has_stopped-clause-turns
-returns-then-has_stopped-clause-turns c = record {
-  part = c.pass_nops.ensures.part;
-  stands = c.pass_nops.ensures.stands;
-  silent = c.pass_nops.ensures.silent;
-  commands = λ part kept wrapped bytes s.
-      quiet_commands bytes (between c.args.piece.now c.args.at.now c.pass_nops.new.at) (c.pass_nops.ensures.stands part kept wrapped bytes s).fits (c.pass_nops.ensures.quiet part kept wrapped bytes s);
-}
-
-pub returns-clause-turns : goal.returns-clause-turns
-returns-clause-turns c =
+turn_taken : (c : goal.After-take_run) → TakesTurn c.args.self.now c.take_run.new.self (between c.args.piece.now c.args.at.now c.take_run.new.at)
+turn_taken c =
     let nops : List ℕ = between c.args.piece.now c.args.at.now c.pass_nops.new.at in
     let run : List ℕ = between c.args.piece.now c.pass_nops.new.at c.take_run.new.at in
     record {
-      part = c.take_run.ensures.turns.part ∙ c.pass_nops.ensures.part;
+      part = c.take_run.ensures.turned.turn.part ∙ c.pass_nops.ensures.turned.turn.part;
       stands = λ part kept wrapped bytes s.
-          subst (λ (t : List ℕ). DeviceStandsFor part kept wrapped c.take_run.new.self t) (joined c bytes) (c.take_run.ensures.turns.stands part kept wrapped (bytes ++ nops) (c.pass_nops.ensures.stands part kept wrapped bytes s));
+          subst (λ (t : List ℕ). DeviceStandsFor part kept wrapped c.take_run.new.self t) (joined c bytes) (c.take_run.ensures.turned.turn.stands part kept wrapped (bytes ++ nops) (c.pass_nops.ensures.turned.turn.stands part kept wrapped bytes s));
       silent = λ part kept wrapped bytes s.
           ap (reads_given part kept c.take_run.new.self) (sym (joined c bytes))
-          ∙ c.take_run.ensures.turns.silent part kept wrapped (bytes ++ nops) (c.pass_nops.ensures.stands part kept wrapped bytes s)
-          ∙ c.pass_nops.ensures.silent part kept wrapped bytes s;
+          ∙ c.take_run.ensures.turned.turn.silent part kept wrapped (bytes ++ nops) (c.pass_nops.ensures.turned.turn.stands part kept wrapped bytes s)
+          ∙ c.pass_nops.ensures.turned.turn.silent part kept wrapped bytes s;
       commands = λ part kept wrapped bytes s. (
-          let stands = c.pass_nops.ensures.stands part kept wrapped bytes s in
-          subst (CommandsLast bytes) (between_join c.args.piece.now c.args.at.now c.pass_nops.new.at c.take_run.new.at c.pass_nops.ensures.forward c.take_run.ensures.forward)
-          (then_commands bytes nops run stands.fits (c.pass_nops.ensures.quiet part kept wrapped bytes s) (c.take_run.ensures.turns.commands part kept wrapped (bytes ++ nops) stands)));
+          let stands = c.pass_nops.ensures.turned.turn.stands part kept wrapped bytes s in
+          subst (CommandsLast bytes) (between_join c.args.piece.now c.args.at.now c.pass_nops.new.at c.take_run.new.at c.pass_nops.ensures.turned.forward c.take_run.ensures.turned.forward)
+          (then_commands bytes nops run stands.fits (c.pass_nops.ensures.quiet part kept wrapped bytes s) (c.take_run.ensures.turned.turn.commands part kept wrapped (bytes ++ nops) stands)));
     }
+
+pub returns-clause-turned : goal.returns-clause-turned
+returns-clause-turned c = record {
+  forward = search rules;
+  within = search rules;
+  taken = search rules;
+  fed = search rules;
+  turn = turn_taken c;
+}

@@ -1,9 +1,10 @@
-use Rattle.std.proofs.Common.{◌≡◌, ◌+◌, ◌-◌, ◌≤◌, ◌++◌, ℕ, List, [], length, drop, refl, sym, ap, subst, ◌∙◌, arith, length-drop, Bool}
+use Rattle.std.proofs.Common.{◌≡◌, ◌+◌, ◌-◌, ◌≤◌, ◌++◌, ℕ, List, [], length, drop, refl, sym, ap, subst, ◌∙◌, arith, length-drop, Bool, rules}
 use Rattle.x7_packets.specs.Cutting.{between}
 use Rattle.x7_part.specs.Part.{PartData}
 use Rattle.x7_engine.specs.declared.kept.Kept.{Kept}
 use Rattle.x7_engine.specs.Standing.{DeviceStandsFor, DeviceState, IsCutterOf, registers_in, words_left}
 use Rattle.x7_engine.specs.State.{history_taken, reads_of}
+use Rattle.x7_engine.specs.Turns.{TakesTurn}
 use Rattle.x7_engine.proofs.DeviceLemmas.{between_front, holds_run, length_between, told_by, turned}
 use Rattle.x7_engine.proofs.FrameLemmas.{none_due}
 use Rattle.x7_engine.proofs.UntilLemmas.{front_commands, run_commands}
@@ -40,7 +41,7 @@ turned_here c kept wrapped bytes s =
     let left : ℕ = c.run-left.result in
     let cut : List ℕ = between piece from at in
     let more : List ℕ = between piece from (at - left) in
-    let some : left ≤ at - from = c.run-left.ensures.within in
+    let some : left ≤ at - from = c.run-left.ensures.left.within in
     let onward : from ≤ at = c.cut-run.ensures.forward in
     let forward : from ≤ at - left = omega (arith, some, onward) in
     let all : length cut ≡ at - from = length_between piece from at c.cut-run.ensures.forward c.cut-run.ensures.within in
@@ -50,10 +51,10 @@ turned_here c kept wrapped bytes s =
     (ap (λ (d : DeviceState). d.registers.stop) c.self.view_is ∙ c.requires.going)
     (c.cut-run.ensures.adds bytes) (c.run-left.ensures.stands kept) (c.run-left.ensures.reads kept)
     (sym all) (between_front piece from at left forward) (length-drop (at - left - from) cut ∙ omega (arith, all, some)) c.cut-run.ensures.run c.cut-run.ensures.lent
-    c.run-left.ensures.goes_on c.run-left.ensures.at_rest refl refl (omega (arith, taken))
+    c.run-left.ensures.left.goes_on c.run-left.ensures.at_rest refl refl (omega (arith, taken))
 
-pub returns-clause-turns : goal.returns-clause-turns
-returns-clause-turns c = record {
+turn_taken : (c : goal.After-is_done) → TakesTurn c.args.self.now (device_after c) (between c.args.piece.now c.args.at.now (c.cut-run.new.at - c.run-left.result))
+turn_taken c = record {
   part = ap (λ (d : DeviceState). d.part) c.self.view_is;
   stands = λ part kept wrapped bytes s. (
       let here : c.self.inside.part ≡ part = ap (λ (d : DeviceState). d.part) c.self.view_is ∙ s.part_is in
@@ -75,9 +76,18 @@ returns-clause-turns c = record {
       let left : ℕ = c.run-left.result in
       let inside : DeviceStandsFor part kept wrapped (device_before c) bytes = subst (λ (d : DeviceState). DeviceStandsFor part kept wrapped d bytes) (sym c.self.view_is) s in
       let cutter : IsCutterOf c.self.inside.cutter bytes = inside.cutter_is (ap (λ (d : DeviceState). d.registers.stop) c.self.view_is ∙ c.requires.going) in
-      let some : left ≤ at - from = c.run-left.ensures.within in
+      let some : left ≤ at - from = c.run-left.ensures.left.within in
       let onward : from ≤ at = c.cut-run.ensures.forward in
       front_commands bytes (between piece from at) (between piece from (at - left)) (drop (at - left - from) (between piece from at)) (between_front piece from at left (omega (arith, some, onward)))
       (run_commands c.self.inside.cutter c.cut-run.new.self bytes (between piece from at) cutter.sessions cutter.place c.cut-run.result (length piece - from) cutter.stands
       (c.cut-run.ensures.adds bytes cutter.sessions cutter.place cutter.stands) c.cut-run.ensures.run c.cut-run.ensures.lent));
+}
+
+pub returns-clause-turned : goal.returns-clause-turned
+returns-clause-turned c = record {
+  forward = search rules;
+  within = search rules;
+  taken = search rules;
+  fed = search rules;
+  turn = turn_taken c;
 }

@@ -1,9 +1,10 @@
-use Rattle.std.proofs.Common.{◌≡◌, ◌+◌, ◌++◌, ℕ, Bool, List, refl, sym, ap, subst, ◌∙◌}
+use Rattle.std.proofs.Common.{◌≡◌, ◌+◌, ◌++◌, ℕ, Bool, List, refl, sym, ap, subst, ◌∙◌, rules}
 use Rattle.x7_packets.specs.Cutting.{between}
 use Rattle.x7_part.specs.Part.{PartData}
 use Rattle.x7_engine.specs.declared.kept.Kept.{Kept}
 use Rattle.x7_engine.specs.Standing.{DeviceStandsFor, DeviceState, due_count, registers_in}
 use Rattle.x7_engine.specs.State.{reads_of}
+use Rattle.x7_engine.specs.Turns.{TakesTurn}
 use Rattle.x7_engine.specs.UntilStarted.{CommandsLast}
 use Rattle.x7_engine.proofs.PassLemmas.{told_same}
 use Rattle.x7_engine.proofs.WriteLemmas.{write_at}
@@ -24,7 +25,7 @@ device_after c = record {
 }
 
 none_due : (c : goal.After-self-2-1) → due_count c.write_to.new.self.due ≡ 0
-none_due c = ap due_count c.write_to.ensures.due ∙ ap (λ (d : DeviceState). due_count d.registers.due) c.self.view_is ∙ c.requires.none_due
+none_due c = ap due_count c.write_to.ensures.leaves.due ∙ ap (λ (d : DeviceState). due_count d.registers.due) c.self.view_is ∙ c.requires.none_due
 
 written_here : (c : goal.After-self-2-1) (part : PartData) (kept : Kept) (wrapped : Bool) (bytes : List ℕ) → DeviceStandsFor part kept wrapped c.args.self.now bytes
     → (let more : List ℕ = between c.args.piece.now c.args.at.now (c.args.at.now + 8) in
@@ -41,11 +42,20 @@ written_here c given kept wrapped bytes s =
     (c.is_idle.ensures.begun c.if-not-is_idle.false) (c.is_idle.ensures.limit c.if-not-is_idle.false)
     c.in-Some.ensures.some (c.write_to.ensures.stands kept) c.write_to.ensures.counts (none_due c) refl refl refl)
 
-pub returns-clause-turns : goal.returns-clause-turns
-returns-clause-turns c = λ t. record {
+turn_taken : (c : goal.After-self-2-1) → TakesTurn c.args.self.now (device_after c) (between c.args.piece.now c.args.at.now (c.args.at.now + 8))
+turn_taken c = record {
   part = ap (λ (d : DeviceState). d.part) c.self.view_is;
   stands = λ part kept wrapped bytes s. (written_here c part kept wrapped bytes s).0;
   silent = λ part kept wrapped bytes s.
       told_same part kept c.args.self.now (device_after c) bytes (bytes ++ between c.args.piece.now c.args.at.now (c.args.at.now + 8)) c.requires.none_due (none_due c) (written_here c part kept wrapped bytes s).1;
   commands = λ part kept wrapped bytes s. (written_here c part kept wrapped bytes s).2;
+}
+
+pub returns-clause-turned : goal.returns-clause-turned
+returns-clause-turned c = λ t. record {
+  forward = search rules;
+  within = search rules;
+  taken = search rules;
+  fed = search rules;
+  turn = turn_taken c;
 }

@@ -7,10 +7,10 @@ use Rattle.x7_engine.proofs.registers.Registers.each.Goals as goal
 
 pub loop-word-init : goal.loop-word-init
 loop-word-init c = record {
-  going = c.requires.going;
+  going = c.requires.ready.going;
   count = refl;
   due = refl;
-  frames = c.requires.frames;
+  frames = c.requires.ready.frames;
   stands = λ kept h n s. let none : n ≡ n + 0 = omega arith in subst (λ (m : ℕ). RegistersStandFor c.args.part.now kept (registers_in c.args.self.now) h m) none s;
 }
 
@@ -21,7 +21,7 @@ returns-then-is_some-clause-stands c = λ kept h n s.
     chunk_word c.args.bytes.now c.as_chunks.result.0.now c.loop-word.word-index c.word_of.result c.as_chunks.ensures.front c.loop-word-test.true c.word_of.ensures.value in
     let few : c.loop-word.word-index < length ws = let all : length ws ≡ length c.as_chunks.result.0.now = chunks_are c.args.bytes.now c.as_chunks.result.0.now c.as_chunks.ensures.front in omega (arith, all, c.loop-word-test.true) in
     word_after c.args.part.now kept (registers_in c.loop-word.self) (registers_in c.word-left.new.self) c.args.register n c.loop-word.word-index c.word_of.result c.word-left.result c.loop-word.taken (n + (c.loop-word.taken + (4 - c.word-left.result))) ws h
-    word few c.loop-word.invariant.count c.word-left.ensures.within refl (c.word-left.ensures.stands kept) (c.loop-word.invariant.stands kept h n s)
+    word few c.loop-word.invariant.count c.word-left.ensures.left.within refl (c.word-left.ensures.stands kept) (c.loop-word.invariant.stands kept h n s)
 
 pub loop-word-preserved : goal.loop-word-preserved
 loop-word-preserved c =
@@ -30,12 +30,12 @@ loop-word-preserved c =
     chunk_word c.args.bytes.now c.as_chunks.result.0.now c.loop-word.word-index c.word_of.result c.as_chunks.ensures.front c.loop-word-test.true c.word_of.ensures.value in
     let few : c.loop-word.word-index < length ws = let all : length ws ≡ length c.as_chunks.result.0.now = chunks_are c.args.bytes.now c.as_chunks.result.0.now c.as_chunks.ensures.front in omega (arith, all, c.loop-word-test.true) in
     let going : c.word-left.new.self.stop ≡ None = none_there c.word-left.new.self.stop (sym c.is_some.ensures ∙ c.if-is_some.false) in
-    let none : c.word-left.result ≡ 0 = c.word-left.ensures.goes_on going in
+    let none : c.word-left.result ≡ 0 = c.word-left.ensures.left.goes_on going in
     record {
       going = going;
       count = omega (arith, c.loop-word.invariant.count, none);
-      due = c.word-left.ensures.due ∙ c.loop-word.invariant.due;
-      frames = c.word-left.ensures.frames;
+      due = c.word-left.ensures.leaves.due ∙ c.loop-word.invariant.due;
+      frames = c.word-left.ensures.leaves.frames;
       stands = λ kept h n s.
           word_on c.args.part.now kept (registers_in c.loop-word.self) (registers_in c.word-left.new.self) c.args.register n c.loop-word.word-index c.word_of.result c.word-left.result c.loop-word.taken (n + (c.loop-word.taken + (4 - c.word-left.result))) ws h
           word few c.loop-word.invariant.count none refl going (c.word-left.ensures.stands kept) (c.loop-word.invariant.stands kept h n s);

@@ -17,11 +17,11 @@ returns-then-is_some-clause-stands c = λ kept h n some s.
 pub returns-then-is_some-clause-reads : goal.returns-then-is_some-clause-reads
 returns-then-is_some-clause-reads c = λ kept h n some s.
     ap (read_out c.args.part.now kept) (fired_until c.tick-left.new.self.stop n c.args.count c.tick-left.result c.args.step h (sym c.is_some.ensures ∙ c.if-is_some.true) c.tick-left.ensures.fired s.places)
-    ∙ none_due (read_out c.args.part.now kept h) c.args.part.now _ c.tick-left.new.self.due (ap due_count c.tick-left.ensures.due ∙ c.requires.none_due)
+    ∙ none_due (read_out c.args.part.now kept h) c.args.part.now _ c.tick-left.new.self.due (ap due_count c.tick-left.ensures.due ∙ c.requires.ready.none_due)
 
 before : (c : goal.After-head) (n : ℕ) → n + (c.args.count - c.tick-left.result) ≡ n + c.args.count
 before c n =
-    let none : c.tick-left.result ≡ 0 = c.tick-left.ensures.goes_on (none_there c.tick-left.new.self.stop (sym c.is_some.ensures ∙ c.if-is_some.false)) in
+    let none : c.tick-left.result ≡ 0 = c.tick-left.ensures.left.goes_on (none_there c.tick-left.new.self.stop (sym c.is_some.ensures ∙ c.if-is_some.false)) in
     omega (arith, none)
 
 pub returns-clause-stands : goal.returns-clause-stands

@@ -47,6 +47,6 @@ returns-clause-stands c = λ kept h n four s.
       before = t.before;
       clock = clocked.clock;
       stop = clocked.stop;
-      frames = plain_are part c.tick-left.new.self.frames c.tick-left.new.self.stop c.args.register n prefix h c.tick-left.new.self.due p (ticks_on c.tick-left.new.self.stop _ c.tick-left.ensures.fired) (ap due_count c.tick-left.ensures.due ∙ c.requires.none_due) t.frames;
-      due_kind = none_among c.tick-left.new.self.due (entered_all n (payload_steps c.args.register prefix) h) (ap due_count c.tick-left.ensures.due ∙ c.requires.none_due);
+      frames = plain_are part c.tick-left.new.self.frames c.tick-left.new.self.stop c.args.register n prefix h c.tick-left.new.self.due p (ticks_on c.tick-left.new.self.stop _ c.tick-left.ensures.fired) (ap due_count c.tick-left.ensures.due ∙ c.requires.ready.none_due) t.frames;
+      due_kind = none_among c.tick-left.new.self.due (entered_all n (payload_steps c.args.register prefix) h) (ap due_count c.tick-left.ensures.due ∙ c.requires.ready.none_due);
     }

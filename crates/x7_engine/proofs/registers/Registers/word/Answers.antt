@@ -13,12 +13,12 @@ returns-then-is_some-clause-stands c = λ kept h n some s.
     (sym (fired_until c.tick-left.new.self.stop n c.args.count left (Payload c.args.register c.args.word) h (sym c.is_some.ensures ∙ c.if-is_some.true) c.tick-left.ensures.fired s.places))
     (c.tick-left.ensures.stands kept h n s)
 
-pub returns-clause-goes_on : goal.returns-clause-goes_on
-returns-clause-goes_on c = λ e. omega arith
+pub returns-clause-left : goal.returns-clause-left
+returns-clause-left c = record { within = omega arith; goes_on = λ e. omega arith }
 
 pub returns-clause-stands : goal.returns-clause-stands
 returns-clause-stands c = λ kept h n some s.
-    let none : c.tick-left.result ≡ 0 = c.tick-left.ensures.goes_on (none_there c.tick-left.new.self.stop (sym c.is_some.ensures ∙ c.if-is_some.false)) in
+    let none : c.tick-left.result ≡ 0 = c.tick-left.ensures.left.goes_on (none_there c.tick-left.new.self.stop (sym c.is_some.ensures ∙ c.if-is_some.false)) in
     let all : n + (c.args.count - c.tick-left.result) ≡ n + c.args.count = omega (arith, none) in
     let same : n + c.args.count ≡ n + (c.args.count - 0) = omega arith in
     let before : RegistersStandFor c.args.part.now kept (registers_in c.tick-left.new.self) h (n + c.args.count) =
