@@ -10,9 +10,10 @@ use Rattle.x7_engine.specs.declared.fed.Fed.{Fed}
 use Rattle.x7_engine.specs.declared.fed.Fed.TheVariants as fed
 use Rattle.x7_engine.specs.Kept.{on_the_bench}
 use Rattle.x7_engine.specs.Past.{Answers, past_of}
+use Rattle.x7_engine.specs.ReadBuffer.{HoldsFew, ReadBufState, no_room, with_words}
 use Rattle.x7_engine.specs.Standing.{DeviceStandsFor, DeviceState, NoWordDue, taken_in}
 use Rattle.x7_engine.specs.State.{reads_of, stop_in}
-use Rattle.x7_engine.specs.UntilRead.{ReadBefore, no_room}
+use Rattle.x7_engine.specs.UntilRead.{RoomBefore}
 use Rattle.x7_engine.proofs.ReadsLemmas.{reads_grow}
 use Rattle.x7_jtag.specs.Port.{words_read}
 use Rattle.x7_jtag.specs.Queue.{Queue, dropped, in_turn, most_held, offered, waits, with_room, queue_of}
@@ -87,11 +88,13 @@ quiet-whole part e given bytes piece words took due is k =
     reads_grow part on_the_bench (given ++ take k piece) (drop k piece) (subst AreBytes (sym joined) took.fits) in
     omega (arith, ap length grown.1, length-append (reads_of part on_the_bench (given ++ take k piece)) grown.0, ap (λ (b : List ℕ). length (reads_of part on_the_bench b)) joined, ap length all)
 
--- and where one is due it comes with the last byte
-quiet-before : (part : PartData) (given bytes piece words : List ℕ) (n : ℕ) → n ≤ length piece → given ≡ bytes → ReadBefore (record { part = part; kept = on_the_bench; wrapped = false; bytes = bytes }) piece n words → (k : ℕ) → k < n → length (words_read part (given ++ take k (take n piece))) ≤ length words
+-- where a word is due, none has room before the last byte
+quiet-before : (part : PartData) (given bytes piece words : List ℕ) (n : ℕ) → n ≤ length piece → given ≡ bytes → RoomBefore (record { part = part; kept = on_the_bench; wrapped = false; bytes = bytes }) piece n words no_room → (k : ℕ) → k < n → length (words_read part (given ++ take k (take n piece))) ≤ length words
 quiet-before part given bytes piece words n m is before k l =
     let same : given ++ take k (take n piece) ≡ bytes ++ take k piece = ap (λ (x : List ℕ). given ++ x) (take-take k n piece (omega (arith, l))) ∙ ap (λ (g : List ℕ). g ++ take k piece) is in
-    omega (arith, ap (λ (b : List ℕ). length (reads_of part on_the_bench b)) same, ap length (before k l))
+    let r = before k l in
+    let none : 0 + length r.0 ≤ 0 = r.2 in
+    omega (arith, ap (λ (b : List ℕ). length (reads_of part on_the_bench b)) same, ap length r.1, length-append words r.0, none)
 
 -- a device that took a byte had no stop, so all that was given was taken
 given-is : (part : PartData) (given bytes : List ℕ) (n : ℕ) → (t : Took part given bytes) → (IsSome (stop_in part on_the_bench bytes) → n ≡ 0) → 0 < n → given ≡ bytes
@@ -123,7 +126,7 @@ module _ (part : PartData) (k : QueueState) (d e : DeviceState) (q : Queue) (pie
 
   given-front : (n : ℕ) → (s : QueueStandsFor part k d q) → k.left ≡ 0 → AreBytes piece → n ≤ length piece → DeviceStandsFor part on_the_bench false e (s.holds.bytes ++ take n piece)
       → words_taken part e (s.holds.bytes ++ take n piece) ≡ words_taken part d s.holds.bytes → (IsSome (stop_in part on_the_bench s.holds.bytes) → n ≡ 0)
-      → ReadBefore (record { part = part; kept = on_the_bench; wrapped = false; bytes = s.holds.bytes }) piece n (words_taken part d s.holds.bytes) → Given part k d e q piece n
+      → RoomBefore (record { part = part; kept = on_the_bench; wrapped = false; bytes = s.holds.bytes }) piece n (words_taken part d s.holds.bytes) no_room → Given part k d e q piece n
   given-front n s z f l stands same stopped before =
       let h : Holds part k d q = s.holds in
       let took : Took part (q.given ++ take n piece) (h.bytes ++ take n piece) = took-piece part q.given h.bytes piece n n f (omega arith) l h.took stopped (inr refl) in
@@ -136,29 +139,36 @@ module _ (part : PartData) (k : QueueState) (d e : DeviceState) (q : Queue) (pie
             (quiet-before part q.given h.bytes piece (words_taken part d h.bytes) n l (given-is part q.given h.bytes n h.took stopped (omega (arith, inside))) before i inside) (omega (arith, h.out_is, z));
       }
 
-  given-by : (f : Fed) → (s : QueueStandsFor part k d q) → k.left ≡ 0 → AreBytes piece → taken_in (length piece) f ≤ length piece
+  given-by : (f : Fed) (read : ReadBufState) → (s : QueueStandsFor part k d q) → k.left ≡ 0 → AreBytes piece → taken_in (length piece) f ≤ length piece
       → DeviceStandsFor part on_the_bench false e (s.holds.bytes ++ take (taken_in (length piece) f) piece)
-      → Answers (past_of part on_the_bench false (s.holds.bytes ++ take (taken_in (length piece) f) piece)) e no_room f
+      → Answers (past_of part on_the_bench false (s.holds.bytes ++ take (taken_in (length piece) f) piece)) e read f
       → words_taken part e (s.holds.bytes ++ take (taken_in (length piece) f) piece) ≡ words_taken part d s.holds.bytes
-      → ReadBefore (record { part = part; kept = on_the_bench; wrapped = false; bytes = s.holds.bytes }) piece (taken_in (length piece) f) (words_taken part d s.holds.bytes)
+      → RoomBefore (record { part = part; kept = on_the_bench; wrapped = false; bytes = s.holds.bytes }) piece (taken_in (length piece) f) (words_taken part d s.holds.bytes) no_room
       → (IsSome (stop_in part on_the_bench s.holds.bytes) → taken_in (length piece) f ≡ 0) → Given part k d e q piece (given_by f (length piece))
-  given-by fed.All s z b l stands a same before stopped = given-whole (length piece) s z b l stands a.1 (inr refl) same stopped
-  given-by (fed.Stopped n) s z b l stands a same before stopped = given-whole n s z b l stands a.2 (inl (ap is_some a.1)) same stopped
-  given-by (fed.Iprog n) s z b l stands a same before stopped = given-whole n s z b l stands a.1 (inl (ap is_some a.0)) same stopped
-  given-by (fed.ReadFull n) s z b l stands a same before stopped = given-front n s z b l stands same stopped before
+  given-by fed.All read s z b l stands a same before stopped = given-whole (length piece) s z b l stands a.1 (inr refl) same stopped
+  given-by (fed.Stopped n) read s z b l stands a same before stopped = given-whole n s z b l stands a.2 (inl (ap is_some a.1)) same stopped
+  given-by (fed.Iprog n) read s z b l stands a same before stopped = given-whole n s z b l stands a.1 (inl (ap is_some a.0)) same stopped
+  given-by (fed.ReadFull n) read s z b l stands a same before stopped = given-front n s z b l stands same stopped before
+
+-- a buffer without room gets no word
+pub none-got : (words : List ℕ) (read : ReadBufState) → read ≡ with_words no_room words → HoldsFew read.most read.words → words ≡ []
+none-got [] read e f = refl
+none-got (w ∷ words) read e f =
+    let few : suc (length words) ≤ 0 = subst (λ (b : ReadBufState). HoldsFew b.most b.words) e f in
+    absurd (omega (arith, few))
 
 -- a piece is given, and then the word that it reads out is taken
-pub gives : (part : PartData) (k n : QueueState) (d e g : DeviceState) (q : Queue) (piece : List ℕ) (f : Fed) (count : ℕ) → (s : QueueStandsFor part k d q) → k.left ≡ 0 → AreBytes piece → taken_in (length piece) f ≤ length piece
+pub gives : (part : PartData) (k n : QueueState) (d e g : DeviceState) (q : Queue) (piece : List ℕ) (read : ReadBufState) (f : Fed) (count : ℕ) → (s : QueueStandsFor part k d q) → k.left ≡ 0 → AreBytes piece → taken_in (length piece) f ≤ length piece
     → DeviceStandsFor part on_the_bench false e (s.holds.bytes ++ take (taken_in (length piece) f) piece)
-    → Answers (past_of part on_the_bench false (s.holds.bytes ++ take (taken_in (length piece) f) piece)) e no_room f
+    → Answers (past_of part on_the_bench false (s.holds.bytes ++ take (taken_in (length piece) f) piece)) e read f
     → words_taken part e (s.holds.bytes ++ take (taken_in (length piece) f) piece) ≡ words_taken part d s.holds.bytes
-    → ReadBefore (record { part = part; kept = on_the_bench; wrapped = false; bytes = s.holds.bytes }) piece (taken_in (length piece) f) (words_taken part d s.holds.bytes)
+    → RoomBefore (record { part = part; kept = on_the_bench; wrapped = false; bytes = s.holds.bytes }) piece (taken_in (length piece) f) (words_taken part d s.holds.bytes) no_room
     → (IsSome (stop_in part on_the_bench s.holds.bytes) → (e ≡ d) × (taken_in (length piece) f ≡ 0)) → count ≡ given_by f (length piece)
     → ((given held : List ℕ) (out : ℕ) → Holds part k e (queue_of given held out) → QueueStandsFor part n g (queue_of (given ++ []) held out))
     → QueueStandsFor part n g (fold (offered (words_read part)) q (take count piece))
-gives part k n d e g q piece f count s z b l stands a same before stopped is next =
+gives part k n d e g q piece read f count s z b l stands a same before stopped is next =
     let m : ℕ = given_by f (length piece) in
-    let given : Given part k d e q piece m = given-by part k d e q piece f s z b l stands a same before (λ x. (stopped x).1) in
+    let given : Given part k d e q piece m = given-by part k d e q piece f read s z b l stands a same before (λ x. (stopped x).1) in
     let all : QueueStandsFor part n g (queue_of (q.given ++ take m piece) q.held q.out) = subst (λ (x : List ℕ). QueueStandsFor part n g (queue_of x q.held q.out)) (append-nil (q.given ++ take m piece)) (next (q.given ++ take m piece) q.held q.out given.holds) in
     subst (λ (c : ℕ). QueueStandsFor part n g (fold (offered (words_read part)) q (take c piece))) (sym is) (fold-stands part n g q (take m piece) given.quiet all)
 

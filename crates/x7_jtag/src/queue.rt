@@ -149,7 +149,8 @@ impl Queue {
         if self.left > 0 {
             return 0;
         }
-        let count = given_of(device.feed_until_read(bytes), bytes.len());
+        let fed = device.feed(bytes, &mut ReadBuf::full());
+        let count = given_of(fed, bytes.len());
         self.feed(&[], device);
         count
     }
