@@ -10,7 +10,7 @@ use Rattle.x7_engine.specs.Kept.{on_the_bench}
 use Rattle.x7_engine.specs.Standing.{DeviceState, DeviceStandsFor, NoWordDue}
 use Rattle.x7_engine.proofs.BootLemmas.{none_due_at_first}
 use Rattle.x7_engine.specs.Undo.{AreEqual, IsUndoOf, Keeps, UndoState}
-use Rattle.x7_debug.specs.Journal.{IsFed, GoesWith, IsOn, IsRecord, JournalState, Leads, oldest_by, records_of}
+use Rattle.x7_debug.specs.Journal.{IsFed, GoesWith, IsOn, IsRecord, JournalState, LeadBack, oldest_by, records_of}
 use Rattle.x7_debug.specs.Session.{SessionState, StandsAt}
 use Rattle.x7_debug.proofs.PositionLemmas.{by-taken, own}
 use Rattle.std.proofs.lemmas.Option.{none-some}
@@ -19,11 +19,11 @@ use Rattle.std.specs.Prelude.{slice_get}
 -- ---- the oldest
 
 -- the oldest is not behind the position
-pub oldest_within : (part : PartData) (stream : List ℕ) (at : ℕ) (us : List UndoState) → Leads part stream at us → oldest_by at us ≤ at
+pub oldest_within : (part : PartData) (stream : List ℕ) (at : ℕ) (us : List UndoState) → LeadBack part stream at us → oldest_by at us ≤ at
 oldest_within part stream at [] l = omega arith
 oldest_within part stream at (u ∷ us) l = omega (arith, oldest_within part stream u.taken us l.3, l.1)
 
-leads_fewer : (part : PartData) (stream : List ℕ) (at n : ℕ) (us : List UndoState) → Leads part stream at us → Leads part stream at (take n us)
+leads_fewer : (part : PartData) (stream : List ℕ) (at n : ℕ) (us : List UndoState) → LeadBack part stream at us → LeadBack part stream at (take n us)
 leads_fewer part stream at zero us l = tt
 leads_fewer part stream at (suc n) [] l = tt
 leads_fewer part stream at (suc n) (u ∷ us) l = (l.0, l.1, l.2, leads_fewer part stream u.taken n us l.3)
@@ -35,7 +35,7 @@ pub record Reaches (start at : ℕ) (us : List UndoState) : Type 0 where
   pub spans : (n : ℕ) → n ≤ length us → oldest_by at (take n us) ≤ max start (at - 4 * n)
   pub unfilled : length us < 64 → oldest_by at us ≤ start
 
-pub reaches_first : (part : PartData) (stream : List ℕ) (start : ℕ) (us : List UndoState) → Leads part stream start us → Reaches start start us
+pub reaches_first : (part : PartData) (stream : List ℕ) (start : ℕ) (us : List UndoState) → LeadBack part stream start us → Reaches start start us
 reaches_first part stream start us l = record {
   spans = λ n few. omega (arith, oldest_within part stream start (take n us) (leads_fewer part stream start n us l));
   unfilled = λ few. oldest_within part stream start us l;
@@ -116,14 +116,14 @@ goes_back part stream d new at u r s low high back =
     refed part stream new r.device u.taken (back more r.device r.keeps r.stands.none_due few r.stands.stands now) r.stands
 
 -- records of a device that went on, with one more
-pub leads_more : (part : PartData) (stream : List ℕ) (d : DeviceState) (at to : ℕ) (u : UndoState) (us : List UndoState) → StandsAt part stream d at → Keeps u d → at ≤ to → to ≤ at + 4 → Leads part stream at us → Leads part stream to (u ∷ take 63 us)
+pub leads_more : (part : PartData) (stream : List ℕ) (d : DeviceState) (at to : ℕ) (u : UndoState) (us : List UndoState) → StandsAt part stream d at → Keeps u d → at ≤ to → to ≤ at + 4 → LeadBack part stream at us → LeadBack part stream to (u ∷ take 63 us)
 leads_more part stream d at to u us s k low high l =
     let taken : u.taken ≡ at = k.values.taken ∙ s.taken in
     let is : IsRecord part stream u = record { device = d; keeps = k; stands = subst (λ (n : ℕ). StandsAt part stream d n) (sym taken) s } in
-    (is, omega (arith, taken, low), omega (arith, taken, high), subst (λ (n : ℕ). Leads part stream n (take 63 us)) (sym taken) (leads_fewer part stream at 63 us l))
+    (is, omega (arith, taken, low), omega (arith, taken, high), subst (λ (n : ℕ). LeadBack part stream n (take 63 us)) (sym taken) (leads_fewer part stream at 63 us l))
 
 -- the newest record goes on to lead back
-pub leads_further : (part : PartData) (stream : List ℕ) (at to : ℕ) (u : UndoState) (us : List UndoState) → at ≤ to → to ≤ u.taken + 4 → Leads part stream at (u ∷ us) → Leads part stream to (u ∷ us)
+pub leads_further : (part : PartData) (stream : List ℕ) (at to : ℕ) (u : UndoState) (us : List UndoState) → at ≤ to → to ≤ u.taken + 4 → LeadBack part stream at (u ∷ us) → LeadBack part stream to (u ∷ us)
 leads_further part stream at to u us low high l = (l.0, omega (arith, l.1, low), high, l.3)
 
 -- one record in use less, which goes behind all
@@ -192,12 +192,12 @@ pub on_more : (part : PartData) (stream : List ℕ) (d new : DeviceState) (j k :
     → records_of k ≡ u ∷ take 63 (records_of j) → IsOn new.part stream new k
 on_more part stream d new j k to u o s low high a keeps e =
     let there : new.part ≡ part = s.stands.part_is in
-    let leads : Leads part stream to (records_of k) = subst (Leads part stream to) (sym e) (leads_more part stream d d.taken to u (records_of j) o.stands keeps low high o.leads) in
+    let leads : LeadBack part stream to (records_of k) = subst (LeadBack part stream to) (sym e) (leads_more part stream d d.taken to u (records_of j) o.stands keeps low high o.leads) in
     subst (λ (p : PartData). IsOn p stream new k) (sym there) (record {
       stands = by-taken part stream new to s;
       records = a;
       few = omega (arith, ap length e, length-take 63 (records_of j));
-      leads = subst (λ (n : ℕ). Leads part stream n (records_of k)) (sym s.taken) leads;
+      leads = subst (λ (n : ℕ). LeadBack part stream n (records_of k)) (sym s.taken) leads;
     })
 
 -- a record less
@@ -205,13 +205,13 @@ pub on_less : (part : PartData) (stream : List ℕ) (d new : DeviceState) (j k :
     → ((more : List ℕ) (old : DeviceState) → Keeps u old → NoWordDue old → length more ≤ 4 → DeviceStandsFor part on_the_bench false old (take u.taken stream) → DeviceStandsFor part on_the_bench false d (take u.taken stream ++ more) → AreEqual new old)
     → IsOn new.part stream new k × (new.taken ≡ u.taken) × (u.taken ≤ d.taken) × (d.taken ≤ u.taken + 4)
 on_less part stream d new j k u o e a back =
-    let leads : Leads part stream d.taken (u ∷ records_of k) = subst (Leads part stream d.taken) e o.leads in
+    let leads : LeadBack part stream d.taken (u ∷ records_of k) = subst (LeadBack part stream d.taken) e o.leads in
     let s : StandsAt part stream new u.taken = goes_back part stream d new d.taken u leads.0 o.stands leads.1 leads.2 back in (
       subst (λ (p : PartData). IsOn p stream new k) (sym s.stands.part_is) (record {
         stands = by-taken part stream new u.taken s;
         records = a;
         few = omega (arith, ap length e, o.few);
-        leads = subst (λ (n : ℕ). Leads part stream n (records_of k)) (sym s.taken) leads.3;
+        leads = subst (λ (n : ℕ). LeadBack part stream n (records_of k)) (sym s.taken) leads.3;
       }),
       s.taken,
       leads.1,
@@ -222,12 +222,12 @@ on_less part stream d new j k u o e a back =
 pub on_further : (part : PartData) (stream : List ℕ) (d new : DeviceState) (j : JournalState) (to : ℕ) (u : UndoState) (older : List UndoState) → IsOn part stream d j → records_of j ≡ u ∷ older → StandsAt part stream new to → d.taken ≤ to → to ≤ u.taken + 4
     → IsOn new.part stream new j
 on_further part stream d new j to u older o e s low high =
-    let leads : Leads part stream to (records_of j) = subst (Leads part stream to) (sym e) (leads_further part stream d.taken to u older low high (subst (Leads part stream d.taken) e o.leads)) in
+    let leads : LeadBack part stream to (records_of j) = subst (LeadBack part stream to) (sym e) (leads_further part stream d.taken to u older low high (subst (LeadBack part stream d.taken) e o.leads)) in
     subst (λ (p : PartData). IsOn p stream new j) (sym s.stands.part_is) (record {
       stands = by-taken part stream new to s;
       records = o.records;
       few = o.few;
-      leads = subst (λ (n : ℕ). Leads part stream n (records_of j)) (sym s.taken) leads;
+      leads = subst (λ (n : ℕ). LeadBack part stream n (records_of j)) (sym s.taken) leads;
     })
 
 -- the position, by the part that a device had before
@@ -275,7 +275,7 @@ goes_forward old new l within oldest fed = record {
 
 -- ---- what holds on the way
 
--- nowhere up to a position, nor there
+-- nowhere from a position on up to another one, nor there
 pub none_there : (p : ℕ → Bool) (from n m : ℕ) → m ≡ n + 1 → ((k : ℕ) → from ≤ k → k < n → p k ≡ false) → p n ≡ false → (k : ℕ) → from ≤ k → k < m → p k ≡ false
 none_there p from n m e none here k low high = elim (cases_lt k n) [
   | inl before ↦ none k low before
@@ -289,7 +289,7 @@ none_between p from n m first later k low high = elim (cases_lt n k) [
   | inr before ↦ first k low before
 ]
 
--- nor at the other one
+-- nowhere up to a position, nor there, where the position itself is known
 pub none_up_to : (p : ℕ → Bool) (from m : ℕ) → ((k : ℕ) → from < k → k < m → p k ≡ false) → p m ≡ false → (k : ℕ) → from < k → k ≤ m → p k ≡ false
 none_up_to p from m none here k low high = elim (cases_lt k m) [
   | inl before ↦ none k low before

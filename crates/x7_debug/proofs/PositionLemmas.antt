@@ -91,7 +91,7 @@ moved part stream piece d from to fits le few is stands due =
     let there : DeviceStandsFor part on_the_bench false d (take at stream) = subst (λ b. DeviceStandsFor part on_the_bench false d b) same stands in
     record { stands = there; taken = there.taken_is ∙ length-take-le at stream (omega (arith, few)); within = omega arith; none_due = due }
 
--- the same where that position is not behind the last one
+-- the position to which a device was fed, where that is not after the last one
 pub stands-there : (part : PartData) (stream : List ℕ) (d : DeviceState) (to : ℕ) → to ≤ last_of part stream → StandsAt part stream d (min to (last_of part stream)) → StandsAt part stream d to
 stands-there part stream d to within s = (let same : min to (last_of part stream) ≡ to = omega (arith, within) in subst (λ (k : ℕ). StandsAt part stream d k) same s)
 
@@ -132,15 +132,6 @@ module _ (part : PartData) (stream : List ℕ) (stop : Stop) (from : ℕ) where
 
   pub until-last : (n : ℕ) → last_of part stream ≤ n → n ≤ last_of part stream → from ≤ n → ((k : ℕ) → from < k → k ≤ n → holds_at part stream stop k ≡ false) → until_of part stream stop from ≡ n
   until-last n low high le none = until-none (holds_at part stream stop) (last_of part stream - from) from (last_of part stream) (λ k h j. none k h (omega arith)) ∙ (let e : last_of part stream ≡ n = omega arith in e)
-
-  -- none up to a position, nor there
-  pub none-more : (n m : ℕ) → m ≡ n + 1 → ((k : ℕ) → from < k → k ≤ n → holds_at part stream stop k ≡ false) → holds_at part stream stop m ≡ false → (k : ℕ) → from < k → k ≤ m → holds_at part stream stop k ≡ false
-  none-more n m e none here k lt le =
-      elim (cases_order k m) [
-        | inl same ↦ ap (holds_at part stream stop) same ∙ here
-        | inr (inl below) ↦ none k lt (omega arith)
-        | inr (inr above) ↦ absurd (omega arith)
-      ]
 
 -- what a test of the end and the phase says of the position
 pub holds-is : (part : PartData) (stream : List ℕ) (stop : Stop) (n : ℕ) (end : End) (phase : ℕ) (b : Bool) → end ≡ (state_at part stream n).end → phase ≡ (state_at part stream n).phase → b ≡ holds_in stop end phase → holds_at part stream stop n ≡ b

@@ -6,14 +6,28 @@ use Rattle.x7_engine.specs.Standing.{DeviceState, fed_of}
 use Rattle.x7_engine.specs.Undo.{IsUndoOf, Keeps, UndoState}
 use Rattle.x7_debug.specs.Session.{SessionState, StandsAt}
 
+-- how many records there is room for
+abbrev pub record_room : ℕ
+record_room = 64
+
+-- how many bytes a record leads back at most
+abbrev pub record_bytes : ℕ
+record_bytes = 4
+
+-- how many bytes before a position records lead back to: 63 times four bytes, and one byte
+abbrev pub reach : ℕ
+reach = 253
+
 -- the room for records, of which the first are in use
 pub record JournalState : Type 0 where
   pub all : List UndoState
   pub count : ℕ
 
+-- the records in use, the newest first
 abbrev pub records_of : JournalState → List UndoState
 records_of j = take j.count j.all
 
+-- all records, in use or not, are of devices of the part
 abbrev pub AreRecordsOf : PartData → JournalState → Type 0
 AreRecordsOf part j = AllByRecursion (IsUndoOf part) j.all
 
@@ -24,9 +38,9 @@ pub record IsRecord (part : PartData) (stream : List ℕ) (u : UndoState) : Type
   pub stands : StandsAt part stream device u.taken
 
 -- each record is at most four bytes before the next newer one, and the newest one before this position
-abbrev pub Leads : PartData → List ℕ → ℕ → List UndoState → Type 0
-Leads part stream at [] = Unit {0}
-Leads part stream at (u ∷ older) = IsRecord part stream u × (u.taken ≤ at) × (at ≤ u.taken + 4) × Leads part stream u.taken older
+abbrev pub LeadBack : PartData → List ℕ → ℕ → List UndoState → Type 0
+LeadBack part stream at [] = Unit {0}
+LeadBack part stream at (u ∷ older) = IsRecord part stream u × (u.taken ≤ at) × (at ≤ u.taken + record_bytes) × LeadBack part stream u.taken older
 
 -- the position of the oldest record, and `at` where there is none
 abbrev pub oldest_by : ℕ → List UndoState → ℕ
@@ -37,17 +51,23 @@ oldest_by at (u ∷ older) = oldest_by u.taken older
 pub record IsOn (part : PartData) (stream : List ℕ) (d : DeviceState) (j : JournalState) : Type 0 where
   pub stands : StandsAt part stream d d.taken
   pub records : AreRecordsOf part j
-  pub few : length (records_of j) ≤ 64
-  pub leads : Leads part stream d.taken (records_of j)
+  pub few : length (records_of j) ≤ record_room
+  pub leads : LeadBack part stream d.taken (records_of j)
+
+-- a device came to position n of the stream, and these records lead back from there
+pub record ComesTo (stream : List ℕ) (old new : DeviceState) (j : JournalState) (n : ℕ) : Type 0 where
+  pub on : IsOn new.part stream new j
+  pub part : new.part ≡ old.part
+  pub taken : new.taken ≡ n
+
+-- a record of a device at this position is the newest one now; of a full room the oldest is not in use any more
+abbrev pub HasRecorded : ℕ → JournalState → JournalState → Type 0
+HasRecorded at old new = (u : UndoState) × (u.taken ≡ at) × (records_of new ≡ u ∷ take (record_room - 1) (records_of old))
 
 -- a device was fed at most `count` bytes more
 pub record IsFed (old new : DeviceState) (count : ℕ) : Type 0 where
   pub never_less : fed_of old ≤ fed_of new
   pub most : fed_of new ≤ fed_of old + count
-
--- how many bytes before a position records lead back to: 63 of four bytes, and one of a byte
-abbrev pub reach : ℕ
-reach = 253
 
 -- how far records lead back after a move, and how many bytes the device was fed in it
 pub record GoesWith (old new : SessionState) : Type 0 where

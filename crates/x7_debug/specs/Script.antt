@@ -15,6 +15,7 @@ abbrev pub means_nothing : List ℕ → Bool
 means_nothing [] = true
 means_nothing (c ∷ cs) = c == 35
 
+-- a line that is neither empty nor a comment
 abbrev pub has_meaning : List ℕ → Bool
 has_meaning line = not (means_nothing line)
 
@@ -35,11 +36,12 @@ order_text order.Regs = codes "regs"
 order_text order.Phase = codes "phase"
 order_text (order.Frame far) = codes "frame " ++ hex_word far
 
--- a phase has three bits, and a number 32
+-- the phase of a stop is within its three bits
 abbrev pub FitsStop : Stop → Type 0
 FitsStop (stop.Phase phase) = phase < 8
 FitsStop _ = Unit {0}
 
+-- the numbers of an order are within their 32 bits, and a phase within its three
 abbrev pub FitsOrder : Order → Type 0
 FitsOrder (order.Step count) = count < 2 ^ 32
 FitsOrder (order.Back count) = count < 2 ^ 32

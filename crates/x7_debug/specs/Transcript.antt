@@ -41,6 +41,7 @@ position_text r = codes "at " ++ (decimal r.taken ++ (codes " " ++ (end_text r.e
 unfoldable pub none_text : ℕ → List ℕ
 none_text far = codes "none " ++ (hex_word far ++ codes "\n")
 
+-- what is shown of the frame at an address, or that there is none
 abbrev pub frame_shown : ℕ → Option (List ℕ) → List ℕ
 frame_shown far None = none_text far
 frame_shown far (Some words) = frame_text far words
@@ -55,6 +56,7 @@ shown_by order.Regs r frames = reg_text r
 shown_by order.Phase r frames = phase_text r
 shown_by (order.Frame far) r frames = frame_shown far (frames far)
 
+-- what an order shows at a position of a stream
 abbrev pub shown_at : PartData → List ℕ → ℕ → Order → List ℕ
 shown_at part stream n order = shown_by order (state_at part stream n) (memory_at part stream n)
 

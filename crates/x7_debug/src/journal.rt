@@ -2,8 +2,8 @@
 ghost use Rattle.std.specs.Prelude.{◌≡◌, ◌≤◌, ◌<◌, ◌+◌, ◌-◌, ◌^◌, ◌∷◌, ℕ, List, length, take, IfOk};
 ghost use Rattle.x7_engine.specs.Past.{OfPast};
 ghost use Rattle.x7_engine.specs.Standing.{NoWordDue, fed_of};
-ghost use Rattle.x7_engine.specs.Undo.{IsUndoOf, Keeps, UndoState};
-ghost use Rattle.x7_debug.specs.Journal.{AreRecordsOf, IsFed, IsOn, JournalState, oldest_by, records_of};
+ghost use Rattle.x7_engine.specs.Undo.{Keeps, UndoState};
+ghost use Rattle.x7_debug.specs.Journal.{AreRecordsOf, IsFed, IsOn, oldest_by, record_bytes, record_room, records_of};
 ghost use Rattle.x7_debug.specs.Session.{TakesPiece};
 
 use circular_buffer::HeapCircularBuffer;
@@ -13,7 +13,7 @@ use x7_engine::{Device, Undo};
 use x7_part::Part;
 use x7_words::NoMemory;
 
-/// How many records there are.
+/// How many records there is room for.
 const RECORDS: usize = 64;
 
 /// Records of a device, the newest first.
@@ -26,28 +26,13 @@ pub(crate) struct Journal {
 
 impl Model for Journal {
     ghost use Rattle.std.specs.Prelude.{◌≡◌, ◌≤◌, length};
-    ghost use Rattle.x7_debug.specs.Journal.{JournalState};
+    ghost use Rattle.x7_debug.specs.Journal.{JournalState, record_room};
 
     ghost Value = { JournalState };
 
     ghost view = { λ j. record { all = j.records.items; count = j.count } };
 
-    ghost invariant = { λ j. (length j.records.items ≡ 64) × (j.records.capacity ≡ 64) × (j.count ≤ 64) };
-}
-
-/// Keeps a device in a record, and feeds it a piece of up to four bytes, up to what stops it.
-fn feed(device: &mut Device, piece: &[u8], undo: &mut Undo)
-    requires few { length piece.now ≤ 4 }
-    requires fits { device.old.taken + length piece.now ≤ 2 ^ 63 }
-    requires none_due { NoWordDue device.old }
-    requires undo { IsUndoOf device.old.part undo.old }
-    ensures stands { TakesPiece device.old device.new piece.now }
-    ensures none_due { OfPast device.old (λ p. NoWordDue device.new) }
-    ensures fed { IsFed device.old device.new (device.new.taken - device.old.taken) }
-    ensures keeps { Keeps undo.new device.old }
-    ensures undo { IsUndoOf device.old.part undo.new }
-{
-    device.feed_word(piece, undo);
+    ghost invariant = { λ j. (length j.records.items ≡ record_room) × (j.records.capacity ≡ record_room) × (j.count ≤ record_room) };
 }
 
 impl Journal {
@@ -56,9 +41,8 @@ impl Journal {
         ensures records { IfOk result (AreRecordsOf part.now) }
         ensures empty { IfOk result (λ j. j.count ≡ 0) }
     {
-        let mut records = match HeapCircularBuffer::with_capacity(alloc, RECORDS) {
-            Ok(records) => records,
-            Err(_) => return Err(NoMemory),
+        let Ok(mut records) = HeapCircularBuffer::with_capacity(alloc, RECORDS) else {
+            return Err(NoMemory);
         };
         for _ in 0..RECORDS {
             records.push_back(Undo::new(alloc, part)?);
@@ -73,7 +57,7 @@ impl Journal {
         self.count = 0;
     }
 
-    /// The position of the oldest record, and this one where there is none.
+    /// The position of the oldest record, and `at` where there is none.
     pub(crate) fn oldest(&self, at: u64) -> u64
         ensures { result ≡ oldest_by at (records_of self.now) }
     {
@@ -89,7 +73,7 @@ impl Journal {
     /// Feeds a piece of up to four bytes to a device, up to what stops it, with a record. Where all are in use, the oldest
     /// one is used again.
     pub(crate) fn feed(&mut self, device: &mut Device, piece: &[u8])
-        requires few { length piece.now ≤ 4 }
+        requires few { length piece.now ≤ record_bytes }
         requires fits { device.old.taken + length piece.now ≤ 2 ^ 63 }
         requires none_due { NoWordDue device.old }
         requires records { AreRecordsOf device.old.part self.old }
@@ -97,12 +81,12 @@ impl Journal {
         ensures none_due { OfPast device.old (λ p. NoWordDue device.new) }
         ensures fed { IsFed device.old device.new (device.new.taken - device.old.taken) }
         ensures records { AreRecordsOf device.old.part self.new }
-        ensures more { (u : UndoState) × Keeps u device.old × (records_of self.new ≡ u ∷ take 63 (records_of self.old)) }
+        ensures more { (u : UndoState) × Keeps u device.old × (records_of self.new ≡ u ∷ take (record_room - 1) (records_of self.old)) }
     {
         let Some(mut undo) = self.records.pop_back() else {
             unreachable!();
         };
-        feed(device, piece, &mut undo);
+        device.feed_word(piece, &mut undo);
         self.records.push_front(undo);
         self.count = (self.count + 1).min(RECORDS);
     }
@@ -112,10 +96,10 @@ impl Journal {
         requires some { 0 < self.old.count }
         requires records { AreRecordsOf device.old.part self.old }
         ensures back { (stream : List ℕ) → IsOn device.old.part stream device.old self.old → IsOn device.new.part stream device.new self.new }
-        ensures less { (stream : List ℕ) → IsOn device.old.part stream device.old self.old → device.new.taken ≤ device.old.taken × device.old.taken ≤ device.new.taken + 4 }
+        ensures less { (stream : List ℕ) → IsOn device.old.part stream device.old self.old → device.new.taken ≤ device.old.taken × device.old.taken ≤ device.new.taken + record_bytes }
         ensures fed { fed_of device.new ≡ fed_of device.old }
         ensures oldest { (stream : List ℕ) → IsOn device.old.part stream device.old self.old → oldest_by device.new.taken (records_of self.new) ≡ oldest_by device.old.taken (records_of self.old) }
-        ensures few { (stream : List ℕ) → IsOn device.old.part stream device.old self.old → length (records_of self.new) ≤ 63 }
+        ensures few { (stream : List ℕ) → IsOn device.old.part stream device.old self.old → length (records_of self.new) < record_room }
         ensures count { self.new.count + 1 ≡ self.old.count }
         ensures part { device.new.part ≡ device.old.part }
     {

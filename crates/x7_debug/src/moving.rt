@@ -1,9 +1,8 @@
 //! A device is brought from one position of a stream to another one, forwards by pieces and backwards by records.
-ghost use Rattle.std.specs.Prelude.{◌≡◌, ◌≤◌, ◌<◌, ◌+◌, ◌-◌, ◌^◌, ◌∷◌, length, max, min, take};
+ghost use Rattle.std.specs.Prelude.{◌≡◌, ◌≤◌, ◌<◌, ◌+◌, ◌-◌, ◌^◌, length, max};
 ghost use Rattle.x7_engine.specs.Past.{OfPast};
 ghost use Rattle.x7_engine.specs.Standing.{NoWordDue, fed_of};
-ghost use Rattle.x7_engine.specs.Undo.{UndoState};
-ghost use Rattle.x7_debug.specs.Journal.{GoesWith, IsFed, IsOn, oldest_by, reach, records_of};
+ghost use Rattle.x7_debug.specs.Journal.{ComesTo, GoesWith, HasRecorded, IsFed, IsOn, oldest_by, reach, record_bytes, record_room, records_of};
 ghost use Rattle.x7_debug.specs.Kept.{session_of};
 ghost use Rattle.x7_debug.specs.Position.{last_of};
 ghost use Rattle.x7_debug.specs.Session.{StandsAt, TakesPiece};
@@ -11,11 +10,14 @@ ghost use Rattle.x7_debug.specs.Session.{StandsAt, TakesPiece};
 use crate::journal::Journal;
 use x7_engine::{Device, ON_THE_BENCH, ReadBuf};
 
-/// How many bytes before a position records lead back to: 63 of four bytes, and one of a byte.
+/// How many bytes a record leads back at most.
+pub(crate) const RECORD_BYTES: u64 = 4;
+
+/// How many bytes before a position records lead back to: 63 times four bytes, and one byte.
 pub(crate) const REACH: u64 = 253;
 
 /// Feeds a piece to a device, up to what stops it. Words read out are dropped.
-fn take(device: &mut Device, piece: &[u8])
+pub(crate) fn take(device: &mut Device, piece: &[u8])
     requires { device.old.taken + length piece.now ≤ 2 ^ 63 }
     ensures stands { TakesPiece device.old device.new piece.now }
     ensures none_due { OfPast device.old (λ p. NoWordDue device.new) }
@@ -25,58 +27,30 @@ fn take(device: &mut Device, piece: &[u8])
     device.feed(piece, &mut read);
 }
 
-/// Feeds a device the bytes of the stream up to a position, or up to what stops it.
+/// Feeds a device the bytes of the stream up to a position.
 pub(crate) fn feed_to(device: &mut Device, stream: &[u8], to: u64)
-    requires stands { StandsAt device.old.part stream.now device.old device.old.taken }
-    requires within { to ≤ length stream.now }
-    requires forward { device.old.taken ≤ to }
-    ensures stands { StandsAt device.old.part stream.now device.new (min to (last_of device.old.part stream.now)) }
-    ensures fed { IsFed device.old device.new (device.new.taken - device.old.taken) }
-{
-    let from = device.taken() as usize;
-    take(device, &stream[from..to as usize]);
-}
-
-/// Brings a device forward by one piece.
-pub(crate) fn advance(device: &mut Device, stream: &[u8], to: u64)
     requires stands { StandsAt device.old.part stream.now device.old device.old.taken }
     requires within { to ≤ last_of device.old.part stream.now }
     requires forward { device.old.taken ≤ to }
     ensures stands { StandsAt device.old.part stream.now device.new to }
     ensures fed { IsFed device.old device.new (device.new.taken - device.old.taken) }
 {
-    feed_to(device, stream, to);
-}
-
-/// Feeds a device up to four bytes of the stream, up to what stops it, with a record.
-fn feed_recorded(device: &mut Device, journal: &mut Journal, stream: &[u8], to: u64)
-    requires on { IsOn device.old.part stream.now device.old journal.old }
-    requires within { to ≤ length stream.now }
-    requires forward { device.old.taken ≤ to }
-    requires few { to ≤ device.old.taken + 4 }
-    ensures on { IsOn device.new.part stream.now device.new journal.new }
-    ensures taken { device.new.taken ≡ min to (last_of device.old.part stream.now) }
-    ensures part { device.new.part ≡ device.old.part }
-    ensures fed { IsFed device.old device.new (device.new.taken - device.old.taken) }
-    ensures more { (u : UndoState) × (u.taken ≡ device.old.taken) × (records_of journal.new ≡ u ∷ take 63 (records_of journal.old)) }
-{
     let from = device.taken() as usize;
-    journal.feed(device, &stream[from..to as usize]);
+    take(device, &stream[from..to as usize]);
 }
 
-/// Brings a device forward by a piece of up to four bytes, with a record.
-pub(crate) fn record_to(device: &mut Device, journal: &mut Journal, stream: &[u8], to: u64)
+/// Feeds a device up to four bytes of the stream, with a record of it before them.
+pub(crate) fn feed_recorded(device: &mut Device, journal: &mut Journal, stream: &[u8], to: u64)
     requires on { IsOn device.old.part stream.now device.old journal.old }
     requires within { to ≤ last_of device.old.part stream.now }
     requires forward { device.old.taken ≤ to }
-    requires few { to ≤ device.old.taken + 4 }
-    ensures on { IsOn device.new.part stream.now device.new journal.new }
-    ensures taken { device.new.taken ≡ to }
-    ensures part { device.new.part ≡ device.old.part }
+    requires few { to ≤ device.old.taken + record_bytes }
+    ensures comes { ComesTo stream.now device.old device.new journal.new to }
     ensures fed { IsFed device.old device.new (device.new.taken - device.old.taken) }
-    ensures more { (u : UndoState) × (u.taken ≡ device.old.taken) × (records_of journal.new ≡ u ∷ take 63 (records_of journal.old)) }
+    ensures more { HasRecorded device.old.taken journal.old journal.new }
 {
-    feed_recorded(device, journal, stream, to);
+    let from = device.taken() as usize;
+    journal.feed(device, &stream[from..to as usize]);
 }
 
 /// Brings a device forward by pieces of four bytes, the last one shorter, each with a record.
@@ -84,18 +58,16 @@ fn go_by_words(device: &mut Device, journal: &mut Journal, stream: &[u8], to: u6
     requires on { IsOn device.old.part stream.now device.old journal.old }
     requires within { to ≤ last_of device.old.part stream.now }
     requires forward { device.old.taken ≤ to }
-    ensures on { IsOn device.new.part stream.now device.new journal.new }
-    ensures taken { device.new.taken ≡ to }
-    ensures part { device.new.part ≡ device.old.part }
+    ensures comes { ComesTo stream.now device.old device.new journal.new to }
     ensures fed { IsFed device.old device.new (device.new.taken - device.old.taken) }
     ensures oldest { oldest_by device.new.taken (records_of journal.new) ≤ max device.old.taken (to - reach) }
 {
-    while to - device.taken() >= 4 {
-        let next = device.taken() + 4;
-        record_to(device, journal, stream, next);
+    while to - device.taken() >= RECORD_BYTES {
+        let next = device.taken() + RECORD_BYTES;
+        feed_recorded(device, journal, stream, next);
     }
     if device.taken() < to {
-        record_to(device, journal, stream, to);
+        feed_recorded(device, journal, stream, to);
     }
 }
 
@@ -104,12 +76,10 @@ pub(crate) fn leap(device: &mut Device, journal: &mut Journal, stream: &[u8], to
     requires on { IsOn device.old.part stream.now device.old journal.old }
     requires within { to ≤ last_of device.old.part stream.now }
     requires forward { device.old.taken ≤ to }
-    ensures on { IsOn device.new.part stream.now device.new journal.new }
-    ensures taken { device.new.taken ≡ to }
-    ensures part { device.new.part ≡ device.old.part }
+    ensures comes { ComesTo stream.now device.old device.new journal.new to }
     ensures fed { IsFed device.old device.new (device.new.taken - device.old.taken) }
 {
-    advance(device, stream, to);
+    feed_to(device, stream, to);
     journal.forget();
 }
 
@@ -118,9 +88,7 @@ fn go_forward(device: &mut Device, journal: &mut Journal, stream: &[u8], to: u64
     requires on { IsOn device.old.part stream.now device.old journal.old }
     requires within { to ≤ last_of device.old.part stream.now }
     requires forward { device.old.taken ≤ to }
-    ensures on { IsOn device.new.part stream.now device.new journal.new }
-    ensures taken { device.new.taken ≡ to }
-    ensures part { device.new.part ≡ device.old.part }
+    ensures comes { ComesTo stream.now device.old device.new journal.new to }
     ensures fed { IsFed device.old device.new (device.new.taken - device.old.taken) }
     ensures oldest { oldest_by device.new.taken (records_of journal.new) ≤ max device.old.taken (to - reach) }
 {
@@ -134,9 +102,7 @@ fn go_forward(device: &mut Device, journal: &mut Journal, stream: &[u8], to: u64
 /// Resets a device, and forgets the records.
 fn begin_again(device: &mut Device, journal: &mut Journal, stream: &[u8])
     requires { IsOn device.old.part stream.now device.old journal.old }
-    ensures on { IsOn device.new.part stream.now device.new journal.new }
-    ensures taken { device.new.taken ≡ 0 }
-    ensures part { device.new.part ≡ device.old.part }
+    ensures comes { ComesTo stream.now device.old device.new journal.new 0 }
     ensures fed { fed_of device.new ≡ fed_of device.old }
 {
     device.reset(ON_THE_BENCH);
@@ -147,9 +113,7 @@ fn begin_again(device: &mut Device, journal: &mut Journal, stream: &[u8])
 fn replay(device: &mut Device, journal: &mut Journal, stream: &[u8], to: u64)
     requires on { IsOn device.old.part stream.now device.old journal.old }
     requires within { to ≤ last_of device.old.part stream.now }
-    ensures on { IsOn device.new.part stream.now device.new journal.new }
-    ensures taken { device.new.taken ≡ to }
-    ensures part { device.new.part ≡ device.old.part }
+    ensures comes { ComesTo stream.now device.old device.new journal.new to }
     ensures fed { IsFed device.old device.new to }
     ensures oldest { oldest_by device.new.taken (records_of journal.new) ≤ to - reach }
 {
@@ -162,12 +126,11 @@ fn take_back(device: &mut Device, journal: &mut Journal, stream: &[u8], to: u64)
     requires on { IsOn device.old.part stream.now device.old journal.old }
     requires before { to < device.old.taken }
     requires reach { oldest_by device.old.taken (records_of journal.old) ≤ to }
-    ensures on { IsOn device.new.part stream.now device.new journal.new }
-    ensures part { device.new.part ≡ device.old.part }
+    ensures comes { ComesTo stream.now device.old device.new journal.new device.new.taken }
     ensures before { device.new.taken ≤ to }
-    ensures near { to ≤ device.new.taken + 3 }
+    ensures near { to < device.new.taken + record_bytes }
     ensures fed { fed_of device.new ≡ fed_of device.old }
-    ensures few { length (records_of journal.new) ≤ 63 }
+    ensures few { length (records_of journal.new) < record_room }
     ensures oldest { oldest_by device.new.taken (records_of journal.new) ≡ oldest_by device.old.taken (records_of journal.old) }
 {
     while device.taken() > to {
@@ -180,15 +143,13 @@ fn go_back(device: &mut Device, journal: &mut Journal, stream: &[u8], to: u64)
     requires on { IsOn device.old.part stream.now device.old journal.old }
     requires before { to < device.old.taken }
     requires reach { oldest_by device.old.taken (records_of journal.old) ≤ to }
-    ensures on { IsOn device.new.part stream.now device.new journal.new }
-    ensures taken { device.new.taken ≡ to }
-    ensures part { device.new.part ≡ device.old.part }
-    ensures fed { IsFed device.old device.new 3 }
+    ensures comes { ComesTo stream.now device.old device.new journal.new to }
+    ensures fed { IsFed device.old device.new (record_bytes - 1) }
     ensures oldest { oldest_by device.new.taken (records_of journal.new) ≡ oldest_by device.old.taken (records_of journal.old) }
 {
     take_back(device, journal, stream, to);
     if device.taken() < to {
-        record_to(device, journal, stream, to);
+        feed_recorded(device, journal, stream, to);
     }
 }
 
@@ -196,9 +157,7 @@ fn go_back(device: &mut Device, journal: &mut Journal, stream: &[u8], to: u64)
 pub(crate) fn move_to(device: &mut Device, journal: &mut Journal, stream: &[u8], to: u64)
     requires on { IsOn device.old.part stream.now device.old journal.old }
     requires within { to ≤ last_of device.old.part stream.now }
-    ensures on { IsOn device.new.part stream.now device.new journal.new }
-    ensures taken { device.new.taken ≡ to }
-    ensures part { device.new.part ≡ device.old.part }
+    ensures comes { ComesTo stream.now device.old device.new journal.new to }
     ensures goes { GoesWith (session_of device.old stream.now journal.old) (session_of device.new stream.now journal.new) }
 {
     let from = device.taken();

@@ -2,7 +2,7 @@
 ghost use Rattle.std.specs.Prelude.{◌≡◌, IfOk};
 ghost use Rattle.x7_debug.specs.Position.{BeginsAtSoonest, last_of};
 
-use crate::moving::feed_to;
+use crate::moving::take;
 use std::alloc::Global;
 use x7_engine::Device;
 use x7_part::Part;
@@ -21,12 +21,9 @@ impl Outline {
         ensures last { IfOk result (λ o. o.last ≡ last_of part.now stream.now) }
         ensures begins { IfOk result (λ o. BeginsAtSoonest part.now stream.now o.begins) }
     {
-        let mut device = match Device::new(alloc, part) {
-            Ok(device) => device,
-            Err(NoMemory) => return Err(NoMemory),
-        };
+        let mut device = Device::new(alloc, part)?;
         let begins = device.feed_until_begun(stream);
-        feed_to(&mut device, stream, stream.len() as u64);
+        take(&mut device, &stream[begins..]);
         Ok(Outline {
             last: device.taken(),
             begins: begins as u64,

@@ -46,18 +46,9 @@ impl Session {
         ensures oldest { IfOk result (λ s. s.oldest ≡ 0) }
         ensures fed { IfOk result (λ s. s.fed ≡ 0) }
     {
-        let outline = match Outline::new(alloc, part, &stream) {
-            Ok(outline) => outline,
-            Err(NoMemory) => return Err(NoMemory),
-        };
-        let device = match Device::new(alloc, part) {
-            Ok(device) => device,
-            Err(NoMemory) => return Err(NoMemory),
-        };
-        let journal = match Journal::new(alloc, part) {
-            Ok(journal) => journal,
-            Err(NoMemory) => return Err(NoMemory),
-        };
+        let outline = Outline::new(alloc, part, &stream)?;
+        let device = Device::new(alloc, part)?;
+        let journal = Journal::new(alloc, part)?;
         Ok(Session {
             stream,
             device,

@@ -1,13 +1,13 @@
 //! A device is brought forward to the first position where a stop holds.
-ghost use Rattle.std.specs.Prelude.{◌≡◌, ◌≤◌, ◌<◌, ◌+◌, ◌-◌, ◌∷◌, ℕ, List, true, false, take, max};
+ghost use Rattle.std.specs.Prelude.{◌≡◌, ◌≤◌, ◌<◌, ◌+◌, ◌-◌, ◌∷◌, ℕ, List, true, false, max};
 ghost use Rattle.x7_engine.specs.Undo.{UndoState};
-ghost use Rattle.x7_debug.specs.Journal.{GoesWith, IsFed, IsOn, oldest_by, reach, records_of};
+ghost use Rattle.x7_debug.specs.Journal.{ComesTo, GoesWith, HasRecorded, IsFed, IsOn, oldest_by, reach, record_bytes, records_of};
 ghost use Rattle.x7_debug.specs.Kept.{session_of};
 ghost use Rattle.x7_debug.specs.Position.{BeginsAtSoonest, holds_at, holds_in, last_of, until_of};
 ghost use Rattle.x7_debug.specs.declared.order.Stop.TheVariants as to;
 
 use crate::journal::Journal;
-use crate::moving::{REACH, advance, leap, move_to, record_to};
+use crate::moving::{REACH, RECORD_BYTES, feed_recorded, feed_to, leap, move_to};
 use crate::order::Stop;
 use crate::outline::Outline;
 use x7_engine::{Device, End};
@@ -32,9 +32,8 @@ fn seek(device: &mut Device, journal: &Journal, stream: &[u8], end: u64, stop: S
     requires on { IsOn device.old.part stream.now device.old journal.now }
     requires within { end ≤ last_of device.old.part stream.now }
     requires before { device.old.taken ≤ end }
-    requires some { (u : UndoState) × (older : List UndoState) × (records_of journal.now ≡ u ∷ older) × (end ≤ u.taken + 4) }
-    ensures on { IsOn device.new.part stream.now device.new journal.now }
-    ensures part { device.new.part ≡ device.old.part }
+    requires some { (u : UndoState) × (older : List UndoState) × (records_of journal.now ≡ u ∷ older) × (end ≤ u.taken + record_bytes) }
+    ensures comes { ComesTo stream.now device.old device.new journal.now device.new.taken }
     ensures fed { IsFed device.old device.new (device.new.taken - device.old.taken) }
     ensures forward { device.old.taken ≤ device.new.taken × device.new.taken ≤ end }
     ensures found { result ≡ true → holds_at device.old.part stream.now stop device.new.taken ≡ true }
@@ -50,7 +49,7 @@ fn seek(device: &mut Device, journal: &Journal, stream: &[u8], end: u64, stop: S
         if at >= end {
             return false;
         }
-        advance(device, stream, at + 1);
+        feed_to(device, stream, at + 1);
     }
 }
 
@@ -66,19 +65,18 @@ fn seek_word(
     requires on { IsOn device.old.part stream.now device.old journal.old }
     requires last { last ≡ last_of device.old.part stream.now }
     requires before { device.old.taken < last }
-    ensures on { IsOn device.new.part stream.now device.new journal.new }
-    ensures part { device.new.part ≡ device.old.part }
+    ensures comes { ComesTo stream.now device.old device.new journal.new device.new.taken }
     ensures fed { IsFed device.old device.new (device.new.taken - device.old.taken) }
-    ensures more { (u : UndoState) × (u.taken ≡ device.old.taken) × (records_of journal.new ≡ u ∷ take 63 (records_of journal.old)) }
-    ensures forward { device.old.taken < device.new.taken × device.new.taken ≤ last × device.new.taken ≤ device.old.taken + 4 }
-    ensures whole { result ≡ false → device.new.taken < last → device.new.taken ≡ device.old.taken + 4 }
+    ensures more { HasRecorded device.old.taken journal.old journal.new }
+    ensures forward { device.old.taken < device.new.taken × device.new.taken ≤ last × device.new.taken ≤ device.old.taken + record_bytes }
+    ensures whole { result ≡ false → device.new.taken < last → device.new.taken ≡ device.old.taken + record_bytes }
     ensures found { result ≡ true → holds_at device.old.part stream.now stop device.new.taken ≡ true }
     ensures none { (k : ℕ) → device.old.taken < k → k < device.new.taken → holds_at device.old.part stream.now stop k ≡ false }
     ensures none_at_end { result ≡ false → holds_at device.old.part stream.now stop device.new.taken ≡ false }
 {
     let from = device.taken();
-    record_to(device, journal, stream, from + 1);
-    seek(device, journal, stream, last.min(from + 4), stop)
+    feed_recorded(device, journal, stream, from + 1);
+    seek(device, journal, stream, last.min(from + RECORD_BYTES), stop)
 }
 
 /// Brings a device forward, byte by byte, to the first later position where the stop holds, or else to the last one.
@@ -86,10 +84,8 @@ fn forward_until(device: &mut Device, journal: &mut Journal, stream: &[u8], last
     requires on { IsOn device.old.part stream.now device.old journal.old }
     requires last { last ≡ last_of device.old.part stream.now }
     requires before { device.old.taken < last }
-    ensures on { IsOn device.new.part stream.now device.new journal.new }
-    ensures part { device.new.part ≡ device.old.part }
+    ensures comes { ComesTo stream.now device.old device.new journal.new (until_of device.old.part stream.now stop device.old.taken) }
     ensures fed { IsFed device.old device.new (device.new.taken - device.old.taken) }
-    ensures taken { device.new.taken ≡ until_of device.old.part stream.now stop device.old.taken }
     ensures forward { device.old.taken < device.new.taken }
     ensures oldest { oldest_by device.new.taken (records_of journal.new) ≤ max device.old.taken (device.new.taken - reach) }
 {
@@ -104,11 +100,10 @@ fn forward_until(device: &mut Device, journal: &mut Journal, stream: &[u8], last
 fn leap_near(device: &mut Device, journal: &mut Journal, stream: &[u8], begins: u64)
     requires on { IsOn device.old.part stream.now device.old journal.old }
     requires within { begins ≤ last_of device.old.part stream.now }
-    ensures on { IsOn device.new.part stream.now device.new journal.new }
-    ensures part { device.new.part ≡ device.old.part }
+    ensures comes { ComesTo stream.now device.old device.new journal.new device.new.taken }
     ensures fed { IsFed device.old device.new (device.new.taken - device.old.taken) }
     ensures forward { device.old.taken ≤ device.new.taken }
-    ensures near { device.new.taken ≤ max device.old.taken (begins - 254) }
+    ensures near { device.new.taken ≤ max device.old.taken (begins - (reach + 1)) }
 {
     let near = begins.saturating_sub(REACH + 1);
     if device.taken() < near {
@@ -130,10 +125,8 @@ fn forward_to_phase(
     requires begins { BeginsAtSoonest device.old.part stream.now outline.begins }
     requires before { device.old.taken < outline.last }
     requires some { 0 < phase }
-    ensures on { IsOn device.new.part stream.now device.new journal.new }
-    ensures part { device.new.part ≡ device.old.part }
+    ensures comes { ComesTo stream.now device.old device.new journal.new (until_of device.old.part stream.now (to.Phase phase) device.old.taken) }
     ensures fed { IsFed device.old device.new (device.new.taken - device.old.taken) }
-    ensures taken { device.new.taken ≡ until_of device.old.part stream.now (to.Phase phase) device.old.taken }
     ensures forward { device.old.taken < device.new.taken }
     ensures oldest { oldest_by device.new.taken (records_of journal.new) ≤ max device.old.taken (device.new.taken - reach) }
 {
@@ -153,10 +146,8 @@ fn go_to_phase(
     requires last { outline.last ≡ last_of device.old.part stream.now }
     requires begins { BeginsAtSoonest device.old.part stream.now outline.begins }
     requires before { device.old.taken < outline.last }
-    ensures on { IsOn device.new.part stream.now device.new journal.new }
-    ensures part { device.new.part ≡ device.old.part }
+    ensures comes { ComesTo stream.now device.old device.new journal.new (until_of device.old.part stream.now (to.Phase phase) device.old.taken) }
     ensures fed { IsFed device.old device.new (device.new.taken - device.old.taken) }
-    ensures taken { device.new.taken ≡ until_of device.old.part stream.now (to.Phase phase) device.old.taken }
     ensures forward { device.old.taken < device.new.taken }
     ensures oldest { oldest_by device.new.taken (records_of journal.new) ≤ max device.old.taken (device.new.taken - reach) }
 {
@@ -178,9 +169,7 @@ pub(crate) fn go_until(
     requires on { IsOn device.old.part stream.now device.old journal.old }
     requires last { outline.last ≡ last_of device.old.part stream.now }
     requires begins { BeginsAtSoonest device.old.part stream.now outline.begins }
-    ensures on { IsOn device.new.part stream.now device.new journal.new }
-    ensures part { device.new.part ≡ device.old.part }
-    ensures taken { device.new.taken ≡ until_of device.old.part stream.now stop device.old.taken }
+    ensures comes { ComesTo stream.now device.old device.new journal.new (until_of device.old.part stream.now stop device.old.taken) }
     ensures goes { GoesWith (session_of device.old stream.now journal.old) (session_of device.new stream.now journal.new) }
 {
     if device.taken() >= outline.last {

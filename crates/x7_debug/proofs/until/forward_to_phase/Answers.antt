@@ -8,13 +8,15 @@ use Rattle.x7_debug.proofs.until.forward_to_phase.Goals as goal
 
 -- where the device gets to
 led : (c : goal.After-forward_until) → c.forward_until.new.device.taken ≡ until_of c.args.device.now.part c.args.stream.now (stop.Phase c.args.phase) c.leap_near.new.device.taken
-led c = subst (λ (p : PartData). c.forward_until.new.device.taken ≡ until_of p c.args.stream.now (stop.Phase c.args.phase) c.leap_near.new.device.taken) c.leap_near.ensures.part c.forward_until.ensures.taken
+led c = subst (λ (p : PartData). c.forward_until.new.device.taken ≡ until_of p c.args.stream.now (stop.Phase c.args.phase) c.leap_near.new.device.taken) c.leap_near.ensures.comes.part c.forward_until.ensures.comes.taken
 
-pub returns-clause-taken : goal.returns-clause-taken
-returns-clause-taken c =
-    led c
-    ∙ sym (until-near c.args.device.now.part c.args.stream.now c.args.phase c.args.outline.begins c.requires.begins c.requires.some c.args.device.now.taken c.leap_near.new.device.taken c.leap_near.ensures.forward
-    (omega (arith, c.leap_near.ensures.near, c.requires.begins.within, c.requires.before, c.requires.last)) (λ k h j. omega (arith, c.leap_near.ensures.near, h, j)))
+pub returns-clause-comes : goal.returns-clause-comes
+returns-clause-comes c = record {
+  on = c.forward_until.ensures.comes.on;
+  part = c.forward_until.ensures.comes.part ∙ c.leap_near.ensures.comes.part;
+  taken = led c ∙ sym (until-near c.args.device.now.part c.args.stream.now c.args.phase c.args.outline.begins c.requires.begins c.requires.some c.args.device.now.taken c.leap_near.new.device.taken c.leap_near.ensures.forward
+      (omega (arith, c.leap_near.ensures.near, c.requires.begins.within, c.requires.before, c.requires.last)) (λ k h j. omega (arith, c.leap_near.ensures.near, h, j)));
+}
 
 pub returns-clause-oldest : goal.returns-clause-oldest
 returns-clause-oldest c =

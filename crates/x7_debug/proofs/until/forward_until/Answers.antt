@@ -1,6 +1,6 @@
 use Rattle.std.proofs.Common.{◌≡◌, ◌-◌, ◌<◌, ◌≤◌, ◌∷◌, ℕ, true, false, max, take, refl, ap, sym, subst, ◌∙◌, arith}
 use Rattle.x7_part.specs.Part.{PartData}
-use Rattle.x7_debug.specs.Journal.{oldest_by, records_of}
+use Rattle.x7_debug.specs.Journal.{oldest_by, reach, record_room, records_of}
 use Rattle.x7_debug.specs.Position.{holds_at}
 use Rattle.x7_debug.proofs.JournalLemmas.{Reaches, none_between, none_up_to, reaches_first, reaches_last, reaches_whole, fed_none, fed_on}
 use Rattle.x7_debug.proofs.PositionLemmas.{until-last, until-there}
@@ -18,8 +18,8 @@ loop-stop-init c = record {
   oldest = λ l. absurd (omega (arith, l));
 }
 
-pub returns-then-seek_word-clause-taken : goal.returns-then-seek_word-clause-taken
-returns-then-seek_word-clause-taken c =
+pub returns-then-seek_word-clause-comes : goal.returns-then-seek_word-clause-comes
+returns-then-seek_word-clause-comes c =
     let part : PartData = c.args.device.now.part in
     let stream = c.args.stream.now in
     let from : ℕ = c.args.device.now.taken in
@@ -28,14 +28,18 @@ returns-then-seek_word-clause-taken c =
     let same = c.loop-stop.invariant.part in
     let found : holds_at part stream c.args.stop m ≡ true = subst (λ (p : PartData). holds_at p stream c.args.stop m ≡ true) same (c.seek_word.ensures.found c.if-seek_word.true) in
     let later : (k : ℕ) → n < k → k < m → holds_at part stream c.args.stop k ≡ false = λ k h j. subst (λ (p : PartData). holds_at p stream c.args.stop k ≡ false) same (c.seek_word.ensures.none k h j) in
-    sym (until-there part stream c.args.stop from m (omega (arith, c.loop-stop.invariant.since, c.seek_word.ensures.forward.0)) (omega (arith, c.seek_word.ensures.forward.1, c.requires.last)) found
-    (none_between (holds_at part stream c.args.stop) from n m c.loop-stop.invariant.none later))
+    record {
+      on = c.seek_word.ensures.comes.on;
+      part = c.seek_word.ensures.comes.part ∙ same;
+      taken = sym (until-there part stream c.args.stop from m (omega (arith, c.loop-stop.invariant.since, c.seek_word.ensures.forward.0)) (omega (arith, c.seek_word.ensures.forward.1, c.requires.last)) found
+          (none_between (holds_at part stream c.args.stop) from n m c.loop-stop.invariant.none later));
+    }
 
 pub returns-then-seek_word-clause-oldest : goal.returns-then-seek_word-clause-oldest
 returns-then-seek_word-clause-oldest c =
     let m : ℕ = c.seek_word.new.device.taken in
     let some : c.loop-stop.device.taken < c.args.last = omega (arith, c.loop-stop-test.true, c.taken.ensures.now) in
-    let last : oldest_by m (c.seek_word.ensures.more.0 ∷ take 63 (records_of c.loop-stop.journal)) ≤ max c.args.device.now.taken (m - 253) =
+    let last : oldest_by m (c.seek_word.ensures.more.0 ∷ take (record_room - 1) (records_of c.loop-stop.journal)) ≤ max c.args.device.now.taken (m - reach) =
     reaches_last c.args.device.now.taken c.loop-stop.device.taken m c.seek_word.ensures.more.0 (records_of c.loop-stop.journal) c.seek_word.ensures.more.1 c.seek_word.ensures.forward.0 (c.loop-stop.invariant.reaches some) in
     omega (arith, ap (oldest_by m) c.seek_word.ensures.more.2, last)
 
@@ -54,11 +58,11 @@ loop-stop-preserved c =
     let some : n < c.args.last = omega (arith, c.loop-stop-test.true, c.taken.ensures.now) in
     let here : holds_at part stream c.args.stop m ≡ false = subst (λ (p : PartData). holds_at p stream c.args.stop m ≡ false) same (c.seek_word.ensures.none_at_end c.if-seek_word.false) in
     let later : (k : ℕ) → n < k → k < m → holds_at part stream c.args.stop k ≡ false = λ k h j. subst (λ (p : PartData). holds_at p stream c.args.stop k ≡ false) same (c.seek_word.ensures.none k h j) in
-    let last : oldest_by m (c.seek_word.ensures.more.0 ∷ take 63 (records_of c.loop-stop.journal)) ≤ max from (m - 253) =
+    let last : oldest_by m (c.seek_word.ensures.more.0 ∷ take (record_room - 1) (records_of c.loop-stop.journal)) ≤ max from (m - reach) =
     reaches_last from n m c.seek_word.ensures.more.0 (records_of c.loop-stop.journal) c.seek_word.ensures.more.1 c.seek_word.ensures.forward.0 (c.loop-stop.invariant.reaches some) in
     record {
-      on = c.seek_word.ensures.on;
-      part = c.seek_word.ensures.part ∙ same;
+      on = c.seek_word.ensures.comes.on;
+      part = c.seek_word.ensures.comes.part ∙ same;
       fed = fed_on c.args.device.now c.loop-stop.device c.seek_word.new.device c.loop-stop.invariant.since (omega (arith, c.seek_word.ensures.forward.0)) c.loop-stop.invariant.fed c.seek_word.ensures.fed;
       since = omega (arith, c.loop-stop.invariant.since, c.seek_word.ensures.forward.0);
       within = c.seek_word.ensures.forward.1;
@@ -69,8 +73,13 @@ loop-stop-preserved c =
       oldest = λ l. omega (arith, ap (oldest_by m) c.seek_word.ensures.more.2, last);
     }
 
-pub returns-clause-taken : goal.returns-clause-taken
-returns-clause-taken c =
+pub returns-clause-comes : goal.returns-clause-comes
+returns-clause-comes c =
     let at = c.taken.ensures.now in
-    sym (until-last c.args.device.now.part c.args.stream.now c.args.stop c.args.device.now.taken c.loop-stop.device.taken (omega (arith, c.requires.last, at, c.loop-stop-test.false)) (omega (arith, c.requires.last, c.loop-stop.invariant.within))
-    c.loop-stop.invariant.since c.loop-stop.invariant.none)
+    let here = c.loop-stop.invariant in
+    record {
+      on = here.on;
+      part = here.part;
+      taken = sym (until-last c.args.device.now.part c.args.stream.now c.args.stop c.args.device.now.taken c.loop-stop.device.taken (omega (arith, c.requires.last, at, c.loop-stop-test.false)) (omega (arith, c.requires.last, here.within))
+          here.since here.none);
+    }

@@ -1,4 +1,4 @@
-use Rattle.std.proofs.Common.{◌≡◌, ◌+◌, ◌<◌, ℕ, false, take, subst, ◌∙◌, arith}
+use Rattle.std.proofs.Common.{◌≡◌, ◌+◌, ◌<◌, ℕ, false, take, refl, subst, ◌∙◌, arith}
 use Rattle.x7_part.specs.Part.{PartData}
 use Rattle.x7_engine.specs.Kept.{on_the_bench}
 use Rattle.x7_debug.specs.Position.{holds_at}
@@ -35,14 +35,20 @@ loop-stop-preserved c =
     let here : holds_at part stream c.args.stop n ≡ false =
     holds-is part stream c.args.stop n c.end.result c.phase.result c.holds.result (c.end.ensures part on_the_bench false (take n stream) there.stands) (c.phase.ensures part on_the_bench false (take n stream) there.stands) c.holds.ensures ∙ c.if-holds.false in
     let at : c.taken-at.result ≡ n = c.taken-at.ensures.now in
-    let next : c.advance.new.device.taken ≡ n + 1 = omega (arith, at, c.advance.ensures.stands.taken) in
+    let next : c.feed_to.new.device.taken ≡ n + 1 = omega (arith, at, c.feed_to.ensures.stands.taken) in
     let less : n < c.args.end = omega (arith, at, c.if-at-end.false) in
     record {
-      on = on_further c.loop-stop.device.part stream c.loop-stop.device c.advance.new.device c.args.journal.now (c.taken-at.result + 1) c.requires.some.0 c.requires.some.1 c.loop-stop.invariant.on c.requires.some.2 c.advance.ensures.stands
+      on = on_further c.loop-stop.device.part stream c.loop-stop.device c.feed_to.new.device c.args.journal.now (c.taken-at.result + 1) c.requires.some.0 c.requires.some.1 c.loop-stop.invariant.on c.requires.some.2 c.feed_to.ensures.stands
           (omega (arith, at)) (omega (arith, at, less, c.requires.some.3));
-      part = c.advance.ensures.stands.stands.part_is ∙ c.loop-stop.invariant.part;
-      fed = fed_on c.args.device.now c.loop-stop.device c.advance.new.device c.loop-stop.invariant.since (omega (arith, next)) c.loop-stop.invariant.fed c.advance.ensures.fed;
+      part = c.feed_to.ensures.stands.stands.part_is ∙ c.loop-stop.invariant.part;
+      fed = fed_on c.args.device.now c.loop-stop.device c.feed_to.new.device c.loop-stop.invariant.since (omega (arith, next)) c.loop-stop.invariant.fed c.feed_to.ensures.fed;
       since = omega (arith, next, c.loop-stop.invariant.since);
       within = omega (arith, next, less);
-      none = none_there (holds_at part stream c.args.stop) c.args.device.now.taken n c.advance.new.device.taken next c.loop-stop.invariant.none here;
+      none = none_there (holds_at part stream c.args.stop) c.args.device.now.taken n c.feed_to.new.device.taken next c.loop-stop.invariant.none here;
     }
+
+pub returns-then-holds-clause-comes : goal.returns-then-holds-clause-comes
+returns-then-holds-clause-comes c = record { on = c.loop-stop.invariant.on; part = c.loop-stop.invariant.part; taken = refl }
+
+pub returns-then-at-end-clause-comes : goal.returns-then-at-end-clause-comes
+returns-then-at-end-clause-comes c = record { on = c.loop-stop.invariant.on; part = c.loop-stop.invariant.part; taken = refl }
