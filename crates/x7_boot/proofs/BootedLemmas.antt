@@ -16,7 +16,7 @@ use Rattle.x7_boot.specs.declared.boots.Tried.{Tried}
 use Rattle.x7_boot.specs.declared.next.Next.{Next}
 use Rattle.x7_boot.specs.declared.next.Next.TheVariants.{Again, Ends}
 
--- what holds of all bytes holds of those that are told
+-- what holds of all bytes holds of those that are known
 pub where_all : (known : Option (List ℕ)) (P : List ℕ → Type 0) → ((all : List ℕ) → P all) → IfKnown known P
 where_all None P f = tt
 where_all (Some all) P f = f all
@@ -80,7 +80,7 @@ led_ends part kept address all d ending attempts number next end led tries table
 abbrev pub ByTable : DeviceState → Kept → ℕ → Ending → Next → Type 0
 ByTable d kept number ending next = (part : PartData) (t : Trial) → IsDeviceOf part d t → t.kept.kind ≡ kept.kind → next ≡ next_by part number t ending
 
--- an attempt as it is told
+-- an attempt as it is reported
 abbrev pub told_as : Kept → ℕ → Ending → Tried
 told_as kept address ending = record { kind = kept.kind; address = address; ending = ending }
 

@@ -1,4 +1,4 @@
--- The course of a boot: a chain of attempts that leads to an end is the only one, and how an attempt is told and followed.
+-- The course of a boot: a chain of attempts that leads to an end is the only one, and how an attempt is reported and followed.
 use Rattle.std.proofs.Common.{◌≡◌, ◌==◌, inl, inr, ℕ, suc, Bool, true, false, if◌then◌else◌, Option, None, Some, List, ◌∷◌, drop, take, length, map, reverse, refl, ap, sym, ◌∙◌, arith}
 use Rattle.std.proofs.Math.Seq.{take-length, take_all}
 use Rattle.std.proofs.lemmas.Bool.{cases_lt, or_from, or_right}
@@ -41,7 +41,7 @@ along part flash c last older end course leads =
     ∙ ap (λ (e : BootEnd). record { attempts = reverse (map tried (last ∷ older)); end = e; last = c.last }) same.1
     ∙ ap (λ (t : Trial). record { attempts = reverse (map tried (last ∷ older)); end = end; last = t }) (first_is c.last last course.older older same.0)
 
--- how an attempt is told
+-- how an attempt is reported
 pub tried_is : (t : Trial) (kind : Kind) (address : ℕ) (e : Ending) → t.kept.kind ≡ kind → t.address ≡ address → t.ending ≡ e → tried t ≡ record { kind = kind; address = address; ending = e }
 tried_is t kind address e k a ends =
     ap (λ (x : Kind). record { kind = x; address = t.address; ending = t.ending }) k
@@ -68,7 +68,7 @@ not_ended : (b : Bool) (o : Option Ending) → (if b then Some ending.Started el
 not_ended true o e = absurd (cc)
 not_ended false o e = e
 
--- another fault, or none, where the flash ended
+-- a fault that ends no attempt, or none, where the flash has ended
 wrapped_by : (o : Option Fault) → cause_of o false ≡ None → cause_of o true ≡ Some Wrap
 wrapped_by None e = refl
 wrapped_by (Some (fault.Packet w)) e = refl

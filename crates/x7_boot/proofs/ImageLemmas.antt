@@ -1,10 +1,10 @@
 -- Lemmas on the layout of an image.
 use Rattle.std.proofs.Common.{◌≡◌, ℕ, ◌/◌, List, [], ◌∷◌, ◌++◌, length, refl, ap, ◌∙◌}
 use Rattle.std.specs.List.{AllZip, repeat}
-use Rattle.x7_boot.specs.Image.{closed_slots, first_sector, slot, image_of, image_size, update_place, filled_to}
+use Rattle.x7_boot.specs.Image.{closed_slots, first_sector, slot, image_of, image_size, place_after_golden, filled_to}
 
 -- the image by its places
-pub image_put : (unit place size start : ℕ) (golden update all : List ℕ) → place ≡ update_place (length golden) → size ≡ image_size (length golden) (length update)
+pub image_put : (unit place size start : ℕ) (golden update all : List ℕ) → place ≡ place_after_golden (length golden) → size ≡ image_size (length golden) (length update)
     → start ≡ place / unit → all ≡ filled_to size (filled_to place (first_sector start ++ golden) ++ update) → all ≡ image_of unit golden update
 unfolding image_of
 image_put unit place size start golden update all p s t e =

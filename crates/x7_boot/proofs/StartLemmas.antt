@@ -36,7 +36,7 @@ no_pair [] between older desync start (inl other, rest) d s = let both : true �
 no_pair [] between older desync start (inr none, rest) d s = none_there between older start none s
 no_pair (x ∷ newer) between older desync start never d s = no_pair newer between older desync start never.1 d s
 
--- nor in fewer bytes
+-- startup begins nowhere in fewer bytes either
 pub never_until : (n : ℕ) (h : History) → NeverStarts h → NeverStarts (until n h)
 never_until n [] never = tt
 never_until n (e ∷ h) never = by (nat_lt n e.place) (never_until n h never.1)

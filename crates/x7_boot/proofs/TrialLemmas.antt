@@ -19,8 +19,7 @@ use Rattle.x7_engine.specs.Stops.{Stopped, fault_of, stopped_at}
 use Rattle.x7_engine.specs.Values.{cause_of}
 use Rattle.x7_engine.proofs.BootLemmas.{may_wrap, none_due_at_first}
 use Rattle.x7_engine.proofs.StateLemmas.{stop_is_final-state, stop_is_final-stop}
-use Rattle.x7_boot.specs.Attempt.{Feeds, IsReady, NoneBefore, StepsTo, Took, Trial, Tries, attempt_at, ending_at, ending_by, failed_by, past_of}
-use Rattle.x7_boot.specs.Image.{flash_limit}
+use Rattle.x7_boot.specs.Attempt.{Feeds, IsReady, NoneBefore, StepsTo, Took, Trial, Tries, attempt_at, ending_at, ending_by, failed_by, past_in_flash}
 use Rattle.x7_boot.specs.declared.attempt.Ending.{Ending}
 use Rattle.x7_boot.specs.declared.attempt.Ending.TheVariants.{Started, Iprog, Failed}
 use Rattle.x7_boot.specs.declared.attempt.Step.{Step}
@@ -28,7 +27,7 @@ use Rattle.x7_boot.specs.declared.attempt.Step.TheVariants.{Goes, Ends, Stops}
 use Rattle.x7_boot.proofs.BootedLemmas.{where_all}
 use Rattle.x7_boot.proofs.TookLemmas.{ends_by_stop, ends_started}
 
--- ---- nothing ends it
+-- ---- nothing ends an attempt
 
 -- an attempt that no bytes ended is neither started, nor failed, nor left by an IPROG
 not_started : (part : PartData) (kept : Kept) (bytes : List ℕ) → ending_at part kept bytes ≡ None → ((state_of part kept false bytes).phase == 7) ≡ false
@@ -54,15 +53,15 @@ no_cause (Some (stop.Fault f)) e = by (cause_of (Some f) false) e
 not_left : (o : Option Stop) → ending_by o ≡ None → o ≡ Some stop.Iprog → ⊥
 not_left o e f = let some : ending_by o ≡ Some Iprog = ap ending_by f in cc
 
--- so the flash may end
+-- the flash may end where nothing ended the attempt
 pub ends_here : (part : PartData) (kept : Kept) (d : DeviceState) (bytes : List ℕ) → (kept.kind ≡ Bench → ⊥) → DeviceStandsFor part kept false d bytes → ending_at part kept bytes ≡ None → NoWordDue d → MayWrap d
 ends_here part kept d bytes boots s none due =
     let o : ending_by (why_of (stop_in part kept bytes)) ≡ None = no_ending part kept bytes none in
     may_wrap part kept false d bytes s boots (not_started part kept bytes none) (no_cause (why_of (stop_in part kept bytes)) o) (not_left (why_of (stop_in part kept bytes)) o) due
 
--- ---- how it begins, and goes on
+-- ---- how an attempt begins, and goes on
 
--- no byte ends it
+-- no byte ends an attempt
 none_at_first : (part : PartData) (kept : Kept) → ending_at part kept [] ≡ None
 none_at_first part kept = refl
 
@@ -77,7 +76,6 @@ feeds_first part kept address known d s = record {
   open_end = none_at_first part kept;
   due = none_due_at_first part kept false d s;
   count = omega arith;
-  few = omega arith;
   read = where_all known (λ all. [] ≡ slice_range all address address) (λ all. empty_range all address);
   none = λ k l. absurd (omega (arith, l));
 }
@@ -107,7 +105,7 @@ none_joined part kept bytes page n within before inside k l = elim (cases_lt k (
       subst (λ (b : List ℕ). ending_at part kept b ≡ None) (sym here) (inside (k - length bytes) (omega (arith, l, sum, long, late)))
 ]
 
--- bytes of the flash behind others
+-- bytes of the flash after others
 ranges_join : (all : List ℕ) (a b c : ℕ) → a ≤ b → b ≤ c → slice_range all a b ++ slice_range all b c ≡ slice_range all a c
 ranges_join all a b c l m =
     let e : a + (b - a) ≡ b = omega (arith, l) in
@@ -120,9 +118,9 @@ joined_told : (known : Option (List ℕ)) (bytes page : List ℕ) (a b c : ℕ) 
 joined_told None bytes page a b c l m e f = tt
 joined_told (Some all) bytes page a b c l m e f = ap (λ (x : List ℕ). x ++ page) e ∙ ap (λ (x : List ℕ). slice_range all a b ++ x) f ∙ ranges_join all a b c l m
 
-pub feeds_on : (part : PartData) (kept : Kept) (address : ℕ) (known : Option (List ℕ)) (d new : DeviceState) (page : List ℕ) (at end : ℕ) (step : Step) → at + length page ≡ end → end ≤ flash_limit → (f : Feeds (attempt_at part kept address) known d at)
-    → IfKnown known (λ all. page ≡ slice_range all at end) → Took (past_of part kept f.bytes) new page step → step ≡ Goes → Feeds (attempt_at part kept address) known new end
-feeds_on part kept address known d new page at end step sum limit f told t goes =
+pub feeds_on : (part : PartData) (kept : Kept) (address : ℕ) (known : Option (List ℕ)) (d new : DeviceState) (page : List ℕ) (at end : ℕ) (step : Step) → at + length page ≡ end → (f : Feeds (attempt_at part kept address) known d at)
+    → IfKnown known (λ all. page ≡ slice_range all at end) → Took (past_in_flash part kept f.bytes) new page step → step ≡ Goes → Feeds (attempt_at part kept address) known new end
+feeds_on part kept address known d new page at end step sum f told t goes =
     let whole : t.count ≡ length page = t.all goes in
     let all : take t.count page ≡ page = ap (λ (n : ℕ). take n page) whole ∙ take_all (length page) page (omega arith) in
     let steps : StepsTo part kept (f.bytes ++ page) Goes = subst (λ (s : Step). StepsTo part kept (f.bytes ++ page) s) goes (subst (λ (b : List ℕ). StepsTo part kept (f.bytes ++ b) step) all t.steps) in
@@ -135,12 +133,11 @@ feeds_on part kept address known d new page at end step sum limit f told t goes 
       open_end = steps.1;
       due = t.due;
       count = omega (arith, count, long, sum);
-      few = omega (arith, count, long, sum, limit);
       read = joined_told known f.bytes page address at end (omega (arith, count)) (omega (arith, sum)) f.read told;
       none = subst (λ (b : List ℕ). (k : ℕ) → k < length (f.bytes ++ b) → ending_at part kept (take k (f.bytes ++ b)) ≡ None) all (none_joined part kept f.bytes page t.count t.within f.none t.none);
     }
 
--- ---- how it ends
+-- ---- how an attempt ends
 
 -- the bytes of a flash from an address on begin with those taken
 flash_from : (all bytes page : List ℕ) (address at end n : ℕ) → address ≤ at → at ≤ end → n ≤ length page → bytes ≡ slice_range all address at → page ≡ slice_range all at end
@@ -152,14 +149,14 @@ flash_from all bytes page address at end n l m within e f =
     sym (take-append-drop (end - address) (drop address all)) ∙ ap (λ (x : List ℕ). x ++ rest) (sym whole)
     ∙ ap (λ (x : List ℕ). (bytes ++ x) ++ rest) cut ∙ ap (λ (x : List ℕ). x ++ rest) (sym (append_assoc bytes (take n page) (drop n page))) ∙ append_assoc (bytes ++ take n page) (drop n page) rest
 
--- nothing ends it at fewer bytes than those taken
+-- nothing ends an attempt at fewer bytes than those taken
 none_of : (part : PartData) (kept : Kept) (from bytes rest : List ℕ) → from ≡ bytes ++ rest → ((k : ℕ) → k < length bytes → ending_at part kept (take k bytes) ≡ None) → NoneBefore part kept from (length bytes)
 none_of part kept from bytes rest e none k l =
     subst (λ (b : List ℕ). ending_at part kept b ≡ None) (sym (ap (take k) e ∙ take-append-le k bytes rest (omega (arith, l)))) (none k l)
 
 -- the attempt of a page that ends it
 pub tries_ended : (part : PartData) (kept : Kept) (address : ℕ) (all : List ℕ) (d new : DeviceState) (page : List ℕ) (at end : ℕ) (step : Step) (e : Ending) → at ≤ end → (f : Feeds (attempt_at part kept address) (Some all) d at)
-    → page ≡ slice_range all at end → Took (past_of part kept f.bytes) new page step → step ≡ Ends e → Tries (attempt_at part kept address) all new e
+    → page ≡ slice_range all at end → Took (past_in_flash part kept f.bytes) new page step → step ≡ Ends e → Tries (attempt_at part kept address) all new e
 tries_ended part kept address all d new page at end step e order f told t is =
     let bytes : List ℕ = f.bytes ++ take t.count page in
     let count : address + length f.bytes ≡ at = f.count in
@@ -176,7 +173,7 @@ tries_ended part kept address all d new page at end step e order f told t is =
       device = t.stands;
     }
 
--- a stop that doesn't end it stays to the flash's end
+-- a stop that doesn't end an attempt stays to the flash's end
 stays_open : (part : PartData) (kept : Kept) (bytes more : List ℕ) → AreBytes (bytes ++ more) → IsSome (stop_in part kept bytes) → ending_at part kept bytes ≡ None → ending_at part kept (bytes ++ more) ≡ None
 stays_open part kept bytes more fits some none = by (stop_in part kept bytes) refl some
   where
@@ -221,7 +218,7 @@ taken_stopped part kept d from bytes rest e fits stands some = by (stop_in part 
 
 -- the attempt of a page in which the device stopped, where the flash has ended for it
 pub tries_stopped : (part : PartData) (kept : Kept) (address : ℕ) (all : List ℕ) (d new wrapped : DeviceState) (page : List ℕ) (at end : ℕ) (step : Step) → AreBytes all → at ≤ end → (f : Feeds (attempt_at part kept address) (Some all) d at)
-    → page ≡ slice_range all at end → (t : Took (past_of part kept f.bytes) new page step) → step ≡ Stops → DeviceStandsFor part kept true wrapped (f.bytes ++ take t.count page) → Tries (attempt_at part kept address) all wrapped (Failed Wrap)
+    → page ≡ slice_range all at end → (t : Took (past_in_flash part kept f.bytes) new page step) → step ≡ Stops → DeviceStandsFor part kept true wrapped (f.bytes ++ take t.count page) → Tries (attempt_at part kept address) all wrapped (Failed Wrap)
 tries_stopped part kept address all d new wrapped page at end step fits order f told t is w =
     let bytes : List ℕ = f.bytes ++ take t.count page in
     let count : address + length f.bytes ≡ at = f.count in
@@ -281,19 +278,19 @@ known_out part kept address (Some all) d wrapped at size e f past told w is =
     λ fits. subst (λ (x : Ending). Tries (attempt_at part kept address) all wrapped x) (sym is) (tries_out part kept address all d wrapped at f (omega (arith, past, told)) w)
 
 pub known_ended : (part : PartData) (kept : Kept) (address : ℕ) (known : Option (List ℕ)) (d new : DeviceState) (page : List ℕ) (at : ℕ) (step : Step) (e : Ending) → (f : Feeds (attempt_at part kept address) known d at)
-    → IfKnown known (λ all. page ≡ slice_range all at (at + length page)) → Took (past_of part kept f.bytes) new page step → step ≡ Ends e → IfKnown known (λ all. AreBytes all → Tries (attempt_at part kept address) all new e)
+    → IfKnown known (λ all. page ≡ slice_range all at (at + length page)) → Took (past_in_flash part kept f.bytes) new page step → step ≡ Ends e → IfKnown known (λ all. AreBytes all → Tries (attempt_at part kept address) all new e)
 known_ended part kept address None d new page at step e f told t is = tt
 known_ended part kept address (Some all) d new page at step e f told t is = λ fits. tries_ended part kept address all d new page at (at + length page) step e (omega arith) f told t is
 
 pub known_stopped : (part : PartData) (kept : Kept) (address : ℕ) (known : Option (List ℕ)) (d new wrapped : DeviceState) (page : List ℕ) (at : ℕ) (step : Step) (e : Ending) → (f : Feeds (attempt_at part kept address) known d at)
-    → IfKnown known (λ all. page ≡ slice_range all at (at + length page)) → (t : Took (past_of part kept f.bytes) new page step) → step ≡ Stops → DeviceStandsFor part kept true wrapped (f.bytes ++ take t.count page) → e ≡ Failed Wrap
+    → IfKnown known (λ all. page ≡ slice_range all at (at + length page)) → (t : Took (past_in_flash part kept f.bytes) new page step) → step ≡ Stops → DeviceStandsFor part kept true wrapped (f.bytes ++ take t.count page) → e ≡ Failed Wrap
     → IfKnown known (λ all. AreBytes all → Tries (attempt_at part kept address) all wrapped e)
 known_stopped part kept address None d new wrapped page at step e f told t is w failed = tt
 known_stopped part kept address (Some all) d new wrapped page at step e f told t is w failed =
     λ fits. subst (λ (x : Ending). Tries (attempt_at part kept address) all wrapped x) (sym failed) (tries_stopped part kept address all d new wrapped page at (at + length page) step fits (omega arith) f told t is w)
 
 -- a device that stopped, where the flash may end
-pub stops_here : (part : PartData) (kept : Kept) (d : DeviceState) (bytes page : List ℕ) (step : Step) → (kept.kind ≡ Bench → ⊥) → Took (past_of part kept bytes) d page step → step ≡ Stops → MayWrap d
+pub stops_here : (part : PartData) (kept : Kept) (d : DeviceState) (bytes page : List ℕ) (step : Step) → (kept.kind ≡ Bench → ⊥) → Took (past_in_flash part kept bytes) d page step → step ≡ Stops → MayWrap d
 stops_here part kept d bytes page step boots t is =
     let steps : StepsTo part kept (bytes ++ take t.count page) Stops = subst (λ (s : Step). StepsTo part kept (bytes ++ take t.count page) s) is t.steps in
     ends_here part kept d (bytes ++ take t.count page) boots t.stands steps.1 t.due

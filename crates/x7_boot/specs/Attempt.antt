@@ -15,12 +15,12 @@ use Rattle.x7_engine.specs.declared.fed.Fed.TheVariants as fed
 use Rattle.x7_engine.specs.declared.kept.Kept.{Kept}
 use Rattle.x7_engine.specs.declared.stop.Stop.{Stop}
 use Rattle.x7_engine.specs.declared.stop.Stop.TheVariants as stop
-use Rattle.x7_boot.specs.Image.{flash_limit}
 use Rattle.x7_boot.specs.declared.attempt.Ending.{Ending}
 use Rattle.x7_boot.specs.declared.attempt.Ending.TheVariants.{Started, Iprog, Failed}
 use Rattle.x7_boot.specs.declared.attempt.Step.{Step}
 use Rattle.x7_boot.specs.declared.attempt.Step.TheVariants.{Goes, Ends, Stops}
 
+-- a failure by this cause, if there is a cause
 abbrev pub failed_by : Option Cause → Option Ending
 failed_by None = None
 failed_by (Some cause) = Some (Failed cause)
@@ -89,8 +89,8 @@ StepsTo part kept bytes (Ends e) = ending_at part kept bytes ≡ Some e
 StepsTo part kept bytes Stops = IsSome (stop_in part kept bytes) × (ending_at part kept bytes ≡ None)
 
 -- the past of a device in an attempt in which the flash has not ended
-abbrev pub past_of : PartData → Kept → List ℕ → Past
-past_of part kept bytes = record { part = part; kept = kept; wrapped = false; bytes = bytes }
+abbrev pub past_in_flash : PartData → Kept → List ℕ → Past
+past_in_flash part kept bytes = record { part = part; kept = kept; wrapped = false; bytes = bytes }
 
 -- a device with this past took bytes of a piece: all of it where the attempt goes on
 pub record Took (p : Past) (d : DeviceState) (piece : List ℕ) (step : Step) : Type 0 where
@@ -106,7 +106,7 @@ pub record Took (p : Past) (d : DeviceState) (piece : List ℕ) (step : Step) : 
 abbrev pub TakesPage : DeviceState → List ℕ → Step → DeviceState → Type 0
 TakesPage old page step new =
     (part : PartData) (kept : Kept) (bytes : List ℕ) → DeviceStandsFor part kept false old bytes → stop_in part kept bytes ≡ None → ending_at part kept bytes ≡ None
-    → Took (past_of part kept bytes) new page step
+    → Took (past_in_flash part kept bytes) new page step
 
 -- a device in an attempt that nothing has ended, whose bytes with `more` further ones are at most 2^63
 pub record IsReady (d : DeviceState) (more : ℕ) : Type 0 where
@@ -124,6 +124,7 @@ pub record Attempting : Type 0 where
   pub kept : Kept
   pub address : ℕ
 
+-- an attempt of a device of the part, by what the device kept and the address
 abbrev pub attempt_at : PartData → Kept → ℕ → Attempting
 attempt_at part kept address = record { part = part; kept = kept; address = address }
 
@@ -144,6 +145,5 @@ pub record Feeds (a : Attempting) (known : Option (List ℕ)) (d : DeviceState) 
   pub open_end : ending_at a.part a.kept bytes ≡ None
   pub due : NoWordDue d
   pub count : a.address + length bytes ≡ at
-  pub few : length bytes ≤ flash_limit
   pub read : IfKnown known (λ all. bytes ≡ slice_range all a.address at)
   pub none : (k : ℕ) → k < length bytes → ending_at a.part a.kept (take k bytes) ≡ None

@@ -18,17 +18,18 @@ abbrev pub sector_from : ℕ → ℕ
 sector_from place = (place + (sector_bytes - 1)) / sector_bytes * sector_bytes
 
 -- where the update stands, after a golden stream of `golden` bytes
-abbrev pub update_place : ℕ → ℕ
-update_place golden = max (2 * sector_bytes) (sector_from (sector_bytes + golden))
+abbrev pub place_after_golden : ℕ → ℕ
+place_after_golden golden = max (2 * sector_bytes) (sector_from (sector_bytes + golden))
 
 -- a slot with this switch word and this start address
 unfoldable pub slot : ℕ → ℕ → List ℕ
 slot switch start = flash_slot (bytes_of_word switch) (bytes_of_word start)
 
--- an open slot begins with the sync word, a closed one with a dummy word
+-- an open slot begins with the sync word
 abbrev pub open_slot : ℕ → List ℕ
 open_slot start = slot sync_word start
 
+-- a closed slot begins with a dummy word
 abbrev pub closed_slot : ℕ → List ℕ
 closed_slot start = slot dummy_word start
 
@@ -46,10 +47,10 @@ first_sector start = open_slot start ++ closed_slots start
 
 -- the size of the image, by the lengths of both streams
 abbrev pub image_size : ℕ → ℕ → ℕ
-image_size golden update = sector_from (update_place golden + update)
+image_size golden update = sector_from (place_after_golden golden + update)
 
 -- the image for a part of which one step of the start address stands for `unit` bytes
 unfoldable pub image_of : ℕ → List ℕ → List ℕ → List ℕ
 image_of unit golden update =
     filled_to (image_size (length golden) (length update))
-    (filled_to (update_place (length golden)) (first_sector (update_place (length golden) / unit) ++ golden) ++ update)
+    (filled_to (place_after_golden (length golden)) (first_sector (place_after_golden (length golden) / unit) ++ golden) ++ update)

@@ -2,6 +2,7 @@
 ghost use Rattle.std.specs.Prelude.{◌≡◌, ◌+◌, ◌*◌, ◌/◌, ◌%◌, ◌<◌, ◌≤◌, ℕ, List, Option, None, [], length, true, nat_eq, IfOk, OnOk, IsErrOf, IsSome};
 ghost use Rattle.x7_words.specs.Flash.{FlashFails, OnlyReads};
 ghost use Rattle.std.specs.Map.{lookup};
+ghost use Rattle.x7_boot.specs.Image.{flash_limit};
 ghost use Rattle.x7_boot.specs.Pages.{ArePages, HasPage, HoldsFrom, IsLoaded, IsRest, KeepsPages, Reaches, block_pages, page_size};
 
 use crate::fault::BootFault;
@@ -54,7 +55,7 @@ impl PageCache {
     pub(crate) fn load<F: Flash>(&mut self, flash: &mut F, number: u64) -> Result<Loaded, BootFault>
         requires attached { (F.state flash.old).attached ≡ true }
         requires within { number * page_size < (F.state flash.old).extent }
-        requires limit { (F.state flash.old).extent ≤ 134217728 }
+        requires limit { (F.state flash.old).extent ≤ flash_limit }
         requires pages { ArePages (F.state flash.old).bytes (F.state flash.old).extent self.old.pages.entries }
         ensures pages { ArePages (F.state flash.old).bytes (F.state flash.old).extent self.new.pages.entries }
         ensures there { OnOk result (IsSome (lookup (nat_eq number) self.new.pages.entries)) }
@@ -69,21 +70,16 @@ impl PageCache {
             return Ok(Loaded::Kept);
         }
         let count = self.absent_pages(number, flash.size());
-        match read_block(flash, number, count, &mut self.block) {
-            Ok(()) => (),
-            Err(fault) => return Err(fault),
-        }
-        match self.keep_block(number, count) {
-            Ok(()) => Ok(Loaded::Read(count)),
-            Err(fault) => Err(fault),
-        }
+        read_block(flash, number, count, &mut self.block)?;
+        self.keep_block(number, count)?;
+        Ok(Loaded::Read(count))
     }
 
     /// How many pages from a number on a block has: at most sixteen, none past the flash's end, and after the first none that the
     /// cache has.
     fn absent_pages(&self, number: u64, size: u64) -> u64
         requires within { number * page_size < size }
-        requires limit { size ≤ 134217728 }
+        requires limit { size ≤ flash_limit }
         ensures some { 0 < result }
         ensures most { result ≤ block_pages }
         ensures within { (page : ℕ) → page < number + result → page * page_size < size }
@@ -101,7 +97,7 @@ impl PageCache {
     fn keep_block(&mut self, number: u64, count: u64) -> Result<(), BootFault>
         requires some { 0 < count }
         requires most { count ≤ block_pages }
-        requires number { number ≤ 32768 }
+        requires number { number ≤ flash_limit / page_size }
         requires within { count * page_size < length self.old.block.items + page_size }
         ensures pages { KeepsPages self.old.block.items number count self.old.pages.entries self.new.pages.entries }
         ensures there { OnOk result (IsSome (lookup (nat_eq number) self.new.pages.entries)) }
@@ -112,17 +108,14 @@ impl PageCache {
         let mut left = count;
         'pages: while left > 0 {
             left -= 1;
-            match self.keep_page(number, left) {
-                Ok(()) => (),
-                Err(fault) => return Err(fault),
-            }
+            self.keep_page(number, left)?;
         }
         Ok(())
     }
 
     /// Makes the cache have the page at an index of a block, as the one used last.
     fn keep_page(&mut self, number: u64, index: u64) -> Result<(), BootFault>
-        requires number { number ≤ 32768 }
+        requires number { number ≤ flash_limit / page_size }
         requires index { index < block_pages }
         requires within { index * page_size < length self.old.block.items }
         ensures pages { (count : ℕ) → index < count → KeepsPages self.old.block.items number count self.old.pages.entries self.new.pages.entries }

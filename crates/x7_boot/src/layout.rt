@@ -1,7 +1,7 @@
 //! A flash image with a golden and an update stream.
 ghost use Rattle.std.specs.Prelude.{◌≡◌, ◌+◌, ◌-◌, ◌*◌, ◌/◌, ◌<◌, ◌≤◌, ◌++◌, ◌↔◌, length, Err, IfOk, IfSome, OnOk, IfNone};
 ghost use Rattle.x7_packets.specs.FlashSlot.{sector_bytes};
-ghost use Rattle.x7_boot.specs.Image.{closed_slots, filled_to, first_sector, flash_limit, image_of, image_size, sector_from, slot, update_place};
+ghost use Rattle.x7_boot.specs.Image.{closed_slots, filled_to, first_sector, flash_limit, image_of, image_size, sector_from, slot, place_after_golden};
 
 use crate::fault::ImageFault;
 use std::alloc::Global;
@@ -21,7 +21,7 @@ fn sector_from(place: u64) -> u64
 /// The update's place and the image's size in bytes, by the lengths of both streams; none where the image would be larger than
 /// a flash may be.
 fn places(golden: u64, update: u64) -> Option<(u64, u64)>
-    ensures found { IfSome result (λ it. (it.0 ≡ update_place golden) × (it.1 ≡ image_size golden update) × (it.1 ≤ flash_limit)) }
+    ensures found { IfSome result (λ it. (it.0 ≡ place_after_golden golden) × (it.1 ≡ image_size golden update) × (it.1 ≤ flash_limit)) }
     ensures none { IfNone result (flash_limit < image_size golden update) }
 {
     if golden > FLASH_LIMIT - SECTOR {

@@ -1,6 +1,7 @@
 //! Reading a flash by pages.
 ghost use Rattle.std.specs.Prelude.{◌≡◌, ◌*◌, ◌<◌, ◌≤◌, ◌^◌, true, OnOk, IsErrOf};
 ghost use Rattle.x7_words.specs.Flash.{FlashFails, OnlyReads};
+ghost use Rattle.x7_boot.specs.Image.{flash_limit};
 ghost use Rattle.x7_boot.specs.Pages.{IsBlock, block_pages, page_size};
 
 use crate::fault::BootFault;
@@ -22,7 +23,7 @@ pub(crate) fn read_block<F: Flash>(
     requires attached { (F.state flash.old).attached ≡ true }
     requires within { number * page_size < (F.state flash.old).extent }
     requires count { count ≤ block_pages }
-    requires limit { (F.state flash.old).extent ≤ 134217728 }
+    requires limit { (F.state flash.old).extent ≤ flash_limit }
     ensures read { OnOk result (IsBlock (F.state flash.old).bytes (F.state flash.old).extent number count block.new.items) }
     ensures failed { IsErrOf result BootFault.Failed → FlashFails (F.state flash.old) (F.state flash.new) }
     ensures quiet { OnOk result ((F.state flash.new).faults ≡ (F.state flash.old).faults) }

@@ -8,6 +8,7 @@ ghost use Rattle.x7_part.specs.Part.{PartData};
 ghost use Rattle.x7_engine.specs.declared.kept.Kept.{Kept as KeptData};
 ghost use Rattle.x7_engine.specs.Standing.{DeviceStandsFor, MayWrap, NoWordDue, with_wrap};
 ghost use Rattle.x7_boot.specs.Attempt.{Feeds, Tries, attempt_at};
+ghost use Rattle.x7_boot.specs.Image.{flash_limit};
 ghost use Rattle.x7_boot.specs.Pages.{ArePages};
 ghost use Rattle.x7_boot.specs.declared.attempt.Ending.TheVariants as ending;
 
@@ -47,7 +48,7 @@ pub(crate) fn try_once<F: Flash>(
     address: u32,
 ) -> Result<Ending, BootFault>
     requires attached { (F.state flash.old).attached ≡ true }
-    requires limit { (F.state flash.old).extent ≤ 134217728 }
+    requires limit { (F.state flash.old).extent ≤ flash_limit }
     requires boots { keep.kind ≡ Bench → ⊥ }
     requires pages { ArePages (F.state flash.old).bytes (F.state flash.old).extent pages.old.pages.entries }
     ensures pages { ArePages (F.state flash.old).bytes (F.state flash.old).extent pages.new.pages.entries }

@@ -36,8 +36,7 @@ pages-preserved g c =
     let from = c.bytes_from-bytes.ensures known extent below are read in
     let t = c.take_page.ensures c.args.device.now.part c.args.keep f.bytes f.stands f.going f.open_end in
     record {
-      feeds = feeds_on c.args.device.now.part c.args.keep c.args.address (g.F.Flash.state c.args.flash.now).bytes c.pages.device c.take_page.new.device c.bytes_from-bytes.result.now c.pages.at (c.pages.at + length c.bytes_from-bytes.result.now) c.take_page.result refl
-          (from_limited known extent c.pages.at c.bytes_from-bytes.result.now c.requires.limit from) f from.bytes_are t c.in-Goes.is;
+      feeds = feeds_on c.args.device.now.part c.args.keep c.args.address (g.F.Flash.state c.args.flash.now).bytes c.pages.device c.take_page.new.device c.bytes_from-bytes.result.now c.pages.at (c.pages.at + length c.bytes_from-bytes.result.now) c.take_page.result refl f from.bytes_are t c.in-Goes.is;
       kept = are;
       quiet = c.in_ok-loaded.ensures.quiet ∙ c.pages.invariant.quiet;
       flash = reads_on _ _ _ _ _ _ c.pages.invariant.flash c.in_ok-loaded.ensures.flash;

@@ -12,11 +12,11 @@ pages-preserved c =
       kept = λ known extent block are.
           c.keep_page.ensures.pages c.args.count (let m = i.most in omega (arith, m, c.pages-test.true)) known extent
           (subst (λ (v : Vec ℕ Global). IsBlock known extent c.args.number c.args.count v.items) (sym i.same) block) (i.kept known extent block are);
-      there = λ _. c.in-Ok.ensures.there;
+      there = λ _. c.in_ok-keep_page.ensures.there;
     }
 
-pub returns-in-Err-clause-pages : goal.returns-in-Err-clause-pages
-returns-in-Err-clause-pages c = λ known extent block are.
+pub returns-in_err-keep_page-clause-pages : goal.returns-in_err-keep_page-clause-pages
+returns-in_err-keep_page-clause-pages c = λ known extent block are.
     let i = c.pages.invariant in
     c.keep_page.ensures.pages c.args.count (let m = i.most in omega (arith, m, c.pages-test.true)) known extent
     (subst (λ (v : Vec ℕ Global). IsBlock known extent c.args.number c.args.count v.items) (sym i.same) block) (i.kept known extent block are)

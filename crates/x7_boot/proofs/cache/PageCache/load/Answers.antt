@@ -15,19 +15,19 @@ returns-then-promote-clause-there g c =
     subst (λ (k : LruCache ℕ (Vec ℕ Global)). IsSome (lookup (nat_eq c.args.number) k.entries)) (sym c.promote.ensures.entries)
     (there_promoted (nat_eq c.args.number) c.args.self.now.pages.entries (sym c.promote.ensures.value ∙ c.if-promote.true))
 
-pub returns-in-Err-clause-pages : goal.returns-in-Err-clause-pages
-returns-in-Err-clause-pages g c =
+pub returns-in_err-read_block-clause-pages : goal.returns-in_err-read_block-clause-pages
+returns-in_err-read_block-clause-pages g c =
     let f = g.F.Flash in
     pages_on_promote (f.state c.args.flash.now).bytes (f.state c.args.flash.now).extent (nat_eq c.args.number) c.args.self.now.pages c.promote.new.self c.promote.ensures.entries c.requires.pages
 
-pub returns-in-Ok-keep_block-clause-pages : goal.returns-in-Ok-keep_block-clause-pages
-returns-in-Ok-keep_block-clause-pages g c =
+pub returns-clause-pages : goal.returns-clause-pages
+returns-clause-pages g c =
     let f = g.F.Flash in
-    c.keep_block.ensures.pages (f.state c.args.flash.now).bytes (f.state c.args.flash.now).extent c.in-Ok.ensures.read
+    c.keep_block.ensures.pages (f.state c.args.flash.now).bytes (f.state c.args.flash.now).extent c.in_ok-read_block.ensures.read
     (pages_on_promote (f.state c.args.flash.now).bytes (f.state c.args.flash.now).extent (nat_eq c.args.number) c.args.self.now.pages c.promote.new.self c.promote.ensures.entries c.requires.pages)
 
-pub returns-in-Err-keep_block-clause-pages : goal.returns-in-Err-keep_block-clause-pages
-returns-in-Err-keep_block-clause-pages g c =
+pub returns-in_err-keep_block-clause-pages : goal.returns-in_err-keep_block-clause-pages
+returns-in_err-keep_block-clause-pages g c =
     let f = g.F.Flash in
-    c.keep_block.ensures.pages (f.state c.args.flash.now).bytes (f.state c.args.flash.now).extent c.in-Ok.ensures.read
+    c.keep_block.ensures.pages (f.state c.args.flash.now).bytes (f.state c.args.flash.now).extent c.in_ok-read_block.ensures.read
     (pages_on_promote (f.state c.args.flash.now).bytes (f.state c.args.flash.now).extent (nat_eq c.args.number) c.args.self.now.pages c.promote.new.self c.promote.ensures.entries c.requires.pages)
