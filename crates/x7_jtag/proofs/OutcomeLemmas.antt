@@ -5,7 +5,6 @@ use Rattle.x7_jtag.specs.Pieces.{Mark, Word, Open, Close, End, Piece}
 use Rattle.x7_jtag.specs.declared.statement.Statement.{Statement}
 use Rattle.x7_jtag.specs.Svf.{behind, first_statement, if_ended, outcome, outcome_by, pieces_after, with_first}
 use Rattle.x7_jtag.specs.declared.fault.SvfFault.{SvfFault}
-use Rattle.x7_jtag.specs.declared.fault.SvfFault.TheVariants as fault
 
 fewer-by : (line : ℕ) (m : Mark) (ps : List Piece) → length (behind (pieces_after ps)) ≤ length ps → length (behind (pieces_after (record { line = line; mark = m } ∷ ps))) ≤ length ps
 fewer-by line (Word w) ps h = h

@@ -2,7 +2,7 @@
 ghost use Rattle.std.specs.Prelude.{◌≡◌, ◌<◌, ◌&&◌, ◌≤◌, ◌∷◌, ◌++◌, ℕ, [], List, length, codes, IfSome, IfNone, Option, Some, None};
 ghost use Rattle.x7_jtag.specs.Words.{end_words, is_digit, is_free, is_free_byte, is_key, is_time, is_time_byte, most_clocks, number_of, reset_words, run_by, run_if as run_clocks, run_words, some_if, state_words, statement_of_words as of_words, word_list, zero_words};
 ghost use Rattle.x7_jtag.specs.Spans.{AreWordsWithin, bytes_in, end_of, words_at};
-ghost use Rattle.x7_jtag.specs.Stored.{IsStoredWithin, stored_if};
+ghost use Rattle.x7_jtag.specs.Stored.{IsStored};
 ghost use Rattle.x7_jtag.specs.declared.statement.Statement.{Statement as StatementData};
 ghost use Rattle.std.specs.List.{list_all};
 
@@ -88,8 +88,7 @@ pub(crate) fn is_any_word(word: &[u8]) -> bool
 
 /// The run of as many clocks as the digits say.
 fn run(digits: &[u8]) -> Option<Stored>
-    ensures is { stored_if [] result ≡ run_by (number_of most_clocks digits.now) }
-    ensures alone { IfSome result (IsStoredWithin 0) }
+    ensures { IsStored [] result (run_by (number_of most_clocks digits.now)) }
 {
     let count = number(digits, MOST_CLOCKS)?;
     Some(Stored::Run(count))
@@ -97,24 +96,21 @@ fn run(digits: &[u8]) -> Option<Stored>
 
 /// The run of as many clocks as the digits say, where the test holds.
 fn run_if(test: bool, digits: &[u8]) -> Option<Stored>
-    ensures is { stored_if [] result ≡ run_clocks test digits.now }
-    ensures alone { IfSome result (IsStoredWithin 0) }
+    ensures { IsStored [] result (run_clocks test digits.now) }
 {
     if test { run(digits) } else { None }
 }
 
 /// A statement that asks for nothing, where the test holds.
 fn nothing_if(test: bool) -> Option<Stored>
-    ensures is { stored_if [] result ≡ some_if test StatementData.Nothing }
-    ensures alone { IfSome result (IsStoredWithin 0) }
+    ensures { IsStored [] result (some_if test StatementData.Nothing) }
 {
     if test { Some(Stored::Nothing) } else { None }
 }
 
 /// The statement of the words after STATE.
 fn state(words: &[&[u8]]) -> Option<Stored>
-    ensures is { stored_if [] result ≡ state_words (word_list words.now) }
-    ensures alone { IfSome result (IsStoredWithin 0) }
+    ensures { IsStored [] result (state_words (word_list words.now)) }
 {
     match words {
         [word] => {
@@ -146,8 +142,7 @@ fn are_timed_clocks(unit: &[u8], time: &[u8], second: &[u8]) -> bool
 
 /// The statement of the words after RUNTEST.
 fn run_of(words: &[&[u8]]) -> Option<Stored>
-    ensures is { stored_if [] result ≡ run_words (word_list words.now) }
-    ensures alone { IfSome result (IsStoredWithin 0) }
+    ensures { IsStored [] result (run_words (word_list words.now)) }
 {
     match words {
         [count, unit] => {
@@ -165,8 +160,7 @@ fn run_of(words: &[&[u8]]) -> Option<Stored>
 
 /// The statement of the words after ENDIR and ENDDR.
 fn end(words: &[&[u8]]) -> Option<Stored>
-    ensures is { stored_if [] result ≡ end_words (word_list words.now) }
-    ensures alone { IfSome result (IsStoredWithin 0) }
+    ensures { IsStored [] result (end_words (word_list words.now)) }
 {
     match words {
         [word] => nothing_if(is_keyword(word, b"IDLE")),
@@ -176,8 +170,7 @@ fn end(words: &[&[u8]]) -> Option<Stored>
 
 /// The statement of the words after HIR, HDR, TIR and TDR.
 fn no_others(words: &[&[u8]]) -> Option<Stored>
-    ensures is { stored_if [] result ≡ zero_words (word_list words.now) }
-    ensures alone { IfSome result (IsStoredWithin 0) }
+    ensures { IsStored [] result (zero_words (word_list words.now)) }
 {
     match words {
         [word] => nothing_if(is_keyword(word, b"0")),
@@ -187,8 +180,7 @@ fn no_others(words: &[&[u8]]) -> Option<Stored>
 
 /// The statement of the words after TRST.
 fn reset_line(words: &[&[u8]]) -> Option<Stored>
-    ensures is { stored_if [] result ≡ reset_words (word_list words.now) }
-    ensures alone { IfSome result (IsStoredWithin 0) }
+    ensures { IsStored [] result (reset_words (word_list words.now)) }
 {
     match words {
         [word] => nothing_if(is_any_word(word)),
@@ -198,8 +190,7 @@ fn reset_line(words: &[&[u8]]) -> Option<Stored>
 
 /// The statement of a keyword and the words after it.
 fn statement_of_words(key: &[u8], words: &[&[u8]]) -> Option<Stored>
-    ensures is { stored_if [] result ≡ of_words key.now (word_list words.now) }
-    ensures alone { IfSome result (IsStoredWithin 0) }
+    ensures { IsStored [] result (of_words key.now (word_list words.now)) }
 {
     if is_keyword(key, b"STATE") {
         return state(words);
@@ -252,8 +243,7 @@ pub(crate) fn with_one(words: Words, word: Span) -> Option<Words>
 pub(crate) fn statement_said(kept: &[u8], key: Span, words: Words) -> Option<Stored>
     requires key { end_of key ≤ length kept.now }
     requires words { AreWordsWithin (length kept.now) words }
-    ensures is { stored_if [] result ≡ of_words (bytes_in kept.now key) (words_at kept.now words) }
-    ensures alone { IfSome result (IsStoredWithin 0) }
+    ensures { IsStored [] result (of_words (bytes_in kept.now key) (words_at kept.now words)) }
 {
     let key = key.of(kept);
     match words {

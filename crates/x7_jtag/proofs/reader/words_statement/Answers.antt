@@ -35,6 +35,6 @@ returns-clause-is c =
     let f : IsPrefix old.kept c.kept.result.now = subst (λ (k : List ℕ). IsPrefix old.kept k) (sym c.in_default.ensures.kept ∙ sym c.kept.ensures.now) c.loop-token.invariant.prefix in
     let same : c.kept.result.now ≡ at.kept = c.kept.ensures.now ∙ c.in_default.ensures.kept in
     stored-anywhere here.kept c.statement_said.result (statement_if_words (bytes_in old.kept c.args.key) (words_of (marks_before (pieces_left old))))
-    (c.statement_said.ensures.is ∙ (λ i. statement_of_words (bytes-stay old.kept c.kept.result.now f c.args.key c.requires.key i) (words_at (same i) c.loop-token.words))
+    (c.statement_said.ensures.0 ∙ (λ i. statement_of_words (bytes-stay old.kept c.kept.result.now f c.args.key c.requires.key i) (words_at (same i) c.loop-token.words))
     ∙ sym (all-said (bytes_in old.kept c.args.key) (words_of (marks_before (pieces_left old))) (words_at at.kept c.loop-token.words) (marks_before (pieces_left at)) c.loop-token.invariant.same c.in_default.ensures.is))
-    c.statement_said.ensures.alone
+    c.statement_said.ensures.1
