@@ -14,7 +14,7 @@ use Rattle.x7_update.proofs.SwitchLemmas.{same_four}
 abbrev AreWanted : ℕ → List ℕ → ℕ → ℕ → List ℕ → Type 0
 AreWanted from piece place count all = (i : ℕ) → i < count → get_or all (place + i) 0 ≡ wanted_at from piece (place + i)
 
--- each of them is one that an update writes
+-- each byte that is wanted is one that an update writes
 abbrev AreWritten : ℕ → List ℕ → ℕ → ℕ → List ℕ → ℕ → Type 0
 AreWritten size stream place count piece from = (i byte : ℕ) → i < count → byte ≡ wanted_at from piece (place + i) → IsWritten size stream (place + i) byte
 

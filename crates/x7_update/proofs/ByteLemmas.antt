@@ -6,11 +6,7 @@ use Rattle.x7_words.proofs.FlashLemmas.{torn_bytes}
 use Rattle.x7_update.specs.Writing.{AtAnyMoment, StaysBytes}
 use Rattle.x7_update.proofs.ToldLemmas.{moments_none, moments_on, moments_weaker, told_all, told_at, write_moments}
 
--- no call yet
-pub bytes_none : (s : FlashState) (since : ℕ → List ℕ → Type 0) → AtAnyMoment s s since since StaysBytes
-bytes_none s since = moments_none s since StaysBytes (λ all e h. h)
-
--- one call and then another
+-- two calls, one after the other
 pub bytes_on : (a b c : FlashState) (past mids since : ℕ → List ℕ → Type 0) → AtAnyMoment a b past mids StaysBytes → AtAnyMoment b c mids since StaysBytes → AtAnyMoment a c past since StaysBytes
 bytes_on a b c past mids since m n = moments_on a b c past mids since StaysBytes StaysBytes StaysBytes (λ all mid found e p q h. q (p h)) m m.leaves n
 

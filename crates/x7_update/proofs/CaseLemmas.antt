@@ -15,7 +15,7 @@ use Rattle.x7_update.proofs.ToldLemmas.{told_map}
 pub true_or_false : (b : Bool) → b ≡ true → b ≡ false → ⊥
 true_or_false b t f = let same : true ≡ false = sym t ∙ f in cc
 
--- the same switch word, by its four bytes
+-- a switch word stays where its four bytes do
 pub same_switch : (old new : List ℕ) (slot : ℕ) → ((i : ℕ) → 32 * slot ≤ i → i < 32 * slot + 4 → get_or new i 0 ≡ get_or old i 0) → switch_of new slot ≡ switch_of old slot
 same_switch old new slot h =
     rw (h (32 * slot) (omega arith) (omega arith), h (32 * slot + 1) (omega arith) (omega arith), h (32 * slot + 2) (omega arith) (omega arith), h (32 * slot + 3) (omega arith) (omega arith)) refl
@@ -36,7 +36,7 @@ behind slot i h = elim (cases_lt i (32 * slot)) [
   | inr from ↦ elim (cases_lt i (32 * slot + 4)) [ inl inside ↦ absurd (omega arith) | inr above ↦ inr above ]
 ]
 
--- another slot's word
+-- the bytes of another slot's switch word
 other_slot : (slot other i : ℕ) → (other ≡ slot → ⊥) → 32 * other ≤ i → i < 32 * other + 4 → (i < 32 * slot) ⊎ (32 * slot + 4 ≤ i)
 other_slot slot other i n h k = elim (cases_lt other slot) [ inl less ↦ inl (omega arith) | inr more ↦ elim (cases_eq other slot) [ inl same ↦ absurd (n same) | inr d ↦ inr (omega arith) ] ]
 
@@ -132,7 +132,7 @@ module _ (all : List ℕ) (slots : Slots) (finds : Finds (length all) all slots)
   writing_replaces closed found closes keeps =
       inr (between_below (length all) all closed found finds.has (between_closed all closed finds.has closes) (subst (λ u. KeepsBelow u closed found) finds.update keeps))
 
-  -- it may be left so
+  -- what is found while the update is replaced may be left
   pub replacing_left : (stream found : List ℕ) → Replacing all found → AreBytes found → MayBeLeft stream all found
   replacing_left stream found (inl same) fits = untouched same
   replacing_left stream found (inr b) fits = between layout fits b

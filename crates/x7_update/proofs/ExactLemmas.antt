@@ -26,11 +26,11 @@ only_memory : (stream : List ℕ) (old new : FlashState) (fault : UpdateFault) �
 only_memory stream old new (Failed true) cause can = absurd (can.writes cause.0)
 only_memory stream old new (Failed false) cause can = absurd (can.reads cause.0)
 only_memory stream old new TooLong cause can =
-    let long = told_at old.bytes (IsTooLong stream) cause can.flash can.told in
+    let long = told_at old.bytes (IsTooLong stream) cause can.flash can.known in
     absurd (omega (arith, long.passes, can.fits))
 only_memory stream old new (NoLayout place) cause can =
-    absurd (layout_or_not can.flash place can.layout (told_at old.bytes (λ flash. NoLayoutAt (length flash) flash place) cause can.flash can.told))
-only_memory stream old new (Differs at wrote read) cause can = let both : None ≡ Some can.flash = sym cause.1 ∙ can.told in cc
+    absurd (layout_or_not can.flash place can.layout (told_at old.bytes (λ flash. NoLayoutAt (length flash) flash place) cause can.flash can.known))
+only_memory stream old new (Differs at wrote read) cause can = let both : None ≡ Some can.flash = sym cause.1 ∙ can.known in cc
 only_memory stream old new NoMemory cause can = refl
 
 pub if_only_memory : (stream : List ℕ) (old new : FlashState) (answer : Result (Unit {0}) UpdateFault) → IfErr answer (HasCause stream old new) → IfErr answer (λ fault. CanBeUpdated stream old new → fault ≡ NoMemory)

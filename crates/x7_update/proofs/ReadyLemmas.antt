@@ -43,8 +43,6 @@ sees_more update stream sector old new past since only had more place l h = elim
 ]
 
 -- nothing before the first sector
-pub sees_first : (update : ℕ) (stream : List ℕ) (state : FlashState) → SeesWanted update stream update (update / 65536 * 65536) state
-sees_first update stream state place l h = absurd (omega arith)
 
 -- as far as it was seen
 pub sees_up_to : (update : ℕ) (stream : List ℕ) (from to end : ℕ) (state : FlashState) → end ≤ to → SeesWanted update stream from to state → SeesWanted update stream from end state

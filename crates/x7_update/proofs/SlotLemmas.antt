@@ -39,7 +39,7 @@ module _ (first : List ℕ) (slot : ℕ) (leads : Leads first slot) where
   once_more : (seen : Seen) → (IsOpen first slot → ⊥) → SoFar first slot seen → (k : ℕ) → k < slot + 1 → OpensAgain first k → ⊥
   once_more seen n so = up_to (λ k. OpensAgain first k → ⊥) slot so.once (λ again. n again.second)
 
-  -- it is free
+  -- the slot is free
   pub so_far_free : (seen : Seen) → (IsOpen first slot → ⊥) → IsFree first slot → SoFar first slot seen → SoFar first (slot + 1) seen
   so_far_free seen n is so = record {
     leads = up_to (λ k. Leads first k) slot so.leads leads;
@@ -50,7 +50,7 @@ module _ (first : List ℕ) (slot : ℕ) (leads : Leads first slot) where
     first = so.first;
   }
 
-  -- it is spent
+  -- the slot is spent
   pub so_far_spent : (seen : Seen) → (IsOpen first slot → ⊥) → (IsFree first slot → ⊥) → SoFar first slot seen → SoFar first (slot + 1) (record { opened = seen.opened; next = slot + 1 })
   so_far_spent seen n f so = record {
     leads = up_to (λ k. Leads first k) slot so.leads leads;
@@ -61,7 +61,7 @@ module _ (first : List ℕ) (slot : ℕ) (leads : Leads first slot) where
     first = λ k e is_free. let same : k ≡ slot = omega arith in f (subst (λ m. IsFree first m) same is_free);
   }
 
-  -- it is open, and so is one before it
+  -- the slot is open, and so is one before it
   pub opens_again : (one : ℕ) → IsOpen first slot → OpenAmong first slot (Some one) → IsBad first slot (32 * slot)
   opens_again one is o = inr (leads, record { other = one; before = o.0; first = o.1; second = is }, refl)
 

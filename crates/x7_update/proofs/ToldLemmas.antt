@@ -60,7 +60,7 @@ becomes_map old new P Q f b = go old.bytes f b
     go None f b = b
     go (Some all) f b = (b.0, b.1, f all b.0 refl b.2)
 
--- one call and then another
+-- what bytes become in two calls, one after the other
 pub becomes_on : (a b c : FlashState) (P Q R : List ℕ → List ℕ → Type 0) → ((all mid now : List ℕ) → a.bytes ≡ Some all → P all mid → Q mid now → R all now) → Becomes a b P → Becomes b c Q → Becomes a c R
 becomes_on a b c P Q R f p q = go a.bytes f p
   where
@@ -71,7 +71,7 @@ becomes_on a b c P Q R f p q = go a.bytes f p
     go None f p = at b.bytes None p q
     go (Some all) f p = let m : BecomesBytes Q (Some p.0) c.bytes = at b.bytes (Some p.0) p.1 q in (m.0, m.1, f all p.0 m.0 refl p.2 m.2)
 
--- what holds of the bytes then
+-- what holds of the bytes after a call
 pub becomes_then : (a b : FlashState) (P : List ℕ → List ℕ → Type 0) (Q : List ℕ → Type 0) → ((all now : List ℕ) → a.bytes ≡ Some all → P all now → Q now) → Becomes a b P → IfKnown b.bytes Q
 becomes_then a b P Q f p = go a.bytes f p
   where
@@ -96,7 +96,7 @@ moments_none s since P h = record {
   elapses = elapses_none s.moments since (λ found. IfKnown s.bytes (λ all. P all found));
 }
 
--- the same said weaker
+-- what holds at any moment, said weaker
 pub moments_weaker : (a b : FlashState) (past since : ℕ → List ℕ → Type 0) (P Q : List ℕ → List ℕ → Type 0) → ((all found : List ℕ) → a.bytes ≡ Some all → P all found → Q all found) → AtAnyMoment a b past since P → AtAnyMoment a b past since Q
 moments_weaker a b past since P Q f m = record {
   leaves = leaves_map a b P Q (λ all now e p. f all now e p) m.leaves;
@@ -104,7 +104,7 @@ moments_weaker a b past since P Q f m = record {
       (λ found w. told_map a.bytes (λ all. P all found) (λ all. Q all found) (λ all e p. f all found e p) w);
 }
 
--- one call more: of what the first left, and of what is found within the second
+-- a call more: what it found of the bytes that the calls before it left
 pub moments_on : (a b c : FlashState) (past mids since : ℕ → List ℕ → Type 0) (P Q R : List ℕ → List ℕ → Type 0) → ((all mid found : List ℕ) → a.bytes ≡ Some all → P all mid → Q mid found → R all found)
     → AtAnyMoment a b past mids R → Leaves a b P → AtAnyMoment b c mids since Q → AtAnyMoment a c past since R
 moments_on a b c past mids since P Q R f m l n = record {

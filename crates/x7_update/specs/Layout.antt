@@ -56,9 +56,11 @@ pub record CanStandAt (size place : ℕ) : Type 0 where
 abbrev pub Leads : List ℕ → ℕ → Type 0
 Leads flash slot = (i : ℕ) → 4 ≤ i → i < 32 → get_or flash (32 * slot + i) 0 ≡ get_or (first_slot flash) i 0
 
+-- the slot is open
 abbrev pub IsOpen : List ℕ → ℕ → Type 0
 IsOpen flash slot = switch_of flash slot ≡ open_word
 
+-- the slot is free
 abbrev pub IsFree : List ℕ → ℕ → Type 0
 IsFree flash slot = switch_of flash slot ≡ free_word
 

@@ -46,7 +46,7 @@ pub data NoLayoutAt (size : ℕ) (flash : List ℕ) (place : ℕ) : Type 0 where
   bad_place : HasSize size → Leads flash 0 → (CanStandAt size (update_place flash) → ⊥) → place ≡ 12 → NoLayoutAt size flash place
   bad_slot : BeginsWell size flash → (slot : ℕ) → slot < slot_count → ((earlier : ℕ) → earlier < slot → IsGood flash earlier)
       → IsBad flash slot place → NoLayoutAt size flash place
-  last_taken : BeginsWell size flash → ((slot : ℕ) → slot < slot_count → IsGood flash slot) → (IsFree flash (slot_count - 1) → ⊥) → place ≡ 65504
+  last_taken : BeginsWell size flash → ((slot : ℕ) → slot < slot_count → IsGood flash slot) → (IsFree flash (slot_count - 1) → ⊥) → place ≡ 32 * (slot_count - 1)
       → NoLayoutAt size flash place
 
 -- the stream passes the end of a flash with a layout
@@ -81,7 +81,7 @@ IsEarly NoMemory = Unit {0}
 -- the flash's bytes were known, with a layout in which the stream fits, and no write and no read failed
 pub record CanBeUpdated (stream : List ℕ) (old new : FlashState) : Type 0 where
   pub flash : List ℕ
-  pub told : old.bytes ≡ Some flash
+  pub known : old.bytes ≡ Some flash
   pub layout : HasLayout flash
   pub fits : update_place flash + length stream ≤ length flash
   pub writes : WriteFails old new → ⊥

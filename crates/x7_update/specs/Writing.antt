@@ -8,7 +8,7 @@ use Rattle.x7_update.specs.Layout.{CanStandAt, HasSize, open_word, switch_of}
 use Rattle.x7_update.specs.declared.fault.UpdateFault.{UpdateFault}
 use Rattle.x7_update.specs.declared.fault.UpdateFault.TheVariants.{Differs, Failed, NoLayout, NoMemory, TooLong}
 
--- where the bytes were known they are still known, and in this relation to what they were
+-- bytes that were known are still known, and in this relation to what they were
 abbrev pub Leaves : FlashState → FlashState → (List ℕ → List ℕ → Type 0) → Type 0
 Leaves old new Relates = IfKnown old.bytes (λ all. (now : List ℕ) × (new.bytes ≡ Some now) × Relates all now)
 

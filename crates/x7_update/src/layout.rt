@@ -27,15 +27,6 @@ pub(crate) fn four_at(first: &[u8], place: usize) -> [u8; 4]
     ]
 }
 
-/// Whether two words are the same.
-pub(crate) fn is_word(word: [u8; 4], other: [u8; 4]) -> bool
-    ensures { (result ≡ true) ↔ (word ≡ other) }
-{
-    let [a, b, c, d] = word;
-    let [e, f, g, h] = other;
-    a == e && b == f && c == g && d == h
-}
-
 /// What each slot has to be after its switch word.
 pub(crate) fn first_slot(first: &[u8]) -> [u8; 32]
     requires { 16 ≤ length first.now }

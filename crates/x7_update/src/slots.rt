@@ -7,22 +7,27 @@ ghost use Rattle.x7_update.specs.Refused.{DiffersAt, HasCause, IsBad, IsGood, No
 ghost use Rattle.x7_update.specs.Slots.{Finds, Fits, SoFar};
 
 use crate::fault::UpdateFault;
-use crate::layout::{FREE, OPEN, can_stand, first_slot, four_at, has_size, is_word};
+use crate::layout::{FREE, OPEN, can_stand, first_slot, four_at, has_size};
 use x7_packets::SLOT_COUNT;
-use x7_words::{Flash, word_of};
+use x7_words::{Flash, is_same, word_of};
 
-/// What the first slots say: which of them is open, and from which on all of them are free.
+/// What the first slots say, by the numbers of slots.
 #[derive(Clone, Copy, Drop)]
-pub struct Seen {
+pub(crate) struct Seen {
+    /// The number of the open slot.
     pub opened: Option<u64>,
+    /// The number of the first slot from which on all are free.
     pub next: u64,
 }
 
-/// Where an update goes: its place, the open slot if there is one, and the first slot from which on all are free.
+/// Where an update goes, and by which slots.
 #[derive(Clone, Copy, Drop)]
-pub struct Slots {
+pub(crate) struct Slots {
+    /// The update's place, in bytes.
     pub update: u64,
+    /// The number of the open slot.
     pub opened: Option<u64>,
+    /// The number of the first slot from which on all are free.
     pub next: u64,
 }
 
@@ -57,7 +62,7 @@ fn take_slot(first: &[u8], wanted: &[u8; 32], slot: u64, seen: Seen) -> Result<S
     }
     let switch = four_at(first, 32 * slot as usize);
     let Seen { opened, next } = seen;
-    if is_word(switch, OPEN) {
+    if is_same(&switch, &OPEN) {
         if opened.is_some() {
             return Err(32 * slot);
         }
@@ -66,7 +71,7 @@ fn take_slot(first: &[u8], wanted: &[u8; 32], slot: u64, seen: Seen) -> Result<S
             next: slot + 1,
         });
     }
-    if is_word(switch, FREE) {
+    if is_same(&switch, &FREE) {
         return Ok(Seen { opened, next });
     }
     Ok(Seen {

@@ -81,10 +81,7 @@ fn finish<F: Flash>(
     ensures fault { IfErr result (EndFails stream.now (F.state flash.old) (F.state flash.new)) }
     ensures only { OnlyUses (F.state flash.old) (F.state flash.new) }
 {
-    match verify_stream(flash, slots.update, stream, buffer) {
-        Ok(()) => (),
-        Err(wrong) => return Err(wrong),
-    }
+    verify_stream(flash, slots.update, stream, buffer)?;
     match open_slot(flash, slots.next) {
         Ok(()) => (),
         Err(_) => return Err(UpdateFault::Failed { writing: true }),

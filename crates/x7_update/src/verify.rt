@@ -9,25 +9,25 @@ use crate::fault::UpdateFault;
 use crate::layout::OPEN;
 use x7_words::{Flash, SECTOR};
 
-/// The byte that is wanted `behind` bytes after the update's place: the stream's, or FF after the stream.
-fn wanted(stream: &[u8], behind: u64) -> u8
-    ensures { (update : ℕ) → result ≡ wanted_at update stream.now (update + behind) }
+/// The byte that is wanted `after` bytes after the update's place: the stream's, or FF after the stream.
+fn wanted(stream: &[u8], after: u64) -> u8
+    ensures { (update : ℕ) → result ≡ wanted_at update stream.now (update + after) }
 {
-    if behind < stream.len() as u64 {
-        stream[behind as usize]
+    if after < stream.len() as u64 {
+        stream[after as usize]
     } else {
         0xFF
     }
 }
 
 /// Compares what was read from a place on with what is wanted there.
-fn compare(buffer: &[u8], behind: u64, update: u64, stream: &[u8]) -> Result<(), UpdateFault>
-    requires { update + behind + length buffer.now < 2 ^ 63 }
-    ensures same { OnOk result (ReadsWanted update stream.now (update + behind) buffer.now) }
-    ensures wrong { IfErr result (IsWrong update stream.now (update + behind) buffer.now) }
+fn compare(buffer: &[u8], after: u64, update: u64, stream: &[u8]) -> Result<(), UpdateFault>
+    requires { update + after + length buffer.now < 2 ^ 63 }
+    ensures same { OnOk result (ReadsWanted update stream.now (update + after) buffer.now) }
+    ensures wrong { IfErr result (IsWrong update stream.now (update + after) buffer.now) }
 {
     for i in 0..buffer.len() {
-        let at = behind + i as u64;
+        let at = after + i as u64;
         let wrote = wanted(stream, at);
         let read = buffer[i];
         if read != wrote {
@@ -59,10 +59,7 @@ pub(crate) fn verify_stream<F: Flash>(
     ensures only { OnlyReads (F.state flash.old) (F.state flash.new) (F.found_since flash.old) (F.found_since flash.new) }
 {
     for sector in update / SECTOR..flash.size() / SECTOR {
-        match verify_sector(flash, sector, update, stream, buffer) {
-            Ok(()) => (),
-            Err(fault) => return Err(fault),
-        }
+        verify_sector(flash, sector, update, stream, buffer)?;
     }
     Ok(())
 }
@@ -78,7 +75,7 @@ fn verify_sector<F: Flash>(
     requires attached { (F.state flash.old).attached ≡ true }
     requires size { HasSize (F.state flash.old).extent }
     requires within { sector * sector_bytes + sector_bytes ≤ (F.state flash.old).extent }
-    requires behind { update ≤ sector * sector_bytes }
+    requires after { update ≤ sector * sector_bytes }
     requires place { CanStandAt (F.state flash.old).extent update }
     requires fits { update + length stream.now ≤ (F.state flash.old).extent }
     requires buffer { length buffer.old ≡ sector_bytes }

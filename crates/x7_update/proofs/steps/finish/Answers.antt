@@ -16,7 +16,7 @@ returns-clause-fault g c =
     let read = c.verify_stream.ensures.only in
     let wrote = c.open_slot.ensures.only in
     let change = switched c.args.slots.next open_word in
-    let is : mid.bytes ≡ option_map change old.bytes = c.in-Ok-open_slot.ensures.opened ∙ ap (option_map change) read.bytes in
+    let is : mid.bytes ≡ option_map change old.bytes = c.in-Ok.ensures.opened ∙ ap (option_map change) read.bytes in
     fails_since c.args.stream.now old mid last change c.verify_switch.result (omega (arith, read.faults, wrote.faults)) (omega (arith, read.unwritten.write_faults, wrote.write_faults)) is (c.verify_switch.ensures.fault c.args.stream.now)
 
 pub returns-clause-ready : goal.returns-clause-ready
@@ -26,24 +26,24 @@ returns-clause-ready g c =
     let read = c.verify_stream.ensures.only in
     let again = c.verify_switch.ensures.only in
     on_ok (WasReady g.F.Flash.state c.args.slots.update c.args.stream.now last) c.verify_switch.result
-    (was_ready g.F.Flash.state c.args.slots.update c.args.stream.now old last c.verify_stream.new.flash (again.extent ∙ c.open_slot.ensures.only.extent ∙ read.extent) c.in-Ok.ensures.seen read.bytes c.requires.closed
+    (was_ready g.F.Flash.state c.args.slots.update c.args.stream.now old last c.verify_stream.new.flash (again.extent ∙ c.open_slot.ensures.only.extent ∙ read.extent) c.in_ok-verify_stream.ensures.seen read.bytes c.requires.closed
     (omega (arith, c.open_slot.ensures.moment, again.unwritten.moments)))
 
-pub returns-in-Err-clause-opens : goal.returns-in-Err-clause-opens
-returns-in-Err-clause-opens g c =
+pub returns-in_err-verify_stream-clause-opens : goal.returns-in_err-verify_stream-clause-opens
+returns-in_err-verify_stream-clause-opens g c =
     let old = g.F.Flash.state c.args.flash.now in
     let ready = g.F.Flash.state c.verify_stream.new.flash in
     let read = c.verify_stream.ensures.only in
     only_read old ready _ _ (λ all found. (found ≡ all) ⊎ WasReady g.F.Flash.state c.args.slots.update c.args.stream.now ready) (λ all e. inl refl) read.bytes read.unwritten
 
-pub returns-in-Err-open_slot-clause-opens : goal.returns-in-Err-open_slot-clause-opens
-returns-in-Err-open_slot-clause-opens g c =
+pub returns-in-Err-clause-opens : goal.returns-in-Err-clause-opens
+returns-in-Err-clause-opens g c =
     let old = g.F.Flash.state c.args.flash.now in
     let ready = g.F.Flash.state c.verify_stream.new.flash in
     let mid = g.F.Flash.state c.open_slot.new.flash in
     let read = c.verify_stream.ensures.only in
     let Was : Type 0 = WasReady g.F.Flash.state c.args.slots.update c.args.stream.now mid in
-    let was : Was = was_ready g.F.Flash.state c.args.slots.update c.args.stream.now old mid c.verify_stream.new.flash (c.open_slot.ensures.only.extent ∙ read.extent) c.in-Ok.ensures.seen read.bytes c.requires.closed c.open_slot.ensures.moment in
+    let was : Was = was_ready g.F.Flash.state c.args.slots.update c.args.stream.now old mid c.verify_stream.new.flash (c.open_slot.ensures.only.extent ∙ read.extent) c.in_ok-verify_stream.ensures.seen read.bytes c.requires.closed c.open_slot.ensures.moment in
     read_moments old ready mid _ _ _ (λ all found. (found ≡ all) ⊎ Was) (λ all e. inl refl) read.bytes read.unwritten
     (moments_weaker ready mid _ _ (Opening c.args.slots.next) (λ all found. (found ≡ all) ⊎ Was) (λ all found e h. inr was) c.open_slot.ensures.any_moment)
 
@@ -57,7 +57,7 @@ returns-clause-opens g c =
     let again = c.verify_switch.ensures.only in
     let Was : Type 0 = WasReady g.F.Flash.state c.args.slots.update c.args.stream.now last in
     let was : Was =
-    was_ready g.F.Flash.state c.args.slots.update c.args.stream.now old last c.verify_stream.new.flash (again.extent ∙ c.open_slot.ensures.only.extent ∙ read.extent) c.in-Ok.ensures.seen read.bytes c.requires.closed
+    was_ready g.F.Flash.state c.args.slots.update c.args.stream.now old last c.verify_stream.new.flash (again.extent ∙ c.open_slot.ensures.only.extent ∙ read.extent) c.in_ok-verify_stream.ensures.seen read.bytes c.requires.closed
     (omega (arith, c.open_slot.ensures.moment, again.unwritten.moments)) in
     moments_read old mid last _ _ _ (λ all found. (found ≡ all) ⊎ Was)
     (read_moments old ready mid _ _ _ (λ all found. (found ≡ all) ⊎ Was) (λ all e. inl refl) read.bytes read.unwritten

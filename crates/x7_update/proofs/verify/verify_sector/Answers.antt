@@ -11,8 +11,8 @@ returns-clause-fault g c =
     let update = c.args.update in
     let place = c.args.sector * 65536 in
     let q = c.requires in
-    let at : update + (place - update) ≡ place = omega (arith, q.behind) in
-    stream_fails update c.args.stream.now place (length c.args.buffer.now) c.read_at.new.buf old new c.compare.result c.in-Ok.ensures.length c.in-Ok.ensures.seen c.in-Ok.ensures.only.extent q.size q.place q.fits q.behind
+    let at : update + (place - update) ≡ place = omega (arith, q.after) in
+    stream_fails update c.args.stream.now place (length c.args.buffer.now) c.read_at.new.buf old new c.compare.result c.in-Ok.ensures.length c.in-Ok.ensures.seen c.in-Ok.ensures.only.extent q.size q.place q.fits q.after
     (omega (arith, q.within, q.buffer)) (g.met.F.Flash.counted c.args.flash.now) q.written c.in-Ok.ensures.read
     (subst (λ (p : ℕ). IfErr c.compare.result (IsWrong update c.args.stream.now p c.read_at.new.buf)) at c.compare.ensures.wrong)
 
@@ -21,5 +21,5 @@ returns-clause-seen g c =
     let new = g.F.Flash.state c.read_at.new.self in
     let update = c.args.update in
     let place = c.args.sector * 65536 in
-    let at : update + (place - update) ≡ place = omega (arith, c.requires.behind) in
+    let at : update + (place - update) ≡ place = omega (arith, c.requires.after) in
     sees_wanted update c.args.stream.now place 65536 (update + (place - update)) c.read_at.new.buf new c.compare.result (c.in-Ok.ensures.length ∙ c.requires.buffer) at c.in-Ok.ensures.seen c.compare.ensures.same

@@ -11,7 +11,7 @@ loop-sector-preserved g c =
     record {
       only = reads_on first mid last _ _ _ c.loop-sector.invariant.only c.verify_sector.ensures.only;
       buffer = c.verify_sector.ensures.buffer;
-      seen = sees_more c.args.update c.args.stream.now c.loop-sector.sector mid last _ _ c.verify_sector.ensures.only c.loop-sector.invariant.seen c.in-Ok.ensures.seen;
+      seen = sees_more c.args.update c.args.stream.now c.loop-sector.sector mid last _ _ c.verify_sector.ensures.only c.loop-sector.invariant.seen c.in_ok-verify_sector.ensures.seen;
     }
 
 pub returns-clause-seen : goal.returns-clause-seen
