@@ -4,7 +4,7 @@ use Rattle.x7_part.specs.Part.{PartData}
 use Rattle.x7_part.specs.PartRange.{IsPart}
 use Rattle.x7_regs.specs.declared.boot_status.Cause.{Cause}
 use Rattle.x7_boot.specs.Attempt.{Trial}
-use Rattle.x7_boot.specs.Image.{flash_limit, image_of, image_size, update_place}
+use Rattle.x7_boot.specs.Image.{flash_limit, image_of, image_size, place_after_golden}
 use Rattle.x7_boot.specs.Course.{BootCourse, IsCourse}
 use Rattle.x7_recovery.specs.OpenBoot.{BootsOpen, EachBootsOpen, FallsBackClean, HasStreams, UpdateFails}
 use Rattle.x7_recovery.specs.OpenSlot.{BeginsAsImage, IsOpened, Opened, image_of_flash, slot_of_flash}
@@ -25,10 +25,10 @@ boots_open o is c course = record {
   falls_alike = λ t cause f fell fails. falls_alike o is c t cause f course fell fails;
 }
 
--- so from an image of two streams, with anything behind it
+-- boots from an image of two streams, with anything after it
 pub image_boots : (part : PartData) (golden update behind : List ℕ) → IsPart part → image_size (length golden) (length update) ≤ flash_limit → HasStreams part golden update (image_of part.start_unit golden update ++ behind)
 image_boots part golden update behind is fits =
-    let place : ℕ = update_place (length golden) in
+    let place : ℕ = place_after_golden (length golden) in
     let flash : List ℕ = image_of part.start_unit golden update ++ behind in
     let begins : BeginsAsImage part flash place = image_as part golden update behind is fits in
     record {

@@ -58,7 +58,7 @@ module _ (part : PartData) (kept power : Kept) (low : ℕ) (fell : is_fallback k
         let old : (stop_of part power (moved low h) (low + x.place) ≡ None) × (why_at part power (moved low h) x.access ≡ None) = went_past part power (moved low h) (entry x.access (low + x.place)) m e in
         goes_past part kept (moved low h ++ c) x.access (low + x.place) m fell (clean_stops h (low + x.place) (omega arith) b old.0) (why_passes part kept power low (moved low h ++ c) (moved low h) fell (clean_same h b) x.access old.1)
 
-    -- so does a front of it
+    -- a history that begins clean, or what may stand before
     abbrev pub IsClean : History → Type 0
     IsClean h = IsLead h ⊎ BeginsClean h
 

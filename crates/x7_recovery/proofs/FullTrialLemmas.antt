@@ -52,7 +52,7 @@ words_never : (place : ℕ) (ws : List ℕ) (h : History) → NeverStarts h → 
 words_never place [] h never = never
 words_never place (w ∷ ws) h never = words_never (place + 4) ws (entry (access.Write 2 w) (place + 4) ∷ h) (inl refl, never)
 
--- its pieces execute no DESYNC
+-- the pieces of a full stream execute no DESYNC
 pieces_never : (part : PartData) (plan : PlanData) (place : ℕ) (h : History) → NeverStarts h → NeverStarts (written place (items.full_pieces part plan) h)
 pieces_never part plan place h never =
     let ws : List ℕ = joined (frames_at part plan (slots_in part)) in

@@ -130,12 +130,12 @@ module _ (flash now found : List ℕ) (number : ℕ) (l : HasLayout flash) (b : 
       rw (byte_at 12 12 (omega arith) refl (omega arith), byte_at 13 13 (omega arith) refl (omega arith), byte_at 14 14 (omega arith) refl (omega arith), byte_at 15 15 (omega arith) refl (omega arith)) refl in
       ap word_of_bytes start
 
-  -- behind the first sector it is what is between
+  -- after the first sector the flash is as it was between
   pub same_from : (at : ℕ) → 65536 ≤ at → drop at found ≡ drop at now
   same_from at past = ext_get_or 0 (drop at found) (drop at now) (length-drop at found ∙ ap (λ (n : ℕ). n - at) size ∙ sym (length-drop at now))
       (λ i h. get_or-drop at found i 0 ∙ others (at + i) (inr (omega (arith, past, within))) ∙ sym (get_or-drop at now i 0))
 
-  -- so the golden stream stands there
+  -- the golden stream stands after the first sector
   pub golden_from : (part : PartData) (golden : PlanData) → HasGolden part golden flash → (rest : List ℕ) × (drop 65536 found ≡ full_stream part golden ++ rest)
   golden_from part golden g =
       let stream : List ℕ = full_stream part golden in
@@ -338,7 +338,7 @@ regrouped a b c d = simp append_assoc
 
 module _ (part : PartData) (golden update behind : List ℕ) (is : IsPart part) (fits : image_size (length golden) (length update) ≤ flash_limit) where
   abbrev place : ℕ
-  place = image.update_place (length golden)
+  place = image.place_after_golden (length golden)
 
   abbrev all : List ℕ
   all = image_of part.start_unit golden update ++ behind

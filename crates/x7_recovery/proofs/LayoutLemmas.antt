@@ -111,7 +111,7 @@ filled_long place bytes h = length-append bytes (replicate (place - length bytes
 image_long : (golden update : List ℕ) → length (image_of 1 golden update) ≡ image_size (length golden) (length update)
 unfolding image_of
 image_long golden update =
-    let place = image.update_place (length golden) in
+    let place = image.place_after_golden (length golden) in
     let prefix : List ℕ = first_sector (place / 1) ++ golden in
     let front_long : length prefix ≤ place = omega (arith, length-append (first_sector (place / 1)) golden, sector_long (place / 1), update_behind (length golden)) in
     let whole : List ℕ = filled_to place prefix ++ update in
@@ -122,7 +122,7 @@ image_long golden update =
 pub image_layout : (golden update : List ℕ) → image_size (length golden) (length update) ≤ 134217728 → HasLayout (image_of 1 golden update)
 image_layout golden update limit =
     let all : List ℕ = image_of 1 golden update in
-    let place = image.update_place (length golden) in
+    let place = image.place_after_golden (length golden) in
     let b = image_begins 1 golden update in
     let begins : all ≡ first_sector (place / 1) ++ (golden ++ b.0) = b.1 ∙ append_assoc (first_sector (place / 1)) golden b.0 in
     let same : place / 1 ≡ place = omega arith in
@@ -142,9 +142,9 @@ image_layout golden update limit =
     }
 
 -- where the update of an image stands, by its first slot
-image_place : (golden update : List ℕ) → image_size (length golden) (length update) ≤ 134217728 → update_place (image_of 1 golden update) ≡ image.update_place (length golden)
+image_place : (golden update : List ℕ) → image_size (length golden) (length update) ≤ 134217728 → update_place (image_of 1 golden update) ≡ image.place_after_golden (length golden)
 image_place golden update limit =
-    let place = image.update_place (length golden) in
+    let place = image.place_after_golden (length golden) in
     let b = image_begins 1 golden update in
     let begins : image_of 1 golden update ≡ first_sector (place / 1) ++ (golden ++ b.0) = b.1 ∙ append_assoc (first_sector (place / 1)) golden b.0 in
     let same : place / 1 ≡ place = omega arith in
@@ -153,7 +153,7 @@ image_place golden update limit =
 -- behind the first sector stands the golden stream
 image_golden : (golden update : List ℕ) → (rest : List ℕ) × (drop 65536 (image_of 1 golden update) ≡ golden ++ rest)
 image_golden golden update =
-    let place = image.update_place (length golden) in
+    let place = image.place_after_golden (length golden) in
     let b = image_begins 1 golden update in
     let begins : image_of 1 golden update ≡ first_sector (place / 1) ++ (golden ++ b.0) = b.1 ∙ append_assoc (first_sector (place / 1)) golden b.0 in
     (b.0, ap (drop 65536) begins ∙ ap (λ n. drop n (first_sector (place / 1) ++ (golden ++ b.0))) (sym (sector_long (place / 1))) ∙ drop-append_seam (first_sector (place / 1)) (golden ++ b.0))

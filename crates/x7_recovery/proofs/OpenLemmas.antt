@@ -192,7 +192,7 @@ module _ (flash : List ℕ) (number start : ℕ) (o : HasOpen flash number start
         before = Some (record { kind = Power; cause = None; ignored = false });
       }) same
 
-  -- it leads to the place
+  -- the attempt at power leads to the place
   pub power_leads : (part : PartData) (place : ℕ) → start_address part.start_unit start ≡ place → LeadsTo part flash (power ∷ []) (Again (kept_at_update start) place)
   power_leads part place leads =
       let keeps : kept_after part at_power false taken Iprog ≡ kept_at_update start = power_keeps part in

@@ -19,7 +19,7 @@ use Rattle.x7_boot.specs.Attempt.{RunsOut, Trial, ending_at}
 use Rattle.x7_part.specs.Slots.{slots, slots_in}
 use Rattle.x7_effects.proofs.FormLemmas.{full_length}
 use Rattle.x7_effects.proofs.PlannerLemmas.{full_same}
-use Rattle.x7_boot.specs.Image.{closed_slots, filled_to, first_sector, flash_limit, image_of, image_size, open_slot, slot, update_place}
+use Rattle.x7_boot.specs.Image.{closed_slots, filled_to, first_sector, flash_limit, image_of, image_size, open_slot, slot, place_after_golden}
 use Rattle.x7_update.specs.After.{IsBetween, MayBeLeft, between, spends, switched}
 use Rattle.x7_update.specs.Layout.{HasLayout, IsOpen, four_at, open_word, spent_word, switch_of}
 use Rattle.x7_update.proofs.CaseLemmas.{between_closed}
@@ -59,10 +59,10 @@ empty_fails part golden none =
 drop_all : (n : ℕ) (xs : List ℕ) → length xs ≡ n → drop n xs ≡ []
 drop_all n xs e = ap (λ (m : ℕ). drop m xs) (sym e) ∙ ap (drop (length xs)) (sym (append-nil xs)) ∙ drop-append_seam xs []
 
-empty_ends : (unit : ℕ) (golden : List ℕ) → drop (update_place (length golden)) (image_of unit golden []) ≡ []
+empty_ends : (unit : ℕ) (golden : List ℕ) → drop (place_after_golden (length golden)) (image_of unit golden []) ≡ []
 unfolding image_of
 empty_ends unit golden =
-    let place : ℕ = update_place (length golden) in
+    let place : ℕ = place_after_golden (length golden) in
     let prefix : List ℕ = first_sector (place / unit) ++ golden in
     let filled : List ℕ = filled_to place prefix in
     let size : ℕ = image_size (length golden) 0 in
@@ -73,7 +73,7 @@ empty_ends unit golden =
     drop_all place (filled_to size (filled ++ []))
     (length-append (filled ++ []) (replicate (size - length (filled ++ [])) 255) ∙ omega (arith, length-replicate {A = ℕ} (size - length (filled ++ [])) 255, more, whole))
 
--- so for every part and plan there is an update that fails, and forbids no fallback
+-- for every part and plan there is an update that fails, and forbids no fallback
 pub some_update_fails : (part : PartData) (golden : PlanData) → UpdateFails (image_of_flash part (golden_image part golden []) (place_after part golden)) (empty_trial part golden) Wrap false
 some_update_fails part golden = empty_fails part golden (empty_ends part.start_unit (full_stream part golden))
 

@@ -15,7 +15,7 @@ use Rattle.x7_regs.specs.declared.command.Command.TheVariants.{Desync, Iprog}
 use Rattle.x7_regs.specs.declared.register.Reg.TheVariants.{Wbstar}
 use Rattle.x7_packets.proofs.SyncLemmas.{none_empty}
 use Rattle.x7_effects.proofs.StreamLemmas.{bytes_fit}
-use Rattle.x7_boot.specs.Image.{closed_slot, closed_slots, filled_to, first_sector, image_of, image_size, flash_limit, open_slot, sector_from, slot, update_place}
+use Rattle.x7_boot.specs.Image.{closed_slot, closed_slots, filled_to, first_sector, image_of, image_size, flash_limit, open_slot, sector_from, slot, place_after_golden}
 
 -- ---- no sync word in the closed slots
 
@@ -27,11 +27,11 @@ none_at x bytes here none = record { none = by }
     by [] back e = here back e
     by (y ∷ prefix) back e = none.none prefix back (let rest : bytes ≡ prefix ++ sync_bytes ++ back = cc in rest)
 
--- it isn't the first byte of the sync word
+-- a byte that isn't the first one of the sync word
 other_first : (x : ℕ) (bytes : List ℕ) → (x == 0xAA) ≡ false → HasNoSync bytes → HasNoSync (x ∷ bytes)
 other_first x bytes other = none_at x bytes (λ back e. let same : x ≡ 0xAA = cc in grind (arith, nat_tests, same, other))
 
--- the byte behind it isn't the second one, or the next isn't the third
+-- the byte after isn't the second one, or the next isn't the third
 other_second : (x y : ℕ) (bytes : List ℕ) → y < 0x99 → HasNoSync (y ∷ bytes) → HasNoSync (x ∷ y ∷ bytes)
 other_second x y bytes l = none_at x (y ∷ bytes) (λ back e. let same : y ≡ 0x99 = cc in omega (arith, l, same))
 
@@ -106,30 +106,30 @@ fill_fits (suc n) = (omega arith, fill_fits n)
 pub image_fits : (unit : ℕ) (golden update : List ℕ) → AreBytes golden → AreBytes update → AreBytes (image_of unit golden update)
 unfolding image_of
 image_fits unit golden update g u =
-    let start : ℕ = update_place (length golden) / unit in
+    let start : ℕ = place_after_golden (length golden) / unit in
     let prefix : List ℕ = first_sector start ++ golden in
-    let filled : List ℕ = filled_to (update_place (length golden)) prefix in
+    let filled : List ℕ = filled_to (place_after_golden (length golden)) prefix in
     let size : ℕ = image_size (length golden) (length update) in
     let front_fits : AreBytes prefix = all-append (λ b. b < 256) (first_sector start) golden (sector_fits start) g in
-    let filled_fits : AreBytes filled = all-append (λ b. b < 256) prefix (replicate (update_place (length golden) - length prefix) 255) front_fits (fill_fits (update_place (length golden) - length prefix)) in
+    let filled_fits : AreBytes filled = all-append (λ b. b < 256) prefix (replicate (place_after_golden (length golden) - length prefix) 255) front_fits (fill_fits (place_after_golden (length golden) - length prefix)) in
     all-append (λ b. b < 256) (filled ++ update) (replicate (size - length (filled ++ update)) 255) (all-append (λ b. b < 256) filled update filled_fits u) (fill_fits (size - length (filled ++ update)))
 
 -- ---- places
 
 -- the update begins a sector, behind the first sector and the golden stream
-pub place_whole : (golden : ℕ) → update_place golden % 65536 ≡ 0
+pub place_whole : (golden : ℕ) → place_after_golden golden % 65536 ≡ 0
 place_whole golden = elim (cases_lt (sector_from (65536 + golden)) 131072) [
   | inl l ↦ ap (λ (n : ℕ). n % 65536) (max-eq_left (let m : sector_from (65536 + golden) ≤ 131072 = omega (arith, l) in m))
   | inr l ↦ ap (λ (n : ℕ). n % 65536) (max-eq_right l) ∙ omega arith
 ]
 
-pub update_behind : (golden : ℕ) → 65536 + golden ≤ update_place golden
-update_behind golden = let m : sector_from (65536 + golden) ≤ update_place golden = le-max_right 131072 (sector_from (65536 + golden)) in omega (arith, m)
+pub update_behind : (golden : ℕ) → 65536 + golden ≤ place_after_golden golden
+update_behind golden = let m : sector_from (65536 + golden) ≤ place_after_golden golden = le-max_right 131072 (sector_from (65536 + golden)) in omega (arith, m)
 
-pub size_behind : (golden update : ℕ) → update_place golden + update ≤ image_size golden update
+pub size_behind : (golden update : ℕ) → place_after_golden golden + update ≤ image_size golden update
 size_behind golden update = omega arith
 
--- its start address is of whole pages of 256, and small, in either unit
+-- an update's start address is of whole pages of 256, and small, in either unit
 pub start_whole : (unit place : ℕ) → (unit ≡ 1) ⊎ (unit ≡ 256) → place % 65536 ≡ 0 → place / unit % 256 ≡ 0
 start_whole unit place (inl e) whole = ap (λ (u : ℕ). place / u % 256) e ∙ omega (arith, whole)
 start_whole unit place (inr e) whole = ap (λ (u : ℕ). place / u % 256) e ∙ omega (arith, whole)
@@ -158,20 +158,20 @@ pub sector_long : (start : ℕ) → length (first_sector start) ≡ 65536
 sector_long start = length-append (open_slot start) (closed_slots start) ∙ omega (arith, slot_long 0xAA995566 start, closed_long start)
 
 -- an image begins with its first sector and the golden stream
-pub image_begins : (unit : ℕ) (golden update : List ℕ) → (more : List ℕ) × (image_of unit golden update ≡ (first_sector (update_place (length golden) / unit) ++ golden) ++ more)
+pub image_begins : (unit : ℕ) (golden update : List ℕ) → (more : List ℕ) × (image_of unit golden update ≡ (first_sector (place_after_golden (length golden) / unit) ++ golden) ++ more)
 unfolding image_of
 image_begins unit golden update =
-    let prefix : List ℕ = first_sector (update_place (length golden) / unit) ++ golden in
-    let gap : List ℕ = replicate (update_place (length golden) - length prefix) 255 in
+    let prefix : List ℕ = first_sector (place_after_golden (length golden) / unit) ++ golden in
+    let gap : List ℕ = replicate (place_after_golden (length golden) - length prefix) 255 in
     let size : ℕ = image_size (length golden) (length update) in
-    let end : List ℕ = replicate (size - length (filled_to (update_place (length golden)) prefix ++ update)) 255 in
+    let end : List ℕ = replicate (size - length (filled_to (place_after_golden (length golden)) prefix ++ update)) 255 in
     (gap ++ (update ++ end), append_assoc (prefix ++ gap) update end ∙ append_assoc prefix gap (update ++ end))
 
--- and has the update at its place, whatever stands behind the image
-pub image_has : (unit : ℕ) (golden update more : List ℕ) → (rest : List ℕ) × (drop (update_place (length golden)) (image_of unit golden update ++ more) ≡ update ++ rest)
+-- an image has the update at its place, whatever stands after the image
+pub image_has : (unit : ℕ) (golden update more : List ℕ) → (rest : List ℕ) × (drop (place_after_golden (length golden)) (image_of unit golden update ++ more) ≡ update ++ rest)
 unfolding image_of
 image_has unit golden update more =
-    let place : ℕ = update_place (length golden) in
+    let place : ℕ = place_after_golden (length golden) in
     let prefix : List ℕ = first_sector (place / unit) ++ golden in
     let front : List ℕ = filled_to place prefix in
     let size : ℕ = image_size (length golden) (length update) in

@@ -2,6 +2,7 @@
 use Rattle.std.specs.Prelude.{◌≡◌, ℕ, List, [], ◌∷◌, None, drop}
 use Rattle.x7_words.specs.Word.{AreBytes}
 use Rattle.x7_packets.specs.History.{Entry, History, Write, entry, history_of}
+use Rattle.x7_packets.specs.FlashSlot.{sector_bytes}
 use Rattle.x7_part.specs.Part.{PartData}
 use Rattle.x7_engine.specs.State.{stop_in}
 use Rattle.x7_boot.specs.Attempt.{Trial}
@@ -26,5 +27,5 @@ pub data BeginsClean : History → Type 0 where
 pub record StartsClean (part : PartData) (flash : List ℕ) (t : Trial) : Type 0 where
   pub starts : StartsAtPower part (with_erased flash) t
   pub going : stop_in part t.kept t.bytes ≡ None
-  pub clean : BeginsClean (history_of (drop 65536 t.bytes))
+  pub clean : BeginsClean (history_of (drop sector_bytes t.bytes))
   pub fits : AreBytes t.bytes

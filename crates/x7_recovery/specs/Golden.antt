@@ -1,6 +1,7 @@
 -- A golden stream of any kind, as one attempt shows it: a device starts with it where the first sector leads nowhere (UG470, MultiBoot and fallback; the layout is this project's choice).
 use Rattle.std.specs.Prelude.{◌≡◌, ◌≢◌, ℕ, ◌+◌, ◌<◌, ◌≤◌, List, [], ◌∷◌, ◌++◌, drop, false, length, None, replicate, slice_range}
 use Rattle.x7_words.specs.Word.{AreBytes}
+use Rattle.x7_packets.specs.FlashSlot.{sector_bytes}
 use Rattle.x7_part.specs.Part.{PartData}
 use Rattle.x7_regs.specs.declared.boot_status.Kind.TheVariants.{Power}
 use Rattle.x7_regs.specs.BootStatus.{boot_status_of}
@@ -19,14 +20,15 @@ use Rattle.x7_update.specs.Layout.{HasLayout, four_at, open_word, update_place}
 
 -- no sync word begins in the first sector: none of its slots is open, or it is erased
 abbrev pub IsShut : List ℕ → Type 0
-IsShut flash = (place : ℕ) → place < 65536 → four_at flash place ≢ open_word
+IsShut flash = (place : ℕ) → place < sector_bytes → four_at flash place ≢ open_word
 
--- the bytes of an erased sector, and the flash with its first sector erased
+-- the bytes of an erased sector
 unfoldable pub erased_sector : List ℕ
-erased_sector = replicate 65536 255
+erased_sector = replicate sector_bytes 255
 
+-- the flash with its first sector erased
 abbrev pub with_erased : List ℕ → List ℕ
-with_erased flash = erased_sector ++ drop 65536 flash
+with_erased flash = erased_sector ++ drop sector_bytes flash
 
 -- an attempt at power that starts, over a flash
 pub record StartsAtPower (part : PartData) (flash : List ℕ) (t : Trial) : Type 0 where
@@ -38,10 +40,10 @@ pub record StartsAtPower (part : PartData) (flash : List ℕ) (t : Trial) : Type
 -- Two flashes whose first sector leads nowhere have the same bytes after it, up to where an attempt at power over the first of them ended, which starts.
 pub record HaveSameGolden (part : PartData) (one other : List ℕ) (t : Trial) : Type 0 where
   pub starts : StartsAtPower part one t
-  pub same : slice_range other 65536 (length t.bytes) ≡ slice_range one 65536 (length t.bytes)
+  pub same : slice_range other sector_bytes (length t.bytes) ≡ slice_range one sector_bytes (length t.bytes)
   pub shut : IsShut one × IsShut other
   pub fits : AreBytes one × AreBytes other
-  pub least : (65536 ≤ length one) × (65536 ≤ length other)
+  pub least : (sector_bytes ≤ length one) × (sector_bytes ≤ length other)
 
 -- The golden stream starts: with the first sector erased the attempt at power starts, and it ends at U or before it.
 pub record GoldenStarts (part : PartData) (flash : List ℕ) (t : Trial) : Type 0 where
@@ -59,7 +61,7 @@ pub record StartsAlike (part : PartData) (t : Trial) (c : BootCourse) : Type 0 w
 -- other attempt
 pub record StartsAsPlanned (u : Updating) (t : Trial) : Type 0 where
   pub golden : GoldenStarts u.part u.flash t
-  pub within : length t.bytes ≤ 65536 + length (full_stream u.part u.golden)
+  pub within : length t.bytes ≤ sector_bytes + length (full_stream u.part u.golden)
   pub memory : AreSame (memory_in u.part t.kept t.bytes) (total u.part u.golden)
   pub bootsts : (end_state u.part t).bootsts ≡ boot_status_of (record { kind = Power; cause = None; ignored = false }) None
 

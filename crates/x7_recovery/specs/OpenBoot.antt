@@ -1,5 +1,6 @@
 -- What a boot from a flash with an open slot comes to: the attempt at the update, and the fallback where that fails (UG470, MultiBoot and fallback).
 use Rattle.std.specs.Prelude.{◌≡◌, ℕ, Bool, true, false, List, [], ◌∷◌, ◌++◌, drop, length, None, Some}
+use Rattle.x7_packets.specs.FlashSlot.{sector_bytes}
 use Rattle.x7_part.specs.Part.{PartData}
 use Rattle.x7_part.specs.PartRange.{IsPart}
 use Rattle.x7_regs.specs.BootStatus.{boot_status_of}
@@ -14,7 +15,7 @@ use Rattle.x7_engine.specs.Kept.{without_kept}
 use Rattle.x7_boot.specs.Attempt.{IsTrial, Trial}
 use Rattle.x7_boot.specs.Boot.{end_state, forbids_fallback}
 use Rattle.x7_boot.specs.Course.{BootCourse, IsCourse}
-use Rattle.x7_boot.specs.Image.{update_place}
+use Rattle.x7_boot.specs.Image.{place_after_golden}
 use Rattle.x7_boot.specs.declared.attempt.Ending.{Ending}
 use Rattle.x7_boot.specs.declared.attempt.Ending.TheVariants as ending
 use Rattle.x7_boot.specs.declared.boots.BootEnd.{BootEnd}
@@ -88,7 +89,7 @@ pub record HasPlanned (o : Opened) (golden : PlanData) : Type 0 where
   pub is_part : IsPart o.part
   pub plan : IsPlanFor o.part golden
   pub rest : List ℕ
-  pub stands : drop 65536 o.flash ≡ full_stream o.part golden ++ rest
+  pub stands : drop sector_bytes o.flash ≡ full_stream o.part golden ++ rest
 
 -- The boot falls back and starts with the memory of the golden plan over zeros, and BOOTSTS shows the fallback and the update's cause.
 pub record FallsBack (o : Opened) (golden : PlanData) (cause : Cause) (c : BootCourse) : Type 0 where
@@ -148,7 +149,7 @@ EachBootsOpen o = (c : BootCourse) → IsCourse o.part o.flash c → BootsOpen o
 
 -- A flash begins with the image of a golden and an update stream for the part: both streams stand in it, and every boot from it is one from a flash with its first slot open, which leads to the update.
 pub record HasStreams (part : PartData) (golden update flash : List ℕ) : Type 0 where
-  pub begins : BeginsAsImage part flash (update_place (length golden))
-  pub has_golden : (rest : List ℕ) × (drop 65536 flash ≡ golden ++ rest)
-  pub has_update : (rest : List ℕ) × (drop (update_place (length golden)) flash ≡ update ++ rest)
-  pub boots : EachBootsOpen (image_of_flash part flash (update_place (length golden)))
+  pub begins : BeginsAsImage part flash (place_after_golden (length golden))
+  pub has_golden : (rest : List ℕ) × (drop sector_bytes flash ≡ golden ++ rest)
+  pub has_update : (rest : List ℕ) × (drop (place_after_golden (length golden)) flash ≡ update ++ rest)
+  pub boots : EachBootsOpen (image_of_flash part flash (place_after_golden (length golden)))

@@ -1,6 +1,7 @@
 -- A flash with an open slot, whichever slot that is and whatever stands after the golden stream (UG470, MultiBoot and fallback; the layout is this project's choice).
 use Rattle.std.specs.Prelude.{◌≡◌, ℕ, ◌*◌, ◌/◌, ◌%◌, ◌^◌, ◌<◌, ◌≤◌, List, ◌++◌, length, take, drop}
 use Rattle.x7_words.specs.Word.{AreBytes}
+use Rattle.x7_packets.specs.FlashSlot.{sector_bytes, slot_count}
 use Rattle.x7_part.specs.Part.{PartData}
 use Rattle.x7_boot.specs.Boot.{start_address}
 use Rattle.x7_boot.specs.Image.{first_sector, flash_limit, open_slot}
@@ -8,11 +9,11 @@ use Rattle.x7_update.specs.Layout.{four_at, open_word}
 
 -- One slot of the first sector is open, with the start address `start`: no sync word begins in the sector but that of the slot.
 pub record HasOpen (flash : List ℕ) (slot start : ℕ) : Type 0 where
-  pub within : slot < 2048
+  pub within : slot < slot_count
   pub stands : take 32 (drop (32 * slot) flash) ≡ open_slot start
-  pub alone : (place : ℕ) → place < 65536 → four_at flash place ≡ open_word → place ≡ 32 * slot
-  pub long : 65536 ≤ length flash
-  pub fits : AreBytes (take 65536 flash)
+  pub alone : (place : ℕ) → place < sector_bytes → four_at flash place ≡ open_word → place ≡ 32 * slot
+  pub long : sector_bytes ≤ length flash
+  pub fits : AreBytes (take sector_bytes flash)
 
 -- a flash, the part that boots from it, its open slot with the start address, and the place to which that leads
 pub record Opened : Type 0 where
@@ -34,7 +35,7 @@ pub record IsOpened (o : Opened) : Type 0 where
 pub record BeginsAsImage (part : PartData) (flash : List ℕ) (place : ℕ) : Type 0 where
   pub more : List ℕ
   pub begins : flash ≡ first_sector (place / part.start_unit) ++ more
-  pub whole : place % 65536 ≡ 0
+  pub whole : place % sector_bytes ≡ 0
   pub within : place ≤ flash_limit
 
 -- a flash that begins as an image does, with its first slot, which is the open one

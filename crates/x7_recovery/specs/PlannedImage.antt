@@ -4,11 +4,11 @@ use Rattle.x7_part.specs.Part.{PartData}
 use Rattle.x7_part.specs.PartRange.{IsPart}
 use Rattle.x7_memory.specs.Planned.{IsPlanFor, PlanData}
 use Rattle.x7_planner.specs.Full.{full_stream}
-use Rattle.x7_boot.specs.Image.{flash_limit, image_of, image_size, update_place}
+use Rattle.x7_boot.specs.Image.{flash_limit, image_of, image_size, place_after_golden}
 
 -- where the update stands after the full stream of a plan
 abbrev pub place_after : PartData → PlanData → ℕ
-place_after part golden = update_place (length (full_stream part golden))
+place_after part golden = place_after_golden (length (full_stream part golden))
 
 -- the image of the full stream of a plan, as golden stream, and an update
 abbrev pub golden_image : PartData → PlanData → List ℕ → List ℕ

@@ -1,6 +1,7 @@
 -- A flash after any number of updates, of which each stands after the golden stream (this project's choice).
 use Rattle.std.specs.Prelude.{◌≡◌, ℕ, List, take}
 use Rattle.x7_words.specs.Word.{AreBytes}
+use Rattle.x7_packets.specs.FlashSlot.{sector_bytes}
 use Rattle.x7_part.specs.Part.{PartData}
 use Rattle.x7_boot.specs.Attempt.{Trial}
 use Rattle.x7_recovery.specs.Clean.{StartsClean}
@@ -24,7 +25,7 @@ pub record IsUpdated (part : PartData) (flash found : List ℕ) (golden : Trial)
   pub layout : HasLayout before
   pub stream : List ℕ
   pub after : IsAfter stream before found
-  pub fits : AreBytes (take 65536 found)
+  pub fits : AreBytes (take sector_bytes found)
 
 -- the slot that the last update opened
 abbrev pub opened_by : (part : PartData) (flash found : List ℕ) (golden : Trial) → IsUpdated part flash found golden → Opened

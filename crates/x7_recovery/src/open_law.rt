@@ -2,6 +2,7 @@
 //! functions do nothing: their contracts are the laws.
 ghost use Rattle.std.specs.Prelude.{◌≡◌, ◌<◌, ◌++◌, List, ℕ, drop, take};
 ghost use Rattle.x7_words.specs.Word.{AreBytes};
+ghost use Rattle.x7_packets.specs.FlashSlot.{sector_bytes, slot_count};
 ghost use Rattle.x7_part.specs.Part.{PartData};
 ghost use Rattle.x7_part.specs.PartRange.{IsPart};
 ghost use Rattle.x7_memory.specs.Planned.{PlanData};
@@ -24,9 +25,9 @@ pub fn open_slots_boot()
 /// as it did, and the stream of the update at U.
 pub fn flashes_have_an_open_slot()
     ensures image { (part : PartData) (flash : List ℕ) (place : ℕ) → IsPart part → BeginsAsImage part flash place → IsOpened (image_of_flash part flash place) }
-    ensures layout { (part : PartData) (flash : List ℕ) (slot : ℕ) → part.start_unit ≡ 1 → HasLayout flash → AreBytes (take 65536 flash) → slot < 2048 → IsOpen flash slot
+    ensures layout { (part : PartData) (flash : List ℕ) (slot : ℕ) → part.start_unit ≡ 1 → HasLayout flash → AreBytes (take sector_bytes flash) → slot < slot_count → IsOpen flash slot
         → IsOpened (slot_of_flash part flash slot (update_place flash)) }
-    ensures after { (part : PartData) (stream flash found : List ℕ) → part.start_unit ≡ 1 → HasLayout flash → AreBytes (take 65536 found)
+    ensures after { (part : PartData) (stream flash found : List ℕ) → part.start_unit ≡ 1 → HasLayout flash → AreBytes (take sector_bytes found)
         → (a : IsAfter stream flash found) → IsOpened (slot_of_flash part found a.next (update_place flash)) }
     ensures golden { (part : PartData) (golden : PlanData) (stream flash found : List ℕ) → HasLayout flash → IsAfter stream flash found → HasGolden part golden flash
         → HasGolden part golden found }

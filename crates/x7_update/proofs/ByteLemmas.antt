@@ -4,7 +4,7 @@ use Rattle.x7_words.specs.Flash.{Elapses, FlashState, IfKnown, IsTorn, TornFrom,
 use Rattle.x7_words.specs.Word.{AreBytes}
 use Rattle.x7_words.proofs.FlashLemmas.{torn_bytes}
 use Rattle.x7_update.specs.Writing.{AtAnyMoment, StaysBytes}
-use Rattle.x7_update.proofs.ToldLemmas.{moments_none, moments_on, moments_weaker, told_all, told_at, write_moments}
+use Rattle.x7_update.proofs.ToldLemmas.{moments_on, moments_weaker, told_all, told_at, write_moments}
 
 -- two calls, one after the other
 pub bytes_on : (a b c : FlashState) (past mids since : ℕ → List ℕ → Type 0) → AtAnyMoment a b past mids StaysBytes → AtAnyMoment b c mids since StaysBytes → AtAnyMoment a c past since StaysBytes

@@ -1,5 +1,5 @@
 -- Lemmas on what was read back before a slot is opened.
-use Rattle.std.proofs.Common.{◌≡◌, ℕ, ◌+◌, ◌-◌, ◌*◌, ◌/◌, ◌<◌, ◌≤◌, inl, inr, IsTrue, List, length, get_or, Option, Result, Ok, Err, OnOk, ap, sym, subst, ◌∙◌, arith}
+use Rattle.std.proofs.Common.{◌≡◌, ℕ, ◌+◌, ◌-◌, ◌*◌, ◌<◌, ◌≤◌, inl, inr, IsTrue, List, length, get_or, Option, Result, Ok, Err, OnOk, ap, sym, subst, ◌∙◌, arith}
 use Rattle.std.proofs.lemmas.Bool.{cases_lt}
 use Rattle.x7_words.specs.Flash.{FlashState, IfKnown, OnlyReads, Sees}
 use Rattle.x7_update.specs.After.{IsAfter, IsBetween, with_stream}

@@ -1,8 +1,8 @@
 -- Lemmas on the slots of a first sector.
-use Rattle.std.proofs.Common.{◌≡◌, ℕ, suc, ◌+◌, ◌*◌, ◌<◌, ◌≤◌, inl, inr, List, Option, None, Some, get_or, refl, ap, sym, subst, ◌∙◌, arith}
+use Rattle.std.proofs.Common.{◌≡◌, ℕ, suc, ◌+◌, ◌<◌, ◌≤◌, inl, inr, List, Option, None, Some, refl, sym, subst, arith}
 use Rattle.std.proofs.lemmas.Bool.{cases_eq, cases_order}
-use Rattle.x7_update.specs.Layout.{CanStandAt, HasSize, IsFree, IsOpen, Leads, free_word, open_word, update_place}
-use Rattle.x7_update.specs.Refused.{BeginsWell, IsBad, IsGood, NoLayoutAt, OpensAgain, last_taken}
+use Rattle.x7_update.specs.Layout.{CanStandAt, HasSize, IsFree, IsOpen, Leads, update_place}
+use Rattle.x7_update.specs.Refused.{BeginsWell, IsGood, NoLayoutAt, OpensAgain, last_taken}
 use Rattle.x7_update.specs.Slots.{Finds, OpenAmong, SoFar}
 use Rattle.x7_update.specs.declared.slots.Seen.{Seen}
 use Rattle.x7_update.specs.declared.slots.Slots.{Slots}
@@ -15,23 +15,6 @@ up_to P count before here k h = elim (cases_eq k count) [
 ]
 
 module _ (first : List ℕ) (slot : ℕ) (leads : Leads first slot) where
-  -- the slot is open
-  pub so_far_open : (next : ℕ) → IsOpen first slot → SoFar first slot (record { opened = None; next = next }) → SoFar first (slot + 1) (record { opened = Some slot; next = slot + 1 })
-  so_far_open next is so = record {
-    leads = up_to (λ k. Leads first k) slot so.leads leads;
-    once = up_to (λ k. OpensAgain first k → ⊥) slot so.once (λ again. so.opens again.other again.before again.first);
-    opens = (omega arith, is);
-    within = omega arith;
-    free = λ k h l. absurd (omega arith);
-    first = λ k e is_free. let same : k ≡ slot = omega arith in let free_here : IsFree first slot = subst (λ n. IsFree first n) same is_free in absurd (not_both is free_here);
-  }
-    where
-      not_both : IsOpen first slot → IsFree first slot → ⊥
-      not_both o f =
-          let same : open_word ≡ free_word = sym o ∙ f in
-          let first : 0xAA ≡ 0xFF = ap (λ l. get_or l 0 0) same in
-          absurd (omega (arith, first))
-
   closed_more : (count : ℕ) (one : Option ℕ) → count ≡ slot → (IsOpen first slot → ⊥) → OpenAmong first slot one → OpenAmong first (slot + 1) one
   closed_more count None e n o = up_to (λ k. IsOpen first k → ⊥) slot o n
   closed_more count (Some k) e n o = (omega (arith, o.0), o.1)
@@ -60,10 +43,6 @@ module _ (first : List ℕ) (slot : ℕ) (leads : Leads first slot) where
     free = λ k h l. absurd (omega arith);
     first = λ k e is_free. let same : k ≡ slot = omega arith in f (subst (λ m. IsFree first m) same is_free);
   }
-
-  -- the slot is open, and so is one before it
-  pub opens_again : (one : ℕ) → IsOpen first slot → OpenAmong first slot (Some one) → IsBad first slot (32 * slot)
-  opens_again one is o = inr (leads, record { other = one; before = o.0; first = o.1; second = is }, refl)
 
 pub so_far_good : (first : List ℕ) (count : ℕ) (seen : Seen) → SoFar first count seen → (slot : ℕ) → slot < count → IsGood first slot
 so_far_good first count seen so slot h = (so.leads slot h, so.once slot h)
