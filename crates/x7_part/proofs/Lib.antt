@@ -6,6 +6,7 @@ pub mod FieldLemmas
 pub mod PartLemmas
 pub mod SlotLemmas
 pub mod FileLemmas
+pub mod BlankLemmas
 pub mod RangeLemmas
 pub mod OrderLemmas
 pub mod SortLemmas

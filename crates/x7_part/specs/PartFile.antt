@@ -1,8 +1,9 @@
 -- A part file: the part that its text describes, or the first fault that the checks find (this project's choice).
-use Rattle.std.specs.Prelude.{ℕ, List, [], ◌∷◌, Option, None, Some, Result, Ok, Err, if◌then◌else◌}
+use Rattle.std.specs.Prelude.{ℕ, List, [], ◌∷◌, Option, None, Some, Result, Ok, Err, IsUtf8, if◌then◌else◌}
 use Rattle.std.specs.Str.{is_utf8}
 use Rattle.toml.specs.Parse.{parse_document}
 use Rattle.toml.specs.Data.{Members}
+use Rattle.toml.specs.Errors.{IsBlank}
 use Rattle.x7_part.specs.declared.fault.PartFault.{PartFault}
 use Rattle.x7_part.specs.declared.fault.PartFault.TheVariants.{Toml}
 use Rattle.x7_part.specs.Part.{PartData}
@@ -28,6 +29,10 @@ part_unless table (Some fault) = Err fault
 abbrev pub part_of_table : Option Members → Result PartData PartFault
 part_of_table None = Err Toml
 part_of_table (Some table) = part_unless table (fault_of table)
+
+-- a text of white space and comments alone
+abbrev pub HasNoKey : List ℕ → Type 0
+HasNoKey text = IsUtf8 text × IsBlank text
 
 -- the part of a text, or its first fault; a text that isn't UTF-8 is no TOML
 unfoldable pub part_in : List ℕ → Result PartData PartFault

@@ -1,12 +1,14 @@
 //! Part files.
-ghost use Rattle.std.specs.Prelude.{◌≡◌, ◌⊎◌, ◌≤◌, [], ◌∷◌, Some, None, Ok, Err, length, IsUtf8, IfOk, IfErr, IsErrOf};
+ghost use Rattle.std.specs.Prelude.{◌≡◌, ◌⊎◌, ◌≤◌, [], ◌∷◌, Some, None, Ok, Err, length, IsUtf8, IfOk, IfErr, IsErrOf, IsOk};
 ghost use Rattle.toml.specs.Parse.{parse_document};
 ghost use Rattle.toml.specs.View.{table_view};
 ghost use Rattle.x7_part.specs.Part.{PartData};
 ghost use Rattle.x7_part.specs.PartChecks.{fault_of_call, first_of};
 ghost use Rattle.x7_part.specs.PartRows.{same_row_fault, frames_fault, has_few_frames};
-ghost use Rattle.x7_part.specs.PartFile.{part_in};
+ghost use Rattle.x7_part.specs.PartFile.{HasNoKey, part_in};
+ghost use Rattle.x7_part.specs.PartKey.{top};
 ghost use Rattle.x7_part.specs.declared.fault.PartFault.{PartFault};
+ghost use Rattle.x7_part.specs.declared.fault.PartKey.{PartKey};
 
 use crate::fault::PartFault;
 use crate::part::Part;
@@ -28,6 +30,7 @@ fn table_in(alloc: Global, text: &[u8]) -> Result<Table, PartFault>
     ensures table { IfOk result (λ table. IsUtf8 text.now × (parse_document text.now ≡ Some (table_view table))) }
     ensures fault { IfErr result (λ fault. (fault ≡ PartFault.NoMemory) ⊎ ((fault ≡ PartFault.Toml) × (IsUtf8 text.now → parse_document text.now ≡ None))) }
     ensures utf8 { (IsUtf8 text.now → ⊥) → IsErrOf result PartFault.Toml }
+    ensures blank { HasNoKey text.now → IsOk result }
 {
     let text = match std::str::from_utf8(text) {
         Ok(text) => text,
@@ -74,6 +77,7 @@ pub fn part_of(alloc: Global, text: &[u8]) -> Result<Part, PartFault>
     ensures part { IfOk result (λ part. part_in text.now ≡ Ok part) }
     ensures fault { IfErr result (λ fault. (fault ≡ PartFault.NoMemory) ⊎ (part_in text.now ≡ Err fault)) }
     ensures utf8 { (IsUtf8 text.now → ⊥) → IsErrOf result PartFault.Toml }
+    ensures blank { HasNoKey text.now → IsErrOf result (PartFault.Key (top PartKey.Name)) }
 {
     let values = values_of(alloc, &table_in(alloc, text)?)?;
     check_known(&values)?;

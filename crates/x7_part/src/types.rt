@@ -1,5 +1,5 @@
 //! What stands under a key of a table, as a value of the key's type.
-ghost use Rattle.std.specs.Prelude.{◌≡◌, Ok, option_map, is_some, map, string_bytes, IfOk, IfSome};
+ghost use Rattle.std.specs.Prelude.{◌≡◌, None, Ok, option_map, is_some, map, string_bytes, IfOk, IfSome, IsErrOf};
 ghost use Rattle.toml.specs.View.{view, table_view, items_view};
 ghost use Rattle.x7_part.specs.PartValues.{under, text, number_or, numbers, numbers_under, tables, row_tables};
 ghost use Rattle.x7_part.specs.PartChecks.{fault_of_call, Tells, unless, has, may_have, are_wholes, are_tables, is_text, is_whole, is_list_of_wholes, is_list_of_tables};
@@ -21,6 +21,7 @@ fn value_under(table: &Table, key: PartKey) -> Option<&Value>
 /// The text under a key.
 pub(crate) fn text(alloc: Global, table: &Table, at: Which) -> Result<String, PartFault>
     ensures fault { Tells (unless (has is_text (under at.key (table_view table.now))) (Key at)) result }
+    ensures missing { under at.key (table_view table.now) ≡ None → IsErrOf result (Key at) }
     ensures value { IfOk result (λ made. string_bytes made ≡ text at.key (table_view table.now)) }
 {
     match value_under(table, at.key) {

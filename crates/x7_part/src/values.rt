@@ -1,8 +1,11 @@
 //! The values of a part file, each of its type, and no range of them looked at.
-ghost use Rattle.std.specs.Prelude.{◌≡◌, map, option_map, string_bytes, IfOk};
+ghost use Rattle.std.specs.Prelude.{◌≡◌, None, map, option_map, string_bytes, IfOk, IsErrOf};
 ghost use Rattle.toml.specs.View.{table_view};
-ghost use Rattle.x7_part.specs.PartValues.{RowValues as RowData, TopValues, row_values, top_values};
+ghost use Rattle.x7_part.specs.PartValues.{RowValues as RowData, TopValues, row_values, top_values, under};
 ghost use Rattle.x7_part.specs.PartChecks.{fault_of_call, Tells, rows_fault, row_type_fault, row_other_fault, type_fault, other_fault};
+ghost use Rattle.x7_part.specs.PartKey.{top};
+ghost use Rattle.x7_part.specs.declared.fault.PartFault.TheVariants.{Key};
+ghost use Rattle.x7_part.specs.declared.fault.PartKey.TheVariants as key;
 
 use crate::fault::{PartFault, PartKey, Which};
 use crate::keys::{ROW_KEYS, TOP_KEYS, has_only};
@@ -89,6 +92,7 @@ fn rows_values(alloc: Global, rows: &[&Table]) -> Result<Vec<RowValues>, PartFau
 #[tactic(auto, unfolding(crate::specs::PartChecks::type_fault))]
 pub(crate) fn values_of(alloc: Global, table: &Table) -> Result<Values, PartFault>
     ensures fault { Tells (type_fault (table_view table.now)) result }
+    ensures unnamed { under key.Name (table_view table.now) ≡ None → IsErrOf result (Key (top key.Name)) }
     ensures value { IfOk result (λ values. values ≡ top_values (table_view table.now)) }
 {
     Ok(Values {

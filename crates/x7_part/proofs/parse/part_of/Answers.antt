@@ -2,7 +2,12 @@ use Rattle.std.proofs.Common.{◌≡◌, ◌∙◌, Ok, ap, sym, refl}
 use Rattle.toml.specs.View.{table_view}
 use Rattle.std.specs.String.{string_bytes}
 use Rattle.x7_part.specs.PartValues.{part_data}
+use Rattle.std.proofs.lemmas.Bool.{false≢true}
+use Rattle.x7_part.specs.PartKey.{top}
+use Rattle.x7_part.specs.declared.fault.PartFault.TheVariants.{Key}
+use Rattle.x7_part.specs.declared.fault.PartKey.TheVariants as key
 use Rattle.x7_part.proofs.PassLemmas.{Whole, typed, passed, types_told, others_told, settings_told, rows_told, few_rows, last_told, whole, handed_on, handed_from, toml_is, toml_fault}
+use Rattle.x7_part.proofs.BlankLemmas.{unnamed, handed_same, not_given}
 use Rattle.x7_part.proofs.parse.part_of.Goals as goal
 use Rattle.x7_part.proofs.parse.part_of.Goals.{In_ok-check_rows}
 
@@ -108,3 +113,35 @@ returns-clause-part c =
     c.in_ok-settings.ensures.value c.in_ok-rows.ensures.value in
     let all = whole text t v s rows (string_bytes c.values.inside.name) (ap (λ x. x.name) c.values.view_is) pass (rw (← c.deref-2.ensures.value) (c.in_ok-check_rows.ensures (part_data v.name s c.deref-2.result.now) (sym c.from.ensures) refl)) in
     all.is ∙ ap Ok (sym c.in_ok-of.ensures)
+
+pub returns-in_err-table_in-clause-blank : goal.returns-in_err-table_in-clause-blank
+returns-in_err-table_in-clause-blank c h = absurd (false≢true (c.in_err-table_in.ensures.blank h))
+
+pub returns-in_err-values-clause-blank : goal.returns-in_err-values-clause-blank
+returns-in_err-values-clause-blank c h =
+    handed_same c.from_residual-in_err-values.result c.in_err-values.field-0.0 (Key (top key.Name)) c.from_residual-in_err-values.ensures
+    (c.in_err-values.ensures.unnamed (unnamed c.args.text.now (table_view c.in_ok-table_in.field-0) h c.in_ok-table_in.ensures.table))
+
+pub returns-in_err-check_known-clause-blank : goal.returns-in_err-check_known-clause-blank
+returns-in_err-check_known-clause-blank c h =
+    absurd (not_given c.in_ok-values.values (Key (top key.Name)) (c.in_ok-values.ensures.unnamed (unnamed c.args.text.now (table_view c.in_ok-table_in.field-0) h c.in_ok-table_in.ensures.table)))
+
+pub returns-in_err-settings-clause-blank : goal.returns-in_err-settings-clause-blank
+returns-in_err-settings-clause-blank c h =
+    absurd (not_given c.in_ok-values.values (Key (top key.Name)) (c.in_ok-values.ensures.unnamed (unnamed c.args.text.now (table_view c.in_ok-table_in.field-0) h c.in_ok-table_in.ensures.table)))
+
+pub returns-in_err-rows-clause-blank : goal.returns-in_err-rows-clause-blank
+returns-in_err-rows-clause-blank c h =
+    absurd (not_given c.in_ok-values.values (Key (top key.Name)) (c.in_ok-values.ensures.unnamed (unnamed c.args.text.now (table_view c.in_ok-table_in.field-0) h c.in_ok-table_in.ensures.table)))
+
+pub returns-in_err-check_rows-clause-blank : goal.returns-in_err-check_rows-clause-blank
+returns-in_err-check_rows-clause-blank c h =
+    absurd (not_given c.in_ok-values.values (Key (top key.Name)) (c.in_ok-values.ensures.unnamed (unnamed c.args.text.now (table_view c.in_ok-table_in.field-0) h c.in_ok-table_in.ensures.table)))
+
+pub returns-in_err-of-clause-blank : goal.returns-in_err-of-clause-blank
+returns-in_err-of-clause-blank c h =
+    absurd (not_given c.in_ok-values.values (Key (top key.Name)) (c.in_ok-values.ensures.unnamed (unnamed c.args.text.now (table_view c.in_ok-table_in.field-0) h c.in_ok-table_in.ensures.table)))
+
+pub returns-clause-blank : goal.returns-clause-blank
+returns-clause-blank c h =
+    absurd (not_given c.in_ok-values.values (Key (top key.Name)) (c.in_ok-values.ensures.unnamed (unnamed c.args.text.now (table_view c.in_ok-table_in.field-0) h c.in_ok-table_in.ensures.table)))
