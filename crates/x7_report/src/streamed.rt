@@ -146,11 +146,12 @@ impl PlayText {
         self.stopped
     }
 
-    /// Writes the report. After an error a prefix of it was written.
+    /// Writes the report. After an error a prefix of it was written. Either way it may be written again.
     pub fn write<S: Sink>(&mut self, out: &mut S) -> Result<(), Failed>
         ensures whole { OnOk result (PutsAll (S.state out.old) self.old.text (S.state out.new)) }
         ensures prefix { PutsSome (S.state out.old) self.old.text (S.state out.new) }
         ensures failed { OnErr result (SinkFails (S.state out.old) (S.state out.new)) }
+        ensures same { self.new ≡ self.old }
     {
         write_all(out, &self.head)?;
         write_lines(
