@@ -212,13 +212,14 @@ impl<'p> FullStream<'p> {
         })
     }
 
-    /// Appends the next piece, of 160 frames at most, and says whether there was one. After an error nothing was appended, and
-    /// the same piece is next.
+    /// Appends the next piece, of 160 frames at most, and says whether there was one; after the last there is none for good.
+    /// After an error nothing was appended, and the same piece is next.
     pub fn put_next(&mut self, out: &mut Vec<u8>) -> Result<bool, NoMemory>
         ensures more { (given : List ℕ) → HasGiven self.old given → IfOk result (λ more. more ≡ true → TellsMore self.new given out.old.items out.new.items) }
         ensures fewer { IfOk result (λ more. more ≡ true → calls_left self.new < calls_left self.old) }
         ensures end { (given : List ℕ) → HasGiven self.old given → IfOk result (λ more. more ≡ false → given ≡ full_stream self.old.part self.old.plan) }
         ensures nothing { IfOk result (λ more. more ≡ false → out.new.items ≡ out.old.items) }
+        ensures ended { IfOk result (λ more. more ≡ false → self.new ≡ self.old) }
         ensures few { length out.new.items ≤ length out.old.items + piece_limit }
         ensures part { self.new.part ≡ self.old.part }
         ensures plan { self.new.plan ≡ self.old.plan }

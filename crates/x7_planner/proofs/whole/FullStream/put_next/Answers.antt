@@ -17,6 +17,7 @@ returns c =
       fewer = λ _. subst (λ x. calls_left t < calls_left x) c.self.view_is less;
       end = λ given h e. absurd (false≢true (sym e));
       nothing = λ e. absurd (false≢true (sym e));
+      ended = λ e. absurd (false≢true (sym e));
       part = ap (λ x. x.part) c.self.view_is;
       plan = ap (λ x. x.plan) c.self.view_is;
       few = omega (arith, c.in-Ok.ensures.few);
