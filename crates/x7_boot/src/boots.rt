@@ -96,7 +96,7 @@ const AT_POWER: Kept = Kept {
 };
 
 /// Boots a device of a part from a flash: attempt after attempt, as the table of UG470, MultiBoot and fallback, leads from
-/// the end of one to the next.
+/// the end of one to the next. Nothing is read of a flash that is too large.
 pub fn boot<F: Flash>(alloc: Global, part: &Part, flash: &mut F) -> Result<Booted, BootFault>
     requires attached { (F.state flash.old).attached ≡ true }
     ensures booted { IfOk result (λ booted. IfKnown (F.state flash.old).bytes (λ all. AreBytes all → IsBoot part.now all booted)) }
@@ -106,6 +106,7 @@ pub fn boot<F: Flash>(alloc: Global, part: &Part, flash: &mut F) -> Result<Boote
     ensures quiet { OnOk result ((F.state flash.new).faults ≡ (F.state flash.old).faults) }
     ensures no_memory { IsErrOf result BootFault.NoMemory → (F.state flash.new).faults ≡ (F.state flash.old).faults }
     ensures too_large { (result ≡ Err BootFault.TooLarge) ↔ (flash_limit < (F.state flash.old).extent) }
+    ensures unread { IsErrOf result BootFault.TooLarge → F.state flash.new ≡ F.state flash.old }
     ensures flash { OnlyReads (F.state flash.old) (F.state flash.new) (F.found_since flash.old) (F.found_since flash.new) }
 {
     if flash.size() > FLASH_LIMIT {

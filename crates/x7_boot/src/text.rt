@@ -1,5 +1,5 @@
 //! What a boot came to, as lines of text.
-ghost use Rattle.std.specs.Prelude.{◌≡◌, ◌++◌, decimal, OnOk};
+ghost use Rattle.std.specs.Prelude.{◌≡◌, ◌++◌, length, take, decimal, OnErr, OnOk};
 ghost use Rattle.x7_boot.specs.BootLines.{attempt_text, attempts_text, boot_end_text, boot_head, cause_text, ending_text, kind_text};
 
 use crate::attempt::Ending;
@@ -54,19 +54,21 @@ fn end_line(end: BootEnd) -> &'static [u8]
     }
 }
 
-/// Appends a number in decimal.
+/// Appends a number in decimal. After an error the text is as it was.
 fn put_count(text: &mut Vec<u8>, number: u64) -> Result<(), NoMemory>
-    ensures { OnOk result (text.new.items ≡ text.old.items ++ decimal number) }
+    ensures ok { OnOk result (text.new.items ≡ text.old.items ++ decimal number) }
+    ensures err { OnErr result (text.new.items ≡ text.old.items) }
 {
     make_room(text, 20)?;
     put_decimal(text, number);
     Ok(())
 }
 
-/// Appends the line of the attempt of this number.
+/// Appends the line of the attempt of this number. After an error the first words of the line may stand there.
 #[tactic(auto, unfolding(crate::specs::BootLines::attempt_text))]
 fn put_attempt(text: &mut Vec<u8>, number: u64, tried: &Tried) -> Result<(), NoMemory>
-    ensures { OnOk result (text.new.items ≡ text.old.items ++ attempt_text number tried.now) }
+    ensures ok { OnOk result (text.new.items ≡ text.old.items ++ attempt_text number tried.now) }
+    ensures err { OnErr result (take (length text.old.items) text.new.items ≡ text.old.items) }
 {
     put_text(text, b"attempt ")?;
     put_count(text, number)?;
@@ -76,12 +78,14 @@ fn put_attempt(text: &mut Vec<u8>, number: u64, tried: &Tried) -> Result<(), NoM
     put_text(text, &hex_of_word(tried.address))?;
     put_text(text, b" ")?;
     put_text(text, ending_words(tried.ending))?;
-    put_text(text, b"\n")
+    put_text(text, b"\n")?;
+    Ok(())
 }
 
-/// Appends the lines of attempts, numbered from 1.
+/// Appends the lines of attempts, numbered from 1. After an error the first of them may stand there.
 fn put_attempts(text: &mut Vec<u8>, attempts: &[Tried]) -> Result<(), NoMemory>
-    ensures { OnOk result (text.new.items ≡ text.old.items ++ attempts_text 0 attempts.now) }
+    ensures ok { OnOk result (text.new.items ≡ text.old.items ++ attempts_text 0 attempts.now) }
+    ensures err { OnErr result (take (length text.old.items) text.new.items ≡ text.old.items) }
 {
     let mut number = 0u64;
     let mut rest = attempts;
@@ -95,20 +99,40 @@ fn put_attempts(text: &mut Vec<u8>, attempts: &[Tried]) -> Result<(), NoMemory>
     }
 }
 
-/// Appends to `text` the lines of a boot (this project's choice): `boot NAME`; for each attempt `attempt N KIND ADDRESS ENDING`,
-/// N from 1; and `end` and how the boot ended. After an error the first of them may stand there.
+/// Appends the lines of a boot. After an error the first of them may stand there.
 #[tactic(auto, unfolding(crate::specs::BootLines::boot_head))]
+fn put_boot(
+    text: &mut Vec<u8>,
+    name: &str,
+    attempts: &[Tried],
+    end: BootEnd,
+) -> Result<(), NoMemory>
+    ensures ok { OnOk result (text.new.items ≡ text.old.items ++ boot_head name.now attempts.now end) }
+    ensures err { OnErr result (take (length text.old.items) text.new.items ≡ text.old.items) }
+{
+    put_text(text, b"boot ")?;
+    put_text(text, name.as_bytes())?;
+    put_text(text, b"\n")?;
+    put_attempts(text, attempts)?;
+    put_text(text, end_line(end))?;
+    Ok(())
+}
+
+/// Appends to `text` the lines of a boot (this project's choice): `boot NAME`; for each attempt `attempt N KIND ADDRESS ENDING`,
+/// N from 1; and `end` and how the boot ended. `NoMemory` leaves the items as they were.
 pub fn boot_lines(
     text: &mut Vec<u8>,
     name: &str,
     attempts: &[Tried],
     end: BootEnd,
 ) -> Result<(), NoMemory>
-    ensures { OnOk result (text.new.items ≡ text.old.items ++ boot_head name.now attempts.now end) }
+    ensures ok { OnOk result (text.new.items ≡ text.old.items ++ boot_head name.now attempts.now end) }
+    ensures err { OnErr result (text.new.items ≡ text.old.items) }
 {
-    put_text(text, b"boot ")?;
-    put_text(text, name.as_bytes())?;
-    put_text(text, b"\n")?;
-    put_attempts(text, attempts)?;
-    put_text(text, end_line(end))
+    let start = text.len();
+    let Ok(()) = put_boot(text, name, attempts, end) else {
+        text.truncate(start);
+        return Err(NoMemory);
+    };
+    Ok(())
 }
