@@ -15,7 +15,7 @@ use x7_part::Part;
 use x7_text::read_lines;
 use x7_words::NoMemory;
 
-/// What was read so far.
+/// The frames that were read so far, in the order of their lines.
 #[derive(Drop)]
 pub(crate) struct Reading {
     pub(crate) draft: Draft,
@@ -26,7 +26,7 @@ pub(crate) struct Reading {
 }
 
 impl Reading {
-    /// Nothing was read yet. There is room for all frames of the part.
+    /// A reading of no line. There is room for all frames of the part.
     pub(crate) fn new(alloc: Global, part: &Part) -> Result<Reading, NoMemory>
         ensures rows { IfOk result (λ reading. reading.draft.rows ≡ []) }
         ensures width { IfOk result (λ reading. reading.draft.width ≡ frame_words part.now) }

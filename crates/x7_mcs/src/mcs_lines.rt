@@ -29,7 +29,7 @@ pub struct McsLines {
 }
 
 impl McsLines {
-    /// What no line gives.
+    /// The image of no line.
     pub fn new(alloc: Global) -> McsLines
         ensures { HasRead (body_in result) [] }
     {
