@@ -305,10 +305,7 @@ pub fn full(alloc: Global, part: &Part, plan: &Plan) -> Result<Vec<u8>, PlanFaul
     ensures fault { IfErr result (λ fault. (fault ≡ PlanFault.NoMemory) ⊎ IsFullFault part.now plan.now fault) }
     ensures memory { IfErr result (λ fault. fault ≡ PlanFault.NoMemory → AreAddressed part.now plan.now.rows) }
 {
-    let stream = match FullStream::new(part, plan) {
-        Ok(stream) => stream,
-        Err(fault) => return Err(fault),
-    };
+    let stream = FullStream::new(part, plan)?;
     let words = part.words() as usize * slot_count(part) as usize;
     let Ok(mut out) = Vec::with_capacity(alloc, 4 * (OTHER_WORDS + words)) else {
         return Err(PlanFault::NoMemory);

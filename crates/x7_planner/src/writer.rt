@@ -42,13 +42,11 @@ impl Writer {
         requires { 4 * words < 2 ^ 64 }
         ensures { IfOk result (λ w. w ≡ []) }
     {
-        match Vec::with_capacity(alloc, 4 * words) {
-            Ok(out) => Ok(Writer {
-                out,
-                checker: Checker::new(),
-            }),
-            Err(_) => Err(NoMemory),
-        }
+        let out = Vec::with_capacity(alloc, 4 * words)?;
+        Ok(Writer {
+            out,
+            checker: Checker::new(),
+        })
     }
 
     /// Writes words.
@@ -90,13 +88,9 @@ pub(crate) fn put_words(out: &mut Vec<u8>, words: &[u32]) -> Result<(), NoMemory
     ensures full { OnErr result (vec_capacity out.old < length out.old.items + 4 * length words.now) }
 {
     let start = out.len();
-    match out.resize(start + 4 * words.len(), 0) {
-        Ok(()) => {
-            BigEndian::write_u32_into(words, &mut out[start..]);
-            Ok(())
-        }
-        Err(_) => Err(NoMemory),
-    }
+    out.resize(start + 4 * words.len(), 0)?;
+    BigEndian::write_u32_into(words, &mut out[start..]);
+    Ok(())
 }
 
 /// Appends packets of two words each. After an error nothing was appended.

@@ -4,4 +4,4 @@ use Rattle.x7_planner.proofs.whole.full.Goals as goal
 
 pub returns-clause-stream : goal.returns-clause-stream
 returns-clause-stream c =
-    c.in_ok-put_all.ensures ∙ ap (λ p. full_stream p c.in-Ok.stream.plan) c.in-Ok.ensures.part ∙ ap (full_stream c.args.part.now) c.in-Ok.ensures.plan
+    c.in_ok-put_all.ensures ∙ ap (λ p. full_stream p c.in_ok-stream.stream.plan) c.in_ok-stream.ensures.part ∙ ap (full_stream c.args.part.now) c.in_ok-stream.ensures.plan
