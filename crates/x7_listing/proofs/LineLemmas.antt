@@ -107,7 +107,3 @@ is-none (Some x) P Q e h = absurd cc
 pub is-comment : (r : Option (Bor (List ℕ))) (check : ℕ) (t old : List ℕ) → is_some r ≡ true → MatchOption r (NotAfter (codes "#") t) (λ x. t ≡ codes "#" ++ x.now) → Reads FitsLine text_of (bytes_of check) true t old old
 is-comment None check t old e h = absurd cc
 is-comment (Some x) check t old e h = (Comment x.now, tt, h, sym (append-nil old))
-
--- a reader that took a text
-pub read-yes : {A : Type 0} → (fits : A → Type 0) (text bytes : A → List ℕ) (t old new : List ℕ) (b : Bool) → Reads fits text bytes b t old new → b ≡ true → (x : A) × fits x × (t ≡ text x) × (new ≡ old ++ bytes x)
-read-yes fits text bytes t old new b r e = subst (λ c. Reads fits text bytes c t old new) e r
