@@ -15,7 +15,7 @@ use Rattle.x7_forms.specs.declared.status.Status.{Status}
 use Rattle.x7_forms.specs.declared.status.Status.TheVariants as status
 use Rattle.x7_forms.specs.Event.{Event, status_of, bad_input, missing, no_memory, read_fault, too_large, write_fault}
 use Rattle.x7_forms.specs.Form.{Listing}
-use Rattle.x7_forms.specs.Turn.{IsBadBeginning, NoLetterGiven, UnreadBeginning, Unopened, Unread}
+use Rattle.x7_forms.specs.Turn.{IsBadBeginning, NoLetterGiven, UnreadBeginning, Unopened, Unread, longest_beginning, turn_bytes}
 use Rattle.x7_tool.specs.Turns.{Lists, ListsStream}
 use Rattle.x7_forms.proofs.BeginningLemmas.{letter_there}
 use Rattle.x7_forms.proofs.ReadLemmas.{known_all}
@@ -34,7 +34,7 @@ abbrev pub GivenBy : Option (List ℕ → Option (List ℕ)) → List ℕ → �
 GivenBy contents stream given old new =
     (inputs : List ℕ → Option (List ℕ)) (bytes before after : List ℕ) → contents ≡ Some inputs → inputs stream ≡ Some bytes → old ≡ Some before → new ≡ Some after → GivesNear bytes given before after
 
--- none was read behind the byte at which the header is refused
+-- no byte was read after the one at which the header is refused
 abbrev pub SoonBy : Option (List ℕ → Option (List ℕ)) → List ℕ → Option (List ℕ) → Type 0
 SoonBy contents stream rest =
     (inputs : List ℕ → Option (List ℕ)) (bytes left : List ℕ) (place : ℕ) → contents ≡ Some inputs → inputs stream ≡ Some bytes → rest ≡ Some left → stream_listing bytes ≡ Err place
@@ -86,7 +86,7 @@ why_weaker (inr h) = inr h
 
 -- ---- what is listed
 
--- nothing is, of no bytes
+-- of no bytes nothing is listed
 nothing_written : (old new : Option (List ℕ)) → Longer old new → (before after : List ℕ) → old ≡ Some before → new ≡ Some after → HasWritten [] before after
 nothing_written old new l before after o n =
     let all : after ≡ before ++ l.0 = let e = l.1 in let f : appended old l.0 ≡ Some (before ++ l.0) = ap (λ (k : Option (List ℕ)). appended k l.0) o in cc in
@@ -125,7 +125,7 @@ near_by contents stream early late rest old new s few h inputs bytes left before
       near = omega (arith, ap length whole, ap length tail, length-append (early ++ late) t.0, w.1);
     }
 
-pub front_near : (contents : Option (List ℕ → Option (List ℕ))) (stream taken : List ℕ) (rest old new : Option (List ℕ)) → Selects contents stream (preceded taken rest) → length taken ≤ 327706 → Longer old new → NearBy contents stream rest old new
+pub front_near : (contents : Option (List ℕ → Option (List ℕ))) (stream taken : List ℕ) (rest old new : Option (List ℕ)) → Selects contents stream (preceded taken rest) → length taken ≤ longest_beginning → Longer old new → NearBy contents stream rest old new
 front_near contents stream taken rest old new s few l =
     near_by contents stream [] taken rest old new s (omega (arith, few))
     (λ before after o n.
@@ -135,7 +135,7 @@ front_near contents stream taken rest old new s few l =
     (w, near))
 
 pub turn_near : (contents : Option (List ℕ → Option (List ℕ))) (stream taken piece line sent : List ℕ) (l : ListerState) (rest old mid new : Option (List ℕ)) → Selects contents stream (preceded (taken ++ piece) rest)
-    → length taken ≤ length sent + 327706 → length piece ≤ 65536 → stream_listing taken ≡ Ok (line ++ listing_of sent) → Lists l (appended old line) mid sent → Longer mid new → NearBy contents stream rest old new
+    → length taken ≤ length sent + longest_beginning → length piece ≤ turn_bytes → stream_listing taken ≡ Ok (line ++ listing_of sent) → Lists l (appended old line) mid sent → Longer mid new → NearBy contents stream rest old new
 turn_near contents stream taken piece line sent l rest old mid new s close few e t m =
     near_by contents stream taken piece rest old new s (omega (arith, few))
     (λ before after o n.
@@ -147,13 +147,13 @@ turn_near contents stream taken piece line sent l rest old mid new s close few e
 
 -- ---- what was given
 
-pub front_given : (contents : Option (List ℕ → Option (List ℕ))) (stream : List ℕ) (given : ℕ) (old new : Option (List ℕ)) → given ≤ 327706 → Longer old new → GivenBy contents stream given old new
+pub front_given : (contents : Option (List ℕ → Option (List ℕ))) (stream : List ℕ) (given : ℕ) (old new : Option (List ℕ)) → given ≤ longest_beginning → Longer old new → GivenBy contents stream given old new
 front_given contents stream given old new few l inputs bytes before after c b o n =
     let none : length {A = ℕ} [] ≡ 0 = refl in
     record { early = []; others = bytes; split = refl; few = omega (arith, none, few); written = nothing_written old new l before after o n }
 
 pub turn_given : (contents : Option (List ℕ → Option (List ℕ))) (stream taken line sent : List ℕ) (given : ℕ) (l : ListerState) (rest old mid new : Option (List ℕ)) → Selects contents stream (preceded taken rest)
-    → given ≤ length taken + 65536 → stream_listing taken ≡ Ok (line ++ listing_of sent) → Lists l (appended old line) mid sent → Longer mid new → GivenBy contents stream given old new
+    → given ≤ length taken + turn_bytes → stream_listing taken ≡ Ok (line ++ listing_of sent) → Lists l (appended old line) mid sent → Longer mid new → GivenBy contents stream given old new
 turn_given contents stream taken line sent given l rest old mid new s few e t m inputs bytes before after c b o n =
     let k = known_all inputs stream taken rest (subst (λ (k : Option (List ℕ → Option (List ℕ))). Selects k stream (preceded taken rest)) c s) in
     let whole : bytes ≡ taken ++ k.0 = let e = k.1.1 in cc in
@@ -204,7 +204,7 @@ module _ (contents : Option (List ℕ → Option (List ℕ))) (stream : List ℕ
   unopened_near s n name event a l (inl h, none) = as_event n.given event (missing name) h.0 tt
   unopened_near s n name event a l (inr h, none) = as_event n.given event (read_fault name) h.0 (λ inputs bytes place c i fits e f. omega (arith, a.given), front_given contents stream n.given old new (omega (arith, a.given)) l)
 
-  pub unfronted_near : (m n : InputsState) (name : List ℕ) (event : Event) → n.rest ≡ rest → Selects contents stream m.rest → Asks name m → n.given ≤ m.given + 327706 → Longer old new → UnreadBeginning m name n event
+  pub unfronted_near : (m n : InputsState) (name : List ℕ) (event : Event) → n.rest ≡ rest → Selects contents stream m.rest → Asks name m → n.given ≤ m.given + longest_beginning → Longer old new → UnreadBeginning m name n event
       → StaysBy (status_of event) contents stream n.given rest old new
   unfronted_near m n name event e s a few l (inl h) = as_event n.given event no_memory h (front_given contents stream n.given old new (omega (arith, a.given, few)) l)
   unfronted_near m n name event e s a few l (inr (inl h)) =
@@ -213,7 +213,7 @@ module _ (contents : Option (List ℕ → Option (List ℕ))) (stream : List ℕ
       as_event n.given event (bad_input name (input.Byte h.place)) h.is (subst (λ (r : Option (List ℕ)). SoonBy contents stream r) e (bad_soon contents stream name m n event s h))
 
   pub unread_near : (s n : InputsState) (name taken : List ℕ) (l : ListerState) (left : ℕ) (event : Event) → n.rest ≡ rest → Selects contents stream (preceded taken s.rest) → (t : ListsStream l old new taken)
-      → n.given ≤ length taken + 65536 → (event ≡ too_large name → left < 65536) → Longer new new → Unread s name n left event → StaysBy (status_of event) contents stream n.given rest old new
+      → n.given ≤ length taken + turn_bytes → (event ≡ too_large name → left < turn_bytes) → Longer new new → Unread s name n left event → StaysBy (status_of event) contents stream n.given rest old new
   unread_near s n name taken l left event e sel t few over same (inl h) =
       as_event n.given event (read_fault name) h.0 (
         judged_unjudged contents stream taken s.rest n.given sel (λ more. (t.line ++ listing_of (t.sent ++ more), t.goes more)),

@@ -94,7 +94,7 @@ pub list_ends : (stream : List ℕ) (old new : Outside) (end : Result Answer Eve
 list_ends stream old new (Ok answer) h n = record { cause = has_cause (Listing stream) old new (Ok answer) (answers_over (Listing stream) old new (Ok answer) h.0); wrote = h.1; near = n; measured = λ name a. absurd a; last = tt; updates = tt }
 list_ends stream old new (Err event) h n = record { cause = ended_cause (cause_of event) stream old new event refl h; wrote = ended_left (cause_of event) stream old new event h; near = n; measured = λ name a e. absurd a; last = λ name a e at. absurd a; updates = tt }
 
--- the same of a call's result
+-- a listing ends as it should, by the result of the call that ended it
 pub list_seen : {A : Type 0} (stream : List ℕ) (old new : Outside) (r : Result A Refusal) → OnOk r ((text : List ℕ) × EndedIn stream old new (Ok (record { stopped = false; text = text })))
     → IfErr r (λ x. EndedIn stream old new (Err (event_of x))) → IfErr r (λ x. StaysNear (status_of (event_of x)) (Some (Listing stream)) old new) → EndsAs (Some (Listing stream)) old new (seen (λ _. false) r)
 list_seen stream old new (Ok a) ok err near = (ok.0, list_ends stream old new (Ok (record { stopped = false; text = ok.0 })) ok.1 tt)
@@ -218,7 +218,7 @@ listed_whole (Some inputs) flash C stream taken text rest Full old now s e h l p
     let short : nat_lt stream_limit (length taken) ≡ false = grind (arith, l, nat_tests) in
     (inr (tt, listed_is inputs flash stream taken whole ∙ due_over stream taken text false h short), p)
 
--- the same event
+-- how a listing ended, by an equal event
 pub ends_same : (known : Option Known) (C : Mishap → Type 0) (stream : List ℕ) (Full : Type 0) (old now : Option (List ℕ)) (x y : Event) → x ≡ y → Ended known C stream Full old now (Err y) → Ended known C stream Full old now (Err x)
 ends_same known C stream Full old now x y e h = subst (λ (event : Event). Ended known C stream Full old now (Err event)) (sym e) h
 

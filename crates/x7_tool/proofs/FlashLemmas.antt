@@ -31,7 +31,7 @@ pub came_wider : (form : Asked) (old new : Outside) (m : Mishap) → CameIn (ste
 came_wider form old new (Failing name given) h = (h.0, inl h.1)
 came_wider form old new (Lacking name) h = inl h
 
--- the same by names of inputs, where a form may have a flash too
+-- a text that has its cause in the inputs that a form names has it in what the form names, a flash too
 pub answers_over : (form : Asked) (old new : Outside) (whole : Result Answer Event) → IsCausedBy (known_in old) (CameIn (step_over (names_of (Some form)) old.inputs new.inputs)) (λ t end. Gives t form end) whole → AnswersOver form old new whole
 answers_over form old new whole c =
     caused_on_by Answer (known_in old) (CameIn (step_over (names_of (Some form)) old.inputs new.inputs)) (Came (Some form) old new) (λ t end. Gives t form end) whole (came_wider form old new) c
@@ -162,7 +162,7 @@ not_fault (Some form) old new event n = λ name a e at. absurd (n (ap (λ (x : E
 pub other_fault : (form : Option Asked) (old : InputsState) (new : FlashState) (event is : Event) → event ≡ is → (is.reason ≡ why.ReadFault → ⊥) → FailsLast form old new (Err event)
 other_fault form old new event is e n = subst (λ (x : Event). FailsLast form old new (Err x)) (sym e) (not_fault form old new is n)
 
--- nor is one of a flash that isn't attached
+-- an event that comes where no flash is attached is no fault of a flash that is
 pub detached : (form : Asked) (old : InputsState) (new : FlashState) (event : Event) → new.attached ≡ false → FailsLast (Some form) old new (Err event)
 detached form old new event d = λ name a e at. let both : true ≡ false = sym at ∙ d in absurd (cc)
 

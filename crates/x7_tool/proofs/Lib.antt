@@ -1,4 +1,5 @@
 pub mod AheadLemmas
+pub mod AnswerLemmas
 pub mod AsmLemmas
 pub mod BootTextLemmas
 pub mod Causes
@@ -12,6 +13,7 @@ pub mod McsLemmas
 pub mod PlanLemmas
 pub mod PlayLemmas
 pub mod PromiseLemmas
+pub mod ReadyLemmas
 pub mod RunLemmas
 pub mod StopLemmas
 pub mod SvfLemmas

@@ -54,14 +54,14 @@ module _ (old new : InputsState) (part first : PartData) (name text : List ℕ) 
 
 -- ---- a part and a text
 
-texts_read : (part frames : List ℕ) (old mid new : InputsState) (p : PartData) (text : List ℕ) → Stays old mid → AnswersAs {A = PartData} (step_over (part ∷ []) old mid) (λ t. part_of t part) (Ok p) → ReadsWhole mid new text_limit frames (Ok text)
+pub texts_read : (part frames : List ℕ) (old mid new : InputsState) (p : PartData) (text : List ℕ) → Stays old mid → AnswersAs {A = PartData} (step_over (part ∷ []) old mid) (λ t. part_of t part) (Ok p) → ReadsWhole mid new text_limit frames (Ok text)
     → AnswersAs {A = PlanTexts} (step_over (part ∷ frames ∷ []) old new) (λ t. plan_texts t part frames) (Ok (record { part = p; text = text }))
 texts_read part frames old mid new p text stays h r =
     answers_go PartData PlanTexts (part ∷ []) (frames ∷ []) (part ∷ frames ∷ []) old mid new (λ t. part_of t part) (λ t q. and_so (whole_in t text_limit frames) (λ bytes. Ok (record { part = q; text = bytes }))) p (Ok (record { part = p; text = text }))
     (part_steady part) stays (λ n k. inr k) h
     (answers_end (List ℕ) PlanTexts (frames ∷ []) mid new (λ t. whole_in t text_limit frames) (λ bytes. Ok (record { part = p; text = bytes })) text (Ok (record { part = p; text = text })) (whole_steady text_limit frames) r (inr (tt, tt, refl)))
 
-texts_unread : (part frames : List ℕ) (old mid new : InputsState) (p : PartData) (event : Event) → Stays old mid → AnswersAs {A = PartData} (step_over (part ∷ []) old mid) (λ t. part_of t part) (Ok p) → ReadsWhole mid new text_limit frames (Err event)
+pub texts_unread : (part frames : List ℕ) (old mid new : InputsState) (p : PartData) (event : Event) → Stays old mid → AnswersAs {A = PartData} (step_over (part ∷ []) old mid) (λ t. part_of t part) (Ok p) → ReadsWhole mid new text_limit frames (Err event)
     → AnswersAs {A = PlanTexts} (step_over (part ∷ frames ∷ []) old new) (λ t. plan_texts t part frames) (Err event)
 texts_unread part frames old mid new p event stays h r =
     answers_go PartData PlanTexts (part ∷ []) (frames ∷ []) (part ∷ frames ∷ []) old mid new (λ t. part_of t part) (λ t q. and_so (whole_in t text_limit frames) (λ bytes. Ok (record { part = q; text = bytes }))) p (Err event)

@@ -19,7 +19,7 @@ use Rattle.x7_forms.specs.declared.player.Player.{Player}
 use Rattle.x7_forms.specs.declared.refusal.Refusal.{Refusal}
 use Rattle.x7_tool.specs.Play.{report_of, reported, text_of_play}
 
-pub reported_over : (part : PartData) (bytes : List ℕ) → 16777216 < length (reads_of part on_the_bench bytes) → reported part bytes ≡ Err too_many_reads
+pub reported_over : (part : PartData) (bytes : List ℕ) → reads_limit < length (reads_of part on_the_bench bytes) → reported part bytes ≡ Err too_many_reads
 unfolding reported
 reported_over part bytes k =
     let long : nat_lt reads_limit (length (reads_of part on_the_bench bytes)) ≡ true = grind (arith, k, nat_tests) in

@@ -3,7 +3,7 @@ use Rattle.std.proofs.Common.{◌≡◌, ◌≤◌, ◌+◌, arith, length, ℕ,
 use Rattle.std.specs.Prelude.{nat_lt}
 use Rattle.std.proofs.lemmas.Bool.Decides.{nat_tests}
 use Rattle.x7_words.specs.Flash.{FlashState}
-use Rattle.x7_words.specs.Input.{InputsState, Stays}
+use Rattle.x7_words.specs.Input.{InputsState}
 use Rattle.x7_words.specs.Sink.{SinkState, PutsSome}
 use Rattle.x7_listing.specs.Assembly.{IsAsm}
 use Rattle.x7_listing.proofs.OutcomeLemmas.{one-outcome}
@@ -23,11 +23,10 @@ use Rattle.x7_forms.specs.Step.{Among, DecidedBy, IsCausedBy, IsDue, IsFromOutsi
 use Rattle.x7_tool.specs.Ahead.{StaysNear, StaysNearIn}
 use Rattle.x7_tool.specs.Leaving.{Updates}
 use Rattle.x7_tool.specs.Outcome.{AssembledAs, Gives, IsOutcome, mcs_image, text_limit}
-use Rattle.x7_tool.specs.Outside.{Came, IsQuiet, KeepsFlash, Outside, known_in, sources}
+use Rattle.x7_tool.specs.Outside.{Came, IsQuiet, KeepsFlash, Outside, known_in}
 use Rattle.x7_tool.specs.Promise.{Promise}
-use Rattle.x7_tool.specs.Run.{Agrees, AnswersForm, AnswersOver, CausedBy, EndIsCaused, Ends, EndsAs, FailsLast, GetsBy, GetsPrefix, Happens, IsMeasured, JudgesFlash, LeavesBy, LeftAtBreak, LeftBy, Puts, Says}
-use Rattle.x7_tool.specs.Runs.{Back, Runs}
-use Rattle.x7_tool.specs.Stopping.{Stops}
+use Rattle.x7_tool.specs.Run.{Agrees, AnswersForm, AnswersOver, CausedBy, EndIsCaused, Ends, EndsAs, FailsLast, GetsBy, GetsPrefix, Happens, IsMeasured, LeavesBy, LeftAtBreak, LeftBy, Puts, Says}
+use Rattle.x7_tool.specs.Runs.{Back, RanAs, Runs}
 use Rattle.x7_tool.proofs.FlashLemmas.{answers_over, not_fault, not_large}
 use Rattle.x7_tool.proofs.PromiseLemmas.{promised}
 
@@ -177,28 +176,28 @@ promise_is (Some form) old new (Err event) h = no_promise (known_in old) (Some f
 -- ---- a run
 
 -- how a command ended is what its run comes to
-pub runs : (form : Option Asked) (old new : Outside) (s : Status) (end : Result Answer Event) → s ≡ final_status end → Says old.err new.err end → Ends form old new end → Stops form old.inputs new.inputs end → JudgesFlash form (sources old.inputs old.flash) (sources new.inputs new.flash) end → new.inputs.selects ≤ old.inputs.selects + length (names_of form) → Stays old.inputs new.inputs → KeepsFlash (flash_use form) old.flash new.flash → Runs form old new s
-runs form old new s end e t h p j k i f =
-    let outcome : (known : Known) → known_in old ≡ Some known → IsQuiet form old new → (s ≡ status.NoMemory) ⊎ IsOutcome known form end = outcome_is form old new s end e h.cause in
+pub runs : (form : Option Asked) (old new : Outside) (s : Status) → RanAs form old new s → KeepsFlash (flash_use form) old.flash new.flash → Runs form old new s
+runs form old new s r f =
+    let outcome : (known : Known) → known_in old ≡ Some known → IsQuiet form old new → (s ≡ status.NoMemory) ⊎ IsOutcome known form r.end = outcome_is form old new s r.end r.ends_as r.ends.cause in
     record {
-      end = end;
-      ends_as = e;
-      cause = h.cause;
-      wrote = h.wrote;
-      said = t;
-      near = subst (λ (x : Status). StaysNear x form old new) (sym e) h.near;
+      end = r.end;
+      ends_as = r.ends_as;
+      cause = r.ends.cause;
+      wrote = r.ends.wrote;
+      said = r.said;
+      near = subst (λ (x : Status). StaysNear x form old new) (sym r.ends_as) r.ends.near;
       outcome = outcome;
-      no_form = no_form_is form old new s end e h.cause;
-      back = back_is form old new s end outcome;
-      promise = promise_is form old new end h.cause;
-      measured = h.measured;
-      last = h.last;
-      stops = p;
-      judges = j;
-      asks = k;
-      stays = i;
+      no_form = no_form_is form old new s r.end r.ends_as r.ends.cause;
+      back = back_is form old new s r.end outcome;
+      promise = promise_is form old new r.end r.ends.cause;
+      measured = r.ends.measured;
+      last = r.ends.last;
+      stops = r.stops;
+      judges = r.judges;
+      asks = r.asks;
+      stays = r.stays;
       flash = f;
-      updates = h.updates;
+      updates = r.ends.updates;
     }
 
 -- ---- a text that is whole before it is written
@@ -250,7 +249,7 @@ none_updated : (listed updated : Option (List ℕ)) → streamed listed updated 
 none_updated None updated e = e
 none_updated (Some listed) updated e = absurd (cc)
 
--- such a form updates no flash
+-- a form without a stream for a flash updates no flash
 updates_none : (form : Asked) (old new : Outside) (end : Result Answer Event) → updated_by (Some form) ≡ None → Updates (updated_by (Some form)) old new end
 updates_none form old new end u = subst (λ (x : Option (List ℕ)). Updates x old new end) (sym u) tt
 
@@ -299,13 +298,12 @@ puts_end form old new (Err event) (Err other) l u m f c p =
       updates = updates_none form old new (Err event) u;
     })
 
-pub text_ends : (form : Option Asked) (asks : Asked) (old new : Outside) (whole : Result Answer Event) (got : Result Bool Event)
-    → form ≡ Some asks → streamed (listed_by (Some asks)) (updated_by (Some asks)) ≡ None → IsMeasured (Some asks) new.flash whole → FailsLast (Some asks) old.inputs new.flash whole → AnswersOver asks old new whole → Puts whole old.out new.out got → EndsAs form old new got
-text_ends form asks old new whole got e n m f c p =
-    subst (λ (x : Option Asked). EndsAs x old new got) (sym e)
-    (puts_end asks old new whole got (none_listed (listed_by (Some asks)) (updated_by (Some asks)) n) (none_updated (listed_by (Some asks)) (updated_by (Some asks)) n) m f c p)
+pub text_ends : (form : Asked) (old new : Outside) (whole : Result Answer Event) (got : Result Bool Event)
+    → streamed (listed_by (Some form)) (updated_by (Some form)) ≡ None → IsMeasured (Some form) new.flash whole → FailsLast (Some form) old.inputs new.flash whole → AnswersOver form old new whole → Puts whole old.out new.out got → EndsAs (Some form) old new got
+text_ends form old new whole got n m f c p =
+    puts_end form old new whole got (none_listed (listed_by (Some form)) (updated_by (Some form)) n) (none_updated (listed_by (Some form)) (updated_by (Some form)) n) m f c p
 
--- the same of a form that reads inputs alone
-pub ready_ends : (form : Option Asked) (asks : Asked) (old new : Outside) (whole : Result Answer Event) (got : Result Bool Event)
-    → form ≡ Some asks → streamed (listed_by (Some asks)) (updated_by (Some asks)) ≡ None → flash_use (Some asks) ≡ Unused → AnswersForm asks old.inputs new.inputs whole → Puts whole old.out new.out got → EndsAs form old new got
-ready_ends form asks old new whole got e l u c p = text_ends form asks old new whole got e l (unmeasured asks new.flash whole u) (unfailed asks old.inputs new.flash whole u) (answers_over asks old new whole (c old.flash.bytes)) p
+-- a form that reads inputs alone ends as it should where its text has its cause and was put
+pub ready_ends : (form : Asked) (old new : Outside) (whole : Result Answer Event) (got : Result Bool Event)
+    → streamed (listed_by (Some form)) (updated_by (Some form)) ≡ None → flash_use (Some form) ≡ Unused → AnswersForm form old.inputs new.inputs whole → Puts whole old.out new.out got → EndsAs (Some form) old new got
+ready_ends form old new whole got l u c p = text_ends form old new whole got l (unmeasured form new.flash whole u) (unfailed form old.inputs new.flash whole u) (answers_over form old new whole (c old.flash.bytes)) p

@@ -10,7 +10,7 @@ use Rattle.x7_forms.specs.Event.{Absence, Break, Cause, Contents, Difference, Ev
 use Rattle.x7_forms.specs.declared.bad_input.InputFault.TheVariants as input
 use Rattle.x7_forms.specs.declared.refusal.Why.{Why}
 use Rattle.x7_forms.specs.declared.refusal.Why.TheVariants as why
-use Rattle.x7_forms.specs.Form.{Asked, Booting, Playing, UpdatingFlash, flash_names, names_of}
+use Rattle.x7_forms.specs.Form.{Asked, Booting, Playing, Unused, UpdatingFlash, flash_names, flash_use}
 use Rattle.x7_forms.specs.Known.{Answer, part_limit, stream_limit}
 use Rattle.x7_forms.specs.Message.{event_of}
 use Rattle.x7_forms.specs.Step.{Among, seen}
@@ -190,40 +190,24 @@ written_stops P Q form old now (Err x) h = put_stops form old now (event_of x) h
 -- ---- the words
 
 -- a text that is ready, or none, and how it was written
-pub puts_stop : (form : Option Asked) (asks : Asked) (first now : InputsState) (whole : Result Answer Event) (old new : SinkState) (got : Result Bool Event) → form ≡ Some asks → Stops (Some asks) first now whole → Puts whole old new got → Stops form first now got
-puts_stop form asks first now whole old new got e s p = subst (λ (f : Option Asked). Stops f first now got) (sym e) (by whole got s p)
-  where
-    by : (whole : Result Answer Event) (got : Result Bool Event) → Stops (Some asks) first now whole → Puts whole old new got → Stops (Some asks) first now got
-    by (Err event) got s p = subst (λ (r : Result Bool Event). Stops (Some asks) first now r) (sym p.0) s
-    by (Ok answer) (Ok stopped) s p = tt
-    by (Ok answer) (Err event) s p = subst (λ (x : Event). StopsBy (cause_of x) asks first now x) (sym p.0) tt
-
-pub form_stops : {A : Type 0} (form : Option Asked) (asks : Asked) (old now : InputsState) (got : Result A Event) → form ≡ Some asks → Stops (Some asks) old now got → Stops form old now got
-form_stops {A} form asks old now got e s = subst (λ (f : Option Asked). Stops {A = A} f old now got) (sym e) s
-
--- a whole text, whatever it is
-pub done_stops : (form : Option Asked) (old now : InputsState) (answer : Answer) → Stops form old now (Ok answer)
-done_stops None old now answer = tt
-done_stops (Some form) old now answer = tt
-
-pub refused_stops : (form : Option Asked) (old now : InputsState) (event : Event) → Stops {A = Bool} form old now (Err event) → Stops {A = Answer} form old now (Err event)
-refused_stops None old now event h = tt
-refused_stops (Some form) old now event h = h
+pub puts_stop : (form : Asked) (first now : InputsState) (whole : Result Answer Event) (old new : SinkState) (got : Result Bool Event) → Stops (Some form) first now whole → Puts whole old new got → Stops (Some form) first now got
+puts_stop form first now (Err event) old new got s p = subst (λ (r : Result Bool Event). Stops (Some form) first now r) (sym p.0) s
+puts_stop form first now (Ok answer) old new (Ok stopped) s p = tt
+puts_stop form first now (Ok answer) old new (Err event) s p = subst (λ (x : Event). StopsBy (cause_of x) form first now x) (sym p.0) tt
 
 -- ---- what an update asks for where its flash can't be used
 
-pub form_judges : {A : Type 0} (form : Option Asked) (asks : Asked) (old new : Sources) (got : Result A Event) → form ≡ Some asks → JudgesFlash {A = A} (Some asks) old new got → JudgesFlash {A = A} form old new got
-form_judges {A} form asks old new got e j = subst (λ (f : Option Asked). JudgesFlash {A = A} f old new got) (sym e) j
+-- a form that uses no flash judges none
+pub unused_judges : {A : Type 0} (form : Asked) (old new : Sources) (got : Result A Event) → flash_use (Some form) ≡ Unused → JudgesFlash {A = A} (Some form) old new got
+unused_judges (UpdatingFlash flash stream) old new got u = absurd (cc)
+unused_judges form old new got u = tt
 
-pub none_judges : {A : Type 0} (form : Option Asked) (old new : Sources) (got : Result A Event) → form ≡ None → JudgesFlash {A = A} form old new got
-none_judges {A} form old new got e = subst (λ (f : Option Asked). JudgesFlash {A = A} f old new got) (sym e) tt
-
-pub done_judges : (form : Option Asked) (old new : Sources) (answer : Answer) → JudgesFlash {A = Answer} form old new (Ok answer)
-done_judges (Some (UpdatingFlash flash stream)) old new answer = tt
+pub done_judges : (form : Asked) (old new : Sources) (answer : Answer) → JudgesFlash {A = Answer} (Some form) old new (Ok answer)
+done_judges (UpdatingFlash flash stream) old new answer = tt
 done_judges form old new answer = tt
 
-pub refused_judges : (form : Option Asked) (old new : Sources) (event : Event) → JudgesFlash {A = Bool} form old new (Err event) → JudgesFlash {A = Answer} form old new (Err event)
-refused_judges (Some (UpdatingFlash flash stream)) old new event j = j
+pub refused_judges : (form : Asked) (old new : Sources) (event : Event) → JudgesFlash {A = Bool} (Some form) old new (Err event) → JudgesFlash {A = Answer} (Some form) old new (Err event)
+refused_judges (UpdatingFlash flash stream) old new event j = j
 refused_judges form old new event j = tt
 
 -- the flash wasn't opened, and no input was asked for
@@ -239,7 +223,7 @@ named_judges flash stream now event c (inl e) = same_name flash stream event (mi
 named_judges flash stream now event c (inr (inl e)) = same_name flash stream event (too_large flash) e refl c
 named_judges flash stream now event c (inr (inr e)) = same_name flash stream event (read_fault flash) e.0 refl c
 
--- such an event has one of three reasons
+-- the event of a flash that can't be used has one of three reasons
 unusable_reason : (flash : List ℕ) (now : FlashState) (event : Event) → IsUnusable flash now event → (event.reason ≡ why.Missing) ⊎ ((event.reason ≡ why.TooLarge) ⊎ ((event.reason ≡ why.ReadFault) × (now.attached ≡ false)))
 unusable_reason flash now event (inl e) = inl (ap (λ (x : Event). x.reason) e)
 unusable_reason flash now event (inr (inl e)) = inr (inl (ap (λ (x : Event). x.reason) e))
@@ -277,8 +261,9 @@ updated_judges flash stream old new fault event e a = λ u. absurd (fault_judges
 
 -- ---- how often inputs are asked for
 
-pub form_asks : (form : Option Asked) (asks : Asked) (old new : InputsState) → form ≡ Some asks → new.selects ≤ old.selects + length (names_of (Some asks)) → new.selects ≤ old.selects + length (names_of form)
-form_asks form asks old new e h = subst (λ (f : Option Asked). new.selects ≤ old.selects + length (names_of f)) (sym e) h
+-- the first of a form's inputs
+pub first_asked : (name : List ℕ) (others : List (List ℕ)) (old new : InputsState) → new.selects ≤ old.selects + 1 → new.selects ≤ old.selects + length (name ∷ others)
+first_asked name others old new h = let all : new.selects ≤ old.selects + suc (length others) = omega (arith, h) in all
 
 -- two inputs, one after the other, and three
 pub both_asked : (old mid new : InputsState) → mid.selects ≤ old.selects + 1 → new.selects ≤ mid.selects + 1 → new.selects ≤ old.selects + 2

@@ -135,7 +135,7 @@ stream_so_far l first now bytes t = record {
       subst (λ (x : List ℕ). PutsPrefix first x now) (one_text text (t.line ++ listing_of (t.sent ++ rest)) (stream_listing (bytes ++ rest)) (t.goes rest) e) front;
 }
 
--- the same of what was put at the front of a stream that may go on
+-- a prefix of the listing of a stream that may go on, put while its first data are listed
 pub front_so_far : (taken line sent : List ℕ) (old now : Option (List ℕ)) → AreBytes sent → ((left : List ℕ) → stream_listing (taken ++ left) ≡ Ok (line ++ listing_of (sent ++ left)))
     → ((left : List ℕ) → AreBytes (sent ++ left) → PutsPrefix old (line ++ listing_of (sent ++ left)) now) → ListsSoFar taken old now
 front_so_far taken line sent old now fits g p = record {

@@ -16,7 +16,7 @@ use Rattle.x7_update.specs.Refused.{CanTake, HasCause, IsEarly, IsTooLong, NoLay
 use Rattle.x7_update.specs.Writing.{AtAnyMoment, Becomes, BecomesBytes, OnlyUses}
 use Rattle.x7_update.specs.declared.fault.UpdateFault.{UpdateFault}
 use Rattle.x7_update.specs.declared.fault.UpdateFault.TheVariants.{Differs, Failed, NoLayout, NoMemory, TooLong}
-use Rattle.x7_update.proofs.ToldLemmas.{moments_weaker, read_moments}
+use Rattle.x7_update.proofs.ToldLemmas.{moments_weaker, only_read, read_moments}
 use Rattle.x7_forms.specs.declared.bad_input.InputFault.TheVariants as input
 use Rattle.x7_forms.specs.declared.refusal.Why.{Why}
 use Rattle.x7_forms.specs.declared.refusal.Why.TheVariants as why
@@ -133,7 +133,7 @@ pub unplayed_last : (form : Asked) (inputs : InputsState) (new : FlashState) (na
 unplayed_last form inputs new name event a (inl h) = unread_last form inputs new name event a h
 unplayed_last form inputs new name event a (inr h) = other_fault (Some form) inputs new event (bad_input name (input.Byte h.0)) h.1 (λ r. absurd (cc))
 
--- nor does a fault of the update
+-- a fault of an update says nothing of the size of a flash
 fault_measured : (form : Option Asked) (n : UpdateNames) (new : FlashState) (fault : UpdateFault) → IsMeasured form new (Err (update_event n fault))
 fault_measured form n new (Failed true) = not_large form new write_fault (λ r. absurd (cc))
 fault_measured form n new (Failed false) = not_large form new (read_fault n.flash) (λ r. absurd (cc))
@@ -190,7 +190,7 @@ data_read None C stream bytes h = tt
 data_read (Some t) C stream bytes (inl h) = absurd h
 data_read (Some t) C stream bytes (inr h) = h.1
 
--- the same of the data that an update was given
+-- the data that an update was given are those of its stream
 pub data_given : (known : Option Known) (C : Mishap → Type 0) (stream bytes given_bytes : List ℕ) → IsCaused {A = List ℕ} known C (λ t. stream_data t stream) (Ok bytes) → given_bytes ≡ bytes → HasData known stream given_bytes
 data_given known C stream bytes given_bytes h e = subst (λ (b : List ℕ). HasData known stream b) (sym e) (data_read known C stream bytes h)
 
@@ -288,6 +288,15 @@ done_ends flash stream bytes old new out within has layout size becomes =
 
 -- ---- what an update leaves of the flash
 
+-- a flash that was attached at most
+pub uses_opened : (flash stream : List ℕ) (inputs : InputsState) (old new : FlashState) (past since : ℕ → List ℕ → Type 0) → FlashStays old new past since → AsksFor old flash new → UsesFlash (Some (UpdatingFlash flash stream)) (sources inputs old) new past since
+uses_opened flash stream inputs old new past since s a =
+    let known = with_inputs inputs.contents old.bytes in
+    record {
+      keeps = record { faults = s.faults; absences = s.absences; write_faults = omega (arith, s.unwritten.write_faults); no_other = a.no_other };
+      moments = only_read old new past since (MayBeFound known (Some stream)) (λ all e. inl refl) s.bytes s.unwritten;
+    }
+
 -- a flash that was attached and updated
 pub uses_updated : (flash stream bytes : List ℕ) (inputs : InputsState) (old mid new : FlashState) (past mids since : ℕ → List ℕ → Type 0) → FlashStays old mid past mids → AsksFor old flash mid → HasData (with_inputs inputs.contents old.bytes) stream bytes
     → OnlyUses mid new → AtAnyMoment mid new mids since (MayBeLeft bytes) → UsesFlash (Some (UpdatingFlash flash stream)) (sources inputs old) new past since
@@ -302,11 +311,3 @@ uses_updated flash stream bytes inputs old mid new past mids since s a has o m =
       };
       moments = read_moments old mid new past mids since P (λ all e. inl refl) s.bytes s.unwritten (moments_weaker mid new mids since (MayBeLeft bytes) P (λ all found e h. inr (bytes, has, h)) m);
     }
-
--- ---- the form of the words
-
-pub update_ends : (form : Option Asked) (asks : Asked) (old new : Outside) (got : Result Bool Event) → form ≡ Some asks → EndsAs (Some asks) old new got → EndsAs form old new got
-update_ends form asks old new got e h = subst (λ (f : Option Asked). EndsAs f old new got) (sym e) h
-
-pub update_uses : (form : Option Asked) (asks : Asked) (inputs : InputsState) (old new : FlashState) (past since : ℕ → List ℕ → Type 0) → form ≡ Some asks → UsesFlash (Some asks) (sources inputs old) new past since → UsesFlash form (sources inputs old) new past since
-update_uses form asks inputs old new past since e h = subst (λ (f : Option Asked). UsesFlash f (sources inputs old) new past since) (sym e) h

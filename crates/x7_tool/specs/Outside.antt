@@ -69,7 +69,7 @@ Fails form old new name = FailsAmong (names_of form) old.inputs new.inputs name 
 abbrev pub Lacks : Option Asked → Outside → Outside → List ℕ → Type 0
 Lacks form old new name = LacksAmong (names_of form) old.inputs new.inputs name ⊎ FlashLacksAmong (flash_names form) old.flash new.flash name
 
--- this mishap came: an input or the flash of a name that the form gives failed, after the bytes that were given of the last input, or was missing
+-- a mishap came: an input or the flash of a name that the form gives failed, after the bytes that were given of the last input, or was missing
 abbrev pub Came : Option Asked → Outside → Outside → Mishap → Type 0
 Came form old new (Failing name given) = (given ≡ new.inputs.given) × Fails form old new name
 Came form old new (Lacking name) = Lacks form old new name

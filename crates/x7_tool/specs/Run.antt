@@ -1,7 +1,7 @@
 -- What may end a command, and what its output holds then (this project's choice).
-use Rattle.std.specs.Prelude.{◌≡◌, ◌<◌, ◌≤◌, ℕ, List, [], ◌∷◌, ◌++◌, length, Option, None, Some, Result, Ok, Err, Bool, true, false, ◌⊎◌}
+use Rattle.std.specs.Prelude.{◌≡◌, ◌<◌, ◌≤◌, ◌+◌, ℕ, List, [], ◌∷◌, ◌++◌, length, Option, None, Some, Result, Ok, Err, Bool, true, false, ◌⊎◌}
 use Rattle.x7_words.specs.Flash.{FlashState, IfKnown}
-use Rattle.x7_words.specs.Input.{InputsState}
+use Rattle.x7_words.specs.Input.{InputsState, Stays}
 use Rattle.x7_boot.specs.Image.{flash_limit}
 use Rattle.x7_update.specs.Writing.{IsReadWrong}
 use Rattle.x7_words.specs.Sink.{PutsAll, PutsPrefix, PutsSome, SinkFails, SinkState, Tells}
@@ -19,7 +19,8 @@ use Rattle.x7_forms.specs.Step.{Among, AnswersBy, IsCausedBy, IsOfMishap, seen, 
 use Rattle.x7_tool.specs.Ahead.{StaysNear}
 use Rattle.x7_tool.specs.Outcome.{FlashBoots, Gives, no_text}
 use Rattle.x7_tool.specs.Leaving.{HasData, Updates}
-use Rattle.x7_tool.specs.Outside.{Came, FlashFailsAmong, FlashLacksAmong, Outside, Sources, Transfer, WritesFail, known_in, with_sources, with_transfer}
+use Rattle.x7_tool.specs.Outside.{Came, FlashFailsAmong, FlashLacksAmong, Outside, Sources, Transfer, WritesFail, known_in, sources, with_sources, with_transfer}
+use Rattle.x7_tool.specs.Stopping.{Stops}
 
 -- ---- why
 
@@ -180,13 +181,21 @@ abbrev pub EndsAs : Option Asked → Outside → Outside → Result Bool Event �
 EndsAs form old new (Ok stopped) = (text : List ℕ) × Ends form old new (Ok (record { stopped = stopped; text = text }))
 EndsAs form old new (Err event) = Ends form old new (Err event)
 
--- how a form that writes no text ended, whatever the sinks hold
-abbrev pub EndsSilently : Asked → Sources → Sources → Result Bool Event → Type 0
-EndsSilently form old new got = (before after : Outside) → after.out ≡ before.out → EndsAs (Some form) (with_sources before old) (with_sources after new) got
+-- A form came to this end, but for what is said of it: how it ended, where reading stopped, what was judged where its flash can't be used, how often inputs were asked for, and that every input keeps its bytes.
+pub record Answered (form : Asked) (old new : Outside) (got : Result Bool Event) : Type 0 where
+  pub ends : EndsAs (Some form) old new got
+  pub stops : Stops (Some form) old.inputs new.inputs got
+  pub judges : JudgesFlash (Some form) (sources old.inputs old.flash) (sources new.inputs new.flash) got
+  pub asks : new.inputs.selects ≤ old.inputs.selects + length (names_of (Some form))
+  pub stays : Stays old.inputs new.inputs
 
--- how a listing ended, whatever the flash and the sink of messages hold
-abbrev pub EndsListing : List ℕ → Transfer → Transfer → Result Bool Event → Type 0
-EndsListing stream old new got = (before after : Outside) → EndsAs (Some (Listing stream)) (with_transfer before old) (with_transfer after new) got
+-- a form that writes no text came to this end, whatever the sinks hold
+abbrev pub AnsweredSilently : Asked → Sources → Sources → Result Bool Event → Type 0
+AnsweredSilently form old new got = (before after : Outside) → after.out ≡ before.out → Answered form (with_sources before old) (with_sources after new) got
+
+-- a listing came to this end, whatever the flash and the sink of messages hold
+abbrev pub AnsweredListing : List ℕ → Transfer → Transfer → Result Bool Event → Type 0
+AnsweredListing stream old new got = (before after : Outside) → Answered (Listing stream) (with_transfer before old) (with_transfer after new) got
 
 -- whether what a call wrote reports a fault, or the event of its refusal
 abbrev pub written_by : Result Bool Refusal → Result Bool Event
@@ -214,6 +223,22 @@ AnswersFrom form old new got = (before after : Outside) → AnswersOver form (wi
 -- a text of a form that reads no flash has its cause in the inputs, whatever a flash holds
 abbrev pub AnswersForm : Asked → InputsState → InputsState → Result Answer Event → Type 0
 AnswersForm form old new got = AnswersBy (step_over (names_of (Some form)) old new) (λ known end. Gives known form end) got
+
+-- A form that reads inputs alone made its text ready, or not: the text has its cause, reading stopped where an input ends the form, no more inputs were asked for than the form names, and every input keeps its bytes.
+pub record MakesReady (form : Asked) (old new : InputsState) (got : Result Answer Event) : Type 0 where
+  pub due : AnswersForm form old new got
+  pub stops : Stops (Some form) old new got
+  pub asks : new.selects ≤ old.selects + length (names_of (Some form))
+  pub stays : Stays old new
+
+-- A form that reads a flash too made its text ready, or not: what is said of a form that reads inputs alone, by what the flash holds too; and of the flash, how large it is, and when it may fail.
+pub record MakesReadyFrom (form : Asked) (old new : Sources) (got : Result Answer Event) : Type 0 where
+  pub due : AnswersFrom form old new got
+  pub stops : Stops (Some form) old.inputs new.inputs got
+  pub measured : IsMeasured (Some form) new.flash got
+  pub last : FailsLast (Some form) old.inputs new.flash got
+  pub asks : new.inputs.selects ≤ old.inputs.selects + length (names_of (Some form))
+  pub stays : Stays old.inputs new.inputs
 
 -- a flash was not attached: its name isn't there, or the flash failed
 abbrev pub IsUnattached : List ℕ → FlashState → FlashState → Event → Type 0

@@ -41,10 +41,16 @@ Back (Some (Assembling name)) old new s end = Assembles name old new s end
 Back (Some (FromMcs name)) old new s end = GivesImage name old new s end
 Back form old new s end = Unit {0}
 
--- a command ended so, with this status, and said why where there is no whole text
-abbrev pub RanAs : Option Asked → Outside → Outside → Status → Type 0
-RanAs form old new s = (end : Result Answer Event) × (s ≡ final_status end) × Says old.err new.err end × Ends form old new end × Stops form old.inputs new.inputs end
-    × JudgesFlash form (sources old.inputs old.flash) (sources new.inputs new.flash) end
+-- A command ended so, with this status, and said why where there is no whole text.
+pub record RanAs (form : Option Asked) (old new : Outside) (s : Status) : Type 0 where
+  pub end : Result Answer Event
+  pub ends_as : s ≡ final_status end
+  pub said : Says old.err new.err end
+  pub ends : Ends form old new end
+  pub stops : Stops form old.inputs new.inputs end
+  pub judges : JudgesFlash form (sources old.inputs old.flash) (sources new.inputs new.flash) end
+  pub asks : new.inputs.selects ≤ old.inputs.selects + length (names_of form)
+  pub stays : Stays old.inputs new.inputs
 
 -- a run of the command that the words ask for
 pub record Runs (form : Option Asked) (old new : Outside) (s : Status) : Type 0 where

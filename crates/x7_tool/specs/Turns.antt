@@ -1,12 +1,14 @@
 -- What stands between two turns: of a listing that is written, and of a text that is read while it comes (this project's choice).
-use Rattle.std.specs.Prelude.{◌≡◌, ◌≤◌, ◌++◌, ℕ, List, [], Option, Result, Ok, MatchResult, length, ◌+◌}
-use Rattle.x7_words.specs.Sink.{PutsPrefix, appended}
+use Rattle.std.specs.Prelude.{◌≡◌, ◌⊎◌, ◌≤◌, ◌++◌, ℕ, List, [], Option, Result, Ok, MatchResult, length, ◌+◌}
+use Rattle.x7_words.specs.Sink.{PutsPrefix, SinkFails, SinkState, appended}
 use Rattle.x7_words.specs.Word.{AreBytes}
 use Rattle.x7_text.specs.LineReading.{FailsFrom, ReaderState, StandsFor}
 use Rattle.x7_text.specs.Lines.{split}
 use Rattle.x7_listing.specs.Listing.{listing_of}
 use Rattle.x7_listing.specs.StreamListing.{stream_listing}
 use Rattle.x7_listing.specs.Telling.{ListerState, ListerStandsFor}
+use Rattle.x7_forms.specs.Turn.{longest_beginning}
+use Rattle.x7_forms.specs.Event.{Event, no_memory, write_fault}
 
 -- What was put after the first bytes is the listing so far of these bytes, and the lister keeps no text of it.
 pub record Lists (l : ListerState) (first now : Option (List ℕ)) (bytes : List ℕ) : Type 0 where
@@ -14,6 +16,10 @@ pub record Lists (l : ListerState) (first now : Option (List ℕ)) (bytes : List
   pub stands : ListerStandsFor l given [] bytes
   pub put : now ≡ appended first given
   pub clear : l.text ≡ []
+
+-- a call that writes more of a listing came to nothing: memory was wanting, and nothing was written, or the sink failed
+abbrev pub IsUnlisted : SinkState → SinkState → Event → Type 0
+IsUnlisted old new event = ((event ≡ no_memory) × (new.written ≡ old.written)) ⊎ ((event ≡ write_fault) × SinkFails old new)
 
 -- The listing stopped in a piece: whatever was listed before, and may follow, a prefix of the listing of all of it was put.
 abbrev pub StopsIn : ListerState → Option (List ℕ) → List ℕ → Option (List ℕ) → Type 0
@@ -25,7 +31,7 @@ pub record ListsStream (l : ListerState) (first now : Option (List ℕ)) (bytes 
   pub sent : List ℕ
   pub lists : Lists l (appended first line) now sent
   pub goes : (rest : List ℕ) → stream_listing (bytes ++ rest) ≡ Ok (line ++ listing_of (sent ++ rest))
-  pub close : length bytes ≤ length sent + 327706
+  pub close : length bytes ≤ length sent + longest_beginning
 
 -- a text was read line by line by this, or a first part of it, in which there was this fault
 abbrev pub IsFed : {T F : Type 0} → (T → List (List ℕ) → Type 0) → (F → List (List ℕ) → Type 0) → Result (ReaderState T) F → List ℕ → Type 0

@@ -1,10 +1,8 @@
 //! The command `asm`.
-ghost use Rattle.x7_tool.specs.Stopping.{Stops};
-ghost use Rattle.std.specs.Prelude.{◌≡◌, Some, ◌≤◌, ◌+◌};
-ghost use Rattle.x7_words.specs.Input.{Stays};
+ghost use Rattle.std.specs.Prelude.{◌≡◌};
 ghost use Rattle.x7_forms.specs.Message.{event_of};
 ghost use Rattle.x7_tool.specs.Outcome.{asm_event};
-ghost use Rattle.x7_tool.specs.Run.{AnswersForm};
+ghost use Rattle.x7_tool.specs.Run.{MakesReady};
 ghost use Rattle.x7_forms.specs.Form.{Assembling};
 ghost use Rattle.x7_tool.specs.Ready.{whole_of};
 ghost use Rattle.x7_forms.specs.Step.{seen};
@@ -37,10 +35,7 @@ pub(crate) fn asm<'w, I: Inputs>(
     inputs: &mut I,
     name: &'w str,
 ) -> Result<Text, Refusal<'w>>
-    ensures due { AnswersForm (Assembling name.now) (I.state inputs.old) (I.state inputs.new) (seen whole_of result) }
-    ensures stops { Stops (Some (Assembling name.now)) (I.state inputs.old) (I.state inputs.new) (seen whole_of result) }
-    ensures asks { (I.state inputs.new).selects ≤ (I.state inputs.old).selects + 1 }
-    ensures inputs { Stays (I.state inputs.old) (I.state inputs.new) }
+    ensures { MakesReady (Assembling name.now) (I.state inputs.old) (I.state inputs.new) (seen whole_of result) }
 {
     let read = match feed_whole(alloc, inputs, name, AsmLines::new(alloc)) {
         Ok(read) => read,

@@ -1,7 +1,5 @@
 //! The command `boot`: which image a device starts from a flash, and why not another.
-ghost use Rattle.x7_tool.specs.Stopping.{Stops};
-ghost use Rattle.std.specs.Prelude.{◌≡◌, ◌≤◌, ℕ, List, [], Some, IfErr, IfOk, true, ◌+◌};
-ghost use Rattle.x7_words.specs.Input.{Stays};
+ghost use Rattle.std.specs.Prelude.{◌≡◌, ◌≤◌, ℕ, List, [], IfErr, IfOk, true};
 ghost use Rattle.x7_words.specs.Flash.{Unwritten};
 ghost use Rattle.x7_part.specs.Part.{PartData};
 ghost use Rattle.x7_boot.specs.Boot.{IsBoot};
@@ -15,7 +13,7 @@ ghost use Rattle.x7_tool.specs.BootText.{OfBoot, boot_text};
 ghost use Rattle.x7_forms.specs.Step.{seen};
 ghost use Rattle.x7_tool.specs.Outside.{ReadsFlash, sources};
 ghost use Rattle.x7_tool.specs.Play.{text_of_play};
-ghost use Rattle.x7_tool.specs.Run.{AnswersFrom, FailsLast, FlashComes, IsMeasured};
+ghost use Rattle.x7_tool.specs.Run.{FlashComes, MakesReadyFrom};
 
 use crate::attach::attach;
 use std::alloc::Global;
@@ -130,14 +128,10 @@ pub(crate) fn boot<'w, I: Inputs, F: Flash>(
     part: &'w str,
     name: &'w str,
 ) -> Result<PlayText, Refusal<'w>>
-    ensures measured { IsMeasured (Some (Booting part.now name.now)) (F.state flash.new) (seen text_of_play result) }
-    ensures stops { Stops (Some (Booting part.now name.now)) (I.state inputs.old) (I.state inputs.new) (seen text_of_play result) }
-    ensures last { FailsLast (Some (Booting part.now name.now)) (I.state inputs.old) (F.state flash.new) (seen text_of_play result) }
-    ensures due { AnswersFrom (Booting part.now name.now) (sources (I.state inputs.old) (F.state flash.old)) (sources (I.state inputs.new) (F.state flash.new)) (seen text_of_play result) }
+    ensures ready { MakesReadyFrom (Booting part.now name.now) (sources (I.state inputs.old) (F.state flash.old))
+        (sources (I.state inputs.new) (F.state flash.new)) (seen text_of_play result) }
     ensures reads { ReadsFlash name.now (F.state flash.old) (F.state flash.new) }
     ensures unwritten { Unwritten (F.state flash.old) (F.state flash.new) (F.found_since flash.old) (F.found_since flash.new) }
-    ensures asks { (I.state inputs.new).selects ≤ (I.state inputs.old).selects + 1 }
-    ensures inputs { Stays (I.state inputs.old) (I.state inputs.new) }
 {
     match read_part(alloc, inputs, part) {
         Ok(part) => boot_from(alloc, &part, flash, name),

@@ -1,7 +1,6 @@
 //! The command `debug`.
 ghost use Rattle.x7_forms.specs.Stop.{StopsAmong, limited};
-ghost use Rattle.x7_tool.specs.Stopping.{Stops};
-ghost use Rattle.std.specs.Prelude.{◌≡◌, ◌⊎◌, [], ◌∷◌, Ok, Err, IfErr, IfOk, Some, ◌≤◌, ◌+◌};
+ghost use Rattle.std.specs.Prelude.{◌≡◌, ◌⊎◌, [], ◌∷◌, Ok, Err, IfErr, IfOk, ◌≤◌, ◌+◌};
 ghost use Rattle.x7_words.specs.Input.{Stays};
 ghost use Rattle.x7_tool.specs.Debug.{given_of};
 ghost use Rattle.x7_forms.specs.Message.{event_of};
@@ -12,7 +11,7 @@ ghost use Rattle.x7_forms.specs.Turn.{StandsAt};
 ghost use Rattle.x7_tool.specs.Ready.{whole_of};
 ghost use Rattle.x7_forms.specs.Form.{Debugging};
 ghost use Rattle.x7_forms.specs.Step.{AnswersAs, seen, step_over};
-ghost use Rattle.x7_tool.specs.Run.{AnswersForm};
+ghost use Rattle.x7_tool.specs.Run.{MakesReady};
 
 use crate::stream::read_data;
 use crate::text::Text;
@@ -114,10 +113,7 @@ pub(crate) fn debug<'w, I: Inputs>(
     stream: &'w str,
     script: &'w str,
 ) -> Result<Text, Refusal<'w>>
-    ensures due { AnswersForm (Debugging part.now stream.now script.now) (I.state inputs.old) (I.state inputs.new) (seen whole_of result) }
-    ensures stops { Stops (Some (Debugging part.now stream.now script.now)) (I.state inputs.old) (I.state inputs.new) (seen whole_of result) }
-    ensures asks { (I.state inputs.new).selects ≤ (I.state inputs.old).selects + 3 }
-    ensures inputs { Stays (I.state inputs.old) (I.state inputs.new) }
+    ensures { MakesReady (Debugging part.now stream.now script.now) (I.state inputs.old) (I.state inputs.new) (seen whole_of result) }
 {
     match read_given(alloc, inputs, part, stream, script) {
         Ok(given) => text_of(alloc, given, script),

@@ -1,7 +1,5 @@
 //! The command `gen`: a plan that is made from a number, its stream played on a new device, and what came of it.
-ghost use Rattle.x7_tool.specs.Stopping.{Stops};
-ghost use Rattle.std.specs.Prelude.{◌≡◌, ◌++◌, ◌%◌, ◌^◌, ℕ, List, [], length, IfOk, IfErr, OnOk, unwrap_or, Some, ◌≤◌, ◌+◌};
-ghost use Rattle.x7_words.specs.Input.{Stays};
+ghost use Rattle.std.specs.Prelude.{◌≡◌, ◌++◌, ◌%◌, ◌^◌, ℕ, List, [], length, IfOk, IfErr, OnOk, unwrap_or, Some, ◌+◌};
 ghost use Rattle.std.specs.List.{sum};
 ghost use Rattle.x7_part.specs.AddressOrder.{addresses_in};
 ghost use Rattle.x7_part.specs.Part.{PartData, frame_words};
@@ -14,7 +12,7 @@ ghost use Rattle.x7_tool.specs.Generated.{TookStream, count_line, counted, gen_t
 ghost use Rattle.x7_forms.specs.Event.{no_memory};
 ghost use Rattle.x7_forms.specs.Message.{event_of};
 ghost use Rattle.x7_tool.specs.Outcome.{gen_answer};
-ghost use Rattle.x7_tool.specs.Run.{AnswersForm};
+ghost use Rattle.x7_tool.specs.Run.{MakesReady};
 ghost use Rattle.x7_forms.specs.Form.{Generating};
 ghost use Rattle.x7_forms.specs.Play.{HasPlayed};
 ghost use Rattle.x7_tool.specs.Ready.{whole_of};
@@ -134,7 +132,7 @@ fn play_all(
     player: &mut Player,
     block: &mut Vec<u8>,
 ) -> Result<u64, NoMemory>
-    requires told { HasGiven stream [] }
+    requires given { HasGiven stream [] }
     requires played { HasPlayed stream.part [] player.old }
     requires part { IsPart stream.part }
     requires plan { IsPlan stream.plan }
@@ -232,7 +230,7 @@ fn summarized(
 ) -> Result<Vec<u8>, NoMemory>
     ensures { IfOk result (λ text. (part : PartData) (stream : List ℕ) → TookStream part stream played.now.player played.now.size → text.items ≡ played_summary part seed planned stream) }
 {
-    let device = played.player.device();
+    let device = &played.player.device;
     let part = device.part();
     let summary = Summary {
         planned: planned as u64,
@@ -280,10 +278,7 @@ pub(crate) fn generate<'w, I: Inputs>(
     name: &'w str,
     seed: u32,
 ) -> Result<Text, Refusal<'w>>
-    ensures due { AnswersForm (Generating name.now seed) (I.state inputs.old) (I.state inputs.new) (seen whole_of result) }
-    ensures stops { Stops (Some (Generating name.now seed)) (I.state inputs.old) (I.state inputs.new) (seen whole_of result) }
-    ensures asks { (I.state inputs.new).selects ≤ (I.state inputs.old).selects + 1 }
-    ensures inputs { Stays (I.state inputs.old) (I.state inputs.new) }
+    ensures { MakesReady (Generating name.now seed) (I.state inputs.old) (I.state inputs.new) (seen whole_of result) }
 {
     let part = match read_part(alloc, inputs, name) {
         Ok(part) => part,

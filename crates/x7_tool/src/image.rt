@@ -1,7 +1,6 @@
 //! The command `image`: the flash image of a golden and an update stream.
 ghost use Rattle.x7_forms.specs.Stop.{IsAbout, StopsAmong, limited};
-ghost use Rattle.x7_tool.specs.Stopping.{Stops};
-ghost use Rattle.std.specs.Prelude.{◌≡◌, ◌⊎◌, ◌≤◌, [], ◌∷◌, Ok, Err, IfOk, IfErr, length, Some, ◌+◌};
+ghost use Rattle.std.specs.Prelude.{◌≡◌, ◌⊎◌, ◌≤◌, [], ◌∷◌, Ok, Err, IfOk, IfErr, length, ◌+◌};
 ghost use Rattle.x7_words.specs.Input.{Stays};
 ghost use Rattle.x7_forms.specs.Known.{stream_limit};
 ghost use Rattle.x7_forms.specs.Message.{event_of};
@@ -9,7 +8,7 @@ ghost use Rattle.x7_forms.specs.Turn.{StandsAt};
 ghost use Rattle.x7_forms.specs.Event.{bad_input, no_memory};
 ghost use Rattle.x7_forms.specs.declared.bad_input.InputFault.TheVariants as input;
 ghost use Rattle.x7_tool.specs.Outcome.{image_by, image_streams};
-ghost use Rattle.x7_tool.specs.Run.{AnswersForm};
+ghost use Rattle.x7_tool.specs.Run.{MakesReady};
 ghost use Rattle.x7_forms.specs.Form.{Imaging, ImagingFor};
 ghost use Rattle.x7_tool.specs.Ready.{whole_of};
 ghost use Rattle.x7_tool.specs.Streamed.{streams_of};
@@ -118,10 +117,7 @@ pub(crate) fn image<'w, I: Inputs>(
     golden: &'w str,
     update: &'w str,
 ) -> Result<Text, Refusal<'w>>
-    ensures due { AnswersForm (Imaging golden.now update.now) (I.state inputs.old) (I.state inputs.new) (seen whole_of result) }
-    ensures stops { Stops (Some (Imaging golden.now update.now)) (I.state inputs.old) (I.state inputs.new) (seen whole_of result) }
-    ensures asks { (I.state inputs.new).selects ≤ (I.state inputs.old).selects + 2 }
-    ensures inputs { Stays (I.state inputs.old) (I.state inputs.new) }
+    ensures { MakesReady (Imaging golden.now update.now) (I.state inputs.old) (I.state inputs.new) (seen whole_of result) }
 {
     match read_streams(alloc, inputs, golden, update) {
         Ok(streams) => plain_text(alloc, &streams, update),
@@ -137,10 +133,7 @@ pub(crate) fn image_for<'w, I: Inputs>(
     golden: &'w str,
     update: &'w str,
 ) -> Result<Text, Refusal<'w>>
-    ensures due { AnswersForm (ImagingFor part.now golden.now update.now) (I.state inputs.old) (I.state inputs.new) (seen whole_of result) }
-    ensures stops { Stops (Some (ImagingFor part.now golden.now update.now)) (I.state inputs.old) (I.state inputs.new) (seen whole_of result) }
-    ensures asks { (I.state inputs.new).selects ≤ (I.state inputs.old).selects + 3 }
-    ensures inputs { Stays (I.state inputs.old) (I.state inputs.new) }
+    ensures { MakesReady (ImagingFor part.now golden.now update.now) (I.state inputs.old) (I.state inputs.new) (seen whole_of result) }
 {
     let part = match read_part(alloc, inputs, part) {
         Ok(part) => part,

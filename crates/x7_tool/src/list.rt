@@ -1,8 +1,5 @@
 //! The command `list`.
-ghost use Rattle.x7_forms.specs.Form.{Listing};
-ghost use Rattle.x7_tool.specs.Stopping.{Stops};
-ghost use Rattle.std.specs.Prelude.{◌≡◌, ℕ, List, [], ◌++◌, ◌⊎◌, false, Option, Some, Ok, Err, OnErr, OnOk, IfErr, ◌≤◌, ◌+◌};
-ghost use Rattle.x7_words.specs.Input.{Stays};
+ghost use Rattle.std.specs.Prelude.{◌≡◌, ℕ, List, [], ◌++◌, ◌⊎◌, false, Option, Ok, Err, OnErr, OnOk, IfErr, ◌+◌};
 ghost use Rattle.x7_words.specs.Sink.{Counts, PutsPrefix, SinkFails, appended};
 ghost use Rattle.x7_words.specs.Word.{AreBytes};
 ghost use Rattle.x7_listing.specs.Listing.{listing_of};
@@ -11,9 +8,9 @@ ghost use Rattle.x7_forms.specs.Message.{event_of};
 ghost use Rattle.x7_forms.specs.Event.{no_memory, write_fault};
 ghost use Rattle.x7_listing.specs.Telling.{ListerStandsFor};
 ghost use Rattle.x7_tool.specs.Outside.{transfer};
-ghost use Rattle.x7_tool.specs.Run.{EndsListing};
+ghost use Rattle.x7_tool.specs.Run.{AnsweredListing};
 ghost use Rattle.x7_forms.specs.Step.{seen};
-ghost use Rattle.x7_tool.specs.Turns.{Lists, StopsIn};
+ghost use Rattle.x7_tool.specs.Turns.{IsUnlisted, Lists, StopsIn};
 
 use std::alloc::Global;
 use x7_forms::{Refusal, STREAM_LIMIT, TURN, Why, next_turn, open, read_beginning};
@@ -22,9 +19,10 @@ use x7_words::{Inputs, Sink, write_all, write_pieces};
 
 /// Lists a piece, and writes what that adds to the listing.
 fn put_turn<'w, O: Sink>(lister: &mut Lister, out: &mut O, piece: &[u8]) -> Result<(), Refusal<'w>>
-    ensures ok { OnOk result ((first : Option (List ℕ)) (bytes : List ℕ) → Lists lister.old first (O.state out.old).written bytes → Lists lister.new first (O.state out.new).written (bytes ++ piece.now)) }
+    ensures ok { OnOk result ((first : Option (List ℕ)) (bytes : List ℕ) → Lists lister.old first (O.state out.old).written bytes
+        → Lists lister.new first (O.state out.new).written (bytes ++ piece.now)) }
     ensures err { OnErr result (StopsIn lister.old (O.state out.old).written piece.now (O.state out.new).written) }
-    ensures why { IfErr result (λ r. ((event_of r ≡ no_memory) × ((O.state out.new).written ≡ (O.state out.old).written)) ⊎ ((event_of r ≡ write_fault) × SinkFails (O.state out.old) (O.state out.new))) }
+    ensures why { IfErr result (λ r. IsUnlisted (O.state out.old) (O.state out.new) (event_of r)) }
     ensures fits { AreBytes piece.now }
     ensures longer { IsLonger (O.state out.old) (O.state out.new) }
     ensures counts { Counts (O.state out.old) (O.state out.new) }
@@ -44,14 +42,14 @@ fn put_short<'w, O: Sink>(
     lister: &mut Lister,
     out: &mut O,
     line: &[u8],
-    sent: &[u8],
+    content: &[u8],
 ) -> Result<(), Refusal<'w>>
     requires new { ListerStandsFor lister.old [] [] [] }
-    ensures ok { OnOk result ((O.state out.new).written ≡ appended (O.state out.old).written (line.now ++ listing_of sent.now)) }
-    ensures err { IfErr result (λ r. PutsPrefix (O.state out.old).written (line.now ++ listing_of sent.now) (O.state out.new).written) }
-    ensures why { IfErr result (λ r. ((event_of r ≡ no_memory) × ((O.state out.new).written ≡ (O.state out.old).written)) ⊎ ((event_of r ≡ write_fault) × SinkFails (O.state out.old) (O.state out.new))) }
+    ensures ok { OnOk result ((O.state out.new).written ≡ appended (O.state out.old).written (line.now ++ listing_of content.now)) }
+    ensures err { IfErr result (λ r. PutsPrefix (O.state out.old).written (line.now ++ listing_of content.now) (O.state out.new).written) }
+    ensures why { IfErr result (λ r. IsUnlisted (O.state out.old) (O.state out.new) (event_of r)) }
 {
-    if lister.feed(sent).is_err() {
+    if lister.feed(content).is_err() {
         return Err(Refusal::unnamed(Why::NoMemory));
     }
     if lister.finish().is_err() {
@@ -68,27 +66,30 @@ fn put_beginning<'w, O: Sink>(
     lister: &mut Lister,
     out: &mut O,
     line: &[u8],
-    sent: &[u8],
+    content: &[u8],
 ) -> Result<(), Refusal<'w>>
     requires new { ListerStandsFor lister.old [] [] [] }
     requires clear { lister.old.text ≡ [] }
-    ensures ok { OnOk result (Lists lister.new (appended (O.state out.old).written line.now) (O.state out.new).written sent.now) }
-    ensures err { IfErr result (λ r. (rest : List ℕ) → AreBytes (sent.now ++ rest) → PutsPrefix (O.state out.old).written (line.now ++ listing_of (sent.now ++ rest)) (O.state out.new).written) }
+    ensures ok { OnOk result (Lists lister.new (appended (O.state out.old).written line.now) (O.state out.new).written content.now) }
+    ensures err { IfErr result (λ r. (rest : List ℕ) → AreBytes (content.now ++ rest)
+        → PutsPrefix (O.state out.old).written (line.now ++ listing_of (content.now ++ rest)) (O.state out.new).written) }
     ensures why { IfErr result (λ r. (event_of r ≡ no_memory) ⊎ ((event_of r ≡ write_fault) × SinkFails (O.state out.old) (O.state out.new))) }
-    ensures fits { AreBytes sent.now }
+    ensures fits { AreBytes content.now }
     ensures counts { Counts (O.state out.old) (O.state out.new) }
 {
     if write_all(out, line).is_err() {
         return Err(Refusal::unnamed(Why::WriteFault));
     }
-    put_turn(lister, out, sent)
+    put_turn(lister, out, content)
 }
 
 /// Ends the listing, and writes what that adds.
 fn put_end<'w, O: Sink>(lister: &mut Lister, out: &mut O) -> Result<(), Refusal<'w>>
-    ensures ok { OnOk result ((first : Option (List ℕ)) (bytes : List ℕ) → Lists lister.old first (O.state out.old).written bytes → (O.state out.new).written ≡ appended first (listing_of bytes)) }
-    ensures err { IfErr result (λ r. (first : Option (List ℕ)) (bytes : List ℕ) → Lists lister.old first (O.state out.old).written bytes → PutsPrefix first (listing_of bytes) (O.state out.new).written) }
-    ensures why { IfErr result (λ r. ((event_of r ≡ no_memory) × ((O.state out.new).written ≡ (O.state out.old).written)) ⊎ ((event_of r ≡ write_fault) × SinkFails (O.state out.old) (O.state out.new))) }
+    ensures ok { OnOk result ((first : Option (List ℕ)) (bytes : List ℕ) → Lists lister.old first (O.state out.old).written bytes
+        → (O.state out.new).written ≡ appended first (listing_of bytes)) }
+    ensures err { IfErr result (λ r. (first : Option (List ℕ)) (bytes : List ℕ) → Lists lister.old first (O.state out.old).written bytes
+        → PutsPrefix first (listing_of bytes) (O.state out.new).written) }
+    ensures why { IfErr result (λ r. IsUnlisted (O.state out.old) (O.state out.new) (event_of r)) }
     ensures longer { IsLonger (O.state out.old) (O.state out.new) }
 {
     if lister.finish().is_err() {
@@ -108,31 +109,28 @@ pub(crate) fn list<'w, I: Inputs, O: Sink>(
     out: &mut O,
     stream: &'w str,
 ) -> Result<(), Refusal<'w>>
-    ensures ends { EndsListing stream.now (transfer (I.state inputs.old) (O.state out.old)) (transfer (I.state inputs.new) (O.state out.new)) (seen (λ _. false) result) }
-    ensures stops { Stops (Some (Listing stream.now)) (I.state inputs.old) (I.state inputs.new) (seen (λ _. false) result) }
-    ensures asks { (I.state inputs.new).selects ≤ (I.state inputs.old).selects + 1 }
-    ensures inputs { Stays (I.state inputs.old) (I.state inputs.new) }
+    ensures { AnsweredListing stream.now (transfer (I.state inputs.old) (O.state out.old)) (transfer (I.state inputs.new) (O.state out.new)) (seen (λ _. false) result) }
 {
     match open(inputs, stream) {
         Ok(()) => (),
         Err(refusal) => return Err(refusal),
     }
-    let front = match read_beginning(alloc, inputs, stream) {
-        Ok(front) => front,
+    let beginning = match read_beginning(alloc, inputs, stream) {
+        Ok(beginning) => beginning,
         Err(refusal) => return Err(refusal),
     };
     let mut lister = Lister::new(alloc);
-    let line: &[u8] = &front.line;
-    let sent = &front.bytes[front.start..];
-    if front.last {
-        return put_short(&mut lister, out, line, sent);
+    let line: &[u8] = &beginning.line;
+    let content = &beginning.bytes[beginning.start..];
+    if beginning.last {
+        return put_short(&mut lister, out, line, content);
     }
-    match put_beginning(&mut lister, out, line, sent) {
+    match put_beginning(&mut lister, out, line, content) {
         Ok(()) => (),
         Err(refusal) => return Err(refusal),
     }
     let mut piece = [0u8; TURN];
-    let mut left = STREAM_LIMIT - front.bytes.len();
+    let mut left = STREAM_LIMIT - beginning.bytes.len();
     loop {
         let turn = match next_turn(inputs, stream, left, &mut piece) {
             Ok(turn) => turn,

@@ -1,10 +1,8 @@
 //! The commands `mcs` and `unmcs`: flash images as Intel HEX texts, and back.
-ghost use Rattle.x7_tool.specs.Stopping.{Stops};
-ghost use Rattle.std.specs.Prelude.{◌≡◌, Some, ◌≤◌, ◌+◌};
-ghost use Rattle.x7_words.specs.Input.{Stays};
+ghost use Rattle.std.specs.Prelude.{◌≡◌};
 ghost use Rattle.x7_forms.specs.Message.{event_of};
 ghost use Rattle.x7_tool.specs.Outcome.{mcs_event};
-ghost use Rattle.x7_tool.specs.Run.{AnswersForm};
+ghost use Rattle.x7_tool.specs.Run.{MakesReady};
 ghost use Rattle.x7_forms.specs.Form.{FromMcs, ToMcs};
 ghost use Rattle.x7_tool.specs.Ready.{text_of_image, whole_of};
 ghost use Rattle.x7_forms.specs.Step.{seen};
@@ -40,10 +38,7 @@ pub(crate) fn mcs<'w, I: Inputs>(
     inputs: &mut I,
     image: &'w str,
 ) -> Result<McsText, Refusal<'w>>
-    ensures due { AnswersForm (ToMcs image.now) (I.state inputs.old) (I.state inputs.new) (seen text_of_image result) }
-    ensures stops { Stops (Some (ToMcs image.now)) (I.state inputs.old) (I.state inputs.new) (seen text_of_image result) }
-    ensures asks { (I.state inputs.new).selects ≤ (I.state inputs.old).selects + 1 }
-    ensures inputs { Stays (I.state inputs.old) (I.state inputs.new) }
+    ensures { MakesReady (ToMcs image.now) (I.state inputs.old) (I.state inputs.new) (seen text_of_image result) }
 {
     let bytes = match read_whole(alloc, inputs, image, FLASH_LIMIT) {
         Ok(bytes) => bytes,
@@ -61,10 +56,7 @@ pub(crate) fn unmcs<'w, I: Inputs>(
     inputs: &mut I,
     name: &'w str,
 ) -> Result<Text, Refusal<'w>>
-    ensures due { AnswersForm (FromMcs name.now) (I.state inputs.old) (I.state inputs.new) (seen whole_of result) }
-    ensures stops { Stops (Some (FromMcs name.now)) (I.state inputs.old) (I.state inputs.new) (seen whole_of result) }
-    ensures asks { (I.state inputs.new).selects ≤ (I.state inputs.old).selects + 1 }
-    ensures inputs { Stays (I.state inputs.old) (I.state inputs.new) }
+    ensures { MakesReady (FromMcs name.now) (I.state inputs.old) (I.state inputs.new) (seen whole_of result) }
 {
     let read = match feed_whole(alloc, inputs, name, McsLines::new(alloc)) {
         Ok(read) => read,

@@ -1,7 +1,6 @@
 //! The commands `plan full`, `plan partial` and `plan read`: streams for plans.
 ghost use Rattle.x7_forms.specs.Stop.{IsAbout, StopsAmong, limited};
-ghost use Rattle.x7_tool.specs.Stopping.{Stops};
-ghost use Rattle.std.specs.Prelude.{◌≡◌, ◌⊎◌, ◌∷◌, [], ℕ, List, Ok, Err, IfOk, IfErr, Some, ◌≤◌, ◌+◌};
+ghost use Rattle.std.specs.Prelude.{◌≡◌, ◌⊎◌, ◌∷◌, [], ℕ, List, Ok, Err, IfOk, IfErr, ◌≤◌, ◌+◌};
 ghost use Rattle.x7_words.specs.Input.{Stays};
 ghost use Rattle.x7_part.specs.Part.{frame_words};
 ghost use Rattle.x7_frames.specs.FramesText.{IsPlanOf};
@@ -14,7 +13,7 @@ ghost use Rattle.x7_tool.specs.Planned.{ReadsPlan};
 ghost use Rattle.x7_tool.specs.FullText.{full_of};
 ghost use Rattle.x7_tool.specs.Ready.{whole_of};
 ghost use Rattle.x7_forms.specs.Step.{seen};
-ghost use Rattle.x7_tool.specs.Run.{AnswersForm};
+ghost use Rattle.x7_tool.specs.Run.{MakesReady};
 
 use crate::feeding::feed_whole;
 use crate::full_text::FullText;
@@ -92,10 +91,7 @@ pub(crate) fn plan_full<'w, I: Inputs>(
     part: &'w str,
     frames: &'w str,
 ) -> Result<FullText, Refusal<'w>>
-    ensures due { AnswersForm (PlanningFull part.now frames.now) (I.state inputs.old) (I.state inputs.new) (seen full_of result) }
-    ensures stops { Stops (Some (PlanningFull part.now frames.now)) (I.state inputs.old) (I.state inputs.new) (seen full_of result) }
-    ensures asks { (I.state inputs.new).selects ≤ (I.state inputs.old).selects + 2 }
-    ensures inputs { Stays (I.state inputs.old) (I.state inputs.new) }
+    ensures { MakesReady (PlanningFull part.now frames.now) (I.state inputs.old) (I.state inputs.new) (seen full_of result) }
 {
     let known = match read_part(alloc, inputs, part) {
         Ok(known) => known,
@@ -117,7 +113,8 @@ fn partial_text<'w>(
 ) -> Result<Text, Refusal<'w>>
     requires { plan.now.width ≡ frame_words part.now }
     ensures ok { IfOk result (λ end. (text : List ℕ) → IsPlanOf part.now text (Ok plan.now) → PlannedPartial frames.now (Ok (record { part = part.now; text = text })) (Ok (whole_of end))) }
-    ensures err { IfErr result (λ r. (event_of r ≡ no_memory) ⊎ ((text : List ℕ) → IsPlanOf part.now text (Ok plan.now) → PlannedPartial frames.now (Ok (record { part = part.now; text = text })) (Err (event_of r)))) }
+    ensures err { IfErr result (λ r. (event_of r ≡ no_memory)
+        ⊎ ((text : List ℕ) → IsPlanOf part.now text (Ok plan.now) → PlannedPartial frames.now (Ok (record { part = part.now; text = text })) (Err (event_of r)))) }
     ensures about { IfErr result (λ r. IsAbout frames.now (event_of r)) }
 {
     match partial(alloc, part, plan) {
@@ -136,10 +133,7 @@ pub(crate) fn plan_partial<'w, I: Inputs>(
     part: &'w str,
     frames: &'w str,
 ) -> Result<Text, Refusal<'w>>
-    ensures due { AnswersForm (PlanningPartial part.now frames.now) (I.state inputs.old) (I.state inputs.new) (seen whole_of result) }
-    ensures stops { Stops (Some (PlanningPartial part.now frames.now)) (I.state inputs.old) (I.state inputs.new) (seen whole_of result) }
-    ensures asks { (I.state inputs.new).selects ≤ (I.state inputs.old).selects + 2 }
-    ensures inputs { Stays (I.state inputs.old) (I.state inputs.new) }
+    ensures { MakesReady (PlanningPartial part.now frames.now) (I.state inputs.old) (I.state inputs.new) (seen whole_of result) }
 {
     let known = match read_part(alloc, inputs, part) {
         Ok(known) => known,
@@ -181,10 +175,7 @@ pub(crate) fn plan_read<'w, I: Inputs>(
     far: u32,
     n: u32,
 ) -> Result<Text, Refusal<'w>>
-    ensures due { AnswersForm (PlanningRead name.now far n) (I.state inputs.old) (I.state inputs.new) (seen whole_of result) }
-    ensures stops { Stops (Some (PlanningRead name.now far n)) (I.state inputs.old) (I.state inputs.new) (seen whole_of result) }
-    ensures asks { (I.state inputs.new).selects ≤ (I.state inputs.old).selects + 1 }
-    ensures inputs { Stays (I.state inputs.old) (I.state inputs.new) }
+    ensures { MakesReady (PlanningRead name.now far n) (I.state inputs.old) (I.state inputs.new) (seen whole_of result) }
 {
     let part = match read_part(alloc, inputs, name) {
         Ok(part) => part,

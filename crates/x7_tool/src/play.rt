@@ -1,7 +1,5 @@
 //! The command `play`.
-ghost use Rattle.x7_tool.specs.Stopping.{Stops};
-ghost use Rattle.std.specs.Prelude.{◌≡◌, ◌⊎◌, ℕ, List, map, string_bytes, Ok, Err, IfErr, IfOk, Some, ◌≤◌, ◌+◌, length};
-ghost use Rattle.x7_words.specs.Input.{Stays};
+ghost use Rattle.std.specs.Prelude.{◌≡◌, ◌⊎◌, ℕ, List, map, string_bytes, Ok, Err, IfErr, IfOk};
 ghost use Rattle.x7_part.specs.Part.{PartData};
 ghost use Rattle.x7_forms.specs.Event.{no_memory, too_many_reads};
 ghost use Rattle.x7_forms.specs.Message.{event_of};
@@ -9,7 +7,7 @@ ghost use Rattle.x7_forms.specs.Play.{HasPlayed};
 ghost use Rattle.x7_forms.specs.Form.{Playing};
 ghost use Rattle.x7_forms.specs.Step.{seen};
 ghost use Rattle.x7_tool.specs.Play.{reported, text_of_play};
-ghost use Rattle.x7_tool.specs.Run.{AnswersForm};
+ghost use Rattle.x7_tool.specs.Run.{MakesReady};
 
 use std::alloc::Global;
 use x7_forms::{Player, Refusal, Why, play_streams, read_part};
@@ -19,7 +17,8 @@ use x7_words::Inputs;
 /// The text of a play, ready to be written, or that too many words were read out.
 fn text_of<'w>(alloc: Global, player: Player) -> Result<PlayText, Refusal<'w>>
     ensures ok { IfOk result (λ text. (part : PartData) (bytes : List ℕ) → HasPlayed part bytes player → reported part bytes ≡ Ok (text_of_play text)) }
-    ensures err { IfErr result (λ r. (event_of r ≡ no_memory) ⊎ ((event_of r ≡ too_many_reads) × ((part : PartData) (bytes : List ℕ) → HasPlayed part bytes player → reported part bytes ≡ Err too_many_reads))) }
+    ensures err { IfErr result (λ r. (event_of r ≡ no_memory)
+        ⊎ ((event_of r ≡ too_many_reads) × ((part : PartData) (bytes : List ℕ) → HasPlayed part bytes player → reported part bytes ≡ Err too_many_reads))) }
 {
     if player.over {
         return Err(Refusal {
@@ -42,10 +41,7 @@ pub(crate) fn play<'w, I: Inputs>(
     part: &'w str,
     streams: &'w [String],
 ) -> Result<PlayText, Refusal<'w>>
-    ensures due { AnswersForm (Playing part.now (map string_bytes streams.now)) (I.state inputs.old) (I.state inputs.new) (seen text_of_play result) }
-    ensures stops { Stops (Some (Playing part.now (map string_bytes streams.now))) (I.state inputs.old) (I.state inputs.new) (seen text_of_play result) }
-    ensures asks { (I.state inputs.new).selects ≤ (I.state inputs.old).selects + (1 + length streams.now) }
-    ensures inputs { Stays (I.state inputs.old) (I.state inputs.new) }
+    ensures { MakesReady (Playing part.now (map string_bytes streams.now)) (I.state inputs.old) (I.state inputs.new) (seen text_of_play result) }
 {
     let part = match read_part(alloc, inputs, part) {
         Ok(part) => part,

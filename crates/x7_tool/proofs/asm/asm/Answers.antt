@@ -1,30 +1,48 @@
 use Rattle.std.proofs.Common.{sym, refl, []}
 use Rattle.x7_forms.specs.Message.{event_of}
+use Rattle.x7_forms.specs.Stop.{limited}
+use Rattle.x7_forms.specs.Form.{Assembling}
+use Rattle.x7_forms.proofs.StandLemmas.{about_by, unread_about}
 use Rattle.x7_tool.specs.Outcome.{asm_event, text_limit}
 use Rattle.x7_tool.proofs.AsmLemmas.{asm_faulted, asm_given, asm_unread}
-use Rattle.x7_forms.specs.Form.{Assembling}
 use Rattle.x7_tool.proofs.StopLemmas.{asm_about, first_stops}
-use Rattle.x7_forms.proofs.StandLemmas.{about_by, unread_about}
-use Rattle.x7_forms.specs.Stop.{limited}
 use Rattle.x7_tool.proofs.asm.asm.Goals as goal
 
-pub returns-in-Err-read-clause-due : goal.returns-in-Err-read-clause-due
-returns-in-Err-read-clause-due g c =
-    let i = g.I.Inputs in
+pub returns-in-Err : goal.returns-in-Err
+returns-in-Err g c =
+    let old = g.I.Inputs.state c.args.inputs.now in
+    let new = g.I.Inputs.state c.feed_whole.new.inputs in
+    let name = c.args.name.now in
+    let event = event_of c.in-Err.refusal in
+    record {
+      due = asm_unread old new name event c.in-Err.ensures.err;
+      stops = first_stops (Assembling name) (limited text_limit name) [] old new event refl c.feed_whole.ensures.stands c.feed_whole.ensures.asks (unread_about name event c.in-Err.ensures.named);
+      asks = c.feed_whole.ensures.asks;
+      stays = c.feed_whole.ensures.inputs;
+    }
+
+pub returns-in-Ok-read : goal.returns-in-Ok-read
+returns-in-Ok-read g c =
+    let old = g.I.Inputs.state c.args.inputs.now in
+    let new = g.I.Inputs.state c.feed_whole.new.inputs in
     let t = c.in-Ok.ensures.ok in
-    asm_faulted (λ v. v.items) (i.state c.args.inputs.now) (i.state c.feed_whole.new.inputs) c.args.name.now t.0 c.in-Ok.read t.1 t.2 c.in-Err-read.fault (event_of c.refusal_of.result) c.in-Err-read.is (sym c.refusal_of.ensures)
+    record {
+      due = asm_given (λ v. v.items) old new c.args.name.now t.0 c.in-Ok.read t.1 t.2 c.in-Ok-read.bytes c.in-Ok-read.is;
+      stops = tt;
+      asks = c.feed_whole.ensures.asks;
+      stays = c.feed_whole.ensures.inputs;
+    }
 
-pub returns-in-Ok-read-clause-due : goal.returns-in-Ok-read-clause-due
-returns-in-Ok-read-clause-due g c =
-    let i = g.I.Inputs in
+pub returns-in-Err-read : goal.returns-in-Err-read
+returns-in-Err-read g c =
+    let old = g.I.Inputs.state c.args.inputs.now in
+    let new = g.I.Inputs.state c.feed_whole.new.inputs in
+    let name = c.args.name.now in
+    let event = event_of c.refusal_of.result in
     let t = c.in-Ok.ensures.ok in
-    asm_given (λ v. v.items) (i.state c.args.inputs.now) (i.state c.feed_whole.new.inputs) c.args.name.now t.0 c.in-Ok.read t.1 t.2 c.in-Ok-read.bytes c.in-Ok-read.is
-
-pub returns-in-Err-clause-stops : goal.returns-in-Err-clause-stops
-returns-in-Err-clause-stops g c = first_stops (Assembling c.args.name.now) (limited text_limit c.args.name.now) [] (g.I.Inputs.state c.args.inputs.now) (g.I.Inputs.state c.feed_whole.new.inputs) (event_of c.in-Err.refusal) refl c.feed_whole.ensures.stands c.feed_whole.ensures.asks (unread_about c.args.name.now (event_of c.in-Err.refusal) c.in-Err.ensures.named)
-
-pub returns-in-Err-read-clause-stops : goal.returns-in-Err-read-clause-stops
-returns-in-Err-read-clause-stops g c = first_stops (Assembling c.args.name.now) (limited text_limit c.args.name.now) [] (g.I.Inputs.state c.args.inputs.now) (g.I.Inputs.state c.feed_whole.new.inputs) (event_of c.refusal_of.result) refl c.feed_whole.ensures.stands c.feed_whole.ensures.asks (about_by c.args.name.now (event_of c.refusal_of.result) (asm_event c.args.name.now c.in-Err-read.fault) c.refusal_of.ensures (asm_about c.args.name.now c.in-Err-read.fault))
-
-pub returns-in-Err-clause-due : goal.returns-in-Err-clause-due
-returns-in-Err-clause-due g c = asm_unread (g.I.Inputs.state c.args.inputs.now) (g.I.Inputs.state c.feed_whole.new.inputs) c.args.name.now (event_of c.in-Err.refusal) c.in-Err.ensures.err
+    record {
+      due = asm_faulted (λ v. v.items) old new name t.0 c.in-Ok.read t.1 t.2 c.in-Err-read.fault event c.in-Err-read.is (sym c.refusal_of.ensures);
+      stops = first_stops (Assembling name) (limited text_limit name) [] old new event refl c.feed_whole.ensures.stands c.feed_whole.ensures.asks (about_by name event (asm_event name c.in-Err-read.fault) c.refusal_of.ensures (asm_about name c.in-Err-read.fault));
+      asks = c.feed_whole.ensures.asks;
+      stays = c.feed_whole.ensures.inputs;
+    }

@@ -10,41 +10,39 @@ use Rattle.x7_forms.proofs.StandLemmas.{no_part_about}
 use Rattle.x7_forms.specs.Stop.{limited}
 use Rattle.x7_tool.proofs.boot.boot.Goals as goal
 
-pub returns-in-Ok-clause-due : goal.returns-in-Ok-clause-due
-returns-in-Ok-clause-due g c = λ before after.
-    let i = g.I.Inputs in
-    let f = g.F.Flash in
-    booted_ends (record before { inputs = i.state c.args.inputs.now; flash = f.state c.args.flash.now }) (record after { inputs = i.state c.read_part.new.inputs; flash = f.state c.boot_from.new.flash })
-    c.args.name.now c.args.part.now c.in-Ok.part (CameIn (step_over (c.args.part.now ∷ []) (i.state c.args.inputs.now) (i.state c.read_part.new.inputs))) (seen text_of_play c.boot_from.result) (c.in-Ok.ensures.due (f.state c.args.flash.now).bytes) c.boot_from.ensures.due
-
-pub returns-in-Err-clause-due : goal.returns-in-Err-clause-due
-returns-in-Err-clause-due g c = λ before after.
-    let i = g.I.Inputs in
-    let f = g.F.Flash in
-    part_refused (record before { inputs = i.state c.args.inputs.now; flash = f.state c.args.flash.now }) (record after { inputs = i.state c.read_part.new.inputs; flash = f.state c.args.flash.now })
-    c.args.name.now c.args.part.now (event_of c.in-Err.refusal) (c.in-Err.ensures.due (f.state c.args.flash.now).bytes)
-
-pub returns-in-Ok-clause-measured : goal.returns-in-Ok-clause-measured
-returns-in-Ok-clause-measured g c =
-    let f = g.F.Flash in
-    boot_measured (Some (Booting c.args.part.now c.args.name.now)) c.args.name.now c.in-Ok.part (f.state c.args.flash.now) (f.state c.boot_from.new.flash) (seen text_of_play c.boot_from.result) c.boot_from.ensures.due
-
-pub returns-in-Err-clause-measured : goal.returns-in-Err-clause-measured
-returns-in-Err-clause-measured g c = no_part_measured (Some (Booting c.args.part.now c.args.name.now)) (g.F.Flash.state c.args.flash.now) c.args.part.now (event_of c.in-Err.refusal) (inl refl) c.in-Err.ensures.named
-
-pub returns-in-Ok-clause-last : goal.returns-in-Ok-clause-last
-returns-in-Ok-clause-last g c =
+pub returns-in-Ok-clause-ready : goal.returns-in-Ok-clause-ready
+returns-in-Ok-clause-ready g c =
     let old = g.I.Inputs.state c.args.inputs.now in
-    let C = CameIn (step_over (c.args.part.now ∷ []) old (g.I.Inputs.state c.read_part.new.inputs)) in
-    boot_last text_of_play c.args.name.now c.args.part.now old (g.F.Flash.state c.boot_from.new.flash) c.boot_from.result c.boot_from.ensures.failed
-    (part_good old.contents C c.args.name.now c.args.part.now c.in-Ok.part (c.in-Ok.ensures.due None))
+    let new = g.I.Inputs.state c.read_part.new.inputs in
+    let first = g.F.Flash.state c.args.flash.now in
+    let last = g.F.Flash.state c.boot_from.new.flash in
+    let name = c.args.name.now in
+    let part_name = c.args.part.now in
+    let part = c.in-Ok.part in
+    let made = seen text_of_play c.boot_from.result in
+    let C = CameIn (step_over (part_name ∷ []) old new) in
+    record {
+      due = λ before after. booted_ends (record before { inputs = old; flash = first }) (record after { inputs = new; flash = last }) name part_name part C made (c.in-Ok.ensures.due first.bytes) c.boot_from.ensures.due;
+      stops = boot_stops name part_name part old new first last made c.boot_from.ensures.due;
+      measured = boot_measured (Some (Booting part_name name)) name part first last made c.boot_from.ensures.due;
+      last = boot_last text_of_play name part_name old last c.boot_from.result c.boot_from.ensures.failed (part_good old.contents C name part_name part (c.in-Ok.ensures.due None));
+      asks = c.read_part.ensures.once;
+      stays = c.read_part.ensures.inputs;
+    }
 
-pub returns-in-Err-clause-last : goal.returns-in-Err-clause-last
-returns-in-Err-clause-last g c =
-    no_part_last (Booting c.args.part.now c.args.name.now) (g.I.Inputs.state c.args.inputs.now) (g.F.Flash.state c.args.flash.now) c.args.part.now (event_of c.in-Err.refusal) (inl refl) c.in-Err.ensures.named
-
-pub returns-in-Err-clause-stops : goal.returns-in-Err-clause-stops
-returns-in-Err-clause-stops g c = first_stops (Booting c.args.part.now c.args.name.now) (limited part_limit c.args.part.now) [] (g.I.Inputs.state c.args.inputs.now) (g.I.Inputs.state c.read_part.new.inputs) (event_of c.in-Err.refusal) refl c.read_part.ensures.stands c.read_part.ensures.once (no_part_about c.args.part.now (event_of c.in-Err.refusal) c.in-Err.ensures.named)
-
-pub returns-in-Ok-clause-stops : goal.returns-in-Ok-clause-stops
-returns-in-Ok-clause-stops g c = boot_stops c.args.name.now c.args.part.now c.in-Ok.part (g.I.Inputs.state c.args.inputs.now) (g.I.Inputs.state c.read_part.new.inputs) (g.F.Flash.state c.args.flash.now) (g.F.Flash.state c.boot_from.new.flash) (seen text_of_play c.boot_from.result) c.boot_from.ensures.due
+pub returns-in-Err-clause-ready : goal.returns-in-Err-clause-ready
+returns-in-Err-clause-ready g c =
+    let old = g.I.Inputs.state c.args.inputs.now in
+    let new = g.I.Inputs.state c.read_part.new.inputs in
+    let flash = g.F.Flash.state c.args.flash.now in
+    let name = c.args.name.now in
+    let part_name = c.args.part.now in
+    let event = event_of c.in-Err.refusal in
+    record {
+      due = λ before after. part_refused (record before { inputs = old; flash = flash }) (record after { inputs = new; flash = flash }) name part_name event (c.in-Err.ensures.due flash.bytes);
+      stops = first_stops (Booting part_name name) (limited part_limit part_name) [] old new event refl c.read_part.ensures.stands c.read_part.ensures.once (no_part_about part_name event c.in-Err.ensures.named);
+      measured = no_part_measured (Some (Booting part_name name)) flash part_name event (inl refl) c.in-Err.ensures.named;
+      last = no_part_last (Booting part_name name) old flash part_name event (inl refl) c.in-Err.ensures.named;
+      asks = c.read_part.ensures.once;
+      stays = c.read_part.ensures.inputs;
+    }

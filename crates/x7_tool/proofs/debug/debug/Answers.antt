@@ -1,17 +1,47 @@
-use Rattle.std.proofs.Common.{refl, []}
-use Rattle.x7_forms.specs.Message.{event_of}
+use Rattle.std.proofs.Common.{refl, ◌∷◌, []}
 use Rattle.x7_forms.specs.Form.{Debugging}
-use Rattle.x7_forms.specs.Known.{part_limit, stream_limit}
-use Rattle.x7_tool.specs.Outcome.{script_limit}
-use Rattle.x7_tool.specs.Debug.{given_of}
-use Rattle.x7_tool.specs.Ready.{whole_of}
-use Rattle.x7_forms.proofs.ResultLemmas.{err_weaker}
-use Rattle.x7_tool.proofs.StopLemmas.{debug_about, result_stops, among_stops, third_stops}
+use Rattle.x7_forms.specs.Known.{Answer, part_limit, stream_limit}
+use Rattle.x7_forms.specs.Message.{event_of}
 use Rattle.x7_forms.specs.Stop.{limited}
+use Rattle.x7_forms.proofs.ReadLemmas.{answers_by, answers_kept}
+use Rattle.x7_forms.proofs.ResultLemmas.{err_weaker}
+use Rattle.x7_tool.specs.Debug.{given_of}
+use Rattle.x7_tool.specs.Outcome.{DebugInputs, DebuggedAs, debug_inputs, script_limit}
+use Rattle.x7_tool.specs.Ready.{whole_of}
+use Rattle.x7_forms.specs.Step.{seen}
+use Rattle.x7_tool.proofs.ReadyLemmas.{debug_due}
+use Rattle.x7_tool.proofs.StopLemmas.{debug_about, result_stops, among_stops, third_stops}
 use Rattle.x7_tool.proofs.debug.debug.Goals as goal
 
-pub returns-in-Ok-clause-stops : goal.returns-in-Ok-clause-stops
-returns-in-Ok-clause-stops g c = result_stops whole_of (Debugging c.args.part.now c.args.stream.now c.args.script.now) (g.I.Inputs.state c.args.inputs.now) (g.I.Inputs.state c.read_given.new.inputs) c.text_of.result (err_weaker c.text_of.result (λ r a. third_stops (Debugging c.args.part.now c.args.stream.now c.args.script.now) (limited part_limit c.args.part.now) (limited stream_limit c.args.stream.now) (limited script_limit c.args.script.now) [] (g.I.Inputs.state c.args.inputs.now) (g.I.Inputs.state c.read_given.new.inputs) (event_of r) refl c.in-Ok.ensures.stands c.read_given.ensures.asks a) (err_weaker c.text_of.result (λ r h. debug_about c.args.script.now (given_of c.in-Ok.given) (event_of r) h) c.text_of.ensures.err))
+pub returns-in-Ok : goal.returns-in-Ok
+returns-in-Ok g c =
+    let old = g.I.Inputs.state c.args.inputs.now in
+    let new = g.I.Inputs.state c.read_given.new.inputs in
+    let part = c.args.part.now in
+    let stream = c.args.stream.now in
+    let script = c.args.script.now in
+    let given = given_of c.in-Ok.given in
+    let made = c.text_of.result in
+    record {
+      due = answers_by DebugInputs Answer (part ∷ stream ∷ script ∷ []) old new (λ t. debug_inputs t part stream script) given (DebuggedAs script) (seen whole_of made) c.in-Ok.ensures.due (debug_due script given made c.text_of.ensures.ok c.text_of.ensures.err);
+      stops = result_stops whole_of (Debugging part stream script) old new made (err_weaker made
+          (λ r h. third_stops (Debugging part stream script) (limited part_limit part) (limited stream_limit stream) (limited script_limit script) [] old new (event_of r) refl c.in-Ok.ensures.stands c.read_given.ensures.asks (debug_about script given (event_of r) h))
+          c.text_of.ensures.err);
+      asks = c.read_given.ensures.asks;
+      stays = c.read_given.ensures.inputs;
+    }
 
-pub returns-in-Err-clause-stops : goal.returns-in-Err-clause-stops
-returns-in-Err-clause-stops g c = among_stops (Debugging c.args.part.now c.args.stream.now c.args.script.now) (g.I.Inputs.state c.args.inputs.now) (g.I.Inputs.state c.read_given.new.inputs) (event_of c.in-Err.refusal) c.in-Err.ensures.stops
+pub returns-in-Err : goal.returns-in-Err
+returns-in-Err g c =
+    let old = g.I.Inputs.state c.args.inputs.now in
+    let new = g.I.Inputs.state c.read_given.new.inputs in
+    let part = c.args.part.now in
+    let stream = c.args.stream.now in
+    let script = c.args.script.now in
+    let event = event_of c.in-Err.refusal in
+    record {
+      due = answers_kept DebugInputs Answer (part ∷ stream ∷ script ∷ []) old new (λ t. debug_inputs t part stream script) (DebuggedAs script) event (λ x. refl) c.in-Err.ensures.due;
+      stops = among_stops (Debugging part stream script) old new event c.in-Err.ensures.stops;
+      asks = c.read_given.ensures.asks;
+      stays = c.read_given.ensures.inputs;
+    }

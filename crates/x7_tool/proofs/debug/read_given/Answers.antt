@@ -1,8 +1,9 @@
-use Rattle.std.proofs.Common.{ℕ, List, [], ◌∷◌, Ok, Err, inr, refl}
+use Rattle.std.proofs.Common.{ℕ, List, [], ◌∷◌, Result, Ok, Err, inr, refl}
+use Rattle.x7_forms.specs.Event.{Event}
 use Rattle.x7_part.specs.Part.{PartData}
 use Rattle.x7_forms.specs.Message.{event_of}
 use Rattle.x7_forms.specs.Known.{and_so, part_of, whole_in, part_limit, stream_limit}
-use Rattle.x7_forms.proofs.ReadLemmas.{answers_go, answers_stop, first_of, part_steady}
+use Rattle.x7_forms.proofs.ReadLemmas.{answers_end, answers_go, answers_stop, first_of, part_steady, whole_steady}
 use Rattle.x7_tool.specs.Outcome.{DebugInputs, script_limit, stream_data}
 use Rattle.x7_tool.proofs.DebugLemmas.{stream_steady}
 use Rattle.x7_forms.proofs.StandLemmas.{about_among, no_part_about, unplayed_about, unread_about}
@@ -54,3 +55,21 @@ returns-in-Err-read_data-clause-stops g c = about_among (limited part_limit c.ar
 
 pub returns-in-Err-read_whole-clause-stops : goal.returns-in-Err-read_whole-clause-stops
 returns-in-Err-read_whole-clause-stops g c = about_among (limited part_limit c.args.part.now ∷ limited stream_limit c.args.stream.now ∷ limited script_limit c.args.script.now ∷ []) (limited part_limit c.args.part.now ∷ limited stream_limit c.args.stream.now ∷ []) (limited script_limit c.args.script.now) [] (g.I.Inputs.state c.args.inputs.now) (g.I.Inputs.state c.read_whole.new.inputs) (event_of c.in-Err-read_whole.refusal) refl c.read_whole.ensures.stands (all_asked (g.I.Inputs.state c.args.inputs.now) (g.I.Inputs.state c.read_part.new.inputs) (g.I.Inputs.state c.read_data.new.inputs) (g.I.Inputs.state c.read_whole.new.inputs) c.read_part.ensures.once c.read_data.ensures.asks c.read_whole.ensures.once) (unread_about c.args.script.now (event_of c.in-Err-read_whole.refusal) c.in-Err-read_whole.ensures.named)
+
+pub returns-in-Ok-read_whole-clause-due : goal.returns-in-Ok-read_whole-clause-due
+returns-in-Ok-read_whole-clause-due g c =
+    let i = g.I.Inputs in
+    let part = c.args.part.now in
+    let stream = c.args.stream.now in
+    let script = c.args.script.now in
+    let first = i.state c.read_part.new.inputs in
+    let second = i.state c.read_data.new.inputs in
+    let last = i.state c.read_whole.new.inputs in
+    let content = c.in-Ok-read_data.stream.items in
+    let text = c.in-Ok-read_whole.script.items in
+    let got : Result DebugInputs Event = Ok (record { part = c.in-Ok.part; stream = content; script = text }) in
+    answers_go PartData DebugInputs (part ∷ []) (stream ∷ script ∷ []) (part ∷ stream ∷ script ∷ []) (i.state c.args.inputs.now) first last (λ t. part_of t part)
+    (λ t p. and_so (stream_data t stream) (λ bytes. and_so (whole_in t script_limit script) (λ text. Ok (record { part = p; stream = bytes; script = text })))) c.in-Ok.part got (part_steady part) c.read_part.ensures.inputs (λ n h. inr h) c.in-Ok.ensures.due
+    (answers_go (List ℕ) DebugInputs (stream ∷ []) (script ∷ []) (stream ∷ script ∷ []) first second last (λ t. stream_data t stream) (λ t bytes. and_so (whole_in t script_limit script) (λ text. Ok (record { part = c.in-Ok.part; stream = bytes; script = text }))) content got
+    (stream_steady stream) c.read_data.ensures.inputs (λ n h. inr h) c.in-Ok-read_data.ensures.due
+    (answers_end (List ℕ) DebugInputs (script ∷ []) second last (λ t. whole_in t script_limit script) (λ text. Ok (record { part = c.in-Ok.part; stream = content; script = text })) text got (whole_steady script_limit script) c.in-Ok-read_whole.ensures.due (inr (tt, tt, refl))))

@@ -1,15 +1,43 @@
-use Rattle.std.proofs.Common.{refl, []}
-use Rattle.x7_forms.specs.Message.{event_of}
+use Rattle.std.proofs.Common.{Ok, refl, ◌∷◌, []}
+use Rattle.x7_part.specs.Part.{PartData}
 use Rattle.x7_forms.specs.Form.{Generating}
-use Rattle.x7_forms.specs.Known.{part_limit}
-use Rattle.x7_tool.specs.Ready.{whole_of}
-use Rattle.x7_tool.proofs.StopLemmas.{want_only, first_stops}
-use Rattle.x7_forms.proofs.StandLemmas.{no_part_about}
+use Rattle.x7_forms.specs.Known.{Answer, part_limit, part_of}
+use Rattle.x7_forms.specs.Message.{event_of}
 use Rattle.x7_forms.specs.Stop.{limited}
+use Rattle.x7_forms.specs.Step.{seen}
+use Rattle.x7_forms.proofs.ReadLemmas.{answers_end, answers_stop, part_steady}
+use Rattle.x7_forms.proofs.StandLemmas.{no_part_about}
+use Rattle.x7_tool.specs.Outcome.{gen_answer}
+use Rattle.x7_tool.specs.Ready.{whole_of}
+use Rattle.x7_tool.proofs.ReadyLemmas.{made_due}
+use Rattle.x7_tool.proofs.StopLemmas.{want_only, first_stops}
 use Rattle.x7_tool.proofs.generate.generate.Goals as goal
 
-pub returns-in-Err-clause-stops : goal.returns-in-Err-clause-stops
-returns-in-Err-clause-stops g c = first_stops (Generating c.args.name.now c.args.seed) (limited part_limit c.args.name.now) [] (g.I.Inputs.state c.args.inputs.now) (g.I.Inputs.state c.read_part.new.inputs) (event_of c.in-Err.refusal) refl c.read_part.ensures.stands c.read_part.ensures.once (no_part_about c.args.name.now (event_of c.in-Err.refusal) c.in-Err.ensures.named)
+pub returns-in-Err : goal.returns-in-Err
+returns-in-Err g c =
+    let old = g.I.Inputs.state c.args.inputs.now in
+    let new = g.I.Inputs.state c.read_part.new.inputs in
+    let name = c.args.name.now in
+    let seed = c.args.seed in
+    let event = event_of c.in-Err.refusal in
+    record {
+      due = answers_stop PartData Answer (name ∷ []) (name ∷ []) old new (λ t. part_of t name) (λ t p. Ok (gen_answer p seed)) event (λ n h. h) c.in-Err.ensures.due;
+      stops = first_stops (Generating name seed) (limited part_limit name) [] old new event refl c.read_part.ensures.stands c.read_part.ensures.once (no_part_about name event c.in-Err.ensures.named);
+      asks = c.read_part.ensures.once;
+      stays = c.read_part.ensures.inputs;
+    }
 
-pub returns-clause-stops : goal.returns-clause-stops
-returns-clause-stops g c = want_only whole_of (Generating c.args.name.now c.args.seed) (g.I.Inputs.state c.args.inputs.now) (g.I.Inputs.state c.read_part.new.inputs) c.summary_of.result c.summary_of.ensures.err
+pub returns : goal.returns
+returns g c =
+    let old = g.I.Inputs.state c.args.inputs.now in
+    let new = g.I.Inputs.state c.read_part.new.inputs in
+    let name = c.args.name.now in
+    let seed = c.args.seed in
+    let part = c.in-Ok.part in
+    let made = c.summary_of.result in
+    record {
+      due = answers_end PartData Answer (name ∷ []) old new (λ t. part_of t name) (λ p. Ok (gen_answer p seed)) part (seen whole_of made) (part_steady name) c.in-Ok.ensures.due (made_due (gen_answer part seed) made c.summary_of.ensures.ok c.summary_of.ensures.err);
+      stops = want_only whole_of (Generating name seed) old new made c.summary_of.ensures.err;
+      asks = c.read_part.ensures.once;
+      stays = c.read_part.ensures.inputs;
+    }

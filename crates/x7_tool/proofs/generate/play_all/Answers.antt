@@ -6,7 +6,7 @@ use Rattle.x7_tool.proofs.GenerateLemmas.{along, piece_fits}
 use Rattle.x7_tool.proofs.generate.play_all.Goals as goal
 
 pub loop-player-init : goal.loop-player-init
-loop-player-init c = record { told = []; stands = c.requires.told; played = c.requires.played; counted = refl; empty = c.clear.ensures.items; of_part = refl; of_plan = refl }
+loop-player-init c = record { told = []; stands = c.requires.given; played = c.requires.played; counted = refl; empty = c.clear.ensures.items; of_part = refl; of_plan = refl }
 
 pub play-requires : goal.play-requires
 play-requires c =

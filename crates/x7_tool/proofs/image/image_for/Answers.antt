@@ -1,44 +1,75 @@
-use Rattle.std.proofs.Common.{[], ◌∷◌, Err, inr, refl, arith}
+use Rattle.std.proofs.Common.{[], ◌∷◌, ◌+◌, ◌≤◌, Err, inr, refl, arith}
+use Rattle.x7_words.proofs.InputLemmas.{stays_on}
 use Rattle.x7_part.specs.Part.{PartData}
-use Rattle.x7_forms.specs.Message.{event_of}
-use Rattle.x7_forms.specs.Known.{Answer, and_so, part_of, part_limit, stream_limit}
-use Rattle.x7_forms.proofs.ReadLemmas.{answers_go, answers_stop, first_of, part_steady}
-use Rattle.x7_tool.specs.Outcome.{ImageStreams, image_by, image_streams}
 use Rattle.x7_forms.specs.Form.{ImagingFor}
-use Rattle.x7_tool.specs.Ready.{whole_of}
-use Rattle.x7_tool.proofs.StopLemmas.{result_stops, third_stops, among_stops, first_stops}
-use Rattle.x7_forms.proofs.StandLemmas.{stops_behind, no_part_about}
+use Rattle.x7_forms.specs.Known.{Answer, and_so, part_limit, part_of, stream_limit}
+use Rattle.x7_forms.specs.Message.{event_of}
 use Rattle.x7_forms.specs.Stop.{limited}
+use Rattle.x7_forms.specs.Step.{seen}
+use Rattle.x7_forms.proofs.ReadLemmas.{answers_end, answers_go, answers_stop, first_of, part_steady}
 use Rattle.x7_forms.proofs.ResultLemmas.{err_weaker}
+use Rattle.x7_forms.proofs.StandLemmas.{stops_behind, no_part_about}
+use Rattle.x7_tool.specs.Outcome.{ImageStreams, image_by, image_streams}
+use Rattle.x7_tool.specs.Ready.{whole_of}
+use Rattle.x7_tool.specs.Streamed.{streams_of}
+use Rattle.x7_tool.proofs.ReadyLemmas.{image_due, streams_steady}
+use Rattle.x7_tool.proofs.StopLemmas.{first_asked, result_stops, third_stops, among_stops, first_stops}
 use Rattle.x7_tool.proofs.image.image_for.Goals as goal
 
-pub returns-clause-due : goal.returns-clause-due
-returns-clause-due g c =
-    let i = g.I.Inputs in
+pub returns-in-Err : goal.returns-in-Err
+returns-in-Err g c =
+    let old = g.I.Inputs.state c.args.inputs.now in
+    let new = g.I.Inputs.state c.read_part.new.inputs in
+    let part = c.args.part.now in
+    let golden = c.args.golden.now in
+    let update = c.args.update.now in
+    let event = event_of c.in-Err.refusal in
+    record {
+      due = answers_stop PartData Answer (part ∷ []) (part ∷ golden ∷ update ∷ []) old new (λ t. part_of t part) (λ t p. and_so (image_streams t golden update) (image_by update p.start_unit)) event (first_of part (golden ∷ update ∷ [])) c.in-Err.ensures.due;
+      stops = first_stops (ImagingFor part golden update) (limited part_limit part) (limited stream_limit golden ∷ limited stream_limit update ∷ []) old new event refl c.read_part.ensures.stands c.read_part.ensures.once (no_part_about part event c.in-Err.ensures.named);
+      asks = first_asked part (golden ∷ update ∷ []) old new c.read_part.ensures.once;
+      stays = c.read_part.ensures.inputs;
+    }
+
+pub returns-in-Ok-read_streams : goal.returns-in-Ok-read_streams
+returns-in-Ok-read_streams g c =
+    let old = g.I.Inputs.state c.args.inputs.now in
+    let mid = g.I.Inputs.state c.read_part.new.inputs in
+    let new = g.I.Inputs.state c.read_streams.new.inputs in
+    let part = c.args.part.now in
+    let golden = c.args.golden.now in
+    let update = c.args.update.now in
+    let known = c.in-Ok.part in
+    let streams = streams_of c.in-Ok-read_streams.streams in
+    let made = c.part_text.result in
+    let asks : new.selects ≤ old.selects + 3 = omega (arith, c.read_part.ensures.once, c.read_streams.ensures.asks) in
+    record {
+      due = answers_go PartData Answer (part ∷ []) (golden ∷ update ∷ []) (part ∷ golden ∷ update ∷ []) old mid new (λ t. part_of t part) (λ t p. and_so (image_streams t golden update) (image_by update p.start_unit)) known (seen whole_of made)
+          (part_steady part) c.read_part.ensures.inputs (λ n h. inr h) c.in-Ok.ensures.due
+          (answers_end ImageStreams Answer (golden ∷ update ∷ []) mid new (λ t. image_streams t golden update) (image_by update known.start_unit) streams (seen whole_of made) (streams_steady golden update) c.in-Ok-read_streams.ensures.due
+          (image_due update known.start_unit streams made c.part_text.ensures.ok c.part_text.ensures.err));
+      stops = result_stops whole_of (ImagingFor part golden update) old new made (err_weaker made
+          (λ r a. third_stops (ImagingFor part golden update) (limited part_limit part) (limited stream_limit golden) (limited stream_limit update) [] old new (event_of r) refl c.in-Ok-read_streams.ensures.stands asks a) c.part_text.ensures.about);
+      asks = asks;
+      stays = stays_on _ _ _ c.read_part.ensures.inputs c.read_streams.ensures.inputs;
+    }
+
+pub returns : goal.returns
+returns g c =
+    let old = g.I.Inputs.state c.args.inputs.now in
+    let mid = g.I.Inputs.state c.read_part.new.inputs in
+    let new = g.I.Inputs.state c.read_streams.new.inputs in
     let part = c.args.part.now in
     let golden = c.args.golden.now in
     let update = c.args.update.now in
     let event = event_of c.in-Err-read_streams.refusal in
-    answers_go PartData Answer (part ∷ []) (golden ∷ update ∷ []) (part ∷ golden ∷ update ∷ []) (i.state c.args.inputs.now) (i.state c.read_part.new.inputs) (i.state c.read_streams.new.inputs) (λ t. part_of t part)
-    (λ t p. and_so (image_streams t golden update) (image_by update p.start_unit)) c.in-Ok.part (Err event) (part_steady part) c.read_part.ensures.inputs (λ n h. inr h) c.in-Ok.ensures.due
-    (answers_stop ImageStreams Answer (golden ∷ update ∷ []) (golden ∷ update ∷ []) (i.state c.read_part.new.inputs) (i.state c.read_streams.new.inputs) (λ t. image_streams t golden update) (λ t. image_by update c.in-Ok.part.start_unit) event (λ n h. h) c.in-Err-read_streams.ensures.due)
-
-pub returns-in-Err-clause-due : goal.returns-in-Err-clause-due
-returns-in-Err-clause-due g c =
-    let i = g.I.Inputs in
-    let part = c.args.part.now in
-    let golden = c.args.golden.now in
-    let update = c.args.update.now in
-    answers_stop PartData Answer (part ∷ []) (part ∷ golden ∷ update ∷ []) (i.state c.args.inputs.now) (i.state c.read_part.new.inputs) (λ t. part_of t part) (λ t p. and_so (image_streams t golden update) (image_by update p.start_unit))
-    (event_of c.in-Err.refusal) (first_of part (golden ∷ update ∷ [])) c.in-Err.ensures.due
-
-pub returns-in-Err-clause-stops : goal.returns-in-Err-clause-stops
-returns-in-Err-clause-stops g c = first_stops (ImagingFor c.args.part.now c.args.golden.now c.args.update.now) (limited part_limit c.args.part.now) (limited stream_limit c.args.golden.now ∷ limited stream_limit c.args.update.now ∷ []) (g.I.Inputs.state c.args.inputs.now) (g.I.Inputs.state c.read_part.new.inputs) (event_of c.in-Err.refusal) refl c.read_part.ensures.stands c.read_part.ensures.once (no_part_about c.args.part.now (event_of c.in-Err.refusal) c.in-Err.ensures.named)
-
-pub returns-in-Ok-read_streams-clause-stops : goal.returns-in-Ok-read_streams-clause-stops
-returns-in-Ok-read_streams-clause-stops g c = result_stops whole_of (ImagingFor c.args.part.now c.args.golden.now c.args.update.now) (g.I.Inputs.state c.args.inputs.now) (g.I.Inputs.state c.read_streams.new.inputs) c.part_text.result (err_weaker c.part_text.result (λ r a. third_stops (ImagingFor c.args.part.now c.args.golden.now c.args.update.now) (limited part_limit c.args.part.now) (limited stream_limit c.args.golden.now) (limited stream_limit c.args.update.now) [] (g.I.Inputs.state c.args.inputs.now) (g.I.Inputs.state c.read_streams.new.inputs) (event_of r) refl c.in-Ok-read_streams.ensures.stands (omega (arith, c.read_part.ensures.once, c.read_streams.ensures.asks)) a) c.part_text.ensures.about)
-
-pub returns-clause-stops : goal.returns-clause-stops
-returns-clause-stops g c =
-    among_stops (ImagingFor c.args.part.now c.args.golden.now c.args.update.now) (g.I.Inputs.state c.args.inputs.now) (g.I.Inputs.state c.read_streams.new.inputs) (event_of c.in-Err-read_streams.refusal)
-    (stops_behind (limited part_limit c.args.part.now) (limited stream_limit c.args.golden.now ∷ limited stream_limit c.args.update.now ∷ []) (g.I.Inputs.state c.args.inputs.now) (g.I.Inputs.state c.read_part.new.inputs) (g.I.Inputs.state c.read_streams.new.inputs) (event_of c.in-Err-read_streams.refusal) c.read_part.ensures.once c.in-Err-read_streams.ensures.stops)
+    let asks : new.selects ≤ old.selects + 3 = omega (arith, c.read_part.ensures.once, c.read_streams.ensures.asks) in
+    record {
+      due = answers_go PartData Answer (part ∷ []) (golden ∷ update ∷ []) (part ∷ golden ∷ update ∷ []) old mid new (λ t. part_of t part) (λ t p. and_so (image_streams t golden update) (image_by update p.start_unit)) c.in-Ok.part (Err event)
+          (part_steady part) c.read_part.ensures.inputs (λ n h. inr h) c.in-Ok.ensures.due
+          (answers_stop ImageStreams Answer (golden ∷ update ∷ []) (golden ∷ update ∷ []) mid new (λ t. image_streams t golden update) (λ t. image_by update c.in-Ok.part.start_unit) event (λ n h. h) c.in-Err-read_streams.ensures.due);
+      stops = among_stops (ImagingFor part golden update) old new event
+          (stops_behind (limited part_limit part) (limited stream_limit golden ∷ limited stream_limit update ∷ []) old mid new event c.read_part.ensures.once c.in-Err-read_streams.ensures.stops);
+      asks = asks;
+      stays = stays_on _ _ _ c.read_part.ensures.inputs c.read_streams.ensures.inputs;
+    }

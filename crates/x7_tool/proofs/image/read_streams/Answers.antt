@@ -1,7 +1,8 @@
-use Rattle.std.proofs.Common.{ℕ, List, [], ◌∷◌, Ok, Err, inr, refl}
+use Rattle.std.proofs.Common.{ℕ, List, [], ◌∷◌, Result, Ok, Err, inr, refl}
+use Rattle.x7_forms.specs.Event.{Event}
 use Rattle.x7_forms.specs.Message.{event_of}
 use Rattle.x7_forms.specs.Known.{and_so, stream_limit}
-use Rattle.x7_forms.proofs.ReadLemmas.{answers_go, answers_stop, first_of}
+use Rattle.x7_forms.proofs.ReadLemmas.{answers_end, answers_go, answers_stop, first_of}
 use Rattle.x7_tool.specs.Outcome.{ImageStreams, stream_data}
 use Rattle.x7_tool.specs.Streamed.{data_from}
 use Rattle.x7_tool.proofs.DebugLemmas.{stream_steady}
@@ -34,3 +35,15 @@ returns-in-Err-clause-stops g c = about_among (limited stream_limit c.args.golde
 
 pub returns-in-Err-read_stream-clause-stops : goal.returns-in-Err-read_stream-clause-stops
 returns-in-Err-read_stream-clause-stops g c = about_among (limited stream_limit c.args.golden.now ∷ limited stream_limit c.args.update.now ∷ []) (limited stream_limit c.args.golden.now ∷ []) (limited stream_limit c.args.update.now) [] (g.I.Inputs.state c.args.inputs.now) (g.I.Inputs.state c.read_stream-2.new.inputs) (event_of c.in-Err-read_stream.refusal) refl c.read_stream-2.ensures.stands (both_asked (g.I.Inputs.state c.args.inputs.now) (g.I.Inputs.state c.read_stream.new.inputs) (g.I.Inputs.state c.read_stream-2.new.inputs) c.read_stream.ensures.asks c.read_stream-2.ensures.asks) (unplayed_about c.args.update.now (event_of c.in-Err-read_stream.refusal) c.in-Err-read_stream.ensures.named)
+
+pub returns-in-Ok-read_stream-clause-due : goal.returns-in-Ok-read_stream-clause-due
+returns-in-Ok-read_stream-clause-due g c =
+    let i = g.I.Inputs in
+    let golden = c.args.golden.now in
+    let update = c.args.update.now in
+    let first = data_from c.in-Ok.stream in
+    let second = data_from c.in-Ok-read_stream.update in
+    let got : Result ImageStreams Event = Ok (record { golden = first; update = second }) in
+    answers_go (List ℕ) ImageStreams (golden ∷ []) (update ∷ []) (golden ∷ update ∷ []) (i.state c.args.inputs.now) (i.state c.read_stream.new.inputs) (i.state c.read_stream-2.new.inputs) (λ t. stream_data t golden)
+    (λ t first. and_so (stream_data t update) (λ second. Ok (record { golden = first; update = second }))) first got (stream_steady golden) c.read_stream.ensures.inputs (λ n h. inr h) c.in-Ok.ensures.due
+    (answers_end (List ℕ) ImageStreams (update ∷ []) (i.state c.read_stream.new.inputs) (i.state c.read_stream-2.new.inputs) (λ t. stream_data t update) (λ second. Ok (record { golden = first; update = second })) second got (stream_steady update) c.in-Ok-read_stream.ensures.due (inr (tt, tt, refl)))

@@ -16,10 +16,10 @@ use Rattle.x7_forms.specs.Form.{Listing}
 use Rattle.x7_tool.specs.Ahead.{StaysNear}
 use Rattle.x7_tool.specs.Run.{ListsSoFar}
 use Rattle.x7_tool.specs.Turns.{Lists, ListsStream}
-use Rattle.x7_forms.specs.Turn.{MayFollow}
+use Rattle.x7_forms.specs.Turn.{MayFollow, longest_beginning, turn_bytes}
 use Rattle.x7_tool.proofs.AheadLemmas.{front_given, front_near, longer_front, longer_twice, same_now, stays_near, turn_given, turn_near, unfronted_near, unopened_near, unread_near, unwritten_near, why_weaker}
 use Rattle.x7_tool.proofs.Causes.{Ended, PutsListed, both_err, ends_same, list_ends, list_seen, listed_whole, nothing_put, nothing_taken, out_of_memory, unfronted, unopened}
-use Rattle.x7_forms.proofs.ReadLemmas.{at_on, turn_unread}
+use Rattle.x7_forms.proofs.ReadLemmas.{asked_on, at_on, turn_unread}
 use Rattle.x7_forms.proofs.ResultLemmas.{err_weaker}
 use Rattle.x7_tool.proofs.TurnLemmas.{end_failed, front_failed, front_so_far, goes_on, line_front, line_then, stream_so_far, stream_whole, taken_more, unread_end, write_failed}
 use Rattle.x7_forms.proofs.StandLemmas.{stands_opened, stands_read, stands_turn, unfronted_about, unopened_about, unread_about}
@@ -27,31 +27,45 @@ use Rattle.x7_tool.proofs.StopLemmas.{front_stops, put_stops, written_stops, fir
 use Rattle.x7_forms.specs.Stop.{limited}
 use Rattle.x7_tool.proofs.list.list.Goals as goal
 
-pub returns-in-Err-clause-ends : goal.returns-in-Err-clause-ends
-returns-in-Err-clause-ends g c = λ before after.
+pub returns-in-Err : goal.returns-in-Err
+returns-in-Err g c = λ before after.
     let i = g.I.Inputs in
     let o = g.O.Sink in
     let old = record before { inputs = i.state c.args.inputs.now; out = o.state c.args.out.now } in
     let new = record after { inputs = i.state c.open.new.inputs; out = o.state c.args.out.now } in
     let stream = c.args.stream.now in
     let event = event_of c.in-Err.refusal in
-    list_ends stream old new (Err event) (unopened old.inputs new.inputs old.flash.bytes stream (SinkFails old.out new.out) old.out.written event c.in-Err.ensures.err c.open.ensures.asks)
-    (stays_near event stream old new (unopened_near old.inputs.contents stream new.inputs.rest old.out.written new.out.written old.inputs new.inputs stream event c.open.ensures.asks (same_now old.out) c.in-Err.ensures.err))
+    let asks : (i.state c.open.new.inputs).selects ≤ (i.state c.args.inputs.now).selects + 1 = c.open.ensures.once in
+    record {
+      ends = list_ends stream old new (Err event) (unopened old.inputs new.inputs old.flash.bytes stream (SinkFails old.out new.out) old.out.written event c.in-Err.ensures.err c.open.ensures.asks)
+          (stays_near event stream old new (unopened_near old.inputs.contents stream new.inputs.rest old.out.written new.out.written old.inputs new.inputs stream event c.open.ensures.asks (same_now old.out) c.in-Err.ensures.err));
+      stops = first_stops (Listing c.args.stream.now) (limited stream_limit c.args.stream.now) [] (g.I.Inputs.state c.args.inputs.now) (g.I.Inputs.state c.open.new.inputs) (event_of c.in-Err.refusal) refl (stands_opened c.args.stream.now stream_limit (g.I.Inputs.state c.open.new.inputs) c.open.ensures.asks) c.open.ensures.once (unopened_about (g.I.Inputs.state c.args.inputs.now) (g.I.Inputs.state c.open.new.inputs) c.args.stream.now (event_of c.in-Err.refusal) c.in-Err.ensures.err);
+      judges = tt;
+      asks = asks;
+      stays = c.open.ensures.inputs;
+    }
 
-pub returns-in-Err-read_beginning-clause-ends : goal.returns-in-Err-read_beginning-clause-ends
-returns-in-Err-read_beginning-clause-ends g c = λ before after.
+pub returns-in-Err-read_beginning : goal.returns-in-Err-read_beginning
+returns-in-Err-read_beginning g c = λ before after.
     let i = g.I.Inputs in
     let o = g.O.Sink in
     let old = record before { inputs = i.state c.args.inputs.now; out = o.state c.args.out.now } in
     let new = record after { inputs = i.state c.read_beginning.new.inputs; out = o.state c.args.out.now } in
     let stream = c.args.stream.now in
     let event = event_of c.in-Err-read_beginning.refusal in
-    list_ends stream old new (Err event)
-    (unfronted old.inputs (i.state c.open.new.inputs) new.inputs old.flash.bytes stream (SinkFails old.out new.out) old.out.written event c.open.ensures.inputs c.in-Ok.ensures.ok.found c.open.ensures.asks c.in-Err-read_beginning.ensures.err)
-    (stays_near event stream old new (unfronted_near old.inputs.contents stream new.inputs.rest old.out.written new.out.written (i.state c.open.new.inputs) new.inputs stream event refl c.in-Ok.ensures.ok.found c.open.ensures.asks c.read_beginning.ensures.short (same_now old.out) c.in-Err-read_beginning.ensures.err))
+    let asks : (i.state c.read_beginning.new.inputs).selects ≤ (i.state c.args.inputs.now).selects + 1 = omega (arith, c.open.ensures.once, c.read_beginning.ensures.few.selects) in
+    record {
+      ends = list_ends stream old new (Err event)
+          (unfronted old.inputs (i.state c.open.new.inputs) new.inputs old.flash.bytes stream (SinkFails old.out new.out) old.out.written event c.open.ensures.inputs c.in-Ok.ensures.ok.found c.open.ensures.asks c.in-Err-read_beginning.ensures.err)
+          (stays_near event stream old new (unfronted_near old.inputs.contents stream new.inputs.rest old.out.written new.out.written (i.state c.open.new.inputs) new.inputs stream event refl c.in-Ok.ensures.ok.found c.open.ensures.asks c.read_beginning.ensures.short (same_now old.out) c.in-Err-read_beginning.ensures.err));
+      stops = first_stops (Listing c.args.stream.now) (limited stream_limit c.args.stream.now) [] (g.I.Inputs.state c.args.inputs.now) (g.I.Inputs.state c.read_beginning.new.inputs) (event_of c.in-Err-read_beginning.refusal) refl (stands_read c.args.stream.now stream_limit (g.I.Inputs.state c.open.new.inputs) (g.I.Inputs.state c.read_beginning.new.inputs) c.open.ensures.asks c.read_beginning.ensures.few) (omega (arith, c.open.ensures.once, c.read_beginning.ensures.few.selects)) (unfronted_about (g.I.Inputs.state c.open.new.inputs) (g.I.Inputs.state c.read_beginning.new.inputs) c.args.stream.now (event_of c.in-Err-read_beginning.refusal) c.in-Err-read_beginning.ensures.err);
+      judges = tt;
+      asks = asks;
+      stays = stays_on _ _ _ c.open.ensures.inputs c.read_beginning.ensures.inputs;
+    }
 
-pub returns-in-Err-put_beginning-clause-ends : goal.returns-in-Err-put_beginning-clause-ends
-returns-in-Err-put_beginning-clause-ends g c = λ before after.
+pub returns-in-Err-put_beginning : goal.returns-in-Err-put_beginning
+returns-in-Err-put_beginning g c = λ before after.
     let i = g.I.Inputs in
     let o = g.O.Sink in
     let contents = (i.state c.args.inputs.now).contents in
@@ -60,10 +74,10 @@ returns-in-Err-put_beginning-clause-ends g c = λ before after.
     let C = CameIn (step_over (stream ∷ []) (i.state c.args.inputs.now) (i.state c.read_beginning.new.inputs)) in
     let given = (i.state c.read_beginning.new.inputs).given in
     let f = c.in-Ok-read_beginning.ensures.begins in
-    let taken = c.in-Ok-read_beginning.front.bytes.items in
-    let last = c.in-Ok-read_beginning.front.last in
+    let taken = c.in-Ok-read_beginning.beginning.bytes.items in
+    let last = c.in-Ok-read_beginning.beginning.last in
     let line = c.deref-line.result.now in
-    let start = c.in-Ok-read_beginning.front.start in
+    let start = c.in-Ok-read_beginning.beginning.start in
     let bytes = c.deref.result.now in
     let sent = take (length bytes - start) (drop start bytes) in
     let cut : sent ≡ drop start taken = take_all (length bytes - start) (drop start bytes) (omega (arith, length-drop start bytes)) ∙ ap (drop start) c.deref.ensures.value in
@@ -74,7 +88,7 @@ returns-in-Err-put_beginning-clause-ends g c = λ before after.
     let Full : Type 0 = SinkFails (o.state c.args.out.now) (o.state c.put_beginning.new.out) in
     let r = event_of c.in-Err-put_beginning.refusal in
     let flash = before.flash.bytes in
-    let on : (left : List ℕ) → stream_listing (taken ++ left) ≡ Ok (line ++ listing_of (sent ++ left)) = λ left. goes left (λ l. let never : false ≡ true = sym c.if-front.false ∙ l in absurd cc) in
+    let on : (left : List ℕ) → stream_listing (taken ++ left) ≡ Ok (line ++ listing_of (sent ++ left)) = λ left. goes left (λ l. let never : false ≡ true = sym c.if-beginning.false ∙ l in absurd cc) in
     let end : (r ≡ no_memory) ⊎ ((r ≡ write_fault) × SinkFails (o.state c.args.out.now) (o.state c.put_beginning.new.out)) → Ended (with_inputs contents flash) C stream Full old now (Err r)
     = elim [
       | inl h ↦ ends_same (with_inputs contents flash) C stream Full old now r no_memory h (out_of_memory contents flash C stream taken rest Full old now sel (front_so_far taken line sent old now c.put_beginning.ensures.fits on c.in-Err-put_beginning.ensures.err))
@@ -82,12 +96,19 @@ returns-in-Err-put_beginning-clause-ends g c = λ before after.
     ] in
     let put = c.in-Err-put_beginning.ensures.err [] (subst AreBytes (sym (append-nil _)) c.put_beginning.ensures.fits) in
     let longer = longer_front old now _ put in
-    let few : given ≤ 327706 = omega (arith, c.open.ensures.asks.given, c.read_beginning.ensures.short) in
+    let few : given ≤ longest_beginning = omega (arith, c.open.ensures.asks.given, c.read_beginning.ensures.short) in
     let near = unwritten_near contents stream rest old now _ given r (front_given contents stream given old now few longer) (front_near contents stream taken rest old now sel f.few longer) c.in-Err-put_beginning.ensures.why in
-    list_ends stream (record before { inputs = i.state c.args.inputs.now; out = o.state c.args.out.now }) (record after { inputs = i.state c.read_beginning.new.inputs; out = o.state c.put_beginning.new.out }) (Err r) (end c.in-Err-put_beginning.ensures.why) (stays_near r stream (record before { inputs = i.state c.args.inputs.now; out = o.state c.args.out.now }) (record after { inputs = i.state c.read_beginning.new.inputs; out = o.state c.put_beginning.new.out }) near)
+    let asks : (i.state c.read_beginning.new.inputs).selects ≤ (i.state c.args.inputs.now).selects + 1 = omega (arith, c.open.ensures.once, c.read_beginning.ensures.few.selects) in
+    record {
+      ends = list_ends stream (record before { inputs = i.state c.args.inputs.now; out = o.state c.args.out.now }) (record after { inputs = i.state c.read_beginning.new.inputs; out = o.state c.put_beginning.new.out }) (Err r) (end c.in-Err-put_beginning.ensures.why) (stays_near r stream (record before { inputs = i.state c.args.inputs.now; out = o.state c.args.out.now }) (record after { inputs = i.state c.read_beginning.new.inputs; out = o.state c.put_beginning.new.out }) near);
+      stops = front_stops (Listing c.args.stream.now) (g.I.Inputs.state c.args.inputs.now) (g.I.Inputs.state c.read_beginning.new.inputs) (event_of c.in-Err-put_beginning.refusal) c.in-Err-put_beginning.ensures.why;
+      judges = tt;
+      asks = asks;
+      stays = stays_on _ _ _ c.open.ensures.inputs c.read_beginning.ensures.inputs;
+    }
 
-pub returns-then-front-clause-ends : goal.returns-then-front-clause-ends
-returns-then-front-clause-ends g c = λ before after.
+pub returns-then-beginning : goal.returns-then-beginning
+returns-then-beginning g c = λ before after.
     let i = g.I.Inputs in
     let o = g.O.Sink in
     let contents = (i.state c.args.inputs.now).contents in
@@ -96,10 +117,10 @@ returns-then-front-clause-ends g c = λ before after.
     let C = CameIn (step_over (stream ∷ []) (i.state c.args.inputs.now) (i.state c.read_beginning.new.inputs)) in
     let given = (i.state c.read_beginning.new.inputs).given in
     let f = c.in-Ok-read_beginning.ensures.begins in
-    let taken = c.in-Ok-read_beginning.front.bytes.items in
-    let last = c.in-Ok-read_beginning.front.last in
+    let taken = c.in-Ok-read_beginning.beginning.bytes.items in
+    let last = c.in-Ok-read_beginning.beginning.last in
     let line = c.deref-line.result.now in
-    let start = c.in-Ok-read_beginning.front.start in
+    let start = c.in-Ok-read_beginning.beginning.start in
     let bytes = c.deref.result.now in
     let sent = take (length bytes - start) (drop start bytes) in
     let cut : sent ≡ drop start taken = take_all (length bytes - start) (drop start bytes) (omega (arith, length-drop start bytes)) ∙ ap (drop start) c.deref.ensures.value in
@@ -110,7 +131,7 @@ returns-then-front-clause-ends g c = λ before after.
     let Full : Type 0 = SinkFails (o.state c.args.out.now) (o.state c.put_short.new.out) in
     let text = line ++ listing_of sent in
     let same = stream_whole taken line sent (goes [] (λ l. refl)) in
-    let end = f.end c.if-front.true in
+    let end = f.end c.if-beginning.true in
     let flash = before.flash.bytes in
     let first = record before { inputs = i.state c.args.inputs.now; out = o.state c.args.out.now } in
     let later = record after { inputs = i.state c.read_beginning.new.inputs; out = o.state c.put_short.new.out } in
@@ -131,13 +152,20 @@ returns-then-front-clause-ends g c = λ before after.
     let near = both_err c.put_short.result (λ r. PutsPrefix old text now) Why (λ r. StaysNear (status_of (event_of r)) (Some (Listing stream)) first later)
     (λ r p w.
     let longer = longer_front old now text p in
-    let few : given ≤ 327706 = omega (arith, c.open.ensures.asks.given, c.read_beginning.ensures.short) in
+    let few : given ≤ longest_beginning = omega (arith, c.open.ensures.asks.given, c.read_beginning.ensures.short) in
     stays_near (event_of r) stream first later (unwritten_near contents stream rest old now _ given (event_of r) (front_given contents stream given old now few longer) (front_near contents stream taken rest old now sel f.few longer) (why_weaker w)))
     c.put_short.ensures.err c.put_short.ensures.why in
-    list_seen stream first later c.put_short.result ok err near
+    let asks : (i.state c.read_beginning.new.inputs).selects ≤ (i.state c.args.inputs.now).selects + 1 = omega (arith, c.open.ensures.once, c.read_beginning.ensures.few.selects) in
+    record {
+      ends = list_seen stream first later c.put_short.result ok err near;
+      stops = written_stops _ _ (Listing c.args.stream.now) (g.I.Inputs.state c.args.inputs.now) (g.I.Inputs.state c.read_beginning.new.inputs) c.put_short.result c.put_short.ensures.why;
+      judges = tt;
+      asks = asks;
+      stays = stays_on _ _ _ c.open.ensures.inputs c.read_beginning.ensures.inputs;
+    }
 
-pub returns-in-Err-next_turn-clause-ends : goal.returns-in-Err-next_turn-clause-ends
-returns-in-Err-next_turn-clause-ends g c = λ before after.
+pub returns-in-Err-next_turn : goal.returns-in-Err-next_turn
+returns-in-Err-next_turn g c = λ before after.
     let i = g.I.Inputs in
     let o = g.O.Sink in
     let v = c.loop-turn.invariant in
@@ -146,14 +174,21 @@ returns-in-Err-next_turn-clause-ends g c = λ before after.
     let stream = c.args.stream.now in
     let event = event_of c.in-Err-next_turn.refusal in
     let t = v.told.1.1 in
-    list_ends stream old new (Err event)
-    (unread_end old.inputs (i.state c.loop-turn.inputs) new.inputs old.flash.bytes stream v.told.0 c.loop-turn.lister c.loop-turn.left (SinkFails old.out new.out) old.out.written new.out.written event
-    v.inputs v.told.1.0 v.told.1.3 v.told.1.1 v.told.1.2 c.in-Err-next_turn.ensures.err c.next_turn.ensures.asked)
-    (stays_near event stream old new (unread_near old.inputs.contents stream new.inputs.rest old.out.written new.out.written (i.state c.loop-turn.inputs) new.inputs stream v.told.0 c.loop-turn.lister c.loop-turn.left event refl v.told.1.0 t
-    (omega (arith, v.told.1.3.given, c.next_turn.ensures.turn, v.piece)) (λ e. omega (arith, c.in-Err-next_turn.ensures.over e, v.piece)) (same_now (o.state c.loop-turn.out)) c.in-Err-next_turn.ensures.err))
+    let asks : (i.state c.next_turn.new.inputs).selects ≤ (i.state c.args.inputs.now).selects + 1 = omega (arith, c.loop-turn.invariant.selects, c.next_turn.ensures.few.selects) in
+    record {
+      ends = list_ends stream old new (Err event)
+          (unread_end old.inputs (i.state c.loop-turn.inputs) new.inputs old.flash.bytes stream v.told.0 c.loop-turn.lister c.loop-turn.left (SinkFails old.out new.out) old.out.written new.out.written event
+          v.inputs v.told.1.0 v.told.1.3 v.told.1.1 v.told.1.2 c.in-Err-next_turn.ensures.err c.next_turn.ensures.asked)
+          (stays_near event stream old new (unread_near old.inputs.contents stream new.inputs.rest old.out.written new.out.written (i.state c.loop-turn.inputs) new.inputs stream v.told.0 c.loop-turn.lister c.loop-turn.left event refl v.told.1.0 t
+          (omega (arith, v.told.1.3.given, c.next_turn.ensures.turn, v.piece)) (λ e. omega (arith, c.in-Err-next_turn.ensures.over e, v.piece)) (same_now (o.state c.loop-turn.out)) c.in-Err-next_turn.ensures.err));
+      stops = let v = c.loop-turn.invariant in first_stops (Listing c.args.stream.now) (limited stream_limit c.args.stream.now) [] (g.I.Inputs.state c.args.inputs.now) (g.I.Inputs.state c.next_turn.new.inputs) (event_of c.in-Err-next_turn.refusal) refl (stands_turn c.args.stream.now v.told.0 stream_limit c.loop-turn.left (g.I.Inputs.state c.loop-turn.inputs) (g.I.Inputs.state c.next_turn.new.inputs) v.told.1.3 v.told.1.2 c.next_turn.ensures.few) (omega (arith, v.selects, c.next_turn.ensures.few.selects)) (unread_about c.args.stream.now (event_of c.in-Err-next_turn.refusal) (turn_unread (g.I.Inputs.state c.loop-turn.inputs) (g.I.Inputs.state c.next_turn.new.inputs) c.args.stream.now c.loop-turn.left (event_of c.in-Err-next_turn.refusal) c.in-Err-next_turn.ensures.err));
+      judges = tt;
+      asks = asks;
+      stays = stays_on _ _ _ c.loop-turn.invariant.inputs c.next_turn.ensures.inputs;
+    }
 
-pub returns-in-Err-put_turn-clause-ends : goal.returns-in-Err-put_turn-clause-ends
-returns-in-Err-put_turn-clause-ends g c = λ before after.
+pub returns-in-Err-put_turn : goal.returns-in-Err-put_turn
+returns-in-Err-put_turn g c = λ before after.
     let i = g.I.Inputs in
     let o = g.O.Sink in
     let contents = (i.state c.args.inputs.now).contents in
@@ -184,14 +219,21 @@ returns-in-Err-put_turn-clause-ends g c = λ before after.
     ] in
     let n = c.in-Ok-next_turn.turn.count in
     let rest = (i.state c.next_turn.new.inputs).rest in
-    let few : length piece ≤ 65536 = omega (arith, length-take-le n c.next_turn.new.buf (omega (arith, c.in-Ok-next_turn.ensures.within.1, c.next_turn.ensures.length, v.piece)), c.in-Ok-next_turn.ensures.within.1, v.piece) in
+    let few : length piece ≤ turn_bytes = omega (arith, length-take-le n c.next_turn.new.buf (omega (arith, c.in-Ok-next_turn.ensures.within.1, c.next_turn.ensures.length, v.piece)), c.in-Ok-next_turn.ensures.within.1, v.piece) in
     let told = stream_whole taken t.line t.sent (t.goes []) in
     let near = turn_near contents stream taken piece t.line t.sent c.loop-turn.lister rest old (o.state c.loop-turn.out).written now sel t.close few told t.lists c.put_turn.ensures.longer in
     let gives = turn_given contents stream taken t.line t.sent given c.loop-turn.lister (i.state c.loop-turn.inputs).rest old (o.state c.loop-turn.out).written now v.told.1.0 (omega (arith, v.told.1.3.given, c.next_turn.ensures.turn, v.piece)) told t.lists c.put_turn.ensures.longer in
-    list_ends stream (record before { inputs = i.state c.args.inputs.now; out = o.state c.args.out.now }) (record after { inputs = i.state c.next_turn.new.inputs; out = o.state c.put_turn.new.out }) (Err r) (end c.in-Err-put_turn.ensures.why) (stays_near r stream (record before { inputs = i.state c.args.inputs.now; out = o.state c.args.out.now }) (record after { inputs = i.state c.next_turn.new.inputs; out = o.state c.put_turn.new.out }) (unwritten_near contents stream rest old now _ given r gives near (why_weaker c.in-Err-put_turn.ensures.why)))
+    let asks : (i.state c.next_turn.new.inputs).selects ≤ (i.state c.args.inputs.now).selects + 1 = omega (arith, c.loop-turn.invariant.selects, c.next_turn.ensures.few.selects) in
+    record {
+      ends = list_ends stream (record before { inputs = i.state c.args.inputs.now; out = o.state c.args.out.now }) (record after { inputs = i.state c.next_turn.new.inputs; out = o.state c.put_turn.new.out }) (Err r) (end c.in-Err-put_turn.ensures.why) (stays_near r stream (record before { inputs = i.state c.args.inputs.now; out = o.state c.args.out.now }) (record after { inputs = i.state c.next_turn.new.inputs; out = o.state c.put_turn.new.out }) (unwritten_near contents stream rest old now _ given r gives near (why_weaker c.in-Err-put_turn.ensures.why)));
+      stops = put_stops (Listing c.args.stream.now) (g.I.Inputs.state c.args.inputs.now) (g.I.Inputs.state c.next_turn.new.inputs) (event_of c.in-Err-put_turn.refusal) c.in-Err-put_turn.ensures.why;
+      judges = tt;
+      asks = asks;
+      stays = stays_on _ _ _ c.loop-turn.invariant.inputs c.next_turn.ensures.inputs;
+    }
 
-pub returns-then-turn-clause-ends : goal.returns-then-turn-clause-ends
-returns-then-turn-clause-ends g c = λ before after.
+pub returns-then-turn : goal.returns-then-turn
+returns-then-turn g c = λ before after.
     let i = g.I.Inputs in
     let o = g.O.Sink in
     let contents = (i.state c.args.inputs.now).contents in
@@ -234,13 +276,20 @@ returns-then-turn-clause-ends g c = λ before after.
     ] in
     end w)
     c.put_end.ensures.err c.put_end.ensures.why in
-    let few : length piece ≤ 65536 = omega (arith, length-take-le n c.next_turn.new.buf (omega (arith, c.in-Ok-next_turn.ensures.within.1, c.next_turn.ensures.length, v.piece)), c.in-Ok-next_turn.ensures.within.1, v.piece) in
+    let few : length piece ≤ turn_bytes = omega (arith, length-take-le n c.next_turn.new.buf (omega (arith, c.in-Ok-next_turn.ensures.within.1, c.next_turn.ensures.length, v.piece)), c.in-Ok-next_turn.ensures.within.1, v.piece) in
     let longer = longer_twice (o.state c.loop-turn.out).written (o.state c.put_turn.new.out).written now c.put_turn.ensures.longer c.put_end.ensures.longer in
     let whole = stream_whole taken t.line t.sent (t.goes []) in
     let near = turn_near contents stream taken piece t.line t.sent c.loop-turn.lister (i.state c.next_turn.new.inputs).rest old (o.state c.loop-turn.out).written now sel t.close few whole t.lists longer in
     let gives = turn_given contents stream taken t.line t.sent given c.loop-turn.lister (i.state c.loop-turn.inputs).rest old (o.state c.loop-turn.out).written now v.told.1.0 (omega (arith, v.told.1.3.given, c.next_turn.ensures.turn, v.piece)) whole t.lists longer in
     let close = err_weaker c.put_end.result (λ r w. stays_near (event_of r) stream (record before { inputs = i.state c.args.inputs.now; out = o.state c.args.out.now }) (record after { inputs = i.state c.next_turn.new.inputs; out = o.state c.put_end.new.out }) (unwritten_near contents stream (i.state c.next_turn.new.inputs).rest old now _ given (event_of r) gives near (why_weaker w))) c.put_end.ensures.why in
-    list_seen stream (record before { inputs = i.state c.args.inputs.now; out = o.state c.args.out.now }) (record after { inputs = i.state c.next_turn.new.inputs; out = o.state c.put_end.new.out }) c.put_end.result ok err close
+    let asks : (i.state c.next_turn.new.inputs).selects ≤ (i.state c.args.inputs.now).selects + 1 = omega (arith, c.loop-turn.invariant.selects, c.next_turn.ensures.few.selects) in
+    record {
+      ends = list_seen stream (record before { inputs = i.state c.args.inputs.now; out = o.state c.args.out.now }) (record after { inputs = i.state c.next_turn.new.inputs; out = o.state c.put_end.new.out }) c.put_end.result ok err close;
+      stops = written_stops _ _ (Listing c.args.stream.now) (g.I.Inputs.state c.args.inputs.now) (g.I.Inputs.state c.next_turn.new.inputs) c.put_end.result c.put_end.ensures.why;
+      judges = tt;
+      asks = asks;
+      stays = stays_on _ _ _ c.loop-turn.invariant.inputs c.next_turn.ensures.inputs;
+    }
 
 pub loop-turn-preserved : goal.loop-turn-preserved
 loop-turn-preserved g c =
@@ -258,7 +307,7 @@ loop-turn-preserved g c =
     let lists : Lists c.put_turn.new.lister (appended old t.line) (o.state c.put_turn.new.out).written (t.sent ++ piece) = c.in-Ok-put_turn.ensures.ok (appended old t.line) t.sent t.lists in
     let goes = goes_on taken piece t.line t.sent t.goes in
     let size : length (taken ++ piece) ≡ length taken + n = length-append taken piece ∙ ap (λ k. length taken + k) (length-take-le n c.next_turn.new.buf (omega (arith, c.in-Ok-next_turn.ensures.within.1, c.next_turn.ensures.length, v.piece))) in
-    let full : n ≡ 65536 = c.in-Ok-next_turn.ensures.goes c.if-turn.false ∙ v.piece in
+    let full : n ≡ turn_bytes = c.in-Ok-next_turn.ensures.goes c.if-turn.false ∙ v.piece in
     record {
       selected = c.in-Ok-next_turn.ensures.ok.selected;
       inputs = stays_on _ _ _ v.inputs c.next_turn.ensures.inputs;
@@ -269,23 +318,30 @@ loop-turn-preserved g c =
       told = (taken ++ piece, (sel, record { line = t.line; sent = t.sent ++ piece; lists = lists; goes = goes; close = omega (arith, t.close, length-append taken piece, length-append t.sent piece) }, omega (arith, size, v.told.1.2, c.in-Ok-next_turn.ensures.within.0), at_on stream taken piece (i.state c.loop-turn.inputs) (i.state c.next_turn.new.inputs) v.told.1.3 c.in-Ok-next_turn.ensures.ok c.next_turn.ensures.asked));
     }
 
-pub returns-in-Err-clause-stops : goal.returns-in-Err-clause-stops
-returns-in-Err-clause-stops g c = first_stops (Listing c.args.stream.now) (limited stream_limit c.args.stream.now) [] (g.I.Inputs.state c.args.inputs.now) (g.I.Inputs.state c.open.new.inputs) (event_of c.in-Err.refusal) refl (stands_opened c.args.stream.now stream_limit (g.I.Inputs.state c.open.new.inputs) c.open.ensures.asks) c.open.ensures.once (unopened_about (g.I.Inputs.state c.args.inputs.now) (g.I.Inputs.state c.open.new.inputs) c.args.stream.now (event_of c.in-Err.refusal) c.in-Err.ensures.err)
-
-pub returns-in-Err-read_beginning-clause-stops : goal.returns-in-Err-read_beginning-clause-stops
-returns-in-Err-read_beginning-clause-stops g c = first_stops (Listing c.args.stream.now) (limited stream_limit c.args.stream.now) [] (g.I.Inputs.state c.args.inputs.now) (g.I.Inputs.state c.read_beginning.new.inputs) (event_of c.in-Err-read_beginning.refusal) refl (stands_read c.args.stream.now stream_limit (g.I.Inputs.state c.open.new.inputs) (g.I.Inputs.state c.read_beginning.new.inputs) c.open.ensures.asks c.read_beginning.ensures.few) (omega (arith, c.open.ensures.once, c.read_beginning.ensures.few.selects)) (unfronted_about (g.I.Inputs.state c.open.new.inputs) (g.I.Inputs.state c.read_beginning.new.inputs) c.args.stream.now (event_of c.in-Err-read_beginning.refusal) c.in-Err-read_beginning.ensures.err)
-
-pub returns-in-Err-put_beginning-clause-stops : goal.returns-in-Err-put_beginning-clause-stops
-returns-in-Err-put_beginning-clause-stops g c = front_stops (Listing c.args.stream.now) (g.I.Inputs.state c.args.inputs.now) (g.I.Inputs.state c.read_beginning.new.inputs) (event_of c.in-Err-put_beginning.refusal) c.in-Err-put_beginning.ensures.why
-
-pub returns-then-front-clause-stops : goal.returns-then-front-clause-stops
-returns-then-front-clause-stops g c = written_stops _ _ (Listing c.args.stream.now) (g.I.Inputs.state c.args.inputs.now) (g.I.Inputs.state c.read_beginning.new.inputs) c.put_short.result c.put_short.ensures.why
-
-pub returns-in-Err-next_turn-clause-stops : goal.returns-in-Err-next_turn-clause-stops
-returns-in-Err-next_turn-clause-stops g c = let v = c.loop-turn.invariant in first_stops (Listing c.args.stream.now) (limited stream_limit c.args.stream.now) [] (g.I.Inputs.state c.args.inputs.now) (g.I.Inputs.state c.next_turn.new.inputs) (event_of c.in-Err-next_turn.refusal) refl (stands_turn c.args.stream.now v.told.0 stream_limit c.loop-turn.left (g.I.Inputs.state c.loop-turn.inputs) (g.I.Inputs.state c.next_turn.new.inputs) v.told.1.3 v.told.1.2 c.next_turn.ensures.few) (omega (arith, v.selects, c.next_turn.ensures.few.selects)) (unread_about c.args.stream.now (event_of c.in-Err-next_turn.refusal) (turn_unread (g.I.Inputs.state c.loop-turn.inputs) (g.I.Inputs.state c.next_turn.new.inputs) c.args.stream.now c.loop-turn.left (event_of c.in-Err-next_turn.refusal) c.in-Err-next_turn.ensures.err))
-
-pub returns-in-Err-put_turn-clause-stops : goal.returns-in-Err-put_turn-clause-stops
-returns-in-Err-put_turn-clause-stops g c = put_stops (Listing c.args.stream.now) (g.I.Inputs.state c.args.inputs.now) (g.I.Inputs.state c.next_turn.new.inputs) (event_of c.in-Err-put_turn.refusal) c.in-Err-put_turn.ensures.why
-
-pub returns-then-turn-clause-stops : goal.returns-then-turn-clause-stops
-returns-then-turn-clause-stops g c = written_stops _ _ (Listing c.args.stream.now) (g.I.Inputs.state c.args.inputs.now) (g.I.Inputs.state c.next_turn.new.inputs) c.put_end.result c.put_end.ensures.why
+pub loop-turn-init : goal.loop-turn-init
+loop-turn-init g c =
+    let i = g.I.Inputs in
+    let o = g.O.Sink in
+    let contents = (i.state c.args.inputs.now).contents in
+    let old = (o.state c.args.out.now).written in
+    let stream = c.args.stream.now in
+    let now = i.state c.read_beginning.new.inputs in
+    let f = c.in-Ok-read_beginning.ensures.begins in
+    let taken = c.in-Ok-read_beginning.beginning.bytes.items in
+    let last = c.in-Ok-read_beginning.beginning.last in
+    let line = c.deref-line.result.now in
+    let start = c.in-Ok-read_beginning.beginning.start in
+    let bytes = c.deref.result.now in
+    let sent = take (length bytes - start) (drop start bytes) in
+    let cut : sent ≡ drop start taken = take_all (length bytes - start) (drop start bytes) (omega (arith, length-drop start bytes)) ∙ ap (drop start) c.deref.ensures.value in
+    let sel : Selects contents stream (preceded taken now.rest) = subst (λ r. Selects contents stream r) f.reads.takes.taken c.in-Ok.ensures.ok.found in
+    let goes : (left : List ℕ) → stream_listing (taken ++ left) ≡ Ok (line ++ listing_of (sent ++ left)) = λ left. f.begins left (λ l. let never : false ≡ true = sym c.if-beginning.false ∙ l in absurd cc) ∙ ap (λ (l : List ℕ). Ok (l ++ listing_of (drop start taken ++ left))) (sym c.deref-line.ensures.value) ∙ ap (λ (s : List ℕ). Ok (line ++ listing_of (s ++ left))) (sym cut) in
+    record {
+      selected = c.in-Ok-read_beginning.ensures.selected;
+      inputs = stays_on _ _ _ c.open.ensures.inputs c.read_beginning.ensures.inputs;
+      written = c.put_beginning.ensures.counts.faults;
+      selects = omega (arith, c.open.ensures.once, c.read_beginning.ensures.few.selects);
+      left = omega arith;
+      piece = refl;
+      told = (taken, (sel, record { line = line; sent = sent; lists = c.in-Ok-put_beginning.ensures.ok; goes = goes; close = omega (arith, f.few) }, omega (arith, f.few, c.len-left.ensures), record { asked = asked_on stream (i.state c.open.new.inputs) now c.open.ensures.asks f.reads.asked; given = omega (arith, c.open.ensures.asks.given, f.reads.takes.given) }));
+    }

@@ -1,7 +1,7 @@
 use Rattle.std.proofs.Common.{◌≡◌, ℕ, List, ◌+◌, ◌≤◌, length, true}
 use Rattle.x7_words.specs.Input.{Selects, Stays, preceded}
 use Rattle.x7_forms.specs.Known.{stream_limit}
-use Rattle.x7_forms.specs.Turn.{IsAt}
+use Rattle.x7_forms.specs.Turn.{IsAt, turn_bytes}
 use Rattle.x7_tool.specs.Turns.{ListsStream}
 use Rattle.x7_tool.proofs.list.list.Given as goal
 
@@ -15,7 +15,7 @@ invariant-loop-turn g l =
       written : (o.state l.fn.out).faults ≤ (o.state l.out).faults;
       selects : (i.state l.inputs).selects ≤ (i.state l.fn.inputs).selects + 1;
       left : l.left ≤ stream_limit;
-      piece : length l.piece ≡ 65536;
+      piece : length l.piece ≡ turn_bytes;
       told : (taken : List ℕ) × (Selects (i.state l.fn.inputs).contents l.stream (preceded taken (i.state l.inputs).rest) × ListsStream l.lister (o.state l.fn.out).written (o.state l.out).written taken × (length taken + l.left ≡ stream_limit) × IsAt l.stream taken (i.state l.inputs));
     }
 

@@ -1,4 +1,4 @@
-use Rattle.std.proofs.Common.{ℕ, List, [], ◌∷◌, Err, inr, map, string_bytes, inl, refl}
+use Rattle.std.proofs.Common.{arith, ℕ, List, [], ◌∷◌, Err, inr, map, string_bytes, inl, refl}
 use Rattle.x7_part.specs.Part.{PartData}
 use Rattle.x7_forms.specs.Message.{event_of}
 use Rattle.x7_forms.specs.Known.{Answer, and_so, data_of, part_of, stream_limit, part_limit}
@@ -8,45 +8,52 @@ use Rattle.x7_tool.proofs.PlayLemmas.{text_ends}
 use Rattle.x7_forms.proofs.ReadLemmas.{answers_end, answers_go, answers_stop, data_steady, first_of, part_steady}
 use Rattle.x7_forms.specs.Form.{Playing}
 use Rattle.x7_forms.proofs.ResultLemmas.{err_weaker}
-use Rattle.x7_tool.proofs.StopLemmas.{reads_only, streams_stop, first_stops}
+use Rattle.x7_words.proofs.InputLemmas.{stays_on}
+use Rattle.x7_tool.proofs.StopLemmas.{first_asked, streams_asked, reads_only, streams_stop, first_stops}
 use Rattle.x7_forms.specs.Stop.{limited_together, limited}
 use Rattle.x7_forms.proofs.StandLemmas.{no_part_about}
 use Rattle.x7_tool.proofs.play.play.Goals as goal
 
-pub returns-in-Err-clause-due : goal.returns-in-Err-clause-due
-returns-in-Err-clause-due g c =
+pub returns-in-Err : goal.returns-in-Err
+returns-in-Err g c =
     let i = g.I.Inputs in
     let part = c.args.part.now in
     let streams = map string_bytes c.args.streams.now in
-    answers_stop PartData Answer (part ∷ []) (part ∷ streams) (i.state c.args.inputs.now) (i.state c.read_part.new.inputs) (λ t. part_of t part) (λ t p. and_so (data_of t stream_limit streams) (reported p)) (event_of c.in-Err.refusal)
-    (first_of part streams) c.in-Err.ensures.due
+    record {
+      due = answers_stop PartData Answer (part ∷ []) (part ∷ streams) (i.state c.args.inputs.now) (i.state c.read_part.new.inputs) (λ t. part_of t part) (λ t p. and_so (data_of t stream_limit streams) (reported p)) (event_of c.in-Err.refusal)
+          (first_of part streams) c.in-Err.ensures.due;
+      stops = first_stops (Playing c.args.part.now (map string_bytes c.args.streams.now)) (limited part_limit c.args.part.now) (limited_together (g.I.Inputs.state c.args.inputs.now).contents stream_limit (map string_bytes c.args.streams.now)) (g.I.Inputs.state c.args.inputs.now) (g.I.Inputs.state c.read_part.new.inputs) (event_of c.in-Err.refusal) refl c.read_part.ensures.stands c.read_part.ensures.once (no_part_about c.args.part.now (event_of c.in-Err.refusal) c.in-Err.ensures.named);
+      asks = first_asked c.args.part.now (map string_bytes c.args.streams.now) (g.I.Inputs.state c.args.inputs.now) (g.I.Inputs.state c.read_part.new.inputs) c.read_part.ensures.once;
+      stays = c.read_part.ensures.inputs;
+    }
 
-pub returns-clause-due : goal.returns-clause-due
-returns-clause-due g c =
+pub returns : goal.returns
+returns g c =
     let i = g.I.Inputs in
     let part = c.args.part.now in
     let streams = map string_bytes c.args.streams.now in
     let event = event_of c.in-Err-play_streams.refusal in
-    answers_go PartData Answer (part ∷ []) streams (part ∷ streams) (i.state c.args.inputs.now) (i.state c.read_part.new.inputs) (i.state c.play_streams.new.inputs) (λ t. part_of t part) (λ t p. and_so (data_of t stream_limit streams) (reported p)) c.in-Ok.part (Err event)
-    (part_steady part) c.read_part.ensures.inputs (λ n h. inr h) c.in-Ok.ensures.due
-    (answers_stop (List ℕ) Answer streams streams (i.state c.read_part.new.inputs) (i.state c.play_streams.new.inputs) (λ t. data_of t stream_limit streams) (λ t. reported c.in-Ok.part) event (λ n h. h) c.in-Err-play_streams.ensures.err)
+    record {
+      due = answers_go PartData Answer (part ∷ []) streams (part ∷ streams) (i.state c.args.inputs.now) (i.state c.read_part.new.inputs) (i.state c.play_streams.new.inputs) (λ t. part_of t part) (λ t p. and_so (data_of t stream_limit streams) (reported p)) c.in-Ok.part (Err event)
+          (part_steady part) c.read_part.ensures.inputs (λ n h. inr h) c.in-Ok.ensures.due
+          (answers_stop (List ℕ) Answer streams streams (i.state c.read_part.new.inputs) (i.state c.play_streams.new.inputs) (λ t. data_of t stream_limit streams) (λ t. reported c.in-Ok.part) event (λ n h. h) c.in-Err-play_streams.ensures.err);
+      stops = streams_stop c.args.part.now (map string_bytes c.args.streams.now) (g.I.Inputs.state c.args.inputs.now) (g.I.Inputs.state c.read_part.new.inputs) (g.I.Inputs.state c.play_streams.new.inputs) (event_of c.in-Err-play_streams.refusal) c.read_part.ensures.inputs.map c.read_part.ensures.once c.in-Err-play_streams.ensures.stops;
+      asks = streams_asked string_bytes c.args.part.now c.args.streams.now (g.I.Inputs.state c.args.inputs.now) (g.I.Inputs.state c.play_streams.new.inputs) (omega (arith, c.read_part.ensures.once, c.play_streams.ensures.once));
+      stays = stays_on _ _ _ c.read_part.ensures.inputs c.play_streams.ensures.inputs;
+    }
 
-pub returns-in-Ok-play_streams-clause-due : goal.returns-in-Ok-play_streams-clause-due
-returns-in-Ok-play_streams-clause-due g c =
+pub returns-in-Ok-play_streams : goal.returns-in-Ok-play_streams
+returns-in-Ok-play_streams g c =
     let i = g.I.Inputs in
     let part = c.args.part.now in
     let streams = map string_bytes c.args.streams.now in
     let p = c.in-Ok-play_streams.ensures.ok in
-    answers_go PartData Answer (part ∷ []) streams (part ∷ streams) (i.state c.args.inputs.now) (i.state c.read_part.new.inputs) (i.state c.play_streams.new.inputs) (λ t. part_of t part) (λ t p. and_so (data_of t stream_limit streams) (reported p)) c.in-Ok.part (seen text_of_play c.text_of.result)
-    (part_steady part) c.read_part.ensures.inputs (λ n h. inr h) c.in-Ok.ensures.due
-    (answers_end (List ℕ) Answer streams (i.state c.read_part.new.inputs) (i.state c.play_streams.new.inputs) (λ t. data_of t stream_limit streams) (reported c.in-Ok.part) p.0 (seen text_of_play c.text_of.result) (data_steady streams stream_limit) p.2
-    (text_ends c.in-Ok.part p.0 c.in-Ok-play_streams.player c.text_of.result p.1 c.text_of.ensures.ok c.text_of.ensures.err))
-
-pub returns-in-Err-clause-stops : goal.returns-in-Err-clause-stops
-returns-in-Err-clause-stops g c = first_stops (Playing c.args.part.now (map string_bytes c.args.streams.now)) (limited part_limit c.args.part.now) (limited_together (g.I.Inputs.state c.args.inputs.now).contents stream_limit (map string_bytes c.args.streams.now)) (g.I.Inputs.state c.args.inputs.now) (g.I.Inputs.state c.read_part.new.inputs) (event_of c.in-Err.refusal) refl c.read_part.ensures.stands c.read_part.ensures.once (no_part_about c.args.part.now (event_of c.in-Err.refusal) c.in-Err.ensures.named)
-
-pub returns-clause-stops : goal.returns-clause-stops
-returns-clause-stops g c = streams_stop c.args.part.now (map string_bytes c.args.streams.now) (g.I.Inputs.state c.args.inputs.now) (g.I.Inputs.state c.read_part.new.inputs) (g.I.Inputs.state c.play_streams.new.inputs) (event_of c.in-Err-play_streams.refusal) c.read_part.ensures.inputs.map c.read_part.ensures.once c.in-Err-play_streams.ensures.stops
-
-pub returns-in-Ok-play_streams-clause-stops : goal.returns-in-Ok-play_streams-clause-stops
-returns-in-Ok-play_streams-clause-stops g c = reads_only text_of_play (Playing c.args.part.now (map string_bytes c.args.streams.now)) (g.I.Inputs.state c.args.inputs.now) (g.I.Inputs.state c.play_streams.new.inputs) c.text_of.result (err_weaker c.text_of.result (λ r h. elim h [ inl e ↦ inl e | inr e ↦ inr e.0 ]) c.text_of.ensures.err)
+    record {
+      due = answers_go PartData Answer (part ∷ []) streams (part ∷ streams) (i.state c.args.inputs.now) (i.state c.read_part.new.inputs) (i.state c.play_streams.new.inputs) (λ t. part_of t part) (λ t p. and_so (data_of t stream_limit streams) (reported p)) c.in-Ok.part (seen text_of_play c.text_of.result)
+          (part_steady part) c.read_part.ensures.inputs (λ n h. inr h) c.in-Ok.ensures.due
+          (answers_end (List ℕ) Answer streams (i.state c.read_part.new.inputs) (i.state c.play_streams.new.inputs) (λ t. data_of t stream_limit streams) (reported c.in-Ok.part) p.0 (seen text_of_play c.text_of.result) (data_steady streams stream_limit) p.2
+          (text_ends c.in-Ok.part p.0 c.in-Ok-play_streams.player c.text_of.result p.1 c.text_of.ensures.ok c.text_of.ensures.err));
+      stops = reads_only text_of_play (Playing c.args.part.now (map string_bytes c.args.streams.now)) (g.I.Inputs.state c.args.inputs.now) (g.I.Inputs.state c.play_streams.new.inputs) c.text_of.result (err_weaker c.text_of.result (λ r h. elim h [ inl e ↦ inl e | inr e ↦ inr e.0 ]) c.text_of.ensures.err);
+      asks = streams_asked string_bytes c.args.part.now c.args.streams.now (g.I.Inputs.state c.args.inputs.now) (g.I.Inputs.state c.play_streams.new.inputs) (omega (arith, c.read_part.ensures.once, c.play_streams.ensures.once));
+      stays = stays_on _ _ _ c.read_part.ensures.inputs c.play_streams.ensures.inputs;
+    }

@@ -1,8 +1,9 @@
-use Rattle.std.proofs.Common.{ℕ, List, [], ◌∷◌, Ok, Err, inr, refl}
+use Rattle.std.proofs.Common.{[], ◌∷◌, Ok, refl}
 use Rattle.x7_part.specs.Part.{PartData}
 use Rattle.x7_forms.specs.Message.{event_of}
 use Rattle.x7_forms.specs.Known.{and_so, part_of, whole_in, part_limit}
-use Rattle.x7_forms.proofs.ReadLemmas.{answers_go, answers_stop, first_of, part_steady}
+use Rattle.x7_forms.proofs.ReadLemmas.{answers_stop, first_of}
+use Rattle.x7_tool.proofs.PlanLemmas.{texts_read, texts_unread}
 use Rattle.x7_tool.specs.Outcome.{PlanTexts, text_limit}
 use Rattle.x7_forms.proofs.StandLemmas.{about_among, no_part_about, unread_about}
 use Rattle.x7_tool.proofs.StopLemmas.{both_asked}
@@ -12,12 +13,12 @@ use Rattle.x7_tool.proofs.svf.read_given.Goals as goal
 pub returns-in-Err-read_whole-clause-given : goal.returns-in-Err-read_whole-clause-given
 returns-in-Err-read_whole-clause-given g c =
     let i = g.I.Inputs in
-    let part = c.args.part.now in
-    let text = c.args.text.now in
-    let event = event_of c.in-Err-read_whole.refusal in
-    answers_go PartData PlanTexts (part ∷ []) (text ∷ []) (part ∷ text ∷ []) (i.state c.args.inputs.now) (i.state c.read_part.new.inputs) (i.state c.read_whole.new.inputs) (λ t. part_of t part)
-    (λ t p. and_so (whole_in t text_limit text) (λ bytes. Ok (record { part = p; text = bytes }))) c.in-Ok.part (Err event) (part_steady part) c.read_part.ensures.inputs (λ n h. inr h) c.in-Ok.ensures.due
-    (answers_stop (List ℕ) PlanTexts (text ∷ []) (text ∷ []) (i.state c.read_part.new.inputs) (i.state c.read_whole.new.inputs) (λ t. whole_in t text_limit text) (λ t bytes. Ok (record { part = c.in-Ok.part; text = bytes })) event (λ n h. h) c.in-Err-read_whole.ensures.due)
+    texts_unread c.args.part.now c.args.text.now (i.state c.args.inputs.now) (i.state c.read_part.new.inputs) (i.state c.read_whole.new.inputs) c.in-Ok.part (event_of c.in-Err-read_whole.refusal) c.read_part.ensures.inputs c.in-Ok.ensures.due c.in-Err-read_whole.ensures.due
+
+pub returns-in-Ok-read_whole-clause-given : goal.returns-in-Ok-read_whole-clause-given
+returns-in-Ok-read_whole-clause-given g c =
+    let i = g.I.Inputs in
+    texts_read c.args.part.now c.args.text.now (i.state c.args.inputs.now) (i.state c.read_part.new.inputs) (i.state c.read_whole.new.inputs) c.in-Ok.part c.in-Ok-read_whole.text.items c.read_part.ensures.inputs c.in-Ok.ensures.due c.in-Ok-read_whole.ensures.due
 
 pub returns-in-Err-clause-given : goal.returns-in-Err-clause-given
 returns-in-Err-clause-given g c =

@@ -1,17 +1,45 @@
-use Rattle.std.proofs.Common.{refl, []}
-use Rattle.x7_forms.specs.Message.{event_of}
+use Rattle.std.proofs.Common.{refl, ◌∷◌, []}
 use Rattle.x7_forms.specs.Form.{PlayingSvf}
-use Rattle.x7_forms.specs.Known.{part_limit}
-use Rattle.x7_tool.specs.Outcome.{text_limit}
-use Rattle.x7_tool.specs.Svf.{texts_of}
-use Rattle.x7_tool.specs.Play.{text_of_play}
-use Rattle.x7_forms.proofs.ResultLemmas.{err_weaker}
-use Rattle.x7_tool.proofs.StopLemmas.{result_stops, svf_played_about, among_stops, second_stops}
+use Rattle.x7_forms.specs.Known.{Answer, part_limit}
+use Rattle.x7_forms.specs.Message.{event_of}
 use Rattle.x7_forms.specs.Stop.{limited}
+use Rattle.x7_forms.specs.Step.{seen}
+use Rattle.x7_forms.proofs.ReadLemmas.{answers_by, answers_kept}
+use Rattle.x7_forms.proofs.ResultLemmas.{err_weaker}
+use Rattle.x7_tool.specs.Outcome.{PlanTexts, PlayedSvf, plan_texts, text_limit}
+use Rattle.x7_tool.specs.Play.{text_of_play}
+use Rattle.x7_tool.specs.Svf.{texts_of}
+use Rattle.x7_tool.proofs.ReadyLemmas.{svf_due}
+use Rattle.x7_tool.proofs.StopLemmas.{result_stops, svf_played_about, among_stops, second_stops}
 use Rattle.x7_tool.proofs.svf.svf.Goals as goal
 
-pub returns-in-Ok-clause-stops : goal.returns-in-Ok-clause-stops
-returns-in-Ok-clause-stops g c = result_stops text_of_play (PlayingSvf c.args.part.now c.args.text.now) (g.I.Inputs.state c.args.inputs.now) (g.I.Inputs.state c.read_given.new.inputs) c.text_of.result (err_weaker c.text_of.result (λ r a. second_stops (PlayingSvf c.args.part.now c.args.text.now) (limited part_limit c.args.part.now) (limited text_limit c.args.text.now) [] (g.I.Inputs.state c.args.inputs.now) (g.I.Inputs.state c.read_given.new.inputs) (event_of r) refl c.in-Ok.ensures.stands c.read_given.ensures.asks a) (err_weaker c.text_of.result (λ r h. svf_played_about c.args.text.now (texts_of c.in-Ok.given) (event_of r) h) c.text_of.ensures.err))
+pub returns-in-Ok : goal.returns-in-Ok
+returns-in-Ok g c =
+    let old = g.I.Inputs.state c.args.inputs.now in
+    let new = g.I.Inputs.state c.read_given.new.inputs in
+    let part = c.args.part.now in
+    let text = c.args.text.now in
+    let given = texts_of c.in-Ok.given in
+    let made = c.text_of.result in
+    record {
+      due = answers_by PlanTexts Answer (part ∷ text ∷ []) old new (λ t. plan_texts t part text) given (PlayedSvf text) (seen text_of_play made) c.in-Ok.ensures.given (svf_due text given made c.text_of.ensures.ok c.text_of.ensures.err);
+      stops = result_stops text_of_play (PlayingSvf part text) old new made (err_weaker made
+          (λ r h. second_stops (PlayingSvf part text) (limited part_limit part) (limited text_limit text) [] old new (event_of r) refl c.in-Ok.ensures.stands c.read_given.ensures.asks (svf_played_about text given (event_of r) h))
+          c.text_of.ensures.err);
+      asks = c.read_given.ensures.asks;
+      stays = c.read_given.ensures.inputs;
+    }
 
-pub returns-in-Err-clause-stops : goal.returns-in-Err-clause-stops
-returns-in-Err-clause-stops g c = among_stops (PlayingSvf c.args.part.now c.args.text.now) (g.I.Inputs.state c.args.inputs.now) (g.I.Inputs.state c.read_given.new.inputs) (event_of c.in-Err.refusal) c.in-Err.ensures.stops
+pub returns-in-Err : goal.returns-in-Err
+returns-in-Err g c =
+    let old = g.I.Inputs.state c.args.inputs.now in
+    let new = g.I.Inputs.state c.read_given.new.inputs in
+    let part = c.args.part.now in
+    let text = c.args.text.now in
+    let event = event_of c.in-Err.refusal in
+    record {
+      due = answers_kept PlanTexts Answer (part ∷ text ∷ []) old new (λ t. plan_texts t part text) (PlayedSvf text) event (λ x. refl) c.in-Err.ensures.given;
+      stops = among_stops (PlayingSvf part text) old new event c.in-Err.ensures.stops;
+      asks = c.read_given.ensures.asks;
+      stays = c.read_given.ensures.inputs;
+    }

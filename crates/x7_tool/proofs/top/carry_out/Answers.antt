@@ -1,24 +1,41 @@
-use Rattle.std.proofs.Common.{refl, Ok, Err}
+use Rattle.std.proofs.Common.{ap, refl, subst, sym, ◌∙◌}
+use Rattle.x7_words.specs.Sink.{Tells}
+use Rattle.x7_forms.specs.Event.{Event, line_of, status_of}
+use Rattle.x7_forms.specs.Form.{asked, asked_by}
 use Rattle.x7_forms.specs.Message.{event_of}
-use Rattle.x7_tool.proofs.StopLemmas.{done_judges, done_stops, refused_judges, refused_stops}
-use Rattle.x7_tool.specs.Outside.{sources}
+use Rattle.x7_tool.specs.Outside.{outside}
+use Rattle.x7_tool.proofs.AnswerLemmas.{ran_done, ran_none, ran_refused, uses_as}
+use Rattle.x7_tool.proofs.FlashLemmas.{uses_same}
 use Rattle.x7_tool.proofs.top.carry_out.Goals as goal
+
+pub returns-in-None-clause-ran : goal.returns-in-None-clause-ran
+returns-in-None-clause-ran g c =
+    let old = outside (g.I.Inputs.state c.args.inputs.now) (g.F.Flash.state c.args.flash.now) (g.O.Sink.state c.args.out.now) (g.E.Sink.state c.args.err.now) in
+    let line = subst (λ (event : Event). Tells (g.E.Sink.state c.args.err.now) (line_of event) (g.E.Sink.state c.tell.new.err)) c.unnamed.ensures c.tell.ensures.line in
+    ran_none _ old (g.E.Sink.state c.tell.new.err) _ (sym c.words_of.ensures ∙ ap asked c.in-None.is) (c.tell.ensures.status ∙ ap status_of c.unnamed.ensures) line
+
+pub returns-in-None-clause-flash : goal.returns-in-None-clause-flash
+returns-in-None-clause-flash g c = uses_same _ _ (g.F.Flash.state c.args.flash.now) _
 
 pub returns-in-Ok-clause-ran : goal.returns-in-Ok-clause-ran
 returns-in-Ok-clause-ran g c =
     let err = g.E.Sink.state c.args.err.now in
-    let here = c.answer.ensures.ends err err in
-    let end = rw c.in-Ok.is at here in
-    (Ok (record { stopped = c.in-Ok.stopped; text = end.0 }), c.of_text.ensures, refl, end.1, done_stops _ (g.I.Inputs.state c.args.inputs.now) (g.I.Inputs.state c.answer.new.inputs) (record { stopped = c.in-Ok.stopped; text = end.0 }), done_judges _ (sources (g.I.Inputs.state c.args.inputs.now) (g.F.Flash.state c.args.flash.now)) (sources (g.I.Inputs.state c.answer.new.inputs) (g.F.Flash.state c.answer.new.flash)) (record { stopped = c.in-Ok.stopped; text = end.0 }))
+    let old = outside (g.I.Inputs.state c.args.inputs.now) (g.F.Flash.state c.args.flash.now) (g.O.Sink.state c.args.out.now) err in
+    let new = outside (g.I.Inputs.state c.answer.new.inputs) (g.F.Flash.state c.answer.new.flash) (g.O.Sink.state c.answer.new.out) err in
+    let here = c.answer.ensures.answered err err in
+    let answered = rw c.in-Ok.is at here in
+    ran_done _ (asked_by c.in-Some.form) old new _ c.in-Ok.stopped (sym c.words_of.ensures ∙ ap asked c.in-Some.is) c.of_text.ensures refl answered
+
+pub returns-in-Ok-clause-flash : goal.returns-in-Ok-clause-flash
+returns-in-Ok-clause-flash g c = uses_as _ (asked_by c.in-Some.form) _ _ _ _ _ (sym c.words_of.ensures ∙ ap asked c.in-Some.is) c.answer.ensures.flash
 
 pub returns-in-Err-clause-ran : goal.returns-in-Err-clause-ran
 returns-in-Err-clause-ran g c =
-    let here = c.answer.ensures.ends (g.E.Sink.state c.args.err.now) (g.E.Sink.state c.tell.new.err) in
-    let end = rw c.in-Err.is at here in
-    let told = c.answer.ensures.stops in
-    let stops = rw c.in-Err.is at told in
-    let judged = c.answer.ensures.judges in
-    let judges = rw c.in-Err.is at judged in
-    let old = sources (g.I.Inputs.state c.args.inputs.now) (g.F.Flash.state c.args.flash.now) in
-    let new = sources (g.I.Inputs.state c.answer.new.inputs) (g.F.Flash.state c.answer.new.flash) in
-    (Err (event_of c.in-Err.refusal), c.tell.ensures.status, c.tell.ensures.line, end, refused_stops _ (g.I.Inputs.state c.args.inputs.now) (g.I.Inputs.state c.answer.new.inputs) (event_of c.in-Err.refusal) stops, refused_judges _ old new (event_of c.in-Err.refusal) judges)
+    let old = outside (g.I.Inputs.state c.args.inputs.now) (g.F.Flash.state c.args.flash.now) (g.O.Sink.state c.args.out.now) (g.E.Sink.state c.args.err.now) in
+    let new = outside (g.I.Inputs.state c.answer.new.inputs) (g.F.Flash.state c.answer.new.flash) (g.O.Sink.state c.answer.new.out) (g.E.Sink.state c.tell-in-Err.new.err) in
+    let here = c.answer.ensures.answered (g.E.Sink.state c.args.err.now) (g.E.Sink.state c.tell-in-Err.new.err) in
+    let answered = rw c.in-Err.is at here in
+    ran_refused _ (asked_by c.in-Some.form) old new _ (event_of c.in-Err.refusal) (sym c.words_of.ensures ∙ ap asked c.in-Some.is) c.tell-in-Err.ensures.status c.tell-in-Err.ensures.line answered
+
+pub returns-in-Err-clause-flash : goal.returns-in-Err-clause-flash
+returns-in-Err-clause-flash g c = uses_as _ (asked_by c.in-Some.form) _ _ _ _ _ (sym c.words_of.ensures ∙ ap asked c.in-Some.is) c.answer.ensures.flash

@@ -10,11 +10,9 @@ returns-clause-ran g c =
     let o = g.O.Sink in
     let e = g.E.Sink in
     let f = g.F.Flash in
-    let r = c.carry_out.ensures.ran in
-    let form = form_in c.args.words.now.items in
-    runs form (outside (i.state c.args.inputs.now) (f.state c.args.flash.now) (o.state c.args.out.now) (e.state c.args.err.now))
+    runs (form_in c.args.words.now.items) (outside (i.state c.args.inputs.now) (f.state c.args.flash.now) (o.state c.args.out.now) (e.state c.args.err.now))
     (outside (i.state c.carry_out.new.inputs) (f.state c.carry_out.new.flash) (o.state c.carry_out.new.out) (e.state c.carry_out.new.err))
-    c.carry_out.result r.0 r.1 r.2 r.3 r.4 r.5 c.carry_out.ensures.asks c.carry_out.ensures.inputs c.carry_out.ensures.flash.keeps
+    c.carry_out.result c.carry_out.ensures.ran c.carry_out.ensures.flash.keeps
 
 pub returns-clause-found : goal.returns-clause-found
 returns-clause-found g c =

@@ -1,6 +1,7 @@
-use Rattle.std.proofs.Common.{◌≤◌, ◌-◌, ℕ, Bool, List, [], ◌∷◌, drop, length, take, Option, None, Some, Err, inl, refl, subst, sym, ◌∙◌}
+use Rattle.std.proofs.Common.{arith, ◌≤◌, ◌-◌, ℕ, Bool, List, [], ◌∷◌, drop, length, take, Option, None, Some, Err, inl, refl, subst, sym, ◌∙◌}
 use Rattle.std.specs.Prelude.{IsTrue}
 use Rattle.x7_words.specs.Flash.{IfKnown}
+use Rattle.x7_words.proofs.InputLemmas.{stays_at}
 use Rattle.x7_boot.specs.Image.{flash_limit}
 use Rattle.x7_update.specs.After.{IsAfter}
 use Rattle.x7_update.specs.Layout.{HasLayout}
@@ -13,23 +14,29 @@ use Rattle.x7_forms.specs.Step.{CameIn, step_over}
 use Rattle.x7_tool.specs.Outside.{Outside, sources}
 use Rattle.x7_tool.specs.Run.{EndsAs}
 use Rattle.x7_tool.specs.Streamed.{data_from}
-use Rattle.x7_tool.proofs.UpdateLemmas.{cause_from, data_given, done_ends, fault_ends, keeps_all, refused_ends, rest_of, unopened_last, unopened_measured, unopened_over, unplayed_last, unplayed_measured, unread_over, uses_updated}
-use Rattle.x7_tool.proofs.StopLemmas.{stream_judges, unopened_judges, updated_judges, unopened_stops, updated_stops, first_stops}
+use Rattle.x7_tool.proofs.UpdateLemmas.{cause_from, data_given, done_ends, fault_ends, keeps_all, refused_ends, rest_of, unopened_last, unopened_measured, unopened_over, unplayed_last, unplayed_measured, unread_over, uses_opened, uses_updated}
+use Rattle.x7_tool.proofs.StopLemmas.{first_asked, stream_judges, unopened_judges, updated_judges, unopened_stops, updated_stops, first_stops}
 use Rattle.x7_forms.specs.Stop.{limited}
 use Rattle.x7_forms.proofs.StandLemmas.{unplayed_about}
 use Rattle.x7_tool.proofs.update.update.Goals as goal
 
-pub returns-in-Err-clause-ends : goal.returns-in-Err-clause-ends
-returns-in-Err-clause-ends g c = λ before after out.
+pub returns-in-Err-clause-answered : goal.returns-in-Err-clause-answered
+returns-in-Err-clause-answered g c = λ before after out.
     let first = g.F.Flash.state c.args.flash.now in
     let mid = g.F.Flash.state c.open_flash.new.flash in
     let old : Outside = record before { inputs = g.I.Inputs.state c.args.inputs.now; flash = first } in
     let new : Outside = record after { inputs = g.I.Inputs.state c.args.inputs.now; flash = mid } in
     let event = event_of c.in-Err.refusal in
-    refused_ends c.args.name.now c.args.stream.now old new event out (unopened_measured (Some (UpdatingFlash c.args.name.now c.args.stream.now)) c.args.name.now first mid event c.in-Err.ensures.err) (unopened_last (UpdatingFlash c.args.name.now c.args.stream.now) c.args.name.now old.inputs first mid event c.in-Err.ensures.err) (unopened_over c.args.name.now c.args.stream.now old new event c.in-Err.ensures.err) (keeps_all event.reason first mid c.open_flash.ensures.stays.bytes)
+    record {
+      ends = refused_ends c.args.name.now c.args.stream.now old new event out (unopened_measured (Some (UpdatingFlash c.args.name.now c.args.stream.now)) c.args.name.now first mid event c.in-Err.ensures.err) (unopened_last (UpdatingFlash c.args.name.now c.args.stream.now) c.args.name.now old.inputs first mid event c.in-Err.ensures.err) (unopened_over c.args.name.now c.args.stream.now old new event c.in-Err.ensures.err) (keeps_all event.reason first mid c.open_flash.ensures.stays.bytes);
+      stops = unopened_stops c.args.name.now c.args.stream.now (g.I.Inputs.state c.args.inputs.now) (g.I.Inputs.state c.args.inputs.now) (g.F.Flash.state c.args.flash.now) (g.F.Flash.state c.open_flash.new.flash) (event_of c.in-Err.refusal) c.in-Err.ensures.err;
+      judges = unopened_judges c.args.name.now c.args.stream.now (sources (g.I.Inputs.state c.args.inputs.now) (g.F.Flash.state c.args.flash.now)) (sources (g.I.Inputs.state c.args.inputs.now) (g.F.Flash.state c.open_flash.new.flash)) (event_of c.in-Err.refusal) refl;
+      asks = first_asked c.args.stream.now [] (g.I.Inputs.state c.args.inputs.now) (g.I.Inputs.state c.args.inputs.now) (omega arith);
+      stays = stays_at _;
+    }
 
-pub returns-in-Err-read_stream-clause-ends : goal.returns-in-Err-read_stream-clause-ends
-returns-in-Err-read_stream-clause-ends g c = λ before after out.
+pub returns-in-Err-read_stream-clause-answered : goal.returns-in-Err-read_stream-clause-answered
+returns-in-Err-read_stream-clause-answered g c = λ before after out.
     let first = g.F.Flash.state c.args.flash.now in
     let mid = g.F.Flash.state c.open_flash.new.flash in
     let same = c.open_flash.ensures.stays.bytes in
@@ -37,13 +44,19 @@ returns-in-Err-read_stream-clause-ends g c = λ before after out.
     let new : Outside = record after { inputs = g.I.Inputs.state c.read_stream.new.inputs; flash = mid } in
     let event = event_of c.in-Err-read_stream.refusal in
     let within = subst (λ (o : Option (List ℕ)). IfKnown o (λ all. length all ≤ flash_limit)) same c.in-Ok.ensures.within in
-    refused_ends c.args.name.now c.args.stream.now old new event out
-    (unplayed_measured (Some (UpdatingFlash c.args.name.now c.args.stream.now)) mid c.args.stream.now event (inl refl) c.in-Err-read_stream.ensures.named)
-    (unplayed_last (UpdatingFlash c.args.name.now c.args.stream.now) old.inputs mid c.args.stream.now event (inl refl) c.in-Err-read_stream.ensures.named)
-    (unread_over c.args.name.now c.args.stream.now old new event within (c.in-Err-read_stream.ensures.due first.bytes)) (keeps_all event.reason first mid same)
+    record {
+      ends = refused_ends c.args.name.now c.args.stream.now old new event out
+          (unplayed_measured (Some (UpdatingFlash c.args.name.now c.args.stream.now)) mid c.args.stream.now event (inl refl) c.in-Err-read_stream.ensures.named)
+          (unplayed_last (UpdatingFlash c.args.name.now c.args.stream.now) old.inputs mid c.args.stream.now event (inl refl) c.in-Err-read_stream.ensures.named)
+          (unread_over c.args.name.now c.args.stream.now old new event within (c.in-Err-read_stream.ensures.due first.bytes)) (keeps_all event.reason first mid same);
+      stops = first_stops (UpdatingFlash c.args.name.now c.args.stream.now) (limited stream_limit c.args.stream.now) [] (g.I.Inputs.state c.args.inputs.now) (g.I.Inputs.state c.read_stream.new.inputs) (event_of c.in-Err-read_stream.refusal) refl c.read_stream.ensures.stands c.read_stream.ensures.asks (unplayed_about c.args.stream.now (event_of c.in-Err-read_stream.refusal) c.in-Err-read_stream.ensures.named);
+      judges = stream_judges c.args.name.now c.args.stream.now (sources (g.I.Inputs.state c.args.inputs.now) (g.F.Flash.state c.args.flash.now)) (sources (g.I.Inputs.state c.read_stream.new.inputs) (g.F.Flash.state c.open_flash.new.flash)) (event_of c.in-Err-read_stream.refusal) (unplayed_about c.args.stream.now (event_of c.in-Err-read_stream.refusal) c.in-Err-read_stream.ensures.named);
+      asks = c.read_stream.ensures.asks;
+      stays = c.read_stream.ensures.inputs;
+    }
 
-pub returns-in-Ok-update-clause-ends : goal.returns-in-Ok-update-clause-ends
-returns-in-Ok-update-clause-ends g c = λ before after out.
+pub returns-in-Ok-update-clause-answered : goal.returns-in-Ok-update-clause-answered
+returns-in-Ok-update-clause-answered g c = λ before after out.
     let i = g.I.Inputs in
     let first = g.F.Flash.state c.args.flash.now in
     let last = g.F.Flash.state c.update.new.flash in
@@ -58,7 +71,13 @@ returns-in-Ok-update-clause-ends g c = λ before after out.
     let layout = subst (λ (o : Option (List ℕ)). IfKnown o HasLayout) same c.in-Ok-update.ensures.layout in
     let becomes = subst (λ (o : Option (List ℕ)). BecomesBytes (IsAfter bytes) o last.bytes) same c.in-Ok-update.ensures.updated in
     let size = subst (λ (n : ℕ). n ≤ flash_limit) (sym c.update.ensures.only.extent) c.in-Ok.ensures.size in
-    done_ends c.args.name.now stream bytes old new out within has layout size becomes
+    record {
+      ends = done_ends c.args.name.now stream bytes old new out within has layout size becomes;
+      stops = tt;
+      judges = tt;
+      asks = c.read_stream.ensures.asks;
+      stays = c.read_stream.ensures.inputs;
+    }
 
 pub returns-in-Ok-update-clause-flash : goal.returns-in-Ok-update-clause-flash
 returns-in-Ok-update-clause-flash g c =
@@ -72,8 +91,8 @@ returns-in-Ok-update-clause-flash g c =
     let has = data_given (with_inputs old.contents first.bytes) (CameIn (step_over (stream ∷ []) old new)) stream (data_from read) bytes (c.in-Ok-read_stream.ensures.due first.bytes) (rest_of c.deref.result.now read.bytes.items read.start c.deref.ensures.value) in
     uses_updated c.args.name.now stream bytes old first (g.F.Flash.state c.open_flash.new.flash) (g.F.Flash.state c.update.new.flash) _ _ _ c.open_flash.ensures.stays c.open_flash.ensures.asks has c.update.ensures.only c.update.ensures.any_moment
 
-pub returns-clause-ends : goal.returns-clause-ends
-returns-clause-ends g c = λ before after out.
+pub returns-clause-answered : goal.returns-clause-answered
+returns-clause-answered g c = λ before after out.
     let i = g.I.Inputs in
     let first = g.F.Flash.state c.args.flash.now in
     let mid = g.F.Flash.state c.open_flash.new.flash in
@@ -91,8 +110,14 @@ returns-clause-ends g c = λ before after out.
     let size = subst (λ (n : ℕ). n ≤ flash_limit) (sym c.update.ensures.only.extent) c.in-Ok.ensures.size in
     let asked = subst (λ (names : List ℕ → Bool). IsTrue (names name)) (sym c.update.ensures.only.names) c.open_flash.ensures.asks.asked in
     let cause = cause_from bytes first mid last c.in-Err-update.fault stays.bytes stays.unwritten.write_faults stays.faults c.in-Err-update.ensures.refused in
-    subst (λ (e : Event). EndsAs (Some (UpdatingFlash name stream)) old new (Err e)) (sym c.refusal_of.ensures)
-    (fault_ends name stream bytes old new c.in-Err-update.fault out asked within has reads size cause (λ early. let only = c.in-Err-update.ensures.unchanged early in only.bytes ∙ stays.bytes))
+    record {
+      ends = subst (λ (e : Event). EndsAs (Some (UpdatingFlash name stream)) old new (Err e)) (sym c.refusal_of.ensures)
+          (fault_ends name stream bytes old new c.in-Err-update.fault out asked within has reads size cause (λ early. let only = c.in-Err-update.ensures.unchanged early in only.bytes ∙ stays.bytes));
+      stops = updated_stops c.args.name.now c.args.stream.now (g.I.Inputs.state c.args.inputs.now) (g.I.Inputs.state c.read_stream.new.inputs) c.in-Err-update.fault (event_of c.refusal_of.result) c.refusal_of.ensures c.read_stream.ensures.stands c.read_stream.ensures.asks;
+      judges = updated_judges c.args.name.now c.args.stream.now (sources (g.I.Inputs.state c.args.inputs.now) (g.F.Flash.state c.args.flash.now)) (sources (g.I.Inputs.state c.read_stream.new.inputs) (g.F.Flash.state c.update.new.flash)) c.in-Err-update.fault (event_of c.refusal_of.result) c.refusal_of.ensures (c.update.ensures.only.attached ∙ c.in-Ok.ensures.attached);
+      asks = c.read_stream.ensures.asks;
+      stays = c.read_stream.ensures.inputs;
+    }
 
 pub returns-clause-flash : goal.returns-clause-flash
 returns-clause-flash g c =
@@ -106,31 +131,12 @@ returns-clause-flash g c =
     let has = data_given (with_inputs old.contents first.bytes) (CameIn (step_over (stream ∷ []) old new)) stream (data_from read) bytes (c.in-Ok-read_stream.ensures.due first.bytes) (rest_of c.deref.result.now read.bytes.items read.start c.deref.ensures.value) in
     uses_updated c.args.name.now stream bytes old first (g.F.Flash.state c.open_flash.new.flash) (g.F.Flash.state c.update.new.flash) _ _ _ c.open_flash.ensures.stays c.open_flash.ensures.asks has c.update.ensures.only c.update.ensures.any_moment
 
-pub returns-in-Err-clause-stops : goal.returns-in-Err-clause-stops
-returns-in-Err-clause-stops g c = unopened_stops c.args.name.now c.args.stream.now (g.I.Inputs.state c.args.inputs.now) (g.I.Inputs.state c.args.inputs.now) (g.F.Flash.state c.args.flash.now) (g.F.Flash.state c.open_flash.new.flash) (event_of c.in-Err.refusal) c.in-Err.ensures.err
-
-pub returns-in-Err-read_stream-clause-stops : goal.returns-in-Err-read_stream-clause-stops
-returns-in-Err-read_stream-clause-stops g c = first_stops (UpdatingFlash c.args.name.now c.args.stream.now) (limited stream_limit c.args.stream.now) [] (g.I.Inputs.state c.args.inputs.now) (g.I.Inputs.state c.read_stream.new.inputs) (event_of c.in-Err-read_stream.refusal) refl c.read_stream.ensures.stands c.read_stream.ensures.asks (unplayed_about c.args.stream.now (event_of c.in-Err-read_stream.refusal) c.in-Err-read_stream.ensures.named)
-
-pub returns-clause-stops : goal.returns-clause-stops
-returns-clause-stops g c = updated_stops c.args.name.now c.args.stream.now (g.I.Inputs.state c.args.inputs.now) (g.I.Inputs.state c.read_stream.new.inputs) c.in-Err-update.fault (event_of c.refusal_of.result) c.refusal_of.ensures c.read_stream.ensures.stands c.read_stream.ensures.asks
-
-pub returns-in-Err-clause-judges : goal.returns-in-Err-clause-judges
-returns-in-Err-clause-judges g c =
-    let i = g.I.Inputs in
+pub returns-in-Err-clause-flash : goal.returns-in-Err-clause-flash
+returns-in-Err-clause-flash g c =
     let f = g.F.Flash in
-    unopened_judges c.args.name.now c.args.stream.now (sources (i.state c.args.inputs.now) (f.state c.args.flash.now)) (sources (i.state c.args.inputs.now) (f.state c.open_flash.new.flash)) (event_of c.in-Err.refusal) refl
+    uses_opened c.args.name.now c.args.stream.now (g.I.Inputs.state c.args.inputs.now) (f.state c.args.flash.now) (f.state c.open_flash.new.flash) (f.found_since c.args.flash.now) (f.found_since c.open_flash.new.flash) c.open_flash.ensures.stays c.open_flash.ensures.asks
 
-pub returns-in-Err-read_stream-clause-judges : goal.returns-in-Err-read_stream-clause-judges
-returns-in-Err-read_stream-clause-judges g c =
-    let i = g.I.Inputs in
+pub returns-in-Err-read_stream-clause-flash : goal.returns-in-Err-read_stream-clause-flash
+returns-in-Err-read_stream-clause-flash g c =
     let f = g.F.Flash in
-    stream_judges c.args.name.now c.args.stream.now (sources (i.state c.args.inputs.now) (f.state c.args.flash.now)) (sources (i.state c.read_stream.new.inputs) (f.state c.open_flash.new.flash)) (event_of c.in-Err-read_stream.refusal)
-    (unplayed_about c.args.stream.now (event_of c.in-Err-read_stream.refusal) c.in-Err-read_stream.ensures.named)
-
-pub returns-clause-judges : goal.returns-clause-judges
-returns-clause-judges g c =
-    let i = g.I.Inputs in
-    let f = g.F.Flash in
-    updated_judges c.args.name.now c.args.stream.now (sources (i.state c.args.inputs.now) (f.state c.args.flash.now)) (sources (i.state c.read_stream.new.inputs) (f.state c.update.new.flash)) c.in-Err-update.fault (event_of c.refusal_of.result)
-    c.refusal_of.ensures (c.update.ensures.only.attached ∙ c.in-Ok.ensures.attached)
+    uses_opened c.args.name.now c.args.stream.now (g.I.Inputs.state c.args.inputs.now) (f.state c.args.flash.now) (f.state c.open_flash.new.flash) (f.found_since c.args.flash.now) (f.found_since c.open_flash.new.flash) c.open_flash.ensures.stays c.open_flash.ensures.asks

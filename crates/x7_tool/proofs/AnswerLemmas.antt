@@ -1,0 +1,100 @@
+-- How a form is answered, and how its answer is carried out.
+use Rattle.std.proofs.Common.{◌≡◌, ◌≤◌, ◌+◌, arith, Bool, List, ℕ, Option, None, Some, Result, Ok, Err, refl, subst, sym}
+use Rattle.x7_words.specs.Flash.{FlashState}
+use Rattle.x7_words.specs.Input.{InputsState}
+use Rattle.x7_words.specs.Sink.{SinkState, Tells}
+use Rattle.x7_words.proofs.InputLemmas.{stays_at}
+use Rattle.x7_forms.specs.declared.status.Status.{Status}
+use Rattle.x7_forms.specs.Event.{Event, line_of, status_of, usage}
+use Rattle.x7_forms.specs.Form.{Asked, Unused, flash_use, listed_by, updated_by}
+use Rattle.x7_forms.specs.Known.{Answer}
+use Rattle.x7_forms.specs.Message.{text_status}
+use Rattle.x7_tool.specs.Leaving.{UsesFlash}
+use Rattle.x7_tool.specs.Outside.{Outside, Sources, sources}
+use Rattle.x7_tool.specs.Run.{Answered, AnswersOver, JudgesFlash, MakesReady, MakesReadyFrom, Puts}
+use Rattle.x7_tool.specs.Runs.{RanAs}
+use Rattle.x7_tool.proofs.RunLemmas.{ready_ends, streamed, text_ends}
+use Rattle.x7_tool.proofs.StopLemmas.{done_judges, puts_stop, refused_judges, unused_judges}
+
+-- ---- a form
+
+-- an answer of a form, by another name of the form
+pub as_asked : (form asks : Asked) (old new : Outside) (got : Result Bool Event) → form ≡ asks → Answered asks old new got → Answered form old new got
+as_asked form asks old new got e a = subst (λ (f : Asked). Answered f old new got) (sym e) a
+
+-- a form that reads inputs alone, and whose text, ready or not, was written
+pub ready_answered : (form asks : Asked) (old new : Outside) (whole : Result Answer Event) (got : Result Bool Event) → form ≡ asks → streamed (listed_by (Some asks)) (updated_by (Some asks)) ≡ None → flash_use (Some asks) ≡ Unused
+    → MakesReady asks old.inputs new.inputs whole → Puts whole old.out new.out got → Answered form old new got
+ready_answered form asks old new whole got e l u r p =
+    as_asked form asks old new got e (record {
+      ends = ready_ends asks old new whole got l u r.due p;
+      stops = puts_stop asks old.inputs new.inputs whole old.out new.out got r.stops p;
+      judges = unused_judges asks (sources old.inputs old.flash) (sources new.inputs new.flash) got u;
+      asks = r.asks;
+      stays = r.stays;
+    })
+
+-- a form that reads a flash too, and whose text, ready or not, was written
+pub flash_answered : (form asks : Asked) (old new : Outside) (whole : Result Answer Event) (got : Result Bool Event) → form ≡ asks → streamed (listed_by (Some asks)) (updated_by (Some asks)) ≡ None
+    → JudgesFlash (Some asks) (sources old.inputs old.flash) (sources new.inputs new.flash) got → MakesReadyFrom asks (sources old.inputs old.flash) (sources new.inputs new.flash) whole → AnswersOver asks old new whole → Puts whole old.out new.out got
+    → Answered form old new got
+flash_answered form asks old new whole got e l j r d p =
+    as_asked form asks old new got e (record {
+      ends = text_ends asks old new whole got l r.measured r.last d p;
+      stops = puts_stop asks old.inputs new.inputs whole old.out new.out got r.stops p;
+      judges = j;
+      asks = r.asks;
+      stays = r.stays;
+    })
+
+-- what a form does with its flash, by another name of the form
+pub uses_as : (form : Option Asked) (asks : Asked) (inputs : InputsState) (old new : FlashState) (past since : ℕ → List ℕ → Type 0) → form ≡ Some asks → UsesFlash (Some asks) (sources inputs old) new past since → UsesFlash form (sources inputs old) new past since
+uses_as form asks inputs old new past since e h = subst (λ (f : Option Asked). UsesFlash f (sources inputs old) new past since) (sym e) h
+
+-- ---- the words
+
+-- a form whose text is whole
+pub ran_done : (form : Option Asked) (asks : Asked) (old new : Outside) (s : Status) (stopped : Bool) → form ≡ Some asks → s ≡ text_status stopped → new.err.written ≡ old.err.written → Answered asks old new (Ok stopped) → RanAs form old new s
+ran_done form asks old new s stopped e t w a =
+    subst (λ (f : Option Asked). RanAs f old new s) (sym e)
+    (record {
+      end = Ok (record { stopped = stopped; text = a.ends.0 });
+      ends_as = t;
+      said = w;
+      ends = a.ends.1;
+      stops = tt;
+      judges = done_judges asks (sources old.inputs old.flash) (sources new.inputs new.flash) (record { stopped = stopped; text = a.ends.0 });
+      asks = a.asks;
+      stays = a.stays;
+    })
+
+-- a form that has no whole text
+pub ran_refused : (form : Option Asked) (asks : Asked) (old new : Outside) (s : Status) (event : Event) → form ≡ Some asks → s ≡ status_of event → Tells old.err (line_of event) new.err → Answered asks old new (Err event) → RanAs form old new s
+ran_refused form asks old new s event e t w a =
+    subst (λ (f : Option Asked). RanAs f old new s) (sym e)
+    (record {
+      end = Err event;
+      ends_as = t;
+      said = w;
+      ends = a.ends;
+      stops = a.stops;
+      judges = refused_judges asks (sources old.inputs old.flash) (sources new.inputs new.flash) event a.judges;
+      asks = a.asks;
+      stays = a.stays;
+    })
+
+-- words without a form
+pub ran_none : (form : Option Asked) (old : Outside) (err : SinkState) (s : Status) → form ≡ None → s ≡ status_of usage → Tells old.err (line_of usage) err → RanAs form old (record old { err = err }) s
+ran_none form old err s e t w =
+    let same : old.inputs.selects ≤ old.inputs.selects + 0 = omega arith in
+    subst (λ (f : Option Asked). RanAs f old (record old { err = err }) s) (sym e)
+    (record {
+      end = Err usage;
+      ends_as = t;
+      said = w;
+      ends = record { cause = refl; wrote = refl; near = tt; measured = λ name a e. absurd a; last = tt; updates = tt };
+      stops = tt;
+      judges = tt;
+      asks = same;
+      stays = stays_at old.inputs;
+    })
