@@ -58,7 +58,7 @@ digits_by_bytes (w ∷ ws) are =
     ∙ ap (λ t. flat_map hex_byte (bytes_of_word w) ++ t) (digits_by_bytes ws are.1)
     ∙ ap (λ t. t ++ flat_map hex_word ws) (sym (word-digits w are.0))
 
--- and block by block
+-- the digits of words that stand in blocks, block by block
 pub digits_by_blocks : (n : ℕ) (ws : List ℕ) → n * 8 ≤ length ws → flat_map hex_word ws ≡ flat_map (λ (block : List ℕ). flat_map hex_word block) (first_chunks 8 n ws) ++ flat_map hex_word (drop (n * 8) ws)
 digits_by_blocks zero ws h = refl
 digits_by_blocks (suc n) ws h =

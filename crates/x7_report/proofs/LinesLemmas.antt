@@ -1,5 +1,5 @@
 -- Lines of frames, written group by group.
-use Rattle.std.proofs.Common.{◌≡◌, ◌++◌, ℕ, List, [], Option, codes, decimal, length, take, drop, refl, sym, ap, ◌∙◌, append_assoc, append-nil}
+use Rattle.std.proofs.Common.{◌≡◌, ◌++◌, ℕ, List, [], Option, codes, decimal, length, take, drop, refl, sym, ap, subst, ◌∙◌, append_assoc, append-nil}
 use Rattle.std.proofs.lemmas.Grind.{flat_map-append}
 use Rattle.std.proofs.lemmas.List.{take-append-drop}
 use Rattle.x7_words.specs.Sink.{appended, PutsPrefix}
@@ -40,10 +40,7 @@ module _ (first now : Option (List ℕ)) (memory : FrameMap) (fars rest group mo
   pub group_failed : (next : Option (List ℕ)) → PutsPrefix now (lines_text memory group) next → PutsPrefix first (lines_text memory fars) next
   group_failed next p = rw (g.lines, parted memory k rest group more e f) (front_more first now next g.done (lines_text memory group) (lines_text memory more) g.put p)
 
-pub all_sent : (first now : Option (List ℕ)) (memory : FrameMap) (fars rest : List ℕ) → Sent first now memory fars rest → rest ≡ [] → now ≡ appended first (lines_text memory fars)
-all_sent first now memory fars rest g e = g.put ∙ ap (appended first) (sym (g.lines ∙ ap (λ t. g.done ++ lines_text memory t) e ∙ append-nil g.done))
-
--- a text behind a head
+-- a text that was put after a head
 pub behind_head : (first mid new : Option (List ℕ)) (head lines : List ℕ) → mid ≡ appended first head → new ≡ appended mid lines → new ≡ appended first (head ++ lines)
 behind_head first mid new head lines e f = f ∙ ap (λ t. appended t lines) e ∙ appended-appended first head lines
 
@@ -92,8 +89,15 @@ report_failed first mid new p q frames memory head kept fars places text a b e f
     let whole : head ++ lines_text (frame_at p frames) fars ≡ text = joined p q frames memory head kept fars places a b e f ∙ t in
     rw (← whole) (lines_failed first mid new head (lines_text (frame_at p frames) fars) put failed)
 
-pub report_put : (first mid new : Option (List ℕ)) (p q : PartData) (frames memory : List (List ℕ)) (head kept fars places text : List ℕ) → p ≡ q → frames ≡ memory → head ≡ kept → fars ≡ places →
-    kept ++ lines_text (frame_at q memory) places ≡ text → mid ≡ appended first head → new ≡ appended mid (lines_text (frame_at p frames) fars) → PutsPrefix first text new
-report_put first mid new p q frames memory head kept fars places text a b e f t put lines =
-    let whole : head ++ lines_text (frame_at p frames) fars ≡ text = joined p q frames memory head kept fars places a b e f ∙ t in
-    (text, ([], sym (append-nil text), behind_head first mid new head (lines_text (frame_at p frames) fars) put lines ∙ ap (appended first) whole))
+pub report_whole : (first mid new : Option (List ℕ)) (p q : PartData) (frames memory : List (List ℕ)) (head kept fars places text : List ℕ) → p ≡ q → frames ≡ memory → head ≡ kept → fars ≡ places →
+    kept ++ lines_text (frame_at q memory) places ≡ text → mid ≡ appended first head → new ≡ appended mid (lines_text (frame_at p frames) fars) → new ≡ appended first text
+report_whole first mid new p q frames memory head kept fars places text a b e f t put lines =
+    behind_head first mid new head (lines_text (frame_at p frames) fars) put lines ∙ ap (appended first) (joined p q frames memory head kept fars places a b e f ∙ t)
+
+-- a text that was put whole was put as a prefix
+pub whole_put : (first new : Option (List ℕ)) (text : List ℕ) → new ≡ appended first text → PutsPrefix first text new
+whole_put first new text e = (text, ([], sym (append-nil text), e))
+
+-- a prefix of a report's head is one of the report
+pub report_began : (first new : Option (List ℕ)) (head kept lines text : List ℕ) → head ≡ kept → kept ++ lines ≡ text → PutsPrefix first head new → PutsPrefix first text new
+report_began first new head kept lines text e t p = subst (λ (x : List ℕ). PutsPrefix first x new) (ap (λ (h : List ℕ). h ++ lines) e ∙ t) (head_failed first new head lines p)

@@ -1,10 +1,11 @@
 -- Lemmas on the frames of a report.
-use Rattle.std.proofs.Common.{◌≡◌, ◌==◌, ◌&&◌, ◌≤◌, ◌<◌, ◌+◌, ℕ, Bool, true, false, if◌then◌else◌, Option, codes, decimal, List, [], ◌∷◌, ◌++◌, length, take, get_or, bit_or, refl, ap, sym, ◌∙◌, arith, inl, inr}
+use Rattle.std.proofs.Common.{◌≡◌, ◌==◌, ◌&&◌, ◌≤◌, ◌<◌, ◌+◌, ℕ, Bool, true, false, if◌then◌else◌, Option, codes, decimal, List, [], ◌∷◌, ◌++◌, length, take, get_or, bit_or, refl, ap, sym, ◌∙◌, append_assoc, append-nil, arith, inl, inr}
 use Rattle.std.proofs.Math.Nat.{eq-zero-or-pos}
 use Rattle.std.specs.Int.Bits.{or_zero_l}
 use Rattle.std.proofs.lemmas.Nat.{le_or_l}
 use Rattle.std.proofs.lemmas.Bool.{ne_eqb}
 use Rattle.std.specs.List.{flat_map}
+use Rattle.std.proofs.lemmas.Grind.{flat_map-append}
 use Rattle.std.proofs.lemmas.List.{take_more}
 use Rattle.x7_part.specs.AddressOrder.{addresses_in}
 use Rattle.x7_part.specs.Part.{PartData}
@@ -36,16 +37,11 @@ or_blank a w = elim (eq-zero-or-pos a) [
       ne_eqb (bit_or a w) 0 (λ e. omega arith) ∙ sym (ap (λ (b : Bool). b && (w == 0 && true)) (ne_eqb a 0 (λ e. omega arith)))
 ]
 
--- one word more
+-- whether words are blank, one word more
 pub word_taken : (words : List ℕ) (i any : ℕ) → i < length words → (any == 0) ≡ is_blank (take i words) → (bit_or any (get_or words i 0) == 0) ≡ is_blank (take (i + 1) words)
 word_taken words i any h e =
     or_blank any (get_or words i 0) ∙ ap (λ (b : Bool). b && (get_or words i 0 == 0 && true)) e
     ∙ sym (ap is_blank (take_more words i 0 h) ∙ blank-append (take i words) (get_or words i 0 ∷ []))
-
--- a word other than 0 at the front
-pub first_tells : (words : List ℕ) (word : ℕ) → 0 < length words → word ≡ get_or words 0 0 → (word == 0) ≡ false → is_blank words ≡ false
-first_tells [] word h e t = absurd (omega (arith, h))
-first_tells (x ∷ xs) word h e t = ap (λ (b : Bool). b && is_blank xs) (ap (λ (n : ℕ). n == 0) (sym e) ∙ t)
 
 pub shown-append : (memory : FrameMap) (xs ys : List ℕ) → shown memory (xs ++ ys) ≡ shown memory xs ++ shown memory ys
 shown-append memory [] ys = refl
@@ -84,3 +80,10 @@ report_is p q name regs state reads frames n none first second third a b d same 
     ∙ ap (λ (t : List ℕ). t ++ frames_text n (addresses_in q)) (f ∙ ap (λ (t : List ℕ). t ++ reads_text reads) (e ∙ ap (λ (t : List ℕ). t ++ state_text name regs) z))
     ∙ ap (λ (x : List ℕ). (state_text x regs ++ reads_text reads) ++ frames_text n (addresses_in q)) (a ∙ ap (λ (x : PartData). x.name) d)
     ∙ ap (λ (x : Regs). (state_text q.name x ++ reads_text reads) ++ frames_text n (addresses_in q)) b
+
+-- one line more of a list of lines
+pub lines_on : (f : ℕ → List ℕ) (fars : List ℕ) (i : ℕ) (first mid new : List ℕ) → i < length fars → mid ≡ first ++ flat_map f (take i fars) → new ≡ mid ++ f (get_or fars i 0) → new ≡ first ++ flat_map f (take (i + 1) fars)
+lines_on f fars i first mid new h e n =
+    let more : flat_map f (take (i + 1) fars) ≡ flat_map f (take i fars) ++ f (get_or fars i 0)
+    = ap (flat_map f) (take_more fars i 0 h) ∙ flat_map-append f (take i fars) (get_or fars i 0 ∷ []) ∙ ap (λ (t : List ℕ). flat_map f (take i fars) ++ t) (append-nil (f (get_or fars i 0))) in
+    n ∙ ap (λ (t : List ℕ). t ++ f (get_or fars i 0)) e ∙ append_assoc first (flat_map f (take i fars)) (f (get_or fars i 0)) ∙ ap (λ (t : List ℕ). first ++ t) (sym more)

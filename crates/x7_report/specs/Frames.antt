@@ -4,6 +4,10 @@ use Rattle.std.specs.List.{flat_map}
 use Rattle.x7_memory.specs.FrameMap.{FrameMap}
 use Rattle.x7_text.specs.Digits.{hex_word}
 
+-- the most bytes that the lines of a group of frames take, which are written at once: 128 lines of a frame address and 255 words
+abbrev pub group_room : ℕ
+group_room = 263168
+
 -- the line of a frame: its address and the digits of its words
 unfoldable pub frame_text : ℕ → List ℕ → List ℕ
 frame_text far words = codes "frame " ++ hex_word far ++ 32 ∷ flat_map hex_word words ++ codes "\n"

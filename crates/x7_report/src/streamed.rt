@@ -5,7 +5,7 @@ ghost use Rattle.x7_text.specs.Appends.{Appends};
 ghost use Rattle.x7_memory.specs.Frames.{AreFramesOf, frame_at};
 ghost use Rattle.x7_engine.specs.Past.{OfPast, memory_at, state_at};
 ghost use Rattle.x7_engine.specs.Standing.{NoWordDue};
-ghost use Rattle.x7_report.specs.Frames.{line_of, lines_text};
+ghost use Rattle.x7_report.specs.Frames.{group_room, line_of, lines_text};
 ghost use Rattle.x7_report.specs.Report.{report_text, state_shown};
 
 use crate::frames::{put_frame, shown_frames};
@@ -56,12 +56,12 @@ fn write_lines<S: Sink>(
     block: &mut Vec<u8>,
 ) -> Result<(), Failed>
     requires memory { AreFramesOf part.now memory.now }
-    requires room { 263168 ≤ vec_capacity block.old }
+    requires room { group_room ≤ vec_capacity block.old }
     ensures whole { OnOk result (PutsAll (S.state out.old) (lines_text (frame_at part.now memory.now) fars.now) (S.state out.new)) }
     ensures prefix { PutsSome (S.state out.old) (lines_text (frame_at part.now memory.now) fars.now) (S.state out.new) }
     ensures failed { OnErr result (SinkFails (S.state out.old) (S.state out.new)) }
     ensures counts { Counts (S.state out.old) (S.state out.new) }
-    ensures room { 263168 ≤ vec_capacity block.new }
+    ensures room { group_room ≤ vec_capacity block.new }
 {
     let mut rest = fars;
     while rest.len() > 0 {
@@ -88,14 +88,14 @@ pub struct PlayText {
 impl Model for PlayText {
     ghost use Rattle.std.specs.Prelude.{◌++◌, ◌≤◌, vec_capacity};
     ghost use Rattle.x7_memory.specs.Frames.{frame_at};
-    ghost use Rattle.x7_report.specs.Frames.{lines_text};
+    ghost use Rattle.x7_report.specs.Frames.{group_room, lines_text};
     ghost use Rattle.x7_report.specs.Report.{PlayTextState};
 
     ghost Value = { PlayTextState };
 
     ghost view = { λ t. record { stopped = t.stopped; text = t.head.items ++ lines_text (frame_at t.device.part t.device.registers.frames.memory) t.fars.items } };
 
-    ghost invariant = { λ t. 263168 ≤ vec_capacity t.block };
+    ghost invariant = { λ t. group_room ≤ vec_capacity t.block };
 }
 
 impl PlayText {

@@ -1,6 +1,7 @@
 use Rattle.std.proofs.Common.{◌≤◌, length, vec_capacity}
 use Rattle.x7_words.specs.Sink.{Counts}
 use Rattle.x7_memory.specs.Frames.{frame_at}
+use Rattle.x7_report.specs.Frames.{group_room}
 use Rattle.x7_report.proofs.LinesLemmas.{Sent}
 use Rattle.x7_report.proofs.streamed.write_lines.Given as goal
 
@@ -9,7 +10,7 @@ invariant-loop-rest g l =
     let s = g.S.Sink in
     record {
       sent : Sent (s.state l.fn.out).written (s.state l.out).written (frame_at l.part l.memory) l.fars l.rest;
-      room : 263168 ≤ vec_capacity l.block;
+      room : group_room ≤ vec_capacity l.block;
       counts : Counts (s.state l.fn.out) (s.state l.out);
     }
 
