@@ -1,5 +1,5 @@
 -- What a script shows, from the session that followed it.
-use Rattle.std.proofs.Common.{◌≡◌, ℕ, List, take, Bool, Option, ap, sym, ◌∙◌}
+use Rattle.std.proofs.Common.{◌≡◌, ℕ, List, take, Bool, Option, ap, subst, sym, ◌∙◌}
 use Rattle.std.specs.Prelude.{is_some}
 use Rattle.x7_part.specs.Part.{PartData}
 use Rattle.x7_engine.specs.declared.fault.Fault.{Fault}
@@ -9,7 +9,7 @@ use Rattle.x7_engine.specs.Stops.{fault_of}
 use Rattle.x7_debug.specs.declared.order.Order.{Order}
 use Rattle.x7_debug.specs.Session.{MovesTo, SessionState}
 use Rattle.x7_debug.specs.Transcript.{final_position, transcript_of}
-use Rattle.x7_forms.specs.Known.{data_in, stream_limit, whole_in}
+use Rattle.x7_forms.specs.Known.{Answer, data_in, stream_limit, whole_in}
 use Rattle.x7_forms.proofs.ReadLemmas.{Steady, so_steady, whole_steady, work_steady}
 use Rattle.x7_tool.specs.Outcome.{shown_of, stream_data}
 
@@ -33,3 +33,7 @@ shown_is part stream orders begin now text fault stopped p q t m f s =
     ∙ ap (λ (n : ℕ). fails_at now.part now.stream n) (sym m.at) ∙ ap is_some (sym f) ∙ sym s in
     let shows : transcript_of part stream orders ≡ text = ap (λ (x : PartData). transcript_of x stream orders) (sym p) ∙ ap (λ (x : List ℕ). transcript_of begin.part x orders) (sym q) ∙ sym t in
     ap (λ (b : Bool). record { stopped = b; text = transcript_of part stream orders }) ends ∙ ap (λ (x : List ℕ). record { stopped = stopped; text = x }) shows
+
+-- what a script shows of a session is what it shows of the session's part and stream
+pub shown_as : (part from : PartData) (stream given : List ℕ) (orders : List Order) (answer : Answer) → from ≡ part → given ≡ stream → shown_of from given orders ≡ answer → shown_of part stream orders ≡ answer
+shown_as part from stream given orders answer p q h = subst (λ (x : PartData). shown_of x stream orders ≡ answer) p (subst (λ (s : List ℕ). shown_of from s orders ≡ answer) q h)

@@ -5,7 +5,7 @@ ghost use Rattle.x7_words.specs.Input.{Stays};
 ghost use Rattle.x7_tool.specs.Debug.{given_of};
 ghost use Rattle.x7_forms.specs.Message.{event_of};
 ghost use Rattle.x7_forms.specs.Event.{no_memory};
-ghost use Rattle.x7_tool.specs.Outcome.{DebuggedAs, debug_inputs, script_event, script_limit};
+ghost use Rattle.x7_tool.specs.Outcome.{DebuggedAs, debug_inputs, script_event, script_limit, shown_of};
 ghost use Rattle.x7_forms.specs.Known.{part_limit, stream_limit};
 ghost use Rattle.x7_forms.specs.Turn.{StandsAt};
 ghost use Rattle.x7_tool.specs.Ready.{whole_of};
@@ -16,7 +16,7 @@ ghost use Rattle.x7_tool.specs.Run.{MakesReady};
 use crate::stream::read_data;
 use crate::text::Text;
 use std::alloc::Global;
-use x7_debug::{ScriptFault, Session, script_of, transcript};
+use x7_debug::{Script, ScriptFault, Session, script_of, transcript};
 use x7_forms::{InputFault, Refusal, Why, read_part, read_whole};
 use x7_part::Part;
 use x7_words::Inputs;
@@ -79,6 +79,21 @@ fn read_given<'w, I: Inputs>(
     }
 }
 
+/// What a script shows of a session at its first position, and whether the device has a fault where the script ends.
+fn shown<'w>(alloc: Global, session: &mut Session, script: &Script) -> Result<Text, Refusal<'w>>
+    requires { session.old.at ≡ 0 }
+    ensures ok { IfOk result (λ text. shown_of session.old.part session.old.stream script.now ≡ whole_of text) }
+    ensures err { IfErr result (λ r. event_of r ≡ no_memory) }
+{
+    match transcript(alloc, session, script) {
+        Ok(text) => Ok(Text {
+            stopped: session.device().fault().is_some(),
+            text,
+        }),
+        Err(_) => Err(Refusal::unnamed(Why::NoMemory)),
+    }
+}
+
 /// What a script shows of a stream, and whether the device has a fault where it ends.
 fn text_of<'w>(alloc: Global, given: Given, name: &'w str) -> Result<Text, Refusal<'w>>
     ensures ok { IfOk result (λ text. DebuggedAs name.now (Ok (given_of given)) (Ok (whole_of text))) }
@@ -96,13 +111,7 @@ fn text_of<'w>(alloc: Global, given: Given, name: &'w str) -> Result<Text, Refus
     let Ok(mut session) = Session::new(alloc, &part, stream) else {
         return Err(Refusal::unnamed(Why::NoMemory));
     };
-    match transcript(alloc, &mut session, &script) {
-        Ok(text) => Ok(Text {
-            stopped: session.device().fault().is_some(),
-            text,
-        }),
-        Err(_) => Err(Refusal::unnamed(Why::NoMemory)),
-    }
+    shown(alloc, &mut session, &script)
 }
 
 /// The text of `debug PART STREAM SCRIPT`: what a script shows of a stream's data.

@@ -253,8 +253,7 @@ pub fn gen_text(alloc: Global, part: &Part, seed: u32) -> Result<Vec<u8>, NoMemo
     let _frames = part.frames();
     let planned = plan.len();
     let played = play_full(alloc, part, &plan)?;
-    let text = summarized(alloc, seed, planned, &played)?;
-    Ok(text)
+    summarized(alloc, seed, planned, &played)
 }
 
 /// The whole text of a part and a seed.

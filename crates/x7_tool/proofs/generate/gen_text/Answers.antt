@@ -2,6 +2,7 @@ use Rattle.std.proofs.Common.{ap, refl, sym, subst}
 use Rattle.x7_memory.specs.Planned.{AreAddressed, PlanData}
 use Rattle.x7_planner.specs.Full.{full_stream}
 use Rattle.x7_tool.proofs.GenerateLemmas.{few_reads, gen_is, generated_addressed, planned_is}
+use Rattle.x7_forms.proofs.ResultLemmas.{ok_weaker}
 use Rattle.x7_tool.proofs.generate.gen_text.Goals as goal
 
 pub play_full-requires-clause-addresses : goal.play_full-requires-clause-addresses
@@ -14,8 +15,8 @@ returns-clause-text c =
     let width = ap (λ (p : PlanData). p.width) c.in_ok-plan.ensures in
     let addressed = subst (λ (p : PlanData). AreAddressed part p.rows) (sym c.in_ok-plan.ensures) (generated_addressed part c.args.seed) in
     let few = few_reads part plan (full_stream part plan) c.frames-frames.ensures.part c.len-planned.ensures.plan width addressed refl in
-    gen_is part c.args.seed c.len-planned.result plan (full_stream part plan) c.in_ok-text.text.items c.in_ok-plan.ensures c.len-planned.ensures.value refl
-    (c.in_ok-text.ensures part (full_stream part plan) (c.in_ok-played.ensures.played, c.in_ok-played.ensures.size, few))
+    ok_weaker c.summarized.result (λ text h. gen_is part c.args.seed c.len-planned.result plan (full_stream part plan) text.items c.in_ok-plan.ensures c.len-planned.ensures.value refl
+    (h part (full_stream part plan) (c.in_ok-played.ensures.played, c.in_ok-played.ensures.size, few))) c.summarized.ensures
 
 pub returns-clause-planned : goal.returns-clause-planned
-returns-clause-planned c = planned_is c.args.part.now c.args.seed c.in_ok-text.text.items c.frames-frames.ensures.part (returns-clause-text c)
+returns-clause-planned c = ok_weaker c.summarized.result (λ text h. planned_is c.args.part.now c.args.seed text.items c.frames-frames.ensures.part h) (returns-clause-text c)
