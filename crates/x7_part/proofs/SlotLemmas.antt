@@ -41,7 +41,7 @@ among_slots far (r ∷ rows) =
 
 -- ---- the slots from an address
 
--- they are an end of all
+-- the slots from an address on are an end of all slots
 from_end : (far : ℕ) (places : List Slot) → (before : List Slot) × (places ≡ before ++ from far places)
 from_end far [] = ([], refl)
 from_end far (Frame a ∷ places) =
@@ -76,7 +76,7 @@ slots_first part far has = from_first far (slots_in part) (rw (among_slots part.
 pub slots_number : (part : PartData) → length (slots_in part) ≡ length (addresses_in part) + 2 * length part.rows
 slots_number part = slots_count part.far part.rows
 
--- those from the first address are all
+-- the slots from the first address on are all slots
 from_head : (places : List Slot) (a : ℕ) (rest : List Slot) → places ≡ Frame a ∷ rest → from a places ≡ places
 from_head places a rest e = rw (e, eq-eqb a a refl) refl
 

@@ -70,6 +70,7 @@ impl Part {
         }
     }
 
+    /// An equal part, as `copy` gives it, with the allocator's error.
     fn copied(&self, alloc: Global) -> Result<Part, AllocError>
         ensures { IfOk result (λ part. part ≡ self.now) }
     {
