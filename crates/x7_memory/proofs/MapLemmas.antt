@@ -22,10 +22,6 @@ or_else_same : (a b : Option (List ℕ)) → or_else a (or_else a b) ≡ or_else
 or_else_same None b = refl
 or_else_same (Some words) b = refl
 
-or_else_none : (a : Option (List ℕ)) → or_else a None ≡ a
-or_else_none None = refl
-or_else_none (Some words) = refl
-
 or_else_if : (b : Bool) (words : List ℕ) (m : Option (List ℕ)) → (if b then Some words else m) ≡ or_else (if b then Some words else None) m
 or_else_if true words m = refl
 or_else_if false words m = refl

@@ -8,7 +8,7 @@ use Rattle.std.specs.List.{sum_by}
 use Rattle.std.specs.Prelude.{vec_capacity}
 use Rattle.x7_memory.specs.declared.memory.Memory.TheInside.{Inside}
 use Rattle.x7_memory.specs.Flat.{cut, put_over}
-use Rattle.x7_memory.specs.Stored.{seen, stored_frame, own_frames, AreApart, HasRoom}
+use Rattle.x7_memory.specs.Stored.{frames_seen, stored_frame, own_frames, AreApart, HasRoom}
 use Rattle.x7_memory.proofs.FlatLemmas.{cut_length, cut_at, cut_set, frame_end}
 
 -- ---- frames that are stored one after another
@@ -76,7 +76,7 @@ seen_set w ws us numbers others rank new long inside here there =
 
 -- ---- ranks
 
-pub seen_count : (m : Inside) (frames : List (List ℕ)) → seen m ≡ frames → length frames ≡ length m.numbers.items
+pub seen_count : (m : Inside) (frames : List (List ℕ)) → frames_seen m ≡ frames → length frames ≡ length m.numbers.items
 seen_count m frames e = ap length (sym e) ∙ length-map m.numbers.items (stored_frame m.width m.words.items)
 
 -- a rank, and the number of its frame
@@ -103,9 +103,9 @@ stored_few m is =
     let used = is.used in
     omega arith
 
-pub is_rank : (m : Inside) (rank : ℕ) → HasRoom m → rank < length (seen m) → IsRank m rank
+pub is_rank : (m : Inside) (rank : ℕ) → HasRoom m → rank < length (frames_seen m) → IsRank m rank
 is_rank m rank is h =
-    let n : length (seen m) ≡ length m.numbers.items = length-map m.numbers.items (stored_frame m.width m.words.items) in
+    let n : length (frames_seen m) ≡ length m.numbers.items = length-map m.numbers.items (stored_frame m.width m.words.items) in
     let low : get_or m.numbers.items rank 0 < m.stored = is.below rank (omega arith) in
     let few = stored_few m is in
     let limit = is.few in
@@ -127,7 +127,7 @@ next_room m is h =
     omega arith
 
 -- a frame as long as the one that stands at a rank
-pub new_width : (m : Inside) (rank : ℕ) (new : List ℕ) (frames : List (List ℕ)) → HasRoom m → IsRank m rank → seen m ≡ frames →
+pub new_width : (m : Inside) (rank : ℕ) (new : List ℕ) (frames : List (List ℕ)) → HasRoom m → IsRank m rank → frames_seen m ≡ frames →
     length new ≡ length (get_or frames rank []) → length new ≡ m.width
 new_width m rank new frames is r e f =
     f ∙ ap (λ l. length (get_or l rank [])) (sym e)
@@ -137,7 +137,7 @@ new_width m rank new frames is r e f =
 -- ---- a frame written over the one of its rank
 
 pub over_seen : (m : Inside) (rank : ℕ) (us new : List ℕ) → HasRoom m → IsRank m rank → 0 < get_or m.numbers.items rank 0 → length new ≡ m.width →
-    us ≡ put_over (m.width * get_or m.numbers.items rank 0) new m.words.items → map (stored_frame m.width us) m.numbers.items ≡ set (seen m) rank new
+    us ≡ put_over (m.width * get_or m.numbers.items rank 0) new m.words.items → map (stored_frame m.width us) m.numbers.items ≡ set (frames_seen m) rank new
 over_seen m rank us new is r own e f =
     let number = get_or m.numbers.items rank 0 in
     seen_set m.width m.words.items us m.numbers.items m.numbers.items rank new refl r.inside
@@ -168,7 +168,7 @@ over_room m p rank new is r own e ew es en cap f =
 -- ---- zeros at a rank of zeros
 
 pub none_seen : (m : Inside) (rank : ℕ) (new : List ℕ) → HasRoom m → IsRank m rank → get_or m.numbers.items rank 0 ≡ 0 → length new ≡ m.width →
-    new ≡ replicate (length new) 0 → seen m ≡ set (seen m) rank new
+    new ≡ replicate (length new) 0 → frames_seen m ≡ set (frames_seen m) rank new
 none_seen m rank new is r none e z =
     seen_set m.width m.words.items m.words.items m.numbers.items m.numbers.items rank new refl r.inside
     (ap (stored_frame m.width m.words.items) none ∙ is.zeros ∙ sym (z ∙ ap (λ k. replicate k 0) e)) (λ i h ne. refl)
@@ -216,7 +216,7 @@ first_apart m rank is r i j h k some same =
     ]
 
 pub first_seen : (m : Inside) (rank : ℕ) (us others new : List ℕ) → HasRoom m → IsRank m rank → length new ≡ m.width →
-    us ≡ m.words.items ++ new → others ≡ set m.numbers.items rank m.stored → map (stored_frame m.width us) others ≡ set (seen m) rank new
+    us ≡ m.words.items ++ new → others ≡ set m.numbers.items rank m.stored → map (stored_frame m.width us) others ≡ set (frames_seen m) rank new
 first_seen m rank us others new is r e f g =
     rw (f, g) (seen_set m.width m.words.items (m.words.items ++ new) m.numbers.items (set m.numbers.items rank m.stored) rank new (length-set m.numbers.items rank m.stored) r.inside
     (ap (stored_frame m.width (m.words.items ++ new)) (get_or-set_same m.numbers.items rank m.stored 0 r.inside) ∙ frame_behind m.width m.stored m.words.items new is.whole e)

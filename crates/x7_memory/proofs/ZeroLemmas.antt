@@ -14,7 +14,7 @@ use Rattle.x7_part.specs.Part.{PartData, frame_words}
 use Rattle.x7_part.specs.AddressOrder.{addresses_in, Rises}
 use Rattle.x7_memory.specs.declared.memory.Memory.TheInside.{Inside}
 use Rattle.x7_memory.specs.Frames.{zero_frames, AreFramesOf}
-use Rattle.x7_memory.specs.Stored.{seen, stored_frame, own_frames, HasRoom}
+use Rattle.x7_memory.specs.Stored.{frames_seen, stored_frame, own_frames, HasRoom}
 use Rattle.x7_memory.proofs.StoredLemmas.{is_rank, stored_width}
 
 -- ---- words of which none has a bit
@@ -94,19 +94,19 @@ pub new_zeros : (part : PartData) (width count : ℕ) → width ≡ frame_words 
 new_zeros part width count w n = rw (w, n) refl
 
 -- fields that are a memory of the part, when no rank has a frame of its own any more
-pub cleared : (part : PartData) (m : Inside) (frames : List (List ℕ)) (words numbers : List ℕ) → HasRoom m → seen m ≡ frames → AreFramesOf part frames →
+pub cleared : (part : PartData) (m : Inside) (frames : List (List ℕ)) (words numbers : List ℕ) → HasRoom m → frames_seen m ≡ frames → AreFramesOf part frames →
     words ≡ take m.width m.words.items → numbers ≡ replicate (length m.numbers.items) 0 → map (stored_frame m.width words) numbers ≡ zero_frames part
 cleared part m frames words numbers is e are f g =
-    let long : length (seen m) ≡ length m.numbers.items = length-map m.numbers.items (stored_frame m.width m.words.items) in
+    let long : length (frames_seen m) ≡ length m.numbers.items = length-map m.numbers.items (stored_frame m.width m.words.items) in
     let n : length m.numbers.items ≡ length (addresses_in part) = sym long ∙ ap length e ∙ are.count in
     none_seen m.width (length m.numbers.items) words numbers (f ∙ first_zeros m is) g ∙
     elim (cases_lt 0 (length m.numbers.items)) [
       | inl some ↦
           let r = is_rank m 0 is (omega arith) in
-          let first : length (get_or (seen m) 0 []) ≡ m.width =
+          let first : length (get_or (frames_seen m) 0 []) ≡ m.width =
           ap length (get_or-map (stored_frame m.width m.words.items) m.numbers.items 0 0 [] some)
           ∙ stored_width m.width m.stored (get_or m.numbers.items 0 0) m.words.items r.below is.whole in
-          let same : length (get_or (seen m) 0 []) ≡ length (get_or frames 0 []) = ap (λ l. length (get_or l 0 [])) e in
+          let same : length (get_or (frames_seen m) 0 []) ≡ length (get_or frames 0 []) = ap (λ l. length (get_or l 0 [])) e in
           let there : 0 < length frames = (let c = are.count in omega arith) in
           let wide : m.width ≡ frame_words part = sym first ∙ same ∙ are.width 0 [] there in
           rw (wide, n) refl

@@ -8,8 +8,8 @@ abbrev pub stored_frame : ℕ → List ℕ → ℕ → List ℕ
 stored_frame width words number = take width (drop (width * number) words)
 
 -- the frames of a memory, one for each rank
-abbrev pub seen : Inside → List (List ℕ)
-seen m = map (stored_frame m.width m.words.items) m.numbers.items
+abbrev pub frames_seen : Inside → List (List ℕ)
+frames_seen m = map (stored_frame m.width m.words.items) m.numbers.items
 
 -- how many frames a rank has stored for itself, by its number: none where that is 0, the number of the zeros
 abbrev pub own_frames : ℕ → ℕ

@@ -25,11 +25,11 @@ pub struct Memory {
 
 impl Model for Memory {
     ghost use Rattle.std.specs.Prelude.{ℕ, List};
-    ghost use Rattle.x7_memory.specs.Stored.{seen, HasRoom};
+    ghost use Rattle.x7_memory.specs.Stored.{frames_seen, HasRoom};
 
     ghost Value = { List (List ℕ) };
 
-    ghost view = { seen };
+    ghost view = { frames_seen };
 
     ghost invariant = { HasRoom };
 }
