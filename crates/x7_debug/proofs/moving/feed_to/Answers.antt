@@ -1,4 +1,4 @@
-use Rattle.std.proofs.Common.{◌≡◌, ◌<◌, ◌≤◌, ◌-◌, false, length, take, drop, ℕ, ap, arith}
+use Rattle.std.proofs.Common.{◌<◌, ◌≤◌, ◌-◌, false, length, take, drop, ℕ, ap, arith}
 use Rattle.x7_words.specs.Word.{AreBytes}
 use Rattle.x7_words.proofs.ListLemmas.{all_from_places}
 use Rattle.x7_engine.specs.Kept.{on_the_bench}

@@ -1,4 +1,4 @@
-use Rattle.std.proofs.Common.{ℕ, ◌≤◌, List, take, ap, ◌∙◌, arith}
+use Rattle.std.proofs.Common.{ℕ, List, take, ap, ◌∙◌, arith}
 use Rattle.std.proofs.lemmas.List.{take_all}
 use Rattle.x7_engine.specs.Undo.{UndoState}
 use Rattle.x7_debug.specs.Journal.{oldest_by, records_of}
