@@ -1,5 +1,5 @@
 -- A golden stream that begins clean starts as a fallback behind an open slot, where it starts at power behind an erased sector.
-use Rattle.std.proofs.Common.{◌≡◌, ◌==◌, ◌+◌, ◌-◌, ◌*◌, ◌^◌, ◌<◌, ◌≤◌, inl, inr, ℕ, true, false, if◌then◌else◌, Option, None, Some, List, [], ◌∷◌, ◌++◌, drop, take, length, length-append, length-drop, refl, ap, sym, subst, ◌∙◌, append_assoc, take-append-drop, drop_of_length-le, arith}
+use Rattle.std.proofs.Common.{◌≡◌, ◌==◌, ◌+◌, ◌-◌, ◌*◌, ◌^◌, ◌<◌, ◌≤◌, inl, inr, ℕ, true, false, if◌then◌else◌, None, Some, List, ◌++◌, drop, take, length, length-append, length-drop, refl, ap, sym, subst, ◌∙◌, append_assoc, take-append-drop, drop_of_length-le, arith}
 use Rattle.std.proofs.lemmas.Bool.{cases_lt}
 use Rattle.std.proofs.lemmas.List.{take-append-le}
 use Rattle.std.proofs.Math.Seq.{take-append-add, take-append_seam, take-length}
@@ -13,7 +13,6 @@ use Rattle.x7_packets.specs.Gap.{NoneBegins}
 use Rattle.x7_packets.proofs.AppendedLemmas.{history_after}
 use Rattle.x7_packets.proofs.GapLemmas.{history_passed}
 use Rattle.x7_packets.proofs.MovedLemmas.{moved_again, moved_append}
-use Rattle.x7_part.specs.Part.{PartData}
 use Rattle.x7_regs.specs.declared.boot_status.Kind.TheVariants.{Fallback}
 use Rattle.x7_startup.specs.Calls.{NotBegun, StartupProgress}
 use Rattle.x7_flow.specs.FrameMemory.{memory_of}
