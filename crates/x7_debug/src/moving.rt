@@ -16,6 +16,10 @@ pub(crate) const RECORD_BYTES: u64 = 4;
 /// How many bytes before a position records lead back to: 63 times four bytes, and one byte.
 pub(crate) const REACH: u64 = 253;
 
+/// How many bytes all records lead back over where each has four: a move forward ends with as many, so that a move back by a
+/// multiple of four bytes feeds none.
+const RECORDED: u64 = 256;
+
 /// Feeds a piece to a device, up to what stops it. Words read out are dropped.
 pub(crate) fn take(device: &mut Device, piece: &[u8])
     requires { device.old.taken + length piece.now ≤ 2 ^ 63 }
@@ -92,8 +96,8 @@ fn go_forward(device: &mut Device, journal: &mut Journal, stream: &[u8], to: u64
     ensures fed { IsFed device.old device.new (device.new.taken - device.old.taken) }
     ensures oldest { oldest_by device.new.taken (records_of journal.new) ≤ max device.old.taken (to - reach) }
 {
-    if to - device.taken() > REACH {
-        leap(device, journal, stream, to - REACH);
+    if to - device.taken() > RECORDED {
+        leap(device, journal, stream, to - RECORDED);
         return go_by_words(device, journal, stream, to);
     }
     go_by_words(device, journal, stream, to);
