@@ -2,8 +2,8 @@ use Rattle.std.proofs.Common.{[]}
 use Rattle.x7_listing.proofs.asm.AsmLinesLemmas.{last-read}
 use Rattle.x7_listing.proofs.asm.lines.AsmLinesTakesLines.put_last.Goals as goal
 
-pub returns-in-Ok : goal.returns-in-Ok
-returns-in-Ok c = λ first lines m t. last-read c.put_next.new.self lines c.args.line.now (c.in-Ok.ensures lines m t)
+pub returns-in-Ok-clause-read : goal.returns-in-Ok-clause-read
+returns-in-Ok-clause-read c = λ first lines m t. last-read c.put_next.new.self lines c.args.line.now (c.in-Ok.ensures lines m t)
 
-pub returns-in-Err : goal.returns-in-Err
-returns-in-Err c = λ first lines m t. c.in-Err.ensures lines m t []
+pub returns-in-Err-clause-read : goal.returns-in-Err-clause-read
+returns-in-Err-clause-read c = λ first lines m t. c.in-Err.ensures lines m t []

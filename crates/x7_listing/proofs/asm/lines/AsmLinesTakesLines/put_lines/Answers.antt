@@ -1,6 +1,6 @@
 use Rattle.std.proofs.Common.{◌≡◌, ◌∷◌, ◌++◌, ◌+◌, ◌-◌, length, take, drop, arith}
 use Rattle.x7_text.specs.Lines.{split}
-use Rattle.x7_text.proofs.LineReadingLemmas.{HasTaken, all-taken, at-fault, few-taken, one-taken}
+use Rattle.x7_text.proofs.LineReadingLemmas.{HasTaken, all-taken, at-fault, few-taken, one-taken, wants-any}
 use Rattle.x7_text.proofs.PieceLemmas.{at-none, at-some}
 use Rattle.x7_listing.specs.Assembling.{HasAsmFault, HasRead}
 use Rattle.x7_listing.proofs.asm.AsmLinesLemmas.{at-once-taken}
@@ -28,8 +28,8 @@ loop-quick-preserved c = λ lines same few t.
     one-taken HasRead lines text left line after now c.put_next.new.self c.saturating_add-count.result c.saturating_add-count-in-loop-quick.result cut mid n
     (c.in-Ok.ensures (lines ++ mid.more) (omega (arith, n, mid.counts)) mid.took)
 
-pub returns-in_default : goal.returns-in_default
-returns-in_default c = λ first lines same few t.
+pub returns-in_default-clause-read : goal.returns-in_default-clause-read
+returns-in_default-clause-read c = λ first lines same few t.
     let b = c.loop-quick.self in
     let text = c.args.text.now in
     let rest = c.loop-quick.rest.now in
@@ -45,8 +45,8 @@ returns-in_default c = λ first lines same few t.
     at-once-taken b now text rest left quick.count c.loop-quick.count c.saturating_add-count.result quick.size lines (left-from quick.size rest e.within) e.takes e.start e.checker e.none e.limit up h in
     all-taken HasRead lines text left now line c.saturating_add-count.result (at-none left line c.next_line.result.1 c.in_default.is c.next_line.ensures) mid
 
-pub returns-in-Err : goal.returns-in-Err
-returns-in-Err c = λ first lines same few t.
+pub returns-in-Err-clause-read : goal.returns-in-Err-clause-read
+returns-in-Err-clause-read c = λ first lines same few t.
     let b = c.loop-quick.self in
     let text = c.args.text.now in
     let rest = c.loop-quick.rest.now in
@@ -64,3 +64,6 @@ returns-in-Err c = λ first lines same few t.
     let cut : split left ≡ line ∷ split after = (at-some left line c.next_line.result.1 c.in-Some.after c.in-Some.is c.next_line.ensures).0 in
     let n : c.saturating_add-count-in-loop-quick.result ≡ c.saturating_add-count.result + 1 = omega (arith, c.saturating_add-count-in-loop-quick.ensures, few-taken HasRead lines text left now c.saturating_add-count.result c.args.n same mid, few) in
     at-fault HasRead lines text left (HasAsmFault c.in-Err.fault) line after now c.saturating_add-count.result cut mid (λ more. c.in-Err.ensures (lines ++ mid.more) (omega (arith, n, mid.counts)) mid.took (split more))
+
+pub returns-in-Err-clause-memory : goal.returns-in-Err-clause-memory
+returns-in-Err-clause-memory c = λ first lines same few t want. wants-any (λ _ _. Unit {0}) lines (λ _ _. tt) c.args.text.now
