@@ -1,4 +1,4 @@
--- A whole frame that is written at once: the same as its words one by one.
+-- A whole frame that is written at once, which is its words one by one.
 use Rattle.std.proofs.Common.{◌≡◌, ℕ, zero, suc, ◌+◌, ◌-◌, ◌*◌, ◌/◌, ◌%◌, ◌<◌, ◌≤◌, List, [], ◌∷◌, ◌++◌, length, get_or, set, take, drop, map, Option, Some, None, refl, sym, ap, ◌∙◌, arith, append_assoc, append-nil, length-append, take-add, true, lt-ltb}
 use Rattle.std.proofs.lemmas.List.{length-take-le, drop-drop, drop_all, take_all}
 use Rattle.std.proofs.lemmas.Option.{none-some}
@@ -18,7 +18,7 @@ use Rattle.x7_pipeline.specs.Pipeline.{PipelineData}
 use Rattle.x7_pipeline.proofs.FlowLemmas.{StandsFor, flow}
 use Rattle.x7_pipeline.proofs.LawLemmas.{lands_none, lands_more}
 use Rattle.x7_pipeline.proofs.StateLemmas.{goes_on, completes_frame, lands_nothing, lands_frame, write_allowed}
-use Rattle.x7_pipeline.proofs.WordLemmas.{after, written_end, written_next, ends_refused, Goes, Reached}
+use Rattle.x7_pipeline.proofs.WordLemmas.{after, written_end, written_next, ends_refused, ReachesRun, Reached}
 
 -- ---- some words at once
 
@@ -34,11 +34,11 @@ written_some part base run (w ∷ words) rest e = by (write_fault part base run)
     by (Some fault) e later = absurd (none-some fault (sym e))
     by None e later = ap (after 1) (later e) ∙ ap (λ n. record (written part base (onto words (w ∷ run)) rest) { count = n }) (omega arith)
 
-pub goes_some : (part : PartData) (start now next : PipelineData) (old middle new : FrameMap) (all words rest : List ℕ) (count : ℕ) → Goes part start now old middle all (words ++ rest) count →
+pub goes_some : (part : PartData) (start now next : PipelineData) (old middle new : FrameMap) (all words rest : List ℕ) (count : ℕ) → ReachesRun part start now old middle all (words ++ rest) count →
     ((f : Flow) → HoldsFlow part now f → HoldsFlow part next (with_run (onto words f.run) f)) →
     ((f : Flow) → HoldsFlow part now f → Lands part f.base f.run (onto words f.run) middle new) →
     ((f : Flow) → HoldsFlow part now f → (written part f.base f.run words).fault ≡ None) →
-    Goes part start next old new all rest (count + length words)
+    ReachesRun part start next old new all rest (count + length words)
 goes_some part start now next old middle new all words rest count before stands lands passes command base run source given s =
     let r : Reached part now old middle command base run source given all (words ++ rest) count = before command base run source given s in
     record {
@@ -138,9 +138,9 @@ whole part p q old new command base run source given frame s begins wide slot e 
 
 -- ---- frames one after the other
 
--- the same of whatever the pipeline stood for
-abbrev pub Went : PartData → PipelineData → PipelineData → FrameMap → FrameMap → List ℕ → Type 0
-Went part p q old new words =
+-- whatever flow the pipeline stood for, `words` are whole frames that came of it
+abbrev pub WritesFrames : PartData → PipelineData → PipelineData → FrameMap → FrameMap → List ℕ → Type 0
+WritesFrames part p q old new words =
     (command : Command) (base : ℕ) (run : List ℕ) (source : Option (List ℕ)) (given : ℕ) → StandsFor part p command base run source given →
     Whole part q old new command base run source given words
 
@@ -149,7 +149,7 @@ onto_more [] second run = refl
 onto_more (w ∷ first) second run = onto_more first second (w ∷ run)
 
 pub went_more : (part : PartData) (p q r : PipelineData) (old middle new : FrameMap) (first second all : List ℕ) → all ≡ first ++ second →
-    Went part p q old middle first → Went part q r middle new second → Went part p r old new all
+    WritesFrames part p q old middle first → WritesFrames part q r middle new second → WritesFrames part p r old new all
 went_more part p q r old middle new first second all e before later command base run source given s =
     let a : Whole part q old middle command base run source given first = before command base run source given s in
     let b : Whole part r middle new command base (onto first run) source given second = later command base (onto first run) source given a.stands in
@@ -206,11 +206,11 @@ frame_wide n bs h = let long : length (take (4 * n) bs) ≡ 4 * n = length-take-
 -- ---- on the way through a slice
 
 pub goes_bytes : (part : PartData) (start now next : PipelineData) (old middle new : FrameMap) (all bs : List ℕ) (at n : ℕ) →
-    Goes part start now old middle all (words_of_bytes (drop at bs)) (at / 4) → at % 4 ≡ 0 → n % 4 ≡ 0 → n ≤ length (drop at bs) →
+    ReachesRun part start now old middle all (words_of_bytes (drop at bs)) (at / 4) → at % 4 ≡ 0 → n % 4 ≡ 0 → n ≤ length (drop at bs) →
     ((f : Flow) → HoldsFlow part now f → HoldsFlow part next (with_run (onto (words_of_bytes (take n (drop at bs))) f.run) f)) →
     ((f : Flow) → HoldsFlow part now f → Lands part f.base f.run (onto (words_of_bytes (take n (drop at bs))) f.run) middle new) →
     ((f : Flow) → HoldsFlow part now f → (written part f.base f.run (words_of_bytes (take n (drop at bs)))).fault ≡ None) →
-    Goes part start next old new all (words_of_bytes (drop (at + n) bs)) ((at + n) / 4)
+    ReachesRun part start next old new all (words_of_bytes (drop (at + n) bs)) ((at + n) / 4)
 goes_bytes part start now next old middle new all bs at n before a b h stands lands passes =
     let words = words_of_bytes (take n (drop at bs)) in
     let long : length (take n (drop at bs)) ≡ n = length-take-le n (drop at bs) h in
@@ -219,19 +219,19 @@ goes_bytes part start now next old middle new all bs at n before a b h stands la
     rw (← sum) (goes_some part start now next old middle new all words (words_of_bytes (drop (at + n) bs)) (at / 4)
     (rw (← words_from at n bs b h) before) stands lands passes)
 
--- the same with the bytes that are left
+-- on the way through a slice, where the bytes that are left are given
 pub goes_left : (part : PartData) (start now next : PipelineData) (old middle new : FrameMap) (all bs left : List ℕ) (at n : ℕ) → left ≡ drop at bs →
-    Goes part start now old middle all (words_of_bytes (drop at bs)) (at / 4) → at % 4 ≡ 0 → n % 4 ≡ 0 → n ≤ length left →
+    ReachesRun part start now old middle all (words_of_bytes (drop at bs)) (at / 4) → at % 4 ≡ 0 → n % 4 ≡ 0 → n ≤ length left →
     ((f : Flow) → HoldsFlow part now f → HoldsFlow part next (with_run (onto (words_of_bytes (take n left)) f.run) f)) →
     ((f : Flow) → HoldsFlow part now f → Lands part f.base f.run (onto (words_of_bytes (take n left)) f.run) middle new) →
     ((f : Flow) → HoldsFlow part now f → (written part f.base f.run (words_of_bytes (take n left))).fault ≡ None) →
-    Goes part start next old new all (words_of_bytes (drop (at + n) bs)) ((at + n) / 4)
+    ReachesRun part start next old new all (words_of_bytes (drop (at + n) bs)) ((at + n) / 4)
 goes_left part start now next old middle new all bs left at n e before a b h stands lands passes =
     goes_bytes part start now next old middle new all bs at n before a b (rw e at h) (rw e at stands) (rw e at lands) (rw e at passes)
 
 -- all bytes are taken
 pub goes_through : (part : PartData) (start now : PipelineData) (old new : FrameMap) (all bs : List ℕ) (at : ℕ) →
-    Goes part start now old new all (words_of_bytes (drop at bs)) (at / 4) → length bs ≤ at → Goes part start now old new all [] (at / 4)
+    ReachesRun part start now old new all (words_of_bytes (drop at bs)) (at / 4) → length bs ≤ at → ReachesRun part start now old new all [] (at / 4)
 goes_through part start now old new all bs at goes h = rw (ap words_of_bytes (sym (drop_all at bs h))) goes
 
 -- the word that is next

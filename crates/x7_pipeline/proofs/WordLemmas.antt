@@ -12,7 +12,7 @@ use Rattle.x7_pipeline.specs.Pipeline.{PipelineData}
 use Rattle.x7_pipeline.proofs.FlowLemmas.{StandsFor}
 use Rattle.x7_pipeline.proofs.LawLemmas.{lands_none}
 
--- so many words were looked at before
+-- `count` words were looked at before these
 abbrev pub after : ℕ → Written → Written
 after count w = record w { count = count + w.count }
 
@@ -39,13 +39,13 @@ pub record Reached (part : PartData) (now : PipelineData) (old new : FrameMap) (
   pub lands : Lands part base run longer old new
   pub later : written part base run all ≡ after count (written part base longer rest)
 
--- the same of whatever the pipeline stood for
-abbrev pub Goes : PartData → PipelineData → PipelineData → FrameMap → FrameMap → List ℕ → List ℕ → ℕ → Type 0
-Goes part start now old new all rest count =
+-- whatever flow the pipeline stood for at the start, it has reached a longer run
+abbrev pub ReachesRun : PartData → PipelineData → PipelineData → FrameMap → FrameMap → List ℕ → List ℕ → ℕ → Type 0
+ReachesRun part start now old new all rest count =
     (command : Command) (base : ℕ) (run : List ℕ) (source : Option (List ℕ)) (given : ℕ) → StandsFor part start command base run source given →
     Reached part now old new command base run source given all rest count
 
-pub goes_first : (part : PartData) (start : PipelineData) (memory : FrameMap) (all rest : List ℕ) → all ≡ rest → Goes part start start memory memory all rest 0
+pub goes_first : (part : PartData) (start : PipelineData) (memory : FrameMap) (all rest : List ℕ) → all ≡ rest → ReachesRun part start start memory memory all rest 0
 goes_first part start memory all rest e command base run source given s = record {
   longer = run;
   stands = s;
@@ -62,8 +62,6 @@ ends_whole part base run longer all count e = e ∙ ap (after count) (written_en
 pub ends_refused : (part : PartData) (base w : ℕ) (run longer all rest : List ℕ) (count : ℕ) (fault : RunFault) → written part base run all ≡ after count (written part base longer (w ∷ rest)) → Some fault ≡ write_fault part base longer →
     written part base run all ≡ record { run = longer; count = count + 1; fault = Some fault }
 ends_refused part base w run longer all rest count fault e f = e ∙ ap (after count) (written_refused part base w longer rest fault f)
-
--- ---- the words of a slice, by its chunks
 
 -- ---- in plain words
 

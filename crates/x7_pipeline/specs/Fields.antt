@@ -10,8 +10,8 @@ newest_seen p = if p.frame_count == 0 then None else Some p.held.items
 abbrev pub source_seen : Inside → Option (List ℕ)
 source_seen p = if p.has_source then Some p.source.items else None
 
-abbrev pub seen : Inside → PipelineData
-seen p = record {
+abbrev pub pipeline_seen : Inside → PipelineData
+pipeline_seen p = record {
   width = p.width;
   far_width = p.far_width;
   command = p.command;

@@ -4,6 +4,7 @@ use Rattle.x7_part.specs.Part.{PartData, frame_words}
 use Rattle.x7_part.specs.FrameAddress.{far_width}
 use Rattle.x7_part.specs.declared.slot.Slot.{Slot}
 use Rattle.x7_part.specs.declared.slot.Slot.TheVariants.{End, Pad}
+use Rattle.x7_memory.specs.Frames.{AreFramesOf}
 use Rattle.x7_regs.specs.declared.command.Command.{Command}
 use Rattle.x7_pipeline.specs.Runs.{slots_from}
 
@@ -25,6 +26,11 @@ pub record PipelineData : Type 0 where
 -- the pipeline is one of the part: its frames have the part's words, and its addresses the part's bits
 abbrev pub IsPipelineOf : PartData → PipelineData → Type 0
 IsPipelineOf part pipeline = (pipeline.width ≡ frame_words part) × (pipeline.far_width ≡ far_width part)
+
+-- a pipeline and the frames of a memory are those of one part
+pub record AreOf (part : PartData) (p : PipelineData) (frames : List (List ℕ)) : Type 0 where
+  pub pipeline_fits : IsPipelineOf part p
+  pub frames_fit : AreFramesOf part frames
 
 -- the count after `n` words of a readback were given more, up to the limit
 abbrev pub given_after : PartData → PipelineData → ℕ → ℕ

@@ -13,7 +13,7 @@ ghost use Rattle.x7_pipeline.specs.Copies.{is_wcfg, is_mfw, source_with};
 ghost use Rattle.x7_pipeline.specs.Readback.{read_at, word_at};
 ghost use Rattle.x7_pipeline.specs.Faults.{write_fault, read_fault, drop_fault};
 ghost use Rattle.x7_pipeline.specs.Places.{StartsAt};
-ghost use Rattle.x7_pipeline.specs.Pipeline.{PipelineData, IsPipelineOf, passed};
+ghost use Rattle.x7_pipeline.specs.Pipeline.{AreOf, PipelineData, IsPipelineOf, passed};
 ghost use Rattle.x7_pipeline.specs.Flow.{copied_by, fault_of_copy, GoesOn, HoldsFlow, LandsAt, OfFlow, PutsNewest, after_reads, after_words, begun_at, begun_by, first_flow, with_run, written_by};
 
 mod saved;
@@ -59,9 +59,9 @@ impl Model for Pipeline {
 
     ghost Value = { PipelineData };
 
-    ghost use Rattle.x7_pipeline.specs.Fields.{seen, HasRoom};
+    ghost use Rattle.x7_pipeline.specs.Fields.{pipeline_seen, HasRoom};
 
-    ghost view = { seen };
+    ghost view = { pipeline_seen };
 
     ghost invariant = { HasRoom };
 }
@@ -145,15 +145,13 @@ impl Pipeline {
 
     /// One word more of a run under WCFG. A word that completes a frame puts the frame before it.
     pub fn write(&mut self, word: u32, part: &Part, memory: &mut Memory) -> Result<(), RunFault>
-        requires part { IsPipelineOf part.now self.old }
-        requires memory { AreFramesOf part.now memory.old }
+        requires part { AreOf part.now self.old memory.old }
         ensures stands { OnOk result (GoesOn part.now self.old self.new (after_words (word ∷ []))) }
         ensures lands { OnOk result (OfFlow part.now self.old (λ f. LandsAt part.now f (word ∷ []) (frame_at part.now memory.old) (frame_at part.now memory.new))) }
         ensures fault { OfFlow part.now self.old (λ f. result_err result ≡ write_fault part.now f.base f.run) }
 
         // Whatever the answer.
-        ensures part { IsPipelineOf part.now self.new }
-        ensures memory { AreFramesOf part.now memory.new }
+        ensures part { AreOf part.now self.new memory.new }
 
         // After a fault.
         ensures refused { OnErr result (self.new ≡ self.old) }
@@ -188,15 +186,13 @@ impl Pipeline {
         memory: &mut Memory,
     ) -> (usize, Option<RunFault>)
         requires whole { length bytes.now % 4 ≡ 0 }
-        requires part { IsPipelineOf part.now self.old }
-        requires memory { AreFramesOf part.now memory.old }
+        requires part { AreOf part.now self.old memory.old }
         ensures stands { OfFlow part.now self.old (λ f. HoldsFlow part.now self.new (with_run (written_by part.now f (words_of_bytes bytes.now)).run f)) }
         ensures lands { OfFlow part.now self.old (λ f. Lands part.now f.base f.run (written_by part.now f (words_of_bytes bytes.now)).run (frame_at part.now memory.old) (frame_at part.now memory.new)) }
         ensures count { OfFlow part.now self.old (λ f. result.0 ≡ (written_by part.now f (words_of_bytes bytes.now)).count) }
         ensures fault { OfFlow part.now self.old (λ f. result.1 ≡ (written_by part.now f (words_of_bytes bytes.now)).fault) }
         ensures within { result.0 ≤ length bytes.now / 4 }
-        ensures part { IsPipelineOf part.now self.new }
-        ensures memory { AreFramesOf part.now memory.new }
+        ensures part { AreOf part.now self.new memory.new }
     {
         let mut at = 0;
         'somes: while at < bytes.len() {
@@ -217,15 +213,13 @@ impl Pipeline {
         memory: &mut Memory,
     ) -> Result<usize, RunFault>
         requires some { 4 ≤ length bytes.now }
-        requires part { IsPipelineOf part.now self.old }
-        requires memory { AreFramesOf part.now memory.old }
+        requires part { AreOf part.now self.old memory.old }
         ensures words { IfOk result (λ taken. (1 ≤ taken / 4) × (taken % 4 ≡ 0) × (taken ≤ length bytes.now)) }
         ensures stands { IfOk result (λ taken. GoesOn part.now self.old self.new (after_words (words_of_bytes (take taken bytes.now)))) }
         ensures lands { IfOk result (λ taken. OfFlow part.now self.old (λ f. LandsAt part.now f (words_of_bytes (take taken bytes.now)) (frame_at part.now memory.old) (frame_at part.now memory.new))) }
         ensures passes { IfOk result (λ taken. OfFlow part.now self.old (λ f. (written_by part.now f (words_of_bytes (take taken bytes.now))).fault ≡ None)) }
         ensures fault { IfErr result (λ fault. OfFlow part.now self.old (λ f. Some fault ≡ write_fault part.now f.base f.run)) }
-        ensures part { IsPipelineOf part.now self.new }
-        ensures memory { AreFramesOf part.now memory.new }
+        ensures part { AreOf part.now self.new memory.new }
         ensures refused { OnErr result (self.new ≡ self.old) }
         ensures unchanged { OnErr result (memory.new ≡ memory.old) }
     {
@@ -251,8 +245,7 @@ impl Pipeline {
     /// Writes the whole frames that come next, up to the last one that has a slot; the first one has a slot. The answer is the
     /// number of bytes.
     fn write_frames(&mut self, bytes: &[u8], part: &Part, memory: &mut Memory) -> usize
-        requires part { IsPipelineOf part.now self.old }
-        requires memory { AreFramesOf part.now memory.old }
+        requires part { AreOf part.now self.old memory.old }
         requires begins { self.old.rest ≡ [] }
         requires frame { 4 * self.old.width ≤ length bytes.now }
         requires slot { self.old.frame_count < length (slots_from part.now self.old.base) }
@@ -260,8 +253,7 @@ impl Pipeline {
         ensures stands { GoesOn part.now self.old self.new (after_words (words_of_bytes (take result bytes.now))) }
         ensures lands { OfFlow part.now self.old (λ f. LandsAt part.now f (words_of_bytes (take result bytes.now)) (frame_at part.now memory.old) (frame_at part.now memory.new)) }
         ensures passes { OfFlow part.now self.old (λ f. (written_by part.now f (words_of_bytes (take result bytes.now))).fault ≡ None) }
-        ensures part { IsPipelineOf part.now self.new }
-        ensures memory { AreFramesOf part.now memory.new }
+        ensures part { AreOf part.now self.new memory.new }
     {
         let size = 4 * self.width as usize;
         let slots = slot_count(part, self.base);
@@ -293,8 +285,7 @@ impl Pipeline {
         part: &Part,
         memory: &mut Memory,
     )
-        requires part { IsPipelineOf part.now self.old }
-        requires memory { AreFramesOf part.now memory.old }
+        requires part { AreOf part.now self.old memory.old }
         requires frame { length bytes.now ≡ 4 * self.old.width }
         requires slot { self.old.frame_count < length (slots_from part.now self.old.base) }
         requires few { length (slots_from part.now self.old.base) < 2 ^ 31 }
@@ -302,7 +293,7 @@ impl Pipeline {
         ensures held { self.new ≡ record self.old { newest = Some (words_of_bytes bytes.now); frame_count = self.old.frame_count + 1 } }
         ensures none { self.old.newest ≡ None → memory.new ≡ memory.old }
         ensures put { PutsNewest part.now self.old (frame_at part.now memory.old) (frame_at part.now memory.new) }
-        ensures memory { AreFramesOf part.now memory.new }
+        ensures part { AreOf part.now self.new memory.new }
     {
         self.put_held(first, near, part, memory);
         hold(&mut self.held, bytes);
@@ -319,8 +310,7 @@ impl Pipeline {
     /// Puts the newest whole frame, where there is one and its slot is an address. `first` slots stand before those from the
     /// base on, and `near` keeps where the part looks for a slot first.
     fn put_held(&self, first: u64, near: &mut usize, part: &Part, memory: &mut Memory)
-        requires part { IsPipelineOf part.now self.now }
-        requires memory { AreFramesOf part.now memory.old }
+        requires part { AreOf part.now self.now memory.old }
         requires slot { self.now.frame_count < length (slots_from part.now self.now.base) }
         requires few { length (slots_from part.now self.now.base) < 2 ^ 31 }
         requires place { StartsAt part.now self.now.base first }
@@ -338,14 +328,13 @@ impl Pipeline {
 
     /// A copy, which is a word written to MFWR: the source is put at the base.
     pub fn copy(&mut self, part: &Part, memory: &mut Memory) -> Result<(), RunFault>
-        requires part { IsPipelineOf part.now self.old }
-        requires memory { AreFramesOf part.now memory.old }
+        requires part { AreOf part.now self.old memory.old }
         ensures put { OnOk result (OfFlow part.now self.old (λ f. AreSame (frame_at part.now memory.new) (put_over (copied_by f) (frame_at part.now memory.old)))) }
         ensures fault { OfFlow part.now self.old (λ f. result_err result ≡ fault_of_copy part.now f) }
 
         // Whatever the answer.
         ensures same { self.new ≡ self.old }
-        ensures memory { AreFramesOf part.now memory.new }
+        ensures part { AreOf part.now self.new memory.new }
 
         // After a fault.
         ensures unchanged { OnErr result (memory.new ≡ memory.old) }
@@ -372,8 +361,7 @@ impl Pipeline {
 
     /// The next word of a readback under RCFG.
     pub fn read_word(&mut self, part: &Part, memory: &Memory) -> Result<u32, RunFault>
-        requires part { IsPipelineOf part.now self.old }
-        requires memory { AreFramesOf part.now memory.now }
+        requires part { AreOf part.now self.old memory.now }
         ensures word { IfOk result (λ word. OfFlow part.now self.old (λ f. word ≡ read_at part.now f.base (frame_at part.now memory.now) f.given)) }
         ensures stands { OnOk result (GoesOn part.now self.old self.new (after_reads 1)) }
         ensures fault { OfFlow part.now self.old (λ f. result_err result ≡ read_fault part.now f.base f.given) }
@@ -411,8 +399,7 @@ impl Pipeline {
 
     /// The word at the place that the readback is at.
     fn word(&self, part: &Part, memory: &Memory) -> u32
-        requires part { IsPipelineOf part.now self.now }
-        requires memory { AreFramesOf part.now memory.now }
+        requires part { AreOf part.now self.now memory.now }
         ensures { result ≡ word_at self.now.slot (frame_at part.now memory.now) (self.now.given % self.now.width) }
     {
         let Slot::Frame(far) = self.slot else {

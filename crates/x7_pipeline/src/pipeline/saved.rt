@@ -5,7 +5,7 @@ ghost use Rattle.x7_part.specs.AddressOrder.{addresses_in};
 ghost use Rattle.x7_memory.specs.FrameMap.{AreSame};
 ghost use Rattle.x7_memory.specs.Frames.{AreFramesOf, frame_at};
 ghost use Rattle.x7_pipeline.specs.Flow.{HoldsFlow, first_flow};
-ghost use Rattle.x7_pipeline.specs.Pipeline.{IsPipelineOf};
+ghost use Rattle.x7_pipeline.specs.Pipeline.{AreOf, IsPipelineOf};
 ghost use Rattle.x7_pipeline.specs.Runs.{put_over};
 ghost use Rattle.x7_pipeline.specs.Saving.{IsPairOf, IsSavedOf, address_of, next_put, pair_at, put_by_copy, put_by_word};
 
@@ -184,8 +184,7 @@ impl Pipeline {
 
     /// Keeps the pipeline and, where the next word or copy would put a frame, that address and its frame in the memory.
     pub fn save(&self, part: &Part, memory: &Memory, into: &mut Saved)
-        requires part { IsPipelineOf part.now self.now }
-        requires memory { AreFramesOf part.now memory.now }
+        requires part { AreOf part.now self.now memory.now }
         requires saved { IsSavedOf part.now into.old }
         ensures pipeline { into.new.pipeline ≡ self.now }
         ensures pair { into.new.pair ≡ pair_at (frame_at part.now memory.now) (next_put part.now self.now) }
@@ -197,8 +196,7 @@ impl Pipeline {
 
     /// Makes this pipeline the kept one, and puts the kept frame into the memory, where there is one. Every other frame stays.
     pub fn restore(&mut self, part: &Part, memory: &mut Memory, from: &Saved)
-        requires part { IsPipelineOf part.now self.old }
-        requires memory { AreFramesOf part.now memory.old }
+        requires part { AreOf part.now self.old memory.old }
         requires saved { IsSavedOf part.now from.now }
         ensures pipeline { self.new ≡ from.now.pipeline }
         ensures put { AreSame (frame_at part.now memory.new) (put_over from.now.pair (frame_at part.now memory.old)) }

@@ -26,5 +26,5 @@ returns-in_default c =
     record {
       none = λ e. refl;
       put = λ frame e. put_no_frame _ frame (frame_at c.args.part.now c.args.memory.now) (frame_at c.args.part.now c.args.memory.now) (λ far is. c.in_default.ensures.none far (slot ∙ is)) (λ a. refl);
-      memory = c.requires.memory;
+      memory = c.requires.part.frames_fit;
     }

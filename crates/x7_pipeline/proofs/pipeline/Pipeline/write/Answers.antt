@@ -3,7 +3,7 @@ use Rattle.std.proofs.lemmas.Bool.{eqb-true, lt-ltb}
 use Rattle.x7_memory.specs.Frames.{frame_at}
 use Rattle.x7_pipeline.specs.FarAsRead.{has_frame_at}
 use Rattle.x7_pipeline.specs.Runs.{slots_from}
-use Rattle.x7_pipeline.specs.Fields.{seen}
+use Rattle.x7_pipeline.specs.Fields.{pipeline_seen}
 use Rattle.x7_pipeline.specs.Pipeline.{PipelineData}
 use Rattle.x7_pipeline.proofs.SlotLemmas.{has_address}
 use Rattle.x7_pipeline.proofs.StateLemmas.{alike, goes_on, completes_frame, lands_nothing, lands_frame, nowhere, somewhere, write_refused, write_allowed, overrun_refused, kept_now}
@@ -17,14 +17,14 @@ returns-then-writes_nowhere-clause-fault c = λ f s.
 
 pub returns-then-len-self-clause-stands : goal.returns-then-len-self-clause-stands
 returns-then-len-self-clause-stands c = λ f s.
-    goes_on c.args.part.now (seen c.self.inside) _ c.args.word f.command f.base f.run f.source f.given
-    (alike c.args.part.now c.args.self.now (seen c.self.inside) f.command f.base f.run f.source f.given c.self.view_is s)
-    (omega arith) (ap (λ rest. record (seen c.self.inside) { rest = rest }) c.push_word.ensures.items)
+    goes_on c.args.part.now (pipeline_seen c.self.inside) _ c.args.word f.command f.base f.run f.source f.given
+    (alike c.args.part.now c.args.self.now (pipeline_seen c.self.inside) f.command f.base f.run f.source f.given c.self.view_is s)
+    (omega arith) (ap (λ rest. record (pipeline_seen c.self.inside) { rest = rest }) c.push_word.ensures.items)
 
 pub returns-then-len-self-clause-lands : goal.returns-then-len-self-clause-lands
 returns-then-len-self-clause-lands c = λ f s.
-    lands_nothing c.args.part.now (seen c.self.inside) c.args.word f.command f.base f.run f.source f.given (frame_at c.args.part.now c.args.memory.now) (frame_at c.args.part.now c.args.memory.now)
-    (alike c.args.part.now c.args.self.now (seen c.self.inside) f.command f.base f.run f.source f.given c.self.view_is s)
+    lands_nothing c.args.part.now (pipeline_seen c.self.inside) c.args.word f.command f.base f.run f.source f.given (frame_at c.args.part.now c.args.memory.now) (frame_at c.args.part.now c.args.memory.now)
+    (alike c.args.part.now c.args.self.now (pipeline_seen c.self.inside) f.command f.base f.run f.source f.given c.self.view_is s)
     (omega arith) (λ far. refl)
 
 pub returns-then-len-self-clause-fault : goal.returns-then-len-self-clause-fault
@@ -59,11 +59,11 @@ returns-clause-stands c = λ f s.
     let short = c.self.invariant.short in
     let slots = c.slot_count.ensures.value in
     let place = ap (λ (v : PipelineData). v.base) c.self.view_is ∙ s.base_is in
-    completes_frame c.args.part.now (seen c.self.inside) _ c.args.word f.command f.base f.run f.source f.given
-    (alike c.args.part.now c.args.self.now (seen c.self.inside) f.command f.base f.run f.source f.given c.self.view_is s)
+    completes_frame c.args.part.now (pipeline_seen c.self.inside) _ c.args.word f.command f.base f.run f.source f.given
+    (alike c.args.part.now c.args.self.now (pipeline_seen c.self.inside) f.command f.base f.run f.source f.given c.self.view_is s)
     (omega arith) (rw (← place) (omega arith))
-    (ap (λ rest. record (seen c.self.inside) { rest = rest; newest = (if c.self.inside.frame_count + 1 == 0 then None else Some c.swap.new.y.items); frame_count = c.self.inside.frame_count + 1 }) c.clear.ensures.items
-    ∙ ap (λ newest. record (seen c.self.inside) { rest = []; newest = newest; frame_count = c.self.inside.frame_count + 1 })
+    (ap (λ rest. record (pipeline_seen c.self.inside) { rest = rest; newest = (if c.self.inside.frame_count + 1 == 0 then None else Some c.swap.new.y.items); frame_count = c.self.inside.frame_count + 1 }) c.clear.ensures.items
+    ∙ ap (λ newest. record (pipeline_seen c.self.inside) { rest = []; newest = newest; frame_count = c.self.inside.frame_count + 1 })
     (kept_now c.self.inside.frame_count c.swap.new.y.items ∙ ap (λ (v : Vec _ _). Some v.items) c.swap.ensures.y_after ∙ ap Some c.push_word-2.ensures.items))
 
 pub returns-clause-lands : goal.returns-clause-lands

@@ -11,7 +11,6 @@ use Rattle.x7_pipeline.proofs.pipeline.Pipeline.write_bytes.Goals as goal
 pub somes-init : goal.somes-init
 somes-init c = record {
   part = c.requires.part;
-  memory = c.requires.memory;
   within = omega arith;
   whole = refl;
   goes = goes_first c.args.part.now c.args.self.now (frame_at c.args.part.now c.args.memory.now) (words_of_bytes c.args.bytes.now) (words_of_bytes c.args.bytes.now) refl;
@@ -29,7 +28,6 @@ somes-preserved c =
     let same = ap length c.split_at.ensures.back in
     record {
       part = c.in-Ok.ensures.part;
-      memory = c.in-Ok.ensures.memory;
       within = omega arith;
       whole = omega arith;
       goes = goes_left c.args.part.now c.args.self.now c.somes.self c.write_some.new.self (frame_at c.args.part.now c.args.memory.now) (frame_at c.args.part.now c.somes.memory) (frame_at c.args.part.now c.write_some.new.memory)

@@ -21,8 +21,7 @@ frames-init c =
     let frame = c.requires.frame in
     let held = c.write_frame.ensures.held in
     record {
-      part = (ap (λ (v : PipelineData). v.width) held ∙ c.requires.part.0, ap (λ (v : PipelineData). v.far_width) held ∙ c.requires.part.1);
-      memory = c.write_frame.ensures.memory;
+      part = c.write_frame.ensures.part;
       some = omega arith;
       within = omega arith;
       whole = omega arith;
@@ -52,8 +51,7 @@ frames-preserved c =
     let slots : c.slot_count-slots.result ≡ length (slots_from c.args.part.now c.frames.self.base) =
     c.slot_count-slots.ensures.value ∙ ap (λ b. length (slots_from c.args.part.now b)) (ap (λ (v : PipelineData). v.base) c.self.view_is ∙ sym before.base) in
     record {
-      part = (ap (λ (v : PipelineData). v.width) held ∙ before.part.0, ap (λ (v : PipelineData). v.far_width) held ∙ before.part.1);
-      memory = c.write_frame-in-frames.ensures.memory;
+      part = c.write_frame-in-frames.ensures.part;
       some = omega arith;
       within = omega arith;
       whole = omega arith;

@@ -1,22 +1,21 @@
 use Rattle.std.proofs.Common.{◌≡◌, ◌≤◌, ◌-◌, ◌%◌, [], take, length}
 use Rattle.x7_words.specs.Word.{words_of_bytes}
-use Rattle.x7_memory.specs.Frames.{frame_at, AreFramesOf}
-use Rattle.x7_pipeline.specs.Pipeline.{IsPipelineOf}
-use Rattle.x7_pipeline.proofs.FrameLemmas.{Went}
+use Rattle.x7_memory.specs.Frames.{frame_at}
+use Rattle.x7_pipeline.specs.Pipeline.{AreOf}
+use Rattle.x7_pipeline.proofs.FrameLemmas.{WritesFrames}
 use Rattle.x7_pipeline.proofs.pipeline.Pipeline.write_frames.Given as goal
 
 -- whole frames were written, so many bytes
 abbrev pub invariant-frames : goal.invariant-frames
 invariant-frames l = record {
-  part : IsPipelineOf l.part l.self;
-  memory : AreFramesOf l.part l.memory;
+  part : AreOf l.part l.self l.memory;
   some : 4 ≤ l.at;
   within : l.at ≤ length l.fn.bytes;
   whole : l.at % 4 ≡ 0;
   begins : l.self.rest ≡ [];
   base : l.self.base ≡ l.fn.self.base;
   width : l.self.width ≡ l.fn.self.width;
-  went : Went l.part l.fn.self l.self (frame_at l.part l.fn.memory) (frame_at l.part l.memory) (words_of_bytes (take l.at l.fn.bytes));
+  went : WritesFrames l.part l.fn.self l.self (frame_at l.part l.fn.memory) (frame_at l.part l.memory) (words_of_bytes (take l.at l.fn.bytes));
 }
 
 abbrev pub decreases-frames : goal.decreases-frames
