@@ -23,13 +23,13 @@ use Rattle.x7_pipeline.specs.FarAsRead.{has_frame_at, loaded_base}
 use Rattle.x7_pipeline.specs.Copies.{copied, is_mfw}
 use Rattle.x7_pipeline.specs.Faults.{address_fault, copy_fault, drop_fault, read_fault}
 use Rattle.x7_pipeline.specs.Flow.{GoesOn, HoldsFlow, LandsAt, OfFlow, after_reads, after_words, begun_at, begun_by, copied_by, fault_of_copy}
-use Rattle.x7_pipeline.specs.Pipeline.{PipelineData}
+use Rattle.x7_pipeline.specs.Pipeline.{AreOf, PipelineData}
 use Rattle.x7_pipeline.specs.Readback.{read_at, read_slot, word_at, word_of}
 use Rattle.x7_flow.specs.Asked.{Asked, Load, Order, Word, Copies, Reads, Other}
 use Rattle.x7_flow.specs.Flow.{Flow, asked, asks, base_of, fault_by, first_flow, flow_by, flow_of, frame_fault, given_of}
 use Rattle.x7_flow.specs.FrameMemory.{copy_pairs, written_frames_more, memory_of, puts}
 use Rattle.x7_flow.specs.FrameAccess.{reads_frame_data}
-use Rattle.x7_flow.specs.Standing.{AfterAccess, AfterRead, AreFramesAfter, FramesFit, FramesStandFor, FramesState, AreOf, Did, FramesDid, HasFlow, frames_state, less, word_to, words_from, words_due, frames_read}
+use Rattle.x7_flow.specs.Standing.{AfterAccess, AfterRead, AreFramesAfter, FramesFit, FramesStandFor, FramesState, Did, FramesDid, HasFlow, frames_state, less, word_to, words_from, words_due, frames_read}
 use Rattle.x7_flow.proofs.FlowLemmas.{flow_more, flow_sound, landed_grows, memory_more, put_none}
 
 -- ---- each call of a pipeline does what is asked

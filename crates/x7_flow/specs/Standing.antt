@@ -6,10 +6,10 @@ use Rattle.x7_regs.specs.Register.{number_of}
 use Rattle.x7_pipeline.specs.declared.fault.RunFault.{RunFault}
 use Rattle.x7_part.specs.Part.{PartData}
 use Rattle.x7_memory.specs.FrameMap.{FrameMap, AreSame}
-use Rattle.x7_memory.specs.Frames.{AreFramesOf, frame_at}
+use Rattle.x7_memory.specs.Frames.{frame_at}
 use Rattle.x7_pipeline.specs.FarAsRead.{has_frame_at}
 use Rattle.x7_pipeline.specs.Flow.{HoldsFlow}
-use Rattle.x7_pipeline.specs.Pipeline.{IsPipelineOf, PipelineData}
+use Rattle.x7_pipeline.specs.Pipeline.{AreOf, PipelineData}
 use Rattle.x7_pipeline.specs.Readback.{read_at}
 use Rattle.x7_pipeline.specs.Runs.{put_over}
 use Rattle.x7_flow.specs.Asked.{Asked, Reads}
@@ -60,11 +60,6 @@ frames_read part h count = words_from part (base_of part h) (memory_of part h) (
 -- the last words that were given by a history, as many as are due
 abbrev pub words_due : PartData → History → ℕ → List ℕ
 words_due part h due = words_from part (base_of part h) (memory_of part h) (given_of part h - due) due
-
--- the pipeline and the frames are a part's
-pub record AreOf (part : PartData) (p : PipelineData) (frames : List (List ℕ)) : Type 0 where
-  pub pipeline_fits : IsPipelineOf part p
-  pub frames_fit : AreFramesOf part frames
 
 -- ---- the frames of a device
 

@@ -5,8 +5,7 @@ ghost use Rattle.x7_flow.specs.Asked.{Reads};
 ghost use Rattle.x7_flow.specs.Settings.{AreSettingsAfter, takes_copies as takes_copies_by, takes_frames as takes_frames_by};
 ghost use Rattle.x7_flow.specs.Words.{OfTaking, WordsTaken, words_to};
 ghost use Rattle.x7_packets.specs.History.{History};
-ghost use Rattle.x7_memory.specs.Frames.{AreFramesOf};
-ghost use Rattle.x7_pipeline.specs.Pipeline.{IsPipelineOf};
+ghost use Rattle.x7_pipeline.specs.Pipeline.{AreOf, IsPipelineOf};
 ghost use Rattle.x7_flow.specs.Flow.{Flow, asks, fault_by};
 ghost use Rattle.x7_flow.specs.Standing.{AreFramesAfter, Did, HasFlow, frames_state, word_to, words_due};
 
@@ -26,16 +25,14 @@ pub(crate) fn take(
     pipeline: &mut Pipeline,
     memory: &mut Memory,
 ) -> Option<RunFault>
-    requires pipeline { IsPipelineOf part.now pipeline.old }
-    requires memory { AreFramesOf part.now memory.old }
+    requires part { AreOf part.now pipeline.old memory.old }
     ensures did { (h : History) → AreSettingsAfter part.now.idcode settings h →
         IfNone result (Did part.now (asks part.now.idcode h (word_to reg word)) (frames_state pipeline.old memory.old) (frames_state pipeline.new memory.new)) }
     ensures fault { (h : History) (f : Flow) → AreSettingsAfter part.now.idcode settings h → HasFlow part.now pipeline.old f →
         result ≡ fault_by part.now (asks part.now.idcode h (word_to reg word)) f }
 
     // Whatever the answer.
-    ensures pipeline { IsPipelineOf part.now pipeline.new }
-    ensures memory { AreFramesOf part.now memory.new }
+    ensures part { AreOf part.now pipeline.new memory.new }
 
     // After a fault.
     ensures refused { OnSome result (pipeline.new ≡ pipeline.old) }
@@ -84,8 +81,7 @@ pub(crate) fn refuses_read(count: u32, part: &Part, pipeline: &Pipeline) -> Opti
 
 /// The next of the words of frame data that are due.
 pub(crate) fn next_word(part: &Part, pipeline: &mut Pipeline, memory: &Memory) -> u32
-    requires pipeline { IsPipelineOf part.now pipeline.old }
-    requires memory { AreFramesOf part.now memory.now }
+    requires part { AreOf part.now pipeline.old memory.now }
     ensures stands { (h : History) (due : ℕ) → AreFramesAfter part.now pipeline.old memory.now h (due + 1) → AreFramesAfter part.now pipeline.new memory.now h due }
     ensures word { (h : History) (due : ℕ) → AreFramesAfter part.now pipeline.old memory.now h (due + 1) → words_due part.now h (suc due) ≡ result ∷ words_due part.now h due }
     ensures pipeline { IsPipelineOf part.now pipeline.new }
@@ -105,12 +101,10 @@ pub(crate) fn take_words(
     memory: &mut Memory,
 ) -> (usize, Option<RunFault>)
     requires whole { length bytes.now % 4 ≡ 0 }
-    requires pipeline { IsPipelineOf part.now pipeline.old }
-    requires memory { AreFramesOf part.now memory.old }
+    requires part { AreOf part.now pipeline.old memory.old }
     ensures taken { (n : ℕ) → OfTaking part.now takes_frames_by pipeline.old memory.old (λ h. WordsTaken part.now (frames_state pipeline.new memory.new) h (words_to reg.Fdri n bytes.now) result) }
     ensures within { result.0 ≤ length bytes.now / 4 }
-    ensures pipeline { IsPipelineOf part.now pipeline.new }
-    ensures memory { AreFramesOf part.now memory.new }
+    ensures part { AreOf part.now pipeline.new memory.new }
 {
     pipeline.write_bytes(bytes, part, memory)
 }
@@ -124,12 +118,10 @@ pub(crate) fn take_copies(
     memory: &mut Memory,
 ) -> (usize, Option<RunFault>)
     requires whole { length bytes.now % 4 ≡ 0 }
-    requires pipeline { IsPipelineOf part.now pipeline.old }
-    requires memory { AreFramesOf part.now memory.old }
+    requires part { AreOf part.now pipeline.old memory.old }
     ensures taken { (n : ℕ) → OfTaking part.now takes_copies_by pipeline.old memory.old (λ h. WordsTaken part.now (frames_state pipeline.new memory.new) h (words_to reg.Mfwr n bytes.now) result) }
     ensures within { result.0 ≤ length bytes.now / 4 }
-    ensures pipeline { IsPipelineOf part.now pipeline.new }
-    ensures memory { AreFramesOf part.now memory.new }
+    ensures part { AreOf part.now pipeline.new memory.new }
 {
     if bytes.is_empty() {
         return (0, None);

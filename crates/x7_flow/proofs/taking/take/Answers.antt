@@ -8,8 +8,9 @@ use Rattle.x7_flow.proofs.taking.take.Goals as goal
 pub returns-in-Far-clause-did : goal.returns-in-Far-clause-did
 returns-in-Far-clause-did c = λ h s. rw c.in-Far.is (did_load c.args.part.now c.args.pipeline.now c.load.new.self c.args.memory.now c.args.word c.load.ensures.stands)
 
-pub returns-in-Far-clause-pipeline : goal.returns-in-Far-clause-pipeline
-returns-in-Far-clause-pipeline c = c.load.ensures.part c.args.part.now c.requires.pipeline
+pub returns-in-Far-clause-part : goal.returns-in-Far-clause-part
+returns-in-Far-clause-part c =
+    record { pipeline_fits = c.load.ensures.part c.args.part.now c.requires.part.pipeline_fits; frames_fit = c.requires.part.frames_fit }
 
 pub returns-in-Cmd-clause-did : goal.returns-in-Cmd-clause-did
 returns-in-Cmd-clause-did c = λ h s. rw c.in-Cmd.is
