@@ -129,7 +129,7 @@ same_run (Found.Body register) c r bytes kept i l h =
 same_run Found.Tail c r bytes kept i l h = absurd i
 same_run Found.End c r bytes kept i l h = absurd i
 
--- it is lent as it was cut
+-- the run of a cut lends the bytes that the cut lends
 same_lent : (f : Found) (c : Cut) (r : Run) (bytes kept : List ℕ) (o n : CutterState) (left : ℕ) → IsFound f c → IsRunOf f bytes kept r → Lends c bytes → IsLent o left c → SkipsAll n left c → IsLent o left (cut_of r) × SkipsAll n left (cut_of r)
 same_lent Found.Skip c r bytes kept o n left i l h x y =
     let there : Lends (cut.Skip i.0) bytes = subst (λ t. Lends t bytes) i.1 h in
