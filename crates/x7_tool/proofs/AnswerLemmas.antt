@@ -10,7 +10,7 @@ use Rattle.x7_forms.specs.Form.{Asked, Unused, flash_use, listed_by, updated_by}
 use Rattle.x7_forms.specs.Known.{Answer}
 use Rattle.x7_forms.specs.Message.{text_status}
 use Rattle.x7_tool.specs.Leaving.{UsesFlash}
-use Rattle.x7_tool.specs.Outside.{Outside, Sources, sources}
+use Rattle.x7_tool.specs.Outside.{Outside, sources}
 use Rattle.x7_tool.specs.Run.{Answered, AnswersOver, JudgesFlash, MakesReady, MakesReadyFrom, Puts}
 use Rattle.x7_tool.specs.Runs.{RanAs}
 use Rattle.x7_tool.proofs.RunLemmas.{ready_ends, streamed, text_ends}

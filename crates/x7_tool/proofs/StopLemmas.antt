@@ -1,5 +1,5 @@
 -- Lemmas on where reading stops.
-use Rattle.std.proofs.Common.{◌≡◌, ◌≤◌, ◌+◌, ℕ, map, suc, length, List, [], ◌∷◌, Bool, true, false, Option, None, Some, Result, Ok, Err, IfErr, ap, inl, inr, refl, subst, sym, ◌∙◌, arith, ◌⊎◌}
+use Rattle.std.proofs.Common.{◌≡◌, ◌≤◌, ◌+◌, ℕ, map, suc, length, List, [], ◌∷◌, Bool, true, false, Option, Some, Result, Ok, Err, IfErr, ap, inl, inr, refl, subst, sym, ◌∙◌, arith, ◌⊎◌}
 use Rattle.std.proofs.lemmas.List.{length-map}
 use Rattle.x7_words.specs.Input.{InputsState}
 use Rattle.x7_words.specs.Flash.{FlashState}

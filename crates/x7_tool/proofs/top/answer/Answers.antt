@@ -1,4 +1,4 @@
-use Rattle.std.proofs.Common.{◌≡◌, refl, false, Bool, Result, Some, map, string_bytes, sym, ap, subst}
+use Rattle.std.proofs.Common.{refl, Bool, Result, Some, map, string_bytes, sym, ap, subst}
 use Rattle.x7_forms.specs.Event.{Event}
 use Rattle.x7_forms.specs.Form.{Assembling, Booting, Debugging, FromMcs, Generating, Imaging, ImagingFor, Listing, PlanningFull, PlanningPartial, PlanningRead, Playing, PlayingSvf, ToMcs, UpdatingFlash, asked_by}
 use Rattle.x7_forms.specs.Step.{seen}
