@@ -96,7 +96,8 @@ fn forward_until(device: &mut Device, journal: &mut Journal, stream: &[u8], last
     }
 }
 
-/// Brings a device that is farther before where startup may begin than records reach up to there, by one piece.
+/// Feeds a device in one piece up to a position from which records reach to `begins`, where startup may begin; a device that is
+/// past it already stays.
 fn leap_near(device: &mut Device, journal: &mut Journal, stream: &[u8], begins: u64)
     requires on { IsOn device.old.part stream.now device.old journal.old }
     requires within { begins ≤ last_of device.old.part stream.now }

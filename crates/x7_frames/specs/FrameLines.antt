@@ -24,7 +24,7 @@ pub record Rows : Type 0 where
 abbrev pub HasRows : PartData → Rows → List (List ℕ) → Type 0
 HasRows part r lines = (r.part ≡ part) × AreGood part lines r.rows
 
--- these lines and one behind them are good: memory may be wanting at it
+-- memory may be wanting at a line: it is good, as are those before it
 abbrev pub AreGoodWith : PartData → List (List ℕ) → List ℕ → Type 0
 AreGoodWith part lines line = (rows : List PlanRow) × AreGood part (lines ++ line ∷ []) rows
 

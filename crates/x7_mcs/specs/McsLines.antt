@@ -20,7 +20,7 @@ HasRead b lines = Took (after_lines 1 of_no_line (map without_return lines)) b.b
 abbrev pub flash_of_lines : List (List ℕ) → Result (List ℕ) McsFault
 flash_of_lines lines = flash_in (with_end (after_lines 1 of_no_line (bare lines)))
 
--- these lines and one behind them, with its end or as the last of a text, are read without a fault: memory may be wanting at it
+-- a line, with its end or as the last of a text, is read without a fault, as are those before it: memory may be wanting at it
 abbrev pub AreGoodWith : List (List ℕ) → List ℕ → Type 0
 AreGoodWith lines line = IsGood (after_lines 1 of_no_line (map without_return (lines ++ line ∷ []))) ⊎ IsGood (after_lines 1 of_no_line (bare (lines ++ line ∷ [])))
 

@@ -48,7 +48,7 @@ pub(crate) enum Last {
     End,
 }
 
-/// What a run is that was cut; `None` where the piece was used up.
+/// The kind of the run that the cutter gave, without its bytes; `None` where the cutter needs more of them.
 fn last_of(cut: Cut) -> Option<Last>
     ensures some { IfSome result (λ last. IsFound (found_of last) cut.entry) }
     ensures none { IfNone result (IsNeed cut.entry) }

@@ -16,6 +16,8 @@ mod reports;
 #[cfg(test)]
 mod resets;
 #[cfg(test)]
+mod sessions;
+#[cfg(test)]
 mod status;
 #[cfg(test)]
 mod streams;
