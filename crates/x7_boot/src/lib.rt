@@ -5,7 +5,7 @@ mod attempt;
 mod boots;
 mod cache;
 mod fault;
-mod law;
+mod laws;
 mod layout;
 mod next;
 mod pages;
@@ -15,7 +15,7 @@ mod trial;
 pub use attempt::Ending;
 pub use boots::{BootEnd, Booted, Tried, boot};
 pub use fault::{BootFault, ImageFault};
-pub use law::{
+pub use laws::{
     every_flash_boots, one_boot, one_course, only_taken_bytes_count, starts_are_checked,
     startup_is_checked,
 };

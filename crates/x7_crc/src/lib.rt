@@ -4,11 +4,11 @@
 mod block_table;
 mod check;
 mod checker;
-mod law;
+mod laws;
 mod table;
 mod written;
 
 pub use check::{fold, fold_slice};
 pub use checker::{Checker, PieceChecker};
-pub use law::{checks_are_linear, checks_are_remainders, checks_continue, checks_of_histories};
+pub use laws::{checks_are_linear, checks_are_remainders, checks_continue, checks_of_histories};
 pub use written::{check_after_write, executed, is};

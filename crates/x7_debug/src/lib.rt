@@ -3,7 +3,7 @@
 
 mod fault;
 mod journal;
-mod law;
+mod laws;
 mod line;
 mod moving;
 mod order;
@@ -14,7 +14,7 @@ mod showing;
 mod until;
 
 pub use fault::ScriptFault;
-pub use law::{one_order, one_script, until_leads_to_the_least};
+pub use laws::{one_order, one_script, until_leads_to_the_least};
 pub use order::{Order, Stop};
 pub use script::{Script, script_of};
 pub use session::Session;

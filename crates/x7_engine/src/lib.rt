@@ -8,7 +8,7 @@ mod due;
 mod fault;
 mod fed;
 mod kept;
-mod law;
+mod laws;
 mod progress;
 mod read_buffer;
 mod readout;
@@ -25,7 +25,7 @@ pub use due::Due;
 pub use fault::Fault;
 pub use fed::Fed;
 pub use kept::{Kept, ON_THE_BENCH};
-pub use law::{
+pub use laws::{
     alike_bytes_do_alike, checks_before_startup, controls_take_masked_bits, fallbacks_do_alike,
     fallbacks_wait_for_the_sync_word, phases_are_the_greatest_begun, reads_are_given_or_due,
     reads_grow, rest_lasts, shutdowns_and_ghigh, startup_begins, stops_are_final, stops_are_first,

@@ -3,13 +3,13 @@
 
 mod asking;
 mod frames;
-mod law;
+mod laws;
 mod settings;
 mod taking;
 
 pub use asking::reads_frames;
 pub use frames::Frames;
-pub use law::{
+pub use laws::{
     asked_laws, fault_laws, flow_laws, later_laws, many_laws, memory_has_frames, memory_laws,
     plan_laws, quiet_laws, saving_laws, standing_laws, stream_laws, stretch_laws, word_laws,
     words_have_room,

@@ -5,7 +5,7 @@ mod address;
 mod column;
 mod fault;
 mod keys;
-mod law;
+mod laws;
 mod parse;
 mod part;
 mod ranges;
@@ -17,7 +17,7 @@ mod types;
 mod values;
 
 pub use fault::{PartFault, PartKey, Which};
-pub use law::{row_laws, slot_laws};
+pub use laws::{row_laws, slot_laws};
 pub use parse::part_of;
 pub use part::Part;
 pub use slot::Slot;

@@ -2,12 +2,12 @@
 #![tactic(auto)]
 
 mod fault;
-mod law;
+mod laws;
 mod pipeline;
 mod place;
 
 pub use fault::RunFault;
-pub use law::{
+pub use laws::{
     far_laws, fault_laws, pipeline_laws, read_laws, run_laws, saving_laws, source_laws, word_laws,
 };
 pub use pipeline::{Pipeline, Saved};

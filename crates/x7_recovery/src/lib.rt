@@ -5,7 +5,7 @@
 mod clean_law;
 mod golden_law;
 mod image_law;
-mod law;
+mod laws;
 mod open_law;
 
 pub use clean_law::{updated_flashes_fall_back, updates_keep_golden_streams};
@@ -13,5 +13,5 @@ pub use golden_law::{
     closed_flashes_are_shut, found_flashes_start, full_streams_start, shut_flashes_start_alike,
 };
 pub use image_law::{images_boot, premises_hold};
-pub use law::{found_flashes_boot, images_are_prepared, images_have_a_layout};
+pub use laws::{found_flashes_boot, images_are_prepared, images_have_a_layout};
 pub use open_law::{flashes_have_an_open_slot, open_slots_boot};

@@ -4,7 +4,7 @@
 
 mod boot_status;
 mod command;
-mod law;
+mod laws;
 mod name;
 mod named;
 mod register;
@@ -12,7 +12,7 @@ mod status;
 
 pub use boot_status::{Attempt, Cause, Kind, boot_word};
 pub use command::{Command, command_of};
-pub use law::{codes_are_distinct, names_are_distinct, numbers_are_distinct};
+pub use laws::{codes_are_distinct, names_are_distinct, numbers_are_distinct};
 pub use name::{CommandName, RegName, command_text, name_of};
 pub use named::{command_named, reg_named};
 pub use register::{Reg, reg_of};

@@ -1,13 +1,13 @@
 //! The startup sequence, its three lines and its ticks, and the configuration watchdog, byte by byte.
 #![tactic(auto)]
 
-mod law;
+mod laws;
 mod lines;
 mod phases;
 mod startup;
 mod watchdog;
 
-pub use law::startup_laws;
+pub use laws::startup_laws;
 pub use lines::Lines;
 pub use startup::Startup;
 pub use watchdog::Watchdog;

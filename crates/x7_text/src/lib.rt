@@ -5,7 +5,7 @@ mod block;
 mod digits;
 mod either_case;
 mod growing;
-mod law;
+mod laws;
 mod line_reader;
 mod lines;
 mod read_row;
@@ -17,7 +17,7 @@ pub use block::{bytes_line, data_line, hex_of_block};
 pub use digits::{hex_of_byte, hex_of_word, put_decimal};
 pub use either_case::read_pairs;
 pub use growing::{put_number, put_text};
-pub use law::{
+pub use laws::{
     digits_lead_back, either_case_leads_back, lines_in_parts, lines_lead_back, lines_one_by_one,
     rows_are_the_elements, whole_rows,
 };

@@ -1,8 +1,0 @@
-use Rattle.x7_boot.proofs.CourseLemmas.{along, boot_course}
-use Rattle.x7_boot.proofs.law.one_course.Goals as goal
-
-pub returns-clause-boot : goal.returns-clause-boot
-returns-clause-boot c = boot_course
-
-pub returns-clause-along : goal.returns-clause-along
-returns-clause-along c = along

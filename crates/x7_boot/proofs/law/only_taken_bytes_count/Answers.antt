@@ -1,5 +1,0 @@
-use Rattle.x7_boot.proofs.OverLemmas.{trial_over}
-use Rattle.x7_boot.proofs.law.only_taken_bytes_count.Goals as goal
-
-pub returns : goal.returns
-returns c = trial_over

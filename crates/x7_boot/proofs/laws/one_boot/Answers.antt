@@ -1,0 +1,11 @@
+use Rattle.x7_boot.proofs.OneBootLemmas.{one_boot, one_last, one_trial}
+use Rattle.x7_boot.proofs.laws.one_boot.Goals as goal
+
+pub returns-clause-attempt : goal.returns-clause-attempt
+returns-clause-attempt c = one_trial
+
+pub returns-clause-boot : goal.returns-clause-boot
+returns-clause-boot c = one_boot
+
+pub returns-clause-last : goal.returns-clause-last
+returns-clause-last c = one_last

@@ -1,5 +1,0 @@
-use Rattle.x7_crc.proofs.CheckLemmas.{check_after-linear}
-use Rattle.x7_crc.proofs.law.checks_are_linear.Goals as goal
-
-pub returns : goal.returns
-returns c before register word h k l = check_after-linear before register word h k l

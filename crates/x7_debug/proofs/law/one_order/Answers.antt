@@ -1,5 +1,0 @@
-use Rattle.x7_debug.proofs.UniqueLemmas.{one-order}
-use Rattle.x7_debug.proofs.law.one_order.Goals as goal
-
-pub returns : goal.returns
-returns c = one-order

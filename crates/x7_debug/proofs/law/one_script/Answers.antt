@@ -1,5 +1,0 @@
-use Rattle.x7_debug.proofs.UniqueLemmas.{one-script}
-use Rattle.x7_debug.proofs.law.one_script.Goals as goal
-
-pub returns : goal.returns
-returns c = one-script

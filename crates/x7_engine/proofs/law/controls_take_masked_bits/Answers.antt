@@ -1,5 +1,0 @@
-use Rattle.x7_engine.proofs.MaskLemmas.{masked_bits}
-use Rattle.x7_engine.proofs.law.controls_take_masked_bits.Goals as goal
-
-pub returns : goal.returns
-returns c = masked_bits

@@ -1,5 +1,0 @@
-use Rattle.x7_engine.proofs.ReadsLemmas.{reads_grow}
-use Rattle.x7_engine.proofs.law.reads_grow.Goals as goal
-
-pub returns : goal.returns
-returns c = reads_grow

@@ -1,5 +1,0 @@
-use Rattle.x7_engine.proofs.TimeoutLemmas.{fires_by_bytes}
-use Rattle.x7_engine.proofs.law.watchdog_fires.Goals as goal
-
-pub returns : goal.returns
-returns c = fires_by_bytes

@@ -1,0 +1,11 @@
+use Rattle.x7_engine.proofs.RestLemmas.{history_on, rest_new, rest_on}
+use Rattle.x7_engine.proofs.laws.rest_lasts.Goals as goal
+
+pub returns-clause-stays : goal.returns-clause-stays
+returns-clause-stays c = rest_on
+
+pub returns-clause-history : goal.returns-clause-history
+returns-clause-history c = history_on
+
+pub returns-clause-new : goal.returns-clause-new
+returns-clause-new c = rest_new

@@ -1,5 +1,0 @@
-use Rattle.x7_recovery.proofs.FoundLemmas.{found_boots}
-use Rattle.x7_recovery.proofs.law.found_flashes_boot.Goals as goal
-
-pub returns : goal.returns
-returns c = found_boots

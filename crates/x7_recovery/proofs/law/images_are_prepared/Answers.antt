@@ -1,5 +1,0 @@
-use Rattle.x7_recovery.proofs.LayoutLemmas.{image_prepared}
-use Rattle.x7_recovery.proofs.law.images_are_prepared.Goals as goal
-
-pub returns : goal.returns
-returns c = image_prepared

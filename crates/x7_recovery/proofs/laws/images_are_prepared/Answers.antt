@@ -1,0 +1,5 @@
+use Rattle.x7_recovery.proofs.LayoutLemmas.{image_prepared}
+use Rattle.x7_recovery.proofs.laws.images_are_prepared.Goals as goal
+
+pub returns : goal.returns
+returns c = image_prepared

@@ -1,8 +1,0 @@
-use Rattle.x7_regs.proofs.CommandLemmas.{command_by-named, command_by-unnamed}
-use Rattle.x7_regs.proofs.law.codes_are_distinct.Goals as goal
-
-pub returns-clause-named : goal.returns-clause-named
-returns-clause-named c = command_by-named
-
-pub returns-clause-unnamed : goal.returns-clause-unnamed
-returns-clause-unnamed c = command_by-unnamed

@@ -1,5 +1,0 @@
-use Rattle.x7_regs.proofs.NameLemmas.{reg_name-distinct}
-use Rattle.x7_regs.proofs.law.names_are_distinct.Goals as goal
-
-pub returns-clause-registers : goal.returns-clause-registers
-returns-clause-registers c = reg_name-distinct

@@ -1,8 +1,0 @@
-use Rattle.x7_text.proofs.LineLemmas.{open_text-row, in_line_after-row}
-use Rattle.x7_text.proofs.law.whole_rows.Goals as goal
-
-pub returns-clause-text : goal.returns-clause-text
-returns-clause-text c = open_text-row
-
-pub returns-clause-count : goal.returns-clause-count
-returns-clause-count c = in_line_after-row

@@ -1,0 +1,11 @@
+use Rattle.x7_text.proofs.CaseLemmas.{digit-is, digit-upper, pairs-back}
+use Rattle.x7_text.proofs.laws.either_case_leads_back.Goals as goal
+
+pub returns-clause-upper : goal.returns-clause-upper
+returns-clause-upper c = digit-upper
+
+pub returns-clause-digit : goal.returns-clause-digit
+returns-clause-digit c = digit-is
+
+pub returns-clause-bytes : goal.returns-clause-bytes
+returns-clause-bytes c = pairs-back

@@ -1,0 +1,8 @@
+use Rattle.x7_text.proofs.LineLemmas.{open_text-append, in_line_after-append}
+use Rattle.x7_text.proofs.laws.lines_in_parts.Goals as goal
+
+pub returns-clause-text : goal.returns-clause-text
+returns-clause-text c = open_text-append
+
+pub returns-clause-count : goal.returns-clause-count
+returns-clause-count c = in_line_after-append
