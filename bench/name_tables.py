@@ -1,7 +1,7 @@
 #!/usr/bin/env python3
 """The tables by which names are read back: where a register's or a command's name stands in a table of 64.
 
-x7_regs (src/named.rt) looks at a name's first two letters, its last one and its length; x7_listing (src/pairs.rt) at its
+x7_regs (src/named.rt) looks at a name's first two letters, its last one and its length; x7_listing (src/asm/fast/write_pairs.rt) at its
 first four bytes, of which the byte behind a short name is one. The factors are such that no two names have one place.
 
     python3 bench/name_tables.py           compares the tables with those of the two files
@@ -55,8 +55,8 @@ def main():
     wanted = [
         ("crates/x7_regs/src/named.rt", "REGISTERS", registers, by_letters, ""),
         ("crates/x7_regs/src/named.rt", "COMMANDS", COMMANDS, by_letters, ""),
-        ("crates/x7_listing/src/pairs.rt", "REGISTERS", registers, by_four_bytes, " "),
-        ("crates/x7_listing/src/pairs.rt", "COMMANDS", COMMANDS, by_four_bytes, "\n"),
+        ("crates/x7_listing/src/asm/fast/write_pairs.rt", "REGISTERS", registers, by_four_bytes, " "),
+        ("crates/x7_listing/src/asm/fast/write_pairs.rt", "COMMANDS", COMMANDS, by_four_bytes, "\n"),
     ]
     for path, name, names, place, behind in wanted:
         numbers = table(f"{path} {name}", names, place, behind)

@@ -11,7 +11,15 @@ const TINY: &[u8] =
 
 /// What comes before the frame data of a write to frame 00000001: the sync word, IDCODE, WCFG, FAR, and FDRI with 202 words.
 const BEFORE: [u32; 9] = [
-    0xAA99_5566, 0x3001_8001, 0x0362_D093, 0x3000_8001, 0x0000_0001, 0x3000_2001, 0x0000_0001, 0x3000_4000, 0x5000_00CA,
+    0xAA99_5566,
+    0x3001_8001,
+    0x0362_D093,
+    0x3000_8001,
+    0x0000_0001,
+    0x3000_2001,
+    0x0000_0001,
+    0x3000_4000,
+    0x5000_00CA,
 ];
 
 /// A stream of 844 bytes that writes frame 00000001: a frame and a pad frame after 36 bytes; none without memory.
