@@ -1,5 +1,5 @@
 -- The check after a written word, a run and a piece.
-use Rattle.std.proofs.Common.{◌≡◌, ◌==◌, ◌||◌, ◌≤◌, ◌<◌, ◌^◌, Bool, ◌+◌, ◌-◌, ◌*◌, ℕ, true, false, [], ◌∷◌, ◌++◌, List, length, take, drop, refl, sym, ap, subst, ◌∙◌, lit<, arith, append_assoc, take_all, min, length-drop, length-append}
+use Rattle.std.proofs.Common.{◌≡◌, ◌==◌, ◌||◌, ◌≤◌, ◌<◌, ◌^◌, Bool, ◌+◌, ◌-◌, ◌*◌, ℕ, true, false, [], ◌∷◌, ◌++◌, List, length, take, drop, refl, sym, ap, subst, ◌∙◌, lit<, arith, append_assoc, take_all, length-drop, length-append}
 use Rattle.std.proofs.lemmas.List.{take-append-drop, take-append-le}
 use Rattle.x7_words.proofs.ListLemmas.{take_up_to}
 use Rattle.x7_packets.specs.Cutting.{between, CutterState, CutterStandsFor, Goes, run_steps, Went}

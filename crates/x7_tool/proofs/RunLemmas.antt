@@ -9,7 +9,7 @@ use Rattle.x7_listing.specs.Assembly.{IsAsm}
 use Rattle.x7_listing.proofs.OutcomeLemmas.{one-outcome}
 use Rattle.x7_listing.proofs.StreamLemmas.{stream-back}
 use Rattle.x7_mcs.specs.Flash.{mcs_of}
-use Rattle.x7_listing.proofs.ShortLemmas.{stream-short}
+use Rattle.x7_listing.proofs.ListingLengthLemmas.{stream-short}
 use Rattle.x7_mcs.specs.Text.{mcs_text}
 use Rattle.x7_mcs.proofs.BackLemmas.{text-gives}
 use Rattle.x7_mcs.proofs.SizeLemmas.{text-short}

@@ -1,4 +1,4 @@
-use Rattle.std.proofs.Common.{ℕ, [], ◌∷◌, subst}
+use Rattle.std.proofs.Common.{ℕ, ◌∷◌, subst}
 use Rattle.x7_packets.specs.History.{entry, Write}
 use Rattle.x7_crc.specs.Checking.{IsSum}
 use Rattle.x7_crc.proofs.CheckerLemmas.{plain-word}

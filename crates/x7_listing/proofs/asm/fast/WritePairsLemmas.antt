@@ -1,5 +1,5 @@
 -- The two lines of a write of one word, read at once by a row of a table.
-use Rattle.std.proofs.Common.{◌≡◌, ◌==◌, ℕ, zero, suc, ◌+◌, ◌-◌, ◌*◌, ◌%◌, ◌^◌, ◌<◌, ◌≤◌, Bool, true, false, not, cond, w8, List, [], ◌∷◌, ◌++◌, codes, get_or, length, take, drop, map, refl, ap, sym, ◌∙◌, arith, inl, inr, append_assoc, append-nil, length-append, take-add}
+use Rattle.std.proofs.Common.{◌≡◌, ◌==◌, ℕ, zero, suc, ◌+◌, ◌-◌, ◌%◌, ◌^◌, ◌<◌, ◌≤◌, Bool, true, false, not, cond, w8, List, [], ◌∷◌, ◌++◌, codes, get_or, length, take, drop, map, refl, ap, sym, ◌∙◌, arith, inl, inr, append_assoc, append-nil, length-append, take-add}
 use Rattle.std.specs.List.{prefix_len}
 use Rattle.std.proofs.lemmas.Bool.{cases_eq}
 use Rattle.std.proofs.lemmas.Fmt.{decimal_digit}

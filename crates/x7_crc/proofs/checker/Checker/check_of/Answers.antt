@@ -1,4 +1,4 @@
-use Rattle.std.proofs.Common.{List, ℕ, length, refl, subst, sym, ◌∙◌}
+use Rattle.std.proofs.Common.{List, ℕ, length, refl, subst, sym}
 use Rattle.x7_crc.specs.Checking.{CheckerState, Keeps}
 use Rattle.x7_crc.proofs.CheckerLemmas.{caught-up}
 use Rattle.x7_crc.proofs.checker.Checker.check_of.Goals as goal

@@ -1,4 +1,4 @@
-use Rattle.std.proofs.Common.{arith, refl}
+use Rattle.std.proofs.Common.{refl}
 use Rattle.x7_listing.proofs.asm.lines.AsmLines.new.Goals as goal
 
 pub returns : goal.returns
