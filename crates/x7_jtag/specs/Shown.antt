@@ -1,4 +1,4 @@
--- What the device of a port shows.
+-- What the device of a port shows (this project's choice).
 use Rattle.std.specs.Prelude.{ℕ, ◌+◌, ◌-◌, ◌/◌, false, List, length, take, Option}
 use Rattle.x7_part.specs.Part.{PartData}
 use Rattle.x7_engine.specs.declared.regs.Regs.{Regs}

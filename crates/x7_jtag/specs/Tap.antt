@@ -1,4 +1,4 @@
--- What a tap and its device stand for: a port after some clocks.
+-- What a tap and its device stand for: a port after some clocks (this project's choice).
 use Rattle.std.specs.Prelude.{◌≡◌, ◌⊎◌, false, ℕ, ◌+◌, ◌*◌, ◌<◌, ◌≤◌, List, [], ◌∷◌, ◌++◌, length}
 use Rattle.std.specs.Option.{IsSome}
 use Rattle.x7_words.specs.Word.{AreBytes}

@@ -1,4 +1,4 @@
--- A lister that takes the runs of a stream, one after another.
+-- A lister that takes the runs of a stream, one after another (this project's choice).
 use Rattle.std.specs.Prelude.{ℕ, List, ◌++◌}
 use Rattle.x7_packets.specs.Mode.{Mode}
 use Rattle.x7_packets.specs.Run.{IsNext, bytes_of_run}

@@ -1,4 +1,4 @@
--- What a lister has listed of the bytes that it took, word by word and byte by byte.
+-- What a lister has listed of the bytes that it took, word by word and byte by byte (this project's choice).
 use Rattle.std.specs.Prelude.{◌≡◌, ℕ, ◌==◌, ◌⊎◌, ◌≤◌, Bool, true, false, if◌then◌else◌, List, [], ◌∷◌, ◌++◌, codes, length}
 use Rattle.std.specs.List.{flat_map}
 use Rattle.x7_packets.specs.SyncWord.{sync_bytes}

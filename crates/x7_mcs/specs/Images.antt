@@ -1,4 +1,4 @@
--- An image and a place in a text, each in one value.
+-- An image and a place in a text, each in one value (this project's choice).
 use Rattle.std.specs.Prelude.{◌≡◌, ◌⊎◌, ℕ, List, ◌∷◌, Result, Ok, Err, MatchResult}
 use Rattle.x7_mcs.specs.Flash.{Reading, after_meaning}
 use Rattle.x7_mcs.specs.Places.{DataRecord, with_record}

@@ -184,7 +184,7 @@ elapses_on first mid last past mids since within next a b weaker = record {
   keeps = λ moment found le had. b.keeps moment found (omega (arith, le, a.later)) (a.keeps moment found le had);
 }
 
--- the same said weaker
+-- what elapses within a fact elapses within a weaker one
 pub elapses_weaker : (first last : ℕ) (past since : ℕ → List ℕ → Type 0) (within wider : List ℕ → Type 0) → Elapses first last past since within → ((found : List ℕ) → within found → wider found) → Elapses first last past since wider
 elapses_weaker first last past since within wider a weaker = record {
   later = a.later;

@@ -29,7 +29,7 @@ takes_on a b c first second p q = record {
   selects = q.selects ∙ p.selects;
 }
 
--- the same piece by another name
+-- a piece that is equal to the bytes taken was taken
 pub takes_as : (a b : InputsState) (bytes same : List ℕ) → bytes ≡ same → Takes a same b → Takes a bytes b
 takes_as a b bytes same e t = rw e t
 
