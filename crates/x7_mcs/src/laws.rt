@@ -50,5 +50,6 @@ pub fn overlap_is_the_least()
 
 /// The lines of bytes in two parts, the first of which ends where a row does.
 pub fn rows_in_parts()
-    ensures { (place : ℕ) (xs ys : List ℕ) → length xs % row_size ≡ 0 → row_lines place (rows row_size (xs ++ ys)) ≡ row_lines place (rows row_size xs) ++ row_lines (place + length xs) (rows row_size ys) }
+    ensures { (place : ℕ) (xs ys : List ℕ) → length xs % row_size ≡ 0
+        → row_lines place (rows row_size (xs ++ ys)) ≡ row_lines place (rows row_size xs) ++ row_lines (place + length xs) (rows row_size ys) }
 {}
