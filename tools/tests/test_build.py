@@ -1,0 +1,223 @@
+#!/usr/bin/env python3
+"""Tests ./build in a small repository, with a kit whose prover is a script: the order, what is kept, an interrupt, and each way to fail."""
+import fcntl
+import os
+import pty
+import shutil
+import signal
+import struct
+import subprocess
+import sys
+import tempfile
+import termios
+import time
+
+from casefiles import TOOLS, Tally
+
+TOP = os.path.dirname(TOOLS)
+KIT = "rattle-kit-1 logic 0123"
+# A prover: it says which crate it is given, does as the crate's folder asks, and writes the crate's text in place of a library.
+PROVER = """#!/bin/sh
+crate=$3
+for last; do :; done
+echo "$crate" >> "$(dirname "$0")/../proved"
+echo $$ > "$(dirname "$0")/../pid"
+echo "what is said of $crate"
+[ -e refuses ] && exit 1
+[ -e stops ] && exit 3
+[ -e killed ] && kill -KILL $$
+[ -e waits ] && { echo half > "$last"; sleep 60; }
+cat src/*.rt > "$last"
+"""
+LINKER = """#!/bin/sh
+[ -e "$(dirname "$0")/no_link" ] && exit 1
+while [ "$1" != -o ]; do shift; done
+cat "$3" > "$2"
+"""
+
+
+class Room:
+    """A repository of three crates, one on another, and a kit."""
+
+    def __init__(self, folder):
+        self.folder, self.kit, self.top = folder, os.path.join(folder, "kit"), os.path.join(folder, "top")
+        self.put("kit/KIT-ID", KIT + "\n")
+        for name, text in (("bin/rt", f"#!/bin/sh\necho {self.kit}/START-HERE.md\n"), ("bin/rattle", PROVER), ("bin/rattle-link", LINKER)):
+            self.put(f"kit/{name}", text, 0o755)
+        self.put("top/crates.txt", "# crates\nx7_low: memchr\nx7_high: x7_low\nx7: x7_high x7_low\nx7_other: x7_low\n")
+        self.put("top/README.md", f"It is proved with the kit that `rt version` calls `{KIT}`.\n")
+        for name, root in (("x7_low", "lib"), ("x7_high", "lib"), ("x7", "main"), ("x7_other", "lib")):
+            self.put(f"top/crates/{name}/src/{root}.rt", f"{name} 1\n")
+        shutil.copy(os.path.join(TOP, "build"), os.path.join(self.top, "build"))
+        self.environment = {**os.environ, "PATH": f"{self.kit}/bin:{os.environ['PATH']}"}
+
+    def path(self, name):
+        return os.path.join(self.folder, name)
+
+    def put(self, name, text, mode=0o644):
+        os.makedirs(os.path.dirname(self.path(name)), exist_ok=True)
+        with open(self.path(name), "w", encoding="utf-8") as file:
+            file.write(text)
+        os.chmod(self.path(name), mode)
+
+    def get(self, name):
+        with open(self.path(name), encoding="utf-8") as file:
+            return file.read()
+
+    def start(self, *words, **how):
+        """Starts a build."""
+        pipes = {"stdin": subprocess.DEVNULL, "stdout": subprocess.PIPE, "stderr": subprocess.PIPE, "universal_newlines": True}
+        return subprocess.Popen([sys.executable, os.path.join(self.top, "build"), *words], **{"env": self.environment, **pipes, **how})
+
+    def build(self, *words, **how):
+        """Builds, and gives the status, what was said, and the crates that were proved meanwhile."""
+        if os.path.exists(self.path("kit/proved")):
+            os.remove(self.path("kit/proved"))
+        started = self.start(*words, **how)
+        said = started.communicate(timeout=60)[1]
+        return started.returncode, said, self.proved()
+
+    def proved(self):
+        return self.get("kit/proved").split() if os.path.exists(self.path("kit/proved")) else []
+
+    def wait_for(self, crate):
+        """Waits until the prover has this crate; whether it came to that."""
+        for _ in range(300):
+            if crate in self.proved():
+                return True
+            time.sleep(0.1)
+        return False
+
+
+def built(room, tally):
+    """What is built, in which order, and what a later call does."""
+    status, said, proved = room.build()
+    tally.same("a first build", (status, proved), (0, ["x7_low", "x7_high", "x7"]))
+    tally.check("it says how far it is", "1 of 3 crates proved" in said and said.count("\n") == 4, said)
+    tally.same("the program", room.get("top/crates/x7/out/x7"), "x7 1\n")
+    times = [it.split()[0] for it in room.get("top/crates/x7/out/build/times").splitlines()]
+    tally.same("what each took is written down", times, ["x7_low", "x7_high", "x7"])
+    status, said, proved = room.build()
+    tally.same("a second build", (status, said, proved), (0, "x7 is proved and built: nothing has changed since\n", []))
+    room.put("top/crates/x7_high/src/lib.rt", "x7_high 2\n")
+    tally.same("after a change", room.build()[2], ["x7_high", "x7"])
+    room.put("top/crates/x7/out/x7", "another's\n")
+    tally.same("where another program stands in its place", room.build()[2], ["x7"])
+    tally.same("the program again", room.get("top/crates/x7/out/x7"), "x7 1\n")
+
+
+def on_terminal(room, tally):
+    """On a terminal of 40 columns one line moves, and tells the minutes that are left."""
+    room.put("top/crates/x7_low/src/lib.rt", "x7_low 1, on a terminal\n")
+    ours, theirs = pty.openpty()
+    fcntl.ioctl(theirs, termios.TIOCSWINSZ, struct.pack("HHHH", 24, 40, 0, 0))
+    started = room.start(stderr=theirs)
+    os.close(theirs)
+    said = b""
+    while True:
+        try:
+            said += os.read(ours, 1000)
+        except OSError:
+            break
+    os.close(ours)
+    started.communicate(timeout=60)
+    *lines, last = said.decode().strip().split("\r\n")
+    tally.same("on a terminal, status", started.returncode, 0)
+    tally.check("on a terminal, the line", all(len(it) < 40 for it in "".join(lines).split("\r")) and "2 of 3 crates proved, less than a" in lines[0], lines)
+    tally.check("on a terminal, the end", last.startswith("x7 was proved and built in 0 min"), last)
+
+
+def interrupted(room, tally):
+    """An interrupt leaves nothing running, and nothing half made is taken for whole."""
+    room.put("top/crates/x7_high/waits", "")
+    room.put("top/crates/x7_high/src/lib.rt", "x7_high 3\n")
+    os.remove(room.path("kit/proved"))
+    started = room.start()
+    tally.check("the build is under way", room.wait_for("x7_high"))
+    waiting = room.start()
+    time.sleep(0.5)
+    tally.same("a second call waits", waiting.poll(), None)
+    waiting.send_signal(signal.SIGTERM)
+    said = waiting.communicate(timeout=60)[1]
+    tally.check("a second call is interrupted", waiting.returncode == 130 and "another call builds x7" in said, said)
+    begun = time.monotonic()
+    started.send_signal(signal.SIGTERM)
+    said = started.communicate(timeout=60)[1]
+    tally.same("an interrupt, status", started.returncode, 130)
+    tally.check("an interrupt is said", said.endswith("the next call goes on\n"), said)
+    tally.check("an interrupt ends it at once", time.monotonic() - begun < 10)
+    os.remove(room.path("top/crates/x7_high/waits"))
+    room.put("top/crates/x7_high/src/lib.rt", "x7_high 2\n")
+    status, _, proved = room.build()
+    tally.same("the source of before the interrupt is built anew", (status, proved), (0, ["x7_high"]))
+    tally.same("its library is whole", room.get("top/crates/x7/out/build/x7_high/x7_high.rlib"), "x7_high 2\n")
+
+
+def killed(room, tally):
+    """A call after one that was killed waits for what that one left."""
+    room.put("top/crates/x7_low/waits", "")
+    room.put("top/crates/x7_low/src/lib.rt", "x7_low 2\n")
+    os.remove(room.path("kit/proved"))
+    started = room.start()
+    room.wait_for("x7_low")
+    time.sleep(0.3)
+    started.kill()
+    started.communicate()
+    os.remove(room.path("top/crates/x7_low/waits"))
+    later = room.start()
+    time.sleep(0.5)
+    tally.same("a call after one that was killed waits", later.poll(), None)
+    os.killpg(int(room.get("kit/pid")), signal.SIGTERM)
+    later.communicate(timeout=60)
+    tally.same("and goes on", (later.returncode, room.get("top/crates/x7/out/build/x7_low/x7_low.rlib")), (0, "x7_low 2\n"))
+
+
+def failing(room, tally):
+    """Each way to fail: status 1, why, and that a later call goes on."""
+    ways = [("refuses", "x7_high was refused"), ("stops", "the prover stopped with status 3"), ("killed", "the prover was killed")]
+    for way, why in ways:
+        room.put("top/crates/x7_high/src/lib.rt", f"x7_high {way}\n")
+        room.put(f"top/crates/x7_high/{way}", "")
+        status, said, proved = room.build()
+        last = said.split("\n")[-2]
+        tally.same(f"a crate that {way}, status", (status, proved), (1, ["x7_high"]))
+        tally.check(f"a crate that {way}, why", "what is said of x7_high\n" in said and last.startswith("x7 was not built: x7_high") and why in last, said)
+        os.remove(room.path(f"top/crates/x7_high/{way}"))
+    room.put("kit/bin/no_link", "")
+    before = room.get("top/crates/x7/out/x7")
+    status, said, proved = room.build()
+    tally.same("no link, status", (status, proved), (1, ["x7_high", "x7"]))
+    tally.check("no link, why", "x7 is proved but was not linked" in said, said)
+    tally.same("no link leaves the program", room.get("top/crates/x7/out/x7"), before)
+    os.remove(room.path("kit/bin/no_link"))
+    tally.same("the next call goes on", room.build()[2], ["x7"])
+
+
+def elsewhere(room, tally):
+    """Where the kit is missing or another one, where nothing can be written or read, and words that it doesn't take."""
+    status, said, proved = room.build("--fast")
+    tally.same("words, status", (status, said, proved), (2, "build: it takes no words; --help says what it does\n", []))
+    tally.same("--help", room.build("--help"), (0, "", []))
+    room.put("top/crates/x7/src/main.rt", "x7 2\n")
+    path = f"{room.folder}/none"
+    status, said, _ = room.build(env={**os.environ, "PATH": path})
+    tally.same("no rt", (status, said), (1, "x7 was not built: there is no `rt`; put the kit's bin/rt on the path\n"))
+    room.put("kit/KIT-ID", "rattle-kit-2 logic 0123\n")
+    status, said, _ = room.build()
+    tally.check("another kit is said", status == 0 and f"the kit here is rattle-kit-2 logic 0123, and README names {KIT}: " in said, said)
+    closed = room.start(stderr=None, preexec_fn=lambda: os.close(2))
+    tally.same("a closed standard error", closed.communicate(timeout=60) and closed.returncode, 0)
+    room.put("top/crates/x7/src/main.rt", "x7 3\n")
+    shutil.rmtree(room.path("top/crates/x7/out/build/x7_low"))
+    os.remove(room.path("top/crates/x7/out/build/x7_low.log"))
+    os.mkdir(room.path("top/crates/x7/out/build/x7_low.log"))
+    status, said, _ = room.build()
+    tally.check("a file that can't be written", status == 1 and said.endswith("x7_low.log: Is a directory\n") and "Traceback" not in said, said)
+
+
+tally = Tally()
+with tempfile.TemporaryDirectory(prefix="x7-build-") as folder:
+    room = Room(folder)
+    for each in (built, on_terminal, interrupted, killed, failing, elsewhere):
+        each(room, tally)
+tally.end()
