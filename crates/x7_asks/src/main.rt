@@ -9,29 +9,21 @@ use x7_part::{Part, PartFault, Slot, part_of};
 /// How many questions are asked.
 const QUESTIONS: u32 = 10_000_000;
 
+/// Appends the row of this number to a part file: 32 rows in each half of three block types, with 683 frames or 682.
+fn put_row(text: &mut String, number: u32) -> Result<(), AllocError> {
+    let (block, half, row) = (number / 64, number / 32 % 2, number % 32);
+    let last = if block == 2 { 106 } else { 107 };
+    write!(
+        text,
+        "[[row]]\nblock = {block}\nhalf = {half}\nrow = {row}\nminors = [36, 36, 36, 36, 36, 36, 36, 36, 36, 36, 36, 36, 36, 36, 36, 36, {last}]\n"
+    )
+}
+
 /// A part file of 192 rows with 131,072 frames: 128 rows of 683, and 64 of 682.
 fn part_text(alloc: Global) -> Result<String, AllocError> {
-    let rows = [
-        "0", "1", "2", "3", "4", "5", "6", "7", "8", "9", "10", "11", "12", "13", "14", "15", "16",
-        "17", "18", "19", "20", "21", "22", "23", "24", "25", "26", "27", "28", "29", "30", "31",
-    ];
     let mut text = String::from_str(alloc, "name = \"large\"\nidcode = 1\n")?;
-    for (block, minors) in [("0", "107"), ("1", "107"), ("2", "106")] {
-        for half in ["0", "1"] {
-            for row in rows {
-                text.push_str("[[row]]\nblock = ")?;
-                text.push_str(block)?;
-                text.push_str("\nhalf = ")?;
-                text.push_str(half)?;
-                text.push_str("\nrow = ")?;
-                text.push_str(row)?;
-                text.push_str(
-                    "\nminors = [36, 36, 36, 36, 36, 36, 36, 36, 36, 36, 36, 36, 36, 36, 36, 36, ",
-                )?;
-                text.push_str(minors)?;
-                text.push_str("]\n")?;
-            }
-        }
+    for number in 0..192 {
+        put_row(&mut text, number)?;
     }
     Ok(text)
 }
