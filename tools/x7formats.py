@@ -5,6 +5,7 @@ A stream is a header, or none, and data: `stream_of(raw)`. The data are read as 
 texts of x7 have a reader here, and those that the tools write have a writer. What can't be taken raises `Refused` with a
 sentence, which `run` makes one line on standard error and status 2.
 """
+import functools
 import re
 import struct
 from collections import namedtuple
@@ -258,6 +259,7 @@ LINES = {b"sync": SYNC, b"nop": NOP, **{f"cmd {name}".encode(): code.to_bytes(4,
 BIT = re.compile(rb"bit ((?:[0-9A-F]{2})+|-) ((?:[0-9A-F]{2})+|-) ((?:[0-9A-F]{2})+|-) ((?:[0-9A-F]{2})+|-) (0|[1-9]\d{0,9})")
 
 
+@functools.lru_cache(maxsize=1024)  # most lines of a long stream are equal
 def line_bytes(line):
     """The bytes that a line of a listing stands for, or none."""
     if line in LINES:

@@ -31,6 +31,8 @@ def write_out(data):
     """Writes a text or bytes to standard output, whole, or refuses."""
     if sys.stdout is None:
         raise Refused("standard output is closed: nothing was written")
+    if isinstance(data, bytes) and sys.stdout.isatty():
+        raise Refused("standard output is a terminal, and this is no text: send it to a file, > FILE")
     try:
         sys.stdout.buffer.write(data.encode() if isinstance(data, str) else data)
         sys.stdout.buffer.flush()

@@ -125,7 +125,7 @@ class Bench:
     def refuses(self, *words, what="", given=b"", closed=()):
         """A tool refuses these words: status 2, one line, nothing written."""
         before = sorted(os.listdir(self.folder))
-        came = self.tool(*words, given=given, closed=closed)
+        came = self.tool(*words, given=given, closed=closed) if given or closed else self.many(*words)
         line = came.err.decode(errors="replace")
         is_line = 2 in closed or line.count("\n") == 1 and line.startswith(words[0]) and what in line
         is_so = came.status == 2 and came.out == b"" and is_line and sorted(os.listdir(self.folder)) == before

@@ -4,11 +4,14 @@ status 0 or 1 and a text, or with 2, one line, and nothing written."""
 import concurrent.futures
 import gzip
 import os
+import pty
 import random
+import subprocess
+import sys
 import tempfile
 
-from casefiles import DATA
-from runs import DEVICE, Bench, frame_of
+from casefiles import DATA, TOOLS
+from runs import SECONDS, Bench, frame_of
 import x7formats as x7
 
 # The words of each tool, in which F stands for a file.
@@ -115,11 +118,31 @@ def standard_files_of(bench, form):
     bench.tally.check(f"{form} on a full disk", full.status == 2 and full.err.count(b"\n") == 1, f"status {full.status}, {full.err[:200]!r}")
 
 
+def on_terminal(bench):
+    """A stream isn't written to a terminal; a text is."""
+    for form, status in (("turn good", 2), ("allow_fallback good", 2), ("frames of report", 0)):
+        ours, theirs = pty.openpty()
+        words = form.split()
+        started = subprocess.Popen([sys.executable, os.path.join(TOOLS, words[0]), *words[1:]], cwd=bench.folder, stdout=theirs, stderr=subprocess.PIPE)
+        os.close(theirs)
+        said = started.communicate(timeout=SECONDS)[1]
+        os.close(ours)
+        is_so = started.returncode == status and (b"is a terminal" in said) == (status == 2)
+        bench.tally.check(f"{form} on a terminal", is_so, f"status {started.returncode}, {said[:200]!r}")
+
+
+def usages(bench):
+    """Words that a form can't take are answered by the form's own line; a part file that is made anew, by what it is."""
+    bench.refuses("frames", "move", "a", "b", "c", what="usage: frames move FRAMES half=1,row=0 > FRAMES\n")
+    bench.refuses("frames", "touch", "x", what="usage: frames touch PART STREAM [REGION..]\n")
+    bench.refuses("part", "good.part", "new", what="good.part is a part file already\n")
+
+
 def helps(bench, names):
     """The help of each tool, and words that none takes."""
     for name in names:
         for word in ("--help", "-h"):
-            came = bench.tool(name, word)
+            came = bench.many(name, word)
             bench.tally.check(f"{name} {word}", came.status == 0 and len(came.out) > 200 and not came.err, f"status {came.status}, {came.err[:200]!r}")
         if name != "test":
             bench.refuses(name)
@@ -134,6 +157,8 @@ def main(folder):
     files = hostile_files(bench, good)
     helps(bench, bench.tools())
     standard_files(bench)
+    on_terminal(bench)
+    usages(bench)
     for form in FORMS:
         run_form(bench, form, files, take)
     bench.tally.end()
