@@ -4,19 +4,17 @@ use Rattle.x7_words.specs.Flash.{FlashState, IfKnown, Sees}
 use Rattle.x7_words.proofs.CountLemmas.{risen_from}
 use Rattle.x7_words.proofs.FlashLemmas.{get_or-slice_range}
 use Rattle.x7_update.specs.Layout.{CanStandAt, HasSize, IsOpen, open_word}
-use Rattle.x7_update.specs.Writing.{EndFails, HasWanted, IsWritten, IsWrong, in_stream, in_switch, wanted_at}
+use Rattle.x7_update.specs.Refused.{CanTake, HasCause}
+use Rattle.x7_update.specs.Writing.{BecomesBytes, EndFails, HasWanted, IsWritten, IsWrong, SeesWanted, in_stream, in_switch, wanted_at}
 use Rattle.x7_update.specs.declared.fault.UpdateFault.{UpdateFault}
 use Rattle.x7_update.specs.declared.fault.UpdateFault.TheVariants.{Differs, Failed, NoLayout, NoMemory, TooLong}
+use Rattle.x7_update.proofs.ReadyLemmas.{sees_to}
 use Rattle.x7_update.proofs.StreamLemmas.{wanted_inside}
 use Rattle.x7_update.proofs.SwitchLemmas.{same_four}
 
 -- so many bytes from a place on are as they are wanted
 abbrev AreWanted : ℕ → List ℕ → ℕ → ℕ → List ℕ → Type 0
 AreWanted from piece place count all = (i : ℕ) → i < count → get_or all (place + i) 0 ≡ wanted_at from piece (place + i)
-
--- each byte that is wanted is one that an update writes
-abbrev AreWritten : ℕ → List ℕ → ℕ → ℕ → List ℕ → ℕ → Type 0
-AreWritten size stream place count piece from = (i byte : ℕ) → i < count → byte ≡ wanted_at from piece (place + i) → IsWritten size stream (place + i) byte
 
 -- of known bytes that are as they are wanted none is wrong
 not_known : (known : Option (List ℕ)) (from : ℕ) (piece : List ℕ) (place count : ℕ) (buffer : List ℕ) (at wrote read : ℕ) → length buffer ≡ count → IfKnown known (λ all. buffer ≡ slice_range all place (place + count))
@@ -29,27 +27,37 @@ not_known (Some all) from piece place count buffer at wrote read long r h w =
     absurd (w.5 same)
 
 -- a fault of what was read from a place on and compared with what is wanted there
-wrong_fails : (from : ℕ) (piece : List ℕ) (place count : ℕ) (buffer stream : List ℕ) (old new : FlashState) (fault : UpdateFault) → length buffer ≡ count → Sees new place buffer → HasSize new.extent → IfKnown old.bytes (λ all. buffer ≡ slice_range all place (place + count))
-    → IfKnown old.bytes (AreWanted from piece place count) → AreWritten new.extent stream place count piece from → IsWrong from piece place buffer fault → EndFails stream old new fault
-wrong_fails from piece place count buffer stream old new (Differs at wrote read) long seen sized r h written w = (
+wrong_fails : (from : ℕ) (piece : List ℕ) (place count end : ℕ) (buffer stream : List ℕ) (old new : FlashState) (fault : UpdateFault) → length buffer ≡ count → Sees new place buffer → HasSize new.extent → IfKnown old.bytes (λ all. buffer ≡ slice_range all place (place + count))
+    → IfKnown old.bytes (AreWanted from piece place count) → IsWritten new.extent stream piece from end → from ≤ place → place + count ≤ end → SeesWanted from piece from place new → IsWrong from piece place buffer fault → EndFails stream old new fault
+wrong_fails from piece place count end buffer stream old new (Differs at wrote read) long seen sized r h written behind within had w = (
   record {
     sized = sized;
-    written = subst (λ (p : ℕ). IsWritten new.extent stream p wrote) (sym w.2) (written w.0 wrote (omega (arith, long, w.1)) (w.3 ∙ ap (wanted_at from piece) w.2));
+    piece = piece;
+    from = from;
+    end = end;
+    written = written;
+    behind = omega (arith, behind, w.2);
+    before = omega (arith, within, long, w.1, w.2);
+    wants = w.3;
     differs = w.5;
   },
   not_known old.bytes from piece place count buffer at wrote read long r h w,
-  subst (λ (p : ℕ). IsTrue (new.seen p read)) (sym w.2) (subst (λ (b : ℕ). IsTrue (new.seen (place + w.0) b)) (sym w.4) (seen w.0 w.1)),
+  record {
+    seen = subst (λ (p : ℕ). IsTrue (new.seen p read)) (sym w.2) (subst (λ (b : ℕ). IsTrue (new.seen (place + w.0) b)) (sym w.4) (seen w.0 w.1));
+    wanted = subst (λ (p : ℕ). SeesWanted from piece from p new) (sym w.2) (sees_to from piece place w.0 buffer new (omega (arith, w.1)) seen had w.6);
+  },
 )
-wrong_fails from piece place count buffer stream old new (Failed true) long seen sized r h written w = absurd w
-wrong_fails from piece place count buffer stream old new (Failed false) long seen sized r h written w = absurd w
-wrong_fails from piece place count buffer stream old new TooLong long seen sized r h written w = absurd w
-wrong_fails from piece place count buffer stream old new (NoLayout at) long seen sized r h written w = absurd w
-wrong_fails from piece place count buffer stream old new NoMemory long seen sized r h written w = absurd w
+wrong_fails from piece place count end buffer stream old new (Failed true) long seen sized r h written behind within had w = absurd w
+wrong_fails from piece place count end buffer stream old new (Failed false) long seen sized r h written behind within had w = absurd w
+wrong_fails from piece place count end buffer stream old new TooLong long seen sized r h written behind within had w = absurd w
+wrong_fails from piece place count end buffer stream old new (NoLayout at) long seen sized r h written behind within had w = absurd w
+wrong_fails from piece place count end buffer stream old new NoMemory long seen sized r h written behind within had w = absurd w
 
-compared_fails : (from : ℕ) (piece : List ℕ) (place count : ℕ) (buffer stream : List ℕ) (old new : FlashState) (result : Result (Unit {0}) UpdateFault) → length buffer ≡ count → Sees new place buffer → HasSize new.extent → IfKnown old.bytes (λ all. buffer ≡ slice_range all place (place + count))
-    → IfKnown old.bytes (AreWanted from piece place count) → AreWritten new.extent stream place count piece from → IfErr result (IsWrong from piece place buffer) → IfErr result (EndFails stream old new)
-compared_fails from piece place count buffer stream old new (Ok _) long seen sized r h written w = tt
-compared_fails from piece place count buffer stream old new (Err fault) long seen sized r h written w = wrong_fails from piece place count buffer stream old new fault long seen sized r h written w
+compared_fails : (from : ℕ) (piece : List ℕ) (place count end : ℕ) (buffer stream : List ℕ) (old new : FlashState) (result : Result (Unit {0}) UpdateFault) → length buffer ≡ count → Sees new place buffer → HasSize new.extent → IfKnown old.bytes (λ all. buffer ≡ slice_range all place (place + count))
+    → IfKnown old.bytes (AreWanted from piece place count) → IsWritten new.extent stream piece from end → from ≤ place → place + count ≤ end → SeesWanted from piece from place new → IfErr result (IsWrong from piece place buffer) → IfErr result (EndFails stream old new)
+compared_fails from piece place count end buffer stream old new (Ok _) long seen sized r h written behind within had w = tt
+compared_fails from piece place count end buffer stream old new (Err fault) long seen sized r h written behind within had w =
+    wrong_fails from piece place count end buffer stream old new fault long seen sized r h written behind within had w
 
 -- ---- a piece of the stream
 
@@ -60,10 +68,10 @@ stream_wanted (Some all) update stream place count size behind within s h = λ i
 -- so many bytes of the stream, or of FF behind it, were read back from a place on
 pub stream_fails : (update : ℕ) (stream : List ℕ) (place count : ℕ) (buffer : List ℕ) (old new : FlashState) (result : Result (Unit {0}) UpdateFault) → length buffer ≡ count → Sees new place buffer → new.extent ≡ old.extent → HasSize old.extent → CanStandAt old.extent update
     → update + length stream ≤ old.extent → update ≤ place → place + count ≤ old.extent → IfKnown old.bytes (λ all. old.extent ≡ length all) → IfKnown old.bytes (HasWanted update stream)
-    → IfKnown old.bytes (λ all. buffer ≡ slice_range all place (place + count)) → IfErr result (IsWrong update stream place buffer) → IfErr result (EndFails stream old new)
-stream_fails update stream place count buffer old new result long seen same sized stands fits behind within counted wanted r w =
-    compared_fails update stream place count buffer stream old new result long seen (subst HasSize (sym same) sized) r (stream_wanted old.bytes update stream place count old.extent behind within counted wanted)
-    (λ i byte l e. in_stream update (subst (λ (n : ℕ). CanStandAt n update) (sym same) stands) (omega (arith, same, fits)) (omega arith) (omega (arith, same, within)) e) w
+    → IfKnown old.bytes (λ all. buffer ≡ slice_range all place (place + count)) → SeesWanted update stream update place new → IfErr result (IsWrong update stream place buffer) → IfErr result (EndFails stream old new)
+stream_fails update stream place count buffer old new result long seen same sized stands fits behind within counted wanted r had w =
+    compared_fails update stream place count new.extent buffer stream old new result long seen (subst HasSize (sym same) sized) r (stream_wanted old.bytes update stream place count old.extent behind within counted wanted)
+    (in_stream (subst (λ (n : ℕ). CanStandAt n update) (sym same) stands) (omega (arith, same, fits)) refl refl) behind (omega (arith, same, within)) had w
 
 -- ---- a switch word
 
@@ -79,24 +87,40 @@ switch_wanted (Some all) slot h = λ i l.
 pub switch_fails : (slot : ℕ) (buffer stream : List ℕ) (old new : FlashState) (result : Result (Unit {0}) UpdateFault) → length buffer ≡ 4 → Sees new (32 * slot) buffer → new.extent ≡ old.extent → HasSize old.extent → slot < 2048 → IfKnown old.bytes (λ all. IsOpen all slot)
     → IfKnown old.bytes (λ all. buffer ≡ slice_range all (32 * slot) (32 * slot + 4)) → IfErr result (IsWrong (32 * slot) open_word (32 * slot) buffer) → IfErr result (EndFails stream old new)
 switch_fails slot buffer stream old new result long seen same sized h opened r w =
-    compared_fails (32 * slot) open_word (32 * slot) 4 buffer stream old new result long seen (subst HasSize (sym same) sized) r (switch_wanted old.bytes slot opened)
-    (λ i byte l e. in_switch slot h (omega arith) (omega arith) e) w
+    compared_fails (32 * slot) open_word (32 * slot) 4 (32 * slot + 4) buffer stream old new result long seen (subst HasSize (sym same) sized) r (switch_wanted old.bytes slot opened) (in_switch slot h refl refl refl) (omega arith) (omega arith)
+    (λ place l below. absurd (omega (arith, l, below))) w
 
 -- ---- the end of an update
 
-was_unknown : (f : List ℕ → List ℕ) (known : Option (List ℕ)) → option_map f known ≡ None → known ≡ None
+-- bytes that aren't known after a call that tells known ones weren't before it
+pub none_before : (P : List ℕ → List ℕ → Type 0) (old new : Option (List ℕ)) → BecomesBytes P old new → new ≡ None → old ≡ None
+none_before P None new b e = refl
+none_before P (Some all) new b e = let both : None ≡ Some b.0 = sym e ∙ b.1 in cc
+
+-- bytes that aren't known after a change of them weren't before it
+pub was_unknown : (f : List ℕ → List ℕ) (known : Option (List ℕ)) → option_map f known ≡ None → known ≡ None
 was_unknown f None e = refl
 was_unknown f (Some all) e = absurd (cc)
 
-fails_before : (stream : List ℕ) (a b c : FlashState) (f : List ℕ → List ℕ) (fault : UpdateFault) → a.faults ≤ b.faults → a.write_faults ≤ b.write_faults → b.bytes ≡ option_map f a.bytes → EndFails stream b c fault → EndFails stream a c fault
-fails_before stream a b c f (Differs at wrote read) r w e h = (h.0, was_unknown f a.bytes (sym e ∙ h.1), h.2)
-fails_before stream a b c f (Failed true) r w e h = risen_from a.write_faults b.write_faults c.write_faults w h
-fails_before stream a b c f (Failed false) r w e h = risen_from a.faults b.faults c.faults r h
-fails_before stream a b c f TooLong r w e h = h
-fails_before stream a b c f (NoLayout at) r w e h = h
-fails_before stream a b c f NoMemory r w e h = h
+fails_before : (stream : List ℕ) (a b c : FlashState) (fault : UpdateFault) → a.faults ≤ b.faults → a.write_faults ≤ b.write_faults → (b.bytes ≡ None → a.bytes ≡ None) → EndFails stream b c fault → EndFails stream a c fault
+fails_before stream a b c (Differs at wrote read) r w e h = (h.0, e h.1, h.2)
+fails_before stream a b c (Failed true) r w e h = risen_from a.write_faults b.write_faults c.write_faults w h
+fails_before stream a b c (Failed false) r w e h = risen_from a.faults b.faults c.faults r h
+fails_before stream a b c TooLong r w e h = h
+fails_before stream a b c (NoLayout at) r w e h = h
+fails_before stream a b c NoMemory r w e h = h
 
--- why the end of an update fails, since before a write
-pub fails_since : (stream : List ℕ) (a b c : FlashState) (f : List ℕ → List ℕ) (result : Result (Unit {0}) UpdateFault) → a.faults ≤ b.faults → a.write_faults ≤ b.write_faults → b.bytes ≡ option_map f a.bytes → IfErr result (EndFails stream b c) → IfErr result (EndFails stream a c)
-fails_since stream a b c f (Ok _) r w e h = tt
-fails_since stream a b c f (Err fault) r w e h = fails_before stream a b c f fault r w e h
+-- why the end of an update fails, since before a call
+pub fails_since : (stream : List ℕ) (a b c : FlashState) (result : Result (Unit {0}) UpdateFault) → a.faults ≤ b.faults → a.write_faults ≤ b.write_faults → (b.bytes ≡ None → a.bytes ≡ None) → IfErr result (EndFails stream b c) → IfErr result (EndFails stream a c)
+fails_since stream a b c (Ok _) r w e h = tt
+fails_since stream a b c (Err fault) r w e h = fails_before stream a b c fault r w e h
+
+-- why an update is refused whose end fails, of a flash that can take the stream
+pub end_refused : (stream : List ℕ) (old new : FlashState) (result : Result (Unit {0}) UpdateFault) → HasSize new.extent → IfKnown old.bytes (CanTake stream) → IfErr result (EndFails stream old new) → IfErr result (HasCause stream old new)
+end_refused stream old new (Ok _) sized can h = tt
+end_refused stream old new (Err (Differs at wrote read)) sized can h = h
+end_refused stream old new (Err (Failed true)) sized can h = (h, sized, can)
+end_refused stream old new (Err (Failed false)) sized can h = (h, sized)
+end_refused stream old new (Err TooLong) sized can h = absurd h
+end_refused stream old new (Err (NoLayout at)) sized can h = absurd h
+end_refused stream old new (Err NoMemory) sized can h = absurd h

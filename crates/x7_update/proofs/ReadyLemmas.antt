@@ -1,12 +1,12 @@
 -- Lemmas on what was read back before a slot is opened.
-use Rattle.std.proofs.Common.{◌≡◌, ℕ, ◌+◌, ◌-◌, ◌*◌, ◌<◌, ◌≤◌, inl, inr, IsTrue, List, length, get_or, Option, Result, Ok, Err, OnOk, ap, sym, subst, ◌∙◌, arith}
+use Rattle.std.proofs.Common.{◌≡◌, ℕ, ◌+◌, ◌-◌, ◌*◌, ◌≤◌, inl, inr, IsTrue, List, length, get_or, Option, Result, Ok, Err, OnOk, ap, sym, subst, ◌∙◌, arith}
 use Rattle.std.proofs.lemmas.Bool.{cases_lt}
-use Rattle.x7_words.specs.Flash.{FlashState, IfKnown, OnlyReads, Sees}
+use Rattle.x7_words.specs.Flash.{FlashState, IfKnown, Sees}
 use Rattle.x7_update.specs.After.{IsAfter, IsBetween, with_stream}
 use Rattle.x7_update.specs.Layout.{HasLayout, IsClosed, IsNext, IsOpen, open_word, switch_of, update_place}
 use Rattle.x7_update.specs.ReadBack.{AllReadBack, ReadBack, WasReady}
 use Rattle.x7_update.specs.Slots.{Finds, Fits}
-use Rattle.x7_update.specs.Writing.{ReadsWanted, Replacing, SeesWanted, wanted_at}
+use Rattle.x7_update.specs.Writing.{ReadsWanted, ReadsWantedTo, Replacing, SeesWanted, wanted_at}
 use Rattle.x7_update.proofs.CaseLemmas.{between_below, between_closed, open_not_free, stream_keeps}
 use Rattle.x7_update.proofs.StreamLemmas.{wanted_inside}
 use Rattle.x7_update.proofs.SwitchLemmas.{switch_switched}
@@ -15,16 +15,24 @@ use Rattle.x7_update.specs.declared.slots.Slots.{Slots}
 
 -- ---- what is seen
 
--- bytes that were read and are as they are wanted
-pub sees_wanted : {E : Type 0} (update : ℕ) (stream : List ℕ) (from count at : ℕ) (buffer : List ℕ) (new : FlashState) (result : Result (Unit {0}) E) → length buffer ≡ count → at ≡ from → Sees new from buffer
-    → OnOk result (ReadsWanted update stream at buffer) → OnOk result (SeesWanted update stream from (from + count) new)
-sees_wanted update stream from count at buffer new (Err fault) long same seen wanted = tt
-sees_wanted update stream from count at buffer new (Ok _) long same seen wanted = λ place l h.
-    let i = place - from in
-    let here : from + i ≡ place = omega arith in
-    let inside : i < length buffer = omega (arith, long, here, h) in
-    let is : get_or buffer i 0 ≡ wanted_at update stream place = wanted i inside ∙ ap (λ a. wanted_at update stream (a + i)) same ∙ ap (wanted_at update stream) here in
-    subst (λ b. IsTrue (new.seen place b)) is (subst (λ (p : ℕ). IsTrue (new.seen p (get_or buffer i 0))) here (seen i inside))
+-- so many bytes more, which were read and are as they are wanted
+pub sees_to : (update : ℕ) (stream : List ℕ) (place count : ℕ) (buffer : List ℕ) (new : FlashState) → count ≤ length buffer → Sees new place buffer → SeesWanted update stream update place new → ReadsWantedTo update stream place buffer count
+    → SeesWanted update stream update (place + count) new
+sees_to update stream place count buffer new within seen had wanted at l h = elim (cases_lt at place) [
+  | inl below ↦ had at l below
+  | inr above ↦
+      let i = at - place in
+      let here : place + i ≡ at = omega (arith, above) in
+      let is : get_or buffer i 0 ≡ wanted_at update stream at = wanted i (omega (arith, here, h)) ∙ ap (wanted_at update stream) here in
+      subst (λ b. IsTrue (new.seen at b)) is (subst (λ (p : ℕ). IsTrue (new.seen p (get_or buffer i 0))) here (seen i (omega (arith, within, here, h))))
+]
+
+-- a piece more that was read and is as it is wanted
+pub sees_wanted : {E : Type 0} (update : ℕ) (stream : List ℕ) (from count at : ℕ) (buffer : List ℕ) (new : FlashState) (result : Result (Unit {0}) E) → length buffer ≡ count → at ≡ from → Sees new from buffer → SeesWanted update stream update from new
+    → OnOk result (ReadsWanted update stream at buffer) → OnOk result (SeesWanted update stream update (from + count) new)
+sees_wanted update stream from count at buffer new (Err fault) long same seen had wanted = tt
+sees_wanted update stream from count at buffer new (Ok _) long same seen had wanted =
+    sees_to update stream from count buffer new (omega (arith, long)) seen had (λ i h. wanted i (omega (arith, long, h)) ∙ ap (λ a. wanted_at update stream (a + i)) same)
 
 -- a switch word that was read and is that of an open slot
 pub sees_open : {E : Type 0} (place : ℕ) (buffer : List ℕ) (new : FlashState) (result : Result (Unit {0}) E) → length buffer ≡ 4 → Sees new place buffer → OnOk result (ReadsWanted place open_word (place + 0) buffer) → OnOk result (Sees new place open_word)
@@ -33,16 +41,6 @@ sees_open place buffer new (Ok _) long seen wanted = λ i l.
     let here : place + 0 + i - place ≡ i = omega arith in
     let is : get_or buffer i 0 ≡ get_or open_word i 0 = wanted i (omega (arith, long, l)) ∙ wanted_inside place open_word (place + 0 + i) (omega (arith, l)) ∙ ap (λ k. get_or open_word k 0) here in
     subst (λ b. IsTrue (new.seen (place + i) b)) is (seen i (omega (arith, long, l)))
-
--- one sector more
-pub sees_more : (update : ℕ) (stream : List ℕ) (sector : ℕ) (old new : FlashState) (past since : ℕ → List ℕ → Type 0) → OnlyReads old new past since → SeesWanted update stream update (sector * 65536) old
-    → SeesWanted update stream (sector * 65536) (sector * 65536 + 65536) new → SeesWanted update stream update ((sector + 1) * 65536) new
-sees_more update stream sector old new past since only had more place l h = elim (cases_lt place (sector * 65536)) [
-  | inl below ↦ only.seen place (wanted_at update stream place) (had place l below)
-  | inr from ↦ more place from (omega (arith, h))
-]
-
--- nothing before the first sector
 
 -- as far as it was seen
 pub sees_up_to : (update : ℕ) (stream : List ℕ) (from to end : ℕ) (state : FlashState) → end ≤ to → SeesWanted update stream from to state → SeesWanted update stream from end state

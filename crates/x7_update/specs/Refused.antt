@@ -1,9 +1,9 @@
 -- Why an update is refused, and where a flash has no layout (this project's choice).
-use Rattle.std.specs.Prelude.{◌≡◌, ◌≢◌, ℕ, ◌+◌, ◌-◌, ◌*◌, ◌<◌, ◌≤◌, ◌⊎◌, IsTrue, true, false, List, length, get_or, None, Some}
+use Rattle.std.specs.Prelude.{◌≡◌, ◌≢◌, ℕ, ◌+◌, ◌-◌, ◌*◌, ◌<◌, ◌≤◌, ◌⊎◌, true, false, List, length, get_or, None, Some}
 use Rattle.x7_words.specs.Flash.{FlashFails, FlashState, IfKnown, WriteFails}
 use Rattle.x7_packets.specs.FlashSlot.{slot_count}
 use Rattle.x7_update.specs.Layout.{CanStandAt, HasLayout, HasSize, IsFree, IsOpen, Leads, first_slot, update_place}
-use Rattle.x7_update.specs.Writing.{IsReadWrong}
+use Rattle.x7_update.specs.Writing.{IsFirstRead, IsReadWrong}
 use Rattle.x7_update.specs.declared.fault.UpdateFault.{UpdateFault}
 use Rattle.x7_update.specs.declared.fault.UpdateFault.TheVariants.{Differs, Failed, NoLayout, NoMemory, TooLong}
 
@@ -61,13 +61,15 @@ pub record CanTake (stream flash : List ℕ) : Type 0 where
 
 -- Each refusal has its cause. A write or a read failed: its count has risen, the flash's size is good, and known bytes were written only where the stream
 -- fits. The stream doesn't fit into known bytes, or these have no layout. A byte that was read at the place, with no write since, is another than the one
--- written there, only where the bytes aren't known. Want of memory has no cause.
+-- written there, only where the bytes aren't known; of the stream and FF after it, or of the switch word, each byte before it was read as it was written, with
+-- no write since. Want of memory has no cause.
 abbrev pub HasCause : List ℕ → FlashState → FlashState → UpdateFault → Type 0
 HasCause stream old new (Failed true) = WriteFails old new × HasSize new.extent × IfKnown old.bytes (CanTake stream)
 HasCause stream old new (Failed false) = FlashFails old new × HasSize new.extent
 HasCause stream old new TooLong = IfKnown old.bytes (IsTooLong stream)
 HasCause stream old new (NoLayout place) = IfKnown old.bytes (λ flash. NoLayoutAt (length flash) flash place)
-HasCause stream old new (Differs place wrote read) = IsReadWrong new.extent stream place wrote read × (old.bytes ≡ None) × IsTrue (new.seen place read)
+HasCause stream old new (Differs place wrote read) =
+    (wrong : IsReadWrong new.extent stream place wrote read) × (old.bytes ≡ None) × IsFirstRead new wrong.from wrong.piece place read
 HasCause stream old new NoMemory = Unit {0}
 
 -- a refusal for this fault comes before the first write

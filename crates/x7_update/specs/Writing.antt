@@ -90,37 +90,52 @@ HasWanted update stream flash = (place : ℕ) → update ≤ place → place < l
 abbrev pub SeesWanted : ℕ → List ℕ → ℕ → ℕ → FlashState → Type 0
 SeesWanted update stream from to state = (place : ℕ) → from ≤ place → place < to → IsTrue (state.seen place (wanted_at update stream place))
 
+-- so many bytes of what was read from a place on are as they are wanted there
+abbrev pub ReadsWantedTo : ℕ → List ℕ → ℕ → List ℕ → ℕ → Type 0
+ReadsWantedTo update stream place buffer count = (i : ℕ) → i < count → get_or buffer i 0 ≡ wanted_at update stream (place + i)
+
 -- each byte of what was read from a place on is as it is wanted there
 abbrev pub ReadsWanted : ℕ → List ℕ → ℕ → List ℕ → Type 0
-ReadsWanted update stream place buffer = (i : ℕ) → i < length buffer → get_or buffer i 0 ≡ wanted_at update stream (place + i)
+ReadsWanted update stream place buffer = ReadsWantedTo update stream place buffer (length buffer)
 
--- a byte of what was read from a place on is another than the one wanted there
+-- a byte of what was read from a place on is another than the one wanted there, and it is the first that is
 abbrev pub IsWrong : ℕ → List ℕ → ℕ → List ℕ → UpdateFault → Type 0
 IsWrong update stream place buffer (Differs at wrote read) =
     (i : ℕ) × (i < length buffer) × (at ≡ place + i) × (wrote ≡ wanted_at update stream at) × (read ≡ get_or buffer i 0) × (wrote ≢ read)
+    × ReadsWantedTo update stream place buffer i
 IsWrong update stream place buffer (Failed writing) = ⊥
 IsWrong update stream place buffer TooLong = ⊥
 IsWrong update stream place buffer (NoLayout at) = ⊥
 IsWrong update stream place buffer NoMemory = ⊥
 
--- The byte that an update with a stream writes at a place of a flash of a size: the stream's, or FF after it, from a place on at
--- which the stream can stand and fits; or one of the switch word of the slot that is opened.
-pub data IsWritten (size : ℕ) (stream : List ℕ) (place byte : ℕ) : Type 0 where
-  in_stream : (update : ℕ) → CanStandAt size update → update + length stream ≤ size → update ≤ place → place < size
-      → byte ≡ wanted_at update stream place → IsWritten size stream place byte
-  in_switch : (slot : ℕ) → slot < slot_count → 32 * slot ≤ place → place < 32 * slot + 4
-      → byte ≡ wanted_at (32 * slot) open_word place → IsWritten size stream place byte
+-- A piece that an update with a stream writes in a flash of a size, from one place on up to another: the stream, and FF after it up to
+-- the flash's end, from a place on at which the stream can stand and fits; or the switch word of the slot that is opened.
+pub data IsWritten (size : ℕ) (stream piece : List ℕ) (from end : ℕ) : Type 0 where
+  in_stream : CanStandAt size from → from + length stream ≤ size → piece ≡ stream → end ≡ size → IsWritten size stream piece from end
+  in_switch : (slot : ℕ) → slot < slot_count → from ≡ 32 * slot → piece ≡ open_word → end ≡ from + 4 → IsWritten size stream piece from end
 
 -- a byte is another than the one that an update with this stream writes at a place of a flash of a size
 pub record IsReadWrong (size : ℕ) (stream : List ℕ) (place wrote read : ℕ) : Type 0 where
   pub sized : HasSize size
-  pub written : IsWritten size stream place wrote
+  pub piece : List ℕ
+  pub from : ℕ
+  pub end : ℕ
+  pub written : IsWritten size stream piece from end
+  pub behind : from ≤ place
+  pub before : place < end
+  pub wants : wrote ≡ wanted_at from piece place
   pub differs : wrote ≢ read
 
--- why the end of an update with a stream fails: a read or a write failed, or a byte was read that is another than the one written, which
--- known bytes never are
+-- a byte was read at a place, and each byte of a piece before that place as it is wanted; with no write since
+pub record IsFirstRead (state : FlashState) (from : ℕ) (piece : List ℕ) (place read : ℕ) : Type 0 where
+  pub seen : IsTrue (state.seen place read)
+  pub wanted : SeesWanted from piece from place state
+
+-- why the end of an update with a stream fails: a read or a write failed, or a byte was read that is another than the one written, the first of its
+-- piece that is; which known bytes never are
 abbrev pub EndFails : List ℕ → FlashState → FlashState → UpdateFault → Type 0
-EndFails stream old new (Differs at wrote read) = IsReadWrong new.extent stream at wrote read × (old.bytes ≡ None) × IsTrue (new.seen at read)
+EndFails stream old new (Differs at wrote read) =
+    (wrong : IsReadWrong new.extent stream at wrote read) × (old.bytes ≡ None) × IsFirstRead new wrong.from wrong.piece at read
 EndFails stream old new (Failed true) = WriteFails old new
 EndFails stream old new (Failed false) = FlashFails old new
 EndFails stream old new TooLong = ⊥

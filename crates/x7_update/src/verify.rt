@@ -20,7 +20,7 @@ fn wanted(stream: &[u8], after: u64) -> u8
     }
 }
 
-/// Compares what was read from a place on with what is wanted there.
+/// Compares what was read from a place on with what is wanted there, and tells the first byte that differs.
 fn compare(buffer: &[u8], after: u64, update: u64, stream: &[u8]) -> Result<(), UpdateFault>
     requires { update + after + length buffer.now < 2 ^ 63 }
     ensures same { OnOk result (ReadsWanted update stream.now (update + after) buffer.now) }
@@ -64,7 +64,7 @@ pub(crate) fn verify_stream<F: Flash>(
     Ok(())
 }
 
-/// Reads a sector of the update, and compares it.
+/// Reads a sector of the update, and compares it. The sectors before it were read back.
 fn verify_sector<F: Flash>(
     flash: &mut F,
     sector: u64,
@@ -80,7 +80,8 @@ fn verify_sector<F: Flash>(
     requires fits { update + length stream.now ≤ (F.state flash.old).extent }
     requires buffer { length buffer.old ≡ sector_bytes }
     requires written { IfKnown (F.state flash.old).bytes (HasWanted update stream.now) }
-    ensures seen { OnOk result (SeesWanted update stream.now (sector * sector_bytes) (sector * sector_bytes + sector_bytes) (F.state flash.new)) }
+    requires before { SeesWanted update stream.now update (sector * sector_bytes) (F.state flash.old) }
+    ensures seen { OnOk result (SeesWanted update stream.now update (sector * sector_bytes + sector_bytes) (F.state flash.new)) }
     ensures fault { IfErr result (EndFails stream.now (F.state flash.old) (F.state flash.new)) }
     ensures only { OnlyReads (F.state flash.old) (F.state flash.new) (F.found_since flash.old) (F.found_since flash.new) }
     ensures buffer { length buffer.new ≡ sector_bytes }

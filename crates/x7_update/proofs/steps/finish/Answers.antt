@@ -1,9 +1,9 @@
-use Rattle.std.proofs.Common.{◌≡◌, ◌⊎◌, inl, inr, ap, option_map, refl, ◌∙◌, arith}
+use Rattle.std.proofs.Common.{◌≡◌, ◌⊎◌, inl, inr, ap, option_map, refl, sym, ◌∙◌, arith}
 use Rattle.x7_update.specs.After.{switched}
 use Rattle.x7_update.specs.Layout.{open_word}
 use Rattle.x7_update.specs.ReadBack.{WasReady}
 use Rattle.x7_update.specs.Writing.{Opening}
-use Rattle.x7_update.proofs.BackLemmas.{fails_since}
+use Rattle.x7_update.proofs.BackLemmas.{fails_since, was_unknown}
 use Rattle.x7_update.proofs.ReadyLemmas.{was_ready}
 use Rattle.x7_update.proofs.ToldLemmas.{moments_read, moments_weaker, on_ok, only_read, read_moments}
 use Rattle.x7_update.proofs.steps.finish.Goals as goal
@@ -17,7 +17,8 @@ returns-clause-fault g c =
     let wrote = c.open_slot.ensures.only in
     let change = switched c.args.slots.next open_word in
     let is : mid.bytes ≡ option_map change old.bytes = c.in-Ok.ensures.opened ∙ ap (option_map change) read.bytes in
-    fails_since c.args.stream.now old mid last change c.verify_switch.result (omega (arith, read.faults, wrote.faults)) (omega (arith, read.unwritten.write_faults, wrote.write_faults)) is (c.verify_switch.ensures.fault c.args.stream.now)
+    fails_since c.args.stream.now old mid last c.verify_switch.result (omega (arith, read.faults, wrote.faults)) (omega (arith, read.unwritten.write_faults, wrote.write_faults)) (λ none. was_unknown change old.bytes (sym is ∙ none))
+    (c.verify_switch.ensures.fault c.args.stream.now)
 
 pub returns-clause-ready : goal.returns-clause-ready
 returns-clause-ready g c =

@@ -2,10 +2,12 @@ use Rattle.std.proofs.Common.{◌≡◌, ◌+◌, ◌≤◌, ◌⊎◌, ⊎_elim
 use Rattle.x7_words.specs.Flash.{IfKnown}
 use Rattle.x7_words.specs.Word.{AreBytes}
 use Rattle.x7_update.specs.After.{IsBetween, MayBeLeft, untouched}
-use Rattle.x7_update.specs.Layout.{HasLayout, IsClosed, IsFree}
+use Rattle.x7_update.specs.Layout.{HasLayout, HasSize, IsClosed, IsFree}
 use Rattle.x7_update.specs.ReadBack.{OpensReadBack, ReadBack, WasReady}
+use Rattle.x7_update.specs.Refused.{CanTake}
 use Rattle.x7_update.specs.Slots.{Finds, Fits}
 use Rattle.x7_update.specs.Writing.{HasWanted, Opening, Replaced, Replacing, StaysBytes}
+use Rattle.x7_update.proofs.BackLemmas.{end_refused, fails_since, none_before}
 use Rattle.x7_update.proofs.ByteLemmas.{bytes_on, moments_both}
 use Rattle.x7_update.proofs.CaseLemmas.{opening_left, replaced_between, replaced_free, replaced_wanted, replacing_left}
 use Rattle.x7_update.proofs.ReadyLemmas.{after_not_between, after_not_replacing, after_not_same, all_back, read_back}
@@ -14,6 +16,27 @@ use Rattle.x7_update.proofs.steps.take_steps.Goals as goal
 
 pub returns-in-Err-clause-refused : goal.returns-in-Err-clause-refused
 returns-in-Err-clause-refused g c = c.in-Err.ensures.fault c.args.stream.now
+
+pub returns-clause-refused : goal.returns-clause-refused
+returns-clause-refused g c =
+    let first = g.F.Flash.state c.args.flash.now in
+    let then = g.F.Flash.state c.replace.new.flash in
+    let last = g.F.Flash.state c.finish.new.flash in
+    let slots = c.in-Ok-find_slots.slots in
+    let stream = c.args.stream.now in
+    let fits = c.in-Ok-find_slots.ensures.fits in
+    let read = c.find_slots.ensures.only in
+    let wrote = c.replace.ensures.only in
+    let size : last.extent ≡ first.extent = c.finish.ensures.only.extent ∙ wrote.extent ∙ read.extent in
+    let can : IfKnown first.bytes (CanTake stream) =
+    told_map first.bytes (λ all. Finds (length all) all slots) (CanTake stream)
+    (λ all e finds.
+    let long : first.extent ≡ length all = told_at first.bytes (λ all. first.extent ≡ length all) (g.met.F.Flash.counted c.args.flash.now) all e in
+    record { layout = record { size = finds.sized; slots = finds.has }; fits = omega (arith, long, finds.update, read.extent, c.size.ensures.extent, fits.place.most, c.if-stream-size.false) })
+    c.in-Ok-find_slots.ensures.finds in
+    end_refused stream first last c.finish.result (subst HasSize (sym size) fits.sized) can
+    (fails_since stream first then last c.finish.result (omega (arith, read.faults, wrote.faults)) (omega (arith, read.unwritten.write_faults, wrote.write_faults))
+    (λ none. sym read.bytes ∙ none_before (Replaced slots.update stream) (g.F.Flash.state c.find_slots.new.flash).bytes then.bytes c.in-Ok-replace.ensures.replaced none) c.finish.ensures.fault)
 
 pub returns-clause-layout : goal.returns-clause-layout
 returns-clause-layout g c =

@@ -1,6 +1,8 @@
-use Rattle.std.proofs.Common.{◌≤◌, ◌*◌, arith}
+use Rattle.std.proofs.Common.{◌≤◌, ◌+◌, ◌*◌, IfErr, sym, ◌∙◌, arith, rules}
 use Rattle.x7_words.proofs.FlashLemmas.{reads_on}
-use Rattle.x7_update.proofs.ReadyLemmas.{sees_more, sees_up_to}
+use Rattle.x7_update.specs.Writing.{EndFails}
+use Rattle.x7_update.proofs.BackLemmas.{fails_since}
+use Rattle.x7_update.proofs.ReadyLemmas.{sees_up_to}
 use Rattle.x7_update.proofs.verify.verify_stream.Goals as goal
 
 pub loop-sector-preserved : goal.loop-sector-preserved
@@ -11,7 +13,7 @@ loop-sector-preserved g c =
     record {
       only = reads_on first mid last _ _ _ c.loop-sector.invariant.only c.verify_sector.ensures.only;
       buffer = c.verify_sector.ensures.buffer;
-      seen = sees_more c.args.update c.args.stream.now c.loop-sector.sector mid last _ _ c.verify_sector.ensures.only c.loop-sector.invariant.seen c.in_ok-verify_sector.ensures.seen;
+      seen = sees_up_to c.args.update c.args.stream.now c.args.update (c.loop-sector.sector * 65536 + 65536) ((c.loop-sector.sector + 1) * 65536) last (omega arith) c.in_ok-verify_sector.ensures.seen;
     }
 
 pub returns-clause-seen : goal.returns-clause-seen
@@ -19,3 +21,12 @@ returns-clause-seen g c =
     let first = g.F.Flash.state c.args.flash.now in
     let end : first.extent ≤ c.loop-sector.sector * 65536 = omega (arith, c.size-sector-end.ensures.extent, c.requires.size.whole) in
     sees_up_to c.args.update c.args.stream.now c.args.update (c.loop-sector.sector * 65536) first.extent (g.F.Flash.state c.loop-sector.flash) end c.loop-sector.invariant.seen
+
+pub returns-in_err-verify_sector-clause-fault : goal.returns-in_err-verify_sector-clause-fault
+returns-in_err-verify_sector-clause-fault g c =
+    let first = g.F.Flash.state c.args.flash.now in
+    let mid = g.F.Flash.state c.loop-sector.flash in
+    let only = c.loop-sector.invariant.only in
+    let since : IfErr c.verify_sector.result (EndFails c.args.stream.now first (g.F.Flash.state c.verify_sector.new.flash)) =
+    fails_since c.args.stream.now first mid (g.F.Flash.state c.verify_sector.new.flash) c.verify_sector.result only.faults (omega (arith, only.unwritten.write_faults)) (λ none. sym only.bytes ∙ none) c.verify_sector.ensures.fault in
+    search rules
