@@ -13,7 +13,7 @@ use Rattle.std.proofs.lemmas.List.Elements.{Contains-append_cases}
 use Rattle.x7_part.specs.declared.column.Column.{Column}
 use Rattle.x7_part.specs.declared.slot.Slot.{Slot}
 use Rattle.x7_part.specs.declared.slot.Slot.TheVariants.{Frame, Pad, End}
-use Rattle.x7_part.specs.AddressOrder.{count_from, Follows, IsLast}
+use Rattle.x7_part.specs.AddressOrder.{count_from, IsFollowedBy, IsLastIn}
 use Rattle.x7_part.specs.Columns.{frames_of, slots_of, column_addresses, column_slots, IsTable, no_column, column}
 use Rattle.x7_part.specs.Slots.{from}
 
@@ -433,7 +433,7 @@ no_frame_first cs r far t after e = let p : End ≡ get_or (column_slots cs) r E
 -- ---- the next address
 
 pub next_inside : (cs : List Column) → IsTable 0 0 0 cs → (i x : ℕ) (d : Column) → i < length cs →
-    (get_or cs i d).first ≤ x → x + 1 < (get_or cs i d).first + (get_or cs i d).count → Follows (column_addresses cs) x (x + 1)
+    (get_or cs i d).first ≤ x → x + 1 < (get_or cs i d).first + (get_or cs i d).count → IsFollowedBy (column_addresses cs) x (x + 1)
 next_inside cs t i x d h low high =
     let a = rank_found cs t i x d h low (omega arith) in
     let b = rank_found cs t i (x + 1) d h (omega arith) high in
@@ -443,7 +443,7 @@ next_inside cs t i x d h low high =
     (r, b'.0, a.1, b'.1)
 
 pub next_column : (cs : List Column) → IsTable 0 0 0 cs → (i x : ℕ) (d : Column) → i + 1 < length cs →
-    (get_or cs i d).first ≤ x → x + 1 ≡ (get_or cs i d).first + (get_or cs i d).count → Follows (column_addresses cs) x (get_or cs (i + 1) d).first
+    (get_or cs i d).first ≤ x → x + 1 ≡ (get_or cs i d).first + (get_or cs i d).count → IsFollowedBy (column_addresses cs) x (get_or cs (i + 1) d).first
 next_column cs t i x d h low last =
     let a = rank_found cs t i x d (omega arith) low (omega arith) in
     let r = (get_or cs i d).rank + (x - (get_or cs i d).first) in
@@ -455,7 +455,7 @@ next_column cs t i x d h low last =
     (r, b'.0, a.1, b'.1)
 
 pub next_none : (cs : List Column) → IsTable 0 0 0 cs → (i x : ℕ) (d : Column) → i + 1 ≡ length cs →
-    (get_or cs i d).first ≤ x → x + 1 ≡ (get_or cs i d).first + (get_or cs i d).count → IsLast (column_addresses cs) x
+    (get_or cs i d).first ≤ x → x + 1 ≡ (get_or cs i d).first + (get_or cs i d).count → IsLastIn (column_addresses cs) x
 next_none cs t i x d h low last =
     let a = rank_found cs t i x d (omega arith) low (omega arith) in
     let e : 0 + length (column_addresses cs) ≡ (get_or cs i d).rank + (get_or cs i d).count = ends_last 0 0 0 cs t i d h in

@@ -13,7 +13,7 @@ use Rattle.x7_part.specs.Part.{FieldWidths, PartData, RowData}
 use Rattle.x7_part.specs.PartFile.{fault_of, part_from, part_in, part_of_table, part_unless}
 use Rattle.x7_part.specs.PartRange.{IsPart}
 use Rattle.x7_part.specs.PartRows.{IsBefore, RowsRise}
-use Rattle.x7_part.specs.PartValues.{top_values, settings_of, rows_of}
+use Rattle.x7_part.specs.PartValues.{top_values, settings_by_values, rows_in_file}
 use Rattle.x7_part.proofs.PassLemmas.{made_is}
 use Rattle.x7_part.proofs.SortLemmas.{from_least, ordered_same}
 use Rattle.x7_part.proofs.WidthLemmas.{before_of, some_weight}
@@ -70,9 +70,9 @@ pub text_is : (text : List ℕ) (part : PartData) → part_in text ≡ Ok part �
 unfolding GivesPart
 text_is text part e = let (table, p, f, same) = gives text part e in subst IsPart same (made_is table f)
 
-pub text_rows : (text : List ℕ) (table : Members) (part : PartData) → parse_document text ≡ Some table → part_in text ≡ Ok part → IsPermutation (rows_of table) part.rows
+pub text_rows : (text : List ℕ) (table : Members) (part : PartData) → parse_document text ≡ Some table → part_in text ≡ Ok part → IsPermutation (rows_in_file table) part.rows
 unfolding GivesPart part_from
 text_rows text table part p e =
     let (other, q, f, same) = gives text part e in
     let one : other ≡ table = same_Some other table (sym q ∙ p) in
-    subst (λ x. IsPermutation (rows_of x) part.rows) one (subst (λ x. IsPermutation (rows_of other) x) (ap (λ x. x.rows) same) (ordered_same (settings_of (top_values other)).far (rows_of other)))
+    subst (λ x. IsPermutation (rows_in_file x) part.rows) one (subst (λ x. IsPermutation (rows_in_file other) x) (ap (λ x. x.rows) same) (ordered_same (settings_by_values (top_values other)).far (rows_in_file other)))

@@ -18,7 +18,7 @@ use Rattle.x7_part.specs.PartRange.{IsPart}
 use Rattle.x7_part.specs.FrameAddress.{IsRow}
 use Rattle.x7_part.specs.declared.settings.Settings.{Settings}
 use Rattle.x7_part.specs.AddressOrder.{addresses}
-use Rattle.x7_part.specs.PartValues.{RowValues, TopValues, top_values, settings_of, row_of, rows_of, part_data, part_with}
+use Rattle.x7_part.specs.PartValues.{RowValues, TopValues, top_values, settings_by_values, row_by_values, rows_in_file, part_data, part_with}
 use Rattle.x7_part.specs.PartChecks.{fault_of_call, unless, first_of, rows_fault, is_in, is_long, is_name, is_odd, is_unit, are_widths_or_none, row_range_fault, type_fault, other_fault, number_range_fault, top_range_fault, range_fault}
 use Rattle.x7_part.specs.PartRows.{same_row_fault, has_few_frames, frames_fault, in_order}
 use Rattle.x7_part.specs.PartFile.{fault_of, part_in, part_of_table, part_unless, part_from}
@@ -33,13 +33,13 @@ few words frames rows h =
     let p = and_parts (nat_le frames 131072) (nat_le (words * (frames + 2 * rows)) 13277056) h in
     (leb-true frames 131072 p.0, leb-true (words * (frames + 2 * rows)) 13277056 p.1)
 
-made : (t : Members) → type_fault t ≡ None → other_fault (top_values t) ≡ None → range_fault (top_values t) ≡ None → same_row_fault [] (rows_of t) ≡ None →
-    frames_fault (part_with (top_values t) (rows_of t)) ≡ None → IsPart (part_from t)
+made : (t : Members) → type_fault t ≡ None → other_fault (top_values t) ≡ None → range_fault (top_values t) ≡ None → same_row_fault [] (rows_in_file t) ≡ None →
+    frames_fault (part_with (top_values t) (rows_in_file t)) ≡ None → IsPart (part_from t)
 unfolding range_fault top_range_fault number_range_fault part_from
 made t types others ranges apart frames =
     let v = top_values t in
-    let s = settings_of v in
-    let rows = rows_of t in
+    let s = settings_by_values v in
+    let rows = rows_in_file t in
     let sorted = in_order s.far rows in
     let each = nones (top_range_fault v ∷ rows_fault row_range_fault 1 v.rows ∷ []) ranges in
     let all = nones (unless (is_name v.name) (Range (top key.Name)) ∷ number_range_fault v ∷ unless (is_long 1 192 (length v.rows)) (Range (top key.Row)) ∷ []) each.0 in
@@ -60,7 +60,7 @@ made t types others ranges apart frames =
     let matched = (in_range 0 65535 v.matched (unless_none (is_in 0 65535 v.matched) (Range (top key.Match)) h.1.1.1.1.0)).1 in
     let far = far_is v.far (unless_none (are_widths_or_none v.far) (Range (top key.Far)) h.1.1.1.1.1.1.0) in
     let many = long_in 1 192 (length v.rows) (unless_none (is_long 1 192 (length v.rows)) (Range (top key.Row)) all.1.1.0) in
-    let count : length rows ≡ length v.rows = length-map v.rows row_of in
+    let count : length rows ≡ length v.rows = length-map v.rows row_by_values in
     let same = ordered_same s.far rows in
     let are = ordered s.far rows sorted far (rows_are 1 v.rows each.1.0) apart same (ordered_sorted s.far rows) in
     let l : length sorted ≡ length rows = length_permutation rows sorted same in
@@ -91,7 +91,7 @@ pub made_is : (t : Members) → fault_of t ≡ None → IsPart (part_from t)
 unfolding fault_of
 made_is t e =
     let v = top_values t in
-    let h = nones (type_fault t ∷ other_fault v ∷ range_fault v ∷ same_row_fault [] (rows_of t) ∷ frames_fault (part_with v (rows_of t)) ∷ []) e in
+    let h = nones (type_fault t ∷ other_fault v ∷ range_fault v ∷ same_row_fault [] (rows_in_file t) ∷ frames_fault (part_with v (rows_in_file t)) ∷ []) e in
     made t h.0 h.1.0 h.1.1.0 h.1.1.1.0 h.1.1.1.1.0
 
 -- ---- the checks of rows
@@ -180,13 +180,13 @@ pub record Passed (text : List ℕ) (t : Members) (v : TopValues) (s : Settings)
   pub others : None ≡ other_fault v
   pub before : None ≡ top_range_fault v
   pub each : rows_fault row_range_fault 1 v.rows ≡ None
-  pub settings : s ≡ settings_of v
-  pub made : rows ≡ map row_of v.rows
+  pub settings : s ≡ settings_by_values v
+  pub made : rows ≡ map row_by_values v.rows
 
 pub passed : (text : List ℕ) (t : Members) (v : TopValues) (s : Settings) (rows : List RowData) (values : List RowValues) → Typed text t v → None ≡ other_fault v →
-    None ≡ top_range_fault v → values ≡ v.rows → rows_fault row_range_fault 1 values ≡ None → s ≡ settings_of v → rows ≡ map row_of values → Passed text t v s rows
+    None ≡ top_range_fault v → values ≡ v.rows → rows_fault row_range_fault 1 values ≡ None → s ≡ settings_by_values v → rows ≡ map row_by_values values → Passed text t v s rows
 passed text t v s rows values typed others before same each settings made =
-    record { typed = typed; others = others; before = before; each = rw (← same) each; settings = settings; made = made ∙ ap (map row_of) same }
+    record { typed = typed; others = others; before = before; each = rw (← same) each; settings = settings; made = made ∙ ap (map row_by_values) same }
 
 ranges_none : (text : List ℕ) (t : Members) (v : TopValues) (s : Settings) (rows : List RowData) → Passed text t v s rows → range_fault v ≡ None
 unfolding range_fault
@@ -197,7 +197,7 @@ unfolding top_range_fault
 few_rows text t v s rows h =
     let all = nones (unless (is_name v.name) (Range (top key.Name)) ∷ number_range_fault v ∷ unless (is_long 1 192 (length v.rows)) (Range (top key.Row)) ∷ []) (sym h.before) in
     let many = (long_in 1 192 (length v.rows) (unless_none (is_long 1 192 (length v.rows)) (Range (top key.Row)) all.1.1.0)).1 in
-    let count : length rows ≡ length v.rows = ap length h.made ∙ length-map v.rows row_of in
+    let count : length rows ≡ length v.rows = ap length h.made ∙ length-map v.rows row_by_values in
     omega arith
 
 -- what the checks of rows find is the first fault of the table
@@ -206,10 +206,10 @@ rest_is : (text : List ℕ) (t : Members) (v : TopValues) (s : Settings) (rows :
 unfolding fault_of
 rest_is text t v s rows h =
     let values = sym h.typed.values in
-    let found : first_of (same_row_fault [] (map row_of v.rows) ∷ frames_fault (part_with v (map row_of v.rows)) ∷ [])
+    let found : first_of (same_row_fault [] (map row_by_values v.rows) ∷ frames_fault (part_with v (map row_by_values v.rows)) ∷ [])
     ≡ first_of (same_row_fault [] rows ∷ frames_fault (part_data v.name s rows) ∷ []) = rw (h.settings, h.made) refl in
     rw (h.typed.types, ap other_fault values ∙ sym h.others, ap range_fault values ∙ ranges_none text t v s rows h)
-    (ap (λ x. first_of (same_row_fault [] (map row_of x.rows) ∷ frames_fault (part_with x (map row_of x.rows)) ∷ [])) values ∙ found)
+    (ap (λ x. first_of (same_row_fault [] (map row_by_values x.rows) ∷ frames_fault (part_with x (map row_by_values x.rows)) ∷ [])) values ∙ found)
 
 pub last_told : (text : List ℕ) (t : Members) (v : TopValues) (s : Settings) (rows : List RowData) (fault : PartFault) → Passed text t v s rows →
     Some fault ≡ first_of (same_row_fault [] rows ∷ frames_fault (part_data v.name s rows) ∷ []) → part_in text ≡ Err fault
@@ -228,9 +228,9 @@ unfolding part_from
 whole text t v s rows name named h e =
     let last = nones (same_row_fault [] rows ∷ frames_fault (part_data v.name s rows) ∷ []) (sym e) in
     let none : fault_of t ≡ None = rest_is text t v s rows h ∙ sym e in
-    let ordered : part_with v (in_order (settings_of v).far (map row_of v.rows)) ≡ part_data name s (in_order s.far rows) = rw (h.settings, h.made, named) refl in
+    let ordered : part_with v (in_order (settings_by_values v).far (map row_by_values v.rows)) ≡ part_data name s (in_order s.far rows) = rw (h.settings, h.made, named) refl in
     let same : part_from t ≡ part_data name s (in_order s.far rows) =
-    ap (λ x. part_with x (in_order (settings_of x).far (map row_of x.rows))) (sym h.typed.values) ∙ ordered in
+    ap (λ x. part_with x (in_order (settings_by_values x).far (map row_by_values x.rows))) (sym h.typed.values) ∙ ordered in
     record {
       all = rw h.made (rows_are 1 v.rows h.each);
       apart = last.0;

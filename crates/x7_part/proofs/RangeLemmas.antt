@@ -11,7 +11,7 @@ use Rattle.x7_part.specs.declared.fault.PartFault.TheVariants.{Range}
 use Rattle.x7_part.specs.declared.fault.PartKey.TheVariants as key
 use Rattle.x7_part.specs.PartKey.{in_row}
 use Rattle.x7_part.specs.FrameAddress.{IsRow, AreWidths}
-use Rattle.x7_part.specs.PartValues.{RowValues, natural, row_of, widths_of}
+use Rattle.x7_part.specs.PartValues.{RowValues, natural, row_by_values, widths_of}
 use Rattle.x7_part.specs.PartChecks.{unless, first_of, rows_fault, next_row_number, is_in, is_long, are_printed, is_name, is_odd, is_unit, are_in, are_minors, are_widths, are_widths_or_none, row_range_fault}
 use Rattle.x7_part.proofs.OrderLemmas.{unless_none, first_none}
 
@@ -113,7 +113,7 @@ minors_are zs fault e =
       each = minors_in zs m.1;
     }
 
-row_is : (n : ℕ) (v : RowValues) → row_range_fault n v ≡ None → IsRow (row_of v)
+row_is : (n : ℕ) (v : RowValues) → row_range_fault n v ≡ None → IsRow (row_by_values v)
 row_is n v e =
     let none = nones (
     unless (is_in 0 2 v.block) (Range (in_row n key.Block))
@@ -131,8 +131,8 @@ row_is n v e =
       minors = m.each;
     }
 
-pub rows_are : (n : ℕ) (vs : List RowValues) → rows_fault row_range_fault n vs ≡ None → All IsRow (map row_of vs)
+pub rows_are : (n : ℕ) (vs : List RowValues) → rows_fault row_range_fault n vs ≡ None → All IsRow (map row_by_values vs)
 rows_are n [] e = All-nil IsRow
 rows_are n (v ∷ vs) e =
     let p = nones (row_range_fault n v ∷ rows_fault row_range_fault (next_row_number n) vs ∷ []) e in
-    All-cons IsRow (row_of v) (map row_of vs) (row_is n v p.0) (rows_are (next_row_number n) vs p.1.0)
+    All-cons IsRow (row_by_values v) (map row_by_values vs) (row_is n v p.0) (rows_are (next_row_number n) vs p.1.0)

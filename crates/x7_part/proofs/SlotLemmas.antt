@@ -8,7 +8,7 @@ use Rattle.std.proofs.lemmas.List.Elements.{Contains-append_cases}
 use Rattle.x7_part.specs.Part.{FieldWidths, RowData, PartData}
 use Rattle.x7_part.specs.PartRange.{IsPart}
 use Rattle.x7_part.specs.FrameAddress.{AreRows, no_row, row, row_address, column_low}
-use Rattle.x7_part.specs.AddressOrder.{addresses_of, addresses, addresses_in, Rises, risen, rise, Follows}
+use Rattle.x7_part.specs.AddressOrder.{addresses_of, addresses, addresses_in, Rises, risen, rise, IsFollowedBy}
 use Rattle.x7_part.specs.Slots.{slots, slots_in, from, addresses_among, AreInOneRow}
 use Rattle.x7_part.specs.declared.slot.Slot.{Slot}
 use Rattle.x7_part.specs.declared.slot.Slot.TheVariants.{Frame, Pad, End}
@@ -189,7 +189,7 @@ module _ (far : FieldWidths) (r : RowData) (rows : List RowData) (l x y : ℕ) (
       omega (arith, s, h)
 
   -- x in this row
-  here_next : Contains A x → get_or (from x (map Frame A ++ (Pad ∷ Pad ∷ slots far rows))) 1 End ≡ Frame y → Follows (A ++ B) x y × InOne far (r ∷ rows) x y
+  here_next : Contains A x → get_or (from x (map Frame A ++ (Pad ∷ Pad ∷ slots far rows))) 1 End ≡ Frame y → IsFollowedBy (A ++ B) x y × InOne far (r ∷ rows) x y
   unfolding InOne
   here_next (k, h, e) s =
       let at : get_or A k 0 ≡ x = sym (get_or_default A k x 0 h) ∙ e in
@@ -200,7 +200,7 @@ module _ (far : FieldWidths) (r : RowData) (rows : List RowData) (l x y : ℕ) (
         | inr high ↦ absurd (pad_is_no_frame y (sym (at_end l x k A (Pad ∷ slots far rows) (rises_front l A B rises) (omega (arith, h, high)) at) ∙ s))
       ]
 
-  here_frame : Contains A x → Follows (A ++ B) x y → InOne far (r ∷ rows) x y → get_or (from x (map Frame A ++ (Pad ∷ Pad ∷ slots far rows))) 1 End ≡ Frame y
+  here_frame : Contains A x → IsFollowedBy (A ++ B) x y → InOne far (r ∷ rows) x y → get_or (from x (map Frame A ++ (Pad ∷ Pad ∷ slots far rows))) 1 End ≡ Frame y
   unfolding InOne
   here_frame (k, h, e) (i, low, f, g) (s, (zero, jl, je), ax, (m, ml, me)) =
       let at : get_or A k 0 ≡ x = sym (get_or_default A k x 0 h) ∙ e in
@@ -214,14 +214,14 @@ module _ (far : FieldWidths) (r : RowData) (rows : List RowData) (l x y : ℕ) (
   here_frame has follows (s, (suc j, jl, je), ax, ay) = absurd (not_both has (row_holds far rows s x (j, omega arith, je) ax))
 
   -- x in a later row
-  later_follows : Contains B x → Follows (A ++ B) x y → Follows B x y
+  later_follows : Contains B x → IsFollowedBy (A ++ B) x y → IsFollowedBy B x y
   later_follows (p, h, e) (i, low, f, g) =
       let at : get_or B p 0 ≡ x = sym (get_or_default B p x 0 h) ∙ e in
       let i_is : i ≡ length A + p = same_place l (A ++ B) i (length A + p) rises (omega (arith, low)) (omega (arith, h, long)) (f ∙ sym (right p ∙ at)) in
       let next : i + 1 ≡ length A + (p + 1) = omega (arith, i_is) in
       (p, omega (arith, low, i_is, long), at, sym (right (p + 1)) ∙ ap (λ q. get_or (A ++ B) q 0) (sym next) ∙ g)
 
-  more_follows : Follows B x y → Follows (A ++ B) x y
+  more_follows : IsFollowedBy B x y → IsFollowedBy (A ++ B) x y
   more_follows (p, low, f, g) =
       let next : length A + p + 1 ≡ length A + (p + 1) = omega arith in
       (length A + p, omega (arith, low, long), right p ∙ f, ap (λ q. get_or (A ++ B) q 0) next ∙ right (p + 1) ∙ g)
@@ -239,7 +239,7 @@ module _ (far : FieldWidths) (r : RowData) (rows : List RowData) (l x y : ℕ) (
   flat = ap (from x) (append_assoc (map Frame A) (Pad ∷ Pad ∷ []) (slots far rows))
 
 next_is : (far : FieldWidths) (l : ℕ) (rows : List RowData) (x y : ℕ) → Rises l (addresses far rows) → Contains (addresses far rows) x →
-    (get_or (from x (slots far rows)) 1 End ≡ Frame y) ↔ (Follows (addresses far rows) x y × InOne far rows x y)
+    (get_or (from x (slots far rows)) 1 End ≡ Frame y) ↔ (IsFollowedBy (addresses far rows) x y × InOne far rows x y)
 unfolding addresses slots
 next_is far l [] x y rises (k, low, e) = absurd (omega arith)
 next_is far l (r ∷ rows) x y rises has =
@@ -257,6 +257,6 @@ next_is far l (r ∷ rows) x y rises has =
     ]
 
 pub slots_next : (part : PartData) (far next : ℕ) → IsPart part → Contains (addresses_in part) far →
-    (get_or (from far (slots_in part)) 1 End ≡ Frame next) ↔ (Follows (addresses_in part) far next × AreInOneRow part far next)
+    (get_or (from far (slots_in part)) 1 End ≡ Frame next) ↔ (IsFollowedBy (addresses_in part) far next × AreInOneRow part far next)
 unfolding InOne
 slots_next part far next is has = next_is part.far 0 part.rows far next (part_rises part.far part.rows is.far is.rows) has

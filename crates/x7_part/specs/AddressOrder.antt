@@ -14,6 +14,7 @@ abbrev pub row_addresses : ℕ → ℕ → ℕ → List ℕ → List ℕ
 row_addresses pitch base column [] = []
 row_addresses pitch base column (n ∷ minors) = count_from (base + column * pitch) n ++ row_addresses pitch base (column + 1) minors
 
+-- the addresses of a row
 abbrev pub addresses_of : FieldWidths → RowData → List ℕ
 addresses_of far r = row_addresses (2 ^ column_low far) (row_address far r) 0 r.minors
 
@@ -31,8 +32,9 @@ pub data Rises : ℕ → List ℕ → Type 0 where
   rise : (least x : ℕ) (xs : List ℕ) → least ≤ x → Rises (x + 1) xs → Rises least (x ∷ xs)
 
 -- y stands right after x in a list
-abbrev pub Follows : List ℕ → ℕ → ℕ → Type 0
-Follows xs x y = (k : ℕ) × (k + 1 < length xs) × (slice_index xs k ≡ x) × (slice_index xs (k + 1) ≡ y)
+abbrev pub IsFollowedBy : List ℕ → ℕ → ℕ → Type 0
+IsFollowedBy xs x y = (k : ℕ) × (k + 1 < length xs) × (slice_index xs k ≡ x) × (slice_index xs (k + 1) ≡ y)
 
-abbrev pub IsLast : List ℕ → ℕ → Type 0
-IsLast xs x = (k : ℕ) × (k + 1 ≡ length xs) × (slice_index xs k ≡ x)
+-- x is the last number of a list
+abbrev pub IsLastIn : List ℕ → ℕ → Type 0
+IsLastIn xs x = (k : ℕ) × (k + 1 ≡ length xs) × (slice_index xs k ≡ x)

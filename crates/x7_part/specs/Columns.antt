@@ -8,10 +8,11 @@ use Rattle.x7_part.specs.declared.column.Column.{Column}
 use Rattle.x7_part.specs.declared.slot.Slot.{Slot}
 use Rattle.x7_part.specs.declared.slot.Slot.TheVariants.{Frame, Pad}
 
--- the addresses and the slots of one column
+-- the addresses of one column
 abbrev pub frames_of : Column → List ℕ
 frames_of c = count_from c.first c.count
 
+-- the slots of one column: its frames, and the pads behind them
 abbrev pub slots_of : Column → List Slot
 slots_of c = map Frame (frames_of c) ++ replicate c.pads Pad
 
@@ -19,10 +20,11 @@ slots_of c = map Frame (frames_of c) ++ replicate c.pads Pad
 abbrev pub IsIn : Column → ℕ → Type 0
 IsIn c address = (c.first ≤ address) × (address < c.first + c.count)
 
--- the addresses and the slots of all columns
+-- the addresses of all columns
 unfoldable pub column_addresses : List Column → List ℕ
 column_addresses columns = flat_map frames_of columns
 
+-- the slots of all columns
 unfoldable pub column_slots : List Column → List Slot
 column_slots columns = flat_map slots_of columns
 

@@ -3,22 +3,27 @@
 use Rattle.std.specs.Prelude.{◌≡◌, ℕ, ◌+◌, ◌*◌, ◌^◌, ◌<◌, ◌≤◌, List, [], ◌∷◌, length, slice_index, Contains, All}
 use Rattle.x7_part.specs.Part.{FieldWidths, RowData, PartData}
 
--- the lowest bit of the column, of the row, of the half and of the block type, and the width of an address
+-- the lowest bit of the column
 abbrev pub column_low : FieldWidths → ℕ
 column_low far = far.minor
 
+-- the lowest bit of the row
 abbrev pub row_low : FieldWidths → ℕ
 row_low far = far.minor + far.column
 
+-- the lowest bit of the half
 abbrev pub half_low : FieldWidths → ℕ
 half_low far = far.minor + far.column + far.row
 
+-- the lowest bit of the block type
 abbrev pub block_low : FieldWidths → ℕ
 block_low far = far.minor + far.column + far.row + far.half
 
+-- how many bits an address has
 abbrev pub address_width : FieldWidths → ℕ
 address_width far = far.minor + far.column + far.row + far.half + far.block
 
+-- how many bits a part's addresses have
 abbrev pub far_width : PartData → ℕ
 far_width part = address_width part.far
 

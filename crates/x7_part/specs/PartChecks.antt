@@ -27,9 +27,9 @@ fault_of_call (Ok done) = None
 fault_of_call (Err fault) = Some fault
 
 -- a call that takes memory answers the fault that is due, or none where none is; want of memory has no cause
-abbrev pub Tells : {T : Type 0} → Option PartFault → Result T PartFault → Type 0
-Tells due (Ok done) = due ≡ None
-Tells due (Err fault) = (fault ≡ NoMemory) ⊎ (due ≡ Some fault)
+abbrev pub AnswersDue : {T : Type 0} → Option PartFault → Result T PartFault → Type 0
+AnswersDue due (Ok done) = due ≡ None
+AnswersDue due (Err fault) = (fault ≡ NoMemory) ⊎ (due ≡ Some fault)
 
 -- the number of the row after row n; a number past 32 bits is given as the last of 32 bits
 abbrev pub next_row_number : ℕ → ℕ
@@ -42,35 +42,40 @@ rows_fault check n (row ∷ rows) = first_of (check n row ∷ rows_fault check (
 
 -- ---- types
 
--- each item is a whole number, or a table
+-- each item is a whole number
 abbrev pub are_wholes : Items → Bool
 are_wholes no_items = true
 are_wholes (item d ds) = is_some (as_integer d) && are_wholes ds
 
+-- each item is a table
 abbrev pub are_tables : Items → Bool
 are_tables no_items = true
 are_tables (item d ds) = is_some (as_table d) && are_tables ds
 
--- a value is a text, a whole number, a list of whole numbers, or a list of tables
+-- a value is a text
 abbrev pub is_text : Data → Bool
 is_text d = is_some (as_str d)
 
+-- a value is a whole number
 abbrev pub is_whole : Data → Bool
 is_whole d = is_some (as_integer d)
 
+-- a value is a list of whole numbers
 abbrev pub is_list_of_wholes : Data → Bool
 is_list_of_wholes (array ds) = are_wholes ds
 is_list_of_wholes _ = false
 
+-- a value is a list of tables
 abbrev pub is_list_of_tables : Data → Bool
 is_list_of_tables (array ds) = are_tables ds
 is_list_of_tables _ = false
 
--- what stands under a key is of the type: by `has` where the key must be there, by `may_have` where it may be left out
+-- a key is there, and what stands under it is of the type
 abbrev pub has : (Data → Bool) → Option Data → Bool
 has type None = false
 has type (Some d) = type d
 
+-- a key is left out, or what stands under it is of the type
 abbrev pub may_have : (Data → Bool) → Option Data → Bool
 may_have type None = true
 may_have type (Some d) = type d
@@ -102,6 +107,7 @@ type_fault t = first_of (
 
 -- ---- unknown keys
 
+-- an unknown key of row n
 abbrev pub row_other_fault : ℕ → RowValues → Option PartFault
 row_other_fault n v = unless v.known (Key (in_row n key.Other))
 
@@ -111,17 +117,20 @@ other_fault v = first_of (unless v.known (Key (top key.Other)) ∷ rows_fault ro
 
 -- ---- ranges
 
+-- a number is in a range
 unfoldable pub is_in : ℕ → ℕ → ℤ → Bool
 is_in low high z = int_le (pos low) z && int_le z (pos high)
 
+-- a length is in a range
 abbrev pub is_long : ℕ → ℕ → ℕ → Bool
 is_long low high n = nat_le low n && nat_le n high
 
--- the bytes are printed ones, 21 to 7E; and a name has 1 to 64 of these
+-- the bytes are printed ones, 21 to 7E
 abbrev pub are_printed : List ℕ → Bool
 are_printed [] = true
 are_printed (b ∷ bs) = (nat_le 0x21 b && nat_le b 0x7E) && are_printed bs
 
+-- a name: 1 to 64 printed bytes
 unfoldable pub is_name : List ℕ → Bool
 is_name bs = is_long 1 64 (length bs) && are_printed bs
 
@@ -140,15 +149,17 @@ are_widths (minor ∷ column ∷ row ∷ half ∷ block ∷ []) =
     && (is_in 2 3 block && nat_le (address_width (widths_of (minor ∷ column ∷ row ∷ half ∷ block ∷ []))) 32)
 are_widths _ = false
 
+-- the widths of the five fields may be left out
 unfoldable pub are_widths_or_none : Option (List ℤ) → Bool
 are_widths_or_none None = true
 are_widths_or_none (Some zs) = are_widths zs
 
--- the numbers of minors of 1 to 1024 columns, each from 1 to 128
+-- each number is in a range
 abbrev pub are_in : ℕ → ℕ → List ℤ → Bool
 are_in low high [] = true
 are_in low high (z ∷ zs) = is_in low high z && are_in low high zs
 
+-- the numbers of minors of 1 to 1,024 columns, each from 1 to 128
 abbrev pub are_minors : List ℤ → Bool
 are_minors zs = is_long 1 1024 (length zs) && are_in 1 128 zs
 

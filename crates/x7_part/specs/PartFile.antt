@@ -7,7 +7,7 @@ use Rattle.toml.specs.Errors.{IsBlank}
 use Rattle.x7_part.specs.declared.fault.PartFault.{PartFault}
 use Rattle.x7_part.specs.declared.fault.PartFault.TheVariants.{Toml}
 use Rattle.x7_part.specs.Part.{PartData}
-use Rattle.x7_part.specs.PartValues.{top_values, settings_of, part_with, rows_of}
+use Rattle.x7_part.specs.PartValues.{top_values, settings_by_values, part_with, rows_in_file}
 use Rattle.x7_part.specs.PartChecks.{first_of, type_fault, other_fault, range_fault}
 use Rattle.x7_part.specs.PartRows.{same_row_fault, frames_fault, in_order}
 
@@ -15,17 +15,18 @@ use Rattle.x7_part.specs.PartRows.{same_row_fault, frames_fault, in_order}
 unfoldable pub fault_of : Members → Option PartFault
 fault_of t =
     let v = top_values t in
-    first_of (type_fault t ∷ other_fault v ∷ range_fault v ∷ same_row_fault [] (rows_of t) ∷ frames_fault (part_with v (rows_of t)) ∷ [])
+    first_of (type_fault t ∷ other_fault v ∷ range_fault v ∷ same_row_fault [] (rows_in_file t) ∷ frames_fault (part_with v (rows_in_file t)) ∷ [])
 
 -- the part of a table: its rows stand in number order
 unfoldable pub part_from : Members → PartData
-part_from t = part_with (top_values t) (in_order (settings_of (top_values t)).far (rows_of t))
+part_from t = part_with (top_values t) (in_order (settings_by_values (top_values t)).far (rows_in_file t))
 
 -- the part of a table in which the checks found this fault or none
 abbrev pub part_unless : Members → Option PartFault → Result PartData PartFault
 part_unless table None = Ok (part_from table)
 part_unless table (Some fault) = Err fault
 
+-- the part of a text's table, or the first fault; a text without a table is no TOML
 abbrev pub part_of_table : Option Members → Result PartData PartFault
 part_of_table None = Err Toml
 part_of_table (Some table) = part_unless table (fault_of table)

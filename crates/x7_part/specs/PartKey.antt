@@ -22,18 +22,20 @@ name_of key.Half = codes "half"
 name_of key.Minors = codes "minors"
 name_of key.Other = codes "other"
 
--- a key of the top table, and of row n
+-- a key of the top table
 abbrev pub top : PartKey → Which
 top k = record { row = None; key = k }
 
+-- a key of row n
 abbrev pub in_row : ℕ → PartKey → Which
 in_row n k = record { row = Some n; key = k }
 
--- the keys of the top table, and those of a row
+-- the keys of the top table
 abbrev pub top_keys : List PartKey
 top_keys =
     key.Name ∷ key.Idcode ∷ key.Mode ∷ key.BusWidth ∷ key.Lock ∷ key.Match ∷ key.FrameWords ∷ key.Far ∷ key.StartUnit ∷ key.Row ∷ []
 
+-- the keys of a row
 abbrev pub row_keys : List PartKey
 row_keys = key.Block ∷ key.Half ∷ key.Row ∷ key.Minors ∷ []
 

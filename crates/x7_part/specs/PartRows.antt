@@ -7,9 +7,11 @@ use Rattle.x7_part.specs.FrameAddress.{row_address}
 use Rattle.x7_part.specs.AddressOrder.{addresses_in}
 use Rattle.x7_part.specs.PartChecks.{unless, first_of}
 
+-- two rows are of one block type, half and row
 abbrev pub is_same : RowData → RowData → Bool
 is_same r s = ((r.block == s.block) && (r.half == s.half)) && (r.row == s.row)
 
+-- a row is the same as one of others
 abbrev pub has_same : RowData → List RowData → Bool
 has_same r [] = false
 has_same r (s ∷ rows) = is_same r s || has_same r rows
@@ -24,6 +26,7 @@ same_row_fault earlier (r ∷ rows) =
 abbrev pub has_few_frames : ℕ → ℕ → ℕ → Bool
 has_few_frames words frames rows = nat_le frames 131072 && nat_le (words * (frames + 2 * rows)) 13277056
 
+-- too many frames, with how many there are
 abbrev pub frames_fault : PartData → Option PartFault
 frames_fault part =
     unless (has_few_frames (frame_words part) (length (addresses_in part)) (length part.rows)) (TooMany (length (addresses_in part)))
@@ -35,6 +38,7 @@ abbrev pub put_in : FieldWidths → RowData → List RowData → List RowData
 put_in far r [] = r ∷ []
 put_in far r (s ∷ rows) = if nat_lt (row_address far s) (row_address far r) then s ∷ put_in far r rows else r ∷ s ∷ rows
 
+-- rows sorted by address
 unfoldable pub in_order : FieldWidths → List RowData → List RowData
 in_order far [] = []
 in_order far (r ∷ rows) = put_in far r (in_order far rows)

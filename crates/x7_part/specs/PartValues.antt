@@ -64,6 +64,7 @@ pub record TopValues : Type 0 where
   pub rows : List RowValues
   pub known : Bool
 
+-- the values of a row's table; 0, or none, stands for what isn't there
 abbrev pub row_values : Members → RowValues
 row_values t = record {
   block = number_or 0 key.Block t;
@@ -101,11 +102,13 @@ widths_of (minor ∷ column ∷ row ∷ half ∷ block ∷ []) =
     record { minor = natural minor; column = natural column; row = natural row; half = natural half; block = natural block }
 widths_of _ = record { minor = 7; column = 10; row = 5; half = 1; block = 3 }
 
-abbrev pub row_of : RowValues → RowData
-row_of v = record { block = natural v.block; half = natural v.half; row = natural v.row; minors = map natural v.minors }
+-- the row with these values
+abbrev pub row_by_values : RowValues → RowData
+row_by_values v = record { block = natural v.block; half = natural v.half; row = natural v.row; minors = map natural v.minors }
 
-abbrev pub settings_of : TopValues → Settings
-settings_of v = record {
+-- the settings with the values of a top table
+abbrev pub settings_by_values : TopValues → Settings
+settings_by_values v = record {
   idcode = natural v.idcode;
   mode = natural v.mode;
   bus_width = natural v.bus_width;
@@ -133,8 +136,8 @@ part_data name s rows = record {
 
 -- the part of a top table's values with these rows
 abbrev pub part_with : TopValues → List RowData → PartData
-part_with v rows = part_data v.name (settings_of v) rows
+part_with v rows = part_data v.name (settings_by_values v) rows
 
 -- the rows in the file's order
-abbrev pub rows_of : Members → List RowData
-rows_of t = map row_of (top_values t).rows
+abbrev pub rows_in_file : Members → List RowData
+rows_in_file t = map row_by_values (top_values t).rows

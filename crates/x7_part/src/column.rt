@@ -1,6 +1,6 @@
 //! The table of a part's columns, in which addresses and slots are searched by halves.
 ghost use Rattle.std.specs.Prelude.{◌≡◌, ◌<◌, ◌≤◌, ◌+◌, ◌-◌, ◌^◌, ◌⊎◌, ℕ, length, slice_index, slice_index_or, Contains, IfSome, IfNone};
-ghost use Rattle.x7_part.specs.AddressOrder.{Follows, IsLast};
+ghost use Rattle.x7_part.specs.AddressOrder.{IsFollowedBy, IsLastIn};
 ghost use Rattle.x7_part.specs.Columns.{IsIn, column_addresses, column_slots, IsTable};
 ghost use Rattle.x7_part.specs.Slots.{HasFrameOf, from};
 ghost use Rattle.x7_part.specs.declared.column.Column.{Column};
@@ -103,8 +103,8 @@ pub(crate) fn address_of(columns: &[Column], rank: u32) -> Option<u32>
 /// The address after an address.
 pub(crate) fn next_of(columns: &[Column], far: u32) -> Option<u32>
     requires { IsTable 0 0 0 columns.now }
-    ensures found { IfSome result (λ y. Follows (column_addresses columns.now) far y) }
-    ensures none { IfNone result (IsLast (column_addresses columns.now) far ⊎ (¬ Contains (column_addresses columns.now) far)) }
+    ensures found { IfSome result (λ y. IsFollowedBy (column_addresses columns.now) far y) }
+    ensures none { IfNone result (IsLastIn (column_addresses columns.now) far ⊎ (¬ Contains (column_addresses columns.now) far)) }
 {
     let place = column_of(columns, far)?;
     let column = columns[place];

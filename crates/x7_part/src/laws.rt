@@ -8,8 +8,8 @@ ghost use Rattle.x7_part.specs.Part.{FieldWidths, PartData, RowData};
 ghost use Rattle.x7_part.specs.PartFile.{part_in};
 ghost use Rattle.x7_part.specs.PartRange.{IsPart};
 ghost use Rattle.x7_part.specs.PartRows.{in_order, RowsRise};
-ghost use Rattle.x7_part.specs.PartValues.{rows_of};
-ghost use Rattle.x7_part.specs.AddressOrder.{addresses_in, Follows};
+ghost use Rattle.x7_part.specs.PartValues.{rows_in_file};
+ghost use Rattle.x7_part.specs.AddressOrder.{addresses_in, IsFollowedBy};
 ghost use Rattle.x7_part.specs.Slots.{slots, slots_in, from, row_slots, slot_after, addresses_among, AreInOneRow};
 ghost use Rattle.x7_part.specs.declared.slot.Slot.{Slot};
 ghost use Rattle.x7_part.specs.declared.slot.Slot.TheVariants.{Frame};
@@ -25,12 +25,12 @@ pub fn slot_laws()
         slots_in part ≡ slots part.far before ++ row_slots part.far r (slots part.far after) }
     ensures frames { (part : PartData) → addresses_among (slots_in part) ≡ addresses_in part }
     ensures next { (part : PartData) (far next : ℕ) → IsPart part → Contains (addresses_in part) far →
-        (slot_after part far 1 ≡ Frame next) ↔ (Follows (addresses_in part) far next × AreInOneRow part far next) }
+        (slot_after part far 1 ≡ Frame next) ↔ (IsFollowedBy (addresses_in part) far next × AreInOneRow part far next) }
 {}
 
 /// The rows of a part in words: they are the rows of its file, put in rising order of block type, half and row, no two the same.
 pub fn row_laws()
-    ensures file { (text : List ℕ) (table : Members) (part : PartData) → parse_document text ≡ Some table → part_in text ≡ Ok part → IsPermutation (rows_of table) part.rows }
+    ensures file { (text : List ℕ) (table : Members) (part : PartData) → parse_document text ≡ Some table → part_in text ≡ Ok part → IsPermutation (rows_in_file table) part.rows }
     ensures part { (text : List ℕ) (part : PartData) → part_in text ≡ Ok part → IsPart part }
     ensures rise { (part : PartData) → IsPart part → RowsRise part.rows }
     ensures same { (far : FieldWidths) (rows : List RowData) → IsPermutation rows (in_order far rows) }

@@ -1,6 +1,6 @@
 //! A part, and the questions that are asked of its addresses and slots.
 ghost use Rattle.std.specs.Prelude.{◌≡◌, ◌+◌, ◌*◌, ◌<◌, ◌≤◌, ◌⊎◌, ◌↔◌, ◌%◌, ◌^◌, ℕ, true, None, [], All, length, slice_index, slice_index_or, count_by, nat_lt, string_bytes, Contains, IfSome, IfNone, IfOk};
-ghost use Rattle.x7_part.specs.AddressOrder.{addresses_in, Follows, IsLast, Rises};
+ghost use Rattle.x7_part.specs.AddressOrder.{addresses_in, IsFollowedBy, IsLastIn, Rises};
 ghost use Rattle.x7_part.specs.Columns.{table_of as columns_of};
 ghost use Rattle.x7_part.specs.FrameAddress.{IsAddressOf, IsRow, far_width};
 ghost use Rattle.x7_part.specs.Part.{PartData, frame_words};
@@ -175,8 +175,8 @@ impl Part {
 
     /// The next address in number order, none for the last one and for what is no address.
     pub fn next(&self, far: u32) -> Option<u32>
-        ensures found { IfSome result (λ y. Follows (addresses_in self.now) far y) }
-        ensures none { IfNone result (IsLast (addresses_in self.now) far ⊎ (¬ Contains (addresses_in self.now) far)) }
+        ensures found { IfSome result (λ y. IsFollowedBy (addresses_in self.now) far y) }
+        ensures none { IfNone result (IsLastIn (addresses_in self.now) far ⊎ (¬ Contains (addresses_in self.now) far)) }
     {
         column::next_of(&self.columns, far)
     }

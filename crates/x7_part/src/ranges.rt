@@ -1,7 +1,7 @@
 //! The ranges of a part file's values: each judges a value and gives the number of a part that it stands for.
 ghost use Rattle.std.specs.Prelude.{◌≡◌, ◌≤◌, [], ◌∷◌, map, length, is_some, true, false, IfOk, IfSome, MatchOption, Some};
 ghost use Rattle.x7_part.specs.PartValues.{natural, widths_of};
-ghost use Rattle.x7_part.specs.PartChecks.{fault_of_call, Tells, unless, is_in, is_long, are_printed, is_name, is_odd, is_unit, are_widths, are_minors};
+ghost use Rattle.x7_part.specs.PartChecks.{fault_of_call, AnswersDue, unless, is_in, is_long, are_printed, is_name, is_odd, is_unit, are_widths, are_minors};
 ghost use Rattle.x7_part.specs.declared.fault.PartFault.TheVariants.{Range};
 
 use crate::address::Fields;
@@ -124,7 +124,7 @@ pub(crate) fn widths(numbers: &[i64], at: Which) -> Result<Fields, PartFault>
 /// The numbers of minors of a row's columns.
 #[tactic(auto, unfolding(crate::specs::PartChecks::is_in))]
 pub(crate) fn minors(alloc: Global, numbers: &[i64], at: Which) -> Result<Vec<u8>, PartFault>
-    ensures fault { Tells (unless (are_minors numbers.now) (Range at)) result }
+    ensures fault { AnswersDue (unless (are_minors numbers.now) (Range at)) result }
     ensures value { IfOk result (λ minors. minors.items ≡ map natural numbers.now) }
 {
     require(is_long(numbers.len(), 1, 1024), PartFault::Range(at))?;

@@ -2,9 +2,9 @@
 ghost use Rattle.std.specs.Prelude.{◌≡◌, ◌≤◌, [], None, map, length, sum, All, IfOk};
 ghost use Rattle.std.specs.List.{sum_by};
 ghost use Rattle.x7_part.specs.FrameAddress.{row_address, AreWidths, IsRow};
-ghost use Rattle.x7_part.specs.PartChecks.{fault_of_call, Tells, rows_fault, row_range_fault};
+ghost use Rattle.x7_part.specs.PartChecks.{fault_of_call, AnswersDue, rows_fault, row_range_fault};
 ghost use Rattle.x7_part.specs.PartRows.{is_same, has_same, same_row_fault, in_order};
-ghost use Rattle.x7_part.specs.PartValues.{row_of};
+ghost use Rattle.x7_part.specs.PartValues.{row_by_values};
 ghost use Rattle.x7_part.specs.Part.{RowData};
 
 use crate::address::Fields;
@@ -75,8 +75,8 @@ impl Row {
 
 /// A row of these values, or the first of them that is out of range.
 fn row_in(alloc: Global, number: u32, values: &RowValues) -> Result<Row, PartFault>
-    ensures fault { Tells (row_range_fault number values.now) result }
-    ensures value { IfOk result (λ row. row ≡ row_of values.now) }
+    ensures fault { AnswersDue (row_range_fault number values.now) result }
+    ensures value { IfOk result (λ row. row ≡ row_by_values values.now) }
 {
     Ok(Row {
         block: within(values.block, 0, 2, Which::in_row(number, PartKey::Block))? as u8,
@@ -92,8 +92,8 @@ fn row_in(alloc: Global, number: u32, values: &RowValues) -> Result<Row, PartFau
 
 /// The rows of these values, which count from 1, or the first value that is out of range.
 pub(crate) fn rows_in(alloc: Global, values: &[RowValues]) -> Result<Vec<Row>, PartFault>
-    ensures fault { Tells (rows_fault row_range_fault 1 values.now) result }
-    ensures value { IfOk result (λ rows. rows.items ≡ map row_of values.now) }
+    ensures fault { AnswersDue (rows_fault row_range_fault 1 values.now) result }
+    ensures value { IfOk result (λ rows. rows.items ≡ map row_by_values values.now) }
 {
     let mut rows = Vec::with_capacity(alloc, values.len())?;
     let mut number = 1u32;

@@ -1,6 +1,6 @@
 //! What a part file's top table says of a part, but for its name and its rows.
 ghost use Rattle.std.specs.Prelude.{◌≡◌, [], option_map, unwrap_or, IfOk};
-ghost use Rattle.x7_part.specs.PartValues.{settings_of, widths_of};
+ghost use Rattle.x7_part.specs.PartValues.{settings_by_values, widths_of};
 ghost use Rattle.x7_part.specs.PartChecks.{fault_of_call, unless, are_widths_or_none, number_range_fault, top_range_fault};
 ghost use Rattle.x7_part.specs.declared.fault.PartFault.TheVariants.{Range};
 
@@ -38,7 +38,7 @@ fn fields_in(widths_given: &Option<Vec<i64>>, at: Which) -> Result<Fields, PartF
 #[tactic(auto, unfolding(crate::specs::PartChecks::number_range_fault))]
 fn numbers_in(values: &Values) -> Result<Settings, PartFault>
     ensures fault { fault_of_call result ≡ number_range_fault values.now }
-    ensures value { IfOk result (λ settings. settings ≡ settings_of values.now) }
+    ensures value { IfOk result (λ settings. settings ≡ settings_by_values values.now) }
 {
     Ok(Settings {
         idcode: odd(values.idcode, Which::top(PartKey::Idcode))?,
@@ -56,7 +56,7 @@ fn numbers_in(values: &Values) -> Result<Settings, PartFault>
 #[tactic(auto, unfolding(crate::specs::PartChecks::top_range_fault))]
 pub(crate) fn settings_in(values: &Values) -> Result<Settings, PartFault>
     ensures fault { fault_of_call result ≡ top_range_fault values.now }
-    ensures value { IfOk result (λ settings. settings ≡ settings_of values.now) }
+    ensures value { IfOk result (λ settings. settings ≡ settings_by_values values.now) }
 {
     let name = PartFault::Range(Which::top(PartKey::Name));
     require(is_name(&values.name), name)?;

@@ -2,7 +2,7 @@
 ghost use Rattle.std.specs.Prelude.{◌≡◌, None, Ok, option_map, is_some, map, string_bytes, IfOk, IfSome, IsErrOf};
 ghost use Rattle.toml.specs.View.{view, table_view, items_view};
 ghost use Rattle.x7_part.specs.PartValues.{under, text, number_or, numbers, numbers_under, tables, row_tables};
-ghost use Rattle.x7_part.specs.PartChecks.{fault_of_call, Tells, unless, has, may_have, are_wholes, are_tables, is_text, is_whole, is_list_of_wholes, is_list_of_tables};
+ghost use Rattle.x7_part.specs.PartChecks.{fault_of_call, AnswersDue, unless, has, may_have, are_wholes, are_tables, is_text, is_whole, is_list_of_wholes, is_list_of_tables};
 ghost use Rattle.x7_part.specs.declared.fault.PartFault.TheVariants.{Key};
 ghost use Rattle.x7_part.specs.declared.fault.PartKey.TheVariants as key;
 ghost use Rattle.x7_part.specs.PartKey.{top};
@@ -20,7 +20,7 @@ fn value_under(table: &Table, key: PartKey) -> Option<&Value>
 
 /// The text under a key.
 pub(crate) fn text(alloc: Global, table: &Table, at: Which) -> Result<String, PartFault>
-    ensures fault { Tells (unless (has is_text (under at.key (table_view table.now))) (Key at)) result }
+    ensures fault { AnswersDue (unless (has is_text (under at.key (table_view table.now))) (Key at)) result }
     ensures missing { under at.key (table_view table.now) ≡ None → IsErrOf result (Key at) }
     ensures value { IfOk result (λ made. string_bytes made ≡ text at.key (table_view table.now)) }
 {
@@ -82,7 +82,7 @@ pub(crate) fn numbers(
     table: &Table,
     at: Which,
 ) -> Result<Option<Vec<i64>>, PartFault>
-    ensures fault { Tells (unless (may_have is_list_of_wholes (under at.key (table_view table.now))) (Key at)) result }
+    ensures fault { AnswersDue (unless (may_have is_list_of_wholes (under at.key (table_view table.now))) (Key at)) result }
     ensures value { IfOk result (λ made. option_map (λ zs. zs.items) made ≡ numbers_under at.key (table_view table.now)) }
 {
     let Some(value) = value_under(table, at.key) else {
@@ -114,7 +114,7 @@ fn tables_among<'t>(alloc: Global, items: &'t [Value]) -> Result<Option<Vec<&'t 
 
 /// The tables of the rows.
 pub(crate) fn rows<'t>(alloc: Global, table: &'t Table) -> Result<Vec<&'t Table>, PartFault>
-    ensures fault { Tells (unless (has is_list_of_tables (under key.Row (table_view table.now))) (Key (top key.Row))) result }
+    ensures fault { AnswersDue (unless (has is_list_of_tables (under key.Row (table_view table.now))) (Key (top key.Row))) result }
     ensures value { IfOk result (λ rows. map (λ t. table_view t.now) rows.items ≡ row_tables (table_view table.now)) }
 {
     let fault = PartFault::Key(Which::top(PartKey::Row));

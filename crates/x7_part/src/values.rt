@@ -2,7 +2,7 @@
 ghost use Rattle.std.specs.Prelude.{◌≡◌, None, map, option_map, string_bytes, IfOk, IsErrOf};
 ghost use Rattle.toml.specs.View.{table_view};
 ghost use Rattle.x7_part.specs.PartValues.{RowValues as RowData, TopValues, row_values, top_values, under};
-ghost use Rattle.x7_part.specs.PartChecks.{fault_of_call, Tells, rows_fault, row_type_fault, row_other_fault, type_fault, other_fault};
+ghost use Rattle.x7_part.specs.PartChecks.{fault_of_call, AnswersDue, rows_fault, row_type_fault, row_other_fault, type_fault, other_fault};
 ghost use Rattle.x7_part.specs.PartKey.{top};
 ghost use Rattle.x7_part.specs.declared.fault.PartFault.TheVariants.{Key};
 ghost use Rattle.x7_part.specs.declared.fault.PartKey.TheVariants as key;
@@ -58,7 +58,7 @@ impl Model for Values {
 
 /// A row's values, or the first of its keys that is missing or of another type.
 fn row_values(alloc: Global, number_of_row: u32, row: &Table) -> Result<RowValues, PartFault>
-    ensures fault { Tells (row_type_fault number_of_row (table_view row.now)) result }
+    ensures fault { AnswersDue (row_type_fault number_of_row (table_view row.now)) result }
     ensures value { IfOk result (λ values. values ≡ row_values (table_view row.now)) }
 {
     let minors = Which::in_row(number_of_row, PartKey::Minors);
@@ -76,7 +76,7 @@ fn row_values(alloc: Global, number_of_row: u32, row: &Table) -> Result<RowValue
 
 /// The values of rows, which count from 1.
 fn rows_values(alloc: Global, rows: &[&Table]) -> Result<Vec<RowValues>, PartFault>
-    ensures fault { Tells (rows_fault row_type_fault 1 (map (λ t. table_view t.now) rows.now)) result }
+    ensures fault { AnswersDue (rows_fault row_type_fault 1 (map (λ t. table_view t.now) rows.now)) result }
     ensures value { IfOk result (λ made. made.items ≡ map row_values (map (λ t. table_view t.now) rows.now)) }
 {
     let mut made = Vec::with_capacity(alloc, rows.len())?;
@@ -91,7 +91,7 @@ fn rows_values(alloc: Global, rows: &[&Table]) -> Result<Vec<RowValues>, PartFau
 /// The values of a part file, or the first key that is missing or of another type.
 #[tactic(auto, unfolding(crate::specs::PartChecks::type_fault))]
 pub(crate) fn values_of(alloc: Global, table: &Table) -> Result<Values, PartFault>
-    ensures fault { Tells (type_fault (table_view table.now)) result }
+    ensures fault { AnswersDue (type_fault (table_view table.now)) result }
     ensures unnamed { under key.Name (table_view table.now) ≡ None → IsErrOf result (Key (top key.Name)) }
     ensures value { IfOk result (λ values. values ≡ top_values (table_view table.now)) }
 {
