@@ -2,7 +2,7 @@
 use Rattle.std.proofs.Common.{◌≡◌, ℕ, zero, suc, ◌+◌, ◌/◌, ◌%◌, ◌<◌, ◌≤◌, min, Bool, true, false, List, [], ◌∷◌, ◌++◌, replicate, Some, None, if◌then◌else◌, refl, sym, ap, ◌∙◌, arith}
 use Rattle.std.proofs.Math.Nat.{zero-add}
 use Rattle.x7_startup.specs.Arrivals.{wait_of, IsPhase}
-use Rattle.x7_startup.specs.Calls.{IsPhaseOf, Call, Arm, Desync, Byte, DropBack, StartupProgress, NotBegun, Begun, has_taking, since_taking, count_bytes, is_armed, start_of, progress_of, Stored, StoresAt, StandsFor}
+use Rattle.x7_startup.specs.Calls.{IsPhaseOf, Call, Arm, Desync, Byte, DropBack, StartupProgress, NotBegun, Begun, has_taking, since_taking, bytes_among, is_armed, start_of, progress_of, Stored, StoresAt, StandsFor}
 use Rattle.x7_startup.specs.Ticks.{PassesTicks, first_some, reached}
 use Rattle.x7_startup.proofs.PhaseLemmas.{phase_first, phase_rises, one_phase}
 
@@ -63,25 +63,25 @@ armed_bytes a (Desync c ∷ calls) n = armed_bytes false calls n
 armed_bytes a (Byte ∷ calls) n = armed_bytes a calls n
 armed_bytes a (DropBack ∷ calls) n = armed_bytes a calls n
 
-bytes_only : (n : ℕ) → count_bytes (replicate n Byte) ≡ n
+bytes_only : (n : ℕ) → bytes_among (replicate n Byte) ≡ n
 bytes_only zero = refl
-bytes_only (suc n) = let ih : count_bytes (replicate n Byte) ≡ n = bytes_only n in omega arith
+bytes_only (suc n) = let ih : bytes_among (replicate n Byte) ≡ n = bytes_only n in omega arith
 
-count_more : (calls : List Call) (n : ℕ) → count_bytes (calls ++ replicate n Byte) ≡ count_bytes calls + n
+count_more : (calls : List Call) (n : ℕ) → bytes_among (calls ++ replicate n Byte) ≡ bytes_among calls + n
 count_more [] n = bytes_only n ∙ sym (zero-add n)
 count_more (Arm ∷ calls) n = count_more calls n
 count_more (Desync c ∷ calls) n = count_more calls n
-count_more (Byte ∷ calls) n = let ih : count_bytes (calls ++ replicate n Byte) ≡ count_bytes calls + n = count_more calls n in omega arith
+count_more (Byte ∷ calls) n = let ih : bytes_among (calls ++ replicate n Byte) ≡ bytes_among calls + n = count_more calls n in omega arith
 count_more (DropBack ∷ calls) n = count_more calls n
 
-count_arm : (calls : List Call) → count_bytes (calls ++ Arm ∷ []) ≡ count_bytes calls
+count_arm : (calls : List Call) → bytes_among (calls ++ Arm ∷ []) ≡ bytes_among calls
 count_arm [] = refl
 count_arm (Arm ∷ calls) = count_arm calls
 count_arm (Desync c ∷ calls) = count_arm calls
 count_arm (Byte ∷ calls) = ap (λ x. x + 1) (count_arm calls)
 count_arm (DropBack ∷ calls) = count_arm calls
 
-count_desync : (calls : List Call) (d : ℕ) → count_bytes (calls ++ Desync d ∷ []) ≡ count_bytes calls
+count_desync : (calls : List Call) (d : ℕ) → bytes_among (calls ++ Desync d ∷ []) ≡ bytes_among calls
 count_desync [] d = refl
 count_desync (Arm ∷ calls) d = count_desync calls d
 count_desync (Desync c ∷ calls) d = count_desync calls d

@@ -21,10 +21,10 @@ since_taking [] = []
 since_taking (call ∷ calls) = if has_taking (call ∷ calls) then since_taking calls else call ∷ calls
 
 -- the bytes taken among the calls
-abbrev pub count_bytes : List Call → ℕ
-count_bytes [] = 0
-count_bytes (Byte ∷ calls) = count_bytes calls + 1
-count_bytes (_ ∷ calls) = count_bytes calls
+abbrev pub bytes_among : List Call → ℕ
+bytes_among [] = 0
+bytes_among (Byte ∷ calls) = bytes_among calls + 1
+bytes_among (_ ∷ calls) = bytes_among calls
 
 -- whether START came since the last DESYNC; at first as given
 abbrev pub is_armed : Bool → List Call → Bool
@@ -42,7 +42,7 @@ pub data StartupProgress : Type 0 where
 abbrev pub start_of : Bool → List Call → StartupProgress
 start_of armed [] = NotBegun
 start_of armed (Arm ∷ calls) = start_of true calls
-start_of true (Desync cor0 ∷ calls) = Begun cor0 (count_bytes calls)
+start_of true (Desync cor0 ∷ calls) = Begun cor0 (bytes_among calls)
 start_of false (Desync cor0 ∷ calls) = start_of false calls
 start_of armed (_ ∷ calls) = start_of armed calls
 
@@ -56,13 +56,13 @@ cor0_of NotBegun = None
 cor0_of (Begun cor0 bytes) = Some cor0
 
 -- the bytes taken since startup began
-abbrev pub bytes_of : StartupProgress → ℕ
-bytes_of NotBegun = 0
-bytes_of (Begun cor0 bytes) = bytes
+abbrev pub bytes_since_begun : StartupProgress → ℕ
+bytes_since_begun NotBegun = 0
+bytes_since_begun (Begun cor0 bytes) = bytes
 
 -- each fourth byte is a tick
 abbrev pub ticks_of : StartupProgress → ℕ
-ticks_of progress = bytes_of progress / 4
+ticks_of progress = bytes_since_begun progress / 4
 
 -- the phase, by the part's lock number and match number
 abbrev pub IsPhaseOf : ℕ → ℕ → StartupProgress → ℕ → Type 0
@@ -80,7 +80,7 @@ pub record Stored : Type 0 where
 -- what is stored is that of this progress
 pub record StoresAt (lock matched : ℕ) (s : Stored) (progress : StartupProgress) : Type 0 where
   pub begun_is : s.begun ≡ cor0_of progress
-  pub tick_bytes_are : s.tick_bytes ≡ bytes_of progress % 4
+  pub tick_bytes_are : s.tick_bytes ≡ bytes_since_begun progress % 4
   pub ticks_are : s.ticks ≡ min (ticks_of progress) 65535
   pub phase_is : IsPhaseOf lock matched progress s.phase
 

@@ -8,10 +8,11 @@ pub data WatchCall : Type 0 where
   Reload : WatchCall
   Watched : (eos : Bool) → WatchCall
 
--- TIMER's CFG_MON and value (UG470, watchdog timer register)
+-- CFG_MON of TIMER (UG470, watchdog timer register)
 abbrev pub cfg_mon_of : ℕ → ℕ
 cfg_mon_of = field_of 30 1
 
+-- the value of TIMER (UG470, watchdog timer register)
 abbrev pub timer_value_of : ℕ → ℕ
 timer_value_of = field_of 0 30
 

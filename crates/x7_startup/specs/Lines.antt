@@ -19,15 +19,17 @@ abbrev pub has_risen : Option ℕ → ℕ → Bool
 has_risen None phase = false
 has_risen (Some rise) phase = not (nat_lt phase rise)
 
--- each line by the COR0 that startup began with, if it has begun, and the phase
+-- DONE by the COR0 that startup began with, if it has begun, and the phase
 abbrev pub done_line : Option ℕ → ℕ → Bool
 done_line None phase = false
 done_line (Some cor0) phase = has_risen (Some (done_rise (done_cycle_of cor0))) phase
 
+-- GTS by the COR0 that startup began with, if it has begun, and the phase
 abbrev pub gts_line : Option ℕ → ℕ → Bool
 gts_line None phase = false
 gts_line (Some cor0) phase = has_risen (line_rise (done_rise (done_cycle_of cor0)) (gts_cycle_of cor0)) phase
 
+-- GWE by the COR0 that startup began with, if it has begun, and the phase
 abbrev pub gwe_line : Option ℕ → ℕ → Bool
 gwe_line None phase = false
 gwe_line (Some cor0) phase = has_risen (line_rise (done_rise (done_cycle_of cor0)) (gwe_cycle_of cor0)) phase

@@ -8,6 +8,7 @@ abbrev pub PassesTicks : (ℕ → ℕ) → Reached → ℕ → Reached → Type 
 PassesTicks wait old more new =
     (t : ℕ) → old.ticks ≡ min t 65535 → IsPhase wait t old.phase → (new.ticks ≡ min (t + more) 65535) × IsPhase wait (t + more) new.phase
 
+-- a count of ticks, and the phase after them
 abbrev pub reached : ℕ → ℕ → Reached
 reached ticks phase = record { ticks = ticks; phase = phase }
 
