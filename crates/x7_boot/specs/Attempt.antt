@@ -44,8 +44,8 @@ pub record Trial : Type 0 where
   pub ending : Ending
 
 -- the place of the flash after the last byte that an attempt took
-abbrev pub end_of : Trial → ℕ
-end_of t = t.address + length t.bytes
+abbrev pub trial_end : Trial → ℕ
+trial_end t = t.address + length t.bytes
 
 -- nothing ends an attempt at fewer than n bytes
 abbrev pub NoneBefore : PartData → Kept → List ℕ → ℕ → Type 0

@@ -4,7 +4,7 @@ ghost use Rattle.x7_words.specs.Word.{AreBytes};
 ghost use Rattle.x7_part.specs.Part.{PartData};
 ghost use Rattle.x7_engine.specs.State.{state_of};
 ghost use Rattle.x7_engine.specs.declared.kept.Kept.{Kept};
-ghost use Rattle.x7_boot.specs.Attempt.{IsTrial, Trial, end_of};
+ghost use Rattle.x7_boot.specs.Attempt.{IsTrial, Trial, trial_end};
 ghost use Rattle.x7_boot.specs.Boot.{BootedState, HasBoot, IsBoot, LeadsToEnd, end_state};
 ghost use Rattle.x7_boot.specs.Checked.{HasChecked};
 ghost use Rattle.x7_boot.specs.Course.{BootCourse, IsCourse, course_along, course_of};
@@ -35,7 +35,7 @@ pub fn every_flash_boots()
 /// An attempt that ended in the flash is one over each flash with the same bytes up to there.
 pub fn only_taken_bytes_count()
     ensures { (part : PartData) (flash other : List ℕ) (t : Trial) → IsTrial part flash t → t.wrapped ≡ false
-        → take (end_of t) other ≡ take (end_of t) flash → IsTrial part other t }
+        → take (trial_end t) other ≡ take (trial_end t) flash → IsTrial part other t }
 {}
 
 /// A boot has a course, and attempts through which the flash leads to an end are those of each course over it.

@@ -16,7 +16,7 @@ use Rattle.x7_part.specs.Part.{PartData, frame_words}
 use Rattle.x7_memory.specs.Planned.{IsPlanRow, PlanRow, planned_addresses}
 use Rattle.x7_memory.proofs.DraftLemmas.{sorted_plan}
 use Rattle.x7_frames.specs.FramesText.{AreGood, AreLines, frame, frame_head, HasPlan, IsFrameLine, IsGoodText, means_nothing, no_frame, no_line}
-use Rattle.x7_frames.specs.Steps.{IsFaultAt, Takes}
+use Rattle.x7_frames.specs.Steps.{IsFaultAt, TakesLine}
 use Rattle.x7_frames.specs.declared.fault.FramesFault.{FramesFault}
 use Rattle.x7_frames.specs.declared.fault.FramesFault.TheVariants as fault
 use Rattle.x7_frames.proofs.GoodLemmas.{fault-of, good-next, no-rows-apart}
@@ -100,7 +100,7 @@ frame-or width line = by-head (lists-or line (frame_head far ++ digits))
 -- ---- a line is good behind these rows, or it is line n at fault
 
 unfoldable pub LineOr : PartData → List PlanRow → ℕ → List ℕ → Type 0
-LineOr part rows n line = ((new : List PlanRow) × Takes part line rows new) ⊎ ((f : FramesFault) × IsFaultAt part rows n line f)
+LineOr part rows n line = ((new : List PlanRow) × TakesLine part line rows new) ⊎ ((f : FramesFault) × IsFaultAt part rows n line f)
 
 pub line-or : (part : PartData) (rows : List PlanRow) (n : ℕ) (line : List ℕ) → LineOr part rows n line
 unfolding FrameOr LineOr

@@ -5,7 +5,7 @@ use Rattle.x7_part.specs.Part.{PartData}
 use Rattle.x7_memory.specs.Planned.{PlanData}
 use Rattle.x7_frames.specs.FrameLines.{AreGoodWith, AreRefused, ComeTo, HasRows, Rows}
 use Rattle.x7_frames.specs.FramesText.{IsPlanOf}
-use Rattle.x7_frames.specs.Steps.{IsFaultAt, IsGoodLine, Takes}
+use Rattle.x7_frames.specs.Steps.{IsFaultAt, IsGoodLine, TakesLine}
 use Rattle.x7_frames.specs.declared.fault.FramesFault.{FramesFault}
 use Rattle.x7_frames.specs.declared.fault.FramesFault.TheVariants as fault
 use Rattle.x7_frames.proofs.GoodLemmas.{fault-of, good-next}
@@ -17,21 +17,21 @@ all-err (Err e) P f = f e
 
 -- a line behind good ones is taken, or is at fault
 module _ (part : PartData) (a : Rows) (lines : List (List ℕ)) (line : List ℕ) (n : ℕ) (m : n ≡ length lines + 1) (t : HasRows part a lines) where
-  pub line-good : (b : Rows) → b.part ≡ a.part → Takes a.part line a.rows b.rows → HasRows part b (lines ++ line ∷ [])
-  line-good b same takes = (same ∙ t.0, good-next part lines line a.rows b.rows t.1 (subst (λ (p : PartData). Takes p line a.rows b.rows) t.0 takes))
+  pub line-good : (b : Rows) → b.part ≡ a.part → TakesLine a.part line a.rows b.rows → HasRows part b (lines ++ line ∷ [])
+  line-good b same takes = (same ∙ t.0, good-next part lines line a.rows b.rows t.1 (subst (λ (p : PartData). TakesLine p line a.rows b.rows) t.0 takes))
 
   pub line-refused : (f : FramesFault) → (f ≡ fault.NoMemory) ⊎ IsFaultAt a.part a.rows n line f → (others : List (List ℕ)) → AreRefused part f (lines ++ line ∷ others)
   line-refused f (inl none) others = inl none
   line-refused f (inr h) others = inr (λ text is. fault-of part text line a.rows n f (record { before = lines; after = others; texts = is; good = t.1; count = m }) (subst (λ (p : PartData). IsFaultAt p a.rows n line f) t.0 h))
 
-  pub line-read : {A : Type 0} (r : Result A FramesFault) (b : Rows) → b.part ≡ a.part → OnOk r (Takes a.part line a.rows b.rows) → IfErr r (λ f. (f ≡ fault.NoMemory) ⊎ IsFaultAt a.part a.rows n line f)
+  pub line-read : {A : Type 0} (r : Result A FramesFault) (b : Rows) → b.part ≡ a.part → OnOk r (TakesLine a.part line a.rows b.rows) → IfErr r (λ f. (f ≡ fault.NoMemory) ⊎ IsFaultAt a.part a.rows n line f)
       → MatchResult r (λ _. HasRows part b (lines ++ line ∷ [])) (λ f. (more : List ℕ) → AreRefused part f (lines ++ line ∷ split more))
   line-read (Ok _) b same takes fails = line-good b same takes
   line-read (Err f) b same takes fails = λ more. line-refused f fails (split more)
 
   -- memory is wanting at a good line
   pub line-wants : IsGoodLine a.part a.rows line → AreGoodWith part lines line
-  line-wants good = (good.0, good-next part lines line a.rows good.0 t.1 (subst (λ (p : PartData). Takes p line a.rows good.0) t.0 good.1))
+  line-wants good = (good.0, good-next part lines line a.rows good.0 t.1 (subst (λ (p : PartData). TakesLine p line a.rows good.0) t.0 good.1))
 
   pub line-wanted : {A : Type 0} (r : Result A FramesFault) → IfErr r (λ f. f ≡ fault.NoMemory → IsGoodLine a.part a.rows line) → IfErr r (λ f. f ≡ fault.NoMemory → AreGoodWith part lines line)
   line-wanted (Ok _) good = tt

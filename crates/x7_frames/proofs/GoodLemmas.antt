@@ -8,7 +8,7 @@ use Rattle.x7_part.specs.AddressOrder.{addresses_in, Rises, risen, rise}
 use Rattle.x7_part.specs.Part.{PartData, frame_words}
 use Rattle.x7_memory.specs.Planned.{PlanRow, AreApart, planned_addresses}
 use Rattle.x7_frames.specs.FramesText.{means_nothing, AreGood, AreLines, no_line, no_frame, frame, IsFrameLine, IsPlanOf, Reaches}
-use Rattle.x7_frames.specs.Steps.{HasMarks, IsFaultAt, Takes}
+use Rattle.x7_frames.specs.Steps.{HasMarks, IsFaultAt, TakesLine}
 use Rattle.x7_frames.specs.declared.fault.FramesFault.{FramesFault}
 use Rattle.x7_frames.specs.declared.fault.FramesFault.TheVariants as fault
 
@@ -40,7 +40,7 @@ apart-push rows row apart new i j d lt h e =
       | inr (inr above) ↦ absurd (omega arith)
     ]
 
-pub good-next : (part : PartData) (lines : List (List ℕ)) (line : List ℕ) (rows new : List PlanRow) → AreGood part lines rows → Takes part line rows new → AreGood part (lines ++ line ∷ []) new
+pub good-next : (part : PartData) (lines : List (List ℕ)) (line : List ℕ) (rows new : List PlanRow) → AreGood part lines rows → TakesLine part line rows new → AreGood part (lines ++ line ∷ []) new
 good-next part lines line rows new good (inl same) =
     subst (λ r. AreGood part (lines ++ line ∷ []) r) (sym same.1)
     (record { read = lines-skip (frame_words part) lines rows line same.0 good.read; addresses = good.addresses; apart = good.apart })
@@ -65,11 +65,11 @@ fault-of part text line rows n (fault.Address m) r h = (line, rows, subst (λ k.
 fault-of part text line rows n (fault.Twice m) r h = (line, rows, subst (λ k. Reaches part text k line rows) (sym h.0) r, h.1)
 fault-of part text line rows n fault.NoMemory r h = h
 
-apart-takes : (part : PartData) (line : List ℕ) (rows new : List PlanRow) → AreApart rows → Takes part line rows new → AreApart new
+apart-takes : (part : PartData) (line : List ℕ) (rows new : List PlanRow) → AreApart rows → TakesLine part line rows new → AreApart new
 apart-takes part line rows new apart (inl same) = subst AreApart (sym same.1) apart
 apart-takes part line rows new apart (inr a) = subst AreApart (sym a.rows) (apart-push rows a.row apart a.apart)
 
-pub apart-taken : {A E : Type 0} (r : Result A E) (part : PartData) (line : List ℕ) (rows new : List PlanRow) → AreApart rows → OnOk r (Takes part line rows new) → OnErr r (new ≡ rows) → AreApart new
+pub apart-taken : {A E : Type 0} (r : Result A E) (part : PartData) (line : List ℕ) (rows new : List PlanRow) → AreApart rows → OnOk r (TakesLine part line rows new) → OnErr r (new ≡ rows) → AreApart new
 apart-taken (Ok a) part line rows new apart takes same = apart-takes part line rows new apart takes
 apart-taken (Err e) part line rows new apart takes same = subst AreApart (sym same) apart
 

@@ -21,8 +21,8 @@ abbrev pub frame_head : ℕ → List ℕ
 frame_head far = codes "frame " ++ (hex_word far ++ 32 ∷ [])
 
 -- a line is none of a frame with so many digits, whatever its address
-abbrev pub HasNoHead : ℕ → List ℕ → Type 0
-HasNoHead digit_count line = (far : ℕ) (digits : List ℕ) → far < 2 ^ 32 → length digits ≡ digit_count → line ≡ frame_head far ++ digits → ⊥
+abbrev pub HasNoFrameHead : ℕ → List ℕ → Type 0
+HasNoFrameHead digit_count line = (far : ℕ) (digits : List ℕ) → far < 2 ^ 32 → length digits ≡ digit_count → line ≡ frame_head far ++ digits → ⊥
 
 -- the line of a frame: behind its head the bytes of its words, the highest first, in digits of either case
 pub record IsFrameLine (width : ℕ) (line : List ℕ) (row : PlanRow) : Type 0 where
@@ -64,16 +64,18 @@ pub record Reaches (part : PartData) (text : List ℕ) (n : ℕ) (line : List �
   pub good : AreGood part before rows
   pub count : n ≡ length before + 1
 
--- a line is at fault behind good lines of these rows: it is no line, it has an address that the part lacks, or one of the rows
+-- a line is at fault: it has a meaning, and is no frame's line
 pub record IsNoLine (width : ℕ) (line : List ℕ) : Type 0 where
   pub has_meaning : means_nothing line ≡ false
   pub no_frame : (row : PlanRow) → IsFrameLine width line row → ⊥
 
+-- a line is at fault: its address is none of the part
 pub record IsForeign (part : PartData) (line : List ℕ) : Type 0 where
   pub row : PlanRow
   pub is : IsFrameLine (frame_words part) line row
   pub foreign : ¬ Contains (addresses_in part) row.far
 
+-- a line is at fault behind lines of these rows: one of them has its address
 pub record IsRepeated (part : PartData) (rows : List PlanRow) (line : List ℕ) : Type 0 where
   pub row : PlanRow
   pub is : IsFrameLine (frame_words part) line row

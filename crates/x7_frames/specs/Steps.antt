@@ -22,12 +22,12 @@ pub record IsAdded (part : PartData) (line : List ℕ) (old new : List PlanRow) 
   pub rows : new ≡ old ++ row ∷ []
 
 -- a line that means nothing was taken, or that of a frame
-abbrev pub Takes : PartData → List ℕ → List PlanRow → List PlanRow → Type 0
-Takes part line old new = ((means_nothing line ≡ true) × (new ≡ old)) ⊎ IsAdded part line old new
+abbrev pub TakesLine : PartData → List ℕ → List PlanRow → List PlanRow → Type 0
+TakesLine part line old new = ((means_nothing line ≡ true) × (new ≡ old)) ⊎ IsAdded part line old new
 
 -- a line is good behind these rows
 abbrev pub IsGoodLine : PartData → List PlanRow → List ℕ → Type 0
-IsGoodLine part rows line = (new : List PlanRow) × Takes part line rows new
+IsGoodLine part rows line = (new : List PlanRow) × TakesLine part line rows new
 
 -- line n behind these rows is at fault
 abbrev pub IsFaultAt : PartData → List PlanRow → ℕ → List ℕ → FramesFault → Type 0

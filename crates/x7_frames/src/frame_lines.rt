@@ -3,7 +3,7 @@ ghost use Rattle.std.specs.Prelude.{◌≡◌, ◌⊎◌, ℕ, List, [], Ok, IfE
 ghost use Rattle.x7_part.specs.Part.{frame_words};
 ghost use Rattle.x7_memory.specs.Planned.{IsPlan};
 ghost use Rattle.x7_frames.specs.FrameLines.{AreGoodWith, AreRefused, ComeTo, HasRows, Rows};
-ghost use Rattle.x7_frames.specs.Steps.{IsFaultAt, IsGoodLine, Takes};
+ghost use Rattle.x7_frames.specs.Steps.{IsFaultAt, IsGoodLine, TakesLine};
 ghost use Rattle.x7_frames.specs.declared.fault.FramesFault.{FramesFault};
 
 use crate::fault::FramesFault;
@@ -45,10 +45,10 @@ impl<'p> FrameLines<'p> {
         }
     }
 
-    /// Takes line `n`, after which nothing more may be taken where there is an error. Memory is wanting only for a good line.
+    /// TakesLine line `n`, after which nothing more may be taken where there is an error. Memory is wanting only for a good line.
     pub fn take(&mut self, n: u64, line: &[u8]) -> Result<(), FramesFault>
         ensures part { self.new.part ≡ self.old.part }
-        ensures taken { OnOk result (Takes self.old.part line.now self.old.rows self.new.rows) }
+        ensures taken { OnOk result (TakesLine self.old.part line.now self.old.rows self.new.rows) }
         ensures fault { IfErr result (λ fault. (fault ≡ FramesFault.NoMemory) ⊎ IsFaultAt self.old.part self.old.rows n line.now fault) }
         ensures memory { IfErr result (λ fault. fault ≡ FramesFault.NoMemory → IsGoodLine self.old.part self.old.rows line.now) }
     {

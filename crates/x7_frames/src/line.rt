@@ -3,7 +3,7 @@ ghost use Rattle.std.specs.Prelude.{◌≡◌, ◌+◌, ◌*◌, ◌%◌, ◌<�
 ghost use Rattle.x7_text.specs.EitherCase.{pairs};
 ghost use Rattle.x7_words.specs.Word.{AreBytes, words_of_bytes};
 ghost use Rattle.x7_memory.specs.Planned.{PlanRow};
-ghost use Rattle.x7_frames.specs.FramesText.{HasNoHead, frame_head, means_nothing, IsFrameLine};
+ghost use Rattle.x7_frames.specs.FramesText.{HasNoFrameHead, frame_head, means_nothing, IsFrameLine};
 
 use x7_text::{block_of_hex, read_pairs, word_of_hex};
 use x7_words::{is_same, word_of};
@@ -31,7 +31,7 @@ struct Parts<'t> {
 /// The parts of the line of a frame with so many digits.
 fn parts_of(line: &[u8], digit_count: usize) -> Option<Parts<'_>>
     ensures { MatchOption result
-        (HasNoHead digit_count line.now)
+        (HasNoFrameHead digit_count line.now)
         (λ parts. (line.now ≡ frame_head parts.far ++ parts.digits.now) × (length parts.digits.now ≡ digit_count)) }
 {
     if line.len() < 15 || line.len() - 15 != digit_count {

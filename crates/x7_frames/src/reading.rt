@@ -3,7 +3,7 @@ ghost use Rattle.std.specs.Prelude.{◌≡◌, ◌≤◌, ◌⊎◌, [], Ok, Err
 ghost use Rattle.x7_part.specs.Part.{frame_words};
 ghost use Rattle.x7_memory.specs.Planned.{IsPlanFor, PlanData};
 ghost use Rattle.x7_frames.specs.FramesText.{IsPlanOf, plan_text};
-ghost use Rattle.x7_frames.specs.Steps.{IsFaultAt, IsGoodLine, Takes, HasMarks};
+ghost use Rattle.x7_frames.specs.Steps.{IsFaultAt, IsGoodLine, TakesLine, HasMarks};
 ghost use Rattle.x7_frames.specs.declared.fault.FramesFault.{FramesFault};
 
 use crate::fault::FramesFault;
@@ -48,12 +48,12 @@ impl Reading {
         })
     }
 
-    /// Takes line `n`.
+    /// TakesLine line `n`.
     pub(crate) fn take(&mut self, part: &Part, n: u64, line: &[u8]) -> Result<(), FramesFault>
         requires width { self.old.draft.width ≡ frame_words part.now }
         requires marks { HasMarks part.now self.old.draft.rows self.old.marks.items }
         requires room { frame_words part.now ≤ vec_capacity self.old.frame }
-        ensures taken { OnOk result (Takes part.now line.now self.old.draft.rows self.new.draft.rows) }
+        ensures taken { OnOk result (TakesLine part.now line.now self.old.draft.rows self.new.draft.rows) }
         ensures err { OnErr result (self.new.draft.rows ≡ self.old.draft.rows) }
         ensures marks { HasMarks part.now self.new.draft.rows self.new.marks.items }
         ensures width { self.new.draft.width ≡ frame_words part.now }
