@@ -5,7 +5,7 @@ use Rattle.std.specs.Int.Bits.{xor_assoc, xor_self, xor_zero_l, xor_zero_r}
 use Rattle.std.proofs.lemmas.Nat.{pow-add, pow_pos, mul-add-lt, xor_comm, xor_shr, xor_mod, xor_block, xor_lt}
 use Rattle.x7_crc.specs.Polynomial.{digit, from_highest, product, IsRemainder, mirrored, remainder}
 use Rattle.x7_crc.specs.RunningCheck.{generator, low_bits, dividend}
-use Rattle.x7_crc.specs.ShiftRegister.{shifted, shifted_all, advanced}
+use Rattle.x7_crc.specs.ShiftRegister.{shifted_one, shifted_all, advanced}
 use Rattle.x7_crc.proofs.PolynomialLemmas.{digit_cases, digit_lt, from_highest_lt, mirrored-twice, mirrored_double, mirrored_lt, mirrored_xor, one_remainder, remainder_is, xor_above, xor_double, xor_shl, xor_swap}
 
 -- whether a digit is 1
@@ -30,7 +30,7 @@ generator_parts d m h hm =
 -- twice the check's polynomial, and the new bit, is a multiple of the generator and the next check
 pub step_divides : (v : ℕ) (b : Bool) → v < 2 ^ 32 →
     bit_xor (2 * mirrored 32 v) (digit b * 2 ^ 32)
-    ≡ bit_xor (digit (is_one (bit_xor (v % 2) (digit b))) * generator) (mirrored 32 (shifted v b))
+    ≡ bit_xor (digit (is_one (bit_xor (v % 2) (digit b))) * generator) (mirrored 32 (shifted_one v b))
 step_divides v b h =
     let d = bit_xor (v % 2) (digit b) in
     let small : d < 2 = xor_lt 1 (v % 2) (digit b) (omega arith) (digit_lt b) in
@@ -42,11 +42,11 @@ step_divides v b h =
     ap (λ x. bit_xor x (digit b * 2 ^ 32)) (mirrored_double 32 v h)
     ∙ ap (λ x. bit_xor (v % 2 * 2 ^ 32 + m) x) (sym (add-zero (digit b * 2 ^ 32)))
     ∙ first ∙ ap (λ x. d * 2 ^ 32 + x) (xor_zero_r m) in
-    let next : mirrored 32 (shifted v b) ≡ bit_xor m (mirrored 32 (d * 0x82F63B78)) =
+    let next : mirrored 32 (shifted_one v b) ≡ bit_xor m (mirrored 32 (d * 0x82F63B78)) =
     mirrored_xor 32 (v / 2) (d * 0x82F63B78) in
     left ∙ sym (generator_parts d m small hm)
     ∙ ap (λ x. bit_xor (d * generator) x) (sym next)
-    ∙ ap (λ x. bit_xor (x * generator) (mirrored 32 (shifted v b))) (sym (digit-is_one d small))
+    ∙ ap (λ x. bit_xor (x * generator) (mirrored 32 (shifted_one v b))) (sym (digit-is_one d small))
 
 -- ---- a list of bits
 
@@ -75,7 +75,7 @@ joined_more l b bs =
     ∙ sym (xor_assoc (2 * l * 2 ^ n) (digit b * 2 ^ 32 * 2 ^ n) (f * 2 ^ 32))
     ∙ ap (λ x. bit_xor x (f * 2 ^ 32)) (xor_shl n (2 * l) (digit b * 2 ^ 32))
 
-pub shifted_lt : (v : ℕ) (b : Bool) → v < 2 ^ 32 → shifted v b < 2 ^ 32
+pub shifted_lt : (v : ℕ) (b : Bool) → v < 2 ^ 32 → shifted_one v b < 2 ^ 32
 shifted_lt v b h =
     let d = bit_xor (v % 2) (digit b) in
     let small : d < 2 = xor_lt 1 (v % 2) (digit b) (omega arith) (digit_lt b) in
@@ -96,16 +96,16 @@ pub divides : (bits : List Bool) (v l : ℕ) (q : List Bool) → v < 2 ^ 32 → 
 divides [] v l q h e = record { quotient = q; exact = ap (λ x. bit_xor x 0) (mul-one l) ∙ xor_zero_r l ∙ e; below = mirrored_lt 32 v }
 divides (b ∷ bs) v l q h e =
     let c = is_one (bit_xor (v % 2) (digit b)) in
-    rw (joined_more l b bs) (divides bs (shifted v b) (bit_xor (2 * l) (digit b * 2 ^ 32)) (c ∷ q) (shifted_lt v b h)
-    (one_more l (product q generator) (mirrored 32 v) (digit b * 2 ^ 32) (digit c * generator) (mirrored 32 (shifted v b)) e (step_divides v b h)))
+    rw (joined_more l b bs) (divides bs (shifted_one v b) (bit_xor (2 * l) (digit b * 2 ^ 32)) (c ∷ q) (shifted_lt v b h)
+    (one_more l (product q generator) (mirrored 32 v) (digit b * 2 ^ 32) (digit c * generator) (mirrored 32 (shifted_one v b)) e (step_divides v b h)))
 
 pub shifted_all_lt : (v : ℕ) (bits : List Bool) → v < 2 ^ 32 → shifted_all v bits < 2 ^ 32
 shifted_all_lt v [] h = h
-shifted_all_lt v (b ∷ bits) h = shifted_all_lt (shifted v b) bits (shifted_lt v b h)
+shifted_all_lt v (b ∷ bits) h = shifted_all_lt (shifted_one v b) bits (shifted_lt v b h)
 
 pub shifted_all-append : (v : ℕ) (a b : List Bool) → shifted_all v (a ++ b) ≡ shifted_all (shifted_all v a) b
 shifted_all-append v [] b = refl
-shifted_all-append v (x ∷ a) b = shifted_all-append (shifted v x) a b
+shifted_all-append v (x ∷ a) b = shifted_all-append (shifted_one v x) a b
 
 pub shifted_all-divides : (v : ℕ) (bits : List Bool) → v < 2 ^ 32 → IsRemainder (dividend v bits) generator 32 (mirrored 32 (shifted_all v bits))
 unfolding dividend
@@ -164,6 +164,6 @@ shifted_all-low (suc n) v w h =
     let d = bit_xor (v % 2) (digit b) * 0x82F63B78 in
     let half : bit_xor v w / 2 ≡ bit_xor (v / 2) (w / 2) = xor_shr v w 1 in
     let low : bit_xor v w % 2 ≡ bit_xor (v % 2) (digit b) = xor_mod v w 1 ∙ ap (λ x. bit_xor (v % 2) x) (sym (digit-is_one (w % 2) (omega arith))) in
-    let e : one_step (bit_xor v w) ≡ bit_xor (shifted v b) (w / 2) =
+    let e : one_step (bit_xor v w) ≡ bit_xor (shifted_one v b) (w / 2) =
     rw (half, low) (xor_assoc (v / 2) (w / 2) d ∙ ap (λ x. bit_xor (v / 2) x) (xor_comm (w / 2) d) ∙ sym (xor_assoc (v / 2) d (w / 2))) in
-    shifted_all-low n (shifted v b) (w / 2) (omega arith) ∙ ap (advanced n) (sym e)
+    shifted_all-low n (shifted_one v b) (w / 2) (omega arith) ∙ ap (advanced n) (sym e)

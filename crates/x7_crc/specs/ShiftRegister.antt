@@ -4,13 +4,13 @@ use Rattle.std.specs.Prelude.{ℕ, zero, suc, ◌*◌, ◌/◌, ◌%◌, Bool, L
 use Rattle.x7_crc.specs.Polynomial.{digit}
 
 -- the register after one more bit; 82F63B78 is the polynomial with its coefficients in the other order
-abbrev pub shifted : ℕ → Bool → ℕ
-shifted v b = bit_xor (v / 2) (bit_xor (v % 2) (digit b) * 0x82F63B78)
+abbrev pub shifted_one : ℕ → Bool → ℕ
+shifted_one v b = bit_xor (v / 2) (bit_xor (v % 2) (digit b) * 0x82F63B78)
 
 -- the register after a list of bits, the first taken first
 abbrev pub shifted_all : ℕ → List Bool → ℕ
 shifted_all v [] = v
-shifted_all v (b ∷ bs) = shifted_all (shifted v b) bs
+shifted_all v (b ∷ bs) = shifted_all (shifted_one v b) bs
 
 -- the register after `n` bits of 0
 unfoldable pub advanced : ℕ → ℕ → ℕ
