@@ -30,6 +30,7 @@ attempt_bits_by Power cause ignored = kind_bits_of Power ignored + cause_bits_of
 attempt_bits_by Iprog cause ignored = kind_bits_of Iprog ignored + cause_bits_of cause
 attempt_bits_by Fallback cause ignored = kind_bits_of Fallback ignored + cause_bits_of cause
 
+-- the bits of an attempt by its kind, its cause and whether its IPROG was ignored
 abbrev pub attempt_bits_of : Attempt → ℕ
 attempt_bits_of attempt = attempt_bits_by attempt.kind attempt.cause attempt.ignored
 
