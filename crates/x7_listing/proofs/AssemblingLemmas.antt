@@ -21,7 +21,7 @@ longer lines l = length-append lines (l ∷ [])
 grown : (lines : List Line) (l : Line) (old new : List ℕ) → old ≡ assembled lines → new ≡ old ++ bytes_of (check_of_bytes old) l → new ≡ assembled (lines ++ l ∷ [])
 grown lines l old new is e = e ∙ ap (λ b. b ++ bytes_of (check_of_bytes b) l) is ∙ sym (one-more lines l)
 
-begins-more : (limit : ℕ) (texts : List (List ℕ)) (lines : List Line) (l : Line) (t : List ℕ) (left : List (List ℕ)) → Begins limit texts lines (t ∷ left) → FitsLine l → t ≡ text_of l → length (assembled (lines ++ l ∷ [])) ≤ limit
+pub begins-more : (limit : ℕ) (texts : List (List ℕ)) (lines : List Line) (l : Line) (t : List ℕ) (left : List (List ℕ)) → Begins limit texts lines (t ∷ left) → FitsLine l → t ≡ text_of l → length (assembled (lines ++ l ∷ [])) ≤ limit
     → Begins limit texts (lines ++ l ∷ []) left
 begins-more limit texts lines l t left b fits e within = record {
   texts = b.texts ∙ ap (λ s. map text_of lines ++ s ∷ left) e ∙ sym (append_assoc (map text_of lines) (text_of l ∷ []) left) ∙ ap (λ s. s ++ left) (sym (map-append text_of lines (l ∷ [])));
@@ -29,7 +29,7 @@ begins-more limit texts lines l t left b fits e within = record {
   within = within;
 }
 
-begins-at : (limit : ℕ) (texts : List (List ℕ)) (lines : List Line) (left left2 : List (List ℕ)) → left ≡ left2 → Begins limit texts lines left → Begins limit texts lines left2
+pub begins-at : (limit : ℕ) (texts : List (List ℕ)) (lines : List Line) (left left2 : List (List ℕ)) → left ≡ left2 → Begins limit texts lines left → Begins limit texts lines left2
 begins-at limit texts lines left left2 e b = subst (λ s. Begins limit texts lines s) e b
 
 module _ (limit : ℕ) (texts : List (List ℕ)) (t old new : List ℕ) (left : List (List ℕ)) (n : ℕ) (g : Went limit texts (t ∷ left) old n) where

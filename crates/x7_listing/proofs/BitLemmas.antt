@@ -1,5 +1,5 @@
 -- A header's line leads back to what the header holds, and is no other line.
-use Rattle.std.proofs.Common.{◌≡◌, ◌==◌, ◌&&◌, ℕ, ◌/◌, ◌%◌, ◌^◌, if◌then◌else◌, Bool, true, false, List, [], ◌∷◌, ◌++◌, ◌<◌, ◌≤◌, ◌+◌, length, codes, Option, None, Some, MatchOption, Result, Ok, Err, IfOk, subst, append_assoc, length-append, refl, ap, ap₂, sym, ◌∙◌, arith}
+use Rattle.std.proofs.Common.{◌≡◌, ◌==◌, ◌&&◌, ℕ, ◌/◌, ◌%◌, ◌^◌, if◌then◌else◌, Bool, true, false, List, [], ◌∷◌, ◌++◌, ◌<◌, ◌≤◌, ◌+◌, length, drop, codes, Option, None, Some, MatchOption, Result, Ok, Err, IfOk, subst, append_assoc, length-append, refl, ap, ap₂, sym, ◌∙◌, arith}
 use Rattle.std.proofs.lemmas.Grind.{common_steps}
 use Rattle.std.specs.Fmt.{decimal}
 use Rattle.std.specs.List.{flat_map}
@@ -76,6 +76,32 @@ one-header x y h k e =
 
 pub no-line : (x : Contents) (l : Line) → IsLine (bit_text x) l → ⊥
 no-line x l i = let none : l ≡ Empty = line-is (bit_text x) l i in let e : bit_text x ≡ [] = i.is ∙ ap text_of none in cc
+
+-- what the fields of a header's line hold, where a text is that of such fields
+pub header_by : List ℕ → Contents
+header_by t =
+    let b = after_space t in
+    let c = after_space b in
+    let d = after_space c in
+    contents (field_guess (before_space t)) (field_guess (before_space b)) (field_guess (before_space c)) (field_guess (before_space d)) (decimal_after 0 (after_space d))
+
+header-back : (x : Contents) → IsHeld x → header_by (field_texts x.a x.b x.c x.d x.data_length) ≡ x
+unfolding header_by
+header-back x h =
+    let count = with_count x.d x.data_length in
+    let third = field_text x.c ++ 32 ∷ count in
+    let second = field_text x.b ++ 32 ∷ third in
+    let b = behind-field x.a second in
+    let c = ap after_space b ∙ behind-field x.b third in
+    let d = ap after_space c ∙ behind-field x.c count in
+    let n = ap after_space d ∙ behind-field x.d (decimal x.data_length) in
+    let field : List ℕ → List ℕ = λ t. field_guess (before_space t) in
+    same-contents (header_by (field_text x.a ++ 32 ∷ second)) x (first-field x.a second h.a) (ap field b ∙ first-field x.b third h.b) (ap field c ∙ first-field x.c count h.c)
+    (ap field d ∙ first-field x.d (decimal x.data_length) h.d) (ap (decimal_after 0) n ∙ decimal-back x.data_length (omega (arith, h.have.data_length)))
+
+-- the one header whose line a text may be
+pub header-is : (t : List ℕ) (x : Contents) → IsHeld x → t ≡ bit_text x → x ≡ header_by (drop 4 t)
+header-is t x h e = sym (ap (λ s. header_by (drop 4 s)) e ∙ header-back x h)
 
 -- a text that begins with the same field and space goes on alike
 pub same-rest : (a b r s : List ℕ) → AreBytes a → AreBytes b → field_text a ++ 32 ∷ r ≡ field_text b ++ 32 ∷ s → r ≡ s

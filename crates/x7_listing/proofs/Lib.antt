@@ -1,6 +1,7 @@
 pub mod AssemblingLemmas
 pub mod BitLemmas
 pub mod BoundLemmas
+pub mod EveryAsmLemmas
 pub mod FrontLemmas
 pub mod GapLemmas
 pub mod GuessLemmas

@@ -91,3 +91,7 @@ AreHeadedAsm all outcome = IsHeaded all outcome ⊎ (HasNoHead all × AreAsm asm
 -- what a text assembles to: a header's line first or none, and lines
 abbrev pub IsAsm : List ℕ → Result (List ℕ) AsmFault → Type 0
 IsAsm text outcome = AreHeadedAsm (split text) outcome
+
+-- a text assembles to something
+abbrev pub HasOutcome : List ℕ → Type 0
+HasOutcome text = (outcome : Result (List ℕ) AsmFault) × IsAsm text outcome

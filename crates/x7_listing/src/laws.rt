@@ -2,7 +2,7 @@
 ghost use Rattle.std.specs.Prelude.{◌≡◌, ◌+◌, ◌*◌, ◌≤◌, ℕ, List, ◌++◌, length, true, Result, Ok};
 ghost use Rattle.x7_words.specs.Word.{AreBytes};
 ghost use Rattle.x7_text.specs.Lines.{has_no_end};
-ghost use Rattle.x7_listing.specs.Assembly.{asm_limit, IsAsm};
+ghost use Rattle.x7_listing.specs.Assembly.{asm_limit, HasOutcome, IsAsm};
 ghost use Rattle.x7_listing.specs.declared.assembler.AsmFault.{AsmFault};
 ghost use Rattle.x7_listing.specs.Line.{FitsLine, IsLine, IsListed, Line, text_of};
 ghost use Rattle.x7_listing.specs.Listed.{listing_lines, texts_of};
@@ -76,4 +76,9 @@ pub fn header_line_is_its_own()
 /// A text assembles to at most one outcome.
 pub fn one_outcome()
     ensures { (text : List ℕ) (a b : Result (List ℕ) AsmFault) → IsAsm text a → IsAsm text b → a ≡ b }
+{}
+
+/// A text assembles to something: the bytes of its header and lines, or its first fault.
+pub fn every_text_is_assembled()
+    ensures { (text : List ℕ) → HasOutcome text }
 {}

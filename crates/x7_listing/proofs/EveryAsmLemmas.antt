@@ -1,0 +1,182 @@
+-- Every text assembles to something: a line is that of one line or of none, and so is a header's.
+use Rattle.std.proofs.Common.{◌≡◌, ◌⊎◌, inl, inr, ℕ, ◌+◌, ◌-◌, ◌^◌, ◌<◌, ◌≤◌, Bool, true, false, List, [], ◌∷◌, ◌++◌, length, drop, Result, Ok, Err, refl, ap, subst, ◌∙◌, arith}
+use Rattle.std.proofs.lemmas.Bool.{cases_lt}
+use Rattle.std.proofs.lemmas.Bool.Decides.{not_from_Decides}
+use Rattle.std.proofs.lemmas.Slice.Eq.{bytes_eq-Decides}
+use Rattle.std.specs.List.{AllByRecursion}
+use Rattle.std.specs.Str.{bytes_eq}
+use Rattle.x7_words.specs.Word.{AreBytes}
+use Rattle.x7_text.specs.Lines.{split}
+use Rattle.x7_header.specs.Header.{Contents, header_bytes}
+use Rattle.x7_listing.specs.BitLine.{bit_text, IsHeld}
+use Rattle.x7_listing.specs.Line.{Line, Empty, Comment, Bytes, Sync, Nop, Write, Read, Write2, Read2, Word, Data, Cmd, Check, FitsLine, IsLine, text_of}
+use Rattle.x7_listing.specs.Assembly.{after_one_line, AreAsm, AreHeadedAsm, asm_limit, assembled, Begins, HasNoHead, HasOutcome}
+use Rattle.x7_listing.specs.declared.assembler.AsmFault.{AsmFault}
+use Rattle.x7_listing.specs.declared.assembler.AsmFault.TheVariants as fault
+use Rattle.x7_listing.proofs.AssemblingLemmas.{begins-at, begins-more}
+use Rattle.x7_listing.proofs.BitLemmas.{header_by, header-is}
+use Rattle.x7_listing.proofs.GuessLemmas.{guess, line-is}
+
+-- ---- what is decided
+
+-- it holds, or it doesn't
+abbrev Decided : Type 0 → Type 0
+Decided P = P ⊎ (P → ⊥)
+
+both-or : {P Q : Type 0} → Decided P → Decided Q → Decided (P × Q)
+both-or (inl p) (inl q) = inl (p, q)
+both-or (inl p) (inr n) = inr (λ h. n h.1)
+both-or (inr n) q = inr (λ h. n h.0)
+
+texts-or : (s t : List ℕ) → Decided (s ≡ t)
+texts-or s t = by (bytes_eq s t) refl
+  where
+    by : (b : Bool) → bytes_eq s t ≡ b → Decided (s ≡ t)
+    by true e = inl ((bytes_eq-Decides s t).0 e)
+    by false e = inr (not_from_Decides (bytes_eq s t) (bytes_eq-Decides s t) e)
+
+below-or : (a b : ℕ) → Decided (a < b)
+below-or a b = by (cases_lt a b)
+  where
+    by : (a < b) ⊎ (b ≤ a) → Decided (a < b)
+    by (inl h) = inl h
+    by (inr h) = inr (λ l. omega (arith, h, l))
+
+up-to-or : (a b : ℕ) → Decided (a ≤ b)
+up-to-or a b = by (cases_lt b a)
+  where
+    by : (b < a) ⊎ (a ≤ b) → Decided (a ≤ b)
+    by (inl h) = inr (λ l. omega (arith, h, l))
+    by (inr h) = inl h
+
+all-below-or : (limit : ℕ) (xs : List ℕ) → Decided (AllByRecursion (λ x. x < limit) xs)
+all-below-or limit [] = inl tt
+all-below-or limit (x ∷ xs) = both-or (below-or x limit) (all-below-or limit xs)
+
+row-or : (limit most : ℕ) (xs : List ℕ) → Decided (AllByRecursion (λ x. x < limit) xs × (0 < length xs) × (length xs ≤ most))
+row-or limit most xs = by (all-below-or limit xs) (below-or 0 (length xs)) (up-to-or (length xs) most)
+  where
+    by : {P Q R : Type 0} → Decided P → Decided Q → Decided R → Decided (P × Q × R)
+    by (inl p) (inl q) (inl r) = inl (p, q, r)
+    by (inr n) q r = inr (λ h. n h.0)
+    by p (inr n) r = inr (λ h. n h.1)
+    by p q (inr n) = inr (λ h. n h.2)
+
+fits-or : (l : Line) → Decided (FitsLine l)
+fits-or Empty = inl tt
+fits-or (Comment text) = inl tt
+fits-or (Bytes bytes) = row-or 256 32 bytes
+fits-or Sync = inl tt
+fits-or Nop = inl tt
+fits-or (Write register count) = both-or (below-or register 32) (below-or count (2 ^ 11))
+fits-or (Read register count) = both-or (below-or register 32) (below-or count (2 ^ 11))
+fits-or (Write2 count) = below-or count (2 ^ 27)
+fits-or (Read2 count) = below-or count (2 ^ 27)
+fits-or (Word word) = below-or word (2 ^ 32)
+fits-or (Data words) = row-or (2 ^ 32) 8 words
+fits-or (Cmd command) = inl tt
+fits-or Check = inl tt
+
+-- what a field holds is short and of bytes, or it isn't
+abbrev FieldOr : List ℕ → Type 0
+FieldOr field = Decided ((length field < 2 ^ 16) × AreBytes field)
+
+field-or : (field : List ℕ) → FieldOr field
+field-or field = both-or (below-or (length field) (2 ^ 16)) (all-below-or 256 field)
+
+held-or : (x : Contents) → Decided (IsHeld x)
+held-or x = by (field-or x.a) (field-or x.b) (field-or x.c) (field-or x.d) (below-or x.data_length (2 ^ 32))
+  where
+    by : FieldOr x.a → FieldOr x.b → FieldOr x.c → FieldOr x.d → Decided (x.data_length < 2 ^ 32) → Decided (IsHeld x)
+    by (inl a) (inl b) (inl c) (inl d) (inl n) = inl (record { have = record { a = a.0; b = b.0; c = c.0; d = d.0; data_length = n }; a = a.1; b = b.1; c = c.1; d = d.1 })
+    by (inr a) b c d n = inr (λ h. a (h.have.a, h.a))
+    by a (inr b) c d n = inr (λ h. b (h.have.b, h.b))
+    by a b (inr c) d n = inr (λ h. c (h.have.c, h.c))
+    by a b c (inr d) n = inr (λ h. d (h.have.d, h.d))
+    by a b c d (inr n) = inr (λ h. n h.have.data_length)
+
+-- ---- the line of a text, and the header of one, or none
+
+line-by : (t : List ℕ) (g : Line) → ((l : Line) → IsLine t l → l ≡ g) → ((l : Line) × IsLine t l) ⊎ ((l : Line) → IsLine t l → ⊥)
+line-by t g only = by (fits-or g) (texts-or t (text_of g))
+  where
+    by : Decided (FitsLine g) → Decided (t ≡ text_of g) → ((l : Line) × IsLine t l) ⊎ ((l : Line) → IsLine t l → ⊥)
+    by (inl f) (inl e) = inl (g, record { fits = f; is = e })
+    by (inr n) e = inr (λ l i. n (subst FitsLine (only l i) i.fits))
+    by (inl f) (inr n) = inr (λ l i. n (i.is ∙ ap text_of (only l i)))
+
+line-or : (t : List ℕ) → ((l : Line) × IsLine t l) ⊎ ((l : Line) → IsLine t l → ⊥)
+line-or t = line-by t (guess t) (line-is t)
+
+-- a text is that of a header, or of none
+HeaderOr : List ℕ → Type 0
+HeaderOr t = ((x : Contents) × IsHeld x × (t ≡ bit_text x)) ⊎ ((x : Contents) → IsHeld x → t ≡ bit_text x → ⊥)
+
+header-by-guess : (t : List ℕ) (g : Contents) → ((x : Contents) → IsHeld x → t ≡ bit_text x → x ≡ g) → HeaderOr t
+unfolding HeaderOr
+header-by-guess t g only = by (held-or g) (texts-or t (bit_text g))
+  where
+    by : Decided (IsHeld g) → Decided (t ≡ bit_text g) → HeaderOr t
+    by (inl h) (inl e) = inl (g, h, e)
+    by (inr n) e = inr (λ x h is. n (subst IsHeld (only x h is) h))
+    by (inl f) (inr n) = inr (λ x h is. n (is ∙ ap bit_text (only x h is)))
+
+header-or : (t : List ℕ) → HeaderOr t
+header-or t = header-by-guess t (header_by (drop 4 t)) (header-is t)
+
+-- ---- the lines of a text in turn
+
+-- texts of lines assemble to something
+HasAsm : ℕ → List (List ℕ) → Type 0
+HasAsm limit texts = (outcome : Result (List ℕ) AsmFault) × AreAsm limit texts outcome
+
+from : (limit : ℕ) (all left : List (List ℕ)) (lines : List Line) → Begins limit all lines left → HasAsm limit all
+unfolding HasAsm
+from limit all [] lines b = (Ok (assembled lines), record { lines = lines; begins = b; is = refl })
+from limit all (t ∷ left) lines b = by (λ l. from limit all left (lines ++ l ∷ [])) (line-or t)
+  where
+    by-size : (l : Line) → IsLine t l → (Begins limit all (lines ++ l ∷ []) left → HasAsm limit all) → Decided (length (assembled (lines ++ l ∷ [])) ≤ limit) → HasAsm limit all
+    by-size l i goes-on (inl h) = goes-on (begins-more limit all lines l t left b i.fits i.is h)
+    by-size l i goes-on (inr n) = (
+      Err (fault.TooLong (length lines + 1)),
+      record {
+        lines = lines;
+        last = l;
+        left = left;
+        begins = begins-at limit all lines (t ∷ left) (text_of l ∷ left) (ap (λ s. s ∷ left) i.is) b;
+        fits = i.fits;
+        count = refl;
+        passes = more (length (assembled (lines ++ l ∷ []))) n;
+      },
+    )
+      where
+        more : (k : ℕ) → (k ≤ limit → ⊥) → limit < k
+        more k n = elim (cases_lt limit k) [
+          | inl h ↦ h
+          | inr h ↦ absurd (n h)
+        ]
+
+    by : ((l : Line) → Begins limit all (lines ++ l ∷ []) left → HasAsm limit all) → ((l : Line) × IsLine t l) ⊎ ((l : Line) → IsLine t l → ⊥) → HasAsm limit all
+    by goes-on (inl (l, i)) = by-size l i (goes-on l) (up-to-or (length (assembled (lines ++ l ∷ []))) limit)
+    by goes-on (inr none) = (Err (fault.Line (length lines + 1)), record { lines = lines; bad = t; left = left; begins = b; count = refl; no_line = none })
+
+has-asm : (limit : ℕ) (texts : List (List ℕ)) → HasAsm limit texts
+has-asm limit texts = from limit texts texts [] (record { texts = refl; fits = tt; within = omega arith })
+
+headed : (texts : List (List ℕ)) → (outcome : Result (List ℕ) AsmFault) × AreHeadedAsm texts outcome
+unfolding HeaderOr HasAsm
+headed [] = let o = has-asm asm_limit [] in (o.0, inr ((λ x others h e. cc), o.1))
+headed (t ∷ others) = by (header-or t)
+  where
+    plain : ((x : Contents) → IsHeld x → t ≡ bit_text x → ⊥) → HasNoHead (t ∷ others)
+    plain none x more h e = let first : t ≡ bit_text x = cc in none x h first
+
+    by : HeaderOr t → (outcome : Result (List ℕ) AsmFault) × AreHeadedAsm (t ∷ others) outcome
+    by (inl (x, h, e)) =
+        let o = has-asm (asm_limit - length (header_bytes x)) others in
+        (after_one_line (header_bytes x) o.0, inl (record { header = x; held = h; others = others; texts = ap (λ s. s ∷ others) e; follows = record { rest = o.0; lines = o.1; is = refl } }))
+    by (inr none) = let o = has-asm asm_limit (t ∷ others) in (o.0, inr (plain none, o.1))
+
+-- a text assembles to something
+pub has-outcome : (text : List ℕ) → HasOutcome text
+has-outcome text = headed (split text)
