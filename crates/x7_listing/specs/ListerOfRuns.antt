@@ -6,12 +6,23 @@ use Rattle.x7_packets.specs.declared.stream.Run.{Run}
 use Rattle.x7_packets.specs.declared.stream.Run.TheVariants as run
 use Rattle.x7_listing.specs.Telling.{Finished, ListerState, TakerStandsFor}
 
--- a run was taken, with which these bytes are listed; the end ends the listing
-abbrev pub TakesRun : Run → ListerState → List ℕ → List ℕ → List ℕ → Mode → Type 0
-TakesRun run.End l given before bytes due = Finished l given before bytes
-TakesRun r l given before bytes due = TakerStandsFor l given before bytes due
+-- what a lister told of runs: the texts given before its own, the listings before, the bytes of the runs, and what is due behind them
+pub record RunsTold : Type 0 where
+  pub given : List ℕ
+  pub before : List ℕ
+  pub bytes : List ℕ
+  pub due : Mode
+
+-- a `RunsTold` with these fields
+abbrev pub runs_told : List ℕ → List ℕ → List ℕ → Mode → RunsTold
+runs_told given before bytes due = record { given = given; before = before; bytes = bytes; due = due }
+
+-- a run was taken, with which the bytes told are listed; the end ends the listing
+abbrev pub TakesRun : Run → ListerState → RunsTold → Type 0
+TakesRun run.End l told = Finished l told.given told.before told.bytes
+TakesRun r l told = TakerStandsFor l told.given told.before told.bytes told.due
 
 -- the next run of a stream is taken
 abbrev pub TakesNext : Run → ListerState → ListerState → Type 0
 TakesNext r old new = (given before bytes : List ℕ) (due next : Mode)
-    → TakerStandsFor old given before bytes due → IsNext bytes due r next → TakesRun r new given before (bytes ++ bytes_of_run r) next
+    → TakerStandsFor old given before bytes due → IsNext bytes due r next → TakesRun r new (runs_told given before (bytes ++ bytes_of_run r) next)

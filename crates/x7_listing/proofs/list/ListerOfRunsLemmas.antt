@@ -13,7 +13,7 @@ use Rattle.x7_packets.proofs.RunningLemmas.{bare_after}
 use Rattle.x7_packets.proofs.UniqueLemmas.{one_reading}
 use Rattle.x7_listing.specs.Listing.{reading_text, session_text}
 use Rattle.x7_listing.specs.Telling.{Finished, ListerState, TakerStandsFor, SessionListed, HasListed, HasListedAt, Writes, written_of}
-use Rattle.x7_listing.specs.ListerOfRuns.{TakesRun}
+use Rattle.x7_listing.specs.ListerOfRuns.{TakesRun, runs_told}
 use Rattle.x7_listing.proofs.GapLemmas.{fresh_gap}
 use Rattle.x7_listing.proofs.list.ListerLemmas.{begins, not_due}
 
@@ -46,7 +46,7 @@ cut_fits (run.Body register bytes) e f = f
 cut_fits (run.Tail bytes) e f = absurd (let g : true ≡ false = e in cc)
 cut_fits run.End e f = absurd (let g : true ≡ false = e in cc)
 
-takes_as : (r : Run) (l : ListerState) (given before bytes : List ℕ) (due : Mode) → is_last r ≡ false → TakerStandsFor l given before bytes due → TakesRun r l given before bytes due
+takes_as : (r : Run) (l : ListerState) (given before bytes : List ℕ) (due : Mode) → is_last r ≡ false → TakerStandsFor l given before bytes due → TakesRun r l (runs_told given before bytes due)
 takes_as (run.Skip x) l given before bytes due e t = t
 takes_as run.Sync l given before bytes due e t = t
 takes_as (run.Head w step) l given before bytes due e t = t
@@ -68,7 +68,7 @@ told_by l given before bytes due t sessions place r =
 
 pub takes_run : (l n : ListerState) (r : Run) (given before bytes : List ℕ) (due next : Mode) → is_last r ≡ false → n.cutter ≡ l.cutter
     → Writes (cut_of r) (written_of l.synced l.line l.held (given ++ l.text)) (written_of n.synced n.line n.held (given ++ n.text)) → ((IsNeed (cut_of r) → ⊥) → n.synced ≡ true → n.held ≡ [])
-    → TakerStandsFor l given before bytes due → IsNext bytes due r next → TakesRun r n given before (bytes ++ bytes_of_run r) next
+    → TakerStandsFor l given before bytes due → IsNext bytes due r next → TakesRun r n (runs_told given before (bytes ++ bytes_of_run r) next)
 takes_run l n r given before bytes due next on same writes none t x =
     let listed = (told_by l given before bytes due t x.sessions x.place x.before).0 in
     let adds : Adds (cut_of r) x.sessions x.place x.new_sessions x.new_place = cut_adds r x.sessions x.new_sessions x.place x.new_place on x.adds in
@@ -84,7 +84,7 @@ takes_run l n r given before bytes due next on same writes none t x =
 -- a run that is no tail and no end is taken as the run of a cutter
 pub takes_cut : (l n : ListerState) (r : Run) (k : Cut) (given before bytes : List ℕ) (due next : Mode) → ((tail : Bor (List ℕ)) → r ≡ run.Tail tail → ⊥) → (r ≡ run.End → ⊥) → n.cutter ≡ l.cutter → k ≡ cut_of r
     → Writes k (written_of l.synced l.line l.held (given ++ l.text)) (written_of n.synced n.line n.held (given ++ n.text)) → ((IsNeed k → ⊥) → n.synced ≡ true → n.held ≡ [])
-    → TakerStandsFor l given before bytes due → IsNext bytes due r next → TakesRun r n given before (bytes ++ bytes_of_run r) next
+    → TakerStandsFor l given before bytes due → IsNext bytes due r next → TakesRun r n (runs_told given before (bytes ++ bytes_of_run r) next)
 takes_cut l n r k given before bytes due next no_tail no_end same e writes none t x =
     takes_run l n r given before bytes due next (goes_if r no_tail no_end) same
     (subst (λ c. Writes c (written_of l.synced l.line l.held (given ++ l.text)) (written_of n.synced n.line n.held (given ++ n.text))) e writes)
