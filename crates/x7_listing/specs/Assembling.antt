@@ -1,8 +1,8 @@
 -- A text that is assembled line by line: what its lines gave so far (this project's choice).
-use Rattle.std.specs.Prelude.{◌≡◌, ◌⊎◌, ℕ, ◌+◌, ◌-◌, ◌<◌, ◌≤◌, Bool, true, false, List, [], ◌∷◌, ◌++◌, drop, take, length, Err}
+use Rattle.std.specs.Prelude.{◌≡◌, ◌⊎◌, ℕ, ◌+◌, ◌-◌, ◌<◌, ◌≤◌, Bool, true, false, List, [], ◌∷◌, ◌++◌, drop, take, length, Ok, Err}
 use Rattle.std.specs.List.{AllByRecursion, flat_map}
 use Rattle.x7_crc.specs.Checking.{CheckerState, Keeps}
-use Rattle.x7_header.specs.Header.{Contents, header_bytes}
+use Rattle.x7_header.specs.Header.{Contents, header_bytes, longest_header}
 use Rattle.x7_listing.specs.BitLine.{bit_text, IsHeld}
 use Rattle.x7_listing.specs.Line.{Line, bytes_of, FitsLine, IsListed}
 use Rattle.x7_listing.specs.Listed.{texts_of}
@@ -47,11 +47,16 @@ pub record BodyState : Type 0 where
 abbrev pub body_by : List ℕ → ℕ → CheckerState → ℕ → BodyState
 body_by out start checker count = record { out = out; start = start; checker = checker; count = count }
 
--- what lines gave: the bytes so far, where those of lines begin, and their check
+-- what lines gave: the bytes so far, where those of lines begin, and their check; and for how many bytes there is room in all
 pub record Output : Type 0 where
   pub out : List ℕ
   pub start : ℕ
   pub checker : CheckerState
+  pub room : ℕ
+
+-- there is room for the bytes of one line more, 32 at most
+abbrev pub HasLineRoom : Output → Type 0
+HasLineRoom b = length b.out + 32 ≤ b.room
 
 -- the bytes of lines begin within the bytes so far, and the checker keeps theirs
 pub record IsSound (out : List ℕ) (start : ℕ) (checker : CheckerState) : Type 0 where
@@ -68,7 +73,7 @@ pub record Goes (all left : List (List ℕ)) (b : BodyState) : Type 0 where
   pub first : ℕ
   pub read : ℕ
   pub long : b.start ≤ length b.out
-  pub short : b.start ≤ 262170
+  pub short : b.start ≤ longest_header
   pub keeps : Keeps b.checker (drop b.start b.out)
   pub opens : Opens all others (take b.start b.out) first
   pub went : Went (asm_limit - b.start) others left (drop b.start b.out) read
@@ -111,6 +116,15 @@ has_any (t ∷ ts) = true
 -- lines gave this output, whatever lines follow
 abbrev pub HasRead : Output → List (List ℕ) → Type 0
 HasRead b lines = (left : List (List ℕ)) → Waits (has_any lines) (lines ++ left) left (behind b (length lines))
+
+-- lines gave this output, and once one was read there is room for the next
+pub record AreReadWithRoom (b : Output) (lines : List (List ℕ)) : Type 0 where
+  pub read : HasRead b lines
+  pub room : has_any lines ≡ true → HasLineRoom b
+
+-- memory may be wanting at a line: it is the first, or those up to it assemble
+abbrev pub IsFirstOrGood : List (List ℕ) → List ℕ → Type 0
+IsFirstOrGood lines line = (lines ≡ []) ⊎ ((bytes : List ℕ) × AreHeadedAsm (lines ++ line ∷ []) (Ok bytes))
 
 -- a text of these lines has this fault; want of memory says nothing
 abbrev pub HasAsmFault : AsmFault → List (List ℕ) → Type 0

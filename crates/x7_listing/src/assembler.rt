@@ -1,7 +1,9 @@
 //! Assembling a whole text.
-ghost use Rattle.std.specs.Prelude.{◌≡◌, ℕ, List, ◌≤◌, ◌⊎◌, length, Ok, Err, IfOk, IfErr, MatchResult};
+ghost use Rattle.std.specs.Prelude.{◌≡◌, ℕ, List, [], ◌≤◌, ◌⊎◌, length, Ok, Err, IfOk, IfErr, MatchResult};
 ghost use Rattle.x7_words.specs.Word.{AreBytes};
+ghost use Rattle.x7_text.specs.LineReading.{WantsAt};
 ghost use Rattle.x7_listing.specs.Assembly.{IsAsm};
+ghost use Rattle.x7_listing.specs.Assembling.{IsFirstOrGood};
 ghost use Rattle.x7_listing.specs.StreamListing.{stream_listing};
 
 use crate::asm::AsmLines;
@@ -51,10 +53,12 @@ impl From<AllocError> for AsmFault {
 
 /// Assembles a text: the bytes of its header and lines, or its first line that is none or at which they pass the limit.
 ///
-/// The listing of a stream assembles back to the stream, unless memory runs out.
+/// The listing of a stream assembles back to the stream, unless memory runs out, which it does only at the first line or at
+/// one up to which all are good.
 pub fn assemble(alloc: Global, text: &[u8]) -> Result<Vec<u8>, AsmFault>
     ensures bytes { IfOk result (λ bytes. IsAsm text.now (Ok bytes.items)) }
     ensures fault { IfErr result (λ fault. (fault ≡ AsmFault.NoMemory) ⊎ IsAsm text.now (Err fault)) }
+    ensures memory { IfErr result (λ fault. fault ≡ AsmFault.NoMemory → WantsAt IsFirstOrGood [] text.now) }
     ensures back { (bytes : List ℕ) → AreBytes bytes → length bytes ≤ ASM_LIMIT → stream_listing bytes ≡ Ok text.now
         → MatchResult result (λ out. out.items ≡ bytes) (λ fault. fault ≡ AsmFault.NoMemory) }
 {
@@ -63,7 +67,8 @@ pub fn assemble(alloc: Global, text: &[u8]) -> Result<Vec<u8>, AsmFault>
 
 /// The bytes of a text, line by line.
 fn read_text(alloc: Global, text: &[u8]) -> Result<Vec<u8>, AsmFault>
-    ensures { MatchResult result (λ bytes. IsAsm text.now (Ok bytes.items)) (λ fault. (fault ≡ AsmFault.NoMemory) ⊎ IsAsm text.now (Err fault)) }
+    ensures read { MatchResult result (λ bytes. IsAsm text.now (Ok bytes.items)) (λ fault. (fault ≡ AsmFault.NoMemory) ⊎ IsAsm text.now (Err fault)) }
+    ensures memory { IfErr result (λ fault. fault ≡ AsmFault.NoMemory → WantsAt IsFirstOrGood [] text.now) }
 {
     read_lines(AsmLines::new(alloc), text)
 }

@@ -1,24 +1,25 @@
 -- The lines that AsmLines takes: the first, one more, many at once, and the last.
-use Rattle.std.proofs.Common.{◌≡◌, inl, inr, ℕ, ◌+◌, ◌-◌, ◌≤◌, List, [], ◌∷◌, ◌++◌, Option, Some, IfSome, Result, Ok, Err, IfErr, OnOk, MatchResult, length, map, take, drop, refl, ap, sym, subst, ◌∙◌, arith, append_assoc, append-nil, length-append, take_all}
+use Rattle.std.proofs.Common.{◌≡◌, inl, inr, ℕ, ◌+◌, ◌-◌, ◌≤◌, true, List, [], ◌∷◌, ◌++◌, Option, Some, IfSome, Result, Ok, Err, IfErr, OnOk, MatchResult, length, map, take, drop, refl, ap, sym, subst, ◌∙◌, arith, append_assoc, append-nil, length-append, take_all}
 use Rattle.std.proofs.lemmas.List.{drop-append-le, length-map}
 use Rattle.std.proofs.Math.ListN.{drop_of_length-le}
 use Rattle.std.proofs.Math.Seq.{drop-nil}
 use Rattle.std.specs.List.{flat_map}
 use Rattle.x7_crc.specs.Checking.{CheckerState, Keeps}
 use Rattle.x7_crc.proofs.CheckerLemmas.{still-keeps}
-use Rattle.x7_header.specs.Header.{Contents}
+use Rattle.x7_header.specs.Header.{Contents, longest_header}
 use Rattle.x7_text.specs.Lines.{split}
-use Rattle.x7_text.proofs.LineReadingLemmas.{HasTaken}
+use Rattle.x7_text.proofs.LineReadingLemmas.{HasTaken, each-fault}
 use Rattle.x7_listing.specs.Assembly.{AreHeadedAsm}
-use Rattle.x7_listing.specs.Assembling.{BodyState, FailsFirst, FailsNext, Goes, HasAsmFault, HasRead, IsSound, Output, ReadsFirst, ReadsNext, TakesLines, Unbegun, Waits, Went, behind, body_by, has_any}
+use Rattle.x7_listing.specs.Assembling.{AreReadWithRoom, BodyState, FailsFirst, FailsNext, Goes, HasAsmFault, HasLineRoom, HasRead, IsFirstOrGood, IsSound, Output, ReadsFirst, ReadsNext, TakesLines, Unbegun, Waits, Went, behind, body_by, has_any}
 use Rattle.x7_listing.specs.BitLine.{bit_text, IsHeaderOf, IsHeld}
 use Rattle.x7_listing.specs.Line.{Line, bytes_of, text_of}
 use Rattle.x7_listing.specs.declared.assembler.AsmFault.{AsmFault}
+use Rattle.x7_listing.specs.declared.assembler.AsmFault.TheVariants as fault
 use Rattle.x7_listing.proofs.AssemblingLemmas.{goes-whole, went-nothing}
 use Rattle.x7_listing.proofs.asm.fast.QuickLemmas.{goes-quick, quick-texts}
 
 -- before any line is read: a header's line, and a line that is no header's
-pub goes-header : (all left : List (List ℕ)) (held out header : List ℕ) (start len c n : ℕ) (checker fresh : CheckerState) → IsHeaderOf held header → length header ≤ 262170 → len ≡ length header → c ≡ n + 1 → Keeps fresh []
+pub goes-header : (all left : List (List ℕ)) (held out header : List ℕ) (start len c n : ℕ) (checker fresh : CheckerState) → IsHeaderOf held header → length header ≤ longest_header → len ≡ length header → c ≡ n + 1 → Keeps fresh []
     → Unbegun all (held ∷ left) (body_by out start checker n) → Goes all left (body_by header len fresh c)
 goes-header all left held out header start len c n checker fresh h short size up new u =
     let none : drop len header ≡ [] = drop_of_length-le header (omega (arith, size)) in
@@ -66,32 +67,52 @@ if-some P o x e h = subst (λ p. IfSome p P) e h
 
 -- ---- one line more
 
-pub first-read : {A : Type 0} (r : Result A AsmFault) (old new : Output) (line : List ℕ) (lines : List (List ℕ)) → length lines ≡ 0 → OnOk r (ReadsFirst old new line) → IfErr r (FailsFirst old line) → HasRead old lines
-    → MatchResult r (λ _. HasRead new (lines ++ line ∷ [])) (λ f. (left : List (List ℕ)) → HasAsmFault f (lines ++ line ∷ left))
-first-read (Ok _) old new line [] none reads fails h = λ left. reads (line ∷ left) left (h (line ∷ left))
-first-read (Err f) old new line [] none reads (inl want) h = λ left. inl want
-first-read (Err f) old new line [] none reads (inr bad) h = λ left. inr (bad (line ∷ left) left (h (line ∷ left)))
-first-read r old new line (t ∷ ts) none reads fails h = absurd (omega (arith, none))
+pub first-read : {A : Type 0} (r : Result A AsmFault) (old new : Output) (line : List ℕ) (lines : List (List ℕ)) → length lines ≡ 0 → OnOk r (ReadsFirst old new line) → OnOk r (HasLineRoom new) → IfErr r (FailsFirst old line) → AreReadWithRoom old lines
+    → MatchResult r (λ _. AreReadWithRoom new (lines ++ line ∷ [])) (λ f. (left : List (List ℕ)) → HasAsmFault f (lines ++ line ∷ left))
+first-read (Ok _) old new line [] none reads room fails h = record { read = λ left. reads (line ∷ left) left (h.read (line ∷ left)); room = λ _. room }
+first-read (Err f) old new line [] none reads room (inl want) h = λ left. inl want
+first-read (Err f) old new line [] none reads room (inr bad) h = λ left. inr (bad (line ∷ left) left (h.read (line ∷ left)))
+first-read r old new line (t ∷ ts) none reads room fails h = absurd (omega (arith, none))
 
-pub next-read : {A : Type 0} (r : Result A AsmFault) (old new : Output) (n : ℕ) (line : List ℕ) (lines : List (List ℕ)) → n ≡ length lines + 1 → (n ≡ 1 → ⊥) → OnOk r (ReadsNext old new n line) → IfErr r (FailsNext old n line) → HasRead old lines
-    → MatchResult r (λ _. HasRead new (lines ++ line ∷ [])) (λ f. (left : List (List ℕ)) → HasAsmFault f (lines ++ line ∷ left))
-next-read r old new n line [] m more reads fails h = absurd (more m)
-next-read (Ok _) old new n line (t ∷ ts) m more reads fails h = λ left.
+pub next-read : {A : Type 0} (r : Result A AsmFault) (old new : Output) (n : ℕ) (line : List ℕ) (lines : List (List ℕ)) → n ≡ length lines + 1 → (n ≡ 1 → ⊥) → OnOk r (ReadsNext old new n line) → OnOk r (HasLineRoom new) → IfErr r (FailsNext old n line) → AreReadWithRoom old lines
+    → MatchResult r (λ _. AreReadWithRoom new (lines ++ line ∷ [])) (λ f. (left : List (List ℕ)) → HasAsmFault f (lines ++ line ∷ left))
+next-read r old new n line [] m more reads room fails h = absurd (more m)
+next-read (Ok _) old new n line (t ∷ ts) m more reads room fails h =
+    let read : HasRead new ((t ∷ ts) ++ line ∷ []) = λ left.
     let k : n ≡ length ((t ∷ ts) ++ line ∷ []) = m ∙ sym (length-append (t ∷ ts) (line ∷ [])) in
     subst (λ all. Goes all left (behind new (length ((t ∷ ts) ++ line ∷ [])))) (sym (append_assoc (t ∷ ts) (line ∷ []) left))
-    (subst (λ (j : ℕ). Goes ((t ∷ ts) ++ line ∷ left) left (behind new j)) k (reads ((t ∷ ts) ++ line ∷ left) left (length (t ∷ ts)) m (h (line ∷ left))))
-next-read (Err f) old new n line (t ∷ ts) m more reads (inl want) h = λ left. inl want
-next-read (Err f) old new n line (t ∷ ts) m more reads (inr bad) h = λ left. inr (bad ((t ∷ ts) ++ line ∷ left) left (length (t ∷ ts)) m (h (line ∷ left)))
+    (subst (λ (j : ℕ). Goes ((t ∷ ts) ++ line ∷ left) left (behind new j)) k (reads ((t ∷ ts) ++ line ∷ left) left (length (t ∷ ts)) m (h.read (line ∷ left)))) in
+    record { read = read; room = λ _. room }
+next-read (Err f) old new n line (t ∷ ts) m more reads room (inl want) h = λ left. inl want
+next-read (Err f) old new n line (t ∷ ts) m more reads room (inr bad) h = λ left. inr (bad ((t ∷ ts) ++ line ∷ left) left (length (t ∷ ts)) m (h.read (line ∷ left)))
 
-pub with-more : {A : Type 0} (r : Result A AsmFault) (new : Output) (line : List ℕ) (lines : List (List ℕ)) → MatchResult r (λ _. HasRead new (lines ++ line ∷ [])) (λ f. (left : List (List ℕ)) → HasAsmFault f (lines ++ line ∷ left))
-    → MatchResult r (λ _. HasRead new (lines ++ line ∷ [])) (λ f. (more : List ℕ) → HasAsmFault f (lines ++ line ∷ split more))
+pub with-more : {A : Type 0} (r : Result A AsmFault) (new : Output) (line : List ℕ) (lines : List (List ℕ)) → MatchResult r (λ _. AreReadWithRoom new (lines ++ line ∷ [])) (λ f. (left : List (List ℕ)) → HasAsmFault f (lines ++ line ∷ left))
+    → MatchResult r (λ _. AreReadWithRoom new (lines ++ line ∷ [])) (λ f. (more : List ℕ) → HasAsmFault f (lines ++ line ∷ split more))
 with-more (Ok _) new line lines h = h
 with-more (Err f) new line lines h = λ more. h (split more)
+
+-- ---- want of memory
+
+pub wants-read : {A : Type 0} (r : Result A AsmFault) (old new : Output) (n : ℕ) (line : List ℕ) → ReadsNext old new n line → IfErr r (λ f. f ≡ fault.NoMemory → HasLineRoom old → ReadsNext old new n line)
+wants-read r old new n line h = each-fault r (λ f. f ≡ fault.NoMemory → HasLineRoom old → ReadsNext old new n line) (λ f want room. h)
+
+pub first-wants : {A : Type 0} (r : Result A AsmFault) (line : List ℕ) (lines : List (List ℕ)) → length lines ≡ 0 → IfErr r (λ f. f ≡ fault.NoMemory → IsFirstOrGood lines line)
+first-wants r line [] none = each-fault r (λ f. f ≡ fault.NoMemory → IsFirstOrGood [] line) (λ f want. inl refl)
+first-wants r line (t ∷ ts) none = absurd (omega (arith, none))
+
+pub next-wants : {A : Type 0} (r : Result A AsmFault) (old new : Output) (n : ℕ) (line : List ℕ) (lines : List (List ℕ)) → n ≡ length lines + 1 → (n ≡ 1 → ⊥)
+    → IfErr r (λ f. f ≡ fault.NoMemory → HasLineRoom old → ReadsNext old new n line) → AreReadWithRoom old lines → IfErr r (λ f. f ≡ fault.NoMemory → IsFirstOrGood lines line)
+next-wants (Ok _) old new n line lines m more reads h = tt
+next-wants (Err f) old new n line [] m more reads h = absurd (more m)
+next-wants (Err f) old new n line (t ∷ ts) m more reads h = λ want.
+    let all : List (List ℕ) = (t ∷ ts) ++ line ∷ [] in
+    let g : Goes all [] (behind new n) = reads want (h.room refl) all [] (length (t ∷ ts)) m (h.read (line ∷ [])) in
+    inr (new.out, goes-whole all new.out new.start new.checker n g)
 
 -- ---- lines that are read at once
 
 abbrev pub output_by : List ℕ → ℕ → CheckerState → Output
-output_by out start checker = record { out = out; start = start; checker = checker }
+output_by out start checker = record { out = out; start = start; checker = checker; room = 0 }
 
 -- what was appended leaves lines' bytes and their check
 pub still-sound : (out new : List ℕ) (start : ℕ) (checker : CheckerState) (more : List ℕ) → new ≡ out ++ more → IsSound out start checker → IsSound new start checker
@@ -123,23 +144,30 @@ quick-read out new text rest start k checker (u ∷ us) t none limit h = λ left
     (length-append (u ∷ us) (map text_of t.lines) ∙ ap (λ (j : ℕ). length (u ∷ us) + j) (length-map t.lines text_of ∙ sym t.count_is))
     (subst (λ all. Goes all (map text_of t.lines ++ left) (body_by out start checker (length (u ∷ us)))) (sym (append_assoc (u ∷ us) (map text_of t.lines) left)) (h (map text_of t.lines ++ left)))
 
-pub quick-taken : (out new text rest left : List ℕ) (start k n c size : ℕ) (checker : CheckerState) (lines : List (List ℕ)) → left ≡ drop size rest → TakesLines rest (drop size rest) out new k → (n ≡ 0 → k ≡ 0) → (length out ≤ 67108864 → length new ≤ 67108864) → c ≡ n + k
-    → HasTaken HasRead lines text rest (output_by out start checker) n → HasTaken HasRead lines text left (output_by new start checker) c
-quick-taken out new text rest left start k n c size checker lines is t none limit up h = record {
-  more = h.more ++ map text_of t.lines;
-  texts = h.texts ∙ ap (λ ls. h.more ++ ls) (quick-texts rest (drop size rest) out new k t ∙ ap (λ x. map text_of t.lines ++ split x) (sym is)) ∙ sym (append_assoc h.more (map text_of t.lines) (split left));
-  took = subst (HasRead (output_by new start checker)) (append_assoc lines h.more (map text_of t.lines))
-      (quick-read out new rest (drop size rest) start k checker (lines ++ h.more) t (λ e. none (h.counts ∙ e)) limit h.took);
-  counts = up ∙ ap (λ (j : ℕ). j + k) h.counts ∙ ap (λ (j : ℕ). length (lines ++ h.more) + j) (t.count_is ∙ sym (length-map t.lines text_of)) ∙ sym (length-append (lines ++ h.more) (map text_of t.lines)) ∙ ap length (append_assoc lines h.more (map text_of t.lines));
+-- a line was read before, where one is now
+any-before : (lines : List (List ℕ)) (more : List Line) → (length lines ≡ 0 → length more ≡ 0) → has_any (lines ++ map text_of more) ≡ true → has_any lines ≡ true
+any-before [] [] none e = e
+any-before [] (l ∷ more) none e = absurd (omega (arith, none refl))
+any-before (t ∷ ts) more none e = refl
+
+all-read : (old new : Output) (text rest : List ℕ) (k : ℕ) (lines : List (List ℕ)) (t : TakesLines text rest old.out new.out k) → new.start ≡ old.start → new.checker ≡ old.checker → (length lines ≡ 0 → k ≡ 0)
+    → (length old.out ≤ 67108864 → length new.out ≤ 67108864) → (HasLineRoom old → HasLineRoom new) → AreReadWithRoom old lines → AreReadWithRoom new (lines ++ map text_of t.lines)
+all-read old new text rest k lines t start checker none limit room h = record {
+  read = subst (λ (s : ℕ). HasRead (output_by new.out s new.checker) (lines ++ map text_of t.lines)) (sym start)
+      (subst (λ (x : CheckerState). HasRead (output_by new.out old.start x) (lines ++ map text_of t.lines)) (sym checker) (quick-read old.out new.out text rest old.start k old.checker lines t none limit h.read));
+  room = λ e. room (h.room (any-before lines t.lines (λ z. sym t.count_is ∙ none z) e));
 }
 
 -- the lines that AsmLines takes at once
 pub at-once-taken : (old new : Output) (text rest left : List ℕ) (k n c size : ℕ) (lines : List (List ℕ)) → left ≡ drop size rest → TakesLines rest (drop size rest) old.out new.out k → new.start ≡ old.start → new.checker ≡ old.checker
-    → (n ≡ 0 → k ≡ 0) → (length old.out ≤ 67108864 → length new.out ≤ 67108864) → c ≡ n + k → HasTaken HasRead lines text rest old n → HasTaken HasRead lines text left new c
-at-once-taken old new text rest left k n c size lines is t start checker none limit up h =
-    subst (λ (s : ℕ). HasTaken HasRead lines text left (output_by new.out s new.checker) c) (sym start)
-    (subst (λ (x : CheckerState). HasTaken HasRead lines text left (output_by new.out old.start x) c) (sym checker)
-    (quick-taken old.out new.out text rest left old.start k n c size old.checker lines is t none limit up h))
+    → (n ≡ 0 → k ≡ 0) → (length old.out ≤ 67108864 → length new.out ≤ 67108864) → (HasLineRoom old → HasLineRoom new) → c ≡ n + k → HasTaken AreReadWithRoom lines text rest old n → HasTaken AreReadWithRoom lines text left new c
+at-once-taken old new text rest left k n c size lines is t start checker none limit room up h = record {
+  more = h.more ++ map text_of t.lines;
+  texts = h.texts ∙ ap (λ ls. h.more ++ ls) (quick-texts rest (drop size rest) old.out new.out k t ∙ ap (λ x. map text_of t.lines ++ split x) (sym is)) ∙ sym (append_assoc h.more (map text_of t.lines) (split left));
+  took = subst (AreReadWithRoom new) (append_assoc lines h.more (map text_of t.lines))
+      (all-read old new rest (drop size rest) k (lines ++ h.more) t start checker (λ e. none (h.counts ∙ e)) limit room h.took);
+  counts = up ∙ ap (λ (j : ℕ). j + k) h.counts ∙ ap (λ (j : ℕ). length (lines ++ h.more) + j) (t.count_is ∙ sym (length-map t.lines text_of)) ∙ sym (length-append (lines ++ h.more) (map text_of t.lines)) ∙ ap length (append_assoc lines h.more (map text_of t.lines));
+}
 
 -- ---- the last line
 

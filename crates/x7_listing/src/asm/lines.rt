@@ -3,7 +3,7 @@ ghost use Rattle.std.specs.Prelude.{◌≡◌, ℕ, List, [], ◌∷◌, ◌++�
 ghost use Rattle.x7_text.specs.Reads.{Reads};
 ghost use Rattle.x7_crc.specs.Checking.{check_of_bytes, Keeps};
 ghost use Rattle.x7_listing.specs.Assembly.{AreHeadedAsm};
-ghost use Rattle.x7_listing.specs.Assembling.{FailsFirst, FailsNext, HasAsmFault, HasRead, Output, ReadsFirst, ReadsNext, TakesLines};
+ghost use Rattle.x7_listing.specs.Assembling.{AreReadWithRoom, FailsFirst, FailsNext, HasAsmFault, HasLineRoom, IsFirstOrGood, Output, ReadsFirst, ReadsNext, TakesLines};
 ghost use Rattle.x7_listing.specs.Line.{bytes_of, FitsLine, text_of};
 ghost use Rattle.x7_listing.specs.declared.assembler.AsmFault.{AsmFault};
 
@@ -44,11 +44,12 @@ pub struct AsmLines {
 }
 
 impl Model for AsmLines {
+    ghost use Rattle.std.specs.Prelude.{vec_capacity};
     ghost use Rattle.x7_listing.specs.Assembling.{IsSound, Output};
 
     ghost Value = { Output };
 
-    ghost view = { λ b. record { out = b.out.items; start = b.start; checker = b.checker } };
+    ghost view = { λ b. record { out = b.out.items; start = b.start; checker = b.checker; room = vec_capacity b.out } };
 
     ghost invariant = { λ b. IsSound b.out.items b.start b.checker };
 }
@@ -56,7 +57,7 @@ impl Model for AsmLines {
 impl AsmLines {
     /// What no line gives.
     pub fn new(alloc: Global) -> AsmLines
-        ensures { HasRead result [] }
+        ensures { AreReadWithRoom result [] }
     {
         AsmLines {
             alloc,
@@ -66,10 +67,13 @@ impl AsmLines {
         }
     }
 
-    /// Appends the bytes of line `n`, which is no header's.
+    /// Appends the bytes of line `n`, which is no header's, and makes room for those of the next. Where there was room for
+    /// this one, memory is wanting only once it is read.
     fn put_one(&mut self, n: u64, line: &[u8]) -> Result<(), AsmFault>
         ensures ok { OnOk result (ReadsNext self.old self.new n line.now) }
+        ensures room { OnOk result (HasLineRoom self.new) }
         ensures fault { IfErr result (FailsNext self.old n line.now) }
+        ensures memory { IfErr result (λ fault. fault ≡ AsmFault.NoMemory → HasLineRoom self.old → ReadsNext self.old self.new n line.now) }
     {
         self.out.reserve(32)?;
         if !put_checked(&mut self.out, self.start, &mut self.checker, line) {
@@ -78,27 +82,32 @@ impl AsmLines {
         if self.out.len() > ASM_LIMIT {
             return Err(AsmFault::TooLong(n));
         }
+        self.out.reserve(32)?;
         Ok(())
     }
 
-    /// Appends the bytes of the first line, which may be a header's.
+    /// Appends the bytes of the first line, which may be a header's, and makes room for those of the next.
     fn put_first(&mut self, line: &[u8]) -> Result<(), AsmFault>
         ensures ok { OnOk result (ReadsFirst self.old self.new line.now) }
+        ensures room { OnOk result (HasLineRoom self.new) }
         ensures fault { IfErr result (FailsFirst self.old line.now) }
     {
         if let Some(header) = header_of_line(self.alloc, line)? {
             self.start = header.len();
             self.out = header;
             self.checker = Checker::new();
+            self.out.reserve(32)?;
             return Ok(());
         }
         self.put_one(1, line)
     }
 
-    /// Appends the bytes of line `n`.
+    /// Appends the bytes of line `n`. Memory is wanting only at the first line, and for a good one.
     fn put_next(&mut self, n: u64, line: &[u8]) -> Result<(), AsmFault>
-        ensures { (lines : List (List ℕ)) → n ≡ length lines + 1 → HasRead self.old lines
-            → MatchResult result (λ _. HasRead self.new (lines ++ line.now ∷ [])) (λ f. (left : List (List ℕ)) → HasAsmFault f (lines ++ line.now ∷ left)) }
+        ensures goes { (lines : List (List ℕ)) → n ≡ length lines + 1 → AreReadWithRoom self.old lines
+            → MatchResult result (λ _. AreReadWithRoom self.new (lines ++ line.now ∷ [])) (λ f. (left : List (List ℕ)) → HasAsmFault f (lines ++ line.now ∷ left)) }
+        ensures memory { (lines : List (List ℕ)) → n ≡ length lines + 1 → AreReadWithRoom self.old lines
+            → IfErr result (λ fault. fault ≡ AsmFault.NoMemory → IsFirstOrGood lines line.now) }
     {
         if n == 1 {
             return self.put_first(line);
@@ -110,6 +119,7 @@ impl AsmLines {
     fn put_at_once(&mut self, n: u64, text: &[u8]) -> WholeLines
         ensures takes { TakesLines text.now (drop result.size text.now) self.old.out self.new.out result.count }
         ensures start { self.new.start ≡ self.old.start }
+        ensures room { HasLineRoom self.old → HasLineRoom self.new }
         ensures checker { self.new.checker ≡ self.old.checker }
         ensures within { result.size ≤ length text.now }
         ensures few { result.count ≤ result.size }
@@ -125,11 +135,15 @@ impl TakesLines for AsmLines {
 
     type Out = Vec<u8>;
 
-    ghost took = { λ first. HasRead };
+    ghost took = { λ first. AreReadWithRoom };
 
     ghost fails = { λ first. HasAsmFault };
 
     ghost gives = { λ first out lines. AreHeadedAsm lines (Ok out.items) };
+
+    ghost is_want = { λ fault. fault ≡ AsmFault.NoMemory };
+
+    ghost wants = { λ first. IsFirstOrGood };
 
     fn no_memory() -> AsmFault
         ensures { (first : Output) (lines : List (List ℕ)) → HasAsmFault result lines }

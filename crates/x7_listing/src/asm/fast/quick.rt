@@ -265,19 +265,20 @@ fn put_some(out: &mut Vec<u8>, text: &[u8]) -> Option<WholeLines>
     }
 }
 
-/// Appends the bytes of the text's first lines, as far as they are read at once, there is room, and their bytes are within
-/// the limit.
+/// Appends the bytes of the text's first lines, as far as they are read at once, there is room for them and a further line,
+/// and their bytes are within the limit.
 fn put_quick(out: &mut Vec<u8>, text: &[u8]) -> WholeLines
     ensures takes { TakesLines text.now (drop result.size text.now) out.old.items out.new.items result.count }
     ensures within { result.size ≤ length text.now }
     ensures few { result.count ≤ result.size }
     ensures limit { vec_len out.old ≤ ASM_LIMIT → vec_len out.new ≤ ASM_LIMIT }
+    ensures room { vec_len out.old + 32 ≤ vec_capacity out.old → vec_len out.new + 32 ≤ vec_capacity out.new }
 {
     let mut all = WholeLines { size: 0, count: 0 };
     loop {
-        if out.reserve(32).is_err() {
+        let Ok(()) = out.reserve(64) else {
             return all;
-        }
+        };
         if out.len() > ASM_LIMIT - 32 {
             return all;
         }
@@ -299,6 +300,7 @@ pub(crate) fn put_quick_behind(out: &mut Vec<u8>, n: u64, text: &[u8]) -> WholeL
     ensures within { result.size ≤ length text.now }
     ensures few { result.count ≤ result.size }
     ensures limit { vec_len out.old ≤ ASM_LIMIT → vec_len out.new ≤ ASM_LIMIT }
+    ensures room { vec_len out.old + 32 ≤ vec_capacity out.old → vec_len out.new + 32 ≤ vec_capacity out.new }
     ensures none { n ≡ 0 → result.count ≡ 0 }
 {
     if n == 0 {

@@ -11,4 +11,5 @@ loop-all-preserved c =
       few = omega (arith, t.few, c.loop-all.invariant.few);
       takes = p.1;
       limit = λ h. omega (arith, c.put_some.ensures.room.within);
+      room = λ h. omega (arith, c.in-Ok.ensures.ok, c.put_some.ensures.room.within, c.put_some.ensures.room.room);
     }

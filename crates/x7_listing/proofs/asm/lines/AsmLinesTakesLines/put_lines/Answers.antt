@@ -1,8 +1,8 @@
 use Rattle.std.proofs.Common.{◌≡◌, ◌∷◌, ◌++◌, ◌+◌, ◌-◌, length, take, drop, arith}
 use Rattle.x7_text.specs.Lines.{split}
-use Rattle.x7_text.proofs.LineReadingLemmas.{HasTaken, all-taken, at-fault, few-taken, one-taken, wants-any}
+use Rattle.x7_text.proofs.LineReadingLemmas.{HasTaken, all-taken, at-fault, few-taken, one-taken, wants-here}
 use Rattle.x7_text.proofs.PieceLemmas.{at-none, at-some}
-use Rattle.x7_listing.specs.Assembling.{HasAsmFault, HasRead}
+use Rattle.x7_listing.specs.Assembling.{AreReadWithRoom, HasAsmFault, IsFirstOrGood}
 use Rattle.x7_listing.proofs.asm.AsmLinesLemmas.{at-once-taken}
 use Rattle.x7_listing.proofs.asm.fast.QuickLemmas.{left-from}
 use Rattle.x7_listing.proofs.asm.lines.AsmLinesTakesLines.put_lines.Goals as goal
@@ -17,16 +17,16 @@ loop-after-preserved c = λ lines same few t.
     let e = c.put_at_once-quick.ensures in
     let left = take (length rest - quick.size) (drop quick.size rest) in
     let line = c.next_line.result.0.now in
-    let h : HasTaken HasRead lines text rest b c.loop-after.count = c.loop-after.invariant lines same few t in
-    let room = few-taken HasRead lines text rest b c.loop-after.count c.args.n same h in
+    let h : HasTaken AreReadWithRoom lines text rest b c.loop-after.count = c.loop-after.invariant lines same few t in
+    let room = few-taken AreReadWithRoom lines text rest b c.loop-after.count c.args.n same h in
     let up : c.saturating_add-count.result ≡ c.loop-after.count + quick.count = omega (arith, c.saturating_add-count.ensures, room, few, e.within, e.few) in
-    let mid : HasTaken HasRead lines text left now c.saturating_add-count.result =
-    at-once-taken b now text rest left quick.count c.loop-after.count c.saturating_add-count.result quick.size lines (left-from quick.size rest e.within) e.takes e.start e.checker e.none e.limit up h in
+    let mid : HasTaken AreReadWithRoom lines text left now c.saturating_add-count.result =
+    at-once-taken b now text rest left quick.count c.loop-after.count c.saturating_add-count.result quick.size lines (left-from quick.size rest e.within) e.takes e.start e.checker e.none e.limit e.room up h in
     let after = c.in-Some.after.now in
     let cut : split left ≡ line ∷ split after = (at-some left line c.next_line.result.1 c.in-Some.after c.in-Some.is c.next_line.ensures).0 in
-    let n : c.saturating_add-count-in-loop-after.result ≡ c.saturating_add-count.result + 1 = omega (arith, c.saturating_add-count-in-loop-after.ensures, few-taken HasRead lines text left now c.saturating_add-count.result c.args.n same mid, few) in
-    one-taken HasRead lines text left line after now c.put_next.new.self c.saturating_add-count.result c.saturating_add-count-in-loop-after.result cut mid n
-    (c.in-Ok.ensures (lines ++ mid.more) (omega (arith, n, mid.counts)) mid.took)
+    let n : c.saturating_add-count-in-loop-after.result ≡ c.saturating_add-count.result + 1 = omega (arith, c.saturating_add-count-in-loop-after.ensures, few-taken AreReadWithRoom lines text left now c.saturating_add-count.result c.args.n same mid, few) in
+    one-taken AreReadWithRoom lines text left line after now c.put_next.new.self c.saturating_add-count.result c.saturating_add-count-in-loop-after.result cut mid n
+    (c.in-Ok.ensures.goes (lines ++ mid.more) (omega (arith, n, mid.counts)) mid.took)
 
 pub returns-in_default-clause-read : goal.returns-in_default-clause-read
 returns-in_default-clause-read c = λ first lines same few t.
@@ -38,12 +38,12 @@ returns-in_default-clause-read c = λ first lines same few t.
     let e = c.put_at_once-quick.ensures in
     let left = take (length rest - quick.size) (drop quick.size rest) in
     let line = c.next_line.result.0.now in
-    let h : HasTaken HasRead lines text rest b c.loop-after.count = c.loop-after.invariant lines same few t in
-    let room = few-taken HasRead lines text rest b c.loop-after.count c.args.n same h in
+    let h : HasTaken AreReadWithRoom lines text rest b c.loop-after.count = c.loop-after.invariant lines same few t in
+    let room = few-taken AreReadWithRoom lines text rest b c.loop-after.count c.args.n same h in
     let up : c.saturating_add-count.result ≡ c.loop-after.count + quick.count = omega (arith, c.saturating_add-count.ensures, room, few, e.within, e.few) in
-    let mid : HasTaken HasRead lines text left now c.saturating_add-count.result =
-    at-once-taken b now text rest left quick.count c.loop-after.count c.saturating_add-count.result quick.size lines (left-from quick.size rest e.within) e.takes e.start e.checker e.none e.limit up h in
-    all-taken HasRead lines text left now line c.saturating_add-count.result (at-none left line c.next_line.result.1 c.in_default.is c.next_line.ensures) mid
+    let mid : HasTaken AreReadWithRoom lines text left now c.saturating_add-count.result =
+    at-once-taken b now text rest left quick.count c.loop-after.count c.saturating_add-count.result quick.size lines (left-from quick.size rest e.within) e.takes e.start e.checker e.none e.limit e.room up h in
+    all-taken AreReadWithRoom lines text left now line c.saturating_add-count.result (at-none left line c.next_line.result.1 c.in_default.is c.next_line.ensures) mid
 
 pub returns-in-Err-clause-read : goal.returns-in-Err-clause-read
 returns-in-Err-clause-read c = λ first lines same few t.
@@ -55,15 +55,32 @@ returns-in-Err-clause-read c = λ first lines same few t.
     let e = c.put_at_once-quick.ensures in
     let left = take (length rest - quick.size) (drop quick.size rest) in
     let line = c.next_line.result.0.now in
-    let h : HasTaken HasRead lines text rest b c.loop-after.count = c.loop-after.invariant lines same few t in
-    let room = few-taken HasRead lines text rest b c.loop-after.count c.args.n same h in
+    let h : HasTaken AreReadWithRoom lines text rest b c.loop-after.count = c.loop-after.invariant lines same few t in
+    let room = few-taken AreReadWithRoom lines text rest b c.loop-after.count c.args.n same h in
     let up : c.saturating_add-count.result ≡ c.loop-after.count + quick.count = omega (arith, c.saturating_add-count.ensures, room, few, e.within, e.few) in
-    let mid : HasTaken HasRead lines text left now c.saturating_add-count.result =
-    at-once-taken b now text rest left quick.count c.loop-after.count c.saturating_add-count.result quick.size lines (left-from quick.size rest e.within) e.takes e.start e.checker e.none e.limit up h in
+    let mid : HasTaken AreReadWithRoom lines text left now c.saturating_add-count.result =
+    at-once-taken b now text rest left quick.count c.loop-after.count c.saturating_add-count.result quick.size lines (left-from quick.size rest e.within) e.takes e.start e.checker e.none e.limit e.room up h in
     let after = c.in-Some.after.now in
     let cut : split left ≡ line ∷ split after = (at-some left line c.next_line.result.1 c.in-Some.after c.in-Some.is c.next_line.ensures).0 in
-    let n : c.saturating_add-count-in-loop-after.result ≡ c.saturating_add-count.result + 1 = omega (arith, c.saturating_add-count-in-loop-after.ensures, few-taken HasRead lines text left now c.saturating_add-count.result c.args.n same mid, few) in
-    at-fault HasRead lines text left (HasAsmFault c.in-Err.fault) line after now c.saturating_add-count.result cut mid (λ more. c.in-Err.ensures (lines ++ mid.more) (omega (arith, n, mid.counts)) mid.took (split more))
+    let n : c.saturating_add-count-in-loop-after.result ≡ c.saturating_add-count.result + 1 = omega (arith, c.saturating_add-count-in-loop-after.ensures, few-taken AreReadWithRoom lines text left now c.saturating_add-count.result c.args.n same mid, few) in
+    at-fault AreReadWithRoom lines text left (HasAsmFault c.in-Err.fault) line after now c.saturating_add-count.result cut mid (λ more. c.in-Err.ensures.goes (lines ++ mid.more) (omega (arith, n, mid.counts)) mid.took (split more))
 
 pub returns-in-Err-clause-memory : goal.returns-in-Err-clause-memory
-returns-in-Err-clause-memory c = λ first lines same few t want. wants-any (λ _ _. Unit {0}) lines (λ _ _. tt) c.args.text.now
+returns-in-Err-clause-memory c = λ first lines same few t want.
+    let b = c.loop-after.self in
+    let text = c.args.text.now in
+    let rest = c.loop-after.rest.now in
+    let quick = c.put_at_once-quick.result in
+    let now = c.put_at_once-quick.new.self in
+    let e = c.put_at_once-quick.ensures in
+    let left = take (length rest - quick.size) (drop quick.size rest) in
+    let line = c.next_line.result.0.now in
+    let h : HasTaken AreReadWithRoom lines text rest b c.loop-after.count = c.loop-after.invariant lines same few t in
+    let room = few-taken AreReadWithRoom lines text rest b c.loop-after.count c.args.n same h in
+    let up : c.saturating_add-count.result ≡ c.loop-after.count + quick.count = omega (arith, c.saturating_add-count.ensures, room, few, e.within, e.few) in
+    let mid : HasTaken AreReadWithRoom lines text left now c.saturating_add-count.result =
+    at-once-taken b now text rest left quick.count c.loop-after.count c.saturating_add-count.result quick.size lines (left-from quick.size rest e.within) e.takes e.start e.checker e.none e.limit e.room up h in
+    let after = c.in-Some.after.now in
+    let cut : split left ≡ line ∷ split after = (at-some left line c.next_line.result.1 c.in-Some.after c.in-Some.is c.next_line.ensures).0 in
+    let n : c.saturating_add-count-in-loop-after.result ≡ c.saturating_add-count.result + 1 = omega (arith, c.saturating_add-count-in-loop-after.ensures, few-taken AreReadWithRoom lines text left now c.saturating_add-count.result c.args.n same mid, few) in
+    wants-here IsFirstOrGood lines mid.more text left line after mid.texts cut (c.in-Err.ensures.memory (lines ++ mid.more) (omega (arith, n, mid.counts)) mid.took want)
