@@ -4,11 +4,11 @@ use Rattle.std.proofs.lemmas.List.{drop-append-le, length-take-le, take-append-d
 use Rattle.std.proofs.lemmas.List.Sums.{fold-append}
 use Rattle.x7_words.proofs.ListLemmas.{all-append, map-append}
 use Rattle.x7_listing.specs.Assembly.{AreHeadedAsm, Assembles, assembled, Begins, IsBad, IsTooLong, with_line}
-use Rattle.x7_listing.specs.Assembling.{body_by, Goes, Opens, Went}
+use Rattle.x7_listing.specs.Assembling.{asm_state, Goes, Opens, Went}
 use Rattle.x7_listing.specs.declared.assembler.AsmFault.TheVariants as fault
 use Rattle.x7_crc.specs.Checking.{check_of_bytes}
 use Rattle.x7_crc.specs.Checking.{CheckerState, Keeps}
-use Rattle.x7_listing.specs.Line.{Line, bytes_of, FitsLine, text_of}
+use Rattle.x7_listing.specs.Line.{Line, line_bytes, FitsLine, text_of}
 use Rattle.x7_text.specs.Reads.{Reads}
 
 pub one-more : (lines : List Line) (l : Line) → assembled (lines ++ l ∷ []) ≡ with_line (assembled lines) l
@@ -18,8 +18,8 @@ longer : (lines : List Line) (l : Line) → length (lines ++ l ∷ []) ≡ lengt
 longer lines l = length-append lines (l ∷ [])
 
 -- the bytes after one line more
-grown : (lines : List Line) (l : Line) (old new : List ℕ) → old ≡ assembled lines → new ≡ old ++ bytes_of (check_of_bytes old) l → new ≡ assembled (lines ++ l ∷ [])
-grown lines l old new is e = e ∙ ap (λ b. b ++ bytes_of (check_of_bytes b) l) is ∙ sym (one-more lines l)
+grown : (lines : List Line) (l : Line) (old new : List ℕ) → old ≡ assembled lines → new ≡ old ++ line_bytes (check_of_bytes old) l → new ≡ assembled (lines ++ l ∷ [])
+grown lines l old new is e = e ∙ ap (λ b. b ++ line_bytes (check_of_bytes b) l) is ∙ sym (one-more lines l)
 
 pub begins-more : (limit : ℕ) (texts : List (List ℕ)) (lines : List Line) (l : Line) (t : List ℕ) (left : List (List ℕ)) → Begins limit texts lines (t ∷ left) → FitsLine l → t ≡ text_of l → length (assembled (lines ++ l ∷ [])) ≤ limit
     → Begins limit texts (lines ++ l ∷ []) left
@@ -33,10 +33,10 @@ pub begins-at : (limit : ℕ) (texts : List (List ℕ)) (lines : List Line) (lef
 begins-at limit texts lines left left2 e b = subst (λ s. Begins limit texts lines s) e b
 
 module _ (limit : ℕ) (texts : List (List ℕ)) (t old new : List ℕ) (left : List (List ℕ)) (n : ℕ) (g : Went limit texts (t ∷ left) old n) where
-  pub bad : Reads FitsLine text_of (bytes_of (check_of_bytes old)) false t old new → IsBad limit texts (n + 1)
+  pub bad : Reads FitsLine text_of (line_bytes (check_of_bytes old)) false t old new → IsBad limit texts (n + 1)
   bad r = record { lines = g.lines; bad = t; left = left; begins = g.begins; count = ap (λ (k : ℕ). k + 1) g.count; no_line = λ l i. r.0 l i.fits i.is }
 
-  pub too-long : Reads FitsLine text_of (bytes_of (check_of_bytes old)) true t old new → limit < length new → IsTooLong limit texts (n + 1)
+  pub too-long : Reads FitsLine text_of (line_bytes (check_of_bytes old)) true t old new → limit < length new → IsTooLong limit texts (n + 1)
   too-long r h = record {
     lines = g.lines;
     last = r.0;
@@ -47,7 +47,7 @@ module _ (limit : ℕ) (texts : List (List ℕ)) (t old new : List ℕ) (left : 
     passes = subst (λ b. limit < length b) (grown g.lines r.0 old new g.is r.3) h;
   }
 
-  pub next : Reads FitsLine text_of (bytes_of (check_of_bytes old)) true t old new → length new ≤ limit → Went limit texts left new (n + 1)
+  pub next : Reads FitsLine text_of (line_bytes (check_of_bytes old)) true t old new → length new ≤ limit → Went limit texts left new (n + 1)
   next r h =
       let e : new ≡ assembled (g.lines ++ r.0 ∷ []) = grown g.lines r.0 old new g.is r.3 in
       record { lines = g.lines ++ r.0 ∷ []; begins = begins-more limit texts g.lines r.0 t left g.begins r.1 r.2 (subst (λ b. length b ≤ limit) e h); is = e; count = ap (λ (k : ℕ). k + 1) g.count ∙ sym (longer g.lines r.0) }
@@ -59,12 +59,12 @@ pub went-all : (limit : ℕ) (texts : List (List ℕ)) (bytes : List ℕ) (n : �
 went-all limit texts bytes n g = record { lines = g.lines; begins = g.begins; is = g.is }
 
 -- a line is read behind a header's bytes as it is without them
-pub dropped : (start a : ℕ) (r : Bool) (t old new : List ℕ) → start ≤ length old → Reads FitsLine text_of (bytes_of a) r t old new → Reads FitsLine text_of (bytes_of a) r t (drop start old) (drop start new)
-dropped start a true t old new h r = (r.0, r.1, r.2, ap (drop start) r.3 ∙ drop-append-le start old (bytes_of a r.0) h)
+pub dropped : (start a : ℕ) (r : Bool) (t old new : List ℕ) → start ≤ length old → Reads FitsLine text_of (line_bytes a) r t old new → Reads FitsLine text_of (line_bytes a) r t (drop start old) (drop start new)
+dropped start a true t old new h r = (r.0, r.1, r.2, ap (drop start) r.3 ∙ drop-append-le start old (line_bytes a r.0) h)
 dropped start a false t old new h r = (r.0, ap (drop start) r.1)
 
-pub front-stays : (start a : ℕ) (r : Bool) (t old new : List ℕ) → start ≤ length old → Reads FitsLine text_of (bytes_of a) r t old new → (take start new ≡ take start old) × (start ≤ length new)
-front-stays start a true t old new h r = (ap (take start) r.3 ∙ take-append-le start old (bytes_of a r.0) h, omega (arith, h, ap length r.3, length-append old (bytes_of a r.0)))
+pub front-stays : (start a : ℕ) (r : Bool) (t old new : List ℕ) → start ≤ length old → Reads FitsLine text_of (line_bytes a) r t old new → (take start new ≡ take start old) × (start ≤ length new)
+front-stays start a true t old new h r = (ap (take start) r.3 ∙ take-append-le start old (line_bytes a r.0) h, omega (arith, h, ap length r.3, length-append old (line_bytes a r.0)))
 front-stays start a false t old new h r = (ap (take start) r.1, omega (arith, h, ap length r.1))
 
 -- what texts come to behind those of a header, or of none
@@ -119,33 +119,33 @@ close-long all others prefix start first m n s (inr p) b e =
     inr (p.no_head, subst (λ (t : List (List ℕ)). IsTooLong 67108864 t n) (sym p.texts) (subst (IsTooLong 67108864 others) same c))
 
 -- the outcome of a text all of whose lines are read
-pub goes-whole : (all : List (List ℕ)) (out : List ℕ) (start : ℕ) (checker : CheckerState) (n : ℕ) → Goes all [] (body_by out start checker n) → AreHeadedAsm all (Ok out)
+pub goes-whole : (all : List (List ℕ)) (out : List ℕ) (start : ℕ) (checker : CheckerState) (n : ℕ) → Goes all [] (asm_state out start checker n) → AreHeadedAsm all (Ok out)
 goes-whole all out start checker n g = close-ok all g.others (take start out) out start g.first (sym (length-take-le start out g.long)) g.opens (went-all (67108864 - start) g.others (drop start out) g.read g.went) refl
 
 -- one line more is read: it is bad, passes the limit, or is taken
 module _ (line out mid new : List ℕ) (start n c : ℕ) (old-checker new-checker : CheckerState) (r : Bool) (same : mid ≡ out) (n-is : c ≡ n + 1)
-    (reads : Reads FitsLine text_of (bytes_of (check_of_bytes (drop start mid))) r line mid new) (keeps : Keeps new-checker (drop start new)) where
-  module _ (all left : List (List ℕ)) (g : Goes all (line ∷ left) (body_by out start old-checker n)) where
-    got : Reads FitsLine text_of (bytes_of (check_of_bytes (drop start out))) r line out new
-    got = subst (λ (m : List ℕ). Reads FitsLine text_of (bytes_of (check_of_bytes (drop start m))) r line m new) same reads
+    (reads : Reads FitsLine text_of (line_bytes (check_of_bytes (drop start mid))) r line mid new) (keeps : Keeps new-checker (drop start new)) where
+  module _ (all left : List (List ℕ)) (g : Goes all (line ∷ left) (asm_state out start old-checker n)) where
+    got : Reads FitsLine text_of (line_bytes (check_of_bytes (drop start out))) r line out new
+    got = subst (λ (m : List ℕ). Reads FitsLine text_of (line_bytes (check_of_bytes (drop start m))) r line m new) same reads
 
-    behind-front : Reads FitsLine text_of (bytes_of (check_of_bytes (drop start out))) r line (drop start out) (drop start new)
+    behind-front : Reads FitsLine text_of (line_bytes (check_of_bytes (drop start out))) r line (drop start out) (drop start new)
     behind-front = dropped start (check_of_bytes (drop start out)) r line out new g.long got
 
     pub read-bad : r ≡ false → AreHeadedAsm all (Err (fault.Line c))
     read-bad e = close-bad all g.others (take start out) start g.first (g.read + 1) c (sym (length-take-le start out g.long)) g.opens
-        (bad (67108864 - start) g.others line (drop start out) (drop start new) left g.read g.went (subst (λ b. Reads FitsLine text_of (bytes_of (check_of_bytes (drop start out))) b line (drop start out) (drop start new)) e behind-front))
+        (bad (67108864 - start) g.others line (drop start out) (drop start new) left g.read g.went (subst (λ b. Reads FitsLine text_of (line_bytes (check_of_bytes (drop start out))) b line (drop start out) (drop start new)) e behind-front))
         (omega (arith, n-is, g.count_is))
 
-    yes : r ≡ true → Reads FitsLine text_of (bytes_of (check_of_bytes (drop start out))) true line (drop start out) (drop start new)
-    yes e = subst (λ b. Reads FitsLine text_of (bytes_of (check_of_bytes (drop start out))) b line (drop start out) (drop start new)) e behind-front
+    yes : r ≡ true → Reads FitsLine text_of (line_bytes (check_of_bytes (drop start out))) true line (drop start out) (drop start new)
+    yes e = subst (λ b. Reads FitsLine text_of (line_bytes (check_of_bytes (drop start out))) b line (drop start out) (drop start new)) e behind-front
 
     pub read-long : r ≡ true → 67108864 < length new → AreHeadedAsm all (Err (fault.TooLong c))
     read-long e h = close-long all g.others (take start out) start g.first (g.read + 1) c (sym (length-take-le start out g.long)) g.opens
         (too-long (67108864 - start) g.others line (drop start out) (drop start new) left g.read g.went (yes e) (omega (arith, h, g.short, length-drop start new)))
         (omega (arith, n-is, g.count_is))
 
-    pub read-on : r ≡ true → length new ≤ 67108864 → Goes all left (body_by new start new-checker c)
+    pub read-on : r ≡ true → length new ≤ 67108864 → Goes all left (asm_state new start new-checker c)
     read-on e h =
         let f = front-stays start (check_of_bytes (drop start out)) r line out new g.long got in
         record {

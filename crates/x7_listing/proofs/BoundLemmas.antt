@@ -15,9 +15,9 @@ use Rattle.x7_regs.specs.Command.{code_of, command_by, command_name_of}
 use Rattle.x7_regs.specs.Register.{reg_name}
 use Rattle.x7_packets.proofs.ByHandLemmas.{reading_is_found}
 use Rattle.x7_text.proofs.LineLemmas.{bytes_closed, open_text-append}
-use Rattle.x7_listing.specs.HeadLine.{command_line, head_line, head_text, line_text}
+use Rattle.x7_listing.specs.HeadLine.{command_line, line_of_head, text_of_head, line_text}
 use Rattle.x7_listing.specs.Listing.{listing_of, packet_text, place_text, session_text}
-use Rattle.x7_listing.specs.Telling.{GapListed, ListerStandsFor, ListerState, HasListedAt, TakerStandsFor, open_payload, word_next, open_word, open_words, words_place, written_of}
+use Rattle.x7_listing.specs.Telling.{GapListed, ListerStandsFor, ListerState, HasListedAt, TakerStandsFor, open_payload, word_next, open_session_word, open_words, words_place, written_of}
 use Rattle.x7_packets.specs.Mode.{Mode}
 use Rattle.x7_listing.specs.declared.line.head_line.HeadLine.{HeadLine}
 use Rattle.x7_listing.specs.declared.line.head_line.HeadLine.TheVariants as line
@@ -58,17 +58,17 @@ payload_by false i w =
     omega (arith, all, length-append first (line_end 8 i), length-append (line_start (codes "data") i) (spaced w))
 
 -- what a word adds has at least its four bytes
-word_long : (i w : ℕ) (step : Step) → 4 ≤ length (open_word i w step)
+word_long : (i w : ℕ) (step : Step) → 4 ≤ length (open_session_word i w step)
 word_long i w (Payload register x) = payload_by (register == 4) i w
-word_long i w Filler = omega (arith, line_long (head_line Filler w), length-append (close i) (head_text Filler w))
-word_long i w Nop = omega (arith, line_long (head_line Nop w), length-append (close i) (head_text Nop w))
-word_long i w (Open r n) = omega (arith, line_long (head_line (Open r n) w), length-append (close i) (head_text (Open r n) w))
-word_long i w (Read r n) = omega (arith, line_long (head_line (Read r n) w), length-append (close i) (head_text (Read r n) w))
-word_long i w (Bad x) = omega (arith, line_long (head_line (Bad x) w), length-append (close i) (head_text (Bad x) w))
+word_long i w Filler = omega (arith, line_long (line_of_head Filler w), length-append (close i) (text_of_head Filler w))
+word_long i w Nop = omega (arith, line_long (line_of_head Nop w), length-append (close i) (text_of_head Nop w))
+word_long i w (Open r n) = omega (arith, line_long (line_of_head (Open r n) w), length-append (close i) (text_of_head (Open r n) w))
+word_long i w (Read r n) = omega (arith, line_long (line_of_head (Read r n) w), length-append (close i) (text_of_head (Read r n) w))
+word_long i w (Bad x) = omega (arith, line_long (line_of_head (Bad x) w), length-append (close i) (text_of_head (Bad x) w))
 
 words_long : (i : ℕ) (ss : List (ℕ × Step)) → 4 * length ss ≤ length (open_words i ss)
 words_long i [] = omega arith
-words_long i (s ∷ ss) = omega (arith, words_long (word_next i s.1) ss, word_long i s.0 s.1, length-append (open_word i s.0 s.1) (open_words (word_next i s.1) ss))
+words_long i (s ∷ ss) = omega (arith, words_long (word_next i s.1) ss, word_long i s.0 s.1, length-append (open_session_word i s.0 s.1) (open_words (word_next i s.1) ss))
 
 four_each : (ws : List ℕ) → length (flat_map bytes_of_word ws) ≡ 4 * length ws
 four_each [] = refl

@@ -10,7 +10,7 @@ use Rattle.x7_text.specs.Lines.{split}
 use Rattle.x7_header.specs.Header.{Contents, header_bytes}
 use Rattle.x7_listing.specs.BitLine.{bit_text, IsHeld}
 use Rattle.x7_listing.specs.Line.{Line, Empty, Comment, Bytes, Sync, Nop, Write, Read, Write2, Read2, Word, Data, Cmd, Check, FitsLine, IsLine, text_of}
-use Rattle.x7_listing.specs.Assembly.{after_one_line, AreAsm, AreHeadedAsm, asm_limit, assembled, Begins, HasNoHead, HasOutcome}
+use Rattle.x7_listing.specs.Assembly.{after_one_line, AreAsm, AreHeadedAsm, asm_limit, assembled, Begins, HasNoHeaderLine, HasOutcome}
 use Rattle.x7_listing.specs.declared.assembler.AsmFault.{AsmFault}
 use Rattle.x7_listing.specs.declared.assembler.AsmFault.TheVariants as fault
 use Rattle.x7_listing.proofs.AssemblingLemmas.{begins-at, begins-more}
@@ -168,7 +168,7 @@ unfolding HeaderOr HasAsm
 headed [] = let o = has-asm asm_limit [] in (o.0, inr ((λ x others h e. cc), o.1))
 headed (t ∷ others) = by (header-or t)
   where
-    plain : ((x : Contents) → IsHeld x → t ≡ bit_text x → ⊥) → HasNoHead (t ∷ others)
+    plain : ((x : Contents) → IsHeld x → t ≡ bit_text x → ⊥) → HasNoHeaderLine (t ∷ others)
     plain none x more h e = let first : t ≡ bit_text x = cc in none x h first
 
     by : HeaderOr t → (outcome : Result (List ℕ) AsmFault) × AreHeadedAsm (t ∷ others) outcome

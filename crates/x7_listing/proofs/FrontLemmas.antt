@@ -6,7 +6,7 @@ use Rattle.std.proofs.Math.Seq.{take-append_seam}
 use Rattle.std.specs.Prelude.{nat_lt}
 use Rattle.x7_words.specs.Word.{AreBytes, word_of_bytes}
 use Rattle.x7_words.proofs.ListLemmas.{all_back, all_front, flat_map-last, map-append}
-use Rattle.x7_packets.specs.ByHand.{before_last_four, header_packet, is_sync, last_four, Reading, reading_of, with_byte, with_byte_at, with_payload_word, with_session_byte, with_word, with_word_after}
+use Rattle.x7_packets.specs.ByHand.{before_last_four, header_packet, is_sync, last_four, Reading, reading_of, with_byte, with_byte_at, with_payload_word, with_session_byte, packets_with_word, with_word_after}
 use Rattle.x7_packets.specs.Packet.{Packet, count_of, EachPacket, ended, latest_after, meaning, named_by, payload_steps, stepped}
 use Rattle.x7_packets.specs.Reading.{Place, Searching, Synced, Session, IsReading, IsSession}
 use Rattle.x7_packets.specs.declared.header.Step.{Step}
@@ -110,10 +110,10 @@ stepped_more latest (p ∷ q ∷ ps) w =
     (m.0, ap (λ t. stepped p ++ t) m.1 ∙ sym (append_assoc (stepped p) (flat_map stepped (q ∷ ps)) ((w, m.0) ∷ [])))
 
 -- the words listed of packets, with one word more
-words_more : (packets : List Packet) (w : ℕ) → Front (W packets) (W (with_word packets w))
+words_more : (packets : List Packet) (w : ℕ) → Front (W packets) (W (packets_with_word packets w))
 words_more packets w =
     let ss : List (ℕ × Step) = flat_map stepped packets in
-    let m : SteppedMore (with_word packets w) packets w = stepped_more None packets w in
+    let m : SteppedMore (packets_with_word packets w) packets w = stepped_more None packets w in
     (open_words (words_place 0 ss) ((w, m.0) ∷ []), ap (open_words 0) m.1 ∙ open_words-append 0 ss ((w, m.0) ∷ []))
 
 -- the lines of packets begin with their words listed
@@ -154,7 +154,7 @@ session_goes_on sessions bytes gap (x ∷ []) packets byte is = front_self (flat
 session_goes_on sessions bytes gap (x ∷ y ∷ []) packets byte is = front_self (flat_map session_text sessions ++ sure_session gap packets)
 session_goes_on sessions bytes gap (x ∷ y ∷ z ∷ []) packets byte is =
     let w : ℕ = word_of_bytes (x ∷ y ∷ z ∷ byte ∷ []) in
-    word_goes_on sessions bytes gap packets (with_word packets w) (ended (with_word packets w)) (words_more packets w) is
+    word_goes_on sessions bytes gap packets (packets_with_word packets w) (ended (packets_with_word packets w)) (words_more packets w) is
 session_goes_on sessions bytes gap (x ∷ y ∷ z ∷ u ∷ tail) packets byte is = front_self (flat_map session_text sessions ++ sure_session gap packets)
 
 -- ended sessions and a place with a byte more

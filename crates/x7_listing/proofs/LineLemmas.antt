@@ -10,16 +10,16 @@ use Rattle.x7_regs.specs.declared.command.Command.{Command}
 use Rattle.x7_text.specs.Digits.{hex_byte, hex_word}
 use Rattle.x7_text.specs.Row.{spaced}
 use Rattle.x7_packets.specs.PacketWords.{type1_read, type1_write, type2_read, type2_write}
-use Rattle.x7_listing.specs.Line.{Line, Empty, Comment, Bytes, Sync, Nop, Write, Read, Write2, Read2, Word, Data, Cmd, Check, access_text, bytes_of, FitsLine, IsAccess, IsLine, IsPlain, text_of}
+use Rattle.x7_listing.specs.Line.{Line, Empty, Comment, Bytes, Sync, Nop, Write, Read, Write2, Read2, Word, Data, Cmd, Check, access_text, line_bytes, FitsLine, IsAccess, IsLine, IsPlain, text_of}
 use Rattle.x7_text.specs.Row.{IsByteRow, IsWordRow}
 use Rattle.x7_text.specs.Reads.{Reads}
 use Rattle.x7_text.specs.DigitValue.{bytes_value, word_value}
 use Rattle.x7_listing.proofs.GuessLemmas.{after_space, after-space, name-free, command_names, count_in, decimal_after, line-is, place_in, register_in, words_value}
 
 lift : {A : Type 0} (fits : A → Type 0) (text bytes : A → List ℕ) (check : ℕ) (word : List ℕ) (line : A → Line) (b : Bool) (t rest old new : List ℕ)
-    → t ≡ word ++ rest → ((x : A) → fits x → FitsLine (line x)) → ((x : A) → FitsLine (line x) → fits x) → ((x : A) → text_of (line x) ≡ word ++ text x) → ((x : A) → bytes_of check (line x) ≡ bytes x)
+    → t ≡ word ++ rest → ((x : A) → fits x → FitsLine (line x)) → ((x : A) → FitsLine (line x) → fits x) → ((x : A) → text_of (line x) ≡ word ++ text x) → ((x : A) → line_bytes check (line x) ≡ bytes x)
     → ((l : Line) → IsLine (word ++ rest) l → (x : A) × (l ≡ line x))
-    → Reads fits text bytes b rest old new → Reads FitsLine text_of (bytes_of check) b t old new
+    → Reads fits text bytes b rest old new → Reads FitsLine text_of (line_bytes check) b t old new
 lift fits text bytes check word line true t rest old new e into from texts byteses only r =
     (line r.0, into r.0 r.1, e ∙ ap (λ s. word ++ s) r.2 ∙ sym (texts r.0), r.3 ∙ ap (λ s. old ++ s) (sym (byteses r.0)))
 lift fits text bytes check word line false t rest old new e into from texts byteses only r = (
@@ -29,28 +29,28 @@ lift fits text bytes check word line false t rest old new e into from texts byte
 )
 
 module _ (check : ℕ) (b : Bool) (t rest old new : List ℕ) where
-  pub data-line : t ≡ codes "data" ++ rest → Reads IsWordRow (flat_map spaced) (flat_map bytes_of_word) b rest old new → Reads FitsLine text_of (bytes_of check) b t old new
+  pub data-line : t ≡ codes "data" ++ rest → Reads IsWordRow (flat_map spaced) (flat_map bytes_of_word) b rest old new → Reads FitsLine text_of (line_bytes check) b t old new
   data-line e r = lift IsWordRow (flat_map spaced) (flat_map bytes_of_word) check (codes "data") Data b t rest old new e (λ x h. h) (λ x h. h) (λ x. refl) (λ x. refl) (λ l i. (words_value rest, line-is _ l i)) r
 
-  pub bytes-line : t ≡ codes "bytes " ++ rest → Reads IsByteRow (flat_map hex_byte) (λ (bs : List ℕ). bs) b rest old new → Reads FitsLine text_of (bytes_of check) b t old new
+  pub bytes-line : t ≡ codes "bytes " ++ rest → Reads IsByteRow (flat_map hex_byte) (λ (bs : List ℕ). bs) b rest old new → Reads FitsLine text_of (line_bytes check) b t old new
   bytes-line e r = lift IsByteRow (flat_map hex_byte) (λ (bs : List ℕ). bs) check (codes "bytes ") Bytes b t rest old new e (λ x h. h) (λ x h. h) (λ x. refl) (λ x. refl) (λ l i. (bytes_value rest, line-is _ l i)) r
 
-  pub word-line : t ≡ codes "word " ++ rest → Reads (λ w. w < 2 ^ 32) hex_word bytes_of_word b rest old new → Reads FitsLine text_of (bytes_of check) b t old new
+  pub word-line : t ≡ codes "word " ++ rest → Reads (λ w. w < 2 ^ 32) hex_word bytes_of_word b rest old new → Reads FitsLine text_of (line_bytes check) b t old new
   word-line e r = lift (λ w. w < 2 ^ 32) hex_word bytes_of_word check (codes "word ") Word b t rest old new e (λ x h. h) (λ x h. h) (λ x. refl) (λ x. refl) (λ l i. (word_value rest, line-is _ l i)) r
 
-  pub cmd-line : t ≡ codes "cmd " ++ rest → Reads (λ (c : Command). Unit {0}) command_name_of (λ c. bytes_of_word (code_of c)) b rest old new → Reads FitsLine text_of (bytes_of check) b t old new
+  pub cmd-line : t ≡ codes "cmd " ++ rest → Reads (λ (c : Command). Unit {0}) command_name_of (λ c. bytes_of_word (code_of c)) b rest old new → Reads FitsLine text_of (line_bytes check) b t old new
   cmd-line e r = lift (λ (c : Command). Unit {0}) command_name_of (λ c. bytes_of_word (code_of c)) check (codes "cmd ") Cmd b t rest old new e (λ x h. h) (λ x h. h) (λ x. refl) (λ x. refl) (λ l i. (command_with (place_in command_names rest), line-is _ l i)) r
 
-  pub write-line : t ≡ codes "write " ++ rest → Reads IsAccess access_text (λ (a : ℕ × ℕ). bytes_of_word (type1_write a.0 a.1)) b rest old new → Reads FitsLine text_of (bytes_of check) b t old new
+  pub write-line : t ≡ codes "write " ++ rest → Reads IsAccess access_text (λ (a : ℕ × ℕ). bytes_of_word (type1_write a.0 a.1)) b rest old new → Reads FitsLine text_of (line_bytes check) b t old new
   write-line e r = lift IsAccess access_text (λ (a : ℕ × ℕ). bytes_of_word (type1_write a.0 a.1)) check (codes "write ") (λ (a : ℕ × ℕ). Write a.0 a.1) b t rest old new e (λ x h. h) (λ x h. h) (λ x. refl) (λ x. refl) (λ l i. ((register_in rest, count_in rest), line-is _ l i)) r
 
-  pub read-line : t ≡ codes "read " ++ rest → Reads IsAccess access_text (λ (a : ℕ × ℕ). bytes_of_word (type1_read a.0 a.1)) b rest old new → Reads FitsLine text_of (bytes_of check) b t old new
+  pub read-line : t ≡ codes "read " ++ rest → Reads IsAccess access_text (λ (a : ℕ × ℕ). bytes_of_word (type1_read a.0 a.1)) b rest old new → Reads FitsLine text_of (line_bytes check) b t old new
   read-line e r = lift IsAccess access_text (λ (a : ℕ × ℕ). bytes_of_word (type1_read a.0 a.1)) check (codes "read ") (λ (a : ℕ × ℕ). Read a.0 a.1) b t rest old new e (λ x h. h) (λ x h. h) (λ x. refl) (λ x. refl) (λ l i. ((register_in rest, count_in rest), line-is _ l i)) r
 
-  pub write2-line : t ≡ codes "write2 " ++ rest → Reads (λ n. n < 2 ^ 27) decimal (λ n. bytes_of_word (type2_write n)) b rest old new → Reads FitsLine text_of (bytes_of check) b t old new
+  pub write2-line : t ≡ codes "write2 " ++ rest → Reads (λ n. n < 2 ^ 27) decimal (λ n. bytes_of_word (type2_write n)) b rest old new → Reads FitsLine text_of (line_bytes check) b t old new
   write2-line e r = lift (λ n. n < 2 ^ 27) decimal (λ n. bytes_of_word (type2_write n)) check (codes "write2 ") Write2 b t rest old new e (λ x h. h) (λ x h. h) (λ x. refl) (λ x. refl) (λ l i. (decimal_after 0 rest, line-is _ l i)) r
 
-  pub read2-line : t ≡ codes "read2 " ++ rest → Reads (λ n. n < 2 ^ 27) decimal (λ n. bytes_of_word (type2_read n)) b rest old new → Reads FitsLine text_of (bytes_of check) b t old new
+  pub read2-line : t ≡ codes "read2 " ++ rest → Reads (λ n. n < 2 ^ 27) decimal (λ n. bytes_of_word (type2_read n)) b rest old new → Reads FitsLine text_of (line_bytes check) b t old new
   read2-line e r = lift (λ n. n < 2 ^ 27) decimal (λ n. bytes_of_word (type2_read n)) check (codes "read2 ") Read2 b t rest old new e (λ x h. h) (λ x h. h) (λ x. refl) (λ x. refl) (λ l i. (decimal_after 0 rest, line-is _ l i)) r
 
 -- the text begins with this word
@@ -89,7 +89,7 @@ plain-fits (Data ws) h = absurd h
 plain-fits (Cmd x) h = tt
 plain-fits Check h = tt
 
-pub plain-line : (check : ℕ) (b : Bool) (t old new : List ℕ) → ((l : Line) → FitsLine l → t ≡ text_of l → IsPlain l) → Reads IsPlain text_of (bytes_of check) b t old new → Reads FitsLine text_of (bytes_of check) b t old new
+pub plain-line : (check : ℕ) (b : Bool) (t old new : List ℕ) → ((l : Line) → FitsLine l → t ≡ text_of l → IsPlain l) → Reads IsPlain text_of (line_bytes check) b t old new → Reads FitsLine text_of (line_bytes check) b t old new
 plain-line check true t old new only r = (r.0, plain-fits r.0 r.1, r.2, r.3)
 plain-line check false t old new only r = (λ l h e. r.0 l (only l h e) e, r.1)
 
@@ -104,6 +104,6 @@ pub is-none : (r : Option (Bor (List ℕ))) (P : Type 0) (Q : Bor (List ℕ) →
 is-none None P Q e h = h
 is-none (Some x) P Q e h = absurd cc
 
-pub is-comment : (r : Option (Bor (List ℕ))) (check : ℕ) (t old : List ℕ) → is_some r ≡ true → MatchOption r (NotAfter (codes "#") t) (λ x. t ≡ codes "#" ++ x.now) → Reads FitsLine text_of (bytes_of check) true t old old
+pub is-comment : (r : Option (Bor (List ℕ))) (check : ℕ) (t old : List ℕ) → is_some r ≡ true → MatchOption r (NotAfter (codes "#") t) (λ x. t ≡ codes "#" ++ x.now) → Reads FitsLine text_of (line_bytes check) true t old old
 is-comment None check t old e h = absurd cc
 is-comment (Some x) check t old e h = (Comment x.now, tt, h, sym (append-nil old))

@@ -16,10 +16,10 @@ use Rattle.x7_packets.proofs.ByHandLemmas.{reading_is_found}
 use Rattle.x7_packets.proofs.UniqueLemmas.{each_fits}
 use Rattle.x7_text.specs.Row.{AreFullButLast, rows}
 use Rattle.x7_text.proofs.RowLemmas.{rows_full, rows_joined}
-use Rattle.x7_listing.specs.HeadLine.{best_line, head_line, line_word}
+use Rattle.x7_listing.specs.HeadLine.{best_line, line_of_head, line_word}
 use Rattle.x7_listing.specs.declared.line.head_line.HeadLine.{HeadLine}
 use Rattle.x7_listing.specs.declared.line.head_line.HeadLine.TheVariants as head
-use Rattle.x7_listing.specs.Line.{Line, Bytes, Sync, Data, Cmd, bytes_of, FitsLine, IsListed}
+use Rattle.x7_listing.specs.Line.{Line, Bytes, Sync, Data, Cmd, line_bytes, FitsLine, IsListed}
 use Rattle.x7_listing.specs.Listed.{cmd_line, gap_lines, line_as, listing_lines, packet_lines, packets_lines, payload_lines, place_lines, session_lines}
 
 abbrev pub Listed : Line → Type 0
@@ -27,13 +27,13 @@ Listed l = FitsLine l × IsListed l
 
 -- each is a line of a listing, and these are their bytes
 pub record Stands (lines : List Line) (bytes : List ℕ) : Type 0 where
-  pub are : flat_map (bytes_of 0) lines ≡ bytes
+  pub are : flat_map (line_bytes 0) lines ≡ bytes
   pub each : AllByRecursion Listed lines
 
 both-stand : (a b : List Line) (x y : List ℕ) → Stands a x → Stands b y → Stands (a ++ b) (x ++ y)
-both-stand a b x y s t = record { are = flat_map-append (bytes_of 0) a b ∙ ap₂ (λ (p q : List ℕ). p ++ q) s.are t.are; each = all-append Listed a b s.each t.each }
+both-stand a b x y s t = record { are = flat_map-append (line_bytes 0) a b ∙ ap₂ (λ (p q : List ℕ). p ++ q) s.are t.are; each = all-append Listed a b s.each t.each }
 
-one-stands : (l : Line) (ls : List Line) (x y : List ℕ) → bytes_of 0 l ≡ x → Listed l → Stands ls y → Stands (l ∷ ls) (x ++ y)
+one-stands : (l : Line) (ls : List Line) (x y : List ℕ) → line_bytes 0 l ≡ x → Listed l → Stands ls y → Stands (l ∷ ls) (x ++ y)
 one-stands l ls x y e h s = record { are = ap₂ (λ (p q : List ℕ). p ++ q) e s.are; each = (h, s.each) }
 
 stands-for : (ls : List Line) (x y : List ℕ) → x ≡ y → Stands ls x → Stands ls y
@@ -72,7 +72,7 @@ is-eq a b e = grind (arith, common_steps)
 
 -- the line of a word in a header's place stands for the word
 abbrev pub IsLineOf : ℕ → Line → Type 0
-IsLineOf w l = (bytes_of 0 l ≡ bytes_of_word w) × Listed l
+IsLineOf w l = (line_bytes 0 l ≡ bytes_of_word w) × Listed l
 
 cmd-by : (b : Bool) (w : ℕ) → w < 2 ^ 32 → (b ≡ true → code_of (command_by w) ≡ w) → IsLineOf w (if b then Cmd (command_by w) else Data (w ∷ []))
 cmd-by true w h e = (ap bytes_of_word (e refl), (tt, tt))
@@ -90,7 +90,7 @@ payload-by : (b : Bool) (ws : List ℕ) → AreWords ws → Stands (if b then ma
 payload-by true ws a = cmds-stand ws a
 payload-by false ws a = data-stands ws a
 
-as-bytes : (h : HeadLine) → bytes_of 0 (line_as h) ≡ bytes_of_word (line_word h)
+as-bytes : (h : HeadLine) → line_bytes 0 (line_as h) ≡ bytes_of_word (line_word h)
 as-bytes head.Nop = refl
 as-bytes head.Sync = refl
 as-bytes (head.Write r c) = refl
@@ -116,7 +116,7 @@ best w h =
     (pick (IsHeadOf w) (type_and_opcode_of w == type2_write_kind) (head.Write2 (w % 2 ^ 27)) _ (λ e. let k : w / 2 ^ 27 ≡ 10 = is-eq (w / 2 ^ 27) 10 e in (omega arith, (omega arith, tt)))
     (pick (IsHeadOf w) (type_and_opcode_of w == type2_read_kind) (head.Read2 (w % 2 ^ 27)) (head.Word w) (λ e. let k : w / 2 ^ 27 ≡ 9 = is-eq (w / 2 ^ 27) 9 e in (omega arith, (omega arith, tt))) (refl, (h, tt)))))))
 
-head-of : (s : Step) (w : ℕ) → w < 2 ^ 32 → IsHeadOf w (head_line s w)
+head-of : (s : Step) (w : ℕ) → w < 2 ^ 32 → IsHeadOf w (line_of_head s w)
 head-of (step.Bad x) w h = (refl, (h, tt))
 head-of step.Filler w h = best w h
 head-of step.Nop w h = best w h
@@ -125,8 +125,8 @@ head-of (step.Payload r x) w h = best w h
 head-of (step.Read r c) w h = best w h
 
 packet-stands : (p : Packet) → AreWords (words p) → Stands (packet_lines p) (flat_map bytes_of_word (words p))
-packet-stands p a = let q : IsHeadOf p.head (head_line p.step p.head) = head-of p.step p.head a.0 in
-    one-stands (line_as (head_line p.step p.head)) (payload_lines (named_by p.step) p.payload) (bytes_of_word p.head) (flat_map bytes_of_word p.payload) (as-bytes (head_line p.step p.head) ∙ ap bytes_of_word q.0) q.1 (payload-by (named_by p.step == 4) p.payload a.1)
+packet-stands p a = let q : IsHeadOf p.head (line_of_head p.step p.head) = head-of p.step p.head a.0 in
+    one-stands (line_as (line_of_head p.step p.head)) (payload_lines (named_by p.step) p.payload) (bytes_of_word p.head) (flat_map bytes_of_word p.payload) (as-bytes (line_of_head p.step p.head) ∙ ap bytes_of_word q.0) q.1 (payload-by (named_by p.step == 4) p.payload a.1)
 
 packets-stand : (ps : List Packet) → AreWords (flat_map words ps) → Stands (flat_map packet_lines ps) (packet_bytes ps)
 packets-stand [] a = none-stand

@@ -26,11 +26,11 @@ use Rattle.x7_text.proofs.ReadRowLemmas.{length-spaced}
 use Rattle.x7_text.proofs.RowLemmas.{rows_full}
 use Rattle.x7_text.proofs.WholeLineLemmas.{length-hex_bytes}
 use Rattle.x7_listing.specs.BitLine.{bit_text, field_text}
-use Rattle.x7_listing.specs.HeadLine.{head_line}
+use Rattle.x7_listing.specs.HeadLine.{line_of_head}
 use Rattle.x7_listing.specs.declared.line.head_line.HeadLine.{HeadLine}
 use Rattle.x7_listing.specs.declared.line.head_line.HeadLine.TheVariants as head
-use Rattle.x7_listing.specs.Line.{Line, Bytes, Cmd, Comment, Check, Data, Empty, Nop, Read, Read2, Sync, Word, Write, Write2, bytes_of, FitsLine}
-use Rattle.x7_listing.specs.Listed.{cmd_line, ended_text, gap_lines, line_as, packet_lines, packets_lines, place_lines, session_lines, texts_of}
+use Rattle.x7_listing.specs.Line.{Line, Bytes, Cmd, Comment, Check, Data, Empty, Nop, Read, Read2, Sync, Word, Write, Write2, line_bytes, FitsLine}
+use Rattle.x7_listing.specs.Listed.{cmd_line, ended_text, gap_lines, line_as, packet_lines, packets_lines, place_lines, session_lines, ended_texts}
 use Rattle.x7_listing.specs.Listing.{listing_of}
 use Rattle.x7_listing.specs.StreamListing.{listing_by, stream_listing}
 use Rattle.x7_listing.proofs.GuessLemmas.{each_holds, each_name}
@@ -91,7 +91,7 @@ access-few word n c l h k = omega (arith, l, name-few n h, length-decimal-le 4 c
 count-few : (word : List ℕ) (c : ℕ) → length word ≤ 7 → c < 2 ^ 27 → length ((word ++ decimal c) ++ 10 ∷ []) ≤ 20
 count-few word c l k = omega (arith, l, length-decimal-le 9 c (omega arith) (omega (arith, k)) (omega (arith, k)), length-append (word ++ decimal c) (10 ∷ []), length-append word (decimal c))
 
-line-short : (l : Line) → FitsLine l → IsWhole l → length (ended_text l) ≤ 5 * length (bytes_of 0 l)
+line-short : (l : Line) → FitsLine l → IsWhole l → length (ended_text l) ≤ 5 * length (line_bytes 0 l)
 line-short Empty f o = absurd o
 line-short (Comment text) f o = absurd o
 line-short (Bytes bytes) f o = absurd o
@@ -107,25 +107,25 @@ line-short (Cmd c) f o = omega (arith, command-few c, length-append (codes "cmd 
 line-short Check f o = absurd o
 
 -- how long the texts of lines are, and their bytes
-texts-long : (a b : List Line) → length (texts_of (a ++ b)) ≡ length (texts_of a) + length (texts_of b)
-texts-long a b = ap length (flat_map-append ended_text a b) ∙ length-append (texts_of a) (texts_of b)
+texts-long : (a b : List Line) → length (ended_texts (a ++ b)) ≡ length (ended_texts a) + length (ended_texts b)
+texts-long a b = ap length (flat_map-append ended_text a b) ∙ length-append (ended_texts a) (ended_texts b)
 
-bytes-long : (a b : List Line) → length (flat_map (bytes_of 0) (a ++ b)) ≡ length (flat_map (bytes_of 0) a) + length (flat_map (bytes_of 0) b)
-bytes-long a b = ap length (flat_map-append (bytes_of 0) a b) ∙ length-append (flat_map (bytes_of 0) a) (flat_map (bytes_of 0) b)
+bytes-long : (a b : List Line) → length (flat_map (line_bytes 0) (a ++ b)) ≡ length (flat_map (line_bytes 0) a) + length (flat_map (line_bytes 0) b)
+bytes-long a b = ap length (flat_map-append (line_bytes 0) a b) ∙ length-append (flat_map (line_bytes 0) a) (flat_map (line_bytes 0) b)
 
-lines-short : (ls : List Line) → AllByRecursion Listed ls → AllByRecursion IsWhole ls → length (texts_of ls) ≤ 5 * length (flat_map (bytes_of 0) ls)
+lines-short : (ls : List Line) → AllByRecursion Listed ls → AllByRecursion IsWhole ls → length (ended_texts ls) ≤ 5 * length (flat_map (line_bytes 0) ls)
 lines-short [] a o = omega arith
-lines-short (l ∷ ls) a o = omega (arith, line-short l a.0.0 o.0, lines-short ls a.1 o.1, length-append (ended_text l) (texts_of ls), length-append (bytes_of 0 l) (flat_map (bytes_of 0) ls))
+lines-short (l ∷ ls) a o = omega (arith, line-short l a.0.0 o.0, lines-short ls a.1 o.1, length-append (ended_text l) (ended_texts ls), length-append (line_bytes 0 l) (flat_map (line_bytes 0) ls))
 
 row-long : (r : List ℕ) → length (ended_text (Bytes r)) ≡ 7 + 2 * length r
 row-long r = omega (arith, length-hex_bytes r, length-append (codes "bytes " ++ flat_map hex_byte r) (10 ∷ []), length-append (codes "bytes ") (flat_map hex_byte r))
 
-rows-short : (rs : List (List ℕ)) → AreFullButLast 32 rs → length (texts_of (map Bytes rs)) ≤ 5 * length (flat_map (bytes_of 0) (map Bytes rs)) + 4
+rows-short : (rs : List (List ℕ)) → AreFullButLast 32 rs → length (ended_texts (map Bytes rs)) ≤ 5 * length (flat_map (line_bytes 0) (map Bytes rs)) + 4
 rows-short [] f = omega arith
 rows-short (r ∷ []) f = omega (arith, f.0, row-long r, length-append (ended_text (Bytes r)) [], length-append r [])
-rows-short (r ∷ s ∷ rs) f = omega (arith, f.0, row-long r, rows-short (s ∷ rs) f.1, length-append (ended_text (Bytes r)) (texts_of (map Bytes (s ∷ rs))), length-append r (flat_map (bytes_of 0) (map Bytes (s ∷ rs))))
+rows-short (r ∷ s ∷ rs) f = omega (arith, f.0, row-long r, rows-short (s ∷ rs) f.1, length-append (ended_text (Bytes r)) (ended_texts (map Bytes (s ∷ rs))), length-append r (flat_map (line_bytes 0) (map Bytes (s ∷ rs))))
 
-gap-short : (bs : List ℕ) → length (texts_of (gap_lines bs)) ≤ 5 * length (flat_map (bytes_of 0) (gap_lines bs)) + 4
+gap-short : (bs : List ℕ) → length (ended_texts (gap_lines bs)) ≤ 5 * length (flat_map (line_bytes 0) (gap_lines bs)) + 4
 gap-short bs = rows-short (rows 32 bs) (rows_full 32 [] bs (omega arith))
 
 -- packets have no `bytes` line
@@ -156,23 +156,23 @@ payload-by false ws = data-whole (rows 8 ws)
 
 packets-whole : (ps : List Packet) → AllByRecursion IsWhole (flat_map packet_lines ps)
 packets-whole [] = tt
-packets-whole (p ∷ ps) = all-append IsWhole (packet_lines p) (flat_map packet_lines ps) (head-whole (head_line p.step p.head), payload-by (named_by p.step == 4) p.payload) (packets-whole ps)
+packets-whole (p ∷ ps) = all-append IsWhole (packet_lines p) (flat_map packet_lines ps) (head-whole (line_of_head p.step p.head), payload-by (named_by p.step == 4) p.payload) (packets-whole ps)
 
 -- a gap, the sync word and packets
-session-short : (gap : List ℕ) (packets : List Packet) → AllByRecursion Listed (packets_lines gap packets) → length (texts_of (packets_lines gap packets)) + 11 ≤ 5 * length (flat_map (bytes_of 0) (packets_lines gap packets))
+session-short : (gap : List ℕ) (packets : List Packet) → AllByRecursion Listed (packets_lines gap packets) → length (ended_texts (packets_lines gap packets)) + 11 ≤ 5 * length (flat_map (line_bytes 0) (packets_lines gap packets))
 session-short gap packets a =
     let ls : List Line = flat_map packet_lines packets in
     let more = all_back Listed (gap_lines gap) (Sync ∷ ls) a in
-    let sync : length (texts_of (Sync ∷ ls)) ≡ 5 + length (texts_of ls) = length-append (ended_text Sync) (texts_of ls) in
-    let four : length (flat_map (bytes_of 0) (Sync ∷ ls)) ≡ 4 + length (flat_map (bytes_of 0) ls) = length-append (bytes_of 0 Sync) (flat_map (bytes_of 0) ls) in
+    let sync : length (ended_texts (Sync ∷ ls)) ≡ 5 + length (ended_texts ls) = length-append (ended_text Sync) (ended_texts ls) in
+    let four : length (flat_map (line_bytes 0) (Sync ∷ ls)) ≡ 4 + length (flat_map (line_bytes 0) ls) = length-append (line_bytes 0 Sync) (flat_map (line_bytes 0) ls) in
     omega (arith, gap-short gap, lines-short ls more.1 (packets-whole packets), sync, four, texts-long (gap_lines gap) (Sync ∷ ls), bytes-long (gap_lines gap) (Sync ∷ ls))
 
-sessions-short : (ss : List Session) → AllByRecursion Listed (flat_map session_lines ss) → length (texts_of (flat_map session_lines ss)) ≤ 5 * length (flat_map (bytes_of 0) (flat_map session_lines ss))
+sessions-short : (ss : List Session) → AllByRecursion Listed (flat_map session_lines ss) → length (ended_texts (flat_map session_lines ss)) ≤ 5 * length (flat_map (line_bytes 0) (flat_map session_lines ss))
 sessions-short [] a = omega arith
 sessions-short (s ∷ ss) a =
     omega (arith, session-short s.gap s.packets (all_front Listed (session_lines s) (flat_map session_lines ss) a), sessions-short ss (all_back Listed (session_lines s) (flat_map session_lines ss) a), texts-long (session_lines s) (flat_map session_lines ss), bytes-long (session_lines s) (flat_map session_lines ss))
 
-place-short : (p : Place) → AllByRecursion Listed (place_lines p) → length (texts_of (place_lines p)) ≤ 5 * length (flat_map (bytes_of 0) (place_lines p)) + 4
+place-short : (p : Place) → AllByRecursion Listed (place_lines p) → length (ended_texts (place_lines p)) ≤ 5 * length (flat_map (line_bytes 0) (place_lines p)) + 4
 place-short (Searching gap) a = gap-short gap
 place-short (Synced gap packets tail) a =
     omega (arith, session-short gap packets (all_front Listed (packets_lines gap packets) (gap_lines tail) a), gap-short tail, texts-long (packets_lines gap packets) (gap_lines tail), bytes-long (packets_lines gap packets) (gap_lines tail))

@@ -2,7 +2,7 @@
 use Rattle.std.proofs.Common.{◌≡◌, ◌⊎◌, ℕ, ◌+◌, ◌-◌, ◌<◌, ◌≤◌, List, [], ◌∷◌, ◌++◌, inl, inr, Result, Ok, Err, MatchResult, length, map, fold, refl, ap, sym, subst, ◌∙◌, arith, append_assoc, append-nil, length-append}
 use Rattle.std.proofs.lemmas.Grind.{fold-append}
 use Rattle.std.specs.List.{AllByRecursion}
-use Rattle.x7_listing.specs.Assembly.{asm_limit, Assembles, assembled, Begins, AreAsm, after_one_line, Follows, HasNoHead, IsBad, IsAsm, IsHeaded, IsTooLong, with_line}
+use Rattle.x7_listing.specs.Assembly.{asm_limit, Assembles, assembled, Begins, AreAsm, after_one_line, Follows, HasNoHeaderLine, IsBad, IsAsm, IsHeaded, IsTooLong, with_line}
 use Rattle.x7_text.specs.Lines.{split}
 use Rattle.x7_header.specs.Header.{header_bytes}
 use Rattle.x7_listing.specs.BitLine.{bit_text}
@@ -10,7 +10,7 @@ use Rattle.x7_listing.specs.StreamListing.{stream_listing}
 use Rattle.x7_listing.proofs.BitLemmas.{one-header}
 use Rattle.x7_listing.proofs.StreamLemmas.{stream-back}
 use Rattle.x7_crc.specs.Checking.{check_of_bytes}
-use Rattle.x7_listing.specs.Line.{bytes_of, FitsLine, IsLine, Line, text_of}
+use Rattle.x7_listing.specs.Line.{line_bytes, FitsLine, IsLine, Line, text_of}
 use Rattle.x7_words.specs.Word.{AreBytes}
 use Rattle.x7_listing.specs.declared.assembler.AsmFault.{AsmFault}
 use Rattle.x7_listing.specs.declared.assembler.AsmFault.TheVariants as fault
@@ -74,7 +74,7 @@ bad-stops limit texts ls bad left h = λ ms there b f. bad-after f.more bad left
 
 grows : (bytes : List ℕ) (ls : List Line) → length bytes ≤ length (fold with_line bytes ls)
 grows bytes [] = omega arith
-grows bytes (l ∷ ls) = omega (arith, grows (with_line bytes l) ls, length-append bytes (bytes_of (check_of_bytes bytes) l))
+grows bytes (l ∷ ls) = omega (arith, grows (with_line bytes l) ls, length-append bytes (line_bytes (check_of_bytes bytes) l))
 
 longer-still : (ls more : List Line) (l : Line) → length (assembled (ls ++ l ∷ [])) ≤ length (assembled (ls ++ l ∷ more))
 longer-still ls more l =
@@ -146,7 +146,7 @@ same-headed texts a b h k =
     let header : h.header ≡ k.header = one-header h.header k.header h.held k.held text in
     same-follows (header_bytes k.header) k.others a b (subst (λ (o : List (List ℕ)). Follows (header_bytes k.header) o a) others (subst (λ x. Follows (header_bytes x) h.others a) header h.follows)) k.follows
 
-not-headed : (texts : List (List ℕ)) (a : Result (List ℕ) AsmFault) → IsHeaded texts a → HasNoHead texts → ⊥
+not-headed : (texts : List (List ℕ)) (a : Result (List ℕ) AsmFault) → IsHeaded texts a → HasNoHeaderLine texts → ⊥
 not-headed texts a h k = k h.header h.others h.held h.texts
 
 -- a text has one outcome

@@ -19,8 +19,8 @@ use Rattle.x7_listing.specs.Listing.{listing_of}
 use Rattle.x7_listing.specs.Assembly.{Assembles, assembled, with_line}
 use Rattle.x7_crc.specs.Checking.{check_of_bytes}
 use Rattle.x7_text.specs.Lines.{has_no_end, split}
-use Rattle.x7_listing.specs.Line.{Line, Empty, Comment, Bytes, Sync, Nop, Write, Read, Write2, Read2, Word, Data, Cmd, Check, bytes_of, FitsLine, IsListed, text_of}
-use Rattle.x7_listing.specs.Listed.{listing_lines, texts_of}
+use Rattle.x7_listing.specs.Line.{Line, Empty, Comment, Bytes, Sync, Nop, Write, Read, Write2, Read2, Word, Data, Cmd, Check, line_bytes, FitsLine, IsListed, text_of}
+use Rattle.x7_listing.specs.Listed.{listing_lines, ended_texts}
 use Rattle.x7_listing.proofs.GuessLemmas.{own, each_name, each_holds}
 use Rattle.x7_listing.proofs.ListedLemmas.{listing-text}
 use Rattle.x7_listing.proofs.ListedBytesLemmas.{Listed, Stands, listing-stands}
@@ -91,13 +91,13 @@ line-free (Cmd c) h k = command-free c
 line-free Check h k = absurd k
 
 -- cut at the line ends
-split-lines : (ls : List Line) → AllByRecursion Listed ls → split (texts_of ls) ≡ map text_of ls ++ [] ∷ []
+split-lines : (ls : List Line) → AllByRecursion Listed ls → split (ended_texts ls) ≡ map text_of ls ++ [] ∷ []
 split-lines [] a = refl
 split-lines (l ∷ ls) a =
-    ap split (append_assoc (text_of l) (10 ∷ []) (texts_of ls)) ∙ split-line (text_of l) (texts_of ls) (line-free l a.0.0 a.0.1) ∙ ap (λ t. text_of l ∷ t) (split-lines ls a.1)
+    ap split (append_assoc (text_of l) (10 ∷ []) (ended_texts ls)) ∙ split-line (text_of l) (ended_texts ls) (line-free l a.0.0 a.0.1) ∙ ap (λ t. text_of l ∷ t) (split-lines ls a.1)
 
 -- the bytes of lines that are no check
-pub same-bytes : (c : ℕ) (l : Line) → IsListed l → bytes_of c l ≡ bytes_of 0 l
+pub same-bytes : (c : ℕ) (l : Line) → IsListed l → line_bytes c l ≡ line_bytes 0 l
 same-bytes c Empty h = refl
 same-bytes c (Comment text) h = refl
 same-bytes c (Bytes bs) h = refl
@@ -112,10 +112,10 @@ same-bytes c (Data ws) h = refl
 same-bytes c (Cmd x) h = refl
 same-bytes c Check h = absurd h
 
-assembled-after : (bytes : List ℕ) (ls : List Line) → AllByRecursion Listed ls → fold with_line bytes ls ≡ bytes ++ flat_map (bytes_of 0) ls
+assembled-after : (bytes : List ℕ) (ls : List Line) → AllByRecursion Listed ls → fold with_line bytes ls ≡ bytes ++ flat_map (line_bytes 0) ls
 assembled-after bytes [] a = sym (append-nil bytes)
 assembled-after bytes (l ∷ ls) a =
-    assembled-after (with_line bytes l) ls a.1 ∙ append_assoc bytes (bytes_of (check_of_bytes bytes) l) (flat_map (bytes_of 0) ls) ∙ ap (λ b. bytes ++ (b ++ flat_map (bytes_of 0) ls)) (same-bytes (check_of_bytes bytes) l a.0.1)
+    assembled-after (with_line bytes l) ls a.1 ∙ append_assoc bytes (line_bytes (check_of_bytes bytes) l) (flat_map (line_bytes 0) ls) ∙ ap (λ b. bytes ++ (b ++ flat_map (line_bytes 0) ls)) (same-bytes (check_of_bytes bytes) l a.0.1)
 
 fit-all : (ls : List Line) → AllByRecursion Listed ls → AllByRecursion FitsLine ls
 fit-all [] a = tt
@@ -127,7 +127,7 @@ round-trip limit bytes a h =
     let s : Stands (listing_lines bytes) bytes = listing-stands bytes a in
     let each : AllByRecursion Listed (listing_lines bytes ++ Empty ∷ []) = all-append Listed (listing_lines bytes) (Empty ∷ []) s.each ((tt, tt), tt) in
     let is : assembled (listing_lines bytes ++ Empty ∷ []) ≡ bytes =
-    assembled-after [] (listing_lines bytes ++ Empty ∷ []) each ∙ flat_map-append (bytes_of 0) (listing_lines bytes) (Empty ∷ []) ∙ append-nil (flat_map (bytes_of 0) (listing_lines bytes)) ∙ s.are in
+    assembled-after [] (listing_lines bytes ++ Empty ∷ []) each ∙ flat_map-append (line_bytes 0) (listing_lines bytes) (Empty ∷ []) ∙ append-nil (flat_map (line_bytes 0) (listing_lines bytes)) ∙ s.are in
     record {
       lines = listing_lines bytes ++ Empty ∷ [];
       begins = record {

@@ -10,8 +10,8 @@ use Rattle.x7_packets.specs.Mode.{Mode}
 use Rattle.x7_packets.specs.declared.cutter.Cut.{Cut}
 use Rattle.x7_packets.specs.declared.cutter.Cut.TheVariants.{Need, Skip, Sync, Head, Word, Body}
 use Rattle.x7_text.specs.Row.{close}
-use Rattle.x7_listing.specs.HeadLine.{head_text}
-use Rattle.x7_listing.specs.Telling.{GapListed, HasListed, words_place, open_words, Writes, Written, written_of}
+use Rattle.x7_listing.specs.HeadLine.{text_of_head}
+use Rattle.x7_listing.specs.Telling.{GapListed, HasListed, words_place, open_words, Writes, WrittenSoFar, written_of}
 use Rattle.x7_listing.proofs.TellingLemmas.{skip_told, sync_told, words_told_at}
 use Rattle.x7_listing.proofs.SessionLemmas.{head_next, head_told}
 
@@ -61,12 +61,12 @@ body_adds synced line l2 held h2 all all2 before bytes sessions new_sessions (Sy
     words_told_at synced line l2 held h2 all all2 before bytes sessions new_sessions gap tail packets np o n (payload_steps register (words_of_bytes body.now)) t p q a r h
 
 pub by_head : (run : Cut) (synced s2 : Bool) (line l2 from : ℕ) (held h2 given old new : List ℕ) (w : ℕ) (step : Step) → run ≡ Head w step → (synced ≡ true → from ≡ line) → s2 ≡ true → l2 ≡ 0
-    → new ≡ old ++ (close from ++ head_text step w) → Writes run (written_of synced line held (given ++ old)) (written_of s2 l2 h2 (given ++ new))
+    → new ≡ old ++ (close from ++ text_of_head step w) → Writes run (written_of synced line held (given ++ old)) (written_of s2 l2 h2 (given ++ new))
 by_head run synced s2 line l2 from held h2 given old new w step is same e f t =
     as_run run (Head w step) synced s2 line l2 held h2 (given ++ old) (given ++ new) is (synced_pen (Head w step) synced s2 line l2 0 held h2 (given ++ old) (given ++ new) e f
     (λ before bytes sessions new_sessions spot np o n listed adds turns is_run reading. head_adds synced line 0 held h2 (given ++ old) (given ++ new) before bytes sessions new_sessions spot np o n w step listed adds turns.0 turns.1 reading
     (λ s. (
-      longer given old new (close from ++ head_text step w) t ∙ ap (λ k. given ++ old ++ (close k ++ head_text step w)) (same s) ∙ ap (λ x. given ++ old ++ x) (sym (head_told line w step (not_payload w step is_run)) ∙ sym (append-nil _)),
+      longer given old new (close from ++ text_of_head step w) t ∙ ap (λ k. given ++ old ++ (close k ++ text_of_head step w)) (same s) ∙ ap (λ x. given ++ old ++ x) (sym (head_told line w step (not_payload w step is_run)) ∙ sym (append-nil _)),
       sym (head_next line step (not_payload w step is_run)),
     ))))
 
@@ -94,7 +94,7 @@ by_skip run part synced s2 line l1 l2 held h1 h2 given old new is e f k g =
     (λ start gap t. g given start gap (subst (λ l. GapListed (given ++ old) start l h1 gap) (sym f) (subst (λ h. GapListed (given ++ old) start (if synced then 0 else line) h gap) (sym k) t)))))
 
 -- what was listed at a place behind sessions was listed at an equal place behind equal sessions
-listed_at : (w : Written) (before : List ℕ) (sessions new_sessions : List Session) (spot np : Place) (m : Mode) → new_sessions ≡ sessions → np ≡ spot → HasListed w before sessions spot m → HasListed w before new_sessions np m
+listed_at : (w : WrittenSoFar) (before : List ℕ) (sessions new_sessions : List Session) (spot np : Place) (m : Mode) → new_sessions ≡ sessions → np ≡ spot → HasListed w before sessions spot m → HasListed w before new_sessions np m
 listed_at w before sessions new_sessions spot np m e f t = subst (λ (p : Place). HasListed w before new_sessions p m) (sym f) (subst (λ (s : List Session). HasListed w before s spot m) (sym e) t)
 
 pub need_adds : (synced : Bool) (line : ℕ) (held all before : List ℕ) (sessions new_sessions : List Session) (spot np : Place) (o n : Mode) → HasListed (written_of synced line held all) before sessions spot o → Adds Need sessions spot new_sessions np → Turns Need o n np → HasListed (written_of synced line held all) before new_sessions np n

@@ -10,13 +10,13 @@ use Rattle.x7_regs.specs.Command.{code_of, command_by}
 use Rattle.x7_text.specs.Digits.{hex_word}
 use Rattle.x7_text.specs.Row.{close, element_text, in_line_after, next_in_line, open_text, spaced}
 use Rattle.x7_text.proofs.LineLemmas.{data_closed}
-use Rattle.x7_listing.specs.HeadLine.{command_line, head_text}
+use Rattle.x7_listing.specs.HeadLine.{command_line, text_of_head}
 use Rattle.x7_listing.specs.Listing.{packet_text, payload_text}
-use Rattle.x7_listing.specs.Telling.{payload_next, word_next, open_word, words_place, open_words}
+use Rattle.x7_listing.specs.Telling.{payload_next, word_next, open_session_word, words_place, open_words}
 
 pub open_words-append : (i : ℕ) (xs ys : List (ℕ × Step)) → open_words i (xs ++ ys) ≡ open_words i xs ++ open_words (words_place i xs) ys
 open_words-append i [] ys = refl
-open_words-append i (x ∷ xs) ys = ap (λ t. open_word i x.0 x.1 ++ t) (open_words-append (word_next i x.1) xs ys) ∙ sym (append_assoc (open_word i x.0 x.1) (open_words (word_next i x.1) xs) (open_words (words_place (word_next i x.1) xs) ys))
+open_words-append i (x ∷ xs) ys = ap (λ t. open_session_word i x.0 x.1 ++ t) (open_words-append (word_next i x.1) xs ys) ∙ sym (append_assoc (open_session_word i x.0 x.1) (open_words (word_next i x.1) xs) (open_words (words_place (word_next i x.1) xs) ys))
 
 pub words_place-append : (i : ℕ) (xs ys : List (ℕ × Step)) → words_place i (xs ++ ys) ≡ words_place (words_place i xs) ys
 words_place-append i [] ys = refl
@@ -46,7 +46,7 @@ payload_by register ws false e = ap (λ t. t ++ close (words_place 0 (payload_st
 payload_closed : (register : ℕ) (ws : List ℕ) → open_words 0 (payload_steps register ws) ++ close (words_place 0 (payload_steps register ws)) ≡ payload_text register ws
 payload_closed register ws = payload_by register ws (register == 4) refl
 
-pub head_told : (i w : ℕ) (s : Step) → ((r x : ℕ) → s ≡ Payload r x → ⊥) → open_word i w s ≡ close i ++ head_text s w
+pub head_told : (i w : ℕ) (s : Step) → ((r x : ℕ) → s ≡ Payload r x → ⊥) → open_session_word i w s ≡ close i ++ text_of_head s w
 head_told i w (Payload r x) h = absurd (h r x refl)
 head_told i w Filler h = refl
 head_told i w Nop h = refl
@@ -69,8 +69,8 @@ packet_closed : (l : Option ℕ) (i : ℕ) (p : Packet) → IsPacket l p → ope
 packet_closed l i p is =
     let none : (r x : ℕ) → p.step ≡ Payload r x → ⊥ = λ r x e. no_payload l p.head r x (sym is.means ∙ e) in
     let ss : List (ℕ × Step) = payload_steps (named_by p.step) p.payload in
-    ap (λ k. open_word i p.head p.step ++ open_words k ss ++ close (words_place k ss)) (head_next i p.step none)
-    ∙ packet_glue (open_word i p.head p.step) (close i) (head_text p.step p.head) (close (words_place 0 ss)) (open_words 0 ss) (payload_text (named_by p.step) p.payload) (head_told i p.head p.step none) (payload_closed (named_by p.step) p.payload)
+    ap (λ k. open_session_word i p.head p.step ++ open_words k ss ++ close (words_place k ss)) (head_next i p.step none)
+    ∙ packet_glue (open_session_word i p.head p.step) (close i) (text_of_head p.step p.head) (close (words_place 0 ss)) (open_words 0 ss) (payload_text (named_by p.step) p.payload) (head_told i p.head p.step none) (payload_closed (named_by p.step) p.payload)
 
 split_each : (l : Option ℕ) (p : Packet) (ps : List Packet) → EachPacket l (p ∷ ps) → IsPacket l p × EachPacket (latest_after l p.step) ps
 split_each l p [] e = (e, tt)

@@ -12,7 +12,7 @@ use Rattle.x7_header.proofs.HeaderLemmas.{header_takes, IsPrefix}
 use Rattle.x7_text.specs.Lines.{has_no_end, split}
 use Rattle.x7_text.proofs.PieceLemmas.{free-both, hex-free}
 use Rattle.x7_text.proofs.SplitLemmas.{split-line}
-use Rattle.x7_listing.specs.Assembly.{asm_limit, Assembles, HasNoHead, IsAsm, IsHeaded}
+use Rattle.x7_listing.specs.Assembly.{asm_limit, Assembles, HasNoHeaderLine, IsAsm, IsHeaded}
 use Rattle.x7_listing.specs.BitLine.{bit_text, field_text, IsHeld}
 use Rattle.x7_listing.specs.Line.{Line, FitsLine, text_of}
 use Rattle.x7_listing.specs.Listing.{listing_of}
@@ -54,13 +54,13 @@ held-of x h all =
     record { have = h; a = in-a.0; b = in-b.0; c = in-c.0; d = in-d.0 }
 
 -- no listing begins with a header's line
-none-first : (lines : List Line) (texts : List (List ℕ)) → AllByRecursion FitsLine lines → texts ≡ map text_of lines ++ [] → HasNoHead texts
+none-first : (lines : List Line) (texts : List (List ℕ)) → AllByRecursion FitsLine lines → texts ≡ map text_of lines ++ [] → HasNoHeaderLine texts
 none-first [] texts a e x others h is = let no : ◌≡◌ {A = List (List ℕ)} [] (bit_text x ∷ others) = sym e ∙ is in absurd cc
 none-first (l ∷ ls) texts a e x others h is =
     let parts : text_of l ∷ (map text_of ls ++ []) ≡ bit_text x ∷ others = sym e ∙ is in
     let same : bit_text x ≡ text_of l = cc in no-line x l (record { fits = a.0; is = same })
 
-pub no-head : (limit : ℕ) (texts : List (List ℕ)) (bytes : List ℕ) → Assembles limit texts bytes → HasNoHead texts
+pub no-head : (limit : ℕ) (texts : List (List ℕ)) (bytes : List ℕ) → Assembles limit texts bytes → HasNoHeaderLine texts
 no-head limit texts bytes h = none-first h.lines texts h.begins.fits h.begins.texts
 
 headed : (b : List ℕ) (head : Contents × ℕ) → IsPrefix b head → AreBytes b → length b ≤ asm_limit → IsHeaded (split (bit_text head.0 ++ 10 ∷ listing_of (drop head.1 b))) (Ok b)

@@ -4,9 +4,9 @@ use Rattle.std.specs.List.{AllByRecursion, flat_map}
 use Rattle.x7_crc.specs.Checking.{CheckerState, Keeps}
 use Rattle.x7_header.specs.Header.{Contents, header_bytes, longest_header}
 use Rattle.x7_listing.specs.BitLine.{bit_text, IsHeld}
-use Rattle.x7_listing.specs.Line.{Line, bytes_of, FitsLine, IsListed}
-use Rattle.x7_listing.specs.Listed.{texts_of}
-use Rattle.x7_listing.specs.Assembly.{AreHeadedAsm, asm_limit, assembled, Begins, HasNoHead}
+use Rattle.x7_listing.specs.Line.{Line, line_bytes, FitsLine, IsListed}
+use Rattle.x7_listing.specs.Listed.{ended_texts}
+use Rattle.x7_listing.specs.Assembly.{AreHeadedAsm, asm_limit, assembled, Begins, HasNoHeaderLine}
 use Rattle.x7_listing.specs.declared.assembler.AsmFault.{AsmFault}
 use Rattle.x7_listing.specs.declared.assembler.AsmFault.TheVariants as fault
 
@@ -27,7 +27,7 @@ pub record OpensHeaded (all others : List (List ℕ)) (prefix : List ℕ) (n : �
 
 -- the first of the texts is no header's line
 pub record OpensPlain (all others : List (List ℕ)) (prefix : List ℕ) (n : ℕ) : Type 0 where
-  pub no_head : HasNoHead all
+  pub no_head : HasNoHeaderLine all
   pub texts : all ≡ others
   pub are : prefix ≡ []
   pub none : n ≡ 0
@@ -37,15 +37,15 @@ abbrev pub Opens : List (List ℕ) → List (List ℕ) → List ℕ → ℕ → 
 Opens all others prefix n = OpensHeaded all others prefix n ⊎ OpensPlain all others prefix n
 
 -- what is read so far: the bytes, where those of lines begin, their check, and how many lines were
-pub record BodyState : Type 0 where
+pub record AsmState : Type 0 where
   pub out : List ℕ
   pub start : ℕ
   pub checker : CheckerState
   pub count : ℕ
 
--- a `BodyState` with these fields
-abbrev pub body_by : List ℕ → ℕ → CheckerState → ℕ → BodyState
-body_by out start checker count = record { out = out; start = start; checker = checker; count = count }
+-- an `AsmState` with these fields
+abbrev pub asm_state : List ℕ → ℕ → CheckerState → ℕ → AsmState
+asm_state out start checker count = record { out = out; start = start; checker = checker; count = count }
 
 -- what lines gave: the bytes so far, where those of lines begin, and their check; and for how many bytes there is room in all
 pub record Output : Type 0 where
@@ -63,12 +63,12 @@ pub record IsSound (out : List ℕ) (start : ℕ) (checker : CheckerState) : Typ
   pub begun : start ≤ length out
   pub keeps : Keeps checker (drop start out)
 
--- a `BodyState` of these lines' output
-abbrev pub behind : Output → ℕ → BodyState
-behind b n = body_by b.out b.start b.checker n
+-- an `AsmState` of these lines' output
+abbrev pub state_behind : Output → ℕ → AsmState
+state_behind b n = asm_state b.out b.start b.checker n
 
 -- The texts are read but for those that are left: their bytes are these, those of lines from `start` on, whose check is kept.
-pub record Goes (all left : List (List ℕ)) (b : BodyState) : Type 0 where
+pub record Goes (all left : List (List ℕ)) (b : AsmState) : Type 0 where
   pub others : List (List ℕ)
   pub first : ℕ
   pub read : ℕ
@@ -80,7 +80,7 @@ pub record Goes (all left : List (List ℕ)) (b : BodyState) : Type 0 where
   pub count_is : b.count ≡ first + read
 
 -- none of the texts is read yet
-pub record Unbegun (all left : List (List ℕ)) (b : BodyState) : Type 0 where
+pub record Unbegun (all left : List (List ℕ)) (b : AsmState) : Type 0 where
   pub texts : all ≡ left
   pub out_is : b.out ≡ []
   pub start_is : b.start ≡ 0
@@ -88,7 +88,7 @@ pub record Unbegun (all left : List (List ℕ)) (b : BodyState) : Type 0 where
   pub count_is : b.count ≡ 0
 
 -- the texts are read but for those that are left: from the first on, or none yet
-abbrev pub Waits : Bool → List (List ℕ) → List (List ℕ) → BodyState → Type 0
+abbrev pub Waits : Bool → List (List ℕ) → List (List ℕ) → AsmState → Type 0
 Waits true = Goes
 Waits false = Unbegun
 
@@ -97,8 +97,8 @@ pub record TakesLines (text rest old new : List ℕ) (count : ℕ) : Type 0 wher
   pub lines : List Line
   pub fit : AllByRecursion FitsLine lines
   pub listed : AllByRecursion IsListed lines
-  pub text_is : text ≡ texts_of lines ++ rest
-  pub appended : new ≡ old ++ flat_map (bytes_of 0) lines
+  pub text_is : text ≡ ended_texts lines ++ rest
+  pub appended : new ≡ old ++ flat_map (line_bytes 0) lines
   pub count_is : count ≡ length lines
 
 -- the first bytes of the text, `size` of them, are whole lines, one at least, none of which is a comment or the check
@@ -114,12 +114,12 @@ has_any [] = false
 has_any (t ∷ ts) = true
 
 -- lines gave this output, whatever lines follow
-abbrev pub HasRead : Output → List (List ℕ) → Type 0
-HasRead b lines = (left : List (List ℕ)) → Waits (has_any lines) (lines ++ left) left (behind b (length lines))
+abbrev pub IsOutputOf : Output → List (List ℕ) → Type 0
+IsOutputOf b lines = (left : List (List ℕ)) → Waits (has_any lines) (lines ++ left) left (state_behind b (length lines))
 
 -- lines gave this output, and once one was read there is room for the next
 pub record AreReadWithRoom (b : Output) (lines : List (List ℕ)) : Type 0 where
-  pub read : HasRead b lines
+  pub read : IsOutputOf b lines
   pub room : has_any lines ≡ true → HasLineRoom b
 
 -- memory may be wanting at a line: it is the first, or those up to it assemble
@@ -132,16 +132,16 @@ HasAsmFault f lines = (f ≡ fault.NoMemory) ⊎ AreHeadedAsm lines (Err f)
 
 -- a first line is read
 abbrev pub ReadsFirst : Output → Output → List ℕ → Type 0
-ReadsFirst old new line = (all left : List (List ℕ)) → Unbegun all (line ∷ left) (behind old 0) → Goes all left (behind new 1)
+ReadsFirst old new line = (all left : List (List ℕ)) → Unbegun all (line ∷ left) (state_behind old 0) → Goes all left (state_behind new 1)
 
 -- a first line is refused for this fault; want of memory says nothing
 abbrev pub FailsFirst : Output → List ℕ → AsmFault → Type 0
-FailsFirst old line f = (f ≡ fault.NoMemory) ⊎ ((all left : List (List ℕ)) → Unbegun all (line ∷ left) (behind old 0) → AreHeadedAsm all (Err f))
+FailsFirst old line f = (f ≡ fault.NoMemory) ⊎ ((all left : List (List ℕ)) → Unbegun all (line ∷ left) (state_behind old 0) → AreHeadedAsm all (Err f))
 
 -- line n is read, behind others
 abbrev pub ReadsNext : Output → Output → ℕ → List ℕ → Type 0
-ReadsNext old new n line = (all left : List (List ℕ)) (k : ℕ) → n ≡ k + 1 → Goes all (line ∷ left) (behind old k) → Goes all left (behind new n)
+ReadsNext old new n line = (all left : List (List ℕ)) (k : ℕ) → n ≡ k + 1 → Goes all (line ∷ left) (state_behind old k) → Goes all left (state_behind new n)
 
 -- line n, behind others, is refused for this fault; want of memory says nothing
 abbrev pub FailsNext : Output → ℕ → List ℕ → AsmFault → Type 0
-FailsNext old n line f = (f ≡ fault.NoMemory) ⊎ ((all left : List (List ℕ)) (k : ℕ) → n ≡ k + 1 → Goes all (line ∷ left) (behind old k) → AreHeadedAsm all (Err f))
+FailsNext old n line f = (f ≡ fault.NoMemory) ⊎ ((all left : List (List ℕ)) (k : ℕ) → n ≡ k + 1 → Goes all (line ∷ left) (state_behind old k) → AreHeadedAsm all (Err f))

@@ -7,11 +7,11 @@ use Rattle.x7_listing.specs.declared.assembler.AsmFault.{AsmFault}
 use Rattle.x7_listing.specs.declared.assembler.AsmFault.TheVariants as fault
 use Rattle.x7_header.specs.Header.{Contents, header_bytes}
 use Rattle.x7_listing.specs.BitLine.{bit_text, IsHeld}
-use Rattle.x7_listing.specs.Line.{Line, bytes_of, FitsLine, IsLine, text_of}
+use Rattle.x7_listing.specs.Line.{Line, line_bytes, FitsLine, IsLine, text_of}
 
 -- bytes with those of one line more
 abbrev pub with_line : List ℕ → Line → List ℕ
-with_line bytes l = bytes ++ bytes_of (check_of_bytes bytes) l
+with_line bytes l = bytes ++ line_bytes (check_of_bytes bytes) l
 
 -- the bytes of lines
 abbrev pub assembled : List Line → List ℕ
@@ -81,12 +81,12 @@ pub record IsHeaded (all : List (List ℕ)) (outcome : Result (List ℕ) AsmFaul
   pub follows : Follows (header_bytes header) others outcome
 
 -- the first text is no header's line
-abbrev pub HasNoHead : List (List ℕ) → Type 0
-HasNoHead all = (x : Contents) (others : List (List ℕ)) → IsHeld x → all ≢ bit_text x ∷ others
+abbrev pub HasNoHeaderLine : List (List ℕ) → Type 0
+HasNoHeaderLine all = (x : Contents) (others : List (List ℕ)) → IsHeld x → all ≢ bit_text x ∷ others
 
 -- what texts of lines, which may begin with a header's, assemble to
 abbrev pub AreHeadedAsm : List (List ℕ) → Result (List ℕ) AsmFault → Type 0
-AreHeadedAsm all outcome = IsHeaded all outcome ⊎ (HasNoHead all × AreAsm asm_limit all outcome)
+AreHeadedAsm all outcome = IsHeaded all outcome ⊎ (HasNoHeaderLine all × AreAsm asm_limit all outcome)
 
 -- what a text assembles to: a header's line first or none, and lines
 abbrev pub IsAsm : List ℕ → Result (List ℕ) AsmFault → Type 0

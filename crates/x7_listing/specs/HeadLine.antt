@@ -31,9 +31,9 @@ best_line w =
     if type_and_opcode_of w == type2_read_kind then Read2 (w % 2 ^ 27) else Word w
 
 -- the line of a word in a header's place, by its step
-abbrev pub head_line : Step → ℕ → HeadLine
-head_line (Bad _) w = Word w
-head_line _ w = best_line w
+abbrev pub line_of_head : Step → ℕ → HeadLine
+line_of_head (Bad _) w = Word w
+line_of_head _ w = best_line w
 
 -- the line's register has a number below 32
 abbrev pub HasRegister : HeadLine → Type 0
@@ -52,8 +52,8 @@ line_text (Read2 count) = codes "read2 " ++ decimal count ++ 10 ∷ []
 line_text (Word w) = codes "word " ++ hex_word w ++ 10 ∷ []
 
 -- the text of a word in a header's place
-abbrev pub head_text : Step → ℕ → List ℕ
-head_text step w = line_text (head_line step w)
+abbrev pub text_of_head : Step → ℕ → List ℕ
+text_of_head step w = line_text (line_of_head step w)
 
 -- the line of a payload word of CMD: the command whose code the whole word is, else the word
 abbrev pub command_line : ℕ → List ℕ

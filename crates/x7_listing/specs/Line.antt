@@ -75,20 +75,20 @@ pub record IsLine (text : List ℕ) (line : Line) : Type 0 where
   pub is : text ≡ text_of line
 
 -- the bytes that a line stands for, where the bytes of the lines before have this check
-abbrev pub bytes_of : ℕ → Line → List ℕ
-bytes_of check Empty = []
-bytes_of check (Comment text) = []
-bytes_of check (Bytes bytes) = bytes
-bytes_of check Sync = bytes_of_word sync_word
-bytes_of check Nop = bytes_of_word no_op
-bytes_of check (Write register count) = bytes_of_word (type1_write register count)
-bytes_of check (Read register count) = bytes_of_word (type1_read register count)
-bytes_of check (Write2 count) = bytes_of_word (type2_write count)
-bytes_of check (Read2 count) = bytes_of_word (type2_read count)
-bytes_of check (Word word) = bytes_of_word word
-bytes_of check (Data words) = flat_map bytes_of_word words
-bytes_of check (Cmd command) = bytes_of_word (code_of command)
-bytes_of check Check = bytes_of_word (type1_write (number_of Crc) 1) ++ bytes_of_word check
+abbrev pub line_bytes : ℕ → Line → List ℕ
+line_bytes check Empty = []
+line_bytes check (Comment text) = []
+line_bytes check (Bytes bytes) = bytes
+line_bytes check Sync = bytes_of_word sync_word
+line_bytes check Nop = bytes_of_word no_op
+line_bytes check (Write register count) = bytes_of_word (type1_write register count)
+line_bytes check (Read register count) = bytes_of_word (type1_read register count)
+line_bytes check (Write2 count) = bytes_of_word (type2_write count)
+line_bytes check (Read2 count) = bytes_of_word (type2_read count)
+line_bytes check (Word word) = bytes_of_word word
+line_bytes check (Data words) = flat_map bytes_of_word words
+line_bytes check (Cmd command) = bytes_of_word (code_of command)
+line_bytes check Check = bytes_of_word (type1_write (number_of Crc) 1) ++ bytes_of_word check
 
 -- the line is neither a comment nor the check, as each line of a listing
 abbrev pub IsListed : Line → Type 0

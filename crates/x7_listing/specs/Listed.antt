@@ -8,7 +8,7 @@ use Rattle.x7_regs.specs.Command.{code_of, command_by}
 use Rattle.x7_regs.specs.Register.{number_of}
 use Rattle.x7_regs.specs.declared.register.Reg.TheVariants.{Cmd}
 use Rattle.x7_text.specs.Row.{rows}
-use Rattle.x7_listing.specs.HeadLine.{head_line}
+use Rattle.x7_listing.specs.HeadLine.{line_of_head}
 use Rattle.x7_listing.specs.declared.line.head_line.HeadLine.{HeadLine}
 use Rattle.x7_listing.specs.declared.line.head_line.HeadLine.TheVariants as head
 use Rattle.x7_listing.specs.Line.{Line, Bytes, Sync, Nop, Write, Read, Write2, Read2, Word, Data, Cmd, text_of}
@@ -18,8 +18,8 @@ abbrev pub ended_text : Line → List ℕ
 ended_text l = text_of l ++ 10 ∷ []
 
 -- the texts of lines, each with its end
-abbrev pub texts_of : List Line → List ℕ
-texts_of ls = flat_map ended_text ls
+abbrev pub ended_texts : List Line → List ℕ
+ended_texts ls = flat_map ended_text ls
 
 -- a word's line in a header's place
 abbrev pub line_as : HeadLine → Line
@@ -41,7 +41,7 @@ payload_lines register ws = if register == number_of Cmd then map cmd_line ws el
 
 -- the lines of a packet
 abbrev pub packet_lines : Packet → List Line
-packet_lines p = line_as (head_line p.step p.head) ∷ payload_lines (named_by p.step) p.payload
+packet_lines p = line_as (line_of_head p.step p.head) ∷ payload_lines (named_by p.step) p.payload
 
 -- the lines of bytes of a gap, and of no whole word
 abbrev pub gap_lines : List ℕ → List Line

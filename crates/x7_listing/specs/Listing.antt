@@ -7,7 +7,7 @@ use Rattle.x7_packets.specs.ByHand.{reading_of}
 use Rattle.x7_regs.specs.Register.{number_of}
 use Rattle.x7_regs.specs.declared.register.Reg.TheVariants.{Cmd}
 use Rattle.x7_text.specs.Row.{bytes_text, data_text}
-use Rattle.x7_listing.specs.HeadLine.{command_line, head_text}
+use Rattle.x7_listing.specs.HeadLine.{command_line, text_of_head}
 
 -- the lines of a payload: one a word where the register is CMD, else eight words a line
 abbrev pub payload_text : ℕ → List ℕ → List ℕ
@@ -15,7 +15,7 @@ payload_text register ws = if register == number_of Cmd then flat_map command_li
 
 -- the lines of a packet
 abbrev pub packet_text : Packet → List ℕ
-packet_text p = head_text p.step p.head ++ payload_text (named_by p.step) p.payload
+packet_text p = text_of_head p.step p.head ++ payload_text (named_by p.step) p.payload
 
 -- the lines of a gap, the sync word behind it and packets
 abbrev pub packets_text : List ℕ → List Packet → List ℕ
@@ -46,5 +46,5 @@ abbrev pub listing_of : List ℕ → List ℕ
 listing_of bytes = reading_text (reading_of bytes).sessions (reading_of bytes).place
 
 -- a text begins with this one
-abbrev pub IsPrefix : List ℕ → List ℕ → Type 0
-IsPrefix prefix text = (more : List ℕ) × (text ≡ prefix ++ more)
+abbrev pub IsTextPrefix : List ℕ → List ℕ → Type 0
+IsTextPrefix prefix text = (more : List ℕ) × (text ≡ prefix ++ more)

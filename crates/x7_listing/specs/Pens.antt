@@ -1,13 +1,13 @@
 -- What a lister lists with its pen (this project's choice).
 use Rattle.std.specs.Prelude.{◌≡◌, List, ℕ, ◌++◌, take, true}
 use Rattle.x7_words.specs.Word.{bytes_of_word}
-use Rattle.x7_packets.specs.AtOnce.{Takes}
+use Rattle.x7_packets.specs.AtOnce.{TakesAsOneRun}
 use Rattle.x7_packets.specs.Cutting.{CutterState}
 use Rattle.x7_packets.specs.declared.cutter.Cut.TheVariants.{Head}
 use Rattle.x7_packets.specs.declared.header.Step.{Step}
 use Rattle.x7_packets.specs.Reading.{Place, Session, tail_of}
 use Rattle.x7_listing.specs.Listing.{reading_text}
-use Rattle.x7_listing.specs.Telling.{GapListed, HasListedAll, ListerState, ListerStandsFor, Tells, Written, lister_of, written_of}
+use Rattle.x7_listing.specs.Telling.{GapListed, HasListedAll, ListerState, ListerStandsFor, Tells, WrittenSoFar, lister_of, written_of}
 use Rattle.x7_listing.specs.declared.list.pen.state.Pen.{Pen}
 
 -- a lister with this pen
@@ -16,7 +16,7 @@ lister_with cutter pen text = lister_of cutter pen.synced pen.line (take pen.cou
 
 -- a cutter takes this word in a header's place, and is as it was
 abbrev pub TakesHead : CutterState → ℕ → Step → Type 0
-TakesHead c w step = Takes c c (bytes_of_word w) (Head w step)
+TakesHead c w step = TakesAsOneRun c c (bytes_of_word w) (Head w step)
 
 -- the lister has listed these bytes too
 abbrev pub TellsOn : ListerState → ListerState → List ℕ → Type 0
@@ -27,20 +27,20 @@ abbrev pub RestsOn : ListerState → ListerState → List ℕ → Type 0
 RestsOn old new more = (given before bytes : List ℕ) → Tells old given before bytes → ListerStandsFor new given before (bytes ++ more)
 
 -- what is written with this pen
-abbrev pub written_with : Pen → List ℕ → Written
+abbrev pub written_with : Pen → List ℕ → WrittenSoFar
 written_with pen text = written_of pen.synced pen.line (take pen.count pen.held) text
 
 -- more bytes of a gap are listed but for those that are held, whatever texts were given
-abbrev pub GapGoesOn : Written → Written → List ℕ → Type 0
+abbrev pub GapGoesOn : WrittenSoFar → WrittenSoFar → List ℕ → Type 0
 GapGoesOn old new more = (given start gap : List ℕ) → GapListed (given ++ old.text) start old.line old.held gap → GapListed (given ++ new.text) start new.line new.held (gap ++ more)
 
 -- with this text what is left at an end is listed, whatever texts were given: what is written, and the bytes of no whole word
-abbrev pub EndsWith : Written → List ℕ → List ℕ → Type 0
+abbrev pub EndsWith : WrittenSoFar → List ℕ → List ℕ → Type 0
 EndsWith w kept text = (given before : List ℕ) (sessions : List Session) (place : Place)
     → HasListedAll (written_of w.synced w.line w.held (given ++ w.text)) before sessions place → kept ≡ tail_of place → given ++ text ≡ before ++ reading_text sessions place
 
 -- with this text what is left at an end is listed, whatever texts were given, by a pen that holds the bytes of no whole word itself
-abbrev pub EndsHeld : Written → List ℕ → Type 0
+abbrev pub EndsHeld : WrittenSoFar → List ℕ → Type 0
 EndsHeld w text = (given before : List ℕ) (sessions : List Session) (place : Place)
     → HasListedAll (written_of w.synced w.line w.held (given ++ w.text)) before sessions place → (w.synced ≡ true → w.held ≡ tail_of place)
     → given ++ text ≡ before ++ reading_text sessions place

@@ -13,7 +13,7 @@ use Rattle.x7_regs.specs.Register.{number_of}
 use Rattle.x7_regs.specs.declared.register.Reg.TheVariants.{Cmd}
 use Rattle.x7_text.specs.Digits.{hex_byte}
 use Rattle.x7_text.specs.Row.{bytes_text, close, element_text, in_line_after, next_in_line, open_text, spaced}
-use Rattle.x7_listing.specs.HeadLine.{command_line, head_text}
+use Rattle.x7_listing.specs.HeadLine.{command_line, text_of_head}
 use Rattle.x7_listing.specs.Listing.{IsListing, session_text}
 
 -- what a payload word adds where i words stand in an open `data` line (0: none is open)
@@ -25,9 +25,9 @@ abbrev pub payload_next : Bool → ℕ → ℕ
 payload_next is_cmd i = if is_cmd then 0 else next_in_line 8 i
 
 -- what a word of a session adds, by its step
-abbrev pub open_word : ℕ → ℕ → Step → List ℕ
-open_word i w (Payload register x) = open_payload (register == number_of Cmd) i w
-open_word i w step = close i ++ head_text step w
+abbrev pub open_session_word : ℕ → ℕ → Step → List ℕ
+open_session_word i w (Payload register x) = open_payload (register == number_of Cmd) i w
+open_session_word i w step = close i ++ text_of_head step w
 
 -- how many words stand in an open `data` line after one word more of a session
 abbrev pub word_next : ℕ → Step → ℕ
@@ -37,7 +37,7 @@ word_next i step = 0
 -- what words add, the last line being open
 abbrev pub open_words : ℕ → List (ℕ × Step) → List ℕ
 open_words i [] = []
-open_words i (s ∷ ss) = open_word i s.0 s.1 ++ open_words (word_next i s.1) ss
+open_words i (s ∷ ss) = open_session_word i s.0 s.1 ++ open_words (word_next i s.1) ss
 
 -- how many words stand in an open `data` line after these words of a session
 abbrev pub words_place : ℕ → List (ℕ × Step) → ℕ
@@ -60,33 +60,33 @@ pub record SessionListed (all start : List ℕ) (line : ℕ) (gap : List ℕ) (p
 
 -- what is written of a listing: whether the last bytes listed are a session's, how many elements stand in the open line, the bytes that are held (of a gap, or
 -- of no whole word where runs are taken), and the text
-pub record Written : Type 0 where
+pub record WrittenSoFar : Type 0 where
   pub synced : Bool
   pub line : ℕ
   pub held : List ℕ
   pub text : List ℕ
 
 -- what is written of a listing, by its parts
-abbrev pub written_of : Bool → ℕ → List ℕ → List ℕ → Written
+abbrev pub written_of : Bool → ℕ → List ℕ → List ℕ → WrittenSoFar
 written_of synced line held text = record { synced = synced; line = line; held = held; text = text }
 
 -- what was listed at a place, where the sessions before it are listed, in a gap and in a session
-abbrev pub HasListedBy : Bool → Written → List ℕ → Place → Mode → Type 0
+abbrev pub HasListedBy : Bool → WrittenSoFar → List ℕ → Place → Mode → Type 0
 HasListedBy false w start (Searching gap) m = GapListed w.text start w.line w.held gap
 HasListedBy false w start (Synced gap packets tail) m = (m ≡ Mode.Due) × (packets ≡ []) × (tail ≡ []) × GapListed w.text start w.line w.held (gap ++ sync_bytes)
 HasListedBy true w start (Searching gap) m = (gap ≡ []) × (w.line ≡ 0) × (w.text ≡ start)
 HasListedBy true w start (Synced gap packets tail) m = (m ≡ Mode.Due → ⊥) × SessionListed w.text start w.line gap packets
 
 -- what was listed at a place by what is written, in a gap or in a session
-abbrev pub HasListedAt : Written → List ℕ → Place → Mode → Type 0
+abbrev pub HasListedAt : WrittenSoFar → List ℕ → Place → Mode → Type 0
 HasListedAt w start place m = HasListedBy w.synced w start place m
 
 -- what was listed, after the listings before
-abbrev pub HasListed : Written → List ℕ → List Session → Place → Mode → Type 0
+abbrev pub HasListed : WrittenSoFar → List ℕ → List Session → Place → Mode → Type 0
 HasListed w before sessions place m = HasListedAt w (before ++ flat_map session_text sessions) place m
 
 -- all of a reading was listed but what an end tells: no sync word is still to be listed
-pub record HasListedAll (w : Written) (before : List ℕ) (sessions : List Session) (place : Place) : Type 0 where
+pub record HasListedAll (w : WrittenSoFar) (before : List ℕ) (sessions : List Session) (place : Place) : Type 0 where
   pub bytes : List ℕ
   pub reading : IsReading bytes sessions place
   pub mode : Mode
@@ -94,7 +94,7 @@ pub record HasListedAll (w : Written) (before : List ℕ) (sessions : List Sessi
   pub not_due : mode ≡ Mode.Due → ⊥
 
 -- A run writes what it adds to a reading: what is listed before it is listed after it.
-abbrev pub Writes : Cut → Written → Written → Type 0
+abbrev pub Writes : Cut → WrittenSoFar → WrittenSoFar → Type 0
 Writes run w w2 =
     (before bytes : List ℕ) (sessions new_sessions : List Session) (place new_place : Place) (old new : Mode)
     → HasListed w before sessions place old → Adds run sessions place new_sessions new_place → Turns run old new new_place → IsRun run
@@ -114,15 +114,15 @@ abbrev pub lister_of : CutterState → Bool → ℕ → List ℕ → List ℕ �
 lister_of cutter synced line held text = record { cutter = cutter; synced = synced; line = line; held = held; text = text }
 
 -- what a lister has written, the texts given and then its own
-abbrev pub written_by : ListerState → List ℕ → Written
-written_by l given = written_of l.synced l.line l.held (given ++ l.text)
+abbrev pub listing_written : ListerState → List ℕ → WrittenSoFar
+listing_written l given = written_of l.synced l.line l.held (given ++ l.text)
 
 -- The texts given and the lister's are those of listings before, and then what is listed of these bytes.
 pub record Tells (l : ListerState) (given before bytes : List ℕ) : Type 0 where
   pub sessions : List Session
   pub at : Place
   pub cut : CutterStandsFor l.cutter bytes sessions at
-  pub listed : HasListed (written_by l given) before sessions at l.cutter.mode
+  pub listed : HasListed (listing_written l given) before sessions at l.cutter.mode
 
 -- A lister of pieces: the texts given and its own are those of listings before, and then what is listed of these bytes; no sync word is still to be listed.
 pub record ListerStandsFor (l : ListerState) (given before bytes : List ℕ) : Type 0 where
@@ -135,7 +135,7 @@ pub record TakerStandsFor (l : ListerState) (given before bytes : List ℕ) (due
   pub sessions : List Session
   pub at : Place
   pub reading : IsReading bytes sessions at
-  pub listed : HasListed (written_by l given) before sessions at due
+  pub listed : HasListed (listing_written l given) before sessions at due
   pub tail : l.synced ≡ true → l.held ≡ tail_of at
   pub cutter : CutterStandsFor l.cutter [] [] (Searching [])
 

@@ -5,9 +5,9 @@ ghost use Rattle.x7_text.specs.Lines.{has_no_end};
 ghost use Rattle.x7_listing.specs.Assembly.{asm_limit, HasOutcome, IsAsm};
 ghost use Rattle.x7_listing.specs.declared.assembler.AsmFault.{AsmFault};
 ghost use Rattle.x7_listing.specs.Line.{FitsLine, IsLine, IsListed, Line, text_of};
-ghost use Rattle.x7_listing.specs.Listed.{listing_lines, texts_of};
+ghost use Rattle.x7_listing.specs.Listed.{listing_lines, ended_texts};
 ghost use Rattle.x7_listing.specs.BitLine.{bit_text, IsHeld};
-ghost use Rattle.x7_listing.specs.Listing.{IsListing, IsPrefix, listing_of};
+ghost use Rattle.x7_listing.specs.Listing.{IsListing, IsTextPrefix, listing_of};
 ghost use Rattle.x7_listing.specs.StreamListing.{stream_listing};
 ghost use Rattle.x7_header.specs.Header.{Contents};
 ghost use Rattle.x7_packets.specs.Mode.{Mode};
@@ -21,7 +21,7 @@ pub fn one_listing()
 /// What a lister has listed, after the listings before, is a prefix of the listing of its bytes with any further ones.
 pub fn listed_is_a_prefix()
     ensures { (l : ListerState) (given before bytes rest : List ℕ) → ListerStandsFor l given before bytes → AreBytes (bytes ++ rest)
-        → IsPrefix (given ++ l.text) (before ++ listing_of (bytes ++ rest)) }
+        → IsTextPrefix (given ++ l.text) (before ++ listing_of (bytes ++ rest)) }
 {}
 
 /// A lister's text is never more than four bytes behind the bytes that it took.
@@ -49,7 +49,7 @@ pub fn one_line()
 
 /// A listing is the joined texts of its lines.
 pub fn listing_is_of_lines()
-    ensures { (bytes : List ℕ) → texts_of (listing_lines bytes) ≡ listing_of bytes }
+    ensures { (bytes : List ℕ) → ended_texts (listing_lines bytes) ≡ listing_of bytes }
 {}
 
 /// The text of a line of a listing holds no line end.

@@ -12,7 +12,7 @@ use Rattle.x7_packets.specs.declared.header.Step.{Step}
 use Rattle.x7_packets.specs.declared.header.Step.TheVariants.{Nop, Open, Payload}
 use Rattle.x7_packets.specs.declared.cutter.Cut.TheVariants.{Body, Head, Skip}
 use Rattle.x7_packets.specs.Mode.{Mode}
-use Rattle.x7_packets.specs.AtOnce.{BeginsWrite, EndsGap, in_write, Takes, WritesFew, WritesOne}
+use Rattle.x7_packets.specs.AtOnce.{BeginsWrite, EndsGap, in_write, TakesAsOneRun, WritesFew, WritesOne}
 use Rattle.x7_packets.specs.Cutting.{AtPlace, CutterState, CutterStandsFor, Longer, Went}
 use Rattle.x7_packets.specs.PacketWords.{dummy_word, no_op, sync_word, type1_write, type1_write_kind}
 use Rattle.x7_packets.specs.Packet.{Packet, ends_session, meaning, payload_steps, register_of}
@@ -91,13 +91,13 @@ goes_on c n w step bytes sessions gap tail packets is to none none2 calm grows s
     }
 
 pub takes_head : (c n : CutterState) (w : ℕ) (step : Step) → c.mode ≡ Mode.Synced → n.mode ≡ Mode.Synced → c.kept ≡ [] → n.kept ≡ [] → is_end step ≡ false
-    → ((ps : List Packet) → MachineStandsFor c.machine ps → Grows ps ((w, step) ∷ []) n.machine) → Takes c n (bytes_of_word w) (Head w step)
+    → ((ps : List Packet) → MachineStandsFor c.machine ps → Grows ps ((w, step) ∷ []) n.machine) → TakesAsOneRun c n (bytes_of_word w) (Head w step)
 takes_head c n w step is to none none2 calm grows bytes sessions (Searching gap) s = absurd (let h : AtPlace c Mode.Synced (Searching gap) = rw is at s.at in h)
 takes_head c n w step is to none none2 calm grows bytes sessions (Synced gap packets tail) s =
     let g : GoesOn n (bytes ++ bytes_of_word w) sessions gap packets ((w, step) ∷ []) = goes_on c n w step bytes sessions gap tail packets is to none none2 calm grows s in
     record { new_sessions = sessions; new_place = g.new; stands = g.stands; adds = g.longer; turns = (λ e. absurd (let f : Mode.Synced ≡ Mode.Due = sym is ∙ e in cc), λ e. absurd (let f : Mode.Synced ≡ Mode.Due = sym to ∙ e in cc)) }
 
-pub takes_nop : (c : CutterState) → c.mode ≡ Mode.Synced → c.kept ≡ [] → c.machine.due ≡ 0 → Takes c c (bytes_of_word no_op) (Head no_op Nop)
+pub takes_nop : (c : CutterState) → c.mode ≡ Mode.Synced → c.kept ≡ [] → c.machine.due ≡ 0 → TakesAsOneRun c c (bytes_of_word no_op) (Head no_op Nop)
 takes_nop c is none due = takes_head c c no_op Nop is is none none refl (λ ps s. nop_grows c.machine ps due s)
 
 -- a header and a word that begin bytes
@@ -135,7 +135,7 @@ first_four (a ∷ b ∷ c ∷ d ∷ bs) l = refl
 
 -- payload words of a register other than CMD, all that are due
 takes_words : (c n : CutterState) (register count : ℕ) (run : Bor (List ℕ)) → c.mode ≡ Mode.Synced → n.mode ≡ Mode.Synced → c.kept ≡ [] → n.kept ≡ [] → AreBytes run.now → length run.now ≡ 4 * count → 0 < count → (register ≡ 4 → ⊥)
-    → c.machine ≡ in_write register count → ((ps : List Packet) (ws : List ℕ) → AreWords ws → 0 < length ws → MachineStandsFor (in_write register (length ws)) ps → Grows ps (payload_steps register ws) n.machine) → Takes c n run.now (Body register run)
+    → c.machine ≡ in_write register count → ((ps : List Packet) (ws : List ℕ) → AreWords ws → 0 < length ws → MachineStandsFor (in_write register (length ws)) ps → Grows ps (payload_steps register ws) n.machine) → TakesAsOneRun c n run.now (Body register run)
 takes_words c n register count run is to none none2 fits long some other machine grows bytes sessions place s =
     let ws : List ℕ = words_of_bytes run.now in
     let number : length (words_of_bytes run.now) ≡ count = length-words run.now count long in

@@ -12,7 +12,7 @@ use Rattle.x7_words.proofs.WordLemmas.{bytes-words, words-fit}
 use Rattle.x7_packets.specs.SyncWord.{sync_bytes, EndsWithSync}
 use Rattle.x7_packets.specs.Packet.{Packet, Packets, EachPacket, IsPacket, IsWhole, OnlyLastEnds, NoneEnds, latest_after, count_of, named_by, words, ended, last_ends}
 use Rattle.x7_packets.specs.Reading.{Place, Searching, Synced, Session, IsReading, IsSession, packet_bytes, session_bytes}
-use Rattle.x7_packets.specs.ByHand.{header_packet, with_payload_word, with_word_after, with_word, packets_of, AreOfOneSession, is_sync, last_four, before_last_four, Reading, with_session_byte, with_byte_at, with_byte, reading_of}
+use Rattle.x7_packets.specs.ByHand.{header_packet, with_payload_word, with_word_after, packets_with_word, packets_of, AreOfOneSession, is_sync, last_four, before_last_four, Reading, with_session_byte, with_byte_at, with_byte, reading_of}
 use Rattle.x7_packets.proofs.PacketLemmas.{only_more, one_list}
 use Rattle.x7_packets.proofs.SyncLemmas.{none_yet, first_here, none_empty}
 use Rattle.x7_packets.proofs.CutLemmas.{joined_more}
@@ -62,11 +62,11 @@ word_joined latest (p ∷ []) w = last_joined latest p w (nat_lt (length p.paylo
 word_joined latest (p ∷ q ∷ ps) w = ap (λ t. words p ++ t) (word_joined (latest_after latest p.step) (q ∷ ps) w) ∙ sym (append_assoc (words p) (flat_map words (q ∷ ps)) (w ∷ []))
 
 -- words behind those of packets that were found
-words_behind : (prefix back : List ℕ) (ps : List Packet) → AreWords back → ((more rest : List ℕ) (w : ℕ) → back ≡ more ++ w ∷ rest → ended (fold with_word ps more) ≡ false) → Packets prefix ps → Packets (prefix ++ back) (fold with_word ps back)
+words_behind : (prefix back : List ℕ) (ps : List Packet) → AreWords back → ((more rest : List ℕ) (w : ℕ) → back ≡ more ++ w ∷ rest → ended (fold packets_with_word ps more) ≡ false) → Packets prefix ps → Packets (prefix ++ back) (fold packets_with_word ps back)
 words_behind prefix [] ps f o a = rw append-nil a
 words_behind prefix (w ∷ back) ps f o a =
-    let next : Packets (prefix ++ w ∷ []) (with_word ps w) = record { joined = ap (λ t. t ++ w ∷ []) a.joined ∙ sym (word_joined None ps w); each = word_each None ps w f.0 a.each (o [] back w refl) } in
-    let all : Packets ((prefix ++ w ∷ []) ++ back) (fold with_word (with_word ps w) back) = words_behind (prefix ++ w ∷ []) back (with_word ps w) f.1 (λ more rest x e. o (w ∷ more) rest x (ap (λ t. w ∷ t) e)) next in
+    let next : Packets (prefix ++ w ∷ []) (packets_with_word ps w) = record { joined = ap (λ t. t ++ w ∷ []) a.joined ∙ sym (word_joined None ps w); each = word_each None ps w f.0 a.each (o [] back w refl) } in
+    let all : Packets ((prefix ++ w ∷ []) ++ back) (fold packets_with_word (packets_with_word ps w) back) = words_behind (prefix ++ w ∷ []) back (packets_with_word ps w) f.1 (λ more rest x e. o (w ∷ more) rest x (ap (λ t. w ∷ t) e)) next in
     rw append_assoc at all
 
 pub packets_are_found : (ws : List ℕ) → AreWords ws → AreOfOneSession ws → Packets ws (packets_of ws)
@@ -77,12 +77,12 @@ goes_on : (ws prefix rest : List ℕ) (w : ℕ) (ps qs : List Packet) (b : Bool)
 goes_on ws prefix rest w ps qs true t a e b = absurd (let none : w ∷ rest ≡ [] = after_end None ps qs (w ∷ rest) b.each t a.each (ap (λ xs. xs ++ w ∷ rest) (sym b.joined) ∙ sym e ∙ a.joined) in cc)
 goes_on ws prefix rest w ps qs false t a e b = t
 
-none_early : (ws prefix back rest : List ℕ) (w : ℕ) (ps qs : List Packet) → Packets ws qs → ws ≡ prefix ++ (back ++ w ∷ rest) → AreWords back → Packets prefix ps → ended (fold with_word ps back) ≡ false
+none_early : (ws prefix back rest : List ℕ) (w : ℕ) (ps qs : List Packet) → Packets ws qs → ws ≡ prefix ++ (back ++ w ∷ rest) → AreWords back → Packets prefix ps → ended (fold packets_with_word ps back) ≡ false
 none_early ws prefix [] rest w ps qs a e f b = goes_on ws prefix rest w ps qs (ended ps) refl a e b
 none_early ws prefix (x ∷ back) rest w ps qs a e f b =
     let calm : ended ps ≡ false = goes_on ws prefix (back ++ w ∷ rest) x ps qs (ended ps) refl a e b in
-    let next : Packets (prefix ++ x ∷ []) (with_word ps x) = record { joined = ap (λ t. t ++ x ∷ []) b.joined ∙ sym (word_joined None ps x); each = word_each None ps x f.0 b.each calm } in
-    none_early ws (prefix ++ x ∷ []) back rest w (with_word ps x) qs a (e ∙ sym (append_assoc prefix (x ∷ []) (back ++ w ∷ rest))) f.1 next
+    let next : Packets (prefix ++ x ∷ []) (packets_with_word ps x) = record { joined = ap (λ t. t ++ x ∷ []) b.joined ∙ sym (word_joined None ps x); each = word_each None ps x f.0 b.each calm } in
+    none_early ws (prefix ++ x ∷ []) back rest w (packets_with_word ps x) qs a (e ∙ sym (append_assoc prefix (x ∷ []) (back ++ w ∷ rest))) f.1 next
 
 words_of_packets_fit : (ws : List ℕ) (ps : List Packet) → Packets ws ps → AreWords ws
 words_of_packets_fit ws ps a = rw a.joined (each_fits None ps a.each)
@@ -152,15 +152,15 @@ tail_more sessions bytes gap tail packets byte l f r = record {
 }
 
 -- the bytes of packets with a word more
-word_bytes : (packets : List Packet) (w : ℕ) → packet_bytes (with_word packets w) ≡ packet_bytes packets ++ bytes_of_word w
+word_bytes : (packets : List Packet) (w : ℕ) → packet_bytes (packets_with_word packets w) ≡ packet_bytes packets ++ bytes_of_word w
 word_bytes packets w = ap (flat_map bytes_of_word) (word_joined None packets w) ∙ flat_map-last bytes_of_word (flat_map words packets) w
 
 -- a session with a word more, by whether the word ends it
-word_more : (sessions : List Session) (bytes gap tail : List ℕ) (packets : List Packet) (byte w : ℕ) (b : Bool) → ended (with_word packets w) ≡ b → w < 2 ^ 32 → bytes_of_word w ≡ tail ++ byte ∷ []
+word_more : (sessions : List Session) (bytes gap tail : List ℕ) (packets : List Packet) (byte w : ℕ) (b : Bool) → ended (packets_with_word packets w) ≡ b → w < 2 ^ 32 → bytes_of_word w ≡ tail ++ byte ∷ []
     → AreBytes (bytes ++ byte ∷ []) → IsReading bytes sessions (Synced gap packets tail)
-    → Reads (bytes ++ byte ∷ []) (if b then record { sessions = sessions ++ record { gap = gap; packets = with_word packets w } ∷ []; place = Searching [] } else record { sessions = sessions; place = Synced gap (with_word packets w) [] })
+    → Reads (bytes ++ byte ∷ []) (if b then record { sessions = sessions ++ record { gap = gap; packets = packets_with_word packets w } ∷ []; place = Searching [] } else record { sessions = sessions; place = Synced gap (packets_with_word packets w) [] })
 word_more sessions bytes gap tail packets byte w true e f four fits r =
-    let all : List Packet = with_word packets w in
+    let all : List Packet = packets_with_word packets w in
     let grown : packet_bytes all ≡ packet_bytes packets ++ bytes_of_word w = word_bytes packets w in
     let joined : bytes ++ byte ∷ [] ≡ flat_map session_bytes sessions ++ (gap ++ sync_bytes ++ packet_bytes all) = joined_more (flat_map session_bytes sessions) bytes gap tail (byte ∷ []) (packet_bytes all) (packet_bytes packets) (bytes_of_word w) r.joined grown four in
     let session : Session = record { gap = gap; packets = all } in
@@ -172,7 +172,7 @@ word_more sessions bytes gap tail packets byte w true e f four fits r =
       ends = none_empty;
     }
 word_more sessions bytes gap tail packets byte w false e f four fits r =
-    let all : List Packet = with_word packets w in
+    let all : List Packet = packets_with_word packets w in
     let grown : packet_bytes all ≡ packet_bytes packets ++ bytes_of_word w = word_bytes packets w in
     let joined : bytes ++ byte ∷ [] ≡ flat_map session_bytes sessions ++ (gap ++ sync_bytes ++ packet_bytes all) = joined_more (flat_map session_bytes sessions) bytes gap tail (byte ∷ []) (packet_bytes all) (packet_bytes packets) (bytes_of_word w) r.joined grown four in
     record {
@@ -193,7 +193,7 @@ session_more sessions bytes gap (x ∷ y ∷ z ∷ []) packets byte t b l f r =
     let w : ℕ = word_of_bytes (x ∷ y ∷ z ∷ byte ∷ []) in
     let four : bytes_of_word w ≡ x ∷ y ∷ z ∷ byte ∷ [] = bytes-words (x ∷ y ∷ z ∷ byte ∷ []) 1 fits (omega arith) in
     let small : AreWords (w ∷ []) = words-fit (x ∷ y ∷ z ∷ byte ∷ []) fits in
-    word_more sessions bytes gap (x ∷ y ∷ z ∷ []) packets byte w (ended (with_word packets w)) refl small.0 four f r
+    word_more sessions bytes gap (x ∷ y ∷ z ∷ []) packets byte w (ended (packets_with_word packets w)) refl small.0 four f r
 session_more sessions bytes gap (x ∷ y ∷ z ∷ u ∷ tail) packets byte t b l f r = absurd (omega arith)
 
 byte_more : (bytes : List ℕ) (sessions : List Session) (place : Place) (byte : ℕ) → byte < 256 → IsReading bytes sessions place → Reads (bytes ++ byte ∷ []) (with_byte_at sessions place byte)

@@ -10,7 +10,7 @@ use Rattle.x7_packets.specs.declared.header.Step.{Step}
 use Rattle.x7_packets.specs.declared.header.Step.TheVariants as step
 use Rattle.x7_packets.specs.Packet.{Packet, count_of, ended, latest_after, meaning, named_by, stepped}
 use Rattle.x7_packets.specs.Reading.{Place, Searching, Synced, Session, IsReading}
-use Rattle.x7_packets.specs.ByHand.{before_last_four, header_packet, is_sync, last_four, Reading, reading_of, with_byte, with_byte_at, with_payload_word, with_session_byte, with_word, with_word_after}
+use Rattle.x7_packets.specs.ByHand.{before_last_four, header_packet, is_sync, last_four, Reading, reading_of, with_byte, with_byte_at, with_payload_word, with_session_byte, packets_with_word, with_word_after}
 use Rattle.x7_packets.specs.History.{Access, AllAfter, Bad, entered, entered_all, entered_sessions, entry, History, history, history_of, next_word, Placed, Read, until, Write}
 use Rattle.x7_packets.proofs.ByHandLemmas.{reading_is_found}
 use Rattle.x7_packets.proofs.HistoryLemmas.{grown_ends, grown_goes_on, next_word-is}
@@ -63,7 +63,7 @@ session_enters bytes sessions gap [] packets x r = inl refl
 session_enters bytes sessions gap (a ∷ []) packets x r = inl refl
 session_enters bytes sessions gap (a ∷ b ∷ []) packets x r = inl refl
 session_enters bytes sessions gap (a ∷ b ∷ c ∷ []) packets x r =
-    let all : List Packet = with_word packets (word_of_bytes (a ∷ b ∷ c ∷ x ∷ [])) in
+    let all : List Packet = packets_with_word packets (word_of_bytes (a ∷ b ∷ c ∷ x ∷ [])) in
     closed_enters sessions gap (a ∷ b ∷ c ∷ []) packets all (length bytes + 1) (ended all) (packets_grow None packets (word_of_bytes (a ∷ b ∷ c ∷ x ∷ [])))
     (omega (arith, next_word-is bytes sessions (Synced gap packets (a ∷ b ∷ c ∷ [])) r))
 session_enters bytes sessions gap (a ∷ b ∷ c ∷ d ∷ tail) packets x r = inl refl

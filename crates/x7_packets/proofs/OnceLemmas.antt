@@ -5,7 +5,7 @@ use Rattle.x7_words.specs.Word.{AreBytes, word_of_bytes}
 use Rattle.x7_words.proofs.ListLemmas.{all_front}
 use Rattle.x7_packets.specs.Packet.{Packet, ended}
 use Rattle.x7_packets.specs.Reading.{Place, Searching, Synced, Session, tail_of}
-use Rattle.x7_packets.specs.ByHand.{Reading, before_last_four, is_sync, last_four, reading_of, with_byte, with_byte_at, with_word}
+use Rattle.x7_packets.specs.ByHand.{Reading, before_last_four, is_sync, last_four, reading_of, with_byte, with_byte_at, packets_with_word}
 use Rattle.x7_packets.specs.History.{Entry, History, entry, history, history_of}
 use Rattle.x7_packets.proofs.GrowthLemmas.{byte_enters}
 
@@ -35,7 +35,7 @@ place_steps sessions (Synced gap packets []) x = inl (refl, omega arith)
 place_steps sessions (Synced gap packets (a ∷ [])) x = inl (refl, omega arith)
 place_steps sessions (Synced gap packets (a ∷ b ∷ [])) x = inl (refl, omega arith)
 place_steps sessions (Synced gap packets (a ∷ b ∷ c ∷ [])) x =
-    let all : List Packet = with_word packets (word_of_bytes (a ∷ b ∷ c ∷ x ∷ [])) in
+    let all : List Packet = packets_with_word packets (word_of_bytes (a ∷ b ∷ c ∷ x ∷ [])) in
     inr (refl, word_steps sessions gap all (ended all))
 place_steps sessions (Synced gap packets (a ∷ b ∷ c ∷ d ∷ tail)) x = inl (refl, omega (arith, length-append (a ∷ b ∷ c ∷ d ∷ tail) (x ∷ [])))
 

@@ -13,12 +13,12 @@ use Rattle.x7_packets.specs.declared.header.Step.{Step}
 use Rattle.x7_packets.specs.declared.cutter.Cut.{Cut}
 use Rattle.x7_packets.specs.declared.cutter.Cut.TheVariants as cut
 use Rattle.x7_packets.specs.Mode.{Mode}
-use Rattle.x7_packets.specs.Found.{Found}
+use Rattle.x7_packets.specs.FoundRun.{FoundRun}
 use Rattle.x7_packets.specs.declared.stream.Run.{Run}
 use Rattle.x7_packets.specs.declared.stream.Run.TheVariants as run
 use Rattle.x7_packets.specs.PacketsState.{PacketsState}
 use Rattle.x7_packets.specs.Run.{FitsRun, IsNext, RunAdds, cut_of, is_last, bytes_of_run}
-use Rattle.x7_packets.specs.Running.{GivesRun, GivesUp, IsFound, IsLast, IsRunOf, PacketsStandFor, Reads, SameDue, Steps, Tells, filled, not_given, with_tail}
+use Rattle.x7_packets.specs.Running.{GivesRun, GivesUp, IsFound, IsLastFound, IsRunOf, PacketsStandFor, Reads, SameDue, Steps, Tells, filled, not_given, with_tail}
 
 -- how many reads there are at most until a word is whole
 abbrev pub turns_left : List ℕ → List ℕ → ℕ
@@ -116,43 +116,43 @@ Lends (cut.Skip bytes) all = bytes.now ≡ all
 Lends (cut.Body register bytes) all = bytes.now ≡ all
 Lends c all = ⊤
 
-same_run : (f : Found) (c : Cut) (r : Run) (bytes kept : List ℕ) → IsFound f c → IsRunOf f bytes kept r → Lends c bytes → Same c r
-same_run Found.Skip c r bytes kept i l h =
+same_run : (f : FoundRun) (c : Cut) (r : Run) (bytes kept : List ℕ) → IsFound f c → IsRunOf f bytes kept r → Lends c bytes → Same c r
+same_run FoundRun.Skip c r bytes kept i l h =
     let there : Lends (cut.Skip i.0) bytes = subst (λ x. Lends x bytes) i.1 h in
     rw (i.1, l.1) (same_skip i.0 l.0 (l.2 ∙ sym there))
-same_run Found.Sync c r bytes kept i l h = rw (i, l) (record { bytes = refl; adds = λ s ns p n x. x; turns = λ o n p x. x; is = λ x. x; goes_on = refl })
-same_run (Found.Head w step) c r bytes kept i l h = rw (i, l) (record { bytes = refl; adds = λ s ns p n x. x; turns = λ o n p x. x; is = λ x. x; goes_on = refl })
-same_run (Found.Word register w) c r bytes kept i l h = rw (i, l) (record { bytes = refl; adds = λ s ns p n x. x; turns = λ o n p x. x; is = λ x. x; goes_on = refl })
-same_run (Found.Body register) c r bytes kept i l h =
+same_run FoundRun.Sync c r bytes kept i l h = rw (i, l) (record { bytes = refl; adds = λ s ns p n x. x; turns = λ o n p x. x; is = λ x. x; goes_on = refl })
+same_run (FoundRun.Head w step) c r bytes kept i l h = rw (i, l) (record { bytes = refl; adds = λ s ns p n x. x; turns = λ o n p x. x; is = λ x. x; goes_on = refl })
+same_run (FoundRun.Word register w) c r bytes kept i l h = rw (i, l) (record { bytes = refl; adds = λ s ns p n x. x; turns = λ o n p x. x; is = λ x. x; goes_on = refl })
+same_run (FoundRun.Body register) c r bytes kept i l h =
     let there : Lends (cut.Body register i.0) bytes = subst (λ x. Lends x bytes) i.1 h in
     rw (i.1, l.1) (same_body register i.0 l.0 (l.2 ∙ sym there))
-same_run Found.Tail c r bytes kept i l h = absurd i
-same_run Found.End c r bytes kept i l h = absurd i
+same_run FoundRun.Tail c r bytes kept i l h = absurd i
+same_run FoundRun.End c r bytes kept i l h = absurd i
 
 -- the run of a cut lends the bytes that the cut lends
-same_lent : (f : Found) (c : Cut) (r : Run) (bytes kept : List ℕ) (o n : CutterState) (left : ℕ) → IsFound f c → IsRunOf f bytes kept r → Lends c bytes → IsLent o left c → SkipsAll n left c → IsLent o left (cut_of r) × SkipsAll n left (cut_of r)
-same_lent Found.Skip c r bytes kept o n left i l h x y =
+same_lent : (f : FoundRun) (c : Cut) (r : Run) (bytes kept : List ℕ) (o n : CutterState) (left : ℕ) → IsFound f c → IsRunOf f bytes kept r → Lends c bytes → IsLent o left c → SkipsAll n left c → IsLent o left (cut_of r) × SkipsAll n left (cut_of r)
+same_lent FoundRun.Skip c r bytes kept o n left i l h x y =
     let there : Lends (cut.Skip i.0) bytes = subst (λ t. Lends t bytes) i.1 h in
     rw l.1 (tt, subst (λ (t : List ℕ). (n.mode ≡ Mode.Due) ⊎ (length t ≡ left)) (there ∙ sym l.2) (subst (λ t. SkipsAll n left t) i.1 y))
-same_lent Found.Sync c r bytes kept o n left i l h x y = rw l (tt, tt)
-same_lent (Found.Head w step) c r bytes kept o n left i l h x y = rw l (tt, tt)
-same_lent (Found.Word register w) c r bytes kept o n left i l h x y = rw l (subst (λ t. IsLent o left t) i x, tt)
-same_lent (Found.Body register) c r bytes kept o n left i l h x y =
+same_lent FoundRun.Sync c r bytes kept o n left i l h x y = rw l (tt, tt)
+same_lent (FoundRun.Head w step) c r bytes kept o n left i l h x y = rw l (tt, tt)
+same_lent (FoundRun.Word register w) c r bytes kept o n left i l h x y = rw l (subst (λ t. IsLent o left t) i x, tt)
+same_lent (FoundRun.Body register) c r bytes kept o n left i l h x y =
     let there : Lends (cut.Body register i.0) bytes = subst (λ t. Lends t bytes) i.1 h in
     let was : IsLent o left (cut.Body register i.0) = subst (λ t. IsLent o left t) i.1 x in
     rw l.1 ((was.0, ap length (l.2 ∙ sym there) ∙ was.1), tt)
-same_lent Found.Tail c r bytes kept o n left i l h x y = absurd i
-same_lent Found.End c r bytes kept o n left i l h x y = absurd i
+same_lent FoundRun.Tail c r bytes kept o n left i l h x y = absurd i
+same_lent FoundRun.End c r bytes kept o n left i l h x y = absurd i
 
 -- a run that is found is no want of bytes
-found_needs_none : (f : Found) (c : Cut) → IsFound f c → IsNeed c → ⊥
-found_needs_none Found.Skip c i n = let h : IsNeed (cut.Skip i.0) = subst IsNeed i.1 n in h
-found_needs_none Found.Sync c i n = let h : IsNeed cut.Sync = subst IsNeed i n in h
-found_needs_none (Found.Head w step) c i n = let h : IsNeed (cut.Head w step) = subst IsNeed i n in h
-found_needs_none (Found.Word register w) c i n = let h : IsNeed (cut.Word register w) = subst IsNeed i n in h
-found_needs_none (Found.Body register) c i n = let h : IsNeed (cut.Body register i.0) = subst IsNeed i.1 n in h
-found_needs_none Found.Tail c i n = i
-found_needs_none Found.End c i n = i
+found_needs_none : (f : FoundRun) (c : Cut) → IsFound f c → IsNeed c → ⊥
+found_needs_none FoundRun.Skip c i n = let h : IsNeed (cut.Skip i.0) = subst IsNeed i.1 n in h
+found_needs_none FoundRun.Sync c i n = let h : IsNeed cut.Sync = subst IsNeed i n in h
+found_needs_none (FoundRun.Head w step) c i n = let h : IsNeed (cut.Head w step) = subst IsNeed i n in h
+found_needs_none (FoundRun.Word register w) c i n = let h : IsNeed (cut.Word register w) = subst IsNeed i n in h
+found_needs_none (FoundRun.Body register) c i n = let h : IsNeed (cut.Body register i.0) = subst IsNeed i.1 n in h
+found_needs_none FoundRun.Tail c i n = i
+found_needs_none FoundRun.End c i n = i
 
 -- ---- one call of the cutter
 
@@ -275,7 +275,7 @@ needs old new bytes given s on p =
     )
 
 -- after a call that gave a run the reader stands for the same bytes, of which the run's are given
-pub runs : (old new : PacketsState) (bytes given : List ℕ) (r : Run) (s : Steps old new true) → old.done ≡ false → IsLast new r → PacketsStandFor old bytes given
+pub runs : (old new : PacketsState) (bytes given : List ℕ) (r : Run) (s : Steps old new true) → old.done ≡ false → IsLastFound new r → PacketsStandFor old bytes given
     → PacketsStandFor new bytes (given ++ bytes_of_run r) × IsNext given old.cutter.mode r new.cutter.mode × (old.cutter.kept ++ old.left ≡ bytes_of_run r ++ new.left)
     × (IsLent old.cutter (length old.left) (cut_of r) × SkipsAll new.cutter (length old.left) (cut_of r))
 runs old new bytes given r s on last p =
@@ -415,16 +415,16 @@ not_last : (r : Run) → is_last r ≡ false → is_last r ≡ true → ⊥
 not_last r e f = let h : false ≡ true = sym e ∙ f in cc
 
 -- a run that tells nothing of the end; whether it is one shows in its kind alone
-kind_goes_on : (f : Found) (c : Cut) (r : Run) (bytes kept : List ℕ) → IsFound f c → IsRunOf f bytes kept r → is_last r ≡ false
-kind_goes_on Found.Skip c r bytes kept i l = ap is_last l.1
-kind_goes_on Found.Sync c r bytes kept i l = ap is_last l
-kind_goes_on (Found.Head w step) c r bytes kept i l = ap is_last l
-kind_goes_on (Found.Word register w) c r bytes kept i l = ap is_last l
-kind_goes_on (Found.Body register) c r bytes kept i l = ap is_last l.1
-kind_goes_on Found.Tail c r bytes kept i l = absurd i
-kind_goes_on Found.End c r bytes kept i l = absurd i
+kind_goes_on : (f : FoundRun) (c : Cut) (r : Run) (bytes kept : List ℕ) → IsFound f c → IsRunOf f bytes kept r → is_last r ≡ false
+kind_goes_on FoundRun.Skip c r bytes kept i l = ap is_last l.1
+kind_goes_on FoundRun.Sync c r bytes kept i l = ap is_last l
+kind_goes_on (FoundRun.Head w step) c r bytes kept i l = ap is_last l
+kind_goes_on (FoundRun.Word register w) c r bytes kept i l = ap is_last l
+kind_goes_on (FoundRun.Body register) c r bytes kept i l = ap is_last l.1
+kind_goes_on FoundRun.Tail c r bytes kept i l = absurd i
+kind_goes_on FoundRun.End c r bytes kept i l = absurd i
 
-pub tells_run : (first old new : PacketsState) (more : List ℕ) (r : Run) (s : Steps old new true) → old.done ≡ false → old.failed ≡ false → IsLast new r → Reads first old more → Tells first new more r
+pub tells_run : (first old new : PacketsState) (more : List ℕ) (r : Run) (s : Steps old new true) → old.done ≡ false → old.failed ≡ false → IsLastFound new r → Reads first old more → Tells first new more r
 tells_run first old new more r s on good last reads =
     let goes : is_last r ≡ false = kind_goes_on new.found s.run r new.bytes new.cutter.kept s.is last in
     record {
@@ -439,7 +439,7 @@ tells_run first old new more r s on good last reads =
       good = s.failed ∙ good;
     }
 
-pub run_is_not_last : (old new : PacketsState) (r : Run) (s : Steps old new true) → IsLast new r → is_last r ≡ true → ⊥
+pub run_is_not_last : (old new : PacketsState) (r : Run) (s : Steps old new true) → IsLastFound new r → is_last r ≡ true → ⊥
 run_is_not_last old new r s last = not_last r (kind_goes_on new.found s.run r new.bytes new.cutter.kept s.is last)
 
 -- ---- the end
@@ -454,7 +454,7 @@ short_tail kept (Synced gap packets tail) p k = p.3
 
 -- the reader stands for its bytes, all given, once it is done
 ends_tail : (p : PacketsState) (bytes given : List ℕ) (lent : Bor (List ℕ)) → p.done ≡ false → p.left ≡ [] → 0 < length p.cutter.kept → lent.now ≡ p.cutter.kept → (p.cutter.mode ≡ Mode.Due → ⊥) → PacketsStandFor p bytes given
-    → PacketsStandFor (record p { found = Found.Tail; done = true }) bytes (given ++ lent.now) × IsNext given p.cutter.mode (run.Tail lent) p.cutter.mode × (given ++ lent.now ≡ bytes)
+    → PacketsStandFor (record p { found = FoundRun.Tail; done = true }) bytes (given ++ lent.now) × IsNext given p.cutter.mode (run.Tail lent) p.cutter.mode × (given ++ lent.now ≡ bytes)
 ends_tail p bytes given lent on none some e due s =
     let keeps : not_given p ≡ p.cutter.kept = untold_on p on in
     let bare : tail_of s.place ≡ [] = tail_on s.place p.done p.cutter.kept on s.tail in
@@ -490,7 +490,7 @@ ends_tail p bytes given lent on none some e due s =
 
 -- the end, of a reader that has no byte more to tell
 ends_none : (p : PacketsState) (bytes given : List ℕ) → p.left ≡ [] → not_given p ≡ [] → (p.cutter.mode ≡ Mode.Due → ⊥) → (s : PacketsStandFor p bytes given) → tail_of s.place ≡ p.cutter.kept
-    → PacketsStandFor (record p { found = Found.End; done = true }) bytes (given ++ []) × IsNext given p.cutter.mode run.End p.cutter.mode × (given ++ [] ≡ bytes)
+    → PacketsStandFor (record p { found = FoundRun.End; done = true }) bytes (given ++ []) × IsNext given p.cutter.mode run.End p.cutter.mode × (given ++ [] ≡ bytes)
 ends_none p bytes given none nothing due s own =
     let now : given ++ not_given p ≡ given ++ [] = ap (λ t. given ++ t) nothing in
     let all : bytes ≡ given ++ [] = s.split ∙ ap (λ t. given ++ (not_given p ++ t)) none ∙ ap (λ t. given ++ t) (append-nil (not_given p)) ∙ now in
@@ -529,28 +529,28 @@ record Ends (old new : PacketsState) (r : Run) : Type 0 where
   pub stands : (bytes given : List ℕ) → (old.cutter.mode ≡ Mode.Due → ⊥) → PacketsStandFor old bytes given
       → PacketsStandFor new bytes (given ++ bytes_of_run r) × IsNext given old.cutter.mode r new.cutter.mode × (given ++ bytes_of_run r ≡ bytes)
 
-tail_ends : (p : PacketsState) (lent : Bor (List ℕ)) → p.done ≡ false → p.left ≡ [] → 0 < length p.cutter.kept → lent.now ≡ p.cutter.kept → Ends p (record p { found = Found.Tail; done = true }) (run.Tail lent)
+tail_ends : (p : PacketsState) (lent : Bor (List ℕ)) → p.done ≡ false → p.left ≡ [] → 0 < length p.cutter.kept → lent.now ≡ p.cutter.kept → Ends p (record p { found = FoundRun.Tail; done = true }) (run.Tail lent)
 tail_ends p lent on none some e = record { last = refl; done = refl; failed = refl; taken = refl; stands = λ bytes given due s. ends_tail p bytes given lent on none some e due s }
 
-none_ends : (p : PacketsState) → p.left ≡ [] → not_given p ≡ [] → ((bytes given : List ℕ) (s : PacketsStandFor p bytes given) → tail_of s.place ≡ p.cutter.kept) → Ends p (record p { found = Found.End; done = true }) run.End
+none_ends : (p : PacketsState) → p.left ≡ [] → not_given p ≡ [] → ((bytes given : List ℕ) (s : PacketsStandFor p bytes given) → tail_of s.place ≡ p.cutter.kept) → Ends p (record p { found = FoundRun.End; done = true }) run.End
 none_ends p none nothing own = record { last = refl; done = refl; failed = refl; taken = refl; stands = λ bytes given due s. ends_none p bytes given none nothing due s (own bytes given s) }
 
 -- the end behind bytes of no whole word, or behind none
 finishes : (p new : PacketsState) (r : Run) (kept : List ℕ) → p.cutter.kept ≡ kept → p.done ≡ false → p.left ≡ []
-    → (p.cutter.kept ≢ [] → new ≡ record p { found = Found.Tail; done = true }) → (p.cutter.kept ≡ [] → new ≡ record p { found = Found.End; done = true }) → IsLast new r → Ends p new r
+    → (p.cutter.kept ≢ [] → new ≡ record p { found = FoundRun.Tail; done = true }) → (p.cutter.kept ≡ [] → new ≡ record p { found = FoundRun.End; done = true }) → IsLastFound new r → Ends p new r
 finishes p new r [] k on none tail end last =
-    let is : new ≡ record p { found = Found.End; done = true } = end k in
-    let at : r ≡ run.End = subst (λ (x : PacketsState). IsLast x r) is last in
+    let is : new ≡ record p { found = FoundRun.End; done = true } = end k in
+    let at : r ≡ run.End = subst (λ (x : PacketsState). IsLastFound x r) is last in
     rw (is, at) (none_ends p none (untold_on p on ∙ k) (λ bytes given s. tail_on s.place p.done p.cutter.kept on s.tail ∙ sym k))
 finishes p new r (x ∷ xs) k on none tail end last =
-    let is : new ≡ record p { found = Found.Tail; done = true } = tail (λ e. absurd (let f : x ∷ xs ≡ [] = sym k ∙ e in cc)) in
-    let at : (lent : Bor (List ℕ)) × (r ≡ run.Tail lent) × (lent.now ≡ p.cutter.kept) = subst (λ (x : PacketsState). IsLast x r) is last in
+    let is : new ≡ record p { found = FoundRun.Tail; done = true } = tail (λ e. absurd (let f : x ∷ xs ≡ [] = sym k ∙ e in cc)) in
+    let at : (lent : Bor (List ℕ)) × (r ≡ run.Tail lent) × (lent.now ≡ p.cutter.kept) = subst (λ (x : PacketsState). IsLastFound x r) is last in
     rw (is, at.1) (tail_ends p at.0 on none (omega (arith, ap length k)) at.2)
 
 -- after a call that needs more bytes, and a read that gave none
 pub tells_end : (first old now new : PacketsState) (more : List ℕ) (r : Run) (s : Steps old now false) → old.done ≡ false → old.failed ≡ false → Reads first old more
-    → (now.cutter.kept ≢ [] → new ≡ record (filled now []) { found = Found.Tail; done = true }) → (now.cutter.kept ≡ [] → new ≡ record (filled now []) { found = Found.End; done = true })
-    → IsLast new r → Tells first new more r × (is_last r ≡ true)
+    → (now.cutter.kept ≢ [] → new ≡ record (filled now []) { found = FoundRun.Tail; done = true }) → (now.cutter.kept ≡ [] → new ≡ record (filled now []) { found = FoundRun.End; done = true })
+    → IsLastFound new r → Tells first new more r × (is_last r ≡ true)
 tells_end first old now new more r s on good reads tail end last =
     let e : Ends (filled now []) new r = finishes (filled now []) new r now.cutter.kept refl (s.done ∙ on) refl tail end last in (
       record {
@@ -583,13 +583,13 @@ untold_off : (p : PacketsState) → p.done ≡ true → not_given p ≡ []
 untold_off p e = rw e refl
 
 -- the end is given again
-again : (p : PacketsState) → p.done ≡ true → p.failed ≡ false → Tells p (record p { found = Found.End; done = true }) [] run.End
+again : (p : PacketsState) → p.done ≡ true → p.failed ≡ false → Tells p (record p { found = FoundRun.End; done = true }) [] run.End
 again p off good = record {
   count = omega arith;
   stands = λ bytes given s.
       let due = s.all off in
       let t = ends_none p bytes given due.0 (untold_off p off) due.1 s (own_tail s.place p.done p.cutter.kept off s.tail) in
-      (subst (λ x. PacketsStandFor (record p { found = Found.End; done = true }) x (given ++ [])) (sym (append-nil bytes)) t.0, t.1);
+      (subst (λ x. PacketsStandFor (record p { found = FoundRun.End; done = true }) x (given ++ [])) (sym (append-nil bytes)) t.0, t.1);
   all = λ _ bytes given s.
       let due = s.all off in
       (ends_none p bytes given due.0 (untold_off p off) due.1 s (own_tail s.place p.done p.cutter.kept off s.tail)).2 ∙ sym (append-nil bytes);
@@ -598,20 +598,20 @@ again p off good = record {
   good = good;
 }
 
-pub gives_again : (p : PacketsState) (rest : Option (List ℕ)) (r : Run) → p.done ≡ true → p.failed ≡ false → AtEnd rest → r ≡ run.End → GivesRun p (record p { found = Found.End }) rest rest r
+pub gives_again : (p : PacketsState) (rest : Option (List ℕ)) (r : Run) → p.done ≡ true → p.failed ≡ false → AtEnd rest → r ≡ run.End → GivesRun p (record p { found = FoundRun.End }) rest rest r
 gives_again p rest r off good end at =
-    let same : record p { found = Found.End } ≡ record p { found = Found.End; done = true } = ap (λ (d : Bool). record p { found = Found.End; done = d }) off in
+    let same : record p { found = FoundRun.End } ≡ record p { found = FoundRun.End; done = true } = ap (λ (d : Bool). record p { found = FoundRun.End; done = d }) off in
     rw (same, at) (record { more = []; taken = sym (preceded-nil rest); tells = again p off good; end = λ _. end })
 
 -- a read that gave none, and then the end
 pub gives_end : (first old now mid new : PacketsState) (more piece : List ℕ) (rest rest_mid rest_now : Option (List ℕ)) (r : Run) (s : Steps old now false) → old.done ≡ false → old.failed ≡ false → Reads first old more
     → rest ≡ preceded more rest_mid → rest_mid ≡ preceded piece rest_now → mid ≡ filled now piece → piece ≡ [] → AtEnd rest_now
-    → (mid.cutter.kept ≢ [] → new ≡ record mid { found = Found.Tail; done = true }) → (mid.cutter.kept ≡ [] → new ≡ record mid { found = Found.End; done = true })
-    → IsLast new r → GivesRun first new rest rest_now r
+    → (mid.cutter.kept ≢ [] → new ≡ record mid { found = FoundRun.Tail; done = true }) → (mid.cutter.kept ≡ [] → new ≡ record mid { found = FoundRun.End; done = true })
+    → IsLastFound new r → GivesRun first new rest rest_now r
 gives_end first old now mid new more piece rest rest_mid rest_now r s on good reads t u is none end tail no_tail last =
     let at : mid ≡ filled now [] = is ∙ ap (filled now) none in
-    let by_tail : now.cutter.kept ≢ [] → new ≡ record (filled now []) { found = Found.Tail; done = true } = subst (λ (m : PacketsState). m.cutter.kept ≢ [] → new ≡ record m { found = Found.Tail; done = true }) at tail in
-    let by_none : now.cutter.kept ≡ [] → new ≡ record (filled now []) { found = Found.End; done = true } = subst (λ (m : PacketsState). m.cutter.kept ≡ [] → new ≡ record m { found = Found.End; done = true }) at no_tail in
+    let by_tail : now.cutter.kept ≢ [] → new ≡ record (filled now []) { found = FoundRun.Tail; done = true } = subst (λ (m : PacketsState). m.cutter.kept ≢ [] → new ≡ record m { found = FoundRun.Tail; done = true }) at tail in
+    let by_none : now.cutter.kept ≡ [] → new ≡ record (filled now []) { found = FoundRun.End; done = true } = subst (λ (m : PacketsState). m.cutter.kept ≡ [] → new ≡ record m { found = FoundRun.End; done = true }) at no_tail in
     record {
       more = more;
       taken = t ∙ ap (preceded more) (u ∙ ap (λ (p : List ℕ). preceded p rest_now) none ∙ preceded-nil rest_now);

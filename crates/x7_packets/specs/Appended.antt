@@ -48,5 +48,5 @@ abbrev pub history_after : List ℕ → List ℕ → History
 history_after bytes more = moved (length bytes) (history_of more) ++ history_of bytes
 
 -- the packet is one that may come next
-abbrev pub Follows : List Packet → Packet → Type 0
-Follows packets packet = IsPacket (latest_of None packets) packet
+abbrev pub MayComeNext : List Packet → Packet → Type 0
+MayComeNext packets packet = IsPacket (latest_of None packets) packet

@@ -14,8 +14,8 @@ use Rattle.x7_packets.specs.declared.cutter.Cut.TheVariants.{Body, Head, Skip, S
 use Rattle.x7_packets.specs.declared.header.Step.TheVariants.{Open}
 
 -- the bytes `taken`, taken as one run, turn the old cutter into the new one, whatever bytes came before
-abbrev pub Takes : CutterState → CutterState → List ℕ → Cut → Type 0
-Takes old new taken run = (bytes : List ℕ) (sessions : List Session) (place : Place) → CutterStandsFor old bytes sessions place → Went old new (bytes ++ taken) sessions place run
+abbrev pub TakesAsOneRun : CutterState → CutterState → List ℕ → Cut → Type 0
+TakesAsOneRun old new taken run = (bytes : List ℕ) (sessions : List Session) (place : Place) → CutterStandsFor old bytes sessions place → Went old new (bytes ++ taken) sessions place run
 
 -- the bytes begin with a write of one word, its header's reserved bits 0
 pub record BeginsWrite (bytes : List ℕ) (register w : ℕ) : Type 0 where
@@ -34,8 +34,8 @@ pub record WritesOne (old new : CutterState) (rest : List ℕ) (register w : ℕ
   pub range : register < 32
   pub whole : 8 ≤ length rest
   pub bytes : take 8 rest ≡ bytes_of_word (type1_write register 1) ++ bytes_of_word w
-  pub head : Takes old between (bytes_of_word (type1_write register 1)) (Head (type1_write register 1) (Open register 1))
-  pub word : Takes between new (bytes_of_word w) (Word register w)
+  pub head : TakesAsOneRun old between (bytes_of_word (type1_write register 1)) (Head (type1_write register 1) (Open register 1))
+  pub word : TakesAsOneRun between new (bytes_of_word w) (Word register w)
   pub none_kept : new.kept ≡ []
 
 -- the bytes begin with a write of one to sixteen words to a register other than CMD; taken, the write is its header and
@@ -48,8 +48,8 @@ pub record WritesFew (old new : CutterState) (rest : List ℕ) (register count :
   pub few : count ≤ 16
   pub long : 68 ≤ length rest
   pub bytes : take 4 rest ≡ bytes_of_word (type1_write register count)
-  pub head : Takes old between (bytes_of_word (type1_write register count)) (Head (type1_write register count) (Open register count))
-  pub words : (run : Bor (List ℕ)) → run.now ≡ take (4 * count) (drop 4 rest) → Takes between new run.now (Body register run)
+  pub head : TakesAsOneRun old between (bytes_of_word (type1_write register count)) (Head (type1_write register count) (Open register count))
+  pub words : (run : Bor (List ℕ)) → run.now ≡ take (4 * count) (drop 4 rest) → TakesAsOneRun between new run.now (Body register run)
   pub none_kept : new.kept ≡ []
 
 -- the bytes begin with a gap and the sync word after it; the bytes of both are taken as one run, and then the sync word is
@@ -59,6 +59,6 @@ pub record EndsGap (old new : CutterState) (rest : List ℕ) (count : ℕ) : Typ
   pub near : count + 4 ≤ 32
   pub long : 36 ≤ length rest
   pub found : take (count + 4) rest ≡ take count rest ++ sync_bytes
-  pub gap : (run : Bor (List ℕ)) → run.now ≡ take (count + 4) rest → Takes old between run.now (Skip run)
-  pub sync : Takes between new [] Sync
+  pub gap : (run : Bor (List ℕ)) → run.now ≡ take (count + 4) rest → TakesAsOneRun old between run.now (Skip run)
+  pub sync : TakesAsOneRun between new [] Sync
   pub none_kept : new.kept ≡ []

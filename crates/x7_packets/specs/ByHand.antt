@@ -22,12 +22,12 @@ with_word_after latest (p ∷ []) w =
 with_word_after latest (p ∷ q ∷ ps) w = p ∷ with_word_after (latest_after latest p.step) (q ∷ ps) w
 
 -- packets with one word more: where the last packet lacks payload words the word is its payload's, else it begins a packet
-abbrev pub with_word : List Packet → ℕ → List Packet
-with_word = with_word_after None
+abbrev pub packets_with_word : List Packet → ℕ → List Packet
+packets_with_word = with_word_after None
 
 -- the packets of words
 abbrev pub packets_of : List ℕ → List Packet
-packets_of = fold with_word []
+packets_of = fold packets_with_word []
 
 -- the words are of one session at most: no word follows the one that ends it
 abbrev pub AreOfOneSession : List ℕ → Type 0
@@ -38,10 +38,11 @@ abbrev pub is_sync : List ℕ → Bool
 is_sync (a ∷ b ∷ c ∷ d ∷ []) = a == 0xAA && b == 0x99 && c == 0x55 && d == 0x66
 is_sync _ = false
 
--- the bytes without the last four, and the last four
+-- the bytes without the last four
 abbrev pub before_last_four : List ℕ → List ℕ
 before_last_four bytes = take (length bytes - 4) bytes
 
+-- the last four bytes
 abbrev pub last_four : List ℕ → List ℕ
 last_four bytes = drop (length bytes - 4) bytes
 
@@ -62,7 +63,7 @@ closed sessions gap packets =
 
 -- a session with one byte more: its tail grows to a word, which goes to the packets
 abbrev pub with_session_byte : List Session → List ℕ → List Packet → List ℕ → ℕ → Reading
-with_session_byte sessions gap packets (a ∷ b ∷ c ∷ []) d = closed sessions gap (with_word packets (word_of_bytes (a ∷ b ∷ c ∷ d ∷ [])))
+with_session_byte sessions gap packets (a ∷ b ∷ c ∷ []) d = closed sessions gap (packets_with_word packets (word_of_bytes (a ∷ b ∷ c ∷ d ∷ [])))
 with_session_byte sessions gap packets tail byte = record { sessions = sessions; place = Synced gap packets (tail ++ byte ∷ []) }
 
 -- ended sessions and a place with one byte more

@@ -75,6 +75,7 @@ abbrev pub GoesOnAt : List (ℕ × Step) → List Session → Place → Reading 
 GoesOnAt more sessions (Searching gap) new = ⊥
 GoesOnAt more sessions (Synced gap packets tail) new = Longer gap packets more sessions new.sessions new.place
 
+-- a reading goes on by these words of a session, each with its step
 abbrev pub GoesOnBy : List (ℕ × Step) → Reading → Reading → Type 0
 GoesOnBy more old new = GoesOnAt more old.sessions old.place new
 
@@ -128,6 +129,7 @@ CompletesNone c Mode.Searching left = left ≡ 0
 CompletesNone c Mode.Due left = ⊥
 CompletesNone c Mode.Synced left = length c.kept + left < 4
 
+-- the call gave no run, and needs more bytes
 abbrev pub IsNeed : Cut → Type 0
 IsNeed Need = Unit {0}
 IsNeed _ = ⊥
@@ -171,6 +173,7 @@ pub record Went (old new : CutterState) (bytes : List ℕ) (sessions : List Sess
   pub adds : Adds run sessions place new_sessions new_place
   pub turns : Turns run old.mode new.mode new_place
 
+-- the cutter after a call that gave this run, from a reading as one value
 abbrev pub WentFrom : CutterState → CutterState → List ℕ → Reading → Cut → Type 0
 WentFrom old new bytes r run = Went old new bytes r.sessions r.place run
 

@@ -19,28 +19,35 @@ stream = flat_map bytes_of_word
 abbrev pub synced : List ℕ → List ℕ
 synced words = stream (0xAA995566 ∷ words)
 
+-- a packet with these parts
 abbrev pub packet_with : ℕ → Step → List ℕ → Packet
 packet_with head step payload = record { head = head; step = step; payload = payload }
 
--- words in a header's place: without effect, a no-op, no header, a read, and a write with its payload
+-- a word in a header's place that has no effect
 abbrev pub filler : ℕ → Packet
 filler head = packet_with head Filler []
 
+-- a no-op
 abbrev pub nop : ℕ → Packet
 nop head = packet_with head Nop []
 
+-- a word in a header's place that is no header
 abbrev pub bad : ℕ → Packet
 bad head = packet_with head (Bad head) []
 
+-- a read of `count` words of a register
 abbrev pub read : ℕ → ℕ → ℕ → Packet
 read head register count = packet_with head (Read register count) []
 
+-- a write of `count` words to a register, and the payload so far
 abbrev pub opening : ℕ → ℕ → ℕ → List ℕ → Packet
 opening head register count payload = packet_with head (Open register count) payload
 
+-- a type 1 write of no words, which names a register
 abbrev pub opened : ℕ → ℕ → Packet
 opened head register = opening head register 0 []
 
+-- a write of one word to a register
 abbrev pub write_packet : ℕ → ℕ → ℕ → Packet
 write_packet head register word = opening head register 1 (word ∷ [])
 
@@ -48,45 +55,50 @@ write_packet head register word = opening head register 1 (word ∷ [])
 abbrev pub write_of : ℕ → ℕ → RegisterWrite
 write_of register word = record { register = register; word = word }
 
--- DESYNC written to CMD: its words, and its packet
+-- the words of DESYNC written to CMD
 abbrev pub desync : List ℕ
 desync = 0x30008001 ∷ 13 ∷ []
 
+-- the packet of DESYNC written to CMD
 abbrev pub desync_packet : Packet
 desync_packet = write_packet 0x30008001 4 13
 
--- a session after this gap, and a session that DESYNC ended
+-- a session after this gap
 abbrev pub session_with : List ℕ → List Packet → Session
 session_with gap packets = record { gap = gap; packets = packets }
 
+-- a session after this gap that DESYNC ended
 abbrev pub desynced : List ℕ → List Packet → Session
 desynced gap packets = session_with gap (packets ++ desync_packet ∷ [])
 
+-- ended sessions, and the place after them
 abbrev pub reading_with : List Session → Place → Reading
 reading_with sessions place = record { sessions = sessions; place = place }
 
 -- a place after no ended session
-abbrev pub reading_at : Place → Reading
-reading_at place = reading_with [] place
+abbrev pub reading_of_place : Place → Reading
+reading_of_place place = reading_with [] place
 
 -- a session after no gap, with these packets and no tail
 abbrev pub in_session : List Packet → Reading
-in_session packets = reading_at (Synced [] packets [])
+in_session packets = reading_of_place (Synced [] packets [])
 
 -- a session after no gap, with these packets and this tail of bytes
 abbrev pub with_tail : List Packet → List ℕ → Reading
-with_tail packets tail = reading_at (Synced [] packets tail)
+with_tail packets tail = reading_of_place (Synced [] packets tail)
 
 -- ended sessions, and the gap after them
 abbrev pub then_gap : List Session → List ℕ → Reading
 then_gap sessions gap = reading_with sessions (Searching gap)
 
--- accesses, with the number of bytes up to and with their last one
+-- a write of a word, with the number of bytes up to and with its last one
 abbrev pub write_at : ℕ → ℕ → ℕ → Entry
 write_at register word place = entry (Write register word) place
 
+-- a read, with the number of bytes up to and with its header
 abbrev pub read_at : ℕ → ℕ → ℕ → Entry
 read_at register count place = entry (access.Read register count) place
 
+-- a word that is no header, with the number of bytes up to and with its last one
 abbrev pub bad_at : ℕ → ℕ → Entry
 bad_at word place = entry (access.Bad word) place

@@ -27,6 +27,7 @@ pub record Entry : Type 0 where
 abbrev pub History : Type 0
 History = List Entry
 
+-- an `Entry` with these fields
 abbrev pub entry : Access → ℕ → Entry
 entry access place = record { access = access; place = place }
 
@@ -68,17 +69,19 @@ abbrev pub next_word : List Session → Place → ℕ
 next_word sessions (Searching gap) = length (flat_map session_bytes sessions) + length gap
 next_word sessions (Synced gap packets tail) = length (flat_map session_bytes sessions) + length gap + 4 + 4 * length (flat_map stepped packets)
 
--- the history of a reading, and the place where its next word begins
+-- the history of a reading
 abbrev pub history_in : Reading → History
 history_in r = history r.sessions r.place
 
+-- the place where the next word of a reading begins
 abbrev pub next_in : Reading → ℕ
 next_in r = next_word r.sessions r.place
 
--- more bytes enter no access, or just one
+-- more bytes enter no access
 abbrev pub EntersNone : List ℕ → List ℕ → Type 0
 EntersNone bytes more = history_of (bytes ++ more) ≡ history_of bytes
 
+-- more bytes enter just this access
 abbrev pub EntersOne : List ℕ → List ℕ → Entry → Type 0
 EntersOne bytes more e = history_of (bytes ++ more) ≡ e ∷ history_of bytes
 
@@ -117,6 +120,7 @@ is_command command (Some c) = c == command
 abbrev pub executes : ℕ → History → Access → Bool
 executes command h access = is_command command (executed_by (command_held h) access)
 
+-- commands with one more before them, if one was executed
 abbrev pub with_command : Option ℕ → List ℕ → List ℕ
 with_command None commands = commands
 with_command (Some c) commands = c ∷ commands

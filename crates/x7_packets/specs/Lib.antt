@@ -1,5 +1,5 @@
 pub mod FlashSlot
-pub mod Found
+pub mod FoundRun
 pub mod Gap
 pub mod Mode
 pub mod ByHand

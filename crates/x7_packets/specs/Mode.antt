@@ -2,6 +2,7 @@
 use Rattle.x7_packets.specs.declared.cutter.Stage.{Stage}
 use Rattle.x7_packets.specs.declared.cutter.Stage.TheVariants as stage
 
+-- what a cutter is at
 pub data Mode : Type 0 where
   -- in a gap
   Searching : Mode

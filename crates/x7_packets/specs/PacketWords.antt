@@ -17,28 +17,33 @@ sync_word = 0xAA995566
 abbrev pub dummy_word : ℕ
 dummy_word = 0xFFFFFFFF
 
--- the bus width pattern: its first word, and the word by which a device finds the width
+-- the first word of the bus width pattern
 abbrev pub bus_width_sync : ℕ
 bus_width_sync = 0x000000BB
 
+-- the word of the bus width pattern by which a device finds the width
 abbrev pub bus_width_detect : ℕ
 bus_width_detect = 0x11220044
 
 -- ---- headers
 
--- the packet type and the opcode of a header as one number, bits 31:27, for each kind of packet
+-- the packet type and the opcode of a no-op as one number, bits 31:27
 abbrev pub no_op_kind : ℕ
 no_op_kind = 4
 
+-- the type and the opcode of a type 1 read
 abbrev pub type1_read_kind : ℕ
 type1_read_kind = 5
 
+-- the type and the opcode of a type 1 write
 abbrev pub type1_write_kind : ℕ
 type1_write_kind = 6
 
+-- the type and the opcode of a type 2 read
 abbrev pub type2_read_kind : ℕ
 type2_read_kind = 9
 
+-- the type and the opcode of a type 2 write
 abbrev pub type2_write_kind : ℕ
 type2_write_kind = 10
 
@@ -46,17 +51,19 @@ type2_write_kind = 10
 abbrev pub no_op : ℕ
 no_op = 0x20000000
 
--- the headers of a type 1 read and of a type 1 write of `count` words, by the register's number
+-- the header of a type 1 read of `count` words, by the register's number
 abbrev pub type1_read : ℕ → ℕ → ℕ
 type1_read register count = 0x28000000 + 2 ^ 13 * register + count
 
+-- the header of a type 1 write of `count` words, by the register's number
 abbrev pub type1_write : ℕ → ℕ → ℕ
 type1_write register count = 0x30000000 + 2 ^ 13 * register + count
 
--- the headers of a type 2 read and of a type 2 write of `count` words
+-- the header of a type 2 read of `count` words
 abbrev pub type2_read : ℕ → ℕ
 type2_read count = 0x48000000 + count
 
+-- the header of a type 2 write of `count` words
 abbrev pub type2_write : ℕ → ℕ
 type2_write count = 0x50000000 + count
 
@@ -70,10 +77,10 @@ write_one register word = type1_write (number_of register) 1 ∷ word ∷ []
 abbrev pub command : Command → List ℕ
 command c = write_one Cmd (code_of c)
 
--- the headers of a write of `count` words to FDRI, and of a read of as many from FDRO: an empty type 1 packet, and a type 2
--- packet
+-- the headers of a write of `count` words to FDRI: an empty type 1 packet, and a type 2 packet
 abbrev pub frame_data : ℕ → List ℕ
 frame_data count = type1_write (number_of Fdri) 0 ∷ type2_write count ∷ []
 
+-- the headers of a read of `count` words from FDRO: an empty type 1 packet, and a type 2 packet
 abbrev pub frame_read : ℕ → List ℕ
 frame_read count = type1_read (number_of Fdro) 0 ∷ type2_read count ∷ []

@@ -19,9 +19,11 @@ pub data Place : Type 0 where
 abbrev pub packet_bytes : List Packet → List ℕ
 packet_bytes ps = flat_map bytes_of_word (flat_map words ps)
 
+-- the bytes of a session: its gap, the sync word and its packets
 abbrev pub session_bytes : Session → List ℕ
 session_bytes s = s.gap ++ sync_bytes ++ packet_bytes s.packets
 
+-- the bytes of a place: of a gap, or of a session that goes on
 abbrev pub place_bytes : Place → List ℕ
 place_bytes (Searching gap) = gap
 place_bytes (Synced gap packets tail) = gap ++ sync_bytes ++ packet_bytes packets ++ tail

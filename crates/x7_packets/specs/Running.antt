@@ -9,7 +9,7 @@ use Rattle.x7_packets.specs.Cutting.{CutterStandsFor, Cuts, IsLent, IsNeed, Skip
 use Rattle.x7_packets.specs.declared.cutter.Cut.{Cut}
 use Rattle.x7_packets.specs.declared.cutter.Cut.TheVariants as cut
 use Rattle.x7_packets.specs.Mode.{Mode}
-use Rattle.x7_packets.specs.Found.{Found}
+use Rattle.x7_packets.specs.FoundRun.{FoundRun}
 use Rattle.x7_packets.specs.declared.stream.Run.{Run}
 use Rattle.x7_packets.specs.declared.stream.Run.TheVariants as run
 use Rattle.x7_packets.specs.contracts.stream.Packets.{the_row}
@@ -38,30 +38,30 @@ pub record PacketsStandFor (p : PacketsState) (bytes given : List ℕ) : Type 0 
   pub count : p.taken ≡ length bytes
 
 -- what a run is that was cut
-abbrev pub IsFound : Found → Cut → Type 0
-IsFound Found.Skip c = (bytes : Bor (List ℕ)) × (c ≡ cut.Skip bytes)
-IsFound Found.Sync c = c ≡ cut.Sync
-IsFound (Found.Head w step) c = c ≡ cut.Head w step
-IsFound (Found.Word register w) c = c ≡ cut.Word register w
-IsFound (Found.Body register) c = (bytes : Bor (List ℕ)) × (c ≡ cut.Body register bytes)
+abbrev pub IsFound : FoundRun → Cut → Type 0
+IsFound FoundRun.Skip c = (bytes : Bor (List ℕ)) × (c ≡ cut.Skip bytes)
+IsFound FoundRun.Sync c = c ≡ cut.Sync
+IsFound (FoundRun.Head w step) c = c ≡ cut.Head w step
+IsFound (FoundRun.Word register w) c = c ≡ cut.Word register w
+IsFound (FoundRun.Body register) c = (bytes : Bor (List ℕ)) × (c ≡ cut.Body register bytes)
 IsFound f c = ⊥
 
 -- the run that was found, where these are its bytes in the buffer, and these the ones that the cutter keeps
-abbrev pub IsRunOf : Found → List ℕ → List ℕ → Run → Type 0
-IsRunOf Found.Skip bytes kept r = (lent : Bor (List ℕ)) × (r ≡ run.Skip lent) × (lent.now ≡ bytes)
-IsRunOf Found.Sync bytes kept r = r ≡ run.Sync
-IsRunOf (Found.Head w step) bytes kept r = r ≡ run.Head w step
-IsRunOf (Found.Word register w) bytes kept r = r ≡ run.Word register w
-IsRunOf (Found.Body register) bytes kept r = (lent : Bor (List ℕ)) × (r ≡ run.Body register lent) × (lent.now ≡ bytes)
-IsRunOf Found.Tail bytes kept r = (lent : Bor (List ℕ)) × (r ≡ run.Tail lent) × (lent.now ≡ kept)
-IsRunOf Found.End bytes kept r = r ≡ run.End
+abbrev pub IsRunOf : FoundRun → List ℕ → List ℕ → Run → Type 0
+IsRunOf FoundRun.Skip bytes kept r = (lent : Bor (List ℕ)) × (r ≡ run.Skip lent) × (lent.now ≡ bytes)
+IsRunOf FoundRun.Sync bytes kept r = r ≡ run.Sync
+IsRunOf (FoundRun.Head w step) bytes kept r = r ≡ run.Head w step
+IsRunOf (FoundRun.Word register w) bytes kept r = r ≡ run.Word register w
+IsRunOf (FoundRun.Body register) bytes kept r = (lent : Bor (List ℕ)) × (r ≡ run.Body register lent) × (lent.now ≡ bytes)
+IsRunOf FoundRun.Tail bytes kept r = (lent : Bor (List ℕ)) × (r ≡ run.Tail lent) × (lent.now ≡ kept)
+IsRunOf FoundRun.End bytes kept r = r ≡ run.End
 
 -- the run is the last one that was found
-abbrev pub IsLast : PacketsState → Run → Type 0
-IsLast p r = IsRunOf p.found p.bytes p.cutter.kept r
+abbrev pub IsLastFound : PacketsState → Run → Type 0
+IsLastFound p r = IsRunOf p.found p.bytes p.cutter.kept r
 
 -- a run was cut of the bytes that are left, and is what was found; or the cutter needs more bytes
-abbrev pub IsCutOff : Bool → Found → Cut → Type 0
+abbrev pub IsCutOff : Bool → FoundRun → Cut → Type 0
 IsCutOff true f c = IsFound f c
 IsCutOff false f c = IsNeed c
 
@@ -131,10 +131,11 @@ pub record GivesUp (old new : PacketsState) : Type 0 where
   pub reads : Reads old new more
   pub failed : new.failed ≡ true
 
-abbrev pub Gives : PacketsState → PacketsState → Option (List ℕ) → Option (List ℕ) → Result Run Failed → Type 0
-Gives old new rest rest_now (Ok r) = GivesRun old new rest rest_now r
-Gives old new rest rest_now (Err e) = GivesUp old new
+-- a call gave a run, or failed
+abbrev pub EndsCall : PacketsState → PacketsState → Option (List ℕ) → Option (List ℕ) → Result Run Failed → Type 0
+EndsCall old new rest rest_now (Ok r) = GivesRun old new rest rest_now r
+EndsCall old new rest rest_now (Err e) = GivesUp old new
 
 -- what the reader is when the run that it lends is given back
-abbrev pub GivesNext : MutBor PacketsState → Option (List ℕ) → Option (List ℕ) → Result Run Failed → Fml
-GivesNext p rest rest_now result = Rests the_row p (λ new. Gives p.now new rest rest_now result)
+abbrev pub EndsNextCall : MutBor PacketsState → Option (List ℕ) → Option (List ℕ) → Result Run Failed → Fml
+EndsNextCall p rest rest_now result = Rests the_row p (λ new. EndsCall p.now new rest rest_now result)

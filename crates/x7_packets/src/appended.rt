@@ -2,7 +2,7 @@
 ghost use Rattle.std.specs.Prelude.{◌≡◌, ◌==◌, ℕ, List, [], ◌∷◌, ◌++◌, false, length, take, None};
 ghost use Rattle.std.specs.List.{AllByRecursion};
 ghost use Rattle.x7_words.specs.Word.{AreBytes};
-ghost use Rattle.x7_packets.specs.Appended.{Follows, MayFollow, after, history_after, moved};
+ghost use Rattle.x7_packets.specs.Appended.{MayComeNext, MayFollow, after, history_after, moved};
 ghost use Rattle.x7_packets.specs.ByHand.{reading_of};
 ghost use Rattle.x7_packets.specs.Gap.{AreAlike, AreGaps, NoneBegins};
 ghost use Rattle.x7_packets.specs.History.{history_of};
@@ -44,8 +44,8 @@ pub fn gaps_are_passed()
 
 /// Words that end in no open payload, and then those of a packet: the packets are one more.
 pub fn packets_append()
-    ensures one { (ws : List ℕ) (packets : List Packet) (packet : Packet) → Packets ws packets → AllWhole None packets → Follows packets packet
+    ensures one { (ws : List ℕ) (packets : List Packet) (packet : Packet) → Packets ws packets → AllWhole None packets → MayComeNext packets packet
         → Packets (ws ++ words packet) (packets ++ packet ∷ []) }
-    ensures whole { (packets : List Packet) (packet : Packet) → AllWhole None packets → Follows packets packet → IsWhole packet
+    ensures whole { (packets : List Packet) (packet : Packet) → AllWhole None packets → MayComeNext packets packet → IsWhole packet
         → AllWhole None (packets ++ packet ∷ []) }
 {}

@@ -3,7 +3,7 @@ ghost use Rattle.std.specs.Prelude.{◌≡◌, ℕ, List, [], ◌++◌, ◌≤�
 ghost use Rattle.x7_words.specs.Word.{bytes_of_word};
 ghost use Rattle.x7_regs.specs.Register.{number_of};
 ghost use Rattle.x7_regs.specs.declared.register.Reg.TheVariants.{Cmd};
-ghost use Rattle.x7_packets.specs.AtOnce.{BeginsWrite, EndsGap, Takes, WritesFew, WritesOne};
+ghost use Rattle.x7_packets.specs.AtOnce.{BeginsWrite, EndsGap, TakesAsOneRun, WritesFew, WritesOne};
 ghost use Rattle.x7_packets.specs.Cutting.{between, calls_left, CompletesNone, Cuts, CutterStandsFor, Goes, IsBody, IsLent, IsNeed, IsOneWord, IsRun, run_bytes, SkipsAll, syncs_due, Went};
 ghost use Rattle.x7_packets.specs.Matching.{IsClear};
 ghost use Rattle.x7_packets.specs.Nops.{Idles, nop_bytes};
@@ -180,7 +180,7 @@ impl Cutter {
     pub fn nop_count(&self, rest: &[u8]) -> usize
         ensures within { 4 * result ≤ length rest.now }
         ensures nops { take (4 * result) rest.now ≡ nop_bytes result }
-        ensures same { 0 < result → Takes self.now self.now (bytes_of_word no_op) (Cut.Head no_op Step.Nop) }
+        ensures same { 0 < result → TakesAsOneRun self.now self.now (bytes_of_word no_op) (Cut.Head no_op Step.Nop) }
         ensures idles { (bytes : List ℕ) (sessions : List Session) (place : Place) → CutterStandsFor self.now bytes sessions place
             → Idles self.now (bytes ++ take (4 * result) rest.now) sessions place }
     {
@@ -304,7 +304,7 @@ impl Cutter {
         ensures run { IsRun result }
         ensures lent { IsLent self.old (length piece.now - at.old) result }
         ensures skips { SkipsAll self.new (length piece.now - at.old) result }
-        ensures adds { Takes self.old self.new (between piece.now at.old at.new) result }
+        ensures adds { TakesAsOneRun self.old self.new (between piece.now at.old at.new) result }
     {
         let rest = &piece[*at..];
         match self.stage {

@@ -1,16 +1,16 @@
 //! Worked examples: the definitions compute to these values, which follow from the format's rules.
 ghost use Rattle.std.specs.Prelude.{◌≡◌, [], ◌∷◌, ◌++◌};
 ghost use Rattle.x7_packets.specs.ByHand.{packets_of, reading_of};
-ghost use Rattle.x7_packets.specs.Examples.{bad, bad_at, desync, desynced, filler, in_session, nop, opened, opening, read, read_at, reading_at, session_with, synced, then_gap, with_tail, write_at, write_of, write_packet};
+ghost use Rattle.x7_packets.specs.Examples.{bad, bad_at, desync, desynced, filler, in_session, nop, opened, opening, read, read_at, reading_of_place, session_with, synced, then_gap, with_tail, write_at, write_of, write_packet};
 ghost use Rattle.x7_packets.specs.History.{executed, history_of};
 ghost use Rattle.x7_packets.specs.Reading.{Searching, Synced};
 ghost use Rattle.x7_packets.specs.RunningCheck.{open_writes};
 
 /// Where the sync word is found.
 pub fn examples_of_the_search()
-    ensures none { reading_of (0xAA ∷ 0x99 ∷ 0x55 ∷ 0xAA ∷ []) ≡ reading_at (Searching (0xAA ∷ 0x99 ∷ 0x55 ∷ 0xAA ∷ [])) }
+    ensures none { reading_of (0xAA ∷ 0x99 ∷ 0x55 ∷ 0xAA ∷ []) ≡ reading_of_place (Searching (0xAA ∷ 0x99 ∷ 0x55 ∷ 0xAA ∷ [])) }
     ensures inside_a_failed_match { reading_of (0xFF ∷ 0xAA ∷ synced (0x20000000 ∷ []))
-        ≡ reading_at (Synced (0xFF ∷ 0xAA ∷ []) (nop 0x20000000 ∷ []) []) }
+        ≡ reading_of_place (Synced (0xFF ∷ 0xAA ∷ []) (nop 0x20000000 ∷ []) []) }
     ensures in_the_place_of_a_header { reading_of (synced (0x30004000 ∷ 0xAA995566 ∷ 0x50000001 ∷ 5 ∷ []))
         ≡ in_session (opened 0x30004000 2 ∷ filler 0xAA995566 ∷ write_packet 0x50000001 2 5 ∷ []) }
     ensures in_a_payload { reading_of (synced (0x30004001 ∷ 0xAA995566 ∷ []))

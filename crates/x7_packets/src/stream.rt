@@ -3,9 +3,9 @@ ghost use Rattle.std.specs.Prelude.{◌≡◌, ◌≢◌, ◌≤◌, ◌<◌, �
 ghost use Rattle.x7_words.specs.Input.{AtEnd, Fails, Stays};
 ghost use Rattle.x7_packets.specs.Cutting.{IsNeed};
 ghost use Rattle.x7_packets.specs.Mode.{Mode};
-ghost use Rattle.x7_packets.specs.Found.{Found, found_of};
+ghost use Rattle.x7_packets.specs.FoundRun.{FoundRun, found_of};
 ghost use Rattle.x7_packets.specs.PacketsState.{PacketsState};
-ghost use Rattle.x7_packets.specs.Running.{Fills, GivesRun, GivesUp, IsFound, IsLast, PacketsStandFor, Steps};
+ghost use Rattle.x7_packets.specs.Running.{Fills, GivesRun, GivesUp, IsFound, IsLastFound, PacketsStandFor, Steps};
 
 use crate::cutter::{Cut, Cutter};
 use crate::header::Step;
@@ -92,7 +92,7 @@ pub struct Packets {
 impl Model for Packets {
     ghost use Rattle.std.specs.Prelude.{◌≡◌, ◌≤◌, vec_len};
     ghost use Rattle.x7_packets.specs.Cutting.{between};
-    ghost use Rattle.x7_packets.specs.Found.{found_of};
+    ghost use Rattle.x7_packets.specs.FoundRun.{found_of};
     ghost use Rattle.x7_packets.specs.PacketsState.{PacketsState};
 
     ghost Value = { PacketsState };
@@ -104,7 +104,7 @@ impl Model for Packets {
 
 impl Packets {
     ghost use Rattle.std.specs.Borrow.{sem};
-    ghost use Rattle.x7_packets.specs.Running.{GivesNext};
+    ghost use Rattle.x7_packets.specs.Running.{EndsNextCall};
 
     /// The packets of these bytes and then of what an input gives.
     pub fn new(alloc: Global, first: &[u8]) -> Result<Packets, NoMemory>
@@ -142,7 +142,7 @@ impl Packets {
         requires selected { self.old.failed ≡ false → (I.state inputs.old).selected ≡ true }
         requires end { self.old.done ≡ true → AtEnd (I.state inputs.old).rest }
         requires count { self.old.taken ≤ 2 ^ 63 }
-        ensures* next { sem 𝓛 (GivesNext self.entry (I.state inputs.old).rest (I.state inputs.new).rest result) }
+        ensures* next { sem 𝓛 (EndsNextCall self.entry (I.state inputs.old).rest (I.state inputs.new).rest result) }
         ensures failed { OnErr result ((self.old.failed ≡ true) ⊎ Fails (I.state inputs.old) (I.state inputs.new)) }
         ensures selected { OnOk result ((I.state inputs.new).selected ≡ true) }
         ensures stays { self.old.failed ≡ true → OnOk result ⊥ }
@@ -158,7 +158,7 @@ impl Packets {
         requires selected { self.old.failed ≡ false → (I.state inputs.old).selected ≡ true }
         requires end { self.old.done ≡ true → AtEnd (I.state inputs.old).rest }
         requires count { self.old.taken ≤ 2 ^ 63 }
-        ensures ok { OnOk result ((r : Run) → IsLast self.new r → GivesRun self.old self.new (I.state inputs.old).rest (I.state inputs.new).rest r) }
+        ensures ok { OnOk result ((r : Run) → IsLastFound self.new r → GivesRun self.old self.new (I.state inputs.old).rest (I.state inputs.new).rest r) }
         ensures err { OnErr result (GivesUp self.old self.new) }
         ensures failed { OnErr result ((self.old.failed ≡ true) ⊎ Fails (I.state inputs.old) (I.state inputs.new)) }
         ensures selected { OnOk result ((I.state inputs.new).selected ≡ true) }
@@ -190,7 +190,7 @@ impl Packets {
 
     /// The last run that was found.
     fn run(&self) -> Run<'_>
-        ensures { IsLast self.now result }
+        ensures { IsLastFound self.now result }
     {
         let bytes = &self.buffer[self.start..self.at];
         match self.found {
@@ -251,8 +251,8 @@ impl Packets {
 
     /// Ends the runs: with the bytes of no whole word that the cutter keeps, or with none.
     fn finish(&mut self)
-        ensures kept { self.old.cutter.kept ≢ [] → self.new ≡ record self.old { found = Found.Tail; done = true } }
-        ensures none { self.old.cutter.kept ≡ [] → self.new ≡ record self.old { found = Found.End; done = true } }
+        ensures kept { self.old.cutter.kept ≢ [] → self.new ≡ record self.old { found = FoundRun.Tail; done = true } }
+        ensures none { self.old.cutter.kept ≡ [] → self.new ≡ record self.old { found = FoundRun.End; done = true } }
     {
         self.done = true;
         self.found = if self.cutter.kept().is_empty() {

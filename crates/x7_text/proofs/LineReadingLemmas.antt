@@ -1,7 +1,7 @@
 -- A text by its whole lines and what is left, and readers that take it in pieces.
 use Rattle.std.proofs.Common.{◌≡◌, ℕ, ◌+◌, ◌≤◌, true, List, [], ◌∷◌, ◌++◌, Result, Ok, Err, IfErr, length, refl, ap, sym, subst, ◌∙◌, arith, append_assoc, length-append}
 use Rattle.std.specs.List.{flat_map, AllByRecursion}
-use Rattle.x7_text.specs.Lines.{has_no_end, joined, split}
+use Rattle.x7_text.specs.Lines.{has_no_end, joined_lines, split}
 use Rattle.x7_text.specs.LineReading.{FailsFrom, IsCut, ReaderState, StandsFor, TakesPrefix, TakesWhole, WantsAt}
 use Rattle.x7_text.proofs.PieceLemmas.{free-both, joined-ahead, some-line, split-alone}
 use Rattle.x7_text.proofs.SplitLemmas.{joined-split, split-free, split-line, split-some}
@@ -22,11 +22,11 @@ left-some : (ls ts : List (List ℕ)) → (ts ≡ [] → ⊥) → ls ++ ts ≡ [
 left-some [] ts h e = h e
 left-some (l ∷ ls) ts h e = cc
 
-joined-behind : (ls ts : List (List ℕ)) → (ts ≡ [] → ⊥) → joined (ls ++ ts) ≡ ended ls ++ joined ts
+joined-behind : (ls ts : List (List ℕ)) → (ts ≡ [] → ⊥) → joined_lines (ls ++ ts) ≡ ended ls ++ joined_lines ts
 joined-behind [] ts h = refl
 joined-behind (l ∷ ls) ts h =
     joined-ahead l (ls ++ ts) (left-some ls ts h) ∙ ap (λ t. l ++ 10 ∷ t) (joined-behind ls ts h)
-    ∙ sym (ap (λ t. t ++ joined ts) (append_assoc l (10 ∷ []) (ended ls)) ∙ append_assoc l (10 ∷ ended ls) (joined ts))
+    ∙ sym (ap (λ t. t ++ joined_lines ts) (append_assoc l (10 ∷ []) (ended ls)) ∙ append_assoc l (10 ∷ ended ls) (joined_lines ts))
 
 free-left : (ls ts : List (List ℕ)) → AreFree (ls ++ ts) → AreFree ls
 free-left [] ts h = tt
@@ -49,7 +49,7 @@ ended-long (l ∷ ls) = let k = ended-long ls in omega (arith, k, length-append 
 -- the lines of a text are some whole lines, and those of a rest
 module _ (text rest : List ℕ) (ls : List (List ℕ)) (e : split text ≡ ls ++ split rest) where
   pub prefix-is : text ≡ ended ls ++ rest
-  prefix-is = sym (joined-split text) ∙ ap joined e ∙ joined-behind ls (split rest) (split-some rest) ∙ ap (λ t. ended ls ++ t) (joined-split rest)
+  prefix-is = sym (joined-split text) ∙ ap joined_lines e ∙ joined-behind ls (split rest) (split-some rest) ∙ ap (λ t. ended ls ++ t) (joined-split rest)
 
   pub prefix-on : (more : List ℕ) → split (text ++ more) ≡ ls ++ split (rest ++ more)
   prefix-on more =

@@ -3,7 +3,7 @@ use Rattle.std.proofs.Common.{◌≡◌, ◌==◌, ℕ, ◌/◌, ◌%◌, ◌^�
 use Rattle.std.proofs.lemmas.Grind.{common_steps}
 use Rattle.std.specs.List.{flat_map, AllByRecursion}
 use Rattle.x7_text.specs.Digits.{hex_byte, hex_digit, hex_word}
-use Rattle.x7_text.specs.Lines.{has_no_end, joined, on_first, split}
+use Rattle.x7_text.specs.Lines.{has_no_end, joined_lines, on_first, split}
 use Rattle.x7_text.proofs.SplitLemmas.{joined-split, split-free, split-some}
 
 -- ---- texts that hold no line end
@@ -60,15 +60,15 @@ first-free text t ts e = (subst (AllByRecursion (λ line. has_no_end line ≡ tr
 -- the only line of a text is the text, and holds no end
 pub only-line : (text t : List ℕ) → split text ≡ t ∷ [] → (text ≡ t) × (has_no_end text ≡ true)
 only-line text t e =
-    let is : text ≡ t = sym (joined-split text) ∙ ap joined e in
+    let is : text ≡ t = sym (joined-split text) ∙ ap joined_lines e in
     (is, subst (λ s. has_no_end s ≡ true) (sym is) (first-free text t [] e))
 
-pub joined-ahead : (t : List ℕ) (ts : List (List ℕ)) → (ts ≡ [] → ⊥) → joined (t ∷ ts) ≡ t ++ 10 ∷ joined ts
+pub joined-ahead : (t : List ℕ) (ts : List (List ℕ)) → (ts ≡ [] → ⊥) → joined_lines (t ∷ ts) ≡ t ++ 10 ∷ joined_lines ts
 joined-ahead t [] h = absurd (h refl)
 joined-ahead t (u ∷ us) h = refl
 
 -- the first of several lines, its end and the others are the text
 pub some-line : (text t more : List ℕ) → split text ≡ t ∷ split more → (text ≡ t ++ 10 ∷ more) × (has_no_end t ≡ true)
 some-line text t more e =
-    let is : text ≡ t ++ 10 ∷ more = sym (joined-split text) ∙ ap joined e ∙ joined-ahead t (split more) (split-some more) ∙ ap (λ s. t ++ 10 ∷ s) (joined-split more) in
+    let is : text ≡ t ++ 10 ∷ more = sym (joined-split text) ∙ ap joined_lines e ∙ joined-ahead t (split more) (split-some more) ∙ ap (λ s. t ++ 10 ∷ s) (joined-split more) in
     (is, first-free text t (split more) e)

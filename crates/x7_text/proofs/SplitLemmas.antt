@@ -2,7 +2,7 @@
 use Rattle.std.proofs.Common.{◌≡◌, ◌==◌, ℕ, zero, suc, ◌+◌, ◌-◌, ◌<◌, ◌≤◌, Bool, true, false, if◌then◌else◌, List, [], ◌∷◌, ◌++◌, length, take, drop, get_or, refl, ap, sym, ◌∙◌, arith, take_all, length-drop, append_assoc}
 use Rattle.std.proofs.lemmas.Grind.{common_steps}
 use Rattle.std.specs.List.{flat_map, AllByRecursion}
-use Rattle.x7_text.specs.Lines.{has_no_end, joined, on_first, split}
+use Rattle.x7_text.specs.Lines.{has_no_end, joined_lines, on_first, split}
 
 -- the text up to its first line end
 at-end : (b : Bool) (c : ℕ) (cs : List ℕ) → b ≡ true → (if b then [] ∷ split cs else on_first c (split cs)) ≡ [] ∷ split cs
@@ -31,12 +31,12 @@ last-line [] h = refl
 last-line (c ∷ cs) h = before-end (c == 10) c cs cs [] (h 0 (omega arith) (omega arith)) (last-line cs (λ j i l. h (suc j) (omega arith) (omega arith)))
 
 -- the lines of a text joined are the text
-joined-first : (c : ℕ) (ts : List (List ℕ)) → joined (on_first c ts) ≡ c ∷ joined ts
+joined-first : (c : ℕ) (ts : List (List ℕ)) → joined_lines (on_first c ts) ≡ c ∷ joined_lines ts
 joined-first c [] = refl
 joined-first c (t ∷ []) = refl
 joined-first c (t ∷ u ∷ us) = refl
 
-joined-ahead : (ts : List (List ℕ)) → (ts ≡ [] → ⊥) → joined ([] ∷ ts) ≡ 10 ∷ joined ts
+joined-ahead : (ts : List (List ℕ)) → (ts ≡ [] → ⊥) → joined_lines ([] ∷ ts) ≡ 10 ∷ joined_lines ts
 joined-ahead [] h = absurd (h refl)
 joined-ahead (t ∷ ts) h = refl
 
@@ -52,11 +52,11 @@ split-some (c ∷ cs) e = first-some (c == 10) c (split cs) (split cs) e
 number-is : (b c : ℕ) → (c == b) ≡ true → c ≡ b
 number-is b c e = grind (arith, common_steps)
 
-joined-by : (b : Bool) (c : ℕ) (cs : List ℕ) → (b ≡ true → c ≡ 10) → joined (split cs) ≡ cs → joined (if b then [] ∷ split cs else on_first c (split cs)) ≡ c ∷ cs
+joined-by : (b : Bool) (c : ℕ) (cs : List ℕ) → (b ≡ true → c ≡ 10) → joined_lines (split cs) ≡ cs → joined_lines (if b then [] ∷ split cs else on_first c (split cs)) ≡ c ∷ cs
 joined-by true c cs h e = joined-ahead (split cs) (split-some cs) ∙ ap (λ t. 10 ∷ t) e ∙ ap (λ (d : ℕ). d ∷ cs) (sym (h refl))
 joined-by false c cs h e = joined-first c (split cs) ∙ ap (λ t. c ∷ t) e
 
-pub joined-split : (t : List ℕ) → joined (split t) ≡ t
+pub joined-split : (t : List ℕ) → joined_lines (split t) ≡ t
 joined-split [] = refl
 joined-split (c ∷ cs) = joined-by (c == 10) c cs (number-is 10 c) (joined-split cs)
 

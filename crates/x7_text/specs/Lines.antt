@@ -12,10 +12,10 @@ split [] = [] ∷ []
 split (c ∷ cs) = if c == 10 then [] ∷ split cs else on_first c (split cs)
 
 -- the lines with a line end between each two
-abbrev pub joined : List (List ℕ) → List ℕ
-joined [] = []
-joined (t ∷ []) = t
-joined (t ∷ u ∷ us) = t ++ 10 ∷ joined (u ∷ us)
+abbrev pub joined_lines : List (List ℕ) → List ℕ
+joined_lines [] = []
+joined_lines (t ∷ []) = t
+joined_lines (t ∷ u ∷ us) = t ++ 10 ∷ joined_lines (u ∷ us)
 
 -- the text has no line end
 abbrev pub has_no_end : List ℕ → Bool

@@ -5,7 +5,7 @@ ghost use Rattle.x7_words.specs.Word.{AreBytes};
 ghost use Rattle.x7_text.specs.Digits.{hex_byte, hex_digit, hex_word};
 ghost use Rattle.x7_text.specs.DigitValue.{bytes_value, word_value};
 ghost use Rattle.x7_text.specs.EitherCase.{digit_of, pairs};
-ghost use Rattle.x7_text.specs.Lines.{has_no_end, joined, split};
+ghost use Rattle.x7_text.specs.Lines.{has_no_end, joined_lines, split};
 ghost use Rattle.x7_text.specs.Row.{AreFullButLast, rows, line, bytes_text, data_text, open_text, in_line_after, spaced, close};
 
 /// Words given one by one and closed are the `data` lines, and bytes the `bytes` lines.
@@ -52,7 +52,7 @@ pub fn either_case_leads_back()
 /// Lines joined are the text, none holds a line end, and lines that each have their end are split into them and an empty
 /// one.
 pub fn lines_lead_back()
-    ensures joined { (text : List ℕ) → joined (split text) ≡ text }
+    ensures joined { (text : List ℕ) → joined_lines (split text) ≡ text }
     ensures free { (text : List ℕ) → AllByRecursion (λ line. has_no_end line ≡ true) (split text) }
     ensures ended { (lines : List (List ℕ)) → AllByRecursion (λ line. has_no_end line ≡ true) lines
         → split (flat_map (λ line. line ++ 10 ∷ []) lines) ≡ lines ++ [] ∷ [] }

@@ -10,9 +10,9 @@ use Rattle.x7_header.specs.Header.{Contents, longest_header}
 use Rattle.x7_text.specs.Lines.{split}
 use Rattle.x7_text.proofs.LineReadingLemmas.{HasTaken, each-fault}
 use Rattle.x7_listing.specs.Assembly.{AreHeadedAsm}
-use Rattle.x7_listing.specs.Assembling.{AreReadWithRoom, BodyState, FailsFirst, FailsNext, Goes, HasAsmFault, HasLineRoom, HasRead, IsFirstOrGood, IsSound, Output, ReadsFirst, ReadsNext, TakesLines, Unbegun, Waits, Went, behind, body_by, has_any}
+use Rattle.x7_listing.specs.Assembling.{AreReadWithRoom, AsmState, FailsFirst, FailsNext, Goes, HasAsmFault, HasLineRoom, IsOutputOf, IsFirstOrGood, IsSound, Output, ReadsFirst, ReadsNext, TakesLines, Unbegun, Waits, Went, state_behind, asm_state, has_any}
 use Rattle.x7_listing.specs.BitLine.{bit_text, IsHeaderOf, IsHeld}
-use Rattle.x7_listing.specs.Line.{Line, bytes_of, text_of}
+use Rattle.x7_listing.specs.Line.{Line, line_bytes, text_of}
 use Rattle.x7_listing.specs.declared.assembler.AsmFault.{AsmFault}
 use Rattle.x7_listing.specs.declared.assembler.AsmFault.TheVariants as fault
 use Rattle.x7_listing.proofs.AssemblingLemmas.{goes-whole, went-nothing}
@@ -20,7 +20,7 @@ use Rattle.x7_listing.proofs.asm.fast.QuickLemmas.{goes-quick, quick-texts}
 
 -- before any line is read: a header's line, and a line that is no header's
 pub goes-header : (all left : List (List ℕ)) (held out header : List ℕ) (start len c n : ℕ) (checker fresh : CheckerState) → IsHeaderOf held header → length header ≤ longest_header → len ≡ length header → c ≡ n + 1 → Keeps fresh []
-    → Unbegun all (held ∷ left) (body_by out start checker n) → Goes all left (body_by header len fresh c)
+    → Unbegun all (held ∷ left) (asm_state out start checker n) → Goes all left (asm_state header len fresh c)
 goes-header all left held out header start len c n checker fresh h short size up new u =
     let none : drop len header ≡ [] = drop_of_length-le header (omega (arith, size)) in
     record {
@@ -38,7 +38,7 @@ goes-header all left held out header start len c n checker fresh h short size up
 first-is : (s t : List ℕ) (ss ts : List (List ℕ)) → s ∷ ss ≡ t ∷ ts → s ≡ t
 first-is s t ss ts e = cc
 
-pub goes-plain : (all left : List (List ℕ)) (held out : List ℕ) (start n : ℕ) (checker : CheckerState) → ((x : Contents) → IsHeld x → held ≡ bit_text x → ⊥) → Unbegun all (held ∷ left) (body_by out start checker n) → Goes all (held ∷ left) (body_by out start checker n)
+pub goes-plain : (all left : List (List ℕ)) (held out : List ℕ) (start n : ℕ) (checker : CheckerState) → ((x : Contents) → IsHeld x → held ≡ bit_text x → ⊥) → Unbegun all (held ∷ left) (asm_state out start checker n) → Goes all (held ∷ left) (asm_state out start checker n)
 goes-plain all left held out start n checker none u =
     let empty : drop start out ≡ [] = ap (drop start) u.out_is ∙ drop-nil start in
     record {
@@ -78,10 +78,10 @@ pub next-read : {A : Type 0} (r : Result A AsmFault) (old new : Output) (n : ℕ
     → MatchResult r (λ _. AreReadWithRoom new (lines ++ line ∷ [])) (λ f. (left : List (List ℕ)) → HasAsmFault f (lines ++ line ∷ left))
 next-read r old new n line [] m more reads room fails h = absurd (more m)
 next-read (Ok _) old new n line (t ∷ ts) m more reads room fails h =
-    let read : HasRead new ((t ∷ ts) ++ line ∷ []) = λ left.
+    let read : IsOutputOf new ((t ∷ ts) ++ line ∷ []) = λ left.
     let k : n ≡ length ((t ∷ ts) ++ line ∷ []) = m ∙ sym (length-append (t ∷ ts) (line ∷ [])) in
-    subst (λ all. Goes all left (behind new (length ((t ∷ ts) ++ line ∷ [])))) (sym (append_assoc (t ∷ ts) (line ∷ []) left))
-    (subst (λ (j : ℕ). Goes ((t ∷ ts) ++ line ∷ left) left (behind new j)) k (reads ((t ∷ ts) ++ line ∷ left) left (length (t ∷ ts)) m (h.read (line ∷ left)))) in
+    subst (λ all. Goes all left (state_behind new (length ((t ∷ ts) ++ line ∷ [])))) (sym (append_assoc (t ∷ ts) (line ∷ []) left))
+    (subst (λ (j : ℕ). Goes ((t ∷ ts) ++ line ∷ left) left (state_behind new j)) k (reads ((t ∷ ts) ++ line ∷ left) left (length (t ∷ ts)) m (h.read (line ∷ left)))) in
     record { read = read; room = λ _. room }
 next-read (Err f) old new n line (t ∷ ts) m more reads room (inl want) h = λ left. inl want
 next-read (Err f) old new n line (t ∷ ts) m more reads room (inr bad) h = λ left. inr (bad ((t ∷ ts) ++ line ∷ left) left (length (t ∷ ts)) m (h.read (line ∷ left)))
@@ -106,7 +106,7 @@ next-wants (Ok _) old new n line lines m more reads h = tt
 next-wants (Err f) old new n line [] m more reads h = absurd (more m)
 next-wants (Err f) old new n line (t ∷ ts) m more reads h = λ want.
     let all : List (List ℕ) = (t ∷ ts) ++ line ∷ [] in
-    let g : Goes all [] (behind new n) = reads want (h.room refl) all [] (length (t ∷ ts)) m (h.read (line ∷ [])) in
+    let g : Goes all [] (state_behind new n) = reads want (h.room refl) all [] (length (t ∷ ts)) m (h.read (line ∷ [])) in
     inr (new.out, goes-whole all new.out new.start new.checker n g)
 
 -- ---- lines that are read at once
@@ -133,16 +133,16 @@ no-lines [] e = refl
 no-lines (l ∷ ls) e = absurd (omega (arith, e))
 
 pub quick-read : (out new text rest : List ℕ) (start k : ℕ) (checker : CheckerState) (lines : List (List ℕ)) (t : TakesLines text rest out new k) → (length lines ≡ 0 → k ≡ 0) → (length out ≤ 67108864 → length new ≤ 67108864)
-    → HasRead (output_by out start checker) lines → HasRead (output_by new start checker) (lines ++ map text_of t.lines)
+    → IsOutputOf (output_by out start checker) lines → IsOutputOf (output_by new start checker) (lines ++ map text_of t.lines)
 quick-read out new text rest start k checker [] t none limit h =
     let empty : t.lines ≡ [] = no-lines t.lines (sym t.count_is ∙ none refl) in
-    let same : new ≡ out = t.appended ∙ ap (λ ls. out ++ flat_map (bytes_of 0) ls) empty ∙ append-nil out in
-    subst (λ ls. HasRead (output_by new start checker) (map text_of ls)) (sym empty) (subst (λ b. HasRead (output_by b start checker) []) (sym same) h)
+    let same : new ≡ out = t.appended ∙ ap (λ ls. out ++ flat_map (line_bytes 0) ls) empty ∙ append-nil out in
+    subst (λ ls. IsOutputOf (output_by new start checker) (map text_of ls)) (sym empty) (subst (λ b. IsOutputOf (output_by b start checker) []) (sym same) h)
 quick-read out new text rest start k checker (u ∷ us) t none limit h = λ left.
     let texts : List (List ℕ) = map text_of t.lines in
     goes-quick (((u ∷ us) ++ map text_of t.lines) ++ left) left text rest out new start k (length (u ∷ us)) (length ((u ∷ us) ++ map text_of t.lines)) checker t limit
     (length-append (u ∷ us) (map text_of t.lines) ∙ ap (λ (j : ℕ). length (u ∷ us) + j) (length-map t.lines text_of ∙ sym t.count_is))
-    (subst (λ all. Goes all (map text_of t.lines ++ left) (body_by out start checker (length (u ∷ us)))) (sym (append_assoc (u ∷ us) (map text_of t.lines) left)) (h (map text_of t.lines ++ left)))
+    (subst (λ all. Goes all (map text_of t.lines ++ left) (asm_state out start checker (length (u ∷ us)))) (sym (append_assoc (u ∷ us) (map text_of t.lines) left)) (h (map text_of t.lines ++ left)))
 
 -- a line was read before, where one is now
 any-before : (lines : List (List ℕ)) (more : List Line) → (length lines ≡ 0 → length more ≡ 0) → has_any (lines ++ map text_of more) ≡ true → has_any lines ≡ true
@@ -153,8 +153,8 @@ any-before (t ∷ ts) more none e = refl
 all-read : (old new : Output) (text rest : List ℕ) (k : ℕ) (lines : List (List ℕ)) (t : TakesLines text rest old.out new.out k) → new.start ≡ old.start → new.checker ≡ old.checker → (length lines ≡ 0 → k ≡ 0)
     → (length old.out ≤ 67108864 → length new.out ≤ 67108864) → (HasLineRoom old → HasLineRoom new) → AreReadWithRoom old lines → AreReadWithRoom new (lines ++ map text_of t.lines)
 all-read old new text rest k lines t start checker none limit room h = record {
-  read = subst (λ (s : ℕ). HasRead (output_by new.out s new.checker) (lines ++ map text_of t.lines)) (sym start)
-      (subst (λ (x : CheckerState). HasRead (output_by new.out old.start x) (lines ++ map text_of t.lines)) (sym checker) (quick-read old.out new.out text rest old.start k old.checker lines t none limit h.read));
+  read = subst (λ (s : ℕ). IsOutputOf (output_by new.out s new.checker) (lines ++ map text_of t.lines)) (sym start)
+      (subst (λ (x : CheckerState). IsOutputOf (output_by new.out old.start x) (lines ++ map text_of t.lines)) (sym checker) (quick-read old.out new.out text rest old.start k old.checker lines t none limit h.read));
   room = λ e. room (h.room (any-before lines t.lines (λ z. sym t.count_is ∙ none z) e));
 }
 
@@ -171,12 +171,12 @@ at-once-taken old new text rest left k n c size lines is t start checker none li
 
 -- ---- the last line
 
-goes-any : (lines : List (List ℕ)) (line : List ℕ) (all left : List (List ℕ)) (b : BodyState) → Waits (has_any (lines ++ line ∷ [])) all left b → Goes all left b
+goes-any : (lines : List (List ℕ)) (line : List ℕ) (all left : List (List ℕ)) (b : AsmState) → Waits (has_any (lines ++ line ∷ [])) all left b → Goes all left b
 goes-any [] line all left b w = w
 goes-any (t ∷ ts) line all left b w = w
 
-pub last-read : (b : Output) (lines : List (List ℕ)) (line : List ℕ) → HasRead b (lines ++ line ∷ []) → AreHeadedAsm (lines ++ line ∷ []) (Ok b.out)
+pub last-read : (b : Output) (lines : List (List ℕ)) (line : List ℕ) → IsOutputOf b (lines ++ line ∷ []) → AreHeadedAsm (lines ++ line ∷ []) (Ok b.out)
 last-read b lines line h =
     let all : List (List ℕ) = lines ++ line ∷ [] in
     subst (λ ls. AreHeadedAsm ls (Ok b.out)) (append-nil all)
-    (goes-whole (all ++ []) b.out b.start b.checker (length all) (goes-any lines line (all ++ []) [] (behind b (length all)) (h [])))
+    (goes-whole (all ++ []) b.out b.start b.checker (length all) (goes-any lines line (all ++ []) [] (state_behind b (length all)) (h [])))

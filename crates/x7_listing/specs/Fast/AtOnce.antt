@@ -4,12 +4,12 @@ use Rattle.x7_packets.specs.PacketWords.{no_op}
 use Rattle.x7_packets.specs.declared.header.Step.{Step}
 use Rattle.x7_packets.specs.declared.header.Step.TheVariants.{Nop}
 use Rattle.x7_regs.specs.Register.{reg_name}
-use Rattle.x7_listing.specs.HeadLine.{command_line, head_text}
+use Rattle.x7_listing.specs.HeadLine.{command_line, text_of_head}
 
 -- the lines of a word in a header's place, so many times
 abbrev pub equal_lines : Step → ℕ → ℕ → List ℕ
 equal_lines step w zero = []
-equal_lines step w (suc n) = head_text step w ++ equal_lines step w n
+equal_lines step w (suc n) = text_of_head step w ++ equal_lines step w n
 
 -- the lines of so many no-ops
 abbrev pub nop_lines : ℕ → List ℕ
@@ -36,15 +36,15 @@ abbrev pub row_text : List ℕ → List ℕ
 row_text row = take (get_or row 31 0) row
 
 -- the rows are those of the numbers from n up
-abbrev pub AreRows : (ℕ → List ℕ) → ℕ → List (List ℕ) → Type 0
-AreRows text n [] = Unit {0}
-AreRows text n (row ∷ rows) = (row_text row ≡ text n) × AreRows text (suc n) rows
+abbrev pub AreRowsFrom : (ℕ → List ℕ) → ℕ → List (List ℕ) → Type 0
+AreRowsFrom text n [] = Unit {0}
+AreRowsFrom text n (row ∷ rows) = (row_text row ≡ text n) × AreRowsFrom text (suc n) rows
 
 -- two bytes differ
-abbrev pub differs : ℕ → ℕ → Bool
-differs a b = not (a == b)
+abbrev pub bytes_differ : ℕ → ℕ → Bool
+bytes_differ a b = not (a == b)
 
 -- what stands where a line has words: eight bytes for each, the first behind one at place p, the others nine further each
-abbrev pub words_at : List ℕ → ℕ → ℕ → List (List ℕ)
-words_at text p zero = []
-words_at text p (suc n) = take 8 (drop (p + 1) text) ∷ words_at text (p + 9) n
+abbrev pub words_in_row : List ℕ → ℕ → ℕ → List (List ℕ)
+words_in_row text p zero = []
+words_in_row text p (suc n) = take 8 (drop (p + 1) text) ∷ words_in_row text (p + 9) n

@@ -4,7 +4,7 @@ ghost use Rattle.x7_text.specs.Reads.{Reads};
 ghost use Rattle.x7_crc.specs.Checking.{check_of_bytes, Keeps};
 ghost use Rattle.x7_listing.specs.Assembly.{AreHeadedAsm};
 ghost use Rattle.x7_listing.specs.Assembling.{AreReadWithRoom, FailsFirst, FailsNext, HasAsmFault, HasLineRoom, IsFirstOrGood, Output, ReadsFirst, ReadsNext, TakesLines};
-ghost use Rattle.x7_listing.specs.Line.{bytes_of, FitsLine, text_of};
+ghost use Rattle.x7_listing.specs.Line.{line_bytes, FitsLine, text_of};
 ghost use Rattle.x7_listing.specs.declared.assembler.AsmFault.{AsmFault};
 
 use super::fast::{WholeLines, next_line, put_quick_behind};
@@ -23,7 +23,7 @@ fn put_checked(out: &mut Vec<u8>, start: usize, checker: &mut Checker, line: &[u
     requires room { vec_len out.old + 32 ≤ vec_capacity out.old }
     requires start { start ≤ length out.old.items }
     requires keeps { Keeps checker.old (drop start out.old.items) }
-    ensures reads { Reads FitsLine text_of (bytes_of (check_of_bytes (drop start out.old.items))) result line.now out.old.items out.new.items }
+    ensures reads { Reads FitsLine text_of (line_bytes (check_of_bytes (drop start out.old.items))) result line.now out.old.items out.new.items }
     ensures start { start ≤ length out.new.items }
     ensures keeps { Keeps checker.new (drop start out.new.items) }
 {

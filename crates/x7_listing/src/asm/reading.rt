@@ -7,7 +7,7 @@ ghost use Rattle.x7_regs.specs.declared.command.Command.{Command};
 ghost use Rattle.x7_packets.specs.PacketWords.{type1_read, type1_write, type2_read, type2_write};
 ghost use Rattle.x7_text.specs.Appends.{Appends};
 ghost use Rattle.x7_text.specs.Digits.{hex_word};
-ghost use Rattle.x7_listing.specs.Line.{access_text, bytes_of, FitsLine, IsAccess, IsPlain, text_of};
+ghost use Rattle.x7_listing.specs.Line.{access_text, line_bytes, FitsLine, IsAccess, IsPlain, text_of};
 ghost use Rattle.x7_listing.specs.BitLine.{IsFirstSpace};
 ghost use Rattle.x7_text.specs.Reads.{Reads, StaysWithin};
 
@@ -192,7 +192,7 @@ fn put_read(out: &mut Vec<u8>, text: &[u8]) -> bool
 /// Appends the bytes of a line that is one word, or empty.
 fn put_plain(out: &mut Vec<u8>, check: u32, line: &[u8]) -> bool
     requires { vec_len out.old + 32 ≤ vec_capacity out.old }
-    ensures reads { Reads IsPlain text_of (bytes_of check) result line.now out.old.items out.new.items }
+    ensures reads { Reads IsPlain text_of (line_bytes check) result line.now out.old.items out.new.items }
     ensures room { StaysWithin out.old out.new 32 }
 {
     if is_same(line, b"") {
@@ -217,7 +217,7 @@ fn put_plain(out: &mut Vec<u8>, check: u32, line: &[u8]) -> bool
 /// Appends the bytes of a line, where the bytes of the lines before have this check. `false`: the text is that of no line.
 pub(crate) fn put_line(out: &mut Vec<u8>, check: u32, line: &[u8]) -> bool
     requires { vec_len out.old + 32 ≤ vec_capacity out.old }
-    ensures reads { Reads FitsLine text_of (bytes_of check) result line.now out.old.items out.new.items }
+    ensures reads { Reads FitsLine text_of (line_bytes check) result line.now out.old.items out.new.items }
     ensures room { StaysWithin out.old out.new 32 }
 {
     if is_same(line, b"nop") {

@@ -4,7 +4,7 @@ ghost use Rattle.x7_regs.specs.Register.{reg_name};
 ghost use Rattle.x7_text.specs.Appends.{Appends};
 ghost use Rattle.x7_text.specs.Digits.{hex_word};
 ghost use Rattle.x7_text.specs.Row.{close};
-ghost use Rattle.x7_listing.specs.HeadLine.{command_line, head_line, head_text};
+ghost use Rattle.x7_listing.specs.HeadLine.{command_line, line_of_head, text_of_head};
 
 use x7_packets::{
     NO_OP, SYNC_WORD, Step, TYPE2_READ_KIND, TYPE2_WRITE_KIND, type1_read, type1_write,
@@ -32,11 +32,11 @@ pub enum HeadLine {
 }
 
 impl HeadLine {
-    ghost use Rattle.x7_listing.specs.HeadLine.{head_line, HasRegister, line_text, line_word};
+    ghost use Rattle.x7_listing.specs.HeadLine.{line_of_head, HasRegister, line_text, line_word};
 
     /// The line that stands for just this word, where the word isn't bad and there is one.
     pub(crate) fn new(step: Step, w: u32) -> HeadLine
-        ensures line { result ≡ head_line step w }
+        ensures line { result ≡ line_of_head step w }
         ensures back { line_word result ≡ w }
         ensures register { HasRegister result }
     {
@@ -119,7 +119,7 @@ fn put_whole_word(text: &mut Vec<u8>, word: &[u8; 5], w: u32)
 /// Appends the line of a word in a header's place, behind an open line of `in_line` words.
 pub(crate) fn put_head(text: &mut Vec<u8>, in_line: usize, step: Step, w: u32)
     requires { vec_len text.old + 48 ≤ vec_capacity text.old }
-    ensures appends { Appends text.old text.new (close in_line ++ head_text step w) 48 }
+    ensures appends { Appends text.old text.new (close in_line ++ text_of_head step w) 48 }
 {
     put_close(text, in_line);
     HeadLine::new(step, w).put(text);

@@ -1,12 +1,12 @@
 //! The lines of short writes, ready to be stored at once: rows of 32 bytes, the last of which says how many are text.
 ghost use Rattle.std.specs.Prelude.{◌≡◌, ℕ, List, ◌<◌};
-ghost use Rattle.x7_listing.specs.Fast.AtOnce.{AreRows, command_lines, row_text, write_name, write_start};
+ghost use Rattle.x7_listing.specs.Fast.AtOnce.{AreRowsFrom, command_lines, row_text, write_name, write_start};
 
 /// A row of a table.
 #[inline(always)]
 fn row_in(rows: &[[u8; 32]; 32], n: usize) -> &[u8; 32]
     requires { n < 32 }
-    ensures { (text : ℕ → List ℕ) → AreRows text 0 rows.now → row_text result.now ≡ text n }
+    ensures { (text : ℕ → List ℕ) → AreRowsFrom text 0 rows.now → row_text result.now ≡ text n }
 {
     &rows[n]
 }

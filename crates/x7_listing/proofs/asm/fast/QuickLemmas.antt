@@ -11,20 +11,20 @@ use Rattle.x7_crc.proofs.CheckerLemmas.{still-keeps}
 use Rattle.x7_text.specs.Lines.{split}
 use Rattle.x7_text.proofs.SplitLemmas.{split-line}
 use Rattle.x7_listing.specs.Assembly.{assembled, with_line}
-use Rattle.x7_listing.specs.Assembling.{body_by, Goes, Opens, TakesFirst, TakesLines}
-use Rattle.x7_listing.specs.Line.{Line, bytes_of, FitsLine, IsListed, text_of}
-use Rattle.x7_listing.specs.Listed.{ended_text, texts_of}
+use Rattle.x7_listing.specs.Assembling.{asm_state, Goes, Opens, TakesFirst, TakesLines}
+use Rattle.x7_listing.specs.Line.{Line, line_bytes, FitsLine, IsListed, text_of}
+use Rattle.x7_listing.specs.Listed.{ended_text, ended_texts}
 use Rattle.x7_listing.proofs.RoundLemmas.{line-free, same-bytes}
 
-texts-ahead : (ls : List Line) (rest : List ℕ) → AllByRecursion FitsLine ls → AllByRecursion IsListed ls → split (texts_of ls ++ rest) ≡ map text_of ls ++ split rest
+texts-ahead : (ls : List Line) (rest : List ℕ) → AllByRecursion FitsLine ls → AllByRecursion IsListed ls → split (ended_texts ls ++ rest) ≡ map text_of ls ++ split rest
 texts-ahead [] rest f i = refl
 texts-ahead (l ∷ ls) rest f i =
-    ap split (append_assoc (text_of l ++ 10 ∷ []) (texts_of ls) rest ∙ append_assoc (text_of l) (10 ∷ []) (texts_of ls ++ rest)) ∙ split-line (text_of l) (texts_of ls ++ rest) (line-free l f.0 i.0) ∙ ap (λ t. text_of l ∷ t) (texts-ahead ls rest f.1 i.1)
+    ap split (append_assoc (text_of l ++ 10 ∷ []) (ended_texts ls) rest ∙ append_assoc (text_of l) (10 ∷ []) (ended_texts ls ++ rest)) ∙ split-line (text_of l) (ended_texts ls ++ rest) (line-free l f.0 i.0) ∙ ap (λ t. text_of l ∷ t) (texts-ahead ls rest f.1 i.1)
 
-bytes-behind : (bytes : List ℕ) (ls : List Line) → AllByRecursion IsListed ls → fold with_line bytes ls ≡ bytes ++ flat_map (bytes_of 0) ls
+bytes-behind : (bytes : List ℕ) (ls : List Line) → AllByRecursion IsListed ls → fold with_line bytes ls ≡ bytes ++ flat_map (line_bytes 0) ls
 bytes-behind bytes [] i = sym (append-nil bytes)
 bytes-behind bytes (l ∷ ls) i =
-    bytes-behind (with_line bytes l) ls i.1 ∙ append_assoc bytes (bytes_of (check_of_bytes bytes) l) (flat_map (bytes_of 0) ls) ∙ ap (λ b. bytes ++ (b ++ flat_map (bytes_of 0) ls)) (same-bytes (check_of_bytes bytes) l i.0)
+    bytes-behind (with_line bytes l) ls i.1 ∙ append_assoc bytes (line_bytes (check_of_bytes bytes) l) (flat_map (line_bytes 0) ls) ∙ ap (λ b. bytes ++ (b ++ flat_map (line_bytes 0) ls)) (same-bytes (check_of_bytes bytes) l i.0)
 
 pub dropped-twice : (a b : ℕ) (t : List ℕ) → drop b (drop a t) ≡ drop (a + b) t
 dropped-twice zero b t = ap (λ (k : ℕ). drop k t) (omega arith)
@@ -32,7 +32,7 @@ dropped-twice (suc a) b [] = drop-nil b ∙ sym (drop-nil (suc a + b))
 dropped-twice (suc a) b (c ∷ cs) = let e : suc (a + b) ≡ suc a + b = omega arith in dropped-twice a b cs ∙ ap (λ (k : ℕ). drop k (c ∷ cs)) e
 
 -- a text begins with one line, of a word and a row
-pub takes-row : (l : Line) (word row text old new : List ℕ) (a b : ℕ) → FitsLine l → IsListed l → text_of l ≡ word ++ row → take a text ≡ word → take b (drop a text) ≡ row → get_or text (a + b) 0 ≡ 10 → a + b < length text → new ≡ old ++ bytes_of 0 l
+pub takes-row : (l : Line) (word row text old new : List ℕ) (a b : ℕ) → FitsLine l → IsListed l → text_of l ≡ word ++ row → take a text ≡ word → take b (drop a text) ≡ row → get_or text (a + b) 0 ≡ 10 → a + b < length text → new ≡ old ++ line_bytes 0 l
     → TakesFirst text old new (a + b + 1) 1
 takes-row l word row text old new a b f i e w r end h n =
     let both : drop b (drop a text) ≡ drop (a + b) text = dropped-twice a b text in
@@ -43,7 +43,7 @@ takes-row l word row text old new a b f i e w r end h n =
       some = omega arith;
       within = omega (arith, h);
       few = omega arith;
-      takes = record { lines = l ∷ []; fit = (f, tt); listed = (i, tt); text_is = is ∙ ap (λ t. t ++ drop (a + b + 1) text) (sym (append-nil (ended_text l))); appended = n ∙ ap (λ t. old ++ t) (sym (append-nil (bytes_of 0 l))); count_is = refl };
+      takes = record { lines = l ∷ []; fit = (f, tt); listed = (i, tt); text_is = is ∙ ap (λ t. t ++ drop (a + b + 1) text) (sym (append-nil (ended_text l))); appended = n ∙ ap (λ t. old ++ t) (sym (append-nil (line_bytes 0 l))); count_is = refl };
     }
 
 pub takes-both : (text mid rest old out new : List ℕ) (j k : ℕ) → TakesLines text mid old out j → TakesLines mid rest out new k → TakesLines text rest old new (j + k)
@@ -51,8 +51,8 @@ takes-both text mid rest old out new j k s t = record {
   lines = s.lines ++ t.lines;
   fit = all-append FitsLine s.lines t.lines s.fit t.fit;
   listed = all-append IsListed s.lines t.lines s.listed t.listed;
-  text_is = s.text_is ∙ ap (λ r. texts_of s.lines ++ r) t.text_is ∙ sym (append_assoc (texts_of s.lines) (texts_of t.lines) rest) ∙ ap (λ r. r ++ rest) (sym (flat_map-append ended_text s.lines t.lines));
-  appended = t.appended ∙ ap (λ b. b ++ flat_map (bytes_of 0) t.lines) s.appended ∙ append_assoc old (flat_map (bytes_of 0) s.lines) (flat_map (bytes_of 0) t.lines) ∙ ap (λ b. old ++ b) (sym (flat_map-append (bytes_of 0) s.lines t.lines));
+  text_is = s.text_is ∙ ap (λ r. ended_texts s.lines ++ r) t.text_is ∙ sym (append_assoc (ended_texts s.lines) (ended_texts t.lines) rest) ∙ ap (λ r. r ++ rest) (sym (flat_map-append ended_text s.lines t.lines));
+  appended = t.appended ∙ ap (λ b. b ++ flat_map (line_bytes 0) t.lines) s.appended ∙ append_assoc old (flat_map (line_bytes 0) s.lines) (flat_map (line_bytes 0) t.lines) ∙ ap (λ b. old ++ b) (sym (flat_map-append (line_bytes 0) s.lines t.lines));
   count_is = omega (arith, s.count_is, t.count_is, length-append s.lines t.lines);
 }
 
@@ -73,9 +73,9 @@ quick-texts text rest old new k t = ap split t.text_is ∙ texts-ahead t.lines r
 
 -- a text of which lines are read at once is read so much further
 pub goes-quick : (all left : List (List ℕ)) (text rest out new : List ℕ) (start k n c : ℕ) (checker : CheckerState) (t : TakesLines text rest out new k) → (length out ≤ 67108864 → length new ≤ 67108864) → c ≡ n + k
-    → Goes all (map text_of t.lines ++ left) (body_by out start checker n) → Goes all left (body_by new start checker c)
+    → Goes all (map text_of t.lines ++ left) (asm_state out start checker n) → Goes all left (asm_state new start checker c)
 goes-quick all left text rest out new start k n c checker t limit e g =
-    let added : List ℕ = flat_map (bytes_of 0) t.lines in
+    let added : List ℕ = flat_map (line_bytes 0) t.lines in
     let body : drop start new ≡ drop start out ++ added = ap (drop start) t.appended ∙ drop-append-le start out added g.long in
     let prefix : take start new ≡ take start out = ap (take start) t.appended ∙ take-append-le start out added g.long in
     let size : length new ≡ length out + length added = ap length t.appended ∙ length-append out added in
@@ -105,7 +105,7 @@ goes-quick all left text rest out new start k n c checker t limit e g =
     }
 
 -- a text begins with one line, of a word and a row, whose end stands at a given place
-pub takes-line : (l : Line) (word row text old new : List ℕ) (a b end size : ℕ) → FitsLine l → IsListed l → text_of l ≡ word ++ row → take a text ≡ word → take b (drop a text) ≡ row → end ≡ a + b → size ≡ a + b + 1 → get_or text end 0 ≡ 10 → a + b < length text → new ≡ old ++ bytes_of 0 l
+pub takes-line : (l : Line) (word row text old new : List ℕ) (a b end size : ℕ) → FitsLine l → IsListed l → text_of l ≡ word ++ row → take a text ≡ word → take b (drop a text) ≡ row → end ≡ a + b → size ≡ a + b + 1 → get_or text end 0 ≡ 10 → a + b < length text → new ≡ old ++ line_bytes 0 l
     → TakesFirst text old new size 1
 takes-line l word row text old new a b end size f i e w r at whole is h n =
     subst (λ (k : ℕ). TakesFirst text old new k 1) (sym whole) (takes-row l word row text old new a b f i e w r (ap (λ (k : ℕ). get_or text k 0) (sym at) ∙ is) h n)

@@ -19,16 +19,16 @@ use Rattle.x7_text.specs.Row.{spaced}
 use Rattle.x7_text.proofs.FewLemmas.{hex_front}
 use Rattle.x7_text.proofs.WordLemmas.{hex_words}
 use Rattle.x7_listing.specs.Assembling.{TakesFirst}
-use Rattle.x7_listing.specs.Fast.AtOnce.{words_at}
+use Rattle.x7_listing.specs.Fast.AtOnce.{words_in_row}
 use Rattle.x7_listing.specs.Line.{Bytes, Data}
 use Rattle.x7_listing.proofs.asm.fast.QuickLemmas.{takes-line}
 
 -- words behind spaces, one after another
-told-at : (n p : ℕ) (text : List ℕ) → p + 9 * n ≤ length text → ((k : ℕ) → k < n → get_or text (p + 9 * k) 0 ≡ 32) → take (p + 9 * n) text ≡ take p text ++ flat_map (λ (w : List ℕ). 32 ∷ w) (words_at text p n)
+told-at : (n p : ℕ) (text : List ℕ) → p + 9 * n ≤ length text → ((k : ℕ) → k < n → get_or text (p + 9 * k) 0 ≡ 32) → take (p + 9 * n) text ≡ take p text ++ flat_map (λ (w : List ℕ). 32 ∷ w) (words_in_row text p n)
 told-at zero p text h s = ap (λ (k : ℕ). take k text) (let e : p + 9 * 0 ≡ p = omega arith in e) ∙ sym (append-nil (take p text))
 told-at (suc n) p text h s =
     let word : List ℕ = take 8 (drop (p + 1) text) in
-    let rest : List ℕ = flat_map (λ (w : List ℕ). 32 ∷ w) (words_at text (p + 9) n) in
+    let rest : List ℕ = flat_map (λ (w : List ℕ). 32 ∷ w) (words_in_row text (p + 9) n) in
     let space : get_or text p 0 ≡ 32 = ap (λ (k : ℕ). get_or text k 0) (let e : p ≡ p + 9 * 0 = omega arith in e) ∙ s 0 (omega arith) in
     let nine : take (p + 9) text ≡ take p text ++ 32 ∷ take 8 (drop (p + 1) text) =
     ap (λ (k : ℕ). take k text) (let e : p + 9 ≡ p + 1 + 8 = omega arith in e) ∙ take-add (p + 1) 8 text
@@ -38,11 +38,11 @@ told-at (suc n) p text h s =
     ∙ ap (λ t. t ++ rest) nine ∙ append_assoc (take p text) (32 ∷ word) rest
 
 -- words one after another, cut apart again
-cut-again : (n p : ℕ) (text : List ℕ) → p + 9 * n ≤ length text → first_chunks 8 n (flat_map (λ (w : List ℕ). w) (words_at text p n)) ≡ words_at text p n
+cut-again : (n p : ℕ) (text : List ℕ) → p + 9 * n ≤ length text → first_chunks 8 n (flat_map (λ (w : List ℕ). w) (words_in_row text p n)) ≡ words_in_row text p n
 cut-again zero p text h = refl
 cut-again (suc n) p text h =
     let word : List ℕ = take 8 (drop (p + 1) text) in
-    let rest : List ℕ = flat_map (λ (w : List ℕ). w) (words_at text (p + 9) n) in
+    let rest : List ℕ = flat_map (λ (w : List ℕ). w) (words_in_row text (p + 9) n) in
     let long : length (take 8 (drop (p + 1) text)) ≡ 8 = length-take-le 8 (drop (p + 1) text) (omega (arith, length-drop (p + 1) text)) in
     ap (λ (t : List ℕ). t ∷ first_chunks 8 n (drop 8 (word ++ rest))) (take_at word rest 8 long)
     ∙ ap (λ (t : List ℕ). word ∷ first_chunks 8 n t) (drop_at word rest 8 long) ∙ ap (λ (t : List (List ℕ)). word ∷ t) (cut-again n (p + 9) text (omega arith))
@@ -52,7 +52,7 @@ in-a-row : (a b c d e f g h ab cd ef gh low high : List ℕ) → ab ≡ a ++ b �
 in-a-row a b c d e f g h ab cd ef gh low high p q r s t u = rw (t, u, p, q, r, s) (simp (append_assoc, append-nil))
 
 pub row-of : (text low high ab cd ef gh : List ℕ) → 77 ≤ length text → ab ≡ chunk 5 8 text ++ chunk 14 8 text → cd ≡ chunk 23 8 text ++ chunk 32 8 text → ef ≡ chunk 41 8 text ++ chunk 50 8 text → gh ≡ chunk 59 8 text ++ chunk 68 8 text → low ≡ ab ++ cd → high ≡ ef ++ gh
-    → pick_l 0 (low ++ high) (range_with_len 0 64) ≡ flat_map (λ (w : List ℕ). w) (words_at text 4 8)
+    → pick_l 0 (low ++ high) (range_with_len 0 64) ≡ flat_map (λ (w : List ℕ). w) (words_in_row text 4 8)
 row-of text low high ab cd ef gh long p q r s t u =
     pick_l_whole 0 (low ++ high) 64 (omega (arith, length-append low high, ap length t, ap length u, length-append ab cd, length-append ef gh, two 5 14 ab (omega (arith, long)) (omega (arith, long)) p, two 23 32 cd (omega (arith, long)) (omega (arith, long)) q, two 41 50 ef (omega (arith, long)) (omega (arith, long)) r, two 59 68 gh (omega (arith, long)) (omega (arith, long)) s))
     ∙ in-a-row (chunk 5 8 text) (chunk 14 8 text) (chunk 23 8 text) (chunk 32 8 text) (chunk 41 8 text) (chunk 50 8 text) (chunk 59 8 text) (chunk 68 8 text) ab cd ef gh low high p q r s t u
@@ -94,19 +94,19 @@ pub front-six : (text word : List ℕ) → 77 ≤ length text → (b : Bool) →
 front-six text word long b e h = sym (six text long) ∙ is-same b _ word e h
 
 -- the digits of the first words are the first digits
-first-digits : (n k p : ℕ) (text : List ℕ) → p + 9 * (n + k) ≤ length text → take (8 * n) (flat_map (λ (w : List ℕ). w) (words_at text p (n + k))) ≡ flat_map (λ (w : List ℕ). w) (words_at text p n)
+first-digits : (n k p : ℕ) (text : List ℕ) → p + 9 * (n + k) ≤ length text → take (8 * n) (flat_map (λ (w : List ℕ). w) (words_in_row text p (n + k))) ≡ flat_map (λ (w : List ℕ). w) (words_in_row text p n)
 first-digits zero k p text h = refl
 first-digits (suc n) k p text h =
     let word : List ℕ = take 8 (drop (p + 1) text) in
-    let rest : List ℕ = flat_map (λ (w : List ℕ). w) (words_at text (p + 9) (n + k)) in
+    let rest : List ℕ = flat_map (λ (w : List ℕ). w) (words_in_row text (p + 9) (n + k)) in
     let long : length (take 8 (drop (p + 1) text)) ≡ 8 = length-take-le 8 (drop (p + 1) text) (omega (arith, length-drop (p + 1) text, h)) in
     let size : 8 * suc n ≡ length (take 8 (drop (p + 1) text)) + 8 * n = omega (arith, long) in
-    ap (λ (m : ℕ). take (8 * suc n) (flat_map (λ (w : List ℕ). w) (words_at text p m))) (let e : suc n + k ≡ suc (n + k) = omega arith in e)
+    ap (λ (m : ℕ). take (8 * suc n) (flat_map (λ (w : List ℕ). w) (words_in_row text p m))) (let e : suc n + k ≡ suc (n + k) = omega arith in e)
     ∙ ap (λ (m : ℕ). take m (word ++ rest)) size ∙ take-append-add word rest (8 * n) ∙ ap (λ t. word ++ t) (first-digits n k (p + 9) text (omega (arith, h)))
 
 -- a line of words, as many as there are eight digits
 pub takes-words : (text bs old all new digits : List ℕ) (n count end : ℕ) → 77 ≤ length text → take 4 text ≡ codes "data" → ((k : ℕ) → k < count → get_or text (4 + 9 * k) 0 ≡ 32) → get_or text (4 + 9 * count) 0 ≡ 10 → length bs ≡ 32 → AreBytes bs
-    → 0 < count → count ≤ 8 → 8 * count ≤ n → digits ≡ flat_map (λ (w : List ℕ). w) (words_at text 4 8) → take n digits ≡ take n (flat_map hex_byte bs) → end ≡ length old + 4 * count → all ≡ old ++ bs → new ≡ take end all → TakesFirst text old new (5 + 9 * count) 1
+    → 0 < count → count ≤ 8 → 8 * count ≤ n → digits ≡ flat_map (λ (w : List ℕ). w) (words_in_row text 4 8) → take n digits ≡ take n (flat_map hex_byte bs) → end ≡ length old + 4 * count → all ≡ old ++ bs → new ≡ take end all → TakesFirst text old new (5 + 9 * count) 1
 takes-words text bs old all new digits n count end long word spaces last full fit some few most are same at put cut =
     let row : List ℕ = take (4 * count) bs in
     let ws : List ℕ = words_of_bytes (take (4 * count) bs) in
@@ -114,14 +114,14 @@ takes-words text bs old all new digits n count end long word spaces last full fi
     let fits : AreBytes (take (4 * count) bs) = all_take (λ b. b < 256) (4 * count) bs fit in
     let number : length (words_of_bytes (take (4 * count) bs)) ≡ count = length-words (take (4 * count) bs) count size in
     let parts : 8 ≡ count + (8 - count) = omega (arith, few) in
-    let front : take (8 * count) digits ≡ flat_map (λ (w : List ℕ). w) (words_at text 4 count) =
-    ap (take (8 * count)) are ∙ ap (λ (m : ℕ). take (8 * count) (flat_map (λ (w : List ℕ). w) (words_at text 4 m))) parts ∙ first-digits count (8 - count) 4 text (omega (arith, long, few)) in
+    let front : take (8 * count) digits ≡ flat_map (λ (w : List ℕ). w) (words_in_row text 4 count) =
+    ap (take (8 * count)) are ∙ ap (λ (m : ℕ). take (8 * count) (flat_map (λ (w : List ℕ). w) (words_in_row text 4 m))) parts ∙ first-digits count (8 - count) 4 text (omega (arith, long, few)) in
     let hex : take (8 * count) digits ≡ flat_map hex_byte (take (4 * count) bs) =
     sym (take-take (8 * count) n digits most) ∙ ap (take (8 * count)) same ∙ take-take (8 * count) n (flat_map hex_byte bs) most
     ∙ ap (λ (m : ℕ). take m (flat_map hex_byte bs)) (let e : 8 * count ≡ 2 * (4 * count) = omega arith in e) ∙ hex_front (4 * count) bs (omega (arith, full, few)) in
-    let words : words_at text 4 count ≡ map hex_word (words_of_bytes (take (4 * count) bs)) =
+    let words : words_in_row text 4 count ≡ map hex_word (words_of_bytes (take (4 * count) bs)) =
     sym (cut-again count 4 text (omega (arith, long, few))) ∙ ap (first_chunks 8 count) (sym front ∙ hex) ∙ hex_words count (take (4 * count) bs) size (each-byte (take (4 * count) bs) fits) in
-    let told : take 4 text ++ take (9 * count) (drop 4 text) ≡ take 4 text ++ flat_map (λ (w : List ℕ). 32 ∷ w) (words_at text 4 count) =
+    let told : take 4 text ++ take (9 * count) (drop 4 text) ≡ take 4 text ++ flat_map (λ (w : List ℕ). 32 ∷ w) (words_in_row text 4 count) =
     sym (take-add 4 (9 * count) text) ∙ told-at count 4 text (omega (arith, long, few)) spaces in
     let shown : take (9 * count) (drop 4 text) ≡ flat_map spaced (words_of_bytes (take (4 * count) bs)) =
     append_cancel_left (take 4 text) _ _ told ∙ ap (flat_map (λ (w : List ℕ). 32 ∷ w)) words ∙ flat_map-map (λ (w : List ℕ). 32 ∷ w) hex_word (words_of_bytes (take (4 * count) bs)) in

@@ -13,9 +13,9 @@ use Rattle.x7_regs.specs.Register.{reg_name}
 use Rattle.x7_text.specs.Digits.{hex_word}
 use Rattle.x7_packets.specs.PacketWords.{type1_write}
 use Rattle.x7_listing.specs.Assembling.{TakesFirst}
-use Rattle.x7_listing.specs.Fast.AtOnce.{command_lines, differs, write_line, write_start}
+use Rattle.x7_listing.specs.Fast.AtOnce.{command_lines, bytes_differ, write_line, write_start}
 use Rattle.x7_listing.specs.HeadLine.{command_line}
-use Rattle.x7_listing.specs.Line.{Line, Data, Write, bytes_of, text_of}
+use Rattle.x7_listing.specs.Line.{Line, Data, Write, line_bytes, text_of}
 use Rattle.x7_listing.specs.Listed.{cmd_line, ended_text}
 use Rattle.x7_listing.proofs.ListedLemmas.{cmd-text}
 use Rattle.x7_listing.proofs.asm.fast.QuickLemmas.{dropped-twice}
@@ -27,11 +27,11 @@ same-step : (b : Bool) (n r x y : ℕ) (xs ys : List ℕ) → (b ≡ true → x 
 same-step true n r x y xs ys e h more = let s = e refl in ap (λ (k : ℕ). k ∷ take n xs) s ∙ ap (λ t. y ∷ t) (more (omega (arith, h)))
 same-step false n r x y xs ys e h more = absurd (omega (arith, h))
 
-same-front : (n : ℕ) (xs ys : List ℕ) → n ≤ prefix_len (λ b. not b) (zip2 differs xs ys) → take n xs ≡ take n ys
+same-front : (n : ℕ) (xs ys : List ℕ) → n ≤ prefix_len (λ b. not b) (zip2 bytes_differ xs ys) → take n xs ≡ take n ys
 same-front zero xs ys h = refl
 same-front (suc n) [] ys h = absurd (omega (arith, h))
 same-front (suc n) (x ∷ xs) [] h = absurd (omega (arith, h))
-same-front (suc n) (x ∷ xs) (y ∷ ys) h = same-step (x == y) n (prefix_len (λ b. not b) (zip2 differs xs ys)) x y xs ys (is-eq x y) h (same-front n xs ys)
+same-front (suc n) (x ∷ xs) (y ∷ ys) h = same-step (x == y) n (prefix_len (λ b. not b) (zip2 bytes_differ xs ys)) x y xs ys (is-eq x y) h (same-front n xs ys)
 
 few-set : (n m : ℕ) (ds : List Bool) → length ds ≡ 32 → n ≤ 32 → m ≡ mask_l ds → n ≤ count_trailing_zeros 64 m → n ≤ prefix_len (λ b. not b) ds
 few-set n m ds long few e h =
@@ -41,18 +41,18 @@ few-set n m ds long few e h =
       | inr some ↦ omega (arith, ap (count_trailing_zeros 64) (e ∙ sym same), trailing_mask_l (λ (b : Bool). b) 64 ds (omega (arith, long)) (omega (arith, some)), h)
     ]
 
-pub same-by-mask : (n m : ℕ) (text row : List ℕ) → 32 ≤ length text → length row ≡ 32 → n ≤ 32 → m ≡ mask_l (zip2 differs (chunk 0 32 text) row) → n ≤ count_trailing_zeros 64 m → take n text ≡ take n row
+pub same-by-mask : (n m : ℕ) (text row : List ℕ) → 32 ≤ length text → length row ≡ 32 → n ≤ 32 → m ≡ mask_l (zip2 bytes_differ (chunk 0 32 text) row) → n ≤ count_trailing_zeros 64 m → take n text ≡ take n row
 same-by-mask n m text row long full few e h =
     let ours : length (chunk 0 32 text) ≡ 32 = length-chunk 0 32 text long in
-    let size : length (zip2 differs (chunk 0 32 text) row) ≡ 32 = length-zip2 differs (chunk 0 32 text) row (ours ∙ sym full) ∙ ours in
-    sym (take-take n 32 text few) ∙ same-front n (chunk 0 32 text) row (few-set n m (zip2 differs (chunk 0 32 text) row) size few e h)
+    let size : length (zip2 bytes_differ (chunk 0 32 text) row) ≡ 32 = length-zip2 bytes_differ (chunk 0 32 text) row (ours ∙ sym full) ∙ ours in
+    sym (take-take n 32 text few) ∙ same-front n (chunk 0 32 text) row (few-set n m (zip2 bytes_differ (chunk 0 32 text) row) size few e h)
 
-pub mask-of : (xs ys : List ℕ) → length xs ≡ 32 → length ys ≡ 32 → mask_l (map (top (hbits w8)) (zip2 (λ a b. cond (differs a b) (2 ^ bits w8 - 1) 0) xs ys)) % 2 ^ 64 ≡ mask_l (zip2 differs xs ys)
-mask-of xs ys e f = ap (λ ms. mask_l ms % 2 ^ 64) (tops_compared w8 differs xs ys) ∙ mask_l-mod (zip2 differs xs ys) 64 (omega (arith, length-zip2 differs xs ys (e ∙ sym f), e))
+pub mask-of : (xs ys : List ℕ) → length xs ≡ 32 → length ys ≡ 32 → mask_l (map (top (hbits w8)) (zip2 (λ a b. cond (bytes_differ a b) (2 ^ bits w8 - 1) 0) xs ys)) % 2 ^ 64 ≡ mask_l (zip2 bytes_differ xs ys)
+mask-of xs ys e f = ap (λ ms. mask_l ms % 2 ^ 64) (tops_compared w8 bytes_differ xs ys) ∙ mask_l-mod (zip2 bytes_differ xs ys) 64 (omega (arith, length-zip2 bytes_differ xs ys (e ∙ sym f), e))
 
 -- ---- two lines at the beginning
 
-takes-two : (a b : Line) (text old new : List ℕ) (size : ℕ) → size ≤ length text → Listed a → Listed b → take size text ≡ ended_text a ++ ended_text b → new ≡ old ++ (bytes_of 0 a ++ bytes_of 0 b) → TakesFirst text old new size 2
+takes-two : (a b : Line) (text old new : List ℕ) (size : ℕ) → size ≤ length text → Listed a → Listed b → take size text ≡ ended_text a ++ ended_text b → new ≡ old ++ (line_bytes 0 a ++ line_bytes 0 b) → TakesFirst text old new size 2
 takes-two a b text old new size within f g e n =
     let long : 2 ≤ size = omega (arith, ap length e, length-take-le size text within, length-append (ended_text a) (ended_text b), length-append (text_of a) (10 ∷ []), length-append (text_of b) (10 ∷ [])) in
     record {
@@ -64,7 +64,7 @@ takes-two a b text old new size within f g e n =
         fit = (f.0, (g.0, tt));
         listed = (f.1, (g.1, tt));
         text_is = sym (take-append-drop size text) ∙ ap (λ t. t ++ drop size text) (e ∙ ap (λ t. ended_text a ++ t) (sym (append-nil (ended_text b))));
-        appended = n ∙ ap (λ t. old ++ (bytes_of 0 a ++ t)) (sym (append-nil (bytes_of 0 b)));
+        appended = n ∙ ap (λ t. old ++ (line_bytes 0 a ++ t)) (sym (append-nil (line_bytes 0 b)));
         count_is = refl;
       };
     }

@@ -8,7 +8,7 @@ use Rattle.std.proofs.lemmas.List.{length-take-le, take-take}
 use Rattle.std.specs.Simd.{first_chunks}
 use Rattle.std.specs.List.{flat_map}
 use Rattle.x7_words.specs.Word.{bytes_of_word, words_of_bytes}
-use Rattle.x7_packets.specs.AtOnce.{EndsGap, Takes, WritesFew, WritesOne}
+use Rattle.x7_packets.specs.AtOnce.{EndsGap, TakesAsOneRun, WritesFew, WritesOne}
 use Rattle.x7_packets.specs.PacketWords.{no_op, sync_word, type1_write}
 use Rattle.x7_packets.specs.SyncWord.{sync_bytes}
 use Rattle.x7_packets.specs.Cutting.{CutterState, IsRun, Went}
@@ -26,7 +26,7 @@ use Rattle.x7_text.proofs.LineLemmas.{bytes_closed}
 use Rattle.x7_regs.specs.Register.{reg_name}
 use Rattle.x7_listing.specs.declared.line.head_line.HeadLine.TheVariants.{Write}
 use Rattle.x7_listing.specs.Fast.AtOnce.{command_lines, equal_lines, write_line, write_name, write_start}
-use Rattle.x7_listing.specs.HeadLine.{best_line, command_line, head_text, line_text}
+use Rattle.x7_listing.specs.HeadLine.{best_line, command_line, text_of_head, line_text}
 use Rattle.x7_listing.specs.Listing.{session_text}
 use Rattle.x7_listing.specs.Telling.{GapListed, HasListedAt, Tells, words_place, open_words, Writes, lister_of, written_of}
 use Rattle.x7_listing.proofs.GapLemmas.{told_more}
@@ -35,21 +35,21 @@ use Rattle.x7_listing.proofs.SessionLemmas.{data_told, is_data}
 
 -- ---- texts
 
-pub equal_block : (step : Step) (w n : ℕ) (line : List ℕ) → head_text step w ≡ line → flat_map (λ x. x) (replicate n line) ≡ equal_lines step w n
+pub equal_block : (step : Step) (w n : ℕ) (line : List ℕ) → text_of_head step w ≡ line → flat_map (λ x. x) (replicate n line) ≡ equal_lines step w n
 equal_block step w zero line e = refl
 equal_block step w (suc n) line e = ap (λ t. line ++ t) (equal_block step w n line e) ∙ ap (λ t. t ++ equal_lines step w n) (sym e)
 
 -- the first lines of a block
-pub equal_front : (step : Step) (w size n k : ℕ) → length (head_text step w) ≡ size → k ≤ n → take (size * k) (equal_lines step w n) ≡ equal_lines step w k
+pub equal_front : (step : Step) (w size n k : ℕ) → length (text_of_head step w) ≡ size → k ≤ n → take (size * k) (equal_lines step w n) ≡ equal_lines step w k
 equal_front step w size n zero e h = ap (λ (m : ℕ). take m (equal_lines step w n)) (mul-zero size)
 equal_front step w size zero (suc k) e h = absurd (omega (arith, h))
 equal_front step w size (suc n) (suc k) e h =
-    let more : size * suc k ≡ length (head_text step w) + size * k = omega (arith, mul-suc size k, e) in
-    ap (λ (m : ℕ). take m (head_text step w ++ equal_lines step w n)) more ∙ take-append-add (head_text step w) (equal_lines step w n) (size * k)
-    ∙ ap (λ t. head_text step w ++ t) (equal_front step w size n k e (omega (arith, h)))
+    let more : size * suc k ≡ length (text_of_head step w) + size * k = omega (arith, mul-suc size k, e) in
+    ap (λ (m : ℕ). take m (text_of_head step w ++ equal_lines step w n)) more ∙ take-append-add (text_of_head step w) (equal_lines step w n) (size * k)
+    ∙ ap (λ t. text_of_head step w ++ t) (equal_front step w size n k e (omega (arith, h)))
 
 -- the header's line
-pub write_line-is : (register : ℕ) → register < 32 → head_text (Open register 1) (type1_write register 1) ≡ write_line register
+pub write_line-is : (register : ℕ) → register < 32 → text_of_head (Open register 1) (type1_write register 1) ≡ write_line register
 write_line-is register h =
     let nop : (type1_write register 1 == no_op) ≡ false = grind (arith, nat_tests) in
     let sync : (type1_write register 1 == sync_word) ≡ false = grind (arith, nat_tests) in
@@ -60,21 +60,21 @@ write_line-is register h =
     ap line_text line ∙ ap (λ t. codes "write " ++ reg_name register ++ 32 ∷ t ++ 10 ∷ []) (decimal_digit 1 (omega arith)) ∙ append_assoc (codes "write " ++ reg_name register) (32 ∷ 49 ∷ []) (10 ∷ [])
 
 -- the lines of a write of one word: a row to CMD, and a row and the digits of a word to another register
-pub command_row-is : (line register w : ℕ) → register ≡ 4 → close line ++ command_lines w ≡ close line ++ head_text (Open register 1) (type1_write register 1) ++ open_words 0 (payload_steps register (w ∷ []))
+pub command_row-is : (line register w : ℕ) → register ≡ 4 → close line ++ command_lines w ≡ close line ++ text_of_head (Open register 1) (type1_write register 1) ++ open_words 0 (payload_steps register (w ∷ []))
 command_row-is line register w e =
-    subst (λ (r : ℕ). close line ++ command_lines w ≡ close line ++ head_text (Open r 1) (type1_write r 1) ++ open_words 0 (payload_steps r (w ∷ []))) (sym e)
-    (sym (append_assoc (close line) (write_line 4) (command_line w)) ∙ ap (λ t. close line ++ t ++ command_line w) (sym (write_line-is 4 (omega arith))) ∙ ap (λ t. close line ++ head_text (Open 4 1) (type1_write 4 1) ++ t) (sym (append-nil (command_line w))))
+    subst (λ (r : ℕ). close line ++ command_lines w ≡ close line ++ text_of_head (Open r 1) (type1_write r 1) ++ open_words 0 (payload_steps r (w ∷ []))) (sym e)
+    (sym (append_assoc (close line) (write_line 4) (command_line w)) ∙ ap (λ t. close line ++ t ++ command_line w) (sym (write_line-is 4 (omega arith))) ∙ ap (λ t. close line ++ text_of_head (Open 4 1) (type1_write 4 1) ++ t) (sym (append-nil (command_line w))))
 
-pub data_row-is : (line register w : ℕ) → register < 32 → (register ≡ 4 → ⊥) → (close line ++ write_start register) ++ hex_word w ≡ close line ++ head_text (Open register 1) (type1_write register 1) ++ open_words 0 (payload_steps register (w ∷ []))
+pub data_row-is : (line register w : ℕ) → register < 32 → (register ≡ 4 → ⊥) → (close line ++ write_start register) ++ hex_word w ≡ close line ++ text_of_head (Open register 1) (type1_write register 1) ++ open_words 0 (payload_steps register (w ∷ []))
 data_row-is line register w h n =
     let H : List ℕ = write_line register in
     let listed : open_words 0 (payload_steps register (w ∷ [])) ≡ codes "data " ++ hex_word w =
     data_told register 0 (w ∷ []) (is_data register n) ∙ append-nil _ ∙ ap (λ t. codes "data" ++ t) (append-nil (32 ∷ hex_word w)) in
     append_assoc (close line) (write_start register) (hex_word w) ∙ ap (λ t. close line ++ t) (append_assoc H (codes "data ") (hex_word w)) ∙ sym (append_assoc (close line) H (codes "data " ++ hex_word w))
-    ∙ ap (λ t. close line ++ t ++ (codes "data " ++ hex_word w)) (sym (write_line-is register h)) ∙ ap (λ t. close line ++ head_text (Open register 1) (type1_write register 1) ++ t) (sym listed)
+    ∙ ap (λ t. close line ++ t ++ (codes "data " ++ hex_word w)) (sym (write_line-is register h)) ∙ ap (λ t. close line ++ text_of_head (Open register 1) (type1_write register 1) ++ t) (sym listed)
 
 -- the header's line of a short write
-pub short_line-is : (register count : ℕ) → register < 32 → count < 20 → head_text (Open register count) (type1_write register count) ≡ write_name register ++ (decimal count ++ 10 ∷ [])
+pub short_line-is : (register count : ℕ) → register < 32 → count < 20 → text_of_head (Open register count) (type1_write register count) ≡ write_name register ++ (decimal count ++ 10 ∷ [])
 short_line-is register count h k =
     let nop : (type1_write register count == no_op) ≡ false = grind (arith, nat_tests) in
     let sync : (type1_write register count == sync_word) ≡ false = grind (arith, nat_tests) in
@@ -105,7 +105,7 @@ short_written old t1 new head row listed a b e = b ∙ ap (λ t. t ++ row) a ∙
 -- ---- what a lister stands for
 
 took_run : (c d : CutterState) (run : Cut) (synced s2 : Bool) (line l2 : ℕ) (held h2 text text2 given before bytes taken : List ℕ)
-    → Tells (lister_of c synced line held text) given before bytes → Takes c d taken run → IsRun run → Writes run (written_of synced line held (given ++ text)) (written_of s2 l2 h2 (given ++ text2)) → Tells (lister_of d s2 l2 h2 text2) given before (bytes ++ taken)
+    → Tells (lister_of c synced line held text) given before bytes → TakesAsOneRun c d taken run → IsRun run → Writes run (written_of synced line held (given ++ text)) (written_of s2 l2 h2 (given ++ text2)) → Tells (lister_of d s2 l2 h2 text2) given before (bytes ++ taken)
 took_run c d run synced s2 line l2 held h2 text text2 given before bytes taken s takes is writes =
     let w : Went c d (bytes ++ taken) s.sessions s.at run = takes bytes s.sessions s.at s.cut in
     record {
@@ -115,41 +115,41 @@ took_run c d run synced s2 line l2 held h2 text text2 given before bytes taken s
       listed = writes before (bytes ++ taken) s.sessions w.new_sessions s.at w.new_place c.mode d.mode s.listed w.adds w.turns is w.stands.reading;
     }
 
-one_equal : (c : CutterState) (w : ℕ) (step : Step) (synced s2 : Bool) (line l2 from : ℕ) (held h2 text text2 given before bytes : List ℕ) → IsRun (Head w step) → Takes c c (bytes_of_word w) (Head w step) → (synced ≡ true → from ≡ line) → s2 ≡ true → l2 ≡ 0
-    → text2 ≡ text ++ (close from ++ head_text step w) → Tells (lister_of c synced line held text) given before bytes → Tells (lister_of c s2 l2 h2 text2) given before (bytes ++ bytes_of_word w)
+one_equal : (c : CutterState) (w : ℕ) (step : Step) (synced s2 : Bool) (line l2 from : ℕ) (held h2 text text2 given before bytes : List ℕ) → IsRun (Head w step) → TakesAsOneRun c c (bytes_of_word w) (Head w step) → (synced ≡ true → from ≡ line) → s2 ≡ true → l2 ≡ 0
+    → text2 ≡ text ++ (close from ++ text_of_head step w) → Tells (lister_of c synced line held text) given before bytes → Tells (lister_of c s2 l2 h2 text2) given before (bytes ++ bytes_of_word w)
 one_equal c w step synced s2 line l2 from held h2 text text2 given before bytes is takes same e f t s =
     took_run c c (Head w step) synced s2 line l2 held h2 text text2 given before bytes (bytes_of_word w) s takes is
     (by_head (Head w step) synced s2 line l2 from held h2 given text text2 w step refl same e f t)
 
 -- equal words behind a line that has its end
-more_equal : (n : ℕ) (c : CutterState) (w : ℕ) (step : Step) (line : ℕ) (held text text2 given before bytes : List ℕ) → IsRun (Head w step) → Takes c c (bytes_of_word w) (Head w step) → line ≡ 0 → text2 ≡ text ++ equal_lines step w n
+more_equal : (n : ℕ) (c : CutterState) (w : ℕ) (step : Step) (line : ℕ) (held text text2 given before bytes : List ℕ) → IsRun (Head w step) → TakesAsOneRun c c (bytes_of_word w) (Head w step) → line ≡ 0 → text2 ≡ text ++ equal_lines step w n
     → Tells (lister_of c true line held text) given before bytes → Tells (lister_of c true line held text2) given before (bytes ++ equal_bytes w n)
 more_equal zero c w step line held text text2 given before bytes is takes f t s =
     let same : text ≡ text2 = sym (t ∙ append-nil text) in
     subst (λ (x : List ℕ). Tells (lister_of c true line held x) given before (bytes ++ [])) same (subst (Tells (lister_of c true line held text) given before) (sym (append-nil bytes)) s)
 more_equal (suc n) c w step line held text text2 given before bytes is takes f t s =
-    let next : List ℕ = text ++ head_text step w in
+    let next : List ℕ = text ++ text_of_head step w in
     let one : Tells (lister_of c true line held next) given before (bytes ++ bytes_of_word w) = one_equal c w step true true line line 0 held held text next given before bytes is takes (λ e. sym f) refl f refl s in
     let all : Tells (lister_of c true line held text2) given before ((bytes ++ bytes_of_word w) ++ equal_bytes w n) =
-    more_equal n c w step line held next text2 given before (bytes ++ bytes_of_word w) is takes f (t ∙ sym (append_assoc text (head_text step w) (equal_lines step w n))) one in
+    more_equal n c w step line held next text2 given before (bytes ++ bytes_of_word w) is takes f (t ∙ sym (append_assoc text (text_of_head step w) (equal_lines step w n))) one in
     subst (Tells (lister_of c true line held text2) given before) (append_assoc bytes (bytes_of_word w) (equal_bytes w n)) all
 
-pub equal_told : (n : ℕ) (c : CutterState) (w : ℕ) (step : Step) (synced s2 : Bool) (line l2 from : ℕ) (held h2 text text1 text2 given before bytes : List ℕ) → 0 < n → IsRun (Head w step) → Takes c c (bytes_of_word w) (Head w step) → (synced ≡ true → from ≡ line) → s2 ≡ true → l2 ≡ 0
+pub equal_told : (n : ℕ) (c : CutterState) (w : ℕ) (step : Step) (synced s2 : Bool) (line l2 from : ℕ) (held h2 text text1 text2 given before bytes : List ℕ) → 0 < n → IsRun (Head w step) → TakesAsOneRun c c (bytes_of_word w) (Head w step) → (synced ≡ true → from ≡ line) → s2 ≡ true → l2 ≡ 0
     → text1 ≡ text ++ close from → text2 ≡ text1 ++ equal_lines step w n → Tells (lister_of c synced line held text) given before bytes → Tells (lister_of c s2 l2 h2 text2) given before (bytes ++ equal_bytes w n)
 equal_told zero c w step synced s2 line l2 from held h2 text text1 text2 given before bytes some is takes same e f a b s = absurd (omega (arith, some))
 equal_told (suc n) c w step synced s2 line l2 from held h2 text text1 text2 given before bytes some is takes same e f a b s =
-    let next : List ℕ = text ++ (close from ++ head_text step w) in
+    let next : List ℕ = text ++ (close from ++ text_of_head step w) in
     let one : Tells (lister_of c true l2 h2 next) given before (bytes ++ bytes_of_word w) = one_equal c w step synced true line l2 from held h2 text next given before bytes is takes same refl f refl s in
     let all : Tells (lister_of c true l2 h2 text2) given before ((bytes ++ bytes_of_word w) ++ equal_bytes w n) =
     more_equal n c w step l2 h2 next text2 given before (bytes ++ bytes_of_word w) is takes f
-    (b ∙ ap (λ t. t ++ (head_text step w ++ equal_lines step w n)) a ∙ sym (append_assoc (text ++ close from) (head_text step w) (equal_lines step w n)) ∙ ap (λ t. t ++ equal_lines step w n) (append_assoc text (close from) (head_text step w))) one in
+    (b ∙ ap (λ t. t ++ (text_of_head step w ++ equal_lines step w n)) a ∙ sym (append_assoc (text ++ close from) (text_of_head step w) (equal_lines step w n)) ∙ ap (λ t. t ++ equal_lines step w n) (append_assoc text (close from) (text_of_head step w))) one in
     subst (λ (x : Bool). Tells (lister_of c x l2 h2 text2) given before (bytes ++ equal_bytes w (suc n))) (sym e) (subst (Tells (lister_of c true l2 h2 text2) given before) (append_assoc bytes (bytes_of_word w) (equal_bytes w n)) all)
 
 pub write_told : (c d : CutterState) (synced s2 : Bool) (line l2 from register w : ℕ) (held h2 text text2 given before bytes rest : List ℕ) → WritesOne c d rest register w → (synced ≡ true → from ≡ line) → s2 ≡ true
-    → l2 ≡ words_place 0 (payload_steps register (w ∷ [])) → text2 ≡ text ++ (close from ++ head_text (Open register 1) (type1_write register 1) ++ open_words 0 (payload_steps register (w ∷ [])))
+    → l2 ≡ words_place 0 (payload_steps register (w ∷ [])) → text2 ≡ text ++ (close from ++ text_of_head (Open register 1) (type1_write register 1) ++ open_words 0 (payload_steps register (w ∷ [])))
     → Tells (lister_of c synced line held text) given before bytes → Tells (lister_of d s2 l2 h2 text2) given before (bytes ++ take 8 rest)
 write_told c d synced s2 line l2 from register w held h2 text text2 given before bytes rest x same e f t s =
-    let H : List ℕ = head_text (Open register 1) (type1_write register 1) in
+    let H : List ℕ = text_of_head (Open register 1) (type1_write register 1) in
     let D : List ℕ = open_words 0 (payload_steps register (w ∷ [])) in
     let head : List ℕ = bytes_of_word (type1_write register 1) in
     let next : List ℕ = text ++ (close from ++ H) in
@@ -163,15 +163,15 @@ write_told c d synced s2 line l2 from register w held h2 text text2 given before
 
 -- a write of a few words: `lent` is any slice
 pub short_told : (c d : CutterState) (synced s2 : Bool) (line l2 from register count : ℕ) (held h2 text text2 given before bytes rest ws : List ℕ) (lent : Bor (List ℕ)) → WritesFew c d rest register count → ws ≡ words_of_bytes (take (4 * count) (drop 4 rest))
-    → (synced ≡ true → from ≡ line) → s2 ≡ true → l2 ≡ words_place 0 (payload_steps register ws) → text2 ≡ text ++ (close from ++ head_text (Open register count) (type1_write register count) ++ open_words 0 (payload_steps register ws))
+    → (synced ≡ true → from ≡ line) → s2 ≡ true → l2 ≡ words_place 0 (payload_steps register ws) → text2 ≡ text ++ (close from ++ text_of_head (Open register count) (type1_write register count) ++ open_words 0 (payload_steps register ws))
     → Tells (lister_of c synced line held text) given before bytes → Tells (lister_of d s2 l2 h2 text2) given before (bytes ++ take (4 + 4 * count) rest)
 short_told c d synced s2 line l2 from register count held h2 text text2 given before bytes rest ws lent x are same e f t s =
-    let H : List ℕ = head_text (Open register count) (type1_write register count) in
+    let H : List ℕ = text_of_head (Open register count) (type1_write register count) in
     let body : List ℕ = take (4 * count) (drop 4 rest) in
     let run : Bor (List ℕ) = record lent { now = take (4 * count) (drop 4 rest) } in
     let size : length (take (4 * count) (drop 4 rest)) ≡ 4 * count = length-take-le (4 * count) (drop 4 rest) (omega (arith, length-drop 4 rest, x.long, x.few)) in
     let head : List ℕ = bytes_of_word (type1_write register count) in
-    let next : List ℕ = text ++ (close from ++ head_text (Open register count) (type1_write register count)) in
+    let next : List ℕ = text ++ (close from ++ text_of_head (Open register count) (type1_write register count)) in
     let D : List ℕ = open_words 0 (payload_steps register (words_of_bytes (take (4 * count) (drop 4 rest)))) in
     let one : Tells (lister_of x.between true 0 [] next) given before (bytes ++ bytes_of_word (type1_write register count)) =
     took_run c x.between (Head (type1_write register count) (Open register count)) synced true line 0 held [] text next given before bytes (bytes_of_word (type1_write register count)) s x.head tt
@@ -180,7 +180,7 @@ short_told c d synced s2 line l2 from register count held h2 text text2 given be
     took_run x.between d (Body register run) true s2 0 l2 [] h2 next text2 given before (bytes ++ bytes_of_word (type1_write register count)) (take (4 * count) (drop 4 rest)) one (x.words run refl)
     (x.range, omega (arith, size, x.some), omega (arith, size), λ k. absurd (x.other k))
     (by_body (Body register run) true s2 0 l2 0 [] h2 given next text2 register run refl (λ k. refl) e (f ∙ ap (λ (w : List ℕ). words_place 0 (payload_steps register w)) are)
-    (t ∙ ap (λ (w : List ℕ). text ++ (close from ++ head_text (Open register count) (type1_write register count) ++ open_words 0 (payload_steps register w))) are ∙ sym (append_assoc text (close from ++ H) D))) in
+    (t ∙ ap (λ (w : List ℕ). text ++ (close from ++ text_of_head (Open register count) (type1_write register count) ++ open_words 0 (payload_steps register w))) are ∙ sym (append_assoc text (close from ++ H) D))) in
     subst (Tells (lister_of d s2 l2 h2 text2) given before) (append_assoc bytes (bytes_of_word (type1_write register count)) (take (4 * count) (drop 4 rest)) ∙ ap (λ k. bytes ++ (k ++ take (4 * count) (drop 4 rest))) (sym x.bytes) ∙ ap (λ k. bytes ++ k) (sym (take-add 4 (4 * count) rest))) two
 
 -- bytes of a gap and the sync word, behind a session

@@ -9,7 +9,7 @@ use Rattle.x7_regs.specs.declared.command.Command.TheVariants.{Null, Wcfg, Mfw, 
 use Rattle.x7_text.specs.Digits.{hex_word}
 use Rattle.x7_text.specs.Row.{close}
 use Rattle.x7_listing.specs.Fast.AtOnce.{command_lines, nop_lines, write_line, write_name, write_start}
-use Rattle.x7_listing.specs.HeadLine.{command_line, head_text}
+use Rattle.x7_listing.specs.HeadLine.{command_line, text_of_head}
 use Rattle.x7_listing.proofs.list.fast.AtOnceLemmas.{equal_block, equal_front, short_line-is}
 use Rattle.x7_listing.proofs.SessionLemmas.{word_line}
 
@@ -52,7 +52,7 @@ far_command shown line register w e far =
 
 -- the line of the header of a short write
 pub head_shown : (shown first all : List ℕ) (line register count : ℕ) → register < 32 → count < 20 → first ≡ shown ++ (close line ++ write_name register) → all ≡ first ++ (decimal count ++ 10 ∷ [])
-    → all ≡ shown ++ (close line ++ head_text (Open register count) (type1_write register count))
+    → all ≡ shown ++ (close line ++ text_of_head (Open register count) (type1_write register count))
 head_shown shown first all line register count h k a b =
     b ∙ ap (λ t. t ++ (decimal count ++ 10 ∷ [])) a ∙ append_assoc shown (close line ++ write_name register) (decimal count ++ 10 ∷ [])
     ∙ ap (λ t. shown ++ t) (append_assoc (close line) (write_name register) (decimal count ++ 10 ∷ []) ∙ ap (λ t. close line ++ t) (sym (short_line-is register count h k)))

@@ -2,7 +2,7 @@
 ghost use Rattle.std.specs.Prelude.{◌≡◌, ℕ, List, ◌<◌, ◌≤◌, ◌+◌, ◌*◌, ◌++◌, codes, drop, length, slice_index, take, vec_len, vec_capacity, IsTrue, MatchOption};
 ghost use Rattle.std.specs.List.{flat_map};
 ghost use Rattle.std.specs.Simd.Lanes.{chunk};
-ghost use Rattle.x7_listing.specs.Fast.AtOnce.{words_at};
+ghost use Rattle.x7_listing.specs.Fast.AtOnce.{words_in_row};
 ghost use Rattle.x7_text.specs.Reads.{StaysWithin};
 ghost use Rattle.x7_listing.specs.Assembling.{TakesFirst, TakesLines};
 
@@ -77,7 +77,7 @@ fn both(a: u8x16, b: u8x16) -> u8x32
 #[inline(always)]
 fn row_digits(text: &[u8]) -> [u8; 64]
     requires { 77 ≤ length text.now }
-    ensures { result ≡ flat_map (λ (word : List ℕ). word) (words_at text.now 4 8) }
+    ensures { result ≡ flat_map (λ (word : List ℕ). word) (words_in_row text.now 4 8) }
 {
     let low = both(two_eights(text, 5, 14), two_eights(text, 23, 32));
     let high = both(two_eights(text, 41, 50), two_eights(text, 59, 68));

@@ -4,7 +4,7 @@ ghost use Rattle.std.specs.Simd.Lanes.{chunk, mask_l, zip2};
 ghost use Rattle.x7_words.specs.Word.{bytes_of_word};
 ghost use Rattle.x7_text.specs.Appends.{Appends};
 ghost use Rattle.x7_text.specs.Reads.{StaysWithin};
-ghost use Rattle.x7_listing.specs.Fast.AtOnce.{differs, row_text};
+ghost use Rattle.x7_listing.specs.Fast.AtOnce.{bytes_differ, row_text};
 ghost use Rattle.x7_listing.specs.Assembling.{TakesFirst};
 
 use super::quick::WholeLines;
@@ -51,7 +51,7 @@ fn number_at(table: &[u8; 64], text: &[u8], at: usize) -> u8
 #[inline(always)]
 pub(crate) fn differences(text: &[u8], row: &[u8; 32]) -> u64
     requires { 32 ≤ length text.now }
-    ensures { result ≡ mask_l (zip2 differs (chunk 0 32 text.now) row.now) }
+    ensures { result ≡ mask_l (zip2 bytes_differ (chunk 0 32 text.now) row.now) }
 {
     u8x32::from_slice(text)
         .simd_ne(u8x32::from_array(*row))

@@ -10,7 +10,7 @@ ghost use Rattle.x7_packets.specs.Packet.{payload_steps};
 ghost use Rattle.x7_text.specs.Row.{bytes_text, close, in_line_after, open_text, spaced};
 ghost use Rattle.x7_listing.specs.Fast.TakingAtOnce.{TakesAtOnce, TakesOnSheet};
 ghost use Rattle.x7_listing.specs.Fast.AtOnce.{command_lines};
-ghost use Rattle.x7_listing.specs.HeadLine.{head_text};
+ghost use Rattle.x7_listing.specs.HeadLine.{text_of_head};
 ghost use Rattle.x7_listing.specs.Pens.{TakesHead, TellsAfter, TellsOn, lister_with, on_sheet};
 ghost use Rattle.x7_listing.specs.Telling.{words_place, open_words};
 
@@ -74,7 +74,7 @@ fn put_one_word(sheet: &mut [u8; SHEET], len: usize, in_line: usize, register: u
     ensures within { result.line < 8 }
     ensures count { result.line ≡ words_place 0 (payload_steps register (w ∷ [])) }
     ensures len { result.len ≤ len + 42 }
-    ensures text { take result.len sheet.new ≡ take len sheet.old ++ (close in_line ++ head_text (Step.Open register 1) (type1_write register 1) ++ open_words 0 (payload_steps register (w ∷ []))) }
+    ensures text { take result.len sheet.new ≡ take len sheet.old ++ (close in_line ++ text_of_head (Step.Open register 1) (type1_write register 1) ++ open_words 0 (payload_steps register (w ∷ []))) }
 {
     if register == Reg::Cmd.number() {
         return End {
@@ -117,7 +117,7 @@ fn put_head(
     requires few { count ≤ 16 }
     requires room { len + 36 ≤ 2048 }
     ensures len { result ≤ len + 36 }
-    ensures text { take result sheet.new ≡ take len sheet.old ++ (close in_line ++ head_text (Step.Open register count) (type1_write register count)) }
+    ensures text { take result sheet.new ≡ take len sheet.old ++ (close in_line ++ text_of_head (Step.Open register count) (type1_write register count)) }
 {
     let begin = put_close(sheet, len, in_line);
     let start = put_row(sheet, begin, name_row(register));
