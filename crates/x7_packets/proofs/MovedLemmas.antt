@@ -1,5 +1,5 @@
 -- Lemmas on histories with moved places.
-use Rattle.std.proofs.Common.{◌≡◌, ℕ, ◌+◌, List, [], ◌∷◌, ◌++◌, refl, ap, ◌∙◌, arith}
+use Rattle.std.proofs.Common.{◌≡◌, ℕ, ◌+◌, [], ◌∷◌, ◌++◌, refl, ap, ◌∙◌, arith}
 use Rattle.x7_packets.specs.Appended.{moved}
 use Rattle.x7_packets.specs.History.{Access, Entry, History, entry}
 

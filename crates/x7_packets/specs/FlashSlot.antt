@@ -1,5 +1,5 @@
 -- A slot of a flash's first sector, 32 bytes: a switch word, and packets that lead a device on (UG470, MultiBoot and fallback; that the first word switches a slot is this project's choice).
-use Rattle.std.specs.Prelude.{ℕ, List, [], ◌∷◌, ◌++◌}
+use Rattle.std.specs.Prelude.{ℕ, List, ◌++◌}
 use Rattle.std.specs.List.{flat_map}
 use Rattle.x7_words.specs.Word.{bytes_of_word}
 use Rattle.x7_regs.specs.Register.{number_of}

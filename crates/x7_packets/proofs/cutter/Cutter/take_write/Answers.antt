@@ -1,4 +1,4 @@
-use Rattle.std.proofs.Common.{ℕ, Bool, if◌then◌else◌, ◌≡◌, [], ◌∷◌, true, false, ap, arith, sym, subst, ◌∙◌, refl, take}
+use Rattle.std.proofs.Common.{Bool, if◌then◌else◌, ◌≡◌, [], ◌∷◌, true, false, ap, arith, sym, subst, ◌∙◌, refl, take}
 use Rattle.x7_packets.specs.Mode.{Mode, mode_of}
 use Rattle.x7_packets.specs.Cutting.{CutterState}
 use Rattle.x7_packets.specs.Taking.{MachineStandsFor, MachineState}
