@@ -1,6 +1,5 @@
 -- Words of frame data for which there are slots: none is refused, and what they leave.
-use Rattle.std.proofs.Common.{◌≡◌, ◌&&◌, ◌+◌, ◌*◌, ◌<◌, ◌≤◌, inl, inr, ℕ, Bool, true, false, if◌then◌else◌, None, Some, List, [], ◌∷◌, length, refl, sym, ap, ◌∙◌, arith, length-append}
-use Rattle.std.proofs.lemmas.Bool.{cases_eq}
+use Rattle.std.proofs.Common.{◌≡◌, ◌&&◌, ◌+◌, ◌*◌, ◌<◌, ◌≤◌, ℕ, Bool, true, false, if◌then◌else◌, None, Some, List, [], ◌∷◌, length, refl, sym, ap, ◌∙◌, arith}
 use Rattle.std.proofs.lemmas.Bool.Decides.{nat_tests}
 use Rattle.std.proofs.Math.Nat.{mul-le-mul_left}
 use Rattle.x7_packets.specs.History.{History, Write, entered_all, entry}
@@ -10,9 +9,9 @@ use Rattle.x7_memory.specs.FrameMap.{AreSame}
 use Rattle.x7_pipeline.specs.declared.fault.RunFault.TheVariants.{Overrun}
 use Rattle.x7_pipeline.specs.FarAsRead.{has_frame_at}
 use Rattle.x7_pipeline.specs.Faults.{address_fault, completes, has_filled, write_fault}
-use Rattle.x7_pipeline.specs.Runs.{frames_of, written_frames, onto, put_over, rest_of, slots_from}
+use Rattle.x7_pipeline.specs.Runs.{frames_of, written_frames, onto, put_over, slots_from}
 use Rattle.x7_pipeline.proofs.LawLemmas.{landed_empty, lands_over}
-use Rattle.x7_pipeline.proofs.RunLemmas.{frames-completes, frames-goes_on, rest-completes, rest-goes_on}
+use Rattle.x7_pipeline.proofs.RunLemmas.{length-run}
 use Rattle.x7_flow.specs.Flow.{Flow, base_of, fault_by, flow_of, frame_fault, run_of}
 use Rattle.x7_flow.specs.FrameMemory.{memory_of}
 use Rattle.x7_flow.specs.Settings.{settings_of, takes_frames}
@@ -20,25 +19,6 @@ use Rattle.x7_flow.specs.Words.{NoneRefused}
 use Rattle.x7_regs.specs.declared.register.Reg.TheVariants as reg
 use Rattle.x7_flow.proofs.FlowLemmas.{put_none}
 use Rattle.x7_flow.proofs.ManyLemmas.{word_asked, word_flow, words_flow, words_land}
-
--- a run's words are those of its frames and of its rest
-nothing_cut : (width : ℕ) → length {A = ℕ} [] ≡ width * length (frames_of width []) + length (rest_of width [])
-unfolding frames_of rest_of
-nothing_cut width = omega arith
-
-run_length : (width : ℕ) (run : List ℕ) → length run ≡ width * length (frames_of width run) + length (rest_of width run)
-run_length width [] = nothing_cut width
-run_length width (w ∷ run) =
-    let ih : length run ≡ width * length (frames_of width run) + length (rest_of width run) = run_length width run in
-    elim (cases_eq (length (rest_of width run) + 1) width) [
-      | inl y ↦ (let rest : length (rest_of width (w ∷ run)) ≡ 0 = ap length (rest-completes width w run y) in
-          let frames : length (frames_of width (w ∷ run)) ≡ length (frames_of width run) + 1 = omega (arith, ap length (frames-completes width w run y)) in
-          let product : width * length (frames_of width (w ∷ run)) ≡ width * length (frames_of width run) + width = ap (λ (k : ℕ). width * k) frames ∙ grind arith in
-          omega (arith, ih, rest, product, y))
-      | inr n ↦ (let rest : length (rest_of width (w ∷ run)) ≡ length (rest_of width run) + 1 = ap length (rest-goes_on width w run n) ∙ length-append (rest_of width run) (w ∷ []) in
-          let frames : width * length (frames_of width (w ∷ run)) ≡ width * length (frames_of width run) = ap (λ t. width * length t) (frames-goes_on width w run n) in
-          omega (arith, ih, rest, frames))
-    ]
 
 -- a word for which there is a slot
 pub write_none : (part : PartData) (base : ℕ) (run : List ℕ) → has_frame_at part base ≡ true → length run < frame_words part * length (slots_from part base) → write_fault part base run ≡ None
@@ -52,7 +32,7 @@ write_none part base (w ∷ run) t l = by (completes part (w ∷ run)) (has_fill
     by true true e f =
         let full : length (slots_from part base) ≤ length (frames_of (frame_words part) (w ∷ run)) = grind (arith, nat_tests, f) in
         let more : frame_words part * length (slots_from part base) ≤ frame_words part * length (frames_of (frame_words part) (w ∷ run)) = mul-le-mul_left (frame_words part) full in
-        absurd (omega (arith, l, more, run_length (frame_words part) (w ∷ run)))
+        absurd (omega (arith, l, more, length-run (frame_words part) (w ∷ run)))
 
 -- words for all of which there are slots
 pub words_none : (part : PartData) (n : ℕ) (ws : List ℕ) (h : History) → takes_frames (settings_of part.idcode h) ≡ true → has_frame_at part (base_of part h) ≡ true

@@ -1,13 +1,14 @@
 -- FAR as read.
-use Rattle.std.proofs.Common.{◌≡◌, ℕ, ◌+◌, ◌-◌, ◌*◌, ◌/◌, ◌<◌, ◌≤◌, inl, inr, true, false, List, ◌∷◌, length, get_or, drop, max, min, Some, None, unwrap_or, refl, sym, ap, ◌∙◌, arith}
+use Rattle.std.proofs.Common.{◌≡◌, ℕ, zero, suc, ◌+◌, ◌-◌, ◌*◌, ◌/◌, ◌<◌, ◌≤◌, inl, inr, true, false, List, [], ◌∷◌, length, get_or, drop, max, min, Option, Some, None, unwrap_or, refl, sym, subst, ap, ◌∙◌, arith}
 use Rattle.std.proofs.lemmas.Bool.{cases_lt}
 use Rattle.std.proofs.lemmas.List.{drop_all, drop_more}
 use Rattle.std.proofs.Math.Nat.{mul-div_cancel_left, le-div_iff_mul-le}
 use Rattle.x7_part.specs.Part.{PartData}
 use Rattle.x7_part.specs.declared.slot.Slot.{Slot}
-use Rattle.x7_part.specs.declared.slot.Slot.TheVariants.{Frame, End}
+use Rattle.x7_part.specs.declared.slot.Slot.TheVariants.{Frame, Pad, End}
 use Rattle.x7_pipeline.specs.Runs.{slots_from}
 use Rattle.x7_pipeline.specs.FarAsRead.{has_frame_at, first_address, last_address, far_at}
+use Rattle.x7_pipeline.specs.InWords.{FarStandsAt, HasNoAddress, HasNoFrame, IsFirstAddress}
 
 -- a base that is no address is FAR itself
 pub far_at-none : (part : PartData) (base slot : ℕ) → has_frame_at part base ≡ false → base ≡ far_at part base slot
@@ -62,3 +63,42 @@ far_stored part base frames given width some =
   where
     commute : (a b n : ℕ) → a * b ≤ n → b * a ≤ n
     commute a b n h = grind (arith, h)
+
+-- ---- FAR stands at a slot
+
+AddressFrom : List Slot → ℕ → Option ℕ → Type 0
+AddressFrom places n None = HasNoAddress places n
+AddressFrom places n (Some far) = IsFirstAddress places n far
+
+-- with a slot before them: from slot m of all on there is what there is from slot n of the others on
+slot_put_before : (slot : Slot) (places : List Slot) (n m : ℕ) (o : Option ℕ) → m ≤ suc n → ((i : ℕ) → m ≤ suc i → n ≤ i) → (m ≡ 0 → HasNoFrame slot) → AddressFrom places n o → AddressFrom (slot ∷ places) m o
+unfolding AddressFrom
+slot_put_before slot places n m None l back here none = at
+  where
+    at : HasNoAddress (slot ∷ places) m
+    at zero h = here (omega arith)
+    at (suc i) h = none i (back i h)
+slot_put_before slot places n m (Some far) l back here first =
+    let after : n ≤ first.place = first.behind in
+    record { place = suc first.place; behind = omega arith; there = first.there; none_before = before }
+  where
+    before : (earlier : ℕ) → m ≤ earlier → earlier < suc first.place → HasNoFrame (get_or (slot ∷ places) earlier End)
+    before zero h k = here (omega arith)
+    before (suc i) h k = first.none_before i (back i h) (omega arith)
+
+first_found : (places : List Slot) (n : ℕ) → AddressFrom places n (first_address (drop n places))
+unfolding AddressFrom
+first_found [] zero = λ place h far e. cc
+first_found [] (suc n) = λ place h far e. cc
+first_found (Frame far ∷ places) zero = record { place = 0; behind = omega arith; there = refl; none_before = λ earlier h k. absurd (omega arith) }
+first_found (Pad ∷ places) zero = slot_put_before Pad places 0 0 (first_address places) (omega arith) (λ i h. omega arith) (λ z far e. cc) (first_found places 0)
+first_found (End ∷ places) zero = slot_put_before End places 0 0 (first_address places) (omega arith) (λ i h. omega arith) (λ z far e. cc) (first_found places 0)
+first_found (slot ∷ places) (suc n) = slot_put_before slot places n (suc n) (first_address (drop n places)) (omega arith) (λ i h. omega arith) (λ z. absurd (omega arith)) (first_found places n)
+
+pub far_stands : (part : PartData) (base n : ℕ) → has_frame_at part base ≡ true → FarStandsAt part base n (far_at part base n)
+unfolding AddressFrom
+far_stands part base n t = by (first_address (drop n (slots_from part base))) (first_found (slots_from part base) n) (far_at-some part base n t)
+  where
+    by : (o : Option ℕ) → AddressFrom (slots_from part base) n o → far_at part base n ≡ unwrap_or o (last_address part) → FarStandsAt part base n (far_at part base n)
+    by None none e = inr (none, e)
+    by (Some far) first e = inl (subst (IsFirstAddress (slots_from part base) n) (sym e) first)

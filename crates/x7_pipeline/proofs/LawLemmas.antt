@@ -21,7 +21,7 @@ use Rattle.x7_regs.specs.declared.command.Command.{Command}
 use Rattle.x7_pipeline.specs.declared.fault.RunFault.{RunFault}
 use Rattle.x7_pipeline.specs.declared.fault.RunFault.TheVariants.{Address, Overrun, Multi}
 use Rattle.x7_pipeline.specs.Runs.{rest_of, frames_of, slots_from, at_slot, in_slots, but_newest, written_frames, put_over, Lands}
-use Rattle.x7_pipeline.specs.InWords.{AreCutFrom, pair_of}
+use Rattle.x7_pipeline.specs.InWords.{AreCutFrom, FarStandsAt, pair_of, place_in}
 use Rattle.x7_pipeline.specs.FarAsRead.{has_frame_at, first_address, last_address, far_at, far_of}
 use Rattle.x7_regs.specs.declared.command.Command.TheVariants.{Wcfg, Mfw}
 use Rattle.x7_pipeline.specs.Copies.{is_wcfg, is_mfw, newest_of, source_after}
@@ -29,9 +29,9 @@ use Rattle.x7_pipeline.specs.Readback.{word_at, read_at, read_limit, given_store
 use Rattle.x7_pipeline.specs.Faults.{address_fault, completes, has_filled, write_fault, copy_fault, read_fault}
 use Rattle.x7_pipeline.specs.Pipeline.{PipelineData}
 use Rattle.x7_pipeline.specs.Flow.{Flow, HoldsFlow}
-use Rattle.x7_pipeline.proofs.RunLemmas.{rest-goes_on, rest-completes, frames-completes}
+use Rattle.x7_pipeline.proofs.RunLemmas.{rest-goes_on, rest-completes, frames-completes, length-run}
 use Rattle.x7_pipeline.proofs.SlotLemmas.{no_slots}
-use Rattle.x7_pipeline.proofs.FarLemmas.{far_at-none, far_at-some}
+use Rattle.x7_pipeline.proofs.FarLemmas.{far_at-none, far_at-some, far_stands}
 use Rattle.x7_pipeline.proofs.ReadLemmas.{read_slot-pad, read_slot-frame}
 
 -- ---- a run is its whole frames and a rest
@@ -160,6 +160,42 @@ far_loaded part base = ap (far_at part base) (let z = nothing_divided (frame_wor
 pub far_nowhere : (part : PartData) (base : ℕ) (run : List ℕ) (given : ℕ) → has_frame_at part base ≡ false → far_of part base run given ≡ base
 unfolding far_of
 far_nowhere part base run given f = sym (far_at-none part base (max (length (frames_of (frame_words part) run)) (given / frame_words part) - 1) f)
+
+-- so many whole frames are in so many words
+whole_count : (width count rest : ℕ) → rest < width → (width * count + rest) / width ≡ count
+whole_count width count rest h = ap (λ x. x / width) (let e : width * count + rest ≡ count * width + rest = grind (arith) in e) ∙ div-mul-add count width rest h
+
+frames_cut : (width count rest : ℕ) (run : List ℕ) → length run ≡ width * count + rest → rest < width → length (frames_of width run) ≡ count
+frames_cut width count rest run e h =
+    let short : length (rest_of width run) < width = (cut width run (omega arith)).short in
+    sym (whole_count width (length (frames_of width run)) (length (rest_of width run)) short) ∙ ap (λ x. x / width) (sym (length-run width run) ∙ e) ∙ whole_count width count rest h
+
+pub far_written : (part : PartData) (base count rest : ℕ) (run : List ℕ) → has_frame_at part base ≡ true → length run ≡ place_in part count rest → rest < frame_words part → FarStandsAt part base count (far_of part base run 0)
+unfolding far_of
+far_written part base count rest run t e h =
+    let frames : length (frames_of (frame_words part) run) ≡ 1 + count = frames_cut (frame_words part) (1 + count) rest run e h in
+    let none : 0 / frame_words part ≡ 0 = zero-div (frame_words part) in
+    let at : max (length (frames_of (frame_words part) run)) (0 / frame_words part) - 1 ≡ count = omega arith in
+    rw at (far_stands part base count t)
+
+pub far_given : (part : PartData) (base count rest : ℕ) → has_frame_at part base ≡ true → rest < frame_words part → FarStandsAt part base count (far_of part base [] (place_in part count rest))
+unfolding far_of frames_of
+far_given part base count rest t h =
+    let given : place_in part count rest / frame_words part ≡ 1 + count = whole_count (frame_words part) (1 + count) rest h in
+    let at : max 0 (place_in part count rest / frame_words part) - 1 ≡ count = omega arith in
+    rw at (far_stands part base count t)
+
+none_whole : (width n : ℕ) → n < width → n ≡ width * 0 + n
+none_whole width n h = grind (arith)
+
+pub far_begun : (part : PartData) (base given : ℕ) (run : List ℕ) → length run < frame_words part → given < frame_words part → far_of part base run given ≡ base
+unfolding far_of
+far_begun part base given run r g =
+    let width : ℕ = frame_words part in
+    let frames : length (frames_of width run) ≡ 0 = frames_cut width 0 (length run) run (none_whole width (length run) r) r in
+    let pads : given / width ≡ 0 = ap (λ x. x / width) (none_whole width given g) ∙ whole_count width 0 given g in
+    let at : max (length (frames_of width run)) (given / width) - 1 ≡ 0 = omega arith in
+    ap (far_at part base) at ∙ loaded_at part base (has_frame_at part base) refl
 
 commute : (a b n : ℕ) → a * b ≤ n → b * a ≤ n
 commute a b n h = grind (arith, h)

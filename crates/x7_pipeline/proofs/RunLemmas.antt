@@ -1,5 +1,5 @@
 -- A run and one word more.
-use Rattle.std.proofs.Common.{◌≡◌, ℕ, ◌+◌, List, [], ◌∷◌, ◌++◌, length, inl, inr, refl, ap, arith, length-append, eq-eqb, ne_eqb}
+use Rattle.std.proofs.Common.{◌≡◌, ℕ, ◌+◌, ◌*◌, List, [], ◌∷◌, ◌++◌, length, inl, inr, refl, ap, ◌∙◌, arith, length-append, eq-eqb, ne_eqb}
 use Rattle.std.proofs.lemmas.Bool.{cases_eq}
 use Rattle.x7_pipeline.specs.Runs.{rest_of, frames_of}
 
@@ -32,4 +32,23 @@ some_words width w run no_rest no_frame =
       | inl e ↦ let c = ap length (frames-completes width w run e) in omega arith
       | inr n ↦ let r = ap length (rest-goes_on width w run n) in
           let long = length-append (rest_of width run) (w ∷ []) in omega arith
+    ]
+
+-- a run's words are those of its frames and of its rest
+nothing_cut : (width : ℕ) → length {A = ℕ} [] ≡ width * length (frames_of width []) + length (rest_of width [])
+unfolding frames_of rest_of
+nothing_cut width = omega arith
+
+pub length-run : (width : ℕ) (run : List ℕ) → length run ≡ width * length (frames_of width run) + length (rest_of width run)
+length-run width [] = nothing_cut width
+length-run width (w ∷ run) =
+    let ih : length run ≡ width * length (frames_of width run) + length (rest_of width run) = length-run width run in
+    elim (cases_eq (length (rest_of width run) + 1) width) [
+      | inl y ↦ (let rest : length (rest_of width (w ∷ run)) ≡ 0 = ap length (rest-completes width w run y) in
+          let frames : length (frames_of width (w ∷ run)) ≡ length (frames_of width run) + 1 = omega (arith, ap length (frames-completes width w run y)) in
+          let product : width * length (frames_of width (w ∷ run)) ≡ width * length (frames_of width run) + width = ap (λ (k : ℕ). width * k) frames ∙ grind arith in
+          omega (arith, ih, rest, product, y))
+      | inr n ↦ (let rest : length (rest_of width (w ∷ run)) ≡ length (rest_of width run) + 1 = ap length (rest-goes_on width w run n) ∙ length-append (rest_of width run) (w ∷ []) in
+          let frames : width * length (frames_of width (w ∷ run)) ≡ width * length (frames_of width run) = ap (λ t. width * length t) (frames-goes_on width w run n) in
+          omega (arith, ih, rest, frames))
     ]

@@ -1,11 +1,12 @@
--- Runs and written frames in other words, for the laws of this crate (this project's choice).
-use Rattle.std.specs.Prelude.{◌≡◌, ℕ, ◌+◌, ◌*◌, ◌<◌, List, [], ◌++◌, length, reverse, Option, Some, None, All}
+-- Runs, written frames and FAR in other words, for the laws of this crate (this project's choice).
+use Rattle.std.specs.Prelude.{◌≡◌, ◌≢◌, ℕ, ◌+◌, ◌*◌, ◌<◌, ◌≤◌, ◌⊎◌, List, [], ◌++◌, length, slice_index_or, reverse, Option, Some, None, All}
 use Rattle.std.specs.List.{filter_map, flat_map, zip}
 use Rattle.x7_part.specs.Part.{PartData, frame_words}
 use Rattle.x7_part.specs.declared.slot.Slot.{Slot}
 use Rattle.x7_part.specs.declared.slot.Slot.TheVariants.{Frame, Pad, End}
 use Rattle.x7_memory.specs.FrameMap.{FrameMap, AreSame}
 use Rattle.x7_memory.specs.Planned.{PlanRow}
+use Rattle.x7_pipeline.specs.FarAsRead.{last_address}
 use Rattle.x7_pipeline.specs.Runs.{frames_of, written_frames, onto, put_over, rest_of, slots_from}
 use Rattle.x7_pipeline.specs.Words.{Written}
 
@@ -40,3 +41,24 @@ place_in part n i = frame_words part * (1 + n) + i
 -- the newest word completes a frame past the last slot
 abbrev pub Overruns : PartData → ℕ → List ℕ → Type 0
 Overruns part base run = (rest_of (frame_words part) run ≡ []) × (length (slots_from part base) < length (frames_of (frame_words part) run))
+
+-- ---- FAR within a run or a readback
+
+-- a slot is no frame's: it is a pad, or past the last slot
+abbrev pub HasNoFrame : Slot → Type 0
+HasNoFrame slot = (far : ℕ) → slot ≢ Frame far
+
+-- an address is the first one at or after slot n
+pub record IsFirstAddress (places : List Slot) (n far : ℕ) : Type 0 where
+  pub place : ℕ
+  pub behind : n ≤ place
+  pub there : slice_index_or places place End ≡ Frame far
+  pub none_before : (earlier : ℕ) → n ≤ earlier → earlier < place → HasNoFrame (slice_index_or places earlier End)
+
+-- no address is at or after slot n
+abbrev pub HasNoAddress : List Slot → ℕ → Type 0
+HasNoAddress places n = (place : ℕ) → n ≤ place → HasNoFrame (slice_index_or places place End)
+
+-- FAR stands at slot n of those from a base on: it is the first address there or after, and the part's last one where there is none
+abbrev pub FarStandsAt : PartData → ℕ → ℕ → ℕ → Type 0
+FarStandsAt part base n far = IsFirstAddress (slots_from part base) n far ⊎ (HasNoAddress (slots_from part base) n × (far ≡ last_address part))

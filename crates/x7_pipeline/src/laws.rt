@@ -1,5 +1,5 @@
 //! Laws of runs, of FAR as read, of readback and of faults. The functions do nothing: their contracts are the laws.
-ghost use Rattle.std.specs.Prelude.{◌≡◌, ◌≢◌, ◌+◌, ◌<◌, ◌≤◌, ◌↔◌, ℕ, true, false, reverse, min, List, [], ◌∷◌, ◌++◌, Contains, Option, Some, None};
+ghost use Rattle.std.specs.Prelude.{◌≡◌, ◌≢◌, ◌+◌, ◌<◌, ◌≤◌, ◌↔◌, ℕ, true, false, reverse, min, List, [], ◌∷◌, ◌++◌, length, Contains, Option, Some, None};
 ghost use Rattle.x7_part.specs.Part.{PartData, frame_words};
 ghost use Rattle.x7_part.specs.AddressOrder.{addresses_in};
 ghost use Rattle.x7_part.specs.Slots.{slot_after};
@@ -9,7 +9,7 @@ ghost use Rattle.x7_memory.specs.Planned.{PlanRow};
 ghost use Rattle.x7_regs.specs.declared.command.Command.{Command};
 ghost use Rattle.x7_pipeline.specs.declared.fault.RunFault.{RunFault};
 ghost use Rattle.x7_pipeline.specs.Runs.{rest_of, frames_of, but_newest, written_frames, put_over, Lands};
-ghost use Rattle.x7_pipeline.specs.InWords.{AreCutFrom, HasRun, Overruns, all_written, place_in, placed_from};
+ghost use Rattle.x7_pipeline.specs.InWords.{AreCutFrom, FarStandsAt, HasRun, Overruns, all_written, place_in, placed_from};
 ghost use Rattle.x7_pipeline.specs.FarAsRead.{IsBase, has_frame_at, far_of, last_address};
 ghost use Rattle.x7_pipeline.specs.Copies.{is_wcfg, is_mfw, newest_of, source_after};
 ghost use Rattle.x7_pipeline.specs.Readback.{word_at, read_at, read_limit, given_stored};
@@ -51,11 +51,17 @@ pub fn source_laws()
     ensures not_under { (part : PartData) (old new : Command) (run : List ℕ) → is_mfw new ≡ false → source_after part old new run ≡ None }
 {}
 
-/// FAR as read is the base right after a load and where the base is no address, and the last address past the limit of a
-/// readback.
+/// FAR as read is the base up to the first whole frame and where the base is no address. After a whole frame, or the pad
+/// frame of a readback, and `count` more it stands at slot `count` of those from the base on; past the limit of a readback
+/// it is the last address.
 pub fn far_laws()
     ensures loaded { (part : PartData) (base : ℕ) → far_of part base [] 0 ≡ base }
     ensures nowhere { (part : PartData) (base : ℕ) (run : List ℕ) (given : ℕ) → has_frame_at part base ≡ false → far_of part base run given ≡ base }
+    ensures begun { (part : PartData) (base given : ℕ) (run : List ℕ) → length run < frame_words part → given < frame_words part → far_of part base run given ≡ base }
+    ensures written { (part : PartData) (base count rest : ℕ) (run : List ℕ) → IsBase part base → length run ≡ place_in part count rest → rest < frame_words part →
+        FarStandsAt part base count (far_of part base run 0) }
+    ensures read { (part : PartData) (base count rest : ℕ) → IsBase part base → rest < frame_words part →
+        FarStandsAt part base count (far_of part base [] (place_in part count rest)) }
     ensures last { (part : PartData) (base : ℕ) (run : List ℕ) (given : ℕ) → 0 < frame_words part → IsBase part base → read_limit part base ≤ given →
         far_of part base run given ≡ last_address part }
 {}
