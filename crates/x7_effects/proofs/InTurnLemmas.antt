@@ -6,7 +6,7 @@ use Rattle.x7_words.proofs.ListLemmas.{all-append}
 use Rattle.x7_crc.specs.Checking.{check_of_bytes}
 use Rattle.x7_part.specs.Part.{PartData}
 use Rattle.x7_part.specs.PartRange.{IsPart}
-use Rattle.x7_memory.specs.FrameMap.{FrameMap, AreSame, or_else, override}
+use Rattle.x7_memory.specs.FrameMap.{FrameMap, AreSame, frame_or, override}
 use Rattle.x7_memory.specs.Planned.{IsPlanFor, PlanData, PlanRow, planned, total}
 use Rattle.x7_planner.specs.Full.{full_pieces, full_stream}
 use Rattle.x7_planner.specs.Partial.{partial_ending, partial_opening, partial_stream, stretch_words, stretches_of}
@@ -76,6 +76,6 @@ both_play part kept bytes plan later f r is p q =
     let full : PlaysFull (resting_after part kept bytes) (full_stream part plan) plan = full_law part kept bytes plan f r is p.is_plan p.width p.addressed in
     let partial : PlaysPartial (resting_after part kept longer) (partial_stream part later.rows) later = partial_law part kept longer later (full_fits part bytes plan f) full.rests is q.is_plan q.width q.addressed in
     record {
-      memory = λ far. partial.memory far ∙ ap (λ o. or_else (planned later.rows far) o) (full.memory far);
+      memory = λ far. partial.memory far ∙ ap (λ o. frame_or (planned later.rows far) o) (full.memory far);
       phase = λ wrapped. partial.phase wrapped ∙ full.phase wrapped;
     }

@@ -22,7 +22,7 @@ use Rattle.x7_pipeline.specs.Faults.{address_fault}
 use Rattle.x7_pipeline.specs.Runs.{slots_from}
 use Rattle.x7_flow.specs.Asked.{Other, Reads}
 use Rattle.x7_flow.specs.Controls.{ctl0_held, forbids_reading}
-use Rattle.x7_flow.specs.Flow.{Flow, base_of, fault_by, flow_of, frame_fault, given_of}
+use Rattle.x7_flow.specs.Flow.{Flow, base_of, fault_by, flow_of, frame_fault, count_given}
 use Rattle.x7_flow.specs.FrameAccess.{reads_frame_data}
 use Rattle.x7_flow.specs.FrameMemory.{memory_of}
 use Rattle.x7_flow.specs.Standing.{frames_read, words_from}
@@ -33,7 +33,7 @@ use Rattle.x7_engine.specs.Rest.{AtRest}
 use Rattle.x7_engine.specs.Startup.{startup_progress}
 use Rattle.x7_engine.specs.State.{reads_of}
 use Rattle.x7_engine.specs.Stops.{why_at}
-use Rattle.x7_engine.specs.Values.{answer_of, read_out, read_value, words_read}
+use Rattle.x7_engine.specs.Values.{answer_of, read_out, read_value, words_answered}
 use Rattle.x7_engine.proofs.UntilLemmas.{phase_going}
 use Rattle.x7_effects.proofs.Checking.{Piece, pieces_length}
 use Rattle.x7_effects.specs.Played.{PlaysRead, resting_after, slot_words, words_along}
@@ -82,7 +82,7 @@ read_none part h count t a = ap (λ (b : Bool). fault_by part (if b then Reads c
 
 read_answer : (part : PartData) (kept : Kept) (h : History) (count place : ℕ) → reads_frame_data h (access.Read 3 count) ≡ true → why_at part kept h (access.Read 3 count) ≡ None → answer_of part kept h (access.Read 3 count) place ≡ frames_read part h count
 read_answer part kept h count place t e =
-    ap (λ o. if is_some o then [] else words_read (course_at part kept h place) 3 count) e
+    ap (λ o. if is_some o then [] else words_answered (course_at part kept h place) 3 count) e
     ∙ ap (λ (b : Bool). if b then frames_read part h count else replicate count (read_value (course_at part kept h place) 3)) t
 
 -- ---- how much can be read
@@ -120,7 +120,7 @@ read_plays part kept bytes far n f r is has l =
     let loaded : IsGoing part kept startup c at = going_one part kept startup b (place + 4 + 8 + 4 + 8) 1 far (quiet_far b far 4 refl refl refl refl refl) (far_passes part kept b far 4 refl refl refl refl) refl ordered.calm.off ordered in
     let flow = flow_more part (entry (access.Write 1 far) (place + 4 + 8 + 4 + 8 + 4 + 4)) b in
     let base : base_of part c ≡ far = ap (λ (x : Flow). x.base) flow ∙ t.0 in
-    let given : given_of part c ≡ 0 = ap (λ (x : Flow). x.given) flow in
+    let given : count_given part c ≡ 0 = ap (λ (x : Flow). x.given) flow in
     let asks : reads_frame_data c (access.Read 3 count) ≡ true = gives part c count some refl r.sbits in
     let none : why_at part kept c (access.Read 3 count) ≡ None = why_none part kept c (access.Read 3 count) refl (read_none part c count asks (ap (has_frame_at part) base ∙ t.1)) in
     let d : History = entry (access.Read 3 count) (at + 8) ∷ c in
@@ -135,7 +135,7 @@ read_plays part kept bytes far n f r is has l =
     played part kept startup bytes pieces 4 (memory_of part h) f r.searching fits (read_clears part far n)
     (going_closed part kept startup d (place + 4 * pieces_length pieces) 4 (subst (λ (k : ℕ). IsGoing part kept startup d k) last read)) r.sbits memory in
     let words : frames_read part c count ≡ words_along part (memory_of part h) far n =
-    ap (λ (x : ℕ). words_from part x (memory_of part c) (given_of part c) count) base
+    ap (λ (x : ℕ). words_from part x (memory_of part c) (count_given part c) count) base
     ∙ ap (λ (x : ℕ). words_from part far (memory_of part c) x count) given
     ∙ reading.words_read part far (memory_of part c) n (memory_has part c (omega (arith, is.words))) l
     ∙ along_same part (memory_of part c) (memory_of part h) far n same in

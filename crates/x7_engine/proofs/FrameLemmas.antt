@@ -34,7 +34,7 @@ use Rattle.x7_engine.specs.declared.stop.Stop.TheVariants as stop
 use Rattle.x7_engine.specs.Kept.{is_fallback}
 use Rattle.x7_engine.specs.Standing.{FramesAre, due_count, frames_among, frames_due, frames_history, is_refusal, older, words_left}
 use Rattle.x7_engine.specs.Stops.{why_by_access, asks_decryption, why_by_frames, why_at, needs_match, or_else, stop_by, why_by_write}
-use Rattle.x7_engine.specs.Values.{value_of, value_owing}
+use Rattle.x7_engine.specs.Values.{register_value, value_owing}
 use Rattle.x7_engine.proofs.PlainLemmas.{IsPlain, plain_asks}
 
 -- ---- the history that the frames stand for
@@ -101,7 +101,7 @@ length_left part h (due.Same word count) = length-replicate count word
 length_left part h (due.Frames count) = length_from part _ _ _ count
 
 -- where none is due, a value is that of the history
-pub value_now : (part : PartData) (kept : Kept) (f : Option Fault) (h : History) (n : ℕ) (r : Reg) → value_owing (course_at part kept h n) f 0 r ≡ value_of (course_at part kept h n) false f r
+pub value_now : (part : PartData) (kept : Kept) (f : Option Fault) (h : History) (n : ℕ) (r : Reg) → value_owing (course_at part kept h n) f 0 r ≡ register_value (course_at part kept h n) false f r
 value_now part kept f h n reg.Far = ap (far_in part) (sym (no_less (flow_of part h)))
 value_now part kept f h n r = refl
 

@@ -5,7 +5,7 @@ use Rattle.std.proofs.lemmas.List.{length-append, length-drop, take-append-drop,
 use Rattle.x7_packets.specs.Cutting.{between}
 use Rattle.x7_packets.specs.History.{Access, Bad, History, Read, Write, history_of}
 use Rattle.x7_part.specs.Part.{PartData}
-use Rattle.x7_engine.specs.ReadBuffer.{HasRoomBy, HasRoomFor, HoldsFew, ReadBufState, gathered, with_words}
+use Rattle.x7_engine.specs.ReadBuffer.{HasRoomBy, HasRoomForWords, HoldsFew, ReadBufState, gathered, with_words}
 use Rattle.x7_engine.specs.declared.kept.Kept.{Kept}
 use Rattle.x7_engine.specs.Standing.{DeviceStandsFor, DeviceState, NoWordDue, reads_given}
 use Rattle.x7_engine.specs.State.{history_by, reads_of, stop_in}
@@ -56,7 +56,7 @@ turn_piece part kept wrapped d e bytes piece from to k l m going due s after f m
     ap (reads_of part kept) (sym all) ∙ turn_reads_none part kept wrapped d e taken (between piece from to) going s after f j inside ∙ sym (told_all part kept d taken due)
 
 -- the words that a buffer got had room in it
-room_for : (b : ReadBufState) (more : List ℕ) → HoldsFew b.most (with_words b more).words → HasRoomFor b more
+room_for : (b : ReadBufState) (more : List ℕ) → HoldsFew b.most (with_words b more).words → HasRoomForWords b more
 room_for b more f = by b.most b.words more f
   where
     by : (most : Option ℕ) (words more : List ℕ) → HoldsFew most (gathered most words more) → HasRoomBy most (length words + length more)

@@ -108,16 +108,16 @@ pub record BootGoesOn (p : Past) : Type 0 where
 -- ---- what a call does that takes bytes
 
 -- a device takes just the bytes `more`
-abbrev pub Takes : DeviceState → DeviceState → List ℕ → Type 0
-Takes old new more = OfPast old (λ p. HasPast new (later p more))
+abbrev pub TakesJust : DeviceState → DeviceState → List ℕ → Type 0
+TakesJust old new more = OfPast old (λ p. HasPast new (later p more))
 
 -- the bytes `more` give no word: the words given so far are those given before
 abbrev pub GivesNone : DeviceState → DeviceState → List ℕ → Type 0
 GivesNone old new more = OfPast old (λ p. reads_given_at new (later p more) ≡ reads_given_at old p)
 
 -- the bytes `more` give the buffer words: the words given so far are those given before, and then these
-abbrev pub GivesNext : DeviceState → DeviceState → List ℕ → ReadBufState → ReadBufState → Type 0
-GivesNext old new more before after = OfPast old (λ p. (words : List ℕ) × (after ≡ with_words before words) × (reads_given_at new (later p more) ≡ reads_given_at old p ++ words))
+abbrev pub GivesWordsNext : DeviceState → DeviceState → List ℕ → ReadBufState → ReadBufState → Type 0
+GivesWordsNext old new more before after = OfPast old (λ p. (words : List ℕ) × (after ≡ with_words before words) × (reads_given_at new (later p more) ≡ reads_given_at old p ++ words))
 
 -- what a feed answers: that nothing stopped the device and no word is due, the stop at the last byte, with no word due either, or that nothing stopped it, a word is due and the buffer full
 abbrev pub Answers : Past → DeviceState → ReadBufState → Fed → Type 0

@@ -25,8 +25,8 @@ abbrev pub HasRoomBy : Option ℕ → ℕ → Type 0
 HasRoomBy None count = Unit {0}
 HasRoomBy (Some most) count = count ≤ most
 
-abbrev pub HasRoomFor : ReadBufState → List ℕ → Type 0
-HasRoomFor b more = HasRoomBy b.most (length b.words + length more)
+abbrev pub HasRoomForWords : ReadBufState → List ℕ → Type 0
+HasRoomForWords b more = HasRoomBy b.most (length b.words + length more)
 
 -- no word more has room
 abbrev pub IsFullBy : Option ℕ → ℕ → Type 0

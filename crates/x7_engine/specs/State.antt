@@ -23,7 +23,7 @@ use Rattle.x7_engine.specs.declared.stop.Stop.TheVariants as stop
 use Rattle.x7_engine.specs.Registers.{word_held}
 use Rattle.x7_engine.specs.Startup.{phase_by, startup_progress}
 use Rattle.x7_engine.specs.Stops.{Stopped, fault_of, stop_of}
-use Rattle.x7_engine.specs.Values.{attempt_of, lines_by, read_out, value_of}
+use Rattle.x7_engine.specs.Values.{attempt_of, lines_by, read_out, register_value}
 
 -- the first stop in the bytes, where there is one
 abbrev pub stop_in : PartData → Kept → List ℕ → Option Stopped
@@ -61,21 +61,21 @@ state_by c wrapped why synced = record {
   end = end_by why synced (word_held c.kept (number_of Wbstar) c.history);
   phase = phase_by c.part (startup_progress c.history c.taken);
   lines = lines_by c.part (startup_progress c.history c.taken);
-  crc = value_of c wrapped (fault_of why) Crc;
-  far = value_of c wrapped (fault_of why) Far;
-  cmd = value_of c wrapped (fault_of why) Cmd;
-  ctl0 = value_of c wrapped (fault_of why) Ctl0;
-  mask = value_of c wrapped (fault_of why) Mask;
-  stat = value_of c wrapped (fault_of why) Stat;
-  cor0 = value_of c wrapped (fault_of why) Cor0;
-  idcode = value_of c wrapped (fault_of why) Idcode;
-  axss = value_of c wrapped (fault_of why) Axss;
-  cor1 = value_of c wrapped (fault_of why) Cor1;
-  wbstar = value_of c wrapped (fault_of why) Wbstar;
-  timer = value_of c wrapped (fault_of why) Timer;
-  bootsts = value_of c wrapped (fault_of why) Bootsts;
-  ctl1 = value_of c wrapped (fault_of why) Ctl1;
-  bspi = value_of c wrapped (fault_of why) Bspi;
+  crc = register_value c wrapped (fault_of why) Crc;
+  far = register_value c wrapped (fault_of why) Far;
+  cmd = register_value c wrapped (fault_of why) Cmd;
+  ctl0 = register_value c wrapped (fault_of why) Ctl0;
+  mask = register_value c wrapped (fault_of why) Mask;
+  stat = register_value c wrapped (fault_of why) Stat;
+  cor0 = register_value c wrapped (fault_of why) Cor0;
+  idcode = register_value c wrapped (fault_of why) Idcode;
+  axss = register_value c wrapped (fault_of why) Axss;
+  cor1 = register_value c wrapped (fault_of why) Cor1;
+  wbstar = register_value c wrapped (fault_of why) Wbstar;
+  timer = register_value c wrapped (fault_of why) Timer;
+  bootsts = register_value c wrapped (fault_of why) Bootsts;
+  ctl1 = register_value c wrapped (fault_of why) Ctl1;
+  bspi = register_value c wrapped (fault_of why) Bspi;
 }
 
 -- how many of the bytes are taken, and the history of those

@@ -1,7 +1,7 @@
 -- What one turn of a device does over bytes of a piece (this project's choice).
 use Rattle.std.specs.Prelude.{◌≡◌, ℕ, ◌+◌, ◌-◌, ◌^◌, ◌<◌, ◌≤◌, List, length, None}
 use Rattle.x7_packets.specs.Cutting.{between, calls_left}
-use Rattle.x7_engine.specs.Past.{GivesNone, OfPast, Takes}
+use Rattle.x7_engine.specs.Past.{GivesNone, OfPast, TakesJust}
 use Rattle.x7_engine.specs.Standing.{DeviceState, NoWordDue, fed_more, fed_of}
 use Rattle.x7_engine.specs.UntilStarted.{CommandsLast}
 
@@ -16,7 +16,7 @@ pub record MayTake (d : DeviceState) (piece : List ℕ) (at : ℕ) : Type 0 wher
 -- write to CMD, a read or a word that is no header
 pub record TakesTurn (old new : DeviceState) (more : List ℕ) : Type 0 where
   pub part : new.part ≡ old.part
-  pub stands : Takes old new more
+  pub stands : TakesJust old new more
   pub silent : GivesNone old new more
   pub commands : OfPast old (λ p. CommandsLast p.bytes more)
 

@@ -83,32 +83,32 @@ abbrev pub attempt_of : Kept → Bool → Option Fault → History → Attempt
 attempt_of kept wrapped fault h = record { kind = kept.kind; cause = cause_of fault wrapped; ignored = is_fallback kept.kind && wrote_iprog h }
 
 -- the value of a register in the course of a device, and 0 for one that is only written
-abbrev pub value_of : Course → Bool → Option Fault → Reg → ℕ
-value_of c wrapped fault Crc = check_shown fault c.history
-value_of c wrapped fault Far = far_read c.part c.history
-value_of c wrapped fault Fdri = 0
-value_of c wrapped fault Fdro = 0
-value_of c wrapped fault Cmd = command_held c.history
-value_of c wrapped fault Ctl0 = ctl0_held c.history
-value_of c wrapped fault Mask = mask_held c.history
-value_of c wrapped fault Stat = status_of (stat_parts c.part fault (startup_progress c.history c.taken) (has_ghigh c.history))
-value_of c wrapped fault Lout = 0
-value_of c wrapped fault Cor0 = word_held c.kept (number_of Cor0) c.history
-value_of c wrapped fault Mfwr = 0
-value_of c wrapped fault Cbc = 0
-value_of c wrapped fault Idcode = c.part.idcode
-value_of c wrapped fault Axss = word_held c.kept (number_of Axss) c.history
-value_of c wrapped fault Cor1 = word_held c.kept (number_of Cor1) c.history
-value_of c wrapped fault Wbstar = word_held c.kept (number_of Wbstar) c.history
-value_of c wrapped fault Timer = word_held c.kept (number_of Timer) c.history
-value_of c wrapped fault Bootsts = boot_status_of (attempt_of c.kept wrapped fault c.history) c.kept.before
-value_of c wrapped fault Ctl1 = masked (number_of Ctl1) c.history
-value_of c wrapped fault Bspi = word_held c.kept (number_of Bspi) c.history
+abbrev pub register_value : Course → Bool → Option Fault → Reg → ℕ
+register_value c wrapped fault Crc = check_shown fault c.history
+register_value c wrapped fault Far = far_read c.part c.history
+register_value c wrapped fault Fdri = 0
+register_value c wrapped fault Fdro = 0
+register_value c wrapped fault Cmd = command_held c.history
+register_value c wrapped fault Ctl0 = ctl0_held c.history
+register_value c wrapped fault Mask = mask_held c.history
+register_value c wrapped fault Stat = status_of (stat_parts c.part fault (startup_progress c.history c.taken) (has_ghigh c.history))
+register_value c wrapped fault Lout = 0
+register_value c wrapped fault Cor0 = word_held c.kept (number_of Cor0) c.history
+register_value c wrapped fault Mfwr = 0
+register_value c wrapped fault Cbc = 0
+register_value c wrapped fault Idcode = c.part.idcode
+register_value c wrapped fault Axss = word_held c.kept (number_of Axss) c.history
+register_value c wrapped fault Cor1 = word_held c.kept (number_of Cor1) c.history
+register_value c wrapped fault Wbstar = word_held c.kept (number_of Wbstar) c.history
+register_value c wrapped fault Timer = word_held c.kept (number_of Timer) c.history
+register_value c wrapped fault Bootsts = boot_status_of (attempt_of c.kept wrapped fault c.history) c.kept.before
+register_value c wrapped fault Ctl1 = masked (number_of Ctl1) c.history
+register_value c wrapped fault Bspi = word_held c.kept (number_of Bspi) c.history
 
 -- the value of a register by its number, and 0 for a number without a register
 abbrev pub value_or_zero : Course → Option Reg → ℕ
 value_or_zero c None = 0
-value_or_zero c (Some reg) = value_of c false None reg
+value_or_zero c (Some reg) = register_value c false None reg
 
 abbrev pub read_value : Course → ℕ → ℕ
 read_value c register = value_or_zero c (reg_with register)
@@ -117,17 +117,17 @@ read_value c register = value_or_zero c (reg_with register)
 -- given so far
 abbrev pub value_owing : Course → Option Fault → ℕ → Reg → ℕ
 value_owing c fault due Far = far_in c.part (less due (flow_of c.part c.history))
-value_owing c fault due reg = value_of c false fault reg
+value_owing c fault due reg = register_value c false fault reg
 
 -- the words of a read that isn't refused: words of frame data, or the register's value as often as it asks, taken where its header ends
-abbrev pub words_read : Course → ℕ → ℕ → List ℕ
-words_read c register count =
+abbrev pub words_answered : Course → ℕ → ℕ → List ℕ
+words_answered c register count =
     if reads_frame_data c.history (Read register count) then frames_read c.part c.history count else replicate count (read_value c register)
 
 -- the words that an access after this history reads out
 abbrev pub answer_of : PartData → Kept → History → Access → ℕ → List ℕ
 answer_of part kept h (Write register w) n = []
-answer_of part kept h (Read register count) n = if is_some (why_at part kept h (Read register count)) then [] else words_read (course_at part kept h n) register count
+answer_of part kept h (Read register count) n = if is_some (why_at part kept h (Read register count)) then [] else words_answered (course_at part kept h n) register count
 answer_of part kept h (Bad w) n = []
 
 -- all words that a history reads out, in order

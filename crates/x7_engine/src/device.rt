@@ -14,7 +14,7 @@ ghost use Rattle.x7_engine.specs.Stops.{fault_of};
 ghost use Rattle.x7_engine.specs.Turns.{HasFewerCalls, IsUsedUp, MayTake, Turned};
 ghost use Rattle.x7_engine.specs.Values.{cause_of};
 ghost use Rattle.x7_engine.specs.declared.fault.Fault.{Fault as FaultData};
-ghost use Rattle.x7_engine.specs.Past.{AnswersFor, OfPast, Takes, GivesNext, part_taken, state_at, stop_at, reads_given_at};
+ghost use Rattle.x7_engine.specs.Past.{AnswersFor, OfPast, TakesJust, GivesWordsNext, part_taken, state_at, stop_at, reads_given_at};
 
 mod boot;
 mod started;
@@ -318,9 +318,9 @@ impl Device {
         ensures part { self.new.part ≡ self.old.part }
         ensures taken { self.new.taken ≡ self.old.taken + taken_in (length piece.now) result }
         ensures fed { fed_of self.new ≡ fed_more self.old (taken_in (length piece.now) result) }
-        ensures stands { Takes self.old self.new (part_taken piece.now result) }
+        ensures stands { TakesJust self.old self.new (part_taken piece.now result) }
         ensures answer { AnswersFor self.old self.new (part_taken piece.now result) read.new result }
-        ensures reads { GivesNext self.old self.new (part_taken piece.now result) read.old read.new }
+        ensures reads { GivesWordsNext self.old self.new (part_taken piece.now result) read.old read.new }
         ensures few { HoldsFew read.new.most read.new.words }
         ensures first { OfPast self.old (λ p. RoomBefore p piece.now (taken_in (length piece.now) result) (reads_given_at self.old p) read.old) }
         ensures stopped { OfPast self.old (λ p. IsSome (stop_at p) → (self.new ≡ self.old) × (read.new ≡ read.old) × (taken_in (length piece.now) result ≡ 0)) }

@@ -1,7 +1,7 @@
 //! The words that a device reads out: a read makes them due, and a buffer takes them.
 ghost use Rattle.std.specs.Prelude.{◌≡◌, ◌≤◌, ◌<◌, ℕ, IsTrue, ◌↔◌, None, Some};
 ghost use Rattle.x7_packets.specs.History.{History};
-ghost use Rattle.x7_flow.specs.Standing.{FramesFit, FramesStandFor, read_of, words_due};
+ghost use Rattle.x7_flow.specs.Standing.{FramesFit, FramesStandFor, read_entry, words_due};
 ghost use Rattle.x7_engine.specs.Readout.{GotAllBut};
 ghost use Rattle.x7_engine.specs.ReadBuffer.{HoldsFew, IsFull};
 ghost use Rattle.x7_engine.specs.Ready.{AreReady, RestsAtStop};
@@ -60,7 +60,7 @@ impl Registers {
         ensures counts { (n : ℕ) → counted_in self.new.stop n ≡ n }
         ensures frames { self.new.frames ≡ self.old.frames }
         ensures stands { EntersAt (change_of part.now self.old self.new) (read_entered register count) }
-        ensures reads { OfHistory part.now (registers_in self.old) (λ kept h place. AreAnswer part.now kept h (read_of register count place) self.new.due) }
+        ensures reads { OfHistory part.now (registers_in self.old) (λ kept h place. AreAnswer part.now kept h (read_entry register count place) self.new.due) }
     {
         if !reads_frames(self.settings(), register, count) {
             self.due = Due::Same(self.read_value(part, register), count);

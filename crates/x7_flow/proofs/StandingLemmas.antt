@@ -26,7 +26,7 @@ use Rattle.x7_pipeline.specs.Flow.{GoesOn, HoldsFlow, LandsAt, OfFlow, after_rea
 use Rattle.x7_pipeline.specs.Pipeline.{AreOf, PipelineData}
 use Rattle.x7_pipeline.specs.Readback.{read_at, read_slot, word_at, word_of}
 use Rattle.x7_flow.specs.Asked.{Asked, Load, Order, Word, Copies, Reads, Other}
-use Rattle.x7_flow.specs.Flow.{Flow, asked, asks, base_of, fault_by, first_flow, flow_by, flow_of, frame_fault, given_of}
+use Rattle.x7_flow.specs.Flow.{Flow, asked, asks, base_of, fault_by, first_flow, flow_by, flow_of, frame_fault, count_given}
 use Rattle.x7_flow.specs.FrameMemory.{copy_pairs, written_frames_more, memory_of, puts}
 use Rattle.x7_flow.specs.FrameAccess.{reads_frame_data}
 use Rattle.x7_flow.specs.Standing.{AfterAccess, AfterRead, AreFramesAfter, FramesFit, FramesStandFor, FramesState, Did, FramesDid, HasFlow, frames_state, less, word_to, words_from, words_due, frames_read}
@@ -149,14 +149,14 @@ read_begins part p frames e h count a t are =
     ap (λ (n : ℕ). record f { given = n }) (omega arith) ∙ ap (less count) (sym now) in
     let same : AreSame (memory_of part (e ∷ h)) (memory_of part h) = λ far.
     memory_more part e h far ∙ ap (λ (x : Asked). put_over (puts part x f) (memory_of part h) far) a ∙ put_none [] (memory_of part h) refl far in
-    let sum : given_of part (e ∷ h) ≡ f.given + count = ap (λ (g : Flow). g.given) now in
-    let place : given_of part (e ∷ h) - count ≡ f.given = omega arith in (
+    let sum : count_given part (e ∷ h) ≡ f.given + count = ap (λ (g : Flow). g.given) now in
+    let place : count_given part (e ∷ h) - count ≡ f.given = omega arith in (
       record {
         flow = same_flow part p (less 0 f) (less count (flow_of part (e ∷ h))) back are.flow;
         memory = λ far. are.memory far ∙ sym (same far);
         due_given = omega arith;
       },
-      words_same part (base_of part (e ∷ h)) (given_of part (e ∷ h) - count) count (memory_of part (e ∷ h)) (memory_of part h) same
+      words_same part (base_of part (e ∷ h)) (count_given part (e ∷ h) - count) count (memory_of part (e ∷ h)) (memory_of part h) same
           ∙ ap (λ (n : ℕ). words_from part (base_of part (e ∷ h)) (memory_of part h) n count) place
           ∙ ap (λ (n : ℕ). words_from part n (memory_of part h) f.given count) (ap (λ (g : Flow). g.base) now),
     )
@@ -189,12 +189,12 @@ no_both : {b : Bool} → b ≡ true → b ≡ false → ⊥
 no_both t f = cc
 
 -- words are due at an address alone
-pub due_somewhere : (part : PartData) (p : PipelineData) (frames : List (List ℕ)) (h : History) (due : ℕ) → AreFramesAfter part p frames h (due + 1) → None ≡ read_fault part (base_of part h) (given_of part h - (due + 1))
+pub due_somewhere : (part : PartData) (p : PipelineData) (frames : List (List ℕ)) (h : History) (due : ℕ) → AreFramesAfter part p frames h (due + 1) → None ≡ read_fault part (base_of part h) (count_given part h - (due + 1))
 unfolding address_fault
 due_somewhere part p frames h due are = by (has_frame_at part (base_of part h)) refl
   where
-    by : (b : Bool) → has_frame_at part (base_of part h) ≡ b → None ≡ read_fault part (base_of part h) (given_of part h - (due + 1))
-    by true t = sym (read_is part (base_of part h) (given_of part h - (due + 1)) (λ f. absurd (no_both t f)) ∙ rw t refl)
+    by : (b : Bool) → has_frame_at part (base_of part h) ≡ b → None ≡ read_fault part (base_of part h) (count_given part h - (due + 1))
+    by true t = sym (read_is part (base_of part h) (count_given part h - (due + 1)) (λ f. absurd (no_both t f)) ∙ rw t refl)
     by false f = let none = (flow_sound part h).nowhere f in let some = are.due_given in absurd (omega arith)
 
 -- so many of the words due are passed over
@@ -217,7 +217,7 @@ read_past part p q frames h due count are stands =
 
 -- where words are due, passing over them isn't refused
 pub all_due : (part : PartData) (p : PipelineData) (frames : List (List ℕ)) (h : History) (due count : ℕ) → AreFramesAfter part p frames h (due + count) →
-    None ≡ drop_fault part (base_of part h) (given_of part h - (due + count)) count
+    None ≡ drop_fault part (base_of part h) (count_given part h - (due + count)) count
 unfolding drop_fault read_fault address_fault
 all_due part p frames h due count are = by (has_frame_at part (base_of part h)) refl
   where
@@ -226,8 +226,8 @@ all_due part p frames h due count are = by (has_frame_at part (base_of part h)) 
     free false true = refl
     free false false = refl
 
-    by : (b : Bool) → has_frame_at part (base_of part h) ≡ b → None ≡ drop_fault part (base_of part h) (given_of part h - (due + count)) count
-    by true t = rw t (free (count == 0) (given_of part h - (due + count) == 0))
+    by : (b : Bool) → has_frame_at part (base_of part h) ≡ b → None ≡ drop_fault part (base_of part h) (count_given part h - (due + count)) count
+    by true t = rw t (free (count == 0) (count_given part h - (due + count) == 0))
     by false f =
         let none = (flow_sound part h).nowhere f in
         let some = are.due_given in

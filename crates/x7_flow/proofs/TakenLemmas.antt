@@ -13,16 +13,16 @@ use Rattle.x7_memory.proofs.MapLemmas.{override_same}
 use Rattle.x7_pipeline.specs.declared.fault.RunFault.{RunFault}
 use Rattle.x7_pipeline.specs.Runs.{written_frames, onto, put_over, Lands}
 use Rattle.x7_pipeline.specs.Faults.{write_fault}
-use Rattle.x7_pipeline.specs.Flow.{HoldsFlow, OfFlow, after_words, with_run, written_by}
+use Rattle.x7_pipeline.specs.Flow.{HoldsFlow, OfFlow, after_words, with_run, flow_written}
 use Rattle.x7_pipeline.specs.Pipeline.{PipelineData}
-use Rattle.x7_pipeline.specs.Words.{Written, one_written, written}
+use Rattle.x7_pipeline.specs.Words.{RunWritten, one_written, written}
 use Rattle.x7_flow.specs.Asked.{Asked, Copies, Other, Word}
 use Rattle.x7_flow.specs.Settings.{settings_of, takes_copies, takes_frames}
 use Rattle.x7_flow.specs.Flow.{Flow, asks, base_of, fault_by, flow_of, frame_fault, run_of}
 use Rattle.x7_flow.specs.FrameMemory.{copy_pairs, memory_of}
 use Rattle.x7_flow.specs.Standing.{AreFramesAfter, Did, FramesStandFor, FramesState, HasFlow, frames_state, less}
 use Rattle.x7_words.specs.Word.{words_of_bytes}
-use Rattle.x7_flow.specs.Words.{EndsBy, NoneRefused, WordsTaken, with_copies, with_frame_data, with_words, words_seen, words_to}
+use Rattle.x7_flow.specs.Words.{EndsBy, NoneRefused, WordsTaken, with_copies, with_frame_data, with_words_to, words_seen, words_to}
 use Rattle.x7_flow.proofs.StreamLemmas.{IsCopied, copied_all, copy_asked, copy_flow}
 use Rattle.x7_flow.proofs.StandingLemmas.{did_other, no_less, one_more, same_flow}
 use Rattle.x7_flow.proofs.ManyLemmas.{word_asked, word_flow, words_flow, words_land}
@@ -33,7 +33,7 @@ word_fault part h w t = ap (λ (a : Asked). fault_by part a (flow_of part h)) (w
 -- ---- the words before the first refused one
 
 -- how words written in order part
-record Parted (part : PartData) (n : ℕ) (h : History) (words : List ℕ) (w : Written) : Type 0 where
+record Parted (part : PartData) (n : ℕ) (h : History) (words : List ℕ) (w : RunWritten) : Type 0 where
   prefix : List ℕ
   rest : List ℕ
   words_are : words ≡ prefix ++ rest
@@ -56,7 +56,7 @@ parted part n (w ∷ words) h t =
     now : History
     now = entry (Write 2 w) (n + 4) ∷ h
 
-    later : Written
+    later : RunWritten
     later = written part (base_of part h) (w ∷ run_of part h) words
 
     by : (o : Option RunFault) → write_fault part (base_of part h) (run_of part h) ≡ o → Parted part (n + 4) now words later → Parted part n h (w ∷ words) (one_written o (run_of part h) later)
@@ -88,16 +88,16 @@ lands_alike part base run longer old new under over first second same far =
     ∙ override_same old under (planned second.added) (planned second.added) same (λ a. refl) far ∙ sym (second.memory far)
 
 pub words_taken : (part : PartData) (p q : PipelineData) (old new : List (List ℕ)) (bytes : List ℕ) (n : ℕ) (seen : ℕ × Option RunFault) (h : History) →
-    OfFlow part p (λ f. HoldsFlow part q (with_run (written_by part f (words_of_bytes bytes)).run f)) →
-    OfFlow part p (λ f. Lands part f.base f.run (written_by part f (words_of_bytes bytes)).run (frame_at part old) (frame_at part new)) →
-    OfFlow part p (λ f. seen.0 ≡ (written_by part f (words_of_bytes bytes)).count) →
-    OfFlow part p (λ f. seen.1 ≡ (written_by part f (words_of_bytes bytes)).fault) →
+    OfFlow part p (λ f. HoldsFlow part q (with_run (flow_written part f (words_of_bytes bytes)).run f)) →
+    OfFlow part p (λ f. Lands part f.base f.run (flow_written part f (words_of_bytes bytes)).run (frame_at part old) (frame_at part new)) →
+    OfFlow part p (λ f. seen.0 ≡ (flow_written part f (words_of_bytes bytes)).count) →
+    OfFlow part p (λ f. seen.1 ≡ (flow_written part f (words_of_bytes bytes)).fault) →
     takes_frames (settings_of part.idcode h) ≡ true → AreFramesAfter part p old h 0 → WordsTaken part (frames_state q new) h (words_to reg.Fdri n bytes) seen
 words_taken part p q old new bytes n seen h stands lands counted faulty t are =
     let words : List ℕ = words_of_bytes bytes in
     let f : Flow = flow_of part h in
     let has : HasFlow part p f = same_flow part p (less 0 f) f (sym (no_less f)) are.flow in
-    let w : Written = written part f.base f.run words in
+    let w : RunWritten = written part f.base f.run words in
     let parts : Parted part n h words w = parted part n words h t in
     let end : History = with_frame_data n parts.prefix h in
     let flow : flow_of part end ≡ record f { run = onto parts.prefix f.run } = words_flow part n parts.prefix h t in
@@ -195,7 +195,7 @@ none_refused part r P n [] h a p = tt
 none_refused part r P n (w ∷ ws) h a p =
     (ap (λ (x : Asked). fault_by part x (flow_of part h)) (a.asks_other h w p), none_refused part r P (n + 4) ws (entry (Write (number_of r) w) (n + 4) ∷ h) a (a.keeps h w (n + 4) p))
 
-still_stand : (part : PartData) (r : Reg) (P : History → Type 0) (f : FramesState) (n : ℕ) (ws : List ℕ) (h : History) → AsksNothing part r P → P h → FramesStandFor part f h 0 → FramesStandFor part f (with_words r n ws h) 0
+still_stand : (part : PartData) (r : Reg) (P : History → Type 0) (f : FramesState) (n : ℕ) (ws : List ℕ) (h : History) → AsksNothing part r P → P h → FramesStandFor part f h 0 → FramesStandFor part f (with_words_to r n ws h) 0
 still_stand part r P f n [] h a p s = s
 still_stand part r P f n (w ∷ ws) h a p s =
     still_stand part r P f (n + 4) ws (entry (Write (number_of r) w) (n + 4) ∷ h) a (a.keeps h w (n + 4) p) (other_access part f h (entry (Write (number_of r) w) (n + 4)) (a.asks_other h w p) s)

@@ -12,9 +12,9 @@ use Rattle.x7_pipeline.specs.Copies.{is_mfw, is_wcfg, newest_of, source_after}
 use Rattle.x7_flow.specs.FrameAccess.{reads_frame_data, writes_frame_data}
 use Rattle.x7_flow.specs.Asked.{Load, Order, Word, Copies, Reads, Other}
 use Rattle.x7_flow.specs.Settings.{Settings, held_after, settings_of, takes_frames, takes_copies, gives_frames}
-use Rattle.x7_flow.specs.Flow.{Flow, asked, asks, is_read, is_word, far_in, far_read, flow_by, flow_of, base_of, run_of, source_of, given_of}
+use Rattle.x7_flow.specs.Flow.{Flow, asked, asks, is_read, is_word, far_in, far_read, flow_by, flow_of, base_of, run_of, source_of, count_given}
 use Rattle.x7_flow.specs.Stretches.{is_boundary}
-use Rattle.x7_flow.specs.InWords.{base_after, count_asked, frame_taken, with_word, words_given, words_written}
+use Rattle.x7_flow.specs.InWords.{base_after, count_asked, frame_taken, run_with_word, words_given, words_written}
 use Rattle.x7_flow.proofs.SettingsLemmas.{settings_more}
 use Rattle.x7_flow.proofs.FlowLemmas.{flow_sound}
 
@@ -61,7 +61,7 @@ asked_read idcode h (Bad w) = refl
 -- ---- the run
 
 run_step : (part : PartData) (s : Settings) (access : Access) (f : Flow) (fdri : Bool) → fdri ≡ is_word (asked s access) →
-    (flow_by part (asked s access) f).run ≡ (if is_boundary access then [] else if fdri then with_word access f.run else f.run)
+    (flow_by part (asked s access) f).run ≡ (if is_boundary access then [] else if fdri then run_with_word access f.run else f.run)
 run_step part s (Write r w) f fdri e = rw e (by (r == 1) (r == 4) (r == 2 && takes_frames s) (r == 10 && takes_copies s))
   where
     by : (far cmd word mfwr : Bool) → (flow_by part (if far then Load w else if cmd then Order (command_by w) else if word then Word w else if mfwr then Copies else Other) f).run
@@ -84,7 +84,7 @@ unfolding flow_of words_written
 run_is part [] = refl
 run_is part (e ∷ h) =
     run_step part (settings_of part.idcode h) e.access (flow_of part h) (writes_frame_data part.idcode h e.access) (asked_word part.idcode h e.access)
-    ∙ ap (λ (ws : List ℕ). if is_boundary e.access then [] else if writes_frame_data part.idcode h e.access then with_word e.access ws else ws) (run_is part h)
+    ∙ ap (λ (ws : List ℕ). if is_boundary e.access then [] else if writes_frame_data part.idcode h e.access then run_with_word e.access ws else ws) (run_is part h)
 
 -- ---- the base
 
@@ -135,7 +135,7 @@ given_step part idcode h (Read r count) f = by (r == 3 && (not (count == 0) && g
     by false = refl
 given_step part idcode h (Bad w) f = refl
 
-pub given_is : (part : PartData) (h : History) → given_of part h ≡ words_given part h
+pub given_is : (part : PartData) (h : History) → count_given part h ≡ words_given part h
 unfolding flow_of words_given
 given_is part [] = refl
 given_is part (e ∷ h) =

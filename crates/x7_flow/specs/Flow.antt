@@ -97,8 +97,8 @@ run_of part h = (flow_of part h).run
 abbrev pub source_of : PartData → History → Option (List ℕ)
 source_of part h = (flow_of part h).source
 
-abbrev pub given_of : PartData → History → ℕ
-given_of part h = (flow_of part h).given
+abbrev pub count_given : PartData → History → ℕ
+count_given part h = (flow_of part h).given
 
 -- the run or readback of a history begins at an address
 abbrev pub HasAddress : PartData → History → Type 0

@@ -74,8 +74,8 @@ abbrev pub with_frame_copies : FrameCopies → History → History
 with_frame_copies x h = with_copies x.place (x.first ∷ x.words) (after_load x.far x.far_place h)
 
 -- the pair that the words of MFWR put
-abbrev pub copied_by : PartData → FrameCopies → List PlanRow
-copied_by part x = copied (loaded_base part x.far) (Some x.frame)
+abbrev pub pair_copied : PartData → FrameCopies → List PlanRow
+pair_copied part x = copied (loaded_base part x.far) (Some x.frame)
 
 -- a device takes the words of MFWR after a history: it takes copies, the frame is the source, and the word of FAR an address
 pub record TakesCopies (part : PartData) (h : History) (x : FrameCopies) : Type 0 where

@@ -14,10 +14,10 @@ use Rattle.x7_flow.specs.Stretches.{is_boundary}
 use Rattle.x7_flow.specs.Flow.{base_of}
 
 -- the word of a write, and the count of a read
-abbrev pub with_word : Access → List ℕ → List ℕ
-with_word (Write register w) run = w ∷ run
-with_word (Read register count) run = run
-with_word (Bad w) run = run
+abbrev pub run_with_word : Access → List ℕ → List ℕ
+run_with_word (Write register w) run = w ∷ run
+run_with_word (Read register count) run = run
+run_with_word (Bad w) run = run
 
 abbrev pub count_asked : Access → ℕ
 count_asked (Write register w) = 0
@@ -29,7 +29,7 @@ unfoldable pub words_written : ℕ → History → List ℕ
 words_written idcode [] = []
 words_written idcode (e ∷ h) =
     if is_boundary e.access then [] else
-    if writes_frame_data idcode h e.access then with_word e.access (words_written idcode h) else words_written idcode h
+    if writes_frame_data idcode h e.access then run_with_word e.access (words_written idcode h) else words_written idcode h
 
 -- where the last stretch began: at the address of a FAR load, or at FAR as read before a command
 abbrev pub base_after : PartData → Access → ℕ → ℕ → ℕ

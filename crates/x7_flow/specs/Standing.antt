@@ -14,7 +14,7 @@ use Rattle.x7_pipeline.specs.Readback.{read_at}
 use Rattle.x7_pipeline.specs.Runs.{put_over}
 use Rattle.x7_flow.specs.Asked.{Asked, Reads}
 use Rattle.x7_flow.specs.declared.settings.FrameSettings.{FrameSettings}
-use Rattle.x7_flow.specs.Flow.{Flow, HasAddress, asks, base_of, flow_by, flow_of, frame_fault, given_of}
+use Rattle.x7_flow.specs.Flow.{Flow, HasAddress, asks, base_of, flow_by, flow_of, frame_fault, count_given}
 use Rattle.x7_flow.specs.FrameAccess.{reads_frame_data}
 use Rattle.x7_flow.specs.FrameMemory.{memory_of, puts}
 use Rattle.x7_flow.specs.InWords.{count_asked}
@@ -33,7 +33,7 @@ less due f = record f { given = f.given - due }
 pub record AreFramesAfter (part : PartData) (p : PipelineData) (frames : List (List ℕ)) (h : History) (due : ℕ) : Type 0 where
   pub flow : HasFlow part p (less due (flow_of part h))
   pub memory : AreSame (frame_at part frames) (memory_of part h)
-  pub due_given : due ≤ given_of part h
+  pub due_given : due ≤ count_given part h
 
 -- a pipeline, and the frames of a memory in number order of their addresses
 pub record FramesState : Type 0 where
@@ -55,11 +55,11 @@ words_from part base memory place (suc count) = read_at part base memory place �
 
 -- the words that a read of frame data after a history gives, from an address
 abbrev pub frames_read : PartData → History → ℕ → List ℕ
-frames_read part h count = words_from part (base_of part h) (memory_of part h) (given_of part h) count
+frames_read part h count = words_from part (base_of part h) (memory_of part h) (count_given part h) count
 
 -- the last words that were given by a history, as many as are due
 abbrev pub words_due : PartData → History → ℕ → List ℕ
-words_due part h due = words_from part (base_of part h) (memory_of part h) (given_of part h - due) due
+words_due part h due = words_from part (base_of part h) (memory_of part h) (count_given part h - due) due
 
 -- ---- the frames of a device
 
@@ -97,12 +97,12 @@ abbrev pub written_to : Reg → ℕ → ℕ → Entry
 written_to register word place = entry (word_to register word) place
 
 -- a read of some words of a register, and its entry
-abbrev pub read_of : ℕ → ℕ → ℕ → Entry
-read_of register count place = entry (Read register count) place
+abbrev pub read_entry : ℕ → ℕ → ℕ → Entry
+read_entry register count place = entry (Read register count) place
 
 -- the flow of a history with a read after it
 abbrev pub flow_read : PartData → History → ℕ → ℕ → ℕ → Flow
-flow_read part h register count place = flow_of part (read_of register count place ∷ h)
+flow_read part h register count place = flow_of part (read_entry register count place ∷ h)
 
 -- a read after a history is one of frame data
 abbrev pub ReadsData : History → ℕ → ℕ → Type 0

@@ -29,14 +29,14 @@ abbrev pub words_to : Reg → ℕ → List ℕ → WordsTo
 words_to r n bytes = record { register = r; place = n; words = words_of_bytes bytes }
 
 -- the history with words written to a register, the first of which begins at byte n; to FDRI; to MFWR
-abbrev pub with_words : Reg → ℕ → List ℕ → History → History
-with_words r n ws h = entered_all n (payload_steps (number_of r) ws) h
+abbrev pub with_words_to : Reg → ℕ → List ℕ → History → History
+with_words_to r n ws h = entered_all n (payload_steps (number_of r) ws) h
 
 abbrev pub with_frame_data : ℕ → List ℕ → History → History
-with_frame_data n ws h = with_words reg.Fdri n ws h
+with_frame_data n ws h = with_words_to reg.Fdri n ws h
 
 abbrev pub with_copies : ℕ → List ℕ → History → History
-with_copies n ws h = with_words reg.Mfwr n ws h
+with_copies n ws h = with_words_to reg.Mfwr n ws h
 
 -- none of the words written to a register is refused
 unfoldable pub NoneRefused : PartData → Reg → ℕ → List ℕ → History → Type 0
@@ -64,9 +64,9 @@ pub record WordsTaken (part : PartData) (f : FramesState) (h : History) (x : Wor
   pub rest : List ℕ
   pub words_are : x.words ≡ taken ++ rest
   pub none_refused : NoneRefused part x.register x.place taken h
-  pub end : EndsBy part x.register (with_words x.register x.place taken h) rest seen.1
+  pub end : EndsBy part x.register (with_words_to x.register x.place taken h) rest seen.1
   pub counted : seen.0 ≡ words_seen (length taken) seen.1
-  pub stands : FramesStandFor part f (with_words x.register x.place taken h) 0
+  pub stands : FramesStandFor part f (with_words_to x.register x.place taken h) 0
 
 -- what holds of a history whose settings take words, and that a pipeline and frames stand for with no word due
 abbrev pub OfTaking : PartData → (Settings → Bool) → PipelineData → List (List ℕ) → (History → Type 0) → Type 0

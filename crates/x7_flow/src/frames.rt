@@ -5,7 +5,7 @@ ghost use Rattle.x7_packets.specs.History.{History, Write};
 ghost use Rattle.x7_regs.specs.Register.{number_of};
 ghost use Rattle.x7_regs.specs.declared.register.Reg.TheVariants as reg;
 ghost use Rattle.x7_flow.specs.Flow.{far_in, flow_of, frame_fault};
-ghost use Rattle.x7_flow.specs.Standing.{AfterAccess, AfterRead, FramesFit, FramesStandFor, OfFrames, ReadsData, less, read_of, words_due, written_to};
+ghost use Rattle.x7_flow.specs.Standing.{AfterAccess, AfterRead, FramesFit, FramesStandFor, OfFrames, ReadsData, less, read_entry, words_due, written_to};
 ghost use Rattle.x7_flow.specs.Words.{TakesWords, WordsTaken, words_to};
 
 mod saved;
@@ -151,7 +151,7 @@ impl Frames {
     /// and the answer says why.
     pub fn begin_read(&self, count: u32, part: &Part) -> Option<RunFault>
         ensures { (h : History) (register place : ℕ) → ReadsData h register count → FramesStandFor part.now self.now h 0 →
-            AfterRead part.now self.now h (read_of register count place) result }
+            AfterRead part.now self.now h (read_entry register count place) result }
     {
         refuses_read(count, part, &self.pipeline)
     }

@@ -11,10 +11,10 @@ ghost use Rattle.x7_pipeline.specs.Runs.{written_frames, onto};
 ghost use Rattle.x7_pipeline.specs.Saving.{SavedState};
 ghost use Rattle.x7_pipeline.specs.declared.fault.RunFault.{RunFault};
 ghost use Rattle.x7_flow.specs.Alike.{AreAlike, MasksFirst};
-ghost use Rattle.x7_flow.specs.Flow.{Flow, HasAddress, asks, base_of, begins, far_read, flow_of, frame_fault, given_of, is_copy, is_read, is_word, run_of, source_of};
+ghost use Rattle.x7_flow.specs.Flow.{Flow, HasAddress, asks, base_of, begins, far_read, flow_of, frame_fault, count_given, is_copy, is_read, is_word, run_of, source_of};
 ghost use Rattle.x7_flow.specs.FrameAccess.{copies_frame, reads_frame_data, writes_frame_data};
 ghost use Rattle.x7_flow.specs.FrameMemory.{written_frames_more, memory_of};
-ghost use Rattle.x7_flow.specs.FrameWrites.{FrameCopies, FrameWrite, MfwAfter, TakesCopies, TakesWrite, copied_by, placed, with_frame_copies, with_frames};
+ghost use Rattle.x7_flow.specs.FrameWrites.{FrameCopies, FrameWrite, MfwAfter, TakesCopies, TakesWrite, pair_copied, placed, with_frame_copies, with_frames};
 ghost use Rattle.x7_flow.specs.InWords.{base_after, frame_taken, words_given, words_written};
 ghost use Rattle.x7_flow.specs.Inside.{HasFrames};
 ghost use Rattle.x7_flow.specs.Later.{BeginsRun, MemoryGets, Start, after_load, flow_from, flow_on, has_mfw, pairs_after, pairs_alone, pairs_after_load, pairs_from, pairs_loaded, pairs_on, start_on};
@@ -60,7 +60,7 @@ pub fn asked_laws()
 pub fn word_laws()
     ensures base { (part : PartData) (e : Entry) (h : History) → base_of part (e ∷ h) ≡ base_after part e.access (far_read part h) (base_of part h) }
     ensures run { (part : PartData) (h : History) → run_of part h ≡ words_written part.idcode h }
-    ensures given { (part : PartData) (h : History) → given_of part h ≡ words_given part h }
+    ensures given { (part : PartData) (h : History) → count_given part h ≡ words_given part h }
     ensures source { (part : PartData) (h : History) → source_of part h ≡ frame_taken part h }
 {}
 
@@ -114,7 +114,7 @@ pub fn later_laws()
 /// words of MFWR put the source there.
 pub fn stream_laws()
     ensures write { (part : PartData) (earlier : History) (x : FrameWrite) → TakesWrite part earlier x → MemoryGets part (with_frames x earlier) earlier (reverse (placed part x)) }
-    ensures copies { (part : PartData) (earlier : History) (x : FrameCopies) → TakesCopies part earlier x → MemoryGets part (with_frame_copies x earlier) earlier (copied_by part x) }
+    ensures copies { (part : PartData) (earlier : History) (x : FrameCopies) → TakesCopies part earlier x → MemoryGets part (with_frame_copies x earlier) earlier (pair_copied part x) }
 {}
 
 /// Accesses that move no frame, and a read of frame data of which words are due: it has the flow of a read without them.

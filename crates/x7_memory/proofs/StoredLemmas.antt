@@ -7,8 +7,8 @@ use Rattle.std.proofs.lemmas.List.Sums.{sum_by-le, sum_by-set}
 use Rattle.std.specs.List.{sum_by}
 use Rattle.std.specs.Prelude.{vec_capacity}
 use Rattle.x7_memory.specs.declared.memory.Memory.TheInside.{Inside}
-use Rattle.x7_memory.specs.Flat.{cut, put_over}
-use Rattle.x7_memory.specs.Stored.{frames_seen, stored_frame, own_frames, AreApart, HasRoom}
+use Rattle.x7_memory.specs.Flat.{cut, words_with_frame}
+use Rattle.x7_memory.specs.Stored.{frames_seen, stored_frame, own_frames, AreDistinct, HasRoom}
 use Rattle.x7_memory.proofs.FlatLemmas.{cut_length, cut_at, cut_set, frame_end}
 
 -- ---- frames that are stored one after another
@@ -31,18 +31,18 @@ frame_behind w n ws new e f = ap (take w) (drop_at ws new (w * n) e) ∙ take_al
 
 -- one written over
 frame_over : (w n p q : ℕ) (ws new : List ℕ) → p < n → q < n → length ws ≡ w * n → length new ≡ w →
-    stored_frame w (put_over (w * p) new ws) q ≡ get_or (set (cut w n ws) p new) q []
+    stored_frame w (words_with_frame (w * p) new ws) q ≡ get_or (set (cut w n ws) p new) q []
 frame_over w n p q ws new h i e f =
-    sym (cut_at w n q (put_over (w * p) new ws) [] i)
+    sym (cut_at w n q (words_with_frame (w * p) new ws) [] i)
     ∙ ap (λ fs. get_or fs q []) (ap (λ k. cut w n (take (w * p) ws ++ (new ++ drop (w * p + k) ws))) f ∙ cut_set w n p ws new h f (omega arith))
 
-pub over_same : (w n p : ℕ) (ws new : List ℕ) → p < n → length ws ≡ w * n → length new ≡ w → stored_frame w (put_over (w * p) new ws) p ≡ new
+pub over_same : (w n p : ℕ) (ws new : List ℕ) → p < n → length ws ≡ w * n → length new ≡ w → stored_frame w (words_with_frame (w * p) new ws) p ≡ new
 over_same w n p ws new h e f =
     let all : length (cut w n ws) ≡ n = cut_length w n ws in
     frame_over w n p p ws new h h e f ∙ get_or-set_same (cut w n ws) p new [] (omega arith)
 
 pub over_other : (w n p q : ℕ) (ws new : List ℕ) → p < n → q < n → q ≢ p → length ws ≡ w * n → length new ≡ w →
-    stored_frame w (put_over (w * p) new ws) q ≡ stored_frame w ws q
+    stored_frame w (words_with_frame (w * p) new ws) q ≡ stored_frame w ws q
 over_other w n p q ws new h i ne e f =
     frame_over w n p q ws new h i e f ∙ get_or-set_other (cut w n ws) p q new [] ne ∙ cut_at w n q ws [] i
 
@@ -137,7 +137,7 @@ new_width m rank new frames is r e f =
 -- ---- a frame written over the one of its rank
 
 pub over_seen : (m : Inside) (rank : ℕ) (us new : List ℕ) → HasRoom m → IsRank m rank → 0 < get_or m.numbers.items rank 0 → length new ≡ m.width →
-    us ≡ put_over (m.width * get_or m.numbers.items rank 0) new m.words.items → map (stored_frame m.width us) m.numbers.items ≡ set (frames_seen m) rank new
+    us ≡ words_with_frame (m.width * get_or m.numbers.items rank 0) new m.words.items → map (stored_frame m.width us) m.numbers.items ≡ set (frames_seen m) rank new
 over_seen m rank us new is r own e f =
     let number = get_or m.numbers.items rank 0 in
     seen_set m.width m.words.items us m.numbers.items m.numbers.items rank new refl r.inside
@@ -147,7 +147,7 @@ over_seen m rank us new is r own e f =
 
 pub over_room : (m p : Inside) (rank : ℕ) (new : List ℕ) → HasRoom m → IsRank m rank → 0 < get_or m.numbers.items rank 0 → length new ≡ m.width →
     p.width ≡ m.width → p.stored ≡ m.stored → p.numbers.items ≡ m.numbers.items → vec_capacity m.words ≤ vec_capacity p.words →
-    p.words.items ≡ put_over (m.width * get_or m.numbers.items rank 0) new m.words.items → HasRoom p
+    p.words.items ≡ words_with_frame (m.width * get_or m.numbers.items rank 0) new m.words.items → HasRoom p
 over_room m p rank new is r own e ew es en cap f =
     let number = get_or m.numbers.items rank 0 in
     let some = is.some in let narrow = is.narrow in let few = is.few in let room = is.room in let whole = is.whole in let end = r.end in
@@ -201,7 +201,7 @@ first_below m rank is r i h =
       | inr (ne, n) ↦ let low = is.below i h in omega arith
     ]
 
-first_apart : (m : Inside) (rank : ℕ) → HasRoom m → IsRank m rank → AreApart (set m.numbers.items rank m.stored)
+first_apart : (m : Inside) (rank : ℕ) → HasRoom m → IsRank m rank → AreDistinct (set m.numbers.items rank m.stored)
 first_apart m rank is r i j h k some same =
     let long = length-set m.numbers.items rank m.stored in
     elim (number_after m.numbers.items rank m.stored i r.inside) [

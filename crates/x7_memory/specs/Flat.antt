@@ -7,5 +7,5 @@ cut width zero words = []
 cut width (suc count) words = take width words ∷ cut width count (drop width words)
 
 -- words, with a frame in the place of those from `start` on
-abbrev pub put_over : ℕ → List ℕ → List ℕ → List ℕ
-put_over start frame words = take start words ++ (frame ++ drop (start + length frame) words)
+abbrev pub words_with_frame : ℕ → List ℕ → List ℕ → List ℕ
+words_with_frame start frame words = take start words ++ (frame ++ drop (start + length frame) words)

@@ -6,13 +6,13 @@ abbrev pub FrameMap : Type 0
 FrameMap = ℕ → Option (List ℕ)
 
 -- the upper frame where there is one, else the frame below it
-abbrev pub or_else : Option (List ℕ) → Option (List ℕ) → Option (List ℕ)
-or_else None below = below
-or_else (Some words) below = Some words
+abbrev pub frame_or : Option (List ℕ) → Option (List ℕ) → Option (List ℕ)
+frame_or None below = below
+frame_or (Some words) below = Some words
 
 -- the map p over the map m: p's frame where p has one at the address, else m's
 abbrev pub override : FrameMap → FrameMap → FrameMap
-override m p far = or_else (p far) (m far)
+override m p far = frame_or (p far) (m far)
 
 -- the map without a frame
 abbrev pub nothing : FrameMap

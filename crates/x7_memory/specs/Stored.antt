@@ -17,8 +17,8 @@ own_frames zero = 0
 own_frames (suc number) = 1
 
 -- no two ranks have one number, save 0, that of the zeros
-abbrev pub AreApart : List ℕ → Type 0
-AreApart numbers =
+abbrev pub AreDistinct : List ℕ → Type 0
+AreDistinct numbers =
     (i j : ℕ) → i < length numbers → j < length numbers → 0 < slice_index_or numbers i 0 → slice_index_or numbers i 0 ≡ slice_index_or numbers j 0 → i ≡ j
 
 -- there is room for a frame of each rank and for the zeros, which stand first; each rank has a frame that is stored
@@ -31,4 +31,4 @@ pub record HasRoom (m : Inside) : Type 0 where
   pub zeros : stored_frame m.width m.words.items 0 ≡ replicate m.width 0
   pub used : m.stored ≡ 1 + sum_by own_frames m.numbers.items
   pub below : (i : ℕ) → i < length m.numbers.items → slice_index_or m.numbers.items i 0 < m.stored
-  pub apart : AreApart m.numbers.items
+  pub apart : AreDistinct m.numbers.items

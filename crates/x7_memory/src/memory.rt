@@ -2,7 +2,7 @@
 ghost use Rattle.std.specs.Prelude.{◌≡◌, ℕ, ◌<◌, ◌≤◌, ◌+◌, ◌*◌, ◌++◌, ◌==◌, if◌then◌else◌, List, [], length, take, drop, replicate, slice_set, slice_index, slice_index_or, vec_len, vec_capacity, Contains, Some, None, IfSome, IfNone, IfOk, IsTrue};
 ghost use Rattle.x7_part.specs.AddressOrder.{addresses_in};
 ghost use Rattle.x7_part.specs.Part.{PartData, frame_words};
-ghost use Rattle.x7_memory.specs.Flat.{put_over};
+ghost use Rattle.x7_memory.specs.Flat.{words_with_frame};
 ghost use Rattle.x7_memory.specs.Frames.{frame_at, zero_frames, AreFramesOf};
 
 use std::alloc::Global;
@@ -239,7 +239,7 @@ fn append(words: &mut Vec<u32>, frame: &[u32])
 /// Writes a frame over the words from a place on.
 fn write_over(words: &mut Vec<u32>, start: usize, frame: &[u32])
     requires { start + length frame.now ≤ length words.old.items }
-    ensures items { words.new.items ≡ put_over start frame.now words.old.items }
+    ensures items { words.new.items ≡ words_with_frame start frame.now words.old.items }
     ensures room { vec_capacity words.new ≡ vec_capacity words.old }
 {
     words[start..start + frame.len()].copy_from_slice(frame);

@@ -12,7 +12,7 @@ use Rattle.x7_pipeline.specs.declared.fault.RunFault.{RunFault}
 use Rattle.x7_pipeline.specs.FarAsRead.{has_frame_at}
 use Rattle.x7_pipeline.specs.Runs.{at_slot, onto, put_over, slots_from, Lands}
 use Rattle.x7_pipeline.specs.Faults.{write_fault}
-use Rattle.x7_pipeline.specs.Words.{Written, one_written, written}
+use Rattle.x7_pipeline.specs.Words.{RunWritten, one_written, written}
 use Rattle.x7_pipeline.specs.Flow.{Flow, HoldsFlow, with_run}
 use Rattle.x7_pipeline.specs.Pipeline.{PipelineData}
 use Rattle.x7_pipeline.proofs.FlowLemmas.{StandsFor, flow}
@@ -58,7 +58,7 @@ pub record Within (part : PartData) (p : PipelineData) (memory : FrameMap) (comm
   pub passes : (written part base run words).fault ≡ None
 
 passes_next : (part : PartData) (base w : ℕ) (run words : List ℕ) → None ≡ write_fault part base run → (written part base (w ∷ run) words).fault ≡ None → (written part base run (w ∷ words)).fault ≡ None
-passes_next part base w run words e f = ap (λ (x : Written). x.fault) (written_next part base w run words e) ∙ f
+passes_next part base w run words e f = ap (λ (x : RunWritten). x.fault) (written_next part base w run words e) ∙ f
 
 pub within : (part : PartData) (p : PipelineData) (memory : FrameMap) (command : Command) (base : ℕ) (run : List ℕ) (source : Option (List ℕ)) (given : ℕ) (words : List ℕ) →
     StandsFor part p command base run source given → (p.frame_count ≡ 0 → length p.rest ≡ 0 → has_frame_at part p.base ≡ true) → length p.rest + length words < p.width →
@@ -131,7 +131,7 @@ whole part p q old new command base run source given frame s begins wide slot e 
       stands = rw same (completes_frame part m q f.last command base (onto f.prefix run) source given w.stands (omega arith) here made);
       lands = rw same (lands_more part base run (onto f.prefix run) (f.last ∷ onto f.prefix run) old old new w.lands
           (lands_frame part m f.last command base (onto f.prefix run) source given old new w.stands (omega arith) none some));
-      passes = rw f.are (ap (λ (x : Written). x.fault) (written_some part base run f.prefix (f.last ∷ []) w.passes)
+      passes = rw f.are (ap (λ (x : RunWritten). x.fault) (written_some part base run f.prefix (f.last ∷ []) w.passes)
           ∙ passes_next part base f.last (onto f.prefix run) []
           (write_allowed part m command base (onto f.prefix run) source given w.stands (λ a b. lt-ltb 0 (length (slots_from part p.base)) (omega arith)) (λ full. slot)) refl);
     }
@@ -157,12 +157,12 @@ went_more part p q r old middle new first second all e before later command base
     record {
       stands = rw same b.stands;
       lands = rw same (lands_more part base run (onto first run) (onto second (onto first run)) old middle new a.lands b.lands);
-      passes = ap (λ t. (written part base run t).fault) e ∙ ap (λ (x : Written). x.fault) (written_some part base run first second a.passes) ∙ b.passes;
+      passes = ap (λ t. (written part base run t).fault) e ∙ ap (λ (x : RunWritten). x.fault) (written_some part base run first second a.passes) ∙ b.passes;
     }
 
 -- one word
 pub passes_one : (part : PartData) (base w : ℕ) (run : List ℕ) → None ≡ write_fault part base run → (written part base run (w ∷ [])).fault ≡ None
-passes_one part base w run e = passes_next part base w run [] e (ap (λ (x : Written). x.fault) (written_end part base (w ∷ run)))
+passes_one part base w run e = passes_next part base w run [] e (ap (λ (x : RunWritten). x.fault) (written_end part base (w ∷ run)))
 
 -- ---- words of a slice
 

@@ -7,7 +7,7 @@ use Rattle.x7_part.specs.Part.{PartData, frame_words}
 use Rattle.x7_part.specs.AddressOrder.{addresses_in}
 use Rattle.x7_part.specs.declared.slot.Slot.{Slot}
 use Rattle.x7_part.specs.declared.slot.Slot.TheVariants.{Frame, Pad, End}
-use Rattle.x7_memory.specs.FrameMap.{FrameMap, AreSame, or_else}
+use Rattle.x7_memory.specs.FrameMap.{FrameMap, AreSame, frame_or}
 use Rattle.x7_memory.specs.Frames.{AreFramesOf, frame_among, frame_at}
 use Rattle.x7_memory.specs.Planned.{PlanRow, planned}
 use Rattle.x7_memory.proofs.MapLemmas.{override_one}
@@ -19,7 +19,7 @@ use Rattle.x7_pipeline.specs.Faults.{address_fault, copy_fault}
 use Rattle.x7_pipeline.specs.Pipeline.{PipelineData}
 use Rattle.x7_pipeline.proofs.FlowLemmas.{StandsFor}
 use Rattle.x7_pipeline.specs.Copies.{copied, is_mfw}
-use Rattle.x7_pipeline.specs.Saving.{ChangesAt, address_of, next_put, pair_at, pair_held, pair_of_frame, takes_copies}
+use Rattle.x7_pipeline.specs.Saving.{ChangesAt, address_at_slot, next_put, pair_at, pair_held, pair_of_frame, expects_copies}
 use Rattle.x7_pipeline.proofs.SlotLemmas.{slot_address}
 use Rattle.x7_pipeline.proofs.RunLemmas.{frames-completes, frames-goes_on}
 use Rattle.x7_pipeline.proofs.StateLemmas.{at_slot_more}
@@ -27,7 +27,7 @@ use Rattle.x7_pipeline.proofs.StateLemmas.{at_slot_more}
 -- ---- the pair
 
 -- a slot's address is one of the part
-pub slot_named : (part : PartData) (base n : ℕ) (slot : Slot) (at : Option ℕ) → slot ≡ get_or (slots_from part base) n End → at ≡ address_of slot → IfSome at (Contains (addresses_in part))
+pub slot_named : (part : PartData) (base n : ℕ) (slot : Slot) (at : Option ℕ) → slot ≡ get_or (slots_from part base) n End → at ≡ address_at_slot slot → IfSome at (Contains (addresses_in part))
 slot_named part base n (Frame far) at s e = rw e (slot_address part base n far s)
 slot_named part base n Pad at s e = rw e tt
 slot_named part base n End at s e = rw e tt
@@ -46,16 +46,16 @@ pair_none has far words pair m e h = rw (← e, h) (λ a. refl)
 pub changes_none : (at : Option ℕ) (old new : FrameMap) → AreSame new old → ChangesAt at old new
 changes_none at old new s = λ far apart. s far
 
-pub changes_slot : (slot : Slot) (frame : List ℕ) (old new : FrameMap) → AreSame new (put_over (at_slot slot frame []) old) → ChangesAt (address_of slot) old new
+pub changes_slot : (slot : Slot) (frame : List ℕ) (old new : FrameMap) → AreSame new (put_over (at_slot slot frame []) old) → ChangesAt (address_at_slot slot) old new
 unfolding planned
-changes_slot (Frame at) frame old new s = λ far apart. s far ∙ ap (λ (b : Bool). or_else (if b then Some frame else None) (old far)) (ne_eqb far at (λ e. apart (ap Some (sym e))))
+changes_slot (Frame at) frame old new s = λ far apart. s far ∙ ap (λ (b : Bool). frame_or (if b then Some frame else None) (old far)) (ne_eqb far at (λ e. apart (ap Some (sym e))))
 changes_slot Pad frame old new s = λ far apart. s far
 changes_slot End frame old new s = λ far apart. s far
 
 pub changes_copy : (base : ℕ) (source : Option (List ℕ)) (old new : FrameMap) → AreSame new (put_over (copied base source) old) → ChangesAt (Some base) old new
 unfolding planned
 changes_copy base None old new s = λ far apart. s far
-changes_copy base (Some frame) old new s = λ far apart. s far ∙ ap (λ (b : Bool). or_else (if b then Some frame else None) (old far)) (ne_eqb far base (λ e. apart (ap Some (sym e))))
+changes_copy base (Some frame) old new s = λ far apart. s far ∙ ap (λ (b : Bool). frame_or (if b then Some frame else None) (old far)) (ne_eqb far base (λ e. apart (ap Some (sym e))))
 
 -- ---- taking them back
 
@@ -88,8 +88,8 @@ taken_back part (Some a) old new o n c = λ far. by far (frame_at part old a) re
       | inr apart ↦ other far apart
     ]
     by far (Some w) e = elim (cases_eq far a) [
-      | inl same ↦ ap (λ (b : Bool). or_else (if b then Some w else None) (frame_at part new far)) (eq-eqb far a same) ∙ sym (ap (frame_at part old) same ∙ e)
-      | inr apart ↦ ap (λ (b : Bool). or_else (if b then Some w else None) (frame_at part new far)) (ne_eqb far a apart) ∙ other far apart
+      | inl same ↦ ap (λ (b : Bool). frame_or (if b then Some w else None) (frame_at part new far)) (eq-eqb far a same) ∙ sym (ap (frame_at part old) same ∙ e)
+      | inr apart ↦ ap (λ (b : Bool). frame_or (if b then Some w else None) (frame_at part new far)) (ne_eqb far a apart) ∙ other far apart
     ]
 
 -- a copy that isn't refused changes the address where it is foreseen
@@ -118,7 +118,7 @@ lands_none part base run longer old new same l = λ far.
 
 -- where all frames of a run land but those to come, the newest one is put at its slot
 lands_newest : (part : PartData) (base : ℕ) (run longer : List ℕ) (frames : List (List ℕ)) (n : ℕ) (old new : FrameMap) → frames_of (frame_words part) run ≡ frames → n ≡ length frames
-    → written_frames part base longer ≡ in_slots (slots_from part base) frames → Lands part base run longer old new → ChangesAt (address_of (if n == 0 then Pad else get_or (slots_from part base) (n - 1) End)) old new
+    → written_frames part base longer ≡ in_slots (slots_from part base) frames → Lands part base run longer old new → ChangesAt (address_at_slot (if n == 0 then Pad else get_or (slots_from part base) (n - 1) End)) old new
 unfolding written_frames in_slots
 lands_newest part base run longer [] n old new e count now l =
     let same : written_frames part base longer ≡ written_frames part base run = now ∙ ap (λ (fs : List (List ℕ)). in_slots (slots_from part base) (but_newest fs)) (sym e) in
@@ -139,7 +139,7 @@ pub word_changes : (part : PartData) (p : PipelineData) (command : Command) (bas
 unfolding written_frames
 word_changes part p command base run source given word old new s words l =
     let mfw : is_mfw p.command ≡ false = ap is_mfw s.command_is ∙ words in
-    let copies : takes_copies p ≡ false = rw mfw refl in
+    let copies : expects_copies p ≡ false = rw mfw refl in
     let rest : length p.rest + 1 ≡ length (rest_of (frame_words part) run) + 1 = ap (λ (r : List ℕ). length r + 1) s.rest_is in
     elim (cases_eq (length p.rest + 1) p.width) [
       | inl e ↦

@@ -7,13 +7,13 @@ use Rattle.x7_regs.specs.declared.command.Command.{Command}
 use Rattle.x7_pipeline.specs.declared.fault.RunFault.{RunFault}
 use Rattle.x7_pipeline.specs.Runs.{onto, Lands}
 use Rattle.x7_pipeline.specs.Faults.{write_fault}
-use Rattle.x7_pipeline.specs.Words.{Written, one_written, written, Refused}
+use Rattle.x7_pipeline.specs.Words.{RunWritten, one_written, written, Refused}
 use Rattle.x7_pipeline.specs.Pipeline.{PipelineData}
 use Rattle.x7_pipeline.proofs.FlowLemmas.{StandsFor}
 use Rattle.x7_pipeline.proofs.LawLemmas.{lands_none}
 
 -- `count` words were looked at before these
-abbrev pub after : ℕ → Written → Written
+abbrev pub after : ℕ → RunWritten → RunWritten
 after count w = record w { count = count + w.count }
 
 -- ---- one word of the rest

@@ -8,7 +8,7 @@ use Rattle.x7_memory.specs.FrameMap.{FrameMap, AreSame}
 use Rattle.x7_memory.specs.Planned.{PlanRow}
 use Rattle.x7_pipeline.specs.FarAsRead.{last_address}
 use Rattle.x7_pipeline.specs.Runs.{frames_of, written_frames, onto, put_over, rest_of, slots_from}
-use Rattle.x7_pipeline.specs.Words.{Written}
+use Rattle.x7_pipeline.specs.Words.{RunWritten}
 
 -- whole frames of `width` words, the newest first, and then a shorter rest, the oldest first
 pub record AreCutFrom (width : ℕ) (run : List ℕ) (frames : List (List ℕ)) (rest : List ℕ) : Type 0 where
@@ -31,7 +31,7 @@ abbrev pub HasRun : PartData → ℕ → List ℕ → FrameMap → FrameMap → 
 HasRun part base run under memory = AreSame memory (put_over (written_frames part base run) under)
 
 -- words that were all written
-abbrev pub all_written : List ℕ → List ℕ → Written
+abbrev pub all_written : List ℕ → List ℕ → RunWritten
 all_written words run = record { run = onto words run; count = length words; fault = None }
 
 -- the place in a readback of a word of its nth frame, after the pad

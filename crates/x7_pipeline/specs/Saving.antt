@@ -15,10 +15,10 @@ use Rattle.x7_pipeline.specs.Pipeline.{IsPipelineOf, PipelineData}
 
 -- ---- where the next frame is put
 
-abbrev pub address_of : Slot → Option ℕ
-address_of (Frame far) = Some far
-address_of Pad = None
-address_of End = None
+abbrev pub address_at_slot : Slot → Option ℕ
+address_at_slot (Frame far) = Some far
+address_at_slot Pad = None
+address_at_slot End = None
 
 -- the slot of the newest whole frame
 abbrev pub newest_slot : PartData → PipelineData → Slot
@@ -26,19 +26,19 @@ newest_slot part p = if p.frame_count == 0 then Pad else slice_index_or (slots_f
 
 -- where the next word would put a frame: a word that completes a frame puts the whole frame before it, at that frame's slot
 abbrev pub put_by_word : PartData → PipelineData → Option ℕ
-put_by_word part p = if length p.rest + 1 == p.width then address_of (newest_slot part p) else None
+put_by_word part p = if length p.rest + 1 == p.width then address_at_slot (newest_slot part p) else None
 
 -- where a copy would put a frame
 abbrev pub put_by_copy : PartData → PipelineData → Option ℕ
 put_by_copy part p = if has_frame_at part p.base then Some p.base else None
 
 -- a pipeline takes copies: the command is MFW, and there is a source
-abbrev pub takes_copies : PipelineData → Bool
-takes_copies p = is_mfw p.command && is_some p.source
+abbrev pub expects_copies : PipelineData → Bool
+expects_copies p = is_mfw p.command && is_some p.source
 
 -- where the next word, or under MFW the next copy, would put a frame
 abbrev pub next_put : PartData → PipelineData → Option ℕ
-next_put part p = if takes_copies p then put_by_copy part p else put_by_word part p
+next_put part p = if expects_copies p then put_by_copy part p else put_by_word part p
 
 -- ---- what is kept
 

@@ -6,17 +6,17 @@ use Rattle.x7_pipeline.specs.Runs.{onto}
 use Rattle.x7_pipeline.specs.Faults.{write_fault}
 
 -- the run with the words before the refused one, how many words were looked at, the refused one included, and its fault
-pub record Written : Type 0 where
+pub record RunWritten : Type 0 where
   pub run : List ℕ
   pub count : ℕ
   pub fault : Option RunFault
 
 -- a word that is refused ends the writing, and else the later words follow
-abbrev pub one_written : Option RunFault → List ℕ → Written → Written
+abbrev pub one_written : Option RunFault → List ℕ → RunWritten → RunWritten
 one_written (Some fault) run later = record { run = run; count = 1; fault = Some fault }
 one_written None run later = record later { count = 1 + later.count }
 
-unfoldable pub written : PartData → ℕ → List ℕ → List ℕ → Written
+unfoldable pub written : PartData → ℕ → List ℕ → List ℕ → RunWritten
 written part base run [] = record { run = run; count = 0; fault = None }
 written part base run (w ∷ words) = one_written (write_fault part base run) run (written part base (w ∷ run) words)
 

@@ -14,7 +14,7 @@ ghost use Rattle.x7_pipeline.specs.Readback.{read_at, word_at};
 ghost use Rattle.x7_pipeline.specs.Faults.{write_fault, read_fault, drop_fault};
 ghost use Rattle.x7_pipeline.specs.Places.{StartsAt};
 ghost use Rattle.x7_pipeline.specs.Pipeline.{AreOf, PipelineData, IsPipelineOf, passed};
-ghost use Rattle.x7_pipeline.specs.Flow.{copied_by, fault_of_copy, GoesOn, HoldsFlow, LandsAt, OfFlow, PutsNewest, after_reads, after_words, begun_at, begun_by, first_flow, with_run, written_by};
+ghost use Rattle.x7_pipeline.specs.Flow.{copied_by, fault_of_copy, GoesOn, HoldsFlow, LandsAt, OfFlow, PutsNewest, after_reads, after_words, begun_at, begun_by, first_flow, with_run, flow_written};
 
 mod saved;
 
@@ -187,10 +187,10 @@ impl Pipeline {
     ) -> (usize, Option<RunFault>)
         requires whole { length bytes.now % 4 ≡ 0 }
         requires part { AreOf part.now self.old memory.old }
-        ensures stands { OfFlow part.now self.old (λ f. HoldsFlow part.now self.new (with_run (written_by part.now f (words_of_bytes bytes.now)).run f)) }
-        ensures lands { OfFlow part.now self.old (λ f. Lands part.now f.base f.run (written_by part.now f (words_of_bytes bytes.now)).run (frame_at part.now memory.old) (frame_at part.now memory.new)) }
-        ensures count { OfFlow part.now self.old (λ f. result.0 ≡ (written_by part.now f (words_of_bytes bytes.now)).count) }
-        ensures fault { OfFlow part.now self.old (λ f. result.1 ≡ (written_by part.now f (words_of_bytes bytes.now)).fault) }
+        ensures stands { OfFlow part.now self.old (λ f. HoldsFlow part.now self.new (with_run (flow_written part.now f (words_of_bytes bytes.now)).run f)) }
+        ensures lands { OfFlow part.now self.old (λ f. Lands part.now f.base f.run (flow_written part.now f (words_of_bytes bytes.now)).run (frame_at part.now memory.old) (frame_at part.now memory.new)) }
+        ensures count { OfFlow part.now self.old (λ f. result.0 ≡ (flow_written part.now f (words_of_bytes bytes.now)).count) }
+        ensures fault { OfFlow part.now self.old (λ f. result.1 ≡ (flow_written part.now f (words_of_bytes bytes.now)).fault) }
         ensures within { result.0 ≤ length bytes.now / 4 }
         ensures part { AreOf part.now self.new memory.new }
     {
@@ -217,7 +217,7 @@ impl Pipeline {
         ensures words { IfOk result (λ taken. (1 ≤ taken / 4) × (taken % 4 ≡ 0) × (taken ≤ length bytes.now)) }
         ensures stands { IfOk result (λ taken. GoesOn part.now self.old self.new (after_words (words_of_bytes (take taken bytes.now)))) }
         ensures lands { IfOk result (λ taken. OfFlow part.now self.old (λ f. LandsAt part.now f (words_of_bytes (take taken bytes.now)) (frame_at part.now memory.old) (frame_at part.now memory.new))) }
-        ensures passes { IfOk result (λ taken. OfFlow part.now self.old (λ f. (written_by part.now f (words_of_bytes (take taken bytes.now))).fault ≡ None)) }
+        ensures passes { IfOk result (λ taken. OfFlow part.now self.old (λ f. (flow_written part.now f (words_of_bytes (take taken bytes.now))).fault ≡ None)) }
         ensures fault { IfErr result (λ fault. OfFlow part.now self.old (λ f. Some fault ≡ write_fault part.now f.base f.run)) }
         ensures part { AreOf part.now self.new memory.new }
         ensures refused { OnErr result (self.new ≡ self.old) }
@@ -252,7 +252,7 @@ impl Pipeline {
         ensures words { (1 ≤ result / 4) × (result % 4 ≡ 0) × (result ≤ length bytes.now) }
         ensures stands { GoesOn part.now self.old self.new (after_words (words_of_bytes (take result bytes.now))) }
         ensures lands { OfFlow part.now self.old (λ f. LandsAt part.now f (words_of_bytes (take result bytes.now)) (frame_at part.now memory.old) (frame_at part.now memory.new)) }
-        ensures passes { OfFlow part.now self.old (λ f. (written_by part.now f (words_of_bytes (take result bytes.now))).fault ≡ None) }
+        ensures passes { OfFlow part.now self.old (λ f. (flow_written part.now f (words_of_bytes (take result bytes.now))).fault ≡ None) }
         ensures part { AreOf part.now self.new memory.new }
     {
         let size = 4 * self.width as usize;

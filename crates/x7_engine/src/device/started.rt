@@ -7,7 +7,7 @@ ghost use Rattle.x7_engine.specs.Standing.{HasBegun, HasStopped, NoWordDue, fed_
 ghost use Rattle.x7_engine.specs.Turns.{HasFewerCalls, IsUsedUp, MayTake, Turned};
 ghost use Rattle.x7_engine.specs.UntilStarted.{HasNotBegun, NoneStarted, says_started, taken_until};
 ghost use Rattle.x7_engine.specs.declared.until_started.UntilStarted.TheVariants as until;
-ghost use Rattle.x7_engine.specs.Past.{AnswersUntilFor, OfPast, Takes, GivesNext, later, part_until, StaysAtZero, started_at, state_at, stop_at, reads_given_at};
+ghost use Rattle.x7_engine.specs.Past.{AnswersUntilFor, OfPast, TakesJust, GivesWordsNext, later, part_until, StaysAtZero, started_at, state_at, stop_at, reads_given_at};
 
 use super::{Device, stopped};
 use crate::fed::Fed;
@@ -71,11 +71,11 @@ impl Device {
         ensures part { self.new.part ≡ self.old.part }
         ensures taken { self.new.taken ≡ self.old.taken + taken_until (length piece.now) result }
         ensures fed { fed_of self.new ≡ fed_more self.old (taken_until (length piece.now) result) }
-        ensures stands { Takes self.old self.new (part_until piece.now result) }
+        ensures stands { TakesJust self.old self.new (part_until piece.now result) }
         ensures first { OfPast self.old (λ p. NoneStarted p.part p.kept p.bytes piece.now (taken_until (length piece.now) result)) }
         ensures started { OfPast self.old (λ p. NoWordDue self.new → says_started result ≡ started_at (later p (part_until piece.now result))) }
         ensures answer { AnswersUntilFor self.old self.new (part_until piece.now result) read.new result }
-        ensures reads { GivesNext self.old self.new (part_until piece.now result) read.old read.new }
+        ensures reads { GivesWordsNext self.old self.new (part_until piece.now result) read.old read.new }
         ensures room { OfPast self.old (λ p. RoomBefore p piece.now (taken_until (length piece.now) result) (reads_given_at self.old p) read.old) }
         ensures stopped { OfPast self.old (λ p. IsSome (stop_at p) → (self.new ≡ self.old) × (read.new ≡ read.old) × (taken_until (length piece.now) result ≡ 0)) }
         ensures stays { HasStopped self.old → (self.new ≡ self.old) × (read.new ≡ read.old) × (taken_until (length piece.now) result ≡ 0) }
@@ -113,7 +113,7 @@ impl Device {
         ensures part { self.new.part ≡ self.old.part }
         ensures taken { self.new.taken ≡ self.old.taken + result }
         ensures fed { fed_of self.new ≡ fed_more self.old result }
-        ensures stands { Takes self.old self.new (take result piece.now) }
+        ensures stands { TakesJust self.old self.new (take result piece.now) }
         ensures none_due { OfPast self.old (λ p. NoWordDue self.new) }
         ensures first { OfPast self.old (λ p. StaysAtZero p piece.now result) }
         ensures ends { OfPast self.old (λ p. result < length piece.now → HasStopped self.new ⊎ HasBegun self.new) }

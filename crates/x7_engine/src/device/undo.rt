@@ -4,7 +4,7 @@ ghost use Rattle.x7_flow.specs.Standing.{FramesFit};
 ghost use Rattle.x7_engine.specs.Standing.{DeviceState, NoWordDue, fed_by, fed_more, fed_of, taken_in};
 ghost use Rattle.x7_engine.specs.Undo.{AreEqual, Back, IsUndoOf, Keeps, dropping};
 ghost use Rattle.x7_engine.specs.declared.stop.Stop.{Stop};
-ghost use Rattle.x7_engine.specs.Past.{AnswersFor, OfPast, Takes, part_taken, stop_at, HasPast, Past, later};
+ghost use Rattle.x7_engine.specs.Past.{AnswersFor, OfPast, TakesJust, part_taken, stop_at, HasPast, Past, later};
 
 use super::Device;
 use crate::fed::Fed;
@@ -86,7 +86,7 @@ impl Device {
         requires none_due { NoWordDue self.old }
         requires undo { IsUndoOf self.old.part undo.old }
         ensures within { taken_in (length piece.now) result ≤ length piece.now }
-        ensures stands { Takes self.old self.new (part_taken piece.now result) }
+        ensures stands { TakesJust self.old self.new (part_taken piece.now result) }
         ensures answer { AnswersFor self.old self.new (part_taken piece.now result) dropping result }
         ensures part { self.new.part ≡ self.old.part }
         ensures taken { self.new.taken ≡ self.old.taken + taken_in (length piece.now) result }

@@ -7,7 +7,7 @@ ghost use Rattle.x7_memory.specs.Frames.{AreFramesOf, frame_at};
 ghost use Rattle.x7_pipeline.specs.Flow.{HoldsFlow, first_flow};
 ghost use Rattle.x7_pipeline.specs.Pipeline.{AreOf, IsPipelineOf};
 ghost use Rattle.x7_pipeline.specs.Runs.{put_over};
-ghost use Rattle.x7_pipeline.specs.Saving.{IsPairOf, IsSavedOf, address_of, next_put, pair_at, put_by_copy, put_by_word};
+ghost use Rattle.x7_pipeline.specs.Saving.{IsPairOf, IsSavedOf, address_at_slot, next_put, pair_at, put_by_copy, put_by_word};
 
 use super::{Pipeline, room_for};
 use crate::place::{is_base, slot_at};
@@ -40,7 +40,7 @@ impl Model for Saved {
 
 /// The address of a slot.
 fn address(slot: Slot) -> Option<u32>
-    ensures { result ≡ address_of slot }
+    ensures { result ≡ address_at_slot slot }
 {
     match slot {
         Slot::Frame(far) => Some(far),

@@ -6,7 +6,7 @@ use Rattle.x7_packets.specs.Nops.{Idles}
 use Rattle.x7_part.specs.Part.{PartData}
 use Rattle.x7_engine.specs.declared.kept.Kept.{Kept}
 use Rattle.x7_engine.specs.Standing.{DeviceStandsFor, DeviceState, due_count, registers_in}
-use Rattle.x7_engine.specs.Past.{GivesNone, Takes}
+use Rattle.x7_engine.specs.Past.{GivesNone, TakesJust}
 use Rattle.x7_engine.specs.State.{reads_of}
 use Rattle.x7_engine.proofs.DeviceLemmas.{between_front, length_between}
 use Rattle.x7_engine.proofs.PassLemmas.{passed, told_same}
@@ -57,7 +57,7 @@ passed_here c kept wrapped bytes s =
     c.tick-left.ensures.left.goes_on c.tick-left.ensures.fired refl refl refl (omega (arith, taken))
     (ap due_count c.tick-left.ensures.due ∙ ap (λ (d : DeviceState). due_count d.registers.due) c.self.view_is ∙ c.requires.none_due)
 
-stands_after : (c : goal.After-self-2-1) → Takes c.args.self.now (device_after c) (between c.args.piece.now c.args.at.now (c.args.at.now + ((4 * c.nop_count-count.result) - c.tick-left.result)))
+stands_after : (c : goal.After-self-2-1) → TakesJust c.args.self.now (device_after c) (between c.args.piece.now c.args.at.now (c.args.at.now + ((4 * c.nop_count-count.result) - c.tick-left.result)))
 stands_after c = λ part kept wrapped bytes s.
     let here : c.self.inside.part ≡ part = ap (λ (d : DeviceState). d.part) c.self.view_is ∙ s.part_is in
     let more : List ℕ = between c.args.piece.now c.args.at.now (c.args.at.now + ((4 * c.nop_count-count.result) - c.tick-left.result)) in

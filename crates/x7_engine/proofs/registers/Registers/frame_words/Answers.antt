@@ -7,7 +7,7 @@ use Rattle.x7_packets.proofs.GrowthLemmas.{placed_within}
 use Rattle.x7_part.specs.Part.{PartData}
 use Rattle.x7_flow.specs.Controls.{is_matched}
 use Rattle.x7_flow.specs.Standing.{FramesStandFor}
-use Rattle.x7_flow.specs.Words.{NoneRefused, with_words, words_to}
+use Rattle.x7_flow.specs.Words.{NoneRefused, with_words_to, words_to}
 use Rattle.x7_regs.specs.declared.register.Reg.{Reg}
 use Rattle.x7_regs.specs.Register.{number_of}
 use Rattle.x7_engine.specs.Course.{course_at}
@@ -47,7 +47,7 @@ returns-clause-stands c = λ kept h n s.
     let words = given part c.write_words-count.new.self h (words_to r n (take (b * 4) bytes)) c.write_words-count.result (c.write_words-count.ensures.taken n h (c.settings-settings.ensures.after part kept h n s) are) in
     let before : take _ looked ≡ prefix = ap (λ (j : ℕ). take j looked) (sym c.taken_of-taken.ensures.value) ∙ same in
     let unrefused : NoneRefused part r n prefix h = subst (λ (x : List ℕ). NoneRefused part r n x h) before words.0 in
-    let frames : FramesStandFor part c.write_words-count.new.self all 0 = subst (λ (x : List ℕ). FramesStandFor part c.write_words-count.new.self (with_words r n x h) 0) before words.1 in
+    let frames : FramesStandFor part c.write_words-count.new.self all 0 = subst (λ (x : List ℕ). FramesStandFor part c.write_words-count.new.self (with_words_to r n x h) 0) before words.1 in
     let quiet : IsQuiet register = data_quiet r c.requires.register in
     let matched : is_matched part.idcode h ≡ true = sym s.progress.matched ∙ c.requires.matched in
     let start : Clocked part kept clock c.args.self.now.stop h n m = record { places = s.places; clock = after.clock; stop = after.stop } in

@@ -12,7 +12,7 @@ use Rattle.x7_engine.specs.declared.kept.Kept.{Kept}
 use Rattle.x7_engine.specs.declared.stop.Stop.{Stop}
 use Rattle.x7_engine.specs.Standing.{FramesAre, frames_due, registers_in}
 use Rattle.x7_engine.specs.Stops.{why_by_frames, why_at, stop_by, stop_of, stopped_at}
-use Rattle.x7_engine.specs.Values.{answer_of, read_value, words_read}
+use Rattle.x7_engine.specs.Values.{answer_of, read_value, words_answered}
 use Rattle.x7_engine.proofs.ClockLemmas.{stop_of-access}
 use Rattle.x7_engine.proofs.FrameLemmas.{frames_at, goes_on, none_among, none_frames, none_left, refused, standing_frames}
 use Rattle.x7_engine.proofs.PlainLemmas.{clock_other}
@@ -21,8 +21,8 @@ use Rattle.x7_engine.proofs.registers.Registers.read.Goals as goal
 read_why : (part : PartData) (kept : Kept) (h : History) (register count : ℕ) (result : Option RunFault) → frame_fault part h (Read register count) ≡ result → why_at part kept h (Read register count) ≡ why_by_frames result
 read_why part kept h register count result e = ap why_by_frames e
 
-answered : (part : PartData) (kept : Kept) (h : History) (register count place : ℕ) (why : Option Stop) → why_at part kept h (Read register count) ≡ why → answer_of part kept h (Read register count) place ≡ (if is_some why then [] else words_read (course_at part kept h place) register count)
-answered part kept h register count place why e = ap (λ (o : Option Stop). if is_some o then [] else words_read (course_at part kept h place) register count) e
+answered : (part : PartData) (kept : Kept) (h : History) (register count place : ℕ) (why : Option Stop) → why_at part kept h (Read register count) ≡ why → answer_of part kept h (Read register count) place ≡ (if is_some why then [] else words_answered (course_at part kept h place) register count)
+answered part kept h register count place why e = ap (λ (o : Option Stop). if is_some o then [] else words_answered (course_at part kept h place) register count) e
 
 pub returns-then-not-reads_frames-clause-stands : goal.returns-then-not-reads_frames-clause-stands
 returns-then-not-reads_frames-clause-stands c = λ kept h place next s.

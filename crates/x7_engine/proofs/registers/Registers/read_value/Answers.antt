@@ -3,7 +3,7 @@ use Rattle.x7_regs.specs.declared.register.Reg.{Reg}
 use Rattle.x7_engine.specs.Course.{course_at}
 use Rattle.x7_engine.specs.declared.stop.Stop.{Stop}
 use Rattle.x7_engine.specs.Stops.{fault_of}
-use Rattle.x7_engine.specs.Values.{value_of, value_or_zero, value_owing}
+use Rattle.x7_engine.specs.Values.{register_value, value_or_zero, value_owing}
 use Rattle.x7_engine.proofs.FrameLemmas.{none_frames, value_now}
 use Rattle.x7_engine.proofs.registers.Registers.read_value.Goals as goal
 
@@ -12,5 +12,5 @@ returns-in-Some c = λ e z kept h n s.
     c.value.ensures kept h n s
     ∙ ap (λ (k : ℕ). value_owing (course_at c.args.part.now kept h n) (fault_of c.args.self.now.stop) k c.in-Some.reg) (none_frames c.args.self.now.due z)
     ∙ value_now c.args.part.now kept (fault_of c.args.self.now.stop) h n c.in-Some.reg
-    ∙ ap (λ (o : Option Stop). value_of (course_at c.args.part.now kept h n) false (fault_of o) c.in-Some.reg) e
+    ∙ ap (λ (o : Option Stop). register_value (course_at c.args.part.now kept h n) false (fault_of o) c.in-Some.reg) e
     ∙ ap (λ (o : Option Reg). value_or_zero (course_at c.args.part.now kept h n) o) c.in-Some.ensures.value

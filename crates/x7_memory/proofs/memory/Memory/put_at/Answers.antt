@@ -1,7 +1,7 @@
 use Rattle.std.proofs.Common.{◌≡◌, ◌∙◌, ◌*◌, ◌<◌, [], ap, refl, sym, arith, get_or}
 use Rattle.std.specs.Prelude.{slice_set}
 use Rattle.std.proofs.lemmas.Grind.{get_or_default_zero}
-use Rattle.x7_memory.specs.Flat.{put_over}
+use Rattle.x7_memory.specs.Flat.{words_with_frame}
 use Rattle.x7_memory.proofs.StoredLemmas.{is_rank, new_width, own_number, over_seen, over_room, none_seen, first_room, first_seen, first_fields, stored_few, next_room}
 use Rattle.x7_memory.proofs.memory.Memory.put_at.Goals as goal
 
@@ -19,7 +19,7 @@ invariant_of-self c =
     let number = c.index-number.ensures ∙ get_or_default_zero c.self.inside.numbers.items c.args.rank c.index-number.result.now r.inside in
     let wide = new_width c.self.inside c.args.rank c.args.words.now _ c.self.invariant r c.self.view_is (c.requires.width []) in
     let own : 0 < get_or c.self.inside.numbers.items c.args.rank 0 = own_number number c.if-number-ne0.true in
-    let items = c.write_over.ensures.items ∙ ap (λ k. put_over (c.self.inside.width * k) c.args.words.now c.self.inside.words.items) number in
+    let items = c.write_over.ensures.items ∙ ap (λ k. words_with_frame (c.self.inside.width * k) c.args.words.now c.self.inside.words.items) number in
     over_room c.self.inside _ c.args.rank c.args.words.now c.self.invariant r own wide refl refl refl (let room = c.write_over.ensures.room in omega arith) items
 
 pub returns-then-number-ne0 : goal.returns-then-number-ne0
@@ -28,7 +28,7 @@ returns-then-number-ne0 c =
     let number = c.index-number.ensures ∙ get_or_default_zero c.self.inside.numbers.items c.args.rank c.index-number.result.now r.inside in
     let wide = new_width c.self.inside c.args.rank c.args.words.now _ c.self.invariant r c.self.view_is (c.requires.width []) in
     let own : 0 < get_or c.self.inside.numbers.items c.args.rank 0 = own_number number c.if-number-ne0.true in
-    let items = c.write_over.ensures.items ∙ ap (λ k. put_over (c.self.inside.width * k) c.args.words.now c.self.inside.words.items) number in
+    let items = c.write_over.ensures.items ∙ ap (λ k. words_with_frame (c.self.inside.width * k) c.args.words.now c.self.inside.words.items) number in
     over_seen c.self.inside c.args.rank c.write_over.new.words.items c.args.words.now c.self.invariant r own wide items
     ∙ ap (λ m. slice_set m c.args.rank c.args.words.now) c.self.view_is
 

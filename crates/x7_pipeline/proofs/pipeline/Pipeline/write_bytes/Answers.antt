@@ -3,7 +3,7 @@ use Rattle.std.proofs.lemmas.List.{length-drop}
 use Rattle.x7_words.specs.Word.{words_of_bytes}
 use Rattle.x7_memory.specs.Frames.{frame_at}
 use Rattle.x7_pipeline.specs.Flow.{with_run}
-use Rattle.x7_pipeline.specs.Words.{Written}
+use Rattle.x7_pipeline.specs.Words.{RunWritten}
 use Rattle.x7_pipeline.proofs.FrameLemmas.{goes_left, goes_through, refused_here}
 use Rattle.x7_pipeline.proofs.WordLemmas.{goes_first, ends_whole}
 use Rattle.x7_pipeline.proofs.pipeline.Pipeline.write_bytes.Goals as goal
@@ -44,7 +44,7 @@ returns-in-Err-clause-stands c = λ f s.
     let r = c.somes.invariant.goes f.command f.base f.run f.source f.given s in
     let e = refused_here c.args.part.now f.base f.run r.longer (words_of_bytes c.args.bytes.now) c.args.bytes.now c.somes.at c.in-Err.fault r.later whole (omega arith)
     (c.in-Err.ensures.fault (with_run r.longer f) r.stands) in
-    rw (ap (λ (w : Written). w.run) e, c.in-Err.ensures.refused) r.stands
+    rw (ap (λ (w : RunWritten). w.run) e, c.in-Err.ensures.refused) r.stands
 
 pub returns-in-Err-clause-lands : goal.returns-in-Err-clause-lands
 returns-in-Err-clause-lands c = λ f s.
@@ -55,7 +55,7 @@ returns-in-Err-clause-lands c = λ f s.
     let r = c.somes.invariant.goes f.command f.base f.run f.source f.given s in
     let e = refused_here c.args.part.now f.base f.run r.longer (words_of_bytes c.args.bytes.now) c.args.bytes.now c.somes.at c.in-Err.fault r.later whole (omega arith)
     (c.in-Err.ensures.fault (with_run r.longer f) r.stands) in
-    rw (ap (λ (w : Written). w.run) e, c.in-Err.ensures.unchanged) r.lands
+    rw (ap (λ (w : RunWritten). w.run) e, c.in-Err.ensures.unchanged) r.lands
 
 pub returns-in-Err-clause-count : goal.returns-in-Err-clause-count
 returns-in-Err-clause-count c = λ f s.
@@ -66,7 +66,7 @@ returns-in-Err-clause-count c = λ f s.
     let r = c.somes.invariant.goes f.command f.base f.run f.source f.given s in
     let e = refused_here c.args.part.now f.base f.run r.longer (words_of_bytes c.args.bytes.now) c.args.bytes.now c.somes.at c.in-Err.fault r.later whole (omega arith)
     (c.in-Err.ensures.fault (with_run r.longer f) r.stands) in
-    sym (ap (λ (w : Written). w.count) e)
+    sym (ap (λ (w : RunWritten). w.count) e)
 
 pub returns-in-Err-clause-fault : goal.returns-in-Err-clause-fault
 returns-in-Err-clause-fault c = λ f s.
@@ -77,32 +77,32 @@ returns-in-Err-clause-fault c = λ f s.
     let r = c.somes.invariant.goes f.command f.base f.run f.source f.given s in
     let e = refused_here c.args.part.now f.base f.run r.longer (words_of_bytes c.args.bytes.now) c.args.bytes.now c.somes.at c.in-Err.fault r.later whole (omega arith)
     (c.in-Err.ensures.fault (with_run r.longer f) r.stands) in
-    sym (ap (λ (w : Written). w.fault) e)
+    sym (ap (λ (w : RunWritten). w.fault) e)
 
 pub returns-clause-stands : goal.returns-clause-stands
 returns-clause-stands c = λ f s.
     let r = goes_through c.args.part.now c.args.self.now c.somes.self (frame_at c.args.part.now c.args.memory.now) (frame_at c.args.part.now c.somes.memory) (words_of_bytes c.args.bytes.now) c.args.bytes.now c.somes.at
     c.somes.invariant.goes (omega (arith, c.somes-test.false)) f.command f.base f.run f.source f.given s in
     let e = ends_whole c.args.part.now f.base f.run r.longer (words_of_bytes c.args.bytes.now) (c.somes.at / 4) r.later in
-    rw (ap (λ (w : Written). w.run) e) r.stands
+    rw (ap (λ (w : RunWritten). w.run) e) r.stands
 
 pub returns-clause-lands : goal.returns-clause-lands
 returns-clause-lands c = λ f s.
     let r = goes_through c.args.part.now c.args.self.now c.somes.self (frame_at c.args.part.now c.args.memory.now) (frame_at c.args.part.now c.somes.memory) (words_of_bytes c.args.bytes.now) c.args.bytes.now c.somes.at
     c.somes.invariant.goes (omega (arith, c.somes-test.false)) f.command f.base f.run f.source f.given s in
     let e = ends_whole c.args.part.now f.base f.run r.longer (words_of_bytes c.args.bytes.now) (c.somes.at / 4) r.later in
-    rw (ap (λ (w : Written). w.run) e) r.lands
+    rw (ap (λ (w : RunWritten). w.run) e) r.lands
 
 pub returns-clause-count : goal.returns-clause-count
 returns-clause-count c = λ f s.
     let r = goes_through c.args.part.now c.args.self.now c.somes.self (frame_at c.args.part.now c.args.memory.now) (frame_at c.args.part.now c.somes.memory) (words_of_bytes c.args.bytes.now) c.args.bytes.now c.somes.at
     c.somes.invariant.goes (omega (arith, c.somes-test.false)) f.command f.base f.run f.source f.given s in
     let e = ends_whole c.args.part.now f.base f.run r.longer (words_of_bytes c.args.bytes.now) (c.somes.at / 4) r.later in
-    sym (ap (λ (w : Written). w.count) e)
+    sym (ap (λ (w : RunWritten). w.count) e)
 
 pub returns-clause-fault : goal.returns-clause-fault
 returns-clause-fault c = λ f s.
     let r = goes_through c.args.part.now c.args.self.now c.somes.self (frame_at c.args.part.now c.args.memory.now) (frame_at c.args.part.now c.somes.memory) (words_of_bytes c.args.bytes.now) c.args.bytes.now c.somes.at
     c.somes.invariant.goes (omega (arith, c.somes-test.false)) f.command f.base f.run f.source f.given s in
     let e = ends_whole c.args.part.now f.base f.run r.longer (words_of_bytes c.args.bytes.now) (c.somes.at / 4) r.later in
-    sym (ap (λ (w : Written). w.fault) e)
+    sym (ap (λ (w : RunWritten). w.fault) e)
