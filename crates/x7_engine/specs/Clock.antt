@@ -20,6 +20,7 @@ pub record ClockState : Type 0 where
   pub startup : Stored
   pub watchdog : Watch
 
+-- the stored values as the clock's fields hold them
 abbrev pub clock_in : Clock → ClockState
 clock_in c = record { startup = c.startup; watchdog = c.watchdog }
 

@@ -12,5 +12,6 @@ pub record Course : Type 0 where
   pub history : History
   pub taken : ℕ
 
+-- the course of a part, what a reset kept, a history and a count of bytes
 abbrev pub course_at : PartData → Kept → History → ℕ → Course
 course_at part kept h n = record { part = part; kept = kept; history = h; taken = n }

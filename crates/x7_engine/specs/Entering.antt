@@ -28,6 +28,7 @@ pub record Change : Type 0 where
   pub old : RegistersState
   pub new : RegistersState
 
+-- the change from registers to others
 abbrev pub change_of : PartData → Registers → Registers → Change
 change_of part old new = record { part = part; old = registers_in old; new = registers_in new }
 
@@ -51,6 +52,7 @@ EntersAt x longer = (kept : Kept) (h : History) (place : ℕ) → IsNext place h
 abbrev pub AreRead : PartData → Kept → History → History → Due → Type 0
 AreRead part kept h longer due = read_out part kept longer ≡ read_out part kept h ++ words_left part longer due
 
+-- where a condition holds, the longer history reads out the words that are then due, and no others
 abbrev pub ReadsIf : Type 0 → Change → Longer → Type 0
 ReadsIf Condition x longer = (kept : Kept) (h : History) (n : ℕ) → Condition → RegistersStandFor x.part kept x.old h n → AreRead x.part kept h (longer n h) x.new.due
 
@@ -64,10 +66,11 @@ AreAnswer part kept h e due = answer_of part kept h e.access e.place ≡ words_l
 abbrev pub words_entered : ℕ → List ℕ → Longer
 words_entered register bytes n h = entered_all n (payload_steps register (words_of_bytes bytes)) h
 
--- a word written to a register, which ends `count` bytes further; and the step of a word in a header's place that ends there
+-- a word written to a register, which ends `count` bytes further
 abbrev pub word_entered : ℕ → ℕ → ℕ → Longer
 word_entered register word count n h = entry (Write register word) (n + count) ∷ h
 
+-- the step of a word in a header's place, which ends `count` bytes further
 abbrev pub step_entered : Step → ℕ → Longer
 step_entered step count n h = entered (n + count) step h
 
@@ -84,6 +87,7 @@ abbrev pub RunEnters : Cut → ℕ → Change → ℕ → Type 0
 RunEnters run count x taken = (kept : Kept) (h : History) (from n : ℕ) → EndsWords run from n count → RegistersStandFor x.part kept x.old h n
     → RegistersStandFor x.part kept x.new (until (counted_in x.new.stop (n + taken)) (run_entered run from h)) (n + taken)
 
+-- a run, whose words entered up to the stop, reads out the words that are then due, and no others
 abbrev pub RunReads : Cut → ℕ → Change → ℕ → Type 0
 RunReads run count x taken = (kept : Kept) (h : History) (from n : ℕ) → EndsWords run from n count → RegistersStandFor x.part kept x.old h n
     → AreRead x.part kept h (until (counted_in x.new.stop (n + taken)) (run_entered run from h)) x.new.due

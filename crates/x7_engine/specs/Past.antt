@@ -31,6 +31,7 @@ pub record Past : Type 0 where
   pub wrapped : Bool
   pub bytes : List ℕ
 
+-- a past of these four
 abbrev pub past_of : PartData → Kept → Bool → List ℕ → Past
 past_of part kept wrapped bytes = record { part = part; kept = kept; wrapped = wrapped; bytes = bytes }
 
@@ -38,6 +39,7 @@ past_of part kept wrapped bytes = record { part = part; kept = kept; wrapped = w
 abbrev pub later : Past → List ℕ → Past
 later p more = record { part = p.part; kept = p.kept; wrapped = p.wrapped; bytes = p.bytes ++ more }
 
+-- the device stands for the bytes of a past
 abbrev pub HasPast : DeviceState → Past → Type 0
 HasPast d p = DeviceStandsFor p.part p.kept p.wrapped d p.bytes
 
@@ -45,31 +47,39 @@ HasPast d p = DeviceStandsFor p.part p.kept p.wrapped d p.bytes
 abbrev pub OfPast : DeviceState → (Past → Type 0) → Type 0
 OfPast d Fact = (part : PartData) (kept : Kept) (wrapped : Bool) (bytes : List ℕ) → DeviceStandsFor part kept wrapped d bytes → Fact (record { part = part; kept = kept; wrapped = wrapped; bytes = bytes })
 
--- the state, the stop, the words read out, the memory, the history of the bytes taken and their number, the words given, those still due, and whether startup has ended
+-- what a past comes to: the state
 abbrev pub state_at : Past → Regs
 state_at p = state_of p.part p.kept p.wrapped p.bytes
 
+-- the first stop
 abbrev pub stop_at : Past → Option Stopped
 stop_at p = stop_in p.part p.kept p.bytes
 
+-- the words read out
 abbrev pub reads_at : Past → List ℕ
 reads_at p = reads_of p.part p.kept p.bytes
 
+-- the memory
 abbrev pub memory_at : Past → FrameMap
 memory_at p = memory_in p.part p.kept p.bytes
 
+-- the history of the bytes taken
 abbrev pub history_at : Past → History
 history_at p = history_taken p.part p.kept p.bytes
 
+-- how many of the bytes were taken
 abbrev pub taken_at : Past → ℕ
 taken_at p = taken_of p.part p.kept p.bytes
 
+-- the words read out that were given
 abbrev pub reads_given_at : DeviceState → Past → List ℕ
 reads_given_at d p = reads_given p.part p.kept d p.bytes
 
+-- the words read out that are still due
 abbrev pub due_at : DeviceState → Past → List ℕ
 due_at d p = due_of p.part p.kept d p.bytes
 
+-- startup has ended
 abbrev pub started_at : Past → Bool
 started_at p = has_started p.part p.kept p.bytes
 
@@ -135,6 +145,7 @@ AnswersUntil p d read (until.Fed answer) = Answers p d read answer
 abbrev pub AnswersFor : DeviceState → DeviceState → List ℕ → ReadBufState → Fed → Type 0
 AnswersFor old new more read answer = OfPast old (λ p. Answers (later p more) new read answer)
 
+-- the answer of a feed up to the end of startup says what the old bytes and then `more` come to
 abbrev pub AnswersUntilFor : DeviceState → DeviceState → List ℕ → ReadBufState → UntilStarted → Type 0
 AnswersUntilFor old new more read answer = OfPast old (λ p. AnswersUntil (later p more) new read answer)
 
@@ -142,5 +153,6 @@ AnswersUntilFor old new more read answer = OfPast old (λ p. AnswersUntil (later
 abbrev pub part_taken : List ℕ → Fed → List ℕ
 part_taken piece answer = take (taken_in (length piece) answer) piece
 
+-- the bytes taken of a piece, by what a feed up to the end of startup answers
 abbrev pub part_until : List ℕ → UntilStarted → List ℕ
 part_until piece answer = take (taken_until (length piece) answer) piece

@@ -17,6 +17,7 @@ abbrev pub gathered : Option ℕ → List ℕ → List ℕ → List ℕ
 gathered None words more = words
 gathered (Some most) words more = words ++ more
 
+-- a buffer after more words
 abbrev pub with_words : ReadBufState → List ℕ → ReadBufState
 with_words b more = record { most = b.most; words = gathered b.most b.words more }
 
@@ -25,6 +26,7 @@ abbrev pub HasRoomBy : Option ℕ → ℕ → Type 0
 HasRoomBy None count = Unit {0}
 HasRoomBy (Some most) count = count ≤ most
 
+-- there is room for these words
 abbrev pub HasRoomForWords : ReadBufState → List ℕ → Type 0
 HasRoomForWords b more = HasRoomBy b.most (length b.words + length more)
 
@@ -33,6 +35,7 @@ abbrev pub IsFullBy : Option ℕ → ℕ → Type 0
 IsFullBy None count = ⊥
 IsFullBy (Some most) count = count ≡ most
 
+-- a buffer has room for no word more
 abbrev pub IsFull : ReadBufState → Type 0
 IsFull b = IsFullBy b.most (length b.words)
 
@@ -48,12 +51,14 @@ words_in room.Full = []
 words_in (room.One words) = words
 words_in (room.Many words most) = words.items
 
+-- the most words that a buffer holds, none where it drops each
 abbrev pub most_in : Room → Option ℕ
 most_in room.Nothing = None
 most_in room.Full = Some 0
 most_in (room.One words) = Some 1
 most_in (room.Many words most) = Some most
 
+-- a buffer's words are no more than its most, for which there is memory
 abbrev pub HasRoom : Room → Type 0
 HasRoom room.Nothing = Unit {0}
 HasRoom room.Full = Unit {0}

@@ -27,6 +27,7 @@ abbrev pub bit_written : ℕ → ℕ → ℕ → Access → ℕ → ℕ
 bit_written register i mask (Write r w) old = if r == register && bit_at mask i == 1 then bit_at w i else old
 bit_written register i mask _ old = old
 
+-- a bit of a register under MASK after a history
 abbrev pub masked_bit : ℕ → ℕ → History → ℕ
 masked_bit register i [] = 0
 masked_bit register i (e ∷ h) = bit_written register i (mask_held h) e.access (masked_bit register i h)
@@ -45,9 +46,11 @@ writes_check check _ = false
 abbrev pub clears_by : Option ℕ → ℕ → Access → Bool
 clears_by command check access = is_command (code_of Rcrc) command || writes_check check access
 
+-- an access at which the check was right, after a history
 abbrev pub clears_check : History → Access → Bool
 clears_check h access = clears_by (executed_by (command_held h) access) (running_check h) access
 
+-- whether a shutdown is pending after a command, by whether the check was cleared
 abbrev pub pending_after : Option ℕ → Bool → Bool → Bool
 pending_after command cleared pending = if cleared then false else is_command (code_of Shutdown) command || pending
 
@@ -60,6 +63,7 @@ is_pending (e ∷ h) = pending_after (executed_by (command_held h) e.access) (cl
 abbrev pub takes_shutdown : History → Access → Bool
 takes_shutdown h access = clears_check h access && is_pending h
 
+-- GHIGH_B after a command, by whether a shutdown was taken
 abbrev pub ghigh_after : Option ℕ → Bool → Bool → Bool
 ghigh_after command taken ghigh = if is_command (code_of Lfrm) command then true else if is_command (code_of Aghigh) command || taken then false else ghigh
 
@@ -82,6 +86,7 @@ wrote_iprog (e ∷ h) = writes_command (code_of Iprog) e.access || wrote_iprog h
 abbrev pub effective_registers : List Reg
 effective_registers = Crc ∷ Far ∷ Fdri ∷ Cmd ∷ Ctl0 ∷ Lout ∷ Mfwr ∷ Cbc ∷ Idcode ∷ Timer ∷ Ctl1 ∷ []
 
+-- a word written to the register of this number does more than stay and be folded
 abbrev pub has_effect : ℕ → Bool
 has_effect register = list_any (λ reg. register == number_of reg) effective_registers
 
@@ -89,6 +94,7 @@ has_effect register = list_any (λ reg. register == number_of reg) effective_reg
 abbrev pub controlling_registers : List Reg
 controlling_registers = Crc ∷ Far ∷ Cmd ∷ Ctl0 ∷ Lout ∷ Idcode ∷ Timer ∷ Ctl1 ∷ []
 
+-- a word written to the register of this number steers
 abbrev pub is_controlling : ℕ → Bool
 is_controlling register = list_any (λ reg. register == number_of reg) controlling_registers
 

@@ -6,6 +6,7 @@ use Rattle.x7_regs.specs.Command.{code_of}
 use Rattle.x7_engine.specs.Registers.{clears_check, takes_shutdown}
 use Rattle.x7_engine.specs.Since.{NoneSince, Since}
 
+-- the access executes this command
 abbrev pub Executes : ℕ → History → Access → Type 0
 Executes command h access = IsTrue (executes command h access)
 

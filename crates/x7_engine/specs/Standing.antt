@@ -66,12 +66,13 @@ pub record RegistersState : Type 0 where
 
 -- ---- words due
 
--- how many words are due, and how many of them are frame data
+-- how many words are due
 abbrev pub due_count : Due → ℕ
 due_count due.Nothing = 0
 due_count (due.Same word count) = count
 due_count (due.Frames count) = count
 
+-- how many words of frame data are due
 abbrev pub frames_due : Due → ℕ
 frames_due due.Nothing = 0
 frames_due (due.Same word count) = 0
@@ -97,6 +98,7 @@ is_refusal (Some (stop.Fault fault.Overrun)) = true
 is_refusal (Some (stop.Fault fault.Multi)) = true
 is_refusal _ = false
 
+-- a history without its newest access
 abbrev pub older : History → History
 older [] = []
 older (e ∷ h) = h
@@ -113,13 +115,15 @@ pub record FramesAre (part : PartData) (f : FramesState) (why : Option Stop) (h 
 
 -- ---- registers
 
--- the stored values as the registers' fields hold them
+-- the stored registers under MASK as their fields hold them
 abbrev pub controls_in : Controls → ControlsState
 controls_in d = record { ctl0 = d.ctl0; ctl1 = d.ctl1 }
 
+-- the stored check and flags as their fields hold them
 abbrev pub progress_in : Progress → ProgressState
 progress_in d = record { check = d.check; matched = d.matched; pending = d.pending; ghigh = d.ghigh; iprog = d.iprog }
 
+-- the stored values of registers as their fields hold them
 abbrev pub registers_in : Registers → RegistersState
 registers_in d = record {
   words = d.words.last;
@@ -237,6 +241,7 @@ pub record MayWrapWith (d : RegistersState) : Type 0 where
   pub not_left : d.stop ≡ Some stop.Iprog → ⊥
   pub none_due : due_count d.due ≡ 0
 
+-- the flash of this device may end here
 abbrev pub MayWrap : DeviceState → Type 0
 MayWrap d = MayWrapWith d.registers
 

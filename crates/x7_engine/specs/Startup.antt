@@ -36,6 +36,7 @@ greatest_begun wait ticks (suc p) = if nat_le (arrival wait (suc p)) ticks then 
 unfoldable pub phase_at : (ℕ → ℕ) → ℕ → ℕ
 phase_at wait ticks = greatest_begun wait ticks 7
 
+-- the phase, by how far startup is
 abbrev pub phase_by : PartData → StartupProgress → ℕ
 phase_by part NotBegun = 0
 phase_by part (Begun cor0 bytes) = phase_at (wait_of part.lock part.matched cor0) (bytes / 4)

@@ -39,6 +39,7 @@ abbrev pub last_counted : Stop → ℕ → ℕ
 last_counted (stop.Fault fault.Watchdog) place = place - 1
 last_counted _ place = place
 
+-- the history up to a stop, where there is one
 abbrev pub history_by : Option Stopped → History → History
 history_by None h = h
 history_by (Some s) h = until (last_counted s.why s.place) h
@@ -78,10 +79,11 @@ state_by c wrapped why synced = record {
   bspi = register_value c wrapped (fault_of why) Bspi;
 }
 
--- how many of the bytes are taken, and the history of those
+-- how many of the bytes are taken
 abbrev pub taken_of : PartData → Kept → List ℕ → ℕ
 taken_of part kept bytes = taken_by (stop_in part kept bytes) (length bytes)
 
+-- the history of the bytes that are taken
 abbrev pub history_taken : PartData → Kept → List ℕ → History
 history_taken part kept bytes = history_by (stop_in part kept bytes) (history_of bytes)
 

@@ -59,6 +59,7 @@ stop_by (run.Address far) = stop.Fault (fault.Address far)
 stop_by run.Overrun = stop.Fault fault.Overrun
 stop_by run.Multi = stop.Fault fault.Multi
 
+-- the stop by what the frames refuse, where they refuse something
 abbrev pub why_by_frames : Option RunFault → Option Stop
 why_by_frames None = None
 why_by_frames (Some fault) = Some (stop_by fault)
@@ -72,6 +73,7 @@ abbrev pub fault_in : Stop → Option Fault
 fault_in (stop.Fault f) = Some f
 fault_in stop.Iprog = None
 
+-- the fault of a stop, where there is one
 abbrev pub fault_of : Option Stop → Option Fault
 fault_of None = None
 fault_of (Some why) = fault_in why
@@ -81,10 +83,12 @@ pub record Stopped : Type 0 where
   pub place : ℕ
   pub why : Stop
 
+-- a stop at this place, where one came
 abbrev pub stopped_at : ℕ → Option Stop → Option Stopped
 stopped_at place None = None
 stopped_at place (Some why) = Some (record { place = place; why = why })
 
+-- the stop at the place where the watchdog fires, where it does
 abbrev pub stopped_by_watchdog : Option ℕ → Option Stopped
 stopped_by_watchdog None = None
 stopped_by_watchdog (Some place) = Some (record { place = place; why = stop.Fault fault.Watchdog })

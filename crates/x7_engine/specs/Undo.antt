@@ -25,6 +25,7 @@ pub record ValuesState : Type 0 where
   pub stop : Option Stop
   pub due : Due
 
+-- the stored values of registers, their frames left out
 abbrev pub values_of : RegistersState → ValuesState
 values_of r = record { words = r.words; controls = r.controls; progress = r.progress; kind = r.kind; before = r.before; clock = r.clock; stop = r.stop; due = r.due }
 

@@ -28,11 +28,12 @@ use Rattle.x7_engine.specs.Registers.{has_ghigh, word_held, wrote_iprog}
 use Rattle.x7_engine.specs.Startup.{phase_by, startup_progress}
 use Rattle.x7_engine.specs.Stops.{why_at}
 
--- which fault a device has
+-- the fault is Crc
 abbrev pub is_crc_fault : Option Fault → Bool
 is_crc_fault (Some (fault.Crc want got)) = true
 is_crc_fault _ = false
 
+-- the fault is Id
 abbrev pub is_id_fault : Option Fault → Bool
 is_id_fault (Some (fault.Id want got)) = true
 is_id_fault _ = false
@@ -68,10 +69,11 @@ abbrev pub check_shown : Option Fault → History → ℕ
 check_shown (Some (fault.Crc want got)) h = want
 check_shown _ h = running_check h
 
--- what an attempt failed by: a fault Id, Crc or Watchdog, or else the end of the flash
+-- the end of the flash as what an attempt failed by, where it has ended
 abbrev pub wrap_cause : Bool → Option Cause
 wrap_cause wrapped = if wrapped then Some cause.Wrap else None
 
+-- what an attempt failed by: a fault Id, Crc or Watchdog, or else the end of the flash
 abbrev pub cause_of : Option Fault → Bool → Option Cause
 cause_of (Some (fault.Id want got)) wrapped = Some cause.Id
 cause_of (Some (fault.Crc want got)) wrapped = Some cause.Crc
@@ -110,6 +112,7 @@ abbrev pub value_or_zero : Course → Option Reg → ℕ
 value_or_zero c None = 0
 value_or_zero c (Some reg) = register_value c false None reg
 
+-- the value of the register of this number, as it is read
 abbrev pub read_value : Course → ℕ → ℕ
 read_value c register = value_or_zero c (reg_with register)
 

@@ -11,6 +11,7 @@ pub record AreAlike (s t : Settings) : Type 0 where
   pub ctl0_same : s.ctl0 ≡ t.ctl0
   pub held_same : s.held ≡ t.held
 
+-- MASK was written
 abbrev pub sets_mask : History → Bool
 sets_mask [] = false
 sets_mask (e ∷ h) = writes (number_of reg.Mask) e.access || sets_mask h

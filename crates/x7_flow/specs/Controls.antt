@@ -20,6 +20,7 @@ abbrev pub masked : ℕ → History → ℕ
 masked register [] = 0
 masked register (e ∷ h) = masked_word register (mask_held h) e.access (masked register h)
 
+-- CTL0 after a history
 abbrev pub ctl0_held : History → ℕ
 ctl0_held h = masked (number_of Ctl0) h
 
@@ -27,6 +28,7 @@ ctl0_held h = masked (number_of Ctl0) h
 abbrev pub forbids_writing : ℕ → Bool
 forbids_writing ctl0 = field_of 5 1 ctl0 == 1
 
+-- SBITS forbid reading
 abbrev pub forbids_reading : ℕ → Bool
 forbids_reading ctl0 = not (field_of 4 2 ctl0 == 0)
 
@@ -34,6 +36,7 @@ forbids_reading ctl0 = not (field_of 4 2 ctl0 == 0)
 abbrev pub same_idcode : ℕ → ℕ → Bool
 same_idcode idcode w = w % 2 ^ 28 == idcode % 2 ^ 28
 
+-- the access writes the part's IDCODE
 abbrev pub names_part : ℕ → Access → Bool
 names_part idcode (Write register w) = register == number_of Idcode && same_idcode idcode w
 names_part idcode _ = false

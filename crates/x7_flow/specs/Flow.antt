@@ -15,6 +15,7 @@ use Rattle.x7_flow.specs.Asked.{Asked, Load, Order, Word, Copies, Reads, Other}
 
 -- ---- what an access asks
 
+-- what a word written to a register asks, under these settings
 abbrev pub write_asked : Settings → ℕ → ℕ → Asked
 write_asked s register w =
     if register == number_of reg.Far then Load w else
@@ -22,6 +23,7 @@ write_asked s register w =
     if register == number_of reg.Fdri && takes_frames s then Word w else
     if register == number_of reg.Mfwr && takes_copies s then Copies else Other
 
+-- what an access asks, under these settings
 abbrev pub asked : Settings → Access → Asked
 asked s (Write register w) = write_asked s register w
 asked s (Read register count) = if register == number_of reg.Fdro && (not (count == 0) && gives_frames s) then Reads count else Other
@@ -31,7 +33,7 @@ asked s (Bad w) = Other
 abbrev pub asks : ℕ → History → Access → Asked
 asks idcode h access = asked (settings_of idcode h) access
 
--- what is asked begins a stretch (what follows a write to CMD or FAR), writes frame data, copies or reads frame data
+-- what is asked begins a stretch, which is what follows a write to CMD or FAR
 abbrev pub begins : Asked → Bool
 begins (Load w) = true
 begins (Order c) = true
@@ -40,6 +42,7 @@ begins Copies = false
 begins (Reads count) = false
 begins Other = false
 
+-- a word of frame data is written
 abbrev pub is_word : Asked → Bool
 is_word (Word w) = true
 is_word (Load w) = false
@@ -48,6 +51,7 @@ is_word Copies = false
 is_word (Reads count) = false
 is_word Other = false
 
+-- a copy is asked
 abbrev pub is_copy : Asked → Bool
 is_copy Copies = true
 is_copy (Load w) = false
@@ -56,6 +60,7 @@ is_copy (Word w) = false
 is_copy (Reads count) = false
 is_copy Other = false
 
+-- frame data is read
 abbrev pub is_read : Asked → Bool
 is_read (Reads count) = true
 is_read (Load w) = false
@@ -88,15 +93,19 @@ unfoldable pub flow_of : PartData → History → Flow
 flow_of part [] = first_flow
 flow_of part (e ∷ h) = flow_by part (asks part.idcode h e.access) (flow_of part h)
 
+-- where the run or readback of a history began
 abbrev pub base_of : PartData → History → ℕ
 base_of part h = (flow_of part h).base
 
+-- the words of the run of a history, the newest first
 abbrev pub run_of : PartData → History → List ℕ
 run_of part h = (flow_of part h).run
 
+-- the frame that copies take after a history
 abbrev pub source_of : PartData → History → Option (List ℕ)
 source_of part h = (flow_of part h).source
 
+-- how many words the readback of a history gave
 abbrev pub count_given : PartData → History → ℕ
 count_given part h = (flow_of part h).given
 

@@ -23,6 +23,7 @@ pub record FrameWrite : Type 0 where
   pub frames : List (List ℕ)
   pub last : List ℕ
 
+-- the frames of a write in order, the last one too
 abbrev pub all_frames : FrameWrite → List (List ℕ)
 all_frames x = x.frames ++ x.last ∷ []
 

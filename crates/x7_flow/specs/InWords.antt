@@ -13,12 +13,13 @@ use Rattle.x7_flow.specs.FrameAccess.{reads_frame_data, writes_frame_data}
 use Rattle.x7_flow.specs.Stretches.{is_boundary}
 use Rattle.x7_flow.specs.Flow.{base_of}
 
--- the word of a write, and the count of a read
+-- a run with the word of a write, and as it was after another access
 abbrev pub run_with_word : Access → List ℕ → List ℕ
 run_with_word (Write register w) run = w ∷ run
 run_with_word (Read register count) run = run
 run_with_word (Bad w) run = run
 
+-- how many words a read asks for, and 0 for another access
 abbrev pub count_asked : Access → ℕ
 count_asked (Write register w) = 0
 count_asked (Read register count) = count

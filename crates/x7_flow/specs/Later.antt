@@ -15,10 +15,12 @@ use Rattle.x7_flow.specs.Settings.{Settings, settings_from, settings_of, takes_f
 use Rattle.x7_flow.specs.Flow.{Flow, asked, flow_by, flow_of, source_of}
 use Rattle.x7_flow.specs.FrameMemory.{memory_of, puts}
 
+-- the flow of a history that goes on
 unfoldable pub flow_from : PartData → Settings → Flow → History → Flow
 flow_from part s f [] = f
 flow_from part s f (e ∷ h) = flow_by part (asked (settings_from part.idcode s h) e.access) (flow_from part s f h)
 
+-- the pairs that a history that goes on puts, the newest first
 unfoldable pub pairs_from : PartData → Settings → Flow → History → List PlanRow
 pairs_from part s f [] = []
 pairs_from part s f (e ∷ h) = puts part (asked (settings_from part.idcode s h) e.access) (flow_from part s f h) ++ pairs_from part s f h
@@ -39,11 +41,11 @@ pairs_after part earlier later = pairs_from part (settings_of part.idcode earlie
 abbrev pub after_load : ℕ → ℕ → History → History
 after_load w place h = entry (Write (number_of reg.Far) w) place ∷ h
 
--- the pairs of a history that goes on from a FAR load after an earlier history; and those where the earlier one's source
--- doesn't count
+-- the pairs of a history that goes on from a FAR load after an earlier history
 abbrev pub pairs_after_load : PartData → History → ℕ → History → List PlanRow
 pairs_after_load part earlier w later = pairs_loaded part (settings_of part.idcode earlier) (source_of part earlier) w later
 
+-- the pairs after a FAR load where the source of the earlier history doesn't count
 abbrev pub pairs_alone : PartData → History → ℕ → History → List PlanRow
 pairs_alone part earlier w later = pairs_loaded part (settings_of part.idcode earlier) None w later
 
@@ -57,13 +59,15 @@ pub record Start : Type 0 where
   pub settings : Settings
   pub flow : Flow
 
--- the flow, and the pairs put, of a history that goes on; and what a later one goes on from after it
+-- the flow of a history that goes on from a start
 abbrev pub flow_on : Start → History → Flow
 flow_on x later = flow_from x.part x.settings x.flow later
 
+-- the pairs that a history that goes on from a start puts, the newest first
 abbrev pub pairs_on : Start → History → List PlanRow
 pairs_on x later = pairs_from x.part x.settings x.flow later
 
+-- what a later history goes on from, after one that went on
 abbrev pub start_on : Start → History → Start
 start_on x later = record { part = x.part; settings = settings_from x.part.idcode x.settings later; flow = flow_on x later }
 

@@ -8,6 +8,7 @@ use Rattle.x7_pipeline.specs.InWords.{Overruns}
 use Rattle.x7_flow.specs.Asked.{Asked, Load, Order, Word, Copies, Reads, Other}
 use Rattle.x7_flow.specs.Flow.{Flow, asks, base_of, flow_of, is_copy, run_of}
 
+-- a run has no word
 abbrev pub is_empty : List ℕ → Bool
 is_empty [] = true
 is_empty (w ∷ run) = false

@@ -40,6 +40,7 @@ pub record FramesState : Type 0 where
   pub pipeline : PipelineData
   pub memory : List (List ℕ)
 
+-- a pipeline and the frames of a memory, in one value
 abbrev pub frames_state : PipelineData → List (List ℕ) → FramesState
 frames_state pipeline memory = record { pipeline = pipeline; memory = memory }
 
@@ -89,14 +90,15 @@ pub record ReadsFrames (part : PartData) (f : FramesState) (h : History) (access
   pub address : HasAddress part h
   pub stands : FramesStandFor part f h 0
 
--- a word written to a register, and its entry
+-- a word written to a register
 abbrev pub word_to : Reg → ℕ → Access
 word_to register word = Write (number_of register) word
 
+-- the entry of a word written to a register at a place
 abbrev pub written_to : Reg → ℕ → ℕ → Entry
 written_to register word place = entry (word_to register word) place
 
--- a read of some words of a register, and its entry
+-- the entry of a read of some words of a register
 abbrev pub read_entry : ℕ → ℕ → ℕ → Entry
 read_entry register count place = entry (Read register count) place
 

@@ -28,13 +28,15 @@ pub record WordsTo : Type 0 where
 abbrev pub words_to : Reg → ℕ → List ℕ → WordsTo
 words_to r n bytes = record { register = r; place = n; words = words_of_bytes bytes }
 
--- the history with words written to a register, the first of which begins at byte n; to FDRI; to MFWR
+-- the history with words written to a register, the first of which begins at byte n
 abbrev pub with_words_to : Reg → ℕ → List ℕ → History → History
 with_words_to r n ws h = entered_all n (payload_steps (number_of r) ws) h
 
+-- a history with words written to FDRI
 abbrev pub with_frame_data : ℕ → List ℕ → History → History
 with_frame_data n ws h = with_words_to reg.Fdri n ws h
 
+-- a history with words written to MFWR
 abbrev pub with_copies : ℕ → List ℕ → History → History
 with_copies n ws h = with_words_to reg.Mfwr n ws h
 

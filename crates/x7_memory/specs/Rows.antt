@@ -8,9 +8,11 @@ use Rattle.x7_memory.specs.Planned.{PlanRow, PlanData, IsDraft}
 abbrev pub row_in : ℕ → List ℕ → Row → PlanRow
 row_in width words row = record { far = row.far; words = take width (drop row.start words) }
 
+-- all rows, each with the words from its place on
 abbrev pub rows_in : ℕ → List ℕ → List Row → List PlanRow
 rows_in width words rows = map (row_in width words) rows
 
+-- rows as what is kept of them shows: their width, and each with its words
 abbrev pub rows_seen : Inside → PlanData
 rows_seen kept = record { width = kept.width; rows = rows_in kept.width kept.words.items kept.rows.items }
 

@@ -7,10 +7,12 @@ use Rattle.x7_regs.specs.declared.command.Command.{Command}
 use Rattle.x7_regs.specs.declared.command.Command.TheVariants.{Wcfg, Mfw}
 use Rattle.x7_pipeline.specs.Runs.{frames_of}
 
+-- the command is WCFG
 abbrev pub is_wcfg : Command → Bool
 is_wcfg Wcfg = true
 is_wcfg _ = false
 
+-- the command is MFW
 abbrev pub is_mfw : Command → Bool
 is_mfw Mfw = true
 is_mfw _ = false

@@ -12,6 +12,7 @@ use Rattle.x7_pipeline.specs.Runs.{frames_of, slots_from}
 abbrev pub has_frame_at : PartData → ℕ → Bool
 has_frame_at part far = nat_lt 0 (length (slots_from part far))
 
+-- a run or a readback can begin at the address: the part has a frame there
 abbrev pub IsBase : PartData → ℕ → Type 0
 IsBase part far = has_frame_at part far ≡ true
 

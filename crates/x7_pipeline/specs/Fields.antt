@@ -7,9 +7,11 @@ use Rattle.x7_pipeline.specs.Pipeline.{PipelineData}
 abbrev pub newest_seen : Inside → Option (List ℕ)
 newest_seen p = if p.frame_count == 0 then None else Some p.held.items
 
+-- the frame that copies take, where there is one
 abbrev pub source_seen : Inside → Option (List ℕ)
 source_seen p = if p.has_source then Some p.source.items else None
 
+-- all that a pipeline stores, as its fields hold it
 abbrev pub pipeline_seen : Inside → PipelineData
 pipeline_seen p = record {
   width = p.width;

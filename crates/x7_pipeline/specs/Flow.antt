@@ -75,10 +75,11 @@ begun_by part command f = record { command = command; base = far_of part f.base 
 
 -- ---- a copy
 
--- what a copy puts, and why a copy is refused
+-- what a copy puts
 abbrev pub copied_by : Flow → List PlanRow
 copied_by f = copied f.base f.source
 
+-- why a copy is refused, where it is
 abbrev pub fault_of_copy : PartData → Flow → Option RunFault
 fault_of_copy part f = copy_fault part f.command f.base f.source
 

@@ -43,6 +43,7 @@ unfoldable pub in_slots : List Slot → List (List ℕ) → List PlanRow
 in_slots places [] = []
 in_slots places (frame ∷ older) = at_slot (slice_index_or places (length older) End) frame (in_slots places older)
 
+-- frames without the newest one, which stands first
 abbrev pub but_newest : List (List ℕ) → List (List ℕ)
 but_newest [] = []
 but_newest (frame ∷ older) = older

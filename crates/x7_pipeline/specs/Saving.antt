@@ -15,6 +15,7 @@ use Rattle.x7_pipeline.specs.Pipeline.{IsPipelineOf, PipelineData}
 
 -- ---- where the next frame is put
 
+-- the address of a slot, none at a pad and past the last slot
 abbrev pub address_at_slot : Slot → Option ℕ
 address_at_slot (Frame far) = Some far
 address_at_slot Pad = None
@@ -47,6 +48,7 @@ abbrev pub pair_of_frame : ℕ → Option (List ℕ) → List PlanRow
 pair_of_frame far None = []
 pair_of_frame far (Some words) = record { far = far; words = words } ∷ []
 
+-- the frame that a memory has at an address, as at most one pair, and none without an address
 abbrev pub pair_at : FrameMap → Option ℕ → List PlanRow
 pair_at memory None = []
 pair_at memory (Some far) = pair_of_frame far (memory far)

@@ -16,6 +16,7 @@ abbrev pub one_written : Option RunFault → List ℕ → RunWritten → RunWrit
 one_written (Some fault) run later = record { run = run; count = 1; fault = Some fault }
 one_written None run later = record later { count = 1 + later.count }
 
+-- words written in order after a run, up to the first that is refused
 unfoldable pub written : PartData → ℕ → List ℕ → List ℕ → RunWritten
 written part base run [] = record { run = run; count = 0; fault = None }
 written part base run (w ∷ words) = one_written (write_fault part base run) run (written part base (w ∷ run) words)
