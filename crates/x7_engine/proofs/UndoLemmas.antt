@@ -11,7 +11,7 @@ use Rattle.x7_memory.specs.FrameMap.{AreSame}
 use Rattle.x7_memory.specs.Frames.{frame_at}
 use Rattle.x7_flow.specs.FrameMemory.{memory_of}
 use Rattle.x7_flow.specs.Saving.{FramesBack, KeepsFrames}
-use Rattle.x7_flow.specs.Standing.{FramesFit, FramesStandFor, FramesState}
+use Rattle.x7_flow.specs.Standing.{FramesFit, FramesStandFor}
 use Rattle.x7_flow.proofs.SavingLemmas.{back_one, back_same}
 use Rattle.x7_engine.specs.declared.fed.Fed.{Fed}
 use Rattle.x7_engine.specs.declared.fed.Fed.TheVariants as fed
@@ -19,10 +19,10 @@ use Rattle.x7_engine.specs.declared.kept.Kept.{Kept}
 use Rattle.x7_engine.specs.declared.stop.Stop.{Stop}
 use Rattle.x7_engine.specs.ReadBuffer.{IsFullBy, ReadBufState, with_words}
 use Rattle.x7_engine.specs.Past.{Answers, Past}
-use Rattle.x7_engine.specs.Standing.{DeviceState, DeviceStandsFor, NoWordDue, RegistersState, frames_due}
+use Rattle.x7_engine.specs.Standing.{DeviceState, DeviceStandsFor, NoWordDue, frames_due}
 use Rattle.x7_engine.specs.State.{history_by, history_taken, last_counted, memory_in, stop_in}
 use Rattle.x7_engine.specs.Stops.{Stopped, stopped_at}
-use Rattle.x7_engine.specs.Undo.{Back, Keeps, UndoState, ValuesState, dropping, registers_with, values_of}
+use Rattle.x7_engine.specs.Undo.{Back, Keeps, UndoState, dropping}
 use Rattle.x7_engine.proofs.DeviceLemmas.{going_taken}
 use Rattle.x7_engine.proofs.FrameLemmas.{frames_of, goes_on, none_frames}
 use Rattle.x7_engine.proofs.StateLemmas.{stop_is_final-stop, counted_most}
@@ -129,8 +129,3 @@ answers_dropping p d more first read (fed.Iprog n) e g a = a
 answers_dropping p d more first read (fed.ReadFull n) e g a =
     let most : read.most ≡ None = ap (λ (b : ReadBufState). b.most) g ∙ ap (λ (b : ReadBufState). b.most) e in
     (a.0, a.1, absurd (subst (λ (m : Option ℕ). IsFullBy m (length read.words)) most a.2))
-
--- ---- the device that comes of it
-
-pub registers_are : (v : ValuesState) (f : FramesState) (old : RegistersState) → v ≡ values_of old → f ≡ old.frames → registers_with v f ≡ old
-registers_are v f old e g = ap (λ (w : ValuesState). registers_with w f) e ∙ ap (registers_with (values_of old)) g

@@ -4,9 +4,10 @@ use Rattle.x7_packets.specs.Cutting.{CutterState}
 use Rattle.x7_part.specs.Part.{PartData}
 use Rattle.x7_regs.specs.declared.boot_status.Attempt.{Attempt}
 use Rattle.x7_regs.specs.declared.boot_status.Kind.{Kind}
+use Rattle.x7_memory.specs.Frames.{zero_frames}
 use Rattle.x7_pipeline.specs.Saving.{IsSavedOf, SavedState}
 use Rattle.x7_flow.specs.Saving.{FramesBack, KeepsFrames}
-use Rattle.x7_flow.specs.Standing.{FramesFit, FramesState}
+use Rattle.x7_flow.specs.Standing.{FramesFit, FramesState, frames_state}
 use Rattle.x7_engine.specs.declared.due.Due.{Due}
 use Rattle.x7_engine.specs.declared.saved.SavedRegisters.{SavedRegisters}
 use Rattle.x7_engine.specs.declared.stop.Stop.{Stop}
@@ -57,6 +58,10 @@ pub record UndoState : Type 0 where
 -- what is kept is of a device of the part
 abbrev pub IsUndoOf : PartData → UndoState → Type 0
 IsUndoOf part u = IsSavedOf part u.frames
+
+-- the device whose values are kept, with a memory of zeros
+abbrev pub device_kept : PartData → UndoState → DeviceState
+device_kept part u = record { part = part; cutter = u.cutter; registers = registers_with u.values (frames_state u.frames.pipeline (zero_frames part)); wrapped = u.wrapped; taken = u.taken; fed = 0 }
 
 -- each value but the memory is that of a device
 pub record KeepsValues (u : UndoState) (d : DeviceState) : Type 0 where

@@ -1,5 +1,5 @@
 //! The stored values of registers, kept.
-ghost use Rattle.std.specs.Prelude.{◌≡◌, []};
+ghost use Rattle.std.specs.Prelude.{◌≡◌, [], None};
 ghost use Rattle.x7_part.specs.Part.{PartData};
 ghost use Rattle.x7_pipeline.specs.Saving.{IsSavedOf};
 ghost use Rattle.x7_flow.specs.Saving.{FramesBack};
@@ -38,6 +38,7 @@ impl SavedRegisters {
     pub(crate) fn new() -> SavedRegisters
         ensures stands { (part : PartData) (f : FramesState) → FramesStandFor part f [] 0 → RegistersStandFor part on_the_bench (registers_with (values_in result) f) [] 0 }
         ensures none_due { result.due ≡ Due.Nothing }
+        ensures going { result.stop ≡ None }
     {
         SavedRegisters {
             words: Words::new(&ON_THE_BENCH),

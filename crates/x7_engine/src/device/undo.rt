@@ -1,8 +1,9 @@
 //! A device goes back over bytes that it took.
-ghost use Rattle.std.specs.Prelude.{◌≡◌, ◌≤◌, ◌+◌, ◌^◌, ℕ, List, length, IfOk, IsSome, Some};
+ghost use Rattle.std.specs.Prelude.{◌≡◌, ◌≤◌, ◌+◌, ◌^◌, ℕ, List, [], false, length, IfOk, IsSome, Some};
 ghost use Rattle.x7_flow.specs.Standing.{FramesFit};
-ghost use Rattle.x7_engine.specs.Standing.{DeviceState, NoWordDue, fed_by, fed_more, fed_of, taken_in};
-ghost use Rattle.x7_engine.specs.Undo.{AreEqual, Back, IsUndoOf, Keeps, dropping};
+ghost use Rattle.x7_engine.specs.Kept.{on_the_bench};
+ghost use Rattle.x7_engine.specs.Standing.{DeviceState, DeviceStandsFor, NoWordDue, fed_by, fed_more, fed_of, taken_in};
+ghost use Rattle.x7_engine.specs.Undo.{AreEqual, Back, IsUndoOf, Keeps, device_kept, dropping};
 ghost use Rattle.x7_engine.specs.declared.stop.Stop.{Stop};
 ghost use Rattle.x7_engine.specs.Past.{AnswersFor, OfPast, TakesJust, part_taken, stop_at, HasPast, Past, later};
 
@@ -36,9 +37,12 @@ impl Model for Undo {
 }
 
 impl Undo {
-    /// Takes room for what is kept of a device of this part. No other call takes memory.
+    /// Takes room for what is kept of a device of this part. What is kept at first is a new device, and no frame. No other call
+    /// takes memory.
     pub fn new(alloc: Global, part: &Part) -> Result<Undo, NoMemory>
-        ensures { IfOk result (IsUndoOf part.now) }
+        ensures device { IfOk result (λ u. DeviceStandsFor part.now on_the_bench false (device_kept part.now u) []) }
+        ensures pair { IfOk result (λ u. u.frames.pair ≡ []) }
+        ensures part { IfOk result (IsUndoOf part.now) }
     {
         let frames = Saved::new(alloc, part)?;
         Ok(Undo {
