@@ -9,7 +9,7 @@ use Rattle.x7_part.specs.Part.{PartData}
 use Rattle.x7_engine.specs.Kept.{on_the_bench}
 use Rattle.x7_engine.specs.Standing.{DeviceState, DeviceStandsFor, NoWordDue}
 use Rattle.x7_engine.proofs.BootLemmas.{none_due_at_first}
-use Rattle.x7_engine.specs.Undo.{AreEqual, IsUndoOf, Keeps, UndoState}
+use Rattle.x7_engine.specs.Undo.{AreEqual, IsUndoOf, Keeps, TookFewSince, UndoState}
 use Rattle.x7_debug.specs.Journal.{IsFed, GoesWith, IsOn, IsRecord, JournalState, LeadBack, oldest_by, records_of}
 use Rattle.x7_debug.specs.Session.{SessionState, StandsAt}
 use Rattle.x7_debug.proofs.PositionLemmas.{by-taken, own}
@@ -104,6 +104,19 @@ refed part stream d e n q s =
       none_due = s.none_due;
     } in
     subst (λ (x : DeviceState). StandsAt part stream x n) (sym q) there
+
+-- a device at up to four bytes behind a record
+pub took_few : (part : PartData) (stream : List ℕ) (d : DeviceState) (at : ℕ) (u : UndoState) → IsRecord part stream u → StandsAt part stream d at → u.taken ≤ at → at ≤ u.taken + 4 → TookFewSince u d
+took_few part stream d at u r s low high = record {
+  past = record { part = part; kept = on_the_bench; wrapped = false; bytes = take u.taken stream };
+  more = take (at - u.taken) (drop u.taken stream);
+  old = r.device;
+  keeps = r.keeps;
+  none_due = r.stands.none_due;
+  few = omega (arith, length-take (at - u.taken) (drop u.taken stream), high);
+  had = r.stands.stands;
+  has = subst (λ (b : List ℕ). DeviceStandsFor part on_the_bench false d b) (sym (take_up_to stream u.taken at low)) s.stands;
+}
 
 -- a device at up to four bytes behind a record goes back to it
 pub goes_back : (part : PartData) (stream : List ℕ) (d new : DeviceState) (at : ℕ) (u : UndoState) (r : IsRecord part stream u) → StandsAt part stream d at → u.taken ≤ at → at ≤ u.taken + 4

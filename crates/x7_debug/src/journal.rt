@@ -95,6 +95,7 @@ impl Journal {
     pub(crate) fn back(&mut self, device: &mut Device)
         requires some { 0 < self.old.count }
         requires records { AreRecordsOf device.old.part self.old }
+        requires on { (stream : List ℕ) × IsOn device.old.part stream device.old self.old }
         ensures back { (stream : List ℕ) → IsOn device.old.part stream device.old self.old → IsOn device.new.part stream device.new self.new }
         ensures less { (stream : List ℕ) → IsOn device.old.part stream device.old self.old → device.new.taken ≤ device.old.taken × device.old.taken ≤ device.new.taken + record_bytes }
         ensures fed { fed_of device.new ≡ fed_of device.old }

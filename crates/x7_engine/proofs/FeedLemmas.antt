@@ -1,23 +1,27 @@
 -- Lemmas on a feed: words given to a buffer, and the bytes taken of a piece.
-use Rattle.std.proofs.Common.{◌≡◌, ◌+◌, ◌-◌, ◌≤◌, ◌<◌, ℕ, suc, Option, None, Some, List, [], ◌∷◌, ◌++◌, length, take, drop, refl, ap, sym, subst, ◌∙◌, append_assoc, append-nil, arith, Bool}
+use Rattle.std.proofs.Common.{◌≡◌, ◌+◌, ◌-◌, ◌≤◌, ◌<◌, ℕ, suc, Option, None, Some, List, [], ◌∷◌, ◌++◌, length, take, drop, refl, ap, sym, subst, ◌∙◌, append_assoc, append-nil, arith, Bool, true, false, if◌then◌else◌}
 use Rattle.std.proofs.Math.Seq.{take-length}
 use Rattle.std.proofs.lemmas.List.{drop-take, length-take, take-append-drop, take-take}
 use Rattle.std.proofs.lemmas.Option.{none-some}
 use Rattle.x7_packets.specs.Cutting.{between}
 use Rattle.x7_packets.specs.History.{History}
 use Rattle.x7_part.specs.Part.{PartData}
+use Rattle.x7_flow.specs.FrameAccess.{reads_frame_data}
 use Rattle.x7_flow.specs.Standing.{FramesStandFor, FramesState, words_due}
 use Rattle.x7_engine.specs.Course.{course_at}
+use Rattle.x7_engine.specs.declared.due.Due.{Due}
+use Rattle.x7_engine.specs.declared.due.Due.TheVariants as due
 use Rattle.x7_engine.specs.declared.kept.Kept.{Kept}
 use Rattle.x7_engine.specs.declared.stop.Stop.{Stop}
 use Rattle.x7_engine.specs.declared.stop.Stop.TheVariants as stop
 use Rattle.x7_engine.specs.ReadBuffer.{ReadBufState, gathered, with_words}
 use Rattle.x7_engine.specs.Readout.{Gave, GotAllBut, Gives}
 use Rattle.x7_engine.specs.Past.{Answers, past_of}
-use Rattle.x7_engine.specs.Standing.{DeviceStandsFor, DeviceState, NoWordDue, RegistersState, due_count, fed_by, taken_in, reads_given, words_left}
+use Rattle.x7_engine.specs.Standing.{DeviceStandsFor, DeviceState, NoWordDue, RegistersStandFor, RegistersState, due_count, fed_by, frames_among, frames_due, taken_in, reads_given, words_left}
 use Rattle.x7_engine.specs.State.{history_taken, reads_of}
 use Rattle.x7_engine.specs.Stops.{stopped_at}
 use Rattle.x7_engine.proofs.DeviceLemmas.{told_by}
+use Rattle.x7_engine.proofs.FrameLemmas.{frames_at, frames_of, goes_on}
 
 -- the device gave words that were due
 pub given : (part : PartData) (kept : Kept) (wrapped : Bool) (d : DeviceState) (r : RegistersState) (bytes : List ℕ) (old new : ReadBufState) → d.registers.stop ≡ None → r.stop ≡ None → DeviceStandsFor part kept wrapped d bytes
@@ -152,3 +156,38 @@ got_dropped words read e = record {
   read_is = ap (λ ws. record { most = read.most; words = ws }) (sym (ap (λ (most : Option ℕ). gathered most read.words words) e));
   words_are = sym (append-nil words);
 }
+
+-- fewer words of frame data are due of those of one read
+fewer_among : (h : History) (count left : ℕ) → left ≤ count → count ≡ frames_among h count → left ≡ frames_among h left
+fewer_among [] count left l e = omega (arith, l, e)
+fewer_among (a ∷ h) count left l e = by (reads_frame_data h a.access) e
+  where
+    by : (b : Bool) → count ≡ (if b then count else 0) → left ≡ (if b then left else 0)
+    by true e = refl
+    by false e = omega (arith, l, e)
+
+-- registers after some of the words of frame data that were due
+pub gave_frames : (part : PartData) (kept : Kept) (d : RegistersState) (frames : FramesState) (h : History) (n count left : ℕ) (old new : ReadBufState) → d.stop ≡ None → d.due ≡ due.Frames count → left ≤ count
+    → (FramesStandFor part d.frames h count → GotAllBut (words_due part h left) (words_due part h count) old new) → (FramesStandFor part d.frames h count → FramesStandFor part frames h left)
+    → RegistersStandFor part kept d h n → Gave (course_at part kept h n) d (record d { due = due.Frames left; frames = frames }) old new
+gave_frames part kept d frames h n count left old new going is few got stands s =
+    let here : FramesStandFor part d.frames h count = subst (FramesStandFor part d.frames h) (ap frames_due is) (frames_of part d.frames d.stop h (frames_due d.due) (goes_on d.stop going) s.frames) in
+    let gets : GotAllBut (words_due part h left) (words_due part h count) old new = got here in
+    let kind : count ≡ frames_among h count = sym (ap frames_due is) ∙ s.due_kind ∙ ap (λ (x : Due). frames_among h (due_count x)) is in
+    record {
+      more = gets.more;
+      read_is = gets.read_is;
+      words_are = ap (words_left part h) is ∙ gets.words_are;
+      stands = record {
+        places = s.places;
+        words = s.words;
+        controls = s.controls;
+        progress = s.progress;
+        kind = s.kind;
+        before = s.before;
+        clock = s.clock;
+        stop = s.stop;
+        frames = frames_at part frames d.stop h left (goes_on d.stop going) (stands here);
+        due_kind = fewer_among h count left few kind;
+      };
+    }

@@ -14,6 +14,7 @@ pub mod FrameLemmas
 pub mod GapLemmas
 pub mod MaskLemmas
 pub mod PassLemmas
+pub mod PastLemmas
 pub mod PassesLemmas
 pub mod PhaseLemmas
 pub mod PlainLemmas

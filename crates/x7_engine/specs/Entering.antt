@@ -18,6 +18,13 @@ use Rattle.x7_engine.specs.Values.{answer_of, read_out}
 abbrev pub OfHistory : PartData → RegistersState → (Kept → History → ℕ → Type 0) → Type 0
 OfHistory part d Fact = (kept : Kept) (h : History) (n : ℕ) → RegistersStandFor part kept d h n → Fact kept h n
 
+-- the registers stand for a history
+pub record HaveHistory (part : PartData) (d : RegistersState) : Type 0 where
+  pub kept : Kept
+  pub history : History
+  pub taken : ℕ
+  pub stands : RegistersStandFor part kept d history taken
+
 -- a longer history, by the place at which its accesses begin
 abbrev pub Longer : Type 0
 Longer = ℕ → History → History

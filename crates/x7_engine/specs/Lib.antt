@@ -2,6 +2,7 @@ pub mod Checked
 pub mod Clock
 pub mod Course
 pub mod Entering
+pub mod Fields
 pub mod FirstStop
 pub mod Kept
 pub mod Past

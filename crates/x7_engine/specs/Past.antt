@@ -43,6 +43,11 @@ later p more = record { part = p.part; kept = p.kept; wrapped = p.wrapped; bytes
 abbrev pub HasPast : DeviceState → Past → Type 0
 HasPast d p = DeviceStandsFor p.part p.kept p.wrapped d p.bytes
 
+-- the device has a past
+pub record HasSomePast (d : DeviceState) : Type 0 where
+  pub past : Past
+  pub has : HasPast d past
+
 -- what holds of each past that the device has
 abbrev pub OfPast : DeviceState → (Past → Type 0) → Type 0
 OfPast d Fact = (part : PartData) (kept : Kept) (wrapped : Bool) (bytes : List ℕ) → DeviceStandsFor part kept wrapped d bytes → Fact (record { part = part; kept = kept; wrapped = wrapped; bytes = bytes })

@@ -1,5 +1,5 @@
 -- What is kept of a device, so that the next bytes up to four can be taken back (this project's choice).
-use Rattle.std.specs.Prelude.{◌≡◌, ℕ, Bool, List, Option, None, []}
+use Rattle.std.specs.Prelude.{◌≡◌, ℕ, ◌≤◌, Bool, List, length, Option, None, []}
 use Rattle.x7_packets.specs.Cutting.{CutterState}
 use Rattle.x7_part.specs.Part.{PartData}
 use Rattle.x7_regs.specs.declared.boot_status.Attempt.{Attempt}
@@ -12,8 +12,9 @@ use Rattle.x7_engine.specs.declared.due.Due.{Due}
 use Rattle.x7_engine.specs.declared.saved.SavedRegisters.{SavedRegisters}
 use Rattle.x7_engine.specs.declared.stop.Stop.{Stop}
 use Rattle.x7_engine.specs.Clock.{ClockState, clock_in}
+use Rattle.x7_engine.specs.Past.{HasPast, Past, later}
 use Rattle.x7_engine.specs.ReadBuffer.{ReadBufState}
-use Rattle.x7_engine.specs.Standing.{ControlsState, DeviceState, ProgressState, RegistersState, controls_in, progress_in}
+use Rattle.x7_engine.specs.Standing.{ControlsState, DeviceState, NoWordDue, ProgressState, RegistersState, controls_in, progress_in}
 
 -- the stored values of registers but their frames
 pub record ValuesState : Type 0 where
@@ -81,6 +82,17 @@ pub record Back (u : UndoState) (new old : DeviceState) : Type 0 where
   pub part : new.part ≡ old.part
   pub values : KeepsValues u old
   pub frames : FramesBack old.part u.frames new.registers.frames old.registers.frames
+
+-- what is kept is an old device, which took at most four bytes since then
+pub record TookFewSince (u : UndoState) (d : DeviceState) : Type 0 where
+  pub past : Past
+  pub more : List ℕ
+  pub old : DeviceState
+  pub keeps : Keeps u old
+  pub none_due : NoWordDue old
+  pub few : length more ≤ 4
+  pub had : HasPast old past
+  pub has : HasPast d (later past more)
 
 -- two devices are equal but for the count of all bytes that they were fed
 abbrev pub AreEqual : DeviceState → DeviceState → Type 0

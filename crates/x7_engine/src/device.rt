@@ -14,7 +14,7 @@ ghost use Rattle.x7_engine.specs.Stops.{fault_of};
 ghost use Rattle.x7_engine.specs.Turns.{HasFewerCalls, IsUsedUp, MayTake, Turned};
 ghost use Rattle.x7_engine.specs.Values.{cause_of};
 ghost use Rattle.x7_engine.specs.declared.fault.Fault.{Fault as FaultData};
-ghost use Rattle.x7_engine.specs.Past.{AnswersFor, OfPast, TakesJust, GivesWordsNext, part_taken, state_at, stop_at, reads_given_at};
+ghost use Rattle.x7_engine.specs.Past.{AnswersFor, HasSomePast, OfPast, TakesJust, GivesWordsNext, part_taken, state_at, stop_at, reads_given_at};
 
 mod boot;
 mod started;
@@ -52,15 +52,14 @@ pub struct Device {
 }
 
 impl Model for Device {
-    ghost use Rattle.x7_engine.specs.Standing.{DeviceState, registers_in};
+    ghost use Rattle.x7_engine.specs.Standing.{DeviceState};
+    ghost use Rattle.x7_engine.specs.Fields.{DeviceFits, device_in};
 
     ghost Value = { DeviceState };
 
-    ghost view = { λ d. record { part = d.part; cutter = d.cutter; registers = registers_in d.registers; wrapped = d.wrapped; taken = d.taken; fed = d.fed } };
+    ghost view = { device_in };
 
-    ghost use Rattle.x7_flow.specs.Standing.{FramesFit};
-
-    ghost invariant = { λ d. FramesFit d.part d.registers.frames };
+    ghost invariant = { λ d. DeviceFits (device_in d) };
 }
 
 /// What a feed answers for a stop at place `at` of a piece.
@@ -413,6 +412,14 @@ impl Device {
         ensures { OfPast self.now (λ p. result ≡ ((state_at p).phase == 7)) }
     {
         self.registers.clock.has_ended()
+    }
+
+    /// Each device has a past. The call is for proofs alone, and does nothing.
+    pub fn has_past(&self)
+        ensures past { HasSomePast self.now }
+    {
+        // the fields are what it rests on
+        let _taken = self.taken;
     }
 
     /// The bytes taken since the reset.

@@ -1,12 +1,12 @@
 //! The words that a device reads out: a read makes them due, and a buffer takes them.
 ghost use Rattle.std.specs.Prelude.{◌≡◌, ◌≤◌, ◌<◌, ℕ, IsTrue, ◌↔◌, None, Some};
 ghost use Rattle.x7_packets.specs.History.{History};
-ghost use Rattle.x7_flow.specs.Standing.{FramesFit, FramesStandFor, read_entry, words_due};
+ghost use Rattle.x7_flow.specs.Standing.{FramesFit, FramesStandFor, HaveDue, read_entry, words_due};
 ghost use Rattle.x7_engine.specs.Readout.{GotAllBut};
 ghost use Rattle.x7_engine.specs.ReadBuffer.{HoldsFew, IsFull};
 ghost use Rattle.x7_engine.specs.Ready.{AreReady, RestsAtStop};
 ghost use Rattle.x7_engine.specs.Standing.{due_count};
-ghost use Rattle.x7_engine.specs.Entering.{AreAnswer, EntersAt, OfHistory, change_of, read_entered};
+ghost use Rattle.x7_engine.specs.Entering.{AreAnswer, EntersAt, HaveHistory, OfHistory, change_of, read_entered};
 
 use crate::due::Due;
 use crate::read_buffer::ReadBuf;
@@ -28,6 +28,7 @@ pub(crate) fn count_of(due: Due) -> u32
 /// Gives `count` words of frame data to a buffer, as far as the buffer has room. Says how many not.
 fn give_frames(frames: &mut Frames, part: &Part, count: u32, read: &mut ReadBuf) -> u32
     requires frames { FramesFit part.now frames.old }
+    requires due { HaveDue part.now frames.old count }
     ensures fewer { result ≤ count }
     ensures full { 0 < result → IsFull read.new }
     ensures given { (h : History) → FramesStandFor part.now frames.old h count → GotAllBut (words_due part.now h result) (words_due part.now h count) read.old read.new }
@@ -76,6 +77,7 @@ impl Registers {
     fn give_due(&mut self, part: &Part, read: &mut ReadBuf)
         requires going { self.old.stop ≡ None }
         requires frames { FramesFit part.now self.old.frames }
+        requires history { HaveHistory part.now (registers_in self.old) }
         ensures full { 0 < due_count self.new.due → IsFull read.new }
         ensures going { self.new.stop ≡ None }
         ensures frames { FramesFit part.now self.new.frames }
@@ -98,6 +100,7 @@ impl Registers {
     pub(crate) fn give(&mut self, part: &Part, read: &mut ReadBuf) -> bool
         requires going { self.old.stop ≡ None }
         requires frames { FramesFit part.now self.old.frames }
+        requires history { HaveHistory part.now (registers_in self.old) }
         ensures none_left { IsTrue result ↔ (due_count self.new.due ≡ 0) }
         ensures full { 0 < due_count self.new.due → IsFull read.new }
         ensures few { HoldsFew read.new.most read.new.words }

@@ -72,6 +72,15 @@ FramesFit part f = AreOf part f.pipeline f.memory
 abbrev pub FramesStandFor : PartData → FramesState → History → ℕ → Type 0
 FramesStandFor part f h due = AreFramesAfter part f.pipeline f.memory h due
 
+-- the frames stand for some history, of whose last read `due` words of frame data are still due
+pub record HaveDue (part : PartData) (f : FramesState) (due : ℕ) : Type 0 where
+  pub history : History
+  pub stands : FramesStandFor part f history due
+
+-- at least `count` words of frame data are still due
+abbrev pub HaveWordsDue : PartData → FramesState → ℕ → Type 0
+HaveWordsDue part f count = (more : ℕ) × HaveDue part f (more + count)
+
 -- the frames of a device as a map of addresses
 abbrev pub frames_map : PartData → FramesState → FrameMap
 frames_map part f = frame_at part f.memory

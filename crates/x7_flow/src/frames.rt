@@ -5,7 +5,7 @@ ghost use Rattle.x7_packets.specs.History.{History, Write};
 ghost use Rattle.x7_regs.specs.Register.{number_of};
 ghost use Rattle.x7_regs.specs.declared.register.Reg.TheVariants as reg;
 ghost use Rattle.x7_flow.specs.Flow.{far_in, flow_of, frame_fault};
-ghost use Rattle.x7_flow.specs.Standing.{AfterAccess, AfterRead, FramesFit, FramesStandFor, OfFrames, ReadsData, less, read_entry, words_due, written_to};
+ghost use Rattle.x7_flow.specs.Standing.{AfterAccess, AfterRead, FramesFit, FramesStandFor, HaveWordsDue, OfFrames, ReadsData, less, read_entry, words_due, written_to};
 ghost use Rattle.x7_flow.specs.Words.{TakesWords, WordsTaken, words_to};
 
 mod saved;
@@ -156,9 +156,10 @@ impl Frames {
         refuses_read(count, part, &self.pipeline)
     }
 
-    /// The next of the words of frame data that are due.
+    /// The next of the words of frame data that are due, of which there is one.
     pub fn next(&mut self, part: &Part) -> u32
         requires part { FramesFit part.now self.old }
+        requires due { HaveWordsDue part.now self.old 1 }
         ensures stands { (h : History) (due : ℕ) → FramesStandFor part.now self.old h (due + 1) → FramesStandFor part.now self.new h due }
         ensures word { (h : History) (due : ℕ) → FramesStandFor part.now self.old h (due + 1) → words_due part.now h (suc due) ≡ result ∷ words_due part.now h due }
         ensures part { FramesFit part.now self.new }
@@ -169,6 +170,7 @@ impl Frames {
     /// Passes over `count` of the words of frame data that are due.
     pub fn pass(&mut self, count: u32, part: &Part)
         requires part { FramesFit part.now self.old }
+        requires due { HaveWordsDue part.now self.old count }
         ensures stands { (h : History) (due : ℕ) → FramesStandFor part.now self.old h (due + count) → FramesStandFor part.now self.new h due }
         ensures part { FramesFit part.now self.new }
     {

@@ -7,7 +7,7 @@ ghost use Rattle.x7_flow.specs.Words.{OfTaking, WordsTaken, words_to};
 ghost use Rattle.x7_packets.specs.History.{History};
 ghost use Rattle.x7_pipeline.specs.Pipeline.{AreOf, IsPipelineOf};
 ghost use Rattle.x7_flow.specs.Flow.{Flow, asks, fault_by};
-ghost use Rattle.x7_flow.specs.Standing.{AreFramesAfter, Did, HasFlow, frames_state, word_to, words_due};
+ghost use Rattle.x7_flow.specs.Standing.{AreFramesAfter, Did, HasFlow, HaveWordsDue, frames_state, word_to, words_due};
 
 use crate::asking::{takes_copies, takes_frames};
 use crate::settings::FrameSettings;
@@ -79,17 +79,18 @@ pub(crate) fn refuses_read(count: u32, part: &Part, pipeline: &Pipeline) -> Opti
     pipeline.fault_of_read(part)
 }
 
-/// The next of the words of frame data that are due.
+/// The next of the words of frame data that are due, of which there is one.
 pub(crate) fn next_word(part: &Part, pipeline: &mut Pipeline, memory: &Memory) -> u32
     requires part { AreOf part.now pipeline.old memory.now }
+    requires due { HaveWordsDue part.now (frames_state pipeline.old memory.now) 1 }
     ensures stands { (h : History) (due : ℕ) → AreFramesAfter part.now pipeline.old memory.now h (due + 1) → AreFramesAfter part.now pipeline.new memory.now h due }
     ensures word { (h : History) (due : ℕ) → AreFramesAfter part.now pipeline.old memory.now h (due + 1) → words_due part.now h (suc due) ≡ result ∷ words_due part.now h due }
     ensures pipeline { IsPipelineOf part.now pipeline.new }
 {
-    match pipeline.read_word(part, memory) {
-        Ok(word) => word,
-        Err(_) => 0,
-    }
+    let Ok(word) = pipeline.read_word(part, memory) else {
+        unreachable!()
+    };
+    word
 }
 
 /// Takes words of frame data at once, four bytes each, up to the first that is refused. The answer is the number of words
@@ -135,11 +136,11 @@ pub(crate) fn take_copies(
 /// Passes over `count` of the words of frame data that are due.
 pub(crate) fn pass_words(count: u32, part: &Part, pipeline: &mut Pipeline)
     requires pipeline { IsPipelineOf part.now pipeline.old }
+    requires due { (frames : List (List ℕ)) × HaveWordsDue part.now (frames_state pipeline.old frames) count }
     ensures stands { (frames : List (List ℕ)) (h : History) (due : ℕ) → AreFramesAfter part.now pipeline.old frames h (due + count) → AreFramesAfter part.now pipeline.new frames h due }
     ensures pipeline { IsPipelineOf part.now pipeline.new }
 {
-    match pipeline.drop_words(count, part) {
-        Ok(()) => (),
-        Err(_) => (),
-    }
+    let Ok(()) = pipeline.drop_words(count, part) else {
+        unreachable!()
+    };
 }

@@ -3,7 +3,7 @@ ghost use Rattle.std.specs.Prelude.{◌≡◌, ◌≤◌, ◌+◌, ◌^◌, ℕ,
 ghost use Rattle.x7_flow.specs.Standing.{FramesFit};
 ghost use Rattle.x7_engine.specs.Kept.{on_the_bench};
 ghost use Rattle.x7_engine.specs.Standing.{DeviceState, DeviceStandsFor, NoWordDue, fed_by, fed_more, fed_of, taken_in};
-ghost use Rattle.x7_engine.specs.Undo.{AreEqual, Back, IsUndoOf, Keeps, device_kept, dropping};
+ghost use Rattle.x7_engine.specs.Undo.{AreEqual, Back, IsUndoOf, Keeps, TookFewSince, device_kept, dropping};
 ghost use Rattle.x7_engine.specs.declared.stop.Stop.{Stop};
 ghost use Rattle.x7_engine.specs.Past.{AnswersFor, OfPast, TakesJust, part_taken, stop_at, HasPast, Past, later};
 
@@ -119,7 +119,8 @@ impl Device {
     /// Makes the device the one to which what is kept leads back: that of before `feed_word`, or of before it and later
     /// calls of `feed` with four bytes at most in all.
     pub fn undo(&mut self, undo: &Undo)
-        requires { IsUndoOf self.old.part undo.now }
+        requires undo { IsUndoOf self.old.part undo.now }
+        requires back { TookFewSince undo.now self.old }
         ensures back { (old : DeviceState) → Back undo.now self.old old → AreEqual self.new old }
         ensures more { (p : Past) (more : List ℕ) (old : DeviceState) → Keeps undo.now old → NoWordDue old → length more ≤ 4
             → HasPast old p → HasPast self.old (later p more) → AreEqual self.new old }
@@ -132,7 +133,8 @@ impl Device {
 
     /// Makes the device the one to which what is kept leads back.
     fn go_back(&mut self, undo: &Undo)
-        requires { IsUndoOf self.old.part undo.now }
+        requires undo { IsUndoOf self.old.part undo.now }
+        requires back { TookFewSince undo.now self.old }
         ensures back { (old : DeviceState) → Back undo.now self.old old → AreEqual self.new old }
         ensures part { self.new.part ≡ self.old.part }
         ensures fed { fed_of self.new ≡ fed_of self.old }

@@ -3,3 +3,6 @@ use Rattle.x7_debug.proofs.moving.take_back.Goals as goal
 
 pub returns-clause-comes : goal.returns-clause-comes
 returns-clause-comes c = record { on = c.loop-journal.invariant.on; part = c.loop-journal.invariant.part; taken = refl }
+
+pub back-requires-clause-on : goal.back-requires-clause-on
+back-requires-clause-on c = (c.args.stream.now, c.loop-journal.invariant.on)

@@ -1,12 +1,25 @@
-use Rattle.std.proofs.Common.{◌≡◌, ◌-◌, ◌+◌, ◌≤◌, ◌∷◌, ◌++◌, [], ℕ, List, length, take, drop, ap, sym, subst, ◌∙◌, arith, false, length-append}
+use Rattle.std.proofs.Common.{◌≡◌, ◌-◌, ◌+◌, ◌≤◌, ◌∷◌, ◌++◌, [], ℕ, suc, List, length, take, drop, ap, sym, subst, ◌∙◌, arith, false, length-append}
 use Rattle.std.specs.List.{AllByRecursion}
 use Rattle.circular_buffer.specs.Buffer.{Buffer}
 use Rattle.x7_words.proofs.ListLemmas.{all-append}
 use Rattle.x7_engine.specs.Kept.{on_the_bench}
 use Rattle.x7_engine.specs.Undo.{IsUndoOf, UndoState}
-use Rattle.x7_debug.specs.Journal.{IsOn, JournalState, oldest_by, records_of}
-use Rattle.x7_debug.proofs.JournalLemmas.{first_of, keep_all, on_less, records_less}
+use Rattle.x7_debug.specs.Journal.{IsOn, JournalState, LeadBack, oldest_by, records_of}
+use Rattle.x7_debug.proofs.JournalLemmas.{first_of, keep_all, on_less, records_less, took_few}
 use Rattle.x7_debug.proofs.journal.Journal.back.Goals as goal
+
+pub undo-requires-clause-back : goal.undo-requires-clause-back
+undo-requires-clause-back c =
+    let stream : List ℕ = c.requires.on.0 in
+    let o = c.requires.on.1 in
+    let rest : List UndoState = drop 1 c.self.inside.records.items in
+    let some : c.self.inside.count ≡ suc (c.self.inside.count - 1) = omega (arith, c.requires.some, ap (λ (j : JournalState). j.count) c.self.view_is) in
+    let here : records_of c.args.self.now ≡ c.in-Some.undo ∷ take (c.self.inside.count - 1) rest =
+    sym (ap (λ (j : JournalState). records_of j) c.self.view_is)
+    ∙ ap (take c.self.inside.count) (first_of c.self.inside.records.items c.in-Some.undo c.in-Some.ensures.value)
+    ∙ ap (λ (n : ℕ). take n (c.in-Some.undo ∷ rest)) some in
+    let leads = subst (LeadBack c.args.device.now.part stream c.args.device.now.taken) here o.leads in
+    took_few c.args.device.now.part stream c.args.device.now c.args.device.now.taken c.in-Some.undo leads.0 o.stands leads.1 leads.2
 
 -- the journal after the call
 abbrev after : goal.After-self-1 → JournalState

@@ -1,10 +1,13 @@
 use Rattle.std.proofs.Common.{◌≡◌, None, sym, subst, ap, ◌∙◌, length}
 use Rattle.x7_packets.specs.History.{History}
 use Rattle.x7_part.specs.Part.{PartData}
+use Rattle.x7_engine.specs.Fields.{device_in}
+use Rattle.x7_engine.specs.Past.{Past, past_of}
 use Rattle.x7_engine.specs.Readout.{Gives}
 use Rattle.x7_engine.specs.Standing.{DeviceStandsFor, DeviceState, registers_in}
 use Rattle.x7_engine.specs.State.{history_taken}
 use Rattle.x7_engine.proofs.FeedLemmas.{given}
+use Rattle.x7_engine.proofs.PastLemmas.{own_past}
 use Rattle.x7_engine.proofs.device.Device.give.Goals as goal
 
 pub returns-clause-given : goal.returns-clause-given
@@ -19,3 +22,15 @@ returns-clause-given c = λ wanted kept wrapped bytes s.
     subst (λ (d : DeviceState). Gives (record { part = wanted; kept = kept; wrapped = wrapped; bytes = bytes }) d after c.args.read.now c.give.new.read) c.self.view_is
     (subst (λ (p : PartData). Gives (record { part = p; kept = kept; wrapped = wrapped; bytes = bytes }) fields after c.args.read.now c.give.new.read) here
     (given part kept wrapped fields (registers_in c.give.new.self) bytes c.args.read.now c.give.new.read going c.give.ensures.going stands (c.give.ensures.given kept h (length bytes) stands.registers_are)))
+
+pub invariant_of-self : goal.invariant_of-self
+invariant_of-self c =
+    let part : PartData = c.self.inside.part in
+    let p : Past = c.self.invariant.past.past in
+    let fields : DeviceState = device_in c.self.inside in
+    let stands : DeviceStandsFor part p.kept p.wrapped fields p.bytes = own_past fields c.self.invariant.past in
+    let h : History = history_taken part p.kept p.bytes in
+    let going : c.self.inside.registers.stop ≡ None = ap (λ (d : DeviceState). d.registers.stop) c.self.view_is ∙ c.requires.going in
+    let gives : Gives (past_of part p.kept p.wrapped p.bytes) fields (record fields { registers = registers_in c.give.new.self }) c.args.read.now c.give.new.read =
+    given part p.kept p.wrapped fields (registers_in c.give.new.self) p.bytes c.args.read.now c.give.new.read going c.give.ensures.going stands (c.give.ensures.given p.kept h (length p.bytes) stands.registers_are) in
+    record { frames = c.give.ensures.frames; past = record { past = past_of part p.kept p.wrapped p.bytes; has = gives.stands } }

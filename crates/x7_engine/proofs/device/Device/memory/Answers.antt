@@ -7,7 +7,7 @@ use Rattle.x7_engine.proofs.device.Device.memory.Goals as goal
 pub returns-clause-frames : goal.returns-clause-frames
 returns-clause-frames c =
     let fit : AreFramesOf c.args.self.now.part c.self.inside.registers.frames.memory =
-    subst (λ (p : PartData). AreFramesOf p c.self.inside.registers.frames.memory) (ap (λ (d : DeviceState). d.part) c.self.view_is) c.self.invariant.frames_fit in
+    subst (λ (p : PartData). AreFramesOf p c.self.inside.registers.frames.memory) (ap (λ (d : DeviceState). d.part) c.self.view_is) c.self.invariant.frames.frames_fit in
     subst (λ (m : List (List ℕ)). AreFramesOf c.args.self.now.part m) (sym c.memory.ensures) fit
 
 pub returns-clause-shows : goal.returns-clause-shows

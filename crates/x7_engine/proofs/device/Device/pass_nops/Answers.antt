@@ -4,12 +4,14 @@ use Rattle.x7_packets.specs.Cutting.{between}
 use Rattle.x7_packets.specs.History.{history_of}
 use Rattle.x7_packets.specs.Nops.{Idles}
 use Rattle.x7_part.specs.Part.{PartData}
+use Rattle.x7_flow.specs.Standing.{FramesFit}
 use Rattle.x7_engine.specs.declared.kept.Kept.{Kept}
 use Rattle.x7_engine.specs.Standing.{DeviceStandsFor, DeviceState, due_count, registers_in}
-use Rattle.x7_engine.specs.Past.{GivesNone, TakesJust}
+use Rattle.x7_engine.specs.Past.{GivesNone, HasSomePast, OfPast, TakesJust}
 use Rattle.x7_engine.specs.State.{reads_of}
 use Rattle.x7_engine.proofs.DeviceLemmas.{between_front, length_between}
 use Rattle.x7_engine.proofs.PassLemmas.{passed, told_same}
+use Rattle.x7_engine.proofs.PastLemmas.{past_later}
 use Rattle.x7_engine.proofs.UntilLemmas.{quiet_commands}
 use Rattle.x7_engine.proofs.device.Device.pass_nops.Goals as goal
 
@@ -73,10 +75,19 @@ silent_after c = λ part kept wrapped bytes s.
     (subst (λ (p : PartData). reads_of p kept (bytes ++ more) ≡ reads_of p kept bytes) here
     (passed_here c kept wrapped bytes (subst (λ (p : PartData). DeviceStandsFor p kept wrapped c.args.self.now bytes) (sym here) s)).1)
 
-pub returns-clause-quiet : goal.returns-clause-quiet
-returns-clause-quiet c = λ part kept wrapped bytes s.
+quiet_after : (c : goal.After-self-2-1) → OfPast c.args.self.now (λ p. history_of (p.bytes ++ between c.args.piece.now c.args.at.now (c.args.at.now + ((4 * c.nop_count-count.result) - c.tick-left.result))) ≡ history_of p.bytes)
+quiet_after c = λ part kept wrapped bytes s.
     let here : c.self.inside.part ≡ part = ap (λ (d : DeviceState). d.part) c.self.view_is ∙ s.part_is in
     (passed_here c kept wrapped bytes (subst (λ (p : PartData). DeviceStandsFor p kept wrapped c.args.self.now bytes) (sym here) s)).2
+
+pub invariant_of-self : goal.invariant_of-self
+invariant_of-self c = record {
+  frames = subst (FramesFit c.self.inside.part) (sym c.tick-left.ensures.frames) c.self.invariant.frames;
+  past = past_later c.args.self.now (device_after c) (between c.args.piece.now c.args.at.now (c.args.at.now + ((4 * c.nop_count-count.result) - c.tick-left.result))) (stands_after c) (subst HasSomePast c.self.view_is c.self.invariant.past);
+}
+
+pub returns-clause-quiet : goal.returns-clause-quiet
+returns-clause-quiet c = quiet_after c
 
 pub returns-clause-turned : goal.returns-clause-turned
 returns-clause-turned c = record {
@@ -89,6 +100,6 @@ returns-clause-turned c = record {
     stands = stands_after c;
     silent = silent_after c;
     commands = λ part kept wrapped bytes s.
-        quiet_commands bytes (between c.args.piece.now c.args.at.now (c.args.at.now + ((4 * c.nop_count-count.result) - c.tick-left.result))) (stands_after c part kept wrapped bytes s).fits (returns-clause-quiet c part kept wrapped bytes s);
+        quiet_commands bytes (between c.args.piece.now c.args.at.now (c.args.at.now + ((4 * c.nop_count-count.result) - c.tick-left.result))) (stands_after c part kept wrapped bytes s).fits (quiet_after c part kept wrapped bytes s);
   };
 }

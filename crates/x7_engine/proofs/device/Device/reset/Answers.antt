@@ -1,15 +1,17 @@
-use Rattle.std.proofs.Common.{[], refl, sym, subst, ap}
+use Rattle.std.proofs.Common.{[], false, refl, sym, subst, ap}
 use Rattle.x7_packets.specs.Reading.{Searching}
 use Rattle.x7_part.specs.Part.{PartData}
 use Rattle.x7_flow.specs.Standing.{FramesFit}
 use Rattle.x7_engine.specs.declared.due.Due.{Due}
-use Rattle.x7_engine.specs.Standing.{DeviceState, due_count, words_left}
+use Rattle.x7_engine.specs.Past.{past_of}
+use Rattle.x7_engine.specs.Standing.{DeviceStandsFor, DeviceState, due_count, registers_in, words_left}
 use Rattle.x7_engine.specs.Stops.{stopped_at}
 use Rattle.x7_engine.proofs.device.Device.reset.Goals as goal
 
-pub returns-clause-stands : goal.returns-clause-stands
-returns-clause-stands c =
-    let fit : FramesFit c.args.self.now.part c.self.inside.registers.frames = subst (λ (p : PartData). FramesFit p c.self.inside.registers.frames) (ap (λ (d : DeviceState). d.part) c.self.view_is) c.self.invariant in
+-- the device that took nothing
+first : (c : goal.After-self-3-1) → DeviceStandsFor c.args.self.now.part c.args.keep false (record { part = c.self.inside.part; cutter = c.new-self-inside.result; registers = registers_in c.reset.new.self; wrapped = false; taken = 0; fed = c.self.inside.fed }) []
+first c =
+    let fit : FramesFit c.args.self.now.part c.self.inside.registers.frames = subst (λ (p : PartData). FramesFit p c.self.inside.registers.frames) (ap (λ (d : DeviceState). d.part) c.self.view_is) c.self.invariant.frames in
     record {
       fits = tt;
       part_is = ap (λ (d : DeviceState). d.part) c.self.view_is;
@@ -21,3 +23,12 @@ returns-clause-stands c =
       due_are = record { given = []; all = sym (ap (λ (d : Due). words_left c.args.self.now.part [] d) c.reset.ensures.none_due) };
       at_rest = λ why q. ap due_count c.reset.ensures.none_due;
     }
+
+pub invariant_of-self : goal.invariant_of-self
+invariant_of-self c = record {
+  frames = c.reset.ensures.frames c.self.inside.part c.self.invariant.frames;
+  past = record { past = past_of c.args.self.now.part c.args.keep false []; has = first c };
+}
+
+pub returns-clause-stands : goal.returns-clause-stands
+returns-clause-stands c = first c

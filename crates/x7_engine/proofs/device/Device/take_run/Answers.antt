@@ -2,11 +2,13 @@ use Rattle.std.proofs.Common.{◌≡◌, ◌+◌, ◌-◌, ◌≤◌, ◌++◌, 
 use Rattle.x7_packets.specs.Cutting.{between}
 use Rattle.x7_part.specs.Part.{PartData}
 use Rattle.x7_engine.specs.declared.kept.Kept.{Kept}
+use Rattle.x7_engine.specs.Past.{HasSomePast}
 use Rattle.x7_engine.specs.Standing.{DeviceStandsFor, DeviceState, IsCutterOf, registers_in, words_left}
 use Rattle.x7_engine.specs.State.{history_taken, reads_of}
 use Rattle.x7_engine.specs.Turns.{TakesTurn}
 use Rattle.x7_engine.proofs.DeviceLemmas.{between_front, holds_run, length_between, told_by, turned}
 use Rattle.x7_engine.proofs.FrameLemmas.{none_due}
+use Rattle.x7_engine.proofs.PastLemmas.{past_later}
 use Rattle.x7_engine.proofs.UntilLemmas.{front_commands, run_commands}
 use Rattle.x7_engine.proofs.device.Device.take_run.Goals as goal
 
@@ -81,6 +83,12 @@ turn_taken c = record {
       front_commands bytes (between piece from at) (between piece from (at - left)) (drop (at - left - from) (between piece from at)) (between_front piece from at left (omega (arith, some, onward)))
       (run_commands c.self.inside.cutter c.cut-run.new.self bytes (between piece from at) cutter.sessions cutter.place c.cut-run.result (length piece - from) cutter.stands
       (c.cut-run.ensures.adds bytes cutter.sessions cutter.place cutter.stands) c.cut-run.ensures.run c.cut-run.ensures.lent));
+}
+
+pub invariant_of-self : goal.invariant_of-self
+invariant_of-self c = record {
+  frames = c.run-left.ensures.frames;
+  past = past_later c.args.self.now (device_after c) (between c.args.piece.now c.args.at.now (c.cut-run.new.at - c.run-left.result)) (turn_taken c).stands (subst HasSomePast c.self.view_is c.self.invariant.past);
 }
 
 pub returns-clause-turned : goal.returns-clause-turned

@@ -2,11 +2,13 @@ use Rattle.std.proofs.Common.{◌≡◌, ◌+◌, ◌++◌, ℕ, Bool, List, ref
 use Rattle.x7_packets.specs.Cutting.{between}
 use Rattle.x7_part.specs.Part.{PartData}
 use Rattle.x7_engine.specs.declared.kept.Kept.{Kept}
+use Rattle.x7_engine.specs.Past.{HasSomePast}
 use Rattle.x7_engine.specs.Standing.{DeviceStandsFor, DeviceState, due_count, registers_in}
 use Rattle.x7_engine.specs.State.{reads_of}
 use Rattle.x7_engine.specs.Turns.{TakesTurn}
 use Rattle.x7_engine.specs.UntilStarted.{CommandsLast}
 use Rattle.x7_engine.proofs.PassLemmas.{told_same}
+use Rattle.x7_engine.proofs.PastLemmas.{past_later}
 use Rattle.x7_engine.proofs.WriteLemmas.{write_at}
 use Rattle.x7_engine.proofs.device.Device.take_write.Goals as goal
 
@@ -49,6 +51,12 @@ turn_taken c = record {
   silent = λ part kept wrapped bytes s.
       told_same part kept c.args.self.now (device_after c) bytes (bytes ++ between c.args.piece.now c.args.at.now (c.args.at.now + 8)) c.requires.none_due (none_due c) (written_here c part kept wrapped bytes s).1;
   commands = λ part kept wrapped bytes s. (written_here c part kept wrapped bytes s).2;
+}
+
+pub invariant_of-self-2 : goal.invariant_of-self-2
+invariant_of-self-2 c = record {
+  frames = c.write_to.ensures.leaves.frames;
+  past = past_later c.args.self.now (device_after c) (between c.args.piece.now c.args.at.now (c.args.at.now + 8)) (turn_taken c).stands (subst HasSomePast c.self.view_is c.self.invariant.past);
 }
 
 pub returns-clause-turned : goal.returns-clause-turned

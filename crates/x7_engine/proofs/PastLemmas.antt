@@ -1,0 +1,58 @@
+-- A device has a past, and goes on from it.
+use Rattle.std.proofs.Common.{◌≡◌, ℕ, Bool, true, List, refl, sym, subst, ap, ◌∙◌}
+use Rattle.x7_part.specs.Part.{PartData}
+use Rattle.x7_engine.specs.declared.kept.Kept.{Kept}
+use Rattle.x7_engine.specs.Past.{HasSomePast, Past, TakesJust, later}
+use Rattle.x7_engine.specs.Standing.{DeviceState, DeviceStandsFor, with_wrap}
+use Rattle.x7_engine.specs.Undo.{AreEqual}
+
+-- the past of a device, by the device's own part
+pub own_past : (d : DeviceState) (s : HasSomePast d) → DeviceStandsFor d.part s.past.kept s.past.wrapped d s.past.bytes
+own_past d s = subst (λ (p : PartData). DeviceStandsFor p s.past.kept s.past.wrapped d s.past.bytes) (sym s.has.part_is) s.has
+
+-- a device that took bytes
+pub past_later : (old new : DeviceState) (more : List ℕ) → TakesJust old new more → HasSomePast old → HasSomePast new
+past_later old new more takes s = record { past = later s.past more; has = takes s.past.part s.past.kept s.past.wrapped s.past.bytes s.has }
+
+-- the count of all bytes fed is in no past
+pub stands_fed : (part : PartData) (kept : Kept) (wrapped : Bool) (d : DeviceState) (bytes : List ℕ) (fed : ℕ) → DeviceStandsFor part kept wrapped d bytes → DeviceStandsFor part kept wrapped (record d { fed = fed }) bytes
+stands_fed part kept wrapped d bytes fed s = record {
+  fits = s.fits;
+  part_is = s.part_is;
+  wrapped_is = s.wrapped_is;
+  taken_is = s.taken_is;
+  stop_is = s.stop_is;
+  registers_are = s.registers_are;
+  cutter_is = s.cutter_is;
+  due_are = s.due_are;
+  at_rest = s.at_rest;
+}
+
+-- the end of the flash is in no stored value but one
+pub stands_wrapped : (part : PartData) (kept : Kept) (wrapped : Bool) (d : DeviceState) (bytes : List ℕ) → DeviceStandsFor part kept wrapped d bytes → DeviceStandsFor part kept true (with_wrap d) bytes
+stands_wrapped part kept wrapped d bytes s = record {
+  fits = s.fits;
+  part_is = s.part_is;
+  wrapped_is = refl;
+  taken_is = s.taken_is;
+  stop_is = s.stop_is;
+  registers_are = s.registers_are;
+  cutter_is = s.cutter_is;
+  due_are = s.due_are;
+  at_rest = s.at_rest;
+}
+
+past_equal : (d e : DeviceState) → AreEqual d e → HasSomePast e → HasSomePast d
+past_equal d e same s =
+    let p : Past = s.past in
+    subst HasSomePast (sym same) (record { past = p; has = stands_fed p.part p.kept p.wrapped e p.bytes d.fed s.has })
+
+-- a device that has the stored values of an old one
+pub past_back : (d e : DeviceState) → d.part ≡ e.part → d.cutter ≡ e.cutter → d.registers ≡ e.registers → d.wrapped ≡ e.wrapped → d.taken ≡ e.taken → HasSomePast e → HasSomePast d
+past_back d e part cutter registers wrapped taken =
+    past_equal d e
+    (ap (λ x. record d { part = x }) part
+    ∙ ap (λ x. record d { part = e.part; cutter = x }) cutter
+    ∙ ap (λ x. record d { part = e.part; cutter = e.cutter; registers = x }) registers
+    ∙ ap (λ x. record d { part = e.part; cutter = e.cutter; registers = e.registers; wrapped = x }) wrapped
+    ∙ ap (λ x. record d { part = e.part; cutter = e.cutter; registers = e.registers; wrapped = e.wrapped; taken = x }) taken)

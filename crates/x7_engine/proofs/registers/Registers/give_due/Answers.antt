@@ -1,0 +1,16 @@
+use Rattle.std.proofs.Common.{ℕ, subst, ap}
+use Rattle.x7_packets.specs.History.{History}
+use Rattle.x7_flow.specs.Standing.{FramesStandFor}
+use Rattle.x7_engine.specs.Standing.{frames_due, frames_history, registers_in}
+use Rattle.x7_engine.proofs.FeedLemmas.{gave_frames}
+use Rattle.x7_engine.proofs.registers.Registers.give_due.Goals as goal
+
+pub give_frames-left-requires-clause-due : goal.give_frames-left-requires-clause-due
+give_frames-left-requires-clause-due c =
+    let h : History = frames_history c.args.self.now.stop c.requires.history.history in
+    record { history = h; stands = subst (λ (k : ℕ). FramesStandFor c.args.part.now c.args.self.now.frames h k) (ap frames_due c.in-Frames.is) c.requires.history.stands.frames.stands }
+
+pub returns-in-Frames-clause-given : goal.returns-in-Frames-clause-given
+returns-in-Frames-clause-given c = λ kept h n s.
+    gave_frames c.args.part.now kept (registers_in c.args.self.now) c.give_frames-left.new.frames h n c.in-Frames.count c.give_frames-left.result c.args.read.now c.give_frames-left.new.read c.requires.going c.in-Frames.is c.give_frames-left.ensures.fewer
+    (c.give_frames-left.ensures.given h) (c.give_frames-left.ensures.stands h) s
