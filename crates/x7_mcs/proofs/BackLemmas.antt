@@ -9,8 +9,8 @@ use Rattle.x7_words.specs.Word.{AreBytes}
 use Rattle.x7_text.specs.Row.{AreFullButLast, rows}
 use Rattle.x7_text.proofs.RowLemmas.{rows_full, rows_joined}
 use Rattle.x7_mcs.specs.Lines.{lines_of}
-use Rattle.x7_mcs.specs.Places.{DataRecord, byte_at, covered, covers, extent, image_of, overlap, unless_covered, with_record}
-use Rattle.x7_mcs.specs.Flash.{Reading, after_lines, flash_in, mcs_of, with_end}
+use Rattle.x7_mcs.specs.Places.{DataRecord, byte_at, covered, covers, extent, records_image, overlap, unless_covered, with_record}
+use Rattle.x7_mcs.specs.Flash.{FlashReading, after_lines, flash_in, mcs_of, with_end}
 use Rattle.x7_mcs.specs.State.{at_base}
 use Rattle.x7_mcs.specs.Text.{base_line, block_start, data_line, mcs_text, row_lines}
 use Rattle.x7_mcs.proofs.PlaceLemmas.{within, end-is}
@@ -66,9 +66,9 @@ front-more xs x done f e h = record {
 
 -- what the text of bytes gives
 pub record Ends (n base : ℕ) (xs : List DataRecord) (text all : List ℕ) : Type 0 where
-  pub reading : Reading
+  pub reading : FlashReading
   pub is : with_end (after_lines n (at_base base false xs) (lines_of text)) ≡ Ok reading
-  pub image : image_of reading.records ≡ all
+  pub image : records_image reading.records ≡ all
 
 pub ends-end : (n base : ℕ) (xs : List DataRecord) (done : List ℕ) → Front xs done → Ends n base xs (codes ":00000001FF\n") done
 ends-end n base xs done f = record {

@@ -3,31 +3,31 @@ use Rattle.std.proofs.Common.{◌≡◌, ℕ, ◌%◌, ◌==◌, Bool, true, fal
 use Rattle.std.proofs.lemmas.List.FromFn.{fill_by_all}
 use Rattle.std.proofs.lemmas.Nat.Bits.{bit_at-zero}
 use Rattle.x7_mcs.specs.Lines.{bare}
-use Rattle.x7_mcs.specs.Places.{DataRecord, byte_at, extent, image_of}
+use Rattle.x7_mcs.specs.Places.{DataRecord, byte_at, extent, records_image}
 use Rattle.x7_mcs.specs.Flash.{after_lines, flash_in, of_no_line, with_end}
-use Rattle.x7_mcs.specs.State.{BodyState, Fails, Holds, Took, at_base, is_marked}
-use Rattle.x7_mcs.specs.McsLines.{HasMcsFault, HasRead, flash_of_lines}
+use Rattle.x7_mcs.specs.State.{McsLinesState, FailsAsReading, HoldsRecords, TookRecords, at_base, is_marked}
+use Rattle.x7_mcs.specs.McsLines.{HasMcsFault, HasReadRecords, flash_of_lines}
 use Rattle.x7_mcs.specs.declared.fault.McsFault.{McsFault}
 use Rattle.x7_mcs.specs.declared.fault.McsFault.TheVariants as fault
 
 no-mark : (p : ℕ) → is_marked [] p ≡ false
 no-mark p = ap (λ (v : ℕ). v == 1) (bit_at-zero (p % 16))
 
-pub nothing-read : (b : BodyState) → b.base ≡ 0 → b.ended ≡ false → b.bytes ≡ [] → b.marks ≡ [] → HasRead b []
+pub nothing-read : (b : McsLinesState) → b.base ≡ 0 → b.ended ≡ false → b.bytes ≡ [] → b.marks ≡ [] → HasReadRecords b []
 nothing-read b base ended e f = record { records = []; is = rw (base, ended) refl; holds = rw (e, f) (record { long = refl; at = λ p. refl; marked = λ p. no-mark p }) }
 
-image-held : (xs : List DataRecord) (bytes marks : List ℕ) → Holds xs bytes marks → bytes ≡ image_of xs
+image-held : (xs : List DataRecord) (bytes marks : List ℕ) → HoldsRecords xs bytes marks → bytes ≡ records_image xs
 image-held xs bytes marks h = fill_by_all (byte_at xs) bytes (extent xs) 255 h.long (λ k l. h.at k)
 
 -- the lines of a text came to this
 module _ (lines : List (List ℕ)) where
-  pub gives-bytes : (base : ℕ) (ended : Bool) (bytes marks : List ℕ) → Took (after_lines 1 of_no_line (bare lines)) base ended bytes marks → ended ≡ true → flash_of_lines lines ≡ Ok bytes
+  pub gives-bytes : (base : ℕ) (ended : Bool) (bytes marks : List ℕ) → TookRecords (after_lines 1 of_no_line (bare lines)) base ended bytes marks → ended ≡ true → flash_of_lines lines ≡ Ok bytes
   gives-bytes base ended bytes marks t e =
       ap (λ r. flash_in (with_end r)) t.is ∙ ap (λ (b : Bool). flash_in (if b then Ok (at_base base ended t.records) else Err fault.NoEnd)) e ∙ ap Ok (sym (image-held t.records bytes marks t.holds))
 
-  pub gives-no-end : (base : ℕ) (ended : Bool) (bytes marks : List ℕ) → Took (after_lines 1 of_no_line (bare lines)) base ended bytes marks → ended ≡ false → flash_of_lines lines ≡ Err fault.NoEnd
+  pub gives-no-end : (base : ℕ) (ended : Bool) (bytes marks : List ℕ) → TookRecords (after_lines 1 of_no_line (bare lines)) base ended bytes marks → ended ≡ false → flash_of_lines lines ≡ Err fault.NoEnd
   gives-no-end base ended bytes marks t e = ap (λ r. flash_in (with_end r)) t.is ∙ ap (λ (b : Bool). flash_in (if b then Ok (at_base base ended t.records) else Err fault.NoEnd)) e
 
-  pub gives-fault : (f : McsFault) → Fails (after_lines 1 of_no_line (bare lines)) f → HasMcsFault f lines
+  pub gives-fault : (f : McsFault) → FailsAsReading (after_lines 1 of_no_line (bare lines)) f → HasMcsFault f lines
   gives-fault f (inl h) = inl h.0
   gives-fault f (inr h) = inr (ap (λ r. flash_in (with_end r)) h)

@@ -5,9 +5,9 @@ use Rattle.std.proofs.lemmas.List.{take-append-le}
 use Rattle.std.proofs.lemmas.List.FromFn.{get_or-map-range_with_len, length-map-range_with_len}
 use Rattle.x7_text.specs.Row.{rows}
 use Rattle.x7_mcs.specs.Lines.{lines_of}
-use Rattle.x7_mcs.specs.Record.{Meaning, address_of, count_of, data_of, got_of, meaning_by_type, meaning_of, pairs, type_of, value_of, wanted_of}
-use Rattle.x7_mcs.specs.Places.{AreApart, DataRecord, byte_at, covered, covers, end_of, extent, image_of, overlap, unless_covered, with_record}
-use Rattle.x7_mcs.specs.Flash.{Reading, after_bytes, after_line, after_lines, after_meaning, and_then, flash_in, mcs_of, of_no_line, reading_of, with_end, with_records}
+use Rattle.x7_mcs.specs.Record.{Meaning, record_address, record_count, record_data, sum_found, meaning_by_type, meaning_of, pairs, record_type, base_value, sum_wanted}
+use Rattle.x7_mcs.specs.Places.{HaveNoOverlap, DataRecord, byte_at, covered, covers, record_end, extent, records_image, overlap, unless_covered, with_record}
+use Rattle.x7_mcs.specs.Flash.{FlashReading, after_bytes, after_line, after_lines, after_meaning, and_then, flash_in, mcs_of, of_no_line, flash_reading, with_end, with_records}
 use Rattle.x7_mcs.specs.Text.{block_start, data_line, row_lines}
 use Rattle.x7_mcs.specs.declared.fault.McsFault.{McsFault}
 use Rattle.x7_mcs.specs.declared.fault.McsFault.TheVariants as fault
@@ -16,15 +16,15 @@ use Rattle.x7_mcs.proofs.RowsLemmas.{first_of_16}
 
 -- ---- lines in turn
 
-then-again : (r : Result Reading McsFault) (f g : Reading → Result Reading McsFault) → and_then (and_then r f) g ≡ and_then r (λ s. and_then (f s) g)
+then-again : (r : Result FlashReading McsFault) (f g : FlashReading → Result FlashReading McsFault) → and_then (and_then r f) g ≡ and_then r (λ s. and_then (f s) g)
 then-again (Err e) f g = refl
 then-again (Ok s) f g = refl
 
-then-same : (r : Result Reading McsFault) (f g : Reading → Result Reading McsFault) → ((s : Reading) → f s ≡ g s) → and_then r f ≡ and_then r g
+then-same : (r : Result FlashReading McsFault) (f g : FlashReading → Result FlashReading McsFault) → ((s : FlashReading) → f s ≡ g s) → and_then r f ≡ and_then r g
 then-same (Err e) f g h = refl
 then-same (Ok s) f g h = h s
 
-pub in-turn : (first : List (List ℕ)) (n : ℕ) (r : Reading) (others : List (List ℕ)) → after_lines n r (first ++ others) ≡ and_then (after_lines n r first) (λ s. after_lines (n + length first) s others)
+pub in-turn : (first : List (List ℕ)) (n : ℕ) (r : FlashReading) (others : List (List ℕ)) → after_lines n r (first ++ others) ≡ and_then (after_lines n r first) (λ s. after_lines (n + length first) s others)
 in-turn [] n r others = let e : n ≡ n + length {A = List ℕ} [] = omega arith in ap (λ (k : ℕ). after_lines k r others) e
 in-turn (t ∷ ts) n r others =
     let e : n + 1 + length ts ≡ n + length (t ∷ ts) = omega arith in
@@ -33,10 +33,10 @@ in-turn (t ∷ ts) n r others =
 
 -- ---- bytes by place
 
-pub image-long : (xs : List DataRecord) → length (image_of xs) ≡ extent xs
+pub image-long : (xs : List DataRecord) → length (records_image xs) ≡ extent xs
 image-long xs = length-map-range_with_len (byte_at xs) 0 (extent xs)
 
-pub image-at : (xs : List DataRecord) (p : ℕ) → p < extent xs → get_or (image_of xs) p 255 ≡ byte_at xs p
+pub image-at : (xs : List DataRecord) (p : ℕ) → p < extent xs → get_or (records_image xs) p 255 ≡ byte_at xs p
 image-at xs p h = get_or-map-range_with_len (byte_at xs) 0 (extent xs) p p 255 h (omega arith)
 
 or-true : (a b : Bool) → b ≡ true → (a || b) ≡ true
@@ -55,7 +55,7 @@ covered-there : (before after : List DataRecord) (x : DataRecord) (p : ℕ) → 
 covered-there [] after x p c = left-true (covers x p) (covered after p) c
 covered-there (y ∷ ys) after x p c = or-true (covers y p) (covered (ys ++ x ∷ after) p) (covered-there ys after x p c)
 
-pub byte-there : (before after : List DataRecord) (x : DataRecord) (p : ℕ) → AreApart (before ++ x ∷ after) → covers x p ≡ true → byte_at (before ++ x ∷ after) p ≡ get_or x.bytes (p - x.place) 255
+pub byte-there : (before after : List DataRecord) (x : DataRecord) (p : ℕ) → HaveNoOverlap (before ++ x ∷ after) → covers x p ≡ true → byte_at (before ++ x ∷ after) p ≡ get_or x.bytes (p - x.place) 255
 byte-there [] after x p a c = ap (λ (b : Bool). if b then get_or x.bytes (p - x.place) 255 else byte_at after p) c
 byte-there (y ∷ ys) after x p a c = by (covers y p) refl (byte-there ys after x p a.1 c)
   where
@@ -72,60 +72,60 @@ byte-free (x ∷ xs) p c = let b = or-false (covers x p) (covered xs p) c in ap 
 within-record : (x : DataRecord) (p : ℕ) → covers x p ≡ true → (x.place ≤ p) × (p < x.place + length x.bytes)
 within-record x p e = grind (arith, common_steps)
 
-apart-if : (o : Option ℕ) (xs ys : List DataRecord) (x : DataRecord) → o ≡ overlap xs x.place (length x.bytes) → unless_covered o (x ∷ xs) ≡ Ok ys → AreApart xs → AreApart ys
+apart-if : (o : Option ℕ) (xs ys : List DataRecord) (x : DataRecord) → o ≡ overlap xs x.place (length x.bytes) → unless_covered o (x ∷ xs) ≡ Ok ys → HaveNoOverlap xs → HaveNoOverlap ys
 apart-if (Some q) xs ys x e f a = absurd cc
 apart-if None xs ys x e f a =
     let same : x ∷ xs ≡ ys = cc in
-    subst AreApart same (λ p c. (let w = within-record x p c in none-is xs x.place (length x.bytes) (sym e) p w.0 w.1), a)
+    subst HaveNoOverlap same (λ p c. (let w = within-record x p c in none-is xs x.place (length x.bytes) (sym e) p w.0 w.1), a)
 
-apart-with : (b : Bool) (n : ℕ) (xs ys : List DataRecord) (x : DataRecord) → (if b then Err (fault.TooLarge n) else unless_covered (overlap xs x.place (length x.bytes)) (x ∷ xs)) ≡ Ok ys → AreApart xs → AreApart ys
+apart-with : (b : Bool) (n : ℕ) (xs ys : List DataRecord) (x : DataRecord) → (if b then Err (fault.TooLarge n) else unless_covered (overlap xs x.place (length x.bytes)) (x ∷ xs)) ≡ Ok ys → HaveNoOverlap xs → HaveNoOverlap ys
 apart-with true n xs ys x f a = absurd cc
 apart-with false n xs ys x f a = apart-if (overlap xs x.place (length x.bytes)) xs ys x refl f a
 
-apart-records : (q : Result (List DataRecord) McsFault) (r s : Reading) → with_records r q ≡ Ok s → ((ys : List DataRecord) → q ≡ Ok ys → AreApart ys) → AreApart s.records
+apart-records : (q : Result (List DataRecord) McsFault) (r s : FlashReading) → with_records r q ≡ Ok s → ((ys : List DataRecord) → q ≡ Ok ys → HaveNoOverlap ys) → HaveNoOverlap s.records
 apart-records (Err f) r s e h = absurd cc
 apart-records (Ok ys) r s e h = let same : record { base = r.base; ended = r.ended; records = ys } ≡ s = cc in ap-apart same (h ys refl)
   where
-    ap-apart : {t u : Reading} → t ≡ u → AreApart t.records → AreApart u.records
-    ap-apart p a = subst (λ (v : Reading). AreApart v.records) p a
+    ap-apart : {t u : FlashReading} → t ≡ u → HaveNoOverlap t.records → HaveNoOverlap u.records
+    ap-apart p a = subst (λ (v : FlashReading). HaveNoOverlap v.records) p a
 
-apart-meaning : (m : Result Meaning McsFault) (n : ℕ) (r s : Reading) (bs : List ℕ) → after_meaning n r bs m ≡ Ok s → AreApart r.records → AreApart s.records
+apart-meaning : (m : Result Meaning McsFault) (n : ℕ) (r s : FlashReading) (bs : List ℕ) → after_meaning n r bs m ≡ Ok s → HaveNoOverlap r.records → HaveNoOverlap s.records
 apart-meaning (Err f) n r s bs e a = absurd cc
-apart-meaning (Ok Meaning.Start) n r s bs e a = let same : r ≡ s = cc in subst (λ (v : Reading). AreApart v.records) same a
-apart-meaning (Ok Meaning.End) n r s bs e a = let same : record { base = r.base; ended = true; records = r.records } ≡ s = cc in subst (λ (v : Reading). AreApart v.records) same a
-apart-meaning (Ok (Meaning.Base base)) n r s bs e a = let same : record { base = base; ended = r.ended; records = r.records } ≡ s = cc in subst (λ (v : Reading). AreApart v.records) same a
-apart-meaning (Ok (Meaning.Data address)) n r s bs e a = let x : DataRecord = record { place = r.base + address; bytes = data_of bs } in
-    apart-records (with_record n r.records x) r s e (λ ys f. apart-with (nat_lt (2 ^ 27) (end_of x)) n r.records ys x f a)
+apart-meaning (Ok Meaning.Start) n r s bs e a = let same : r ≡ s = cc in subst (λ (v : FlashReading). HaveNoOverlap v.records) same a
+apart-meaning (Ok Meaning.End) n r s bs e a = let same : record { base = r.base; ended = true; records = r.records } ≡ s = cc in subst (λ (v : FlashReading). HaveNoOverlap v.records) same a
+apart-meaning (Ok (Meaning.Base base)) n r s bs e a = let same : record { base = base; ended = r.ended; records = r.records } ≡ s = cc in subst (λ (v : FlashReading). HaveNoOverlap v.records) same a
+apart-meaning (Ok (Meaning.Data address)) n r s bs e a = let x : DataRecord = record { place = r.base + address; bytes = record_data bs } in
+    apart-records (with_record n r.records x) r s e (λ ys f. apart-with (nat_lt (2 ^ 27) (record_end x)) n r.records ys x f a)
 
-apart-bytes : (o : Option (List ℕ)) (n : ℕ) (r s : Reading) → after_bytes n r o ≡ Ok s → AreApart r.records → AreApart s.records
+apart-bytes : (o : Option (List ℕ)) (n : ℕ) (r s : FlashReading) → after_bytes n r o ≡ Ok s → HaveNoOverlap r.records → HaveNoOverlap s.records
 apart-bytes None n r s e a = absurd cc
 apart-bytes (Some bs) n r s e a = apart-meaning (meaning_of n r.ended bs) n r s bs e a
 
-apart-colon : (b : Bool) (o : Option (List ℕ)) (n : ℕ) (r s : Reading) → (if b then after_bytes n r o else Err (fault.Line n)) ≡ Ok s → AreApart r.records → AreApart s.records
+apart-colon : (b : Bool) (o : Option (List ℕ)) (n : ℕ) (r s : FlashReading) → (if b then after_bytes n r o else Err (fault.Line n)) ≡ Ok s → HaveNoOverlap r.records → HaveNoOverlap s.records
 apart-colon true o n r s e a = apart-bytes o n r s e a
 apart-colon false o n r s e a = absurd cc
 
-apart-line : (t : List ℕ) (n : ℕ) (r s : Reading) → after_line n r t ≡ Ok s → AreApart r.records → AreApart s.records
-apart-line [] n r s e a = let same : r ≡ s = cc in subst (λ (v : Reading). AreApart v.records) same a
+apart-line : (t : List ℕ) (n : ℕ) (r s : FlashReading) → after_line n r t ≡ Ok s → HaveNoOverlap r.records → HaveNoOverlap s.records
+apart-line [] n r s e a = let same : r ≡ s = cc in subst (λ (v : FlashReading). HaveNoOverlap v.records) same a
 apart-line (c ∷ cs) n r s e a = apart-colon (c == 58) (pairs cs) n r s e a
 
-apart-then : (q : Result Reading McsFault) (more : Reading → Result Reading McsFault) (s : Reading) → and_then q more ≡ Ok s → ((t : Reading) → q ≡ Ok t → more t ≡ Ok s → AreApart s.records) → AreApart s.records
+apart-then : (q : Result FlashReading McsFault) (more : FlashReading → Result FlashReading McsFault) (s : FlashReading) → and_then q more ≡ Ok s → ((t : FlashReading) → q ≡ Ok t → more t ≡ Ok s → HaveNoOverlap s.records) → HaveNoOverlap s.records
 apart-then (Err f) more s e h = absurd cc
 apart-then (Ok t) more s e h = h t refl e
 
-apart-lines : (ts : List (List ℕ)) (n : ℕ) (r s : Reading) → after_lines n r ts ≡ Ok s → AreApart r.records → AreApart s.records
-apart-lines [] n r s e a = let same : r ≡ s = cc in subst (λ (v : Reading). AreApart v.records) same a
+apart-lines : (ts : List (List ℕ)) (n : ℕ) (r s : FlashReading) → after_lines n r ts ≡ Ok s → HaveNoOverlap r.records → HaveNoOverlap s.records
+apart-lines [] n r s e a = let same : r ≡ s = cc in subst (λ (v : FlashReading). HaveNoOverlap v.records) same a
 apart-lines (t ∷ ts) n r s e a = apart-then (after_line n r t) (λ q. after_lines (n + 1) q ts) s e (λ q f g. apart-lines ts (n + 1) q s g (apart-line t n r q f a))
 
-end-if : (b : Bool) (r s : Reading) → (if b then Ok r else Err fault.NoEnd) ≡ Ok s → r ≡ s
+end-if : (b : Bool) (r s : FlashReading) → (if b then Ok r else Err fault.NoEnd) ≡ Ok s → r ≡ s
 end-if true r s e = cc
 end-if false r s e = absurd cc
 
-apart-end : (q : Result Reading McsFault) (s : Reading) → with_end q ≡ Ok s → q ≡ Ok s
+apart-end : (q : Result FlashReading McsFault) (s : FlashReading) → with_end q ≡ Ok s → q ≡ Ok s
 apart-end (Err f) s e = absurd cc
 apart-end (Ok r) s e = ap Ok (end-if r.ended r s e)
 
-pub records-apart : (text : List ℕ) (r : Reading) → reading_of text ≡ Ok r → AreApart r.records
+pub records-apart : (text : List ℕ) (r : FlashReading) → flash_reading text ≡ Ok r → HaveNoOverlap r.records
 records-apart text r e = apart-lines (lines_of text) 1 of_no_line r (apart-end (after_lines 1 of_no_line (lines_of text)) r e) tt
 
 -- ---- rows in parts
@@ -187,16 +187,16 @@ told-line n e = absurd cc
 
 told-type : (n : ℕ) (bs : List ℕ) → Told (meaning_by_type n bs)
 told-type n bs =
-    told-if-ok (type_of bs == 0 && nat_le (address_of bs + count_of bs) 65536) (Meaning.Data (address_of bs)) _
-    (told-if-ok (type_of bs == 1 && count_of bs == 0) Meaning.End _
-    (told-if-ok (type_of bs == 2 && count_of bs == 2) (Meaning.Base (16 * value_of bs)) _
-    (told-if-ok (type_of bs == 4 && count_of bs == 2) (Meaning.Base (65536 * value_of bs)) _
-    (told-if-ok ((type_of bs == 3 || type_of bs == 5) && count_of bs == 4) Meaning.Start (Err (fault.Line n)) (told-line n)))))
+    told-if-ok (record_type bs == 0 && nat_le (record_address bs + record_count bs) 65536) (Meaning.Data (record_address bs)) _
+    (told-if-ok (record_type bs == 1 && record_count bs == 0) Meaning.End _
+    (told-if-ok (record_type bs == 2 && record_count bs == 2) (Meaning.Base (16 * base_value bs)) _
+    (told-if-ok (record_type bs == 4 && record_count bs == 2) (Meaning.Base (65536 * base_value bs)) _
+    (told-if-ok ((record_type bs == 3 || record_type bs == 5) && record_count bs == 4) Meaning.Start (Err (fault.Line n)) (told-line n)))))
 
 told-meaning : (n : ℕ) (ended : Bool) (bs : List ℕ) → Told (meaning_of n ended bs)
 told-meaning n ended bs =
-    told-if-err (not (count_of bs + 5 == length bs)) (fault.Line n) _ (λ e. absurd cc)
-    (told-if-err (not (wanted_of bs == got_of bs)) (fault.Sum n (wanted_of bs) (got_of bs)) _ (λ e. absurd cc) (told-if-err ended (fault.Line n) (meaning_by_type n bs) (λ e. absurd cc) (told-type n bs)))
+    told-if-err (not (record_count bs + 5 == length bs)) (fault.Line n) _ (λ e. absurd cc)
+    (told-if-err (not (sum_wanted bs == sum_found bs)) (fault.Sum n (sum_wanted bs) (sum_found bs)) _ (λ e. absurd cc) (told-if-err ended (fault.Line n) (meaning_by_type n bs) (λ e. absurd cc) (told-type n bs)))
 
 told-covered : (o : Option ℕ) (xs : List DataRecord) → Told (unless_covered o xs)
 told-covered (Some q) xs e = absurd cc
@@ -206,44 +206,44 @@ told-large : (b : Bool) (n : ℕ) (o : Option ℕ) (xs : List DataRecord) → To
 told-large true n o xs e = absurd cc
 told-large false n o xs e = told-covered o xs e
 
-told-records : (r : Reading) (q : Result (List DataRecord) McsFault) → Told q → Told (with_records r q)
+told-records : (r : FlashReading) (q : Result (List DataRecord) McsFault) → Told q → Told (with_records r q)
 told-records r (Err f) h e = h (let s : Err f ≡ Err fault.NoMemory = cc in s)
 told-records r (Ok xs) h e = absurd cc
 
-told-after : (m : Result Meaning McsFault) (n : ℕ) (r : Reading) (bs : List ℕ) → Told m → Told (after_meaning n r bs m)
+told-after : (m : Result Meaning McsFault) (n : ℕ) (r : FlashReading) (bs : List ℕ) → Told m → Told (after_meaning n r bs m)
 told-after (Err f) n r bs h e = h (let s : Err f ≡ Err fault.NoMemory = cc in s)
 told-after (Ok Meaning.Start) n r bs h e = absurd cc
 told-after (Ok Meaning.End) n r bs h e = absurd cc
 told-after (Ok (Meaning.Base base)) n r bs h e = absurd cc
 told-after (Ok (Meaning.Data address)) n r bs h e =
-    let x : DataRecord = record { place = r.base + address; bytes = data_of bs } in
-    told-records r (with_record n r.records x) (told-large (nat_lt (2 ^ 27) (end_of x)) n (overlap r.records x.place (length x.bytes)) (x ∷ r.records)) e
+    let x : DataRecord = record { place = r.base + address; bytes = record_data bs } in
+    told-records r (with_record n r.records x) (told-large (nat_lt (2 ^ 27) (record_end x)) n (overlap r.records x.place (length x.bytes)) (x ∷ r.records)) e
 
-told-bytes : (o : Option (List ℕ)) (n : ℕ) (r : Reading) → Told (after_bytes n r o)
+told-bytes : (o : Option (List ℕ)) (n : ℕ) (r : FlashReading) → Told (after_bytes n r o)
 told-bytes None n r e = absurd cc
 told-bytes (Some bs) n r e = told-after (meaning_of n r.ended bs) n r bs (told-meaning n r.ended bs) e
 
-told-colon : (b : Bool) (o : Option (List ℕ)) (n : ℕ) (r : Reading) → Told (if b then after_bytes n r o else Err (fault.Line n))
+told-colon : (b : Bool) (o : Option (List ℕ)) (n : ℕ) (r : FlashReading) → Told (if b then after_bytes n r o else Err (fault.Line n))
 told-colon true o n r e = told-bytes o n r e
 told-colon false o n r e = absurd cc
 
-pub told-one : (t : List ℕ) (n : ℕ) (r : Reading) → Told (after_line n r t)
+pub told-one : (t : List ℕ) (n : ℕ) (r : FlashReading) → Told (after_line n r t)
 told-one [] n r e = absurd cc
 told-one (c ∷ cs) n r e = told-colon (c == 58) (pairs cs) n r e
 
-told-then : (q : Result Reading McsFault) (more : Reading → Result Reading McsFault) → Told q → ((s : Reading) → Told (more s)) → Told (and_then q more)
+told-then : (q : Result FlashReading McsFault) (more : FlashReading → Result FlashReading McsFault) → Told q → ((s : FlashReading) → Told (more s)) → Told (and_then q more)
 told-then (Err f) more h k e = h (let s : Err f ≡ Err fault.NoMemory = cc in s)
 told-then (Ok s) more h k e = k s e
 
-told-lines : (ts : List (List ℕ)) (n : ℕ) (r : Reading) → Told (after_lines n r ts)
+told-lines : (ts : List (List ℕ)) (n : ℕ) (r : FlashReading) → Told (after_lines n r ts)
 told-lines [] n r e = absurd cc
 told-lines (t ∷ ts) n r e = told-then (after_line n r t) (λ s. after_lines (n + 1) s ts) (told-one t n r) (λ s. told-lines ts (n + 1) s) e
 
-told-flash : (b : Bool) (r : Reading) → Told (flash_in (if b then Ok r else Err fault.NoEnd))
+told-flash : (b : Bool) (r : FlashReading) → Told (flash_in (if b then Ok r else Err fault.NoEnd))
 told-flash true r e = absurd cc
 told-flash false r e = absurd cc
 
-told-end : (q : Result Reading McsFault) → Told q → Told (flash_in (with_end q))
+told-end : (q : Result FlashReading McsFault) → Told q → Told (flash_in (with_end q))
 told-end (Err f) h e = h (let s : Err f ≡ Err fault.NoMemory = cc in s)
 told-end (Ok r) h e = told-flash r.ended r e
 

@@ -2,8 +2,8 @@
 use Rattle.std.proofs.Common.{◌≡◌, ◌==◌, ◌&&◌, ℕ, ◌+◌, ◌-◌, ◌*◌, ◌%◌, ◌<◌, ◌≤◌, nat_le, not, Bool, true, false, if◌then◌else◌, List, [], ◌∷◌, Option, None, Some, Err, length, drop, get_or, refl, ap, sym, ◌∙◌, arith}
 use Rattle.std.proofs.lemmas.Bool.{and_parts, leb-true}
 use Rattle.std.proofs.lemmas.Grind.{common_steps}
-use Rattle.x7_mcs.specs.Record.{byte_of, count_of, digit_of, got_of, led, meaning_by_type, pairs, wanted_of}
-use Rattle.x7_mcs.specs.Flash.{Reading, after_bytes, after_line, after_meaning}
+use Rattle.x7_mcs.specs.Record.{byte_of, record_count, digit_of, sum_found, led, meaning_by_type, pairs, sum_wanted}
+use Rattle.x7_mcs.specs.Flash.{FlashReading, after_bytes, after_line, after_meaning}
 use Rattle.x7_mcs.specs.declared.fault.McsFault.TheVariants as fault
 
 digit-by : (a b d : Bool) (c n : ℕ) → (a ≡ true → c ≤ 57) → (b ≡ true → c ≤ 70) → (d ≡ true → c ≤ 102) → (if a then Some (c - 48) else if b then Some (c - 55) else if d then Some (c - 87) else None) ≡ Some n → n < 16
@@ -39,7 +39,7 @@ pairs-long [] bs e = let s : [] ≡ bs = cc in let f : length {A = ℕ} [] ≡ l
 pairs-long (a ∷ []) bs e = absurd cc
 pairs-long (a ∷ b ∷ cs) bs e = let k : 2 * length bs ≡ length cs + 2 = led-length (byte_of (digit_of a) (digit_of b)) (pairs cs) bs (length cs) e (λ ys f. pairs-long cs ys f) in omega (arith, k)
 
-count-small : (cs bs : List ℕ) → pairs cs ≡ Some bs → count_of bs < 256
+count-small : (cs bs : List ℕ) → pairs cs ≡ Some bs → record_count bs < 256
 count-small [] bs e = let s : [] ≡ bs = cc in let f : 0 ≡ get_or bs 0 0 = ap (λ t. get_or t 0 0) s in omega (arith, f)
 count-small (a ∷ []) bs e = absurd cc
 count-small (a ∷ b ∷ cs) bs e = led-first (byte_of (digit_of a) (digit_of b)) (pairs cs) bs e (λ x f. byte-small (digit_of a) (digit_of b) x f (digit-small a) (digit-small b))
@@ -47,32 +47,32 @@ count-small (a ∷ b ∷ cs) bs e = led-first (byte_of (digit_of a) (digit_of b)
 differ : (a b : ℕ) → a < b → (a == b) ≡ false
 differ a b h = grind (arith, common_steps)
 
-long-by : (o : Option (List ℕ)) (n : ℕ) (r : Reading) (digits : List ℕ) → pairs digits ≡ o → 520 < length digits → after_bytes n r o ≡ Err (fault.Line n)
+long-by : (o : Option (List ℕ)) (n : ℕ) (r : FlashReading) (digits : List ℕ) → pairs digits ≡ o → 520 < length digits → after_bytes n r o ≡ Err (fault.Line n)
 long-by None n r digits e h = refl
 long-by (Some bs) n r digits e h =
     let long : 2 * length bs ≡ length digits = pairs-long digits bs e in
-    let small : count_of bs < 256 = count-small digits bs e in
-    ap (λ (b : Bool). after_meaning n r bs (if not b then Err (fault.Line n) else if not (wanted_of bs == got_of bs) then Err (fault.Sum n (wanted_of bs) (got_of bs)) else if r.ended then Err (fault.Line n) else meaning_by_type n bs))
-    (differ (count_of bs + 5) (length bs) (omega (arith, long, small)))
+    let small : record_count bs < 256 = count-small digits bs e in
+    ap (λ (b : Bool). after_meaning n r bs (if not b then Err (fault.Line n) else if not (sum_wanted bs == sum_found bs) then Err (fault.Sum n (sum_wanted bs) (sum_found bs)) else if r.ended then Err (fault.Line n) else meaning_by_type n bs))
+    (differ (record_count bs + 5) (length bs) (omega (arith, long, small)))
 
-too-long : (n : ℕ) (r : Reading) (digits : List ℕ) → 520 < length digits → after_bytes n r (pairs digits) ≡ Err (fault.Line n)
+too-long : (n : ℕ) (r : FlashReading) (digits : List ℕ) → 520 < length digits → after_bytes n r (pairs digits) ≡ Err (fault.Line n)
 too-long n r digits h = long-by (pairs digits) n r digits refl h
 
 same : (c : ℕ) → c ≡ 58 → (c == 58) ≡ true
 same c e = grind (arith, common_steps)
 
 -- a line of `:` and digits whose bytes are at fault
-colon-line : (n : ℕ) (r : Reading) (line digits : List ℕ) → get_or line 0 0 ≡ 58 → digits ≡ drop 1 line → 0 < length digits → after_bytes n r (pairs digits) ≡ Err (fault.Line n) → after_line n r line ≡ Err (fault.Line n)
+colon-line : (n : ℕ) (r : FlashReading) (line digits : List ℕ) → get_or line 0 0 ≡ 58 → digits ≡ drop 1 line → 0 < length digits → after_bytes n r (pairs digits) ≡ Err (fault.Line n) → after_line n r line ≡ Err (fault.Line n)
 colon-line n r [] digits e f h bad = absurd (omega (arith, h, ap length f))
 colon-line n r (c ∷ cs) digits e f h bad = ap (λ (b : Bool). if b then after_bytes n r (pairs cs) else Err (fault.Line n)) (same c e) ∙ ap (λ (t : List ℕ). after_bytes n r (pairs t)) (sym f) ∙ bad
 
-pub long-line : (n : ℕ) (r : Reading) (line digits : List ℕ) → get_or line 0 0 ≡ 58 → digits ≡ drop 1 line → 520 < length digits → after_line n r line ≡ Err (fault.Line n)
+pub long-line : (n : ℕ) (r : FlashReading) (line digits : List ℕ) → get_or line 0 0 ≡ 58 → digits ≡ drop 1 line → 520 < length digits → after_line n r line ≡ Err (fault.Line n)
 long-line n r line digits e f h = colon-line n r line digits e f (omega (arith, h)) (too-long n r digits h)
 
 -- an odd count of digits is no pairs
-odd-by : (o : Option (List ℕ)) (n : ℕ) (r : Reading) (digits : List ℕ) → pairs digits ≡ o → length digits % 2 ≡ 1 → after_bytes n r o ≡ Err (fault.Line n)
+odd-by : (o : Option (List ℕ)) (n : ℕ) (r : FlashReading) (digits : List ℕ) → pairs digits ≡ o → length digits % 2 ≡ 1 → after_bytes n r o ≡ Err (fault.Line n)
 odd-by None n r digits e h = refl
 odd-by (Some bs) n r digits e h = absurd (omega (arith, pairs-long digits bs e, h))
 
-pub odd-line : (n : ℕ) (r : Reading) (line digits : List ℕ) → get_or line 0 0 ≡ 58 → digits ≡ drop 1 line → length digits % 2 ≡ 1 → after_line n r line ≡ Err (fault.Line n)
+pub odd-line : (n : ℕ) (r : FlashReading) (line digits : List ℕ) → get_or line 0 0 ≡ 58 → digits ≡ drop 1 line → length digits % 2 ≡ 1 → after_line n r line ≡ Err (fault.Line n)
 odd-line n r line digits e f h = colon-line n r line digits e f (omega (arith, h)) (odd-by (pairs digits) n r digits refl h)

@@ -7,12 +7,12 @@ use Rattle.x7_text.specs.Digits.{hex_byte}
 use Rattle.x7_text.specs.Lines.{has_no_end, split}
 use Rattle.x7_text.proofs.PieceLemmas.{hex-free}
 use Rattle.x7_text.proofs.SplitLemmas.{split-line, split-some}
-use Rattle.x7_mcs.specs.Flash.{Reading, after_data, after_line, after_lines, and_then, of_no_line}
+use Rattle.x7_mcs.specs.Flash.{FlashReading, after_data, after_line, after_lines, and_then, of_no_line}
 use Rattle.x7_mcs.specs.Lines.{bare, lines_of, without_return}
 use Rattle.x7_mcs.specs.Places.{DataRecord}
-use Rattle.x7_mcs.specs.McsLines.{AreGoodWith, HasMcsFault, HasRead, flash_of_lines}
+use Rattle.x7_mcs.specs.McsLines.{AreGoodWith, HasMcsFault, HasReadRecords, flash_of_lines}
 use Rattle.x7_mcs.specs.Record.{sum_byte}
-use Rattle.x7_mcs.specs.State.{BodyState, Fails, Took, at_base}
+use Rattle.x7_mcs.specs.State.{McsLinesState, FailsAsReading, TookRecords, at_base}
 use Rattle.x7_mcs.specs.Text.{data_line}
 use Rattle.x7_mcs.specs.declared.fault.McsFault.{McsFault}
 use Rattle.x7_mcs.specs.declared.fault.McsFault.TheVariants as fault
@@ -38,50 +38,50 @@ bare-behind (l ∷ ls) ts h = bare-more l (ls ++ ts) (behind-some ls ts h) ∙ a
 some-behind : (t : List ℕ) (ts : List (List ℕ)) → t ∷ ts ≡ [] → ⊥
 some-behind t ts e = cc
 
-then-ok : (r : Result Reading McsFault) → and_then r (λ s. Ok s) ≡ r
+then-ok : (r : Result FlashReading McsFault) → and_then r (λ s. Ok s) ≡ r
 then-ok (Ok s) = refl
 then-ok (Err f) = refl
 
 -- ---- a line behind those that were read
 
-module _ (b : BodyState) (lines : List (List ℕ)) (n : ℕ) (m : n ≡ length lines + 1) (t : HasRead b lines) where
+module _ (b : McsLinesState) (lines : List (List ℕ)) (n : ℕ) (m : n ≡ length lines + 1) (t : HasReadRecords b lines) where
   read-behind : (ts : List (List ℕ)) → after_lines 1 of_no_line (map without_return lines ++ ts) ≡ after_lines n (at_base b.base b.ended t.records) ts
   read-behind ts =
       let k : 1 + length (map without_return lines) ≡ n = omega (arith, m, length-map lines without_return) in
       in-turn (map without_return lines) 1 of_no_line ts ∙ ap (λ r. and_then r (λ s. after_lines (1 + length (map without_return lines)) s ts)) t.is
       ∙ ap (λ (j : ℕ). after_lines j (at_base b.base b.ended t.records) ts) k
 
-  pub line-read : (d : BodyState) (line : List ℕ) → Took (after_line n (at_base b.base b.ended t.records) (without_return line)) d.base d.ended d.bytes d.marks → HasRead d (lines ++ line ∷ [])
+  pub line-read : (d : McsLinesState) (line : List ℕ) → TookRecords (after_line n (at_base b.base b.ended t.records) (without_return line)) d.base d.ended d.bytes d.marks → HasReadRecords d (lines ++ line ∷ [])
   line-read d line w = record {
     records = w.records;
     is = ap (after_lines 1 of_no_line) (map_push without_return lines line) ∙ read-behind (without_return line ∷ []) ∙ then-ok (after_line n (at_base b.base b.ended t.records) (without_return line)) ∙ w.is;
     holds = w.holds;
   }
 
-  pub line-fails : (f : McsFault) (line more : List ℕ) → Fails (after_line n (at_base b.base b.ended t.records) (without_return line)) f → HasMcsFault f (lines ++ line ∷ split more)
+  pub line-fails : (f : McsFault) (line more : List ℕ) → FailsAsReading (after_line n (at_base b.base b.ended t.records) (without_return line)) f → HasMcsFault f (lines ++ line ∷ split more)
   line-fails f line more (inl none) = inl none.0
   line-fails f line more (inr h) = gives-fault (lines ++ line ∷ split more) f (inr (
       ap (after_lines 1 of_no_line) (bare-behind lines (line ∷ split more) (some-behind line (split more)) ∙ ap (λ ts. map without_return lines ++ ts) (bare-more line (split more) (split-some more)))
       ∙ read-behind (without_return line ∷ bare (split more)) ∙ ap (λ r. and_then r (λ s. after_lines (n + 1) s (bare (split more)))) h
       ))
 
-  pub line-came : {A : Type 0} (r : Result A McsFault) (d : BodyState) (line bare : List ℕ) → bare ≡ without_return line
-      → MatchResult r (λ _. Took (after_line n (at_base b.base b.ended t.records) bare) d.base d.ended d.bytes d.marks) (λ f. Fails (after_line n (at_base b.base b.ended t.records) bare) f)
-      → MatchResult r (λ _. HasRead d (lines ++ line ∷ [])) (λ f. (more : List ℕ) → HasMcsFault f (lines ++ line ∷ split more))
-  line-came (Ok _) d line bare e w = line-read d line (subst (λ l. Took (after_line n (at_base b.base b.ended t.records) l) d.base d.ended d.bytes d.marks) e w)
-  line-came (Err f) d line bare e w = λ more. line-fails f line more (subst (λ l. Fails (after_line n (at_base b.base b.ended t.records) l) f) e w)
+  pub line-came : {A : Type 0} (r : Result A McsFault) (d : McsLinesState) (line bare : List ℕ) → bare ≡ without_return line
+      → MatchResult r (λ _. TookRecords (after_line n (at_base b.base b.ended t.records) bare) d.base d.ended d.bytes d.marks) (λ f. FailsAsReading (after_line n (at_base b.base b.ended t.records) bare) f)
+      → MatchResult r (λ _. HasReadRecords d (lines ++ line ∷ [])) (λ f. (more : List ℕ) → HasMcsFault f (lines ++ line ∷ split more))
+  line-came (Ok _) d line bare e w = line-read d line (subst (λ l. TookRecords (after_line n (at_base b.base b.ended t.records) l) d.base d.ended d.bytes d.marks) e w)
+  line-came (Err f) d line bare e w = λ more. line-fails f line more (subst (λ l. FailsAsReading (after_line n (at_base b.base b.ended t.records) l) f) e w)
 
   -- memory is wanting at a good line
-  pub line-wants : (f : McsFault) (line : List ℕ) → Fails (after_line n (at_base b.base b.ended t.records) (without_return line)) f → f ≡ fault.NoMemory → AreGoodWith lines line
+  pub line-wants : (f : McsFault) (line : List ℕ) → FailsAsReading (after_line n (at_base b.base b.ended t.records) (without_return line)) f → f ≡ fault.NoMemory → AreGoodWith lines line
   line-wants f line (inl none) want =
       inl (none.1.0, ap (after_lines 1 of_no_line) (map_push without_return lines line) ∙ read-behind (without_return line ∷ []) ∙ then-ok (after_line n (at_base b.base b.ended t.records) (without_return line)) ∙ none.1.1)
   line-wants f line (inr h) want = absurd (told-one (without_return line) n (at_base b.base b.ended t.records) (h ∙ ap Err want))
 
-  pub line-wanted : {A : Type 0} (r : Result A McsFault) (d : BodyState) (line bare : List ℕ) → bare ≡ without_return line
-      → MatchResult r (λ _. Took (after_line n (at_base b.base b.ended t.records) bare) d.base d.ended d.bytes d.marks) (λ f. Fails (after_line n (at_base b.base b.ended t.records) bare) f)
+  pub line-wanted : {A : Type 0} (r : Result A McsFault) (d : McsLinesState) (line bare : List ℕ) → bare ≡ without_return line
+      → MatchResult r (λ _. TookRecords (after_line n (at_base b.base b.ended t.records) bare) d.base d.ended d.bytes d.marks) (λ f. FailsAsReading (after_line n (at_base b.base b.ended t.records) bare) f)
       → IfErr r (λ f. f ≡ fault.NoMemory → AreGoodWith lines line)
   line-wanted (Ok _) d line bare e w = tt
-  line-wanted (Err f) d line bare e w = line-wants f line (subst (λ l. Fails (after_line n (at_base b.base b.ended t.records) l) f) e w)
+  line-wanted (Err f) d line bare e w = line-wants f line (subst (λ l. FailsAsReading (after_line n (at_base b.base b.ended t.records) l) f) e w)
 
   -- the last line
   module _ (line : List ℕ) where
@@ -90,20 +90,20 @@ module _ (b : BodyState) (lines : List (List ℕ)) (n : ℕ) (m : n ≡ length l
         ap (after_lines 1 of_no_line) (bare-behind lines (line ∷ []) (some-behind line []))
         ∙ read-behind (line ∷ []) ∙ then-ok (after_line n (at_base b.base b.ended t.records) line)
 
-    last-took : (d : BodyState) → Took (after_line n (at_base b.base b.ended t.records) line) d.base d.ended d.bytes d.marks → Took (after_lines 1 of_no_line (bare (lines ++ line ∷ []))) d.base d.ended d.bytes d.marks
+    last-took : (d : McsLinesState) → TookRecords (after_line n (at_base b.base b.ended t.records) line) d.base d.ended d.bytes d.marks → TookRecords (after_lines 1 of_no_line (bare (lines ++ line ∷ []))) d.base d.ended d.bytes d.marks
     last-took d w = record { records = w.records; is = last-is ∙ w.is; holds = w.holds }
 
-    pub last-bytes : (d : BodyState) → Took (after_line n (at_base b.base b.ended t.records) line) d.base d.ended d.bytes d.marks → d.ended ≡ true → flash_of_lines (lines ++ line ∷ []) ≡ Ok d.bytes
+    pub last-bytes : (d : McsLinesState) → TookRecords (after_line n (at_base b.base b.ended t.records) line) d.base d.ended d.bytes d.marks → d.ended ≡ true → flash_of_lines (lines ++ line ∷ []) ≡ Ok d.bytes
     last-bytes d w e = gives-bytes (lines ++ line ∷ []) d.base d.ended d.bytes d.marks (last-took d w) e
 
-    pub last-no-end : (d : BodyState) → Took (after_line n (at_base b.base b.ended t.records) line) d.base d.ended d.bytes d.marks → d.ended ≡ false → HasMcsFault fault.NoEnd (lines ++ line ∷ [])
+    pub last-no-end : (d : McsLinesState) → TookRecords (after_line n (at_base b.base b.ended t.records) line) d.base d.ended d.bytes d.marks → d.ended ≡ false → HasMcsFault fault.NoEnd (lines ++ line ∷ [])
     last-no-end d w e = inr (gives-no-end (lines ++ line ∷ []) d.base d.ended d.bytes d.marks (last-took d w) e)
 
-    pub last-fault : (f : McsFault) → Fails (after_line n (at_base b.base b.ended t.records) line) f → HasMcsFault f (lines ++ line ∷ [])
+    pub last-fault : (f : McsFault) → FailsAsReading (after_line n (at_base b.base b.ended t.records) line) f → HasMcsFault f (lines ++ line ∷ [])
     last-fault f (inl none) = inl none.0
     last-fault f (inr h) = gives-fault (lines ++ line ∷ []) f (inr (last-is ∙ h))
 
-    pub last-wants : (f : McsFault) → Fails (after_line n (at_base b.base b.ended t.records) line) f → f ≡ fault.NoMemory → AreGoodWith lines line
+    pub last-wants : (f : McsFault) → FailsAsReading (after_line n (at_base b.base b.ended t.records) line) f → f ≡ fault.NoMemory → AreGoodWith lines line
     last-wants f (inl none) want = inr (none.1.0, last-is ∙ none.1.1)
     last-wants f (inr h) want = absurd (told-one line n (at_base b.base b.ended t.records) (h ∙ ap Err want))
 

@@ -6,8 +6,8 @@ use Rattle.std.proofs.lemmas.Nat.Bits.{bit_at_ones, bit_at_set_other, bit_at_set
 use Rattle.std.specs.Int.{bit_at}
 use Rattle.std.specs.Prelude.{bit_or}
 use mir.Syntax.{w16}
-use Rattle.x7_mcs.specs.Places.{DataRecord, covered, covers, end_of, extent, overlap, unless_covered, with_record}
-use Rattle.x7_mcs.specs.State.{AreFree, Holds, IsFirstMarked, is_marked}
+use Rattle.x7_mcs.specs.Places.{DataRecord, covered, covers, record_end, extent, overlap, unless_covered, with_record}
+use Rattle.x7_mcs.specs.State.{AreFree, HoldsRecords, IsFirstMarked, is_marked}
 use Rattle.x7_mcs.specs.declared.fault.McsFault.TheVariants as fault
 
 -- ---- marks
@@ -71,25 +71,25 @@ pub overlap-none : (xs : List DataRecord) (p n : ℕ) → ((k : ℕ) → p ≤ k
 overlap-none xs p zero f = refl
 overlap-none xs p (suc n) f = ap (λ (b : Bool). if b then Some p else overlap xs (p + 1) n) (f p (omega arith) (omega arith)) ∙ overlap-none xs (p + 1) n (λ k h l. f k (omega arith) (omega arith))
 
-covers-within : (x : DataRecord) (p : ℕ) → end_of x ≤ p → covers x p ≡ false
+covers-within : (x : DataRecord) (p : ℕ) → record_end x ≤ p → covers x p ≡ false
 covers-within x p h = grind (arith, common_steps)
 
 pub covered-within : (xs : List DataRecord) (p : ℕ) → extent xs ≤ p → covered xs p ≡ false
 covered-within [] p h = refl
 covered-within (x ∷ xs) p h = ap₂ (λ (a b : Bool). a || b) (covers-within x p (omega arith)) (covered-within xs p (omega arith))
 
-pub past-is-free : (xs : List DataRecord) (bytes marks : List ℕ) → Holds xs bytes marks → (p n : ℕ) → length bytes ≤ p → overlap xs p n ≡ None
+pub past-is-free : (xs : List DataRecord) (bytes marks : List ℕ) → HoldsRecords xs bytes marks → (p n : ℕ) → length bytes ≤ p → overlap xs p n ≡ None
 past-is-free xs bytes marks h p n l = overlap-none xs p n (λ k i j. covered-within xs k (omega (arith, h.long)))
 
-pub first-is-least : (xs : List DataRecord) (bytes marks : List ℕ) → Holds xs bytes marks → (p n q : ℕ) → IsFirstMarked marks p (p + n) q → overlap xs p n ≡ Some q
+pub first-is-least : (xs : List DataRecord) (bytes marks : List ℕ) → HoldsRecords xs bytes marks → (p n q : ℕ) → IsFirstMarked marks p (p + n) q → overlap xs p n ≡ Some q
 first-is-least xs bytes marks h p n q f = overlap-at xs p n q f.since f.within (sym (h.marked q) ∙ f.is) (λ k i j. sym (h.marked k) ∙ f.before k i j)
 
-pub free-has-none : (xs : List DataRecord) (bytes marks : List ℕ) → Holds xs bytes marks → (p n : ℕ) → AreFree marks p (p + n) → overlap xs p n ≡ None
+pub free-has-none : (xs : List DataRecord) (bytes marks : List ℕ) → HoldsRecords xs bytes marks → (p n : ℕ) → AreFree marks p (p + n) → overlap xs p n ≡ None
 free-has-none xs bytes marks h p n f = overlap-none xs p n (λ k i j. sym (h.marked k) ∙ f k i j)
 
-pub least-is-first : (xs : List DataRecord) (bytes marks seen : List ℕ) → Holds xs bytes marks → seen ≡ marks → (p n : ℕ) (o : Option ℕ) → MatchOption o (AreFree seen p (p + n)) (λ q. IsFirstMarked seen p (p + n) q) → o ≡ overlap xs p n
-least-is-first xs bytes marks seen h e p n None f = sym (free-has-none xs bytes seen (subst (λ (m : List ℕ). Holds xs bytes m) (sym e) h) p n f)
-least-is-first xs bytes marks seen h e p n (Some q) f = sym (first-is-least xs bytes seen (subst (λ (m : List ℕ). Holds xs bytes m) (sym e) h) p n q f)
+pub least-is-first : (xs : List DataRecord) (bytes marks seen : List ℕ) → HoldsRecords xs bytes marks → seen ≡ marks → (p n : ℕ) (o : Option ℕ) → MatchOption o (AreFree seen p (p + n)) (λ q. IsFirstMarked seen p (p + n) q) → o ≡ overlap xs p n
+least-is-first xs bytes marks seen h e p n None f = sym (free-has-none xs bytes seen (subst (λ (m : List ℕ). HoldsRecords xs bytes m) (sym e) h) p n f)
+least-is-first xs bytes marks seen h e p n (Some q) f = sym (first-is-least xs bytes seen (subst (λ (m : List ℕ). HoldsRecords xs bytes m) (sym e) h) p n q f)
 
 -- ---- one record more
 
@@ -99,8 +99,8 @@ no_zero a h = grind (arith, common_steps)
 not_less : (a b : ℕ) → b ≤ a → nat_lt a b ≡ false
 not_less a b h = grind (arith, common_steps)
 
-pub end-is : (x : DataRecord) → 0 < length x.bytes → end_of x ≡ x.place + length x.bytes
+pub end-is : (x : DataRecord) → 0 < length x.bytes → record_end x ≡ x.place + length x.bytes
 end-is x h = ap (λ (b : Bool). if b then 0 else x.place + length x.bytes) (no_zero (length x.bytes) h)
 
 pub within : (n : ℕ) (xs : List DataRecord) (x : DataRecord) → 0 < length x.bytes → x.place + length x.bytes ≤ 2 ^ 27 → with_record n xs x ≡ unless_covered (overlap xs x.place (length x.bytes)) (x ∷ xs)
-within n xs x h l = ap (λ (b : Bool). if b then Err (fault.TooLarge n) else unless_covered (overlap xs x.place (length x.bytes)) (x ∷ xs)) (not_less (2 ^ 27) (end_of x) (omega (arith, l, end-is x h)))
+within n xs x h l = ap (λ (b : Bool). if b then Err (fault.TooLarge n) else unless_covered (overlap xs x.place (length x.bytes)) (x ∷ xs)) (not_less (2 ^ 27) (record_end x) (omega (arith, l, end-is x h)))

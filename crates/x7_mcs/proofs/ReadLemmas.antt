@@ -6,14 +6,14 @@ use Rattle.x7_words.specs.Word.{AreBytes}
 use Rattle.x7_mcs.specs.Lines.{lines_of}
 use Rattle.x7_mcs.specs.Record.{Meaning, meaning_of, sum_byte}
 use Rattle.x7_mcs.specs.Places.{DataRecord, with_record}
-use Rattle.x7_mcs.specs.Flash.{Reading, after_bytes, after_lines, after_meaning, and_then, with_records}
+use Rattle.x7_mcs.specs.Flash.{FlashReading, after_bytes, after_lines, after_meaning, and_then, with_records}
 use Rattle.x7_mcs.specs.State.{at_base}
 use Rattle.x7_mcs.specs.Text.{base_line, data_line, record_line}
 use Rattle.x7_mcs.specs.declared.fault.McsFault.TheVariants as fault
 use Rattle.x7_mcs.proofs.RoundLemmas.{pairs-back, record-first, meaning-written}
 
 -- a record's line is read
-pub read-record : (n : ℕ) (g : Reading) (bs rest : List ℕ) → AreBytes (bs ++ sum_byte bs ∷ [])
+pub read-record : (n : ℕ) (g : FlashReading) (bs rest : List ℕ) → AreBytes (bs ++ sum_byte bs ∷ [])
     → after_lines n g (lines_of (record_line bs ++ rest)) ≡ and_then (after_meaning n g (bs ++ sum_byte bs ∷ []) (meaning_of n g.ended (bs ++ sum_byte bs ∷ []))) (λ h. after_lines (n + 1) h (lines_of rest))
 read-record n g bs rest h =
     ap (after_lines n g) (record-first bs rest)

@@ -6,7 +6,7 @@ use Rattle.std.specs.List.{flat_map}
 use Rattle.x7_words.specs.Word.{AreBytes}
 use Rattle.x7_text.specs.Digits.{hex_byte, hex_digit}
 use Rattle.x7_mcs.specs.Lines.{lines_of, on_first, split, without_return}
-use Rattle.x7_mcs.specs.Record.{byte_of, count_of, digit_of, got_of, led, meaning_by_type, meaning_of, pairs, sum_byte, wanted_of}
+use Rattle.x7_mcs.specs.Record.{byte_of, record_count, digit_of, sum_found, led, meaning_by_type, meaning_of, pairs, sum_byte, sum_wanted}
 use Rattle.x7_mcs.specs.Text.{record_line}
 use Rattle.x7_mcs.specs.declared.fault.McsFault.TheVariants as fault
 use Rattle.x7_mcs.proofs.LineLemmas.{line-ends}
@@ -67,14 +67,14 @@ eq_true : (a b : ℕ) → a ≡ b → (a == b) ≡ true
 eq_true a b e = grind (arith, common_steps)
 
 -- the sum of a record that was written is the one that it wants
-sum-is : (bs : List ℕ) → wanted_of (bs ++ sum_byte bs ∷ []) ≡ got_of (bs ++ sum_byte bs ∷ [])
+sum-is : (bs : List ℕ) → sum_wanted (bs ++ sum_byte bs ∷ []) ≡ sum_found (bs ++ sum_byte bs ∷ [])
 sum-is bs =
     let long : length (bs ++ sum_byte bs ∷ []) ≡ length bs + 1 = length-append bs (sum_byte bs ∷ []) in
     let n : length bs ≡ length (bs ++ sum_byte bs ∷ []) - 1 = omega (arith, long) in
     ap sum_byte (take_at bs (sum_byte bs ∷ []) (length (bs ++ sum_byte bs ∷ []) - 1) n) ∙ sym (get_or_at bs (sum_byte bs) [] 0 (length (bs ++ sum_byte bs ∷ []) - 1) n)
 
-pub meaning-written : (n : ℕ) (bs : List ℕ) → count_of (bs ++ sum_byte bs ∷ []) + 5 ≡ length (bs ++ sum_byte bs ∷ []) → meaning_of n false (bs ++ sum_byte bs ∷ []) ≡ meaning_by_type n (bs ++ sum_byte bs ∷ [])
+pub meaning-written : (n : ℕ) (bs : List ℕ) → record_count (bs ++ sum_byte bs ∷ []) + 5 ≡ length (bs ++ sum_byte bs ∷ []) → meaning_of n false (bs ++ sum_byte bs ∷ []) ≡ meaning_by_type n (bs ++ sum_byte bs ∷ [])
 meaning-written n bs e =
     let all : List ℕ = bs ++ sum_byte bs ∷ [] in
-    ap₂ (λ (b : Bool) (d : Bool). if not b then Err (fault.Line n) else if not d then Err (fault.Sum n (wanted_of (bs ++ sum_byte bs ∷ [])) (got_of (bs ++ sum_byte bs ∷ []))) else meaning_by_type n (bs ++ sum_byte bs ∷ []))
+    ap₂ (λ (b : Bool) (d : Bool). if not b then Err (fault.Line n) else if not d then Err (fault.Sum n (sum_wanted (bs ++ sum_byte bs ∷ [])) (sum_found (bs ++ sum_byte bs ∷ []))) else meaning_by_type n (bs ++ sum_byte bs ∷ []))
     (eq_true _ _ e) (eq_true _ _ (sum-is bs))

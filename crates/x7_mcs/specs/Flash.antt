@@ -3,66 +3,70 @@ use Rattle.std.specs.Prelude.{ℕ, ◌+◌, ◌==◌, Bool, true, false, if◌th
 use Rattle.x7_mcs.specs.declared.fault.McsFault.{McsFault}
 use Rattle.x7_mcs.specs.declared.fault.McsFault.TheVariants as fault
 use Rattle.x7_mcs.specs.Lines.{lines_of}
-use Rattle.x7_mcs.specs.Record.{Meaning, data_of, meaning_of, pairs}
-use Rattle.x7_mcs.specs.Places.{DataRecord, image_of, with_record}
+use Rattle.x7_mcs.specs.Record.{Meaning, record_data, meaning_of, pairs}
+use Rattle.x7_mcs.specs.Places.{DataRecord, records_image, with_record}
 
 -- what lines give: the base that stands, whether a record 01 stood, and the data records, the last first
-pub record Reading : Type 0 where
+pub record FlashReading : Type 0 where
   pub base : ℕ
   pub ended : Bool
   pub records : List DataRecord
 
-abbrev pub of_no_line : Reading
+-- what a text gives before its first line: base 0 and no record
+abbrev pub of_no_line : FlashReading
 of_no_line = record { base = 0; ended = false; records = [] }
 
-abbrev pub with_records : Reading → Result (List DataRecord) McsFault → Result Reading McsFault
+-- a reading with other records, or the fault in their place
+abbrev pub with_records : FlashReading → Result (List DataRecord) McsFault → Result FlashReading McsFault
 with_records r (Ok xs) = Ok (record { base = r.base; ended = r.ended; records = xs })
 with_records r (Err f) = Err f
 
 -- after line n's data at an address
-abbrev pub after_data : ℕ → Reading → ℕ → List ℕ → Result Reading McsFault
+abbrev pub after_data : ℕ → FlashReading → ℕ → List ℕ → Result FlashReading McsFault
 after_data n r address content = with_records r (with_record n r.records (record { place = r.base + address; bytes = content }))
 
 -- after the bytes of line n, which say this
-abbrev pub after_meaning : ℕ → Reading → List ℕ → Result Meaning McsFault → Result Reading McsFault
+abbrev pub after_meaning : ℕ → FlashReading → List ℕ → Result Meaning McsFault → Result FlashReading McsFault
 after_meaning n r bs (Err f) = Err f
 after_meaning n r bs (Ok Meaning.Start) = Ok r
 after_meaning n r bs (Ok Meaning.End) = Ok (record { base = r.base; ended = true; records = r.records })
 after_meaning n r bs (Ok (Meaning.Base base)) = Ok (record { base = base; ended = r.ended; records = r.records })
-after_meaning n r bs (Ok (Meaning.Data address)) = after_data n r address (data_of bs)
+after_meaning n r bs (Ok (Meaning.Data address)) = after_data n r address (record_data bs)
 
-abbrev pub after_bytes : ℕ → Reading → Option (List ℕ) → Result Reading McsFault
+-- after the bytes of line n, whose digits may be no pairs
+abbrev pub after_bytes : ℕ → FlashReading → Option (List ℕ) → Result FlashReading McsFault
 after_bytes n r None = Err (fault.Line n)
 after_bytes n r (Some bs) = after_meaning n r bs (meaning_of n r.ended bs)
 
 -- after line n: an empty line means nothing, and any other is `:` and pairs of digits
-abbrev pub after_line : ℕ → Reading → List ℕ → Result Reading McsFault
+abbrev pub after_line : ℕ → FlashReading → List ℕ → Result FlashReading McsFault
 after_line n r [] = Ok r
 after_line n r (c ∷ cs) = if c == 58 then after_bytes n r (pairs cs) else Err (fault.Line n)
 
 -- the first fault stays
-abbrev pub and_then : Result Reading McsFault → (Reading → Result Reading McsFault) → Result Reading McsFault
+abbrev pub and_then : Result FlashReading McsFault → (FlashReading → Result FlashReading McsFault) → Result FlashReading McsFault
 and_then (Err f) more = Err f
 and_then (Ok r) more = more r
 
 -- after the lines from line n on, or the first bad line's fault
-abbrev pub after_lines : ℕ → Reading → List (List ℕ) → Result Reading McsFault
+abbrev pub after_lines : ℕ → FlashReading → List (List ℕ) → Result FlashReading McsFault
 after_lines n r [] = Ok r
 after_lines n r (t ∷ ts) = and_then (after_line n r t) (λ s. after_lines (n + 1) s ts)
 
 -- a text is to have a record 01
-abbrev pub with_end : Result Reading McsFault → Result Reading McsFault
+abbrev pub with_end : Result FlashReading McsFault → Result FlashReading McsFault
 with_end (Err f) = Err f
 with_end (Ok r) = if r.ended then Ok r else Err fault.NoEnd
 
 -- what a text gives, or its first bad line's fault
-abbrev pub reading_of : List ℕ → Result Reading McsFault
-reading_of text = with_end (after_lines 1 of_no_line (lines_of text))
+abbrev pub flash_reading : List ℕ → Result FlashReading McsFault
+flash_reading text = with_end (after_lines 1 of_no_line (lines_of text))
 
-abbrev pub flash_in : Result Reading McsFault → Result (List ℕ) McsFault
+-- the flash bytes of a reading's records, or the reading's fault
+abbrev pub flash_in : Result FlashReading McsFault → Result (List ℕ) McsFault
 flash_in (Err f) = Err f
-flash_in (Ok r) = Ok (image_of r.records)
+flash_in (Ok r) = Ok (records_image r.records)
 
 -- the flash bytes of a text, or its fault
 abbrev pub mcs_of : List ℕ → Result (List ℕ) McsFault
-mcs_of text = flash_in (reading_of text)
+mcs_of text = flash_in (flash_reading text)

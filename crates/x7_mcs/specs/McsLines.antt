@@ -1,20 +1,21 @@
 -- A flash text that is read line by line (this project's choice).
 use Rattle.std.specs.Prelude.{◌≡◌, ◌⊎◌, ℕ, List, [], ◌∷◌, ◌++◌, map, Result, Err, MatchResult}
 use Rattle.x7_text.specs.Lines.{split}
-use Rattle.x7_mcs.specs.Flash.{Reading, after_lines, flash_in, of_no_line, with_end}
+use Rattle.x7_mcs.specs.Flash.{FlashReading, after_lines, flash_in, of_no_line, with_end}
 use Rattle.x7_mcs.specs.Images.{CameTo}
 use Rattle.x7_mcs.specs.Lines.{bare, without_return}
-use Rattle.x7_mcs.specs.State.{BodyState, Fails, IsGood, Took}
+use Rattle.x7_mcs.specs.State.{McsLinesState, FailsAsReading, HasNoFault, TookRecords}
 use Rattle.x7_mcs.specs.declared.mcs_lines.McsLines.{McsLines}
 use Rattle.x7_mcs.specs.declared.fault.McsFault.{McsFault}
 use Rattle.x7_mcs.specs.declared.fault.McsFault.TheVariants as fault
 
-abbrev pub body_in : McsLines → BodyState
-body_in b = record { base = b.context.base; ended = b.context.ended; bytes = b.image.bytes.items; marks = b.image.marks.items }
+-- what lines that are taken one by one have given so far
+abbrev pub mcs_lines_state : McsLines → McsLinesState
+mcs_lines_state b = record { base = b.context.base; ended = b.context.ended; bytes = b.image.bytes.items; marks = b.image.marks.items }
 
 -- lines that have their end gave this
-abbrev pub HasRead : BodyState → List (List ℕ) → Type 0
-HasRead b lines = Took (after_lines 1 of_no_line (map without_return lines)) b.base b.ended b.bytes b.marks
+abbrev pub HasReadRecords : McsLinesState → List (List ℕ) → Type 0
+HasReadRecords b lines = TookRecords (after_lines 1 of_no_line (map without_return lines)) b.base b.ended b.bytes b.marks
 
 -- the flash bytes of a text of these lines, or its fault
 abbrev pub flash_of_lines : List (List ℕ) → Result (List ℕ) McsFault
@@ -22,18 +23,18 @@ flash_of_lines lines = flash_in (with_end (after_lines 1 of_no_line (bare lines)
 
 -- a line, with its end or as the last of a text, is read without a fault, as are those before it: memory may be wanting at it
 abbrev pub AreGoodWith : List (List ℕ) → List ℕ → Type 0
-AreGoodWith lines line = IsGood (after_lines 1 of_no_line (map without_return (lines ++ line ∷ []))) ⊎ IsGood (after_lines 1 of_no_line (bare (lines ++ line ∷ [])))
+AreGoodWith lines line = HasNoFault (after_lines 1 of_no_line (map without_return (lines ++ line ∷ []))) ⊎ HasNoFault (after_lines 1 of_no_line (bare (lines ++ line ∷ [])))
 
 -- a text of these lines has this fault; of want of memory nothing is said here
 abbrev pub HasMcsFault : McsFault → List (List ℕ) → Type 0
 HasMcsFault f lines = (f ≡ fault.NoMemory) ⊎ (flash_of_lines lines ≡ Err f)
 
 -- a call came to what this reading comes to, or gave the reading's fault
-abbrev pub ReachesIn : {A : Type 0} → Result A McsFault → Result Reading McsFault → McsLines → Type 0
-ReachesIn result reading new = MatchResult result (λ _. CameTo reading new.context new.image) (λ f. Fails reading f)
+abbrev pub ReachesIn : {A : Type 0} → Result A McsFault → Result FlashReading McsFault → McsLines → Type 0
+ReachesIn result reading new = MatchResult result (λ _. CameTo reading new.context new.image) (λ f. FailsAsReading reading f)
 
 -- the first line of a text was taken behind these, and this is left
-pub record TakesFirst (lines : List (List ℕ)) (text rest : List ℕ) (new : McsLines) : Type 0 where
+pub record TakesFirstLine (lines : List (List ℕ)) (text rest : List ℕ) (new : McsLines) : Type 0 where
   pub line : List ℕ
   pub cut : split text ≡ line ∷ split rest
-  pub read : HasRead (body_in new) (lines ++ line ∷ [])
+  pub read : HasReadRecords (mcs_lines_state new) (lines ++ line ∷ [])

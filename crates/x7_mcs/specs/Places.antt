@@ -1,21 +1,20 @@
 -- The places that data records cover (this project's choice).
 use Rattle.std.specs.Prelude.{◌≡◌, ℕ, zero, suc, ◌+◌, ◌-◌, ◌^◌, ◌==◌, ◌&&◌, ◌||◌, nat_le, nat_lt, max, Bool, true, false, if◌then◌else◌, List, [], ◌∷◌, length, map, get_or, Option, None, Some, Result, Ok, Err}
 use Rattle.std.specs.List.{range_with_len}
+use Rattle.x7_words.specs.Flash.{flash_limit}
 use Rattle.x7_mcs.specs.declared.fault.McsFault.{McsFault}
 use Rattle.x7_mcs.specs.declared.fault.McsFault.TheVariants as fault
-
--- how many places a flash has at most (this project's choice)
-abbrev pub flash_limit : ℕ
-flash_limit = 2 ^ 27
 
 -- the first place of a data record, and its bytes
 pub record DataRecord : Type 0 where
   pub place : ℕ
   pub bytes : List ℕ
 
+-- a record has a byte for place p
 abbrev pub covers : DataRecord → ℕ → Bool
 covers x p = nat_le x.place p && nat_lt p (x.place + length x.bytes)
 
+-- one of the records has a byte for place p
 abbrev pub covered : List DataRecord → ℕ → Bool
 covered [] p = false
 covered (x ∷ xs) p = covers x p || covered xs p
@@ -26,21 +25,22 @@ byte_at [] p = 255
 byte_at (x ∷ xs) p = if covers x p then get_or x.bytes (p - x.place) 255 else byte_at xs p
 
 -- one more than the greatest place that a record gives, and 0 where it gives none
-abbrev pub end_of : DataRecord → ℕ
-end_of x = if length x.bytes == 0 then 0 else x.place + length x.bytes
+abbrev pub record_end : DataRecord → ℕ
+record_end x = if length x.bytes == 0 then 0 else x.place + length x.bytes
 
+-- one more than the greatest place that any of the records gives, and 0 where none gives one
 abbrev pub extent : List DataRecord → ℕ
 extent [] = 0
-extent (x ∷ xs) = max (extent xs) (end_of x)
+extent (x ∷ xs) = max (extent xs) (record_end x)
 
 -- the bytes from place 0 to the greatest place given
-abbrev pub image_of : List DataRecord → List ℕ
-image_of xs = map (byte_at xs) (range_with_len 0 (extent xs))
+abbrev pub records_image : List DataRecord → List ℕ
+records_image xs = map (byte_at xs) (range_with_len 0 (extent xs))
 
 -- no two records cover one place
-abbrev pub AreApart : List DataRecord → Type 0
-AreApart [] = Unit {0}
-AreApart (x ∷ xs) = ((p : ℕ) → covers x p ≡ true → covered xs p ≡ false) × AreApart xs
+abbrev pub HaveNoOverlap : List DataRecord → Type 0
+HaveNoOverlap [] = Unit {0}
+HaveNoOverlap (x ∷ xs) = ((p : ℕ) → covers x p ≡ true → covered xs p ≡ false) × HaveNoOverlap xs
 
 -- the least of n places from here on that a record covers
 abbrev pub overlap : List DataRecord → ℕ → ℕ → Option ℕ
@@ -55,5 +55,5 @@ unless_covered None xs = Ok xs
 -- the records with that of line n, or its fault
 abbrev pub with_record : ℕ → List DataRecord → DataRecord → Result (List DataRecord) McsFault
 with_record n xs x =
-    if nat_lt flash_limit (end_of x) then Err (fault.TooLarge n)
+    if nat_lt flash_limit (record_end x) then Err (fault.TooLarge n)
     else unless_covered (overlap xs x.place (length x.bytes)) (x ∷ xs)

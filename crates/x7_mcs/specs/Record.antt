@@ -9,34 +9,37 @@ use Rattle.x7_mcs.specs.declared.fault.McsFault.TheVariants as fault
 abbrev pub block_size : ℕ
 block_size = 65536
 
--- the fields of a record's bytes
-abbrev pub count_of : List ℕ → ℕ
-count_of bs = get_or bs 0 0
+-- how many bytes of data a record says that it has
+abbrev pub record_count : List ℕ → ℕ
+record_count bs = get_or bs 0 0
 
-abbrev pub address_of : List ℕ → ℕ
-address_of bs = 256 * get_or bs 1 0 + get_or bs 2 0
+-- a record's address: 16 bits, the high byte first
+abbrev pub record_address : List ℕ → ℕ
+record_address bs = 256 * get_or bs 1 0 + get_or bs 2 0
 
-abbrev pub type_of : List ℕ → ℕ
-type_of bs = get_or bs 3 0
+-- a record's type, by which its data mean what they do
+abbrev pub record_type : List ℕ → ℕ
+record_type bs = get_or bs 3 0
 
--- the number in two bytes of data
-abbrev pub value_of : List ℕ → ℕ
-value_of bs = 256 * get_or bs 4 0 + get_or bs 5 0
+-- the number in the two data bytes of a record that gives a base
+abbrev pub base_value : List ℕ → ℕ
+base_value bs = 256 * get_or bs 4 0 + get_or bs 5 0
 
-abbrev pub data_of : List ℕ → List ℕ
-data_of bs = take (count_of bs) (drop 4 bs)
+-- a record's data, as many bytes as its count says
+abbrev pub record_data : List ℕ → List ℕ
+record_data bs = take (record_count bs) (drop 4 bs)
 
--- the sum byte that stands there
-abbrev pub got_of : List ℕ → ℕ
-got_of bs = get_or bs (length bs - 1) 0
+-- the sum byte that a record has: its last byte
+abbrev pub sum_found : List ℕ → ℕ
+sum_found bs = get_or bs (length bs - 1) 0
 
 -- the byte that makes the sum of these and itself 0 mod 256
 abbrev pub sum_byte : List ℕ → ℕ
 sum_byte bs = (256 - sum bs % 256) % 256
 
 -- the sum byte that the record wants
-abbrev pub wanted_of : List ℕ → ℕ
-wanted_of bs = sum_byte (take (length bs - 1) bs)
+abbrev pub sum_wanted : List ℕ → ℕ
+sum_wanted bs = sum_byte (take (length bs - 1) bs)
 
 -- what a record says
 pub data Meaning : Type 0 where
@@ -53,17 +56,17 @@ pub data Meaning : Type 0 where
 -- 04 the base by 65,536; 03 and 05 a start address, without effect
 abbrev pub meaning_by_type : ℕ → List ℕ → Result Meaning McsFault
 meaning_by_type n bs =
-    if type_of bs == 0 && nat_le (address_of bs + count_of bs) block_size then Ok (Meaning.Data (address_of bs))
-    else if type_of bs == 1 && count_of bs == 0 then Ok Meaning.End
-    else if type_of bs == 2 && count_of bs == 2 then Ok (Meaning.Base (16 * value_of bs))
-    else if type_of bs == 4 && count_of bs == 2 then Ok (Meaning.Base (block_size * value_of bs))
-    else if (type_of bs == 3 || type_of bs == 5) && count_of bs == 4 then Ok Meaning.Start
+    if record_type bs == 0 && nat_le (record_address bs + record_count bs) block_size then Ok (Meaning.Data (record_address bs))
+    else if record_type bs == 1 && record_count bs == 0 then Ok Meaning.End
+    else if record_type bs == 2 && record_count bs == 2 then Ok (Meaning.Base (16 * base_value bs))
+    else if record_type bs == 4 && record_count bs == 2 then Ok (Meaning.Base (block_size * base_value bs))
+    else if (record_type bs == 3 || record_type bs == 5) && record_count bs == 4 then Ok Meaning.Start
     else Err (fault.Line n)
 
 -- what the bytes of line n say, where a record 01 stood before or not
 abbrev pub meaning_of : ℕ → Bool → List ℕ → Result Meaning McsFault
 meaning_of n ended bs =
-    if not (count_of bs + 5 == length bs) then Err (fault.Line n)
-    else if not (wanted_of bs == got_of bs) then Err (fault.Sum n (wanted_of bs) (got_of bs))
+    if not (record_count bs + 5 == length bs) then Err (fault.Line n)
+    else if not (sum_wanted bs == sum_found bs) then Err (fault.Sum n (sum_wanted bs) (sum_found bs))
     else if ended then Err (fault.Line n)
     else meaning_by_type n bs

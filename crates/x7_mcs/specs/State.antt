@@ -7,7 +7,7 @@ use Rattle.x7_mcs.specs.declared.fault.McsFault.TheVariants as fault
 use Rattle.x7_mcs.specs.Record.{Meaning, pairs}
 use Rattle.x7_mcs.specs.declared.record.Meaning.{Meaning as Read}
 use Rattle.x7_mcs.specs.declared.record.Meaning.TheVariants as read
-use Rattle.x7_mcs.specs.Flash.{Reading}
+use Rattle.x7_mcs.specs.Flash.{FlashReading}
 
 -- a record's meaning as the code has it
 abbrev pub read_as : Read → Meaning
@@ -17,14 +17,14 @@ read_as read.End = Meaning.End
 read_as (read.Base base) = Meaning.Base base
 
 -- what a call returned is this meaning, or this fault
-abbrev pub Says : Result Read McsFault → Result Meaning McsFault → Type 0
-Says (Ok m) said = said ≡ Ok (read_as m)
-Says (Err f) said = said ≡ Err f
+abbrev pub SaysMeaning : Result Read McsFault → Result Meaning McsFault → Type 0
+SaysMeaning (Ok m) said = said ≡ Ok (read_as m)
+SaysMeaning (Err f) said = said ≡ Err f
 
 -- the digits are pairs of these bytes, or no pairs of digits
-abbrev pub Reads : Bool → List ℕ → List ℕ → Type 0
-Reads true digits bytes = pairs digits ≡ Some bytes
-Reads false digits bytes = pairs digits ≡ None
+abbrev pub ReadsPairs : Bool → List ℕ → List ℕ → Type 0
+ReadsPairs true digits bytes = pairs digits ≡ Some bytes
+ReadsPairs false digits bytes = pairs digits ≡ None
 
 -- whether a place is marked: sixteen places a mark, the first in bit 0
 abbrev pub is_marked : List ℕ → ℕ → Bool
@@ -42,36 +42,37 @@ pub record IsFirstMarked (marks : List ℕ) (from to q : ℕ) : Type 0 where
   pub before : AreFree marks from q
 
 -- bytes are written from a place on, after FF where the old ones end before it
-pub record IsPlaced (place : ℕ) (content old new : List ℕ) : Type 0 where
+pub record IsWrittenFrom (place : ℕ) (content old new : List ℕ) : Type 0 where
   pub long : length new ≡ max (length old) (place + length content)
   pub at : (p : ℕ) → get_or new p 255 ≡ (if nat_le place p && nat_lt p (place + length content) then get_or content (p - place) 255 else get_or old p 255)
 
 -- what bytes and marks stand for: place by place, the records' bytes and whether a record covers it
-pub record Holds (records : List DataRecord) (bytes marks : List ℕ) : Type 0 where
+pub record HoldsRecords (records : List DataRecord) (bytes marks : List ℕ) : Type 0 where
   pub long : length bytes ≡ extent records
   pub at : (p : ℕ) → get_or bytes p 255 ≡ byte_at records p
   pub marked : (p : ℕ) → is_marked marks p ≡ covered records p
 
 -- what the lines so far gave: the base that stands, whether a record 01 stood, and the bytes and marks of the image
-pub record BodyState : Type 0 where
+pub record McsLinesState : Type 0 where
   pub base : ℕ
   pub ended : Bool
   pub bytes : List ℕ
   pub marks : List ℕ
 
 -- a reading came to this base, end and records
-pub record Took (reading : Result Reading McsFault) (base : ℕ) (ended : Bool) (bytes marks : List ℕ) : Type 0 where
+pub record TookRecords (reading : Result FlashReading McsFault) (base : ℕ) (ended : Bool) (bytes marks : List ℕ) : Type 0 where
   pub records : List DataRecord
   pub is : reading ≡ Ok (record { base = base; ended = ended; records = records })
-  pub holds : Holds records bytes marks
+  pub holds : HoldsRecords records bytes marks
 
-abbrev pub at_base : ℕ → Bool → List DataRecord → Reading
+-- the reading of a text up to a line: the base that stands, whether a record 01 stood, and the records
+abbrev pub at_base : ℕ → Bool → List DataRecord → FlashReading
 at_base base ended records = record { base = base; ended = ended; records = records }
 
 -- a reading has no fault
-abbrev pub IsGood : Result Reading McsFault → Type 0
-IsGood reading = (r : Reading) × (reading ≡ Ok r)
+abbrev pub HasNoFault : Result FlashReading McsFault → Type 0
+HasNoFault reading = (r : FlashReading) × (reading ≡ Ok r)
 
 -- a call gave this fault for a reading: the reading's, or want of memory where the reading has no fault
-abbrev pub Fails : Result Reading McsFault → McsFault → Type 0
-Fails reading f = ((f ≡ fault.NoMemory) × IsGood reading) ⊎ (reading ≡ Err f)
+abbrev pub FailsAsReading : Result FlashReading McsFault → McsFault → Type 0
+FailsAsReading reading f = ((f ≡ fault.NoMemory) × HasNoFault reading) ⊎ (reading ≡ Err f)

@@ -2,7 +2,7 @@
 ghost use Rattle.std.specs.Prelude.{◌≡◌, ℕ, List, ◌≤◌, length, vec_capacity, IfOk, OnOk, OnErr};
 ghost use Rattle.x7_text.specs.Row.{rows};
 ghost use Rattle.x7_words.specs.Sink.{Counts, PutsAll, PutsSome, SinkFails};
-ghost use Rattle.x7_mcs.specs.Places.{flash_limit};
+ghost use Rattle.x7_words.specs.Flash.{flash_limit};
 ghost use Rattle.x7_mcs.specs.Text.{block_room, mcs_text, row_lines, row_size};
 
 use crate::record::BLOCK_SIZE;

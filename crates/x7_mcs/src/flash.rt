@@ -3,7 +3,7 @@ ghost use Rattle.std.specs.Prelude.{◌≡◌, ℕ, ◌≤◌, ◌⊎◌, List, 
 ghost use Rattle.x7_text.specs.LineReading.{WantsAt};
 ghost use Rattle.x7_mcs.specs.Flash.{mcs_of};
 ghost use Rattle.x7_mcs.specs.McsLines.{AreGoodWith};
-ghost use Rattle.x7_mcs.specs.Places.{flash_limit};
+ghost use Rattle.x7_words.specs.Flash.{flash_limit};
 ghost use Rattle.x7_mcs.specs.Text.{mcs_text};
 ghost use Rattle.x7_mcs.specs.declared.fault.McsFault.{McsFault};
 ghost use Rattle.x7_words.specs.Word.{AreBytes};

@@ -2,15 +2,15 @@
 ghost use Rattle.std.specs.Prelude.{◌≡◌, ℕ, true, ◌≤◌, ◌<◌, ◌+◌, ◌-◌, ◌*◌, ◌/◌, ◌%◌, ◌^◌, ◌==◌, ◌&&◌, nat_le, nat_lt, max, if◌then◌else◌, List, [], length, get_or, None, Some, Ok, Err, MatchResult, MatchOption};
 ghost use Rattle.std.specs.Int.{bit_at};
 ghost use Rattle.x7_mcs.specs.Places.{DataRecord, overlap};
-ghost use Rattle.x7_mcs.specs.Images.{HoldsIn, HoldsMore, IsRefused, data_at};
-ghost use Rattle.x7_mcs.specs.State.{AreFree, IsFirstMarked, IsPlaced, is_marked};
+ghost use Rattle.x7_mcs.specs.Images.{HoldsIn, HoldsMore, IsRecordRefused, data_at};
+ghost use Rattle.x7_mcs.specs.State.{AreFree, IsFirstMarked, IsWrittenFrom, is_marked};
 ghost use Rattle.x7_mcs.specs.declared.fault.McsFault.{McsFault};
 
 use crate::fault::McsFault;
 use std::alloc::{AllocError, Global};
 
 /// How many places a flash has at most.
-pub const FLASH_LIMIT: usize = 134_217_728;
+pub const FLASH_LIMIT: usize = x7_words::FLASH_LIMIT as usize;
 
 /// A mark with all its sixteen places.
 const ALL: u16 = 0xFFFF;
@@ -59,7 +59,7 @@ fn set_bytes(bytes: &mut Vec<u8>, place: usize, content: &[u8])
 /// Appends bytes.
 #[inline(always)]
 fn append_bytes(bytes: &mut Vec<u8>, content: &[u8]) -> Result<(), AllocError>
-    ensures { MatchResult result (λ _. IsPlaced (length bytes.old.items) content.now bytes.old.items bytes.new.items) (λ _. Unit {0}) }
+    ensures { MatchResult result (λ _. IsWrittenFrom (length bytes.old.items) content.now bytes.old.items bytes.new.items) (λ _. Unit {0}) }
 {
     bytes.extend_from_slice(content)
 }
@@ -68,7 +68,7 @@ fn append_bytes(bytes: &mut Vec<u8>, content: &[u8]) -> Result<(), AllocError>
 #[inline(always)]
 fn put_bytes(bytes: &mut Vec<u8>, place: usize, content: &[u8]) -> Result<(), AllocError>
     requires { place + length content.now < 2 ^ 34 }
-    ensures { MatchResult result (λ _. IsPlaced place content.now bytes.old.items bytes.new.items) (λ _. Unit {0}) }
+    ensures { MatchResult result (λ _. IsWrittenFrom place content.now bytes.old.items bytes.new.items) (λ _. Unit {0}) }
 {
     if place < bytes.len() {
         grow_bytes(bytes, place + content.len())?;
@@ -193,7 +193,7 @@ pub(crate) fn put_content(
 ) -> Result<(), McsFault>
     requires { (place < 2 ^ 33) × (length content.now < 256) }
     ensures { (xs : List DataRecord) → HoldsIn image.old xs
-        → MatchResult result (λ _. HoldsMore image.new n xs (data_at place content.now)) (λ fault. IsRefused n xs (data_at place content.now) fault) }
+        → MatchResult result (λ _. HoldsMore image.new n xs (data_at place content.now)) (λ fault. IsRecordRefused n xs (data_at place content.now) fault) }
 {
     if content.len() == 0 {
         return Ok(());

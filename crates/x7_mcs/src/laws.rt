@@ -1,9 +1,10 @@
 //! What a text gives, said in other words: laws of the definitions, for the proofs of crates above.
 ghost use Rattle.std.specs.Prelude.{◌≡◌, ℕ, true, false, ◌≤◌, ◌<◌, ◌+◌, ◌-◌, ◌*◌, ◌%◌, List, ◌∷◌, ◌++◌, length, get_or, Some, None, Ok, Err};
 ghost use Rattle.x7_text.specs.Row.{rows};
+ghost use Rattle.x7_words.specs.Flash.{flash_limit};
 ghost use Rattle.x7_words.specs.Word.{AreBytes};
-ghost use Rattle.x7_mcs.specs.Flash.{Reading, after_lines, and_then, mcs_of, reading_of};
-ghost use Rattle.x7_mcs.specs.Places.{AreApart, DataRecord, byte_at, covered, covers, extent, flash_limit, image_of, overlap};
+ghost use Rattle.x7_mcs.specs.Flash.{FlashReading, after_lines, and_then, mcs_of, flash_reading};
+ghost use Rattle.x7_mcs.specs.Places.{HaveNoOverlap, DataRecord, byte_at, covered, covers, extent, records_image, overlap};
 ghost use Rattle.x7_mcs.specs.Text.{mcs_text, row_lines, row_size};
 ghost use Rattle.x7_mcs.specs.declared.fault.McsFault.{McsFault};
 
@@ -24,22 +25,22 @@ pub fn want_of_memory_is_no_fault()
 
 /// Lines are read in turn: what the first of them give is where the others begin, and their first fault stays.
 pub fn lines_in_turn()
-    ensures { (n : ℕ) (r : Reading) (first others : List (List ℕ))
+    ensures { (n : ℕ) (r : FlashReading) (first others : List (List ℕ))
         → after_lines n r (first ++ others) ≡ and_then (after_lines n r first) (λ s. after_lines (n + length first) s others) }
 {}
 
 /// The flash's bytes, place by place.
 pub fn bytes_by_place()
-    ensures long { (records : List DataRecord) → length (image_of records) ≡ extent records }
-    ensures at { (records : List DataRecord) (p : ℕ) → p < extent records → get_or (image_of records) p 255 ≡ byte_at records p }
-    ensures covered { (before after : List DataRecord) (x : DataRecord) (p : ℕ) → AreApart (before ++ x ∷ after) → covers x p ≡ true
+    ensures long { (records : List DataRecord) → length (records_image records) ≡ extent records }
+    ensures at { (records : List DataRecord) (p : ℕ) → p < extent records → get_or (records_image records) p 255 ≡ byte_at records p }
+    ensures covered { (before after : List DataRecord) (x : DataRecord) (p : ℕ) → HaveNoOverlap (before ++ x ∷ after) → covers x p ≡ true
         → byte_at (before ++ x ∷ after) p ≡ get_or x.bytes (p - x.place) 255 }
     ensures free { (records : List DataRecord) (p : ℕ) → covered records p ≡ false → byte_at records p ≡ 255 }
 {}
 
 /// No two records of a good text cover one place.
 pub fn records_are_apart()
-    ensures { (text : List ℕ) (r : Reading) → reading_of text ≡ Ok r → AreApart r.records }
+    ensures { (text : List ℕ) (r : FlashReading) → flash_reading text ≡ Ok r → HaveNoOverlap r.records }
 {}
 
 /// The place that an overlap tells is the least of the record's that another covers.

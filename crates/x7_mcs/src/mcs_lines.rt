@@ -3,10 +3,10 @@ ghost use Rattle.std.specs.Prelude.{◌≡◌, ◌+◌, ◌<◌, ◌≤◌, ◌+
 ghost use Rattle.x7_text.specs.LineReading.{WantsAt};
 ghost use Rattle.x7_text.specs.Lines.{split};
 ghost use Rattle.x7_mcs.specs.Flash.{after_data, after_line};
-ghost use Rattle.x7_mcs.specs.Images.{HoldsIn, reading_at};
+ghost use Rattle.x7_mcs.specs.Images.{HoldsIn, flash_reading_at};
 ghost use Rattle.x7_mcs.specs.Places.{DataRecord};
 ghost use Rattle.x7_mcs.specs.Text.{last_row, row_size};
-ghost use Rattle.x7_mcs.specs.McsLines.{AreGoodWith, HasMcsFault, HasRead, ReachesIn, TakesFirst, body_in, flash_of_lines};
+ghost use Rattle.x7_mcs.specs.McsLines.{AreGoodWith, HasMcsFault, HasReadRecords, ReachesIn, TakesFirstLine, mcs_lines_state, flash_of_lines};
 ghost use Rattle.x7_mcs.specs.declared.mcs_lines.McsLines.{McsLines};
 ghost use Rattle.x7_mcs.specs.declared.fault.McsFault.{McsFault};
 
@@ -31,7 +31,7 @@ pub struct McsLines {
 impl McsLines {
     /// The image of no line.
     pub fn new(alloc: Global) -> McsLines
-        ensures { HasRead (body_in result) [] }
+        ensures { HasReadRecords (mcs_lines_state result) [] }
     {
         McsLines {
             image: empty_image(alloc),
@@ -48,7 +48,7 @@ impl McsLines {
         requires address { row.now.address ≤ last_row }
         requires content { length row.now.content ≡ row_size }
         ensures { (xs : List DataRecord) → HoldsIn self.old.image xs
-            → ReachesIn result (after_data n (reading_at self.old.context xs) row.now.address row.now.content) self.new }
+            → ReachesIn result (after_data n (flash_reading_at self.old.context xs) row.now.address row.now.content) self.new }
     {
         match put_data(&mut self.image, n, self.context, row.address, &row.content) {
             Ok(context) => {
@@ -61,7 +61,7 @@ impl McsLines {
 
     /// Takes line `n`, which has no end here.
     fn put_one(&mut self, n: u64, line: &[u8]) -> Result<(), McsFault>
-        ensures { (xs : List DataRecord) → HoldsIn self.old.image xs → ReachesIn result (after_line n (reading_at self.old.context xs) line.now) self.new }
+        ensures { (xs : List DataRecord) → HoldsIn self.old.image xs → ReachesIn result (after_line n (flash_reading_at self.old.context xs) line.now) self.new }
     {
         match put_line(&mut self.image, n, self.context, line) {
             Ok(context) => {
@@ -75,10 +75,10 @@ impl McsLines {
     /// Takes the first line of a text, line `n`, if it has its end. Answers the text behind it.
     #[inline(always)]
     fn take_line<'t>(&mut self, n: u64, text: &'t [u8]) -> Result<Option<&'t [u8]>, McsFault>
-        ensures goes { (lines : List (List ℕ)) → n ≡ length lines + 1 → HasRead (body_in self.old) lines
-            → MatchResult result (λ found. MatchOption found (HasRead (body_in self.new) lines) (λ rest. TakesFirst lines text.now rest.now self.new))
+        ensures goes { (lines : List (List ℕ)) → n ≡ length lines + 1 → HasReadRecords (mcs_lines_state self.old) lines
+            → MatchResult result (λ found. MatchOption found (HasReadRecords (mcs_lines_state self.new) lines) (λ rest. TakesFirstLine lines text.now rest.now self.new))
             (λ f. (more : List ℕ) → HasMcsFault f (lines ++ split (text.now ++ more))) }
-        ensures memory { (lines : List (List ℕ)) → n ≡ length lines + 1 → HasRead (body_in self.old) lines
+        ensures memory { (lines : List (List ℕ)) → n ≡ length lines + 1 → HasReadRecords (mcs_lines_state self.old) lines
             → IfErr result (λ f. f ≡ McsFault.NoMemory → WantsAt AreGoodWith lines text.now) }
         ensures left { IfOk result (λ found. MatchOption found (split text.now ≡ text.now ∷ []) (λ rest. length rest.now < length text.now)) }
     {
@@ -107,7 +107,7 @@ impl TakesLines for McsLines {
 
     type Out = Vec<u8>;
 
-    ghost took = { λ first b. HasRead (body_in b) };
+    ghost took = { λ first b. HasReadRecords (mcs_lines_state b) };
 
     ghost fails = { λ first. HasMcsFault };
 

@@ -1,8 +1,8 @@
 //! What the bytes of one record say.
 ghost use Rattle.std.specs.Prelude.{◌≡◌, ◌<◌, ◌+◌, ◌%◌, ◌++◌, get_or, length, MatchResult};
 ghost use Rattle.std.specs.List.{sum};
-ghost use Rattle.x7_mcs.specs.Record.{data_of, meaning_by_type, meaning_of, sum_byte};
-ghost use Rattle.x7_mcs.specs.State.{Says};
+ghost use Rattle.x7_mcs.specs.Record.{record_data, meaning_by_type, meaning_of, sum_byte};
+ghost use Rattle.x7_mcs.specs.State.{SaysMeaning};
 
 use crate::fault::McsFault;
 
@@ -45,7 +45,7 @@ pub(crate) fn sum_byte(fields: &[u8], content: &[u8]) -> u8
 /// What the record of line `n` says by its type, its count and its address.
 fn meaning_by_type(n: u64, bytes: &[u8]) -> Result<Meaning, McsFault>
     requires { get_or bytes.now 0 0 + 5 ≡ length bytes.now }
-    ensures { Says result (meaning_by_type n bytes.now) }
+    ensures { SaysMeaning result (meaning_by_type n bytes.now) }
 {
     let count = u32::from(bytes[0]);
     let address = 256 * u32::from(bytes[1]) + u32::from(bytes[2]);
@@ -70,7 +70,7 @@ fn meaning_by_type(n: u64, bytes: &[u8]) -> Result<Meaning, McsFault>
 
 /// What the bytes of line `n` say, where a record 01 stood before or not.
 pub(crate) fn meaning_of(n: u64, ended: bool, bytes: &[u8]) -> Result<Meaning, McsFault>
-    ensures meaning { Says result (meaning_of n ended bytes.now) }
+    ensures meaning { SaysMeaning result (meaning_of n ended bytes.now) }
     ensures long { MatchResult result (λ _. get_or bytes.now 0 0 + 5 ≡ length bytes.now) (λ _. Unit {0}) }
 {
     if bytes.len() == 0 || usize::from(bytes[0]) + 5 != bytes.len() {
@@ -88,9 +88,9 @@ pub(crate) fn meaning_of(n: u64, ended: bool, bytes: &[u8]) -> Result<Meaning, M
 }
 
 /// The data of a record.
-pub(crate) fn data_of(bytes: &[u8]) -> &[u8]
+pub(crate) fn record_data(bytes: &[u8]) -> &[u8]
     requires { get_or bytes.now 0 0 + 5 ≡ length bytes.now }
-    ensures is { result.now ≡ data_of bytes.now }
+    ensures is { result.now ≡ record_data bytes.now }
     ensures long { length result.now < 256 }
 {
     let count = usize::from(bytes[0]);

@@ -1,14 +1,14 @@
 //! One line more.
 ghost use Rattle.std.specs.Prelude.{true, ◌<◌, ◌^◌, List, length};
-ghost use Rattle.x7_mcs.specs.Record.{data_of, meaning_of};
+ghost use Rattle.x7_mcs.specs.Record.{record_data, meaning_of};
 ghost use Rattle.x7_mcs.specs.Places.{DataRecord};
 ghost use Rattle.x7_mcs.specs.Flash.{after_data, after_line};
-ghost use Rattle.x7_mcs.specs.Images.{ComesTo, HoldsIn, after_record, reading_at};
+ghost use Rattle.x7_mcs.specs.Images.{CallComesTo, HoldsIn, after_record, flash_reading_at};
 ghost use Rattle.x7_mcs.specs.declared.fault.McsFault.{McsFault};
 
 use crate::fault::McsFault;
 use crate::image::{Image, put_content};
-use crate::record::{Meaning, data_of, meaning_of};
+use crate::record::{Meaning, meaning_of, record_data};
 use x7_text::read_pairs;
 
 /// The bytes of the longest record: 255 of data, and five beside them.
@@ -32,7 +32,7 @@ pub(crate) fn put_data(
 ) -> Result<Context, McsFault>
     requires content { length content.now < 256 }
     requires address { address < 2 ^ 16 }
-    ensures { (xs : List DataRecord) → HoldsIn image.old xs → ComesTo result (after_data n (reading_at context xs) address content.now) image.new }
+    ensures { (xs : List DataRecord) → HoldsIn image.old xs → CallComesTo result (after_data n (flash_reading_at context xs) address content.now) image.new }
 {
     match put_content(image, n, context.base as usize + address as usize, content) {
         Ok(()) => Ok(context),
@@ -47,7 +47,7 @@ fn put_record(
     context: Context,
     bytes: &[u8],
 ) -> Result<Context, McsFault>
-    ensures { (xs : List DataRecord) → HoldsIn image.old xs → ComesTo result (after_record n context xs bytes.now) image.new }
+    ensures { (xs : List DataRecord) → HoldsIn image.old xs → CallComesTo result (after_record n context xs bytes.now) image.new }
 {
     match meaning_of(n, context.ended, bytes) {
         Err(fault) => Err(fault),
@@ -60,7 +60,7 @@ fn put_record(
             base,
             ended: context.ended,
         }),
-        Ok(Meaning::Data(address)) => put_data(image, n, context, address, data_of(bytes)),
+        Ok(Meaning::Data(address)) => put_data(image, n, context, address, record_data(bytes)),
     }
 }
 
@@ -71,7 +71,7 @@ pub(crate) fn put_line(
     context: Context,
     line: &[u8],
 ) -> Result<Context, McsFault>
-    ensures { (xs : List DataRecord) → HoldsIn image.old xs → ComesTo result (after_line n (reading_at context xs) line.now) image.new }
+    ensures { (xs : List DataRecord) → HoldsIn image.old xs → CallComesTo result (after_line n (flash_reading_at context xs) line.now) image.new }
 {
     if line.len() == 0 {
         return Ok(context);

@@ -5,7 +5,7 @@ ghost use Rattle.x7_text.specs.Digits.{hex_byte};
 ghost use Rattle.x7_text.specs.Row.{rows};
 ghost use Rattle.x7_words.specs.Word.{AreBytes};
 ghost use Rattle.x7_mcs.specs.Flash.{mcs_of};
-ghost use Rattle.x7_mcs.specs.Places.{flash_limit};
+ghost use Rattle.x7_words.specs.Flash.{flash_limit};
 ghost use Rattle.x7_mcs.specs.Record.{block_size};
 ghost use Rattle.x7_mcs.specs.Text.{block_start, data_line, mcs_text, record_line, row_lines, row_size};
 
