@@ -9,7 +9,7 @@ use Rattle.x7_part.specs.Part.{PartData}
 use Rattle.x7_memory.specs.FrameMap.{AreSame, FrameMap}
 use Rattle.x7_memory.specs.Frames.{frame_at}
 use Rattle.x7_engine.specs.declared.regs.Regs.{Regs}
-use Rattle.x7_report.specs.Frames.{frames_text, line_of, lines_text, shown}
+use Rattle.x7_report.specs.Frames.{frames_text, frame_text_if, lines_text, addresses_shown}
 use Rattle.x7_report.specs.Reads.{reads_text}
 use Rattle.x7_report.specs.Report.{report_text}
 use Rattle.x7_report.specs.State.{state_text}
@@ -26,7 +26,7 @@ none_sent first memory fars = record { done = []; put = sym (appended-nil first)
 
 parted : (memory : FrameMap) (k : ℕ) (rest group more : List ℕ) → group ≡ take k rest → more ≡ drop k rest → lines_text memory rest ≡ lines_text memory group ++ lines_text memory more
 parted memory k rest group more e f =
-    ap (lines_text memory) (sym (take-append-drop k rest)) ∙ flat_map-append (λ far. line_of far (memory far)) (take k rest) (drop k rest)
+    ap (lines_text memory) (sym (take-append-drop k rest)) ∙ flat_map-append (λ far. frame_text_if far (memory far)) (take k rest) (drop k rest)
     ∙ ap (λ t. lines_text memory t ++ lines_text memory (drop k rest)) (sym e) ∙ ap (λ t. lines_text memory group ++ lines_text memory t) (sym f)
 
 module _ (first now : Option (List ℕ)) (memory : FrameMap) (fars rest group more : List ℕ) (k : ℕ) (g : Sent first now memory fars rest) (e : group ≡ take k rest) (f : more ≡ drop k rest) where
@@ -63,7 +63,7 @@ behind : (prefix a b c d : List ℕ) → prefix ++ a ++ b ++ c ++ d ≡ prefix +
 behind prefix a b c d =
     ap (λ t. t ++ c ++ d) (append_assoc prefix a b) ∙ ap (λ t. t ++ d) (append_assoc prefix (a ++ b) c) ∙ append_assoc prefix (a ++ b ++ c) d
 
-pub play_is : (p q : PartData) (state : Regs) (reads : List ℕ) (frames : List (List ℕ)) (n : FrameMap) (head fars : List ℕ) → p ≡ q → AreSame (frame_at q frames) n → fars ≡ shown (frame_at p frames) (addresses_in p) →
+pub play_is : (p q : PartData) (state : Regs) (reads : List ℕ) (frames : List (List ℕ)) (n : FrameMap) (head fars : List ℕ) → p ≡ q → AreSame (frame_at q frames) n → fars ≡ addresses_shown (frame_at p frames) (addresses_in p) →
     head ≡ state_text q.name state ++ reads_text reads ++ codes "frames " ++ decimal (length fars) ++ codes "\n" → head ++ lines_text (frame_at p frames) fars ≡ report_text q state reads n
 unfolding report_text frames_text
 play_is p q state reads frames n head fars d same e h =

@@ -12,14 +12,14 @@ use Rattle.x7_part.specs.Part.{PartData}
 use Rattle.x7_memory.specs.FrameMap.{AreSame, FrameMap}
 use Rattle.x7_memory.specs.Frames.{frame_at}
 use Rattle.x7_engine.specs.declared.regs.Regs.{Regs}
-use Rattle.x7_report.specs.Frames.{frames_text, is_blank, is_shown, line_of, shown}
+use Rattle.x7_report.specs.Frames.{frames_text, are_zeros, is_shown, frame_text_if, addresses_shown}
 use Rattle.x7_report.specs.Reads.{reads_text}
 use Rattle.x7_report.specs.Report.{report_text}
 use Rattle.x7_report.specs.State.{state_text}
 
-blank-append : (xs ys : List ℕ) → is_blank (xs ++ ys) ≡ (is_blank xs && is_blank ys)
+blank-append : (xs ys : List ℕ) → are_zeros (xs ++ ys) ≡ (are_zeros xs && are_zeros ys)
 blank-append [] ys = refl
-blank-append (x ∷ xs) ys = by (x == 0) (is_blank xs) (is_blank ys) (is_blank (xs ++ ys)) (blank-append xs ys)
+blank-append (x ∷ xs) ys = by (x == 0) (are_zeros xs) (are_zeros ys) (are_zeros (xs ++ ys)) (blank-append xs ys)
   where
     by : (z a b c : Bool) → c ≡ (a && b) → (z && c) ≡ ((z && a) && b)
     by true a b c e = e
@@ -38,38 +38,38 @@ or_blank a w = elim (eq-zero-or-pos a) [
 ]
 
 -- whether words are blank, one word more
-pub word_taken : (words : List ℕ) (i any : ℕ) → i < length words → (any == 0) ≡ is_blank (take i words) → (bit_or any (get_or words i 0) == 0) ≡ is_blank (take (i + 1) words)
+pub word_taken : (words : List ℕ) (i any : ℕ) → i < length words → (any == 0) ≡ are_zeros (take i words) → (bit_or any (get_or words i 0) == 0) ≡ are_zeros (take (i + 1) words)
 word_taken words i any h e =
     or_blank any (get_or words i 0) ∙ ap (λ (b : Bool). b && (get_or words i 0 == 0 && true)) e
-    ∙ sym (ap is_blank (take_more words i 0 h) ∙ blank-append (take i words) (get_or words i 0 ∷ []))
+    ∙ sym (ap are_zeros (take_more words i 0 h) ∙ blank-append (take i words) (get_or words i 0 ∷ []))
 
-pub shown-append : (memory : FrameMap) (xs ys : List ℕ) → shown memory (xs ++ ys) ≡ shown memory xs ++ shown memory ys
+pub shown-append : (memory : FrameMap) (xs ys : List ℕ) → addresses_shown memory (xs ++ ys) ≡ addresses_shown memory xs ++ addresses_shown memory ys
 shown-append memory [] ys = refl
-shown-append memory (x ∷ xs) ys = by (is_shown (memory x)) (shown memory xs) (shown memory (xs ++ ys)) (shown-append memory xs ys)
+shown-append memory (x ∷ xs) ys = by (is_shown (memory x)) (addresses_shown memory xs) (addresses_shown memory (xs ++ ys)) (shown-append memory xs ys)
   where
-    by : (b : Bool) (first all : List ℕ) → all ≡ first ++ shown memory ys → (if b then x ∷ all else all) ≡ (if b then x ∷ first else first) ++ shown memory ys
+    by : (b : Bool) (first all : List ℕ) → all ≡ first ++ addresses_shown memory ys → (if b then x ∷ all else all) ≡ (if b then x ∷ first else first) ++ addresses_shown memory ys
     by true first all e = ap (λ t. x ∷ t) e
     by false first all e = e
 
-pub shown_more : (memory : FrameMap) (fars : List ℕ) (i : ℕ) (b : Bool) → i < length fars → is_shown (memory (get_or fars i 0)) ≡ b → shown memory (take (i + 1) fars) ≡ shown memory (take i fars) ++ (if b then get_or fars i 0 ∷ [] else [])
+pub shown_more : (memory : FrameMap) (fars : List ℕ) (i : ℕ) (b : Bool) → i < length fars → is_shown (memory (get_or fars i 0)) ≡ b → addresses_shown memory (take (i + 1) fars) ≡ addresses_shown memory (take i fars) ++ (if b then get_or fars i 0 ∷ [] else [])
 shown_more memory fars i b l e =
-    ap (shown memory) (take_more fars i 0 l) ∙ shown-append memory (take i fars) (get_or fars i 0 ∷ [])
-    ∙ ap (λ (x : Bool). shown memory (take i fars) ++ (if x then get_or fars i 0 ∷ [] else [])) e
+    ap (addresses_shown memory) (take_more fars i 0 l) ∙ shown-append memory (take i fars) (get_or fars i 0 ∷ [])
+    ∙ ap (λ (x : Bool). addresses_shown memory (take i fars) ++ (if x then get_or fars i 0 ∷ [] else [])) e
 
-shown_same : (m n : FrameMap) (fars : List ℕ) → AreSame m n → shown m fars ≡ shown n fars
+shown_same : (m n : FrameMap) (fars : List ℕ) → AreSame m n → addresses_shown m fars ≡ addresses_shown n fars
 shown_same m n [] same = refl
-shown_same m n (x ∷ fars) same = ap (λ (o : Option (List ℕ)). if is_shown o then x ∷ shown m fars else shown m fars) (same x) ∙ ap (λ t. if is_shown (n x) then x ∷ t else t) (shown_same m n fars same)
+shown_same m n (x ∷ fars) same = ap (λ (o : Option (List ℕ)). if is_shown o then x ∷ addresses_shown m fars else addresses_shown m fars) (same x) ∙ ap (λ t. if is_shown (n x) then x ∷ t else t) (shown_same m n fars same)
 
-lines_same : (m n : FrameMap) (fars : List ℕ) → AreSame m n → flat_map (λ far. line_of far (m far)) fars ≡ flat_map (λ far. line_of far (n far)) fars
+lines_same : (m n : FrameMap) (fars : List ℕ) → AreSame m n → flat_map (λ far. frame_text_if far (m far)) fars ≡ flat_map (λ far. frame_text_if far (n far)) fars
 lines_same m n [] same = refl
-lines_same m n (x ∷ fars) same = ap (λ (o : Option (List ℕ)). line_of x o ++ flat_map (λ far. line_of far (m far)) fars) (same x) ∙ ap (λ t. line_of x (n x) ++ t) (lines_same m n fars same)
+lines_same m n (x ∷ fars) same = ap (λ (o : Option (List ℕ)). frame_text_if x o ++ flat_map (λ far. frame_text_if far (m far)) fars) (same x) ∙ ap (λ t. frame_text_if x (n x) ++ t) (lines_same m n fars same)
 
 -- maps that have the same frames are shown alike
 pub frames_same : (m n : FrameMap) (fars : List ℕ) → AreSame m n → frames_text m fars ≡ frames_text n fars
 unfolding frames_text
 frames_same m n fars same =
-    ap (λ (xs : List ℕ). codes "frames " ++ decimal (length xs) ++ codes "\n" ++ flat_map (λ far. line_of far (m far)) xs) (shown_same m n fars same)
-    ∙ ap (λ (t : List ℕ). codes "frames " ++ decimal (length (shown n fars)) ++ codes "\n" ++ t) (lines_same m n (shown n fars) same)
+    ap (λ (xs : List ℕ). codes "frames " ++ decimal (length xs) ++ codes "\n" ++ flat_map (λ far. frame_text_if far (m far)) xs) (shown_same m n fars same)
+    ∙ ap (λ (t : List ℕ). codes "frames " ++ decimal (length (addresses_shown n fars)) ++ codes "\n" ++ t) (lines_same m n (addresses_shown n fars) same)
 
 pub report_is : (p q : PartData) (name : List ℕ) (regs state : Regs) (reads : List ℕ) (frames : List (List ℕ)) (n : FrameMap) (none first second third : List ℕ) → name ≡ p.name → regs ≡ state → p ≡ q → AreSame (frame_at q frames) n → none ≡ []
     → first ≡ none ++ state_text name regs → second ≡ first ++ reads_text reads → third ≡ second ++ frames_text (frame_at p frames) (addresses_in p) → third ≡ report_text q state reads n

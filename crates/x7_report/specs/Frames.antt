@@ -13,29 +13,29 @@ unfoldable pub frame_text : ℕ → List ℕ → List ℕ
 frame_text far words = codes "frame " ++ hex_word far ++ 32 ∷ flat_map hex_word words ++ codes "\n"
 
 -- all words are 0
-abbrev pub is_blank : List ℕ → Bool
-is_blank [] = true
-is_blank (w ∷ words) = w == 0 && is_blank words
+abbrev pub are_zeros : List ℕ → Bool
+are_zeros [] = true
+are_zeros (w ∷ words) = w == 0 && are_zeros words
 
 -- there is a frame, and it has a word other than 0
 abbrev pub is_shown : Option (List ℕ) → Bool
 is_shown None = false
-is_shown (Some words) = not (is_blank words)
+is_shown (Some words) = not (are_zeros words)
 
 -- of these addresses those whose frames are shown
-abbrev pub shown : FrameMap → List ℕ → List ℕ
-shown memory [] = []
-shown memory (far ∷ fars) = if is_shown (memory far) then far ∷ shown memory fars else shown memory fars
+abbrev pub addresses_shown : FrameMap → List ℕ → List ℕ
+addresses_shown memory [] = []
+addresses_shown memory (far ∷ fars) = if is_shown (memory far) then far ∷ addresses_shown memory fars else addresses_shown memory fars
 
 -- the line of the frame at an address
-abbrev pub line_of : ℕ → Option (List ℕ) → List ℕ
-line_of far None = []
-line_of far (Some words) = frame_text far words
+abbrev pub frame_text_if : ℕ → Option (List ℕ) → List ℕ
+frame_text_if far None = []
+frame_text_if far (Some words) = frame_text far words
 
 -- the lines of the frames at these addresses
 abbrev pub lines_text : FrameMap → List ℕ → List ℕ
-lines_text memory fars = flat_map (λ far. line_of far (memory far)) fars
+lines_text memory fars = flat_map (λ far. frame_text_if far (memory far)) fars
 
 -- the number of the frames shown at these addresses, and their lines in the addresses' order
 unfoldable pub frames_text : FrameMap → List ℕ → List ℕ
-frames_text memory fars = codes "frames " ++ decimal (length (shown memory fars)) ++ codes "\n" ++ flat_map (λ far. line_of far (memory far)) (shown memory fars)
+frames_text memory fars = codes "frames " ++ decimal (length (addresses_shown memory fars)) ++ codes "\n" ++ flat_map (λ far. frame_text_if far (memory far)) (addresses_shown memory fars)

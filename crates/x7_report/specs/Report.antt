@@ -12,12 +12,12 @@ use Rattle.x7_report.specs.Reads.{reads_text}
 use Rattle.x7_report.specs.State.{state_text}
 
 -- the state that a device of this past shows: FAR is that of the words given so far
-abbrev pub state_shown : DeviceState → Past → Regs
-state_shown d p = state_owing p.part p.kept p.wrapped p.bytes (frames_due d.registers.due)
+abbrev pub state_reported : DeviceState → Past → Regs
+state_reported d p = state_owing p.part p.kept p.wrapped p.bytes (frames_due d.registers.due)
 
 -- what a report has before the lines of its frames, of which it shows `count`
-abbrev pub head_text : PartData → Regs → List ℕ → ℕ → List ℕ
-head_text part regs reads count = state_text part.name regs ++ reads_text reads ++ codes "frames " ++ decimal count ++ codes "\n"
+abbrev pub report_head : PartData → Regs → List ℕ → ℕ → List ℕ
+report_head part regs reads count = state_text part.name regs ++ reads_text reads ++ codes "frames " ++ decimal count ++ codes "\n"
 
 -- the whole report of a device of the part, by its state, the words that it read out and its memory
 unfoldable pub report_text : PartData → Regs → List ℕ → FrameMap → List ℕ

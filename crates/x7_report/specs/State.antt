@@ -30,16 +30,16 @@ end_text (at_end.Iprog wbstar) = codes "iprog " ++ hex_word wbstar
 end_text (at_end.Fault f) = codes "fault " ++ fault_text f
 
 -- the digit of a line, 0 or 1
-abbrev pub bit_text : Bool → List ℕ
-bit_text b = if b then codes "1" else codes "0"
+abbrev pub line_digit : Bool → List ℕ
+line_digit b = if b then codes "1" else codes "0"
 
 -- the line of startup: its phase, and DONE, GTS and GWE
 unfoldable pub phase_text : Regs → List ℕ
 phase_text r =
     codes "phase " ++ decimal r.phase
-    ++ codes " done " ++ bit_text r.lines.done
-    ++ codes " gts " ++ bit_text r.lines.gts
-    ++ codes " gwe " ++ bit_text r.lines.gwe
+    ++ codes " done " ++ line_digit r.lines.done
+    ++ codes " gts " ++ line_digit r.lines.gts
+    ++ codes " gwe " ++ line_digit r.lines.gwe
     ++ codes "\n"
 
 -- the registers in the order of their numbers, each with its word

@@ -6,7 +6,7 @@ ghost use Rattle.x7_text.specs.Digits.{hex_word};
 ghost use Rattle.x7_words.specs.Word.{bytes_of_word};
 ghost use Rattle.x7_part.specs.AddressOrder.{addresses_in};
 ghost use Rattle.x7_memory.specs.Frames.{AreFramesOf, frame_at};
-ghost use Rattle.x7_report.specs.Frames.{frame_text, frames_text, is_blank, is_shown, line_of, shown};
+ghost use Rattle.x7_report.specs.Frames.{frame_text, frames_text, are_zeros, is_shown, frame_text_if, addresses_shown};
 
 use std::alloc::Global;
 use std::simd::prelude::*;
@@ -114,7 +114,7 @@ pub fn frame_line(out: &mut Vec<u8>, far: u32, words: &[u32]) -> Result<(), NoMe
 
 /// Whether all words are 0.
 fn are_zeros(words: &[u32]) -> bool
-    ensures { result ≡ is_blank words.now }
+    ensures { result ≡ are_zeros words.now }
 {
     let mut any = 0;
     for word in words {
@@ -125,7 +125,7 @@ fn are_zeros(words: &[u32]) -> bool
 
 /// Whether all words of a frame are 0.
 fn is_blank_frame(words: &[u32]) -> bool
-    ensures { result ≡ is_blank words.now }
+    ensures { result ≡ are_zeros words.now }
 {
     match words.first() {
         Some(word) if *word != 0 => false,
@@ -163,7 +163,7 @@ pub(crate) fn shown_frames(
     memory: &Memory,
 ) -> Result<Vec<u32>, NoMemory>
     requires { AreFramesOf part.now memory.now }
-    ensures { IfOk result (λ fars. fars.items ≡ shown (frame_at part.now memory.now) (addresses_in part.now)) }
+    ensures { IfOk result (λ fars. fars.items ≡ addresses_shown (frame_at part.now memory.now) (addresses_in part.now)) }
 {
     let mut fars = Vec::new(alloc);
     for rank in 0..part.frames() {
@@ -177,7 +177,7 @@ pub(crate) fn shown_frames(
 /// Appends the line of the frame at an address.
 fn put_frame_at(text: &mut Vec<u8>, part: &Part, memory: &Memory, far: u32) -> Result<(), NoMemory>
     requires { AreFramesOf part.now memory.now }
-    ensures { OnOk result (text.new.items ≡ text.old.items ++ line_of far (frame_at part.now memory.now far)) }
+    ensures { OnOk result (text.new.items ≡ text.old.items ++ frame_text_if far (frame_at part.now memory.now far)) }
 {
     match memory.frame(part, far) {
         Some(words) => frame_line(text, far, words),
@@ -193,7 +193,7 @@ fn put_frame_lines(
     fars: &[u32],
 ) -> Result<(), NoMemory>
     requires { AreFramesOf part.now memory.now }
-    ensures { OnOk result (text.new.items ≡ text.old.items ++ flat_map (λ far. line_of far (frame_at part.now memory.now far)) fars.now) }
+    ensures { OnOk result (text.new.items ≡ text.old.items ++ flat_map (λ far. frame_text_if far (frame_at part.now memory.now far)) fars.now) }
 {
     for far in fars {
         put_frame_at(text, part, memory, *far)?;

@@ -2,7 +2,7 @@
 ghost use Rattle.std.specs.Prelude.{◌≡◌, IfOk};
 ghost use Rattle.x7_engine.specs.Past.{OfPast, memory_at, state_at};
 ghost use Rattle.x7_engine.specs.Standing.{NoWordDue};
-ghost use Rattle.x7_report.specs.Report.{head_text, report_text, state_shown};
+ghost use Rattle.x7_report.specs.Report.{report_head, report_text, state_reported};
 
 use crate::frames::put_frames;
 use crate::reads::put_reads;
@@ -20,8 +20,8 @@ pub(crate) fn report_head(
     count: usize,
 ) -> Result<Vec<u8>, NoMemory>
     ensures value { IfOk result (λ text. OfPast device.now (λ p. NoWordDue device.now
-        → text.items ≡ head_text p.part (state_at p) reads.now count)) }
-    ensures owing { IfOk result (λ text. OfPast device.now (λ p. text.items ≡ head_text p.part (state_shown device.now p) reads.now count)) }
+        → text.items ≡ report_head p.part (state_at p) reads.now count)) }
+    ensures owing { IfOk result (λ text. OfPast device.now (λ p. text.items ≡ report_head p.part (state_reported device.now p) reads.now count)) }
 {
     let mut text = Vec::new(alloc);
     put_state(&mut text, device.part().name(), &device.state())?;
@@ -39,7 +39,7 @@ pub(crate) fn report_head(
 pub fn report(alloc: Global, device: &Device, reads: &[u32]) -> Result<Vec<u8>, NoMemory>
     ensures value { IfOk result (λ text. OfPast device.now (λ p. NoWordDue device.now
         → text.items ≡ report_text p.part (state_at p) reads.now (memory_at p))) }
-    ensures owing { IfOk result (λ text. OfPast device.now (λ p. text.items ≡ report_text p.part (state_shown device.now p) reads.now (memory_at p))) }
+    ensures owing { IfOk result (λ text. OfPast device.now (λ p. text.items ≡ report_text p.part (state_reported device.now p) reads.now (memory_at p))) }
 {
     let mut text = Vec::new(alloc);
     put_state(&mut text, device.part().name(), &device.state())?;

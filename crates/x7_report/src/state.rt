@@ -3,7 +3,7 @@ ghost use Rattle.std.specs.Prelude.{◌≡◌, ◌∷◌, ◌++◌, ◌≤◌, �
 ghost use Rattle.std.specs.List.{flat_map};
 ghost use Rattle.x7_text.specs.Appends.{Appends};
 ghost use Rattle.x7_text.specs.Digits.{hex_word};
-ghost use Rattle.x7_report.specs.State.{bit_text, end_text, fault_text, phase_text, reg_line, reg_text, reg_words, state_text};
+ghost use Rattle.x7_report.specs.State.{line_digit, end_text, fault_text, phase_text, reg_line, reg_text, reg_words, state_text};
 
 use x7_engine::{End, Fault, Regs};
 use x7_regs::{Reg, name_of};
@@ -79,7 +79,7 @@ pub fn end_words(out: &mut Vec<u8>, r: &Regs) -> Result<(), NoMemory>
 /// Appends a name and the digit of a line, 0 or 1.
 fn put_bit(out: &mut Vec<u8>, name: &[u8], bit: bool)
     requires { vec_len out.old + (length name.now + 1) ≤ vec_capacity out.old }
-    ensures appends { Appends out.old out.new (name.now ++ bit_text bit) (length name.now + 1) }
+    ensures appends { Appends out.old out.new (name.now ++ line_digit bit) (length name.now + 1) }
 {
     put(out, name);
     put(out, if bit { b"1" } else { b"0" });

@@ -5,8 +5,8 @@ ghost use Rattle.x7_text.specs.Appends.{Appends};
 ghost use Rattle.x7_memory.specs.Frames.{AreFramesOf, frame_at};
 ghost use Rattle.x7_engine.specs.Past.{OfPast, memory_at, state_at};
 ghost use Rattle.x7_engine.specs.Standing.{NoWordDue};
-ghost use Rattle.x7_report.specs.Frames.{group_room, line_of, lines_text};
-ghost use Rattle.x7_report.specs.Report.{report_text, state_shown};
+ghost use Rattle.x7_report.specs.Frames.{group_room, frame_text_if, lines_text};
+ghost use Rattle.x7_report.specs.Report.{report_text, state_reported};
 
 use crate::frames::{put_frame, shown_frames};
 use crate::reports::report_head;
@@ -27,7 +27,7 @@ const GROUP_ROOM: usize = 2_056 * GROUP;
 fn put_frame_at(text: &mut Vec<u8>, part: &Part, memory: &Memory, far: u32)
     requires memory { AreFramesOf part.now memory.now }
     requires room { vec_len text.old + 2056 ≤ vec_capacity text.old }
-    ensures appends { Appends text.old text.new (line_of far (frame_at part.now memory.now far)) 2056 }
+    ensures appends { Appends text.old text.new (frame_text_if far (frame_at part.now memory.now far)) 2056 }
 {
     let _words = part.words();
     match memory.frame(part, far) {
@@ -108,7 +108,7 @@ impl PlayText {
         stopped: bool,
     ) -> Result<PlayText, NoMemory>
         ensures value { IfOk result (λ text. OfPast device (λ p. NoWordDue device → text ≡ record { stopped = stopped; text = report_text p.part (state_at p) reads.now (memory_at p) })) }
-        ensures owing { IfOk result (λ text. OfPast device (λ p. text ≡ record { stopped = stopped; text = report_text p.part (state_shown device p) reads.now (memory_at p) })) }
+        ensures owing { IfOk result (λ text. OfPast device (λ p. text ≡ record { stopped = stopped; text = report_text p.part (state_reported device p) reads.now (memory_at p) })) }
     {
         let fars = shown_frames(alloc, device.part(), device.memory())?;
         let head = report_head(alloc, &device, reads, fars.len())?;

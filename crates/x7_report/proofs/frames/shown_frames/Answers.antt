@@ -1,7 +1,7 @@
 use Rattle.std.proofs.Common.{◌≡◌, ◌∷◌, [], ◌++◌, ◌<◌, ℕ, Bool, List, length, take, true, false, append-nil, get_or, sym, ap, ◌∙◌, arith}
 use Rattle.x7_part.specs.AddressOrder.{addresses_in}
 use Rattle.x7_memory.specs.Frames.{frame_at}
-use Rattle.x7_report.specs.Frames.{is_shown, shown}
+use Rattle.x7_report.specs.Frames.{is_shown, addresses_shown}
 use Rattle.x7_report.proofs.ReportLemmas.{shown_more}
 use Rattle.x7_report.proofs.frames.shown_frames.Goals.{then-is_shown_at+in_ok-push_address, else-is_shown_at}
 use Rattle.x7_report.proofs.frames.shown_frames.Goals as goal
@@ -21,7 +21,7 @@ loop-rank-preserved c =
             ∙ ap (λ (t : List ℕ). t ++ get_or fars c.loop-rank.rank 0 ∷ []) c.loop-rank.invariant.items
             ∙ sym (shown_more memory fars c.loop-rank.rank true few (test true w.if-is_shown_at.true))
         | else-is_shown_at w ↦
-            ap (λ v. v.items) w.fars-is ∙ c.loop-rank.invariant.items ∙ sym (append-nil (shown memory (take c.loop-rank.rank fars)))
+            ap (λ v. v.items) w.fars-is ∙ c.loop-rank.invariant.items ∙ sym (append-nil (addresses_shown memory (take c.loop-rank.rank fars)))
             ∙ sym (shown_more memory fars c.loop-rank.rank false few (test false w.if-is_shown_at.false))
       ];
     }
