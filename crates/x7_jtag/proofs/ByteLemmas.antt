@@ -9,9 +9,9 @@ use Rattle.x7_jtag.specs.declared.instruction.Instruction.{Instruction}
 use Rattle.x7_jtag.specs.declared.instruction.Instruction.TheVariants as instruction
 use Rattle.x7_jtag.specs.declared.state.State.{State}
 use Rattle.x7_jtag.specs.declared.state.State.TheVariants as state
-use Rattle.x7_jtag.specs.Bits.{bit_of, bits_from, byte_bits, bytes_bits, hex_digit, mirrored}
+use Rattle.x7_jtag.specs.Bits.{bit_of, bits_from, byte_bits, bytes_bits, digit_number, mirrored_digit}
 use Rattle.x7_jtag.specs.Clocks.{clock, inner_clocks}
-use Rattle.x7_jtag.specs.Port.{Port, clocked, number_of_bit, port_after, new_port, with_bit, words_read}
+use Rattle.x7_jtag.specs.Port.{Port, clocked, number_of_bit, port_after, new_port, with_bit, words_read_out}
 use Rattle.x7_jtag.specs.Queue.{Queue, offered}
 use Rattle.x7_jtag.specs.States.{Clock}
 use Rattle.x7_jtag.specs.Tap.{QueueStandsFor, StandsForPort, TakesBytes, TapStandsFor, TapState, last_or}
@@ -94,33 +94,33 @@ with-byte r b l =
 abbrev in_bytes : ℕ → Queue → Port
 in_bytes r q = record { state = state.ShiftDr; instruction = instruction.CfgIn; register = r; count = 0; queue = q }
 
-byte-clocked : (part : PartData) (r : ℕ) (q : Queue) (b : ℕ) → b < 256 → fold (clocked part) (in_bytes r q) (inner_clocks (byte_bits b)) ≡ in_bytes b (offered (words_read part) q b)
-byte-clocked part r q b l = ap (λ (w : ℕ). in_bytes w (offered (words_read part) q w)) (with-byte r b l)
+byte-clocked : (part : PartData) (r : ℕ) (q : Queue) (b : ℕ) → b < 256 → fold (clocked part) (in_bytes r q) (inner_clocks (byte_bits b)) ≡ in_bytes b (offered (words_read_out part) q b)
+byte-clocked part r q b l = ap (λ (w : ℕ). in_bytes w (offered (words_read_out part) q w)) (with-byte r b l)
 
 pub inner-append : (bs cs : List Bool) → inner_clocks (bs ++ cs) ≡ inner_clocks bs ++ inner_clocks cs
 inner-append [] cs = refl
 inner-append (b ∷ bs) cs = ap (λ t. clock false b ∷ t) (inner-append bs cs)
 
-bytes-clocked : (part : PartData) (r : ℕ) (q : Queue) (bs : List ℕ) → AreBytes bs → fold (clocked part) (in_bytes r q) (inner_clocks (bytes_bits bs)) ≡ in_bytes (last_or r bs) (fold (offered (words_read part)) q bs)
+bytes-clocked : (part : PartData) (r : ℕ) (q : Queue) (bs : List ℕ) → AreBytes bs → fold (clocked part) (in_bytes r q) (inner_clocks (bytes_bits bs)) ≡ in_bytes (last_or r bs) (fold (offered (words_read_out part)) q bs)
 bytes-clocked part r q [] f = refl
 bytes-clocked part r q (b ∷ bs) f =
     ap (fold (clocked part) (in_bytes r q)) (inner-append (byte_bits b) (bytes_bits bs))
     ∙ fold-append (clocked part) (in_bytes r q) (inner_clocks (byte_bits b)) (inner_clocks (bytes_bits bs))
     ∙ ap (λ (p : Port). fold (clocked part) p (inner_clocks (bytes_bits bs))) (byte-clocked part r q b f.0)
-    ∙ bytes-clocked part b (offered (words_read part) q b) bs f.1
+    ∙ bytes-clocked part b (offered (words_read_out part) q b) bs f.1
 
 -- ---- the bytes of digits
 
-mirror-8 : (n : ℕ) → n < 16 → mirrored n / 8 % 2 ≡ n % 2
+mirror-8 : (n : ℕ) → n < 16 → mirrored_digit n / 8 % 2 ≡ n % 2
 mirror-8 n l = omega (arith, l)
 
-mirror-4 : (n : ℕ) → n < 16 → mirrored n / 4 % 2 ≡ n / 2 % 2
+mirror-4 : (n : ℕ) → n < 16 → mirrored_digit n / 4 % 2 ≡ n / 2 % 2
 mirror-4 n l = omega (arith, l)
 
-mirror-2 : (n : ℕ) → n < 16 → mirrored n / 2 % 2 ≡ n / 4 % 2
+mirror-2 : (n : ℕ) → n < 16 → mirrored_digit n / 2 % 2 ≡ n / 4 % 2
 mirror-2 n l = omega (arith, l)
 
-mirror-1 : (n : ℕ) → n < 16 → mirrored n % 2 ≡ n / 8 % 2
+mirror-1 : (n : ℕ) → n < 16 → mirrored_digit n % 2 ≡ n / 8 % 2
 mirror-1 n l = omega (arith, l)
 
 is-one : (a b : ℕ) → a ≡ b → (a == 1) ≡ (b == 1)
@@ -136,8 +136,8 @@ place-of place k l = omega (arith, l)
 rest-of : (place k : ℕ) → k < 4 → (4 * place + k) % 4 ≡ k
 rest-of place k l = omega (arith, l)
 
-bit-at-place : (ds : List ℕ) (place k : ℕ) → k < 4 → bit_of ds (4 * place + k) ≡ (if nat_lt place (length ds) then hex_digit (slice_index ds (length ds - 1 - place)) / 2 ^ k % 2 == 1 else false)
-bit-at-place ds place k l = ap₂ (λ (p r : ℕ). if nat_lt p (length ds) then hex_digit (slice_index ds (length ds - 1 - p)) / 2 ^ r % 2 == 1 else false) (place-of place k l) (rest-of place k l)
+bit-at-place : (ds : List ℕ) (place k : ℕ) → k < 4 → bit_of ds (4 * place + k) ≡ (if nat_lt place (length ds) then digit_number (slice_index ds (length ds - 1 - place)) / 2 ^ k % 2 == 1 else false)
+bit-at-place ds place k l = ap₂ (λ (p r : ℕ). if nat_lt p (length ds) then digit_number (slice_index ds (length ds - 1 - p)) / 2 ^ r % 2 == 1 else false) (place-of place k l) (rest-of place k l)
 
 low-bits : (v k : ℕ) → k < 4 → (v % 16 / 2 ^ k % 2 == 1) ≡ (v / 2 ^ k % 2 == 1)
 low-bits v zero l = is-one (v % 16 / 2 ^ 0 % 2) (v / 2 ^ 0 % 2) (omega arith)
@@ -146,16 +146,16 @@ low-bits v (suc (suc zero)) l = is-one (v % 16 / 2 ^ 2 % 2) (v / 2 ^ 2 % 2) (ome
 low-bits v (suc (suc (suc zero))) l = is-one (v % 16 / 2 ^ 3 % 2) (v / 2 ^ 3 % 2) (omega arith)
 low-bits v (suc (suc (suc (suc k)))) l = absurd (omega (arith, l))
 
-pub bits-within : (ds : List ℕ) (place v : ℕ) → place < length ds → v ≡ hex_digit (slice_index ds (length ds - 1 - place)) → (k : ℕ) → k < 4 → (v % 16 / 2 ^ k % 2 == 1) ≡ bit_of ds (4 * place + k)
+pub bits-within : (ds : List ℕ) (place v : ℕ) → place < length ds → v ≡ digit_number (slice_index ds (length ds - 1 - place)) → (k : ℕ) → k < 4 → (v % 16 / 2 ^ k % 2 == 1) ≡ bit_of ds (4 * place + k)
 bits-within ds place v m e k l =
     let some : nat_lt place (length ds) ≡ true = grind (arith, m) in
-    low-bits v k l ∙ ap (λ (x : ℕ). x / 2 ^ k % 2 == 1) e ∙ sym (bit-at-place ds place k l ∙ ap (λ (b : Bool). if b then hex_digit (slice_index ds (length ds - 1 - place)) / 2 ^ k % 2 == 1 else false) some)
+    low-bits v k l ∙ ap (λ (x : ℕ). x / 2 ^ k % 2 == 1) e ∙ sym (bit-at-place ds place k l ∙ ap (λ (b : Bool). if b then digit_number (slice_index ds (length ds - 1 - place)) / 2 ^ k % 2 == 1 else false) some)
 
-pub byte-of-digits : (ds : List ℕ) (at place first second byte : ℕ) → at % 4 ≡ 0 → place ≡ at / 4 → first < 16 → second < 16 → byte ≡ mirrored first * 16 + mirrored second
+pub byte-of-digits : (ds : List ℕ) (at place first second byte : ℕ) → at % 4 ≡ 0 → place ≡ at / 4 → first < 16 → second < 16 → byte ≡ mirrored_digit first * 16 + mirrored_digit second
     → ((k : ℕ) → k < 4 → (first / 2 ^ k % 2 == 1) ≡ bit_of ds (4 * place + k)) → ((k : ℕ) → k < 4 → (second / 2 ^ k % 2 == 1) ≡ bit_of ds (4 * (place + 1) + k))
     → byte_bits byte ≡ bits_from ds at 8
 byte-of-digits ds at place first second byte z p l m e f g =
-    let m_is : mirrored second < 16 = omega (arith, m) in
+    let m_is : mirrored_digit second < 16 = omega (arith, m) in
     let first_is : (k i : ℕ) → k < 4 → i ≡ 4 * place + k → (first / 2 ^ k % 2 == 1) ≡ bit_of ds i = λ k i n j. f k n ∙ ap (bit_of ds) (sym j) in
     let second_is : (k i : ℕ) → k < 4 → i ≡ 4 * (place + 1) + k → (second / 2 ^ k % 2 == 1) ≡ bit_of ds i = λ k i n j. g k n ∙ ap (bit_of ds) (sym j) in
     cons-8 (byte / 128 % 2 == 1) (byte / 64 % 2 == 1) (byte / 32 % 2 == 1) (byte / 16 % 2 == 1) (byte / 8 % 2 == 1) (byte / 4 % 2 == 1) (byte / 2 % 2 == 1) (byte % 2 == 1)
@@ -216,13 +216,13 @@ port-in-bytes p s i c =
     ∙ ap (λ (x : ℕ). record { state = state.ShiftDr; instruction = instruction.CfgIn; register = p.register; count = x; queue = p.queue }) c
 
 pub shifts-bytes : (part : PartData) (k n : TapState) (d e : DeviceState) (cs : List Clock) (bs : List ℕ) → TapStandsFor part k d cs → TakesBytes k → AreBytes bs → n ≡ record k { register = last_or k.register bs; queue = n.queue }
-    → QueueStandsFor part n.queue e (fold (offered (words_read part)) (port_after part cs).queue bs) → TapStandsFor part n e (cs ++ inner_clocks (bytes_bits bs))
+    → QueueStandsFor part n.queue e (fold (offered (words_read_out part)) (port_after part cs).queue bs) → TapStandsFor part n e (cs ++ inner_clocks (bytes_bits bs))
 shifts-bytes part k n d e cs bs s t f with q =
     let p : Port = port_after part cs in
     let in_state : p.state ≡ state.ShiftDr = sym s.state_is ∙ t.in_shift in
     let under : p.instruction ≡ instruction.CfgIn = sym s.instruction_is ∙ t.under in
     let first : p.count ≡ 0 = sym s.count_is ∙ t.at_first in
-    let all : port_after part (cs ++ inner_clocks (bytes_bits bs)) ≡ in_bytes (last_or p.register bs) (fold (offered (words_read part)) p.queue bs) =
+    let all : port_after part (cs ++ inner_clocks (bytes_bits bs)) ≡ in_bytes (last_or p.register bs) (fold (offered (words_read_out part)) p.queue bs) =
     fold-append (clocked part) new_port cs (inner_clocks (bytes_bits bs)) ∙ ap (λ (x : Port). fold (clocked part) x (inner_clocks (bytes_bits bs))) (port-in-bytes p in_state under first) ∙ bytes-clocked part p.register p.queue bs f in
     subst (StandsForPort part n e) (sym all) (record {
       state_is = ap (λ (x : TapState). x.state) with ∙ t.in_shift;

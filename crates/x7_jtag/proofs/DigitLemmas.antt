@@ -4,8 +4,8 @@ use Rattle.std.proofs.Math.Nat.{div-div-eq-div-mul, mul-add-div_right}
 use Rattle.std.proofs.Math.Pow.{pow_mono}
 use Rattle.std.proofs.lemmas.Bool.{cases_lt}
 use Rattle.std.proofs.lemmas.Nat.{div-mul-add, pow-add, pow_pos}
-use Rattle.x7_jtag.specs.Bits.{bit_of, hex_digit}
-use Rattle.x7_jtag.specs.Fields.{are_hex, is_hex, value_of}
+use Rattle.x7_jtag.specs.Bits.{bit_of, digit_number}
+use Rattle.x7_jtag.specs.Fields.{are_hex, is_hex, hex_value}
 use Rattle.x7_jtag.proofs.ValueLemmas.{both, value-below}
 
 is-one : (a b : ℕ) → a ≡ b → (a == 1) ≡ (b == 1)
@@ -44,21 +44,21 @@ later-digit c cs i l =
     let there : nat_lt (i / 4) (suc (length cs)) ≡ true = grind (arith, l) in
     let within : nat_lt (i / 4) (length cs) ≡ true = grind (arith, l) in
     let place : suc (length cs) - 1 - i / 4 ≡ suc (length cs - 1 - i / 4) = omega (arith, l) in
-    ap₂ (λ (b : Bool) (n : ℕ). if b then hex_digit (slice_index (c ∷ cs) n) / 2 ^ (i % 4) % 2 == 1 else false) there place
-    ∙ sym (ap (λ (b : Bool). if b then hex_digit (slice_index cs (length cs - 1 - i / 4)) / 2 ^ (i % 4) % 2 == 1 else false) within)
+    ap₂ (λ (b : Bool) (n : ℕ). if b then digit_number (slice_index (c ∷ cs) n) / 2 ^ (i % 4) % 2 == 1 else false) there place
+    ∙ sym (ap (λ (b : Bool). if b then digit_number (slice_index cs (length cs - 1 - i / 4)) / 2 ^ (i % 4) % 2 == 1 else false) within)
 
-first-digit : (c : ℕ) (cs : List ℕ) (i : ℕ) → i / 4 ≡ length cs → bit_of (c ∷ cs) i ≡ (hex_digit c / 2 ^ (i % 4) % 2 == 1)
+first-digit : (c : ℕ) (cs : List ℕ) (i : ℕ) → i / 4 ≡ length cs → bit_of (c ∷ cs) i ≡ (digit_number c / 2 ^ (i % 4) % 2 == 1)
 first-digit c cs i e =
     let there : nat_lt (i / 4) (suc (length cs)) ≡ true = grind (arith, e) in
     let place : suc (length cs) - 1 - i / 4 ≡ 0 = omega (arith, e) in
-    ap₂ (λ (b : Bool) (n : ℕ). if b then hex_digit (slice_index (c ∷ cs) n) / 2 ^ (i % 4) % 2 == 1 else false) there place
+    ap₂ (λ (b : Bool) (n : ℕ). if b then digit_number (slice_index (c ∷ cs) n) / 2 ^ (i % 4) % 2 == 1 else false) there place
 
 no-digit : (ds : List ℕ) (i : ℕ) → length ds ≤ i / 4 → bit_of ds i ≡ false
 no-digit ds i l =
     let past : nat_lt (i / 4) (length ds) ≡ false = grind (arith, l) in
-    ap (λ (b : Bool). if b then hex_digit (slice_index ds (length ds - 1 - i / 4)) / 2 ^ (i % 4) % 2 == 1 else false) past
+    ap (λ (b : Bool). if b then digit_number (slice_index ds (length ds - 1 - i / 4)) / 2 ^ (i % 4) % 2 == 1 else false) past
 
-pub value-bit : (ds : List ℕ) (i : ℕ) → are_hex ds ≡ true → bit_of ds i ≡ (value_of ds / 2 ^ i % 2 == 1)
+pub value-bit : (ds : List ℕ) (i : ℕ) → are_hex ds ≡ true → bit_of ds i ≡ (hex_value ds / 2 ^ i % 2 == 1)
 value-bit [] i h = no-digit [] i (omega arith) ∙ sym (past-bit 0 i (pow_pos i))
 value-bit (c ∷ cs) i h =
     let parts : (is_hex c ≡ true) × (are_hex cs ≡ true) = both (is_hex c) (are_hex cs) h in
@@ -66,18 +66,18 @@ value-bit (c ∷ cs) i h =
     elim (cases_lt (i / 4) (length cs)) [
       | inl l ↦
           later-digit c cs i l ∙ value-bit cs i parts.1
-          ∙ sym (is-one ((hex_digit c * 2 ^ n + value_of cs) / 2 ^ i % 2) (value_of cs / 2 ^ i % 2) (low-bit (hex_digit c) (value_of cs) n i (omega (arith, l))))
+          ∙ sym (is-one ((digit_number c * 2 ^ n + hex_value cs) / 2 ^ i % 2) (hex_value cs / 2 ^ i % 2) (low-bit (digit_number c) (hex_value cs) n i (omega (arith, l))))
       | inr m ↦ elim (cases_lt (length cs) (i / 4)) [
         | inl past ↦
             let more : 4 * length (c ∷ cs) ≤ i = omega (arith, past) in
-            let below : value_of (c ∷ cs) < 2 ^ (4 * length (c ∷ cs)) = value-below (c ∷ cs) h in
+            let below : hex_value (c ∷ cs) < 2 ^ (4 * length (c ∷ cs)) = value-below (c ∷ cs) h in
             let power : 2 ^ (4 * length (c ∷ cs)) ≤ 2 ^ i = pow_mono more in
-            no-digit (c ∷ cs) i (omega (arith, past)) ∙ sym (past-bit (value_of (c ∷ cs)) i (omega (arith, below, power)))
+            no-digit (c ∷ cs) i (omega (arith, past)) ∙ sym (past-bit (hex_value (c ∷ cs)) i (omega (arith, below, power)))
         | inr few ↦
             let here : i / 4 ≡ length cs = omega (arith, m, few) in
             let sum : i ≡ n + i % 4 = omega (arith, here) in
-            let at : (hex_digit c * 2 ^ n + value_of cs) / 2 ^ i ≡ hex_digit c / 2 ^ (i % 4) =
-            ap (λ (k : ℕ). (hex_digit c * 2 ^ n + value_of cs) / 2 ^ k) sum ∙ first-bit (hex_digit c) (value_of cs) n (i % 4) (value-below cs parts.1) in
+            let at : (digit_number c * 2 ^ n + hex_value cs) / 2 ^ i ≡ digit_number c / 2 ^ (i % 4) =
+            ap (λ (k : ℕ). (digit_number c * 2 ^ n + hex_value cs) / 2 ^ k) sum ∙ first-bit (digit_number c) (hex_value cs) n (i % 4) (value-below cs parts.1) in
             first-digit c cs i here ∙ sym (ap (λ (k : ℕ). k % 2 == 1) at)
       ]
     ]

@@ -9,16 +9,16 @@ use Rattle.x7_jtag.specs.declared.state.State.{State}
 use Rattle.x7_jtag.specs.declared.state.State.TheVariants as state
 use Rattle.x7_jtag.specs.Events.{data_events, events_in, events_of, idle_events, update_events}
 use Rattle.x7_jtag.specs.Instructions.{instruction_of}
-use Rattle.x7_jtag.specs.Port.{Port, acted, captured, clocked, data_shifted, idled, new_port, port_after, programmed, words_read, with_bit}
-use Rattle.x7_jtag.specs.Queue.{Event, Byte, Queue, by_event, offered, queue_after}
+use Rattle.x7_jtag.specs.Port.{Port, acted, captured, clocked, data_shifted, idled, new_port, port_after, queue_at_update, words_read_out, with_bit}
+use Rattle.x7_jtag.specs.Queue.{QueueEvent, Byte, Queue, by_event, offered, queue_after}
 use Rattle.x7_jtag.specs.States.{Clock}
 
 eighth : (reads : List ℕ → List ℕ) (q : Queue) (x : ℕ) (b : Bool) → (if b then offered reads q x else q) ≡ fold (by_event reads) q (if b then Byte x ∷ [] else [])
 eighth reads q x true = refl
 eighth reads q x false = refl
 
-idled-events : (part : PartData) (i : Instruction) (p : Port) → (idled part i p).queue ≡ fold (by_event (words_read part)) p.queue (idle_events i p)
-idled-events part instruction.Jstart p = eighth (words_read part) p.queue 255 (p.count == 7)
+idled-events : (part : PartData) (i : Instruction) (p : Port) → (idled part i p).queue ≡ fold (by_event (words_read_out part)) p.queue (idle_events i p)
+idled-events part instruction.Jstart p = eighth (words_read_out part) p.queue 255 (p.count == 7)
 idled-events part instruction.CfgOut p = refl
 idled-events part instruction.CfgIn p = refl
 idled-events part instruction.Usercode p = refl
@@ -37,8 +37,8 @@ captured-events part instruction.Jprogram p = refl
 captured-events part instruction.Jshutdown p = refl
 captured-events part instruction.Bypass p = refl
 
-shifted-events : (part : PartData) (i : Instruction) (p : Port) (tdi : Bool) → (data_shifted part i p tdi).queue ≡ fold (by_event (words_read part)) p.queue (data_events i p tdi)
-shifted-events part instruction.CfgIn p tdi = eighth (words_read part) p.queue (with_bit p.register tdi) (p.count == 7)
+shifted-events : (part : PartData) (i : Instruction) (p : Port) (tdi : Bool) → (data_shifted part i p tdi).queue ≡ fold (by_event (words_read_out part)) p.queue (data_events i p tdi)
+shifted-events part instruction.CfgIn p tdi = eighth (words_read_out part) p.queue (with_bit p.register tdi) (p.count == 7)
 shifted-events part instruction.CfgOut p tdi = refl
 shifted-events part instruction.Jstart p tdi = refl
 shifted-events part instruction.Usercode p tdi = refl
@@ -47,7 +47,7 @@ shifted-events part instruction.Jprogram p tdi = refl
 shifted-events part instruction.Jshutdown p tdi = refl
 shifted-events part instruction.Bypass p tdi = refl
 
-programmed-events : (reads : List ℕ → List ℕ) (i : Instruction) (q : Queue) → programmed i q ≡ fold (by_event reads) q (update_events i)
+programmed-events : (reads : List ℕ → List ℕ) (i : Instruction) (q : Queue) → queue_at_update i q ≡ fold (by_event reads) q (update_events i)
 programmed-events reads instruction.Jprogram q = refl
 programmed-events reads instruction.CfgIn q = refl
 programmed-events reads instruction.CfgOut q = refl
@@ -57,7 +57,7 @@ programmed-events reads instruction.Idcode q = refl
 programmed-events reads instruction.Jshutdown q = refl
 programmed-events reads instruction.Bypass q = refl
 
-acted-events : (part : PartData) (s : State) (p : Port) (tdi : Bool) → (acted part s p tdi).queue ≡ fold (by_event (words_read part)) p.queue (events_in s p tdi)
+acted-events : (part : PartData) (s : State) (p : Port) (tdi : Bool) → (acted part s p tdi).queue ≡ fold (by_event (words_read_out part)) p.queue (events_in s p tdi)
 acted-events part state.TestLogicReset p tdi = refl
 acted-events part state.RunTestIdle p tdi = idled-events part p.instruction p
 acted-events part state.SelectDr p tdi = refl
@@ -73,15 +73,15 @@ acted-events part state.ShiftIr p tdi = refl
 acted-events part state.Exit1Ir p tdi = refl
 acted-events part state.PauseIr p tdi = refl
 acted-events part state.Exit2Ir p tdi = refl
-acted-events part state.UpdateIr p tdi = programmed-events (words_read part) (instruction_of p.register) p.queue
+acted-events part state.UpdateIr p tdi = programmed-events (words_read_out part) (instruction_of p.register) p.queue
 
-events-from : (part : PartData) (p : Port) (cs : List Clock) → (fold (clocked part) p cs).queue ≡ fold (by_event (words_read part)) p.queue (events_of part p cs)
+events-from : (part : PartData) (p : Port) (cs : List Clock) → (fold (clocked part) p cs).queue ≡ fold (by_event (words_read_out part)) p.queue (events_of part p cs)
 events-from part p [] = refl
 events-from part p (c ∷ cs) =
-    let rest : List Event = events_of part (clocked part p c) cs in
+    let rest : List QueueEvent = events_of part (clocked part p c) cs in
     events-from part (clocked part p c) cs
-    ∙ ap (λ (q : Queue). fold (by_event (words_read part)) q rest) (acted-events part p.state p c.tdi)
-    ∙ sym (fold-append (by_event (words_read part)) p.queue (events_in p.state p c.tdi) rest)
+    ∙ ap (λ (q : Queue). fold (by_event (words_read_out part)) q rest) (acted-events part p.state p c.tdi)
+    ∙ sym (fold-append (by_event (words_read_out part)) p.queue (events_in p.state p c.tdi) rest)
 
-pub queue-events : (part : PartData) (cs : List Clock) → (port_after part cs).queue ≡ queue_after (words_read part) (events_of part new_port cs)
+pub queue-events : (part : PartData) (cs : List Clock) → (port_after part cs).queue ≡ queue_after (words_read_out part) (events_of part new_port cs)
 queue-events part cs = events-from part new_port cs

@@ -15,9 +15,9 @@ use Rattle.x7_engine.specs.Standing.{DeviceStandsFor, DeviceState, NoWordDue, ta
 use Rattle.x7_engine.specs.State.{reads_of, stop_in}
 use Rattle.x7_engine.specs.UntilRead.{RoomBefore}
 use Rattle.x7_engine.proofs.ReadsLemmas.{reads_grow}
-use Rattle.x7_jtag.specs.Port.{words_read}
-use Rattle.x7_jtag.specs.Queue.{Queue, dropped, in_turn, most_held, offered, waits, with_room, queue_of}
-use Rattle.x7_jtag.specs.Tap.{Holds, QueueStandsFor, QueueState, Took, given_by, words_taken}
+use Rattle.x7_jtag.specs.Port.{words_read_out}
+use Rattle.x7_jtag.specs.Queue.{Queue, dropped, in_turn, most_bytes_held, offered, waits, queue_with_room, queue_of}
+use Rattle.x7_jtag.specs.Tap.{QueueHolds, QueueStandsFor, QueueState, TookOfGiven, given_by, words_taken}
 use Rattle.x7_jtag.proofs.TookLemmas.{reads-took, taken-all, took-more}
 
 -- ---- bytes offered while no word waits
@@ -26,7 +26,7 @@ offered-given : (reads : List ℕ → List ℕ) (given held : List ℕ) (out x :
     → offered reads (record { given = given; held = held; out = out }) x ≡ record { given = given ++ x ∷ []; held = held; out = out }
 offered-given reads given held out x e =
     let q : Queue = record { given = given; held = held; out = out } in
-    let there : with_room reads q ≡ q = ap (λ (b : Bool). if b && length held == most_held then dropped reads q else q) e in
+    let there : queue_with_room reads q ≡ q = ap (λ (b : Bool). if b && length held == most_bytes_held then dropped reads q else q) e in
     ap (λ (r : Queue). in_turn reads r x) there ∙ ap (λ (b : Bool). if b then record { given = given; held = held ++ x ∷ []; out = out } else record { given = given ++ x ∷ []; held = held; out = out }) e
 
 fold-given : (reads : List ℕ → List ℕ) (given held xs : List ℕ) (out : ℕ) → ((k : ℕ) → k < length xs → waits reads (given ++ take k xs) out ≡ false)
@@ -38,9 +38,9 @@ fold-given reads given held (x ∷ xs) out f =
     ∙ fold-given reads (given ++ x ∷ []) held xs out (λ k l. ap (λ (g : List ℕ). waits reads g out) (append_assoc given (x ∷ []) (take k xs)) ∙ f (suc k) (omega (arith, l)))
     ∙ ap (λ (g : List ℕ). record { given = g; held = held; out = out }) (append_assoc given (x ∷ []) xs)
 
-fold-stands : (part : PartData) (n : QueueState) (e : DeviceState) (q : Queue) (xs : List ℕ) → ((k : ℕ) → k < length xs → waits (words_read part) (q.given ++ take k xs) q.out ≡ false) → QueueStandsFor part n e (queue_of (q.given ++ xs) q.held q.out)
-    → QueueStandsFor part n e (fold (offered (words_read part)) q xs)
-fold-stands part n e q xs f s = subst (QueueStandsFor part n e) (sym (fold-given (words_read part) q.given q.held xs q.out f)) s
+fold-stands : (part : PartData) (n : QueueState) (e : DeviceState) (q : Queue) (xs : List ℕ) → ((k : ℕ) → k < length xs → waits (words_read_out part) (q.given ++ take k xs) q.out ≡ false) → QueueStandsFor part n e (queue_of (q.given ++ xs) q.held q.out)
+    → QueueStandsFor part n e (fold (offered (words_read_out part)) q xs)
+fold-stands part n e q xs f s = subst (QueueStandsFor part n e) (sym (fold-given (words_read_out part) q.given q.held xs q.out f)) s
 
 none-waits-by : (reads : List ℕ → List ℕ) (given : List ℕ) (out count : ℕ) → length (reads given) ≤ count → out ≡ 32 * count → waits reads given out ≡ false
 none-waits-by reads given out count l e = grind (arith, l, e)
@@ -52,8 +52,8 @@ front-bytes n xs f = all_front (λ b. b < 256) (take n xs) (drop n xs) (subst Ar
 
 -- where all is given
 module _ (part : PartData) (given bytes piece : List ℕ) (t : ℕ) where
-  took-piece : (count : ℕ) → AreBytes piece → t ≤ count → count ≤ length piece → Took part given bytes → (IsSome (stop_in part on_the_bench bytes) → t ≡ 0) → IsSome (stop_in part on_the_bench (bytes ++ take t piece)) ⊎ (t ≡ count)
-      → Took part (given ++ take count piece) (bytes ++ take t piece)
+  took-piece : (count : ℕ) → AreBytes piece → t ≤ count → count ≤ length piece → TookOfGiven part given bytes → (IsSome (stop_in part on_the_bench bytes) → t ≡ 0) → IsSome (stop_in part on_the_bench (bytes ++ take t piece)) ⊎ (t ≡ count)
+      → TookOfGiven part (given ++ take count piece) (bytes ++ take t piece)
   took-piece count f l m took z over =
       let prefix : List ℕ = take count piece in
       let same : take t prefix ≡ take t piece = take-take t count piece l in
@@ -62,10 +62,10 @@ module _ (part : PartData) (given bytes piece : List ℕ) (t : ℕ) where
         | inl s ↦ inl (subst (λ (x : List ℕ). IsSome (stop_in part on_the_bench (bytes ++ x))) (sym same) s)
         | inr e ↦ inr (e ∙ sym long)
       ] in
-      subst (λ (x : List ℕ). Took part (given ++ prefix) (bytes ++ x)) same (took-more part given bytes prefix t (front-bytes count piece f) took z ends)
+      subst (λ (x : List ℕ). TookOfGiven part (given ++ prefix) (bytes ++ x)) same (took-more part given bytes prefix t (front-bytes count piece f) took z ends)
 
-  holds-piece : (k : QueueState) (d e : DeviceState) (held : List ℕ) (out count : ℕ) → (h : Holds part k d (queue_of given held out)) → h.bytes ≡ bytes → k.left ≡ 0 → Took part (given ++ take count piece) (bytes ++ take t piece)
-      → DeviceStandsFor part on_the_bench false e (bytes ++ take t piece) → words_taken part e (bytes ++ take t piece) ≡ words_taken part d bytes → Holds part k e (queue_of (given ++ take count piece) held out)
+  holds-piece : (k : QueueState) (d e : DeviceState) (held : List ℕ) (out count : ℕ) → (h : QueueHolds part k d (queue_of given held out)) → h.bytes ≡ bytes → k.left ≡ 0 → TookOfGiven part (given ++ take count piece) (bytes ++ take t piece)
+      → DeviceStandsFor part on_the_bench false e (bytes ++ take t piece) → words_taken part e (bytes ++ take t piece) ≡ words_taken part d bytes → QueueHolds part k e (queue_of (given ++ take count piece) held out)
   holds-piece k d e held out count h is z took stands same = record {
     bytes = bytes ++ take t piece;
     took = took;
@@ -79,8 +79,8 @@ module _ (part : PartData) (given bytes piece : List ℕ) (t : ℕ) where
   }
 
 -- where no word is due after it, none is read out of it
-quiet-whole : (part : PartData) (e : DeviceState) (given bytes piece : List ℕ) (words : List ℕ) → Took part (given ++ piece) bytes → NoWordDue e → words_taken part e bytes ≡ words
-    → (k : ℕ) → length (words_read part (given ++ take k piece)) ≤ length words
+quiet-whole : (part : PartData) (e : DeviceState) (given bytes piece : List ℕ) (words : List ℕ) → TookOfGiven part (given ++ piece) bytes → NoWordDue e → words_taken part e bytes ≡ words
+    → (k : ℕ) → length (words_read_out part (given ++ take k piece)) ≤ length words
 quiet-whole part e given bytes piece words took due is k =
     let joined : (given ++ take k piece) ++ drop k piece ≡ given ++ piece = append_assoc given (take k piece) (drop k piece) ∙ ap (λ (x : List ℕ). given ++ x) (take-append-drop k piece) in
     let all : reads_of part on_the_bench (given ++ piece) ≡ words = reads-took part (given ++ piece) bytes took ∙ sym (taken-all part e bytes due) ∙ is in
@@ -89,7 +89,7 @@ quiet-whole part e given bytes piece words took due is k =
     omega (arith, ap length grown.1, length-append (reads_of part on_the_bench (given ++ take k piece)) grown.0, ap (λ (b : List ℕ). length (reads_of part on_the_bench b)) joined, ap length all)
 
 -- where a word is due, none has room before the last byte
-quiet-before : (part : PartData) (given bytes piece words : List ℕ) (n : ℕ) → n ≤ length piece → given ≡ bytes → RoomBefore (record { part = part; kept = on_the_bench; wrapped = false; bytes = bytes }) piece n words no_room → (k : ℕ) → k < n → length (words_read part (given ++ take k (take n piece))) ≤ length words
+quiet-before : (part : PartData) (given bytes piece words : List ℕ) (n : ℕ) → n ≤ length piece → given ≡ bytes → RoomBefore (record { part = part; kept = on_the_bench; wrapped = false; bytes = bytes }) piece n words no_room → (k : ℕ) → k < n → length (words_read_out part (given ++ take k (take n piece))) ≤ length words
 quiet-before part given bytes piece words n m is before k l =
     let same : given ++ take k (take n piece) ≡ bytes ++ take k piece = ap (λ (x : List ℕ). given ++ x) (take-take k n piece (omega (arith, l))) ∙ ap (λ (g : List ℕ). g ++ take k piece) is in
     let r = before k l in
@@ -97,7 +97,7 @@ quiet-before part given bytes piece words n m is before k l =
     omega (arith, ap (λ (b : List ℕ). length (reads_of part on_the_bench b)) same, ap length r.1, length-append words r.0, none)
 
 -- a device that took a byte had no stop, so all that was given was taken
-given-is : (part : PartData) (given bytes : List ℕ) (n : ℕ) → (t : Took part given bytes) → (IsSome (stop_in part on_the_bench bytes) → n ≡ 0) → 0 < n → given ≡ bytes
+given-is : (part : PartData) (given bytes : List ℕ) (n : ℕ) → (t : TookOfGiven part given bytes) → (IsSome (stop_in part on_the_bench bytes) → n ≡ 0) → 0 < n → given ≡ bytes
 given-is part given bytes n t z l = by t.over
   where
     by : (t.rest ≡ []) ⊎ IsSome (stop_in part on_the_bench bytes) → given ≡ bytes
@@ -108,19 +108,19 @@ given-is part given bytes n t z l = by t.over
 
 -- what is to be shown of a piece of which so many bytes are given
 record Given (part : PartData) (k : QueueState) (d e : DeviceState) (q : Queue) (piece : List ℕ) (count : ℕ) : Type 0 where
-  pub holds : Holds part k e (queue_of (q.given ++ take count piece) q.held q.out)
-  pub quiet : (i : ℕ) → i < length (take count piece) → waits (words_read part) (q.given ++ take i (take count piece)) q.out ≡ false
+  pub holds : QueueHolds part k e (queue_of (q.given ++ take count piece) q.held q.out)
+  pub quiet : (i : ℕ) → i < length (take count piece) → waits (words_read_out part) (q.given ++ take i (take count piece)) q.out ≡ false
 
 module _ (part : PartData) (k : QueueState) (d e : DeviceState) (q : Queue) (piece : List ℕ) where
   given-whole : (t : ℕ) → (s : QueueStandsFor part k d q) → k.left ≡ 0 → AreBytes piece → t ≤ length piece → DeviceStandsFor part on_the_bench false e (s.holds.bytes ++ take t piece)
       → NoWordDue e → IsSome (stop_in part on_the_bench (s.holds.bytes ++ take t piece)) ⊎ (t ≡ length piece)
       → words_taken part e (s.holds.bytes ++ take t piece) ≡ words_taken part d s.holds.bytes → (IsSome (stop_in part on_the_bench s.holds.bytes) → t ≡ 0) → Given part k d e q piece (length piece)
   given-whole t s z f l stands due over same stopped =
-      let h : Holds part k d q = s.holds in
-      let took : Took part (q.given ++ take (length piece) piece) (h.bytes ++ take t piece) = took-piece part q.given h.bytes piece t (length piece) f l (omega arith) h.took stopped over in
+      let h : QueueHolds part k d q = s.holds in
+      let took : TookOfGiven part (q.given ++ take (length piece) piece) (h.bytes ++ take t piece) = took-piece part q.given h.bytes piece t (length piece) f l (omega arith) h.took stopped over in
       record {
         holds = holds-piece part q.given h.bytes piece t k d e q.held q.out (length piece) h refl z took stands same;
-        quiet = λ i m. none-waits-by (words_read part) (q.given ++ take i (take (length piece) piece)) q.out (length (words_taken part d h.bytes))
+        quiet = λ i m. none-waits-by (words_read_out part) (q.given ++ take i (take (length piece) piece)) q.out (length (words_taken part d h.bytes))
             (quiet-whole part e q.given (h.bytes ++ take t piece) (take (length piece) piece) (words_taken part d h.bytes) took due same i) (omega (arith, h.out_is, z));
       }
 
@@ -128,14 +128,14 @@ module _ (part : PartData) (k : QueueState) (d e : DeviceState) (q : Queue) (pie
       → words_taken part e (s.holds.bytes ++ take n piece) ≡ words_taken part d s.holds.bytes → (IsSome (stop_in part on_the_bench s.holds.bytes) → n ≡ 0)
       → RoomBefore (record { part = part; kept = on_the_bench; wrapped = false; bytes = s.holds.bytes }) piece n (words_taken part d s.holds.bytes) no_room → Given part k d e q piece n
   given-front n s z f l stands same stopped before =
-      let h : Holds part k d q = s.holds in
-      let took : Took part (q.given ++ take n piece) (h.bytes ++ take n piece) = took-piece part q.given h.bytes piece n n f (omega arith) l h.took stopped (inr refl) in
+      let h : QueueHolds part k d q = s.holds in
+      let took : TookOfGiven part (q.given ++ take n piece) (h.bytes ++ take n piece) = took-piece part q.given h.bytes piece n n f (omega arith) l h.took stopped (inr refl) in
       let long : length (take n piece) ≡ n = length-take-le n piece l in
       record {
         holds = holds-piece part q.given h.bytes piece n k d e q.held q.out n h refl z took stands same;
         quiet = λ i m.
             let inside : i < n = omega (arith, m, long) in
-            none-waits-by (words_read part) (q.given ++ take i (take n piece)) q.out (length (words_taken part d h.bytes))
+            none-waits-by (words_read_out part) (q.given ++ take i (take n piece)) q.out (length (words_taken part d h.bytes))
             (quiet-before part q.given h.bytes piece (words_taken part d h.bytes) n l (given-is part q.given h.bytes n h.took stopped (omega (arith, inside))) before i inside) (omega (arith, h.out_is, z));
       }
 
@@ -164,13 +164,13 @@ pub gives : (part : PartData) (k n : QueueState) (d e g : DeviceState) (q : Queu
     → words_taken part e (s.holds.bytes ++ take (taken_in (length piece) f) piece) ≡ words_taken part d s.holds.bytes
     → RoomBefore (record { part = part; kept = on_the_bench; wrapped = false; bytes = s.holds.bytes }) piece (taken_in (length piece) f) (words_taken part d s.holds.bytes) no_room
     → (IsSome (stop_in part on_the_bench s.holds.bytes) → (e ≡ d) × (taken_in (length piece) f ≡ 0)) → count ≡ given_by f (length piece)
-    → ((given held : List ℕ) (out : ℕ) → Holds part k e (queue_of given held out) → QueueStandsFor part n g (queue_of (given ++ []) held out))
-    → QueueStandsFor part n g (fold (offered (words_read part)) q (take count piece))
+    → ((given held : List ℕ) (out : ℕ) → QueueHolds part k e (queue_of given held out) → QueueStandsFor part n g (queue_of (given ++ []) held out))
+    → QueueStandsFor part n g (fold (offered (words_read_out part)) q (take count piece))
 gives part k n d e g q piece read f count s z b l stands a same before stopped is next =
     let m : ℕ = given_by f (length piece) in
     let given : Given part k d e q piece m = given-by part k d e q piece f read s z b l stands a same before (λ x. (stopped x).1) in
     let all : QueueStandsFor part n g (queue_of (q.given ++ take m piece) q.held q.out) = subst (λ (x : List ℕ). QueueStandsFor part n g (queue_of x q.held q.out)) (append-nil (q.given ++ take m piece)) (next (q.given ++ take m piece) q.held q.out given.holds) in
-    subst (λ (c : ℕ). QueueStandsFor part n g (fold (offered (words_read part)) q (take c piece))) (sym is) (fold-stands part n g q (take m piece) given.quiet all)
+    subst (λ (c : ℕ). QueueStandsFor part n g (fold (offered (words_read_out part)) q (take c piece))) (sym is) (fold-stands part n g q (take m piece) given.quiet all)
 
 -- no more bytes are given than the device took and the piece has
 pub given-within : (f : Fed) (length : ℕ) → taken_in length f ≤ length → given_by f length ≤ length
@@ -179,10 +179,10 @@ given-within (fed.Stopped n) length l = omega arith
 given-within (fed.Iprog n) length l = omega arith
 given-within (fed.ReadFull n) length l = l
 
-pub offers-one : (part : PartData) (k n : QueueState) (d e : DeviceState) (q : Queue) (piece : List ℕ) (count : ℕ) → count ≡ 0 → 0 < length piece → QueueStandsFor part k d (fold (offered (words_read part)) q (take count piece))
-    → ((m : Queue) → QueueStandsFor part k d m → QueueStandsFor part n e (offered (words_read part) m (slice_index piece 0))) → QueueStandsFor part n e (fold (offered (words_read part)) q (take 1 piece))
+pub offers-one : (part : PartData) (k n : QueueState) (d e : DeviceState) (q : Queue) (piece : List ℕ) (count : ℕ) → count ≡ 0 → 0 < length piece → QueueStandsFor part k d (fold (offered (words_read_out part)) q (take count piece))
+    → ((m : Queue) → QueueStandsFor part k d m → QueueStandsFor part n e (offered (words_read_out part) m (slice_index piece 0))) → QueueStandsFor part n e (fold (offered (words_read_out part)) q (take 1 piece))
 offers-one part k n d e q [] count z l s step = absurd (omega (arith, l))
-offers-one part k n d e q (x ∷ xs) count z l s step = step q (subst (λ (c : ℕ). QueueStandsFor part k d (fold (offered (words_read part)) q (take c (x ∷ xs)))) z s)
+offers-one part k n d e q (x ∷ xs) count z l s step = step q (subst (λ (c : ℕ). QueueStandsFor part k d (fold (offered (words_read_out part)) q (take c (x ∷ xs)))) z s)
 
 -- ---- pieces one after another
 
@@ -195,14 +195,14 @@ pub rest-after : (n : ℕ) (xs : List ℕ) → take (length xs - n) (drop n xs) 
 rest-after n xs = take_all (length xs - n) (drop n xs) (omega (arith, length-drop n xs))
 
 pub offers-more : (part : PartData) (k l n : QueueState) (c d e : DeviceState) (all rest : List ℕ) (count : ℕ) → count ≤ length rest
-    → ((m : Queue) → QueueStandsFor part k c m → (p : Queue) × QueueStandsFor part l d p × (fold (offered (words_read part)) m all ≡ fold (offered (words_read part)) p rest))
-    → ((m : Queue) → QueueStandsFor part l d m → QueueStandsFor part n e (fold (offered (words_read part)) m (take count rest)))
-    → (m : Queue) → QueueStandsFor part k c m → (p : Queue) × QueueStandsFor part n e p × (fold (offered (words_read part)) m all ≡ fold (offered (words_read part)) p (take (length rest - count) (drop count rest)))
+    → ((m : Queue) → QueueStandsFor part k c m → (p : Queue) × QueueStandsFor part l d p × (fold (offered (words_read_out part)) m all ≡ fold (offered (words_read_out part)) p rest))
+    → ((m : Queue) → QueueStandsFor part l d m → QueueStandsFor part n e (fold (offered (words_read_out part)) m (take count rest)))
+    → (m : Queue) → QueueStandsFor part k c m → (p : Queue) × QueueStandsFor part n e p × (fold (offered (words_read_out part)) m all ≡ fold (offered (words_read_out part)) p (take (length rest - count) (drop count rest)))
 offers-more part k l n c d e all rest count few before step m s =
     let b = before m s in (
-      fold (offered (words_read part)) b.0 (take count rest),
+      fold (offered (words_read_out part)) b.0 (take count rest),
       step b.0 b.1,
-      b.2 ∙ first-part count rest (words_read part) b.0 ∙ ap (fold (offered (words_read part)) (fold (offered (words_read part)) b.0 (take count rest))) (sym (rest-after count rest)),
+      b.2 ∙ first-part count rest (words_read_out part) b.0 ∙ ap (fold (offered (words_read_out part)) (fold (offered (words_read_out part)) b.0 (take count rest))) (sym (rest-after count rest)),
     )
 
 none-of : (xs : List ℕ) → length xs ≡ 0 → xs ≡ []
@@ -210,8 +210,8 @@ none-of [] l = refl
 none-of (x ∷ xs) l = absurd (omega (arith, l))
 
 pub offers-end : (part : PartData) (k n : QueueState) (c e : DeviceState) (all rest : List ℕ) → length rest ≡ 0
-    → ((m : Queue) → QueueStandsFor part k c m → (p : Queue) × QueueStandsFor part n e p × (fold (offered (words_read part)) m all ≡ fold (offered (words_read part)) p rest))
-    → (m : Queue) → QueueStandsFor part k c m → QueueStandsFor part n e (fold (offered (words_read part)) m all)
+    → ((m : Queue) → QueueStandsFor part k c m → (p : Queue) × QueueStandsFor part n e p × (fold (offered (words_read_out part)) m all ≡ fold (offered (words_read_out part)) p rest))
+    → (m : Queue) → QueueStandsFor part k c m → QueueStandsFor part n e (fold (offered (words_read_out part)) m all)
 offers-end part k n c e all rest none turns m s =
     let b = turns m s in
-    subst (QueueStandsFor part n e) (sym (b.2 ∙ ap (fold (offered (words_read part)) b.0) (none-of rest none))) b.1
+    subst (QueueStandsFor part n e) (sym (b.2 ∙ ap (fold (offered (words_read_out part)) b.0) (none-of rest none))) b.1

@@ -1,15 +1,15 @@
 -- The first word of a text.
 use Rattle.std.proofs.Common.{◌≡◌, ℕ, zero, suc, ◌<◌, ◌≤◌, Bool, true, false, if◌then◌else◌, List, [], ◌∷◌, length, slice_index, take, drop, refl, ap, ◌∙◌, arith}
-use Rattle.x7_jtag.specs.Pieces.{is_word_byte, line_after, Piece, pieces, joined, extend, Word}
+use Rattle.x7_jtag.specs.Pieces.{is_word_byte, line_after, TextPiece, pieces, with_word_byte, extend, Word}
 
 -- a word's byte is no line end
 pub word-line : (c line : ℕ) → is_word_byte c ≡ true → line_after c line ≡ line
 word-line c line h = grind (arith, h)
 
-abbrev pub word_piece : ℕ → List ℕ → Piece
+abbrev pub word_piece : ℕ → List ℕ → TextPiece
 word_piece line bytes = record { line = line; mark = Word bytes }
 
-prefix : (line c : ℕ) (cs : List ℕ) → is_word_byte c ≡ true → pieces line (c ∷ cs) ≡ joined line c cs (pieces line cs)
+prefix : (line c : ℕ) (cs : List ℕ) → is_word_byte c ≡ true → pieces line (c ∷ cs) ≡ with_word_byte line c cs (pieces line cs)
 prefix line c cs h = rw (h, word-line c line h) refl
 
 pub word-at : (line : ℕ) (xs : List ℕ) (n : ℕ) → 0 < n → n ≤ length xs

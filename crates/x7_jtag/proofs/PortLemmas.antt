@@ -11,15 +11,15 @@ use Rattle.x7_jtag.specs.declared.instruction.Instruction.TheVariants as instruc
 use Rattle.x7_jtag.specs.declared.state.State.{State}
 use Rattle.x7_jtag.specs.declared.state.State.TheVariants as state
 use Rattle.x7_jtag.specs.Instructions.{instruction_of}
-use Rattle.x7_jtag.specs.Port.{Port, acted, clocked, data_shifted, idled, new_port, port_after, programmed, words_read, status, ir_status, updated, with_bit}
+use Rattle.x7_jtag.specs.Port.{Port, acted, clocked, data_shifted, idled, new_port, port_after, queue_at_update, words_read_out, status, ir_status, updated, with_bit}
 use Rattle.x7_jtag.specs.Queue.{Queue, empty, offered}
 use Rattle.x7_jtag.specs.States.{Clock, next_of}
-use Rattle.x7_jtag.specs.Tap.{QueueStandsFor, QueueState, StandsForPort, TapState, TapStandsFor, Took}
+use Rattle.x7_jtag.specs.Tap.{QueueStandsFor, QueueState, StandsForPort, TapState, TapStandsFor, TookOfGiven}
 use Rattle.x7_jtag.proofs.StandingLemmas.{resets}
 use Rattle.x7_jtag.proofs.TookLemmas.{state-took}
 
 -- what a device shows, whatever words of it are due
-pub status-is : (part : PartData) (given bytes : List ℕ) (regs : Regs) (due n : ℕ) → Took part given bytes → regs ≡ state_owing part on_the_bench false bytes due → n ≡ status regs.lines.done (regs.stat / 2 ^ 12 % 2 == 1) → n ≡ ir_status part given
+pub status-is : (part : PartData) (given bytes : List ℕ) (regs : Regs) (due n : ℕ) → TookOfGiven part given bytes → regs ≡ state_owing part on_the_bench false bytes due → n ≡ status regs.lines.done (regs.stat / 2 ^ 12 % 2 == 1) → n ≡ ir_status part given
 status-is part given bytes regs due n t e f =
     f ∙ ap (λ (r : Regs). status r.lines.done (r.stat / 2 ^ 12 % 2 == 1)) e ∙ ap (λ (r : Regs). status r.lines.done (r.stat / 2 ^ 12 % 2 == 1)) (sym (state-took part given bytes t))
 
@@ -39,7 +39,7 @@ eighth : (part : PartData) (n : QueueState) (e : DeviceState) (p : Port) (q : Qu
 eighth part n e p q count is seven s = subst (λ (b : Bool). QueueStandsFor part n e (if b then q else p.queue)) (seven ∙ ap (λ (c : ℕ). c == 7) is) s
 
 pub idles : (part : PartData) (k n : TapState) (d e : DeviceState) (p : Port) → StandsForPort part k d p → k.instruction ≡ instruction.Jstart → true ≡ (k.count == 7) → n ≡ record k { count = (k.count + 1) % 8; queue = n.queue }
-    → QueueStandsFor part n.queue e (offered (words_read part) p.queue 255) → StandsForPort part n e (idled part p.instruction p)
+    → QueueStandsFor part n.queue e (offered (words_read_out part) p.queue 255) → StandsForPort part n e (idled part p.instruction p)
 idles part k n d e p s is seven with q =
     let P : Instruction → Type 0 = λ i. StandsForPort part n e (idled part i p) in
     subst P (sym is ∙ s.instruction_is) (record {
@@ -47,11 +47,11 @@ idles part k n d e p s is seven with q =
       instruction_is = ap (λ (x : TapState). x.instruction) with ∙ s.instruction_is;
       register_is = ap (λ (x : TapState). x.register) with ∙ s.register_is;
       count_is = ap (λ (x : TapState). x.count) with ∙ ap (λ (c : ℕ). (c + 1) % 8) s.count_is;
-      queue_is = eighth part n.queue e p (offered (words_read part) p.queue 255) k.count s.count_is seven q;
+      queue_is = eighth part n.queue e p (offered (words_read_out part) p.queue 255) k.count s.count_is seven q;
     })
 
 pub completes : (part : PartData) (k n : TapState) (d e : DeviceState) (p : Port) (tdi : Bool) (byte : ℕ) → StandsForPort part k d p → byte ≡ with_bit k.register tdi → true ≡ (k.count == 7) → n ≡ record k { register = byte; count = (k.count + 1) % 8; queue = n.queue }
-    → QueueStandsFor part n.queue e (offered (words_read part) p.queue byte) → StandsForPort part n e (data_shifted part instruction.CfgIn p tdi)
+    → QueueStandsFor part n.queue e (offered (words_read_out part) p.queue byte) → StandsForPort part n e (data_shifted part instruction.CfgIn p tdi)
 completes part k n d e p tdi byte s is seven with q =
     let all : byte ≡ with_bit p.register tdi = is ∙ ap (λ (r : ℕ). with_bit r tdi) s.register_is in
     record {
@@ -59,7 +59,7 @@ completes part k n d e p tdi byte s is seven with q =
       instruction_is = ap (λ (x : TapState). x.instruction) with ∙ s.instruction_is;
       register_is = ap (λ (x : TapState). x.register) with ∙ all;
       count_is = ap (λ (x : TapState). x.count) with ∙ ap (λ (c : ℕ). (c + 1) % 8) s.count_is;
-      queue_is = eighth part n.queue e p (offered (words_read part) p.queue (with_bit p.register tdi)) k.count s.count_is seven (subst (λ (b : ℕ). QueueStandsFor part n.queue e (offered (words_read part) p.queue b)) all q);
+      queue_is = eighth part n.queue e p (offered (words_read_out part) p.queue (with_bit p.register tdi)) k.count s.count_is seven (subst (λ (b : ℕ). QueueStandsFor part n.queue e (offered (words_read_out part) p.queue b)) all q);
     }
 
 -- JPROGRAM
@@ -72,7 +72,7 @@ programs part k n d e p i s is named with q =
       instruction_is = ap (λ (x : TapState). x.instruction) with ∙ all;
       register_is = ap (λ (x : TapState). x.register) with ∙ s.register_is;
       count_is = ap (λ (x : TapState). x.count) with;
-      queue_is = subst (λ (j : Instruction). QueueStandsFor part n.queue e (programmed j p.queue)) (sym named ∙ all) q;
+      queue_is = subst (λ (j : Instruction). QueueStandsFor part n.queue e (queue_at_update j p.queue)) (sym named ∙ all) q;
     }
 
 -- the action of the state that the tap is in

@@ -12,8 +12,8 @@ use Rattle.x7_jtag.specs.declared.state.State.{State}
 use Rattle.x7_jtag.specs.declared.state.State.TheVariants as state
 use Rattle.x7_jtag.specs.Events.{byte_at_eight, data_events, events_in, events_of, idle_events, update_events}
 use Rattle.x7_jtag.specs.Instructions.{instruction_of}
-use Rattle.x7_jtag.specs.Port.{Port, clocked, new_port, number_of_bit, port_after, with_bit, words_read}
-use Rattle.x7_jtag.specs.Queue.{Event, Byte, Bit, Program, Queue, bits_read, dropped, in_turn, waits, give_held, empty, by_event, most_held, Sound, with_room}
+use Rattle.x7_jtag.specs.Port.{Port, clocked, new_port, number_of_bit, port_after, with_bit, words_read_out}
+use Rattle.x7_jtag.specs.Queue.{QueueEvent, Byte, Bit, Program, Queue, bits_read, dropped, in_turn, waits, give_held, empty, by_event, most_bytes_held, Sound, queue_with_room}
 use Rattle.x7_jtag.specs.States.{Clock}
 use Rattle.x7_jtag.proofs.EventLemmas.{queue-events}
 
@@ -83,14 +83,14 @@ record Roomy (reads : List ℕ → List ℕ) (q : Queue) : Type 0 where
   pub sound : Sound reads q
   pub free : waits reads q.given q.out ≡ true → length q.held < 64
 
-room-by : (reads : List ℕ → List ℕ) (q : Queue) (b : Bool) → (waits reads q.given q.out && length q.held == most_held) ≡ b → Sound reads q → Roomy reads (if b then dropped reads q else q)
+room-by : (reads : List ℕ → List ℕ) (q : Queue) (b : Bool) → (waits reads q.given q.out && length q.held == most_bytes_held) ≡ b → Sound reads q → Roomy reads (if b then dropped reads q else q)
 room-by reads q true e s = record {
   sound = record { within = omega arith; room = omega arith; waiting = λ p. absurd (omega (arith, p)); fits = subst AreBytes (sym (append-nil (q.given ++ q.held))) s.fits };
   free = λ w. omega arith;
 }
 room-by reads q false e s = record {
   sound = s;
-  free = λ w. let apart : (length q.held == most_held) ≡ false = grind (arith, e, w) in let other : length q.held ≢ 64 = grind (arith, apart) in omega (arith, s.room, other);
+  free = λ w. let apart : (length q.held == most_bytes_held) ≡ false = grind (arith, e, w) in let other : length q.held ≢ 64 = grind (arith, apart) in omega (arith, s.room, other);
 }
 
 -- nothing is held where no word waits
@@ -130,29 +130,29 @@ empty-sound reads = record { within = omega arith; room = omega arith; waiting =
 
 -- ---- events
 
-abbrev IsByteEvent : Event → Type 0
+abbrev IsByteEvent : QueueEvent → Type 0
 IsByteEvent (Byte x) = x < 256
 IsByteEvent Bit = Unit {0}
 IsByteEvent Program = Unit {0}
 
-abbrev AreByteEvents : List Event → Type 0
+abbrev AreByteEvents : List QueueEvent → Type 0
 AreByteEvents [] = Unit {0}
 AreByteEvents (e ∷ es) = IsByteEvent e × AreByteEvents es
 
-step-sound : (reads : List ℕ → List ℕ) → Grows reads → (q : Queue) (e : Event) → IsByteEvent e → Sound reads q → Sound reads (by_event reads q e)
+step-sound : (reads : List ℕ → List ℕ) → Grows reads → (q : Queue) (e : QueueEvent) → IsByteEvent e → Sound reads q → Sound reads (by_event reads q e)
 step-sound reads g q (Byte x) l s =
-    let r : Roomy reads (with_room reads q) = room-by reads q (waits reads q.given q.out && length q.held == most_held) refl s in
-    turn-by reads g (with_room reads q) x (waits reads (with_room reads q).given (with_room reads q).out) l refl r
+    let r : Roomy reads (queue_with_room reads q) = room-by reads q (waits reads q.given q.out && length q.held == most_bytes_held) refl s in
+    turn-by reads g (queue_with_room reads q) x (waits reads (queue_with_room reads q).given (queue_with_room reads q).out) l refl r
 step-sound reads g q Bit l s = shifted-by reads g q (waits reads q.given q.out) refl s
 step-sound reads g q Program l s = empty-sound reads
 
-fold-sound : (reads : List ℕ → List ℕ) → Grows reads → (q : Queue) (es : List Event) → AreByteEvents es → Sound reads q → Sound reads (fold (by_event reads) q es)
+fold-sound : (reads : List ℕ → List ℕ) → Grows reads → (q : Queue) (es : List QueueEvent) → AreByteEvents es → Sound reads q → Sound reads (fold (by_event reads) q es)
 fold-sound reads g q [] f s = s
 fold-sound reads g q (e ∷ es) f s = fold-sound reads g (by_event reads q e) es f.1 (step-sound reads g q e f.0 s)
 
 -- the events of clocks are of bytes
 
-join-events : (es ds : List Event) → AreByteEvents es → AreByteEvents ds → AreByteEvents (es ++ ds)
+join-events : (es ds : List QueueEvent) → AreByteEvents es → AreByteEvents ds → AreByteEvents (es ++ ds)
 join-events [] ds f g = g
 join-events (e ∷ es) ds f g = (f.0, join-events es ds f.1 g)
 
@@ -222,6 +222,6 @@ clocks-bytes : (part : PartData) (p : Port) (cs : List Clock) → AreByteEvents 
 clocks-bytes part p [] = tt
 clocks-bytes part p (c ∷ cs) = join-events (events_in p.state p c.tdi) (events_of part (clocked part p c) cs) (clock-bytes p.state p c.tdi) (clocks-bytes part (clocked part p c) cs)
 
-pub port-sound : (part : PartData) (cs : List Clock) → Sound (words_read part) (port_after part cs).queue
+pub port-sound : (part : PartData) (cs : List Clock) → Sound (words_read_out part) (port_after part cs).queue
 port-sound part cs =
-    subst (Sound (words_read part)) (sym (queue-events part cs)) (fold-sound (words_read part) (reads_grow part on_the_bench) empty (events_of part new_port cs) (clocks-bytes part new_port cs) (empty-sound (words_read part)))
+    subst (Sound (words_read_out part)) (sym (queue-events part cs)) (fold-sound (words_read_out part) (reads_grow part on_the_bench) empty (events_of part new_port cs) (clocks-bytes part new_port cs) (empty-sound (words_read_out part)))

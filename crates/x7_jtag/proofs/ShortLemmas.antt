@@ -8,11 +8,11 @@ use Rattle.x7_jtag.specs.declared.instruction.Instruction.TheVariants as instruc
 use Rattle.x7_jtag.specs.declared.state.State.{State}
 use Rattle.x7_jtag.specs.declared.state.State.TheVariants as state
 use Rattle.x7_jtag.specs.Instructions.{instruction_of}
-use Rattle.x7_jtag.specs.Port.{Port, acted, clocked, data_shifted, idled, captured, new_port, port_after, programmed, words_read, with_bit}
-use Rattle.x7_jtag.specs.Queue.{Queue, dropped, in_turn, most_held, offered, give_held, shifted_out, waits, with_room}
+use Rattle.x7_jtag.specs.Port.{Port, acted, clocked, data_shifted, idled, captured, new_port, port_after, queue_at_update, words_read_out, with_bit}
+use Rattle.x7_jtag.specs.Queue.{Queue, dropped, in_turn, most_bytes_held, offered, give_held, shifted_out, waits, queue_with_room}
 use Rattle.x7_jtag.specs.States.{Clock}
 use Rattle.x7_jtag.proofs.QueueLemmas.{given_on, in-turns}
-use Rattle.x7_jtag.specs.Tap.{Holds, TapStandsFor, TapState}
+use Rattle.x7_jtag.specs.Tap.{QueueHolds, TapStandsFor, TapState}
 
 abbrev size : Queue → ℕ
 size q = length q.given + length q.held
@@ -37,7 +37,7 @@ room-size reads q true = omega (arith, length-append q.given q.held)
 room-size reads q false = refl
 
 offered-size : (reads : List ℕ → List ℕ) (q : Queue) (x : ℕ) → size (offered reads q x) ≤ size q + 1
-offered-size reads q x = omega (arith, turn-size reads (with_room reads q) x, room-size reads q (waits reads q.given q.out && length q.held == most_held))
+offered-size reads q x = omega (arith, turn-size reads (queue_with_room reads q) x, room-size reads q (waits reads q.given q.out && length q.held == most_bytes_held))
 
 shifted-size : (reads : List ℕ → List ℕ) (q : Queue) → size (shifted_out reads q) ≤ size q + 1
 shifted-size reads q = by (waits reads q.given q.out)
@@ -54,7 +54,7 @@ same-size : (q : Queue) → size q ≤ size q + 1
 same-size q = omega arith
 
 idled-size : (part : PartData) (i : Instruction) (p : Port) → size (idled part i p).queue ≤ size p.queue + 1
-idled-size part instruction.Jstart p = if-size (offered (words_read part) p.queue 255) p.queue (p.count == 7) (offered-size (words_read part) p.queue 255)
+idled-size part instruction.Jstart p = if-size (offered (words_read_out part) p.queue 255) p.queue (p.count == 7) (offered-size (words_read_out part) p.queue 255)
 idled-size part instruction.CfgOut p = same-size p.queue
 idled-size part instruction.CfgIn p = same-size p.queue
 idled-size part instruction.Usercode p = same-size p.queue
@@ -74,8 +74,8 @@ captured-size part instruction.Jshutdown p = same-size p.queue
 captured-size part instruction.Bypass p = same-size p.queue
 
 data-size : (part : PartData) (i : Instruction) (p : Port) (tdi : Bool) → size (data_shifted part i p tdi).queue ≤ size p.queue + 1
-data-size part instruction.CfgIn p tdi = if-size (offered (words_read part) p.queue (with_bit p.register tdi)) p.queue (p.count == 7) (offered-size (words_read part) p.queue (with_bit p.register tdi))
-data-size part instruction.CfgOut p tdi = shifted-size (words_read part) p.queue
+data-size part instruction.CfgIn p tdi = if-size (offered (words_read_out part) p.queue (with_bit p.register tdi)) p.queue (p.count == 7) (offered-size (words_read_out part) p.queue (with_bit p.register tdi))
+data-size part instruction.CfgOut p tdi = shifted-size (words_read_out part) p.queue
 data-size part instruction.Jstart p tdi = same-size p.queue
 data-size part instruction.Usercode p tdi = same-size p.queue
 data-size part instruction.Idcode p tdi = same-size p.queue
@@ -83,7 +83,7 @@ data-size part instruction.Jprogram p tdi = same-size p.queue
 data-size part instruction.Jshutdown p tdi = same-size p.queue
 data-size part instruction.Bypass p tdi = same-size p.queue
 
-programmed-size : (i : Instruction) (q : Queue) → size (programmed i q) ≤ size q + 1
+programmed-size : (i : Instruction) (q : Queue) → size (queue_at_update i q) ≤ size q + 1
 programmed-size instruction.Jprogram q = omega arith
 programmed-size instruction.CfgIn q = same-size q
 programmed-size instruction.CfgOut q = same-size q
@@ -120,10 +120,10 @@ clocks-size part p (c ∷ cs) =
 -- a device took no more bytes than there were clocks, with the bytes held
 pub held-short : (part : PartData) (t : TapState) (d : DeviceState) (cs : List Clock) → TapStandsFor part t d cs → d.taken + length t.queue.held ≤ length cs
 held-short part t d cs s =
-    let h : Holds part t.queue d (port_after part cs).queue = s.queue_is.holds in
+    let h : QueueHolds part t.queue d (port_after part cs).queue = s.queue_is.holds in
     omega (arith, h.device.taken_is, ap length h.took.parts, length-append h.bytes h.took.rest, ap length h.held_is, clocks-size part new_port cs)
 
 pub taken-short : (part : PartData) (t : TapState) (d : DeviceState) (cs : List Clock) → TapStandsFor part t d cs → d.taken ≤ length cs
 taken-short part t d cs s =
-    let h : Holds part t.queue d (port_after part cs).queue = s.queue_is.holds in
+    let h : QueueHolds part t.queue d (port_after part cs).queue = s.queue_is.holds in
     omega (arith, h.device.taken_is, ap length h.took.parts, length-append h.bytes h.took.rest, clocks-size part new_port cs)

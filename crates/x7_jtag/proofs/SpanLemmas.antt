@@ -1,11 +1,11 @@
 -- What is kept stays where more is kept.
 use Rattle.std.specs.Prelude.{IfSome}
-use Rattle.std.proofs.Common.{◌≡◌, inl, inr, ℕ, ◌+◌, ◌-◌, ◌≤◌, List, [], ◌∷◌, length, take, drop, Option, Some, None, refl, ap, sym, ◌∙◌, arith}
+use Rattle.std.proofs.Common.{◌≡◌, inl, inr, ℕ, ◌+◌, ◌-◌, ◌≤◌, List, [], ◌∷◌, length, take, drop, ◌++◌, Option, Some, None, refl, ap, sym, subst, ◌∙◌, arith}
 use Rattle.std.proofs.lemmas.Bool.{cases_lt}
-use Rattle.std.proofs.lemmas.List.{drop-take, take-take, take_all}
+use Rattle.std.proofs.lemmas.List.{drop-take, take-append-le, take-take, take_all}
 use Rattle.x7_jtag.specs.Bits.{bits_of}
 use Rattle.x7_jtag.specs.Fields.{bits_option}
-use Rattle.x7_jtag.specs.Spans.{AreWordsWithin, IsPrefix, bytes_in, digits_if, end_if, end_of, words_at}
+use Rattle.x7_jtag.specs.Spans.{AreWordsWithin, StaysKept, bytes_in, digits_if, span_end_if, span_end, words_kept}
 use Rattle.x7_jtag.specs.Stored.{AreStoredWithin, IsStored, IsStoredWithin, statement_in, statements_in, stored_if}
 use Rattle.x7_jtag.specs.declared.span.Span.{Span}
 use Rattle.x7_jtag.specs.declared.statement.Statement.{Statement}
@@ -15,28 +15,35 @@ use Rattle.x7_jtag.specs.declared.stored.Stored.TheVariants as stored
 use Rattle.x7_jtag.specs.declared.words.Words.{Words}
 use Rattle.x7_jtag.specs.declared.words.Words.TheVariants as words
 
-pub front-long : (a b : List ℕ) → IsPrefix a b → length a ≤ length b
+pub front-long : (a b : List ℕ) → StaysKept a b → length a ≤ length b
 front-long a b f = elim (cases_lt (length b) (length a)) [
   | inl l ↦ omega (arith, ap length (sym (take_all (length a) b (omega (arith, l))) ∙ f))
   | inr l ↦ omega (arith, l)
 ]
 
-pub prefix-on : (a b c : List ℕ) → IsPrefix a b → IsPrefix b c → IsPrefix a c
+-- what is kept stays where nothing more is kept, and where more is put behind it
+pub all-stays : (a b : List ℕ) → b ≡ a → StaysKept a b
+all-stays a b e = subst (λ (x : List ℕ). StaysKept a x) (sym e) (take_all (length a) a (omega arith))
+
+pub more-stays : (a b more : List ℕ) → b ≡ a ++ more → StaysKept a b
+more-stays a b more e = ap (take (length a)) e ∙ take-append-le (length a) a more (omega arith) ∙ take_all (length a) a (omega arith)
+
+pub prefix-on : (a b c : List ℕ) → StaysKept a b → StaysKept b c → StaysKept a c
 prefix-on a b c f g = sym (take-take (length a) (length b) c (front-long a b f)) ∙ ap (take (length a)) g ∙ f
 
-module _ (a b : List ℕ) (f : IsPrefix a b) where
-  pub bytes-stay : (s : Span) → end_of s ≤ length a → bytes_in b s ≡ bytes_in a s
+module _ (a b : List ℕ) (f : StaysKept a b) where
+  pub bytes-stay : (s : Span) → span_end s ≤ length a → bytes_in b s ≡ bytes_in a s
   bytes-stay s w =
       let m : ℕ = length a - s.from in
       let sum : s.from + m ≡ length a = omega (arith, w) in
       let part : drop s.from a ≡ take m (drop s.from b) = ap (drop s.from) (sym f) ∙ ap (λ (k : ℕ). drop s.from (take k b)) (sym sum) ∙ drop-take s.from m b in
       sym (ap (take s.count) part ∙ take-take s.count m (drop s.from b) (omega (arith, w)))
 
-  pub option-stays : (o : Option Span) → end_if o ≤ length a → digits_if b o ≡ digits_if a o
+  pub option-stays : (o : Option Span) → span_end_if o ≤ length a → digits_if b o ≡ digits_if a o
   option-stays None w = refl
   option-stays (Some s) w = ap Some (bytes-stay s w)
 
-  pub words-stay : (ws : Words) → AreWordsWithin (length a) ws → words_at b ws ≡ words_at a ws
+  pub words-stay : (ws : Words) → AreWordsWithin (length a) ws → words_kept b ws ≡ words_kept a ws
   words-stay words.None w = refl
   words-stay (words.One p) w = ap (λ (x : List ℕ). x ∷ []) (bytes-stay p w)
   words-stay (words.Two p q) w = λ i. bytes-stay p w.0 i ∷ bytes-stay q w.1 i ∷ []
@@ -76,3 +83,8 @@ words-more n m (words.Four p q r s) l w = (omega (arith, l, w.0), omega (arith, 
 pub stored-anywhere : (kept : List ℕ) (o : Option Stored) (s : Option Statement) → stored_if [] o ≡ s → IfSome o (IsStoredWithin 0) → IsStored kept o s
 stored-anywhere kept None s e w = (e, w)
 stored-anywhere kept (Some x) s e w = (ap Some (statement-stays [] kept refl x w) ∙ e, stored-more 0 (length kept) x (omega arith) w)
+
+-- what holds anyway holds of each result
+pub of-each : {A : Type 0} {P : Type 0} → (o : Option A) → P → IfSome o (λ _. P)
+of-each None p = tt
+of-each (Some x) p = p

@@ -15,25 +15,25 @@ use Rattle.x7_engine.specs.Past.{Answers, past_of}
 use Rattle.x7_engine.specs.Standing.{DeviceStandsFor, DeviceState, NoWordDue, due_count, taken_in, words_left}
 use Rattle.x7_engine.specs.State.{history_taken, reads_of, stop_in}
 use Rattle.x7_engine.proofs.FrameLemmas.{length_left}
-use Rattle.x7_jtag.specs.Port.{words_read}
-use Rattle.x7_jtag.specs.Queue.{Queue, bits_read, bit_shown, dropped, empty, in_turn, most_held, give_held, shifted_out, waits, with_room, word_bit, queue_of}
-use Rattle.x7_jtag.specs.Tap.{Holds, QueueStandsFor, QueueState, Took, words_taken, with_word_taken}
+use Rattle.x7_jtag.specs.Port.{words_read_out}
+use Rattle.x7_jtag.specs.Queue.{Queue, bits_read, bit_shown, dropped, empty, in_turn, most_bytes_held, give_held, shifted_out, waits, queue_with_room, word_bit, queue_of}
+use Rattle.x7_jtag.specs.Tap.{QueueHolds, QueueStandsFor, QueueState, TookOfGiven, words_taken, with_word_taken}
 use Rattle.x7_jtag.proofs.QueueLemmas.{turns-wait}
 use Rattle.x7_jtag.proofs.TookLemmas.{goes-on, goes-on-dropping, none-given, reads-took, taken-all, taken-few, taken-first, took-more}
 
 -- ---- what waits
 
-pub none-waits : (part : PartData) (k : QueueState) (d : DeviceState) (given held : List ℕ) (out : ℕ) → QueueStandsFor part k d (queue_of given held out) → k.left ≡ 0 → waits (words_read part) given out ≡ false
+pub none-waits : (part : PartData) (k : QueueState) (d : DeviceState) (given held : List ℕ) (out : ℕ) → QueueStandsFor part k d (queue_of given held out) → k.left ≡ 0 → waits (words_read_out part) given out ≡ false
 none-waits part k d given held out s z =
-    let h : Holds part k d (queue_of given held out) = s.holds in
-    let all : length (words_read part given) ≡ length (words_taken part d h.bytes) = ap length (reads-took part given h.bytes h.took) ∙ ap length (sym (taken-all part d h.bytes (s.none_due z))) in
+    let h : QueueHolds part k d (queue_of given held out) = s.holds in
+    let all : length (words_read_out part given) ≡ length (words_taken part d h.bytes) = ap length (reads-took part given h.bytes h.took) ∙ ap length (sym (taken-all part d h.bytes (s.none_due z))) in
     grind (arith, all, h.out_is, z)
 
-pub one-waits : (part : PartData) (k : QueueState) (d : DeviceState) (given held : List ℕ) (out : ℕ) → Holds part k d (queue_of given held out) → 0 < k.left → waits (words_read part) given out ≡ true
+pub one-waits : (part : PartData) (k : QueueState) (d : DeviceState) (given held : List ℕ) (out : ℕ) → QueueHolds part k d (queue_of given held out) → 0 < k.left → waits (words_read_out part) given out ≡ true
 one-waits part k d given held out h l =
-    let all : length (words_read part given) ≡ length (reads_of part on_the_bench h.bytes) = ap length (reads-took part given h.bytes h.took) in
+    let all : length (words_read_out part given) ≡ length (reads_of part on_the_bench h.bytes) = ap length (reads-took part given h.bytes h.took) in
     let few : length (words_taken part d h.bytes) ≤ length (reads_of part on_the_bench h.bytes) = taken-few part d h.bytes in
-    let more : out < 32 * length (words_read part given) = omega (arith, all, few, h.out_is, l) in
+    let more : out < 32 * length (words_read_out part given) = omega (arith, all, few, h.out_is, l) in
     grind (arith, more)
 
 -- the bit that is next
@@ -41,18 +41,18 @@ seam : (prefix more words : List ℕ) (w n : ℕ) → n ≡ length prefix → wo
 seam prefix more words w n e f =
     ap₂ (λ (i : ℕ) (ws : List ℕ). slice_index ws i) e (f ∙ append_assoc prefix (w ∷ []) more) ∙ get_or-append_seam prefix w more 0
 
-pub bit-is : (part : PartData) (k : QueueState) (d : DeviceState) (given held : List ℕ) (out : ℕ) → Holds part k d (queue_of given held out) → 0 < k.left → word_bit (words_read part given) out ≡ (k.word / 2 ^ (k.left - 1) % 2 == 1)
+pub bit-is : (part : PartData) (k : QueueState) (d : DeviceState) (given held : List ℕ) (out : ℕ) → QueueHolds part k d (queue_of given held out) → 0 < k.left → word_bit (words_read_out part given) out ≡ (k.word / 2 ^ (k.left - 1) % 2 == 1)
 bit-is part k d given held out h l =
     let first : (more : List ℕ) × (words_taken part d h.bytes ++ more ≡ reads_of part on_the_bench h.bytes) = taken-first part d h.bytes in
-    let all : words_read part given ≡ (h.prefix ++ k.word ∷ []) ++ first.0 = reads-took part given h.bytes h.took ∙ sym first.1 ∙ ap (λ t. t ++ first.0) (h.word_is l) in
+    let all : words_read_out part given ≡ (h.prefix ++ k.word ∷ []) ++ first.0 = reads-took part given h.bytes h.took ∙ sym first.1 ∙ ap (λ t. t ++ first.0) (h.word_is l) in
     let count : out + k.left ≡ 32 * (length h.prefix + 1) = omega (arith, h.out_is, ap length (h.word_is l), length-append h.prefix (k.word ∷ [])) in
     let place : out / 32 ≡ length h.prefix = omega (arith, count, l, h.left_is) in
     let shift : 31 - out % 32 ≡ k.left - 1 = omega (arith, count, l, h.left_is) in
-    ap₂ (λ (w n : ℕ). w / 2 ^ n % 2 == 1) (seam h.prefix first.0 (words_read part given) k.word (out / 32) place all) shift
+    ap₂ (λ (w n : ℕ). w / 2 ^ n % 2 == 1) (seam h.prefix first.0 (words_read_out part given) k.word (out / 32) place all) shift
 
 -- ---- a bit more is out
 
-pub bit-out : (part : PartData) (k : QueueState) (d : DeviceState) (given held : List ℕ) (out : ℕ) → Holds part k d (queue_of given held out) → 0 < k.left → Holds part (record k { left = k.left - 1 }) d (queue_of given held (out + 1))
+pub bit-out : (part : PartData) (k : QueueState) (d : DeviceState) (given held : List ℕ) (out : ℕ) → QueueHolds part k d (queue_of given held out) → 0 < k.left → QueueHolds part (record k { left = k.left - 1 }) d (queue_of given held (out + 1))
 bit-out part k d given held out h l = record {
   bytes = h.bytes;
   took = h.took;
@@ -69,7 +69,7 @@ bit-out part k d given held out h l = record {
 
 pub held-more : (part : PartData) (k n : QueueState) (d : DeviceState) (given held : List ℕ) (out x : ℕ) → x < 256 → n ≡ record k { held = k.held ++ x ∷ [] } → QueueStandsFor part k d (queue_of given held out) → QueueStandsFor part n d (queue_of given (held ++ x ∷ []) out)
 held-more part k n d given held out x f e s =
-    let h : Holds part k d (queue_of given held out) = s.holds in
+    let h : QueueHolds part k d (queue_of given held out) = s.holds in
     let P : QueueState → Type 0 = λ q. QueueStandsFor part q d (queue_of given (held ++ x ∷ []) out) in
     subst P (sym e) (record {
       holds = record {
@@ -89,7 +89,7 @@ held-more part k n d given held out x f e s =
 -- the held bytes stand apart
 pub held-apart : (part : PartData) (k n : QueueState) (d : DeviceState) (given held : List ℕ) (out : ℕ) → n ≡ record k { held = [] } → QueueStandsFor part k d (queue_of given held out) → QueueStandsFor part n d (queue_of given [] out)
 held-apart part k n d given held out e s =
-    let h : Holds part k d (queue_of given held out) = s.holds in
+    let h : QueueHolds part k d (queue_of given held out) = s.holds in
     let P : QueueState → Type 0 = λ q. QueueStandsFor part q d (queue_of given [] out) in
     subst P (sym e) (record {
       holds = record {
@@ -108,21 +108,21 @@ held-apart part k n d given held out e s =
 
 -- ---- a byte in its turn
 
-turn-by : (part : PartData) (k : QueueState) (d : DeviceState) (q : Queue) (x : ℕ) (b : Bool) → waits (words_read part) q.given q.out ≡ b
+turn-by : (part : PartData) (k : QueueState) (d : DeviceState) (q : Queue) (x : ℕ) (b : Bool) → waits (words_read_out part) q.given q.out ≡ b
     → QueueStandsFor part k d (if b then record { given = q.given; held = q.held ++ x ∷ []; out = q.out } else record { given = q.given ++ x ∷ []; held = q.held; out = q.out })
-    → QueueStandsFor part k d (in_turn (words_read part) q x)
+    → QueueStandsFor part k d (in_turn (words_read_out part) q x)
 turn-by part k d q x b e s =
     subst (λ (c : Bool). QueueStandsFor part k d (if c then record { given = q.given; held = q.held ++ x ∷ []; out = q.out } else record { given = q.given ++ x ∷ []; held = q.held; out = q.out })) (sym e) s
 
-pub turn-held : (part : PartData) (k n : QueueState) (d : DeviceState) (q : Queue) (x : ℕ) → x < 256 → 0 < k.left → n ≡ record k { held = k.held ++ x ∷ [] } → QueueStandsFor part k d q → QueueStandsFor part n d (in_turn (words_read part) q x)
+pub turn-held : (part : PartData) (k n : QueueState) (d : DeviceState) (q : Queue) (x : ℕ) → x < 256 → 0 < k.left → n ≡ record k { held = k.held ++ x ∷ [] } → QueueStandsFor part k d q → QueueStandsFor part n d (in_turn (words_read_out part) q x)
 turn-held part k n d q x f l e s = turn-by part n d q x true (one-waits part k d q.given q.held q.out s.holds l) (held-more part k n d q.given q.held q.out x f e s)
 
-pub turn-given : (part : PartData) (k n : QueueState) (d e : DeviceState) (q : Queue) (x : ℕ) → k.left ≡ 0 → QueueStandsFor part k d q → QueueStandsFor part n e (queue_of (q.given ++ x ∷ []) q.held q.out) → QueueStandsFor part n e (in_turn (words_read part) q x)
+pub turn-given : (part : PartData) (k n : QueueState) (d e : DeviceState) (q : Queue) (x : ℕ) → k.left ≡ 0 → QueueStandsFor part k d q → QueueStandsFor part n e (queue_of (q.given ++ x ∷ []) q.held q.out) → QueueStandsFor part n e (in_turn (words_read_out part) q x)
 turn-given part k n d e q x z s t = turn-by part n e q x false (none-waits part k d q.given q.held q.out s z) t
 
 -- ---- what the device was fed
 
-fed-by : (part : PartData) (k n : QueueState) (d e : DeviceState) (given held piece more : List ℕ) (out : ℕ) (read : ReadBufState) (f : Fed) → (h : Holds part k d (queue_of given held out)) → k.left ≡ 0 → AreBytes piece → length piece ≤ 1
+fed-by : (part : PartData) (k n : QueueState) (d e : DeviceState) (given held piece more : List ℕ) (out : ℕ) (read : ReadBufState) (f : Fed) → (h : QueueHolds part k d (queue_of given held out)) → k.left ≡ 0 → AreBytes piece → length piece ≤ 1
     → (0 < length piece → NoWordDue d) → taken_in (length piece) f ≤ length piece
     → DeviceStandsFor part on_the_bench false e (h.bytes ++ take (taken_in (length piece) f) piece)
     → Answers (past_of part on_the_bench false (h.bytes ++ take (taken_in (length piece) f) piece)) e read f
@@ -167,7 +167,7 @@ fed-by part k n d e given held piece (v ∷ []) out read f h z fits few none w s
 fed-by part k n d e given held piece (v ∷ u ∷ us) out read f h z fits few none w stands a grown stopped is l with = absurd (omega (arith, l))
 
 -- a feed of at most one byte, where the buffer had no word before
-pub fed : (part : PartData) (k n : QueueState) (d e : DeviceState) (given held piece words : List ℕ) (out : ℕ) (old read : ReadBufState) (f : Fed) → (h : Holds part k d (queue_of given held out)) → k.left ≡ 0 → AreBytes piece → length piece ≤ 1
+pub fed : (part : PartData) (k n : QueueState) (d e : DeviceState) (given held piece words : List ℕ) (out : ℕ) (old read : ReadBufState) (f : Fed) → (h : QueueHolds part k d (queue_of given held out)) → k.left ≡ 0 → AreBytes piece → length piece ≤ 1
     → (0 < length piece → NoWordDue d) → taken_in (length piece) f ≤ length piece
     → DeviceStandsFor part on_the_bench false e (h.bytes ++ take (taken_in (length piece) f) piece)
     → Answers (past_of part on_the_bench false (h.bytes ++ take (taken_in (length piece) f) piece)) e read f
@@ -188,19 +188,19 @@ pub all-dropped : (part : PartData) (k n : QueueState) (d e : DeviceState) (give
     → Answers (past_of part on_the_bench false (s.holds.bytes ++ take (taken_in (length piece) f) piece)) e read f
     → ((more : List ℕ) × (read ≡ read_with old more) × (words_taken part e (s.holds.bytes ++ take (taken_in (length piece) f) piece) ≡ words_taken part d s.holds.bytes ++ more))
     → (IsSome (stop_in part on_the_bench s.holds.bytes) → (e ≡ d) × (read ≡ old) × (taken_in (length piece) f ≡ 0))
-    → old ≡ record { most = None; words = [] } → n ≡ record { held = []; word = k.word; left = 0 } → QueueStandsFor part n e (queue_of (given ++ held) [] (bits_read (words_read part) (given ++ held)))
+    → old ≡ record { most = None; words = [] } → n ≡ record { held = []; word = k.word; left = 0 } → QueueStandsFor part n e (queue_of (given ++ held) [] (bits_read (words_read_out part) (given ++ held)))
 all-dropped part k n d e given held piece out old read f s there stands a reads stopped is with =
-    let h : Holds part k d (queue_of given held out) = s.holds in
+    let h : QueueHolds part k d (queue_of given held out) = s.holds in
     let all : piece ≡ held = there ∙ h.held_is in
     let none : read.most ≡ None = ap (λ (b : ReadBufState). b.most) (reads.1 ∙ ap (λ (b : ReadBufState). read_with b reads.0) is) in
     let full : IsFull read → ⊥ = λ u. subst (λ (m : Option ℕ). IsFullBy m (length read.words)) none u in
     let new : List ℕ = h.bytes ++ take (taken_in (length piece) f) piece in
-    let took : Took part (given ++ piece) new =
+    let took : TookOfGiven part (given ++ piece) new =
     took-more part given h.bytes piece (taken_in (length piece) f) (subst AreBytes (sym all) h.held_fits) h.took (λ s. (stopped s).2) (goes-on-dropping part e h.bytes piece read f a full) in
     let due : NoWordDue e = none-given part e h.bytes piece read f a full in
-    let took_held : Took part (given ++ held) new = subst (λ p. Took part (given ++ p) new) all took in
-    let whole : length (words_read part (given ++ held)) ≡ length (words_taken part e new) = ap length (reads-took part (given ++ held) new took_held) ∙ ap length (sym (taken-all part e new due)) in
-    let P : QueueState → Type 0 = λ q. QueueStandsFor part q e (queue_of (given ++ held) [] (bits_read (words_read part) (given ++ held))) in
+    let took_held : TookOfGiven part (given ++ held) new = subst (λ p. TookOfGiven part (given ++ p) new) all took in
+    let whole : length (words_read_out part (given ++ held)) ≡ length (words_taken part e new) = ap length (reads-took part (given ++ held) new took_held) ∙ ap length (sym (taken-all part e new due)) in
+    let P : QueueState → Type 0 = λ q. QueueStandsFor part q e (queue_of (given ++ held) [] (bits_read (words_read_out part) (given ++ held))) in
     subst P (sym with) (record {
       holds = record {
         bytes = new;
@@ -221,58 +221,58 @@ all-dropped part k n d e given held piece out old read f s there stands a reads 
 shown-by : (reads : List ℕ → List ℕ) (q : Queue) (b : Bool) → waits reads q.given q.out ≡ b → bit_shown reads q ≡ (if b then word_bit (reads q.given) q.out else false)
 shown-by reads q b e = ap (λ (c : Bool). if c then word_bit (reads q.given) q.out else false) e
 
-pub shows-none : (part : PartData) (k : QueueState) (d : DeviceState) (q : Queue) → QueueStandsFor part k d q → k.left ≡ 0 → false ≡ bit_shown (words_read part) q
-shows-none part k d q s z = sym (shown-by (words_read part) q false (none-waits part k d q.given q.held q.out s z))
+pub shows-none : (part : PartData) (k : QueueState) (d : DeviceState) (q : Queue) → QueueStandsFor part k d q → k.left ≡ 0 → false ≡ bit_shown (words_read_out part) q
+shows-none part k d q s z = sym (shown-by (words_read_out part) q false (none-waits part k d q.given q.held q.out s z))
 
-pub shows-bit : (part : PartData) (k : QueueState) (d : DeviceState) (q : Queue) (b : Bool) → QueueStandsFor part k d q → 0 < k.left → b ≡ (k.word / 2 ^ (k.left - 1) % 2 == 1) → b ≡ bit_shown (words_read part) q
-shows-bit part k d q b s l e = e ∙ sym (bit-is part k d q.given q.held q.out s.holds l) ∙ sym (shown-by (words_read part) q true (one-waits part k d q.given q.held q.out s.holds l))
+pub shows-bit : (part : PartData) (k : QueueState) (d : DeviceState) (q : Queue) (b : Bool) → QueueStandsFor part k d q → 0 < k.left → b ≡ (k.word / 2 ^ (k.left - 1) % 2 == 1) → b ≡ bit_shown (words_read_out part) q
+shows-bit part k d q b s l e = e ∙ sym (bit-is part k d q.given q.held q.out s.holds l) ∙ sym (shown-by (words_read_out part) q true (one-waits part k d q.given q.held q.out s.holds l))
 
-pub shifts-none : (part : PartData) (k : QueueState) (d : DeviceState) (q : Queue) → QueueStandsFor part k d q → k.left ≡ 0 → QueueStandsFor part k d (shifted_out (words_read part) q)
+pub shifts-none : (part : PartData) (k : QueueState) (d : DeviceState) (q : Queue) → QueueStandsFor part k d q → k.left ≡ 0 → QueueStandsFor part k d (shifted_out (words_read_out part) q)
 shifts-none part k d q s z =
-    subst (λ (b : Bool). QueueStandsFor part k d (if b then give_held (words_read part) (record q { out = q.out + 1 }) else q)) (sym (none-waits part k d q.given q.held q.out s z)) s
+    subst (λ (b : Bool). QueueStandsFor part k d (if b then give_held (words_read_out part) (record q { out = q.out + 1 }) else q)) (sym (none-waits part k d q.given q.held q.out s z)) s
 
-shifts : (part : PartData) (k n : QueueState) (d e : DeviceState) (q : Queue) → QueueStandsFor part k d q → 0 < k.left → QueueStandsFor part n e (give_held (words_read part) (record q { out = q.out + 1 })) → QueueStandsFor part n e (shifted_out (words_read part) q)
+shifts : (part : PartData) (k n : QueueState) (d e : DeviceState) (q : Queue) → QueueStandsFor part k d q → 0 < k.left → QueueStandsFor part n e (give_held (words_read_out part) (record q { out = q.out + 1 })) → QueueStandsFor part n e (shifted_out (words_read_out part) q)
 shifts part k n d e q s l t =
-    subst (λ (b : Bool). QueueStandsFor part n e (if b then give_held (words_read part) (record q { out = q.out + 1 }) else q)) (sym (one-waits part k d q.given q.held q.out s.holds l)) t
+    subst (λ (b : Bool). QueueStandsFor part n e (if b then give_held (words_read_out part) (record q { out = q.out + 1 }) else q)) (sym (one-waits part k d q.given q.held q.out s.holds l)) t
 
 pub shifts-last : (part : PartData) (k m n : QueueState) (d e : DeviceState) (q : Queue) → QueueStandsFor part k d q → 0 < k.left → m ≡ record k { left = k.left - 1 }
-    → (Holds part m d (queue_of q.given q.held (q.out + 1)) → QueueStandsFor part n e (give_held (words_read part) (record q { out = q.out + 1 }))) → QueueStandsFor part n e (shifted_out (words_read part) q)
+    → (QueueHolds part m d (queue_of q.given q.held (q.out + 1)) → QueueStandsFor part n e (give_held (words_read_out part) (record q { out = q.out + 1 }))) → QueueStandsFor part n e (shifted_out (words_read_out part) q)
 shifts-last part k m n d e q s l with next =
-    let P : QueueState → Type 0 = λ t. Holds part t d (queue_of q.given q.held (q.out + 1)) in
+    let P : QueueState → Type 0 = λ t. QueueHolds part t d (queue_of q.given q.held (q.out + 1)) in
     shifts part k n d e q s l (next (subst P (sym with) (bit-out part k d q.given q.held q.out s.holds l)))
 
-pub shifts-inside : (part : PartData) (k n : QueueState) (d : DeviceState) (q : Queue) → QueueStandsFor part k d q → 0 < n.left → n ≡ record k { left = k.left - 1 } → QueueStandsFor part n d (shifted_out (words_read part) q)
+pub shifts-inside : (part : PartData) (k n : QueueState) (d : DeviceState) (q : Queue) → QueueStandsFor part k d q → 0 < n.left → n ≡ record k { left = k.left - 1 } → QueueStandsFor part n d (shifted_out (words_read_out part) q)
 shifts-inside part k n d q s l with =
-    let P : QueueState → Type 0 = λ t. Holds part t d (queue_of q.given q.held (q.out + 1)) in
+    let P : QueueState → Type 0 = λ t. QueueHolds part t d (queue_of q.given q.held (q.out + 1)) in
     let some : 0 < k.left = omega (arith, l, ap (λ (t : QueueState). t.left) with) in
-    let h : Holds part n d (queue_of q.given q.held (q.out + 1)) = subst P (sym with) (bit-out part k d q.given q.held q.out s.holds some) in
+    let h : QueueHolds part n d (queue_of q.given q.held (q.out + 1)) = subst P (sym with) (bit-out part k d q.given q.held q.out s.holds some) in
     let t : QueueStandsFor part n d (queue_of q.given q.held (q.out + 1)) = record { holds = h; none_due = λ z. absurd (omega (arith, z, l)) } in
-    shifts part k n d d q s some (subst (QueueStandsFor part n d) (sym (turns-wait (words_read part) q.given [] q.held (q.out + 1) (one-waits part n d q.given q.held (q.out + 1) h l))) t)
+    shifts part k n d d q s some (subst (QueueStandsFor part n d) (sym (turns-wait (words_read_out part) q.given [] q.held (q.out + 1) (one-waits part n d q.given q.held (q.out + 1) h l))) t)
 
 -- ---- room for a byte
 
-room-by : (part : PartData) (n : QueueState) (e : DeviceState) (q : Queue) (b : Bool) → (waits (words_read part) q.given q.out && length q.held == most_held) ≡ b
-    → QueueStandsFor part n e (if b then dropped (words_read part) q else q) → QueueStandsFor part n e (with_room (words_read part) q)
-room-by part n e q b is s = subst (λ (c : Bool). QueueStandsFor part n e (if c then dropped (words_read part) q else q)) (sym is) s
+room-by : (part : PartData) (n : QueueState) (e : DeviceState) (q : Queue) (b : Bool) → (waits (words_read_out part) q.given q.out && length q.held == most_bytes_held) ≡ b
+    → QueueStandsFor part n e (if b then dropped (words_read_out part) q else q) → QueueStandsFor part n e (queue_with_room (words_read_out part) q)
+room-by part n e q b is s = subst (λ (c : Bool). QueueStandsFor part n e (if c then dropped (words_read_out part) q else q)) (sym is) s
 
-overflow-is : (part : PartData) (k : QueueState) (d : DeviceState) (q : Queue) (b : Bool) → QueueStandsFor part k d q → b ≡ (nat_lt 0 k.left && length k.held == 64) → (waits (words_read part) q.given q.out && length q.held == most_held) ≡ b
+overflow-is : (part : PartData) (k : QueueState) (d : DeviceState) (q : Queue) (b : Bool) → QueueStandsFor part k d q → b ≡ (nat_lt 0 k.left && length k.held == 64) → (waits (words_read_out part) q.given q.out && length q.held == most_bytes_held) ≡ b
 overflow-is part k d q b s e = by k.left refl
   where
     count : length k.held ≡ length q.held
     count = ap length s.holds.held_is
 
-    by : (left : ℕ) → k.left ≡ left → (waits (words_read part) q.given q.out && length q.held == most_held) ≡ b
-    by zero z = let w : waits (words_read part) q.given q.out ≡ false = none-waits part k d q.given q.held q.out s z in grind (arith, w, e, z, count)
+    by : (left : ℕ) → k.left ≡ left → (waits (words_read_out part) q.given q.out && length q.held == most_bytes_held) ≡ b
+    by zero z = let w : waits (words_read_out part) q.given q.out ≡ false = none-waits part k d q.given q.held q.out s z in grind (arith, w, e, z, count)
     by (suc m) z =
         let l : 0 < k.left = omega (arith, z) in
-        let w : waits (words_read part) q.given q.out ≡ true = one-waits part k d q.given q.held q.out s.holds l in
+        let w : waits (words_read_out part) q.given q.out ≡ true = one-waits part k d q.given q.held q.out s.holds l in
         grind (arith, w, e, l, count)
 
 pub room-made : (part : PartData) (k n : QueueState) (d e : DeviceState) (q : Queue) (b : Bool) → QueueStandsFor part k d q → b ≡ (nat_lt 0 k.left && length k.held == 64) → b ≡ true
-    → QueueStandsFor part n e (queue_of (q.given ++ q.held) [] (bits_read (words_read part) (q.given ++ q.held))) → QueueStandsFor part n e (with_room (words_read part) q)
+    → QueueStandsFor part n e (queue_of (q.given ++ q.held) [] (bits_read (words_read_out part) (q.given ++ q.held))) → QueueStandsFor part n e (queue_with_room (words_read_out part) q)
 room-made part k n d e q b s is t new = room-by part n e q true (overflow-is part k d q b s is ∙ t) new
 
-pub room-there : (part : PartData) (k : QueueState) (d : DeviceState) (q : Queue) (b : Bool) → QueueStandsFor part k d q → b ≡ (nat_lt 0 k.left && length k.held == 64) → b ≡ false → QueueStandsFor part k d (with_room (words_read part) q)
+pub room-there : (part : PartData) (k : QueueState) (d : DeviceState) (q : Queue) (b : Bool) → QueueStandsFor part k d q → b ≡ (nat_lt 0 k.left && length k.held == 64) → b ≡ false → QueueStandsFor part k d (queue_with_room (words_read_out part) q)
 room-there part k d q b s is f = room-by part k d q false (overflow-is part k d q b s is ∙ f) s
 
 -- ---- a reset
@@ -312,23 +312,23 @@ pub room-more : (rest : List ℕ) (new old most : ℕ) → 0 < length rest → n
 room-more rest new old most some l m = omega (arith, some, l, m, ap length (rest-of rest), length-drop 1 rest)
 
 pub turn-more : (part : PartData) (k l n : QueueState) (c d e : DeviceState) (all rest : List ℕ) → 0 < length rest
-    → ((m : Queue) → QueueStandsFor part k c m → (p : Queue) × QueueStandsFor part l d p × (fold (in_turn (words_read part)) m all ≡ fold (in_turn (words_read part)) p rest))
-    → ((m : Queue) → QueueStandsFor part l d m → QueueStandsFor part n e (in_turn (words_read part) m (slice_index rest 0)))
-    → (m : Queue) → QueueStandsFor part k c m → (p : Queue) × QueueStandsFor part n e p × (fold (in_turn (words_read part)) m all ≡ fold (in_turn (words_read part)) p (take (length rest - 1) (drop 1 rest)))
+    → ((m : Queue) → QueueStandsFor part k c m → (p : Queue) × QueueStandsFor part l d p × (fold (in_turn (words_read_out part)) m all ≡ fold (in_turn (words_read_out part)) p rest))
+    → ((m : Queue) → QueueStandsFor part l d m → QueueStandsFor part n e (in_turn (words_read_out part) m (slice_index rest 0)))
+    → (m : Queue) → QueueStandsFor part k c m → (p : Queue) × QueueStandsFor part n e p × (fold (in_turn (words_read_out part)) m all ≡ fold (in_turn (words_read_out part)) p (take (length rest - 1) (drop 1 rest)))
 turn-more part k l n c d e all rest some before step m s =
     let b = before m s in
-    (in_turn (words_read part) b.0 (slice_index rest 0), step b.0 b.1, b.2 ∙ ap (fold (in_turn (words_read part)) b.0) (first-of rest some) ∙ ap (fold (in_turn (words_read part)) (in_turn (words_read part) b.0 (slice_index rest 0))) (sym (rest-of rest)))
+    (in_turn (words_read_out part) b.0 (slice_index rest 0), step b.0 b.1, b.2 ∙ ap (fold (in_turn (words_read_out part)) b.0) (first-of rest some) ∙ ap (fold (in_turn (words_read_out part)) (in_turn (words_read_out part) b.0 (slice_index rest 0))) (sym (rest-of rest)))
 
 none-of : (xs : List ℕ) → length xs ≡ 0 → xs ≡ []
 none-of [] l = refl
 none-of (x ∷ xs) l = absurd (omega (arith, l))
 
 pub turns-end : (part : PartData) (k l n : QueueState) (d e : DeviceState) (given held all rest : List ℕ) (out : ℕ) → QueueStandsFor part k d (queue_of given held out) → l ≡ record k { held = [] } → all ≡ k.held → length rest ≡ 0
-    → ((m : Queue) → QueueStandsFor part l d m → (p : Queue) × QueueStandsFor part n e p × (fold (in_turn (words_read part)) m all ≡ fold (in_turn (words_read part)) p rest))
-    → QueueStandsFor part n e (give_held (words_read part) (queue_of given held out))
+    → ((m : Queue) → QueueStandsFor part l d m → (p : Queue) × QueueStandsFor part n e p × (fold (in_turn (words_read_out part)) m all ≡ fold (in_turn (words_read_out part)) p rest))
+    → QueueStandsFor part n e (give_held (words_read_out part) (queue_of given held out))
 turns-end part k l n d e given held all rest out s apart whole none turns =
     let first : Queue = record { given = given; held = []; out = out } in
     let b = turns first (held-apart part k l d given held out apart s) in
-    let end : b.0 ≡ give_held (words_read part) (queue_of given held out) =
-    sym (ap (fold (in_turn (words_read part)) b.0) (none-of rest none)) ∙ sym b.2 ∙ ap (fold (in_turn (words_read part)) first) (whole ∙ s.holds.held_is) in
+    let end : b.0 ≡ give_held (words_read_out part) (queue_of given held out) =
+    sym (ap (fold (in_turn (words_read_out part)) b.0) (none-of rest none)) ∙ sym b.2 ∙ ap (fold (in_turn (words_read_out part)) first) (whole ∙ s.holds.held_is) in
     subst (QueueStandsFor part n e) end b.1

@@ -4,21 +4,21 @@ use Rattle.std.proofs.lemmas.List.{map-append}
 use Rattle.x7_words.proofs.ListLemmas.{all-append}
 use Rattle.x7_jtag.specs.declared.statement.Statement.{Statement}
 use Rattle.x7_jtag.specs.declared.stored.Stored.{Stored}
-use Rattle.x7_jtag.specs.Pieces.{Piece}
+use Rattle.x7_jtag.specs.Pieces.{TextPiece}
 use Rattle.x7_jtag.specs.Source.{SourceState, pieces_left}
-use Rattle.x7_jtag.specs.Spans.{IsPrefix}
+use Rattle.x7_jtag.specs.Spans.{StaysKept}
 use Rattle.x7_jtag.specs.Stored.{AreStoredWithin, IsStoredWithin, statement_in, statements_in, stored_if}
 use Rattle.x7_jtag.specs.Svf.{BeginWithOne, first_statement, outcome, pieces_after}
 use Rattle.x7_jtag.proofs.OutcomeLemmas.{after_all, one-on}
 use Rattle.x7_jtag.proofs.SpanLemmas.{all-stored-more, front-long, statements-stay}
 
 -- a source from before its next piece, there, and behind the statement there
-module _ (ps : List Piece) (before here after : SourceState) (out new : List Stored) (one : Stored) (e : new ≡ out ++ one ∷ []) (w : AreStoredWithin (length before.kept) out)
-    (same : here.kept ≡ before.kept) (f : IsPrefix here.kept after.kept) where
-  front-here : IsPrefix before.kept after.kept
-  front-here = subst (λ (k : List ℕ). IsPrefix k after.kept) same f
+module _ (ps : List TextPiece) (before here after : SourceState) (out new : List Stored) (one : Stored) (e : new ≡ out ++ one ∷ []) (w : AreStoredWithin (length before.kept) out)
+    (same : here.kept ≡ before.kept) (f : StaysKept here.kept after.kept) where
+  front-here : StaysKept before.kept after.kept
+  front-here = subst (λ (k : List ℕ). StaysKept k after.kept) same f
 
-  pub stored-on : (p : Piece) (left : List Piece) → outcome ps ≡ after_all (statements_in before.kept out) (outcome (pieces_left before)) → pieces_left before ≡ p ∷ left → pieces_left before ≡ pieces_left here
+  pub stored-on : (p : TextPiece) (left : List TextPiece) → outcome ps ≡ after_all (statements_in before.kept out) (outcome (pieces_left before)) → pieces_left before ≡ p ∷ left → pieces_left before ≡ pieces_left here
       → stored_if after.kept (Some one) ≡ first_statement (pieces_left here) → pieces_after (pieces_left here) ≡ Some (pieces_left after)
       → outcome ps ≡ after_all (statements_in after.kept new) (outcome (pieces_left after))
   stored-on p left h first there is a =

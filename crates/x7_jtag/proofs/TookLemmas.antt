@@ -15,7 +15,7 @@ use Rattle.x7_engine.specs.Standing.{DeviceState, NoWordDue, due_count, taken_in
 use Rattle.x7_engine.specs.State.{reads_of, state_of, stop_in}
 use Rattle.x7_engine.specs.Stops.{Stopped}
 use Rattle.x7_engine.proofs.StateLemmas.{stop_is_final-reads, stop_is_final-state}
-use Rattle.x7_jtag.specs.Tap.{Took, words_taken}
+use Rattle.x7_jtag.specs.Tap.{TookOfGiven, words_taken}
 
 drop-all : (xs : List ℕ) → drop (length xs) xs ≡ []
 drop-all [] = refl
@@ -25,7 +25,7 @@ piece-split : (bytes piece : List ℕ) (n : ℕ) → (bytes ++ take n piece) ++ 
 piece-split bytes piece n = append_assoc bytes (take n piece) (drop n piece) ∙ ap (λ t. bytes ++ t) (take-append-drop n piece)
 
 -- what is given where nothing is left over
-took-whole : (part : PartData) (given bytes : List ℕ) (t : Took part given bytes) → t.rest ≡ [] → given ≡ bytes
+took-whole : (part : PartData) (given bytes : List ℕ) (t : TookOfGiven part given bytes) → t.rest ≡ [] → given ≡ bytes
 took-whole part given bytes t e = t.parts ∙ ap (λ r. bytes ++ r) e ∙ append-nil bytes
 
 -- the stop of an option that has one
@@ -39,8 +39,8 @@ module _ (part : PartData) (given bytes piece : List ℕ) (n : ℕ) where
   more-over (inl s) = inr s
   more-over (inr e) = inl (ap (λ (k : ℕ). drop k piece) e ∙ drop-all piece)
 
-  more-by : AreBytes piece → (t : Took part given bytes) → (IsSome (stop_in part on_the_bench bytes) → n ≡ 0) → IsSome (stop_in part on_the_bench (bytes ++ take n piece)) ⊎ (n ≡ length piece)
-      → (t.rest ≡ []) ⊎ IsSome (stop_in part on_the_bench bytes) → Took part (given ++ piece) (bytes ++ take n piece)
+  more-by : AreBytes piece → (t : TookOfGiven part given bytes) → (IsSome (stop_in part on_the_bench bytes) → n ≡ 0) → IsSome (stop_in part on_the_bench (bytes ++ take n piece)) ⊎ (n ≡ length piece)
+      → (t.rest ≡ []) ⊎ IsSome (stop_in part on_the_bench bytes) → TookOfGiven part (given ++ piece) (bytes ++ take n piece)
   more-by f t z s (inl e) = record {
     fits = all-append (λ b. b < 256) given piece t.fits f;
     rest = drop n piece;
@@ -56,27 +56,27 @@ module _ (part : PartData) (given bytes piece : List ℕ) (n : ℕ) where
         over = inr (subst (λ b. IsSome (stop_in part on_the_bench b)) (sym same) stop);
       }
 
-  pub took-more : AreBytes piece → (t : Took part given bytes) → (IsSome (stop_in part on_the_bench bytes) → n ≡ 0) → IsSome (stop_in part on_the_bench (bytes ++ take n piece)) ⊎ (n ≡ length piece)
-      → Took part (given ++ piece) (bytes ++ take n piece)
+  pub took-more : AreBytes piece → (t : TookOfGiven part given bytes) → (IsSome (stop_in part on_the_bench bytes) → n ≡ 0) → IsSome (stop_in part on_the_bench (bytes ++ take n piece)) ⊎ (n ≡ length piece)
+      → TookOfGiven part (given ++ piece) (bytes ++ take n piece)
   took-more f t z s = more-by f t z s t.over
 
 -- what the bytes given read out, those taken read out
-reads-by : (part : PartData) (given bytes : List ℕ) (t : Took part given bytes) → (t.rest ≡ []) ⊎ IsSome (stop_in part on_the_bench bytes) → reads_of part on_the_bench given ≡ reads_of part on_the_bench bytes
+reads-by : (part : PartData) (given bytes : List ℕ) (t : TookOfGiven part given bytes) → (t.rest ≡ []) ⊎ IsSome (stop_in part on_the_bench bytes) → reads_of part on_the_bench given ≡ reads_of part on_the_bench bytes
 reads-by part given bytes t (inl e) = ap (reads_of part on_the_bench) (took-whole part given bytes t e)
 reads-by part given bytes t (inr s) =
     let stop : (s : Stopped) × (stop_in part on_the_bench bytes ≡ Some s) = the-stop (stop_in part on_the_bench bytes) s in
     ap (reads_of part on_the_bench) t.parts ∙ stop_is_final-reads part on_the_bench bytes t.rest stop.0 (subst AreBytes t.parts t.fits) stop.1
 
-pub reads-took : (part : PartData) (given bytes : List ℕ) → Took part given bytes → reads_of part on_the_bench given ≡ reads_of part on_the_bench bytes
+pub reads-took : (part : PartData) (given bytes : List ℕ) → TookOfGiven part given bytes → reads_of part on_the_bench given ≡ reads_of part on_the_bench bytes
 reads-took part given bytes t = reads-by part given bytes t t.over
 
-state-by : (part : PartData) (given bytes : List ℕ) (t : Took part given bytes) → (t.rest ≡ []) ⊎ IsSome (stop_in part on_the_bench bytes) → state_of part on_the_bench false given ≡ state_of part on_the_bench false bytes
+state-by : (part : PartData) (given bytes : List ℕ) (t : TookOfGiven part given bytes) → (t.rest ≡ []) ⊎ IsSome (stop_in part on_the_bench bytes) → state_of part on_the_bench false given ≡ state_of part on_the_bench false bytes
 state-by part given bytes t (inl e) = ap (state_of part on_the_bench false) (took-whole part given bytes t e)
 state-by part given bytes t (inr s) =
     let stop : (s : Stopped) × (stop_in part on_the_bench bytes ≡ Some s) = the-stop (stop_in part on_the_bench bytes) s in
     ap (state_of part on_the_bench false) t.parts ∙ stop_is_final-state part on_the_bench false bytes t.rest stop.0 (subst AreBytes t.parts t.fits) stop.1
 
-pub state-took : (part : PartData) (given bytes : List ℕ) → Took part given bytes → state_of part on_the_bench false given ≡ state_of part on_the_bench false bytes
+pub state-took : (part : PartData) (given bytes : List ℕ) → TookOfGiven part given bytes → state_of part on_the_bench false given ≡ state_of part on_the_bench false bytes
 state-took part given bytes t = state-by part given bytes t t.over
 
 -- where no word is due all words are grown

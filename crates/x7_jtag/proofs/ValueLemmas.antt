@@ -3,14 +3,14 @@ use Rattle.std.proofs.Common.{◌≡◌, ◌⊎◌, inl, inr, ℕ, suc, ◌+◌,
 use Rattle.std.proofs.Math.Pow.{pow_mono}
 use Rattle.std.proofs.Math.Nat.{mul-le-mul_right}
 use Rattle.std.proofs.lemmas.Nat.{pow-add, pow_pos}
-use Rattle.x7_jtag.specs.Bits.{hex_digit}
-use Rattle.x7_jtag.specs.Fields.{are_hex, digit_width, is_hex, value_of, width}
+use Rattle.x7_jtag.specs.Bits.{digit_number}
+use Rattle.x7_jtag.specs.Fields.{are_hex, digit_width, is_hex, hex_value, width}
 
 pub both : (a b : Bool) → (a && b) ≡ true → (a ≡ true) × (b ≡ true)
 both true b e = (refl, e)
 both false b e = absurd cc
 
-digit-below : (c : ℕ) → is_hex c ≡ true → hex_digit c < 16
+digit-below : (c : ℕ) → is_hex c ≡ true → digit_number c < 16
 digit-below c h = grind (arith, h)
 
 more-bits : (k w : ℕ) → 2 ^ (w + 4 * k) ≡ 2 ^ w * 2 ^ (4 * k)
@@ -23,13 +23,13 @@ below-by d k r l m =
     let q : 2 ^ (4 + 4 * k) ≡ 16 * p = more-bits k 4 in
     grind (arith, t, q, m)
 
-pub value-below : (ds : List ℕ) → are_hex ds ≡ true → value_of ds < 2 ^ (4 * length ds)
+pub value-below : (ds : List ℕ) → are_hex ds ≡ true → hex_value ds < 2 ^ (4 * length ds)
 value-below [] h = omega arith
 value-below (c ∷ cs) h =
     let parts : (is_hex c ≡ true) × (are_hex cs ≡ true) = both (is_hex c) (are_hex cs) h in
     let e : 4 + 4 * length cs ≡ 4 * length (c ∷ cs) = omega arith in
-    let s : hex_digit c * 2 ^ (4 * length cs) + value_of cs < 2 ^ (4 + 4 * length cs) = below-by (hex_digit c) (length cs) (value_of cs) (digit-below c parts.0) (value-below cs parts.1) in
-    subst (λ n. hex_digit c * 2 ^ (4 * length cs) + value_of cs < 2 ^ n) e s
+    let s : digit_number c * 2 ^ (4 * length cs) + hex_value cs < 2 ^ (4 + 4 * length cs) = below-by (digit_number c) (length cs) (hex_value cs) (digit-below c parts.0) (value-below cs parts.1) in
+    subst (λ n. digit_number c * 2 ^ (4 * length cs) + hex_value cs < 2 ^ n) e s
 
 -- a digit that isn't 0 has its highest bit
 record Highest (d w : ℕ) : Type 0 where
@@ -49,8 +49,8 @@ bits-by d false false true e p q r s l = inr (record { below = 1; is = refl; lea
 bits-by d false false false true p q r s l = inr (record { below = 2; is = refl; least = grind (arith, r); most = grind (arith, s) })
 bits-by d false false false false p q r s l = inr (record { below = 3; is = refl; least = grind (arith, s); most = omega (arith, l) })
 
-digit-bits : (c : ℕ) → is_hex c ≡ true → ((digit_width c ≡ 0) × (hex_digit c ≡ 0)) ⊎ Highest (hex_digit c) (digit_width c)
-digit-bits c h = bits-by (hex_digit c) (nat_lt (hex_digit c) 1) (nat_lt (hex_digit c) 2) (nat_lt (hex_digit c) 4) (nat_lt (hex_digit c) 8) refl refl refl refl (digit-below c h)
+digit-bits : (c : ℕ) → is_hex c ≡ true → ((digit_width c ≡ 0) × (digit_number c ≡ 0)) ⊎ Highest (digit_number c) (digit_width c)
+digit-bits c h = bits-by (digit_number c) (nat_lt (digit_number c) 1) (nat_lt (digit_number c) 2) (nat_lt (digit_number c) 4) (nat_lt (digit_number c) 8) refl refl refl refl (digit-below c h)
 
 width-zero : (c : ℕ) (cs : List ℕ) → digit_width c ≡ 0 → width (c ∷ cs) ≡ width cs
 width-zero c cs e = ap (λ (w : ℕ). if w == 0 then width cs else 4 * length cs + w) e
@@ -60,10 +60,10 @@ width-some c cs v e =
     let some : (suc v == 0) ≡ false = grind arith in
     ap (λ (w : ℕ). if w == 0 then width cs else 4 * length cs + w) e ∙ ap (λ (b : Bool). if b then width cs else 4 * length cs + suc v) some
 
-value-zero : (c : ℕ) (cs : List ℕ) → hex_digit c ≡ 0 → value_of (c ∷ cs) ≡ value_of cs
+value-zero : (c : ℕ) (cs : List ℕ) → digit_number c ≡ 0 → hex_value (c ∷ cs) ≡ hex_value cs
 value-zero c cs e =
-    let none : 0 * 2 ^ (4 * length cs) + value_of cs ≡ value_of cs = omega arith in
-    ap (λ (d : ℕ). d * 2 ^ (4 * length cs) + value_of cs) e ∙ none
+    let none : 0 * 2 ^ (4 * length cs) + hex_value cs ≡ hex_value cs = omega arith in
+    ap (λ (d : ℕ). d * 2 ^ (4 * length cs) + hex_value cs) e ∙ none
 
 top-below : (d v k r n : ℕ) → d < 2 ^ suc v → r < 2 ^ (4 * k) → 4 * k + suc v ≤ n → d * 2 ^ (4 * k) + r < 2 ^ n
 top-below d v k r n l m w =
@@ -81,20 +81,20 @@ top-above d v k r n l m w =
     let u : 2 ^ n ≤ 2 ^ (v + 4 * k) = pow_mono (omega (arith, w)) in
     grind (arith, t, q, m, u)
 
-pub fits-value : (ds : List ℕ) (n : ℕ) → are_hex ds ≡ true → width ds ≤ n → value_of ds < 2 ^ n
+pub fits-value : (ds : List ℕ) (n : ℕ) → are_hex ds ≡ true → width ds ≤ n → hex_value ds < 2 ^ n
 fits-value [] n h l = pow_pos n
 fits-value (c ∷ cs) n h l =
     let parts : (is_hex c ≡ true) × (are_hex cs ≡ true) = both (is_hex c) (are_hex cs) h in
     elim (digit-bits c parts.0) [
       | inl z ↦ subst (λ (v : ℕ). v < 2 ^ n) (sym (value-zero c cs z.1)) (fits-value cs n parts.1 (omega (arith, l, width-zero c cs z.0)))
-      | inr s ↦ top-below (hex_digit c) s.below (length cs) (value_of cs) n s.most (value-below cs parts.1) (omega (arith, l, width-some c cs s.below s.is))
+      | inr s ↦ top-below (digit_number c) s.below (length cs) (hex_value cs) n s.most (value-below cs parts.1) (omega (arith, l, width-some c cs s.below s.is))
     ]
 
-pub value-fits : (ds : List ℕ) (n : ℕ) → are_hex ds ≡ true → value_of ds < 2 ^ n → width ds ≤ n
+pub value-fits : (ds : List ℕ) (n : ℕ) → are_hex ds ≡ true → hex_value ds < 2 ^ n → width ds ≤ n
 value-fits [] n h l = omega arith
 value-fits (c ∷ cs) n h l =
     let parts : (is_hex c ≡ true) × (are_hex cs ≡ true) = both (is_hex c) (are_hex cs) h in
     elim (digit-bits c parts.0) [
       | inl z ↦ (let m : width cs ≤ n = value-fits cs n parts.1 (subst (λ (v : ℕ). v < 2 ^ n) (value-zero c cs z.1) l) in omega (arith, m, width-zero c cs z.0))
-      | inr s ↦ (let some : n < 4 * length cs + suc s.below → ⊥ = top-above (hex_digit c) s.below (length cs) (value_of cs) n s.least l in grind (arith, some, width-some c cs s.below s.is))
+      | inr s ↦ (let some : n < 4 * length cs + suc s.below → ⊥ = top-above (digit_number c) s.below (length cs) (hex_value cs) n s.least l in grind (arith, some, width-some c cs s.below s.is))
     ]

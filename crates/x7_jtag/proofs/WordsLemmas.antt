@@ -1,8 +1,8 @@
 -- The words of a statement, one by one; no statement has more than four.
 use Rattle.std.proofs.Common.{◌≡◌, ℕ, ◌||◌, ◌≤◌, Bool, true, false, if◌then◌else◌, List, [], ◌∷◌, ◌++◌, length, take, Option, Some, None, codes, refl, ap, sym, ◌∙◌, append_assoc, append-nil, arith}
-use Rattle.x7_jtag.specs.Pieces.{Mark, Piece, mark_of}
+use Rattle.x7_jtag.specs.Pieces.{Mark, TextPiece, mark_of}
 use Rattle.x7_jtag.specs.Source.{SourceState, left_after}
-use Rattle.x7_jtag.specs.Words.{is_key, statement_if_words, statement_of_words, with_word, words_of}
+use Rattle.x7_jtag.specs.Words.{is_key, statement_if_words, statement_of_words, word_before, words_of}
 use Rattle.x7_jtag.specs.Svf.{marks_before}
 use Rattle.x7_jtag.specs.declared.token.Token.{Token}
 use Rattle.x7_jtag.specs.declared.token.Token.TheVariants as token
@@ -30,24 +30,24 @@ more-words k (a ∷ b ∷ c ∷ []) w vs l = absurd (omega (arith, l))
 more-words k (a ∷ b ∷ c ∷ d ∷ []) w vs l = five k a b c d w vs
 more-words k (a ∷ b ∷ c ∷ d ∷ e ∷ ws) w vs l = five k a b c d e (ws ++ w ∷ vs)
 
-too-many : (k : List ℕ) (ws : List (List ℕ)) (w : List ℕ) (o : Option (List (List ℕ))) → 4 ≤ length ws → statement_if_words k (after_words ws (with_word w o)) ≡ None
+too-many : (k : List ℕ) (ws : List (List ℕ)) (w : List ℕ) (o : Option (List (List ℕ))) → 4 ≤ length ws → statement_if_words k (after_words ws (word_before w o)) ≡ None
 too-many k ws w None l = refl
 too-many k ws w (Some vs) l = more-words k ws w vs l
 
-one-more : (ws : List (List ℕ)) (w : List ℕ) (o : Option (List (List ℕ))) → after_words ws (with_word w o) ≡ after_words (ws ++ w ∷ []) o
+one-more : (ws : List (List ℕ)) (w : List ℕ) (o : Option (List (List ℕ))) → after_words ws (word_before w o) ≡ after_words (ws ++ w ∷ []) o
 one-more ws w None = refl
 one-more ws w (Some vs) = ap Some (sym (append_assoc ws (w ∷ []) vs))
 
 -- the words so far, and the marks of the rest, which begin with a word
 module _ (ms : Option (List (List ℕ))) (ws : List (List ℕ)) (marks : List Mark) (here : SourceState) (t : Token) (n : ℕ) (same : ms ≡ after_words ws (words_of marks))
     (e : marks ≡ mark_of t here.rest ∷ marks_before (left_after here t)) (is : t ≡ token.Word n) where
-  word-next : ms ≡ after_words ws (with_word (take n here.rest) (words_of (marks_before (left_after here (token.Word n)))))
+  word-next : ms ≡ after_words ws (word_before (take n here.rest) (words_of (marks_before (left_after here (token.Word n)))))
   word-next = same ∙ ap (λ (xs : List Mark). after_words ws (words_of xs)) (e ∙ ap (λ (u : Token). mark_of u here.rest ∷ marks_before (left_after here u)) is)
 
   pub fifth : (key : List ℕ) → length ws ≡ 4 → None ≡ statement_if_words key ms
   fifth key four = sym (ap (statement_if_words key) word-next ∙ too-many key ws (take n here.rest) (words_of (marks_before (left_after here (token.Word n)))) (omega (arith, four)))
 
-  pub words-on : (more : List (List ℕ)) (word : List ℕ) (left : List Piece) → more ≡ ws ++ word ∷ [] → word ≡ take n here.rest → left ≡ left_after here (token.Word n) → ms ≡ after_words more (words_of (marks_before left))
+  pub words-on : (more : List (List ℕ)) (word : List ℕ) (left : List TextPiece) → more ≡ ws ++ word ∷ [] → word ≡ take n here.rest → left ≡ left_after here (token.Word n) → ms ≡ after_words more (words_of (marks_before left))
   words-on more word left g w l =
       let grown : more ≡ ws ++ take n here.rest ∷ [] = g ∙ ap (λ (x : List ℕ). ws ++ x ∷ []) w in
       word-next ∙ one-more ws (take n here.rest) (words_of (marks_before (left_after here (token.Word n)))) ∙ sym (λ i. after_words (grown i) (words_of (marks_before (l i))))

@@ -3,12 +3,12 @@ use Rattle.std.specs.Prelude.{ℕ, zero, suc, ◌+◌, ◌-◌, ◌/◌, ◌%◌
 use Rattle.std.specs.List.{flat_map}
 
 -- the number of a digit of either case
-abbrev pub hex_digit : ℕ → ℕ
-hex_digit c = if nat_le c 57 then c - 48 else (if nat_le c 70 then c - 55 else c - 87)
+abbrev pub digit_number : ℕ → ℕ
+digit_number c = if nat_le c 57 then c - 48 else (if nat_le c 70 then c - 55 else c - 87)
 
 -- bit i of digits, four a digit, the last of which is the lowest; 0 past the first
 abbrev pub bit_of : List ℕ → ℕ → Bool
-bit_of ds i = if nat_lt (i / 4) (length ds) then hex_digit (slice_index ds (length ds - 1 - i / 4)) / 2 ^ (i % 4) % 2 == 1 else false
+bit_of ds i = if nat_lt (i / 4) (length ds) then digit_number (slice_index ds (length ds - 1 - i / 4)) / 2 ^ (i % 4) % 2 == 1 else false
 
 -- so many bits from bit i on
 abbrev pub bits_from : List ℕ → ℕ → ℕ → List Bool
@@ -31,5 +31,5 @@ abbrev pub bytes_bits : List ℕ → List Bool
 bytes_bits bytes = flat_map byte_bits bytes
 
 -- four bits, the lowest of which becomes the highest
-abbrev pub mirrored : ℕ → ℕ
-mirrored n = n % 2 * 8 + n / 2 % 2 * 4 + n / 4 % 2 * 2 + n / 8 % 2
+abbrev pub mirrored_digit : ℕ → ℕ
+mirrored_digit n = n % 2 * 8 + n / 2 % 2 * 4 + n / 4 % 2 * 2 + n / 8 % 2

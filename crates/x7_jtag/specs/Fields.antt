@@ -2,16 +2,16 @@
 use Rattle.std.specs.Prelude.{ℕ, ◌+◌, ◌*◌, ◌^◌, ◌==◌, ◌||◌, ◌&&◌, nat_le, nat_lt, Bool, true, false, if◌then◌else◌, List, [], ◌∷◌, ◌++◌, Option, Some, None, codes, length}
 use Rattle.std.specs.List.{list_all}
 use Rattle.x7_jtag.specs.Pieces.{Mark, Word, Open, Close, End}
-use Rattle.x7_jtag.specs.Bits.{bits_of, hex_digit}
-use Rattle.x7_jtag.specs.Words.{is_digit, is_key, number_of}
+use Rattle.x7_jtag.specs.Bits.{bits_of, digit_number}
+use Rattle.x7_jtag.specs.Words.{is_digit, is_key, number_within}
 use Rattle.x7_jtag.specs.declared.statement.Statement.{Statement}
 use Rattle.x7_jtag.specs.declared.statement.Statement.TheVariants as statement
 use Rattle.x7_jtag.specs.declared.fields.Field.{Field}
 use Rattle.x7_jtag.specs.declared.fields.Field.TheVariants as field
 
 -- a field's name
-abbrev pub field_of : List ℕ → Option Field
-field_of w =
+abbrev pub field_by_name : List ℕ → Option Field
+field_by_name w =
     if is_key w (codes "TDI") then Some field.Tdi
     else (if is_key w (codes "TDO") then Some field.Tdo
     else (if is_key w (codes "MASK") then Some field.Mask
@@ -56,9 +56,9 @@ put_field f field.Mask ds = if is_none f.mask then Some (record f { mask = Some 
 put_field f field.Smask ds = if is_none f.smask then Some (record f { smask = Some ds }) else None
 
 -- after a field's name its brackets come next
-abbrev pub named_by : Fields → Option Field → Option Scanning
-named_by f None = None
-named_by f (Some k) = Some (record { at = Named k; fields = f })
+abbrev pub after_name : Fields → Option Field → Option Scanning
+after_name f None = None
+after_name f (Some k) = Some (record { at = Named k; fields = f })
 
 -- a field more, which has at least one digit
 abbrev pub closed_field : Fields → Field → List ℕ → Option Fields
@@ -71,7 +71,7 @@ closed_by (Some f) = Some (record { at = Between; fields = f })
 
 -- what a mark more comes to
 abbrev pub scan_step : At → Fields → Mark → Option Scanning
-scan_step Between f (Word w) = named_by f (field_of w)
+scan_step Between f (Word w) = after_name f (field_by_name w)
 scan_step (Named k) f Open = Some (record { at = Inside k []; fields = f })
 scan_step (Inside k ds) f (Word w) = if are_hex w then Some (record { at = Inside k (ds ++ w); fields = f }) else None
 scan_step (Inside k ds) f Close = closed_by (closed_field f k ds)
@@ -84,28 +84,28 @@ done (Named k) f = None
 done (Inside k ds) f = None
 
 -- the fields that a reader of a scan comes to who goes on from where it stands
-abbrev pub and_so : Option Scanning → (At → Fields → Option Fields) → Option Fields
-and_so None next = None
-and_so (Some s) next = next s.at s.fields
+abbrev pub fields_after_step : Option Scanning → (At → Fields → Option Fields) → Option Fields
+fields_after_step None next = None
+fields_after_step (Some s) next = next s.at s.fields
 
 -- the fields of marks, by where they begin and the fields before them
 abbrev pub scan_from : At → Fields → List Mark → Option Fields
 scan_from at f [] = done at f
-scan_from at f (m ∷ ms) = and_so (scan_step at f m) (λ a g. scan_from a g ms)
+scan_from at f (m ∷ ms) = fields_after_step (scan_step at f m) (λ a g. scan_from a g ms)
 
 -- no field as yet
 abbrev pub no_fields : Fields
 no_fields = record { tdi = None; tdo = None; mask = None; smask = None }
 
 -- the value of digits, the first the highest
-abbrev pub value_of : List ℕ → ℕ
-value_of [] = 0
-value_of (c ∷ cs) = hex_digit c * 2 ^ (4 * length cs) + value_of cs
+abbrev pub hex_value : List ℕ → ℕ
+hex_value [] = 0
+hex_value (c ∷ cs) = digit_number c * 2 ^ (4 * length cs) + hex_value cs
 
 -- how many bits the value of a digit has
 abbrev pub digit_width : ℕ → ℕ
 digit_width c =
-    if nat_lt (hex_digit c) 1 then 0 else (if nat_lt (hex_digit c) 2 then 1 else (if nat_lt (hex_digit c) 4 then 2 else (if nat_lt (hex_digit c) 8 then 3 else 4)))
+    if nat_lt (digit_number c) 1 then 0 else (if nat_lt (digit_number c) 2 then 1 else (if nat_lt (digit_number c) 4 then 2 else (if nat_lt (digit_number c) 8 then 3 else 4)))
 
 -- how many bits the value of digits has
 abbrev pub width : List ℕ → ℕ
@@ -153,7 +153,7 @@ scan_if ir (Some n) ms = scan_by ir n (scan_from Between no_fields ms)
 -- after SIR or SDR
 abbrev pub scan_of : Bool → List Mark → Option Statement
 scan_of ir [] = None
-scan_of ir (Word n ∷ ms) = scan_if ir (some_bits (number_of most_bits n)) ms
+scan_of ir (Word n ∷ ms) = scan_if ir (some_bits (number_within most_bits n)) ms
 scan_of ir (Open ∷ ms) = None
 scan_of ir (Close ∷ ms) = None
 scan_of ir (End ∷ ms) = None

@@ -11,7 +11,7 @@ pub data Mark : Type 0 where
   End : Mark
 
 -- a mark and the line on which it begins
-pub record Piece : Type 0 where
+pub record TextPiece : Type 0 where
   pub line : ℕ
   pub mark : Mark
 
@@ -20,8 +20,8 @@ abbrev pub is_word_byte : ℕ → Bool
 is_word_byte c = not (c == 32 || c == 9 || c == 10 || c == 40 || c == 41 || c == 59)
 
 -- blanks, tabs and line ends
-abbrev pub is_blank : ℕ → Bool
-is_blank c = c == 32 || c == 9 || c == 10
+abbrev pub is_blank_byte : ℕ → Bool
+is_blank_byte c = c == 32 || c == 9 || c == 10
 
 -- the mark of a byte that is no word's and no blank
 abbrev pub byte_mark : ℕ → Mark
@@ -32,9 +32,9 @@ abbrev pub line_after : ℕ → ℕ → ℕ
 line_after c line = if c == 10 then line + 1 else line
 
 -- a word with a byte more before it
-abbrev pub extend : ℕ → ℕ → List Piece → List Piece
+abbrev pub extend : ℕ → ℕ → List TextPiece → List TextPiece
 extend line c [] = record { line = line; mark = Word (c ∷ []) } ∷ []
-extend line c (p ∷ ps) = elim p.mark as (λ m. List Piece) [
+extend line c (p ∷ ps) = elim p.mark as (λ m. List TextPiece) [
   | Word bytes ↦ record { line = line; mark = Word (c ∷ bytes) } ∷ ps
   | Open ↦ record { line = line; mark = Word (c ∷ []) } ∷ p ∷ ps
   | Close ↦ record { line = line; mark = Word (c ∷ []) } ∷ p ∷ ps
@@ -42,21 +42,21 @@ extend line c (p ∷ ps) = elim p.mark as (λ m. List Piece) [
 ]
 
 -- the pieces of a word's byte and of the text after it, whose own are these
-abbrev pub joined : ℕ → ℕ → List ℕ → List Piece → List Piece
-joined line c [] ps = record { line = line; mark = Word (c ∷ []) } ∷ ps
-joined line c (d ∷ ds) ps = if is_word_byte d then extend line c ps else record { line = line; mark = Word (c ∷ []) } ∷ ps
+abbrev pub with_word_byte : ℕ → ℕ → List ℕ → List TextPiece → List TextPiece
+with_word_byte line c [] ps = record { line = line; mark = Word (c ∷ []) } ∷ ps
+with_word_byte line c (d ∷ ds) ps = if is_word_byte d then extend line c ps else record { line = line; mark = Word (c ∷ []) } ∷ ps
 
 -- the pieces of any other byte and of that text
-abbrev pub marked : ℕ → ℕ → List Piece → List Piece
+abbrev pub marked : ℕ → ℕ → List TextPiece → List TextPiece
 marked line c ps =
     if c == 40 then record { line = line; mark = Open } ∷ ps
     else (if c == 41 then record { line = line; mark = Close } ∷ ps
     else (if c == 59 then record { line = line; mark = End } ∷ ps else ps))
 
 -- the pieces of a text that begins on this line
-abbrev pub pieces : ℕ → List ℕ → List Piece
+abbrev pub pieces : ℕ → List ℕ → List TextPiece
 pieces line [] = []
-pieces line (c ∷ cs) = if is_word_byte c then joined line c cs (pieces (line_after c line) cs) else marked line c (pieces (line_after c line) cs)
+pieces line (c ∷ cs) = if is_word_byte c then with_word_byte line c cs (pieces (line_after c line) cs) else marked line c (pieces (line_after c line) cs)
 
 -- a token at the front of a text as a mark
 abbrev pub mark_of : Token → List ℕ → Mark
@@ -66,6 +66,6 @@ mark_of token.Close text = Close
 mark_of token.End text = End
 
 -- how many bytes a token has
-abbrev pub size_of : Token → ℕ
-size_of (token.Word n) = n
-size_of _ = 1
+abbrev pub token_size : Token → ℕ
+token_size (token.Word n) = n
+token_size _ = 1

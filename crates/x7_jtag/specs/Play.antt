@@ -35,8 +35,8 @@ abbrev pub after_clocks : PartData → Port → List Clock → Port
 after_clocks part p cs = fold (clocked part) p cs
 
 -- TDO at shift clock i of a scan, where the port is in Shift-DR or Shift-IR before the first
-abbrev pub shown_at : PartData → Port → List Bool → ℕ → Bool
-shown_at part p tdi i = tdo_of part (after_clocks part p (take i (shift_clocks tdi)))
+abbrev pub tdo_at : PartData → Port → List Bool → ℕ → Bool
+tdo_at part p tdi i = tdo_of part (after_clocks part p (take i (shift_clocks tdi)))
 
 -- whether the bit that is shown differs from the wanted one, where bits are wanted and bit i counts
 abbrev pub is_apart : Option (List Bool) → Option (List Bool) → ℕ → Bool → Bool
@@ -65,7 +65,7 @@ scan_bits tdi tdo mask = record { tdi = tdi; tdo = tdo; mask = mask }
 
 -- whether TDO differs at shift clock i from what is wanted
 abbrev pub differs_at : PartData → Port → ScanBits → ℕ → Bool
-differs_at part p s i = is_apart s.tdo s.mask i (shown_at part p s.tdi i)
+differs_at part p s i = is_apart s.tdo s.mask i (tdo_at part p s.tdi i)
 
 -- the least bit from `first` on at which a scan differs
 abbrev pub difference_from : PartData → Port → ScanBits → ℕ → Option ℕ
@@ -110,12 +110,12 @@ walk_clocks path = map (λ tms. clock tms false) path
 -- ---- what a step does to a tap and its device
 
 -- the step makes these clocks, by the port before them
-abbrev pub Makes : TapState → DeviceState → TapState → DeviceState → (Port → List Clock) → Type 0
-Makes t d u e made = (part : PartData) (cs : List Clock) → TapStandsFor part t d cs → TapStandsFor part u e (cs ++ made (port_after part cs))
+abbrev pub MakesClocks : TapState → DeviceState → TapState → DeviceState → (Port → List Clock) → Type 0
+MakesClocks t d u e made = (part : PartData) (cs : List Clock) → TapStandsFor part t d cs → TapStandsFor part u e (cs ++ made (port_after part cs))
 
 -- the step finds what is sought, by the port before it
-abbrev pub Finds : TapState → DeviceState → (PartData → Port → Option ℕ) → Option ℕ → Type 0
-Finds t d sought found = (part : PartData) (cs : List Clock) → TapStandsFor part t d cs → found ≡ sought part (port_after part cs)
+abbrev pub FindsSought : TapState → DeviceState → (PartData → Port → Option ℕ) → Option ℕ → Type 0
+FindsSought t d sought found = (part : PartData) (cs : List Clock) → TapStandsFor part t d cs → found ≡ sought part (port_after part cs)
 
 -- what holds of all clocks after which a tap and its device have made these
 abbrev pub HavingMade : TapState → DeviceState → List Clock → (PartData → List Clock → Type 0) → Type 0

@@ -20,8 +20,8 @@ pub record Port : Type 0 where
   pub queue : Queue
 
 -- the words that a device of this part reads out of bytes given since a reset on the bench
-abbrev pub words_read : PartData → List ℕ → List ℕ
-words_read part given = reads_of part on_the_bench given
+abbrev pub words_read_out : PartData → List ℕ → List ℕ
+words_read_out part given = reads_of part on_the_bench given
 
 -- a bit as a number
 abbrev pub number_of_bit : Bool → ℕ
@@ -33,8 +33,8 @@ abbrev pub lowest : ℕ → Bool
 lowest register = register % 2 == 1
 
 -- one shift: the lowest bit goes out, and TDI comes in as the highest, which is worth `top`
-abbrev pub shifted : ℕ → ℕ → Bool → ℕ
-shifted top register tdi = register / 2 + top * number_of_bit tdi
+abbrev pub register_shifted : ℕ → ℕ → Bool → ℕ
+register_shifted top register tdi = register / 2 + top * number_of_bit tdi
 
 -- a byte whose first bit is the highest: TDI comes in as the lowest
 abbrev pub with_bit : ℕ → Bool → ℕ
@@ -52,7 +52,7 @@ ir_status part given = status (state_of part on_the_bench false given).lines.don
 
 -- Run-Test/Idle: under JSTART each eighth clock offers a byte FF
 abbrev pub idled : PartData → Instruction → Port → Port
-idled part instruction.Jstart p = record p { count = (p.count + 1) % 8; queue = if p.count == 7 then offered (words_read part) p.queue 255 else p.queue }
+idled part instruction.Jstart p = record p { count = (p.count + 1) % 8; queue = if p.count == 7 then offered (words_read_out part) p.queue 255 else p.queue }
 idled part _ p = p
 
 -- Capture-DR: the idcode, the user code FFFFFFFF, the first bit of a byte, or a 0
@@ -67,21 +67,21 @@ abbrev pub data_shifted : PartData → Instruction → Port → Bool → Port
 data_shifted part instruction.CfgIn p tdi = record p {
   register = with_bit p.register tdi;
   count = (p.count + 1) % 8;
-  queue = if p.count == 7 then offered (words_read part) p.queue (with_bit p.register tdi) else p.queue;
+  queue = if p.count == 7 then offered (words_read_out part) p.queue (with_bit p.register tdi) else p.queue;
 }
-data_shifted part instruction.CfgOut p tdi = record p { queue = shifted_out (words_read part) p.queue }
-data_shifted part instruction.Idcode p tdi = record p { register = shifted (2 ^ 31) p.register tdi }
-data_shifted part instruction.Usercode p tdi = record p { register = shifted (2 ^ 31) p.register tdi }
-data_shifted part _ p tdi = record p { register = shifted 1 p.register tdi }
+data_shifted part instruction.CfgOut p tdi = record p { queue = shifted_out (words_read_out part) p.queue }
+data_shifted part instruction.Idcode p tdi = record p { register = register_shifted (2 ^ 31) p.register tdi }
+data_shifted part instruction.Usercode p tdi = record p { register = register_shifted (2 ^ 31) p.register tdi }
+data_shifted part _ p tdi = record p { register = register_shifted 1 p.register tdi }
 
 -- what an instruction does as it comes: JPROGRAM resets the device
-abbrev pub programmed : Instruction → Queue → Queue
-programmed instruction.Jprogram q = empty
-programmed _ q = q
+abbrev pub queue_at_update : Instruction → Queue → Queue
+queue_at_update instruction.Jprogram q = empty
+queue_at_update _ q = q
 
 -- Update-IR: the register becomes the instruction
 abbrev pub updated : Port → Port
-updated p = record p { instruction = instruction_of p.register; count = 0; queue = programmed (instruction_of p.register) p.queue }
+updated p = record p { instruction = instruction_of p.register; count = 0; queue = queue_at_update (instruction_of p.register) p.queue }
 
 -- the action of a state
 abbrev pub acted : PartData → State → Port → Bool → Port
@@ -90,7 +90,7 @@ acted part state.RunTestIdle p tdi = idled part p.instruction p
 acted part state.CaptureDr p tdi = captured part p.instruction p
 acted part state.ShiftDr p tdi = data_shifted part p.instruction p tdi
 acted part state.CaptureIr p tdi = record p { register = ir_status part p.queue.given }
-acted part state.ShiftIr p tdi = record p { register = shifted 32 p.register tdi }
+acted part state.ShiftIr p tdi = record p { register = register_shifted 32 p.register tdi }
 acted part state.UpdateIr p tdi = updated p
 acted part _ p tdi = p
 
@@ -99,7 +99,7 @@ acted part _ p tdi = p
 -- TDO in Shift-DR
 abbrev pub data_shown : PartData → Instruction → Port → Bool
 data_shown part instruction.CfgIn p = false
-data_shown part instruction.CfgOut p = bit_shown (words_read part) p.queue
+data_shown part instruction.CfgOut p = bit_shown (words_read_out part) p.queue
 data_shown part _ p = lowest p.register
 
 -- TDO in a state

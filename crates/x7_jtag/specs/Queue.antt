@@ -4,10 +4,10 @@ use Rattle.std.specs.List.{fold}
 use Rattle.x7_words.specs.Word.{AreBytes}
 
 -- a byte offered, a clock that shifts a bit out, a reset of the device
-pub data Event : Type 0 where
-  Byte : (byte : ℕ) → Event
-  Bit : Event
-  Program : Event
+pub data QueueEvent : Type 0 where
+  Byte : (byte : ℕ) → QueueEvent
+  Bit : QueueEvent
+  Program : QueueEvent
 
 -- the bytes given to the device, those held back, and how many bits are out
 pub record Queue : Type 0 where
@@ -32,8 +32,8 @@ abbrev pub waits : (List ℕ → List ℕ) → List ℕ → ℕ → Bool
 waits reads given out = nat_lt out (bits_read reads given)
 
 -- the most bytes held
-abbrev pub most_held : ℕ
-most_held = 64
+abbrev pub most_bytes_held : ℕ
+most_bytes_held = 64
 
 -- a byte in its turn: given where no word waits, else held
 abbrev pub in_turn : (List ℕ → List ℕ) → Queue → ℕ → Queue
@@ -51,12 +51,12 @@ abbrev pub dropped : (List ℕ → List ℕ) → Queue → Queue
 dropped reads q = record { given = q.given ++ q.held; held = []; out = bits_read reads (q.given ++ q.held) }
 
 -- room for a byte that should be held, where the most are
-abbrev pub with_room : (List ℕ → List ℕ) → Queue → Queue
-with_room reads q = if waits reads q.given q.out && length q.held == most_held then dropped reads q else q
+abbrev pub queue_with_room : (List ℕ → List ℕ) → Queue → Queue
+queue_with_room reads q = if waits reads q.given q.out && length q.held == most_bytes_held then dropped reads q else q
 
 -- a byte offered
 abbrev pub offered : (List ℕ → List ℕ) → Queue → ℕ → Queue
-offered reads q x = in_turn reads (with_room reads q) x
+offered reads q x = in_turn reads (queue_with_room reads q) x
 
 -- one bit more is out; where it was the last that waited, held bytes go to the device
 abbrev pub shifted_out : (List ℕ → List ℕ) → Queue → Queue
@@ -75,18 +75,18 @@ abbrev pub empty : Queue
 empty = record { given = []; held = []; out = 0 }
 
 -- a queue after an event
-abbrev pub by_event : (List ℕ → List ℕ) → Queue → Event → Queue
+abbrev pub by_event : (List ℕ → List ℕ) → Queue → QueueEvent → Queue
 by_event reads q (Byte x) = offered reads q x
 by_event reads q Bit = shifted_out reads q
 by_event reads q Program = empty
 
 -- the queue of a new port after events
-abbrev pub queue_after : (List ℕ → List ℕ) → List Event → Queue
+abbrev pub queue_after : (List ℕ → List ℕ) → List QueueEvent → Queue
 queue_after reads es = fold (by_event reads) empty es
 
 -- what holds of a queue: no more bits are out than were read out, at most the most bytes are held, these only while a word waits, and all are bytes
 pub record Sound (reads : List ℕ → List ℕ) (q : Queue) : Type 0 where
   pub within : q.out ≤ bits_read reads q.given
-  pub room : length q.held ≤ most_held
+  pub room : length q.held ≤ most_bytes_held
   pub waiting : 0 < length q.held → waits reads q.given q.out ≡ true
   pub fits : AreBytes (q.given ++ q.held)

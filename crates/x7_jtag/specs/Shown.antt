@@ -8,15 +8,15 @@ use Rattle.x7_engine.specs.State.{history_taken, why_of, memory_in, state_owing,
 use Rattle.x7_engine.specs.Stops.{fault_of}
 use Rattle.x7_engine.specs.declared.fault.Fault.{Fault}
 use Rattle.x7_memory.specs.FrameMap.{FrameMap}
-use Rattle.x7_jtag.specs.Port.{Port, words_read}
+use Rattle.x7_jtag.specs.Port.{Port, words_read_out}
 
 -- the bytes that the device took of those given: all, or those up to the device's stop
 abbrev pub bytes_taken : PartData → Port → List ℕ
 bytes_taken part p = take (taken_of part on_the_bench p.queue.given) p.queue.given
 
 -- the number of words that are due: those after the one whose bits go out
-abbrev pub words_due : PartData → Port → ℕ
-words_due part p = length (words_read part p.queue.given) - (p.queue.out / 32 + 1)
+abbrev pub port_words_due : PartData → Port → ℕ
+port_words_due part p = length (words_read_out part p.queue.given) - (p.queue.out / 32 + 1)
 
 -- the device's registers and the rest of its state, where `due` words of frame data are due
 abbrev pub state_with : PartData → Port → ℕ → Regs
@@ -24,7 +24,7 @@ state_with part p due = state_owing part on_the_bench false (bytes_taken part p)
 
 -- the device's registers and the rest of its state; FAR counts the words of frame data that the port took
 abbrev pub state_shown : PartData → Port → Regs
-state_shown part p = state_with part p (frames_among (history_taken part on_the_bench (bytes_taken part p)) (words_due part p))
+state_shown part p = state_with part p (frames_among (history_taken part on_the_bench (bytes_taken part p)) (port_words_due part p))
 
 -- the fault that stopped the device
 abbrev pub fault_shown : PartData → Port → Option Fault

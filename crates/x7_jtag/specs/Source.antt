@@ -1,6 +1,6 @@
 -- A text on its way (this project's choice).
 use Rattle.std.specs.Prelude.{ℕ, List, ◌∷◌, drop}
-use Rattle.x7_jtag.specs.Pieces.{Piece, mark_of, pieces, size_of}
+use Rattle.x7_jtag.specs.Pieces.{TextPiece, mark_of, pieces, token_size}
 use Rattle.x7_jtag.specs.declared.token.Token.{Token}
 
 -- the bytes kept of what was read, and the rest with the line on which it begins
@@ -10,13 +10,13 @@ pub record SourceState : Type 0 where
   pub rest : List ℕ
 
 -- the pieces of the rest
-abbrev pub pieces_left : SourceState → List Piece
+abbrev pub pieces_left : SourceState → List TextPiece
 pieces_left s = pieces s.line s.rest
 
 -- the pieces after a token that the rest begins with
-abbrev pub left_after : SourceState → Token → List Piece
-left_after s t = pieces s.line (drop (size_of t) s.rest)
+abbrev pub left_after : SourceState → Token → List TextPiece
+left_after s t = pieces s.line (drop (token_size t) s.rest)
 
 -- the pieces from a token on that the rest begins with
-abbrev pub left_from : SourceState → Token → List Piece
+abbrev pub left_from : SourceState → Token → List TextPiece
 left_from s t = record { line = s.line; mark = mark_of t s.rest } ∷ left_after s t

@@ -41,21 +41,21 @@ scanning_of kept (Some s) = Some (record { at = at_of kept s.place; fields = fie
 -- ---- what is kept stays
 
 -- the second begins with the first
-abbrev pub IsPrefix : List ℕ → List ℕ → Type 0
-IsPrefix prefix all = take (length prefix) all ≡ prefix
+abbrev pub StaysKept : List ℕ → List ℕ → Type 0
+StaysKept prefix all = take (length prefix) all ≡ prefix
 
 -- where digits end
-abbrev pub end_of : Span → ℕ
-end_of s = s.from + s.count
+abbrev pub span_end : Span → ℕ
+span_end s = s.from + s.count
 
 -- where the digits of a field end, and 0 where it has none
-abbrev pub end_if : Option Span → ℕ
-end_if None = 0
-end_if (Some s) = end_of s
+abbrev pub span_end_if : Option Span → ℕ
+span_end_if None = 0
+span_end_if (Some s) = span_end s
 
 -- the digits of all fields are among the first n bytes
 abbrev pub AreWithin : ℕ → Given → Type 0
-AreWithin n g = (end_if g.tdi ≤ n) × (end_if g.tdo ≤ n) × (end_if g.mask ≤ n) × (end_if g.smask ≤ n)
+AreWithin n g = (span_end_if g.tdi ≤ n) × (span_end_if g.tdo ≤ n) × (span_end_if g.mask ≤ n) × (span_end_if g.smask ≤ n)
 
 -- the open field, if there is one, begins among the first n bytes
 abbrev pub IsPlaceWithin : ℕ → Place → Type 0
@@ -70,17 +70,17 @@ IsWithin n s = IsPlaceWithin n s.place × AreWithin n s.given
 -- ---- words
 
 -- the words at these places, in order
-abbrev pub words_at : List ℕ → Words → List (List ℕ)
-words_at kept words.None = []
-words_at kept (words.One a) = bytes_in kept a ∷ []
-words_at kept (words.Two a b) = bytes_in kept a ∷ bytes_in kept b ∷ []
-words_at kept (words.Three a b c) = bytes_in kept a ∷ bytes_in kept b ∷ bytes_in kept c ∷ []
-words_at kept (words.Four a b c d) = bytes_in kept a ∷ bytes_in kept b ∷ bytes_in kept c ∷ bytes_in kept d ∷ []
+abbrev pub words_kept : List ℕ → Words → List (List ℕ)
+words_kept kept words.None = []
+words_kept kept (words.One a) = bytes_in kept a ∷ []
+words_kept kept (words.Two a b) = bytes_in kept a ∷ bytes_in kept b ∷ []
+words_kept kept (words.Three a b c) = bytes_in kept a ∷ bytes_in kept b ∷ bytes_in kept c ∷ []
+words_kept kept (words.Four a b c d) = bytes_in kept a ∷ bytes_in kept b ∷ bytes_in kept c ∷ bytes_in kept d ∷ []
 
 -- the words are among the first n bytes
 abbrev pub AreWordsWithin : ℕ → Words → Type 0
 AreWordsWithin n words.None = ⊤
-AreWordsWithin n (words.One a) = end_of a ≤ n
-AreWordsWithin n (words.Two a b) = (end_of a ≤ n) × (end_of b ≤ n)
-AreWordsWithin n (words.Three a b c) = (end_of a ≤ n) × (end_of b ≤ n) × (end_of c ≤ n)
-AreWordsWithin n (words.Four a b c d) = (end_of a ≤ n) × (end_of b ≤ n) × (end_of c ≤ n) × (end_of d ≤ n)
+AreWordsWithin n (words.One a) = span_end a ≤ n
+AreWordsWithin n (words.Two a b) = (span_end a ≤ n) × (span_end b ≤ n)
+AreWordsWithin n (words.Three a b c) = (span_end a ≤ n) × (span_end b ≤ n) × (span_end c ≤ n)
+AreWordsWithin n (words.Four a b c d) = (span_end a ≤ n) × (span_end b ≤ n) × (span_end c ≤ n) × (span_end d ≤ n)

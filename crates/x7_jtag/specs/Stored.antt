@@ -3,7 +3,7 @@ use Rattle.std.specs.Prelude.{◌≡◌, ℕ, ◌≤◌, ⊤, List, length, map,
 use Rattle.std.specs.List.{AllByRecursion}
 use Rattle.x7_jtag.specs.Bits.{bits_of}
 use Rattle.x7_jtag.specs.Fields.{bits_option}
-use Rattle.x7_jtag.specs.Spans.{digits_if, bytes_in, end_if, end_of}
+use Rattle.x7_jtag.specs.Spans.{digits_if, bytes_in, span_end_if, span_end}
 use Rattle.x7_jtag.specs.declared.statement.Statement.{Statement}
 use Rattle.x7_jtag.specs.declared.statement.Statement.TheVariants as statement
 use Rattle.x7_jtag.specs.declared.stored.StoredScan.{StoredScan}
@@ -33,7 +33,7 @@ statements_in kept ss = map (statement_in kept) ss
 
 -- the digits of a stored statement are among the first n bytes
 abbrev pub IsStoredWithin : ℕ → Stored → Type 0
-IsStoredWithin n (stored.Scan s) = (end_of s.tdi ≤ n) × (end_if s.tdo ≤ n) × (end_if s.mask ≤ n)
+IsStoredWithin n (stored.Scan s) = (span_end s.tdi ≤ n) × (span_end_if s.tdo ≤ n) × (span_end_if s.mask ≤ n)
 IsStoredWithin n _ = ⊤
 
 -- the digits of all stored statements are among the first n bytes

@@ -36,7 +36,7 @@ pub record TapState : Type 0 where
   pub queue : QueueState
 
 -- of the bytes given a device took these: all of them, or those up to its stop
-pub record Took (part : PartData) (given bytes : List ℕ) : Type 0 where
+pub record TookOfGiven (part : PartData) (given bytes : List ℕ) : Type 0 where
   pub fits : AreBytes given
   pub rest : List ℕ
   pub parts : given ≡ bytes ++ rest
@@ -52,9 +52,9 @@ abbrev pub words_taken : PartData → DeviceState → List ℕ → List ℕ
 words_taken part d bytes = reads_given part on_the_bench d bytes
 
 -- a queue and its device stand for one of a port, where a word may be due though none waits
-pub record Holds (part : PartData) (k : QueueState) (d : DeviceState) (q : Queue) : Type 0 where
+pub record QueueHolds (part : PartData) (k : QueueState) (d : DeviceState) (q : Queue) : Type 0 where
   pub bytes : List ℕ
-  pub took : Took part q.given bytes
+  pub took : TookOfGiven part q.given bytes
   pub device : DeviceStandsFor part on_the_bench false d bytes
   pub held_is : k.held ≡ q.held
   pub held_fits : AreBytes q.held
@@ -65,7 +65,7 @@ pub record Holds (part : PartData) (k : QueueState) (d : DeviceState) (q : Queue
 
 -- the next word is taken of the device as soon as the last bit of the one before has gone out
 pub record QueueStandsFor (part : PartData) (k : QueueState) (d : DeviceState) (q : Queue) : Type 0 where
-  pub holds : Holds part k d q
+  pub holds : QueueHolds part k d q
   pub none_due : k.left ≡ 0 → NoWordDue d
 
 -- a tap and its device stand for a port

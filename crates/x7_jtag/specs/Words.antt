@@ -22,9 +22,9 @@ number_from limit so_far (c ∷ cs) =
     if is_digit c && nat_le (so_far * 10 + (c - 48)) limit then number_from limit (so_far * 10 + (c - 48)) cs else None
 
 -- the number of a word of decimal digits, within a limit
-abbrev pub number_of : ℕ → List ℕ → Option ℕ
-number_of limit [] = None
-number_of limit (c ∷ cs) = number_from limit 0 (c ∷ cs)
+abbrev pub number_within : ℕ → List ℕ → Option ℕ
+number_within limit [] = None
+number_within limit (c ∷ cs) = number_from limit 0 (c ∷ cs)
 
 -- the most clocks of a run
 abbrev pub most_clocks : ℕ
@@ -47,14 +47,14 @@ abbrev pub is_free : List ℕ → Bool
 is_free w = list_all is_free_byte w
 
 -- a word before others, if these are words
-abbrev pub with_word : List ℕ → Option (List (List ℕ)) → Option (List (List ℕ))
-with_word w None = None
-with_word w (Some ws) = Some (w ∷ ws)
+abbrev pub word_before : List ℕ → Option (List (List ℕ)) → Option (List (List ℕ))
+word_before w None = None
+word_before w (Some ws) = Some (w ∷ ws)
 
 -- the words of marks without brackets
 abbrev pub words_of : List Mark → Option (List (List ℕ))
 words_of [] = Some []
-words_of (Word w ∷ ms) = with_word w (words_of ms)
+words_of (Word w ∷ ms) = word_before w (words_of ms)
 words_of (Open ∷ ms) = None
 words_of (Close ∷ ms) = None
 words_of (End ∷ ms) = None
@@ -70,7 +70,7 @@ run_by (Some n) = Some (statement.Run n)
 
 -- a run of as many clocks as the digits say, where the test holds
 abbrev pub run_if : Bool → List ℕ → Option Statement
-run_if b n = if b then run_by (number_of most_clocks n) else None
+run_if b n = if b then run_by (number_within most_clocks n) else None
 
 -- after STATE
 abbrev pub state_words : List (List ℕ) → Option Statement
@@ -80,7 +80,7 @@ state_words _ = None
 -- after RUNTEST
 abbrev pub run_words : List (List ℕ) → Option Statement
 run_words (n ∷ t ∷ []) =
-    if is_key t (codes "TCK") then run_by (number_of most_clocks n) else some_if (is_key t (codes "SEC") && is_time n) statement.Nothing
+    if is_key t (codes "TCK") then run_by (number_within most_clocks n) else some_if (is_key t (codes "SEC") && is_time n) statement.Nothing
 run_words (i ∷ n ∷ t ∷ []) = run_if (is_key i (codes "IDLE") && is_key t (codes "TCK")) n
 run_words (n ∷ t ∷ x ∷ s ∷ []) = run_if (is_key t (codes "TCK") && is_time x && is_key s (codes "SEC")) n
 run_words _ = None

@@ -1,7 +1,7 @@
 //! The bits of a scan.
 ghost use Rattle.std.specs.Prelude.{◌≡◌, ◌<◌, ◌+◌, ◌*◌, ◌/◌, ◌%◌, ◌^◌, ◌==◌, ℕ, length, take, drop};
 ghost use Rattle.std.specs.List.{slice_get};
-ghost use Rattle.x7_jtag.specs.Bits.{bit_of, bits_from, bits_of, byte_bits, bytes_bits, hex_digit, mirrored};
+ghost use Rattle.x7_jtag.specs.Bits.{bit_of, bits_from, bits_of, byte_bits, bytes_bits, digit_number, mirrored_digit};
 
 use crate::buffer::Buffer;
 use std::marker::Model;
@@ -23,8 +23,8 @@ impl<'t> Model for Bits<'t> {
 }
 
 /// The number of a hexadecimal digit.
-pub(crate) fn value_of(digit: u8) -> u8
-    ensures { result ≡ hex_digit digit }
+pub(crate) fn digit_number(digit: u8) -> u8
+    ensures { result ≡ digit_number digit }
 {
     // all three before the choice, which then needs no jump
     let decimal = digit.saturating_sub(b'0');
@@ -47,7 +47,7 @@ fn bit_in(digits: &[u8], i: u32) -> bool
     if place >= digits.len() {
         return false;
     }
-    (value_of(digits[digits.len() - 1 - place]) >> (i % 4)) % 2 == 1
+    (digit_number(digits[digits.len() - 1 - place]) >> (i % 4)) % 2 == 1
 }
 
 /// The four bits of the digit at this place from the last, and 0 past the first digit.
@@ -58,12 +58,12 @@ fn four_bits(digits: &[u8], place: usize) -> u8
     if place >= digits.len() {
         return 0;
     }
-    value_of(digits[digits.len() - 1 - place]) % 16
+    digit_number(digits[digits.len() - 1 - place]) % 16
 }
 
 /// Four bits, the lowest of which becomes the highest.
 fn mirror(bits: u8) -> u8
-    ensures value { result ≡ mirrored bits }
+    ensures value { result ≡ mirrored_digit bits }
     ensures small { result < 16 }
 {
     bits % 2 * 8 + bits / 2 % 2 * 4 + bits / 4 % 2 * 2 + bits / 8 % 2

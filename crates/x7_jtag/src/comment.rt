@@ -1,6 +1,6 @@
 //! Blanks in place of comments.
 ghost use Rattle.std.specs.Prelude.{◌≡◌, ◌+◌, false, length};
-ghost use Rattle.x7_jtag.specs.Comments.{begins_comment, clean_text, begins_with, is_inside, shown};
+ghost use Rattle.x7_jtag.specs.Comments.{begins_comment, clean_text, begins_with, is_inside, stand_in};
 
 /// Whether a text begins with a byte.
 fn begins_with(text: &[u8], byte: u8) -> bool
@@ -32,7 +32,7 @@ fn comment_after(inside: bool, byte: u8, after: &[u8]) -> bool
 
 /// The byte that stands in the place of one: a blank for a byte of a comment, and for 0D before 0A.
 fn stand_in(inside: bool, byte: u8, after: &[u8]) -> u8
-    ensures { result ≡ shown inside byte after.now }
+    ensures { result ≡ stand_in inside byte after.now }
 {
     if inside || byte == b'\r' && begins_with(after, b'\n') {
         b' '

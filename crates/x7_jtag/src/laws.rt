@@ -4,11 +4,11 @@ ghost use Rattle.x7_part.specs.Part.{PartData};
 ghost use Rattle.x7_engine.specs.Kept.{on_the_bench};
 ghost use Rattle.x7_engine.specs.Standing.{DeviceStandsFor, due_count, frames_due};
 ghost use Rattle.x7_jtag.specs.Bits.{bit_of};
-ghost use Rattle.x7_jtag.specs.Fields.{are_hex, value_of, width};
+ghost use Rattle.x7_jtag.specs.Fields.{are_hex, hex_value, width};
 ghost use Rattle.x7_jtag.specs.Events.{events_of};
-ghost use Rattle.x7_jtag.specs.Port.{new_port, port_after, words_read};
+ghost use Rattle.x7_jtag.specs.Port.{new_port, port_after, words_read_out};
 ghost use Rattle.x7_jtag.specs.Queue.{Sound, queue_after};
-ghost use Rattle.x7_jtag.specs.Shown.{bytes_taken, state_shown, state_with, words_due};
+ghost use Rattle.x7_jtag.specs.Shown.{bytes_taken, state_shown, state_with, port_words_due};
 ghost use Rattle.x7_jtag.specs.Tap.{OfEachPort};
 ghost use Rattle.x7_jtag.specs.States.{Clock, state_after, one, test_logic_reset};
 ghost use Rattle.x7_jtag.specs.declared.state.State.{State};
@@ -22,28 +22,28 @@ pub fn five_ones_reset()
 /// whose bits go out; and its state is that of these bytes, where FAR counts the words that were taken.
 pub fn devices_take_what_is_given()
     ensures taken { OfEachPort (λ part d p. DeviceStandsFor part on_the_bench false d (bytes_taken part p)) }
-    ensures due { OfEachPort (λ part d p. due_count d.registers.due ≡ words_due part p) }
+    ensures due { OfEachPort (λ part d p. due_count d.registers.due ≡ port_words_due part p) }
     ensures shows { OfEachPort (λ part d p. state_with part p (frames_due d.registers.due) ≡ state_shown part p) }
 {}
 
 /// After any clocks a port has no more bits out than were read out, holds at most 64 bytes, and holds them only while a word
 /// waits.
 pub fn queues_are_sound()
-    ensures { (part : PartData) (cs : List Clock) → Sound (words_read part) (port_after part cs).queue }
+    ensures { (part : PartData) (cs : List Clock) → Sound (words_read_out part) (port_after part cs).queue }
 {}
 
 /// The queue of a port is that of the events of its clocks: bytes offered, bits shifted out, and resets of the device.
 pub fn queues_are_those_of_events()
-    ensures { (part : PartData) (cs : List Clock) → (port_after part cs).queue ≡ queue_after (words_read part) (events_of part new_port cs) }
+    ensures { (part : PartData) (cs : List Clock) → (port_after part cs).queue ≡ queue_after (words_read_out part) (events_of part new_port cs) }
 {}
 
 /// The value of hexadecimal digits fits n bits just where their width is at most n.
 pub fn values_fit_their_width()
-    ensures fits { (ds : List ℕ) (n : ℕ) → are_hex ds ≡ true → width ds ≤ n → value_of ds < 2 ^ n }
-    ensures only { (ds : List ℕ) (n : ℕ) → are_hex ds ≡ true → value_of ds < 2 ^ n → width ds ≤ n }
+    ensures fits { (ds : List ℕ) (n : ℕ) → are_hex ds ≡ true → width ds ≤ n → hex_value ds < 2 ^ n }
+    ensures only { (ds : List ℕ) (n : ℕ) → are_hex ds ≡ true → hex_value ds < 2 ^ n → width ds ≤ n }
 {}
 
 /// Bit i of hexadecimal digits is bit i of their value.
 pub fn bits_are_those_of_the_value()
-    ensures { (ds : List ℕ) (i : ℕ) → are_hex ds ≡ true → bit_of ds i ≡ (value_of ds / 2 ^ i % 2 == 1) }
+    ensures { (ds : List ℕ) (i : ℕ) → are_hex ds ≡ true → bit_of ds i ≡ (hex_value ds / 2 ^ i % 2 == 1) }
 {}

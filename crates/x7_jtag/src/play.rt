@@ -3,7 +3,7 @@ ghost use Rattle.std.specs.Prelude.{◌≡◌, ◌≤◌, ◌<◌, ◌+◌, ◌-
 ghost use Rattle.std.specs.List.{slice_get};
 ghost use Rattle.x7_part.specs.Part.{PartData};
 ghost use Rattle.x7_jtag.specs.Clocks.{clock as clock_of, clocks_of, from_reset, shift_clocks, to_shift as to_shift_clocks};
-ghost use Rattle.x7_jtag.specs.Play.{AreNew, Finds, HavingMade, Makes, Ready, are_apart as apart, bit_at, clocks_played, counts as counts_at, difference, difference_from, first_difference, found_more, is_apart, scan_bits, walk_clocks};
+ghost use Rattle.x7_jtag.specs.Play.{AreNew, FindsSought, HavingMade, MakesClocks, Ready, are_apart as apart, bit_at, clocks_played, counts as counts_at, difference, difference_from, first_difference, found_more, is_apart, scan_bits, walk_clocks};
 ghost use Rattle.x7_jtag.specs.Port.{port_after};
 ghost use Rattle.x7_jtag.specs.Tap.{TapStandsFor};
 ghost use Rattle.x7_jtag.specs.declared.state.State.{State as StateData};
@@ -28,7 +28,7 @@ pub struct Differ {
 /// Clocks with these values of TMS, and TDI 0.
 fn walk(tap: &mut Tap, device: &mut Device, path: &[bool])
     requires { Ready tap.old device.old (length path.now) }
-    ensures { Makes tap.old device.old tap.new device.new (λ p. walk_clocks path.now) }
+    ensures { MakesClocks tap.old device.old tap.new device.new (λ p. walk_clocks path.now) }
 {
     let mut rest = path;
     while !rest.is_empty() {
@@ -41,7 +41,7 @@ fn walk(tap: &mut Tap, device: &mut Device, path: &[bool])
 fn run(tap: &mut Tap, device: &mut Device, count: u32)
     requires { Ready tap.old device.old (2 ^ 32) }
     ensures few { count < 2 ^ 32 }
-    ensures stands { Makes tap.old device.old tap.new device.new (λ p. replicate count (clock_of false false)) }
+    ensures stands { MakesClocks tap.old device.old tap.new device.new (λ p. replicate count (clock_of false false)) }
 {
     for _ in 0..count {
         tap.clock(false, false, device);
@@ -51,7 +51,7 @@ fn run(tap: &mut Tap, device: &mut Device, count: u32)
 /// One clock of TMS 0 where in Test-Logic-Reset.
 fn leave_reset(tap: &mut Tap, device: &mut Device)
     requires { Ready tap.old device.old 1 }
-    ensures { Makes tap.old device.old tap.new device.new (λ p. from_reset p.state) }
+    ensures { MakesClocks tap.old device.old tap.new device.new (λ p. from_reset p.state) }
 {
     match tap.state() {
         State::TestLogicReset => walk(tap, device, &[false]),
@@ -62,7 +62,7 @@ fn leave_reset(tap: &mut Tap, device: &mut Device)
 /// From Run-Test/Idle to Shift-IR or Shift-DR.
 fn to_shift(tap: &mut Tap, device: &mut Device, ir: bool)
     requires { Ready tap.old device.old 4 }
-    ensures { Makes tap.old device.old tap.new device.new (λ p. to_shift_clocks ir) }
+    ensures { MakesClocks tap.old device.old tap.new device.new (λ p. to_shift_clocks ir) }
 {
     if ir {
         walk(tap, device, &[true, true, false, false]);
@@ -124,7 +124,7 @@ fn first_of(found: Option<u32>, differs: bool, i: u32) -> Option<u32>
 fn shift_bytes(tap: &mut Tap, device: &mut Device, tdi: &Bits<'_>, tdo: &Option<Bits<'_>>) -> u32
     requires { Ready tap.old device.old (2 ^ 32) }
     ensures within { result ≤ length tdi.now }
-    ensures stands { Makes tap.old device.old tap.new device.new (λ p. take result (shift_clocks tdi.now)) }
+    ensures stands { MakesClocks tap.old device.old tap.new device.new (λ p. take result (shift_clocks tdi.now)) }
     ensures none_wanted { 0 < result → tdo.now ≡ None }
     ensures ready { Ready tap.new device.new (2 ^ 32 - result) }
 {
@@ -179,9 +179,9 @@ fn shift(
     mask: &Option<Bits<'_>>,
 ) -> Option<u32>
     requires { Ready tap.old device.old (2 ^ 32) }
-    ensures stands { Makes tap.old device.old tap.new device.new (λ p. shift_clocks tdi.now) }
+    ensures stands { MakesClocks tap.old device.old tap.new device.new (λ p. shift_clocks tdi.now) }
     ensures few { length tdi.now < 2 ^ 32 }
-    ensures found { Finds tap.old device.old (λ part p. difference_from part p (scan_bits tdi.now tdo.now mask.now) 0) result }
+    ensures found { FindsSought tap.old device.old (λ part p. difference_from part p (scan_bits tdi.now tdo.now mask.now) 0) result }
 {
     let first = shift_bytes(tap, device, tdi, tdo);
     shift_from(tap, device, tdi, tdo, mask, first)
@@ -197,9 +197,9 @@ fn scan(
     mask: &Option<Bits<'_>>,
 ) -> Option<u32>
     requires { Ready tap.old device.old (2 ^ 33) }
-    ensures stands { Makes tap.old device.old tap.new device.new (λ p. clocks_of p.state (StatementData.Scan ir tdi.now tdo.now mask.now)) }
+    ensures stands { MakesClocks tap.old device.old tap.new device.new (λ p. clocks_of p.state (StatementData.Scan ir tdi.now tdo.now mask.now)) }
     ensures few { length tdi.now < 2 ^ 32 }
-    ensures found { Finds tap.old device.old (λ part p. difference part p (StatementData.Scan ir tdi.now tdo.now mask.now)) result }
+    ensures found { FindsSought tap.old device.old (λ part p. difference part p (StatementData.Scan ir tdi.now tdo.now mask.now)) result }
 {
     leave_reset(tap, device);
     to_shift(tap, device, ir);
@@ -211,9 +211,9 @@ fn scan(
 /// The clocks of a statement, and the least bit at which TDO differs from what is wanted.
 fn play_statement(statement: &Statement<'_>, tap: &mut Tap, device: &mut Device) -> Option<u32>
     requires { Ready tap.old device.old (2 ^ 33) }
-    ensures stands { Makes tap.old device.old tap.new device.new (λ p. clocks_of p.state statement.now) }
+    ensures stands { MakesClocks tap.old device.old tap.new device.new (λ p. clocks_of p.state statement.now) }
     ensures short { (s : StateData) → length (clocks_of s statement.now) ≤ 2 ^ 33 }
-    ensures found { Finds tap.old device.old (λ part p. difference part p statement.now) result }
+    ensures found { FindsSought tap.old device.old (λ part p. difference part p statement.now) result }
 {
     match statement {
         Statement::Reset => {
@@ -237,9 +237,9 @@ fn play_statement(statement: &Statement<'_>, tap: &mut Tap, device: &mut Device)
 /// The clocks of statement i of a text, from 0, and the least bit at which TDO differs from what is wanted.
 fn play_at(svf: &Svf, i: usize, tap: &mut Tap, device: &mut Device) -> Option<u32>
     requires { Ready tap.old device.old (2 ^ 33) }
-    ensures stands { (x : StatementData) → slice_get svf.now i ≡ Some x → Makes tap.old device.old tap.new device.new (λ p. clocks_of p.state x) }
+    ensures stands { (x : StatementData) → slice_get svf.now i ≡ Some x → MakesClocks tap.old device.old tap.new device.new (λ p. clocks_of p.state x) }
     ensures short { (x : StatementData) → slice_get svf.now i ≡ Some x → (s : StateData) → length (clocks_of s x) ≤ 2 ^ 33 }
-    ensures found { (x : StatementData) → slice_get svf.now i ≡ Some x → Finds tap.old device.old (λ part p. difference part p x) result }
+    ensures found { (x : StatementData) → slice_get svf.now i ≡ Some x → FindsSought tap.old device.old (λ part p. difference part p x) result }
 {
     match svf.statement(i) {
         Some(statement) => play_statement(&statement, tap, device),

@@ -2,16 +2,16 @@
 ghost use Rattle.std.specs.Prelude.{◌≡◌, ◌<◌, ◌≤◌, ◌+◌, ◌*◌, Bool, true, false, length, drop, take, IfSome, IsTrue, Option, Some, None};
 ghost use Rattle.std.specs.List.{list_all};
 ghost use Rattle.x7_jtag.specs.Fields.{all_fit, digit_width, fits, scan_by, scan_if, scan_of, width};
-ghost use Rattle.x7_jtag.specs.Pieces.{mark_of, size_of};
+ghost use Rattle.x7_jtag.specs.Pieces.{mark_of, token_size};
 ghost use Rattle.x7_jtag.specs.Source.{pieces_left};
-ghost use Rattle.x7_jtag.specs.Spans.{AreWithin, IsPrefix, bytes_in, digits_if, end_if, end_of, fields_of};
+ghost use Rattle.x7_jtag.specs.Spans.{AreWithin, StaysKept, bytes_in, digits_if, span_end_if, span_end, fields_of};
 ghost use Rattle.x7_jtag.specs.Statements.{statement_by, statement_of};
 ghost use Rattle.x7_jtag.specs.Stored.{IsStored};
 ghost use Rattle.x7_jtag.specs.Svf.{first_statement, marks_before, pieces_after};
 ghost use Rattle.x7_jtag.specs.Words.{is_free_mark, some_if, statement_if_words as if_words, words_of};
 ghost use Rattle.x7_jtag.specs.declared.statement.Statement.{Statement as StatementData};
 
-use crate::bits::value_of;
+use crate::bits::digit_number;
 use crate::fields::{Given, fields};
 use crate::source::Source;
 use crate::span::Span;
@@ -24,7 +24,7 @@ const MOST_BITS: u32 = 536_870_912;
 
 /// Whether a token that a text begins with may stand among any words.
 fn is_free_token(token: Token, text: &[u8]) -> bool
-    requires { size_of token ≤ length text.now }
+    requires { token_size token ≤ length text.now }
     ensures { result ≡ is_free_mark (mark_of token text.now) }
 {
     match token {
@@ -67,8 +67,8 @@ fn free_statement(source: &mut Source) -> Option<Stored>
 fn keep_word(source: &mut Source, size: usize) -> Span
     requires { size ≤ length source.old.rest }
     ensures word { bytes_in source.new.kept result ≡ take size source.old.rest }
-    ensures within { end_of result ≤ length source.new.kept }
-    ensures prefix { IsPrefix source.old.kept source.new.kept }
+    ensures within { span_end result ≤ length source.new.kept }
+    ensures prefix { StaysKept source.old.kept source.new.kept }
     ensures line { source.new.line ≡ source.old.line }
     ensures rest { source.new.rest ≡ drop size source.old.rest }
 {
@@ -79,9 +79,9 @@ fn keep_word(source: &mut Source, size: usize) -> Span
 
 /// What a keyword, which is kept, and the words that come next say. The words are kept too.
 fn words_statement(source: &mut Source, key: Span) -> Option<Stored>
-    requires key { end_of key ≤ length source.old.kept }
+    requires key { span_end key ≤ length source.old.kept }
     ensures is { IsStored source.new.kept result (if_words (bytes_in source.old.kept key) (words_of (marks_before (pieces_left source.old)))) }
-    ensures prefix { IsPrefix source.old.kept source.new.kept }
+    ensures prefix { StaysKept source.old.kept source.new.kept }
     ensures after { IfSome result (λ s. pieces_after (pieces_left source.old) ≡ pieces_after (pieces_left source.new)) }
     ensures passed { IfSome result (λ s. length source.new.rest ≤ length source.old.rest) }
 {
@@ -103,7 +103,7 @@ fn words_statement(source: &mut Source, key: Span) -> Option<Stored>
 fn digit_bits(digit: u8) -> u64
     ensures { result ≡ digit_width digit }
 {
-    let value = value_of(digit);
+    let value = digit_number(digit);
     if value < 1 {
         0
     } else if value < 2 {
@@ -141,7 +141,7 @@ fn width_of(digits: &[u8]) -> u128
 
 /// Whether the value of digits, if there are any, fits `count` bits.
 fn does_fit(kept: &[u8], count: u32, digits: Option<Span>) -> bool
-    requires { end_if digits ≤ length kept.now }
+    requires { span_end_if digits ≤ length kept.now }
     ensures { result ≡ fits count (digits_if kept.now digits) }
 {
     match digits {
@@ -200,7 +200,7 @@ fn scan_count(source: &mut Source) -> Option<u32>
 /// The scan whose keyword was passed. Its digits are kept.
 fn scan(source: &mut Source, ir: bool) -> Option<Stored>
     ensures is { IsStored source.new.kept result (scan_of ir (marks_before (pieces_left source.old))) }
-    ensures prefix { IsPrefix source.old.kept source.new.kept }
+    ensures prefix { StaysKept source.old.kept source.new.kept }
     ensures after { IfSome result (λ s. pieces_after (pieces_left source.old) ≡ pieces_after (pieces_left source.new)) }
     ensures passed { IfSome result (λ s. length source.new.rest ≤ length source.old.rest) }
 {
@@ -211,9 +211,9 @@ fn scan(source: &mut Source, ir: bool) -> Option<Stored>
 
 /// What a keyword, which is kept, and what comes after it say.
 fn said_by(source: &mut Source, key: Span) -> Option<Stored>
-    requires key { end_of key ≤ length source.old.kept }
+    requires key { span_end key ≤ length source.old.kept }
     ensures is { IsStored source.new.kept result (statement_by (bytes_in source.old.kept key) (marks_before (pieces_left source.old))) }
-    ensures prefix { IsPrefix source.old.kept source.new.kept }
+    ensures prefix { StaysKept source.old.kept source.new.kept }
     ensures after { IfSome result (λ s. pieces_after (pieces_left source.old) ≡ pieces_after (pieces_left source.new)) }
     ensures passed { IfSome result (λ s. length source.new.rest ≤ length source.old.rest) }
 {
@@ -233,7 +233,7 @@ fn said_by(source: &mut Source, key: Span) -> Option<Stored>
 /// The statement that comes next, up to its `;`. Its keyword, and the digits of a scan or the words of another, are kept.
 fn statement(source: &mut Source) -> Option<Stored>
     ensures is { IsStored source.new.kept result (statement_of (marks_before (pieces_left source.old))) }
-    ensures prefix { IfSome result (λ s. IsPrefix source.old.kept source.new.kept) }
+    ensures prefix { IfSome result (λ s. StaysKept source.old.kept source.new.kept) }
     ensures after { IfSome result (λ s. pieces_after (pieces_left source.old) ≡ pieces_after (pieces_left source.new)) }
     ensures passed { IfSome result (λ s. length source.new.rest < length source.old.rest) }
 {
@@ -247,7 +247,7 @@ fn statement(source: &mut Source) -> Option<Stored>
 /// The statement that comes next, with its `;`.
 pub(crate) fn ended_statement(source: &mut Source) -> Option<Stored>
     ensures is { IsStored source.new.kept result (first_statement (pieces_left source.old)) }
-    ensures prefix { IfSome result (λ s. IsPrefix source.old.kept source.new.kept) }
+    ensures prefix { IfSome result (λ s. StaysKept source.old.kept source.new.kept) }
     ensures after { IfSome result (λ s. pieces_after (pieces_left source.old) ≡ Some (pieces_left source.new)) }
     ensures passed { IfSome result (λ s. length source.new.rest + 2 ≤ length source.old.rest) }
 {

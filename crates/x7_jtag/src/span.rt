@@ -1,6 +1,6 @@
 //! Where bytes are kept.
 ghost use Rattle.std.specs.Prelude.{◌≡◌, ◌≤◌, ◌-◌, ◌^◌, length};
-ghost use Rattle.x7_jtag.specs.Spans.{bytes_in, end_of};
+ghost use Rattle.x7_jtag.specs.Spans.{bytes_in, span_end};
 
 /// A run of bytes: how many come before it, and how many it has.
 #[derive(Clone, Copy, Debug)]
@@ -25,7 +25,7 @@ impl Span {
 
     /// The bytes of the run.
     pub(crate) fn of(self, all: &[u8]) -> &[u8]
-        requires { end_of self ≤ length all.now }
+        requires { span_end self ≤ length all.now }
         ensures { result.now ≡ bytes_in all.now self }
     {
         let from = self.from as usize;

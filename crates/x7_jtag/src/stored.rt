@@ -1,7 +1,7 @@
 //! Statements whose digits are kept apart.
 ghost use Rattle.std.specs.Prelude.{◌≡◌, ◌≤◌, length};
 ghost use Rattle.x7_jtag.specs.Fields.{bits_option as bits_if};
-ghost use Rattle.x7_jtag.specs.Spans.{digits_if, end_if};
+ghost use Rattle.x7_jtag.specs.Spans.{digits_if, span_end_if};
 ghost use Rattle.x7_jtag.specs.Stored.{IsStoredWithin, statement_in};
 
 use crate::bits::Bits;
@@ -30,7 +30,7 @@ pub(crate) struct StoredScan {
 
 /// The bits of a field that may be left out.
 fn bits_option(kept: &[u8], count: u32, digits: Option<Span>) -> Option<Bits<'_>>
-    requires { end_if digits ≤ length kept.now }
+    requires { span_end_if digits ≤ length kept.now }
     ensures { result ≡ bits_if count (digits_if kept.now digits) }
 {
     match digits {

@@ -3,10 +3,10 @@ ghost use Rattle.std.specs.Prelude.{◌≡◌, ◌≤◌, ◌<◌, ◌+◌, ◌*
 ghost use Rattle.x7_part.specs.Part.{PartData};
 ghost use Rattle.x7_engine.specs.Kept.{on_the_bench};
 ghost use Rattle.x7_engine.specs.Standing.{DeviceStandsFor, DeviceState};
-ghost use Rattle.x7_jtag.specs.Port.{Port, acted, captured, data_shifted, data_shown, idled, lowest, number_of_bit, port_after, shifted as shifted_in, status as status_by, ir_status, tdo_of, updated, with_bit as with_bit_in};
+ghost use Rattle.x7_jtag.specs.Port.{Port, acted, captured, data_shifted, data_shown, idled, lowest, number_of_bit, port_after, register_shifted as shifted_in, status as status_by, ir_status, tdo_of, updated, with_bit as with_bit_in};
 ghost use Rattle.x7_jtag.specs.States.{Clock};
 ghost use Rattle.x7_jtag.specs.declared.instruction.Instruction.TheVariants.{CfgIn};
-ghost use Rattle.x7_jtag.specs.Tap.{StandsForPort, TakesBytes, TapStandsFor, Took, last_or};
+ghost use Rattle.x7_jtag.specs.Tap.{StandsForPort, TakesBytes, TapStandsFor, TookOfGiven, last_or};
 ghost use Rattle.x7_jtag.specs.Bits.{bytes_bits};
 ghost use Rattle.x7_jtag.specs.Clocks.{inner_clocks};
 
@@ -40,7 +40,7 @@ impl Model for Tap {
 }
 
 /// A bit as a number.
-fn number_of(bit: bool) -> u32
+fn number_of_bit(bit: bool) -> u32
     ensures value { result ≡ number_of_bit bit }
     ensures small { result ≤ 1 }
 {
@@ -55,7 +55,7 @@ fn is_odd(register: u32) -> bool
 }
 
 /// One shift: the lowest bit goes out, and TDI comes in as the highest, which is worth `top`.
-fn shifted(top: u32, register: u32, tdi: bool) -> u32
+fn register_shifted(top: u32, register: u32, tdi: bool) -> u32
     requires { top ≤ 2 ^ 31 }
     ensures { result ≡ shifted_in top register tdi }
 {
@@ -67,19 +67,19 @@ fn shifted(top: u32, register: u32, tdi: bool) -> u32
 fn with_bit(byte: u32, tdi: bool) -> u8
     ensures { result ≡ with_bit_in byte tdi }
 {
-    (byte % 128 * 2 + number_of(tdi)) as u8
+    (byte % 128 * 2 + number_of_bit(tdi)) as u8
 }
 
 /// What Capture-IR loads where these are DONE and STAT.
 fn status_with(done: bool, stat: u32) -> u32
     ensures { result ≡ status_by done (stat / 2 ^ 12 % 2 == 1) }
 {
-    32 * number_of(done) + 16 * number_of((stat >> 12) % 2 == 1) + 1
+    32 * number_of_bit(done) + 16 * number_of_bit((stat >> 12) % 2 == 1) + 1
 }
 
 /// What Capture-IR loads.
 fn status(device: &Device) -> u32
-    ensures { (part : PartData) (given bytes : List ℕ) → DeviceStandsFor part on_the_bench false device.now bytes → Took part given bytes → result ≡ ir_status part given }
+    ensures { (part : PartData) (given bytes : List ℕ) → DeviceStandsFor part on_the_bench false device.now bytes → TookOfGiven part given bytes → result ≡ ir_status part given }
 {
     let state = device.state();
     status_with(state.lines.done, state.stat)
@@ -185,7 +185,7 @@ impl Tap {
         ensures out { result ≡ lowest self.old.register }
     {
         let out = is_odd(self.register);
-        self.register = shifted(top, self.register, tdi);
+        self.register = register_shifted(top, self.register, tdi);
         out
     }
 

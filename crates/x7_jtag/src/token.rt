@@ -1,6 +1,6 @@
 //! The next word, bracket or end of a text without comments.
 ghost use Rattle.std.specs.Prelude.{◌≡◌, ◌+◌, ◌<◌, ◌≤◌, ◌∷◌, [], ℕ, List, true, false, length, MatchOption, IfSome, IfNone, Some, None, slice_index, drop, take};
-ghost use Rattle.x7_jtag.specs.Pieces.{byte_mark, is_blank, is_word_byte, mark_of, pieces, size_of, Word};
+ghost use Rattle.x7_jtag.specs.Pieces.{byte_mark, is_blank_byte, is_word_byte, mark_of, pieces, token_size, Word};
 ghost use Rattle.x7_jtag.specs.Source.{left_after, left_from, pieces_left};
 ghost use Rattle.x7_jtag.specs.Svf.{marks_before, pieces_after};
 
@@ -18,7 +18,7 @@ pub(crate) enum Token {
 impl Token {
     /// How many bytes the token has.
     pub(crate) fn size(self) -> usize
-        ensures { result ≡ size_of self }
+        ensures { result ≡ token_size self }
     {
         match self {
             Token::Word(length) => length,
@@ -51,7 +51,7 @@ fn word_length(text: &[u8]) -> usize
 
 /// Whether a byte is a blank.
 fn is_between(byte: u8) -> bool
-    ensures { result ≡ is_blank byte }
+    ensures { result ≡ is_blank_byte byte }
 {
     byte == b' ' || byte == b'\t' || byte == b'\n'
 }
@@ -59,7 +59,7 @@ fn is_between(byte: u8) -> bool
 /// The bracket or end that a byte is.
 fn token_of(byte: u8) -> Token
     ensures mark { (text : List ℕ) → mark_of result text ≡ byte_mark byte }
-    ensures size { size_of result ≡ 1 }
+    ensures size { token_size result ≡ 1 }
 {
     if byte == b'(' {
         Token::Open
@@ -73,10 +73,10 @@ fn token_of(byte: u8) -> Token
 /// The first piece of a text that begins with no blank.
 fn first(text: &[u8]) -> Token
     requires some { 0 < length text.now }
-    requires begins { is_blank (slice_index text.now 0) ≡ false }
-    ensures is { (line : ℕ) → pieces line text.now ≡ record { line = line; mark = mark_of result text.now } ∷ pieces line (drop (size_of result) text.now) }
-    ensures some { 0 < size_of result }
-    ensures within { size_of result ≤ length text.now }
+    requires begins { is_blank_byte (slice_index text.now 0) ≡ false }
+    ensures is { (line : ℕ) → pieces line text.now ≡ record { line = line; mark = mark_of result text.now } ∷ pieces line (drop (token_size result) text.now) }
+    ensures some { 0 < token_size result }
+    ensures within { token_size result ≤ length text.now }
 {
     let end = word_length(text);
     if end > 0 {
@@ -90,7 +90,7 @@ fn skip_blanks(source: &mut Source)
     ensures same { pieces_left source.old ≡ pieces_left source.new }
     ensures kept { source.new.kept ≡ source.old.kept }
     ensures within { length source.new.rest ≤ length source.old.rest }
-    ensures stop { 0 < length source.new.rest → is_blank (slice_index source.new.rest 0) ≡ false }
+    ensures stop { 0 < length source.new.rest → is_blank_byte (slice_index source.new.rest 0) ≡ false }
 {
     while !source.rest().is_empty() && is_between(source.rest()[0]) {
         source.pass();
@@ -102,8 +102,8 @@ pub(crate) fn next(source: &mut Source) -> Option<Token>
     ensures is { MatchOption result (pieces_left source.old ≡ [])
         (λ t. pieces_left source.old ≡ left_from source.new t) }
     ensures same { pieces_left source.old ≡ pieces_left source.new }
-    ensures some { IfSome result (λ t. 0 < size_of t) }
-    ensures within { IfSome result (λ t. size_of t ≤ length source.new.rest) }
+    ensures some { IfSome result (λ t. 0 < token_size t) }
+    ensures within { IfSome result (λ t. token_size t ≤ length source.new.rest) }
     ensures kept { source.new.kept ≡ source.old.kept }
     ensures passed { length source.new.rest ≤ length source.old.rest }
 {
@@ -122,8 +122,8 @@ pub(crate) fn next_within(source: &mut Source) -> Option<Token>
         (λ t. marks_before (pieces_left source.old) ≡ mark_of t source.new.rest ∷ marks_before (left_after source.new t)) }
     ensures ends { IfNone result (pieces_after (pieces_left source.old) ≡ pieces_after (pieces_left source.new)) }
     ensures goes_on { IfSome result (λ t. pieces_after (pieces_left source.old) ≡ pieces_after (left_after source.new t)) }
-    ensures some { IfSome result (λ t. 0 < size_of t) }
-    ensures within { IfSome result (λ t. size_of t ≤ length source.new.rest) }
+    ensures some { IfSome result (λ t. 0 < token_size t) }
+    ensures within { IfSome result (λ t. token_size t ≤ length source.new.rest) }
     ensures kept { source.new.kept ≡ source.old.kept }
     ensures passed { length source.new.rest ≤ length source.old.rest }
 {

@@ -1,7 +1,7 @@
 //! Statements of words alone.
 ghost use Rattle.std.specs.Prelude.{◌≡◌, ◌<◌, ◌&&◌, ◌≤◌, ◌∷◌, ◌++◌, ℕ, [], List, length, codes, IfSome, IfNone, Option, Some, None};
-ghost use Rattle.x7_jtag.specs.Words.{end_words, is_digit, is_free, is_free_byte, is_key, is_time, is_time_byte, most_clocks, number_of, reset_words, run_by, run_if as run_clocks, run_words, some_if, state_words, statement_of_words as of_words, word_list, zero_words};
-ghost use Rattle.x7_jtag.specs.Spans.{AreWordsWithin, bytes_in, end_of, words_at};
+ghost use Rattle.x7_jtag.specs.Words.{end_words, is_digit, is_free, is_free_byte, is_key, is_time, is_time_byte, most_clocks, number_within, reset_words, run_by, run_if as run_clocks, run_words, some_if, state_words, statement_of_words as of_words, word_list, zero_words};
+ghost use Rattle.x7_jtag.specs.Spans.{AreWordsWithin, bytes_in, span_end, words_kept};
 ghost use Rattle.x7_jtag.specs.Stored.{IsStored};
 ghost use Rattle.x7_jtag.specs.declared.statement.Statement.{Statement as StatementData};
 ghost use Rattle.std.specs.List.{list_all};
@@ -35,7 +35,7 @@ fn is_of_time(byte: u8) -> bool
 
 /// The number of decimal digits, where it is within the limit.
 pub(crate) fn number(word: &[u8], limit: u32) -> Option<u32>
-    ensures { result ≡ number_of limit word.now }
+    ensures { result ≡ number_within limit word.now }
 {
     if word.is_empty() {
         return None;
@@ -88,7 +88,7 @@ pub(crate) fn is_any_word(word: &[u8]) -> bool
 
 /// The run of as many clocks as the digits say.
 fn run(digits: &[u8]) -> Option<Stored>
-    ensures { IsStored [] result (run_by (number_of most_clocks digits.now)) }
+    ensures { IsStored [] result (run_by (number_within most_clocks digits.now)) }
 {
     let count = number(digits, MOST_CLOCKS)?;
     Some(Stored::Run(count))
@@ -226,9 +226,9 @@ pub(crate) enum Words {
 
 /// One word more, where there are fewer than four.
 pub(crate) fn with_one(words: Words, word: Span) -> Option<Words>
-    ensures more { (kept : List ℕ) → IfSome result (λ r. words_at kept r ≡ words_at kept words ++ bytes_in kept word ∷ []) }
-    ensures four { (kept : List ℕ) → IfNone result (length (words_at kept words) ≡ 4) }
-    ensures within { (n : ℕ) → AreWordsWithin n words → end_of word ≤ n → IfSome result (AreWordsWithin n) }
+    ensures more { (kept : List ℕ) → IfSome result (λ r. words_kept kept r ≡ words_kept kept words ++ bytes_in kept word ∷ []) }
+    ensures four { (kept : List ℕ) → IfNone result (length (words_kept kept words) ≡ 4) }
+    ensures within { (n : ℕ) → AreWordsWithin n words → span_end word ≤ n → IfSome result (AreWordsWithin n) }
 {
     match words {
         Words::None => Some(Words::One(word)),
@@ -241,9 +241,9 @@ pub(crate) fn with_one(words: Words, word: Span) -> Option<Words>
 
 /// The statement of a keyword and the words after it, which are kept.
 pub(crate) fn statement_said(kept: &[u8], key: Span, words: Words) -> Option<Stored>
-    requires key { end_of key ≤ length kept.now }
+    requires key { span_end key ≤ length kept.now }
     requires words { AreWordsWithin (length kept.now) words }
-    ensures { IsStored [] result (of_words (bytes_in kept.now key) (words_at kept.now words)) }
+    ensures { IsStored [] result (of_words (bytes_in kept.now key) (words_kept kept.now words)) }
 {
     let key = key.of(kept);
     match words {

@@ -1,6 +1,6 @@
 use Rattle.std.proofs.Common.{◌≡◌, ◌≤◌, length}
 use Rattle.x7_jtag.specs.Source.{pieces_left}
-use Rattle.x7_jtag.specs.Spans.{AreWordsWithin, IsPrefix, words_at}
+use Rattle.x7_jtag.specs.Spans.{AreWordsWithin, StaysKept, words_kept}
 use Rattle.x7_jtag.specs.Svf.{marks_before, pieces_after}
 use Rattle.x7_jtag.specs.Words.{words_of}
 use Rattle.x7_jtag.proofs.WordsLemmas.{after_words}
@@ -8,10 +8,10 @@ use Rattle.x7_jtag.proofs.reader.words_statement.Given as goal
 
 abbrev pub invariant-loop-token : goal.invariant-loop-token
 invariant-loop-token l = record {
-  same : words_of (marks_before (pieces_left l.fn.source)) ≡ after_words (words_at l.source.kept l.words) (words_of (marks_before (pieces_left l.source)));
+  same : words_of (marks_before (pieces_left l.fn.source)) ≡ after_words (words_kept l.source.kept l.words) (words_of (marks_before (pieces_left l.source)));
   after : pieces_after (pieces_left l.fn.source) ≡ pieces_after (pieces_left l.source);
   within : AreWordsWithin (length l.source.kept) l.words;
-  prefix : IsPrefix l.fn.source.kept l.source.kept;
+  prefix : StaysKept l.fn.source.kept l.source.kept;
   passed : length l.source.rest ≤ length l.fn.source.rest;
 }
 
