@@ -10,8 +10,8 @@ use Rattle.x7_engine.specs.Kept.{on_the_bench}
 use Rattle.x7_engine.specs.Standing.{DeviceState, DeviceStandsFor, NoWordDue}
 use Rattle.x7_engine.proofs.BootLemmas.{none_due_at_first}
 use Rattle.x7_engine.specs.Undo.{AreEqual, IsUndoOf, Keeps, TookFewSince, UndoState}
-use Rattle.x7_debug.specs.Journal.{IsFed, GoesWith, IsOn, IsRecord, JournalState, LeadBack, oldest_by, records_of}
-use Rattle.x7_debug.specs.Session.{SessionState, StandsAt}
+use Rattle.x7_debug.specs.Journal.{IsFedAtMost, GoesWith, IsOn, IsRecord, JournalState, LeadBack, oldest_by, records_of}
+use Rattle.x7_debug.specs.Session.{SessionState, StandsAtPosition}
 use Rattle.x7_debug.proofs.PositionLemmas.{by-taken, own}
 use Rattle.std.proofs.lemmas.Option.{none-some}
 use Rattle.std.specs.Prelude.{slice_get}
@@ -84,10 +84,10 @@ reaches_now start at us few r =
 -- ---- a device and its records at another position
 
 -- a device that is equal but for the bytes that it was ever fed
-refed : (part : PartData) (stream : List ℕ) (d e : DeviceState) (n : ℕ) → AreEqual d e → StandsAt part stream e n → StandsAt part stream d n
+refed : (part : PartData) (stream : List ℕ) (d e : DeviceState) (n : ℕ) → AreEqual d e → StandsAtPosition part stream e n → StandsAtPosition part stream d n
 refed part stream d e n q s =
     let t : DeviceStandsFor part on_the_bench false e (take n stream) = s.stands in
-    let there : StandsAt part stream (record e { fed = d.fed }) n = record {
+    let there : StandsAtPosition part stream (record e { fed = d.fed }) n = record {
       stands = record {
         fits = t.fits;
         part_is = t.part_is;
@@ -103,10 +103,10 @@ refed part stream d e n q s =
       within = s.within;
       none_due = s.none_due;
     } in
-    subst (λ (x : DeviceState). StandsAt part stream x n) (sym q) there
+    subst (λ (x : DeviceState). StandsAtPosition part stream x n) (sym q) there
 
 -- a device at up to four bytes behind a record
-pub took_few : (part : PartData) (stream : List ℕ) (d : DeviceState) (at : ℕ) (u : UndoState) → IsRecord part stream u → StandsAt part stream d at → u.taken ≤ at → at ≤ u.taken + 4 → TookFewSince u d
+pub took_few : (part : PartData) (stream : List ℕ) (d : DeviceState) (at : ℕ) (u : UndoState) → IsRecord part stream u → StandsAtPosition part stream d at → u.taken ≤ at → at ≤ u.taken + 4 → TookFewSince u d
 took_few part stream d at u r s low high = record {
   past = record { part = part; kept = on_the_bench; wrapped = false; bytes = take u.taken stream };
   more = take (at - u.taken) (drop u.taken stream);
@@ -119,9 +119,9 @@ took_few part stream d at u r s low high = record {
 }
 
 -- a device at up to four bytes behind a record goes back to it
-pub goes_back : (part : PartData) (stream : List ℕ) (d new : DeviceState) (at : ℕ) (u : UndoState) (r : IsRecord part stream u) → StandsAt part stream d at → u.taken ≤ at → at ≤ u.taken + 4
+pub goes_back : (part : PartData) (stream : List ℕ) (d new : DeviceState) (at : ℕ) (u : UndoState) (r : IsRecord part stream u) → StandsAtPosition part stream d at → u.taken ≤ at → at ≤ u.taken + 4
     → ((more : List ℕ) (old : DeviceState) → Keeps u old → NoWordDue old → length more ≤ 4 → DeviceStandsFor part on_the_bench false old (take u.taken stream) → DeviceStandsFor part on_the_bench false d (take u.taken stream ++ more) → AreEqual new old)
-    → StandsAt part stream new u.taken
+    → StandsAtPosition part stream new u.taken
 goes_back part stream d new at u r s low high back =
     let more : List ℕ = take (at - u.taken) (drop u.taken stream) in
     let few : length more ≤ 4 = omega (arith, length-take (at - u.taken) (drop u.taken stream), high) in
@@ -129,10 +129,10 @@ goes_back part stream d new at u r s low high back =
     refed part stream new r.device u.taken (back more r.device r.keeps r.stands.none_due few r.stands.stands now) r.stands
 
 -- records of a device that went on, with one more
-pub leads_more : (part : PartData) (stream : List ℕ) (d : DeviceState) (at to : ℕ) (u : UndoState) (us : List UndoState) → StandsAt part stream d at → Keeps u d → at ≤ to → to ≤ at + 4 → LeadBack part stream at us → LeadBack part stream to (u ∷ take 63 us)
+pub leads_more : (part : PartData) (stream : List ℕ) (d : DeviceState) (at to : ℕ) (u : UndoState) (us : List UndoState) → StandsAtPosition part stream d at → Keeps u d → at ≤ to → to ≤ at + 4 → LeadBack part stream at us → LeadBack part stream to (u ∷ take 63 us)
 leads_more part stream d at to u us s k low high l =
     let taken : u.taken ≡ at = k.values.taken ∙ s.taken in
-    let is : IsRecord part stream u = record { device = d; keeps = k; stands = subst (λ (n : ℕ). StandsAt part stream d n) (sym taken) s } in
+    let is : IsRecord part stream u = record { device = d; keeps = k; stands = subst (λ (n : ℕ). StandsAtPosition part stream d n) (sym taken) s } in
     (is, omega (arith, taken, low), omega (arith, taken, high), subst (λ (n : ℕ). LeadBack part stream n (take 63 us)) (sym taken) (leads_fewer part stream at 63 us l))
 
 -- the newest record goes on to lead back
@@ -187,7 +187,7 @@ some_there (v ∷ us) (suc i) l e = some_there us i (omega (arith, l)) e
 -- ---- a device on its way
 
 -- no records
-pub on_without : (stream : List ℕ) (d : DeviceState) (j k : JournalState) (part : PartData) (n : ℕ) → StandsAt part stream d n → AllByRecursion (IsUndoOf part) j.all → k ≡ record j { count = 0 } → IsOn d.part stream d k
+pub on_without : (stream : List ℕ) (d : DeviceState) (j k : JournalState) (part : PartData) (n : ℕ) → StandsAtPosition part stream d n → AllByRecursion (IsUndoOf part) j.all → k ≡ record j { count = 0 } → IsOn d.part stream d k
 on_without stream d j k part n s a e =
     let there : d.part ≡ part = s.stands.part_is in
     subst (λ (x : JournalState). IsOn d.part stream d x) (sym e) (record {
@@ -197,11 +197,11 @@ on_without stream d j k part n s a e =
       leads = tt;
     })
 
-pub on_empty : (part : PartData) (stream : List ℕ) (d : DeviceState) (j : JournalState) (n : ℕ) → StandsAt part stream d n → AllByRecursion (IsUndoOf part) j.all → j.count ≡ 0 → IsOn d.part stream d j
+pub on_empty : (part : PartData) (stream : List ℕ) (d : DeviceState) (j : JournalState) (n : ℕ) → StandsAtPosition part stream d n → AllByRecursion (IsUndoOf part) j.all → j.count ≡ 0 → IsOn d.part stream d j
 on_empty part stream d j n s a e = on_without stream d j j part n s a (ap (λ (k : ℕ). record j { count = k }) e)
 
 -- a record more
-pub on_more : (part : PartData) (stream : List ℕ) (d new : DeviceState) (j k : JournalState) (to : ℕ) (u : UndoState) → IsOn part stream d j → StandsAt part stream new to → d.taken ≤ to → to ≤ d.taken + 4 → AllByRecursion (IsUndoOf part) k.all → Keeps u d
+pub on_more : (part : PartData) (stream : List ℕ) (d new : DeviceState) (j k : JournalState) (to : ℕ) (u : UndoState) → IsOn part stream d j → StandsAtPosition part stream new to → d.taken ≤ to → to ≤ d.taken + 4 → AllByRecursion (IsUndoOf part) k.all → Keeps u d
     → records_of k ≡ u ∷ take 63 (records_of j) → IsOn new.part stream new k
 on_more part stream d new j k to u o s low high a keeps e =
     let there : new.part ≡ part = s.stands.part_is in
@@ -219,7 +219,7 @@ pub on_less : (part : PartData) (stream : List ℕ) (d new : DeviceState) (j k :
     → IsOn new.part stream new k × (new.taken ≡ u.taken) × (u.taken ≤ d.taken) × (d.taken ≤ u.taken + 4)
 on_less part stream d new j k u o e a back =
     let leads : LeadBack part stream d.taken (u ∷ records_of k) = subst (LeadBack part stream d.taken) e o.leads in
-    let s : StandsAt part stream new u.taken = goes_back part stream d new d.taken u leads.0 o.stands leads.1 leads.2 back in (
+    let s : StandsAtPosition part stream new u.taken = goes_back part stream d new d.taken u leads.0 o.stands leads.1 leads.2 back in (
       subst (λ (p : PartData). IsOn p stream new k) (sym s.stands.part_is) (record {
         stands = by-taken part stream new u.taken s;
         records = a;
@@ -232,7 +232,7 @@ on_less part stream d new j k u o e a back =
     )
 
 -- the newest record still leads back
-pub on_further : (part : PartData) (stream : List ℕ) (d new : DeviceState) (j : JournalState) (to : ℕ) (u : UndoState) (older : List UndoState) → IsOn part stream d j → records_of j ≡ u ∷ older → StandsAt part stream new to → d.taken ≤ to → to ≤ u.taken + 4
+pub on_further : (part : PartData) (stream : List ℕ) (d new : DeviceState) (j : JournalState) (to : ℕ) (u : UndoState) (older : List UndoState) → IsOn part stream d j → records_of j ≡ u ∷ older → StandsAtPosition part stream new to → d.taken ≤ to → to ≤ u.taken + 4
     → IsOn new.part stream new j
 on_further part stream d new j to u older o e s low high =
     let leads : LeadBack part stream to (records_of j) = subst (LeadBack part stream to) (sym e) (leads_further part stream d.taken to u older low high (subst (LeadBack part stream d.taken) e o.leads)) in
@@ -244,20 +244,20 @@ on_further part stream d new j to u older o e s low high =
     })
 
 -- the position, by the part that a device had before
-pub stands_of : (p q : PartData) (stream : List ℕ) (d : DeviceState) (j : JournalState) → p ≡ q → IsOn p stream d j → StandsAt q stream d d.taken
-stands_of p q stream d j e o = subst (λ (x : PartData). StandsAt x stream d d.taken) e o.stands
+pub stands_of : (p q : PartData) (stream : List ℕ) (d : DeviceState) (j : JournalState) → p ≡ q → IsOn p stream d j → StandsAtPosition q stream d d.taken
+stands_of p q stream d j e o = subst (λ (x : PartData). StandsAtPosition x stream d d.taken) e o.stands
 
 -- a device after a reset
-pub stands_first : (part : PartData) (stream : List ℕ) (d : DeviceState) → DeviceStandsFor part on_the_bench false d [] → StandsAt part stream d 0
+pub stands_first : (part : PartData) (stream : List ℕ) (d : DeviceState) → DeviceStandsFor part on_the_bench false d [] → StandsAtPosition part stream d 0
 stands_first part stream d s = record { stands = s; taken = s.taken_is; within = omega arith; none_due = none_due_at_first part on_the_bench false d s }
 
 -- ---- what a move comes to
 
 -- a device that was fed nothing yet, and one that was fed on
-pub fed_none : (d : DeviceState) → IsFed d d (d.taken - d.taken)
+pub fed_none : (d : DeviceState) → IsFedAtMost d d (d.taken - d.taken)
 fed_none d = record { never_less = omega arith; most = omega arith }
 
-pub fed_on : (d e f : DeviceState) → d.taken ≤ e.taken → e.taken ≤ f.taken → IsFed d e (e.taken - d.taken) → IsFed e f (f.taken - e.taken) → IsFed d f (f.taken - d.taken)
+pub fed_on : (d e f : DeviceState) → d.taken ≤ e.taken → e.taken ≤ f.taken → IsFedAtMost d e (e.taken - d.taken) → IsFedAtMost e f (f.taken - e.taken) → IsFedAtMost d f (f.taken - d.taken)
 fed_on d e f l m i j = record { never_less = omega (arith, i.never_less, j.never_less); most = omega (arith, l, m, i.most, j.most) }
 
 pub goes_nowhere : (s : SessionState) → s.oldest ≤ s.at → GoesWith s s

@@ -1,3 +1,4 @@
+pub mod EveryScriptLemmas
 pub mod FeedLemmas
 pub mod LeastLemmas
 pub mod PositionLemmas

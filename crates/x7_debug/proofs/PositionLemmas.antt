@@ -22,8 +22,8 @@ use Rattle.x7_engine.proofs.StateLemmas.{stop_is_final-stop, stop_place, taken_i
 use Rattle.x7_debug.specs.declared.order.Stop.{Stop}
 use Rattle.x7_engine.specs.declared.regs.End.{End}
 use Rattle.x7_debug.specs.declared.order.Stop.TheVariants as stops-to
-use Rattle.x7_debug.specs.Position.{BeginsAtSoonest, holds_at, holds_in, last_of, state_at, until_of}
-use Rattle.x7_debug.specs.Session.{StandsAt}
+use Rattle.x7_debug.specs.Position.{BeginsAtSoonest, holds_at, holds_in, last_of, state_at_position, until_of}
+use Rattle.x7_debug.specs.Session.{StandsAtPosition}
 use Rattle.x7_debug.proofs.FeedLemmas.{taken-all, taken-stopped, taken-within}
 
 pub last-within : (part : PartData) (stream : List ℕ) → AreBytes stream → last_of part stream ≤ length stream
@@ -75,14 +75,14 @@ taken-first part stream n fits few = by (stop_in part on_the_bench (take n strea
         omega (arith, last, here, place.1, long)
 
 -- a device that took the first bytes of a stream stands there
-pub stands-first-bytes : (part : PartData) (stream : List ℕ) (d : DeviceState) (n : ℕ) → AreBytes stream → n ≤ length stream → DeviceStandsFor part on_the_bench false d (take n stream) → NoWordDue d → StandsAt part stream d n
+pub stands-first-bytes : (part : PartData) (stream : List ℕ) (d : DeviceState) (n : ℕ) → AreBytes stream → n ≤ length stream → DeviceStandsFor part on_the_bench false d (take n stream) → NoWordDue d → StandsAtPosition part stream d n
 stands-first-bytes part stream d n fits few s due =
     let long : length (take n stream) ≡ n = length-take-le n stream few in
     record { stands = s; taken = s.taken_is ∙ long; within = omega (arith, taken-first part stream n fits few, taken_is part on_the_bench false d (take n stream) s, long); none_due = due }
 
 -- a device that was fed the bytes from one position to another stands there, or at the last position where that is less
 pub moved : (part : PartData) (stream piece : List ℕ) (d : DeviceState) (from to : ℕ) → AreBytes stream → from ≤ to → to ≤ length stream → piece ≡ take (to - from) (drop from stream)
-    → DeviceStandsFor part on_the_bench false d (take (taken_of part on_the_bench (take from stream ++ piece)) (take from stream ++ piece)) → NoWordDue d → StandsAt part stream d (min to (last_of part stream))
+    → DeviceStandsFor part on_the_bench false d (take (taken_of part on_the_bench (take from stream ++ piece)) (take from stream ++ piece)) → NoWordDue d → StandsAtPosition part stream d (min to (last_of part stream))
 moved part stream piece d from to fits le few is stands due =
     let whole : take from stream ++ piece ≡ take to stream = ap (λ t. take from stream ++ t) is ∙ take_up_to stream from to le in
     let at : ℕ = min to (last_of part stream) in
@@ -92,16 +92,16 @@ moved part stream piece d from to fits le few is stands due =
     record { stands = there; taken = there.taken_is ∙ length-take-le at stream (omega (arith, few)); within = omega arith; none_due = due }
 
 -- the position to which a device was fed, where that is not after the last one
-pub stands-there : (part : PartData) (stream : List ℕ) (d : DeviceState) (to : ℕ) → to ≤ last_of part stream → StandsAt part stream d (min to (last_of part stream)) → StandsAt part stream d to
-stands-there part stream d to within s = (let same : min to (last_of part stream) ≡ to = omega (arith, within) in subst (λ (k : ℕ). StandsAt part stream d k) same s)
+pub stands-there : (part : PartData) (stream : List ℕ) (d : DeviceState) (to : ℕ) → to ≤ last_of part stream → StandsAtPosition part stream d (min to (last_of part stream)) → StandsAtPosition part stream d to
+stands-there part stream d to within s = (let same : min to (last_of part stream) ≡ to = omega (arith, within) in subst (λ (k : ℕ). StandsAtPosition part stream d k) same s)
 
 -- where a device stands, by its own part and count of bytes
-pub own : (part : PartData) (stream : List ℕ) (d : DeviceState) (n : ℕ) → StandsAt part stream d n → StandsAt d.part stream d d.taken
-own part stream d n s = subst (λ p. StandsAt p stream d d.taken) (sym s.stands.part_is) (subst (λ (k : ℕ). StandsAt part stream d k) (sym s.taken) s)
+pub own : (part : PartData) (stream : List ℕ) (d : DeviceState) (n : ℕ) → StandsAtPosition part stream d n → StandsAtPosition d.part stream d d.taken
+own part stream d n s = subst (λ p. StandsAtPosition p stream d d.taken) (sym s.stands.part_is) (subst (λ (k : ℕ). StandsAtPosition part stream d k) (sym s.taken) s)
 
 -- a device that stands at a position of a stream has taken so many bytes
-pub by-taken : (part : PartData) (stream : List ℕ) (d : DeviceState) (n : ℕ) → StandsAt part stream d n → StandsAt part stream d d.taken
-by-taken part stream d n s = subst (λ (k : ℕ). StandsAt part stream d k) (sym s.taken) s
+pub by-taken : (part : PartData) (stream : List ℕ) (d : DeviceState) (n : ℕ) → StandsAtPosition part stream d n → StandsAtPosition part stream d d.taken
+by-taken part stream d n s = subst (λ (k : ℕ). StandsAtPosition part stream d k) (sym s.taken) s
 
 -- ---- the least later position
 
@@ -134,8 +134,8 @@ module _ (part : PartData) (stream : List ℕ) (stop : Stop) (from : ℕ) where
   until-last n low high le none = until-none (holds_at part stream stop) (last_of part stream - from) from (last_of part stream) (λ k h j. none k h (omega arith)) ∙ (let e : last_of part stream ≡ n = omega arith in e)
 
 -- what a test of the end and the phase says of the position
-pub holds-is : (part : PartData) (stream : List ℕ) (stop : Stop) (n : ℕ) (end : End) (phase : ℕ) (b : Bool) → end ≡ (state_at part stream n).end → phase ≡ (state_at part stream n).phase → b ≡ holds_in stop end phase → holds_at part stream stop n ≡ b
-holds-is part stream stop n end phase b e f h = ap (λ (x : End). holds_in stop x (state_at part stream n).phase) (sym e) ∙ ap (holds_in stop end) (sym f) ∙ sym h
+pub holds-is : (part : PartData) (stream : List ℕ) (stop : Stop) (n : ℕ) (end : End) (phase : ℕ) (b : Bool) → end ≡ (state_at_position part stream n).end → phase ≡ (state_at_position part stream n).phase → b ≡ holds_in stop end phase → holds_at part stream stop n ≡ b
+holds-is part stream stop n end phase b e f h = ap (λ (x : End). holds_in stop x (state_at_position part stream n).phase) (sym e) ∙ ap (holds_in stop end) (sym f) ∙ sym h
 
 -- ---- positions that are passed over
 

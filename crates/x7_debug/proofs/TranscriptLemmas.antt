@@ -6,15 +6,15 @@ use Rattle.std.proofs.lemmas.List.Sums.{fold_push}
 use Rattle.x7_part.specs.Part.{PartData}
 use Rattle.x7_debug.specs.declared.order.Order.{Order}
 use Rattle.x7_debug.specs.Session.{MovesTo, SessionState}
-use Rattle.x7_debug.specs.Transcript.{final_position, position_after, shown_at, transcript_from, transcript_of}
+use Rattle.x7_debug.specs.Transcript.{final_position, position_after, order_shown, transcript_from, transcript_of}
 
 from-push : (part : PartData) (stream : List ℕ) (at : ℕ) (orders : List Order) (o : Order)
-    → transcript_from part stream at (orders ++ o ∷ []) ≡ transcript_from part stream at orders ++ shown_at part stream (position_after part stream (fold (position_after part stream) at orders) o) o
-from-push part stream at [] o = append-nil (shown_at part stream (position_after part stream at o) o)
+    → transcript_from part stream at (orders ++ o ∷ []) ≡ transcript_from part stream at orders ++ order_shown part stream (position_after part stream (fold (position_after part stream) at orders) o) o
+from-push part stream at [] o = append-nil (order_shown part stream (position_after part stream at o) o)
 from-push part stream at (p ∷ orders) o =
-    ap (λ t. shown_at part stream (position_after part stream at p) p ++ t) (from-push part stream (position_after part stream at p) orders o)
-    ∙ sym (append_assoc (shown_at part stream (position_after part stream at p) p) (transcript_from part stream (position_after part stream at p) orders)
-    (shown_at part stream (position_after part stream (fold (position_after part stream) at (p ∷ orders)) o) o))
+    ap (λ t. order_shown part stream (position_after part stream at p) p ++ t) (from-push part stream (position_after part stream at p) orders o)
+    ∙ sym (append_assoc (order_shown part stream (position_after part stream at p) p) (transcript_from part stream (position_after part stream at p) orders)
+    (order_shown part stream (position_after part stream (fold (position_after part stream) at (p ∷ orders)) o) o))
 
 module _ (part : PartData) (stream : List ℕ) (orders : List Order) (i : ℕ) (o d : Order) (below : i < length orders) (is : o ≡ get_or orders i d) where
   more : take (i + 1) orders ≡ take i orders ++ o ∷ []
@@ -23,9 +23,9 @@ module _ (part : PartData) (stream : List ℕ) (orders : List Order) (i : ℕ) (
   pub position-more : position_after part stream (final_position part stream (take i orders)) o ≡ final_position part stream (take (i + 1) orders)
   position-more = sym (ap (fold (position_after part stream) 0) more ∙ fold_push (position_after part stream) 0 (take i orders) o)
 
-  pub text-more : transcript_of part stream (take i orders) ++ shown_at part stream (final_position part stream (take (i + 1) orders)) o ≡ transcript_of part stream (take (i + 1) orders)
+  pub text-more : transcript_of part stream (take i orders) ++ order_shown part stream (final_position part stream (take (i + 1) orders)) o ≡ transcript_of part stream (take (i + 1) orders)
   text-more =
-      ap (λ (n : ℕ). transcript_of part stream (take i orders) ++ shown_at part stream n o) (sym position-more)
+      ap (λ (n : ℕ). transcript_of part stream (take i orders) ++ order_shown part stream n o) (sym position-more)
       ∙ sym (ap (transcript_of part stream) more ∙ from-push part stream 0 (take i orders) o)
 
 -- a session that moved, and moves on
@@ -37,8 +37,8 @@ moves-on old mid new n m o s f e = record {
 }
 
 -- what is shown there
-pub shows : (old new : SessionState) (m : ℕ) (o : Order) → MovesTo old new m → shown_at new.part new.stream new.at o ≡ shown_at old.part old.stream m o
+pub shows : (old new : SessionState) (m : ℕ) (o : Order) → MovesTo old new m → order_shown new.part new.stream new.at o ≡ order_shown old.part old.stream m o
 shows old new m o s =
-    ap (λ (p : PartData). shown_at p new.stream new.at o) s.part
-    ∙ ap (λ (t : List ℕ). shown_at old.part t new.at o) s.stream
-    ∙ ap (λ (k : ℕ). shown_at old.part old.stream k o) s.at
+    ap (λ (p : PartData). order_shown p new.stream new.at o) s.part
+    ∙ ap (λ (t : List ℕ). order_shown old.part t new.at o) s.stream
+    ∙ ap (λ (k : ℕ). order_shown old.part old.stream k o) s.at

@@ -15,10 +15,10 @@ use Rattle.x7_debug.specs.declared.order.Order.{Order}
 use Rattle.x7_debug.specs.declared.order.Order.TheVariants as order
 use Rattle.x7_debug.specs.declared.order.Stop.{Stop}
 use Rattle.x7_debug.specs.declared.order.Stop.TheVariants as stop
-use Rattle.x7_debug.specs.Script.{AreOrders, FitsOrder, FitsStop, has_meaning, IsBad, IsNoOrder, IsScriptOf, order_text, stop_text}
+use Rattle.x7_debug.specs.Script.{AreOrders, FitsOrder, FitsStop, has_meaning, IsFirstBadLine, IsNoOrder, IsScriptOf, order_text, stop_text}
 
 -- the number of digits
-abbrev number_after : ℕ → List ℕ → ℕ
+abbrev pub number_after : ℕ → List ℕ → ℕ
 number_after n [] = n
 number_after n (c ∷ cs) = number_after (10 * n + (c - 48)) cs
 
@@ -29,13 +29,13 @@ number-back : (n : ℕ) → n < 2 ^ 64 → number_after 0 (decimal n) ≡ n
 number-back n h = digits_value-decimal own n h
 
 -- the order of a line, if it is one's, by its first letter; `until` goes by the second letter behind it
-abbrev stop_by : List ℕ → Stop
+abbrev pub stop_by : List ℕ → Stop
 stop_by words =
     if get_or words 1 0 == 121 then stop.Synced else
     if get_or words 1 0 == 101 then stop.Searching else
     if get_or words 1 0 == 116 then stop.Stopped else stop.Phase (number_after 0 (drop 6 words))
 
-abbrev order_by : List ℕ → Order
+abbrev pub order_by : List ℕ → Order
 order_by line =
     if get_or line 0 0 == 115 then order.Step (number_after 0 (drop 5 line)) else
     if get_or line 0 0 == 98 then order.Back (number_after 0 (drop 5 line)) else
@@ -50,7 +50,7 @@ stop-is stop.Searching h = refl
 stop-is stop.Stopped h = refl
 stop-is (stop.Phase n) h = ap stop.Phase (number-back n (omega arith))
 
-order-is : (o : Order) → FitsOrder o → order_by (order_text o) ≡ o
+pub order-is : (o : Order) → FitsOrder o → order_by (order_text o) ≡ o
 order-is (order.Step n) h = ap order.Step (number-back n (omega arith))
 order-is (order.Back n) h = ap order.Back (number-back n (omega arith))
 order-is (order.Go n) h = ap order.Go (number-back n (omega arith))
@@ -105,7 +105,7 @@ apart (x ∷ xs) (y ∷ ys) ps bs b c e =
       | inr (inr m) ↦ inr (inr (m.0, ap (λ (t : List (List ℕ)). x ∷ t) m.1 ∙ ap (λ (h : List ℕ). h ∷ (ys ++ c ∷ m.0)) same))
     ]
 
-one-bad : (text : List ℕ) (m n : ℕ) → IsBad text m → IsBad text n → m ≡ n
+one-bad : (text : List ℕ) (m n : ℕ) → IsFirstBadLine text m → IsFirstBadLine text n → m ≡ n
 one-bad text m n a b =
     elim (apart a.before b.before a.after b.after a.bad b.bad (sym a.texts ∙ b.texts)) [
       | inl l ↦ a.count ∙ ap (λ (k : ℕ). k + 1) l ∙ sym b.count

@@ -4,7 +4,7 @@ use Rattle.std.specs.List.{AllByRecursion}
 use Rattle.x7_part.specs.Part.{PartData}
 use Rattle.x7_engine.specs.Standing.{DeviceState, fed_of}
 use Rattle.x7_engine.specs.Undo.{IsUndoOf, Keeps, UndoState}
-use Rattle.x7_debug.specs.Session.{SessionState, StandsAt}
+use Rattle.x7_debug.specs.Session.{SessionState, StandsAtPosition}
 
 -- how many records there is room for
 abbrev pub record_room : ℕ
@@ -35,7 +35,7 @@ AreRecordsOf part j = AllByRecursion (IsUndoOf part) j.all
 pub record IsRecord (part : PartData) (stream : List ℕ) (u : UndoState) : Type 0 where
   pub device : DeviceState
   pub keeps : Keeps u device
-  pub stands : StandsAt part stream device u.taken
+  pub stands : StandsAtPosition part stream device u.taken
 
 -- each record is at most four bytes before the next newer one, and the newest one before this position
 abbrev pub LeadBack : PartData → List ℕ → ℕ → List UndoState → Type 0
@@ -49,13 +49,13 @@ oldest_by at (u ∷ older) = oldest_by u.taken older
 
 -- a device at its position of the stream, and records that lead back from there
 pub record IsOn (part : PartData) (stream : List ℕ) (d : DeviceState) (j : JournalState) : Type 0 where
-  pub stands : StandsAt part stream d d.taken
+  pub stands : StandsAtPosition part stream d d.taken
   pub records : AreRecordsOf part j
   pub few : length (records_of j) ≤ record_room
   pub leads : LeadBack part stream d.taken (records_of j)
 
 -- a device came to position n of the stream, and these records lead back from there
-pub record ComesTo (stream : List ℕ) (old new : DeviceState) (j : JournalState) (n : ℕ) : Type 0 where
+pub record ComesToPosition (stream : List ℕ) (old new : DeviceState) (j : JournalState) (n : ℕ) : Type 0 where
   pub on : IsOn new.part stream new j
   pub part : new.part ≡ old.part
   pub taken : new.taken ≡ n
@@ -65,7 +65,7 @@ abbrev pub HasRecorded : ℕ → JournalState → JournalState → Type 0
 HasRecorded at old new = (u : UndoState) × (u.taken ≡ at) × (records_of new ≡ u ∷ take (record_room - 1) (records_of old))
 
 -- a device was fed at most `count` bytes more
-pub record IsFed (old new : DeviceState) (count : ℕ) : Type 0 where
+pub record IsFedAtMost (old new : DeviceState) (count : ℕ) : Type 0 where
   pub never_less : fed_of old ≤ fed_of new
   pub most : fed_of new ≤ fed_of old + count
 

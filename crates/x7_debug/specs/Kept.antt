@@ -10,7 +10,7 @@ abbrev pub session_of : DeviceState → List ℕ → JournalState → SessionSta
 session_of d stream j = record { part = d.part; stream = stream; at = d.taken; oldest = oldest_by d.taken (records_of j); fed = fed_of d }
 
 -- a session keeps a device and its records on the stream, the last position, and one before which startup hasn't begun
-pub record IsSession (d : DeviceState) (stream : List ℕ) (last begins : ℕ) (j : JournalState) : Type 0 where
+pub record IsKeptSession (d : DeviceState) (stream : List ℕ) (last begins : ℕ) (j : JournalState) : Type 0 where
   pub on : IsOn d.part stream d j
   pub last_is : last ≡ last_of d.part stream
   pub begins_is : BeginsAtSoonest d.part stream begins

@@ -16,17 +16,17 @@ abbrev pub last_of : PartData → List ℕ → ℕ
 last_of part stream = taken_of part on_the_bench stream
 
 -- the registers at a position
-abbrev pub state_at : PartData → List ℕ → ℕ → Regs
-state_at part stream n = state_of part on_the_bench false (take n stream)
+abbrev pub state_at_position : PartData → List ℕ → ℕ → Regs
+state_at_position part stream n = state_of part on_the_bench false (take n stream)
 
 -- the frames at a position
-abbrev pub memory_at : PartData → List ℕ → ℕ → FrameMap
-memory_at part stream n = memory_in part on_the_bench (take n stream)
+abbrev pub memory_at_position : PartData → List ℕ → ℕ → FrameMap
+memory_at_position part stream n = memory_in part on_the_bench (take n stream)
 
 -- the bytes end in a session
-abbrev pub is_synced : End → Bool
-is_synced at_end.Synced = true
-is_synced _ = false
+abbrev pub is_synced_end : End → Bool
+is_synced_end at_end.Synced = true
+is_synced_end _ = false
 
 -- the bytes end in a gap, where the sync word is searched
 abbrev pub is_searching : End → Bool
@@ -41,19 +41,19 @@ has_stopped _ = false
 
 -- the stop of an order `until` holds where the bytes end so, in this phase of startup
 abbrev pub holds_in : Stop → End → ℕ → Bool
-holds_in stop.Synced end phase = is_synced end
+holds_in stop.Synced end phase = is_synced_end end
 holds_in stop.Searching end phase = is_searching end
 holds_in stop.Stopped end phase = has_stopped end
 holds_in (stop.Phase wanted) end phase = phase == wanted
 
 -- the stop holds at position n of the stream
 abbrev pub holds_at : PartData → List ℕ → Stop → ℕ → Bool
-holds_at part stream stop n = holds_in stop (state_at part stream n).end (state_at part stream n).phase
+holds_at part stream stop n = holds_in stop (state_at_position part stream n).end (state_at_position part stream n).phase
 
 -- startup begins at this position at the soonest: the phase is 0 before it
 pub record BeginsAtSoonest (part : PartData) (stream : List ℕ) (n : ℕ) : Type 0 where
   pub within : n ≤ last_of part stream
-  pub zero : (k : ℕ) → k < n → (state_at part stream k).phase ≡ 0
+  pub zero : (k : ℕ) → k < n → (state_at_position part stream k).phase ≡ 0
 
 -- n is the least position after `at` where the stop holds
 pub record IsLeastAfter (part : PartData) (stream : List ℕ) (stop : Stop) (at n : ℕ) : Type 0 where

@@ -62,7 +62,7 @@ pub record IsNoOrder (line : List ℕ) : Type 0 where
   pub no_order : (order : Order) → FitsOrder order → line ≢ order_text order
 
 -- line n is the first line that has a meaning and is no order's
-pub record IsBad (text : List ℕ) (n : ℕ) : Type 0 where
+pub record IsFirstBadLine (text : List ℕ) (n : ℕ) : Type 0 where
   pub before : List (List ℕ)
   pub bad : List ℕ
   pub after : List (List ℕ)
@@ -75,5 +75,9 @@ pub record IsBad (text : List ℕ) (n : ℕ) : Type 0 where
 -- what a text comes to: its orders, or its first bad line; want of memory is never the text's
 abbrev pub IsScriptOf : List ℕ → Result (List Order) ScriptFault → Type 0
 IsScriptOf text (Ok orders) = AreOrders (split text) orders
-IsScriptOf text (Err (fault.Line n)) = IsBad text n
+IsScriptOf text (Err (fault.Line n)) = IsFirstBadLine text n
 IsScriptOf text (Err fault.NoMemory) = ⊥
+
+-- a text comes to its orders, or to its first bad line
+abbrev pub HasScript : List ℕ → Type 0
+HasScript text = (r : Result (List Order) ScriptFault) × IsScriptOf text r

@@ -22,7 +22,7 @@ pub record MovesTo (old new : SessionState) (n : ℕ) : Type 0 where
   pub at : new.at ≡ n
 
 -- a device took the first n bytes of a stream, and no word that it read out is due
-pub record StandsAt (part : PartData) (stream : List ℕ) (d : DeviceState) (n : ℕ) : Type 0 where
+pub record StandsAtPosition (part : PartData) (stream : List ℕ) (d : DeviceState) (n : ℕ) : Type 0 where
   pub stands : DeviceStandsFor part on_the_bench false d (take n stream)
   pub taken : d.taken ≡ n
   pub within : n ≤ last_of part stream

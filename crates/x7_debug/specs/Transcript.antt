@@ -8,7 +8,7 @@ use Rattle.x7_report.specs.Frames.{frame_text}
 use Rattle.x7_report.specs.State.{end_text, phase_text, reg_text}
 use Rattle.x7_debug.specs.declared.order.Order.{Order}
 use Rattle.x7_debug.specs.declared.order.Order.TheVariants as order
-use Rattle.x7_debug.specs.Position.{last_of, memory_at, state_at, until_of}
+use Rattle.x7_debug.specs.Position.{last_of, memory_at_position, state_at_position, until_of}
 use Rattle.x7_debug.specs.Session.{MovesTo, SessionState}
 
 -- the position that an order brings a session to: moves are cut at 0 and at the last position
@@ -26,12 +26,12 @@ abbrev pub final_position : PartData → List ℕ → List Order → ℕ
 final_position part stream orders = fold (position_after part stream) 0 orders
 
 -- following orders from position 0 on has brought a session here
-abbrev pub Follows : SessionState → SessionState → List Order → Type 0
-Follows old new orders = MovesTo old new (final_position old.part old.stream orders)
+abbrev pub FollowsOrders : SessionState → SessionState → List Order → Type 0
+FollowsOrders old new orders = MovesTo old new (final_position old.part old.stream orders)
 
 -- following the first few of the orders from position 0 on has brought a session here
 abbrev pub FollowsSome : SessionState → SessionState → List Order → Type 0
-FollowsSome old new orders = (done : List Order) × (left : List Order) × (orders ≡ done ++ left) × Follows old new done
+FollowsSome old new orders = (done : List Order) × (left : List Order) × (orders ≡ done ++ left) × FollowsOrders old new done
 
 -- where a move led: the position, and where the bytes up to it end
 unfoldable pub position_text : Regs → List ℕ
@@ -57,13 +57,13 @@ shown_by order.Phase r frames = phase_text r
 shown_by (order.Frame far) r frames = frame_shown far (frames far)
 
 -- what an order shows at a position of a stream
-abbrev pub shown_at : PartData → List ℕ → ℕ → Order → List ℕ
-shown_at part stream n order = shown_by order (state_at part stream n) (memory_at part stream n)
+abbrev pub order_shown : PartData → List ℕ → ℕ → Order → List ℕ
+order_shown part stream n order = shown_by order (state_at_position part stream n) (memory_at_position part stream n)
 
 -- what orders show, of which the first begins at position `at`
 abbrev pub transcript_from : PartData → List ℕ → ℕ → List Order → List ℕ
 transcript_from part stream at [] = []
-transcript_from part stream at (o ∷ orders) = shown_at part stream (position_after part stream at o) o ++ transcript_from part stream (position_after part stream at o) orders
+transcript_from part stream at (o ∷ orders) = order_shown part stream (position_after part stream at o) o ++ transcript_from part stream (position_after part stream at o) orders
 
 -- what a script shows of a stream on a new device of the part
 abbrev pub transcript_of : PartData → List ℕ → List Order → List ℕ

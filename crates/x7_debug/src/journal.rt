@@ -3,7 +3,7 @@ ghost use Rattle.std.specs.Prelude.{◌≡◌, ◌≤◌, ◌<◌, ◌+◌, ◌-
 ghost use Rattle.x7_engine.specs.Past.{OfPast};
 ghost use Rattle.x7_engine.specs.Standing.{NoWordDue, fed_of};
 ghost use Rattle.x7_engine.specs.Undo.{Keeps, UndoState};
-ghost use Rattle.x7_debug.specs.Journal.{AreRecordsOf, IsFed, IsOn, oldest_by, record_bytes, record_room, records_of};
+ghost use Rattle.x7_debug.specs.Journal.{AreRecordsOf, IsFedAtMost, IsOn, oldest_by, record_bytes, record_room, records_of};
 ghost use Rattle.x7_debug.specs.Session.{TakesPiece};
 
 use circular_buffer::HeapCircularBuffer;
@@ -79,7 +79,7 @@ impl Journal {
         requires records { AreRecordsOf device.old.part self.old }
         ensures stands { TakesPiece device.old device.new piece.now }
         ensures none_due { OfPast device.old (λ p. NoWordDue device.new) }
-        ensures fed { IsFed device.old device.new (device.new.taken - device.old.taken) }
+        ensures fed { IsFedAtMost device.old device.new (device.new.taken - device.old.taken) }
         ensures records { AreRecordsOf device.old.part self.new }
         ensures more { (u : UndoState) × Keeps u device.old × (records_of self.new ≡ u ∷ take (record_room - 1) (records_of self.old)) }
     {

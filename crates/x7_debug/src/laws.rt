@@ -3,7 +3,7 @@ ghost use Rattle.std.specs.Prelude.{◌≡◌, ◌≤◌, ℕ, List, Result};
 ghost use Rattle.x7_words.specs.Word.{AreBytes};
 ghost use Rattle.x7_part.specs.Part.{PartData};
 ghost use Rattle.x7_debug.specs.Position.{HoldsNowhereAfter, IsLeastAfter, last_of, until_of};
-ghost use Rattle.x7_debug.specs.Script.{FitsOrder, IsScriptOf, order_text};
+ghost use Rattle.x7_debug.specs.Script.{FitsOrder, HasScript, IsScriptOf, order_text};
 ghost use Rattle.x7_debug.specs.declared.fault.ScriptFault.{ScriptFault};
 ghost use Rattle.x7_debug.specs.declared.order.Order.{Order};
 ghost use Rattle.x7_debug.specs.declared.order.Stop.{Stop};
@@ -17,6 +17,11 @@ pub fn one_order()
 /// A text comes to at most one script or one first bad line.
 pub fn one_script()
     ensures { (text : List ℕ) (a b : Result (List Order) ScriptFault) → IsScriptOf text a → IsScriptOf text b → a ≡ b }
+{}
+
+/// A text comes to something: a script, or its first bad line.
+pub fn every_script_is_read()
+    ensures { (text : List ℕ) → HasScript text }
 {}
 
 /// `until` leads to the least later position where its stop holds, and to the last one where there is none. What stops a

@@ -14,7 +14,7 @@ mod showing;
 mod until;
 
 pub use fault::ScriptFault;
-pub use laws::{one_order, one_script, until_leads_to_the_least};
+pub use laws::{every_script_is_read, one_order, one_script, until_leads_to_the_least};
 pub use order::{Order, Stop};
 pub use script::{Script, script_of};
 pub use session::Session;

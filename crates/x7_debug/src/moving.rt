@@ -2,10 +2,10 @@
 ghost use Rattle.std.specs.Prelude.{◌≡◌, ◌≤◌, ◌<◌, ◌+◌, ◌-◌, ◌^◌, length, max};
 ghost use Rattle.x7_engine.specs.Past.{OfPast};
 ghost use Rattle.x7_engine.specs.Standing.{NoWordDue, fed_of};
-ghost use Rattle.x7_debug.specs.Journal.{ComesTo, GoesWith, HasRecorded, IsFed, IsOn, oldest_by, reach, record_bytes, record_room, records_of};
+ghost use Rattle.x7_debug.specs.Journal.{ComesToPosition, GoesWith, HasRecorded, IsFedAtMost, IsOn, oldest_by, reach, record_bytes, record_room, records_of};
 ghost use Rattle.x7_debug.specs.Kept.{session_of};
 ghost use Rattle.x7_debug.specs.Position.{last_of};
-ghost use Rattle.x7_debug.specs.Session.{StandsAt, TakesPiece};
+ghost use Rattle.x7_debug.specs.Session.{StandsAtPosition, TakesPiece};
 
 use crate::journal::Journal;
 use x7_engine::{Device, ON_THE_BENCH, ReadBuf};
@@ -25,7 +25,7 @@ pub(crate) fn take(device: &mut Device, piece: &[u8])
     requires { device.old.taken + length piece.now ≤ 2 ^ 63 }
     ensures stands { TakesPiece device.old device.new piece.now }
     ensures none_due { OfPast device.old (λ p. NoWordDue device.new) }
-    ensures fed { IsFed device.old device.new (device.new.taken - device.old.taken) }
+    ensures fed { IsFedAtMost device.old device.new (device.new.taken - device.old.taken) }
 {
     let mut read = ReadBuf::dropping();
     device.feed(piece, &mut read);
@@ -33,11 +33,11 @@ pub(crate) fn take(device: &mut Device, piece: &[u8])
 
 /// Feeds a device the bytes of the stream up to a position.
 pub(crate) fn feed_to(device: &mut Device, stream: &[u8], to: u64)
-    requires stands { StandsAt device.old.part stream.now device.old device.old.taken }
+    requires stands { StandsAtPosition device.old.part stream.now device.old device.old.taken }
     requires within { to ≤ last_of device.old.part stream.now }
     requires forward { device.old.taken ≤ to }
-    ensures stands { StandsAt device.old.part stream.now device.new to }
-    ensures fed { IsFed device.old device.new (device.new.taken - device.old.taken) }
+    ensures stands { StandsAtPosition device.old.part stream.now device.new to }
+    ensures fed { IsFedAtMost device.old device.new (device.new.taken - device.old.taken) }
 {
     let from = device.taken() as usize;
     take(device, &stream[from..to as usize]);
@@ -49,8 +49,8 @@ pub(crate) fn feed_recorded(device: &mut Device, journal: &mut Journal, stream: 
     requires within { to ≤ last_of device.old.part stream.now }
     requires forward { device.old.taken ≤ to }
     requires few { to ≤ device.old.taken + record_bytes }
-    ensures comes { ComesTo stream.now device.old device.new journal.new to }
-    ensures fed { IsFed device.old device.new (device.new.taken - device.old.taken) }
+    ensures comes { ComesToPosition stream.now device.old device.new journal.new to }
+    ensures fed { IsFedAtMost device.old device.new (device.new.taken - device.old.taken) }
     ensures more { HasRecorded device.old.taken journal.old journal.new }
 {
     let from = device.taken() as usize;
@@ -62,8 +62,8 @@ fn go_by_words(device: &mut Device, journal: &mut Journal, stream: &[u8], to: u6
     requires on { IsOn device.old.part stream.now device.old journal.old }
     requires within { to ≤ last_of device.old.part stream.now }
     requires forward { device.old.taken ≤ to }
-    ensures comes { ComesTo stream.now device.old device.new journal.new to }
-    ensures fed { IsFed device.old device.new (device.new.taken - device.old.taken) }
+    ensures comes { ComesToPosition stream.now device.old device.new journal.new to }
+    ensures fed { IsFedAtMost device.old device.new (device.new.taken - device.old.taken) }
     ensures oldest { oldest_by device.new.taken (records_of journal.new) ≤ max device.old.taken (to - reach) }
 {
     while to - device.taken() >= RECORD_BYTES {
@@ -80,8 +80,8 @@ pub(crate) fn leap(device: &mut Device, journal: &mut Journal, stream: &[u8], to
     requires on { IsOn device.old.part stream.now device.old journal.old }
     requires within { to ≤ last_of device.old.part stream.now }
     requires forward { device.old.taken ≤ to }
-    ensures comes { ComesTo stream.now device.old device.new journal.new to }
-    ensures fed { IsFed device.old device.new (device.new.taken - device.old.taken) }
+    ensures comes { ComesToPosition stream.now device.old device.new journal.new to }
+    ensures fed { IsFedAtMost device.old device.new (device.new.taken - device.old.taken) }
 {
     feed_to(device, stream, to);
     journal.forget();
@@ -92,8 +92,8 @@ fn go_forward(device: &mut Device, journal: &mut Journal, stream: &[u8], to: u64
     requires on { IsOn device.old.part stream.now device.old journal.old }
     requires within { to ≤ last_of device.old.part stream.now }
     requires forward { device.old.taken ≤ to }
-    ensures comes { ComesTo stream.now device.old device.new journal.new to }
-    ensures fed { IsFed device.old device.new (device.new.taken - device.old.taken) }
+    ensures comes { ComesToPosition stream.now device.old device.new journal.new to }
+    ensures fed { IsFedAtMost device.old device.new (device.new.taken - device.old.taken) }
     ensures oldest { oldest_by device.new.taken (records_of journal.new) ≤ max device.old.taken (to - reach) }
 {
     if to - device.taken() > RECORDED {
@@ -106,7 +106,7 @@ fn go_forward(device: &mut Device, journal: &mut Journal, stream: &[u8], to: u64
 /// Resets a device, and forgets the records.
 fn begin_again(device: &mut Device, journal: &mut Journal, stream: &[u8])
     requires { IsOn device.old.part stream.now device.old journal.old }
-    ensures comes { ComesTo stream.now device.old device.new journal.new 0 }
+    ensures comes { ComesToPosition stream.now device.old device.new journal.new 0 }
     ensures fed { fed_of device.new ≡ fed_of device.old }
 {
     device.reset(ON_THE_BENCH);
@@ -117,8 +117,8 @@ fn begin_again(device: &mut Device, journal: &mut Journal, stream: &[u8])
 fn replay(device: &mut Device, journal: &mut Journal, stream: &[u8], to: u64)
     requires on { IsOn device.old.part stream.now device.old journal.old }
     requires within { to ≤ last_of device.old.part stream.now }
-    ensures comes { ComesTo stream.now device.old device.new journal.new to }
-    ensures fed { IsFed device.old device.new to }
+    ensures comes { ComesToPosition stream.now device.old device.new journal.new to }
+    ensures fed { IsFedAtMost device.old device.new to }
     ensures oldest { oldest_by device.new.taken (records_of journal.new) ≤ to - reach }
 {
     begin_again(device, journal, stream);
@@ -130,7 +130,7 @@ fn take_back(device: &mut Device, journal: &mut Journal, stream: &[u8], to: u64)
     requires on { IsOn device.old.part stream.now device.old journal.old }
     requires before { to < device.old.taken }
     requires reach { oldest_by device.old.taken (records_of journal.old) ≤ to }
-    ensures comes { ComesTo stream.now device.old device.new journal.new device.new.taken }
+    ensures comes { ComesToPosition stream.now device.old device.new journal.new device.new.taken }
     ensures before { device.new.taken ≤ to }
     ensures near { to < device.new.taken + record_bytes }
     ensures fed { fed_of device.new ≡ fed_of device.old }
@@ -147,8 +147,8 @@ fn go_back(device: &mut Device, journal: &mut Journal, stream: &[u8], to: u64)
     requires on { IsOn device.old.part stream.now device.old journal.old }
     requires before { to < device.old.taken }
     requires reach { oldest_by device.old.taken (records_of journal.old) ≤ to }
-    ensures comes { ComesTo stream.now device.old device.new journal.new to }
-    ensures fed { IsFed device.old device.new (record_bytes - 1) }
+    ensures comes { ComesToPosition stream.now device.old device.new journal.new to }
+    ensures fed { IsFedAtMost device.old device.new (record_bytes - 1) }
     ensures oldest { oldest_by device.new.taken (records_of journal.new) ≡ oldest_by device.old.taken (records_of journal.old) }
 {
     take_back(device, journal, stream, to);
@@ -161,7 +161,7 @@ fn go_back(device: &mut Device, journal: &mut Journal, stream: &[u8], to: u64)
 pub(crate) fn move_to(device: &mut Device, journal: &mut Journal, stream: &[u8], to: u64)
     requires on { IsOn device.old.part stream.now device.old journal.old }
     requires within { to ≤ last_of device.old.part stream.now }
-    ensures comes { ComesTo stream.now device.old device.new journal.new to }
+    ensures comes { ComesToPosition stream.now device.old device.new journal.new to }
     ensures goes { GoesWith (session_of device.old stream.now journal.old) (session_of device.new stream.now journal.new) }
 {
     let from = device.taken();

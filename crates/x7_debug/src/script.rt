@@ -67,9 +67,7 @@ pub fn script_of(alloc: Global, text: &[u8]) -> Result<Script, ScriptFault>
     loop {
         let (line, more) = first_line(rest);
         count += 1;
-        if let Err(fault) = take_line(&mut orders, count, line) {
-            return Err(fault);
-        }
+        take_line(&mut orders, count, line)?;
         match more {
             Some(after) => rest = after,
             None => return Ok(Script { orders }),

@@ -3,7 +3,7 @@ ghost use Rattle.std.specs.Prelude.{◌≡◌, ◌≤◌, ◌+◌, ◌-◌, IfOk
 ghost use Rattle.x7_engine.specs.Standing.{fed_of};
 ghost use Rattle.x7_debug.specs.Journal.{GoesWith};
 ghost use Rattle.x7_debug.specs.Position.{last_of, until_of};
-ghost use Rattle.x7_debug.specs.Session.{MovesTo, StandsAt};
+ghost use Rattle.x7_debug.specs.Session.{MovesTo, StandsAtPosition};
 
 use crate::journal::Journal;
 use crate::moving::move_to;
@@ -28,14 +28,14 @@ pub struct Session {
 }
 
 impl Model for Session {
-    ghost use Rattle.x7_debug.specs.Kept.{IsSession, session_of};
+    ghost use Rattle.x7_debug.specs.Kept.{IsKeptSession, session_of};
     ghost use Rattle.x7_debug.specs.Session.{SessionState};
 
     ghost Value = { SessionState };
 
     ghost view = { λ s. session_of s.device s.stream.items s.journal };
 
-    ghost invariant = { λ s. IsSession s.device s.stream.items s.outline.last s.outline.begins s.journal };
+    ghost invariant = { λ s. IsKeptSession s.device s.stream.items s.outline.last s.outline.begins s.journal };
 }
 
 impl Session {
@@ -82,7 +82,7 @@ impl Session {
     /// The device, as the bytes of the stream before the position have left it.
     pub fn device(&self) -> &Device
         ensures part { result.now.part ≡ self.now.part }
-        ensures stands { StandsAt self.now.part self.now.stream result.now self.now.at }
+        ensures stands { StandsAtPosition self.now.part self.now.stream result.now self.now.at }
         ensures fed { fed_of result.now ≡ self.now.fed }
     {
         &self.device

@@ -2,7 +2,7 @@
 ghost use Rattle.std.specs.Prelude.{◌≡◌, ◌++◌, IfOk, OnErr, OnOk};
 ghost use Rattle.x7_memory.specs.Frames.{AreFramesOf, frame_at};
 ghost use Rattle.x7_debug.specs.Session.{MovesTo};
-ghost use Rattle.x7_debug.specs.Transcript.{Follows, FollowsSome, frame_shown, none_text, position_after, position_text, shown_at, transcript_of};
+ghost use Rattle.x7_debug.specs.Transcript.{FollowsOrders, FollowsSome, frame_shown, none_text, position_after, position_text, order_shown, transcript_of};
 
 use crate::order::Order;
 use crate::script::Script;
@@ -55,7 +55,7 @@ fn put_frame(text: &mut Vec<u8>, part: &Part, memory: &Memory, far: u32) -> Resu
 
 /// Appends what an order shows where it left the session.
 fn show(text: &mut Vec<u8>, session: &Session, order: Order) -> Result<(), NoMemory>
-    ensures { OnOk result (text.new.items ≡ text.old.items ++ shown_at session.now.part session.now.stream session.now.at order) }
+    ensures { OnOk result (text.new.items ≡ text.old.items ++ order_shown session.now.part session.now.stream session.now.at order) }
 {
     let device = session.device();
     match order {
@@ -94,7 +94,7 @@ pub fn transcript(
 ) -> Result<Vec<u8>, NoMemory>
     requires { session.old.at ≡ 0 }
     ensures text { IfOk result (λ text. text.items ≡ transcript_of session.old.part session.old.stream script.now) }
-    ensures position { OnOk result (Follows session.old session.new script.now) }
+    ensures position { OnOk result (FollowsOrders session.old session.new script.now) }
     ensures err { OnErr result (FollowsSome session.old session.new script.now) }
 {
     let mut text = Vec::new(alloc);

@@ -1,7 +1,7 @@
 //! A device is brought forward to the first position where a stop holds.
 ghost use Rattle.std.specs.Prelude.{◌≡◌, ◌≤◌, ◌<◌, ◌+◌, ◌-◌, ◌∷◌, ℕ, List, true, false, max};
 ghost use Rattle.x7_engine.specs.Undo.{UndoState};
-ghost use Rattle.x7_debug.specs.Journal.{ComesTo, GoesWith, HasRecorded, IsFed, IsOn, oldest_by, reach, record_bytes, records_of};
+ghost use Rattle.x7_debug.specs.Journal.{ComesToPosition, GoesWith, HasRecorded, IsFedAtMost, IsOn, oldest_by, reach, record_bytes, records_of};
 ghost use Rattle.x7_debug.specs.Kept.{session_of};
 ghost use Rattle.x7_debug.specs.Position.{BeginsAtSoonest, holds_at, holds_in, last_of, until_of};
 ghost use Rattle.x7_debug.specs.declared.order.Stop.TheVariants as to;
@@ -33,8 +33,8 @@ fn seek(device: &mut Device, journal: &Journal, stream: &[u8], end: u64, stop: S
     requires within { end ≤ last_of device.old.part stream.now }
     requires before { device.old.taken ≤ end }
     requires some { (u : UndoState) × (older : List UndoState) × (records_of journal.now ≡ u ∷ older) × (end ≤ u.taken + record_bytes) }
-    ensures comes { ComesTo stream.now device.old device.new journal.now device.new.taken }
-    ensures fed { IsFed device.old device.new (device.new.taken - device.old.taken) }
+    ensures comes { ComesToPosition stream.now device.old device.new journal.now device.new.taken }
+    ensures fed { IsFedAtMost device.old device.new (device.new.taken - device.old.taken) }
     ensures forward { device.old.taken ≤ device.new.taken × device.new.taken ≤ end }
     ensures found { result ≡ true → holds_at device.old.part stream.now stop device.new.taken ≡ true }
     ensures end { result ≡ false → device.new.taken ≡ end }
@@ -65,8 +65,8 @@ fn seek_word(
     requires on { IsOn device.old.part stream.now device.old journal.old }
     requires last { last ≡ last_of device.old.part stream.now }
     requires before { device.old.taken < last }
-    ensures comes { ComesTo stream.now device.old device.new journal.new device.new.taken }
-    ensures fed { IsFed device.old device.new (device.new.taken - device.old.taken) }
+    ensures comes { ComesToPosition stream.now device.old device.new journal.new device.new.taken }
+    ensures fed { IsFedAtMost device.old device.new (device.new.taken - device.old.taken) }
     ensures more { HasRecorded device.old.taken journal.old journal.new }
     ensures forward { device.old.taken < device.new.taken × device.new.taken ≤ last × device.new.taken ≤ device.old.taken + record_bytes }
     ensures whole { result ≡ false → device.new.taken < last → device.new.taken ≡ device.old.taken + record_bytes }
@@ -84,8 +84,8 @@ fn forward_until(device: &mut Device, journal: &mut Journal, stream: &[u8], last
     requires on { IsOn device.old.part stream.now device.old journal.old }
     requires last { last ≡ last_of device.old.part stream.now }
     requires before { device.old.taken < last }
-    ensures comes { ComesTo stream.now device.old device.new journal.new (until_of device.old.part stream.now stop device.old.taken) }
-    ensures fed { IsFed device.old device.new (device.new.taken - device.old.taken) }
+    ensures comes { ComesToPosition stream.now device.old device.new journal.new (until_of device.old.part stream.now stop device.old.taken) }
+    ensures fed { IsFedAtMost device.old device.new (device.new.taken - device.old.taken) }
     ensures forward { device.old.taken < device.new.taken }
     ensures oldest { oldest_by device.new.taken (records_of journal.new) ≤ max device.old.taken (device.new.taken - reach) }
 {
@@ -101,8 +101,8 @@ fn forward_until(device: &mut Device, journal: &mut Journal, stream: &[u8], last
 fn leap_near(device: &mut Device, journal: &mut Journal, stream: &[u8], begins: u64)
     requires on { IsOn device.old.part stream.now device.old journal.old }
     requires within { begins ≤ last_of device.old.part stream.now }
-    ensures comes { ComesTo stream.now device.old device.new journal.new device.new.taken }
-    ensures fed { IsFed device.old device.new (device.new.taken - device.old.taken) }
+    ensures comes { ComesToPosition stream.now device.old device.new journal.new device.new.taken }
+    ensures fed { IsFedAtMost device.old device.new (device.new.taken - device.old.taken) }
     ensures forward { device.old.taken ≤ device.new.taken }
     ensures near { device.new.taken ≤ max device.old.taken (begins - (reach + 1)) }
 {
@@ -126,8 +126,8 @@ fn forward_to_phase(
     requires begins { BeginsAtSoonest device.old.part stream.now outline.begins }
     requires before { device.old.taken < outline.last }
     requires some { 0 < phase }
-    ensures comes { ComesTo stream.now device.old device.new journal.new (until_of device.old.part stream.now (to.Phase phase) device.old.taken) }
-    ensures fed { IsFed device.old device.new (device.new.taken - device.old.taken) }
+    ensures comes { ComesToPosition stream.now device.old device.new journal.new (until_of device.old.part stream.now (to.Phase phase) device.old.taken) }
+    ensures fed { IsFedAtMost device.old device.new (device.new.taken - device.old.taken) }
     ensures forward { device.old.taken < device.new.taken }
     ensures oldest { oldest_by device.new.taken (records_of journal.new) ≤ max device.old.taken (device.new.taken - reach) }
 {
@@ -147,8 +147,8 @@ fn go_to_phase(
     requires last { outline.last ≡ last_of device.old.part stream.now }
     requires begins { BeginsAtSoonest device.old.part stream.now outline.begins }
     requires before { device.old.taken < outline.last }
-    ensures comes { ComesTo stream.now device.old device.new journal.new (until_of device.old.part stream.now (to.Phase phase) device.old.taken) }
-    ensures fed { IsFed device.old device.new (device.new.taken - device.old.taken) }
+    ensures comes { ComesToPosition stream.now device.old device.new journal.new (until_of device.old.part stream.now (to.Phase phase) device.old.taken) }
+    ensures fed { IsFedAtMost device.old device.new (device.new.taken - device.old.taken) }
     ensures forward { device.old.taken < device.new.taken }
     ensures oldest { oldest_by device.new.taken (records_of journal.new) ≤ max device.old.taken (device.new.taken - reach) }
 {
@@ -170,7 +170,7 @@ pub(crate) fn go_until(
     requires on { IsOn device.old.part stream.now device.old journal.old }
     requires last { outline.last ≡ last_of device.old.part stream.now }
     requires begins { BeginsAtSoonest device.old.part stream.now outline.begins }
-    ensures comes { ComesTo stream.now device.old device.new journal.new (until_of device.old.part stream.now stop device.old.taken) }
+    ensures comes { ComesToPosition stream.now device.old device.new journal.new (until_of device.old.part stream.now stop device.old.taken) }
     ensures goes { GoesWith (session_of device.old stream.now journal.old) (session_of device.new stream.now journal.new) }
 {
     if device.taken() >= outline.last {

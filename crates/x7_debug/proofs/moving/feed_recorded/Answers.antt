@@ -2,7 +2,7 @@ use Rattle.std.proofs.Common.{◌<◌, ◌≤◌, ◌-◌, false, length, take, 
 use Rattle.x7_words.specs.Word.{AreBytes}
 use Rattle.x7_words.proofs.ListLemmas.{all_from_places}
 use Rattle.x7_engine.specs.Kept.{on_the_bench}
-use Rattle.x7_debug.specs.Session.{StandsAt}
+use Rattle.x7_debug.specs.Session.{StandsAtPosition}
 use Rattle.x7_debug.proofs.JournalLemmas.{on_more}
 use Rattle.x7_debug.proofs.PositionLemmas.{last-within, moved, stands-there}
 use Rattle.x7_debug.proofs.moving.feed_recorded.Goals as goal
@@ -20,7 +20,7 @@ returns-clause-comes c =
     let fits : AreBytes stream = all_from_places (λ b. b < 256) stream (λ k h. omega (arith, c.type_inv.stream k)) in
     let few : c.args.to ≤ length stream = omega (arith, last-within part stream fits, c.requires.within) in
     let stands = c.requires.on.stands.stands in
-    let there : StandsAt part stream c.feed.new.device c.args.to =
+    let there : StandsAtPosition part stream c.feed.new.device c.args.to =
     stands-there part stream c.feed.new.device c.args.to c.requires.within
     (moved part stream (take (c.args.to - c.taken-from.result) (drop c.taken-from.result stream)) c.feed.new.device from c.args.to fits c.requires.forward few
     (ap (λ (k : ℕ). take (c.args.to - k) (drop k stream)) c.taken-from.ensures.now)

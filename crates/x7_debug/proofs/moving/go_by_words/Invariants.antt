@@ -1,5 +1,5 @@
 use Rattle.std.proofs.Common.{◌≡◌, ◌≤◌, ◌-◌}
-use Rattle.x7_debug.specs.Journal.{IsFed, IsOn, records_of}
+use Rattle.x7_debug.specs.Journal.{IsFedAtMost, IsOn, records_of}
 use Rattle.x7_debug.proofs.JournalLemmas.{Reaches}
 use Rattle.x7_debug.proofs.moving.go_by_words.Given as goal
 
@@ -9,7 +9,7 @@ invariant-loop-device l = record {
   within : l.device.taken ≤ l.to;
   since : l.fn.device.taken ≤ l.device.taken;
   part : l.device.part ≡ l.fn.device.part;
-  fed : IsFed l.fn.device l.device (l.device.taken - l.fn.device.taken);
+  fed : IsFedAtMost l.fn.device l.device (l.device.taken - l.fn.device.taken);
   reaches : Reaches l.fn.device.taken l.device.taken (records_of l.journal);
 }
 

@@ -3,7 +3,7 @@ use Rattle.std.proofs.lemmas.List.{take-append-drop}
 use Rattle.x7_debug.specs.declared.order.Order.{Order}
 use Rattle.x7_debug.specs.declared.order.Order.TheVariants as order
 use Rattle.x7_debug.specs.Session.{MovesTo}
-use Rattle.x7_debug.specs.Transcript.{final_position, shown_at}
+use Rattle.x7_debug.specs.Transcript.{final_position, order_shown}
 use Rattle.x7_debug.proofs.TranscriptLemmas.{moves-on, position-more, shows, text-more}
 use Rattle.x7_debug.proofs.showing.transcript.Goals as goal
 
@@ -40,6 +40,6 @@ loop-order-preserved c =
       moves = moved;
       text =
           c.in-Ok.ensures ∙ ap (λ (t : List ℕ). c.loop-order.text.items ++ t) (shows old c.follow.new.self there o moved)
-          ∙ ap (λ (t : List ℕ). t ++ shown_at old.part old.stream there o) c.loop-order.invariant.text
+          ∙ ap (λ (t : List ℕ). t ++ order_shown old.part old.stream there o) c.loop-order.invariant.text
           ∙ text-more old.part old.stream orders i o (order.Step 0) below is;
     }

@@ -2,7 +2,7 @@ use Rattle.std.proofs.Common.{◌<◌, ℕ, refl, sym, subst, ◌∙◌, ap, ari
 use Rattle.x7_words.specs.Word.{AreBytes}
 use Rattle.x7_words.proofs.ListLemmas.{all_from_places}
 use Rattle.x7_debug.specs.declared.order.Stop.{Stop}
-use Rattle.x7_debug.specs.Journal.{ComesTo, records_of}
+use Rattle.x7_debug.specs.Journal.{ComesToPosition, records_of}
 use Rattle.x7_debug.specs.Kept.{session_of}
 use Rattle.x7_debug.specs.Position.{until_of}
 use Rattle.x7_debug.proofs.JournalLemmas.{goes_forward, goes_nowhere, oldest_within}
@@ -37,7 +37,7 @@ returns-in_default c = record {
 
 pub returns-in-Phase : goal.returns-in-Phase
 returns-in-Phase c = record {
-  comes = subst (λ (s : Stop). ComesTo c.args.stream.now c.args.device.now c.go_to_phase.new.device c.go_to_phase.new.journal (until_of c.args.device.now.part c.args.stream.now s c.args.device.now.taken)) (sym c.in-Phase.is) c.go_to_phase.ensures.comes;
+  comes = subst (λ (s : Stop). ComesToPosition c.args.stream.now c.args.device.now c.go_to_phase.new.device c.go_to_phase.new.journal (until_of c.args.device.now.part c.args.stream.now s c.args.device.now.taken)) (sym c.in-Phase.is) c.go_to_phase.ensures.comes;
   goes = goes_forward (session_of c.args.device.now c.args.stream.now c.args.journal.now) (session_of c.go_to_phase.new.device c.args.stream.now c.go_to_phase.new.journal) c.go_to_phase.ensures.forward
       (oldest_within c.args.device.now.part c.args.stream.now c.args.device.now.taken (records_of c.args.journal.now) c.requires.on.leads) c.go_to_phase.ensures.oldest
       (c.go_to_phase.ensures.fed.never_less, c.go_to_phase.ensures.fed.most);

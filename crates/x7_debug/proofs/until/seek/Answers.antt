@@ -2,7 +2,7 @@ use Rattle.std.proofs.Common.{◌≡◌, ◌+◌, ◌<◌, ℕ, false, take, ref
 use Rattle.x7_part.specs.Part.{PartData}
 use Rattle.x7_engine.specs.Kept.{on_the_bench}
 use Rattle.x7_debug.specs.Position.{holds_at}
-use Rattle.x7_debug.specs.Session.{StandsAt}
+use Rattle.x7_debug.specs.Session.{StandsAtPosition}
 use Rattle.x7_debug.proofs.JournalLemmas.{none_there, on_further, stands_of, fed_on}
 use Rattle.x7_debug.proofs.PositionLemmas.{holds-is}
 use Rattle.x7_debug.proofs.until.seek.Goals as goal
@@ -12,7 +12,7 @@ returns-then-holds-clause-found c = λ q.
     let part : PartData = c.args.device.now.part in
     let stream = c.args.stream.now in
     let n : ℕ = c.loop-stop.device.taken in
-    let there : StandsAt part stream c.loop-stop.device n = stands_of c.loop-stop.device.part part stream c.loop-stop.device c.args.journal.now c.loop-stop.invariant.part c.loop-stop.invariant.on in
+    let there : StandsAtPosition part stream c.loop-stop.device n = stands_of c.loop-stop.device.part part stream c.loop-stop.device c.args.journal.now c.loop-stop.invariant.part c.loop-stop.invariant.on in
     holds-is part stream c.args.stop n c.end.result c.phase.result c.holds.result (c.end.ensures part on_the_bench false (take n stream) there.stands) (c.phase.ensures part on_the_bench false (take n stream) there.stands) c.holds.ensures ∙ c.if-holds.true
 
 pub returns-then-at-end-clause-none_at_end : goal.returns-then-at-end-clause-none_at_end
@@ -20,7 +20,7 @@ returns-then-at-end-clause-none_at_end c = λ q.
     let part : PartData = c.args.device.now.part in
     let stream = c.args.stream.now in
     let n : ℕ = c.loop-stop.device.taken in
-    let there : StandsAt part stream c.loop-stop.device n = stands_of c.loop-stop.device.part part stream c.loop-stop.device c.args.journal.now c.loop-stop.invariant.part c.loop-stop.invariant.on in
+    let there : StandsAtPosition part stream c.loop-stop.device n = stands_of c.loop-stop.device.part part stream c.loop-stop.device c.args.journal.now c.loop-stop.invariant.part c.loop-stop.invariant.on in
     let here : holds_at part stream c.args.stop n ≡ false =
     holds-is part stream c.args.stop n c.end.result c.phase.result c.holds.result (c.end.ensures part on_the_bench false (take n stream) there.stands) (c.phase.ensures part on_the_bench false (take n stream) there.stands) c.holds.ensures ∙ c.if-holds.false in
     let same : n ≡ c.args.end = omega (arith, c.if-at-end.true, c.taken-at.ensures.now, c.loop-stop.invariant.within) in
@@ -31,7 +31,7 @@ loop-stop-preserved c =
     let part : PartData = c.args.device.now.part in
     let stream = c.args.stream.now in
     let n : ℕ = c.loop-stop.device.taken in
-    let there : StandsAt part stream c.loop-stop.device n = stands_of c.loop-stop.device.part part stream c.loop-stop.device c.args.journal.now c.loop-stop.invariant.part c.loop-stop.invariant.on in
+    let there : StandsAtPosition part stream c.loop-stop.device n = stands_of c.loop-stop.device.part part stream c.loop-stop.device c.args.journal.now c.loop-stop.invariant.part c.loop-stop.invariant.on in
     let here : holds_at part stream c.args.stop n ≡ false =
     holds-is part stream c.args.stop n c.end.result c.phase.result c.holds.result (c.end.ensures part on_the_bench false (take n stream) there.stands) (c.phase.ensures part on_the_bench false (take n stream) there.stands) c.holds.ensures ∙ c.if-holds.false in
     let at : c.taken-at.result ≡ n = c.taken-at.ensures.now in
