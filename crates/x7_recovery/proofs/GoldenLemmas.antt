@@ -30,7 +30,7 @@ use Rattle.x7_boot.specs.declared.boots.Tried.{Tried}
 use Rattle.x7_boot.proofs.CourseLemmas.{along, boot_course, tried_is}
 use Rattle.x7_boot.proofs.OverLemmas.{alike_ends, alike_trial, started_first, taken_is, trial_over}
 use Rattle.x7_boot.proofs.StartLemmas.{NeverStarts}
-use Rattle.x7_update.specs.Layout.{HasLayout, four_at, open_word, update_place}
+use Rattle.x7_update.specs.Layout.{HasLayout, four_at, open_switch, update_place}
 use Rattle.x7_update.specs.After.{IsBetween, MayBeLeft, after, between, untouched}
 use Rattle.x7_update.proofs.LawLemmas.{no_sync}
 use Rattle.x7_recovery.specs.Golden.{BootsAlike, GoldenStarts, HaveSameGolden, IsPreparedAny, IsShut, StartsAlike, StartsAsPlanned, StartsAtPower, UpdatingAny, as_after, as_before, erased_sector, golden, with_erased}
@@ -40,7 +40,7 @@ use Rattle.x7_recovery.proofs.SlotLemmas.{fill_fits}
 
 -- ---- no sync word begins in the first sector
 
-pub word_at : (flash prefix back : List ℕ) → flash ≡ prefix ++ (sync_bytes ++ back) → four_at flash (length prefix) ≡ open_word
+pub word_at : (flash prefix back : List ℕ) → flash ≡ prefix ++ (sync_bytes ++ back) → four_at flash (length prefix) ≡ open_switch
 word_at flash prefix back e =
     let byte : (k : ℕ) → get_or flash (length prefix + k) 0 ≡ get_or (sync_bytes ++ back) k 0 =
     λ k. (let at : length prefix + k - length prefix ≡ k = omega arith in

@@ -14,7 +14,7 @@ use Rattle.x7_planner.specs.Full.{full_stream}
 use Rattle.x7_boot.specs.Image as image
 use Rattle.x7_boot.specs.Image.{closed_slot, closed_slots, first_sector, flash_limit, image_of, image_size, open_slot, slot}
 use Rattle.x7_update.specs.After.{IsAfter, IsBetween, spends, switched, with_stream}
-use Rattle.x7_update.specs.Layout.{HasLayout, IsOpen, first_slot, four_at, open_word, spent_word, switch_of, update_place}
+use Rattle.x7_update.specs.Layout.{HasLayout, IsOpen, first_slot, four_at, open_switch, spent_switch, switch_of, update_place}
 use Rattle.x7_update.proofs.CaseLemmas.{behind, between_below, between_closed, stream_keeps}
 use Rattle.x7_update.proofs.LawLemmas.{no_sync}
 use Rattle.x7_update.proofs.SwitchLemmas.{length-switched, same_four, switch_switched, switched_others}
@@ -38,7 +38,7 @@ bytes_back a b c d f = bytes-words (a ∷ b ∷ c ∷ d ∷ []) 1 f refl
 -- ---- a flash that has a slot opened in what is between
 
 module _ (flash now found : List ℕ) (number : ℕ) (l : HasLayout flash) (b : IsBetween flash now) (within : number < 2048) (size : length found ≡ length now)
-    (others : (i : ℕ) → (i < 32 * number) ⊎ (32 * number + 4 ≤ i) → get_or found i 0 ≡ get_or now i 0) (is_open : switch_of found number ≡ open_word) where
+    (others : (i : ℕ) → (i < 32 * number) ⊎ (32 * number + 4 ≤ i) → get_or found i 0 ≡ get_or now i 0) (is_open : switch_of found number ≡ open_switch) where
   found_long : 131072 ≤ length found
   found_long = omega (arith, size, b.size, l.size.least)
 
@@ -54,7 +54,7 @@ module _ (flash now found : List ℕ) (number : ℕ) (l : HasLayout flash) (b : 
       let first : get_or found place 0 ≡ get_or now place 0 = ap (λ (n : ℕ). get_or found n 0) at ∙ others (place + 0) (out 0 (omega arith)) ∙ ap (λ (n : ℕ). get_or now n 0) (sym at) in
       rw (first, others (place + 1) (out 1 (omega arith)), others (place + 2) (out 2 (omega arith)), others (place + 3) (out 3 (omega arith))) refl
 
-  alone : (place : ℕ) → place < 65536 → four_at found place ≡ open_word → place ≡ 32 * number
+  alone : (place : ℕ) → place < 65536 → four_at found place ≡ open_switch → place ≡ 32 * number
   alone place h e =
       let first : get_or found place 0 ≡ 0xAA = ap (λ (w : List ℕ). get_or w 0 0) e in
       elim (cases_lt (place + 3) (32 * number)) [
@@ -118,7 +118,7 @@ module _ (flash now found : List ℕ) (number : ℕ) (l : HasLayout flash) (b : 
       let start : bytes_of_word (update_place flash) ≡ four_at flash 12 = bytes_back (get_or flash 12 0) (get_or flash (12 + 1) 0) (get_or flash (12 + 2) 0) (get_or flash (12 + 3) 0) start_fits in
       record {
         within = within;
-        stands = slot_stands ∙ ap (flash_slot open_word) (sym start) ∙ open_is (update_place flash);
+        stands = slot_stands ∙ ap (flash_slot open_switch) (sym start) ∙ open_is (update_place flash);
         alone = alone;
         long = omega (arith, found_long);
         fits = fits;
@@ -151,7 +151,7 @@ module _ (flash now found : List ℕ) (number : ℕ) (l : HasLayout flash) (b : 
 
 module _ (flash : List ℕ) (number : ℕ) (l : HasLayout flash) (within : number < 2048) (is : IsOpen flash number) where
   abbrev spent : List ℕ
-  spent = switched number spent_word flash
+  spent = switched number spent_switch flash
 
   room : 32 * number + 4 ≤ length flash
   room = omega (arith, within, l.size.least)
@@ -160,7 +160,7 @@ module _ (flash : List ℕ) (number : ℕ) (l : HasLayout flash) (within : numbe
   shut = between_closed flash spent l.slots (spends number within is refl)
 
   pub layout_opened : AreBytes (take 65536 flash) → HasOpen flash number (update_place flash)
-  layout_opened fits = opened flash spent flash number l shut within (sym (length-switched number spent_word flash refl room)) (λ i h. sym (switched_others number spent_word flash refl room i h)) is fits
+  layout_opened fits = opened flash spent flash number l shut within (sym (length-switched number spent_switch flash refl room)) (λ i h. sym (switched_others number spent_switch flash refl room i h)) is fits
 
 -- ---- a flash after an update
 
@@ -178,12 +178,12 @@ module _ (stream flash found : List ℕ) (l : HasLayout flash) (a : IsAfter stre
   now_room = omega (arith, now_shut.size, a.is_next.within, l.size.least)
 
   found_size : length found ≡ length now
-  found_size = ap length a.is ∙ length-switched a.next open_word now refl now_room
+  found_size = ap length a.is ∙ length-switched a.next open_switch now refl now_room
 
   found_others : (i : ℕ) → (i < 32 * a.next) ⊎ (32 * a.next + 4 ≤ i) → get_or found i 0 ≡ get_or now i 0
-  found_others i h = ap (λ (x : List ℕ). get_or x i 0) a.is ∙ switched_others a.next open_word now refl now_room i h
+  found_others i h = ap (λ (x : List ℕ). get_or x i 0) a.is ∙ switched_others a.next open_switch now refl now_room i h
 
-  found_open : switch_of found a.next ≡ open_word
+  found_open : switch_of found a.next ≡ open_switch
   found_open = ap (λ (x : List ℕ). switch_of x a.next) a.is ∙ switch_switched a.next 0xAA 0x99 0x55 0x66 now now_room
 
   pub after_opened : AreBytes (take 65536 found) → HasOpen found a.next (update_place flash)
@@ -262,16 +262,16 @@ module _ (start : ℕ) (flash more : List ℕ) (whole : start % 256 ≡ 0) (low 
       let byte : (i : ℕ) → i < 65536 → get_or flash i 0 ≡ get_or (first_sector start) i 0 = λ i m. ap (λ (x : List ℕ). get_or x i 0) begins ∙ get_or_append_left (first_sector start) more 0 i (omega (arith, m, sector_long start)) in
       rw (byte place (omega (arith, h)), byte (place + 1) (omega (arith, h)), byte (place + 2) (omega (arith, h)), byte (place + 3) (omega (arith, h))) refl
 
-  not_later : (p : ℕ) → suc p + 4 ≤ 65536 → four_at flash (suc p) ≡ open_word → ⊥
+  not_later : (p : ℕ) → suc p + 4 ≤ 65536 → four_at flash (suc p) ≡ open_switch → ⊥
   not_later p h e =
       let t : (tail : List ℕ) × (first_sector start ≡ 0xAA ∷ tail) × HasNoSync tail = first_sector_none in
-      let there : four_at (first_sector start) (suc p) ≡ open_word = sym (in_sector (suc p) h) ∙ e in
-      let here : four_at t.0 p ≡ open_word = sym (four_suc 0xAA t.0 p) ∙ ap (λ (x : List ℕ). four_at x (suc p)) (sym t.1) ∙ there in
+      let there : four_at (first_sector start) (suc p) ≡ open_switch = sym (in_sector (suc p) h) ∙ e in
+      let here : four_at t.0 p ≡ open_switch = sym (four_suc 0xAA t.0 p) ∙ ap (λ (x : List ℕ). four_at x (suc p)) (sym t.1) ∙ there in
       let long : 65536 ≡ suc (length t.0) = sym (sector_long start) ∙ ap length t.1 in
       let split : t.0 ≡ take p t.0 ++ (sync_bytes ++ drop (p + 4) t.0) = four_split t.0 p (omega (arith, long, h)) here in
       t.2.none (take p t.0) (drop (p + 4) t.0) (split ∙ sym (append_assoc (take p t.0) sync_bytes (drop (p + 4) t.0)))
 
-  image_alone : (place : ℕ) → place < 65536 → four_at flash place ≡ open_word → place ≡ 32 * 0
+  image_alone : (place : ℕ) → place < 65536 → four_at flash place ≡ open_switch → place ≡ 32 * 0
   image_alone zero h e = refl
   image_alone (suc p) h e =
       let first : get_or flash (suc p) 0 ≡ 0xAA = ap (λ (w : List ℕ). get_or w 0 0) e in

@@ -14,7 +14,7 @@ use Rattle.x7_part.specs.Part.{PartData}
 use Rattle.x7_memory.specs.Planned.{PlanData}
 use Rattle.x7_planner.specs.Full.{full_stream}
 use Rattle.x7_recovery.specs.Recovery.{IsPrepared}
-use Rattle.x7_update.specs.Layout.{HasLayout, Leads, IsOpen, four_at, first_slot, free_word, open_word, switch_of, update_place}
+use Rattle.x7_update.specs.Layout.{HasLayout, Leads, IsOpen, four_at, first_slot, free_switch, open_switch, switch_of, update_place}
 
 -- the byte of a slot among equal ones
 slot_among : (one rest : List ℕ) (n k i : ℕ) → length one ≡ 32 → k < n → i < 32 → get_or (repeat n one ++ rest) (32 * k + i) 0 ≡ get_or one i 0
@@ -41,11 +41,11 @@ same_behind start i h =
     ∙ get_or-drop 4 (open_slot start) (i - 4) 0
     ∙ ap (λ m. get_or (open_slot start) m 0) at
 
-pub open_is : (start : ℕ) → flash_slot open_word (bytes_of_word start) ≡ open_slot start
+pub open_is : (start : ℕ) → flash_slot open_switch (bytes_of_word start) ≡ open_slot start
 unfolding slot
 open_is start = refl
 
-closed_begins : (start : ℕ) → four_at (closed_slot start) 0 ≡ free_word
+closed_begins : (start : ℕ) → four_at (closed_slot start) 0 ≡ free_switch
 unfolding slot
 closed_begins start = refl
 
@@ -77,7 +77,7 @@ module _ (start : ℕ) (all rest : List ℕ) (begins : all ≡ first_sector star
   start_is = rw (open_byte 12 (omega arith), open_byte 13 (omega arith), open_byte 14 (omega arith), open_byte 15 (omega arith)) (start_at start)
 
   first_is : first_slot all ≡ open_slot start
-  first_is = ap (flash_slot open_word) start_is ∙ open_is start
+  first_is = ap (flash_slot open_switch) start_is ∙ open_is start
 
   pub place_is : start < 2 ^ 32 → update_place all ≡ start
   place_is h = ap word_of_bytes start_is ∙ word-whole start h
@@ -88,7 +88,7 @@ module _ (start : ℕ) (all rest : List ℕ) (begins : all ≡ first_sector star
       ap (λ m. get_or all m 0) at ∙ open_byte i l ∙ sym (ap (λ s. get_or s i 0) first_is)
   leads (suc k) h = λ i j l. closed_byte k i (omega arith) l ∙ same_behind start i j ∙ sym (ap (λ s. get_or s i 0) first_is)
 
-  pub closed_free : (k : ℕ) → k < 2047 → switch_of all (suc k) ≡ free_word
+  pub closed_free : (k : ℕ) → k < 2047 → switch_of all (suc k) ≡ free_switch
   closed_free k h =
       let at : 32 * suc k + 0 ≡ 32 * suc k = omega arith in
       let first : get_or all (32 * suc k) 0 ≡ get_or (closed_slot start) 0 0 = ap (λ m. get_or all m 0) (sym at) ∙ closed_byte k 0 h (omega arith) in
@@ -96,7 +96,7 @@ module _ (start : ℕ) (all rest : List ℕ) (begins : all ≡ first_sector star
 
   not_open : (k : ℕ) → suc k < 2048 → IsOpen all (suc k) → ⊥
   not_open k h o =
-      let same : open_word ≡ free_word = sym o ∙ closed_free k (omega arith) in
+      let same : open_switch ≡ free_switch = sym o ∙ closed_free k (omega arith) in
       let byte : 0xAA ≡ 0xFF = ap (λ l. get_or l 0 0) same in
       absurd (omega (arith, byte))
 

@@ -21,7 +21,7 @@ use Rattle.x7_effects.proofs.FormLemmas.{full_length}
 use Rattle.x7_effects.proofs.PlannerLemmas.{full_same}
 use Rattle.x7_boot.specs.Image.{closed_slots, filled_to, first_sector, flash_limit, image_of, image_size, open_slot, slot, place_after_golden}
 use Rattle.x7_update.specs.After.{IsBetween, MayBeLeft, between, spends, switched}
-use Rattle.x7_update.specs.Layout.{HasLayout, IsOpen, four_at, open_word, spent_word, switch_of}
+use Rattle.x7_update.specs.Layout.{HasLayout, IsOpen, four_at, open_switch, spent_switch, switch_of}
 use Rattle.x7_update.proofs.CaseLemmas.{between_closed}
 use Rattle.x7_recovery.specs.Recovery.{IsPrepared, updating_image}
 use Rattle.x7_recovery.proofs.LayoutLemmas.{image_prepared}
@@ -126,11 +126,11 @@ tiny_image =
 pub tiny_prepared : (stream : List ℕ) → IsPrepared (updating_image tiny nothing_planned [] stream)
 tiny_prepared stream = image_prepared tiny nothing_planned [] stream tiny_image refl
 
-slot_begins : (start : ℕ) → four_at (open_slot start) 0 ≡ open_word
+slot_begins : (start : ℕ) → four_at (open_slot start) 0 ≡ open_switch
 unfolding slot
 slot_begins start = refl
 
-begins_open : (flash : List ℕ) (start : ℕ) → take 32 (drop 0 flash) ≡ open_slot start → four_at flash 0 ≡ open_word
+begins_open : (flash : List ℕ) (start : ℕ) → take 32 (drop 0 flash) ≡ open_slot start → four_at flash 0 ≡ open_switch
 begins_open flash start e =
     let byte : (i : ℕ) → i < 32 → get_or flash i 0 ≡ get_or (open_slot start) i 0 = λ i h. sym (get_or-take 32 flash i 0 h) ∙ ap (λ (x : List ℕ). get_or x i 0) e in
     rw (byte 0 (omega arith), byte 1 (omega arith), byte 2 (omega arith), byte 3 (omega arith)) (slot_begins start)
@@ -146,8 +146,8 @@ left_torn part golden update stream image bytes l =
     let stands : take 32 (drop 0 flash) ≡ open_slot start =
     ap (take 32) begins ∙ ap (λ (n : ℕ). take n (open_slot start ++ (closed_slots start ++ (full_stream part golden ++ b.0)))) (sym (slot_long 0xAA995566 start)) ∙ take-append_seam (open_slot start) (closed_slots start ++ (full_stream part golden ++ b.0)) in
     let is : IsOpen flash 0 = begins_open flash start stands in
-    let found : List ℕ = switched 0 spent_word flash in
+    let found : List ℕ = switched 0 spent_switch flash in
     let left : IsBetween flash found = between_closed flash found l.slots (spends 0 (omega arith) is refl) in
     let fits : AreBytes flash = image_fits part.start_unit (full_stream part golden) update (full_stream_fits part golden image.is_part image.plan) bytes in
-    let spent : AreBytes spent_word = (omega arith, (omega arith, (omega arith, (omega arith, tt)))) in
-    (found, between l (bytes-replaced (32 * 0) spent_word flash spent fits) left, λ same. left.closed 0 (omega arith) (ap (λ (x : List ℕ). switch_of x 0) same ∙ is))
+    let spent : AreBytes spent_switch = (omega arith, (omega arith, (omega arith, (omega arith, tt)))) in
+    (found, between l (bytes-replaced (32 * 0) spent_switch flash spent fits) left, λ same. left.closed 0 (omega arith) (ap (λ (x : List ℕ). switch_of x 0) same ∙ is))

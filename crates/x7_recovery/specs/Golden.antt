@@ -16,11 +16,11 @@ use Rattle.x7_boot.specs.declared.boots.BootEnd.TheVariants as boot_end
 use Rattle.x7_boot.specs.Course.{BootCourse, course_of}
 use Rattle.x7_recovery.specs.Recovery.{Updating}
 use Rattle.x7_update.specs.After.{IsAfter}
-use Rattle.x7_update.specs.Layout.{HasLayout, four_at, open_word, update_place}
+use Rattle.x7_update.specs.Layout.{HasLayout, four_at, open_switch, update_place}
 
 -- no sync word begins in the first sector: none of its slots is open, or it is erased
 abbrev pub IsShut : List ℕ → Type 0
-IsShut flash = (place : ℕ) → place < sector_bytes → four_at flash place ≢ open_word
+IsShut flash = (place : ℕ) → place < sector_bytes → four_at flash place ≢ open_switch
 
 -- the bytes of an erased sector
 unfoldable pub erased_sector : List ℕ

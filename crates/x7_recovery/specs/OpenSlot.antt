@@ -5,13 +5,13 @@ use Rattle.x7_packets.specs.FlashSlot.{sector_bytes, slot_count}
 use Rattle.x7_part.specs.Part.{PartData}
 use Rattle.x7_boot.specs.Boot.{start_address}
 use Rattle.x7_boot.specs.Image.{first_sector, flash_limit, open_slot}
-use Rattle.x7_update.specs.Layout.{four_at, open_word}
+use Rattle.x7_update.specs.Layout.{four_at, open_switch}
 
 -- One slot of the first sector is open, with the start address `start`: no sync word begins in the sector but that of the slot.
 pub record HasOpen (flash : List ℕ) (slot start : ℕ) : Type 0 where
   pub within : slot < slot_count
   pub stands : take 32 (drop (32 * slot) flash) ≡ open_slot start
-  pub alone : (place : ℕ) → place < sector_bytes → four_at flash place ≡ open_word → place ≡ 32 * slot
+  pub alone : (place : ℕ) → place < sector_bytes → four_at flash place ≡ open_switch → place ≡ 32 * slot
   pub long : sector_bytes ≤ length flash
   pub fits : AreBytes (take sector_bytes flash)
 

@@ -3,7 +3,7 @@ use Rattle.std.proofs.Common.{◌≡◌, ℕ, ◌+◌, ◌-◌, ◌*◌, ◌<◌
 use Rattle.x7_words.specs.Flash.{FlashState, IfKnown, Sees}
 use Rattle.x7_words.proofs.CountLemmas.{risen_from}
 use Rattle.x7_words.proofs.FlashLemmas.{get_or-slice_range}
-use Rattle.x7_update.specs.Layout.{CanStandAt, HasSize, IsOpen, open_word}
+use Rattle.x7_update.specs.Layout.{CanStandAt, HasSize, IsOpen, open_switch}
 use Rattle.x7_update.specs.Refused.{CanTake, HasCause}
 use Rattle.x7_update.specs.Writing.{BecomesBytes, EndFails, HasWanted, IsWritten, IsWrong, SeesWanted, in_stream, in_switch, wanted_at}
 use Rattle.x7_update.specs.declared.fault.UpdateFault.{UpdateFault}
@@ -75,19 +75,19 @@ stream_fails update stream place count buffer old new result long seen same size
 
 -- ---- a switch word
 
-switch_wanted : (known : Option (List ℕ)) (slot : ℕ) → IfKnown known (λ all. IsOpen all slot) → IfKnown known (AreWanted (32 * slot) open_word (32 * slot) 4)
+switch_wanted : (known : Option (List ℕ)) (slot : ℕ) → IfKnown known (λ all. IsOpen all slot) → IfKnown known (AreWanted (32 * slot) open_switch (32 * slot) 4)
 switch_wanted None slot h = tt
 switch_wanted (Some all) slot h = λ i l.
     let place = 32 * slot in
     let at : 0 + i ≡ place + i - place = omega arith in
     let short : place + i - place < 4 = omega arith in
-    same_four all open_word place 0 i h l ∙ ap (λ k. get_or open_word k 0) at ∙ sym (wanted_inside place open_word (place + i) short)
+    same_four all open_switch place 0 i h l ∙ ap (λ k. get_or open_switch k 0) at ∙ sym (wanted_inside place open_switch (place + i) short)
 
 -- the switch word of a slot that was opened was read back
 pub switch_fails : (slot : ℕ) (buffer stream : List ℕ) (old new : FlashState) (result : Result (Unit {0}) UpdateFault) → length buffer ≡ 4 → Sees new (32 * slot) buffer → new.extent ≡ old.extent → HasSize old.extent → slot < 2048 → IfKnown old.bytes (λ all. IsOpen all slot)
-    → IfKnown old.bytes (λ all. buffer ≡ slice_range all (32 * slot) (32 * slot + 4)) → IfErr result (IsWrong (32 * slot) open_word (32 * slot) buffer) → IfErr result (EndFails stream old new)
+    → IfKnown old.bytes (λ all. buffer ≡ slice_range all (32 * slot) (32 * slot + 4)) → IfErr result (IsWrong (32 * slot) open_switch (32 * slot) buffer) → IfErr result (EndFails stream old new)
 switch_fails slot buffer stream old new result long seen same sized h opened r w =
-    compared_fails (32 * slot) open_word (32 * slot) 4 (32 * slot + 4) buffer stream old new result long seen (subst HasSize (sym same) sized) r (switch_wanted old.bytes slot opened) (in_switch slot h refl refl refl) (omega arith) (omega arith)
+    compared_fails (32 * slot) open_switch (32 * slot) 4 (32 * slot + 4) buffer stream old new result long seen (subst HasSize (sym same) sized) r (switch_wanted old.bytes slot opened) (in_switch slot h refl refl refl) (omega arith) (omega arith)
     (λ place l below. absurd (omega (arith, l, below))) w
 
 -- ---- the end of an update

@@ -3,7 +3,7 @@ use Rattle.std.proofs.Common.{◌≡◌, ℕ, ◌+◌, ◌*◌, ◌%◌, ◌<◌
 use Rattle.std.proofs.lemmas.Bool.{cases_eq, cases_lt}
 use Rattle.x7_words.specs.Word.{AreBytes}
 use Rattle.x7_words.specs.Flash.{FlashState, IfKnown}
-use Rattle.x7_update.specs.Layout.{HasLayout, HasSlots, IsOpen, IsFree, IsNext, switch_of, open_word, free_word, spent_word, update_place}
+use Rattle.x7_update.specs.Layout.{HasLayout, HasSlots, IsOpen, IsFree, IsNext, switch_of, open_switch, free_switch, spent_switch, update_place}
 use Rattle.x7_update.specs.After.{ClosesTo, already, spends, IsAfter, IsBetween, MayBeLeft, untouched, between, after, switched, with_stream}
 use Rattle.x7_update.specs.Writing.{AtAnyMoment, Closing, HasWanted, KeepsBelow, OnlySwitch, Opening, Replaced, Replacing}
 use Rattle.x7_update.specs.Slots.{Finds}
@@ -22,11 +22,11 @@ same_switch old new slot h =
 
 pub open_not_free : (flash : List ℕ) (slot : ℕ) → IsOpen flash slot → IsFree flash slot → ⊥
 open_not_free flash slot o f =
-    let same : open_word ≡ free_word = sym o ∙ f in
+    let same : open_switch ≡ free_switch = sym o ∙ f in
     let first : 0xAA ≡ 0xFF = ap (λ l. get_or l 0 0) same in
     absurd (omega (arith, first))
 
-open_not_spent : spent_word ≡ open_word → ⊥
+open_not_spent : spent_switch ≡ open_switch → ⊥
 open_not_spent same = let first : 0 ≡ 0xAA = ap (λ l. get_or l 0 0) same in absurd (omega (arith, first))
 
 -- what is behind a switch word is in no switch word
@@ -62,17 +62,17 @@ between_closing size slot all found has h is only = record {
     ]
 
 -- the slot is spent
-pub only_spent : (slot : ℕ) (all : List ℕ) → 32 * slot + 4 ≤ length all → OnlySwitch slot all (switched slot spent_word all)
+pub only_spent : (slot : ℕ) (all : List ℕ) → 32 * slot + 4 ≤ length all → OnlySwitch slot all (switched slot spent_switch all)
 only_spent slot all within = record {
-  size = length-switched slot spent_word all refl within;
-  others = switched_others slot spent_word all refl within;
+  size = length-switched slot spent_switch all refl within;
+  others = switched_others slot spent_switch all refl within;
   shut = λ o. open_not_spent (sym (switch_switched slot 0 0 0 0 all within) ∙ o);
 }
 
 pub between_closed : (all closed : List ℕ) → HasSlots (length all) all → ClosesTo all closed → IsBetween all closed
 between_closed all closed has (already shut same) = subst (λ l. IsBetween all l) (sym same) (record { size = refl; slots = λ i h k. refl; closed = shut; switches = λ slot h o n. refl; golden = λ i h k. refl })
 between_closed all closed has (spends slot h is same) =
-    subst (λ l. IsBetween all l) (sym same) (between_closing (length all) slot all (switched slot spent_word all) has h is (only_spent slot all (omega (arith, has.place.least, has.place.most, h))))
+    subst (λ l. IsBetween all l) (sym same) (between_closing (length all) slot all (switched slot spent_switch all) has h is (only_spent slot all (omega (arith, has.place.least, has.place.most, h))))
 
 -- ---- from what is between
 
@@ -113,7 +113,7 @@ next_free next all closed found has n closes keeps =
     free (already shut same) = ap (λ l. switch_of l next) same ∙ n.free next (omega arith) n.within
     free (spends slot h is same) =
         ap (λ l. switch_of l next) same
-        ∙ switch_other slot next spent_word all refl (omega (arith, has.place.least, has.place.most, h)) (λ same. open_not_free all slot is (subst (λ m. IsFree all m) same (n.free next (omega arith) n.within)))
+        ∙ switch_other slot next spent_switch all refl (omega (arith, has.place.least, has.place.most, h)) (λ same. open_not_free all slot is (subst (λ m. IsFree all m) same (n.free next (omega arith) n.within)))
         ∙ n.free next (omega arith) n.within
 
 -- ---- the steps, by the slots that were found
@@ -160,14 +160,14 @@ module _ (all : List ℕ) (slots : Slots) (finds : Finds (length all) all slots)
     replaced_between = subst (λ l. IsBetween all l) (sym r.stands) (between_below (length all) all r.closed (with_stream slots.update stream r.closed) finds.has shut keeps)
 
     -- the slot is open: the flash is updated
-    pub opened_after : IsAfter stream all (switched slots.next open_word now)
+    pub opened_after : IsAfter stream all (switched slots.next open_switch now)
     opened_after = record {
       closed = r.closed;
       closes = r.closes;
       next = slots.next;
       is_next = finds.next;
       fits = omega (arith, fits, finds.update);
-      is = ap (λ l. switched slots.next open_word l) r.stands ∙ ap (λ u. switched slots.next open_word (with_stream u stream r.closed)) finds.update;
+      is = ap (λ l. switched slots.next open_switch l) r.stands ∙ ap (λ u. switched slots.next open_switch (with_stream u stream r.closed)) finds.update;
     }
 
     -- while the next slot is opened

@@ -4,9 +4,9 @@ use Rattle.std.proofs.lemmas.Bool.{cases_eq, cases_lt, cases_order}
 use Rattle.std.proofs.lemmas.List.{get_or-drop, get_or-take}
 use Rattle.x7_words.specs.Word.{word_of_bytes}
 use Rattle.x7_packets.specs.FlashSlot.{flash_slot}
-use Rattle.x7_update.specs.Layout.{CanStandAt, HasLayout, HasSize, IsFree, IsNext, IsOpen, first_slot, four_at, open_word, switch_of}
+use Rattle.x7_update.specs.Layout.{CanStandAt, HasLayout, HasSize, IsFree, IsNext, IsOpen, first_slot, four_at, open_switch, switch_of}
 use Rattle.x7_update.specs.After.{ClosesTo, already, spends, IsAfter, IsBetween, MayBeLeft, after, between, untouched, switched, with_stream}
-use Rattle.x7_update.specs.Layout.{spent_word, update_place}
+use Rattle.x7_update.specs.Layout.{spent_switch, update_place}
 use Rattle.x7_update.proofs.CaseLemmas.{behind, between_below, between_closed, open_not_free, stream_keeps, true_or_false}
 use Rattle.x7_update.proofs.SwitchLemmas.{length-switched, switch_other, switched_others}
 
@@ -61,7 +61,7 @@ module _ (flash found : List ℕ) (l : HasLayout flash) (b : IsBetween flash fou
       b.slots i h (omega (arith, e, k)) ∙ ap (λ n. get_or flash n 0) (sym at) ∙ l.slots.leads (i / 32) (omega arith) m k (omega arith)
 
   -- no sync word begins in the first sector
-  pub no_sync : (place : ℕ) → place < 65536 → four_at found place ≢ open_word
+  pub no_sync : (place : ℕ) → place < 65536 → four_at found place ≢ open_switch
   no_sync place h e =
       let e0 : get_or found place 0 ≡ 0xAA = ap (λ w. get_or w 0 0) e in
       let e1 : get_or found (place + 1) 0 ≡ 0x99 = ap (λ w. get_or w 1 0) e in
@@ -119,7 +119,7 @@ layout_with flash found l size slots one_open last_free =
       size = subst HasSize (sym size) l.size;
       slots = record {
         place = subst (λ u. CanStandAt (length found) u) (sym (ap word_of_bytes start)) (subst (λ n. CanStandAt n (update_place flash)) (sym size) l.slots.place);
-        leads = λ slot h i k m. slots (32 * slot + i) (omega arith) (omega arith) ∙ l.slots.leads slot h i k m ∙ sym (ap (λ w. get_or (flash_slot open_word w) i 0) start);
+        leads = λ slot h i k m. slots (32 * slot + i) (omega arith) (omega arith) ∙ l.slots.leads slot h i k m ∙ sym (ap (λ w. get_or (flash_slot open_switch w) i 0) start);
         one_open = one_open;
         last_free = last_free;
       };
@@ -131,10 +131,10 @@ last_stays flash found l b more = b.switches 2047 (omega arith) (λ o. open_not_
 -- the updated flash
 layout_after : (stream flash found : List ℕ) → HasLayout flash → IsAfter stream flash found → (IsNext flash 2047 → ⊥) → HasLayout found
 layout_after stream flash found l a more =
-    layout_with flash found l (ap length a.is ∙ length-switched a.next open_word now refl within ∙ b.size)
-    (λ i h k. ap (λ f. get_or f i 0) a.is ∙ switched_others a.next open_word now refl within i (behind a.next i k) ∙ b.slots i h k)
+    layout_with flash found l (ap length a.is ∙ length-switched a.next open_switch now refl within ∙ b.size)
+    (λ i h k. ap (λ f. get_or f i 0) a.is ∙ switched_others a.next open_switch now refl within i (behind a.next i k) ∙ b.slots i h k)
     (λ slot other h k o p. the_next slot h o ∙ sym (the_next other k p))
-    (ap (λ f. switch_of f 2047) a.is ∙ switch_other a.next 2047 open_word now refl within (λ same. more (subst (IsNext flash) (sym same) a.is_next)) ∙ last_stays flash now l b more)
+    (ap (λ f. switch_of f 2047) a.is ∙ switch_other a.next 2047 open_switch now refl within (λ same. more (subst (IsNext flash) (sym same) a.is_next)) ∙ last_stays flash now l b more)
   where
     now : List ℕ
     now = with_stream (update_place flash) stream a.closed
@@ -152,7 +152,7 @@ layout_after stream flash found l a more =
     the_next : (slot : ℕ) → slot < 2048 → IsOpen found slot → slot ≡ a.next
     the_next slot h o = elim (cases_eq slot a.next) [
       | inl same ↦ same
-      | inr n ↦ absurd (b.closed slot h (sym (ap (λ f. switch_of f slot) a.is ∙ switch_other a.next slot open_word now refl within n) ∙ o))
+      | inr n ↦ absurd (b.closed slot h (sym (ap (λ f. switch_of f slot) a.is ∙ switch_other a.next slot open_switch now refl within n) ∙ o))
     ]
 
 pub left_layout : (stream flash found : List ℕ) → HasLayout flash → MayBeLeft stream flash found → (IsNext flash 2047 → ⊥) → HasLayout found
@@ -182,11 +182,11 @@ one_closed flash one other l (already s e) (spends slot h is f) = absurd (s slot
 one_closed flash one other l (spends slot h is e) (already t f) = absurd (t slot h is)
 one_closed flash one other l (spends slot h is e) (spends slot_2 h_2 is_2 f) =
     let same : slot ≡ slot_2 = l.slots.one_open slot slot_2 h h_2 is is_2 in
-    e ∙ ap (λ k. switched k spent_word flash) same ∙ sym f
+    e ∙ ap (λ k. switched k spent_switch flash) same ∙ sym f
 
 pub one_after : (stream flash one other : List ℕ) → HasLayout flash → IsAfter stream flash one → IsAfter stream flash other → one ≡ other
 one_after stream flash one other l a b =
     a.is
-    ∙ ap (λ k. switched k open_word (with_stream (update_place flash) stream a.closed)) (one_next flash a.next b.next a.is_next b.is_next)
-    ∙ ap (λ c. switched b.next open_word (with_stream (update_place flash) stream c)) (one_closed flash a.closed b.closed l a.closes b.closes)
+    ∙ ap (λ k. switched k open_switch (with_stream (update_place flash) stream a.closed)) (one_next flash a.next b.next a.is_next b.is_next)
+    ∙ ap (λ c. switched b.next open_switch (with_stream (update_place flash) stream c)) (one_closed flash a.closed b.closed l a.closes b.closes)
     ∙ sym b.is

@@ -3,7 +3,7 @@ use Rattle.std.proofs.Common.{◌≡◌, ℕ, ◌+◌, ◌-◌, ◌*◌, ◌≤�
 use Rattle.std.proofs.lemmas.Bool.{cases_lt}
 use Rattle.x7_words.specs.Flash.{FlashState, IfKnown, Sees}
 use Rattle.x7_update.specs.After.{IsAfter, IsBetween, with_stream}
-use Rattle.x7_update.specs.Layout.{HasLayout, IsClosed, IsNext, IsOpen, open_word, switch_of, update_place}
+use Rattle.x7_update.specs.Layout.{HasLayout, IsClosed, IsNext, IsOpen, open_switch, switch_of, update_place}
 use Rattle.x7_update.specs.ReadBack.{AllReadBack, ReadBack, WasReady}
 use Rattle.x7_update.specs.Slots.{Finds, Fits}
 use Rattle.x7_update.specs.Writing.{ReadsWanted, ReadsWantedTo, Replacing, SeesWanted, wanted_at}
@@ -35,11 +35,11 @@ sees_wanted update stream from count at buffer new (Ok _) long same seen had wan
     sees_to update stream from count buffer new (omega (arith, long)) seen had (λ i h. wanted i (omega (arith, long, h)) ∙ ap (λ a. wanted_at update stream (a + i)) same)
 
 -- a switch word that was read and is that of an open slot
-pub sees_open : {E : Type 0} (place : ℕ) (buffer : List ℕ) (new : FlashState) (result : Result (Unit {0}) E) → length buffer ≡ 4 → Sees new place buffer → OnOk result (ReadsWanted place open_word (place + 0) buffer) → OnOk result (Sees new place open_word)
+pub sees_open : {E : Type 0} (place : ℕ) (buffer : List ℕ) (new : FlashState) (result : Result (Unit {0}) E) → length buffer ≡ 4 → Sees new place buffer → OnOk result (ReadsWanted place open_switch (place + 0) buffer) → OnOk result (Sees new place open_switch)
 sees_open place buffer new (Err fault) long seen wanted = tt
 sees_open place buffer new (Ok _) long seen wanted = λ i l.
     let here : place + 0 + i - place ≡ i = omega arith in
-    let is : get_or buffer i 0 ≡ get_or open_word i 0 = wanted i (omega (arith, long, l)) ∙ wanted_inside place open_word (place + 0 + i) (omega (arith, l)) ∙ ap (λ k. get_or open_word k 0) here in
+    let is : get_or buffer i 0 ≡ get_or open_switch i 0 = wanted i (omega (arith, long, l)) ∙ wanted_inside place open_switch (place + 0 + i) (omega (arith, l)) ∙ ap (λ k. get_or open_switch k 0) here in
     subst (λ b. IsTrue (new.seen (place + i) b)) is (seen i (omega (arith, long, l)))
 
 -- as far as it was seen
@@ -67,7 +67,7 @@ module _ {F : Type 0} (state : F → FlashState) (stream : List ℕ) (old new : 
   }
 
   pub all_back : {E : Type 0} (result : Result (Unit {0}) E) → Fits new.extent slots → IfKnown old.bytes (λ all. Finds (length all) all slots) → OnOk result (WasReady state slots.update stream new)
-      → OnOk result (Sees new (32 * slots.next) open_word) → OnOk result (AllReadBack state stream old new)
+      → OnOk result (Sees new (32 * slots.next) open_switch) → OnOk result (AllReadBack state stream old new)
   all_back (Err fault) fits finds was seen = tt
   all_back (Ok _) fits finds was seen = record {
     before = read_back fits finds was;

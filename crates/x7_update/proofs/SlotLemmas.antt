@@ -2,7 +2,7 @@
 use Rattle.std.proofs.Common.{◌≡◌, ℕ, suc, ◌+◌, ◌<◌, ◌≤◌, inl, inr, List, Option, None, Some, refl, sym, subst, arith}
 use Rattle.std.proofs.lemmas.Bool.{cases_eq, cases_order}
 use Rattle.x7_update.specs.Layout.{CanStandAt, HasSize, IsFree, IsOpen, Leads, update_place}
-use Rattle.x7_update.specs.Refused.{BeginsWell, IsGood, NoLayoutAt, OpensAgain, last_taken}
+use Rattle.x7_update.specs.Refused.{BeginsWell, IsGoodSlot, NoLayoutAt, OpensAgain, last_taken}
 use Rattle.x7_update.specs.Slots.{Finds, OpenAmong, SoFar}
 use Rattle.x7_update.specs.declared.slots.Seen.{Seen}
 use Rattle.x7_update.specs.declared.slots.Slots.{Slots}
@@ -44,7 +44,7 @@ module _ (first : List ℕ) (slot : ℕ) (leads : Leads first slot) where
     first = λ k e is_free. let same : k ≡ slot = omega arith in f (subst (λ m. IsFree first m) same is_free);
   }
 
-pub so_far_good : (first : List ℕ) (count : ℕ) (seen : Seen) → SoFar first count seen → (slot : ℕ) → slot < count → IsGood first slot
+pub so_far_good : (first : List ℕ) (count : ℕ) (seen : Seen) → SoFar first count seen → (slot : ℕ) → slot < count → IsGoodSlot first slot
 so_far_good first count seen so slot h = (so.leads slot h, so.once slot h)
 
 -- all slots are good

@@ -2,8 +2,8 @@
 use Rattle.std.proofs.Common.{◌≡◌, ℕ, ◌+◌, ◌*◌, ◌<◌, ◌≤◌, inl, inr, List, Option, None, Some, get_or, refl, ap, sym, subst, ◌∙◌, arith}
 use Rattle.x7_words.specs.Word.{word_of_bytes}
 use Rattle.x7_packets.specs.FlashSlot.{flash_slot}
-use Rattle.x7_update.specs.Layout.{CanStandAt, Leads, IsOpen, IsFree, four_at, switch_of, first_slot, update_place, open_word}
-use Rattle.x7_update.specs.Refused.{BeginsWell, DiffersAt, IsBad, IsGood, NoLayoutAt, OpensAgain, bad_first, bad_place, bad_size, bad_slot, last_taken}
+use Rattle.x7_update.specs.Layout.{CanStandAt, Leads, IsOpen, IsFree, four_at, switch_of, first_slot, update_place, open_switch}
+use Rattle.x7_update.specs.Refused.{BeginsWell, DiffersAt, IsBad, IsGoodSlot, NoLayoutAt, OpensAgain, bad_first, bad_place, bad_size, bad_slot, last_taken}
 use Rattle.x7_update.specs.Slots.{OpenAmong, Finds}
 use Rattle.x7_update.specs.declared.slots.Slots.{Slots}
 
@@ -15,7 +15,7 @@ module _ (first all : List ℕ) (same : (i : ℕ) → i < 65536 → get_or first
   switch_same slot h = four_same (32 * slot) (omega arith)
 
   first_slot_same : first_slot first ≡ first_slot all
-  first_slot_same = ap (flash_slot open_word) (four_same 12 (omega arith))
+  first_slot_same = ap (flash_slot open_switch) (four_same 12 (omega arith))
 
   pub place_same : update_place first ≡ update_place all
   place_same = ap word_of_bytes (four_same 12 (omega arith))
@@ -74,7 +74,7 @@ module _ (first all : List ℕ) (same : (i : ℕ) → i < 65536 → get_or first
       opens_same None o = λ slot h is. o slot h (open_same all first back slot h is)
       opens_same (Some slot) o = (o.0, open_same first all same slot o.0 o.1)
 
-  good_same : (slot : ℕ) → slot < 2048 → IsGood first slot → IsGood all slot
+  good_same : (slot : ℕ) → slot < 2048 → IsGoodSlot first slot → IsGoodSlot all slot
   good_same slot h g = (leads_same first all same slot h g.0, λ again. g.1 (again_same all first back slot h again))
 
   stands_back : (size : ℕ) → (CanStandAt size (update_place first) → ⊥) → CanStandAt size (update_place all) → ⊥

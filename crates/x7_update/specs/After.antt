@@ -3,7 +3,7 @@ use Rattle.std.specs.Prelude.{◌≡◌, ℕ, ◌+◌, ◌-◌, ◌*◌, ◌%◌
 use Rattle.x7_words.specs.Flash.{replaced}
 use Rattle.x7_words.specs.Word.{AreBytes}
 use Rattle.x7_packets.specs.FlashSlot.{sector_bytes, slot_count}
-use Rattle.x7_update.specs.Layout.{HasLayout, IsClosed, IsNext, IsOpen, open_word, spent_word, switch_of, update_place}
+use Rattle.x7_update.specs.Layout.{HasLayout, IsClosed, IsNext, IsOpen, open_switch, spent_switch, switch_of, update_place}
 
 -- the flash with this switch word in a slot
 abbrev pub switched : ℕ → List ℕ → List ℕ → List ℕ
@@ -16,7 +16,7 @@ with_stream place stream flash = take place flash ++ (stream ++ replicate (lengt
 -- the flash with its open slot spent, if it has one
 pub data ClosesTo (flash closed : List ℕ) : Type 0 where
   already : IsClosed flash → closed ≡ flash → ClosesTo flash closed
-  spends : (slot : ℕ) → slot < slot_count → IsOpen flash slot → closed ≡ switched slot spent_word flash → ClosesTo flash closed
+  spends : (slot : ℕ) → slot < slot_count → IsOpen flash slot → closed ≡ switched slot spent_switch flash → ClosesTo flash closed
 
 -- The flash after an update with a stream: its open slot is spent, the stream stands at U with FF after it, and the first slot
 -- from which on all are free is open.
@@ -26,7 +26,7 @@ pub record IsAfter (stream flash after : List ℕ) : Type 0 where
   pub next : ℕ
   pub is_next : IsNext flash next
   pub fits : update_place flash + length stream ≤ length flash
-  pub is : after ≡ switched next open_word (with_stream (update_place flash) stream closed)
+  pub is : after ≡ switched next open_switch (with_stream (update_place flash) stream closed)
 
 -- Between closing the open slot and opening the next: no slot is open, all slots lead to U still, each switch word but the open
 -- slot's and the next one's stays, the golden stream stands, and from U on there may be anything.

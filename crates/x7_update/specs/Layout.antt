@@ -21,16 +21,16 @@ abbrev pub switch_of : List ℕ → ℕ → List ℕ
 switch_of flash slot = four_at flash (32 * slot)
 
 -- the switch word of an open slot: the sync word
-abbrev pub open_word : List ℕ
-open_word = sync_bytes
+abbrev pub open_switch : List ℕ
+open_switch = sync_bytes
 
 -- the switch word of a free slot: a dummy word
-abbrev pub free_word : List ℕ
-free_word = 0xFF ∷ 0xFF ∷ 0xFF ∷ 0xFF ∷ []
+abbrev pub free_switch : List ℕ
+free_switch = 0xFF ∷ 0xFF ∷ 0xFF ∷ 0xFF ∷ []
 
 -- the switch word of a spent slot, as an update leaves it
-abbrev pub spent_word : List ℕ
-spent_word = 0 ∷ 0 ∷ 0 ∷ 0 ∷ []
+abbrev pub spent_switch : List ℕ
+spent_switch = 0 ∷ 0 ∷ 0 ∷ 0 ∷ []
 
 -- U, which is the start address of the first slot
 abbrev pub update_place : List ℕ → ℕ
@@ -38,7 +38,7 @@ update_place flash = word_of_bytes (four_at flash 12)
 
 -- a slot that leads to where the first one leads
 abbrev pub first_slot : List ℕ → List ℕ
-first_slot flash = flash_slot open_word (four_at flash 12)
+first_slot flash = flash_slot open_switch (four_at flash 12)
 
 -- the flash is whole sectors, two at least, and not too large
 pub record HasSize (size : ℕ) : Type 0 where
@@ -58,11 +58,11 @@ Leads flash slot = (i : ℕ) → 4 ≤ i → i < 32 → get_or flash (32 * slot 
 
 -- the slot is open
 abbrev pub IsOpen : List ℕ → ℕ → Type 0
-IsOpen flash slot = switch_of flash slot ≡ open_word
+IsOpen flash slot = switch_of flash slot ≡ open_switch
 
 -- the slot is free
 abbrev pub IsFree : List ℕ → ℕ → Type 0
-IsFree flash slot = switch_of flash slot ≡ free_word
+IsFree flash slot = switch_of flash slot ≡ free_switch
 
 -- The first sector of a flash of a size is slots that all lead to one U, of which at most one is open and from some on, one at least, all are free.
 pub record HasSlots (size : ℕ) (flash : List ℕ) : Type 0 where
@@ -78,10 +78,10 @@ pub record HasLayout (flash : List ℕ) : Type 0 where
 
 -- no slot is open
 abbrev pub IsClosed : List ℕ → Type 0
-IsClosed flash = (slot : ℕ) → slot < slot_count → switch_of flash slot ≢ open_word
+IsClosed flash = (slot : ℕ) → slot < slot_count → switch_of flash slot ≢ open_switch
 
 -- the first slot from which on all are free
 pub record IsNext (flash : List ℕ) (next : ℕ) : Type 0 where
   pub within : next < slot_count
   pub free : (slot : ℕ) → next ≤ slot → slot < slot_count → IsFree flash slot
-  pub first : (slot : ℕ) → suc slot ≡ next → switch_of flash slot ≢ free_word
+  pub first : (slot : ℕ) → suc slot ≡ next → switch_of flash slot ≢ free_switch

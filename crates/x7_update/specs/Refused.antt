@@ -24,8 +24,8 @@ pub record OpensAgain (flash : List ℕ) (slot : ℕ) : Type 0 where
   pub second : IsOpen flash slot
 
 -- a slot leads to U, and isn't open where one before it is
-abbrev pub IsGood : List ℕ → ℕ → Type 0
-IsGood flash slot = Leads flash slot × (OpensAgain flash slot → ⊥)
+abbrev pub IsGoodSlot : List ℕ → ℕ → Type 0
+IsGoodSlot flash slot = Leads flash slot × (OpensAgain flash slot → ⊥)
 
 -- why a slot is none of a layout, and the place that shows it: the slot doesn't lead to U (where it differs), or is open as one before it is (the slot's place)
 abbrev pub IsBad : List ℕ → ℕ → ℕ → Type 0
@@ -44,9 +44,9 @@ pub data NoLayoutAt (size : ℕ) (flash : List ℕ) (place : ℕ) : Type 0 where
   bad_size : (HasSize size → ⊥) → place ≡ size → NoLayoutAt size flash place
   bad_first : HasSize size → DiffersAt flash 0 place → NoLayoutAt size flash place
   bad_place : HasSize size → Leads flash 0 → (CanStandAt size (update_place flash) → ⊥) → place ≡ 12 → NoLayoutAt size flash place
-  bad_slot : BeginsWell size flash → (slot : ℕ) → slot < slot_count → ((earlier : ℕ) → earlier < slot → IsGood flash earlier)
+  bad_slot : BeginsWell size flash → (slot : ℕ) → slot < slot_count → ((earlier : ℕ) → earlier < slot → IsGoodSlot flash earlier)
       → IsBad flash slot place → NoLayoutAt size flash place
-  last_taken : BeginsWell size flash → ((slot : ℕ) → slot < slot_count → IsGood flash slot) → (IsFree flash (slot_count - 1) → ⊥) → place ≡ 32 * (slot_count - 1)
+  last_taken : BeginsWell size flash → ((slot : ℕ) → slot < slot_count → IsGoodSlot flash slot) → (IsFree flash (slot_count - 1) → ⊥) → place ≡ 32 * (slot_count - 1)
       → NoLayoutAt size flash place
 
 -- the stream passes the end of a flash with a layout

@@ -1,14 +1,14 @@
 -- What a look at the first sector of a flash finds (this project's choice).
 use Rattle.std.specs.Prelude.{◌≡◌, ◌≢◌, ℕ, suc, ◌<◌, ◌≤◌, List, Option, None, Some}
 use Rattle.x7_packets.specs.FlashSlot.{slot_count}
-use Rattle.x7_update.specs.Layout.{CanStandAt, HasSize, HasSlots, IsFree, IsNext, IsOpen, Leads, free_word, open_word, switch_of, update_place}
+use Rattle.x7_update.specs.Layout.{CanStandAt, HasSize, HasSlots, IsFree, IsNext, IsOpen, Leads, free_switch, open_switch, switch_of, update_place}
 use Rattle.x7_update.specs.Refused.{OpensAgain}
 use Rattle.x7_update.specs.declared.slots.Seen.{Seen}
 use Rattle.x7_update.specs.declared.slots.Slots.{Slots}
 
 -- of the first `count` slots this one is open, or none is
 abbrev pub OpenAmong : List ℕ → ℕ → Option ℕ → Type 0
-OpenAmong flash count None = (slot : ℕ) → slot < count → switch_of flash slot ≢ open_word
+OpenAmong flash count None = (slot : ℕ) → slot < count → switch_of flash slot ≢ open_switch
 OpenAmong flash count (Some slot) = (slot < count) × IsOpen flash slot
 
 -- what was seen of the first `count` slots is so: each leads to U, at most one of them is open, and from `next` on all are free
@@ -18,7 +18,7 @@ pub record SoFar (flash : List ℕ) (count : ℕ) (seen : Seen) : Type 0 where
   pub opens : OpenAmong flash count seen.opened
   pub within : seen.next ≤ count
   pub free : (slot : ℕ) → seen.next ≤ slot → slot < count → IsFree flash slot
-  pub first : (slot : ℕ) → suc slot ≡ seen.next → switch_of flash slot ≢ free_word
+  pub first : (slot : ℕ) → suc slot ≡ seen.next → switch_of flash slot ≢ free_switch
 
 -- what was found is so: the first sector of a flash of this size is slots of a layout, with this U, this open slot or none, and this next one
 pub record Finds (size : ℕ) (flash : List ℕ) (slots : Slots) : Type 0 where

@@ -4,7 +4,7 @@ use Rattle.x7_words.specs.Flash.{Elapses, FlashFails, FlashState, IfKnown, Write
 use Rattle.x7_words.specs.Word.{AreBytes}
 use Rattle.x7_packets.specs.FlashSlot.{slot_count}
 use Rattle.x7_update.specs.After.{ClosesTo, IsBetween, switched, with_stream}
-use Rattle.x7_update.specs.Layout.{CanStandAt, HasSize, open_word, switch_of}
+use Rattle.x7_update.specs.Layout.{CanStandAt, HasSize, open_switch, switch_of}
 use Rattle.x7_update.specs.declared.fault.UpdateFault.{UpdateFault}
 use Rattle.x7_update.specs.declared.fault.UpdateFault.TheVariants.{Differs, Failed, NoLayout, NoMemory, TooLong}
 
@@ -54,7 +54,7 @@ pub record ErasedTo (place end : ℕ) (old now : List ℕ) : Type 0 where
 pub record OnlySwitch (slot : ℕ) (old found : List ℕ) : Type 0 where
   pub size : length found ≡ length old
   pub others : (i : ℕ) → (i < 32 * slot) ⊎ (32 * slot + 4 ≤ i) → get_or found i 0 ≡ get_or old i 0
-  pub shut : switch_of found slot ≢ open_word
+  pub shut : switch_of found slot ≢ open_switch
 
 -- while an open slot is closed nothing has changed, or the slot is shut
 abbrev pub Closing : ℕ → List ℕ → List ℕ → Type 0
@@ -62,7 +62,7 @@ Closing slot old found = (found ≡ old) ⊎ OnlySwitch slot old found
 
 -- while a free slot is opened the slot is shut, or open
 abbrev pub Opening : ℕ → List ℕ → List ℕ → Type 0
-Opening slot old found = (found ≡ switched slot open_word old) ⊎ OnlySwitch slot old found
+Opening slot old found = (found ≡ switched slot open_switch old) ⊎ OnlySwitch slot old found
 
 -- while the update is replaced nothing has changed, or no slot is open
 abbrev pub Replacing : List ℕ → List ℕ → Type 0
@@ -112,7 +112,7 @@ IsWrong update stream place buffer NoMemory = ⊥
 -- the flash's end, from a place on at which the stream can stand and fits; or the switch word of the slot that is opened.
 pub data IsWritten (size : ℕ) (stream piece : List ℕ) (from end : ℕ) : Type 0 where
   in_stream : CanStandAt size from → from + length stream ≤ size → piece ≡ stream → end ≡ size → IsWritten size stream piece from end
-  in_switch : (slot : ℕ) → slot < slot_count → from ≡ 32 * slot → piece ≡ open_word → end ≡ from + 4 → IsWritten size stream piece from end
+  in_switch : (slot : ℕ) → slot < slot_count → from ≡ 32 * slot → piece ≡ open_switch → end ≡ from + 4 → IsWritten size stream piece from end
 
 -- a byte is another than the one that an update with this stream writes at a place of a flash of a size
 pub record IsReadWrong (size : ℕ) (stream : List ℕ) (place wrote read : ℕ) : Type 0 where

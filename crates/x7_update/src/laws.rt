@@ -2,7 +2,7 @@
 ghost use Rattle.std.specs.Prelude.{◌≡◌, ◌≢◌, ◌-◌, ◌<◌, ℕ, List, length};
 ghost use Rattle.x7_packets.specs.FlashSlot.{sector_bytes, slot_count};
 ghost use Rattle.x7_update.specs.After.{IsAfter, IsBetween, MayBeLeft};
-ghost use Rattle.x7_update.specs.Layout.{HasLayout, IsNext, four_at, open_word};
+ghost use Rattle.x7_update.specs.Layout.{HasLayout, IsNext, four_at, open_switch};
 ghost use Rattle.x7_update.specs.Refused.{NoLayoutAt};
 
 /// A flash with a layout lacks it at no place.
@@ -19,7 +19,7 @@ pub fn updates_have_one_outcome()
 /// begins there: a device that searches from its first byte on comes to the golden stream.
 pub fn closed_slots_hold_no_sync_word()
     ensures { (flash found : List ℕ) → HasLayout flash → IsBetween flash found
-        → (place : ℕ) → place < sector_bytes → four_at found place ≢ open_word }
+        → (place : ℕ) → place < sector_bytes → four_at found place ≢ open_switch }
 {}
 
 /// Whatever a power loss leaves of a flash with a layout has a layout again, unless the next slot was the last.

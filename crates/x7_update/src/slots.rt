@@ -3,7 +3,7 @@ ghost use Rattle.std.specs.Prelude.{◌≡◌, ◌+◌, ◌<◌, ℕ, List, true
 ghost use Rattle.x7_words.specs.Flash.{KnowsBytes, OnlyReads, IfKnown};
 ghost use Rattle.x7_packets.specs.FlashSlot.{sector_bytes, slot_count};
 ghost use Rattle.x7_update.specs.Layout.{HasSize, Leads, first_slot};
-ghost use Rattle.x7_update.specs.Refused.{DiffersAt, HasCause, IsBad, IsGood, NoLayoutAt};
+ghost use Rattle.x7_update.specs.Refused.{DiffersAt, HasCause, IsBad, IsGoodSlot, NoLayoutAt};
 ghost use Rattle.x7_update.specs.Slots.{Finds, Fits, SoFar};
 
 use crate::fault::UpdateFault;
@@ -86,7 +86,7 @@ fn take_slots(first: &[u8], wanted: &[u8; 32]) -> Result<Seen, u64>
     requires wanted { wanted.now ≡ first_slot first.now }
     ensures ok { IfOk result (SoFar first.now slot_count) }
     ensures err { IfErr result (λ place. (slot : ℕ) × (slot < slot_count)
-        × ((earlier : ℕ) → earlier < slot → IsGood first.now earlier) × IsBad first.now slot place) }
+        × ((earlier : ℕ) → earlier < slot → IsGoodSlot first.now earlier) × IsBad first.now slot place) }
 {
     let mut seen = Seen {
         opened: None,

@@ -3,7 +3,7 @@ ghost use Rattle.std.specs.Prelude.{◌≡◌, ◌+◌, ◌*◌, ◌≤◌, ◌�
 ghost use Rattle.x7_words.specs.Flash.{OnlyReads, OnlyWrites, IfKnown, Sees, WriteFails};
 ghost use Rattle.x7_packets.specs.FlashSlot.{sector_bytes};
 ghost use Rattle.x7_update.specs.After.{ClosesTo, IsAfter, MayBeLeft, switched};
-ghost use Rattle.x7_update.specs.Layout.{HasLayout, IsClosed, IsFree, open_word};
+ghost use Rattle.x7_update.specs.Layout.{HasLayout, IsClosed, IsFree, open_switch};
 ghost use Rattle.x7_update.specs.ReadBack.{AllReadBack, OpensReadBack, WasReady};
 ghost use Rattle.x7_update.specs.Refused.{CanBeUpdated, HasCause, IsEarly};
 ghost use Rattle.x7_update.specs.Slots.{Finds, Fits};
@@ -69,13 +69,13 @@ fn finish<F: Flash>(
     requires written { IfKnown (F.state flash.old).bytes (HasWanted slots.update stream.now) }
     requires free { IfKnown (F.state flash.old).bytes (λ all. IsFree all slots.next) }
     requires closed { IfKnown (F.state flash.old).bytes IsClosed }
-    ensures opened { OnOk result ((F.state flash.new).bytes ≡ option_map (switched slots.next open_word) (F.state flash.old).bytes) }
+    ensures opened { OnOk result ((F.state flash.new).bytes ≡ option_map (switched slots.next open_switch) (F.state flash.old).bytes) }
     ensures any_moment { AtAnyMoment (F.state flash.old) (F.state flash.new) (F.found_since flash.old) (F.found_since flash.new)
         (Opening slots.next) }
     ensures bytes { AtAnyMoment (F.state flash.old) (F.state flash.new) (F.found_since flash.old) (F.found_since flash.new)
         StaysBytes }
     ensures ready { OnOk result (WasReady F.state slots.update stream.now (F.state flash.new)) }
-    ensures switch { OnOk result (Sees (F.state flash.new) (32 * slots.next) open_word) }
+    ensures switch { OnOk result (Sees (F.state flash.new) (32 * slots.next) open_switch) }
     ensures opens { AtAnyMoment (F.state flash.old) (F.state flash.new) (F.found_since flash.old) (F.found_since flash.new)
         (λ all found. (found ≡ all) ⊎ WasReady F.state slots.update stream.now (F.state flash.new)) }
     ensures fault { IfErr result (EndFails stream.now (F.state flash.old) (F.state flash.new)) }
@@ -108,10 +108,7 @@ fn take_steps<F: Flash>(alloc: Global, flash: &mut F, stream: &[u8]) -> Result<(
     let Ok(()) = buffer.resize(SECTOR as usize, 0) else {
         return Err(UpdateFault::NoMemory);
     };
-    let slots = match find_slots(flash, &mut buffer) {
-        Ok(slots) => slots,
-        Err(fault) => return Err(fault),
-    };
+    let slots = find_slots(flash, &mut buffer)?;
     if stream.len() as u64 > flash.size() - slots.update {
         return Err(UpdateFault::TooLong);
     }

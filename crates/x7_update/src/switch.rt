@@ -3,7 +3,7 @@ ghost use Rattle.std.specs.Prelude.{◌≡◌, ◌+◌, ◌*◌, ◌<◌, ◌≤
 ghost use Rattle.x7_words.specs.Flash.{OnlyWrites, IfKnown, WriteFails};
 ghost use Rattle.x7_packets.specs.FlashSlot.{slot_count};
 ghost use Rattle.x7_update.specs.After.{switched};
-ghost use Rattle.x7_update.specs.Layout.{IsFree, IsOpen, open_word, spent_word};
+ghost use Rattle.x7_update.specs.Layout.{IsFree, IsOpen, open_switch, spent_switch};
 ghost use Rattle.x7_update.specs.Writing.{AtAnyMoment, Closing, Opening, StaysBytes};
 
 use crate::layout::{OPEN, SPENT};
@@ -15,7 +15,7 @@ pub(crate) fn close_slot<F: Flash>(flash: &mut F, slot: u64) -> Result<(), Faile
     requires slot { slot < slot_count }
     requires within { 32 * slot + 4 ≤ (F.state flash.old).extent }
     requires opened { IfKnown (F.state flash.old).bytes (λ all. IsOpen all slot) }
-    ensures closed { OnOk result ((F.state flash.new).bytes ≡ option_map (switched slot spent_word) (F.state flash.old).bytes) }
+    ensures closed { OnOk result ((F.state flash.new).bytes ≡ option_map (switched slot spent_switch) (F.state flash.old).bytes) }
     ensures any_moment { AtAnyMoment (F.state flash.old) (F.state flash.new) (F.found_since flash.old) (F.found_since flash.new)
         (Closing slot) }
     ensures bytes { AtAnyMoment (F.state flash.old) (F.state flash.new) (F.found_since flash.old) (F.found_since flash.new)
@@ -32,7 +32,7 @@ pub(crate) fn open_slot<F: Flash>(flash: &mut F, slot: u64) -> Result<(), Failed
     requires slot { slot < slot_count }
     requires within { 32 * slot + 4 ≤ (F.state flash.old).extent }
     requires free { IfKnown (F.state flash.old).bytes (λ all. IsFree all slot) }
-    ensures opened { OnOk result ((F.state flash.new).bytes ≡ option_map (switched slot open_word) (F.state flash.old).bytes) }
+    ensures opened { OnOk result ((F.state flash.new).bytes ≡ option_map (switched slot open_switch) (F.state flash.old).bytes) }
     ensures any_moment { AtAnyMoment (F.state flash.old) (F.state flash.new) (F.found_since flash.old) (F.found_since flash.new)
         (Opening slot) }
     ensures bytes { AtAnyMoment (F.state flash.old) (F.state flash.new) (F.found_since flash.old) (F.found_since flash.new)

@@ -2,7 +2,7 @@
 ghost use Rattle.std.specs.Prelude.{◌≡◌, ◌+◌, ◌*◌, ◌<◌, ◌≤◌, ◌^◌, ℕ, List, true, length, IfErr, OnOk};
 ghost use Rattle.x7_words.specs.Flash.{OnlyReads, IfKnown, Sees};
 ghost use Rattle.x7_packets.specs.FlashSlot.{sector_bytes, slot_count};
-ghost use Rattle.x7_update.specs.Layout.{CanStandAt, HasSize, IsOpen, open_word};
+ghost use Rattle.x7_update.specs.Layout.{CanStandAt, HasSize, IsOpen, open_switch};
 ghost use Rattle.x7_update.specs.Writing.{ReadsWanted, EndFails, HasWanted, IsWrong, SeesWanted, wanted_at};
 
 use crate::fault::UpdateFault;
@@ -99,7 +99,7 @@ pub(crate) fn verify_switch<F: Flash>(flash: &mut F, slot: u64) -> Result<(), Up
     requires size { HasSize (F.state flash.old).extent }
     requires slot { slot < slot_count }
     requires opened { IfKnown (F.state flash.old).bytes (λ all. IsOpen all slot) }
-    ensures seen { OnOk result (Sees (F.state flash.new) (32 * slot) open_word) }
+    ensures seen { OnOk result (Sees (F.state flash.new) (32 * slot) open_switch) }
     ensures fault { (stream : List ℕ) → IfErr result (EndFails stream (F.state flash.old) (F.state flash.new)) }
     ensures only { OnlyReads (F.state flash.old) (F.state flash.new) (F.found_since flash.old) (F.found_since flash.new) }
 {

@@ -1,6 +1,6 @@
 use Rattle.std.proofs.Common.{◌≡◌, ℕ, Option, length, option_map, refl, subst}
 use Rattle.x7_update.specs.After.{ClosesTo, already, spends, switched}
-use Rattle.x7_update.specs.Layout.{spent_word}
+use Rattle.x7_update.specs.Layout.{spent_switch}
 use Rattle.x7_update.specs.Slots.{Finds, OpenAmong}
 use Rattle.x7_update.specs.Writing.{Becomes, Closing, Replacing}
 use Rattle.x7_update.proofs.CaseLemmas.{closing_replaces}
@@ -22,8 +22,8 @@ returns-in-Some-clause-closed g c =
     let first = g.F.Flash.state c.args.flash.now in
     let last = g.F.Flash.state c.close_slot.new.flash in
     let slot = c.in-Some.slot in
-    on_ok_map (last.bytes ≡ option_map (switched slot spent_word) first.bytes) (Becomes first last ClosesTo) c.close_slot.result c.close_slot.ensures.closed
-    (λ is. becomes_of first last (switched slot spent_word) ClosesTo is
+    on_ok_map (last.bytes ≡ option_map (switched slot spent_switch) first.bytes) (Becomes first last ClosesTo) c.close_slot.result c.close_slot.ensures.closed
+    (λ is. becomes_of first last (switched slot spent_switch) ClosesTo is
     (λ all e.
     let finds = told_at first.bytes (λ all. Finds (length all) all c.args.slots) c.requires.finds all e in
     let P : Option ℕ → Type 0 = λ o. OpenAmong all 2048 o in

@@ -1,6 +1,6 @@
 use Rattle.std.proofs.Common.{◌≡◌, ◌⊎◌, inl, inr, ap, option_map, refl, sym, ◌∙◌, arith}
 use Rattle.x7_update.specs.After.{switched}
-use Rattle.x7_update.specs.Layout.{open_word}
+use Rattle.x7_update.specs.Layout.{open_switch}
 use Rattle.x7_update.specs.ReadBack.{WasReady}
 use Rattle.x7_update.specs.Writing.{Opening}
 use Rattle.x7_update.proofs.BackLemmas.{fails_since, was_unknown}
@@ -15,7 +15,7 @@ returns-clause-fault g c =
     let last = g.F.Flash.state c.verify_switch.new.flash in
     let read = c.verify_stream.ensures.only in
     let wrote = c.open_slot.ensures.only in
-    let change = switched c.args.slots.next open_word in
+    let change = switched c.args.slots.next open_switch in
     let is : mid.bytes ≡ option_map change old.bytes = c.in-Ok.ensures.opened ∙ ap (option_map change) read.bytes in
     fails_since c.args.stream.now old mid last c.verify_switch.result (omega (arith, read.faults, wrote.faults)) (omega (arith, read.unwritten.write_faults, wrote.write_faults)) (λ none. was_unknown change old.bytes (sym is ∙ none))
     (c.verify_switch.ensures.fault c.args.stream.now)

@@ -1,5 +1,5 @@
 use Rattle.std.proofs.Common.{◌≡◌, ◌+◌, ◌*◌, ℕ, IfErr, arith, subst}
-use Rattle.x7_update.specs.Layout.{open_word}
+use Rattle.x7_update.specs.Layout.{open_switch}
 use Rattle.x7_update.specs.Writing.{IsWrong}
 use Rattle.x7_update.proofs.BackLemmas.{switch_fails}
 use Rattle.x7_update.proofs.ReadyLemmas.{sees_open}
@@ -12,7 +12,7 @@ returns-clause-fault g c = λ stream.
     let slot = c.args.slot in
     let at : 32 * slot + 0 ≡ 32 * slot = omega arith in
     switch_fails slot c.read_at.new.buf stream old new c.compare.result c.in-Ok.ensures.length c.in-Ok.ensures.seen c.in-Ok.ensures.only.extent c.requires.size c.requires.slot c.requires.opened c.in-Ok.ensures.read
-    (subst (λ (p : ℕ). IfErr c.compare.result (IsWrong (32 * slot) open_word p c.read_at.new.buf)) at c.compare.ensures.wrong)
+    (subst (λ (p : ℕ). IfErr c.compare.result (IsWrong (32 * slot) open_switch p c.read_at.new.buf)) at c.compare.ensures.wrong)
 
 pub returns-clause-seen : goal.returns-clause-seen
 returns-clause-seen g c = sees_open (32 * c.args.slot) c.read_at.new.buf (g.F.Flash.state c.read_at.new.self) c.compare.result c.in-Ok.ensures.length c.in-Ok.ensures.seen c.compare.ensures.same
