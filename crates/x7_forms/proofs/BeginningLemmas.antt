@@ -9,7 +9,7 @@ use Rattle.x7_words.specs.Word.{AreBytes}
 use Rattle.x7_words.proofs.CountLemmas.{risen_from}
 use Rattle.x7_words.proofs.InputLemmas.{preceded-preceded}
 use Rattle.x7_words.proofs.ListLemmas.{shorter_front}
-use Rattle.x7_header.specs.Header.{Contents, EndsInHeader, listed, fixed_bytes, HasOtherLetter, HasOtherLetterAt, HaveHeader, fields_bytes, header_bytes, layout}
+use Rattle.x7_header.specs.Header.{Contents, EndsInHeader, contents_in_order, fixed_bytes, HasOtherLetter, HasOtherLetterAt, HaveHeader, fields_bytes, header_bytes, layout}
 use Rattle.x7_header.specs.Reading.{HeaderWaits, header_at}
 use Rattle.x7_header.specs.declared.fault.HeaderFault.{HeaderFault}
 use Rattle.x7_header.specs.declared.fault.HeaderFault.TheVariants as header
@@ -136,7 +136,7 @@ fixed_long after = omega (arith, length-append fixed_bytes after)
 
 pub holds_few : (old piece bytes : List ℕ) (n start : ℕ) → IsPiece old piece bytes n → BeginAt bytes start → HoldsFew bytes start
 holds_few old piece bytes n start p (inl (x, h, e, size)) =
-    let none = first_judged old piece bytes (header_bytes x) (drop start bytes) n p (fixed_long (fields_bytes layout (listed x))) e (header_judges x h) in
+    let none = first_judged old piece bytes (header_bytes x) (drop start bytes) n p (fixed_long (fields_bytes layout (contents_in_order x))) e (header_judges x h) in
     inl (omega (arith, size, ap length e, ap length none, length-append (header_bytes x) (drop start bytes)))
 holds_few old piece bytes n start p (inr (zero, raw)) = elim p.waiting [
   | inl none ↦ inr (zero, omega (arith, p.short, p.fixed, ap length none, ap length p.joined, length-append old piece))

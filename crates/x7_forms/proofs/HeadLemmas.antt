@@ -9,7 +9,7 @@ use Rattle.std.proofs.lemmas.Slice.Eq.{starts_is}
 use Rattle.x7_words.specs.Word.{AreBytes}
 use Rattle.x7_words.proofs.ListLemmas.{all-append}
 use Rattle.x7_header.specs.Header.{Contents, EndsInHeader, HasOtherLetterAt, fields_bytes, fixed_bytes, header_bytes}
-use Rattle.x7_header.specs.Reading.{Gives, header_at}
+use Rattle.x7_header.specs.Reading.{ReturnsAs, header_at}
 use Rattle.x7_header.specs.declared.fault.HeaderFault.{HeaderFault}
 use Rattle.x7_header.specs.declared.fault.HeaderFault.TheVariants as header
 use Rattle.x7_header.proofs.CutLemmas.{is_cut}
@@ -70,7 +70,7 @@ other_more bytes more place (after, are, within, w) = (
 field_more : (bytes more : List ℕ) (place : ℕ) → AreBytes bytes → header_at bytes ≡ Err (header.Field place) → header_at (bytes ++ more) ≡ Err (header.Field place)
 field_more bytes more place fits e = header_refused (bytes ++ more) place (other_more bytes more place (field_at_place bytes place (starts_with nat_eq bytes fixed_bytes) fits refl e))
 
-pub gives_self : {X : Type 0} (r : Result X HeaderFault) → Gives (λ x. x) r r
+pub gives_self : {X : Type 0} (r : Result X HeaderFault) → ReturnsAs (λ x. x) r r
 gives_self (Ok x) = refl
 gives_self (Err e) = refl
 
@@ -80,7 +80,7 @@ cut_short bytes place fits e =
     let ends : EndsInHeader bytes = ((is_cut (λ (x : Contents × ℕ). x) (header_at bytes) bytes fits (gives_self (header_at bytes)) place).0 e).1 in
     let whole : header_bytes ends.header ++ [] ≡ bytes ++ ends.next ∷ ends.missing = append-nil (header_bytes ends.header) ∙ ends.goes_on in
     let all : AreBytes (header_bytes ends.header ++ []) = subst (λ b. AreBytes b) (sym whole) (all-append (λ b. b < 256) bytes (ends.next ∷ ends.missing) fits ends.missing_are) in
-    let again : Gives (λ (x : Contents × ℕ). x) (Ok (ends.header, length (header_bytes ends.header))) (header_at (header_bytes ends.header ++ [])) = header_again ends.header [] ends.have_header in
+    let again : ReturnsAs (λ (x : Contents × ℕ). x) (Ok (ends.header, length (header_bytes ends.header))) (header_at (header_bytes ends.header ++ [])) = header_again ends.header [] ends.have_header in
     let few = is_short (λ (x : Contents × ℕ). x) (Ok (ends.header, length (header_bytes ends.header))) (header_bytes ends.header ++ []) all again in
     omega (arith, few, ap length ends.goes_on, length-append bytes (ends.next ∷ ends.missing))
 

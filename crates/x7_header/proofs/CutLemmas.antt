@@ -6,8 +6,8 @@ use Rattle.std.proofs.lemmas.Slice.Eq.{starts_is}
 use Rattle.std.specs.List.{AllByRecursion, starts_with}
 use Rattle.x7_words.specs.Word.{AreBytes}
 use Rattle.x7_words.proofs.ListLemmas.{all-append, all_front, all_back}
-use Rattle.x7_header.specs.Header.{fixed_bytes, Kind, Field, layout, Holds, Hold, HasOtherLetterAt, EndsInHeader, count_bytes, field_bytes, fields_bytes, Contents, header_bytes}
-use Rattle.x7_header.specs.Reading.{◌>>=◌, letter_at, content_at, field_at, fields_at, contents_from, layout_at, header_at, Gives}
+use Rattle.x7_header.specs.Header.{fixed_bytes, Kind, Field, layout, Holds, Hold, HasOtherLetterAt, EndsInHeader, bytes_of_count, field_bytes, fields_bytes, Contents, header_bytes}
+use Rattle.x7_header.specs.Reading.{◌>>=◌, letter_at, content_at, field_at, fields_at, contents_from, layout_at, header_at, ReturnsAs}
 use Rattle.x7_header.specs.declared.fault.HeaderFault.{HeaderFault}
 use Rattle.x7_header.specs.declared.fault.HeaderFault.TheVariants as fault
 use Rattle.x7_header.proofs.HeaderLemmas.{done, failed, ok_not_err, err_is, bind_err, letter_takes, count_again, two_and, field_takes, from_layout, header_takes, header_again, header_tells, raw_at, cut_at, header_refused, field_at_place}
@@ -42,7 +42,7 @@ record GoesOnAfterLetter (kind : Kind) (bytes : List ℕ) : Type 0 where
   pub missing : List ℕ
   pub holds : Holds kind content
   pub content_are : AreBytes content
-  pub goes_on : count_bytes kind content ++ content ≡ bytes ++ next ∷ missing
+  pub goes_on : bytes_of_count kind content ++ content ≡ bytes ++ next ∷ missing
   pub missing_are : AreBytes (next ∷ missing)
 
 content_ends : (total place : ℕ) (kind : Kind) (bytes : List ℕ) → AreBytes bytes → content_at total kind bytes ≡ Err (fault.Cut place) → GoesOnAfterLetter kind bytes
@@ -114,7 +114,7 @@ abbrev blank : Kind → List ℕ
 blank Kind.Counted = []
 blank Kind.Four = 0 ∷ 0 ∷ 0 ∷ 0 ∷ []
 
-blank_holds : (kind : Kind) → Holds kind (blank kind) × AreBytes (blank kind) × AreBytes (count_bytes kind (blank kind) ++ blank kind)
+blank_holds : (kind : Kind) → Holds kind (blank kind) × AreBytes (blank kind) × AreBytes (bytes_of_count kind (blank kind) ++ blank kind)
 blank_holds Kind.Counted = (omega arith, tt, (omega arith, (omega arith, tt)))
 blank_holds Kind.Four = let z : 0 < 256 = omega arith in (refl, (z, (z, (z, (z, tt)))), (z, (z, (z, (z, tt)))))
 
@@ -137,7 +137,7 @@ blank_fields (field ∷ fields) l =
       contents = blank field.kind ∷ others.contents;
       hold = (b.0, others.hold);
       contents_are = (b.1, others.contents_are);
-      bytes_are = (l.0, all-append (λ c. c < 256) (count_bytes field.kind (blank field.kind) ++ blank field.kind) (fields_bytes fields others.contents) b.2 others.bytes_are);
+      bytes_are = (l.0, all-append (λ c. c < 256) (bytes_of_count field.kind (blank field.kind) ++ blank field.kind) (fields_bytes fields others.contents) b.2 others.bytes_are);
     }
 
 letter_no_cut : (bytes : List ℕ) (at place : ℕ) (b : Bool) → cond b (done bytes) (Err (fault.Field at)) ≡ Err (fault.Cut place) → ⊥
@@ -147,7 +147,7 @@ letter_no_cut bytes at place false e = let same : fault.Field at ≡ fault.Cut p
 letter_ends : (total place : ℕ) (field : Field) (bytes : List ℕ) → field.letter < 256 → letter_at total field.letter bytes ≡ Err (fault.Cut place) → FieldGoesOn field bytes
 letter_ends total place field [] l e =
     let b = blank_holds field.kind in
-    record { content = blank field.kind; next = field.letter; missing = count_bytes field.kind (blank field.kind) ++ blank field.kind; holds = b.0; content_are = b.1; goes_on = refl; missing_are = (l, b.2) }
+    record { content = blank field.kind; next = field.letter; missing = bytes_of_count field.kind (blank field.kind) ++ blank field.kind; holds = b.0; content_are = b.1; goes_on = refl; missing_are = (l, b.2) }
 letter_ends total place field (first ∷ bytes) l e = absurd (letter_no_cut bytes (total - length (first ∷ bytes)) place (nat_eq first field.letter) e)
 
 field_ends : (total place : ℕ) (field : Field) (bytes : List ℕ) → field.letter < 256 → AreBytes bytes → field_at total field bytes ≡ Err (fault.Cut place) → FieldGoesOn field bytes
@@ -172,7 +172,7 @@ field_ends total place field bytes l f e =
 
 content_fits : (field : Field) (content rest : List ℕ) → AreBytes (field_bytes field content ++ rest) → AreBytes content
 content_fits field content rest f =
-    all_back (λ c. c < 256) (field.letter ∷ count_bytes field.kind content) content (all_front (λ c. c < 256) (field_bytes field content) rest f)
+    all_back (λ c. c < 256) (field.letter ∷ bytes_of_count field.kind content) content (all_front (λ c. c < 256) (field_bytes field content) rest f)
 
 fields_end : (total place : ℕ) (fields : List Field) (bytes : List ℕ) → HaveLetters fields → AreBytes bytes → fields_at total fields bytes ≡ Err (fault.Cut place) → FieldsGoOn fields bytes
 unfolding fields_at
@@ -290,7 +290,7 @@ header_cut bytes (Err (fault.Field place)) f w e =
 
 -- ---- the clause
 
-pub is_cut : {X : Type 0} (view : X → Contents × ℕ) (result : Result X HeaderFault) (bytes : List ℕ) → AreBytes bytes → Gives view result (header_at bytes) → (place : ℕ) →
+pub is_cut : {X : Type 0} (view : X → Contents × ℕ) (result : Result X HeaderFault) (bytes : List ℕ) → AreBytes bytes → ReturnsAs view result (header_at bytes) → (place : ℕ) →
     IsErrOf result (fault.Cut place) ↔ (place ≡ length bytes) × EndsInHeader bytes
 is_cut view (Ok x) bytes f g place =
     (λ i. absurd (ok_not_err x (fault.Cut place) i), λ w. absurd (ok_not_err (view x) (fault.Cut (length bytes)) (sym g ∙ header_cut bytes (header_at bytes) f w.1 refl)))

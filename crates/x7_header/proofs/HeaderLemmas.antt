@@ -10,8 +10,8 @@ use Rattle.x7_words.specs.Word.{AreBytes, bytes_of_word, word_of_bytes}
 use Rattle.x7_words.proofs.ListLemmas.{all_front, all_back}
 use Rattle.x7_words.proofs.WordLemmas.{bytes-words, words-fit}
 use Rattle.x7_words.proofs.WordLemmas.{word-whole}
-use Rattle.x7_header.specs.Header.{fixed_bytes, Kind, Field, layout, Holds, Hold, HasOtherLetter, HasOtherLetterAt, count_bytes, field_bytes, fields_bytes, Contents, listed, HaveHeader, header_bytes}
-use Rattle.x7_header.specs.Reading.{◌>>=◌, letter_at, bytes_at, content_at, field_at, fields_at, contents_from, fixed_at, layout_at, header_at, Gives}
+use Rattle.x7_header.specs.Header.{fixed_bytes, Kind, Field, layout, Holds, Hold, HasOtherLetter, HasOtherLetterAt, bytes_of_count, field_bytes, fields_bytes, Contents, contents_in_order, HaveHeader, header_bytes}
+use Rattle.x7_header.specs.Reading.{◌>>=◌, letter_at, bytes_at, content_at, field_at, fields_at, contents_from, fixed_at, layout_at, header_at, ReturnsAs}
 use Rattle.x7_header.specs.declared.fault.HeaderFault.{HeaderFault}
 use Rattle.x7_header.specs.declared.fault.HeaderFault.TheVariants as fault
 
@@ -37,7 +37,7 @@ bytes_again total count content rest e =
     let fits : nat_le count (length (content ++ rest)) ≡ true = le-leb _ _ (omega (arith, e, length-append content rest)) in
     rw (fits, take_at content rest count e, drop_at content rest count e) refl
 
-content_again : (total : ℕ) (kind : Kind) (content rest : List ℕ) → Holds kind content → content_at total kind (count_bytes kind content ++ (content ++ rest)) ≡ Ok (content, rest)
+content_again : (total : ℕ) (kind : Kind) (content rest : List ℕ) → Holds kind content → content_at total kind (bytes_of_count kind content ++ (content ++ rest)) ≡ Ok (content, rest)
 content_again total Kind.Counted content rest h =
     bytes_again total (length content / 256 * 256 + length content % 256) content rest (omega arith)
 content_again total Kind.Four content rest h = bytes_again total 4 content rest h
@@ -45,7 +45,7 @@ content_again total Kind.Four content rest h = bytes_again total 4 content rest 
 pub field_again : (total : ℕ) (field : Field) (content rest : List ℕ) → Holds field.kind content → field_at total field (field_bytes field content ++ rest) ≡ Ok (content, rest)
 unfolding field_at
 field_again total field content rest h =
-    rw (append_assoc (count_bytes field.kind content) content rest, letter_again total field.letter (count_bytes field.kind content ++ (content ++ rest))) (content_again total field.kind content rest h)
+    rw (append_assoc (bytes_of_count field.kind content) content rest, letter_again total field.letter (bytes_of_count field.kind content ++ (content ++ rest))) (content_again total field.kind content rest h)
 
 pub fields_again : (total : ℕ) (fields : List Field) (contents : List (List ℕ)) (rest : List ℕ) → Hold fields contents → fields_at total fields (fields_bytes fields contents ++ rest) ≡ Ok (contents, rest)
 unfolding fields_at
@@ -60,7 +60,7 @@ pub header_again : (x : Contents) (rest : List ℕ) → HaveHeader x → header_
 unfolding header_at layout_at
 header_again x rest h =
     let size : length (header_bytes x ++ rest) - length rest ≡ length (header_bytes x) = omega (arith, length-append (header_bytes x) rest) in
-    rw (fields_again (length (header_bytes x ++ rest)) layout (listed x) rest (h.a, (h.b, (h.c, (h.d, (refl, tt))))), size, word-whole x.data_length h.data_length) refl
+    rw (fields_again (length (header_bytes x ++ rest)) layout (contents_in_order x) rest (h.a, (h.b, (h.c, (h.d, (refl, tt))))), size, word-whole x.data_length h.data_length) refl
 
 abbrev pub done : {A : Type 0} → A → Result A HeaderFault
 done x = Ok x
@@ -100,7 +100,7 @@ bytes_take total count bytes x e =
 
 -- what a field held, and what follows it
 record Takes (kind : Kind) (bytes : List ℕ) (x : List ℕ × List ℕ) : Type 0 where
-  pub parts : bytes ≡ count_bytes kind x.0 ++ (x.0 ++ x.1)
+  pub parts : bytes ≡ bytes_of_count kind x.0 ++ (x.0 ++ x.1)
   pub holds : Holds kind x.0
 
 pub count_again : (high low count : ℕ) → high < 256 → low < 256 → count ≡ high * 256 + low → (high ≡ count / 256) × (low ≡ count % 256) × (count < 2 ^ 16)
@@ -126,7 +126,7 @@ field_takes total field bytes x f e =
     let l = letter_takes total field.letter bytes a.0 a.1 in
     let fits : AreBytes (field.letter ∷ a.0) = subst AreBytes l f in
     let t = content_takes total field.kind a.0 x fits.1 a.2 in
-    (l ∙ ap (λ (r : List ℕ). field.letter ∷ r) (t.parts ∙ sym (append_assoc (count_bytes field.kind x.0) x.0 x.1)), t.holds)
+    (l ∙ ap (λ (r : List ℕ). field.letter ∷ r) (t.parts ∙ sym (append_assoc (bytes_of_count field.kind x.0) x.0 x.1)), t.holds)
 
 -- what the fields held, and what follows them
 record Take (fields : List Field) (bytes : List ℕ) (x : List (List ℕ) × List ℕ) : Type 0 where
@@ -143,7 +143,7 @@ fields_take total (field ∷ fields) bytes x f e =
     let b = bind_ok (fields_at total fields a.0.1) (λ others. Ok (a.0.0 ∷ others.0, others.1)) x a.2 in
     let first = field_takes total field bytes a.0 f a.1 in
     let fits : AreBytes (field_bytes field a.0.0 ++ a.0.1) = subst AreBytes first.0 f in
-    let content : AreBytes (a.0.0 ++ a.0.1) = all_back (λ c. c < 256) (count_bytes field.kind a.0.0) (a.0.0 ++ a.0.1) (subst AreBytes (append_assoc (count_bytes field.kind a.0.0) a.0.0 a.0.1) fits.1) in
+    let content : AreBytes (a.0.0 ++ a.0.1) = all_back (λ c. c < 256) (bytes_of_count field.kind a.0.0) (a.0.0 ++ a.0.1) (subst AreBytes (append_assoc (bytes_of_count field.kind a.0.0) a.0.0 a.0.1) fits.1) in
     let others = fields_take total fields a.0.1 b.0 (all_back (λ c. c < 256) a.0.0 a.0.1 content) b.1 in
     let made : List (List ℕ) × List ℕ = (a.0.0 ∷ b.0.0, b.0.1) in
     subst (Take (field ∷ fields) bytes) (ok_is made x b.2) (record {
@@ -163,7 +163,7 @@ four_again (a ∷ b ∷ c ∷ d ∷ []) f l = (bytes-words (a ∷ b ∷ c ∷ d 
 
 -- fields that hold what the layout's can are those of a head
 pub record FromHead (contents : List (List ℕ)) : Type 0 where
-  pub listed_again : listed (contents_from contents) ≡ contents
+  pub listed_again : contents_in_order (contents_from contents) ≡ contents
   pub have_header : HaveHeader (contents_from contents)
 
 pub from_layout : (contents : List (List ℕ)) → Hold layout contents → AllByRecursion AreBytes contents → FromHead contents
@@ -211,7 +211,7 @@ header_takes bytes x f e =
 
 -- ---- the clauses of what reads a header
 
-pub is_found : {X : Type 0} (view : X → Contents × ℕ) (result : Result X HeaderFault) (bytes : List ℕ) → AreBytes bytes → Gives view result (header_at bytes) →
+pub is_found : {X : Type 0} (view : X → Contents × ℕ) (result : Result X HeaderFault) (bytes : List ℕ) → AreBytes bytes → ReturnsAs view result (header_at bytes) →
     IfOk result (λ x. HaveHeader (view x).0 × (bytes ≡ header_bytes (view x).0 ++ drop (view x).1 bytes) × ((view x).1 ≡ length (header_bytes (view x).0)))
 is_found view (Ok x) bytes f g = let t = header_takes bytes (view x) f g in (t.have_header, t.prefix, t.size)
 is_found view (Err e) bytes f g = tt
@@ -224,7 +224,7 @@ header_size x =
     let a = length-append x.a (0x62 ∷ (length x.b / 256 ∷ length x.b % 256 ∷ (x.b ++ (0x63 ∷ (length x.c / 256 ∷ length x.c % 256 ∷ (x.c ++ (0x64 ∷ (length x.d / 256 ∷ length x.d % 256 ∷ (x.d ++ (0x65 ∷ (bytes_of_word x.data_length ++ []))))))))))) in
     omega (arith, a, b, c, d)
 
-pub is_short : {X : Type 0} (view : X → Contents × ℕ) (result : Result X HeaderFault) (bytes : List ℕ) → AreBytes bytes → Gives view result (header_at bytes) →
+pub is_short : {X : Type 0} (view : X → Contents × ℕ) (result : Result X HeaderFault) (bytes : List ℕ) → AreBytes bytes → ReturnsAs view result (header_at bytes) →
     IfOk result (λ x. (view x).1 ≤ 262170)
 is_short view (Ok x) bytes f g =
     let t = header_takes bytes (view x) f g in
@@ -233,7 +233,7 @@ is_short view (Ok x) bytes f g =
     omega (arith, a, b, c, d, n, header_size (view x).0)
 is_short view (Err e) bytes f g = tt
 
-pub is_only : {X : Type 0} (view : X → Contents × ℕ) (result : Result X HeaderFault) (bytes : List ℕ) → Gives view result (header_at bytes) →
+pub is_only : {X : Type 0} (view : X → Contents × ℕ) (result : Result X HeaderFault) (bytes : List ℕ) → ReturnsAs view result (header_at bytes) →
     (x : Contents) (rest : List ℕ) → HaveHeader x → bytes ≡ header_bytes x ++ rest → IsOkAnd result (λ head. (view head).0 ≡ x)
 is_only view (Ok y) bytes g x rest h e =
     ap (λ (r : Contents × ℕ). r.0) (ok_is (view y) (x, length (header_bytes x)) (sym g ∙ ap header_at e ∙ header_again x rest h))
@@ -306,7 +306,7 @@ raw_at bytes false s =
       λ n. at,
     )
 
-pub is_raw : {X : Type 0} (view : X → Contents × ℕ) (result : Result X HeaderFault) (bytes : List ℕ) → Gives view result (header_at bytes) → IsErrOf result fault.Raw ↔ ((rest : List ℕ) → bytes ≢ fixed_bytes ++ rest)
+pub is_raw : {X : Type 0} (view : X → Contents × ℕ) (result : Result X HeaderFault) (bytes : List ℕ) → ReturnsAs view result (header_at bytes) → IsErrOf result fault.Raw ↔ ((rest : List ℕ) → bytes ≢ fixed_bytes ++ rest)
 is_raw {X = X} view (Ok x) bytes g =
     let r = raw_at bytes (starts_with nat_eq bytes fixed_bytes) refl in
     (λ i. absurd (ok_not_err x fault.Raw i), λ n. absurd (ok_not_err (view x) fault.Raw (sym g ∙ r.1 n)))
@@ -441,7 +441,7 @@ header_refused bytes place (after, prefix, h, w) =
     let layout_refused : layout_at (length bytes) after ≡ Err (fault.Field place) = rw fields refl in
     ap header_at prefix ∙ ap (λ n. layout_at n after) (sym (ap length prefix)) ∙ layout_refused
 
-pub is_other : {X : Type 0} (view : X → Contents × ℕ) (result : Result X HeaderFault) (bytes : List ℕ) → AreBytes bytes → Gives view result (header_at bytes) → (place : ℕ) →
+pub is_other : {X : Type 0} (view : X → Contents × ℕ) (result : Result X HeaderFault) (bytes : List ℕ) → AreBytes bytes → ReturnsAs view result (header_at bytes) → (place : ℕ) →
     IsErrOf result (fault.Field place) ↔ HasOtherLetterAt bytes place
 is_other view (Ok x) bytes f g place =
     (λ i. absurd (ok_not_err x (fault.Field place) i), λ w. absurd (ok_not_err (view x) (fault.Field place) (sym g ∙ header_refused bytes place w)))

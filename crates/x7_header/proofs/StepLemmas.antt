@@ -3,7 +3,7 @@ use Rattle.std.proofs.Common.{◌≡◌, ℕ, ◌-◌, List, length, Result, Ok,
 use Rattle.std.specs.Prelude.{IsErr, IsErrAnd}
 use Rattle.x7_words.specs.Word.{word_of_bytes}
 use Rattle.x7_header.specs.Header.{Kind}
-use Rattle.x7_header.specs.Reading.{field_at, fields_at, layout_at, Gives}
+use Rattle.x7_header.specs.Reading.{field_at, fields_at, layout_at, ReturnsAs}
 use Rattle.x7_header.specs.declared.fault.HeaderFault.{HeaderFault}
 
 pub fault_at_a : (total : ℕ) (bytes : List ℕ) (fault : HeaderFault) → field_at total (record { letter = 97; kind = Kind.Counted }) bytes ≡ Err fault → layout_at total bytes ≡ Err fault
@@ -31,6 +31,6 @@ unfolding layout_at fields_at
 read_whole total bytes a after_a b after_b c after_c d after_d e after_e number ha hb hc hd he w = rw (ha, hb, hc, hd, he, w) refl
 
 -- a fault that is handed on is the reading's
-pub gives_fault : {X Y : Type 0} (view : X → Y) (result : Result X HeaderFault) (reading : Result Y HeaderFault) (fault : HeaderFault) → IsErr result → IsErrAnd result (λ e. e ≡ fault) → reading ≡ Err fault → Gives view result reading
+pub gives_fault : {X Y : Type 0} (view : X → Y) (result : Result X HeaderFault) (reading : Result Y HeaderFault) (fault : HeaderFault) → IsErr result → IsErrAnd result (λ e. e ≡ fault) → reading ≡ Err fault → ReturnsAs view result reading
 gives_fault view (Ok x) reading fault i a r = absurd a
 gives_fault view (Err e) reading fault i a r = rw (r, a) refl

@@ -22,6 +22,7 @@ pub data Kind : Type 0 where
   -- four bytes
   Four : Kind
 
+-- a field of a header: its letter, and what stands after that
 pub record Field : Type 0 where
   pub letter : ℕ
   pub kind : Kind
@@ -42,13 +43,13 @@ Holds Kind.Counted content = length content < 2 ^ 16
 Holds Kind.Four content = length content ≡ 4
 
 -- the bytes between a field's letter and what it holds
-abbrev pub count_bytes : Kind → List ℕ → List ℕ
-count_bytes Kind.Counted content = length content / 256 ∷ length content % 256 ∷ []
-count_bytes Kind.Four content = []
+abbrev pub bytes_of_count : Kind → List ℕ → List ℕ
+bytes_of_count Kind.Counted content = length content / 256 ∷ length content % 256 ∷ []
+bytes_of_count Kind.Four content = []
 
 -- a field with what it holds
 abbrev pub field_bytes : Field → List ℕ → List ℕ
-field_bytes field content = field.letter ∷ (count_bytes field.kind content ++ content)
+field_bytes field content = field.letter ∷ (bytes_of_count field.kind content ++ content)
 
 -- fields one after the other, each with what it holds
 abbrev pub fields_bytes : List Field → List (List ℕ) → List ℕ
@@ -91,8 +92,8 @@ pub record Contents : Type 0 where
   pub data_length : ℕ
 
 -- the contents of a header's fields in the layout's order
-abbrev pub listed : Contents → List (List ℕ)
-listed x = x.a ∷ x.b ∷ x.c ∷ x.d ∷ bytes_of_word x.data_length ∷ []
+abbrev pub contents_in_order : Contents → List (List ℕ)
+contents_in_order x = x.a ∷ x.b ∷ x.c ∷ x.d ∷ bytes_of_word x.data_length ∷ []
 
 -- the contents fit a header: four texts of at most 65,535 bytes, and a length of 32 bits
 pub record HaveHeader (x : Contents) : Type 0 where
@@ -104,7 +105,7 @@ pub record HaveHeader (x : Contents) : Type 0 where
 
 -- the bytes of the header with these contents
 abbrev pub header_bytes : Contents → List ℕ
-header_bytes x = fixed_bytes ++ fields_bytes layout (listed x)
+header_bytes x = fixed_bytes ++ fields_bytes layout (contents_in_order x)
 
 -- the header with these contents and of this size stands at the beginning of the bytes
 abbrev pub BeginsWith : Contents → ℕ → List ℕ → Type 0

@@ -6,15 +6,16 @@ use Rattle.x7_header.specs.Header.{fixed_bytes, fixed_size, Kind, Field, layout,
 use Rattle.x7_header.specs.declared.fault.HeaderFault.{HeaderFault}
 use Rattle.x7_header.specs.declared.fault.HeaderFault.TheVariants as fault
 
+-- a step of reading after another, where that met no fault
 infixl 10 ◌>>=◌
 abbrev pub ◌>>=◌ : {A B : Type 0} → Result A HeaderFault → (A → Result B HeaderFault) → Result B HeaderFault
 (Ok x) >>= f = f x
 (Err e) >>= f = Err e
 
 -- What a call returned, seen by view, is what the reading gives.
-abbrev pub Gives : {X Y : Type 0} → (X → Y) → Result X HeaderFault → Result Y HeaderFault → Type 0
-Gives view (Ok x) reading = reading ≡ Ok (view x)
-Gives view (Err e) reading = reading ≡ Err e
+abbrev pub ReturnsAs : {X Y : Type 0} → (X → Y) → Result X HeaderFault → Result Y HeaderFault → Type 0
+ReturnsAs view (Ok x) reading = reading ≡ Ok (view x)
+ReturnsAs view (Err e) reading = reading ≡ Err e
 
 -- All below reads at the beginning of what is left of an input of `total` bytes.
 
@@ -81,19 +82,23 @@ header_at bytes = do
   after ← fixed_at bytes
   layout_at (length bytes) after
 
--- ---- bytes that wait for `count` more: with fewer the input ends inside the field, the fields or the header that they begin
+-- ---- bytes that wait for more
 
+-- the bytes begin a field that lacks `count` more: with fewer the input ends inside the field
 abbrev pub FieldWaits : Field → List ℕ → ℕ → Type 0
 FieldWaits field bytes count = (total : ℕ) (more : List ℕ) → length more < count → field_at total field (bytes ++ more) ≡ Err (fault.Cut total)
 
+-- the bytes begin fields that lack `count` more: with fewer the input ends inside the fields
 abbrev pub LayoutWaits : List ℕ → ℕ → Type 0
 LayoutWaits bytes count = (total : ℕ) (more : List ℕ) → length more < count → layout_at total (bytes ++ more) ≡ Err (fault.Cut total)
 
+-- the bytes begin a header that lacks `count` more: with fewer the input ends inside the header
 abbrev pub HeaderWaits : List ℕ → ℕ → Type 0
 HeaderWaits bytes count = (more : List ℕ) → length more < count → header_at (bytes ++ more) ≡ Err (fault.Cut (length (bytes ++ more)))
 
 -- ---- how many bytes the part lacks that is being read: the fixed bytes, or of a field its letter, its count, its text or its number
 
+-- how many bytes a field of this kind lacks of which some are there
 abbrev pub lacks_of : Kind → List ℕ → ℕ
 lacks_of Kind.Counted = text_lacks
 lacks_of Kind.Four = number_lacks
@@ -105,17 +110,19 @@ lacks_by lack (Err (fault.Cut total)) later = lack
 lacks_by lack (Err (fault.Field place)) later = 0
 lacks_by lack (Err fault.Raw) later = 0
 
--- the fields of a text and of a number of this letter
+-- the field of a text of this letter
 abbrev pub text_of_letter : ℕ → Field
 text_of_letter letter = record { letter = letter; kind = Kind.Counted }
 
+-- the field of a number of this letter
 abbrev pub number_of_letter : ℕ → Field
 number_of_letter letter = record { letter = letter; kind = Kind.Four }
 
--- what the bytes lack that begin with the text, or the number, of this letter: of that field, or of the fields after it where it is whole
+-- what the bytes lack that begin with the text of this letter: of that field, or of the fields after it where it is whole
 abbrev pub text_wants : ℕ → List ℕ → (List ℕ → ℕ) → ℕ
 text_wants letter bytes later = lacks_by (text_lacks bytes) (field_at (length bytes) (text_of_letter letter) bytes) later
 
+-- what the bytes lack that begin with the number of this letter: of that field, or of the fields after it where it is whole
 abbrev pub number_wants : ℕ → List ℕ → (List ℕ → ℕ) → ℕ
 number_wants letter bytes later = lacks_by (number_lacks bytes) (field_at (length bytes) (number_of_letter letter) bytes) later
 
@@ -124,6 +131,7 @@ abbrev pub fields_lack : List Field → List ℕ → ℕ
 fields_lack [] bytes = 0
 fields_lack (field ∷ fields) bytes = lacks_by (lacks_of field.kind bytes) (field_at (length bytes) field bytes) (fields_lack fields)
 
+-- what a header's fields lack behind the fixed bytes, and 0 where these are wrong
 abbrev pub lacks_after : Result (List ℕ) HeaderFault → ℕ
 lacks_after (Ok after) = fields_lack layout after
 lacks_after (Err f) = 0

@@ -5,7 +5,7 @@
 ghost use Rattle.std.specs.Prelude.{◌≡◌, ◌≤◌, ◌<◌, ◌+◌, ◌++◌, ℕ, List, length, IfOk, IsErrOf, Ok, Err};
 ghost use Rattle.x7_words.specs.Word.{bytes_of_word, word_of_bytes};
 ghost use Rattle.x7_header.specs.Header.{fixed_size};
-ghost use Rattle.x7_header.specs.Reading.{Gives, letter_at, bytes_at, field_at, fixed_at, number_of_letter, text_of_letter};
+ghost use Rattle.x7_header.specs.Reading.{ReturnsAs, letter_at, bytes_at, field_at, fixed_at, number_of_letter, text_of_letter};
 
 use crate::fault::HeaderFault;
 use crate::header::FIXED_BYTES;
@@ -13,7 +13,7 @@ use x7_words::word_of;
 
 /// What follows the fixed bytes.
 pub fn after_fixed_bytes(bytes: &[u8]) -> Result<&[u8], HeaderFault>
-    ensures value { Gives (λ rest. rest.now) result (fixed_at bytes.now) }
+    ensures value { ReturnsAs (λ rest. rest.now) result (fixed_at bytes.now) }
     // Thirteen bytes are judged alike whatever follows.
     ensures more { IfOk result (λ x. (rest : List ℕ) → fixed_at (bytes.now ++ rest) ≡ Ok (x.now ++ rest)) }
     ensures raw { (rest : List ℕ) → fixed_size ≤ length bytes.now → IsErrOf result HeaderFault.Raw →
@@ -28,7 +28,7 @@ pub fn after_fixed_bytes(bytes: &[u8]) -> Result<&[u8], HeaderFault>
 /// What follows the letter that is due.
 fn after_letter(bytes: &[u8], letter: u8, total: usize) -> Result<&[u8], HeaderFault>
     requires { length bytes.now ≤ total }
-    ensures { Gives (λ rest. rest.now) result (letter_at total letter bytes.now) }
+    ensures { ReturnsAs (λ rest. rest.now) result (letter_at total letter bytes.now) }
 {
     match bytes {
         [] => Err(HeaderFault::Cut(total)),
@@ -39,7 +39,7 @@ fn after_letter(bytes: &[u8], letter: u8, total: usize) -> Result<&[u8], HeaderF
 
 /// The first `count` bytes, and what follows them.
 fn first_bytes(bytes: &[u8], count: usize, total: usize) -> Result<(&[u8], &[u8]), HeaderFault>
-    ensures { Gives (λ x. (x.0.now, x.1.now)) result (bytes_at total count bytes.now) }
+    ensures { ReturnsAs (λ x. (x.0.now, x.1.now)) result (bytes_at total count bytes.now) }
 {
     if bytes.len() < count {
         return Err(HeaderFault::Cut(total));
@@ -51,7 +51,7 @@ fn first_bytes(bytes: &[u8], count: usize, total: usize) -> Result<(&[u8], &[u8]
 #[tactic(auto, unfolding(crate::specs::Reading::field_at))]
 pub fn text_field(bytes: &[u8], letter: u8, total: usize) -> Result<(&[u8], &[u8]), HeaderFault>
     requires { length bytes.now ≤ total }
-    ensures value { Gives (λ x. (x.0.now, x.1.now)) result
+    ensures value { ReturnsAs (λ x. (x.0.now, x.1.now)) result
         (field_at total (text_of_letter letter) bytes.now) }
     // What follows is left of the bytes.
     ensures within { IfOk result (λ x. length x.1.now ≤ length bytes.now) }
@@ -75,7 +75,7 @@ pub fn text_field(bytes: &[u8], letter: u8, total: usize) -> Result<(&[u8], &[u8
 #[tactic(auto, unfolding(crate::specs::Reading::field_at))]
 pub fn number_field(bytes: &[u8], letter: u8, total: usize) -> Result<(u32, &[u8]), HeaderFault>
     requires { length bytes.now ≤ total }
-    ensures value { Gives (λ x. (bytes_of_word x.0, x.1.now)) result
+    ensures value { ReturnsAs (λ x. (bytes_of_word x.0, x.1.now)) result
         (field_at total (number_of_letter letter) bytes.now) }
     // The number is the word of the field's four bytes.
     ensures word { IfOk result (λ x. word_of_bytes (bytes_of_word x.0) ≡ x.0) }

@@ -1,7 +1,7 @@
 //! Reading a header, field by field.
 ghost use Rattle.std.specs.Prelude.{◌≡◌, ◌≢◌, ◌↔◌, IsOkAnd, IsErrOf, ◌≤◌, ◌++◌, ℕ, List, length, IfOk, Ok};
 ghost use Rattle.x7_header.specs.Header.{BeginsWith, Contents, HaveHeader, EndsInHeader, HasOtherLetterAt, contents_of, fixed_bytes, header_bytes, longest_header};
-ghost use Rattle.x7_header.specs.Reading.{Gives, layout_at, header_at};
+ghost use Rattle.x7_header.specs.Reading.{ReturnsAs, layout_at, header_at};
 
 use crate::fault::HeaderFault;
 use crate::field::{after_fixed_bytes, number_field, text_field};
@@ -11,7 +11,7 @@ use crate::header::Head;
 #[tactic(auto, unfolding(crate::specs::Reading::layout_at, crate::specs::Reading::fields_at))]
 fn fields(bytes: &[u8], total: usize) -> Result<Head<'_>, HeaderFault>
     requires { length bytes.now ≤ total }
-    ensures { Gives (λ head. (contents_of head, head.size)) result (layout_at total bytes.now) }
+    ensures { ReturnsAs (λ head. (contents_of head, head.size)) result (layout_at total bytes.now) }
 {
     let (a, rest) = text_field(bytes, b'a', total)?;
     let (b, rest) = text_field(rest, b'b', total)?;
@@ -43,7 +43,7 @@ pub fn header_of(bytes: &[u8]) -> Result<Head<'_>, HeaderFault>
     // `Field` comes exactly where the bytes before the place begin a header, a letter is due there, and another byte stands there.
     ensures field { (place : ℕ) → IsErrOf result (HeaderFault.Field place) ↔ HasOtherLetterAt bytes.now place }
     // Which fault it is, field by field.
-    ensures exact { Gives (λ head. (contents_of head, head.size)) result (header_at bytes.now) }
+    ensures exact { ReturnsAs (λ head. (contents_of head, head.size)) result (header_at bytes.now) }
 {
     fields(after_fixed_bytes(bytes)?, bytes.len())
 }
