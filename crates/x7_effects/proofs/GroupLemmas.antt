@@ -14,7 +14,7 @@ use Rattle.x7_pipeline.specs.Runs.{put_over}
 use Rattle.x7_pipeline.proofs.LawLemmas.{put_twice}
 use Rattle.x7_planner.specs.Partial.{Stretch, Copies, Rows}
 use Rattle.x7_planner.specs.Partial.{same_words, with_content, is_shared, leads_group, groups_led, others, follows, with_row, runs_of, stretches_of}
-use Rattle.x7_planner.specs.Partial.{joined_runs, IsRun, AreLongest, pairs_of}
+use Rattle.x7_planner.specs.Partial.{joined_runs, IsRunOfRows, AreLongest, pairs_of}
 use Rattle.x7_planner.proofs.ContentLemmas.{same_words-true, same_words-own}
 use Rattle.x7_effects.proofs.Groups.{put_stretches}
 
@@ -290,7 +290,7 @@ pub plan_put : (part : PartData) (rows : List PlanRow) (memory : FrameMap) → A
 plan_put part rows memory o = stretches_put rows (stretches_of part rows) memory (stretches_agree part rows o) (stretches_cover part rows)
 
 -- the runs are the longest
-run_first : (part : PartData) (run : List PlanRow) (runs : List (List PlanRow)) → AreLongest part (run ∷ runs) → IsRun part run
+run_first : (part : PartData) (run : List PlanRow) (runs : List (List PlanRow)) → AreLongest part (run ∷ runs) → IsRunOfRows part run
 run_first part run [] a = a
 run_first part run (next ∷ runs) a = a.0
 

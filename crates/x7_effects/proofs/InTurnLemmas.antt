@@ -12,7 +12,7 @@ use Rattle.x7_planner.specs.Full.{full_pieces, full_stream}
 use Rattle.x7_planner.specs.Partial.{partial_ending, partial_opening, partial_stream, stretch_words, stretches_of}
 use Rattle.x7_planner.specs.Readback.{read_stream}
 use Rattle.x7_planner.specs.Refusals.{CanRead}
-use Rattle.x7_planner.specs.Stream.{Piece, Words, Check, bytes_of_words, check_words, stream_of, with_piece}
+use Rattle.x7_planner.specs.Stream.{StreamPiece, Words, Check, bytes_of_words, check_words, stream_of, with_piece}
 use Rattle.x7_engine.specs.declared.kept.Kept.{Kept}
 use Rattle.x7_engine.specs.Rest.{AtRest}
 use Rattle.x7_engine.specs.State.{memory_in, reads_of}
@@ -23,14 +23,14 @@ use Rattle.x7_effects.proofs.StreamLemmas.{bytes_fit}
 
 -- ---- streams are bytes
 
-pieces_fit : (pieces : List Piece) (bytes : List ℕ) → AreBytes bytes → AreBytes (fold with_piece bytes pieces)
+pieces_fit : (pieces : List StreamPiece) (bytes : List ℕ) → AreBytes bytes → AreBytes (fold with_piece bytes pieces)
 pieces_fit [] bytes f = f
 pieces_fit (Words ws ∷ pieces) bytes f = pieces_fit pieces (bytes ++ bytes_of_words ws) (all-append (λ b. b < 256) bytes (bytes_of_words ws) f (bytes_fit ws))
 pieces_fit (Check ∷ pieces) bytes f =
     let check : List ℕ = check_words (check_of_bytes bytes) in
     pieces_fit pieces (bytes ++ bytes_of_words check) (all-append (λ b. b < 256) bytes (bytes_of_words check) f (bytes_fit check))
 
-longer_fits : (bytes : List ℕ) (pieces : List Piece) → AreBytes bytes → AreBytes (bytes ++ stream_of pieces)
+longer_fits : (bytes : List ℕ) (pieces : List StreamPiece) → AreBytes bytes → AreBytes (bytes ++ stream_of pieces)
 longer_fits bytes pieces f = all-append (λ b. b < 256) bytes (stream_of pieces) f (pieces_fit pieces [] tt)
 
 full_fits : (part : PartData) (bytes : List ℕ) (plan : PlanData) → AreBytes bytes → AreBytes (bytes ++ full_stream part plan)

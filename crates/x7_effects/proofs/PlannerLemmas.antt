@@ -43,7 +43,7 @@ after_pieces c pieces = after_items c (with_checks c pieces)
 
 -- ---- pieces as the planner writes them
 
-abbrev spelled : Piece → planner.Piece
+abbrev spelled : Piece → planner.StreamPiece
 spelled (Put i) = planner.Words (item_words i)
 spelled Check = planner.Check
 
@@ -107,9 +107,9 @@ slot_same part plan (Frame far) = refl
 slot_same part plan Pad = refl
 slot_same part plan End = refl
 
-slots_same : (part : PartData) (plan : PlanData) (places : List Slot) → full.slot_words part plan places ≡ joined (frames_at part plan places)
+slots_same : (part : PartData) (plan : PlanData) (places : List Slot) → full.words_of_slots part plan places ≡ joined (frames_at part plan places)
 slots_same part plan [] = refl
-slots_same part plan (s ∷ places) = ap (λ t. t ++ full.slot_words part plan places) (slot_same part plan s) ∙ ap (λ t. frame_of part plan s ++ t) (slots_same part plan places)
+slots_same part plan (s ∷ places) = ap (λ t. t ++ full.words_of_slots part plan places) (slot_same part plan s) ∙ ap (λ t. frame_of part plan s ++ t) (slots_same part plan places)
 
 -- the pieces up to the frame data
 abbrev opening : PartData → List ℕ → List Piece
@@ -133,7 +133,7 @@ full_same part plan is p e =
     let fits : ArePieces (full_pieces part plan) = full_fits part plan is p e (have_words plan.rows p.each) in
     let count : frame_words part * length (slots_in part) ≡ length ws = sym (frames_long part plan (slots_in part) p e) in
     let prefix : List Piece = opening part ws in
-    let first : bytes_of_words (full.full_opening part) ++ bytes_of_words (full.slot_words part plan (slots_in part)) ≡ bytes_so prefix =
+    let first : bytes_of_words (full.full_opening part) ++ bytes_of_words (full.words_of_slots part plan (slots_in part)) ≡ bytes_so prefix =
     ap (λ t. bytes_of_words (full.full_opening part) ++ bytes_of_words t) (slots_same part plan (slots_in part))
     ∙ ap (λ (k : ℕ). bytes_of_words (words_before part k) ++ bytes_of_words ws) count
     ∙ sym (flat_map-append bytes_of_word (words_before part (length ws)) ws)

@@ -24,6 +24,7 @@ pub record Resting : Type 0 where
   pub kept : Kept
   pub bytes : List ℕ
 
+-- a device of the part, by what its reset kept and the bytes that it took
 abbrev pub resting_after : PartData → Kept → List ℕ → Resting
 resting_after part kept bytes = record { part = part; kept = kept; bytes = bytes }
 

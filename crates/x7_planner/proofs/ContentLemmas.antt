@@ -13,7 +13,7 @@ use Rattle.std.proofs.lemmas.List.{get_or-take, get_or-drop, get_or-map, get_or_
 use Rattle.std.proofs.lemmas.List.Elements.{Contains-get_or}
 use Rattle.std.proofs.lemmas.List.Sorted.{sorted_far, ranks_by, All-permutation, Contains-permutation, IsPermutation-map}
 use Rattle.x7_memory.specs.Planned.{PlanRow}
-use Rattle.x7_planner.specs.Contents.{AreFirsts, AreGrouped, AreStarts, AreTogether, IsBegun, IsFirst, IsPlaced, row_of, rows_of}
+use Rattle.x7_planner.specs.Contents.{AreFirsts, AreGrouped, AreStarts, AreTogether, IsBegun, IsFirst, IsPlaced, content_row, content_rows}
 use Rattle.x7_planner.specs.Partial.{same_words, with_content}
 use Rattle.x7_planner.specs.declared.content.Content.{Content}
 
@@ -132,7 +132,7 @@ first-of rows words a d t f = from-first rows words a t f ∙ step-in rows words
 
 -- ---- rows of contents
 
-pub row-at : (contents : List Content) (i : ℕ) (d : PlanRow) (e : Content) → i < length contents → get_or (rows_of contents) i d ≡ row_of (get_or contents i e)
+pub row-at : (contents : List Content) (i : ℕ) (d : PlanRow) (e : Content) → i < length contents → get_or (content_rows contents) i d ≡ content_row (get_or contents i e)
 row-at [] i d e l = absurd (omega (arith, l))
 row-at (c ∷ contents) zero d e l = refl
 row-at (c ∷ contents) (suc i) d e l = row-at contents i d e (omega (arith, l))
@@ -172,26 +172,26 @@ ties_same x y =
     by Greater Equal e = absurd (cc)
     by Greater Greater e = absurd (cc)
 
-content_is_filter : (c : Content) (contents : List Content) → with_content c.words.now (rows_of contents) ≡ rows_of (filter (ties by_words c) contents)
+content_is_filter : (c : Content) (contents : List Content) → with_content c.words.now (content_rows contents) ≡ content_rows (filter (ties by_words c) contents)
 content_is_filter c [] = refl
 content_is_filter c (x ∷ contents) = rw (ties_same c x) (by (same_words x.words.now c.words.now) (content_is_filter c contents))
   where
-    by : (b : Bool) → with_content c.words.now (rows_of contents) ≡ rows_of (filter (ties by_words c) contents)
-        → (if b then row_of x ∷ with_content c.words.now (rows_of contents) else with_content c.words.now (rows_of contents)) ≡ rows_of (cond b (x ∷ filter (ties by_words c) contents) (filter (ties by_words c) contents))
-    by true ih = ap (λ t. row_of x ∷ t) ih
+    by : (b : Bool) → with_content c.words.now (content_rows contents) ≡ content_rows (filter (ties by_words c) contents)
+        → (if b then content_row x ∷ with_content c.words.now (content_rows contents) else with_content c.words.now (content_rows contents)) ≡ content_rows (cond b (x ∷ filter (ties by_words c) contents) (filter (ties by_words c) contents))
+    by true ih = ap (λ t. content_row x ∷ t) ih
     by false ih = ih
 
 pub words_order : IsStrictWeakOrder by_words
 words_order = ranks_by nat_list_cmp_total (λ (x : Content). x.words.now)
 
-sorted_together : (contents : List Content) → IsSortedBy by_words contents → AreTogether (rows_of contents)
+sorted_together : (contents : List Content) → IsSortedBy by_words contents → AreTogether (content_rows contents)
 sorted_together [] s i k j d l m h e = absurd (omega (arith, h))
 sorted_together (c ∷ contents) s i k j d l m h e =
     let all : List Content = c ∷ contents in
-    let inside : j < length all = omega (arith, h, length-map all row_of) in
-    let first : get_or (rows_of all) i d ≡ row_of (get_or all i c) = row-at all i d c (omega (arith, l, m, inside)) in
-    let middle : get_or (rows_of all) k d ≡ row_of (get_or all k c) = row-at all k d c (omega (arith, m, inside)) in
-    let last : get_or (rows_of all) j d ≡ row_of (get_or all j c) = row-at all j d c inside in
+    let inside : j < length all = omega (arith, h, length-map all content_row) in
+    let first : get_or (content_rows all) i d ≡ content_row (get_or all i c) = row-at all i d c (omega (arith, l, m, inside)) in
+    let middle : get_or (content_rows all) k d ≡ content_row (get_or all k c) = row-at all k d c (omega (arith, m, inside)) in
+    let last : get_or (content_rows all) j d ≡ content_row (get_or all j c) = row-at all j d c inside in
     let same : (get_or all i c).words.now ≡ (get_or all j c).words.now = ap (λ (r : PlanRow). r.words) (sym first) ∙ e ∙ ap (λ (r : PlanRow). r.words) last in
     let up : by_words (get_or all k c) (get_or all i c) ≡ false = sorted_far by_words words_order all s i k c l (omega (arith, m, inside)) in
     let over : by_words (get_or all j c) (get_or all k c) ≡ false = sorted_far by_words words_order all s k j c m inside in
@@ -204,13 +204,13 @@ row_there (c ∷ contents) i p l =
     subst (Contains (map (λ (c : Content). c.row) (c ∷ contents))) (get_or-map (λ (c : Content). c.row) (c ∷ contents) i c 0 l ∙ p i c l)
     (Contains-get_or (map (λ (c : Content). c.row) (c ∷ contents)) i 0 (omega (arith, l, length-map (c ∷ contents) (λ (c : Content). c.row))))
 
-pub grouped-is : (rows : List PlanRow) (old new : List Content) → rows_of old ≡ rows → ((k : ℕ) (d : Content) → k < length old → (get_or old k d).row ≡ k) → IsPermutation old new → IsSortedBy by_words new → IsStableBy by_words old new
+pub grouped-is : (rows : List PlanRow) (old new : List Content) → content_rows old ≡ rows → ((k : ℕ) (d : Content) → k < length old → (get_or old k d).row ≡ k) → IsPermutation old new → IsSortedBy by_words new → IsStableBy by_words old new
     → AreGrouped rows new
 grouped-is rows old new e p m s t =
-    let long : length rows ≡ length old = ap length (sym e) ∙ length-map old row_of in
+    let long : length rows ≡ length old = ap length (sym e) ∙ length-map old content_row in
     record {
       together = sorted_together new s;
-      same = (λ k d l. content_is_filter (get_or new k d) new ∙ ap rows_of (t (get_or new k d)) ∙ sym (content_is_filter (get_or new k d) old) ∙ ap (with_content (get_or new k d).words.now) e);
+      same = (λ k d l. content_is_filter (get_or new k d) new ∙ ap content_rows (t (get_or new k d)) ∙ sym (content_is_filter (get_or new k d) old) ∙ ap (with_content (get_or new k d).words.now) e);
       placed = All-permutation (IsPlaced rows) old new m (λ k d l. (omega (arith, p k d l, l, long), (λ f. ap (λ (n : ℕ). get_or rows n f) (p k d l) ∙ ap (λ t. get_or t k f) (sym e) ∙ row-at old k f d l)));
       each = (λ i l. Contains-permutation (map (λ (c : Content). c.row) old) (map (λ (c : Content). c.row) new) i (IsPermutation-map (λ (c : Content). c.row) old new m) (row_there old i p (omega (arith, l, long))));
     }
@@ -234,17 +234,17 @@ begun-new rows start k d b l n = record {
   before = (λ f h e. let g = b.first f h in n (sym e ∙ sym (g.has d)));
 }
 
-pub start_same : (contents : List Content) (start k : ℕ) (e : Content) → IsBegun (rows_of contents) start k → k < length contents → same_words (get_or contents k e).words.now (get_or contents start e).words.now ≡ true
-    → (d : PlanRow) → IsFirst (rows_of contents) (get_or (rows_of contents) k d).words start
+pub start_same : (contents : List Content) (start k : ℕ) (e : Content) → IsBegun (content_rows contents) start k → k < length contents → same_words (get_or contents k e).words.now (get_or contents start e).words.now ≡ true
+    → (d : PlanRow) → IsFirst (content_rows contents) (get_or (content_rows contents) k d).words start
 start_same contents start k e b l t d =
-    begun-same (rows_of contents) start k d b (omega (arith, l, length-map contents row_of))
+    begun-same (content_rows contents) start k d b (omega (arith, l, length-map contents content_row))
     (ap (λ (r : PlanRow). r.words) (row-at contents k d e l) ∙ same_words-true (get_or contents k e).words.now (get_or contents start e).words.now t
     ∙ ap (λ (r : PlanRow). r.words) (sym (row-at contents start d e (let h = b.behind in omega (arith, h, l)))))
 
-pub start_new : (contents : List Content) (start k : ℕ) (e : Content) → IsBegun (rows_of contents) start k → k < length contents → same_words (get_or contents k e).words.now (get_or contents start e).words.now ≡ false
-    → (d : PlanRow) → IsFirst (rows_of contents) (get_or (rows_of contents) k d).words k
+pub start_new : (contents : List Content) (start k : ℕ) (e : Content) → IsBegun (content_rows contents) start k → k < length contents → same_words (get_or contents k e).words.now (get_or contents start e).words.now ≡ false
+    → (d : PlanRow) → IsFirst (content_rows contents) (get_or (content_rows contents) k d).words k
 start_new contents start k e b l t d =
-    begun-new (rows_of contents) start k d b (omega (arith, l, length-map contents row_of)) (λ s.
+    begun-new (content_rows contents) start k d b (omega (arith, l, length-map contents content_row)) (λ s.
     same_words-false (get_or contents k e).words.now (get_or contents start e).words.now t
     (ap (λ (r : PlanRow). r.words) (sym (row-at contents k d e l)) ∙ s ∙ ap (λ (r : PlanRow). r.words) (row-at contents start d e (let h = b.behind in omega (arith, h, l)))))
 
@@ -304,37 +304,37 @@ place-other rows words firsts a k d t m f l n e =
 
 -- places up to k are marked
 pub record StartsUpTo (rows : List PlanRow) (contents : List Content) (starts : List ℕ) (k : ℕ) : Type 0 where
-  pub done : (j : ℕ) (d : Content) (e : PlanRow) → j < k → IsFirst (rows_of contents) (get_or rows (get_or contents j d).row e).words (get_or starts (get_or contents j d).row 0)
+  pub done : (j : ℕ) (d : Content) (e : PlanRow) → j < k → IsFirst (content_rows contents) (get_or rows (get_or contents j d).row e).words (get_or starts (get_or contents j d).row 0)
 
 pub starts_more : (rows : List PlanRow) (contents : List Content) (starts : List ℕ) (k s : ℕ) (c : Content) → AreGrouped rows contents → StartsUpTo rows contents starts k → length starts ≡ length rows → k < length contents
-    → c ≡ get_or contents k c → ((d : PlanRow) → IsFirst (rows_of contents) (get_or (rows_of contents) k d).words s) → StartsUpTo rows contents (set starts c.row s) (k + 1)
+    → c ≡ get_or contents k c → ((d : PlanRow) → IsFirst (content_rows contents) (get_or (content_rows contents) k d).words s) → StartsUpTo rows contents (set starts c.row s) (k + 1)
 starts_more rows contents starts k s c g u n l r f = record {
   done = (λ j d e h. at j d e h (cases_eq j k));
 }
   where
-    here : (e : PlanRow) → IsFirst (rows_of contents) (get_or rows c.row e).words (get_or (set starts c.row s) c.row 0)
+    here : (e : PlanRow) → IsFirst (content_rows contents) (get_or rows c.row e).words (get_or (set starts c.row s) c.row 0)
     here e =
         let placed : IsPlaced rows c = subst (IsPlaced rows) (sym r) (g.placed k c l) in
-        let words : (get_or (rows_of contents) k e).words ≡ (get_or rows c.row e).words = ap (λ (r : PlanRow). r.words) (row-at contents k e c l ∙ ap row_of (sym r) ∙ sym (placed.1 e)) in
-        rw (get_or-set_same starts c.row s 0 (omega (arith, placed.0, n))) (subst (λ t. IsFirst (rows_of contents) t s) words (f e))
+        let words : (get_or (content_rows contents) k e).words ≡ (get_or rows c.row e).words = ap (λ (r : PlanRow). r.words) (row-at contents k e c l ∙ ap content_row (sym r) ∙ sym (placed.1 e)) in
+        rw (get_or-set_same starts c.row s 0 (omega (arith, placed.0, n))) (subst (λ t. IsFirst (content_rows contents) t s) words (f e))
 
-    at : (j : ℕ) (d : Content) (e : PlanRow) → j < k + 1 → (j ≡ k) ⊎ (j ≢ k) → IsFirst (rows_of contents) (get_or rows (get_or contents j d).row e).words (get_or (set starts c.row s) (get_or contents j d).row 0)
+    at : (j : ℕ) (d : Content) (e : PlanRow) → j < k + 1 → (j ≡ k) ⊎ (j ≢ k) → IsFirst (content_rows contents) (get_or rows (get_or contents j d).row e).words (get_or (set starts c.row s) (get_or contents j d).row 0)
     at j d e h (inl same) =
-        subst (λ (x : Content). IsFirst (rows_of contents) (get_or rows x.row e).words (get_or (set starts c.row s) x.row 0)) (r ∙ get_or_default contents k c d l ∙ ap (λ (i : ℕ). get_or contents i d) (sym same)) (here e)
+        subst (λ (x : Content). IsFirst (content_rows contents) (get_or rows x.row e).words (get_or (set starts c.row s) x.row 0)) (r ∙ get_or_default contents k c d l ∙ ap (λ (i : ℕ). get_or contents i d) (sym same)) (here e)
     at j d e h (inr other) = elim (cases_eq (get_or contents j d).row c.row) [
-      | inl same ↦ subst (λ (x : ℕ). IsFirst (rows_of contents) (get_or rows x e).words (get_or (set starts c.row s) x 0)) (sym same) (here e)
+      | inl same ↦ subst (λ (x : ℕ). IsFirst (content_rows contents) (get_or rows x e).words (get_or (set starts c.row s) x 0)) (sym same) (here e)
       | inr differs ↦ rw (get_or-set_other starts c.row (get_or contents j d).row s 0 differs) (u.done j d e (omega (arith, h, other)))
     ]
 
-pub starts_step : (rows : List PlanRow) (contents : List Content) (starts firsts : List ℕ) (k x : ℕ) (e : Content) → AreGrouped rows contents → AreFirsts (rows_of contents) firsts → StartsUpTo rows contents starts k → length starts ≡ length rows → k < length contents
+pub starts_step : (rows : List PlanRow) (contents : List Content) (starts firsts : List ℕ) (k x : ℕ) (e : Content) → AreGrouped rows contents → AreFirsts (content_rows contents) firsts → StartsUpTo rows contents starts k → length starts ≡ length rows → k < length contents
     → StartsUpTo rows contents (set starts (get_or contents k e).row (get_or firsts k x)) (k + 1)
 starts_step rows contents starts firsts k x e g m u n l =
-    let inside : k < length (rows_of contents) = omega (arith, l, length-map contents row_of) in
+    let inside : k < length (content_rows contents) = omega (arith, l, length-map contents content_row) in
     let known : get_or firsts k 0 ≡ get_or firsts k x = get_or_default firsts k 0 x (omega (arith, inside, m.count)) in
     starts_more rows contents starts k (get_or firsts k x) (get_or contents k e) g u n l (get_or_default contents k e (get_or contents k e) l)
-    (λ d. subst (λ (i : ℕ). IsFirst (rows_of contents) (get_or (rows_of contents) k d).words i) known (m.each k d inside))
+    (λ d. subst (λ (i : ℕ). IsFirst (content_rows contents) (get_or (content_rows contents) k d).words i) known (m.each k d inside))
 
-pub starts_all : (rows : List PlanRow) (contents : List Content) (starts : List ℕ) (k : ℕ) → AreGrouped rows contents → StartsUpTo rows contents starts k → length starts ≡ length rows → length contents ≤ k → AreStarts rows (rows_of contents) starts
+pub starts_all : (rows : List PlanRow) (contents : List Content) (starts : List ℕ) (k : ℕ) → AreGrouped rows contents → StartsUpTo rows contents starts k → length starts ≡ length rows → length contents ≤ k → AreStarts rows (content_rows contents) starts
 starts_all rows contents starts k g u n l = record {
   count = n;
   each = (λ i d h. at i d (g.each i h));
@@ -347,9 +347,9 @@ starts_all rows contents starts k g u n l = record {
         first [] h = absurd (omega (arith, h))
         first (c ∷ cs) h = c
 
-    at : (i : ℕ) (d : PlanRow) → Contains (map (λ (c : Content). c.row) contents) i → IsFirst (rows_of contents) (get_or rows i d).words (get_or starts i 0)
+    at : (i : ℕ) (d : PlanRow) → Contains (map (λ (c : Content). c.row) contents) i → IsFirst (content_rows contents) (get_or rows i d).words (get_or starts i 0)
     at i d (j, low, e) =
         let inside : j < length contents = omega (arith, low, length-map contents (λ (c : Content). c.row)) in
         let c : Content = some j inside in
         let is : (get_or contents j c).row ≡ i = sym (get_or-map (λ (c : Content). c.row) contents j c i inside) ∙ e in
-        subst (λ (x : ℕ). IsFirst (rows_of contents) (get_or rows x d).words (get_or starts x 0)) is (u.done j c d (omega (arith, inside, l)))
+        subst (λ (x : ℕ). IsFirst (content_rows contents) (get_or rows x d).words (get_or starts x 0)) is (u.done j c d (omega (arith, inside, l)))

@@ -10,7 +10,7 @@ use Rattle.x7_part.specs.Part.{PartData, frame_words}
 use Rattle.x7_regs.specs.declared.command.Command.TheVariants.{Mfw, Wcfg}
 use Rattle.x7_regs.specs.declared.register.Reg.TheVariants.{Far}
 use Rattle.x7_packets.specs.PacketWords.{command, frame_data, write_one}
-use Rattle.x7_planner.specs.Contents.{AreFirsts, AreGrouped, AreStarts, AreTogether, IsFirst, row_of, rows_of}
+use Rattle.x7_planner.specs.Contents.{AreFirsts, AreGrouped, AreStarts, AreTogether, IsFirst, content_row, content_rows}
 use Rattle.x7_planner.specs.Partial.{Copies, copy_words, groups_led, is_shared, leads_group, others, stretch_words, with_content}
 use Rattle.x7_planner.specs.Stream.{bytes_of_words}
 use Rattle.x7_planner.specs.declared.content.Content.{Content}
@@ -19,11 +19,11 @@ use Rattle.x7_planner.proofs.SlotLemmas.{written-on}
 
 -- ---- contents of a plan's rows
 
-content_grown : (rows : List PlanRow) (contents : List Content) (n : ℕ) (c : Content) (d : PlanRow) → rows_of contents ≡ take n rows → length contents ≡ n → ((i : ℕ) (e : Content) → i < length contents → (get_or contents i e).row ≡ i)
-    → n < length rows → get_or rows n d ≡ row_of c → c.row ≡ n
-    → (rows_of (contents ++ c ∷ []) ≡ take (n + 1) rows) × (length (contents ++ c ∷ []) ≡ n + 1) × ((i : ℕ) (e : Content) → i < length (contents ++ c ∷ []) → (get_or (contents ++ c ∷ []) i e).row ≡ i)
+content_grown : (rows : List PlanRow) (contents : List Content) (n : ℕ) (c : Content) (d : PlanRow) → content_rows contents ≡ take n rows → length contents ≡ n → ((i : ℕ) (e : Content) → i < length contents → (get_or contents i e).row ≡ i)
+    → n < length rows → get_or rows n d ≡ content_row c → c.row ≡ n
+    → (content_rows (contents ++ c ∷ []) ≡ take (n + 1) rows) × (length (contents ++ c ∷ []) ≡ n + 1) × ((i : ℕ) (e : Content) → i < length (contents ++ c ∷ []) → (get_or (contents ++ c ∷ []) i e).row ≡ i)
 content_grown rows contents n c d e l p h at r = (
-  map-append row_of contents (c ∷ []) ∙ ap (λ t. t ++ row_of c ∷ []) e ∙ ap (λ (x : PlanRow). take n rows ++ x ∷ []) (sym at) ∙ sym (take_more rows n d h),
+  map-append content_row contents (c ∷ []) ∙ ap (λ t. t ++ content_row c ∷ []) e ∙ ap (λ (x : PlanRow). take n rows ++ x ∷ []) (sym at) ∙ sym (take_more rows n d h),
   omega (arith, length_push contents c, l),
   (λ i f m. by i f (cases_less i (omega (arith, m, length_push contents c, l)))),
 )
@@ -35,60 +35,60 @@ content_grown rows contents n c d e l p h at r = (
     by i f (inl m) = ap (λ (x : Content). x.row) (get_or_append_left contents (c ∷ []) f i (omega (arith, m, l))) ∙ p i f (omega (arith, m, l))
     by i f (inr m) = ap (λ (x : Content). x.row) (get_or_push contents c f i (l ∙ sym m)) ∙ r ∙ sym m
 
-pub content_pushed : (rows : List PlanRow) (old new : List Content) (n : ℕ) (c : Content) (d : PlanRow) → rows_of old ≡ take n rows → length old ≡ n → ((i : ℕ) (e : Content) → i < length old → (get_or old i e).row ≡ i)
-    → n < length rows → get_or rows n d ≡ row_of c → c.row ≡ n → new ≡ old ++ c ∷ []
-    → (rows_of new ≡ take (n + 1) rows) × (length new ≡ n + 1) × ((i : ℕ) (e : Content) → i < length new → (get_or new i e).row ≡ i)
+pub content_pushed : (rows : List PlanRow) (old new : List Content) (n : ℕ) (c : Content) (d : PlanRow) → content_rows old ≡ take n rows → length old ≡ n → ((i : ℕ) (e : Content) → i < length old → (get_or old i e).row ≡ i)
+    → n < length rows → get_or rows n d ≡ content_row c → c.row ≡ n → new ≡ old ++ c ∷ []
+    → (content_rows new ≡ take (n + 1) rows) × (length new ≡ n + 1) × ((i : ℕ) (e : Content) → i < length new → (get_or new i e).row ≡ i)
 content_pushed rows old new n c d e l p h at r m =
-    subst (λ (t : List Content). (rows_of t ≡ take (n + 1) rows) × (length t ≡ n + 1) × ((i : ℕ) (e : Content) → i < length t → (get_or t i e).row ≡ i)) (sym m) (content_grown rows old n c d e l p h at r)
+    subst (λ (t : List Content). (content_rows t ≡ take (n + 1) rows) × (length t ≡ n + 1) × ((i : ℕ) (e : Content) → i < length t → (get_or t i e).row ≡ i)) (sym m) (content_grown rows old n c d e l p h at r)
 
 -- ---- whether a content stands at three addresses or more
 
-pub short_group : (contents : List Content) (words : List ℕ) (a : ℕ) → AreTogether (rows_of contents) → IsFirst (rows_of contents) words a → length contents - a < 3 → false ≡ nat_le 3 (length (with_content words (rows_of contents)))
-short_group contents words a t f l = sym (no-group-short (rows_of contents) words a t f (omega (arith, l, length-map contents row_of)))
+pub short_group : (contents : List Content) (words : List ℕ) (a : ℕ) → AreTogether (content_rows contents) → IsFirst (content_rows contents) words a → length contents - a < 3 → false ≡ nat_le 3 (length (with_content words (content_rows contents)))
+short_group contents words a t f l = sym (no-group-short (content_rows contents) words a t f (omega (arith, l, length-map contents content_row)))
 
-pub group_by : (contents : List Content) (words firsts : List ℕ) (a x : ℕ) → AreTogether (rows_of contents) → AreFirsts (rows_of contents) firsts → IsFirst (rows_of contents) words a → a + 2 < length contents
-    → (get_or firsts (a + 2) x == a) ≡ nat_le 3 (length (with_content words (rows_of contents)))
+pub group_by : (contents : List Content) (words firsts : List ℕ) (a x : ℕ) → AreTogether (content_rows contents) → AreFirsts (content_rows contents) firsts → IsFirst (content_rows contents) words a → a + 2 < length contents
+    → (get_or firsts (a + 2) x == a) ≡ nat_le 3 (length (with_content words (content_rows contents)))
 group_by contents words firsts a x t m f l = by (get_or firsts (a + 2) 0 == a) refl
   where
-    inside : a + 2 < length (rows_of contents)
-    inside = omega (arith, l, length-map contents row_of)
+    inside : a + 2 < length (content_rows contents)
+    inside = omega (arith, l, length-map contents content_row)
 
     known : get_or firsts (a + 2) x ≡ get_or firsts (a + 2) 0
     known = get_or_default firsts (a + 2) x 0 (omega (arith, inside, m.count))
 
-    by : (b : Bool) → (get_or firsts (a + 2) 0 == a) ≡ b → (get_or firsts (a + 2) x == a) ≡ nat_le 3 (length (with_content words (rows_of contents)))
+    by : (b : Bool) → (get_or firsts (a + 2) 0 == a) ≡ b → (get_or firsts (a + 2) x == a) ≡ nat_le 3 (length (with_content words (content_rows contents)))
     by true e =
         let d : PlanRow = record { far = 0; words = [] } in
-        ap (λ (i : ℕ). i == a) known ∙ e ∙ sym (is-group (rows_of contents) words a d t f inside (place-same (rows_of contents) words firsts a (a + 2) d m f inside (eqb-true (get_or firsts (a + 2) 0) a e)))
+        ap (λ (i : ℕ). i == a) known ∙ e ∙ sym (is-group (content_rows contents) words a d t f inside (place-same (content_rows contents) words firsts a (a + 2) d m f inside (eqb-true (get_or firsts (a + 2) 0) a e)))
     by false e =
         ap (λ (i : ℕ). i == a) known ∙ e
-        ∙ sym (no-group (rows_of contents) words a t f inside (λ d. place-other (rows_of contents) words firsts a (a + 2) d t m f inside (λ h. false≢true (sym e ∙ eq-eqb (get_or firsts (a + 2) 0) a h))))
+        ∙ sym (no-group (content_rows contents) words a t f inside (λ d. place-other (content_rows contents) words firsts a (a + 2) d t m f inside (λ h. false≢true (sym e ∙ eq-eqb (get_or firsts (a + 2) 0) a h))))
 
 -- a content's first address
-pub first_far : (contents : List Content) (words : List ℕ) (a : ℕ) (e : Content) → AreTogether (rows_of contents) → IsFirst (rows_of contents) words a → get_or (planned_addresses (with_content words (rows_of contents))) 0 0 ≡ (get_or contents a e).far
+pub first_far : (contents : List Content) (words : List ℕ) (a : ℕ) (e : Content) → AreTogether (content_rows contents) → IsFirst (content_rows contents) words a → get_or (planned_addresses (with_content words (content_rows contents))) 0 0 ≡ (get_or contents a e).far
 first_far contents words a e t f =
-    let l : a < length contents = (let i = f.inside in omega (arith, i, length-map contents row_of)) in
-    ap (λ (rows : List PlanRow). get_or (planned_addresses rows) 0 0) (first-of (rows_of contents) words a (row_of e) t f) ∙ ap (λ (r : PlanRow). r.far) (row-at contents a (row_of e) e l)
+    let l : a < length contents = (let i = f.inside in omega (arith, i, length-map contents content_row)) in
+    ap (λ (rows : List PlanRow). get_or (planned_addresses rows) 0 0) (first-of (content_rows contents) words a (content_row e) t f) ∙ ap (λ (r : PlanRow). r.far) (row-at contents a (content_row e) e l)
 
-pub leads_by : (contents : List Content) (words : List ℕ) (a far : ℕ) (e : Content) (b : Bool) → AreTogether (rows_of contents) → IsFirst (rows_of contents) words a → b ≡ nat_le 3 (length (with_content words (rows_of contents))) → b ≡ true
-    → ((get_or contents a e).far == far) ≡ (nat_le 3 (length (with_content words (rows_of contents))) && (get_or (planned_addresses (with_content words (rows_of contents))) 0 0 == far))
+pub leads_by : (contents : List Content) (words : List ℕ) (a far : ℕ) (e : Content) (b : Bool) → AreTogether (content_rows contents) → IsFirst (content_rows contents) words a → b ≡ nat_le 3 (length (with_content words (content_rows contents))) → b ≡ true
+    → ((get_or contents a e).far == far) ≡ (nat_le 3 (length (with_content words (content_rows contents))) && (get_or (planned_addresses (with_content words (content_rows contents))) 0 0 == far))
 leads_by contents words a far e b t f n y = rw (sym n ∙ y) (ap (λ (x : ℕ). x == far) (sym (first_far contents words a e t f)))
 
 -- ---- a row's content
 
-pub first_at : (rows : List PlanRow) (contents : List Content) (starts : List ℕ) (i : ℕ) (d : PlanRow) (e : ℕ) (r : PlanRow) → AreStarts rows (rows_of contents) starts → i < length rows → get_or rows i d ≡ r → IsFirst (rows_of contents) r.words (get_or starts i e)
+pub first_at : (rows : List PlanRow) (contents : List Content) (starts : List ℕ) (i : ℕ) (d : PlanRow) (e : ℕ) (r : PlanRow) → AreStarts rows (content_rows contents) starts → i < length rows → get_or rows i d ≡ r → IsFirst (content_rows contents) r.words (get_or starts i e)
 first_at rows contents starts i d e r s l at =
-    subst (λ (x : ℕ). IsFirst (rows_of contents) r.words x) (get_or_default starts i 0 e (let n = s.count in omega (arith, l, n))) (subst (λ (x : PlanRow). IsFirst (rows_of contents) x.words (get_or starts i 0)) at (s.each i d l))
+    subst (λ (x : ℕ). IsFirst (content_rows contents) r.words x) (get_or_default starts i 0 e (let n = s.count in omega (arith, l, n))) (subst (λ (x : PlanRow). IsFirst (content_rows contents) x.words (get_or starts i 0)) at (s.each i d l))
 
-pub inside_at : (contents : List Content) (words : List ℕ) (a : ℕ) → IsFirst (rows_of contents) words a → a < length contents
-inside_at contents words a f = let i = f.inside in omega (arith, i, length-map contents row_of)
+pub inside_at : (contents : List Content) (words : List ℕ) (a : ℕ) → IsFirst (content_rows contents) words a → a < length contents
+inside_at contents words a f = let i = f.inside in omega (arith, i, length-map contents content_row)
 
-pub same_content : (rows : List PlanRow) (contents : List Content) (words : List ℕ) (a : ℕ) → AreGrouped rows contents → IsFirst (rows_of contents) words a → with_content words (rows_of contents) ≡ with_content words rows
+pub same_content : (rows : List PlanRow) (contents : List Content) (words : List ℕ) (a : ℕ) → AreGrouped rows contents → IsFirst (content_rows contents) words a → with_content words (content_rows contents) ≡ with_content words rows
 same_content rows [] words a g f = absurd (let i = f.inside in omega (arith, i))
 same_content rows (c ∷ contents) words a g f =
     let l : a < length (c ∷ contents) = inside_at (c ∷ contents) words a f in
-    let is : (get_or (c ∷ contents) a c).words.now ≡ words = ap (λ (r : PlanRow). r.words) (sym (row-at (c ∷ contents) a (row_of c) c l)) ∙ f.has (row_of c) in
-    subst (λ t. with_content t (rows_of (c ∷ contents)) ≡ with_content t rows) is (g.same a c l)
+    let is : (get_or (c ∷ contents) a c).words.now ≡ words = ap (λ (r : PlanRow). r.words) (sym (row-at (c ∷ contents) a (content_row c) c l)) ∙ f.has (content_row c) in
+    subst (λ t. with_content t (content_rows (c ∷ contents)) ≡ with_content t rows) is (g.same a c l)
 
 -- ---- the other rows
 
@@ -100,15 +100,15 @@ others_append all (x ∷ xs) ys = by (is_shared all x) (others_append all xs ys)
     by true ih = ih
     by false ih = ap (λ t. x ∷ t) ih
 
-pub other_more : (rows : List PlanRow) (contents old new : List Content) (a n : ℕ) (c : Content) (d : PlanRow) (b : Bool) → AreGrouped rows contents → IsFirst (rows_of contents) c.words.now a → n < length rows → get_or rows n d ≡ row_of c
-    → b ≡ nat_le 3 (length (with_content c.words.now (rows_of contents))) → rows_of old ≡ others rows (take n rows) → new ≡ (if b then old else old ++ c ∷ []) → rows_of new ≡ others rows (take (n + 1) rows)
+pub other_more : (rows : List PlanRow) (contents old new : List Content) (a n : ℕ) (c : Content) (d : PlanRow) (b : Bool) → AreGrouped rows contents → IsFirst (content_rows contents) c.words.now a → n < length rows → get_or rows n d ≡ content_row c
+    → b ≡ nat_le 3 (length (with_content c.words.now (content_rows contents))) → content_rows old ≡ others rows (take n rows) → new ≡ (if b then old else old ++ c ∷ []) → content_rows new ≡ others rows (take (n + 1) rows)
 other_more rows contents old new a n c d b g f l at e h m =
-    ap rows_of m ∙ by b (e ∙ ap (λ t. nat_le 3 (length t)) (same_content rows contents c.words.now a g f))
-    ∙ sym (ap (others rows) (take_more rows n d l ∙ ap (λ (x : PlanRow). take n rows ++ x ∷ []) at) ∙ others_append rows (take n rows) (row_of c ∷ []))
+    ap content_rows m ∙ by b (e ∙ ap (λ t. nat_le 3 (length t)) (same_content rows contents c.words.now a g f))
+    ∙ sym (ap (others rows) (take_more rows n d l ∙ ap (λ (x : PlanRow). take n rows ++ x ∷ []) at) ∙ others_append rows (take n rows) (content_row c ∷ []))
   where
-    by : (b : Bool) → b ≡ is_shared rows (row_of c) → rows_of (if b then old else old ++ c ∷ []) ≡ others rows (take n rows) ++ others rows (row_of c ∷ [])
+    by : (b : Bool) → b ≡ is_shared rows (content_row c) → content_rows (if b then old else old ++ c ∷ []) ≡ others rows (take n rows) ++ others rows (content_row c ∷ [])
     by true e = h ∙ sym (append-nil (others rows (take n rows))) ∙ ap (λ t. others rows (take n rows) ++ t) (rw (sym e) refl)
-    by false e = map-append row_of old (c ∷ []) ∙ ap (λ t. t ++ row_of c ∷ []) h ∙ ap (λ t. others rows (take n rows) ++ t) (rw (sym e) refl)
+    by false e = map-append content_row old (c ∷ []) ∙ ap (λ t. t ++ content_row c ∷ []) h ∙ ap (λ t. others rows (take n rows) ++ t) (rw (sym e) refl)
 
 -- ---- the groups
 
@@ -126,29 +126,29 @@ pub same_led : (rows others : List PlanRow) (r : PlanRow) → with_content r.wor
 same_led rows others r e =
     ap (λ t. if nat_le 3 (length t) && (get_or (planned_addresses t) 0 0 == r.far) then Copies r.words (planned_addresses t) ∷ [] else []) e
 
-pub group_more : (part : PartData) (rows : List PlanRow) (contents : List Content) (old mid new : List ℕ) (a n : ℕ) (r : PlanRow) (d : PlanRow) → AreGrouped rows contents → IsFirst (rows_of contents) r.words a → n < length rows → get_or rows n d ≡ r
-    → mid ≡ old ++ bytes_of_words (flat_map (stretch_words part) (groups_led rows (take n rows))) → new ≡ mid ++ bytes_of_words (flat_map (stretch_words part) (groups_led (rows_of contents) (r ∷ [])))
+pub group_more : (part : PartData) (rows : List PlanRow) (contents : List Content) (old mid new : List ℕ) (a n : ℕ) (r : PlanRow) (d : PlanRow) → AreGrouped rows contents → IsFirst (content_rows contents) r.words a → n < length rows → get_or rows n d ≡ r
+    → mid ≡ old ++ bytes_of_words (flat_map (stretch_words part) (groups_led rows (take n rows))) → new ≡ mid ++ bytes_of_words (flat_map (stretch_words part) (groups_led (content_rows contents) (r ∷ [])))
     → new ≡ old ++ bytes_of_words (flat_map (stretch_words part) (groups_led rows (take (n + 1) rows)))
 group_more part rows contents old mid new a n r d g f l at e h =
-    written-on old mid new (flat_map (stretch_words part) (groups_led rows (take n rows))) (flat_map (stretch_words part) (groups_led (rows_of contents) (r ∷ []))) e h
-    ∙ ap (λ t. old ++ bytes_of_words (flat_map (stretch_words part) (groups_led rows (take n rows)) ++ flat_map (stretch_words part) t)) (same_led rows (rows_of contents) r (same_content rows contents r.words a g f))
+    written-on old mid new (flat_map (stretch_words part) (groups_led rows (take n rows))) (flat_map (stretch_words part) (groups_led (content_rows contents) (r ∷ []))) e h
+    ∙ ap (λ t. old ++ bytes_of_words (flat_map (stretch_words part) (groups_led rows (take n rows)) ++ flat_map (stretch_words part) t)) (same_led rows (content_rows contents) r (same_content rows contents r.words a g f))
     ∙ ap (λ t. old ++ bytes_of_words t) (sym (flat_map-append (stretch_words part) (groups_led rows (take n rows)) (groups_led rows (r ∷ []))))
     ∙ ap (λ t. old ++ bytes_of_words (flat_map (stretch_words part) t)) (sym (groups_append rows (take n rows) (r ∷ [])) ∙ ap (groups_led rows) (ap (λ (x : PlanRow). take n rows ++ x ∷ []) (sym at) ∙ sym (take_more rows n d l)))
 
 -- ---- what a group writes
 
-pub copies_begin : (contents : List Content) (words old : List ℕ) (a : ℕ) → AreTogether (rows_of contents) → IsFirst (rows_of contents) words a
-    → old ≡ old ++ bytes_of_words (flat_map copy_words (planned_addresses (with_content words (take a (rows_of contents)))))
+pub copies_begin : (contents : List Content) (words old : List ℕ) (a : ℕ) → AreTogether (content_rows contents) → IsFirst (content_rows contents) words a
+    → old ≡ old ++ bytes_of_words (flat_map copy_words (planned_addresses (with_content words (take a (content_rows contents)))))
 copies_begin contents words old a t f =
-    sym (ap (λ x. old ++ bytes_of_words (flat_map copy_words (planned_addresses x))) (none-before (rows_of contents) words a t f) ∙ append-nil old)
+    sym (ap (λ x. old ++ bytes_of_words (flat_map copy_words (planned_addresses x))) (none-before (content_rows contents) words a t f) ∙ append-nil old)
 
-pub copies_more : (contents : List Content) (words firsts old mid new : List ℕ) (a k x : ℕ) (e : Content) → AreFirsts (rows_of contents) firsts → IsFirst (rows_of contents) words a → k < length contents → get_or firsts k x ≡ a
-    → mid ≡ old ++ bytes_of_words (flat_map copy_words (planned_addresses (with_content words (take k (rows_of contents))))) → new ≡ mid ++ bytes_of_words (copy_words (get_or contents k e).far)
-    → new ≡ old ++ bytes_of_words (flat_map copy_words (planned_addresses (with_content words (take (k + 1) (rows_of contents)))))
+pub copies_more : (contents : List Content) (words firsts old mid new : List ℕ) (a k x : ℕ) (e : Content) → AreFirsts (content_rows contents) firsts → IsFirst (content_rows contents) words a → k < length contents → get_or firsts k x ≡ a
+    → mid ≡ old ++ bytes_of_words (flat_map copy_words (planned_addresses (with_content words (take k (content_rows contents))))) → new ≡ mid ++ bytes_of_words (copy_words (get_or contents k e).far)
+    → new ≡ old ++ bytes_of_words (flat_map copy_words (planned_addresses (with_content words (take (k + 1) (content_rows contents)))))
 copies_more contents words firsts old mid new a k x e f g l y h m =
-    let rows : List PlanRow = rows_of contents in
-    let r : PlanRow = row_of (get_or contents k e) in
-    let inside : k < length rows = omega (arith, l, length-map contents row_of) in
+    let rows : List PlanRow = content_rows contents in
+    let r : PlanRow = content_row (get_or contents k e) in
+    let inside : k < length rows = omega (arith, l, length-map contents content_row) in
     let here : get_or firsts k 0 ≡ a = get_or_default firsts k 0 x (omega (arith, inside, f.count)) ∙ y in
     let has : r.words ≡ words = ap (λ (s : PlanRow). s.words) (sym (row-at contents k r e l)) ∙ place-same rows words firsts a k r f g inside here in
     let more : with_content words (take (k + 1) rows) ≡ with_content words (take k rows) ++ r ∷ [] =
@@ -160,14 +160,14 @@ copies_more contents words firsts old mid new a k x e f g l y h m =
     ∙ ap (λ t. flat_map copy_words (planned_addresses (with_content words (take k rows))) ++ t) (append-nil (copy_words r.far)) in
     written-on old mid new (flat_map copy_words (planned_addresses (with_content words (take k rows)))) (copy_words r.far) h m ∙ ap (λ t. old ++ bytes_of_words t) (sym all)
 
-pub copies_end : (contents : List Content) (words firsts old new : List ℕ) (a k x : ℕ) → AreTogether (rows_of contents) → AreFirsts (rows_of contents) firsts → IsFirst (rows_of contents) words a → a ≤ k → k < length contents
-    → (get_or firsts k x ≡ a → ⊥) → new ≡ old ++ bytes_of_words (flat_map copy_words (planned_addresses (with_content words (take k (rows_of contents)))))
-    → new ≡ old ++ bytes_of_words (flat_map copy_words (planned_addresses (with_content words (rows_of contents))))
+pub copies_end : (contents : List Content) (words firsts old new : List ℕ) (a k x : ℕ) → AreTogether (content_rows contents) → AreFirsts (content_rows contents) firsts → IsFirst (content_rows contents) words a → a ≤ k → k < length contents
+    → (get_or firsts k x ≡ a → ⊥) → new ≡ old ++ bytes_of_words (flat_map copy_words (planned_addresses (with_content words (take k (content_rows contents)))))
+    → new ≡ old ++ bytes_of_words (flat_map copy_words (planned_addresses (with_content words (content_rows contents))))
 copies_end contents words firsts old new a k x t m f l inner n h =
-    let inside : k < length (rows_of contents) = omega (arith, inner, length-map contents row_of) in
+    let inside : k < length (content_rows contents) = omega (arith, inner, length-map contents content_row) in
     let known : get_or firsts k x ≡ get_or firsts k 0 = get_or_default firsts k x 0 (omega (arith, inside, m.count)) in
     h ∙ ap (λ x. old ++ bytes_of_words (flat_map copy_words (planned_addresses x)))
-    (sym (up-to (rows_of contents) words a k t f l (λ d. place-other (rows_of contents) words firsts a k d t m f inside (λ e. n (known ∙ e)))))
+    (sym (up-to (content_rows contents) words a k t f l (λ d. place-other (content_rows contents) words firsts a k d t m f inside (λ e. n (known ∙ e)))))
 
 pub group_written : (part : PartData) (old one two three new words fars : List ℕ) (first width : ℕ) → width ≡ frame_words part → get_or fars 0 0 ≡ first
     → one ≡ old ++ bytes_of_words (command Wcfg ++ (write_one Far first ++ frame_data width)) → two ≡ one ++ bytes_of_words words → three ≡ two ++ bytes_of_words (command Mfw)

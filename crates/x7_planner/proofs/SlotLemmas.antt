@@ -16,7 +16,7 @@ use Rattle.x7_part.specs.declared.slot.Slot.TheVariants.{End}
 use Rattle.std.specs.Prelude.{Contains}
 use Rattle.x7_part.proofs.SlotLemmas.{slots_all, slots_number, slots_split}
 use Rattle.x7_memory.specs.Planned.{PlanData}
-use Rattle.x7_planner.specs.Full.{frame_at_slot, slot_words}
+use Rattle.x7_planner.specs.Full.{frame_at_slot, words_of_slots}
 use Rattle.x7_planner.specs.Stream.{bytes_of_words}
 
 -- words written in two parts
@@ -38,20 +38,20 @@ pub all-slots : (part : PartData) (first n : ℕ) → IsPart part → first ≡ 
 all-slots part first n is e = ap (λ (a : ℕ). from a (slots_in part)) e ∙ slots_all part is
 
 pub slot-more : (part : PartData) (plan : PlanData) (old mid new : List ℕ) (start n : ℕ) (s : Slot) → start ≤ n → n < length (slots_in part) → s ≡ get_or (slots_in part) n End
-    → mid ≡ old ++ bytes_of_words (slot_words part plan (drop start (take n (slots_in part)))) → new ≡ mid ++ bytes_of_words (frame_at_slot part plan s)
-    → new ≡ old ++ bytes_of_words (slot_words part plan (drop start (take (n + 1) (slots_in part))))
+    → mid ≡ old ++ bytes_of_words (words_of_slots part plan (drop start (take n (slots_in part)))) → new ≡ mid ++ bytes_of_words (frame_at_slot part plan s)
+    → new ≡ old ++ bytes_of_words (words_of_slots part plan (drop start (take (n + 1) (slots_in part))))
 slot-more part plan old mid new start n s le h e f g =
     let places = slots_in part in
     let long : length (take n places) ≡ n = length-take-le n places (omega (arith, h)) in
     let one : drop start (take (n + 1) places) ≡ drop start (take n places) ++ s ∷ [] =
     ap (drop start) (take_more places n End h) ∙ ap (λ (x : Slot). drop start (take n places ++ x ∷ [])) (sym e) ∙ drop-append-le start (take n places) (s ∷ []) (omega (arith, long, le)) in
-    written-on old mid new (slot_words part plan (drop start (take n places))) (frame_at_slot part plan s) f g
-    ∙ ap (λ t. old ++ bytes_of_words t) (sym (flat_map-last (frame_at_slot part plan) (drop start (take n places)) s) ∙ ap (slot_words part plan) (sym one))
+    written-on old mid new (words_of_slots part plan (drop start (take n places))) (frame_at_slot part plan s) f g
+    ∙ ap (λ t. old ++ bytes_of_words t) (sym (flat_map-last (frame_at_slot part plan) (drop start (take n places)) s) ∙ ap (words_of_slots part plan) (sym one))
 
 -- the words of no slot add nothing
-pub slots-none : (part : PartData) (plan : PlanData) (old : List ℕ) (start : ℕ) → old ≡ old ++ bytes_of_words (slot_words part plan (drop start (take start (slots_in part))))
+pub slots-none : (part : PartData) (plan : PlanData) (old : List ℕ) (start : ℕ) → old ≡ old ++ bytes_of_words (words_of_slots part plan (drop start (take start (slots_in part))))
 slots-none part plan old start =
-    sym (ap (λ (t : List Slot). old ++ bytes_of_words (slot_words part plan t)) (drop_of_length-le (take start (slots_in part)) (omega (arith, length-take start (slots_in part)))) ∙ append-nil old)
+    sym (ap (λ (t : List Slot). old ++ bytes_of_words (words_of_slots part plan t)) (drop_of_length-le (take start (slots_in part)) (omega (arith, length-take start (slots_in part)))) ∙ append-nil old)
 
 -- how many words the slots have
 pub record IsFew (part : PartData) (w n : ℕ) : Type 0 where

@@ -8,15 +8,15 @@ use Rattle.x7_part.specs.Part.{PartData}
 use Rattle.x7_part.specs.Slots.{slots_in}
 use Rattle.x7_part.specs.declared.slot.Slot.{Slot}
 use Rattle.x7_memory.specs.Planned.{PlanData}
-use Rattle.x7_planner.specs.Full.{frame_at_slot, full_ending, full_opening, full_stream, slot_words, start_words}
-use Rattle.x7_planner.specs.Stream.{Piece, Words, Check, bytes_of_words, check_words, stream_of, with_piece}
+use Rattle.x7_planner.specs.Full.{frame_at_slot, full_ending, full_opening, full_stream, words_of_slots, start_words}
+use Rattle.x7_planner.specs.Stream.{StreamPiece, Words, Check, bytes_of_words, check_words, stream_of, with_piece}
 use Rattle.x7_crc.specs.Checking.{check_of_bytes, HasTaken}
-use Rattle.x7_planner.specs.Telling.{FullStreamState, HasGiven, IsFullStream, TellsMore, Writes, calls_from, calls_left, frame_pieces, pieces_before, pieces_to, slot_next}
+use Rattle.x7_planner.specs.Telling.{FullStreamState, HasGiven, IsFullStream, TellsMore, Writes, calls_from, puts_left, frame_pieces, pieces_before, pieces_to, slot_next}
 use Rattle.x7_planner.specs.declared.whole.NextPiece.{NextPiece}
 use Rattle.x7_planner.specs.declared.whole.NextPiece.TheVariants as next
 
 -- what pieces add to bytes
-pub rest_of : (bytes : List ℕ) (pieces : List Piece) → (left : List ℕ) × (bytes ++ left ≡ fold with_piece bytes pieces)
+pub rest_of : (bytes : List ℕ) (pieces : List StreamPiece) → (left : List ℕ) × (bytes ++ left ≡ fold with_piece bytes pieces)
 rest_of bytes [] = ([], append-nil bytes)
 rest_of bytes (Words ws ∷ pieces) =
     let rest = rest_of (bytes ++ bytes_of_words ws) pieces in
@@ -27,19 +27,19 @@ rest_of bytes (Check ∷ pieces) =
     (more ++ rest.0, sym (append_assoc bytes more rest.0) ∙ rest.1)
 
 -- the words of some slots, and of those behind them
-pub slots_on : (part : PartData) (plan : PlanData) (n : ℕ) → bytes_of_words (slot_words part plan (take n (slots_in part))) ++ bytes_of_words (slot_words part plan (drop n (slots_in part))) ≡ bytes_of_words (slot_words part plan (slots_in part))
+pub slots_on : (part : PartData) (plan : PlanData) (n : ℕ) → bytes_of_words (words_of_slots part plan (take n (slots_in part))) ++ bytes_of_words (words_of_slots part plan (drop n (slots_in part))) ≡ bytes_of_words (words_of_slots part plan (slots_in part))
 slots_on part plan n =
     let places = slots_in part in
-    sym (flat_map-append bytes_of_word (slot_words part plan (take n places)) (slot_words part plan (drop n places)))
-    ∙ ap bytes_of_words (sym (flat_map-append (frame_at_slot part plan) (take n places) (drop n places)) ∙ ap (slot_words part plan) (take-append-drop n places))
+    sym (flat_map-append bytes_of_word (words_of_slots part plan (take n places)) (words_of_slots part plan (drop n places)))
+    ∙ ap bytes_of_words (sym (flat_map-append (frame_at_slot part plan) (take n places) (drop n places)) ∙ ap (words_of_slots part plan) (take-append-drop n places))
 
 -- the bytes before what is next begin the stream
 pub left_of : (part : PartData) (plan : PlanData) (behind : NextPiece) → (left : List ℕ) × (stream_of (pieces_before part plan behind) ++ left ≡ full_stream part plan)
 left_of part plan next.Opening = (full_stream part plan, refl)
 left_of part plan (next.Slot n) =
     let prefix : List ℕ = bytes_of_words (full_opening part) in
-    let first : List ℕ = bytes_of_words (slot_words part plan (take n (slots_in part))) in
-    let second : List ℕ = bytes_of_words (slot_words part plan (drop n (slots_in part))) in
+    let first : List ℕ = bytes_of_words (words_of_slots part plan (take n (slots_in part))) in
+    let second : List ℕ = bytes_of_words (words_of_slots part plan (drop n (slots_in part))) in
     let rest = rest_of (stream_of (frame_pieces part plan)) (Check ∷ Words start_words ∷ Check ∷ Words full_ending ∷ []) in
     (second ++ rest.0, sym (append_assoc (prefix ++ first) second rest.0) ∙ ap (λ (t : List ℕ). t ++ rest.0) (append_assoc prefix first second ∙ ap (λ (t : List ℕ). prefix ++ t) (slots_on part plan n)) ∙ rest.1)
 left_of part plan next.Check = rest_of (stream_of (pieces_before part plan next.Check)) (Check ∷ Words start_words ∷ Check ∷ Words full_ending ∷ [])
@@ -52,15 +52,15 @@ left_of part plan next.Nothing = ([], append-nil (full_stream part plan))
 
 -- the words of the slots up to n, and of those from there to another place
 pub slots_to : (part : PartData) (plan : PlanData) (n to : ℕ) → n ≤ to →
-    bytes_of_words (slot_words part plan (take n (slots_in part))) ++ bytes_of_words (slot_words part plan (drop n (take to (slots_in part)))) ≡ bytes_of_words (slot_words part plan (take to (slots_in part)))
+    bytes_of_words (words_of_slots part plan (take n (slots_in part))) ++ bytes_of_words (words_of_slots part plan (drop n (take to (slots_in part)))) ≡ bytes_of_words (words_of_slots part plan (take to (slots_in part)))
 slots_to part plan n to h =
     let places = slots_in part in
     let m : ℕ = to - n in
     let e : n + m ≡ to = omega arith in
     let joined : take n places ++ drop n (take to places) ≡ take to places =
     ap (λ (k : ℕ). take n places ++ drop n (take k places)) (sym e) ∙ ap (λ (t : List Slot). take n places ++ t) (drop-take n m places) ∙ sym (take-add n m places) ∙ ap (λ (k : ℕ). take k places) e in
-    sym (flat_map-append bytes_of_word (slot_words part plan (take n places)) (slot_words part plan (drop n (take to places))))
-    ∙ ap bytes_of_words (sym (flat_map-append (frame_at_slot part plan) (take n places) (drop n (take to places))) ∙ ap (slot_words part plan) joined)
+    sym (flat_map-append bytes_of_word (words_of_slots part plan (take n places)) (words_of_slots part plan (drop n (take to places))))
+    ∙ ap bytes_of_words (sym (flat_map-append (frame_at_slot part plan) (take n places) (drop n (take to places))) ∙ ap (words_of_slots part plan) joined)
 
 -- the slot that is next, by its name
 pub inside_at : (s : FullStreamState) (n : ℕ) → s.next ≡ next.Slot n → IsFullStream s → n ≤ length (slots_in s.part)
@@ -70,22 +70,22 @@ inside_at s n e is = subst (λ (x : NextPiece). slot_next x ≤ length (slots_in
 before_at : (s : FullStreamState) (given : List ℕ) (at : NextPiece) → s.next ≡ at → HasGiven s given → given ≡ stream_of (pieces_before s.part s.plan at)
 before_at s given at e h = h.before ∙ ap (λ (x : NextPiece). stream_of (pieces_before s.part s.plan x)) e
 
-calls_at : (s : FullStreamState) (at behind : NextPiece) → s.next ≡ at → calls_from (length (slots_in s.part)) behind < calls_from (length (slots_in s.part)) at → calls_from (length (slots_in s.part)) behind < calls_left s
+calls_at : (s : FullStreamState) (at behind : NextPiece) → s.next ≡ at → calls_from (length (slots_in s.part)) behind < calls_from (length (slots_in s.part)) at → calls_from (length (slots_in s.part)) behind < puts_left s
 calls_at s at behind e h = subst (λ (x : NextPiece). calls_from (length (slots_in s.part)) behind < calls_from (length (slots_in s.part)) x) (sym e) h
 
 module _ (s : FullStreamState) (old new : List ℕ) where
   frames_before : (n to : ℕ) → s.next ≡ next.Slot n → n ≤ to → (given : List ℕ) → HasGiven s given →
-      given ++ bytes_of_words (slot_words s.part s.plan (drop n (take to (slots_in s.part)))) ≡ stream_of (pieces_to s.part s.plan to)
+      given ++ bytes_of_words (words_of_slots s.part s.plan (drop n (take to (slots_in s.part)))) ≡ stream_of (pieces_to s.part s.plan to)
   frames_before n to e h given t =
       let prefix : List ℕ = bytes_of_words (full_opening s.part) in
-      let first : List ℕ = bytes_of_words (slot_words s.part s.plan (take n (slots_in s.part))) in
-      let piece : List ℕ = bytes_of_words (slot_words s.part s.plan (drop n (take to (slots_in s.part)))) in
+      let first : List ℕ = bytes_of_words (words_of_slots s.part s.plan (take n (slots_in s.part))) in
+      let piece : List ℕ = bytes_of_words (words_of_slots s.part s.plan (drop n (take to (slots_in s.part)))) in
       ap (λ (x : List ℕ). x ++ piece) (before_at s given (next.Slot n) e t) ∙ append_assoc prefix first piece ∙ ap (λ (x : List ℕ). prefix ++ x) (slots_to s.part s.plan n to h)
 
   pub wrote_slots : (n count to : ℕ) → s.next ≡ next.Slot n → n ≤ length (slots_in s.part) → count ≡ length (slots_in s.part) → to ≡ min count (n + 160) → (to ≡ count → ⊥)
-      → new ≡ old ++ bytes_of_words (slot_words s.part s.plan (drop n (take to (slots_in s.part)))) → Writes s old new (next.Slot to)
+      → new ≡ old ++ bytes_of_words (words_of_slots s.part s.plan (drop n (take to (slots_in s.part)))) → Writes s old new (next.Slot to)
   wrote_slots n count to e within c m more adds = record {
-    piece = bytes_of_words (slot_words s.part s.plan (drop n (take to (slots_in s.part))));
+    piece = bytes_of_words (words_of_slots s.part s.plan (drop n (take to (slots_in s.part))));
     adds = adds;
     before = frames_before n to e (omega (arith, within, c, m));
     inside = omega (arith, c, m);
@@ -93,12 +93,12 @@ module _ (s : FullStreamState) (old new : List ℕ) where
   }
 
   pub wrote_frames : (n count to : ℕ) → s.next ≡ next.Slot n → n ≤ length (slots_in s.part) → count ≡ length (slots_in s.part) → to ≡ min count (n + 160) → to ≡ count
-      → new ≡ old ++ bytes_of_words (slot_words s.part s.plan (drop n (take to (slots_in s.part)))) → Writes s old new next.Check
+      → new ≡ old ++ bytes_of_words (words_of_slots s.part s.plan (drop n (take to (slots_in s.part)))) → Writes s old new next.Check
   wrote_frames n count to e within c m last adds = record {
-    piece = bytes_of_words (slot_words s.part s.plan (drop n (take to (slots_in s.part))));
+    piece = bytes_of_words (words_of_slots s.part s.plan (drop n (take to (slots_in s.part))));
     adds = adds;
     before = λ given h. frames_before n to e (omega (arith, within, c, m)) given h
-        ∙ ap (λ (t : List Slot). bytes_of_words (full_opening s.part) ++ bytes_of_words (slot_words s.part s.plan t)) (take_all to (slots_in s.part) (omega (arith, c, last)));
+        ∙ ap (λ (t : List Slot). bytes_of_words (full_opening s.part) ++ bytes_of_words (words_of_slots s.part s.plan t)) (take_all to (slots_in s.part) (omega (arith, c, last)));
     inside = omega arith;
     fewer = λ _. calls_at s (next.Slot n) next.Check e (omega arith);
   }

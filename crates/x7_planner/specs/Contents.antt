@@ -5,12 +5,13 @@ use Rattle.x7_memory.specs.Planned.{PlanRow}
 use Rattle.x7_planner.specs.Partial.{follows, with_content}
 use Rattle.x7_planner.specs.declared.content.Content.{Content}
 
--- the planned rows of contents
-abbrev pub row_of : Content → PlanRow
-row_of c = record { far = c.far; words = c.words.now }
+-- the planned row of a content
+abbrev pub content_row : Content → PlanRow
+content_row c = record { far = c.far; words = c.words.now }
 
-abbrev pub rows_of : List Content → List PlanRow
-rows_of contents = map row_of contents
+-- the planned rows of contents
+abbrev pub content_rows : List Content → List PlanRow
+content_rows contents = map content_row contents
 
 -- equal contents stand together
 abbrev pub AreTogether : List PlanRow → Type 0
@@ -19,12 +20,12 @@ AreTogether rows = (i k j : ℕ) (d : PlanRow) → i ≤ k → k ≤ j → j < l
 
 -- a content knows its row's place in a plan
 abbrev pub IsPlaced : List PlanRow → Content → Type 0
-IsPlaced rows c = (c.row < length rows) × ((d : PlanRow) → slice_index_or rows c.row d ≡ row_of c)
+IsPlaced rows c = (c.row < length rows) × ((d : PlanRow) → slice_index_or rows c.row d ≡ content_row c)
 
 -- the contents of all rows of a plan, equal ones together and in the plan's order
 pub record AreGrouped (rows : List PlanRow) (contents : List Content) : Type 0 where
-  pub together : AreTogether (rows_of contents)
-  pub same : All (λ c. with_content c.words.now (rows_of contents) ≡ with_content c.words.now rows) contents
+  pub together : AreTogether (content_rows contents)
+  pub same : All (λ c. with_content c.words.now (content_rows contents) ≡ with_content c.words.now rows) contents
   pub placed : All (IsPlaced rows) contents
   pub each : (i : ℕ) → i < length rows → Contains (map (λ c. c.row) contents) i
 

@@ -11,8 +11,9 @@ use Rattle.x7_regs.specs.declared.command.Command.TheVariants.{Desync, Lfrm, Rcr
 use Rattle.x7_regs.specs.declared.register.Reg.TheVariants.{Cor0, Ctl0, Far, Idcode, Mask}
 use Rattle.x7_packets.specs.PacketWords.{command, frame_data, no_op, write_one}
 use Rattle.x7_planner.specs.Settings.{control, control_mask, startup_options}
-use Rattle.x7_planner.specs.Stream.{Piece, Words, Check, head, stream_of}
+use Rattle.x7_planner.specs.Stream.{StreamPiece, Words, Check, head, stream_of}
 
+-- a frame of zeros
 abbrev pub zero_frame : PartData → List ℕ
 zero_frame part = replicate (frame_words part) 0
 
@@ -23,8 +24,8 @@ frame_at_slot part plan Pad = zero_frame part
 frame_at_slot part plan End = zero_frame part
 
 -- the words of all slots in order
-abbrev pub slot_words : PartData → PlanData → List Slot → List ℕ
-slot_words part plan places = flat_map (frame_at_slot part plan) places
+abbrev pub words_of_slots : PartData → PlanData → List Slot → List ℕ
+words_of_slots part plan places = flat_map (frame_at_slot part plan) places
 
 -- the settings of startup, and where the frame data begins
 abbrev pub full_settings : PartData → List ℕ
@@ -44,9 +45,10 @@ start_words = command Lfrm ++ command Start
 abbrev pub full_ending : List ℕ
 full_ending = command Desync ++ replicate 16 no_op
 
-abbrev pub full_pieces : PartData → PlanData → List Piece
+-- the pieces of the full stream of a plan
+abbrev pub full_pieces : PartData → PlanData → List StreamPiece
 full_pieces part plan =
-    Words (full_opening part) ∷ Words (slot_words part plan (slots_in part)) ∷ Check ∷ Words start_words ∷ Check ∷ Words full_ending ∷ []
+    Words (full_opening part) ∷ Words (words_of_slots part plan (slots_in part)) ∷ Check ∷ Words start_words ∷ Check ∷ Words full_ending ∷ []
 
 -- the full stream of a plan
 abbrev pub full_stream : PartData → PlanData → List ℕ

@@ -29,10 +29,11 @@ abbrev pub with_content : List ℕ → List PlanRow → List PlanRow
 with_content words [] = []
 with_content words (r ∷ rows) = if same_words r.words words then r ∷ with_content words rows else with_content words rows
 
--- a row's content stands at three addresses or more, and the row is the first of them
+-- a row's content stands at three addresses or more
 abbrev pub is_shared : List PlanRow → PlanRow → Bool
 is_shared all r = nat_le 3 (length (with_content r.words all))
 
+-- a row's content stands at three addresses or more, and the row is the first of them
 abbrev pub leads_group : List PlanRow → PlanRow → Bool
 leads_group all r = is_shared all r && (slice_index (planned_addresses (with_content r.words all)) 0 == r.far)
 
@@ -110,6 +111,7 @@ abbrev pub pairs_of : Stretch → List PlanRow
 pairs_of (Copies words fars) = map (λ far. record { far = far; words = words }) fars
 pairs_of (Rows rows) = rows
 
+-- what stretches put, in order
 abbrev pub pairs_in : List Stretch → List PlanRow
 pairs_in stretches = flat_map pairs_of stretches
 
@@ -123,24 +125,25 @@ pub record WritesOnce (rows pairs : List PlanRow) : Type 0 where
 abbrev pub joined_runs : List (List PlanRow) → List PlanRow
 joined_runs runs = flat_map (λ run. run) runs
 
--- the last address of a run's rows, and the first of the next run's
+-- the last address of a run's rows
 abbrev pub last_far : List PlanRow → ℕ
 last_far [] = 0
 last_far (r ∷ []) = r.far
 last_far (r ∷ s ∷ run) = last_far (s ∷ run)
 
+-- the first address of a run's rows
 abbrev pub first_far : List PlanRow → ℕ
 first_far [] = 0
 first_far (r ∷ run) = r.far
 
 -- each run's addresses follow one another
-abbrev pub IsRun : PartData → List PlanRow → Type 0
-IsRun part [] = ⊥
-IsRun part (r ∷ []) = Unit {0}
-IsRun part (r ∷ s ∷ run) = (follows part r.far s.far ≡ true) × IsRun part (s ∷ run)
+abbrev pub IsRunOfRows : PartData → List PlanRow → Type 0
+IsRunOfRows part [] = ⊥
+IsRunOfRows part (r ∷ []) = Unit {0}
+IsRunOfRows part (r ∷ s ∷ run) = (follows part r.far s.far ≡ true) × IsRunOfRows part (s ∷ run)
 
 -- each is a run, and none follows the one before
 abbrev pub AreLongest : PartData → List (List PlanRow) → Type 0
 AreLongest part [] = Unit {0}
-AreLongest part (run ∷ []) = IsRun part run
-AreLongest part (run ∷ next ∷ runs) = IsRun part run × (follows part (last_far run) (first_far next) ≡ false) × AreLongest part (next ∷ runs)
+AreLongest part (run ∷ []) = IsRunOfRows part run
+AreLongest part (run ∷ next ∷ runs) = IsRunOfRows part run × (follows part (last_far run) (first_far next) ≡ false) × AreLongest part (next ∷ runs)

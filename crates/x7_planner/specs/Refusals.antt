@@ -27,16 +27,18 @@ pub record CanRead (part : PartData) (address n : ℕ) : Type 0 where
 abbrev pub IsOutOfRange : PartData → ℕ → ℕ → Type 0
 IsOutOfRange part address n = (n ≡ 0) ⊎ (length (from address (slots_in part)) < n)
 
--- the faults of a full stream, of a partial one, and of a readback
+-- the faults of a full stream
 abbrev pub IsFullFault : PartData → PlanData → PlanFault → Type 0
 IsFullFault part plan (fault.Foreign address) = IsFirstForeign part plan.rows address
 IsFullFault part plan _ = ⊥
 
+-- the faults of a partial stream
 abbrev pub IsPartialFault : PartData → PlanData → PlanFault → Type 0
 IsPartialFault part plan fault.Empty = plan.rows ≡ []
 IsPartialFault part plan (fault.Foreign address) = IsFirstForeign part plan.rows address
 IsPartialFault part plan _ = ⊥
 
+-- the faults of a readback
 abbrev pub IsReadFault : PartData → ℕ → ℕ → PlanFault → Type 0
 IsReadFault part address n (fault.Foreign a) = (a ≡ address) × (¬ Contains (addresses_in part) address)
 IsReadFault part address n (fault.Range m) = (m ≡ n) × Contains (addresses_in part) address × IsOutOfRange part address n

@@ -7,9 +7,9 @@ use Rattle.x7_packets.specs.PacketWords.{bus_width_detect, bus_width_sync, dummy
 use Rattle.x7_crc.specs.Checking.{check_of_bytes}
 
 -- words, or a write of the running check of all words before it
-pub data Piece : Type 0 where
-  Words : (ws : List ℕ) → Piece
-  Check : Piece
+pub data StreamPiece : Type 0 where
+  Words : (ws : List ℕ) → StreamPiece
+  Check : StreamPiece
 
 -- words as bytes, the highest byte first
 abbrev pub bytes_of_words : List ℕ → List ℕ
@@ -26,10 +26,10 @@ head = dummy_word ∷ dummy_word ∷ dummy_word ∷ dummy_word ∷ bus_width_syn
 -- ---- streams
 
 -- bytes with those of one piece more
-abbrev pub with_piece : List ℕ → Piece → List ℕ
+abbrev pub with_piece : List ℕ → StreamPiece → List ℕ
 with_piece bytes (Words ws) = bytes ++ bytes_of_words ws
 with_piece bytes Check = bytes ++ bytes_of_words (check_words (check_of_bytes bytes))
 
 -- the bytes of pieces
-abbrev pub stream_of : List Piece → List ℕ
+abbrev pub stream_of : List StreamPiece → List ℕ
 stream_of pieces = fold with_piece [] pieces

@@ -4,8 +4,8 @@ use Rattle.x7_crc.specs.Checking.{HasTaken, PieceCheckerState}
 use Rattle.x7_part.specs.Part.{PartData, frame_words}
 use Rattle.x7_part.specs.Slots.{slots_in}
 use Rattle.x7_memory.specs.Planned.{PlanData}
-use Rattle.x7_planner.specs.Full.{full_opening, full_pieces, full_stream, slot_words, start_words}
-use Rattle.x7_planner.specs.Stream.{Piece, Words, Check, stream_of}
+use Rattle.x7_planner.specs.Full.{full_opening, full_pieces, full_stream, words_of_slots, start_words}
+use Rattle.x7_planner.specs.Stream.{StreamPiece, Words, Check, stream_of}
 use Rattle.x7_planner.specs.declared.whole.NextPiece.{NextPiece}
 use Rattle.x7_planner.specs.declared.whole.NextPiece.TheVariants as next
 
@@ -17,15 +17,15 @@ pub record FullStreamState : Type 0 where
   pub check : PieceCheckerState
 
 -- the frame data up to a slot, and what stands before them
-abbrev pub pieces_to : PartData → PlanData → ℕ → List Piece
-pieces_to part plan n = Words (full_opening part) ∷ Words (slot_words part plan (take n (slots_in part))) ∷ []
+abbrev pub pieces_to : PartData → PlanData → ℕ → List StreamPiece
+pieces_to part plan n = Words (full_opening part) ∷ Words (words_of_slots part plan (take n (slots_in part))) ∷ []
 
 -- what stands before the check behind the frame data
-abbrev pub frame_pieces : PartData → PlanData → List Piece
-frame_pieces part plan = Words (full_opening part) ∷ Words (slot_words part plan (slots_in part)) ∷ []
+abbrev pub frame_pieces : PartData → PlanData → List StreamPiece
+frame_pieces part plan = Words (full_opening part) ∷ Words (words_of_slots part plan (slots_in part)) ∷ []
 
 -- what stands before what is next
-abbrev pub pieces_before : PartData → PlanData → NextPiece → List Piece
+abbrev pub pieces_before : PartData → PlanData → NextPiece → List StreamPiece
 pieces_before part plan next.Opening = []
 pieces_before part plan (next.Slot n) = pieces_to part plan n
 pieces_before part plan next.Check = frame_pieces part plan
@@ -50,8 +50,8 @@ calls_from slots next.Desync = 1
 calls_from slots next.Nothing = 0
 
 -- how often there may be a piece more of a full stream that is written piece by piece
-abbrev pub calls_left : FullStreamState → ℕ
-calls_left s = calls_from (length (slots_in s.part)) s.next
+abbrev pub puts_left : FullStreamState → ℕ
+puts_left s = calls_from (length (slots_in s.part)) s.next
 
 -- the plan has the part's width, and the slot that is next isn't past the last one
 pub record IsFullStream (s : FullStreamState) : Type 0 where
@@ -81,4 +81,4 @@ pub record Writes (s : FullStreamState) (old new : List ℕ) (after : NextPiece)
   pub adds : new ≡ old ++ piece
   pub before : (given : List ℕ) → HasGiven s given → given ++ piece ≡ stream_of (pieces_before s.part s.plan after)
   pub inside : slot_next after ≤ length (slots_in s.part)
-  pub fewer : s.next ≢ next.Nothing → calls_from (length (slots_in s.part)) after < calls_left s
+  pub fewer : s.next ≢ next.Nothing → calls_from (length (slots_in s.part)) after < puts_left s

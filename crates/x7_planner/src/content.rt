@@ -1,7 +1,7 @@
 //! The contents of planned frames, equal ones together.
 ghost use Rattle.std.specs.Prelude.{◌≡◌, ℕ, ◌<◌, ◌≤◌, length, slice_index_or, IfOk};
 ghost use Rattle.x7_memory.specs.Planned.{PlanRow};
-ghost use Rattle.x7_planner.specs.Contents.{AreFirsts, AreGrouped, AreStarts, IsBegun, IsFirst, rows_of};
+ghost use Rattle.x7_planner.specs.Contents.{AreFirsts, AreGrouped, AreStarts, IsBegun, IsFirst, content_rows};
 ghost use Rattle.x7_planner.specs.Partial.{same_words};
 
 use std::alloc::{AllocError, Global};
@@ -24,7 +24,7 @@ pub(crate) fn is_same(a: &[u32], b: &[u32]) -> bool
 
 /// The contents of all rows in the plan's order.
 fn contents_of(alloc: Global, plan: &Plan) -> Result<Vec<Content<'_>>, AllocError>
-    ensures rows { IfOk result (λ contents. rows_of contents.items ≡ plan.now.rows) }
+    ensures rows { IfOk result (λ contents. content_rows contents.items ≡ plan.now.rows) }
     ensures places { IfOk result (λ contents. (i : ℕ) (d : Content) → i < length contents.items → (slice_index_or contents.items i d).row ≡ i) }
 {
     let mut contents = Vec::with_capacity(alloc, plan.len())?;
@@ -48,9 +48,9 @@ pub(crate) fn grouped(alloc: Global, plan: &Plan) -> Result<Vec<Content<'_>>, Al
 
 /// The place where the content at a place begins; where the content at the place before it begins is known.
 fn start_at(contents: &[Content], start: usize, place: usize) -> usize
-    requires begun { IsBegun (rows_of contents.now) start place }
+    requires begun { IsBegun (content_rows contents.now) start place }
     requires inside { place < length contents.now }
-    ensures first { (d : PlanRow) → IsFirst (rows_of contents.now) (slice_index_or (rows_of contents.now) place d).words result }
+    ensures first { (d : PlanRow) → IsFirst (content_rows contents.now) (slice_index_or (content_rows contents.now) place d).words result }
     ensures behind { result ≤ place }
 {
     if is_same(contents[place].words, contents[start].words) {
@@ -61,7 +61,7 @@ fn start_at(contents: &[Content], start: usize, place: usize) -> usize
 
 /// The place where the content at each place begins.
 pub(crate) fn firsts_of(alloc: Global, contents: &[Content]) -> Result<Vec<usize>, AllocError>
-    ensures { IfOk result (λ firsts. AreFirsts (rows_of contents.now) firsts.items) }
+    ensures { IfOk result (λ firsts. AreFirsts (content_rows contents.now) firsts.items) }
 {
     let mut firsts = Vec::with_capacity(alloc, contents.len())?;
     let mut start = 0;
@@ -80,8 +80,8 @@ pub(crate) fn starts_of(
     firsts: &[usize],
 ) -> Result<Vec<usize>, AllocError>
     requires contents { AreGrouped plan.now.rows contents.now }
-    requires firsts { AreFirsts (rows_of contents.now) firsts.now }
-    ensures { IfOk result (λ starts. AreStarts plan.now.rows (rows_of contents.now) starts.items) }
+    requires firsts { AreFirsts (content_rows contents.now) firsts.now }
+    ensures { IfOk result (λ starts. AreStarts plan.now.rows (content_rows contents.now) starts.items) }
 {
     let mut starts = vec![in alloc; 0usize; plan.len()]?;
     for k in 0..contents.len() {

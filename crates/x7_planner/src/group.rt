@@ -2,7 +2,7 @@
 ghost use Rattle.std.specs.Prelude.{◌≡◌, ◌==◌, ◌&&◌, ◌<◌, ◌++◌, nat_le, if◌then◌else◌, [], ◌∷◌, length, slice_index, IfOk, OnOk};
 ghost use Rattle.std.specs.List.{flat_map};
 ghost use Rattle.x7_memory.specs.Planned.{planned_addresses};
-ghost use Rattle.x7_planner.specs.Contents.{AreFirsts, AreGrouped, AreStarts, AreTogether, IsFirst, rows_of};
+ghost use Rattle.x7_planner.specs.Contents.{AreFirsts, AreGrouped, AreStarts, AreTogether, IsFirst, content_rows};
 ghost use Rattle.x7_planner.specs.Partial.{copy_words, groups_led, others, stretch_words, with_content, Copies};
 ghost use Rattle.x7_planner.specs.Stream.{with_piece, Words};
 
@@ -17,11 +17,11 @@ use x7_words::NoMemory;
 
 /// Whether a content, whose first place is known, stands at three addresses or more.
 fn is_group(contents: &[Content], firsts: &[usize], start: usize, _words: &[u32]) -> bool
-    requires together { AreTogether (rows_of contents.now) }
-    requires firsts { AreFirsts (rows_of contents.now) firsts.now }
-    requires first { IsFirst (rows_of contents.now) _words.now start }
+    requires together { AreTogether (content_rows contents.now) }
+    requires firsts { AreFirsts (content_rows contents.now) firsts.now }
+    requires first { IsFirst (content_rows contents.now) _words.now start }
     requires inside { start < length contents.now }
-    ensures { result ≡ nat_le 3 (length (with_content _words.now (rows_of contents.now))) }
+    ensures { result ≡ nat_le 3 (length (with_content _words.now (content_rows contents.now))) }
 {
     if contents.len() - start < 3 {
         return false;
@@ -31,11 +31,11 @@ fn is_group(contents: &[Content], firsts: &[usize], start: usize, _words: &[u32]
 
 /// Whether the row at an address is the first of three or more with its content.
 fn leads(contents: &[Content], firsts: &[usize], start: usize, far: u32, words: &[u32]) -> bool
-    requires together { AreTogether (rows_of contents.now) }
-    requires firsts { AreFirsts (rows_of contents.now) firsts.now }
-    requires first { IsFirst (rows_of contents.now) words.now start }
+    requires together { AreTogether (content_rows contents.now) }
+    requires firsts { AreFirsts (content_rows contents.now) firsts.now }
+    requires first { IsFirst (content_rows contents.now) words.now start }
     requires inside { start < length contents.now }
-    ensures { result ≡ (nat_le 3 (length (with_content words.now (rows_of contents.now))) && (slice_index (planned_addresses (with_content words.now (rows_of contents.now))) 0 == far)) }
+    ensures { result ≡ (nat_le 3 (length (with_content words.now (content_rows contents.now))) && (slice_index (planned_addresses (with_content words.now (content_rows contents.now))) 0 == far)) }
 {
     if !is_group(contents, firsts, start, words) {
         return false;
@@ -51,10 +51,10 @@ fn put_copies(
     start: usize,
     _words: &[u32],
 ) -> Result<(), NoMemory>
-    requires together { AreTogether (rows_of contents.now) }
-    requires firsts { AreFirsts (rows_of contents.now) firsts.now }
-    requires first { IsFirst (rows_of contents.now) _words.now start }
-    ensures { OnOk result (writer.new ≡ with_piece writer.old (Words (flat_map copy_words (planned_addresses (with_content _words.now (rows_of contents.now)))))) }
+    requires together { AreTogether (content_rows contents.now) }
+    requires firsts { AreFirsts (content_rows contents.now) firsts.now }
+    requires first { IsFirst (content_rows contents.now) _words.now start }
+    ensures { OnOk result (writer.new ≡ with_piece writer.old (Words (flat_map copy_words (planned_addresses (with_content _words.now (content_rows contents.now)))))) }
 {
     for k in start..contents.len() {
         if firsts[k] != start {
@@ -77,11 +77,11 @@ fn put_group(
     start: usize,
     words: &[u32],
 ) -> Result<(), NoMemory>
-    requires together { AreTogether (rows_of contents.now) }
-    requires firsts { AreFirsts (rows_of contents.now) firsts.now }
-    requires first { IsFirst (rows_of contents.now) words.now start }
+    requires together { AreTogether (content_rows contents.now) }
+    requires firsts { AreFirsts (content_rows contents.now) firsts.now }
+    requires first { IsFirst (content_rows contents.now) words.now start }
     requires inside { start < length contents.now }
-    ensures { OnOk result (writer.new ≡ with_piece writer.old (Words (stretch_words part.now (Copies words.now (planned_addresses (with_content words.now (rows_of contents.now))))))) }
+    ensures { OnOk result (writer.new ≡ with_piece writer.old (Words (stretch_words part.now (Copies words.now (planned_addresses (with_content words.now (content_rows contents.now))))))) }
 {
     let far = contents[start].far;
     writer.packets(&[
@@ -105,11 +105,11 @@ fn put_led(
     far: u32,
     words: &[u32],
 ) -> Result<(), NoMemory>
-    requires together { AreTogether (rows_of contents.now) }
-    requires firsts { AreFirsts (rows_of contents.now) firsts.now }
-    requires first { IsFirst (rows_of contents.now) words.now start }
+    requires together { AreTogether (content_rows contents.now) }
+    requires firsts { AreFirsts (content_rows contents.now) firsts.now }
+    requires first { IsFirst (content_rows contents.now) words.now start }
     requires inside { start < length contents.now }
-    ensures { OnOk result (writer.new ≡ with_piece writer.old (Words (flat_map (stretch_words part.now) (groups_led (rows_of contents.now) (record { far = far; words = words.now } ∷ []))))) }
+    ensures { OnOk result (writer.new ≡ with_piece writer.old (Words (flat_map (stretch_words part.now) (groups_led (content_rows contents.now) (record { far = far; words = words.now } ∷ []))))) }
 {
     if !leads(contents, firsts, start, far, words) {
         return Ok(());
@@ -128,8 +128,8 @@ pub(crate) fn put_groups(
     starts: &[usize],
 ) -> Result<(), NoMemory>
     requires contents { AreGrouped plan.now.rows contents.now }
-    requires firsts { AreFirsts (rows_of contents.now) firsts.now }
-    requires starts { AreStarts plan.now.rows (rows_of contents.now) starts.now }
+    requires firsts { AreFirsts (content_rows contents.now) firsts.now }
+    requires starts { AreStarts plan.now.rows (content_rows contents.now) starts.now }
     ensures { OnOk result (writer.new ≡ with_piece writer.old (Words (flat_map (stretch_words part.now) (groups_led plan.now.rows plan.now.rows)))) }
 {
     for i in 0..plan.len() {
@@ -164,9 +164,9 @@ pub(crate) fn others_of<'p>(
     starts: &[usize],
 ) -> Result<Vec<Content<'p>>, AllocError>
     requires contents { AreGrouped plan.now.rows contents.now }
-    requires firsts { AreFirsts (rows_of contents.now) firsts.now }
-    requires starts { AreStarts plan.now.rows (rows_of contents.now) starts.now }
-    ensures { IfOk result (λ alone. rows_of alone.items ≡ others plan.now.rows plan.now.rows) }
+    requires firsts { AreFirsts (content_rows contents.now) firsts.now }
+    requires starts { AreStarts plan.now.rows (content_rows contents.now) starts.now }
+    ensures { IfOk result (λ alone. content_rows alone.items ≡ others plan.now.rows plan.now.rows) }
 {
     let mut alone = Vec::with_capacity(alloc, plan.len())?;
     for row in 0..plan.len() {

@@ -1,7 +1,7 @@
 //! Frames whose addresses follow one another, which are written at once.
 ghost use Rattle.std.specs.Prelude.{◌≡◌, ◌+◌, ◌-◌, ◌*◌, ◌<◌, ◌≤◌, false, length, All, Contains, OnOk};
 ghost use Rattle.x7_part.specs.AddressOrder.{addresses_in};
-ghost use Rattle.x7_planner.specs.Contents.{IsRunLength, rows_of};
+ghost use Rattle.x7_planner.specs.Contents.{IsRunLength, content_rows};
 ghost use Rattle.x7_planner.specs.Partial.{follows, frames_words, runs_words, stretch_words, Rows};
 ghost use Rattle.x7_planner.specs.Stream.{with_piece, Words};
 
@@ -27,8 +27,8 @@ fn is_next(part: &Part, far: u32, next: u32) -> bool
 /// How many frames the first run has.
 fn run_length(part: &Part, frames: &[Content]) -> usize
     requires some { 0 < length frames.now }
-    requires addresses { All (λ row. Contains (addresses_in part.now) row.far) (rows_of frames.now) }
-    ensures { IsRunLength part.now (rows_of frames.now) result }
+    requires addresses { All (λ row. Contains (addresses_in part.now) row.far) (content_rows frames.now) }
+    ensures { IsRunLength part.now (content_rows frames.now) result }
 {
     for k in 1..frames.len() {
         if !is_next(part, frames[k - 1].far, frames[k].far) {
@@ -40,7 +40,7 @@ fn run_length(part: &Part, frames: &[Content]) -> usize
 
 /// Writes frames.
 fn put_frames(writer: &mut Writer, frames: &[Content]) -> Result<(), NoMemory>
-    ensures { OnOk result (writer.new ≡ with_piece writer.old (Words (frames_words (rows_of frames.now)))) }
+    ensures { OnOk result (writer.new ≡ with_piece writer.old (Words (frames_words (content_rows frames.now)))) }
 {
     for frame in frames {
         writer.words(frame.words)?;
@@ -52,7 +52,7 @@ fn put_frames(writer: &mut Writer, frames: &[Content]) -> Result<(), NoMemory>
 fn put_run(writer: &mut Writer, part: &Part, run: &[Content]) -> Result<(), NoMemory>
     requires some { 0 < length run.now }
     requires few { length run.now ≤ 131072 }
-    ensures { OnOk result (writer.new ≡ with_piece writer.old (Words (stretch_words part.now (Rows (rows_of run.now))))) }
+    ensures { OnOk result (writer.new ≡ with_piece writer.old (Words (stretch_words part.now (Rows (content_rows run.now))))) }
 {
     let words = part.words() * (run.len() as u32 + 1);
     writer.packets(&[
@@ -67,9 +67,9 @@ fn put_run(writer: &mut Writer, part: &Part, run: &[Content]) -> Result<(), NoMe
 
 /// Writes the longest runs of frames in order.
 pub(crate) fn put_runs(writer: &mut Writer, part: &Part, frames: &[Content]) -> Result<(), NoMemory>
-    requires addresses { All (λ row. Contains (addresses_in part.now) row.far) (rows_of frames.now) }
+    requires addresses { All (λ row. Contains (addresses_in part.now) row.far) (content_rows frames.now) }
     requires few { length frames.now ≤ 131072 }
-    ensures { OnOk result (writer.new ≡ with_piece writer.old (Words (runs_words part.now (rows_of frames.now)))) }
+    ensures { OnOk result (writer.new ≡ with_piece writer.old (Words (runs_words part.now (content_rows frames.now)))) }
 {
     let mut at = 0;
     while at < frames.len() {

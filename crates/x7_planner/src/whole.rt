@@ -5,10 +5,10 @@ ghost use Rattle.x7_part.specs.AddressOrder.{addresses_in};
 ghost use Rattle.x7_part.specs.Part.{frame_words};
 ghost use Rattle.x7_part.specs.PartRange.{IsPart};
 ghost use Rattle.x7_part.specs.Slots.{slots_in};
-ghost use Rattle.x7_planner.specs.Full.{frame_at_slot, full_opening, full_settings, full_stream, slot_words};
+ghost use Rattle.x7_planner.specs.Full.{frame_at_slot, full_opening, full_settings, full_stream, words_of_slots};
 ghost use Rattle.x7_planner.specs.Refusals.{IsFullFault};
 ghost use Rattle.x7_planner.specs.Stream.{bytes_of_words};
-ghost use Rattle.x7_planner.specs.Telling.{HasGiven, TellsMore, Writes, calls_left, piece_limit};
+ghost use Rattle.x7_planner.specs.Telling.{HasGiven, TellsMore, Writes, puts_left, piece_limit};
 ghost use Rattle.x7_planner.specs.declared.fault.PlanFault.{PlanFault};
 ghost use Rattle.x7_planner.specs.declared.whole.NextPiece.{NextPiece};
 
@@ -139,7 +139,7 @@ fn put_slots(
     requires width { plan.now.width ≡ frame_words part.now }
     requires order { from ≤ to }
     requires within { to ≤ length (slots_in part.now) }
-    ensures items { OnOk result (out.new.items ≡ out.old.items ++ bytes_of_words (slot_words part.now plan.now (drop from (take to (slots_in part.now))))) }
+    ensures items { OnOk result (out.new.items ≡ out.old.items ++ bytes_of_words (words_of_slots part.now plan.now (drop from (take to (slots_in part.now))))) }
     ensures few { OnOk result (length out.new.items ≤ length out.old.items + 1020 * (to - from)) }
     ensures failed { OnErr result (take (length out.old.items) out.new.items ≡ out.old.items) }
     ensures room { vec_capacity out.old ≤ vec_capacity out.new }
@@ -216,7 +216,7 @@ impl<'p> FullStream<'p> {
     /// After an error nothing was appended, and the same piece is next.
     pub fn put_next(&mut self, out: &mut Vec<u8>) -> Result<bool, NoMemory>
         ensures more { (given : List ℕ) → HasGiven self.old given → IfOk result (λ more. more ≡ true → TellsMore self.new given out.old.items out.new.items) }
-        ensures fewer { IfOk result (λ more. more ≡ true → calls_left self.new < calls_left self.old) }
+        ensures fewer { IfOk result (λ more. more ≡ true → puts_left self.new < puts_left self.old) }
         ensures end { (given : List ℕ) → HasGiven self.old given → IfOk result (λ more. more ≡ false → given ≡ full_stream self.old.part self.old.plan) }
         ensures nothing { IfOk result (λ more. more ≡ false → out.new.items ≡ out.old.items) }
         ensures ended { IfOk result (λ more. more ≡ false → self.new ≡ self.old) }

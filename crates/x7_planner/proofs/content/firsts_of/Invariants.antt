@@ -1,6 +1,6 @@
-use Rattle.x7_planner.specs.Contents.{rows_of}
+use Rattle.x7_planner.specs.Contents.{content_rows}
 use Rattle.x7_planner.proofs.ContentLemmas.{FirstsUpTo}
 use Rattle.x7_planner.proofs.content.firsts_of.Given as goal
 
 abbrev pub invariant-loop-place : goal.invariant-loop-place
-invariant-loop-place l = FirstsUpTo (rows_of l.contents) l.firsts.items l.start l.place
+invariant-loop-place l = FirstsUpTo (content_rows l.contents) l.firsts.items l.start l.place

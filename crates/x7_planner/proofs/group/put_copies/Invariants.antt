@@ -1,7 +1,7 @@
 use Rattle.std.proofs.Common.{◌≡◌, ◌≤◌, ◌++◌, take}
 use Rattle.std.specs.List.{flat_map}
 use Rattle.x7_memory.specs.Planned.{planned_addresses}
-use Rattle.x7_planner.specs.Contents.{rows_of}
+use Rattle.x7_planner.specs.Contents.{content_rows}
 use Rattle.x7_planner.specs.Partial.{copy_words, with_content}
 use Rattle.x7_planner.specs.Stream.{bytes_of_words}
 use Rattle.x7_planner.proofs.group.put_copies.Given as goal
@@ -9,4 +9,4 @@ use Rattle.x7_planner.proofs.group.put_copies.Given as goal
 abbrev pub invariant-loop-k : goal.invariant-loop-k
 invariant-loop-k l =
     (l.start ≤ l.k)
-    × (l.writer ≡ l.fn.writer ++ bytes_of_words (flat_map copy_words (planned_addresses (with_content l._words (take l.k (rows_of l.contents))))))
+    × (l.writer ≡ l.fn.writer ++ bytes_of_words (flat_map copy_words (planned_addresses (with_content l._words (take l.k (content_rows l.contents))))))

@@ -1,5 +1,5 @@
 use Rattle.std.proofs.Common.{◌≡◌, ◌-◌, ◌≤◌, ◌++◌, length, drop}
-use Rattle.x7_planner.specs.Contents.{rows_of}
+use Rattle.x7_planner.specs.Contents.{content_rows}
 use Rattle.x7_planner.specs.Partial.{runs_words}
 use Rattle.x7_planner.specs.Stream.{bytes_of_words}
 use Rattle.x7_planner.proofs.run.put_runs.Given as goal
@@ -7,7 +7,7 @@ use Rattle.x7_planner.proofs.run.put_runs.Given as goal
 abbrev pub invariant-loop-at : goal.invariant-loop-at
 invariant-loop-at l =
     (l.at ≤ length l.frames)
-    × (l.writer ++ bytes_of_words (runs_words l.part (rows_of (drop l.at l.frames))) ≡ l.fn.writer ++ bytes_of_words (runs_words l.part (rows_of l.frames)))
+    × (l.writer ++ bytes_of_words (runs_words l.part (content_rows (drop l.at l.frames))) ≡ l.fn.writer ++ bytes_of_words (runs_words l.part (content_rows l.frames)))
 
 abbrev pub decreases-loop-at : goal.decreases-loop-at
 decreases-loop-at l = length l.frames - l.at

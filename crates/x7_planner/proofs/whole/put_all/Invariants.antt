@@ -1,5 +1,5 @@
 use Rattle.std.proofs.Common.{◌≡◌}
-use Rattle.x7_planner.specs.Telling.{HasGiven, calls_left}
+use Rattle.x7_planner.specs.Telling.{HasGiven, puts_left}
 use Rattle.x7_planner.proofs.whole.put_all.Given as goal
 
 abbrev pub invariant-loop : goal.invariant-loop
@@ -10,4 +10,4 @@ invariant-loop l = record {
 }
 
 abbrev pub decreases-loop : goal.decreases-loop
-decreases-loop l = calls_left l.stream
+decreases-loop l = puts_left l.stream

@@ -1,6 +1,6 @@
 use Rattle.std.proofs.Common.{◌≤◌, vec_capacity}
 use Rattle.x7_words.specs.Sink.{Counts}
-use Rattle.x7_planner.specs.Telling.{calls_left, piece_limit}
+use Rattle.x7_planner.specs.Telling.{puts_left, piece_limit}
 use Rattle.x7_tool.proofs.FullTextLemmas.{Sent}
 use Rattle.x7_tool.proofs.full_text.write_pieces.Given as goal
 
@@ -14,4 +14,4 @@ invariant-loop-more g l =
     }
 
 abbrev pub decreases-loop-more : goal.decreases-loop-more
-decreases-loop-more g l = calls_left l.stream
+decreases-loop-more g l = puts_left l.stream

@@ -1,4 +1,4 @@
-use Rattle.x7_planner.specs.Telling.{calls_left}
+use Rattle.x7_planner.specs.Telling.{puts_left}
 use Rattle.x7_tool.proofs.GenerateLemmas.{PlaysAlong}
 use Rattle.x7_tool.proofs.generate.play_all.Given as goal
 
@@ -6,4 +6,4 @@ abbrev pub invariant-loop-player : goal.invariant-loop-player
 invariant-loop-player l = PlaysAlong l.fn.stream.part l.fn.stream.plan l.stream l.player l.size l.block.items
 
 abbrev pub decreases-loop-player : goal.decreases-loop-player
-decreases-loop-player l = calls_left l.stream
+decreases-loop-player l = puts_left l.stream
