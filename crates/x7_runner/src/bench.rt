@@ -3,218 +3,139 @@ use crate::case::Case;
 use crate::command::Command;
 use crate::comparing::compare;
 use crate::failing::{Blamed, compare_failed, compare_spared};
-use crate::fault::Fault;
 use crate::named::Named;
 use crate::notes::Notes;
 use crate::outside::Object;
 use crate::running::{Ending, Turn, ran};
 use std::alloc::Global;
+use std::mem::swap;
 
-/// A case, and the inputs that it shares with others of its file.
+/// A case and the inputs that it shares with others of its file, the command, and what its runs left.
 #[derive(Drop)]
-pub struct Bench<'a> {
+pub struct Bench<'a, C: Command> {
+    pub command: &'a C,
     pub alloc: Global,
     pub shared: &'a [Named],
     pub case: &'a Case,
+    pub notes: &'a mut Notes,
+    /// What the run without a failing call left, and what the last run did.
+    pub whole: Ending,
+    pub came: Ending,
 }
 
-impl<'a> Bench<'a> {
+impl<'a, C: Command> Bench<'a, C> {
     /// One run, which the notes that follow are of.
-    fn ran<C: Command>(
-        &self,
-        command: &C,
-        notes: &mut Notes,
-        turn: &Turn,
-        ending: &mut Ending,
-    ) -> Result<(), Fault> {
-        notes.begin(self.case.name.as_str())?;
-        turn.put_name(&mut notes.run)?;
-        let given = &self.case.outside;
-        ran(command, self.alloc, self.shared, given, turn, ending)
+    fn ran(&mut self, turn: &Turn) {
+        let case = self.case;
+        self.notes.begin(case.name.as_str());
+        turn.put_name(self.notes);
+        let given = &case.outside;
+        let done = ran(
+            self.command,
+            self.alloc,
+            self.shared,
+            given,
+            turn,
+            &mut self.came,
+        );
+        self.notes.take(done);
     }
 
     /// One run, compared.
-    fn compared<C: Command>(
-        &self,
-        command: &C,
-        notes: &mut Notes,
-        turn: &Turn,
-        ending: &mut Ending,
-    ) -> Result<(), Fault> {
-        self.ran(command, notes, turn, ending)?;
-        compare(notes, &self.case.outside, &self.case.expected, turn, ending)
+    fn compared(&mut self, turn: &Turn) {
+        self.ran(turn);
+        let case = self.case;
+        compare(self.notes, &case.outside, &case.expected, turn, &self.came);
     }
 
-    /// One run in which a call fails, beside the whole run. True where the run had no such call.
-    fn is_past<C: Command>(
-        &self,
-        command: &C,
-        notes: &mut Notes,
-        turn: &Turn,
-        blamed: &mut Blamed,
-        whole: &Ending,
-        came: &mut Ending,
-    ) -> Result<bool, Fault> {
-        self.ran(command, notes, turn, came)?;
-        if came.is_spared {
-            compare_spared(notes, whole, came)?;
+    /// One run in which a call fails, beside the whole run. True where the run had no such call, or memory lacks.
+    fn is_past(&mut self, turn: &Turn, blamed: &mut Blamed) -> bool {
+        self.ran(turn);
+        if self.came.is_spared {
+            compare_spared(self.notes, &self.whole, &self.came);
         } else {
             let words = &self.case.outside.words;
-            compare_failed(notes, words, blamed, turn.object, whole, came)?;
+            let object = turn.object;
+            compare_failed(self.notes, words, blamed, object, &self.whole, &self.came);
         }
-        Ok(came.is_spared)
+        self.came.is_spared || self.notes.lacks_memory
     }
 
     /// Runs with each call of the object failing in turn, until a run has no such call.
-    fn run_calls<C: Command>(
-        &self,
-        command: &C,
-        notes: &mut Notes,
-        turn: &Turn,
-        blamed: &mut Blamed,
-        whole: &Ending,
-        came: &mut Ending,
-    ) -> Result<(), Fault> {
+    fn run_calls(&mut self, turn: &Turn, blamed: &mut Blamed) {
         for call in 1..=1_000_000u64 {
-            let failing = turn.failing(turn.object, call);
-            if self.is_past(command, notes, &failing, blamed, whole, came)? {
-                return Ok(());
+            if self.is_past(&turn.failing(turn.object, call), blamed) {
+                return;
             }
         }
-        notes.compare("fails_each", "an end", "none")
+        self.notes.put("fails_each", "an end", "none");
     }
 
     /// Runs with each call of the object failing in turn. Where the whole run reads all that the words name, each
     /// of these inputs fails in one of them.
-    fn run_each<C: Command>(
-        &self,
-        command: &C,
-        notes: &mut Notes,
-        turn: &Turn,
-        whole: &Ending,
-        came: &mut Ending,
-    ) -> Result<(), Fault> {
+    fn run_each(&mut self, turn: &Turn) {
         let mut blamed = Blamed::new(self.alloc);
-        self.run_calls(command, notes, turn, &mut blamed, whole, came)?;
-        if turn.object != Object::In || whole.status > 1 {
-            return Ok(());
+        self.run_calls(turn, &mut blamed);
+        if turn.object == Object::In && self.whole.status <= 1 {
+            let given = &self.case.outside;
+            blamed.compare_all(self.notes, &given.words, self.shared);
+            blamed.compare_all(self.notes, &given.words, &given.inputs);
         }
-        let words = &self.case.outside.words;
-        blamed.compare_all(notes, words, self.shared)?;
-        blamed.compare_all(notes, words, &self.case.outside.inputs)
     }
 
     /// Runs in pieces of other sizes, which should come to the same as the whole run.
-    fn run_alike<C: Command>(
-        &self,
-        command: &C,
-        notes: &mut Notes,
-        turn: &Turn,
-        whole: &Ending,
-        came: &mut Ending,
-    ) -> Result<(), Fault> {
+    fn run_alike(&mut self, turn: &Turn) {
         for piece in &self.case.outside.alike {
-            self.ran(command, notes, &turn.in_pieces(*piece), came)?;
-            compare_spared(notes, whole, came)?;
+            self.ran(&turn.in_pieces(*piece));
+            compare_spared(self.notes, &self.whole, &self.came);
         }
-        Ok(())
     }
 
     /// The run without a failing call, and those that stand beside it.
-    fn run_whole<C: Command>(
-        &self,
-        command: &C,
-        notes: &mut Notes,
-        turn: &Turn,
-        whole: &mut Ending,
-        came: &mut Ending,
-    ) -> Result<(), Fault> {
-        self.compared(command, notes, turn, whole)?;
-        self.run_alike(command, notes, turn, whole, came)?;
+    fn run_whole(&mut self, turn: &Turn) {
+        self.compared(turn);
+        swap(&mut self.whole, &mut self.came);
+        self.run_alike(turn);
         for object in &self.case.outside.each {
-            let failing = turn.failing(*object, 0);
-            self.run_each(command, notes, &failing, whole, came)?;
+            self.run_each(&turn.failing(*object, 0));
         }
-        Ok(())
     }
 
     /// A run in which a call fails, and where `err` is among those that fail in turn, one in which it fails too.
-    fn run_failing<C: Command>(
-        &self,
-        command: &C,
-        notes: &mut Notes,
-        turn: &Turn,
-        came: &mut Ending,
-    ) -> Result<(), Fault> {
-        self.compared(command, notes, turn, came)?;
-        for object in &self.case.outside.each {
-            if *object == Object::Err {
-                self.compared(command, notes, &turn.mute(), came)?;
-            }
+    fn run_failing(&mut self, turn: &Turn) {
+        self.compared(turn);
+        if self.case.outside.each.contains(&Object::Err) {
+            self.compared(&turn.mute());
         }
-        Ok(())
     }
 
     /// All runs with the reads and the damage of one turn.
-    fn run_piece<C: Command>(
-        &self,
-        command: &C,
-        notes: &mut Notes,
-        turn: &Turn,
-        whole: &mut Ending,
-        came: &mut Ending,
-    ) -> Result<(), Fault> {
+    fn run_piece(&mut self, turn: &Turn) {
         if self.case.outside.failing.is_empty() {
-            return self.run_whole(command, notes, turn, whole, came);
+            self.run_whole(turn);
         }
         for failing in &self.case.outside.failing {
-            let failed = turn.failing(failing.object, failing.call);
-            self.run_failing(command, notes, &failed, came)?;
+            self.run_failing(&turn.failing(failing.object, failing.call));
         }
-        Ok(())
     }
 
     /// All runs with one damage of an input, or with none.
-    fn run_pieces<C: Command>(
-        &self,
-        command: &C,
-        notes: &mut Notes,
-        damage: Option<u32>,
-        whole: &mut Ending,
-        came: &mut Ending,
-    ) -> Result<(), Fault> {
+    fn run_pieces(&mut self, damage: Option<u32>) {
         if self.case.outside.pieces.is_empty() {
-            let turn = Turn::new(damage, u32::MAX);
-            return self.run_piece(command, notes, &turn, whole, came);
+            self.run_piece(&Turn::new(damage, u32::MAX));
         }
         for piece in &self.case.outside.pieces {
-            let turn = Turn::new(damage, *piece);
-            self.run_piece(command, notes, &turn, whole, came)?;
+            self.run_piece(&Turn::new(damage, *piece));
         }
-        Ok(())
-    }
-
-    /// All runs of the case, by two endings that each run takes anew.
-    fn run_over<C: Command>(
-        &self,
-        command: &C,
-        notes: &mut Notes,
-        whole: &mut Ending,
-        came: &mut Ending,
-    ) -> Result<(), Fault> {
-        let Some(damaged) = self.case.outside.damaged.first() else {
-            return self.run_pieces(command, notes, None, whole, came);
-        };
-        for number in damaged.from..damaged.to {
-            self.run_pieces(command, notes, Some(number), whole, came)?;
-        }
-        Ok(())
     }
 
     /// All runs of the case.
-    pub fn run<C: Command>(&self, command: &C, notes: &mut Notes) -> Result<(), Fault> {
-        let mut whole = Ending::new(self.alloc);
-        let mut came = Ending::new(self.alloc);
-        self.run_over(command, notes, &mut whole, &mut came)
+    pub fn run(&mut self) {
+        let Some(damaged) = self.case.outside.damaged.first() else {
+            return self.run_pieces(None);
+        };
+        for number in damaged.from..damaged.to {
+            self.run_pieces(Some(number));
+        }
     }
 }

@@ -80,9 +80,9 @@ impl Case {
 
     /// Takes a line of what a run is given or comes to.
     fn take_plain(&mut self, key: &str, rest: &str) -> Result<(), Fault> {
-        if !self.outside.take(key, rest)? && !self.expected.take(key, rest)? {
-            return Err(Fault::Line);
+        match self.outside.take(key, rest) {
+            Err(Fault::Key) => self.expected.take(key, rest),
+            taken => taken,
         }
-        Ok(())
     }
 }

@@ -1,6 +1,5 @@
 //! A run beside what it should come to.
 use crate::expected::{Expected, Extent};
-use crate::fault::Fault;
 use crate::notes::{Notes, common_length};
 use crate::outside::{Object, Outside};
 use crate::running::{Ending, Turn};
@@ -24,10 +23,9 @@ fn nearest<'a>(text: &'a str, line: &[u8]) -> &'a [u8] {
 }
 
 /// Compares a text with a line that it should have.
-fn compare_line(notes: &mut Notes, line: &str, text: &str) -> Result<(), Fault> {
+fn compare_line(notes: &mut Notes, line: &str, text: &str) {
     let line = line.as_bytes();
-    let came = nearest(text, line);
-    notes.compare_lines("out has no such line", line, came)
+    notes.compare_lines("out has no such line", line, nearest(text, line));
 }
 
 /// The bytes as text, or none of it where they are none.
@@ -36,25 +34,23 @@ fn text_of(bytes: &[u8]) -> &str {
 }
 
 /// Compares a text with the lines that it should have.
-fn compare_parts(notes: &mut Notes, lines: &[u8], came: &[u8]) -> Result<(), Fault> {
-    let lines = text_of(lines);
+fn compare_parts(notes: &mut Notes, lines: &[u8], came: &[u8]) {
     let text = text_of(came);
-    for line in lines.lines() {
-        compare_line(notes, line, text)?;
+    for line in text_of(lines).lines() {
+        compare_line(notes, line, text);
     }
-    Ok(())
 }
 
 /// Compares the text that came with the one expected.
-fn compare_out(notes: &mut Notes, expected: &Expected, came: &[u8]) -> Result<(), Fault> {
+fn compare_out(notes: &mut Notes, expected: &Expected, came: &[u8]) {
     if let Some(length) = expected.length {
-        notes.compare_numbers("out length", u64::from(length), came.len() as u64)?;
+        notes.compare_numbers("out length", u64::from(length), came.len() as u64);
     }
     match expected.extent {
         Extent::Whole => notes.compare_texts("out", &expected.out, came),
         Extent::Prefix => notes.compare_prefix("out", &expected.out, came),
         Extent::Parts => compare_parts(notes, &expected.lines, came),
-        Extent::Any => Ok(()),
+        Extent::Any => {}
     }
 }
 
@@ -70,33 +66,23 @@ fn flash_after<'a>(expected: &'a Expected, given: &'a Outside) -> &'a [u8] {
 }
 
 /// Compares the message that came with the line expected, or where a call of `err` failed with a prefix of it.
-fn compare_err(
-    notes: &mut Notes,
-    expected: &Expected,
-    turn: &Turn,
-    came: &[u8],
-) -> Result<(), Fault> {
+fn compare_err(notes: &mut Notes, expected: &Expected, turn: &Turn, came: &[u8]) {
     if turn.call_of(Object::Err) > 0 {
-        notes.compare_prefix("err", &expected.err, came)
+        notes.compare_prefix("err", &expected.err, came);
     } else {
-        notes.compare_texts("err", &expected.err, came)
+        notes.compare_texts("err", &expected.err, came);
     }
 }
 
 /// Compares the status, the text and the message that came with those expected.
-fn compare_answer(
-    notes: &mut Notes,
-    expected: &Expected,
-    turn: &Turn,
-    ending: &Ending,
-) -> Result<(), Fault> {
+fn compare_answer(notes: &mut Notes, expected: &Expected, turn: &Turn, ending: &Ending) {
     notes.compare_numbers(
         "status",
         u64::from(expected.status),
         u64::from(ending.status),
-    )?;
-    compare_out(notes, expected, &ending.out)?;
-    compare_err(notes, expected, turn, &ending.err)
+    );
+    compare_out(notes, expected, &ending.out);
+    compare_err(notes, expected, turn, &ending.err);
 }
 
 /// Compares all that a run left with what it should come to.
@@ -106,9 +92,9 @@ pub fn compare(
     expected: &Expected,
     turn: &Turn,
     ending: &Ending,
-) -> Result<(), Fault> {
+) {
     if !matches!(expected.extent, Extent::Any) {
-        compare_answer(notes, expected, turn, ending)?;
+        compare_answer(notes, expected, turn, ending);
     }
-    notes.compare_texts("flash", flash_after(expected, given), &ending.flash)
+    notes.compare_texts("flash", flash_after(expected, given), &ending.flash);
 }

@@ -1,7 +1,7 @@
 //! An input that is damaged in each of many ways, one after the other.
 use crate::fault::Fault;
 use crate::named::{Named, bytes_of};
-use crate::token::first_word;
+use crate::token::{first_word, range_of};
 use std::alloc::Global;
 
 /// How an input is damaged.
@@ -16,8 +16,7 @@ pub enum Damage {
 /// An input, and the numbers of its damages: a run for each.
 #[derive(Drop)]
 pub struct Damaged {
-    pub name: String,
-    bytes: Vec<u8>,
+    pub named: Named,
     damage: Damage,
     pub from: u32,
     /// The first number after the last.
@@ -56,19 +55,19 @@ impl Damaged {
     ) -> Result<Damaged, Fault> {
         let (name, rest) = first_word(line);
         let (other, places) = first_word(rest);
-        let (from, to) = first_word(places);
+        let (from, to) = range_of(places)?;
+        let bytes = bytes_of(others, other)?;
         Ok(Damaged {
-            name: String::from_str(alloc, name)?,
-            bytes: Vec::from_slice(alloc, bytes_of(others, other)?)?,
+            named: Named::new(alloc, name, bytes)?,
             damage,
-            from: from.parse::<u32>()?,
-            to: to.parse::<u32>()?,
+            from,
+            to,
         })
     }
 
     /// The bytes with the damage of this number.
     pub fn bytes_of(&self, alloc: Global, number: u32) -> Result<Vec<u8>, Fault> {
-        let mut bytes = Vec::from_slice(alloc, &self.bytes)?;
+        let mut bytes = Vec::from_slice(alloc, &self.named.bytes)?;
         match self.damage {
             Damage::Cut => bytes.truncate(number as usize),
             Damage::Bit => change_bit(&mut bytes, number),

@@ -85,9 +85,9 @@ impl Expected {
         Ok(())
     }
 
-    /// Takes a line that says what a run comes to. False where it is another one.
-    pub fn take(&mut self, key: &str, rest: &str) -> Result<bool, Fault> {
-        let taken = match key {
+    /// Takes a line that says what a run comes to.
+    pub fn take(&mut self, key: &str, rest: &str) -> Result<(), Fault> {
+        match key {
             "status" => self.put_status(rest),
             "out" => put_line(self.alloc, &mut self.out, rest),
             "out_lines" => put_lines(self.alloc, &mut self.out, rest),
@@ -98,11 +98,7 @@ impl Expected {
             "any" => self.put_any(),
             "err" => put_line(self.alloc, &mut self.err, rest),
             "flash_after" => self.put_flash(rest),
-            _ => return Ok(false),
-        };
-        match taken {
-            Ok(()) => Ok(true),
-            Err(fault) => Err(fault),
+            _ => Err(Fault::Key),
         }
     }
 }

@@ -1,5 +1,4 @@
 //! A run in which a call failed, beside the one in which none did.
-use crate::fault::Fault;
 use crate::named::{Named, has_name};
 use crate::notes::Notes;
 use crate::outside::Object;
@@ -12,24 +11,24 @@ const READ_FAULT: u64 = 6;
 const WRITE_FAULT: u64 = 7;
 
 /// Notes where a run differs from the whole run.
-pub fn compare_spared(notes: &mut Notes, whole: &Ending, came: &Ending) -> Result<(), Fault> {
-    notes.compare_numbers("status", u64::from(whole.status), u64::from(came.status))?;
-    notes.compare_texts("out", &whole.out, &came.out)?;
-    notes.compare_texts("err", &whole.err, &came.err)
+pub fn compare_spared(notes: &mut Notes, whole: &Ending, came: &Ending) {
+    notes.compare_numbers("status", u64::from(whole.status), u64::from(came.status));
+    notes.compare_texts("out", &whole.out, &came.out);
+    notes.compare_texts("err", &whole.err, &came.err);
 }
 
 /// Notes where a failed call of `err` took more than an end of its line.
-fn compare_err_failed(notes: &mut Notes, whole: &Ending, came: &Ending) -> Result<(), Fault> {
-    notes.compare_numbers("status", u64::from(whole.status), u64::from(came.status))?;
-    notes.compare_texts("out", &whole.out, &came.out)?;
-    notes.compare_prefix("err", &whole.err, &came.err)
+fn compare_err_failed(notes: &mut Notes, whole: &Ending, came: &Ending) {
+    notes.compare_numbers("status", u64::from(whole.status), u64::from(came.status));
+    notes.compare_texts("out", &whole.out, &came.out);
+    notes.compare_prefix("err", &whole.err, &came.err);
 }
 
 /// Notes where a failed call of `out` left no prefix of the text, or not its message.
-fn compare_out_failed(notes: &mut Notes, whole: &Ending, came: &Ending) -> Result<(), Fault> {
-    notes.compare_numbers("status", WRITE_FAULT, u64::from(came.status))?;
-    notes.compare_prefix("out", &whole.out, &came.out)?;
-    notes.compare_texts("err", b"x7: write fault\n", &came.err)
+fn compare_out_failed(notes: &mut Notes, whole: &Ending, came: &Ending) {
+    notes.compare_numbers("status", WRITE_FAULT, u64::from(came.status));
+    notes.compare_prefix("out", &whole.out, &came.out);
+    notes.compare_texts("err", b"x7: write fault\n", &came.err);
 }
 
 /// The name in the message of a read fault.
@@ -37,6 +36,16 @@ fn name_of(message: &[u8]) -> Option<&[u8]> {
     message
         .strip_prefix(b"x7: read fault ")?
         .strip_suffix(b"\n")
+}
+
+/// The place of the first of these words that is the name, from a place on.
+fn next_place(words: &[String], from: usize, name: &[u8]) -> Option<usize> {
+    for (place, word) in words.iter().enumerate() {
+        if place >= from && word.as_bytes() == name {
+            return Some(place);
+        }
+    }
+    None
 }
 
 /// The inputs that the messages of read faults have named, while the calls fail in turn: by the
@@ -55,15 +64,16 @@ impl Blamed {
     }
 
     /// Takes the name in a message. False where it is no word from the one named last on.
-    fn take(&mut self, words: &[String], name: &[u8]) -> Result<bool, Fault> {
+    fn take(&mut self, notes: &mut Notes, words: &[String], name: &[u8]) -> bool {
         let last = self.places.last().copied().unwrap_or(1);
-        for (place, word) in words.iter().enumerate().skip(last) {
-            if word.as_bytes() == name {
-                self.places.push(place)?;
-                return Ok(true);
-            }
+        let Some(place) = next_place(words, last, name) else {
+            return false;
+        };
+        let done = self.places.push(place);
+        if done.is_err() {
+            notes.lacks_memory = true;
         }
-        Ok(false)
+        true
     }
 
     /// Whether a message named this input.
@@ -77,18 +87,13 @@ impl Blamed {
     }
 
     /// Notes each of these inputs that the words name and no message did.
-    pub fn compare_all(
-        &self,
-        notes: &mut Notes,
-        words: &[String],
-        inputs: &[Named],
-    ) -> Result<(), Fault> {
+    pub fn compare_all(&self, notes: &mut Notes, words: &[String], inputs: &[Named]) {
         for word in words.iter().skip(1) {
-            if has_name(inputs, word.as_str()) && !self.has(words, word.as_str()) {
-                notes.compare("fails_each in", word.as_str(), "no read fault of this name")?;
+            let name = word.as_str();
+            if has_name(inputs, name) && !self.has(words, name) {
+                notes.put("fails_each in", name, "no read fault of this name");
             }
         }
-        Ok(())
     }
 }
 
@@ -107,23 +112,22 @@ fn compare_read_failed(
     blamed: &mut Blamed,
     whole: &Ending,
     came: &Ending,
-) -> Result<(), Fault> {
-    notes.compare_numbers("status", READ_FAULT, u64::from(came.status))?;
-    notes.compare_prefix("out", out_after_read_fault(words, whole), &came.out)?;
+) {
+    notes.compare_numbers("status", READ_FAULT, u64::from(came.status));
+    notes.compare_prefix("out", out_after_read_fault(words, whole), &came.out);
     let is_named = match name_of(&came.err) {
-        Some(name) => blamed.take(words, name)?,
+        Some(name) => blamed.take(notes, words, name),
         None => false,
     };
     if !is_named {
-        notes.compare_texts("err", b"x7: read fault NAME\n", &came.err)?;
+        notes.compare_texts("err", b"x7: read fault NAME\n", &came.err);
     }
-    Ok(())
 }
 
 /// Notes where a failed write of the flash left not its message, or any text.
-fn compare_write_failed(notes: &mut Notes, came: &Ending) -> Result<(), Fault> {
-    notes.compare_texts("out", b"", &came.out)?;
-    notes.compare_texts("err", b"x7: write fault\n", &came.err)
+fn compare_write_failed(notes: &mut Notes, came: &Ending) {
+    notes.compare_texts("out", b"", &came.out);
+    notes.compare_texts("err", b"x7: write fault\n", &came.err);
 }
 
 /// Whether a call of the flash that failed may be a write.
@@ -142,7 +146,7 @@ pub fn compare_failed(
     object: Object,
     whole: &Ending,
     came: &Ending,
-) -> Result<(), Fault> {
+) {
     match object {
         Object::Err => compare_err_failed(notes, whole, came),
         Object::Out => compare_out_failed(notes, whole, came),

@@ -1,6 +1,6 @@
 //! Bytes under a name: inputs, and the flash.
 use crate::fault::Fault;
-use crate::token::{first_word, put_line, put_lines, put_tokens};
+use crate::token::{first_word, put_line, put_lines, put_tokens, range_of};
 use std::alloc::Global;
 
 /// Bytes under a name.
@@ -8,6 +8,15 @@ use std::alloc::Global;
 pub struct Named {
     pub name: String,
     pub bytes: Vec<u8>,
+}
+
+impl Named {
+    /// A copy of the bytes under the name.
+    pub fn new(alloc: Global, name: &str, bytes: &[u8]) -> Result<Named, Fault> {
+        let name = String::from_str(alloc, name)?;
+        let bytes = Vec::from_slice(alloc, bytes)?;
+        Ok(Named { name, bytes })
+    }
 }
 
 /// The place of the name in the list.
@@ -35,14 +44,6 @@ pub fn bytes_of<'a>(list: &'a [Named], name: &str) -> Result<&'a [u8], Fault> {
     Err(Fault::Line)
 }
 
-/// Appends the name to the list, without bytes.
-fn put_name(alloc: Global, list: &mut Vec<Named>, name: &str) -> Result<(), Fault> {
-    let name = String::from_str(alloc, name)?;
-    let bytes = Vec::new(alloc);
-    list.push(Named { name, bytes })?;
-    Ok(())
-}
-
 /// The bytes under the name, none yet where it is new.
 pub fn bytes_under<'a>(
     alloc: Global,
@@ -54,7 +55,7 @@ pub fn bytes_under<'a>(
         None => list.len(),
     };
     if place == list.len() {
-        put_name(alloc, list, name)?;
+        list.push(Named::new(alloc, name, &[])?)?;
     }
     match list.get_mut(place) {
         Some(named) => Ok(&mut named.bytes),
@@ -94,10 +95,8 @@ pub fn put_texts(alloc: Global, list: &mut Vec<Named>, line: &str) -> Result<(),
 /// The bytes of `NAME FROM TO` in the list: from the one place to before the other.
 pub fn slice_of<'a>(list: &'a [Named], line: &str) -> Result<&'a [u8], Fault> {
     let (name, places) = first_word(line);
-    let (from, to) = first_word(places);
-    let from = from.parse::<u32>()? as usize;
-    let to = to.parse::<u32>()? as usize;
-    match bytes_of(list, name)?.get(from..to) {
+    let (from, to) = range_of(places)?;
+    match bytes_of(list, name)?.get(from as usize..to as usize) {
         Some(bytes) => Ok(bytes),
         None => Err(Fault::Line),
     }

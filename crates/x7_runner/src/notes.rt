@@ -1,15 +1,16 @@
 //! What is printed of a run that isn't as written: where it differs, and both lines.
 use crate::fault::Fault;
 use std::alloc::Global;
+use std::fmt::Display;
 
 /// How many bytes two texts have in common from their first byte on.
 pub fn common_length(one: &[u8], other: &[u8]) -> usize {
-    for (place, (a, b)) in one.iter().zip(other.iter()).enumerate() {
-        if *a != *b {
+    for (place, byte) in one.iter().enumerate() {
+        if other.get(place) != Some(byte) {
             return place;
         }
     }
-    one.len().min(other.len())
+    one.len()
 }
 
 /// How many lines end before the place.
@@ -50,8 +51,10 @@ fn shown(alloc: Global, line: &[u8]) -> Result<String, Fault> {
 pub struct Notes {
     alloc: Global,
     /// The case, and what differs from run to run.
-    pub run: String,
+    run: String,
     pub text: String,
+    /// Whether memory lacked for a run or for a note on it, so that the notes say too little.
+    pub lacks_memory: bool,
 }
 
 impl Notes {
@@ -61,65 +64,112 @@ impl Notes {
             alloc,
             run: String::new(alloc),
             text: String::new(alloc),
+            lacks_memory: false,
         }
     }
 
     /// Begins the notes on a run of this name.
-    pub fn begin(&mut self, name: &str) -> Result<(), Fault> {
+    pub fn begin(&mut self, name: &str) {
         self.run.clear();
-        self.run.push_str(name)?;
-        Ok(())
+        self.add(name);
     }
 
-    /// Notes two texts that differ, each whole.
-    pub fn compare(&mut self, what: &str, expected: &str, came: &str) -> Result<(), Fault> {
-        if expected != came {
-            let run = &self.run;
-            write!(
-                self.text,
-                "{run}: {what}\n  expected {expected}\n  came     {came}\n"
-            )?;
+    /// Adds to the name of the run.
+    pub fn add(&mut self, text: &str) {
+        let done = self.run.push_str(text);
+        if done.is_err() {
+            self.lacks_memory = true;
         }
-        Ok(())
+    }
+
+    /// Adds a number to the name of the run, and texts before and after it.
+    pub fn add_number(&mut self, before: &str, number: u64, after: &str) {
+        let done = write!(self.run, "{before}{number}{after}");
+        if done.is_err() {
+            self.lacks_memory = true;
+        }
+    }
+
+    /// Takes how a run, or a note on it, went.
+    pub fn take(&mut self, done: Result<(), Fault>) {
+        if done.is_err() {
+            self.lacks_memory = true;
+        }
+    }
+
+    /// Notes two values that differ.
+    pub fn put<D: Display + Drop>(&mut self, what: &str, expected: D, came: D) {
+        let run = &self.run;
+        let done = write!(
+            self.text,
+            "{run}: {what}\n  expected {expected}\n  came     {came}\n"
+        );
+        if done.is_err() {
+            self.lacks_memory = true;
+        }
+    }
+
+    /// Adds a line: a name, a number between two texts, and what comes behind them.
+    pub fn put_line(&mut self, name: &str, before: &str, number: u64, after: &str, line: &str) {
+        let done = write!(self.text, "{name}: {before}{number}{after}{line}\n");
+        if done.is_err() {
+            self.lacks_memory = true;
+        }
+    }
+
+    /// Adds a line on a case without an end.
+    pub fn put_open(&mut self, case: &str) {
+        let done = write!(self.text, "the case has no end: {case}\n");
+        if done.is_err() {
+            self.lacks_memory = true;
+        }
     }
 
     /// Notes that two numbers differ, if they do.
-    pub fn compare_numbers(&mut self, what: &str, expected: u64, came: u64) -> Result<(), Fault> {
+    pub fn compare_numbers(&mut self, what: &str, expected: u64, came: u64) {
         if expected != came {
-            let run = &self.run;
-            write!(
-                self.text,
-                "{run}: {what}\n  expected {expected}\n  came     {came}\n"
-            )?;
+            self.put(what, expected, came);
         }
+    }
+
+    /// Notes two lines that differ.
+    fn put_lines(&mut self, what: &str, expected: &[u8], came: &[u8]) -> Result<(), Fault> {
+        let expected = shown(self.alloc, expected)?;
+        let came = shown(self.alloc, came)?;
+        self.put(what, expected.as_str(), came.as_str());
         Ok(())
     }
 
     /// Notes that two lines differ, if they do.
-    pub fn compare_lines(&mut self, what: &str, expected: &[u8], came: &[u8]) -> Result<(), Fault> {
-        let expected = shown(self.alloc, expected)?;
-        let came = shown(self.alloc, came)?;
-        self.compare(what, expected.as_str(), came.as_str())
+    pub fn compare_lines(&mut self, what: &str, expected: &[u8], came: &[u8]) {
+        if expected != came {
+            let done = self.put_lines(what, expected, came);
+            self.take(done);
+        }
     }
 
-    /// Notes where two texts differ, if they do.
-    pub fn compare_texts(&mut self, what: &str, expected: &[u8], came: &[u8]) -> Result<(), Fault> {
-        if expected == came {
-            return Ok(());
-        }
+    /// Notes where two texts differ.
+    fn put_place(&mut self, what: &str, expected: &[u8], came: &[u8]) -> Result<(), Fault> {
         let place = common_length(expected, came);
         let line = lines_before(expected, place).saturating_add(1);
         let what = format!(in self.alloc; "{what} line {line}, byte {place}")?;
         let expected = line_at(expected, place);
         let came = line_at(came, place);
-        self.compare_lines(what.as_str(), expected, came)
+        self.put_lines(what.as_str(), expected, came)
+    }
+
+    /// Notes where two texts differ, if they do.
+    pub fn compare_texts(&mut self, what: &str, expected: &[u8], came: &[u8]) {
+        if expected != came {
+            let done = self.put_place(what, expected, came);
+            self.take(done);
+        }
     }
 
     /// Notes that a text is no prefix of the whole one, if it isn't.
-    pub fn compare_prefix(&mut self, what: &str, whole: &[u8], came: &[u8]) -> Result<(), Fault> {
-        if whole.starts_with(came) {
-            return Ok(());
+    pub fn compare_prefix(&mut self, what: &str, whole: &[u8], came: &[u8]) {
+        if !whole.starts_with(came) {
+            self.compare_texts(what, whole, came);
         }
-        self.compare_texts(what, whole, came)
     }
 }

@@ -2,7 +2,7 @@
 use crate::damage::{Damage, Damaged};
 use crate::fault::Fault;
 use crate::named::{Named, put_bytes, put_slice, put_text, put_texts};
-use crate::token::positive;
+use crate::token::{positive, put_numbers};
 use crate::writing::Writing;
 use std::alloc::Global;
 
@@ -16,13 +16,13 @@ pub enum Object {
 }
 
 impl Object {
-    /// The object's name in a file of cases.
-    pub fn name(self) -> &'static str {
+    /// A call of the object, as it is told in the name of a run.
+    pub fn call_name(self) -> &'static str {
         match self {
-            Object::In => "in",
-            Object::Flash => "flash",
-            Object::Out => "out",
-            Object::Err => "err",
+            Object::In => ", in call",
+            Object::Flash => ", flash call",
+            Object::Out => ", out call",
+            Object::Err => ", err call",
         }
     }
 }
@@ -97,22 +97,6 @@ impl Outside {
         Ok(())
     }
 
-    /// Appends sizes of pieces.
-    fn put_pieces(&mut self, numbers: &str) -> Result<(), Fault> {
-        for number in numbers.split(' ') {
-            self.pieces.push(positive(number)?)?;
-        }
-        Ok(())
-    }
-
-    /// Appends sizes of pieces of runs that should come to the same.
-    fn put_alike(&mut self, numbers: &str) -> Result<(), Fault> {
-        for number in numbers.split(' ') {
-            self.alike.push(positive(number)?)?;
-        }
-        Ok(())
-    }
-
     /// Takes an input that is damaged in many ways; there is at most one.
     pub fn put_damaged(
         &mut self,
@@ -175,25 +159,21 @@ impl Outside {
         Ok(())
     }
 
-    /// Takes a line that says what fails. False where it is another one.
-    fn take_failing(&mut self, key: &str, rest: &str) -> Result<bool, Fault> {
-        let taken = match key {
+    /// Takes a line that says what fails.
+    fn take_failing(&mut self, key: &str, rest: &str) -> Result<(), Fault> {
+        match key {
             "in_fails" => self.put_failing(Object::In, rest),
             "flash_fails" => self.put_failing(Object::Flash, rest),
             "out_fails" => self.put_failing(Object::Out, rest),
             "err_fails" => self.put_failing(Object::Err, rest),
             "fails_each" => self.put_each(rest),
-            _ => return Ok(false),
-        };
-        match taken {
-            Ok(()) => Ok(true),
-            Err(fault) => Err(fault),
+            _ => Err(Fault::Key),
         }
     }
 
-    /// Takes a line that says what a run is given. False where it is another one.
-    pub fn take(&mut self, key: &str, rest: &str) -> Result<bool, Fault> {
-        let taken = match key {
+    /// Takes a line that says what a run is given.
+    pub fn take(&mut self, key: &str, rest: &str) -> Result<(), Fault> {
+        match key {
             "words" => self.put_words(rest),
             "bytes" => put_bytes(self.alloc, &mut self.inputs, rest),
             "text" => put_text(self.alloc, &mut self.inputs, rest),
@@ -201,15 +181,11 @@ impl Outside {
             "flash" => self.put_flash(rest),
             "flash_room" => self.writing.put_room(rest),
             "flash_tears" => self.writing.put_tear(rest),
-            "piece" => self.put_pieces(rest),
-            "alike" => self.put_alike(rest),
+            "piece" => put_numbers(&mut self.pieces, rest),
+            "alike" => put_numbers(&mut self.alike, rest),
             "write_piece" => self.put_write_piece(rest),
             "room" => self.put_room(rest),
-            _ => return self.take_failing(key, rest),
-        };
-        match taken {
-            Ok(()) => Ok(true),
-            Err(fault) => Err(fault),
+            _ => self.take_failing(key, rest),
         }
     }
 }

@@ -3,6 +3,7 @@ use crate::command::Command;
 use crate::damage::Damaged;
 use crate::fault::Fault;
 use crate::named::Named;
+use crate::notes::Notes;
 use crate::outside::{Object, Outside};
 use std::alloc::Global;
 use x7_in_memory::{MemoryFlash, MemoryInputs, MemorySink};
@@ -57,23 +58,21 @@ impl Turn {
         }
     }
 
-    /// Appends what differs, as it is printed after a case's name.
-    pub fn put_name(&self, name: &mut String) -> Result<(), Fault> {
+    /// Adds what differs to the name of the run, as it is printed after a case's name.
+    pub fn put_name(&self, notes: &mut Notes) {
         if let Some(number) = self.damage {
-            write!(name, ", damage {number}")?;
+            notes.add_number(", damage ", u64::from(number), "");
         }
         if self.piece != u32::MAX {
-            let piece = self.piece;
-            write!(name, ", piece {piece}")?;
+            notes.add_number(", piece ", u64::from(self.piece), "");
         }
         if self.call > 0 {
-            let (object, call) = (self.object.name(), self.call);
-            write!(name, ", {object} call {call} fails")?;
+            notes.add(self.object.call_name());
+            notes.add_number(" ", self.call, " fails");
         }
         if self.is_mute {
-            name.push_str(", and err fails")?;
+            notes.add(", and err fails");
         }
-        Ok(())
     }
 
     /// The number of the object's call that fails, 0 for none.
@@ -137,7 +136,7 @@ fn put_damaged(
 ) -> Result<(), Fault> {
     if let (Some(damaged), Some(number)) = (damaged.first(), turn.damage) {
         let bytes = damaged.bytes_of(alloc, number)?;
-        inputs.put(damaged.name.as_str(), &bytes)?;
+        inputs.put(damaged.named.name.as_str(), &bytes)?;
     }
     Ok(())
 }
@@ -234,16 +233,26 @@ impl Objects {
         Ok(())
     }
 
-    /// Runs the command over the objects.
-    fn run<C: Command>(&mut self, command: &C, alloc: Global, words: &Vec<String>) -> u8 {
-        command.run(
+    /// Runs the command once over the objects.
+    fn run<C: Command>(
+        &mut self,
+        command: &C,
+        alloc: Global,
+        shared: &[Named],
+        given: &Outside,
+        turn: &Turn,
+        ending: &mut Ending,
+    ) -> Result<(), Fault> {
+        self.prepare(alloc, shared, given, turn)?;
+        ending.status = command.run(
             alloc,
-            words,
+            &given.words,
             &mut self.inputs,
             &mut self.flash,
             &mut self.out,
             &mut self.err,
-        )
+        );
+        self.leave(turn, ending)
     }
 }
 
@@ -256,8 +265,8 @@ pub fn ran<C: Command>(
     turn: &Turn,
     ending: &mut Ending,
 ) -> Result<(), Fault> {
-    let mut objects = Objects::new(alloc, given)?;
-    objects.prepare(alloc, shared, given, turn)?;
-    ending.status = objects.run(command, alloc, &given.words);
-    objects.leave(turn, ending)
+    match Objects::new(alloc, given) {
+        Ok(mut objects) => objects.run(command, alloc, shared, given, turn, ending),
+        Err(fault) => Err(fault),
+    }
 }

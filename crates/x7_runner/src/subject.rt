@@ -40,11 +40,45 @@ fn keep<C: Command>(
         None => whole,
     };
     let mut ending = Ending::new(alloc);
-    ran(command, alloc, shared, &case.outside, &turn, &mut ending)?;
-    if case.keeps_flash {
-        return put_under(alloc, shared, name, &ending.flash);
-    }
-    put_under(alloc, shared, name, &ending.out)
+    let done = ran(command, alloc, shared, &case.outside, &turn, &mut ending);
+    put_ending(alloc, shared, case, done, &ending)
+}
+
+/// Makes the text of a run that was done, or what its flash holds, an input of later cases.
+fn put_ending(
+    alloc: Global,
+    shared: &mut Vec<Named>,
+    case: &Case,
+    done: Result<(), Fault>,
+    ending: &Ending,
+) -> Result<(), Fault> {
+    done?;
+    let bytes = if case.keeps_flash {
+        &ending.flash
+    } else {
+        &ending.out
+    };
+    put_under(alloc, shared, case.kept.as_str(), bytes)
+}
+
+/// All runs of a case.
+fn run_case<C: Command>(
+    command: &C,
+    alloc: Global,
+    shared: &[Named],
+    case: &Case,
+    notes: &mut Notes,
+) {
+    let mut bench = Bench {
+        command,
+        alloc,
+        shared,
+        case,
+        notes,
+        whole: Ending::new(alloc),
+        came: Ending::new(alloc),
+    };
+    bench.run();
 }
 
 impl Subject {
@@ -63,12 +97,13 @@ impl Subject {
     /// Runs the case, and keeps its text where it says so.
     fn run<C: Command>(&mut self, command: &C) -> Result<(), Fault> {
         let length = self.notes.text.len();
-        let bench = Bench {
-            alloc: self.alloc,
-            shared: &self.shared,
-            case: &self.case,
-        };
-        bench.run(command, &mut self.notes)?;
+        run_case(
+            command,
+            self.alloc,
+            &self.shared,
+            &self.case,
+            &mut self.notes,
+        );
         if self.notes.text.len() == length {
             self.good = self.good.saturating_add(1);
         }
@@ -111,59 +146,52 @@ impl Subject {
         self.case.take(&self.shared, key, rest)
     }
 
-    /// Notes that a line of this number isn't taken.
-    fn note_line(&mut self, name: &str, number: usize, line: &str) -> Result<(), Fault> {
-        write!(
-            self.notes.text,
-            "{name}: line {number} is not taken: {line}\n"
-        )?;
-        Ok(())
-    }
-
     /// Takes a line of this number, and notes where it isn't taken.
-    fn take_numbered<C: Command>(
-        &mut self,
-        command: &C,
-        name: &str,
-        number: usize,
-        line: &str,
-    ) -> Result<(), Fault> {
+    fn take_numbered<C: Command>(&mut self, command: &C, name: &str, number: u64, line: &str) {
         match self.take(command, line) {
-            Err(Fault::Line) => self.note_line(name, number, line),
-            taken => taken,
+            Ok(()) => {}
+            Err(Fault::NoMemory) => self.notes.lacks_memory = true,
+            Err(_) => self
+                .notes
+                .put_line(name, "line ", number, " is not taken: ", line),
         }
     }
 
-    /// Takes all lines of the file.
-    fn take_all<C: Command>(&mut self, command: &C, name: &str, text: &str) -> Result<(), Fault> {
+    /// Takes all lines of the file, as long as memory is left.
+    fn take_all<C: Command>(&mut self, command: &C, name: &str, text: &str) {
         for (index, line) in text.lines().enumerate() {
-            self.take_numbered(command, name, index + 1, line)?;
+            if !self.notes.lacks_memory {
+                self.take_numbered(command, name, index as u64 + 1, line);
+            }
         }
-        Ok(())
     }
 
     /// Notes a case without an end, and how many cases came as they are written.
-    fn finish(&mut self, name: &str) -> Result<(), Fault> {
+    fn finish(&mut self, name: &str) {
         if self.is_open {
-            let case = self.case.name.as_str();
-            write!(self.notes.text, "the case has no end: {case}\n")?;
+            self.notes.put_open(self.case.name.as_str());
         }
-        let good = self.good;
-        write!(self.notes.text, "{name}: {good} cases as written\n")?;
-        Ok(())
+        let good = u64::from(self.good);
+        self.notes.put_line(name, "", good, " cases as written", "");
     }
 
-    /// Takes the part file as the input `p`, and then the whole file.
+    /// Takes the part file as the input `p`, and then the whole file, and appends the report.
     fn run_all<C: Command>(
         &mut self,
         command: &C,
         name: &str,
         part: &[u8],
         text: &str,
+        report: &mut String,
     ) -> Result<(), Fault> {
         put_under(self.alloc, &mut self.shared, "p", part)?;
-        self.take_all(command, name, text)?;
-        self.finish(name)
+        self.take_all(command, name, text);
+        self.finish(name);
+        if self.notes.lacks_memory {
+            return Err(Fault::NoMemory);
+        }
+        report.push_str(self.notes.text.as_str())?;
+        Ok(())
     }
 }
 
@@ -177,7 +205,5 @@ pub fn report_cases<C: Command>(
     report: &mut String,
 ) -> Result<(), Fault> {
     let mut subject = Subject::new(alloc);
-    subject.run_all(command, name, part, text)?;
-    report.push_str(subject.notes.text.as_str())?;
-    Ok(())
+    subject.run_all(command, name, part, text, report)
 }

@@ -18,6 +18,20 @@ pub fn positive(token: &str) -> Result<u32, Fault> {
     }
 }
 
+/// Appends numbers from 1 to a list.
+pub fn put_numbers(list: &mut Vec<u32>, numbers: &str) -> Result<(), Fault> {
+    for number in numbers.split(' ') {
+        list.push(positive(number)?)?;
+    }
+    Ok(())
+}
+
+/// The numbers of `FROM TO`.
+pub fn range_of(places: &str) -> Result<(u32, u32), Fault> {
+    let (from, to) = first_word(places);
+    Ok((from.parse::<u32>()?, to.parse::<u32>()?))
+}
+
 /// Appends `TEXT*N>REST`: the text N times, and the rest.
 fn put_group(text: &mut String, group: &str) -> Result<(), Fault> {
     let Some((repeated, rest)) = group.split_once('>') else {
@@ -35,10 +49,12 @@ fn put_group(text: &mut String, group: &str) -> Result<(), Fault> {
 
 /// Appends the line, in which `<TEXT*N>` is the text N times, and its end.
 fn put_expanded(text: &mut String, line: &str) -> Result<(), Fault> {
-    let mut groups = line.split('<');
-    text.push_str(groups.next().unwrap_or(""))?;
-    for group in groups {
-        put_group(text, group)?;
+    for (place, group) in line.split('<').enumerate() {
+        if place == 0 {
+            text.push_str(group)?;
+        } else {
+            put_group(text, group)?;
+        }
     }
     text.push('\n')?;
     Ok(())
