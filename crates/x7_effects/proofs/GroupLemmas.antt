@@ -12,9 +12,9 @@ use Rattle.x7_memory.proofs.PlanLemmas.{planned_here, planned_behind, order_tail
 use Rattle.x7_memory.proofs.MapLemmas.{override_same}
 use Rattle.x7_pipeline.specs.Runs.{put_over}
 use Rattle.x7_pipeline.proofs.LawLemmas.{put_twice}
-use Rattle.x7_planner.specs.Partial.{Stretch, Copies, Rows}
-use Rattle.x7_planner.specs.Partial.{same_words, with_content, is_shared, leads_group, groups_led, others, follows, with_row, runs_of, stretches_of}
-use Rattle.x7_planner.specs.Partial.{joined_runs, IsRunOfRows, AreLongest, pairs_of}
+use Rattle.x7_planner.specs.PartialStream.{Stretch, Copies, Rows}
+use Rattle.x7_planner.specs.PartialStream.{same_words, with_content, is_shared, leads_group, groups_led, others, follows, with_row, runs_of, stretches_of}
+use Rattle.x7_planner.specs.PartialStream.{joined_runs, IsRunOfRows, AreLongest, pairs_of}
 use Rattle.x7_planner.proofs.ContentLemmas.{same_words-true, same_words-own}
 use Rattle.x7_effects.proofs.Groups.{put_stretches}
 

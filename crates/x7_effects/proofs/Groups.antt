@@ -8,7 +8,7 @@ use Rattle.x7_pipeline.specs.Runs.{slots_from, put_over, written_frames, onto, f
 use Rattle.x7_pipeline.specs.Copies.{newest_of}
 use Rattle.x7_effects.proofs.Frames.{joined, row_frames, row_slots, zero_frame}
 use Rattle.x7_effects.proofs.Checking.{Piece}
-use Rattle.x7_planner.specs.Partial.{Stretch, Copies, Rows, pairs_of, stretches_of}
+use Rattle.x7_planner.specs.PartialStream.{Stretch, Copies, Rows, pairs_of, stretches_of}
 use Rattle.x7_effects.proofs.Streams.{partial_pieces}
 
 -- a memory after stretches in order, each with its newest pair first

@@ -8,9 +8,9 @@ use Rattle.x7_part.specs.Part.{PartData}
 use Rattle.x7_part.specs.PartRange.{IsPart}
 use Rattle.x7_memory.specs.FrameMap.{FrameMap, AreSame, frame_or, override}
 use Rattle.x7_memory.specs.Planned.{IsPlanFor, PlanData, PlanRow, planned, total}
-use Rattle.x7_planner.specs.Full.{full_pieces, full_stream}
-use Rattle.x7_planner.specs.Partial.{partial_ending, partial_opening, partial_stream, stretch_words, stretches_of}
-use Rattle.x7_planner.specs.Readback.{read_stream}
+use Rattle.x7_planner.specs.FullStream.{full_pieces, full_stream}
+use Rattle.x7_planner.specs.PartialStream.{partial_ending, partial_opening, partial_stream, stretch_words, stretches_of}
+use Rattle.x7_planner.specs.ReadStream.{read_stream}
 use Rattle.x7_planner.specs.Refusals.{CanRead}
 use Rattle.x7_planner.specs.Stream.{StreamPiece, Words, Check, bytes_of_words, check_words, stream_of, with_piece}
 use Rattle.x7_engine.specs.declared.kept.Kept.{Kept}

@@ -13,7 +13,7 @@ use Rattle.x7_engine.specs.declared.kept.Kept.{Kept}
 use Rattle.x7_engine.specs.Kept.{kept_word}
 use Rattle.x7_engine.specs.State.{history_by, history_taken, state_of, stop_in}
 use Rattle.x7_engine.specs.Stops.{Stopped}
-use Rattle.x7_planner.specs.Partial.{Copies, Rows, Stretch, stretches_of}
+use Rattle.x7_planner.specs.PartialStream.{Copies, Rows, Stretch, stretches_of}
 use Rattle.x7_effects.specs.Played.{KeepsSettings, KeepsUnwritten}
 use Rattle.x7_effects.proofs.Items as item
 use Rattle.x7_effects.proofs.Items.{item_entered, writes_entered}

@@ -7,12 +7,12 @@ use Rattle.x7_part.specs.AddressOrder.{addresses_in}
 use Rattle.x7_part.specs.Part.{PartData, frame_words}
 use Rattle.x7_part.specs.PartRange.{IsPart}
 use Rattle.x7_memory.specs.Planned.{AreAddressed, IsPlan, PlanData}
-use Rattle.x7_planner.specs.Full.{full_stream}
-use Rattle.x7_planner.specs.Readback.{read_stream}
+use Rattle.x7_planner.specs.FullStream.{full_stream}
+use Rattle.x7_planner.specs.ReadStream.{read_stream}
 use Rattle.x7_planner.specs.Refusals.{CanRead}
 use Rattle.x7_engine.specs.declared.kept.Kept.{Kept}
 use Rattle.x7_engine.specs.Rest.{AtRest}
-use Rattle.x7_planner.specs.Partial.{partial_stream}
+use Rattle.x7_planner.specs.PartialStream.{partial_stream}
 use Rattle.x7_effects.specs.Played.{PlaysFull, PlaysPartial, PlaysRead, resting_after}
 use Rattle.x7_engine.specs.Kept.{on_the_bench}
 use Rattle.x7_engine.proofs.RestLemmas.{rest_new}

@@ -22,10 +22,10 @@ use Rattle.x7_engine.specs.Startup.{startup_progress}
 use Rattle.x7_engine.proofs.UntilLemmas.{phase_going}
 use Rattle.x7_effects.proofs.Items as item
 use Rattle.x7_effects.proofs.Checking.{ArePieces, Check, Piece, Put, pieces_length}
-use Rattle.x7_planner.specs.Partial.{stretches_of}
+use Rattle.x7_planner.specs.PartialStream.{stretches_of}
 use Rattle.x7_effects.proofs.Groups.{plan_pieces, put_stretches}
 use Rattle.x7_effects.specs.Played.{PlaysPartial, resting_after}
-use Rattle.x7_planner.specs.Partial.{Stretch}
+use Rattle.x7_planner.specs.PartialStream.{Stretch}
 use Rattle.x7_planner.proofs.FewLemmas as few
 use Rattle.x7_effects.proofs.Streams.{HaveWords, command, one, stream_of, stretches_pieces}
 use Rattle.x7_effects.proofs.EndLemmas.{HasPlayed, lines_going, memory_all, played, ready_begin, ready_check}

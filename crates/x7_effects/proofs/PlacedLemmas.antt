@@ -21,9 +21,9 @@ use Rattle.x7_pipeline.specs.Copies.{newest_of}
 use Rattle.x7_pipeline.proofs.SlotLemmas.{addresses_among-slots, slot_among}
 use Rattle.x7_planner.proofs.FewLemmas.{rises_in, rises_rest, by_rows}
 use Rattle.x7_effects.proofs.Frames.{joined, AreWide, zero_frame, row_frames}
-use Rattle.x7_planner.specs.Partial.{Copies, Rows}
+use Rattle.x7_planner.specs.PartialStream.{Copies, Rows}
 use Rattle.x7_effects.proofs.Streams.{HaveWords, IsStretch, AreStretches}
-use Rattle.x7_planner.specs.Partial.{with_content, leads_group, groups_led, others, is_frame, follows, with_row, runs_of, stretches_of, same_words}
+use Rattle.x7_planner.specs.PartialStream.{with_content, leads_group, groups_led, others, is_frame, follows, with_row, runs_of, stretches_of, same_words}
 use Rattle.x7_effects.proofs.Groups.{IsPlaced, LandsAs, plan_pieces}
 use Rattle.x7_flow.proofs.StreamLemmas.{whole_cut}
 use Rattle.x7_effects.proofs.FrameLemmas.{rows_land}

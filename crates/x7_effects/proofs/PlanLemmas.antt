@@ -19,9 +19,9 @@ use Rattle.x7_pipeline.specs.FarAsRead.{has_frame_at}
 use Rattle.x7_pipeline.specs.Runs.{slots_from}
 use Rattle.x7_pipeline.proofs.SlotLemmas.{address_has}
 use Rattle.x7_effects.proofs.Frames.{joined, row_frames, row_slots, zero_frame}
-use Rattle.x7_planner.specs.Partial.{Rows, Stretch}
-use Rattle.x7_planner.specs.Partial as stretch
-use Rattle.x7_planner.specs.Partial.{groups_led, is_shared, leads_group, others, runs_of, stretches_of, with_content}
+use Rattle.x7_planner.specs.PartialStream.{Rows, Stretch}
+use Rattle.x7_planner.specs.PartialStream as stretch
+use Rattle.x7_planner.specs.PartialStream.{groups_led, is_shared, leads_group, others, runs_of, stretches_of, with_content}
 use Rattle.x7_effects.proofs.Groups.{IsPlaced}
 use Rattle.x7_effects.proofs.FormLemmas.{joined_length}
 use Rattle.x7_effects.proofs.FrameLemmas.{EndsInPad, address_low, slots_end}

@@ -19,8 +19,8 @@ use Rattle.x7_part.specs.declared.slot.Slot.TheVariants.{Frame, Pad, End}
 use Rattle.x7_memory.specs.Planned.{IsPlan, PlanData, PlanRow, planned_addresses}
 use Rattle.x7_planner.specs.Stream as planner
 use Rattle.x7_packets.specs.PacketWords as packet_words
-use Rattle.x7_planner.specs.Full as full
-use Rattle.x7_planner.specs.Readback as readback
+use Rattle.x7_planner.specs.FullStream as full
+use Rattle.x7_planner.specs.ReadStream as readback
 use Rattle.x7_packets.specs.PacketWords.{sync_word}
 use Rattle.x7_effects.proofs.Items.{AreItems, Item, Write, WriteLong, bus_width_head, bytes_of_words, closed, desync, item_words, items_entered, items_words, opened}
 use Rattle.x7_effects.proofs.Items as item
@@ -28,8 +28,8 @@ use Rattle.x7_effects.proofs.Checking.{ArePieces, Check, Checking, IsPiece, Piec
 use Rattle.x7_effects.proofs.Frames.{frame_of, frames_at, joined, row_frames, zero_frame}
 use Rattle.x7_effects.proofs.Groups.{plan_pieces}
 use Rattle.x7_effects.proofs.Streams.{command, copy_pieces, full_pieces, full_stream, one, read_stream, stream_of, stretch_pieces, stretches_pieces}
-use Rattle.x7_planner.specs.Partial.{Stretch, copy_words, frames_words, groups_led, leads_group, others, partial_stream, runs_of, stretch_words, stretches_of, with_content}
-use Rattle.x7_planner.specs.Partial as stretch
+use Rattle.x7_planner.specs.PartialStream.{Stretch, copy_words, frames_words, groups_led, leads_group, others, partial_stream, runs_of, stretch_words, stretches_of, with_content}
+use Rattle.x7_planner.specs.PartialStream as stretch
 use Rattle.x7_effects.proofs.CheckingLemmas.{begins, checks_after, items_checked, pieces_fit}
 use Rattle.x7_effects.proofs.FormLemmas.{frames_long, full_fits, joined_length}
 use Rattle.x7_effects.proofs.PlacedLemmas.{of_runs, rows_wide}

@@ -14,7 +14,7 @@ use Rattle.x7_part.specs.Slots.{slots_in}
 use Rattle.x7_memory.specs.Planned.{PlanRow, PlanData, planned_addresses}
 use Rattle.x7_effects.proofs.Items.{Noop, Write, WriteLong, ReadLong, bytes_of_words, closed, bus_width_head}
 use Rattle.x7_effects.proofs.Checking.{Piece, Put, Check, with_checks, at_first}
-use Rattle.x7_planner.specs.Partial.{Stretch, Copies, Rows}
+use Rattle.x7_planner.specs.PartialStream.{Stretch, Copies, Rows}
 use Rattle.x7_effects.proofs.Frames.{joined, frames_at, row_frames, zero_frame}
 
 -- a command, and one word written to a register

@@ -30,10 +30,10 @@ use Rattle.x7_engine.specs.declared.kept.Kept.{Kept}
 use Rattle.x7_effects.proofs.Items.{Write, WriteLong, item_entered}
 use Rattle.x7_effects.proofs.Checking.{Piece, Put, piece_length, pieces_length}
 use Rattle.x7_effects.proofs.Frames.{joined, row_frames, zero_frame}
-use Rattle.x7_planner.specs.Partial.{Stretch, Rows}
+use Rattle.x7_planner.specs.PartialStream.{Stretch, Rows}
 use Rattle.x7_effects.proofs.Streams.{command, copy_pieces, one, stretch_pieces, stretches_pieces}
-use Rattle.x7_planner.specs.Partial as stretch
-use Rattle.x7_planner.specs.Partial.{pairs_of}
+use Rattle.x7_planner.specs.PartialStream as stretch
+use Rattle.x7_planner.specs.PartialStream.{pairs_of}
 use Rattle.x7_effects.proofs.Groups.{LandsAs, put_stretches}
 use Rattle.x7_effects.proofs.GoingLemmas.{IsGoing, copy_passes, far_passes, quiet_far, written, written_append}
 use Rattle.x7_effects.proofs.WalkLemmas.{HasWritten, IsLoaded, IsReady, allows_writing, going_one, loaded_words, put_same, quiet_one, ready_load}

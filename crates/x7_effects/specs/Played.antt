@@ -14,9 +14,9 @@ use Rattle.x7_engine.specs.declared.kept.Kept.{Kept}
 use Rattle.x7_engine.specs.declared.regs.Regs.{Regs}
 use Rattle.x7_engine.specs.Rest.{AtRest}
 use Rattle.x7_engine.specs.State.{memory_in, reads_of, state_of}
-use Rattle.x7_planner.specs.Full.{full_stream}
-use Rattle.x7_planner.specs.Partial.{partial_stream}
-use Rattle.x7_planner.specs.Readback.{read_stream}
+use Rattle.x7_planner.specs.FullStream.{full_stream}
+use Rattle.x7_planner.specs.PartialStream.{partial_stream}
+use Rattle.x7_planner.specs.ReadStream.{read_stream}
 
 -- a device that a stream is played on: its part, what its reset kept, and the bytes that it took since then
 pub record Resting : Type 0 where

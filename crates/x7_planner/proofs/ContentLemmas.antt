@@ -14,7 +14,7 @@ use Rattle.std.proofs.lemmas.List.Elements.{Contains-get_or}
 use Rattle.std.proofs.lemmas.List.Sorted.{sorted_far, ranks_by, All-permutation, Contains-permutation, IsPermutation-map}
 use Rattle.x7_memory.specs.Planned.{PlanRow}
 use Rattle.x7_planner.specs.Contents.{AreFirsts, AreGrouped, AreStarts, AreTogether, IsBegun, IsFirst, IsPlaced, content_row, content_rows}
-use Rattle.x7_planner.specs.Partial.{same_words, with_content}
+use Rattle.x7_planner.specs.PartialStream.{same_words, with_content}
 use Rattle.x7_planner.specs.declared.content.Content.{Content}
 
 -- ---- the same words

@@ -11,7 +11,7 @@ use Rattle.x7_regs.specs.declared.command.Command.TheVariants.{Mfw, Wcfg}
 use Rattle.x7_regs.specs.declared.register.Reg.TheVariants.{Far}
 use Rattle.x7_packets.specs.PacketWords.{command, frame_data, write_one}
 use Rattle.x7_planner.specs.Contents.{AreFirsts, AreGrouped, AreStarts, AreTogether, IsFirst, content_row, content_rows}
-use Rattle.x7_planner.specs.Partial.{Copies, copy_words, groups_led, is_shared, leads_group, others, stretch_words, with_content}
+use Rattle.x7_planner.specs.PartialStream.{Copies, copy_words, groups_led, is_shared, leads_group, others, stretch_words, with_content}
 use Rattle.x7_planner.specs.Stream.{bytes_of_words}
 use Rattle.x7_planner.specs.declared.content.Content.{Content}
 use Rattle.x7_planner.proofs.ContentLemmas.{content-append, content-same, first-of, is-group, no-group, no-group-short, none-before, place-other, place-same, row-at, up-to}

@@ -16,7 +16,7 @@ use Rattle.x7_regs.specs.declared.command.Command.TheVariants.{Wcfg}
 use Rattle.x7_regs.specs.declared.register.Reg.TheVariants.{Far}
 use Rattle.x7_packets.specs.PacketWords.{command, frame_data, write_one}
 use Rattle.x7_planner.specs.Contents.{IsRunLength, content_row, content_rows}
-use Rattle.x7_planner.specs.Partial.{Rows, follows, frames_words, groups_led, is_shared, others, partial_ending, partial_opening, partial_stream, stretches_of, runs_of, runs_words, stretch_words, with_row}
+use Rattle.x7_planner.specs.PartialStream.{Rows, follows, frames_words, groups_led, is_shared, others, partial_ending, partial_opening, partial_stream, stretches_of, runs_of, runs_words, stretch_words, with_row}
 use Rattle.x7_planner.specs.Stream.{Check, Words, bytes_of_words, with_piece}
 use Rattle.x7_planner.specs.declared.content.Content.{Content}
 use Rattle.x7_planner.proofs.ContentLemmas.{row-at}

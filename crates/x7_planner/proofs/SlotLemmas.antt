@@ -16,7 +16,7 @@ use Rattle.x7_part.specs.declared.slot.Slot.TheVariants.{End}
 use Rattle.std.specs.Prelude.{Contains}
 use Rattle.x7_part.proofs.SlotLemmas.{slots_all, slots_number, slots_split}
 use Rattle.x7_memory.specs.Planned.{PlanData}
-use Rattle.x7_planner.specs.Full.{frame_at_slot, words_of_slots}
+use Rattle.x7_planner.specs.FullStream.{frame_at_slot, words_of_slots}
 use Rattle.x7_planner.specs.Stream.{bytes_of_words}
 
 -- words written in two parts

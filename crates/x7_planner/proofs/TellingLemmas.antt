@@ -8,12 +8,12 @@ use Rattle.x7_part.specs.Part.{PartData}
 use Rattle.x7_part.specs.Slots.{slots_in}
 use Rattle.x7_part.specs.declared.slot.Slot.{Slot}
 use Rattle.x7_memory.specs.Planned.{PlanData}
-use Rattle.x7_planner.specs.Full.{frame_at_slot, full_ending, full_opening, full_stream, words_of_slots, start_words}
+use Rattle.x7_planner.specs.FullStream.{frame_at_slot, full_ending, full_opening, full_stream, words_of_slots, start_words}
 use Rattle.x7_planner.specs.Stream.{StreamPiece, Words, Check, bytes_of_words, check_words, stream_of, with_piece}
 use Rattle.x7_crc.specs.Checking.{check_of_bytes, HasTaken}
 use Rattle.x7_planner.specs.Telling.{FullStreamState, HasGiven, IsFullStream, TellsMore, Writes, calls_from, puts_left, frame_pieces, pieces_before, pieces_to, slot_next}
-use Rattle.x7_planner.specs.declared.whole.NextPiece.{NextPiece}
-use Rattle.x7_planner.specs.declared.whole.NextPiece.TheVariants as next
+use Rattle.x7_planner.specs.declared.full_stream.NextPiece.{NextPiece}
+use Rattle.x7_planner.specs.declared.full_stream.NextPiece.TheVariants as next
 
 -- what pieces add to bytes
 pub rest_of : (bytes : List ℕ) (pieces : List StreamPiece) → (left : List ℕ) × (bytes ++ left ≡ fold with_piece bytes pieces)

@@ -2,7 +2,7 @@
 use Rattle.std.specs.Prelude.{◌≡◌, ◌≢◌, ℕ, ◌+◌, ◌-◌, ◌<◌, ◌≤◌, true, false, List, length, map, slice_index_or, All, Contains}
 use Rattle.x7_part.specs.Part.{PartData}
 use Rattle.x7_memory.specs.Planned.{PlanRow}
-use Rattle.x7_planner.specs.Partial.{follows, with_content}
+use Rattle.x7_planner.specs.PartialStream.{follows, with_content}
 use Rattle.x7_planner.specs.declared.content.Content.{Content}
 
 -- the planned row of a content

@@ -1,8 +1,8 @@
 pub mod Stream
-pub mod Full
-pub mod Readback
+pub mod FullStream
+pub mod ReadStream
 pub mod Refusals
 pub mod Settings
-pub mod Partial
+pub mod PartialStream
 pub mod Contents
 pub mod Telling

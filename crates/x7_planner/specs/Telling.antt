@@ -4,10 +4,10 @@ use Rattle.x7_crc.specs.Checking.{HasTaken, PieceCheckerState}
 use Rattle.x7_part.specs.Part.{PartData, frame_words}
 use Rattle.x7_part.specs.Slots.{slots_in}
 use Rattle.x7_memory.specs.Planned.{PlanData}
-use Rattle.x7_planner.specs.Full.{full_opening, full_pieces, full_stream, words_of_slots, start_words}
+use Rattle.x7_planner.specs.FullStream.{full_opening, full_pieces, full_stream, words_of_slots, start_words}
 use Rattle.x7_planner.specs.Stream.{StreamPiece, Words, Check, stream_of}
-use Rattle.x7_planner.specs.declared.whole.NextPiece.{NextPiece}
-use Rattle.x7_planner.specs.declared.whole.NextPiece.TheVariants as next
+use Rattle.x7_planner.specs.declared.full_stream.NextPiece.{NextPiece}
+use Rattle.x7_planner.specs.declared.full_stream.NextPiece.TheVariants as next
 
 -- what a full stream that is written piece by piece keeps
 pub record FullStreamState : Type 0 where

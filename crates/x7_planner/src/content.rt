@@ -2,7 +2,7 @@
 ghost use Rattle.std.specs.Prelude.{◌≡◌, ℕ, ◌<◌, ◌≤◌, length, slice_index_or, IfOk};
 ghost use Rattle.x7_memory.specs.Planned.{PlanRow};
 ghost use Rattle.x7_planner.specs.Contents.{AreFirsts, AreGrouped, AreStarts, IsBegun, IsFirst, content_rows};
-ghost use Rattle.x7_planner.specs.Partial.{same_words};
+ghost use Rattle.x7_planner.specs.PartialStream.{same_words};
 
 use std::alloc::{AllocError, Global};
 use x7_memory::Plan;

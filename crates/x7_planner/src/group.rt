@@ -3,7 +3,7 @@ ghost use Rattle.std.specs.Prelude.{◌≡◌, ◌==◌, ◌&&◌, ◌<◌, ◌+
 ghost use Rattle.std.specs.List.{flat_map};
 ghost use Rattle.x7_memory.specs.Planned.{planned_addresses};
 ghost use Rattle.x7_planner.specs.Contents.{AreFirsts, AreGrouped, AreStarts, AreTogether, IsFirst, content_rows};
-ghost use Rattle.x7_planner.specs.Partial.{copy_words, groups_led, others, stretch_words, with_content, Copies};
+ghost use Rattle.x7_planner.specs.PartialStream.{copy_words, groups_led, others, stretch_words, with_content, Copies};
 ghost use Rattle.x7_planner.specs.Stream.{with_piece, Words};
 
 use crate::content::Content;

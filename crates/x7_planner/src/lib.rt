@@ -2,17 +2,17 @@
 #![tactic(auto)]
 
 mod address;
-mod change;
 mod content;
 mod fault;
+mod full_stream;
 mod group;
-mod reading;
+mod partial_stream;
+mod read_stream;
 mod run;
 mod settings;
-mod whole;
 mod writer;
 
-pub use change::partial;
 pub use fault::PlanFault;
-pub use reading::readback;
-pub use whole::{FullStream, NextPiece, full};
+pub use full_stream::{FullStream, NextPiece, full};
+pub use partial_stream::partial;
+pub use read_stream::readback;

@@ -2,11 +2,11 @@
 ghost use Rattle.std.specs.Prelude.{◌≡◌, ◌+◌, ◌-◌, ◌*◌, ◌<◌, ◌≤◌, false, length, All, Contains, OnOk};
 ghost use Rattle.x7_part.specs.AddressOrder.{addresses_in};
 ghost use Rattle.x7_planner.specs.Contents.{IsRunLength, content_rows};
-ghost use Rattle.x7_planner.specs.Partial.{follows, frames_words, runs_words, stretch_words, Rows};
+ghost use Rattle.x7_planner.specs.PartialStream.{follows, frames_words, runs_words, stretch_words, Rows};
 ghost use Rattle.x7_planner.specs.Stream.{with_piece, Words};
 
 use crate::content::Content;
-use crate::whole::zeros;
+use crate::full_stream::zeros;
 use crate::writer::Writer;
 use x7_packets::{command, frame_data, write_one};
 use x7_part::{Part, Slot};

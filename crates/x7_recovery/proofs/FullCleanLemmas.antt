@@ -12,7 +12,7 @@ use Rattle.x7_part.specs.Part.{PartData}
 use Rattle.x7_part.specs.PartRange.{IsPart}
 use Rattle.x7_part.specs.Slots.{slots_in}
 use Rattle.x7_memory.specs.Planned.{IsPlanFor, PlanData}
-use Rattle.x7_planner.specs.Full.{full_stream}
+use Rattle.x7_planner.specs.FullStream.{full_stream}
 use Rattle.x7_engine.specs.State.{state_of, stop_in, why_of}
 use Rattle.x7_engine.specs.declared.kept.Kept.{Kept}
 use Rattle.x7_engine.specs.declared.stop.Stop.{Stop}

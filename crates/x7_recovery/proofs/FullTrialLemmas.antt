@@ -17,7 +17,7 @@ use Rattle.x7_part.specs.Slots.{slots_in}
 use Rattle.x7_regs.specs.BootStatus.{boot_status_of}
 use Rattle.x7_memory.specs.FrameMap.{AreSame, FrameMap}
 use Rattle.x7_memory.specs.Planned.{IsPlanFor, PlanData, total}
-use Rattle.x7_planner.specs.Full.{full_stream}
+use Rattle.x7_planner.specs.FullStream.{full_stream}
 use Rattle.x7_flow.specs.FrameMemory.{memory_of}
 use Rattle.x7_engine.specs.Kept.{is_fallback}
 use Rattle.x7_engine.specs.Registers.{wrote_iprog}

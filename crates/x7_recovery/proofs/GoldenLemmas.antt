@@ -15,7 +15,7 @@ use Rattle.x7_packets.proofs.GapLemmas.{alike_prefixes, front_asks_nothing, hist
 use Rattle.x7_packets.proofs.SeamLemmas.{none_before_front, none_in_gap}
 use Rattle.x7_part.specs.Part.{PartData}
 use Rattle.x7_regs.specs.declared.boot_status.Kind.TheVariants.{Power}
-use Rattle.x7_planner.specs.Full.{full_stream}
+use Rattle.x7_planner.specs.FullStream.{full_stream}
 use Rattle.x7_engine.specs.Rest.{AtRest, GoesOn}
 use Rattle.x7_engine.specs.State.{memory_in, state_of}
 use Rattle.x7_engine.proofs.AlikeLemmas.{alike_memory, alike_state}

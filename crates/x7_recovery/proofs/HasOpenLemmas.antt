@@ -10,7 +10,7 @@ use Rattle.x7_packets.specs.SyncWord.{HasNoSync, sync_bytes}
 use Rattle.x7_part.specs.Part.{PartData}
 use Rattle.x7_part.specs.PartRange.{IsPart}
 use Rattle.x7_memory.specs.Planned.{PlanData}
-use Rattle.x7_planner.specs.Full.{full_stream}
+use Rattle.x7_planner.specs.FullStream.{full_stream}
 use Rattle.x7_boot.specs.Image as image
 use Rattle.x7_boot.specs.Image.{closed_slot, closed_slots, first_sector, flash_limit, image_of, image_size, open_slot, slot}
 use Rattle.x7_update.specs.After.{IsAfter, IsBetween, spends, switched, with_stream}

@@ -8,7 +8,7 @@ use Rattle.x7_part.specs.Part.{PartData}
 use Rattle.x7_part.specs.PartRange.{IsPart}
 use Rattle.x7_regs.specs.declared.boot_status.Cause.TheVariants.{Wrap}
 use Rattle.x7_memory.specs.Planned.{IsPlanFor, PlanData}
-use Rattle.x7_planner.specs.Full.{full_stream}
+use Rattle.x7_planner.specs.FullStream.{full_stream}
 use Rattle.x7_recovery.specs.Example.{tiny, nothing_planned}
 use Rattle.std.specs.Prelude.{Contains}
 use Rattle.std.proofs.lemmas.List.Elements.{All-nil, All-cons}

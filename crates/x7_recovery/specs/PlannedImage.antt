@@ -3,7 +3,7 @@ use Rattle.std.specs.Prelude.{ℕ, ◌≤◌, List, length}
 use Rattle.x7_part.specs.Part.{PartData}
 use Rattle.x7_part.specs.PartRange.{IsPart}
 use Rattle.x7_memory.specs.Planned.{IsPlanFor, PlanData}
-use Rattle.x7_planner.specs.Full.{full_stream}
+use Rattle.x7_planner.specs.FullStream.{full_stream}
 use Rattle.x7_boot.specs.Image.{flash_limit, image_of, image_size, place_after_golden}
 
 -- where the update stands after the full stream of a plan

@@ -4,7 +4,7 @@ use Rattle.x7_words.specs.Sink.{PutsPrefix, appended}
 use Rattle.x7_words.proofs.SinkLemmas.{appended-appended, appended-nil, front_more}
 use Rattle.x7_part.specs.Part.{PartData}
 use Rattle.x7_memory.specs.Planned.{PlanData}
-use Rattle.x7_planner.specs.Full.{full_stream}
+use Rattle.x7_planner.specs.FullStream.{full_stream}
 use Rattle.x7_planner.specs.Telling.{FullStreamState, HasGiven, TellsMore}
 
 -- what was given of the stream was put

@@ -20,7 +20,7 @@ use Rattle.x7_memory.specs.Frames.{frame_at}
 use Rattle.x7_part.specs.PartRange.{IsPart}
 use Rattle.x7_part.specs.Slots.{slots_in}
 use Rattle.x7_part.proofs.SlotLemmas.{slots_number}
-use Rattle.x7_planner.specs.Full.{full_stream}
+use Rattle.x7_planner.specs.FullStream.{full_stream}
 use Rattle.x7_planner.specs.Telling.{FullStreamState, HasGiven, TellsMore}
 use Rattle.x7_planner.specs.Refusals.{IsFullFault}
 use Rattle.x7_planner.specs.declared.fault.PlanFault.{PlanFault}

@@ -38,9 +38,9 @@ use Rattle.x7_memory.specs.Planned.{PlanData}
 use Rattle.x7_frames.specs.FramesText.{IsPlanOf}
 use Rattle.x7_frames.specs.declared.fault.FramesFault.{FramesFault}
 use Rattle.x7_frames.specs.declared.fault.FramesFault.TheVariants as frames
-use Rattle.x7_planner.specs.Full.{full_stream}
-use Rattle.x7_planner.specs.Partial.{partial_stream}
-use Rattle.x7_planner.specs.Readback.{read_stream}
+use Rattle.x7_planner.specs.FullStream.{full_stream}
+use Rattle.x7_planner.specs.PartialStream.{partial_stream}
+use Rattle.x7_planner.specs.ReadStream.{read_stream}
 use Rattle.x7_planner.specs.Refusals.{CanRead, IsPartialFault, IsReadFault}
 use Rattle.x7_planner.specs.declared.fault.PlanFault.{PlanFault}
 use Rattle.x7_planner.specs.declared.fault.PlanFault.TheVariants as planner

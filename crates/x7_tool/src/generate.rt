@@ -6,7 +6,7 @@ ghost use Rattle.x7_part.specs.Part.{PartData, frame_words};
 ghost use Rattle.x7_part.specs.PartRange.{IsPart};
 ghost use Rattle.x7_memory.specs.Frames.{AreFramesOf, frame_at};
 ghost use Rattle.x7_memory.specs.Planned.{AreAddressed, IsPlan};
-ghost use Rattle.x7_planner.specs.Full.{full_stream};
+ghost use Rattle.x7_planner.specs.FullStream.{full_stream};
 ghost use Rattle.x7_planner.specs.Telling.{HasGiven};
 ghost use Rattle.x7_tool.specs.Generated.{TookStream, count_line, counted, gen_text, head_line, sum_line, generated, next_number, planned_summary, played_summary, row_by, summary_text, words_sum};
 ghost use Rattle.x7_forms.specs.Event.{no_memory};

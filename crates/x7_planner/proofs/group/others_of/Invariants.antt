@@ -1,6 +1,6 @@
 use Rattle.std.proofs.Common.{◌≡◌, take}
 use Rattle.x7_planner.specs.Contents.{content_rows}
-use Rattle.x7_planner.specs.Partial.{others}
+use Rattle.x7_planner.specs.PartialStream.{others}
 use Rattle.x7_planner.proofs.group.others_of.Given as goal
 
 abbrev pub invariant-loop-row : goal.invariant-loop-row

@@ -1,6 +1,6 @@
 use Rattle.std.proofs.Common.{◌≡◌, ◌++◌, take}
 use Rattle.std.specs.List.{flat_map}
-use Rattle.x7_planner.specs.Partial.{groups_led, stretch_words}
+use Rattle.x7_planner.specs.PartialStream.{groups_led, stretch_words}
 use Rattle.x7_planner.specs.Stream.{bytes_of_words}
 use Rattle.x7_planner.proofs.group.put_groups.Given as goal
 

@@ -1,6 +1,6 @@
 use Rattle.std.proofs.Common.{◌≡◌, ◌++◌, take}
 use Rattle.x7_planner.specs.Contents.{content_rows}
-use Rattle.x7_planner.specs.Partial.{frames_words}
+use Rattle.x7_planner.specs.PartialStream.{frames_words}
 use Rattle.x7_planner.specs.Stream.{bytes_of_words}
 use Rattle.x7_planner.proofs.run.put_frames.Given as goal
 

@@ -1,6 +1,6 @@
 use Rattle.std.proofs.Common.{◌≡◌, ◌-◌, ◌≤◌, ◌++◌, length, drop}
 use Rattle.x7_planner.specs.Contents.{content_rows}
-use Rattle.x7_planner.specs.Partial.{runs_words}
+use Rattle.x7_planner.specs.PartialStream.{runs_words}
 use Rattle.x7_planner.specs.Stream.{bytes_of_words}
 use Rattle.x7_planner.proofs.run.put_runs.Given as goal
 

@@ -1,7 +1,7 @@
 use Rattle.std.proofs.Common.{◌≡◌, ℕ, ◌+◌, ◌<◌, ◌≤◌, true, get_or}
 use Rattle.x7_memory.specs.Planned.{PlanRow}
 use Rattle.x7_planner.specs.Contents.{content_rows}
-use Rattle.x7_planner.specs.Partial.{follows}
+use Rattle.x7_planner.specs.PartialStream.{follows}
 use Rattle.x7_planner.proofs.run.run_length.Given as goal
 
 abbrev pub invariant-loop-k : goal.invariant-loop-k

@@ -1,6 +1,6 @@
 use Rattle.std.proofs.Common.{◌≡◌, ◌∙◌, List, ℕ, OnOk, ap, subst}
 use Rattle.x7_words.specs.Sink.{PutsAll, PutsSome}
-use Rattle.x7_planner.specs.Full.{full_stream}
+use Rattle.x7_planner.specs.FullStream.{full_stream}
 use Rattle.x7_tool.proofs.GenerateLemmas.{no_fault}
 use Rattle.x7_tool.proofs.full_text.write_full.Goals as goal
 

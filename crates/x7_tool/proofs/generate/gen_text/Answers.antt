@@ -1,6 +1,6 @@
 use Rattle.std.proofs.Common.{ap, refl, sym, subst}
 use Rattle.x7_memory.specs.Planned.{AreAddressed, PlanData}
-use Rattle.x7_planner.specs.Full.{full_stream}
+use Rattle.x7_planner.specs.FullStream.{full_stream}
 use Rattle.x7_tool.proofs.GenerateLemmas.{few_reads, gen_is, generated_addressed, planned_is}
 use Rattle.x7_forms.proofs.ResultLemmas.{ok_weaker}
 use Rattle.x7_tool.proofs.generate.gen_text.Goals as goal

@@ -1,5 +1,5 @@
 use Rattle.std.proofs.Common.{◌≡◌, ◌+◌, ◌^◌, ◌≤◌, ℕ, List, [], length, refl, ap, subst, ◌∙◌, arith}
-use Rattle.x7_planner.specs.Full.{full_stream}
+use Rattle.x7_planner.specs.FullStream.{full_stream}
 use Rattle.x7_planner.specs.Telling.{TellsMore}
 use Rattle.x7_forms.specs.Play.{HasPlayed}
 use Rattle.x7_tool.proofs.GenerateLemmas.{along, piece_fits}

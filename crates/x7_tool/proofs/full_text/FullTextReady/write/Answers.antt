@@ -1,6 +1,6 @@
 use Rattle.std.proofs.Common.{OnOk, subst}
 use Rattle.x7_words.specs.Sink.{PutsAll, PutsSome}
-use Rattle.x7_planner.specs.Full.{full_stream}
+use Rattle.x7_planner.specs.FullStream.{full_stream}
 use Rattle.x7_tool.specs.FullText.{PlanFor}
 use Rattle.x7_tool.proofs.full_text.FullTextReady.write.Goals as goal
 

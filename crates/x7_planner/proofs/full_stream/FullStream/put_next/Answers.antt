@@ -1,0 +1,28 @@
+use Rattle.std.proofs.Common.{ℕ, List, ◌++◌, ◌-◌, ◌<◌, length, take, drop, refl, sym, ap, subst, arith}
+use Rattle.std.proofs.lemmas.Bool.{false≢true}
+use Rattle.x7_crc.specs.Checking.{HasTaken}
+use Rattle.x7_planner.specs.Telling.{FullStreamState, HasGiven, Writes, puts_left}
+use Rattle.x7_planner.proofs.TellingLemmas.{told_more}
+use Rattle.x7_planner.proofs.full_stream.FullStream.put_next.Goals as goal
+
+pub returns : goal.returns
+returns c =
+    let s : FullStreamState = record { part = c.self.inside.part.now; plan = c.self.inside.plan.now; next = c.self.inside.next; check = c.self.inside.checker } in
+    let t : FullStreamState = record { part = c.self.inside.part.now; plan = c.self.inside.plan.now; next = c.in-Ok.next; check = c.take.new.self } in
+    let wrote : Writes s c.args.out.now.items c.put.new.out.items c.in-Ok.next = subst (λ x. Writes x c.args.out.now.items c.put.new.out.items c.in-Ok.next) (sym c.self.view_is) c.in-Ok.ensures.writes in
+    let less : puts_left t < puts_left s = wrote.fewer c.in_default.not-Nothing in
+    record {
+      more = λ given h _. told_more s t given c.args.out.now.items c.put.new.out.items c.len-start.result refl refl (omega (arith, c.len-start.ensures, c.args.out.now.ok.0)) wrote
+          (λ bytes k. subst (λ (x : List ℕ). HasTaken c.take.new.self (bytes ++ take (length x - c.len-start.result) (drop c.len-start.result x))) c.deref.ensures.value (c.take.ensures bytes k)) (subst (λ x. HasGiven x given) (sym c.self.view_is) h);
+      fewer = λ _. subst (λ x. puts_left t < puts_left x) c.self.view_is less;
+      end = λ given h e. absurd (false≢true (sym e));
+      nothing = λ e. absurd (false≢true (sym e));
+      ended = λ e. absurd (false≢true (sym e));
+      part = ap (λ x. x.part) c.self.view_is;
+      plan = ap (λ x. x.plan) c.self.view_is;
+      few = omega (arith, c.in-Ok.ensures.few);
+      failed = tt;
+      kept = tt;
+      room = omega (arith, c.put.ensures.room);
+      full = tt;
+    }

@@ -1,8 +1,0 @@
-use Rattle.std.proofs.Common.{◌∙◌, ap}
-use Rattle.x7_planner.specs.Full.{full_stream}
-use Rattle.x7_planner.proofs.whole.put_all.Goals as goal
-
-pub returns : goal.returns
-returns c =
-    let given = c.in_ok-put_next.ensures.end c.loop.out.items c.loop.invariant.given c.if-branch.false in
-    c.in_ok-put_next.ensures.nothing c.if-branch.false ∙ given ∙ ap (λ p. full_stream p c.loop.stream.plan) c.loop.invariant.part ∙ ap (full_stream c.args.stream.part) c.loop.invariant.plan

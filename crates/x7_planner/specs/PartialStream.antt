@@ -1,0 +1,149 @@
+-- The stream of a partial reconfiguration: the planned frames alone, contents at three addresses or more by copies, the others in runs (this project's choice; UG470, multi-frame write register).
+use Rattle.std.specs.Prelude.{◌≡◌, ℕ, ◌+◌, ◌*◌, ◌==◌, ◌&&◌, nat_le, Bool, true, false, if◌then◌else◌, List, [], ◌∷◌, ◌++◌, length, map, replicate, slice_index, slice_index_or, All, Contains, Some}
+use Rattle.std.specs.List.{flat_map}
+use Rattle.x7_part.specs.Part.{PartData, frame_words}
+use Rattle.x7_part.specs.Slots.{from, slots_in}
+use Rattle.x7_part.specs.declared.slot.Slot.{Slot}
+use Rattle.x7_part.specs.declared.slot.Slot.TheVariants.{Frame, Pad, End}
+use Rattle.x7_memory.specs.Planned.{AreApart, PlanRow, planned, planned_addresses}
+use Rattle.x7_regs.specs.declared.command.Command.TheVariants.{Desync, Mfw, Rcrc, Wcfg}
+use Rattle.x7_regs.specs.declared.register.Reg.TheVariants.{Far, Idcode, Mfwr}
+use Rattle.x7_packets.specs.PacketWords.{command, frame_data, no_op, write_one}
+use Rattle.x7_planner.specs.Stream.{Words, Check, head, stream_of}
+use Rattle.x7_planner.specs.FullStream.{zero_frame}
+
+-- what a partial stream writes after one command: a content at some addresses, or frames from an address on
+pub data Stretch : Type 0 where
+  Copies : (words : List ℕ) (fars : List ℕ) → Stretch
+  Rows : (rows : List PlanRow) → Stretch
+
+-- the two lists have the same words
+abbrev pub same_words : List ℕ → List ℕ → Bool
+same_words [] [] = true
+same_words [] (y ∷ ys) = false
+same_words (x ∷ xs) [] = false
+same_words (x ∷ xs) (y ∷ ys) = (x == y) && same_words xs ys
+
+-- the rows that have a content
+abbrev pub with_content : List ℕ → List PlanRow → List PlanRow
+with_content words [] = []
+with_content words (r ∷ rows) = if same_words r.words words then r ∷ with_content words rows else with_content words rows
+
+-- a row's content stands at three addresses or more
+abbrev pub is_shared : List PlanRow → PlanRow → Bool
+is_shared all r = nat_le 3 (length (with_content r.words all))
+
+-- a row's content stands at three addresses or more, and the row is the first of them
+abbrev pub leads_group : List PlanRow → PlanRow → Bool
+leads_group all r = is_shared all r && (slice_index (planned_addresses (with_content r.words all)) 0 == r.far)
+
+-- the groups that these rows lead, in order
+abbrev pub groups_led : List PlanRow → List PlanRow → List Stretch
+groups_led all [] = []
+groups_led all (r ∷ rows) =
+    if leads_group all r then Copies r.words (planned_addresses (with_content r.words all)) ∷ groups_led all rows else groups_led all rows
+
+-- the other rows
+abbrev pub others : List PlanRow → List PlanRow → List PlanRow
+others all [] = []
+others all (r ∷ rows) = if is_shared all r then others all rows else r ∷ others all rows
+
+-- the slot is the frame at this address
+abbrev pub is_frame : ℕ → Slot → Bool
+is_frame address (Frame a) = a == address
+is_frame address Pad = false
+is_frame address End = false
+
+-- the second address is the next of the first, in the same row
+abbrev pub follows : PartData → ℕ → ℕ → Bool
+follows part a b = is_frame b (slice_index_or (from a (slots_in part)) 1 End)
+
+-- runs with a row more before them, which joins the first of them where that follows it
+abbrev pub with_row : PartData → PlanRow → List (List PlanRow) → List (List PlanRow)
+with_row part r [] = (r ∷ []) ∷ []
+with_row part r ([] ∷ runs) = (r ∷ []) ∷ runs
+with_row part r ((s ∷ run) ∷ runs) = if follows part r.far s.far then (r ∷ s ∷ run) ∷ runs else (r ∷ []) ∷ (s ∷ run) ∷ runs
+
+-- the longest runs of rows whose addresses follow one another
+abbrev pub runs_of : PartData → List PlanRow → List (List PlanRow)
+runs_of part [] = []
+runs_of part (r ∷ rows) = with_row part r (runs_of part rows)
+
+-- the groups, and then the runs
+abbrev pub stretches_of : PartData → List PlanRow → List Stretch
+stretches_of part rows = groups_led rows rows ++ map Rows (runs_of part (others rows rows))
+
+-- a copy of the frame to an address
+abbrev pub copy_words : ℕ → List ℕ
+copy_words address = write_one Far address ++ write_one Mfwr 0
+
+-- the words of frames in order
+abbrev pub frames_words : List PlanRow → List ℕ
+frames_words rows = flat_map (λ row. row.words) rows
+
+-- the words of a stretch: a content at its first address, and copies of it; or frames from an address on, and a frame of zeros
+abbrev pub stretch_words : PartData → Stretch → List ℕ
+stretch_words part (Copies words fars) =
+    command Wcfg ++ (write_one Far (slice_index fars 0) ++ (frame_data (frame_words part) ++ (words ++ (command Mfw ++ flat_map copy_words fars))))
+stretch_words part (Rows rows) =
+    command Wcfg ++ (write_one Far (slice_index (planned_addresses rows) 0) ++ (frame_data (frame_words part * (length rows + 1)) ++ (frames_words rows ++ zero_frame part)))
+
+-- what stands before the groups
+abbrev pub partial_opening : PartData → List ℕ
+partial_opening part = head ++ (command Rcrc ++ (no_op ∷ write_one Idcode part.idcode))
+
+-- the words of the longest runs of rows
+abbrev pub runs_words : PartData → List PlanRow → List ℕ
+runs_words part rows = flat_map (stretch_words part) (map Rows (runs_of part rows))
+
+-- the end of the session, and no-ops
+abbrev pub partial_ending : List ℕ
+partial_ending = command Desync ++ replicate 4 no_op
+
+-- the partial stream of a plan's rows
+abbrev pub partial_stream : PartData → List PlanRow → List ℕ
+partial_stream part rows = stream_of (Words (partial_opening part ++ flat_map (stretch_words part) (stretches_of part rows)) ∷ Check ∷ Words partial_ending ∷ [])
+
+-- ---- the same in other words
+
+-- what a stretch puts, in order: addresses with their frames
+abbrev pub pairs_of : Stretch → List PlanRow
+pairs_of (Copies words fars) = map (λ far. record { far = far; words = words }) fars
+pairs_of (Rows rows) = rows
+
+-- what stretches put, in order
+abbrev pub pairs_in : List Stretch → List PlanRow
+pairs_in stretches = flat_map pairs_of stretches
+
+-- pairs write each of these rows once, with its frame, and no other address
+pub record WritesOnce (rows pairs : List PlanRow) : Type 0 where
+  pub frames : All (λ pair. planned rows pair.far ≡ Some pair.words) pairs
+  pub each : (address : ℕ) → Contains (planned_addresses rows) address → Contains (planned_addresses pairs) address
+  pub once : AreApart pairs
+
+-- the rows of runs in order
+abbrev pub joined_runs : List (List PlanRow) → List PlanRow
+joined_runs runs = flat_map (λ run. run) runs
+
+-- the last address of a run's rows
+abbrev pub last_far : List PlanRow → ℕ
+last_far [] = 0
+last_far (r ∷ []) = r.far
+last_far (r ∷ s ∷ run) = last_far (s ∷ run)
+
+-- the first address of a run's rows
+abbrev pub first_far : List PlanRow → ℕ
+first_far [] = 0
+first_far (r ∷ run) = r.far
+
+-- each run's addresses follow one another
+abbrev pub IsRunOfRows : PartData → List PlanRow → Type 0
+IsRunOfRows part [] = ⊥
+IsRunOfRows part (r ∷ []) = Unit {0}
+IsRunOfRows part (r ∷ s ∷ run) = (follows part r.far s.far ≡ true) × IsRunOfRows part (s ∷ run)
+
+-- each is a run, and none follows the one before
+abbrev pub AreLongest : PartData → List (List PlanRow) → Type 0
+AreLongest part [] = Unit {0}
+AreLongest part (run ∷ []) = IsRunOfRows part run
+AreLongest part (run ∷ next ∷ runs) = IsRunOfRows part run × (follows part (last_far run) (first_far next) ≡ false) × AreLongest part (next ∷ runs)

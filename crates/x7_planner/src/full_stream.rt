@@ -1,0 +1,325 @@
+//! The stream of a whole configuration.
+ghost use Rattle.std.specs.Prelude.{◌≡◌, ◌⊎◌, ◌+◌, ◌-◌, ◌*◌, ◌<◌, ◌≤◌, ◌++◌, ℕ, List, [], true, false, length, take, drop, replicate, slice_index, Contains, vec_capacity, IfOk, IfErr, OnOk, OnErr};
+ghost use Rattle.x7_memory.specs.Planned.{AreAddressed};
+ghost use Rattle.x7_part.specs.AddressOrder.{addresses_in};
+ghost use Rattle.x7_part.specs.Part.{frame_words};
+ghost use Rattle.x7_part.specs.PartRange.{IsPart};
+ghost use Rattle.x7_part.specs.Slots.{slots_in};
+ghost use Rattle.x7_planner.specs.FullStream.{frame_at_slot, full_opening, full_settings, full_stream, words_of_slots};
+ghost use Rattle.x7_planner.specs.Refusals.{IsFullFault};
+ghost use Rattle.x7_planner.specs.Stream.{bytes_of_words};
+ghost use Rattle.x7_planner.specs.Telling.{HasGiven, TellsMore, Writes, puts_left, piece_limit};
+ghost use Rattle.x7_planner.specs.declared.fault.PlanFault.{PlanFault};
+ghost use Rattle.x7_planner.specs.declared.full_stream.NextPiece.{NextPiece};
+
+use crate::address::first_foreign;
+use crate::fault::PlanFault;
+use crate::settings::{CONTROL, CONTROL_MASK, STARTUP_OPTIONS};
+use crate::writer::{HEAD, put_packets, put_words};
+use std::alloc::Global;
+use std::marker::Model;
+use x7_crc::PieceChecker;
+use x7_memory::Plan;
+use x7_packets::{NO_OP, command, frame_data, write_one};
+use x7_part::{Part, Slot};
+use x7_regs::{Command, Reg};
+use x7_words::NoMemory;
+
+/// The words of a full stream beside its frame data.
+const OTHER_WORDS: usize = 55;
+
+/// How many slots are written at once.
+const PIECE_SLOTS: u64 = 160;
+
+/// A frame of zeros, of the most words that a frame may have.
+static ZEROS: [u32; 255] = [0; 255];
+
+/// The least address.
+fn first_address(part: &Part) -> u32
+    ensures first { result ≡ slice_index (addresses_in part.now) 0 }
+    ensures address { Contains (addresses_in part.now) result }
+    ensures part { IsPart part.now }
+{
+    // A part has a frame.
+    let _frames = part.frames();
+    let Some(first) = part.address(0) else {
+        unreachable!()
+    };
+    first
+}
+
+/// The number of all slots.
+fn slot_count(part: &Part) -> u64
+    ensures count { result ≡ length (slots_in part.now) }
+    ensures few { result ≤ 131456 }
+    ensures words { frame_words part.now * result ≤ 13277056 }
+{
+    part.slots_from(first_address(part))
+}
+
+/// Writes the settings of startup, and where the frame data begins.
+fn put_settings(out: &mut Vec<u8>, part: &Part) -> Result<(), NoMemory>
+    ensures items { OnOk result (out.new.items ≡ out.old.items ++ bytes_of_words (full_settings part.now)) }
+    ensures long { OnOk result (length out.new.items ≡ length out.old.items + 76) }
+    ensures failed { OnErr result (take (length out.old.items) out.new.items ≡ out.old.items) }
+    ensures room { vec_capacity out.old ≤ vec_capacity out.new }
+    ensures full { OnErr result (vec_capacity out.old < length out.old.items + 76) }
+{
+    let words = part.words() * slot_count(part) as u32;
+    put_packets(out, &[command(Command::Shutdown), command(Command::Rcrc)])?;
+    put_words(out, &[NO_OP])?;
+    put_packets(
+        out,
+        &[
+            write_one(Reg::Idcode, part.idcode()),
+            write_one(Reg::Cor0, STARTUP_OPTIONS),
+            write_one(Reg::Mask, CONTROL_MASK),
+            write_one(Reg::Ctl0, CONTROL),
+            command(Command::Wcfg),
+            write_one(Reg::Far, first_address(part)),
+            frame_data(words),
+        ],
+    )
+}
+
+/// Writes what stands before the frame data.
+fn put_opening(out: &mut Vec<u8>, part: &Part) -> Result<(), NoMemory>
+    ensures items { OnOk result (out.new.items ≡ out.old.items ++ bytes_of_words (full_opening part.now)) }
+    ensures long { OnOk result (length out.new.items ≡ length out.old.items + 116) }
+    ensures failed { OnErr result (take (length out.old.items) out.new.items ≡ out.old.items) }
+    ensures room { vec_capacity out.old ≤ vec_capacity out.new }
+    ensures full { OnErr result (vec_capacity out.old < length out.old.items + 116) }
+{
+    put_words(out, &HEAD)?;
+    put_settings(out, part)?;
+    Ok(())
+}
+
+/// The first `count` words.
+fn first_words(words: &[u32], count: u32) -> &[u32]
+    requires { count ≤ length words.now }
+    ensures { result.now ≡ take count words.now }
+{
+    &words[..count as usize]
+}
+
+/// A frame of zeros.
+pub(crate) fn zeros(count: u32) -> &'static [u32]
+    requires { count ≤ 255 }
+    ensures words { result.now ≡ replicate count 0 }
+    ensures long { length result.now ≡ count }
+{
+    first_words(&ZEROS, count)
+}
+
+/// The frame at a slot.
+fn frame_at<'p>(part: &Part, plan: &'p Plan, slot: Slot) -> &'p [u32]
+    requires { plan.now.width ≡ frame_words part.now }
+    ensures words { result.now ≡ frame_at_slot part.now plan.now slot }
+    ensures few { length result.now ≤ 255 }
+{
+    let width = part.words();
+    let Slot::Frame(far) = slot else {
+        return zeros(width);
+    };
+    match plan.get(far) {
+        Some(words) => words,
+        None => zeros(width),
+    }
+}
+
+/// Writes the frames of the slots from one place to another.
+fn put_slots(
+    out: &mut Vec<u8>,
+    part: &Part,
+    plan: &Plan,
+    from: u64,
+    to: u64,
+) -> Result<(), NoMemory>
+    requires width { plan.now.width ≡ frame_words part.now }
+    requires order { from ≤ to }
+    requires within { to ≤ length (slots_in part.now) }
+    ensures items { OnOk result (out.new.items ≡ out.old.items ++ bytes_of_words (words_of_slots part.now plan.now (drop from (take to (slots_in part.now))))) }
+    ensures few { OnOk result (length out.new.items ≤ length out.old.items + 1020 * (to - from)) }
+    ensures failed { OnErr result (take (length out.old.items) out.new.items ≡ out.old.items) }
+    ensures room { vec_capacity out.old ≤ vec_capacity out.new }
+    ensures full { OnErr result (vec_capacity out.old < length out.old.items + 1020 * (to - from)) }
+{
+    let first = first_address(part);
+    for n in from..to {
+        put_words(out, frame_at(part, plan, part.slot_after(first, n)))?;
+    }
+    Ok(())
+}
+
+/// What a full stream writes next.
+#[derive(Clone, Copy, Drop)]
+pub enum NextPiece {
+    /// What stands before the frame data.
+    Opening,
+    /// The frames from this slot on.
+    Slot(u64),
+    /// The check behind the frame data.
+    Check,
+    /// The end of frame data, and the start of the device.
+    Start,
+    /// The check behind that.
+    LastCheck,
+    /// The end of the session.
+    Desync,
+    /// Nothing: all is written.
+    Nothing,
+}
+
+/// The full stream of a plan, which is written piece by piece, so that nobody has to hold it whole.
+#[derive(Drop)]
+pub struct FullStream<'p> {
+    part: &'p Part,
+    plan: &'p Plan,
+    next: NextPiece,
+    /// The check of what was written.
+    checker: PieceChecker,
+}
+
+impl<'p> Model for FullStream<'p> {
+    ghost use Rattle.x7_planner.specs.Telling.{FullStreamState, IsFullStream};
+
+    ghost Value = { FullStreamState };
+
+    ghost view = { λ s. record { part = s.part.now; plan = s.plan.now; next = s.next; check = s.checker } };
+
+    ghost invariant = { λ s. IsFullStream record { part = s.part.now; plan = s.plan.now; next = s.next; check = s.checker } };
+}
+
+impl<'p> FullStream<'p> {
+    /// The full stream of a plan, of which nothing is written yet. A plan has the part's width.
+    pub fn new(part: &'p Part, plan: &'p Plan) -> Result<FullStream<'p>, PlanFault>
+        requires width { plan.now.width ≡ frame_words part.now }
+        ensures stream { IfOk result (λ stream. HasGiven stream []) }
+        ensures part { IfOk result (λ stream. stream.part ≡ part.now) }
+        ensures plan { IfOk result (λ stream. stream.plan ≡ plan.now) }
+        ensures addresses { IfOk result (λ stream. AreAddressed part.now plan.now.rows) }
+        ensures fault { IfErr result (IsFullFault part.now plan.now) }
+    {
+        if let Some(far) = first_foreign(part, plan) {
+            return Err(PlanFault::Foreign(far));
+        }
+        Ok(FullStream {
+            part,
+            plan,
+            next: NextPiece::Opening,
+            checker: PieceChecker::new(),
+        })
+    }
+
+    /// Appends the next piece, of 160 frames at most, and says whether there was one; after the last there is none for good.
+    /// After an error nothing was appended, and the same piece is next.
+    pub fn put_next(&mut self, out: &mut Vec<u8>) -> Result<bool, NoMemory>
+        ensures more { (given : List ℕ) → HasGiven self.old given → IfOk result (λ more. more ≡ true → TellsMore self.new given out.old.items out.new.items) }
+        ensures fewer { IfOk result (λ more. more ≡ true → puts_left self.new < puts_left self.old) }
+        ensures end { (given : List ℕ) → HasGiven self.old given → IfOk result (λ more. more ≡ false → given ≡ full_stream self.old.part self.old.plan) }
+        ensures nothing { IfOk result (λ more. more ≡ false → out.new.items ≡ out.old.items) }
+        ensures ended { IfOk result (λ more. more ≡ false → self.new ≡ self.old) }
+        ensures few { length out.new.items ≤ length out.old.items + piece_limit }
+        ensures part { self.new.part ≡ self.old.part }
+        ensures plan { self.new.plan ≡ self.old.plan }
+        ensures failed { OnErr result (self.new ≡ self.old) }
+        ensures kept { OnErr result (out.new.items ≡ out.old.items) }
+        ensures room { vec_capacity out.old ≤ vec_capacity out.new }
+        ensures full { OnErr result (vec_capacity out.old < length out.old.items + piece_limit) }
+    {
+        if let NextPiece::Nothing = self.next {
+            return Ok(false);
+        }
+        let start = out.len();
+        let Ok(next) = self.put(out) else {
+            out.truncate(start);
+            return Err(NoMemory);
+        };
+        self.checker.take(&out[start..]);
+        self.next = next;
+        Ok(true)
+    }
+
+    /// Appends what is next, and tells what is written behind it.
+    fn put(&self, out: &mut Vec<u8>) -> Result<NextPiece, NoMemory>
+        ensures writes { IfOk result (Writes self.now out.old.items out.new.items) }
+        ensures few { OnOk result (length out.new.items ≤ length out.old.items + piece_limit) }
+        ensures failed { OnErr result (take (length out.old.items) out.new.items ≡ out.old.items) }
+        ensures room { vec_capacity out.old ≤ vec_capacity out.new }
+        ensures full { OnErr result (vec_capacity out.old < length out.old.items + piece_limit) }
+    {
+        match self.next {
+            NextPiece::Opening => {
+                put_opening(out, self.part)?;
+                Ok(NextPiece::Slot(0))
+            }
+            NextPiece::Slot(n) => self.put_frames(out, n),
+            NextPiece::Check => {
+                put_words(out, &write_one(Reg::Crc, self.checker.check()))?;
+                Ok(NextPiece::Start)
+            }
+            NextPiece::Start => {
+                put_packets(out, &[command(Command::Lfrm), command(Command::Start)])?;
+                Ok(NextPiece::LastCheck)
+            }
+            NextPiece::LastCheck => {
+                put_words(out, &write_one(Reg::Crc, self.checker.check()))?;
+                Ok(NextPiece::Desync)
+            }
+            NextPiece::Desync => {
+                put_words(out, &command(Command::Desync))?;
+                put_words(out, &[NO_OP; 16])?;
+                Ok(NextPiece::Nothing)
+            }
+            NextPiece::Nothing => Ok(NextPiece::Nothing),
+        }
+    }
+
+    /// Appends the frames of the slots from one on, and tells what is written behind them.
+    fn put_frames(&self, out: &mut Vec<u8>, n: u64) -> Result<NextPiece, NoMemory>
+        requires { self.now.next ≡ NextPiece.Slot n }
+        ensures writes { IfOk result (Writes self.now out.old.items out.new.items) }
+        ensures few { OnOk result (length out.new.items ≤ length out.old.items + piece_limit) }
+        ensures failed { OnErr result (take (length out.old.items) out.new.items ≡ out.old.items) }
+        ensures room { vec_capacity out.old ≤ vec_capacity out.new }
+        ensures full { OnErr result (vec_capacity out.old < length out.old.items + piece_limit) }
+    {
+        let count = slot_count(self.part);
+        let end = count.min(n + PIECE_SLOTS);
+        put_slots(out, self.part, self.plan, n, end)?;
+        if end == count {
+            Ok(NextPiece::Check)
+        } else {
+            Ok(NextPiece::Slot(end))
+        }
+    }
+}
+
+/// The stream that writes the planned frames and zeros at all other addresses, and then starts the device. A plan has the
+/// part's width. Memory is wanting only where there is such a stream.
+pub fn full(alloc: Global, part: &Part, plan: &Plan) -> Result<Vec<u8>, PlanFault>
+    requires width { plan.now.width ≡ frame_words part.now }
+    ensures stream { IfOk result (λ bytes. bytes.items ≡ full_stream part.now plan.now) }
+    ensures addresses { IfOk result (λ bytes. AreAddressed part.now plan.now.rows) }
+    ensures fault { IfErr result (λ fault. (fault ≡ PlanFault.NoMemory) ⊎ IsFullFault part.now plan.now fault) }
+    ensures memory { IfErr result (λ fault. fault ≡ PlanFault.NoMemory → AreAddressed part.now plan.now.rows) }
+{
+    let stream = FullStream::new(part, plan)?;
+    let words = part.words() as usize * slot_count(part) as usize;
+    let Ok(mut out) = Vec::with_capacity(alloc, 4 * (OTHER_WORDS + words)) else {
+        return Err(PlanFault::NoMemory);
+    };
+    put_all(stream, &mut out)?;
+    Ok(out)
+}
+
+/// Appends all pieces of a stream that has written nothing.
+fn put_all(stream: FullStream<'_>, out: &mut Vec<u8>) -> Result<(), NoMemory>
+    requires given { HasGiven stream out.old.items }
+    ensures { OnOk result (out.new.items ≡ full_stream stream.entry.part stream.entry.plan) }
+{
+    let mut stream = stream;
+    while stream.put_next(out)? {}
+    Ok(())
+}

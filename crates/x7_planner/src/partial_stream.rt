@@ -1,0 +1,130 @@
+//! The stream of a partial reconfiguration.
+ghost use Rattle.std.specs.Prelude.{◌≡◌, ◌⊎◌, ◌<◌, length, IfOk, IfErr, OnOk};
+ghost use Rattle.std.specs.List.{flat_map};
+ghost use Rattle.x7_memory.specs.Planned.{AreAddressed};
+ghost use Rattle.x7_part.specs.Part.{frame_words};
+ghost use Rattle.x7_planner.specs.Contents.{AreFirsts, AreGrouped, AreStarts, content_rows};
+ghost use Rattle.x7_planner.specs.PartialStream.{others, partial_opening, partial_stream, stretch_words, stretches_of};
+ghost use Rattle.x7_planner.specs.Refusals.{IsPartialFault};
+ghost use Rattle.x7_planner.specs.Stream.{with_piece, Words};
+ghost use Rattle.x7_planner.specs.declared.fault.PlanFault.{PlanFault};
+
+use crate::address::first_foreign;
+use crate::content::{Content, firsts_of, grouped, starts_of};
+use crate::fault::PlanFault;
+use crate::group::{others_of, put_groups};
+use crate::run::put_runs;
+use crate::writer::{HEAD, Writer};
+use std::alloc::{AllocError, Global};
+use x7_memory::Plan;
+use x7_packets::{NO_OP, command, write_one};
+use x7_part::Part;
+use x7_regs::{Command, Reg};
+use x7_words::NoMemory;
+
+/// Room for the words of small streams; larger ones make more.
+const FIRST_WORDS: usize = 1024;
+
+/// The frames of a plan by content, and those that no group has.
+#[derive(Drop)]
+struct Grouping<'p> {
+    contents: Vec<Content<'p>>,
+    firsts: Vec<usize>,
+    starts: Vec<usize>,
+    alone: Vec<Content<'p>>,
+}
+
+/// A plan's frames by content.
+fn grouping_of(alloc: Global, plan: &Plan) -> Result<Grouping<'_>, AllocError>
+    ensures contents { IfOk result (λ g. AreGrouped plan.now.rows g.contents.items) }
+    ensures firsts { IfOk result (λ g. AreFirsts (content_rows g.contents.items) g.firsts.items) }
+    ensures starts { IfOk result (λ g. AreStarts plan.now.rows (content_rows g.contents.items) g.starts.items) }
+    ensures alone { IfOk result (λ g. content_rows g.alone.items ≡ others plan.now.rows plan.now.rows) }
+{
+    let contents = grouped(alloc, plan)?;
+    let firsts = firsts_of(alloc, &contents)?;
+    let starts = starts_of(alloc, plan, &contents, &firsts)?;
+    let alone = others_of(alloc, plan, &contents, &firsts, &starts)?;
+    Ok(Grouping {
+        contents,
+        firsts,
+        starts,
+        alone,
+    })
+}
+
+/// Writes what stands before the groups.
+fn put_opening(writer: &mut Writer, part: &Part) -> Result<(), NoMemory>
+    ensures { OnOk result (writer.new ≡ with_piece writer.old (Words (partial_opening part.now))) }
+{
+    writer.words(&HEAD)?;
+    writer.words(&command(Command::Rcrc))?;
+    writer.words(&[NO_OP])?;
+    writer.words(&write_one(Reg::Idcode, part.idcode()))?;
+    Ok(())
+}
+
+/// Writes the groups and the runs of a plan.
+fn put_stretches(
+    writer: &mut Writer,
+    part: &Part,
+    plan: &Plan,
+    grouping: &Grouping,
+) -> Result<(), NoMemory>
+    requires contents { AreGrouped plan.now.rows grouping.now.contents.items }
+    requires firsts { AreFirsts (content_rows grouping.now.contents.items) grouping.now.firsts.items }
+    requires starts { AreStarts plan.now.rows (content_rows grouping.now.contents.items) grouping.now.starts.items }
+    requires alone { content_rows grouping.now.alone.items ≡ others plan.now.rows plan.now.rows }
+    requires addresses { AreAddressed part.now plan.now.rows }
+    ensures { OnOk result (writer.new ≡ with_piece writer.old (Words (flat_map (stretch_words part.now) (stretches_of part.now plan.now.rows)))) }
+{
+    // The part is in range, and the plan in order: so its rows are few.
+    let _frames = part.frames();
+    let _rows = plan.len();
+    put_groups(
+        writer,
+        part,
+        plan,
+        &grouping.contents,
+        &grouping.firsts,
+        &grouping.starts,
+    )?;
+    put_runs(writer, part, &grouping.alone)?;
+    Ok(())
+}
+
+/// The partial stream of a plan whose addresses are the part's.
+fn partial_of(alloc: Global, part: &Part, plan: &Plan) -> Result<Vec<u8>, NoMemory>
+    requires addresses { AreAddressed part.now plan.now.rows }
+    ensures { IfOk result (λ bytes. bytes.items ≡ partial_stream part.now plan.now.rows) }
+{
+    let Ok(grouping) = grouping_of(alloc, plan) else {
+        return Err(NoMemory);
+    };
+    let mut writer = Writer::new(alloc, FIRST_WORDS)?;
+    put_opening(&mut writer, part)?;
+    put_stretches(&mut writer, part, plan, &grouping)?;
+    writer.check()?;
+    writer.words(&command(Command::Desync))?;
+    writer.words(&[NO_OP; 4])?;
+    Ok(writer.finish())
+}
+
+/// The stream that writes the planned frames alone: contents at three addresses or more by copies, the others in runs. A plan
+/// has the part's width. Memory is wanting only where there is such a stream.
+pub fn partial(alloc: Global, part: &Part, plan: &Plan) -> Result<Vec<u8>, PlanFault>
+    requires width { plan.now.width ≡ frame_words part.now }
+    ensures stream { IfOk result (λ bytes. bytes.items ≡ partial_stream part.now plan.now.rows) }
+    ensures some { IfOk result (λ bytes. 0 < length plan.now.rows) }
+    ensures addresses { IfOk result (λ bytes. AreAddressed part.now plan.now.rows) }
+    ensures fault { IfErr result (λ fault. (fault ≡ PlanFault.NoMemory) ⊎ IsPartialFault part.now plan.now fault) }
+    ensures memory { IfErr result (λ fault. fault ≡ PlanFault.NoMemory → (0 < length plan.now.rows) × AreAddressed part.now plan.now.rows) }
+{
+    if plan.len() == 0 {
+        return Err(PlanFault::Empty);
+    }
+    if let Some(far) = first_foreign(part, plan) {
+        return Err(PlanFault::Foreign(far));
+    }
+    Ok(partial_of(alloc, part, plan)?)
+}

@@ -1,0 +1,54 @@
+//! The stream of a readback.
+ghost use Rattle.std.specs.Prelude.{◌≡◌, ◌⊎◌, ◌^◌, ◌<◌, IfOk, IfErr};
+ghost use Rattle.x7_planner.specs.ReadStream.{read_stream, read_of_words};
+ghost use Rattle.x7_planner.specs.Refusals.{CanRead, IsReadFault};
+ghost use Rattle.x7_planner.specs.declared.fault.PlanFault.{PlanFault};
+
+use crate::fault::PlanFault;
+use crate::writer::{HEAD, Writer};
+use std::alloc::Global;
+use x7_packets::{NO_OP, command, frame_read, write_one};
+use x7_part::Part;
+use x7_regs::{Command, Reg};
+use x7_words::NoMemory;
+
+/// The words of a read stream.
+const READ_WORDS: usize = 25;
+
+/// The stream that reads so many words from an address on.
+fn read_of(alloc: Global, far: u32, words: u32) -> Result<Vec<u8>, NoMemory>
+    requires { words < 2 ^ 27 }
+    ensures { IfOk result (λ bytes. bytes.items ≡ read_of_words far words) }
+{
+    let mut writer = Writer::new(alloc, READ_WORDS)?;
+    writer.words(&HEAD)?;
+    writer.words(&command(Command::Rcrc))?;
+    writer.words(&[NO_OP])?;
+    writer.packets(&[
+        command(Command::Rcfg),
+        write_one(Reg::Far, far),
+        frame_read(words),
+        command(Command::Desync),
+    ])?;
+    writer.words(&[NO_OP; 4])?;
+    Ok(writer.finish())
+}
+
+/// The stream that reads back n slots from an address on, behind a frame of zeros. Memory is wanting only where they can be
+/// read.
+pub fn readback(alloc: Global, part: &Part, far: u32, n: u32) -> Result<Vec<u8>, PlanFault>
+    ensures stream { IfOk result (λ bytes. bytes.items ≡ read_stream part.now far n) }
+    ensures can { IfOk result (λ bytes. CanRead part.now far n) }
+    ensures fault { IfErr result (λ fault. (fault ≡ PlanFault.NoMemory) ⊎ IsReadFault part.now far n fault) }
+    ensures memory { IfErr result (λ fault. fault ≡ PlanFault.NoMemory → CanRead part.now far n) }
+{
+    if !part.is_address(far) {
+        return Err(PlanFault::Foreign(far));
+    }
+    if n == 0 || u64::from(n) > part.slots_from(far) {
+        return Err(PlanFault::Range(n));
+    }
+    // The part is in range: so the counts are too.
+    let _frames = part.frames();
+    Ok(read_of(alloc, far, part.words() * (n + 1))?)
+}
