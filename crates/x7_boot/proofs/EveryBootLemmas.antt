@@ -72,7 +72,7 @@ attempts part flash kept address = by (search_to ends_at (suc (length from)))
 
 -- ---- attempt after attempt
 
--- fewer than 16 attempts lead to one with this kept, or it is a fallback behind at most 16
+-- fewer than 16 attempts lead to one with this kept, or it is a fallback after at most 16
 abbrev IsEarly : List Trial → Kept → Type 0
 IsEarly older kept = (length older < 16) ⊎ ((is_fallback kept.kind ≡ true) × (length older < 17))
 
@@ -80,7 +80,7 @@ early_is_short : (older : List Trial) (kept : Kept) → IsEarly older kept → l
 early_is_short older kept (inl l) = omega (arith, l)
 early_is_short older kept (inr l) = l.1
 
--- behind this attempt comes an end, or one that is early
+-- after this attempt comes an end, or one that is early
 abbrev Comes : List Trial → Trial → Next → Type 0
 Comes older t next = ((e : BootEnd) × (next ≡ Ends e)) ⊎ ((kept : Kept) × (address : ℕ) × IsEarly (t ∷ older) kept × (next ≡ Again kept address))
 

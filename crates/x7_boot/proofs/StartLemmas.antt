@@ -1,4 +1,4 @@
--- Histories in which no DESYNC is executed behind a START: startup begins nowhere in them.
+-- Histories in which no DESYNC is executed after a START: startup begins nowhere in them.
 use Rattle.std.proofs.Common.{◌≡◌, ◌==◌, ◌<◌, ◌⊎◌, inl, inr, ℕ, Bool, true, false, if◌then◌else◌, Option, None, Some, List, [], ◌∷◌, ◌++◌, drop, take, length, refl, ap, sym, subst, ◌∙◌, take-append-drop, arith}
 use Rattle.std.specs.Prelude.{nat_lt}
 use Rattle.std.proofs.lemmas.Bool.Decides.{nat_tests}
@@ -21,7 +21,7 @@ abbrev pub NoStart : History → Type 0
 NoStart [] = Unit {0}
 NoStart (e ∷ h) = (executes 5 h e.access ≡ false) × NoStart h
 
--- no DESYNC is executed behind one
+-- no DESYNC is executed after one
 abbrev pub NeverStarts : History → Type 0
 NeverStarts [] = Unit {0}
 NeverStarts (e ∷ h) = ((executes 13 h e.access ≡ false) ⊎ NoStart h) × NeverStarts h

@@ -76,7 +76,7 @@ check_after-linear v register word h k l =
     ∙ ap (λ x. advanced 5 (bit_xor (advanced 32 x) register)) (xor_comm v word ∙ sym (xor_zero_l (bit_xor word v)))
     ∙ sym (advanced_by_write 0 register (bit_xor word v) (lit< tt) k (xor_lt 32 word v l h))
 
--- the check of writes, and of more behind them
+-- the check of writes, and of more after them
 pub check_of-more : (v : ℕ) (writes more : List (ℕ × ℕ)) → v ≡ check_of writes → check_after v more ≡ check_of (writes ++ more)
 check_of-more v writes more e = ap (λ x. check_after x more) e ∙ sym (check_after-append 0 writes more (lit< tt))
 

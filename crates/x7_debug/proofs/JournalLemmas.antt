@@ -18,7 +18,7 @@ use Rattle.std.specs.Prelude.{slice_get}
 
 -- ---- the oldest
 
--- the oldest is not behind the position
+-- the oldest is not after the position
 pub oldest_within : (part : PartData) (stream : List ℕ) (at : ℕ) (us : List UndoState) → LeadBack part stream at us → oldest_by at us ≤ at
 oldest_within part stream at [] l = omega arith
 oldest_within part stream at (u ∷ us) l = omega (arith, oldest_within part stream u.taken us l.3, l.1)
@@ -105,7 +105,7 @@ refed part stream d e n q s =
     } in
     subst (λ (x : DeviceState). StandsAtPosition part stream x n) (sym q) there
 
--- a device at up to four bytes behind a record
+-- a device at up to four bytes after a record
 pub took_few : (part : PartData) (stream : List ℕ) (d : DeviceState) (at : ℕ) (u : UndoState) → IsRecord part stream u → StandsAtPosition part stream d at → u.taken ≤ at → at ≤ u.taken + 4 → TookFewSince u d
 took_few part stream d at u r s low high = record {
   past = record { part = part; kept = on_the_bench; wrapped = false; bytes = take u.taken stream };
@@ -118,7 +118,7 @@ took_few part stream d at u r s low high = record {
   has = subst (λ (b : List ℕ). DeviceStandsFor part on_the_bench false d b) (sym (take_up_to stream u.taken at low)) s.stands;
 }
 
--- a device at up to four bytes behind a record goes back to it
+-- a device at up to four bytes after a record goes back to it
 pub goes_back : (part : PartData) (stream : List ℕ) (d new : DeviceState) (at : ℕ) (u : UndoState) (r : IsRecord part stream u) → StandsAtPosition part stream d at → u.taken ≤ at → at ≤ u.taken + 4
     → ((more : List ℕ) (old : DeviceState) → Keeps u old → NoWordDue old → length more ≤ 4 → DeviceStandsFor part on_the_bench false old (take u.taken stream) → DeviceStandsFor part on_the_bench false d (take u.taken stream ++ more) → AreEqual new old)
     → StandsAtPosition part stream new u.taken
@@ -139,7 +139,7 @@ leads_more part stream d at to u us s k low high l =
 pub leads_further : (part : PartData) (stream : List ℕ) (at to : ℕ) (u : UndoState) (us : List UndoState) → at ≤ to → to ≤ u.taken + 4 → LeadBack part stream at (u ∷ us) → LeadBack part stream to (u ∷ us)
 leads_further part stream at to u us low high l = (l.0, omega (arith, l.1, low), high, l.3)
 
--- one record in use less, which goes behind all
+-- one record in use less, which goes after all
 pub records_less : (u : UndoState) (rest : List UndoState) (count less : ℕ) → less + 1 ≡ count → count ≤ 64 → length (u ∷ rest) ≡ 64 → take count (u ∷ rest) ≡ u ∷ take less (rest ++ u ∷ [])
 records_less u rest count less e few long =
     let next : count ≡ suc less = omega (arith, e) in

@@ -99,7 +99,7 @@ stands-there part stream d to within s = (let same : min to (last_of part stream
 pub own : (part : PartData) (stream : List ℕ) (d : DeviceState) (n : ℕ) → StandsAtPosition part stream d n → StandsAtPosition d.part stream d d.taken
 own part stream d n s = subst (λ p. StandsAtPosition p stream d d.taken) (sym s.stands.part_is) (subst (λ (k : ℕ). StandsAtPosition part stream d k) (sym s.taken) s)
 
--- a device that stands at a position of a stream has taken so many bytes
+-- a device that stands at a position of a stream has taken this many bytes
 pub by-taken : (part : PartData) (stream : List ℕ) (d : DeviceState) (n : ℕ) → StandsAtPosition part stream d n → StandsAtPosition part stream d d.taken
 by-taken part stream d n s = subst (λ (k : ℕ). StandsAtPosition part stream d k) (sym s.taken) s
 

@@ -28,7 +28,7 @@ own = numerals_by_fold _ (search rules) number_after (search rules)
 number-back : (n : ℕ) → n < 2 ^ 64 → number_after 0 (decimal n) ≡ n
 number-back n h = digits_value-decimal own n h
 
--- the order of a line, if it is one's, by its first letter; `until` goes by the second letter behind it
+-- the order of a line, if it is one's, by its first letter; `until` goes by the second letter after it
 abbrev pub stop_by : List ℕ → Stop
 stop_by words =
     if get_or words 1 0 == 121 then stop.Synced else

@@ -152,7 +152,7 @@ settings_ready part kept startup h n m g same s d =
 
 -- ---- LFRM, START, the check, DESYNC and the no-ops
 
--- startup behind a full stream: it began with the stream's COR0, 28 bytes ago at least
+-- startup after a full stream: it began with the stream's COR0, 28 bytes ago at least
 abbrev full_startup : StartupProgress
 full_startup = Begun 0x02003FE5 28
 

@@ -43,7 +43,7 @@ partial_fits part bytes rows f =
 
 -- ---- in turn
 
--- a read stream behind bytes that read nothing out and left this memory
+-- a read stream after bytes that read nothing out and left this memory
 reads_back : (part : PartData) (kept : Kept) (bytes written : List ℕ) (m : FrameMap) (far n : ℕ) → AreBytes written → AtRest part kept written → IsPart part → CanRead part far n
     → reads_of part kept written ≡ reads_of part kept bytes → AreSame (memory_in part kept written) m → ReadsBack (resting_after part kept bytes) written m far n
 reads_back part kept bytes written m far n f r is can none same =

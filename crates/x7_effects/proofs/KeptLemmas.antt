@@ -117,7 +117,7 @@ other_is r a b c d e f = record { crc = a; far = b; fdri = c; cmd = d; mfwr = e;
 unwritten_is : (r : ℕ) → IsOther r → (5 == r) ≡ false → (6 == r) ≡ false → (9 == r) ≡ false → IsUnwritten r
 unwritten_is r o a b c = record { other = o; ctl0 = a; mask = b; cor0 = c }
 
--- ---- behind a stream that nothing stops
+-- ---- after a stream that nothing stops
 
 module _ (part : PartData) (kept : Kept) (bytes : List ℕ) (pieces : List Piece) (noops : ℕ) (fit : AreBytes bytes) (searching : is_synced (reading_of bytes).place ≡ false) (are : ArePieces pieces) (clear : ClearFirst pieces)
     (before : stop_in part kept bytes ≡ None) (after : stop_in part kept (bytes ++ stream_of pieces noops) ≡ None) where

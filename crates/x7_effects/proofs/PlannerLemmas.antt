@@ -118,7 +118,7 @@ opening part ws = Put item.Noop ∷ command Shutdown ∷ command Rcrc ∷ Put it
 abbrev closing : List Piece
 closing = Check ∷ command Lfrm ∷ command Start ∷ Check ∷ []
 
--- the words before frame data of so many words
+-- the words before frame data of this many words
 abbrev words_before : PartData → ℕ → List ℕ
 words_before part count =
     planner.head ++ ((packet_words.command Shutdown) ++ ((packet_words.command Rcrc) ++ (packet_words.no_op ∷ (packet_words.write_one Idcode part.idcode ++ (packet_words.write_one Cor0 0x02003FE5 ++ (packet_words.write_one Mask 0x501 ++ (packet_words.write_one Ctl0 0x101

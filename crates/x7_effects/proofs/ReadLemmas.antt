@@ -12,7 +12,7 @@ use Rattle.x7_flow.specs.Standing.{words_from}
 use Rattle.x7_effects.specs.Played.{slot_words, words_along}
 use Rattle.x7_flow.specs.Inside.{HasFrames}
 
--- so many values of a function from a place on
+-- this many values of a function from a place on
 abbrev listed : (ℕ → ℕ) → ℕ → ℕ → List ℕ
 listed f i zero = []
 listed f i (suc c) = f i ∷ listed f (i + 1) c

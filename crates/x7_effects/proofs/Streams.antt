@@ -24,7 +24,7 @@ command c = Put (Write (number_of Cmd) (code_of c ∷ []))
 abbrev pub one : Reg → ℕ → Piece
 one register word = Put (Write (number_of register) (word ∷ []))
 
--- pieces between the head with its sync word and a DESYNC with so many no-ops
+-- pieces between the head with its sync word and a DESYNC with this many no-ops
 abbrev pub stream_of : List Piece → ℕ → List ℕ
 stream_of pieces noops = bytes_of_words (closed bus_width_head (with_checks at_first pieces) noops)
 
@@ -53,7 +53,7 @@ stretches_pieces part stretches = flat_map (stretch_pieces part) stretches
 abbrev pub partial_pieces : PartData → List Stretch → List Piece
 partial_pieces part stretches = Put Noop ∷ command Rcrc ∷ Put Noop ∷ one Idcode part.idcode ∷ (stretches_pieces part stretches ++ Check ∷ [])
 
--- a readback of so many words, and of n slots, from an address on
+-- a readback of this many words, and of n slots, from an address on
 abbrev pub read_with : ℕ → ℕ → List Piece
 read_with far count = Put Noop ∷ command Rcrc ∷ Put Noop ∷ command Rcfg ∷ one Far far ∷ Put (ReadLong (number_of Fdro) count) ∷ []
 

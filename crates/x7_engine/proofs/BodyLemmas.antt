@@ -81,7 +81,7 @@ word_after part kept old new register n i w left taken m ws h e l t k r f s =
     ∙ ap (until (counted_in new.stop m)) (sym (word_entered register n i w taken ws h e l t)) in
     subst (λ (x : History). RegistersStandFor part kept new x m) (sym all) one
 
--- a word more, behind which the device goes on
+-- a word more, after which the device goes on
 pub word_on : (part : PartData) (kept : Kept) (old new : RegistersState) (register n i w left taken m : ℕ) (ws : List ℕ) (h : History) → take (i + 1) ws ≡ take i ws ++ w ∷ [] → i < length ws → taken ≡ 4 * i → left ≡ 0 → m ≡ n + (taken + (4 - left)) → new.stop ≡ None
     → ((h : History) (n : ℕ) → 0 < 4 → RegistersStandFor part kept old h n → RegistersStandFor part kept new (until (counted_in new.stop (n + (4 - left))) (entry (Write register w) (n + 4) ∷ h)) (n + (4 - left)))
     → RegistersStandFor part kept old (entered_all n (payload_steps register (take i ws)) h) (n + taken)

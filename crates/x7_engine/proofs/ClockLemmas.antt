@@ -349,7 +349,7 @@ idle_ticks part kept c h n k l b e s = (
   idle_quiet part kept c.watchdog h n k l e s.watchdog,
 )
 
--- ---- bytes more, behind some at which nothing fires
+-- ---- bytes more, after some at which nothing fires
 
 ended_on : (part : PartData) (h : History) (n i : ℕ) → newest_place h ≤ n → has_ended part h n ≡ true → has_ended part h (n + i + 1) ≡ true
 ended_on part h n i l e =

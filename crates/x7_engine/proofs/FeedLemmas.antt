@@ -48,7 +48,7 @@ given part kept wrapped d r bytes old new going on s g =
       };
     }
 
--- words more behind words more
+-- words more after words more
 pub words_append : (b : ReadBufState) (first more : List ℕ) → with_words (with_words b first) more ≡ with_words b (first ++ more)
 words_append b first more = ap (λ ws. record { most = b.most; words = ws }) (by_most b.most b.words first more)
   where

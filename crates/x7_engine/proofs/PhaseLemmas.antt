@@ -45,7 +45,7 @@ called p calls k false false false d r = subst (λ (t : List Call). Reaches p (p
 
 -- ---- a byte more
 
--- so many bytes behind a history
+-- this many bytes after a history
 startup_on : (h : History) (n k : ℕ) → Placed n h → startup_progress h (n + k) ≡ further k (startup_progress h n)
 startup_on h n k placed = ap progress_of (startup_more h n k (newest_within n h placed)) ∙ progress_bytes (startup_calls h n) k
 
@@ -98,7 +98,7 @@ arrival_late w p (suc j) =
     let g : arrival w (p + j) + 1 ≤ arrival w (suc (p + j)) = arrival_grows w (p + j) in
     rw e (omega arith)
 
--- so many ticks later it is higher by as many at most
+-- this many ticks later it is higher by as many at most
 phase_within : (w : ℕ → ℕ) (t u d p q : ℕ) → IsPhase w t p → IsPhase w u q → u ≤ t + d → q ≤ p + d
 phase_within w t u d p q a b l = elim (cases_lt (p + d) q) [
   | inr low ↦ low

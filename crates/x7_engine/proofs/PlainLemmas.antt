@@ -177,12 +177,12 @@ pub controls_stay : (d : ControlsState) (register n : ℕ) (ws : List ℕ) (h : 
 controls_stay d register n ws h p s =
     kept_all (AreControls d) register (λ (h : History) (w place : ℕ) (s : AreControls d h). record { ctl0 = rw p.ctl0 s.ctl0; ctl1 = rw p.ctl1 s.ctl1 }) n ws h s
 
--- the flags stay behind all of them
+-- the flags stay after all of them
 pub flags_stay : (idcode : ℕ) (matched pending ghigh iprog : Bool) (register n : ℕ) (ws : List ℕ) (h : History) → IsQuiet register → AreFlags idcode matched pending ghigh iprog h → AreFlags idcode matched pending ghigh iprog (entered_all n (payload_steps register ws) h)
 flags_stay idcode matched pending ghigh iprog register n ws h p s =
     kept_all (AreFlags idcode matched pending ghigh iprog) register (λ (h : History) (w place : ℕ) (s : AreFlags idcode matched pending ghigh iprog h). flags_more idcode matched pending ghigh iprog h register w place p s) n ws h s
 
--- ---- its words behind bytes that the clock took already
+-- ---- its words after bytes that the clock took already
 
 plain_calls : (h : History) (register w : ℕ) → IsQuiet register → startup_call h (Write register w) ≡ []
 plain_calls h register w p = rw (executes_none (command_held h) register w p, p.crc) refl
@@ -243,7 +243,7 @@ pub record Clocked (part : PartData) (kept : Kept) (c : ClockState) (d : Option 
   pub clock : IsClock part kept c h m
   pub stop : stop_of part kept h m ≡ stopped_at m d
 
--- words that stop nothing, each behind those before it
+-- words that stop nothing, each after those before it
 abbrev pub NoneStop : PartData → Kept → ℕ → ℕ → List ℕ → History → Type 0
 NoneStop part kept register n [] h = Unit {0}
 NoneStop part kept register n (w ∷ ws) h = (why_at part kept h (Write register w) ≡ None) × NoneStop part kept register (n + 4) ws (entry (Write register w) (n + 4) ∷ h)
@@ -296,7 +296,7 @@ words_front (suc k) bytes = ap (λ (n : ℕ). words_of_bytes (take n bytes)) nex
     by (a ∷ b ∷ c ∷ []) f = refl
     by (a ∷ b ∷ c ∷ d ∷ rest) f = ap (λ t. word_of_bytes (a ∷ b ∷ c ∷ d ∷ []) ∷ t) (f rest)
 
--- the byte up to which words count, behind some bytes
+-- the byte up to which words count, after some bytes
 pub counted_behind : (d : Option Stop) (n count left : ℕ) → ((why : Stop) → d ≡ Some why → (why ≡ stop.Fault fault.Watchdog) × (left < count)) → counted_in d (n + (count - left)) ≡ n + counted_in d (count - left)
 counted_behind None n count left f = refl
 counted_behind (Some why) n count left f =

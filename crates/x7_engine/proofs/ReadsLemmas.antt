@@ -15,7 +15,7 @@ use Rattle.x7_engine.specs.Values.{answer_of, read_out}
 use Rattle.x7_engine.specs.Watching.{fired_or, fires, first_firing}
 use Rattle.x7_engine.proofs.StateLemmas.{stop_is_final-reads, parts_none, counted_most}
 
--- ---- where there is no stop in the first bytes, one comes behind them
+-- ---- where there is no stop in the first bytes, one comes after them
 
 firing_behind : (part : PartData) (kept : Kept) (h : History) (from first more place : ℕ) → first_firing part kept h from first ≡ None → first_firing part kept h from (first + more) ≡ Some place → from + first < place
 firing_behind part kept h from first zero place none e =

@@ -1,4 +1,4 @@
--- Lemmas on specs/State: the state of a device that stands for its bytes, and of bytes behind a stop.
+-- Lemmas on specs/State: the state of a device that stands for its bytes, and of bytes after a stop.
 use Rattle.std.proofs.Common.{◌≡◌, ◌+◌, ◌-◌, ◌<◌, ◌≤◌, ℕ, zero, suc, Bool, true, false, if◌then◌else◌, Option, None, Some, List, [], ◌∷◌, ◌++◌, length, refl, ap, sym, ◌∙◌, arith, length-append}
 use Rattle.std.proofs.lemmas.Bool.{lt-ltb}
 use Rattle.x7_words.specs.Word.{AreBytes}
@@ -165,7 +165,7 @@ stop_is_final-reads part kept bytes more s f e = ap (read_out part kept) (histor
 pub stop_is_final-memory : (part : PartData) (kept : Kept) (bytes more : List ℕ) (s : Stopped) → AreBytes (bytes ++ more) → stop_in part kept bytes ≡ Some s → memory_in part kept (bytes ++ more) ≡ memory_in part kept bytes
 stop_is_final-memory part kept bytes more s f e = ap (memory_of part) (history_final part kept bytes more s f e)
 
--- behind a stop it doesn't matter whether the bytes end in a session
+-- after a stop it doesn't matter whether the bytes end in a session
 stopped_state : (part : PartData) (kept : Kept) (wrapped : Bool) (why : Stop) (h : History) (n : ℕ) (a b : Bool) → state_by (course_at part kept h n) wrapped (Some why) a ≡ state_by (course_at part kept h n) wrapped (Some why) b
 stopped_state part kept wrapped (stop.Fault f) h n a b = refl
 stopped_state part kept wrapped stop.Iprog h n a b = refl

@@ -1,4 +1,4 @@
--- Lemmas on specs/Timeout: the count by the calls is that of the bytes behind the last load.
+-- Lemmas on specs/Timeout: the count by the calls is that of the bytes after the last load.
 use Rattle.std.proofs.Common.{◌≡◌, ◌==◌, ◌&&◌, ◌||◌, ◌+◌, ◌-◌, ◌*◌, ◌<◌, ◌≤◌, inl, inr, ℕ, zero, suc, Bool, true, false, if◌then◌else◌, List, [], ◌∷◌, ◌++◌, length, take, refl, ap, sym, ◌∙◌, append-nil, arith}
 use Rattle.x7_words.specs.Word.{AreBytes}
 use Rattle.x7_packets.specs.History.{Access, Bad, History, Placed, Read, Write, executes, history_of}

@@ -26,7 +26,7 @@ use Rattle.x7_engine.specs.Watching.{first_firing}
 use Rattle.x7_engine.proofs.ClockLemmas.{firing_more, stop_more_bytes}
 use Rattle.x7_engine.proofs.StateLemmas.{firing_within, counted_least}
 
--- ---- accesses behind a place
+-- ---- accesses after a place
 
 step_behind : (m p : ℕ) (s : Step) (h : History) → m < p → until m (entered p s h) ≡ until m h
 step_behind m p (step.Payload r w) h l = ap (λ (b : Bool). if b then until m h else entry (Write r w) p ∷ h) (lt-ltb m p l)
@@ -41,7 +41,7 @@ steps_behind : (m p : ℕ) (ss : List (ℕ × Step)) (h : History) → m < p + 4
 steps_behind m p [] h l = refl
 steps_behind m p (s ∷ ss) h l = steps_behind m (p + 4) ss (entered (p + 4) s.1 h) (omega (arith, l)) ∙ step_behind m (p + 4) s.1 h l
 
--- the accesses of some words up to a byte before the end of the k-th word behind them
+-- the accesses of some words up to a byte before the end of the k-th word after them
 pub front_until : (n k m : ℕ) (ss : List (ℕ × Step)) (h : History) → k ≤ length ss → m < n + 4 * k + 4 → until m (entered_all n ss h) ≡ until m (entered_all n (take k ss) h)
 front_until n k m ss h l e =
     let count : length (take k ss) ≡ k = length-take-le k ss l in
@@ -174,7 +174,7 @@ fired part kept d clock h n count k m i e s t =
 pub all_counted : (part : PartData) (kept : Kept) (d : RegistersState) (h : History) (m : ℕ) → counted_in d.stop m ≡ m → RegistersStandFor part kept d h m → RegistersStandFor part kept d (until (counted_in d.stop m) h) m
 all_counted part kept d h m e s = subst (λ (t : History). RegistersStandFor part kept d t m) (sym (ap (λ (k : ℕ). until k h) e ∙ until_placed m h s.places)) s
 
--- at a firing the word that ends there, or behind it, is none
+-- at a firing the word that ends there, or after it, is none
 pub fired_until : (d : Option Stop) (n count left : ℕ) (s : Step) (h : History) → is_some d ≡ true → ((why : Stop) → d ≡ Some why → (why ≡ stop.Fault fault.Watchdog) × (left < count)) → Placed n h
     → until (counted_in d (n + (count - left))) (entered (n + count) s h) ≡ h
 fired_until None n count left s h e f p = absurd cc
@@ -214,7 +214,7 @@ pub none_there : {A : Type 0} (o : Option A) → is_some o ≡ false → o ≡ N
 none_there None e = refl
 none_there (Some x) e = absurd cc
 
--- an access may come next behind some bytes more
+-- an access may come next after some bytes more
 pub next_at : (n count : ℕ) (h : History) → 0 < count → Placed n h → IsNext (n + count) h
 next_at n count h l p = (omega (arith, l), placed_within n (n + count - 1) h (omega (arith, l)) p)
 

@@ -237,7 +237,7 @@ fn a_file_is_written_as_a_flash(rt: HostRuntime) -> Result<(), Fail> {
     Ok(())
 }
 
-/// A writer that takes one byte a call, and after so many bytes nothing.
+/// A writer that takes one byte a call, and after this many bytes nothing.
 #[derive(Drop)]
 struct Narrow {
     left: u8,

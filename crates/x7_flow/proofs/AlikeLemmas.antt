@@ -1,4 +1,4 @@
--- A later history behind two that leave the same settings but for MASK.
+-- A later history after two that leave the same settings but for MASK.
 use Rattle.std.proofs.Common.{◌≡◌, ℕ, ◌-◌, ◌^◌, ◌==◌, ◌||◌, Bool, true, false, if◌then◌else◌, List, [], ◌∷◌, ◌++◌, Option, bit_and, bit_or, refl, ap, ◌∙◌}
 use Rattle.x7_packets.specs.History.{Access, Write, Read, Bad, History, writes, written}
 use Rattle.x7_part.specs.Part.{PartData}

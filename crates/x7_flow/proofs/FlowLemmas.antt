@@ -1,4 +1,4 @@
--- The flow and the memory of a history: what they always have, and a later history behind an earlier one.
+-- The flow and the memory of a history: what they always have, and a later history after an earlier one.
 use Rattle.std.proofs.Common.{◌≡◌, ℕ, ◌+◌, Bool, true, false, if◌then◌else◌, List, [], ◌∷◌, ◌++◌, length, get_or, refl, sym, ap, ◌∙◌, inl, inr, eq-eqb, ne_eqb}
 use Rattle.std.proofs.lemmas.Bool.{cases_eq}
 use Rattle.x7_packets.specs.History.{Access, Write, Entry, History, entry}
@@ -77,7 +77,7 @@ pub memory_more : (part : PartData) (e : Entry) (h : History) → AreSame (memor
 unfolding memory_of
 memory_more part e h far = refl
 
--- ---- a later history behind an earlier one
+-- ---- a later history after an earlier one
 
 pub flow_joined : (part : PartData) (later earlier : History) → flow_of part (later ++ earlier) ≡ flow_from part (settings_of part.idcode earlier) (flow_of part earlier) later
 unfolding flow_of flow_from

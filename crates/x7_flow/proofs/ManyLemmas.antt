@@ -16,7 +16,7 @@ use Rattle.x7_flow.specs.FrameMemory.{written_frames_more, memory_of, puts}
 use Rattle.x7_flow.specs.Later.{flow_from, pairs_from, pairs_loaded}
 use Rattle.x7_flow.proofs.FlowLemmas.{flow_more, flow_sound, landed_grows, memory_behind_load, memory_more}
 
--- ---- words of frame data behind a history
+-- ---- words of frame data after a history
 
 pub words_settings : (idcode n : ℕ) (ws : List ℕ) (h : History) → settings_of idcode (entered_all n (payload_steps 2 ws) h) ≡ settings_of idcode h
 words_settings idcode n [] h = refl
@@ -135,7 +135,7 @@ words_pairs part s f n ws later t none =
     ∙ ap (λ (ps : List PlanRow). more.added ++ ps) (landed_empty part g.base) ∙ append-nil more.added in
     more.pairs ∙ ap (λ (ps : List PlanRow). ps ++ pairs_from part s f later) (sym added)
 
--- ---- behind a load under another command than MFW no frame is older
+-- ---- after a load under another command than MFW no frame is older
 
 pub memory_behind_load_alone : (part : PartData) (later earlier : History) (w place : ℕ) → is_mfw (command_with (command_held earlier)) ≡ false →
     AreSame (memory_of part (later ++ entry (Write 1 w) place ∷ earlier)) (put_over (pairs_loaded part (settings_of part.idcode earlier) None w later) (memory_of part earlier))

@@ -197,7 +197,7 @@ due_somewhere part p frames h due are = by (has_frame_at part (base_of part h)) 
     by true t = sym (read_is part (base_of part h) (count_given part h - (due + 1)) (λ f. absurd (no_both t f)) ∙ rw t refl)
     by false f = let none = (flow_sound part h).nowhere f in let some = are.due_given in absurd (omega arith)
 
--- so many of the words due are passed over
+-- this many of the words due are passed over
 pub read_past : (part : PartData) (p q : PipelineData) (frames : List (List ℕ)) (h : History) (due count : ℕ) → AreFramesAfter part p frames h (due + count) →
     GoesOn part p q (after_reads count) →
     AreFramesAfter part q frames h due

@@ -77,7 +77,7 @@ whole_cut part frames last some all =
     ∙ ap (λ (fs : List (List ℕ)). reverse (frames ++ last ∷ []) ++ fs) (nothing_yet (frame_words part)).1
     ∙ append-nil (reverse (frames ++ last ∷ [])) ∙ reverse-append frames (last ∷ [])
 
--- whole frames and one more, which stays behind, land in order
+-- whole frames and one more, which stays after, land in order
 pub frames_land : (part : PartData) (base : ℕ) (frames : List (List ℕ)) (last : List ℕ) → 0 < frame_words part → AllByRecursion (λ frame. length frame ≡ frame_words part) (frames ++ last ∷ []) →
     written_frames part base (onto (flat_map (λ frame. frame) (frames ++ last ∷ [])) []) ≡ reverse (filter_map pair_of (zip (slots_from part base) frames))
 frames_land part base frames last some all =

@@ -181,7 +181,7 @@ none_given part f n (w ∷ ws) h e are = absurd (omega (arith, e))
 
 -- ---- words that no frame takes
 
--- words of a register behind a history ask nothing
+-- words of a register after a history ask nothing
 record AsksNothing (part : PartData) (r : Reg) (P : History → Type 0) : Type 1 where
   asks_other : (h : History) (w : ℕ) → P h → asks part.idcode h (Write (number_of r) w) ≡ Other
   keeps : (h : History) (w place : ℕ) → P h → P (entry (Write (number_of r) w) place ∷ h)

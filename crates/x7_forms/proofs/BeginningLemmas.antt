@@ -89,7 +89,7 @@ few_in_header bytes h = omega (arith, header-limit h.header h.have_header, ap le
 pub joined_taken : (old mid new : Option (List ℕ)) (a b c d : List ℕ) → old ≡ preceded a mid → mid ≡ preceded b new → c ≡ a ++ b → d ≡ c → old ≡ preceded d new
 joined_taken old mid new a b c d e f g h = e ∙ ap (preceded a) f ∙ preceded-preceded a b new ∙ ap (λ t. preceded t new) (sym g ∙ sym h)
 
--- ---- no byte is read behind the one that judges a header
+-- ---- no byte is read after the one that judges a header
 
 -- a prefix judges a header, whatever follows
 abbrev Judge : List ℕ → Type 0
@@ -190,7 +190,7 @@ refused_soon old piece bytes n place p (inr h) =
 
 -- ---- a fault before the header is judged
 
--- what judges a header goes on behind bytes that wait for so many, up to the last of them at least
+-- what judges a header goes on after bytes that wait for so many, up to the last of them at least
 judged_late : (old rest prefix more : List ℕ) (n : ℕ) (b : Bool) → nat_le (length prefix) (length old) ≡ b → HeaderWaits old n → 0 < n → old ++ rest ≡ prefix ++ more → Judge prefix → length prefix < length old + n → ⊥
 judged_late old rest prefix more n true l w p e j k =
     let s = shorter_front prefix old more rest (leb-true _ _ l) (sym e) in

@@ -187,7 +187,7 @@ not_over true part bytes s e h = absurd (cc)
 
 -- ---- the turns of a feed
 
--- what is left of a piece behind a place
+-- what is left of a piece after a place
 whole_piece : (bytes piece : List ℕ) (at : ℕ) → (bytes ++ take at piece) ++ drop at piece ≡ bytes ++ piece
 whole_piece bytes piece at = append_assoc bytes (take at piece) (drop at piece) ∙ ap (λ x. bytes ++ x) (take-append-drop at piece)
 

@@ -364,7 +364,7 @@ reads_none s e = record { takes = takes_none s e; asked = refl; stays = stays_at
 pub reads_as : (old new : InputsState) (bytes same : List ℕ) → bytes ≡ same → Reads old same new → Reads old bytes new
 reads_as old new bytes same e r = subst (λ (b : List ℕ). Reads old b new) (sym e) r
 
--- a turn that was not read, behind others
+-- a turn that was not read, after others
 pub unread_on : (old mid new : InputsState) (name taken : List ℕ) (limit left : ℕ) (event : Event) → Reads old taken mid → length taken + left ≡ limit → Unread mid name new left event → Unread old name new limit event
 unread_on old mid new name taken limit left event r n (inl h) =
     inl (h.0, record { risen = risen_from old.faults mid.faults new.faults r.stays.faults h.1.risen; selected = h.1.selected; given = omega (arith, n, r.takes.given, h.1.given) })

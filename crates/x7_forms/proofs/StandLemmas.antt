@@ -10,7 +10,7 @@ use Rattle.x7_forms.specs.Stop.{IsAbout, Limited, StopsAmong, limited, limited_t
 use Rattle.x7_forms.specs.Turn.{GivesFew, IsAt, Reads, StandsAt, UnreadBeginning, Unopened}
 use Rattle.x7_forms.proofs.ReadLemmas.{asked_on, left_at}
 
--- a turn behind what was read
+-- a turn after what was read
 pub gives_on : (old mid new : InputsState) (taken : List ℕ) (limit left : ℕ) → Reads old taken mid → length taken + left ≡ limit → GivesFew mid left new → GivesFew old limit new
 gives_on old mid new taken limit left r n g = record { asked = g.asked ∙ r.asked; selects = g.selects ∙ r.takes.selects; given = omega (arith, n, r.takes.given, g.given) }
 
@@ -22,7 +22,7 @@ stands_opened name limit now a = record { asked = a.asked; given = omega (arith,
 pub stands_read : (name : List ℕ) (limit : ℕ) (opened now : InputsState) → Asks name opened → GivesFew opened limit now → StandsAt name limit now
 stands_read name limit opened now a g = record { asked = asked_on name opened now a g.asked; given = omega (arith, a.given, g.given) }
 
--- a turn behind what was read of it
+-- a turn after what was read of it
 pub stands_turn : (name taken : List ℕ) (limit left : ℕ) (mid new : InputsState) → IsAt name taken mid → length taken + left ≡ limit → GivesFew mid left new → StandsAt name limit new
 stands_turn name taken limit left mid new a n g = record { asked = subst (λ k. IfSome k (λ kept. kept ≡ name)) (sym g.asked) a.asked; given = omega (arith, n, a.given, g.given) }
 
@@ -68,7 +68,7 @@ pub about_among : (inputs before : List Limited) (input : Limited) (after : List
 about_among inputs before input after old now event a s n (inl e) = inl e
 about_among inputs before input after old now event a s n (inr t) = inr (record { before = before; input = input; after = after; among = a; tells = t; stands = s; asks = n })
 
--- one of the inputs behind a first one
+-- one of the inputs after a first one
 pub stops_behind : (first : Limited) (inputs : List Limited) (old mid now : InputsState) (event : Event) → mid.selects ≤ old.selects + 1 → StopsAmong inputs mid now event → StopsAmong (first ∷ inputs) old now event
 stops_behind first inputs old mid now event n (inl e) = inl e
 stops_behind first inputs old mid now event n (inr h) =
@@ -109,7 +109,7 @@ room_left contents now C name limit s same h c = by contents (subst (λ (k : Opt
     by (Some map) (inl q) = absurd q
     by (Some map) (inr q) = omega (arith, room_found name limit (found (map name)) s q.1, size_found (map name))
 
--- the inputs behind some of them, and what may be left of the limit for them
+-- the inputs after some of them, and what may be left of the limit for them
 pub record LimitsFrom (all : List Limited) (contents : Option (List ℕ → Option (List ℕ))) (count left : ℕ) (names : List (List ℕ)) : Type 0 where
   pub passed : List Limited
   pub room : ℕ

@@ -60,7 +60,7 @@ put-rest n bytes new =
     let left : length (drop n bytes) ≡ length bytes - n = length-drop n bytes in
     ap (λ (t : List ℕ). take n bytes ++ t) (ap (λ (t : List ℕ). new ++ t) (drop_of_length-le (drop n bytes) (omega (arith, left))) ∙ append-nil new)
 
--- what is read of the rest, behind bytes that were read
+-- what is read of the rest, after bytes that were read
 pub read-whole : (ds bytes new : List ℕ) (n : ℕ) (b : Bool) → pairs (take (2 * n) ds) ≡ Some (take n bytes)
     → MatchBool b (pairs (take (length ds - 2 * n) (drop (2 * n) ds)) ≡ Some new) (pairs (take (length ds - 2 * n) (drop (2 * n) ds)) ≡ None)
     → MatchBool b (pairs ds ≡ Some (take n bytes ++ (new ++ drop (length bytes - n) (drop n bytes)))) (pairs ds ≡ None)

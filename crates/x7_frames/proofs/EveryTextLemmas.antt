@@ -1,4 +1,4 @@
--- Every text comes to something: a line behind good ones is good, or it is at fault.
+-- Every text comes to something: a line after good ones is good, or it is at fault.
 use Rattle.std.proofs.Common.{◌≡◌, ◌⊎◌, inl, inr, ℕ, zero, suc, ◌+◌, ◌*◌, ◌^◌, ◌<◌, Bool, true, false, List, [], ◌∷◌, ◌++◌, length, take, drop, Option, Some, None, refl, sym, subst, ap, ap₂, ◌∙◌, arith, append_assoc, append-nil}
 use Rattle.std.specs.Prelude.{All, Contains, Ok, Err}
 use Rattle.std.proofs.lemmas.Bool.{cases_order}
@@ -97,7 +97,7 @@ frame-or width line = by-head (lists-or line (frame_head far ++ digits))
     by-head (inl e) = by-far e (cases_order far (2 ^ 32))
     by-head (inr n) = inr (λ row is. n (is.is ∙ ap₂ (λ (f : ℕ) (d : List ℕ). frame_head f ++ d) (far-is row is) (digits-are row is)))
 
--- ---- a line is good behind these rows, or it is line n at fault
+-- ---- a line is good after these rows, or it is line n at fault
 
 unfoldable pub LineOr : PartData → List PlanRow → ℕ → List ℕ → Type 0
 LineOr part rows n line = ((new : List PlanRow) × TakesLine part line rows new) ⊎ ((f : FramesFault) × IsFaultAt part rows n line f)

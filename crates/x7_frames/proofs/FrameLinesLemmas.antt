@@ -15,7 +15,7 @@ pub all-err : {A E : Type 0} (r : Result A E) (P : E → Type 0) → ((e : E) �
 all-err (Ok a) P f = tt
 all-err (Err e) P f = f e
 
--- a line behind good ones is taken, or is at fault
+-- a line after good ones is taken, or is at fault
 module _ (part : PartData) (a : Rows) (lines : List (List ℕ)) (line : List ℕ) (n : ℕ) (m : n ≡ length lines + 1) (t : HasRows part a lines) where
   pub line-good : (b : Rows) → b.part ≡ a.part → TakesLine a.part line a.rows b.rows → HasRows part b (lines ++ line ∷ [])
   line-good b same takes = (same ∙ t.0, good-next part lines line a.rows b.rows t.1 (subst (λ (p : PartData). TakesLine p line a.rows b.rows) t.0 takes))

@@ -80,7 +80,7 @@ first-line width line more _ _ e (no_line w) = absurd cc
 first-line width line more _ _ e (no_frame w s ss rows f rest) = let head : s ≡ line = cc in inl (ap means_nothing (sym head) ∙ f)
 first-line width line more _ _ e (frame w s ss row rows is rest) = let head : s ≡ line = cc in inr (row, rows, refl, subst (λ l. IsFrameLine width l row) head is)
 
--- ---- a line at fault behind good lines, and good lines that go on with it
+-- ---- a line at fault after good lines, and good lines that go on with it
 
 module _ (part : PartData) (before after : List (List ℕ)) (line : List ℕ) (rows all : List PlanRow) (good : AreGood part before rows) (whole : AreGood part (before ++ line ∷ after) all) where
   in_parts : Parts (frame_words part) before (line ∷ after) all
@@ -89,7 +89,7 @@ module _ (part : PartData) (before after : List (List ℕ)) (line : List ℕ) (r
   same-rows : in_parts.before ≡ rows
   same-rows = one-rows (frame_words part) before before in_parts.before rows refl in_parts.prefix good.read
 
-  -- the line means nothing, or its row is behind the others
+  -- the line means nothing, or its row is after the others
   next-row : (means_nothing line ≡ true) ⊎ ((row : PlanRow) × (rest : List PlanRow) × (all ≡ rows ++ row ∷ rest) × IsFrameLine (frame_words part) line row)
   next-row =
       elim (first-line (frame_words part) line after (line ∷ after) in_parts.after refl in_parts.back) [
@@ -141,7 +141,7 @@ module _ (part : PartData) (before after : List (List ℕ)) (line : List ℕ) (r
 head-low : (x : PlanRow) (xs : List PlanRow) (k : ℕ) (d : PlanRow) → AreInOrder (x ∷ xs) → k < length xs → x.far < (get_or xs k d).far
 head-low x xs k d order h = order 0 (suc k) d (omega arith) (omega arith)
 
--- an element of one that is no head is behind the other's head
+-- an element of one that is no head is after the other's head
 behind : (x y : PlanRow) (ys : List PlanRow) → Contains (y ∷ ys) x → (x.far ≡ y.far → ⊥) → Contains ys x
 behind x y ys (zero, h, e) n = absurd (n (ap (λ r. r.far) (sym e)))
 behind x y ys (suc k, h, e) n = (k, (omega arith), e)

@@ -12,7 +12,7 @@ use Rattle.x7_frames.specs.declared.fault.FramesFault.TheVariants as fault
 use Rattle.x7_frames.proofs.EveryTextLemmas.{LineOr, good-text, line-or}
 use Rattle.x7_frames.proofs.OneLemmas.{foreign-there, no-line-there, repeated-there}
 
--- a line of good lines is good behind those before it
+-- a line of good lines is good after those before it
 good-there : (part : PartData) (before after : List (List ℕ)) (line : List ℕ) (rows all : List PlanRow) → AreGood part before rows → AreGood part (before ++ line ∷ after) all → IsGoodLine part rows line
 unfolding LineOr
 good-there part before after line rows all good whole = by (line-or part rows 0 line)

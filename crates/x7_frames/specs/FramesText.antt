@@ -20,11 +20,11 @@ means_nothing (c ∷ cs) = c == 35
 abbrev pub frame_head : ℕ → List ℕ
 frame_head far = codes "frame " ++ (hex_word far ++ 32 ∷ [])
 
--- a line is none of a frame with so many digits, whatever its address
+-- a line is none of a frame with this many digits, whatever its address
 abbrev pub HasNoFrameHead : ℕ → List ℕ → Type 0
 HasNoFrameHead digit_count line = (far : ℕ) (digits : List ℕ) → far < 2 ^ 32 → length digits ≡ digit_count → line ≡ frame_head far ++ digits → ⊥
 
--- the line of a frame: behind its head the bytes of its words, the highest first, in digits of either case
+-- the line of a frame: after its head the bytes of its words, the highest first, in digits of either case
 pub record IsFrameLine (width : ℕ) (line : List ℕ) (row : PlanRow) : Type 0 where
   pub far : row.far < 2 ^ 32
   pub digits : List ℕ
@@ -75,7 +75,7 @@ pub record IsForeign (part : PartData) (line : List ℕ) : Type 0 where
   pub is : IsFrameLine (frame_words part) line row
   pub foreign : ¬ Contains (addresses_in part) row.far
 
--- a line is at fault behind lines of these rows: one of them has its address
+-- a line is at fault after lines of these rows: one of them has its address
 pub record IsRepeated (part : PartData) (rows : List PlanRow) (line : List ℕ) : Type 0 where
   pub row : PlanRow
   pub is : IsFrameLine (frame_words part) line row

@@ -13,7 +13,7 @@ pub record HasMarks (part : PartData) (rows : List PlanRow) (marks : List Bool) 
   pub long : length marks ≡ length (addresses_in part)
   pub at : (r : ℕ) → r < length marks → (slice_index_or marks r false ≡ true) ↔ Contains (planned_addresses rows) (slice_index (addresses_in part) r)
 
--- a frame's row is behind the others
+-- a frame's row is after the others
 pub record IsAdded (part : PartData) (line : List ℕ) (old new : List PlanRow) : Type 0 where
   pub row : PlanRow
   pub is : IsFrameLine (frame_words part) line row
@@ -25,11 +25,11 @@ pub record IsAdded (part : PartData) (line : List ℕ) (old new : List PlanRow) 
 abbrev pub TakesLine : PartData → List ℕ → List PlanRow → List PlanRow → Type 0
 TakesLine part line old new = ((means_nothing line ≡ true) × (new ≡ old)) ⊎ IsAdded part line old new
 
--- a line is good behind these rows
+-- a line is good after these rows
 abbrev pub IsGoodLine : PartData → List PlanRow → List ℕ → Type 0
 IsGoodLine part rows line = (new : List PlanRow) × TakesLine part line rows new
 
--- line n behind these rows is at fault
+-- line n after these rows is at fault
 abbrev pub IsFaultAt : PartData → List PlanRow → ℕ → List ℕ → FramesFault → Type 0
 IsFaultAt part rows n line (fault.Line m) = (m ≡ n) × IsNoLine (frame_words part) line
 IsFaultAt part rows n line (fault.Address m) = (m ≡ n) × IsForeign part line

@@ -28,7 +28,7 @@ struct Parts<'t> {
     digits: &'t [u8],
 }
 
-/// The parts of the line of a frame with so many digits.
+/// The parts of the line of a frame with this many digits.
 fn parts_of(line: &[u8], digit_count: usize) -> Option<Parts<'_>>
     ensures { MatchOption result
         (HasNoFrameHead digit_count line.now)

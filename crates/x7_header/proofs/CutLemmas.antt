@@ -26,7 +26,7 @@ zeros_fit : (n : ℕ) → AreBytes (zeros n)
 zeros_fit zero = tt
 zeros_fit (suc n) = (omega arith, zeros_fit n)
 
--- bytes, made up to so many by zeros
+-- bytes, made up to this many by zeros
 filled_long : (bytes : List ℕ) (count : ℕ) → length bytes < count → length (bytes ++ 0 ∷ zeros (count - length bytes - 1)) ≡ count
 filled_long bytes count h =
     omega (arith, h, length-append bytes (0 ∷ zeros (count - length bytes - 1)), zeros_long (count - length bytes - 1))

@@ -19,12 +19,12 @@ has_letter : (total place first : ℕ) (field : Field) (bytes : List ℕ) → fi
 unfolding field_at
 has_letter total place first field bytes e = letter_by (total - length (first ∷ bytes)) place bytes (content_at total field.kind) (nat_eq first field.letter) e
 
--- behind its letter a field is its content
+-- after its letter a field is its content
 behind_letter : (total first : ℕ) (field : Field) (bytes : List ℕ) → nat_eq first field.letter ≡ true → field_at total field (first ∷ bytes) ≡ content_at total field.kind bytes
 unfolding field_at
 behind_letter total first field bytes e = rw e refl
 
--- so many bytes are not there
+-- this many bytes are not there
 bytes_short : (total count : ℕ) (bytes more : List ℕ) → length more < count - length bytes → bytes_at total count (bytes ++ more) ≡ Err (fault.Cut total)
 bytes_short total count bytes more h =
     let f : nat_le count (length (bytes ++ more)) ≡ false = grind (arith, h, length-append bytes more) in rw f refl

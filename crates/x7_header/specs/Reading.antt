@@ -131,7 +131,7 @@ abbrev pub fields_lack : List Field → List ℕ → ℕ
 fields_lack [] bytes = 0
 fields_lack (field ∷ fields) bytes = lacks_by (lacks_of field.kind bytes) (field_at (length bytes) field bytes) (fields_lack fields)
 
--- what a header's fields lack behind the fixed bytes, and 0 where these are wrong
+-- what a header's fields lack after the fixed bytes, and 0 where these are wrong
 abbrev pub lacks_after : Result (List ℕ) HeaderFault → ℕ
 lacks_after (Ok after) = fields_lack layout after
 lacks_after (Err f) = 0

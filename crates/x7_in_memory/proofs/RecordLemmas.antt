@@ -10,7 +10,7 @@ pub count_of_more : (spans : List Span) (span : Span) → count_of (spans ++ spa
 count_of_more [] span = omega arith
 count_of_more (s ∷ spans) span = omega (arith, count_of_more spans span)
 
--- one write more, whose bytes stand behind those of the others
+-- one write more, whose bytes stand after those of the others
 pub writes_of_more : (spans : List Span) (span : Span) (befores targets before target : List ℕ) → length befores ≡ count_of spans → length targets ≡ count_of spans
     → length before ≡ span.count → length target ≡ span.count
     → writes_of (spans ++ span ∷ []) (befores ++ before) (targets ++ target) ≡ writes_of spans befores targets ++ record { place = span.place; before = before; target = target } ∷ []

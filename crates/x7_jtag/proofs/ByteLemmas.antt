@@ -169,7 +169,7 @@ byte-of-digits ds at place first second byte z p l m e f g =
     (is-one (byte / 2 % 2) (second / 2 ^ 2 % 2) (omega (arith, e, m, mirror-2 second m)) ∙ second_is 2 (at + 1 + 1 + 1 + 1 + 1 + 1) (omega arith) (omega (arith, z, p)))
     (is-one (byte % 2) (second / 2 ^ 3 % 2) (omega (arith, e, m, mirror-1 second m)) ∙ second_is 3 (at + 1 + 1 + 1 + 1 + 1 + 1 + 1) (omega arith) (omega (arith, z, p)))
 
--- ---- so many bits from a place on
+-- ---- this many bits from a place on
 
 from-drop : (ds : List ℕ) (from n k : ℕ) → k ≤ n → drop k (bits_from ds from n) ≡ bits_from ds (from + k) (n - k)
 from-drop ds from n zero l = let e : from ≡ from + 0 = omega arith in let f : n ≡ n - 0 = omega arith in ap₂ (bits_from ds) e f

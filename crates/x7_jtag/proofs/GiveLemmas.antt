@@ -106,7 +106,7 @@ given-is part given bytes n t z l = by t.over
 
 -- ---- by what the feed answers
 
--- what is to be shown of a piece of which so many bytes are given
+-- what is to be shown of a piece of which this many bytes are given
 record Given (part : PartData) (k : QueueState) (d e : DeviceState) (q : Queue) (piece : List ℕ) (count : ℕ) : Type 0 where
   pub holds : QueueHolds part k e (queue_of (q.given ++ take count piece) q.held q.out)
   pub quiet : (i : ℕ) → i < length (take count piece) → waits (words_read_out part) (q.given ++ take i (take count piece)) q.out ≡ false

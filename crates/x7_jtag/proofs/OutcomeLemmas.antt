@@ -29,7 +29,7 @@ outcome-first p ps =
     let f = fewer-by p.line p.mark ps (few ps) in
     ap (with_first p.line (first_statement (p ∷ ps))) (enough (length ps) (length (pieces_behind (pieces_after (p ∷ ps)))) (pieces_behind (pieces_after (p ∷ ps))) (omega (arith, f)) (omega arith))
 
--- statements before what the pieces behind them come to
+-- statements before what the pieces after them come to
 abbrev pub after_all : List Statement → Result (List Statement) SvfFault → Result (List Statement) SvfFault
 after_all ss (Ok more) = Ok (ss ++ more)
 after_all ss (Err f) = Err f
@@ -42,7 +42,7 @@ pub none-ended : (r : Option (List TextPiece)) → None ≡ if_ended r None
 none-ended None = refl
 none-ended (Some rest) = refl
 
--- pieces behind statements, of which the first is this
+-- pieces after statements, of which the first is this
 module _ (ps before : List TextPiece) (ss : List Statement) (p : TextPiece) (left : List TextPiece) (h : outcome ps ≡ after_all ss (outcome before)) (e : before ≡ p ∷ left) where
   by-first : outcome ps ≡ after_all ss (with_first p.line (first_statement before) (outcome (pieces_behind (pieces_after before))))
   by-first = h ∙ ap (λ (qs : List TextPiece). after_all ss (outcome qs)) e ∙ ap (after_all ss) (outcome-first p left)

@@ -21,7 +21,7 @@ front-long a b f = elim (cases_lt (length b) (length a)) [
   | inr l ↦ omega (arith, l)
 ]
 
--- what is kept stays where nothing more is kept, and where more is put behind it
+-- what is kept stays where nothing more is kept, and where more is put after it
 pub all-stays : (a b : List ℕ) → b ≡ a → StaysKept a b
 all-stays a b e = subst (λ (x : List ℕ). StaysKept a x) (sym e) (take_all (length a) a (omega arith))
 

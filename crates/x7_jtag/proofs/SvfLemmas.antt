@@ -12,7 +12,7 @@ use Rattle.x7_jtag.specs.Svf.{BeginWithOne, first_statement, outcome, pieces_aft
 use Rattle.x7_jtag.proofs.OutcomeLemmas.{after_all, one-on}
 use Rattle.x7_jtag.proofs.SpanLemmas.{all-stored-more, front-long, statements-stay}
 
--- a source from before its next piece, there, and behind the statement there
+-- a source from before its next piece, there, and after the statement there
 module _ (ps : List TextPiece) (before here after : SourceState) (out new : List Stored) (one : Stored) (e : new ≡ out ++ one ∷ []) (w : AreStoredWithin (length before.kept) out)
     (same : here.kept ≡ before.kept) (f : StaysKept here.kept after.kept) where
   front-here : StaysKept before.kept after.kept

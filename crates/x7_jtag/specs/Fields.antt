@@ -145,7 +145,7 @@ abbrev pub some_bits : Option ℕ → Option ℕ
 some_bits None = None
 some_bits (Some n) = if n == 0 then None else Some n
 
--- the scan of so many bits, where that is a number of bits, by the marks after it
+-- the scan of this many bits, where that is a number of bits, by the marks after it
 abbrev pub scan_if : Bool → Option ℕ → List Mark → Option Statement
 scan_if ir None ms = None
 scan_if ir (Some n) ms = scan_by ir n (scan_from Between no_fields ms)

@@ -48,7 +48,7 @@ abbrev pub found_more : Option ℕ → Bool → ℕ → Option ℕ
 found_more None differs i = if differs then Some i else None
 found_more (Some first) differs i = Some first
 
--- the least of so many places from `from` on at which something holds
+-- the least of this many places from `from` on at which something holds
 abbrev pub least : (ℕ → Bool) → ℕ → ℕ → Option ℕ
 least holds from zero = None
 least holds from (suc n) = if holds from then Some from else least holds (from + 1) n

@@ -10,7 +10,7 @@ use Rattle.x7_jtag.specs.declared.stored.StoredScan.{StoredScan}
 use Rattle.x7_jtag.specs.declared.stored.Stored.{Stored}
 use Rattle.x7_jtag.specs.declared.stored.Stored.TheVariants as stored
 
--- the scan whose digits are kept, each field as so many bits
+-- the scan whose digits are kept, each field as this many bits
 abbrev pub scan_in : List ℕ → StoredScan → Statement
 scan_in kept s = statement.Scan s.ir (bits_of s.count (bytes_in kept s.tdi)) (bits_option s.count (digits_if kept s.tdo)) (bits_option s.count (digits_if kept s.mask))
 

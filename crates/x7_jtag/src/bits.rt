@@ -80,7 +80,7 @@ fn byte_from(digits: &[u8], at: u32) -> u8
     mirror(first) * 16 + mirror(second)
 }
 
-/// The bytes of the bits of digits from this one on, a multiple of eight: those that end before the last of so many bits, and
+/// The bytes of the bits of digits from this one on, a multiple of eight: those that end before the last of this many bits, and
 /// at most a piece.
 fn bytes_of(digits: &[u8], count: u32, from: u32) -> Buffer<1024>
     requires whole { from % 8 ≡ 0 }

@@ -3,7 +3,7 @@ ghost use Rattle.std.specs.Prelude.{◌≡◌, ◌≤◌, ◌<◌, ◌∷◌, �
 
 use std::marker::Model;
 
-/// Up to so many bytes, in place.
+/// Up to this many bytes, in place.
 #[derive(Drop)]
 pub(crate) struct Buffer<const MOST: usize> {
     bytes: [u8; MOST],

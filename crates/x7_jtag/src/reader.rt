@@ -63,7 +63,7 @@ fn free_statement(source: &mut Source) -> Option<Stored>
     }
 }
 
-/// Keeps the word of so many bytes that comes next, and says where.
+/// Keeps the word of this many bytes that comes next, and says where.
 fn keep_word(source: &mut Source, size: usize) -> Span
     requires { size ≤ length source.old.rest }
     ensures word { bytes_in source.new.kept result ≡ take size source.old.rest }
@@ -161,7 +161,7 @@ fn do_all_fit(kept: &[u8], count: u32, given: Given) -> bool
         && does_fit(kept, count, given.smask)
 }
 
-/// The scan of so many bits with these fields, whose digits are kept.
+/// The scan of this many bits with these fields, whose digits are kept.
 fn scan_of_fields(kept: &[u8], ir: bool, count: u32, given: Given) -> Option<Stored>
     requires { AreWithin (length kept.now) given }
     ensures { IsStored kept.now result (scan_by ir count (Some (fields_of kept.now given))) }

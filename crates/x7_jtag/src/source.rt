@@ -79,7 +79,7 @@ impl Source {
         self.at += 1;
     }
 
-    /// Passes so many bytes, none of which is a line end.
+    /// Passes this many bytes, none of which is a line end.
     pub(crate) fn skip(&mut self, count: usize)
         requires { count ≤ length self.old.rest }
         ensures { self.new ≡ record { kept = self.old.kept; line = self.old.line; rest = drop count self.old.rest } }
@@ -87,7 +87,7 @@ impl Source {
         self.at += count;
     }
 
-    /// Keeps so many bytes that come next, none of which is a line end.
+    /// Keeps this many bytes that come next, none of which is a line end.
     pub(crate) fn keep(&mut self, count: usize)
         requires { count ≤ length self.old.rest }
         ensures { self.new ≡ record { kept = self.old.kept ++ take count self.old.rest; line = self.old.line; rest = drop count self.old.rest } }

@@ -18,7 +18,7 @@ pub(crate) enum Stored {
     Nothing,
 }
 
-/// A scan of so many bits.
+/// A scan of this many bits.
 #[derive(Clone, Copy, Debug)]
 pub(crate) struct StoredScan {
     pub ir: bool,

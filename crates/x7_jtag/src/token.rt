@@ -6,7 +6,7 @@ ghost use Rattle.x7_jtag.specs.Svf.{marks_before, pieces_after};
 
 use crate::source::Source;
 
-/// A word, of so many bytes, a bracket or the end of a statement.
+/// A word, of this many bytes, a bracket or the end of a statement.
 #[derive(Clone, Copy)]
 pub(crate) enum Token {
     Word(usize),

@@ -58,7 +58,7 @@ went-nothing limit texts = record { lines = []; begins = record { texts = refl; 
 pub went-all : (limit : ℕ) (texts : List (List ℕ)) (bytes : List ℕ) (n : ℕ) → Went limit texts [] bytes n → Assembles limit texts bytes
 went-all limit texts bytes n g = record { lines = g.lines; begins = g.begins; is = g.is }
 
--- a line is read behind a header's bytes as it is without them
+-- a line is read after a header's bytes as it is without them
 pub dropped : (start a : ℕ) (r : Bool) (t old new : List ℕ) → start ≤ length old → Reads FitsLine text_of (line_bytes a) r t old new → Reads FitsLine text_of (line_bytes a) r t (drop start old) (drop start new)
 dropped start a true t old new h r = (r.0, r.1, r.2, ap (drop start) r.3 ∙ drop-append-le start old (line_bytes a r.0) h)
 dropped start a false t old new h r = (r.0, ap (drop start) r.1)
@@ -67,7 +67,7 @@ pub front-stays : (start a : ℕ) (r : Bool) (t old new : List ℕ) → start �
 front-stays start a true t old new h r = (ap (take start) r.3 ∙ take-append-le start old (line_bytes a r.0) h, omega (arith, h, ap length r.3, length-append old (line_bytes a r.0)))
 front-stays start a false t old new h r = (ap (take start) r.1, omega (arith, h, ap length r.1))
 
--- what texts come to behind those of a header, or of none
+-- what texts come to after those of a header, or of none
 pub close-ok : (all others : List (List ℕ)) (prefix out : List ℕ) (start first : ℕ) → start ≡ length prefix → Opens all others prefix first → Assembles (67108864 - start) others (drop start out) → take start out ≡ prefix → AreHeadedAsm all (Ok out)
 close-ok all others prefix out start first n (inl h) a same = inl (record {
   header = h.header;

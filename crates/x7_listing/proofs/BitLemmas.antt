@@ -40,7 +40,7 @@ field-free : (bs : List ℕ) → has_no_space (field_text bs) ≡ true
 field-free [] = refl
 field-free (x ∷ xs) = hex-free (x ∷ xs)
 
--- the first field of a text, and what stands behind it
+-- the first field of a text, and what stands after it
 first-field : (bs rest : List ℕ) → AreBytes bs → field_guess (before_space (field_text bs ++ 32 ∷ rest)) ≡ bs
 first-field bs rest h = ap field_guess (before-space (field_text bs) rest (field-free bs)) ∙ field-back bs h
 
@@ -155,7 +155,7 @@ after_c x = with_count x.d x.data_length
 pub line-fields : (line fields : List ℕ) (x : Contents) → line ≡ codes "bit " ++ fields → line ≡ bit_text x → fields ≡ fields_text x
 line-fields line fields x e h = let both : codes "bit " ++ fields ≡ codes "bit " ++ fields_text x = sym e ∙ h in cc
 
--- a text behind a field goes on as the header's line does there
+-- a text after a field goes on as the header's line does there
 pub behind : (here field rest own later : List ℕ) → IsField field → AreBytes own → here ≡ field_text field ++ 32 ∷ rest → here ≡ field_text own ++ 32 ∷ later → rest ≡ later
 behind here field rest own later h a e is = same-rest field own rest later h.bytes a (sym e ∙ is)
 

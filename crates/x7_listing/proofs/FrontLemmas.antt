@@ -61,7 +61,7 @@ gap_goes_on xs ys = (B (in_line_after 32 0 xs) ys, open_text-append 32 (codes "b
 gap_over : (xs : List ℕ) → Front (B 0 xs) (bytes_text xs)
 gap_over xs = (close (in_line_after 32 0 xs), sym (bytes_closed xs))
 
--- the bytes before the last four, with a byte more behind them
+-- the bytes before the last four, with a byte more after them
 before_more : (gap : List ℕ) (byte : ℕ) → Front (before_last_four gap) (before_last_four (gap ++ byte ∷ []))
 before_more gap byte =
     let all : List ℕ = gap ++ byte ∷ [] in
@@ -250,7 +250,7 @@ told_front l given bytes rest s f =
     let all : Front sure (listing_of (bytes ++ rest)) = front_then sure (sure_text (bytes ++ rest)) (listing_of (bytes ++ rest)) (sure_goes_on bytes rest f) (sure_over (bytes ++ rest) f) in
     subst (λ t. Front t (listing_of (bytes ++ rest))) (sym (told_sure l given bytes s)) all
 
--- what a lister has listed behind other listings is the sure text of its bytes
+-- what a lister has listed after other listings is the sure text of its bytes
 pub told_behind : (l : ListerState) (given before bytes : List ℕ) (s : ListerStandsFor l given before bytes) → given ++ l.text ≡ (before ++ flat_map session_text s.tells.sessions) ++ sure_place s.tells.at
 told_behind l given before bytes s = place_sure l.synced l.line l.held (given ++ l.text) (before ++ flat_map session_text s.tells.sessions) s.tells.at l.cutter.mode s.ready s.tells.listed
 

@@ -93,7 +93,7 @@ by_skip run part synced s2 line l1 l2 held h1 h2 given old new is e f k g =
     (λ before bytes sessions new_sessions spot np o n listed adds turns is_run reading. skip_told synced line l2 held h2 (given ++ old) (given ++ new) before sessions new_sessions spot np o n part listed adds turns
     (λ start gap t. g given start gap (subst (λ l. GapListed (given ++ old) start l h1 gap) (sym f) (subst (λ h. GapListed (given ++ old) start (if synced then 0 else line) h gap) (sym k) t)))))
 
--- what was listed at a place behind sessions was listed at an equal place behind equal sessions
+-- what was listed at a place after sessions was listed at an equal place after equal sessions
 listed_at : (w : WrittenSoFar) (before : List ℕ) (sessions new_sessions : List Session) (spot np : Place) (m : Mode) → new_sessions ≡ sessions → np ≡ spot → HasListed w before sessions spot m → HasListed w before new_sessions np m
 listed_at w before sessions new_sessions spot np m e f t = subst (λ (p : Place). HasListed w before new_sessions p m) (sym f) (subst (λ (s : List Session). HasListed w before s spot m) (sym e) t)
 

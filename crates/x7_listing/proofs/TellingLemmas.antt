@@ -96,7 +96,7 @@ end_next i (Open r n) e = absurd (cc)
 end_next i (Read r n) e = absurd (cc)
 end_next i (Bad x) e = absurd (cc)
 
--- behind words that end a session no line is open
+-- after words that end a session no line is open
 ends_next : (i : ℕ) (more : List (ℕ × Step)) → ends_by more ≡ true → words_place i more ≡ 0
 ends_next i [] e = absurd (cc)
 ends_next i (s ∷ []) e = end_next i s.1 e

@@ -32,7 +32,7 @@ pub record OpensPlain (all others : List (List ℕ)) (prefix : List ℕ) (n : �
   pub are : prefix ≡ []
   pub none : n ≡ 0
 
--- the texts behind n texts of a header
+-- the texts after n texts of a header
 abbrev pub Opens : List (List ℕ) → List (List ℕ) → List ℕ → ℕ → Type 0
 Opens all others prefix n = OpensHeaded all others prefix n ⊎ OpensPlain all others prefix n
 
@@ -138,10 +138,10 @@ ReadsFirst old new line = (all left : List (List ℕ)) → Unbegun all (line ∷
 abbrev pub FailsFirst : Output → List ℕ → AsmFault → Type 0
 FailsFirst old line f = (f ≡ fault.NoMemory) ⊎ ((all left : List (List ℕ)) → Unbegun all (line ∷ left) (state_behind old 0) → AreHeadedAsm all (Err f))
 
--- line n is read, behind others
+-- line n is read, after others
 abbrev pub ReadsNext : Output → Output → ℕ → List ℕ → Type 0
 ReadsNext old new n line = (all left : List (List ℕ)) (k : ℕ) → n ≡ k + 1 → Goes all (line ∷ left) (state_behind old k) → Goes all left (state_behind new n)
 
--- line n, behind others, is refused for this fault; want of memory says nothing
+-- line n, after others, is refused for this fault; want of memory says nothing
 abbrev pub FailsNext : Output → ℕ → List ℕ → AsmFault → Type 0
 FailsNext old n line f = (f ≡ fault.NoMemory) ⊎ ((all left : List (List ℕ)) (k : ℕ) → n ≡ k + 1 → Goes all (line ∷ left) (state_behind old k) → AreHeadedAsm all (Err f))

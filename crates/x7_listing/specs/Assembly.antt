@@ -66,7 +66,7 @@ after_one_line prefix (Err (fault.Line n)) = Err (fault.Line (n + 1))
 after_one_line prefix (Err (fault.TooLong n)) = Err (fault.TooLong (n + 1))
 after_one_line prefix (Err fault.NoMemory) = Err fault.NoMemory
 
--- the outcome of texts of lines behind a line that stands for these bytes
+-- the outcome of texts of lines after a line that stands for these bytes
 pub record Follows (prefix : List ℕ) (others : List (List ℕ)) (outcome : Result (List ℕ) AsmFault) : Type 0 where
   pub rest : Result (List ℕ) AsmFault
   pub lines : AreAsm (asm_limit - length prefix) others rest

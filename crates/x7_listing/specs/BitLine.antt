@@ -27,7 +27,7 @@ pub record IsField (field : List ℕ) : Type 0 where
   pub bytes : AreBytes field
   pub short : length field < 2 ^ 16
 
--- the text begins with that of this field and a space, behind which the rest stands
+-- the text begins with that of this field and a space, after which the rest stands
 abbrev pub HasFieldFirst : List ℕ → List ℕ → List ℕ → Type 0
 HasFieldFirst text field rest = IsField field × (text ≡ field_text field ++ 32 ∷ rest)
 

@@ -47,7 +47,7 @@ packet_lines p = line_as (line_of_head p.step p.head) ∷ payload_lines (named_b
 abbrev pub gap_lines : List ℕ → List Line
 gap_lines bs = map Bytes (rows 32 bs)
 
--- the lines of a gap, the sync word behind it and packets
+-- the lines of a gap, the sync word after it and packets
 abbrev pub packets_lines : List ℕ → List Packet → List Line
 packets_lines gap packets = gap_lines gap ++ Sync ∷ flat_map packet_lines packets
 

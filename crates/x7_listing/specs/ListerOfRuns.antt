@@ -6,7 +6,7 @@ use Rattle.x7_packets.specs.declared.stream.Run.{Run}
 use Rattle.x7_packets.specs.declared.stream.Run.TheVariants as run
 use Rattle.x7_listing.specs.Telling.{Finished, ListerState, TakerStandsFor}
 
--- what a lister told of runs: the texts given before its own, the listings before, the bytes of the runs, and what is due behind them
+-- what a lister told of runs: the texts given before its own, the listings before, the bytes of the runs, and what is due after them
 pub record RunsTold : Type 0 where
   pub given : List ℕ
   pub before : List ℕ

@@ -17,7 +17,7 @@ payload_text register ws = if register == number_of Cmd then flat_map command_li
 abbrev pub packet_text : Packet → List ℕ
 packet_text p = text_of_head p.step p.head ++ payload_text (named_by p.step) p.payload
 
--- the lines of a gap, the sync word behind it and packets
+-- the lines of a gap, the sync word after it and packets
 abbrev pub packets_text : List ℕ → List Packet → List ℕ
 packets_text gap packets = bytes_text gap ++ codes "sync\n" ++ flat_map packet_text packets
 

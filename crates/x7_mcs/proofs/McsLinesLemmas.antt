@@ -42,7 +42,7 @@ then-ok : (r : Result FlashReading McsFault) → and_then r (λ s. Ok s) ≡ r
 then-ok (Ok s) = refl
 then-ok (Err f) = refl
 
--- ---- a line behind those that were read
+-- ---- a line after those that were read
 
 module _ (b : McsLinesState) (lines : List (List ℕ)) (n : ℕ) (m : n ≡ length lines + 1) (t : HasReadRecords b lines) where
   read-behind : (ts : List (List ℕ)) → after_lines 1 of_no_line (map without_return lines ++ ts) ≡ after_lines n (at_base b.base b.ended t.records) ts

@@ -33,7 +33,7 @@ HasMcsFault f lines = (f ≡ fault.NoMemory) ⊎ (flash_of_lines lines ≡ Err f
 abbrev pub ReachesIn : {A : Type 0} → Result A McsFault → Result FlashReading McsFault → McsLines → Type 0
 ReachesIn result reading new = MatchResult result (λ _. CameTo reading new.context new.image) (λ f. FailsAsReading reading f)
 
--- the first line of a text was taken behind these, and this is left
+-- the first line of a text was taken after these, and this is left
 pub record TakesFirstLine (lines : List (List ℕ)) (text rest : List ℕ) (new : McsLines) : Type 0 where
   pub line : List ℕ
   pub cut : split text ≡ line ∷ split rest

@@ -14,7 +14,7 @@ use std::alloc::Global;
 use x7_text::read_lines;
 
 /// The bytes that a flash text gives, FF where no record gave one, or its first fault. Memory is wanting only at a line that
-/// is good, behind good ones.
+/// is good, after good ones.
 pub fn flash_of(alloc: Global, text: &[u8]) -> Result<Vec<u8>, McsFault>
     ensures bytes { IfOk result (λ bytes. mcs_of text.now ≡ Ok bytes.items) }
     ensures fault { IfErr result (λ fault. (fault ≡ McsFault.NoMemory) ⊎ (mcs_of text.now ≡ Err fault)) }

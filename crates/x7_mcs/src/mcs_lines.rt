@@ -72,7 +72,7 @@ impl McsLines {
         }
     }
 
-    /// Takes the first line of a text, line `n`, if it has its end. Answers the text behind it.
+    /// Takes the first line of a text, line `n`, if it has its end. Answers the text after it.
     #[inline(always)]
     fn take_line<'t>(&mut self, n: u64, text: &'t [u8]) -> Result<Option<&'t [u8]>, McsFault>
         ensures goes { (lines : List (List ℕ)) → n ≡ length lines + 1 → HasReadRecords (mcs_lines_state self.old) lines

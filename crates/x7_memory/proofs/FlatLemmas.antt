@@ -17,7 +17,7 @@ cut_at w (suc n) (suc i) ws d h =
     let e : w + w * i ≡ w * suc i = sym (mul-suc w i ∙ (omega arith)) in
     cut_at w n i (drop w ws) d (omega arith) ∙ ap (take w) (drop-drop (w * i) w ws ∙ ap (λ k. drop k ws) e)
 
--- so many words are there up to the end of a frame
+-- this many words are there up to the end of a frame
 pub frame_end : (w n i : ℕ) → i < n → w * i + w ≤ w * n
 frame_end w n i h =
     let most : w * suc i ≤ w * n = mul-le-mul_left w (omega arith) in

@@ -23,7 +23,7 @@ pub on_err : {A B P : Type 0} → (r : Result A B) → P → OnErr r P
 on_err (Ok x) p = tt
 on_err (Err e) p = p
 
--- ---- words that come behind
+-- ---- words that come after
 
 pub more_words : (width : ℕ) (words more : List ℕ) (rows : List Row) → All (λ row. row.start + width ≤ length words) rows → rows_in width (words ++ more) rows ≡ rows_in width words rows
 more_words width words more [] inside = refl

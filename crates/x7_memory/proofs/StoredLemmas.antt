@@ -19,7 +19,7 @@ stored_width w n p ws h e =
     let left : length (drop (w * p) ws) ≡ length ws - w * p = length-drop (w * p) ws in
     length-take-le w (drop (w * p) ws) (omega arith)
 
--- one more behind them
+-- one more after them
 pub frame_before : (w n p : ℕ) (ws new : List ℕ) → p < n → length ws ≡ w * n → stored_frame w (ws ++ new) p ≡ stored_frame w ws p
 frame_before w n p ws new h e =
     let end = frame_end w n p h in

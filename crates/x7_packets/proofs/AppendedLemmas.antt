@@ -57,7 +57,7 @@ joined a b gap ss (t ∷ ts) q f r s n =
 same_reading : (r s : Reading) → r.sessions ≡ s.sessions → r.place ≡ s.place → r ≡ s
 same_reading r s e f = ap (λ (x : List Session). record { sessions = x; place = r.place }) e ∙ ap (λ (x : Place). record { sessions = s.sessions; place = x }) f
 
--- more bytes stand behind those that end at this place: these end searching, and no sync word begins in the open gap
+-- more bytes stand after those that end at this place: these end searching, and no sync word begins in the open gap
 pub record IsBehind (place : Place) (more : List ℕ) : Type 0 where
   pub searching : is_synced place ≡ false
   pub none : NoneBegins (gap_of place) more

@@ -42,7 +42,7 @@ same-by-none (x ∷ xs) (y ∷ ys) e h = same-head (x == y) (mask_l (zip2 differ
 pub same-block : (a b : List ℕ) → length a ≡ 32 → length b ≡ 32 → mask_l (map (top (hbits w8)) (zip2 (λ a b. cond (differs a b) (2 ^ bits w8 - 1) 0) a b)) % 2 ^ 64 ≡ 0 → a ≡ b
 same-block a b p q e = same-by-none a b (p ∙ sym q) (sym (mask-differs a b p q) ∙ e)
 
--- the bytes of a word, so many times
+-- the bytes of a word, this many times
 pub eight-equal : (n w : ℕ) (bytes : List ℕ) → bytes ≡ bytes_of_word w → flat_map (λ x. x) (replicate n bytes) ≡ equal_bytes w n
 eight-equal zero w bytes e = refl
 eight-equal (suc n) w bytes e = ap (λ t. bytes ++ t) (eight-equal n w bytes e) ∙ ap (λ t. t ++ equal_bytes w n) e
@@ -64,7 +64,7 @@ block-more bytes blocks i w e h b s = whole ∙ ap (λ t. equal_bytes w (8 * i) 
     whole : take (32 * (i + 1)) bytes ≡ equal_bytes w (8 * i) ++ take 32 (drop (32 * i) bytes)
     whole = ap (λ (k : ℕ). take k bytes) (let k : 32 * (i + 1) ≡ 32 * i + 32 = omega arith in k) ∙ take-add (32 * i) 32 bytes ∙ ap (λ t. t ++ take 32 (drop (32 * i) bytes)) s
 
--- whole blocks, and words behind them
+-- whole blocks, and words after them
 pub equal-behind : (bytes : List ℕ) (b k w : ℕ) → 32 * b ≤ length bytes → take (32 * b) bytes ≡ equal_bytes w (8 * b) → take (4 * k) (take (length bytes - 32 * b) (drop (32 * b) bytes)) ≡ equal_bytes w k
     → take (4 * (8 * b + k)) bytes ≡ equal_bytes w (8 * b + k)
 equal-behind bytes b k w h e f =

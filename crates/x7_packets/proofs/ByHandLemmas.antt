@@ -61,7 +61,7 @@ word_joined latest [] w = refl
 word_joined latest (p ∷ []) w = last_joined latest p w (nat_lt (length p.payload) (count_of p.step))
 word_joined latest (p ∷ q ∷ ps) w = ap (λ t. words p ++ t) (word_joined (latest_after latest p.step) (q ∷ ps) w) ∙ sym (append_assoc (words p) (flat_map words (q ∷ ps)) (w ∷ []))
 
--- words behind those of packets that were found
+-- words after those of packets that were found
 words_behind : (prefix back : List ℕ) (ps : List Packet) → AreWords back → ((more rest : List ℕ) (w : ℕ) → back ≡ more ++ w ∷ rest → ended (fold packets_with_word ps more) ≡ false) → Packets prefix ps → Packets (prefix ++ back) (fold packets_with_word ps back)
 words_behind prefix [] ps f o a = rw append-nil a
 words_behind prefix (w ∷ back) ps f o a =

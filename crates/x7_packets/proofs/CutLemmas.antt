@@ -247,6 +247,6 @@ none_kept kept count e = ap (λ k. take k kept) e
 pub no_count : (kept : List ℕ) (count : ℕ) → count ≤ length kept → take count kept ≡ [] → count ≡ 0
 no_count kept count h e = sym (length-take-le count kept h) ∙ ap length e
 
--- bytes behind a mode that keeps none
+-- bytes after a mode that keeps none
 pub keeps_none : (m : Mode) → m ≡ Mode.Searching → KeepsNone m
 keeps_none m e = rw e tt

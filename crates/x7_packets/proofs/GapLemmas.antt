@@ -1,4 +1,4 @@
--- Bytes behind a gap in which no sync word begins are read as they are alone, and alike behind two gaps of a length.
+-- Bytes after a gap in which no sync word begins are read as they are alone, and alike after two gaps of a length.
 use Rattle.std.proofs.Common.{◌≡◌, ◌+◌, ◌-◌, ◌<◌, ◌≤◌, inl, inr, ℕ, List, [], ◌++◌, drop, take, length, length-append, append-nil, refl, ap, sym, subst, ◌∙◌, take-append-drop, length-take-le, arith}
 use Rattle.std.proofs.Math.Seq.{take-append-add, take-length}
 use Rattle.std.proofs.lemmas.Bool.{cases_lt}

@@ -95,7 +95,7 @@ same_count l p q cs ds i j e =
     let head : p.head ≡ q.head = cc in
     ap count_of (i.means ∙ ap (meaning l) head ∙ sym j.means)
 
--- a whole packet with words behind it begins no words of which a last packet is all
+-- a whole packet with words after it begins no words of which a last packet is all
 shorter : (l : Option ℕ) (p q : Packet) (d : ℕ) (ds : List ℕ) → IsPacket l p → IsPacket l q → IsWhole q → words p ++ [] ≡ words q ++ d ∷ ds → ⊥
 shorter l p q d ds i j w e =
     let c : count_of p.step ≡ count_of q.step = same_count l p q _ _ i j e in

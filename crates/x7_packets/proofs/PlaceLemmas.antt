@@ -124,7 +124,7 @@ nowhere_then i j k a b m low high = elim (cases_lt m j) [
   | inr g ↦ b m g high
 ]
 
--- the first place behind places without it
+-- the first place after places without it
 pub found_behind : (bytes : List ℕ) (from to place : ℕ) → Nowhere (OccursAt bytes sync_bytes) 0 from → NoneBefore (OccursAt bytes sync_bytes) from to place × OccursAt bytes sync_bytes place → NoneBefore (OccursAt bytes sync_bytes) 0 (length bytes + 1) place × OccursAt bytes sync_bytes place
 found_behind bytes from to place none found = (record { low = omega arith; high = omega (arith, found.1.fits); before = nowhere_then 0 from place none found.0.before }, found.1)
 

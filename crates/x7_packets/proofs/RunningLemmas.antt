@@ -35,7 +35,7 @@ with_tail_twice : (t u : List ℕ) (place : Place) → with_tail t (with_tail u 
 with_tail_twice t u (Searching gap) = refl
 with_tail_twice t u (Synced gap packets tail) = refl
 
--- ---- what a run adds, whatever bytes are kept behind the words before it
+-- ---- what a run adds, whatever bytes are kept after the words before it
 
 longer_bare : {gap : List ℕ} {packets : List Packet} {more : List (ℕ × Step)} {sessions new_sessions : List Session} {new : Place} (b : Bool) (l : Longer gap packets more sessions new_sessions new) → ended l.all ≡ b → tail_of new ≡ []
 longer_bare true l e = ap tail_of (l.ends e).1
@@ -178,7 +178,7 @@ cuts_whole c n rest count r g nd j i l k a =
 pub within_piece : (items piece : List ℕ) (at end n : ℕ) → piece ≡ items → at ≤ end → n ≤ length (between piece at end) → at + n ≤ end
 within_piece items piece at end n e h l = omega (arith, h, l, length-take (end - at) (drop at piece))
 
--- what is left of a buffer behind bytes that were taken, and these bytes
+-- what is left of a buffer after bytes that were taken, and these bytes
 pub left_behind : (items : List ℕ) (at end n : ℕ) → at + n ≤ end → between items (at + n) end ≡ drop n (between items at end)
 left_behind items at end n h =
     let parts : end - at ≡ n + (end - (at + n)) = omega (arith, h) in
@@ -535,7 +535,7 @@ tail_ends p lent on none some e = record { last = refl; done = refl; failed = re
 none_ends : (p : PacketsState) → p.left ≡ [] → not_given p ≡ [] → ((bytes given : List ℕ) (s : PacketsStandFor p bytes given) → tail_of s.place ≡ p.cutter.kept) → Ends p (record p { found = FoundRun.End; done = true }) run.End
 none_ends p none nothing own = record { last = refl; done = refl; failed = refl; taken = refl; stands = λ bytes given due s. ends_none p bytes given none nothing due s (own bytes given s) }
 
--- the end behind bytes of no whole word, or behind none
+-- the end after bytes of no whole word, or after none
 finishes : (p new : PacketsState) (r : Run) (kept : List ℕ) → p.cutter.kept ≡ kept → p.done ≡ false → p.left ≡ []
     → (p.cutter.kept ≢ [] → new ≡ record p { found = FoundRun.Tail; done = true }) → (p.cutter.kept ≡ [] → new ≡ record p { found = FoundRun.End; done = true }) → IsLastFound new r → Ends p new r
 finishes p new r [] k on none tail end last =

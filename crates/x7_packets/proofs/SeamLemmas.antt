@@ -26,7 +26,7 @@ none_before_dummy gap more n d prefix back e = elim (fronts_of gap prefix more (
 
 -- ---- a gap in which none begins
 
--- a sync word stands in the bytes behind it
+-- a sync word stands in the bytes after it
 stands_behind : (gap more prefix back : List ℕ) → NoneBegins gap more → gap ++ more ≡ prefix ++ (sync_bytes ++ back) → (x : List ℕ) × (prefix ≡ gap ++ x) × (more ≡ x ++ (sync_bytes ++ back))
 stands_behind gap more prefix back n e =
     let f : (m : List ℕ) × (prefix ≡ gap ++ m) = shorter_front gap prefix more (sync_bytes ++ back) (n prefix back e) e in

@@ -1,4 +1,4 @@
--- A search by the first place of the sync word in a piece, behind a gap that ended in an earlier piece.
+-- A search by the first place of the sync word in a piece, after a gap that ended in an earlier piece.
 use Rattle.std.proofs.Common.{zero, suc, Bool, true, false, IsTrue, ◌↔◌, if◌then◌else◌, take-add, get_or-take, ◌≡◌, ℕ, ◌+◌, ◌-◌, ◌<◌, ◌≤◌, List, [], ◌∷◌, ◌++◌, length, take, drop, get_or, refl, ap, sym, subst, ◌∙◌, append_assoc, arith, length-append, length-take, inl, inr, Option, None, Some}
 use Rattle.std.proofs.lemmas.List.{take-append-drop, take_more, take-take, drop_at}
 use Rattle.std.specs.Option.{is_some, IfSome}
@@ -148,7 +148,7 @@ occurs_by_bytes bytes at h a b c d =
     let whole : get_or bytes at 0 ∷ get_or bytes (at + 1) 0 ∷ get_or bytes (at + 2) 0 ∷ get_or bytes (at + 3) 0 ∷ [] ≡ sync_bytes = cc in
     OccursAt-from_part bytes sync_bytes at h (four_bytes at bytes h ∙ whole)
 
--- the sync word is not complete behind three bytes of which the first is 0
+-- the sync word is not complete after three bytes of which the first is 0
 clear_step : (m : LastThree) (gap : List ℕ) (x : ℕ) → m.first ≡ 0 → MatcherStandsFor m gap → HasNoSync gap → HasNoSync (gap ++ x ∷ [])
 clear_step m gap x e s n = none_yet gap x n (λ w. let whole : m.first ∷ m.second ∷ m.third ∷ x ∷ [] ≡ sync_bytes = ends_so m gap x s w in absurd (cc))
 
@@ -166,7 +166,7 @@ three_more gap (a ∷ b ∷ []) m h e f g s n = absurd (omega (arith, h))
 three_more gap (a ∷ b ∷ c ∷ bytes) m h e f g s n =
     subst HasNoSync (append_assoc (gap ++ a ∷ []) (b ∷ []) (c ∷ []) ∙ append_assoc gap (a ∷ []) (b ∷ c ∷ [])) (clear_seam m gap a b c e f g s n)
 
--- the first sync word of bytes behind three zeros
+-- the first sync word of bytes after three zeros
 pub found_clear : (m n : LastThree) (gap bytes : List ℕ) (at : ℕ) → IsClear m → IsFirstSync bytes at → MatcherStandsFor m gap → HasNoSync gap → Searched gap bytes (Some (at + 4)) n
 found_clear m n gap bytes at e i s none =
     found_in_piece gap bytes at (three_more gap bytes m (omega (arith, i.here.fits)) e.0 e.1 e.2 s none) i.here (λ k z l o. i.first k l o)

@@ -37,7 +37,7 @@ found m x r h bytes s = (λ t. found_to bytes s.before _ _ _ x (h.0 t) s.last, �
 fronts : (xs ys : List ℕ) (x y : ℕ) → xs ++ x ∷ [] ≡ ys ++ y ∷ [] → xs ≡ ys
 fronts xs ys x y e = append_cancel_right xs ys (y ∷ []) (ap (λ t. xs ++ t) (sym (same_end xs ys (x ∷ []) (y ∷ []) refl e)) ∙ e)
 
--- a sync word that comes with the last byte has nothing behind it
+-- a sync word that comes with the last byte has nothing after it
 pub at_the_end : (gap prefix back : List ℕ) (x : ℕ) → HasNoSync gap → gap ++ x ∷ [] ≡ prefix ++ sync_bytes ++ back → back ≡ []
 at_the_end gap prefix back x n e = elim (last_of back) [
   | inl h ↦ h

@@ -69,7 +69,7 @@ record SamePackets (ps qs : List Packet) (cs ds : List ℕ) : Type 0 where
   packets : ps ≡ qs
   rest : cs ≡ ds
 
--- where the second's words go on behind those of a session that ended
+-- where the second's words go on after those of a session that ended
 no_more : (ps qs : List Packet) (cs ds : List ℕ) → EachPacket None ps → ended ps ≡ true → EachPacket None qs → WordsFront (flat_map words ps) (flat_map words qs) cs ds → SamePackets ps qs cs ds
 no_more ps qs cs ds a d b l =
     let none : l.more ≡ [] = after_end None ps qs l.more a d b (sym l.prefix) in

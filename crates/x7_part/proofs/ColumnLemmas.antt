@@ -290,7 +290,7 @@ slot_rank cs t i p d h low high =
     address_at cs t i (p - (get_or cs i d).slot) d h high in
     (omega arith, sym (slot_frame cs t i p d h low high) ∙ ap (λ (x : ℕ). Frame x) (sym a))
 
--- the columns behind the last that begins so far, by its place and the default that code reads
+-- the columns after the last that begins so far, by its place and the default that code reads
 abbrev pub nothing : Column
 nothing = record { first = 0; count = 0; pads = 0; rank = 0; slot = 0 }
 
@@ -365,7 +365,7 @@ missing_slot cs r n t le some before after last =
     rw same (omega arith)) in
     sym (get_or_past (column_slots cs) r End past)
 
--- no frame stands behind the last column's
+-- no frame stands after the last column's
 pub no_frame : (cs : List Column) (r n far : ℕ) → IsTable 0 0 0 cs → n ≤ length cs → (n ≡ 0 → ⊥) →
     ((k : ℕ) (d : Column) → k < n → (get_or cs k d).slot ≤ r) →
     ((k : ℕ) (d : Column) → n ≤ k → k < length cs → r < (get_or cs k d).slot) →

@@ -66,7 +66,7 @@ lower _ _ _ l' _ h (column r s l c cs er es le pos top rest) = column r s l' c c
 moved : (r s l r' s' l' : ℕ) (cs : List Column) → r ≡ r' → s ≡ s' → l' ≤ l → IsTable r s l cs → IsTable r' s' l' cs
 moved r s l r' s' l' cs er es h t = rw (← er, ← es) (lower r s l l' cs h t)
 
--- a row's columns, and a table behind them; `width` is that of all the row's columns from this one on
+-- a row's columns, and a table after them; `width` is that of all the row's columns from this one on
 row_table : (pitch base i rank slot least top : ℕ) (minors : List ℕ) (rest : List Column) → 128 ≤ pitch → 0 < length minors →
     least ≤ base + i * pitch → base + (i + length minors) * pitch ≤ top → top ≤ 2 ^ 32 → All (λ n. (1 ≤ n) × (n ≤ 128)) minors →
     IsTable (rank + length (row_addresses pitch base i minors)) (slot + length (row_addresses pitch base i minors) + 2) top rest →

@@ -110,7 +110,7 @@ slots_all part is =
     let h = rows_start part.far 0 part.rows is.rows is.some in
     from_head (slots_in part) (get_or (addresses_in part) 0 0) h.0 h.1
 
--- ---- the slot behind an address
+-- ---- the slot after an address
 
 -- a number stands at one place alone
 same_place : (l : ℕ) (xs : List ℕ) (i j : ℕ) → Rises l xs → i < length xs → j < length xs → get_or xs i 0 ≡ get_or xs j 0 → i ≡ j

@@ -12,7 +12,7 @@ use Rattle.x7_part.specs.declared.slot.Slot.TheVariants.{Frame, Pad}
 abbrev pub frames_of : Column → List ℕ
 frames_of c = count_from c.first c.count
 
--- the slots of one column: its frames, and the pads behind them
+-- the slots of one column: its frames, and the pads after them
 abbrev pub slots_of : Column → List Slot
 slots_of c = map Frame (frames_of c) ++ replicate c.pads Pad
 

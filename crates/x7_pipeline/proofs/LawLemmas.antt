@@ -161,7 +161,7 @@ pub far_nowhere : (part : PartData) (base : ℕ) (run : List ℕ) (given : ℕ) 
 unfolding far_of
 far_nowhere part base run given f = sym (far_at-none part base (max (length (frames_of (frame_words part) run)) (given / frame_words part) - 1) f)
 
--- so many whole frames are in so many words
+-- this many whole frames are in this many words
 whole_count : (width count rest : ℕ) → rest < width → (width * count + rest) / width ≡ count
 whole_count width count rest h = ap (λ x. x / width) (let e : width * count + rest ≡ count * width + rest = grind (arith) in e) ∙ div-mul-add count width rest h
 

@@ -11,7 +11,7 @@ use Rattle.x7_part.specs.PartRange.{IsPart}
 use Rattle.x7_part.proofs.RowLemmas.{part_rises}
 use Rattle.x7_memory.specs.Planned.{AreInOrder, PlanRow, planned_addresses}
 
--- numbers that rise behind the first
+-- numbers that rise after the first
 pub rises_rest : (l y : ℕ) (ys : List ℕ) → Rises l (y ∷ ys) → Rises (y + 1) ys
 rises_rest _ _ _ (rise l y ys le more) = more
 

@@ -26,7 +26,7 @@ rest_of bytes (Check ∷ pieces) =
     let rest = rest_of (bytes ++ more) pieces in
     (more ++ rest.0, sym (append_assoc bytes more rest.0) ∙ rest.1)
 
--- the words of some slots, and of those behind them
+-- the words of some slots, and of those after them
 pub slots_on : (part : PartData) (plan : PlanData) (n : ℕ) → bytes_of_words (words_of_slots part plan (take n (slots_in part))) ++ bytes_of_words (words_of_slots part plan (drop n (slots_in part))) ≡ bytes_of_words (words_of_slots part plan (slots_in part))
 slots_on part plan n =
     let places = slots_in part in
@@ -112,7 +112,7 @@ module _ (s : FullStreamState) (old new : List ℕ) where
     fewer = λ n. absurd (n e);
   }
 
--- the part of a list behind its old items
+-- the part of a list after its old items
 pub behind_old : (old piece new : List ℕ) (start : ℕ) → start ≡ length old → new ≡ old ++ piece → take (length new - start) (drop start new) ≡ piece
 behind_old old piece new start e f =
     take_rest new start ∙ ap (λ (k : ℕ). drop k new) e ∙ ap (λ (t : List ℕ). drop (length old) t) f ∙ drop-append_seam old piece

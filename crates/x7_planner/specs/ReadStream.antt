@@ -6,7 +6,7 @@ use Rattle.x7_regs.specs.declared.register.Reg.TheVariants.{Far}
 use Rattle.x7_packets.specs.PacketWords.{command, frame_read, no_op, write_one}
 use Rattle.x7_planner.specs.Stream.{Words, head, stream_of}
 
--- a read of so many words from an address on
+-- a read of this many words from an address on
 abbrev pub read_of_words : ℕ → ℕ → List ℕ
 read_of_words address count =
     stream_of (Words (head ++ (command Rcrc ++ (no_op ∷ (command Rcfg ++ (write_one Far address ++ (frame_read count ++ (command Desync ++ replicate 4 no_op))))))) ∷ [])

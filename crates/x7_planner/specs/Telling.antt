@@ -20,7 +20,7 @@ pub record FullStreamState : Type 0 where
 abbrev pub pieces_to : PartData → PlanData → ℕ → List StreamPiece
 pieces_to part plan n = Words (full_opening part) ∷ Words (words_of_slots part plan (take n (slots_in part))) ∷ []
 
--- what stands before the check behind the frame data
+-- what stands before the check after the frame data
 abbrev pub frame_pieces : PartData → PlanData → List StreamPiece
 frame_pieces part plan = Words (full_opening part) ∷ Words (words_of_slots part plan (slots_in part)) ∷ []
 
@@ -75,7 +75,7 @@ pub record TellsMore (s : FullStreamState) (given old new : List ℕ) : Type 0 w
   pub adds : new ≡ old ++ piece
   pub more : HasGiven s (given ++ piece)
 
--- what is next was appended to bytes, and this is next behind it
+-- what is next was appended to bytes, and this is next after it
 pub record Writes (s : FullStreamState) (old new : List ℕ) (after : NextPiece) : Type 0 where
   pub piece : List ℕ
   pub adds : new ≡ old ++ piece

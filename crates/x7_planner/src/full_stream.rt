@@ -159,11 +159,11 @@ pub enum NextPiece {
     Opening,
     /// The frames from this slot on.
     Slot(u64),
-    /// The check behind the frame data.
+    /// The check after the frame data.
     Check,
     /// The end of frame data, and the start of the device.
     Start,
-    /// The check behind that.
+    /// The check after that.
     LastCheck,
     /// The end of the session.
     Desync,
@@ -241,7 +241,7 @@ impl<'p> FullStream<'p> {
         Ok(true)
     }
 
-    /// Appends what is next, and tells what is written behind it.
+    /// Appends what is next, and tells what is written after it.
     fn put(&self, out: &mut Vec<u8>) -> Result<NextPiece, NoMemory>
         ensures writes { IfOk result (Writes self.now out.old.items out.new.items) }
         ensures few { OnOk result (length out.new.items ≤ length out.old.items + piece_limit) }
@@ -276,7 +276,7 @@ impl<'p> FullStream<'p> {
         }
     }
 
-    /// Appends the frames of the slots from one on, and tells what is written behind them.
+    /// Appends the frames of the slots from one on, and tells what is written after them.
     fn put_frames(&self, out: &mut Vec<u8>, n: u64) -> Result<NextPiece, NoMemory>
         requires { self.now.next ≡ NextPiece.Slot n }
         ensures writes { IfOk result (Writes self.now out.old.items out.new.items) }

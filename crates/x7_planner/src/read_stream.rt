@@ -15,7 +15,7 @@ use x7_words::NoMemory;
 /// The words of a read stream.
 const READ_WORDS: usize = 25;
 
-/// The stream that reads so many words from an address on.
+/// The stream that reads this many words from an address on.
 fn read_of(alloc: Global, far: u32, words: u32) -> Result<Vec<u8>, NoMemory>
     requires { words < 2 ^ 27 }
     ensures { IfOk result (λ bytes. bytes.items ≡ read_of_words far words) }
@@ -34,7 +34,7 @@ fn read_of(alloc: Global, far: u32, words: u32) -> Result<Vec<u8>, NoMemory>
     Ok(writer.finish())
 }
 
-/// The stream that reads back n slots from an address on, behind a frame of zeros. Memory is wanting only where they can be
+/// The stream that reads back n slots from an address on, after a frame of zeros. Memory is wanting only where they can be
 /// read.
 pub fn readback(alloc: Global, part: &Part, far: u32, n: u32) -> Result<Vec<u8>, PlanFault>
     ensures stream { IfOk result (λ bytes. bytes.items ≡ read_stream part.now far n) }

@@ -37,7 +37,7 @@ impl Model for Writer {
 }
 
 impl Writer {
-    /// A writer that has written nothing, with room for so many words.
+    /// A writer that has written nothing, with room for this many words.
     pub(crate) fn new(alloc: Global, words: usize) -> Result<Writer, NoMemory>
         requires { 4 * words < 2 ^ 64 }
         ensures { IfOk result (λ w. w ≡ []) }

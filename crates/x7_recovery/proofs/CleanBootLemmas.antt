@@ -1,4 +1,4 @@
--- A golden stream that begins clean starts as a fallback behind an open slot, where it starts at power behind an erased sector.
+-- A golden stream that begins clean starts as a fallback after an open slot, where it starts at power after an erased sector.
 use Rattle.std.proofs.Common.{◌≡◌, ◌==◌, ◌+◌, ◌-◌, ◌*◌, ◌^◌, ◌<◌, ◌≤◌, inl, inr, ℕ, true, false, if◌then◌else◌, None, Some, List, ◌++◌, drop, take, length, length-append, length-drop, refl, ap, sym, subst, ◌∙◌, append_assoc, take-append-drop, drop_of_length-le, arith}
 use Rattle.std.proofs.lemmas.Bool.{cases_lt}
 use Rattle.std.proofs.lemmas.List.{take-append-le}
@@ -48,7 +48,7 @@ use Rattle.x7_recovery.proofs.OpenBootLemmas.{Falls, failed_attempt, falls, kept
 use Rattle.x7_recovery.proofs.OpenLemmas as slots
 use Rattle.x7_recovery.proofs.OpenLemmas.{desync_at, sector, sector_going, sector_history, sector_long, sector_never, sector_rests, sector_wrote}
 
--- ---- the history of the first sector and of bytes behind it
+-- ---- the history of the first sector and of bytes after it
 
 regroup : (a b c d : List ℕ) → (a ++ (b ++ c)) ++ d ≡ a ++ (b ++ (c ++ d))
 regroup a b c d = simp append_assoc

@@ -1,4 +1,4 @@
--- A golden stream that begins clean stops no fallback behind a slot, where it stopped no attempt at power behind a gap.
+-- A golden stream that begins clean stops no fallback after a slot, where it stopped no attempt at power after a gap.
 use Rattle.std.proofs.Common.{◌≡◌, ◌+◌, ◌≤◌, ◌⊎◌, inl, inr, ℕ, Bool, true, false, if◌then◌else◌, None, [], ◌∷◌, ◌++◌, refl, sym, ◌∙◌, arith}
 use Rattle.std.specs.Prelude.{nat_lt}
 use Rattle.x7_packets.specs.History.{History, Write, entry, until}

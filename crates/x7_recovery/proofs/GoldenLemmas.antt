@@ -1,4 +1,4 @@
--- A golden stream that starts behind one first sector that leads nowhere starts behind each.
+-- A golden stream that starts after one first sector that leads nowhere starts after each.
 use Rattle.std.proofs.Common.{◌≡◌, ℕ, ◌+◌, ◌-◌, ◌<◌, ◌≤◌, inl, inr, Bool, false, List, [], ◌∷◌, ◌++◌, length, get_or, take, drop, refl, ap, sym, subst, ◌∙◌, arith, length-append, length-drop, take-append-drop, append_assoc, append-nil, length-take-le}
 use Rattle.std.specs.Prelude.{slice_range}
 use Rattle.std.proofs.lemmas.List.{length-replicate, get_or-take, get_or-drop, get_or_append_left, get_or-append_right, ext_get_or, take-append-le}
@@ -64,7 +64,7 @@ none_in_front flash gap s rest shut e l = none_before_front gap s rest (shut_non
 pub ended : (part : PartData) (flash : List ℕ) (t : Trial) → StartsAtPower part flash t → EndsFirst part flash t
 ended part flash t s = subst (λ (n : ℕ). EndsFirst part (drop n flash) t) s.address (started_first part flash t s.is s.started)
 
--- behind gaps of a sector the same bytes, up to those that the attempt took
+-- after gaps of a sector the same bytes, up to those that the attempt took
 pub starts_behind : (part : PartData) (g h s f r : List ℕ) (t : Trial) → AreGaps g h s → StartsAtPower part ((g ++ s) ++ f) t → length t.bytes ≤ length (g ++ s)
     → StartsAtPower part ((h ++ s) ++ r) (alike_trial t ((h ++ s) ++ r)) × AreAlike t.bytes (alike_trial t ((h ++ s) ++ r)).bytes
 starts_behind part g h s f r t gaps starts within =

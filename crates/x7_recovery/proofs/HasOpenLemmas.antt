@@ -42,7 +42,7 @@ module _ (flash now found : List ℕ) (number : ℕ) (l : HasLayout flash) (b : 
   found_long : 131072 ≤ length found
   found_long = omega (arith, size, b.size, l.size.least)
 
-  -- a byte behind a switch word
+  -- a byte after a switch word
   byte_at : (i m : ℕ) → i < 65536 → i % 32 ≡ m → 4 ≤ m → get_or found i 0 ≡ get_or (first_slot flash) m 0
   byte_at i m h e k =
       let at : 32 * (i / 32) + m ≡ i = omega (arith, e) in
@@ -334,7 +334,7 @@ image_is_opened part flash place is b =
 regrouped : (a b c d : List ℕ) → ((a ++ b) ++ c) ++ d ≡ a ++ (b ++ (c ++ d))
 regrouped a b c d = simp append_assoc
 
--- ---- the image of two streams, with anything behind it
+-- ---- the image of two streams, with anything after it
 
 module _ (part : PartData) (golden update behind : List ℕ) (is : IsPart part) (fits : image_size (length golden) (length update) ≤ flash_limit) where
   abbrev place : ℕ

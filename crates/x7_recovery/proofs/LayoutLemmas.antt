@@ -31,7 +31,7 @@ slot_among one rest (suc n) (suc k) i e h j =
     ∙ ap (λ m. get_or (repeat n one ++ rest) m 0) at
     ∙ slot_among one rest n k i e (omega arith) j
 
--- an open slot and a closed one are the same behind the switch word
+-- an open slot and a closed one are the same after the switch word
 pub same_behind : (start i : ℕ) → 4 ≤ i → get_or (closed_slot start) i 0 ≡ get_or (open_slot start) i 0
 unfolding slot
 same_behind start i h =
@@ -150,7 +150,7 @@ image_place golden update limit =
     let same : place / 1 ≡ place = omega arith in
     place_is (place / 1) (image_of 1 golden update) (golden ++ b.0) begins (omega (arith, same, limit, size_behind (length golden) (length update))) ∙ same
 
--- behind the first sector stands the golden stream
+-- after the first sector stands the golden stream
 image_golden : (golden update : List ℕ) → (rest : List ℕ) × (drop 65536 (image_of 1 golden update) ≡ golden ++ rest)
 image_golden golden update =
     let place = image.place_after_golden (length golden) in

@@ -59,7 +59,7 @@ slot_behind start = refl
 power_fits : (start : ℕ) → AreBytes (power_bytes start)
 power_fits start = all_front (λ b. b < 256) (power_bytes start) slot_end (subst AreBytes (slot_behind start) (slot_fits 0xAA995566 start))
 
--- the histories after WBSTAR, IPROG and DESYNC of a slot behind so many bytes
+-- the histories after WBSTAR, IPROG and DESYNC of a slot after this many bytes
 abbrev wbstar_at : ℕ → ℕ → History
 wbstar_at n start = entry (access.Write 16 start) (n + 16) ∷ []
 
@@ -223,7 +223,7 @@ module _ (flash : List ℕ) (number start : ℕ) (o : HasOpen flash number start
   pub sector_long : length sector ≡ 65536
   sector_long = length-take-le 65536 flash o.long
 
-  -- no sync word behind the slot
+  -- no sync word after the slot
   pub more_none : HasNoSync more
   more_none = record {
     none = λ prefix back e.

@@ -22,7 +22,7 @@ use Rattle.x7_recovery.proofs.SlotLemmas.{slot_long}
 
 -- ---- what the open slot asks
 
--- behind its sync word: a no-op, WBSTAR and IPROG
+-- after its sync word: a no-op, WBSTAR and IPROG
 abbrev slot_items : ℕ → List Item
 slot_items start = Noop ∷ Write 16 (start ∷ []) ∷ Write 4 (15 ∷ []) ∷ []
 

@@ -43,7 +43,7 @@ none_behind : (bytes rest : List ℕ) → LacksFirst bytes → HasNoSync rest �
 none_behind [] rest l none = none
 none_behind (x ∷ bytes) rest l none = other_first x (bytes ++ rest) l.0 (none_behind bytes rest l.1 none)
 
--- what stands behind the first two words of a slot, where the start address is of whole pages of 256, and far below AA000000
+-- what stands after the first two words of a slot, where the start address is of whole pages of 256, and far below AA000000
 abbrev slot_tail : List ℕ
 slot_tail = 0x30 ∷ 0 ∷ 0x80 ∷ 1 ∷ 0 ∷ 0 ∷ 0 ∷ 15 ∷ 0x30 ∷ 0 ∷ 0x80 ∷ 1 ∷ 0 ∷ 0 ∷ 0 ∷ 13 ∷ []
 
@@ -116,7 +116,7 @@ image_fits unit golden update g u =
 
 -- ---- places
 
--- the update begins a sector, behind the first sector and the golden stream
+-- the update begins a sector, after the first sector and the golden stream
 pub place_whole : (golden : ℕ) → place_after_golden golden % 65536 ≡ 0
 place_whole golden = elim (cases_lt (sector_from (65536 + golden)) 131072) [
   | inl l ↦ ap (λ (n : ℕ). n % 65536) (max-eq_left (let m : sector_from (65536 + golden) ≤ 131072 = omega (arith, l) in m))

@@ -109,7 +109,7 @@ impl Notes {
         }
     }
 
-    /// Adds a line: a name, a number between two texts, and what comes behind them.
+    /// Adds a line: a name, a number between two texts, and what comes after them.
     pub fn put_line(&mut self, name: &str, before: &str, number: u64, after: &str, line: &str) {
         let done = write!(self.text, "{name}: {before}{number}{after}{line}\n");
         if done.is_err() {

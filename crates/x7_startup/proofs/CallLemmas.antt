@@ -88,7 +88,7 @@ count_desync (Desync c ∷ calls) d = count_desync calls d
 count_desync (Byte ∷ calls) d = ap (λ x. x + 1) (count_desync calls d)
 count_desync (DropBack ∷ calls) d = count_desync calls d
 
--- the progress so many bytes later
+-- the progress this many bytes later
 abbrev pub further : ℕ → StartupProgress → StartupProgress
 further n NotBegun = NotBegun
 further n (Begun cor0 bytes) = Begun cor0 (bytes + n)

@@ -93,11 +93,11 @@ const NEW: u32 = 0x190C;
 /// Texts, and what each comes to: its line, the bytes taken, the phase and STAT.
 #[rattlefmt::skip]
 const PLAYED: [(&[u8], &[u8], u64, u8, u32); 16] = [
-    // IDCODE, its version masked out; a wrong bit; and TDI behind the bits that were captured
+    // IDCODE, its version masked out; a wrong bit; and TDI after the bits that were captured
     (b"STATE RESET; SIR 6 TDI (09); SDR 32 TDI (00000000) TDO (0362D093) MASK (0FFFFFFF);", DONE, 0, 0, NEW),
     (b"STATE RESET; SIR 6 TDI (09); SDR 32 TDI (00000000) TDO (0362D092) MASK (0FFFFFFF);", b"svf differs 3 0\n", 0, 0, NEW),
     (b"SDR 64 TDI (0000000012345678) TDO (123456780362D093);", DONE, 0, 0, NEW),
-    // digits in pieces, the fields in another order; and a wrong bit behind them
+    // digits in pieces, the fields in another order; and a wrong bit after them
     (b"SIR 6 TDI ( 0 9); SDR 32 MASK (0F!f)\n FFF\tFFF) TDO(03\r\n62 D093)TDI (0\n0);", DONE, 0, 0, NEW),
     (b"SIR 6 TDI (0 9); SDR 32 TDO (0362 D0 93) TDI (0); SDR 32 TDI (0) TDO (\n03 62D0 91);", b"svf differs 3 1\n", 0, 0, NEW),
     // a read of STAT, and a no-op that waits until the word is out

@@ -12,7 +12,7 @@ const IPROG: [u8; 12] = [
     0xAA, 0x99, 0x55, 0x66, 0x30, 0x00, 0x80, 0x01, 0x00, 0x00, 0x00, 0x0F,
 ];
 
-/// What becomes of IPROG, and BOOTSTS then, in an attempt of this kind behind one of IPROG that failed by its check.
+/// What becomes of IPROG, and BOOTSTS then, in an attempt of this kind after one of IPROG that failed by its check.
 fn after_iprog(alloc: Global, kind: Kind) -> Option<(Fed, u32)> {
     let Ok(part) = part_of(alloc, TINY) else {
         return None;

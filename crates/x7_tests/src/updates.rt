@@ -16,7 +16,7 @@ const FREE: [u8; 4] = [0xFF; 4];
 
 const SPENT: [u8; 4] = [0; 4];
 
-/// The words of a slot behind its switch word, which lead to 131,072.
+/// The words of a slot after its switch word, which lead to 131,072.
 #[rattlefmt::skip]
 const LEAD: [u8; 28] = [
     0x20, 0x00, 0x00, 0x00, 0x30, 0x02, 0x00, 0x01, 0x00, 0x02, 0x00, 0x00, //

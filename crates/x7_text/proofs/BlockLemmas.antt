@@ -113,7 +113,7 @@ four-woven bs e = let h : FourWoven (pick_l 0 bs (range_with_len 0 4)) = refl in
 pub four_halves : (bs : List ℕ) → length bs ≡ 4 → pick_l 0 (zip2 (λ a b. a / 2 ^ b) bs (replicate 4 4) ++ zip2 bit_and bs (replicate 4 15)) (0 ∷ 4 ∷ 1 ∷ 5 ∷ 2 ∷ 6 ∷ 3 ∷ 7 ∷ []) ≡ halves bs
 four_halves bs e = four-woven bs e ∙ masked_are bs
 
--- a `bytes` line, its digits stored over line ends behind its word
+-- a `bytes` line, its digits stored over line ends after its word
 pub bytes-line : (bs digits : List ℕ) → digits ≡ flat_map hex_byte bs → length bs ≡ 32
     → codes "bytes " ++ (put_chunk 0 (replicate 65 10) digits ++ []) ≡ line (codes "bytes ") hex_byte bs
 bytes-line bs digits e long =

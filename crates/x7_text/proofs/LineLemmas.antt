@@ -37,7 +37,7 @@ full_glue o b t r c l R e f = rw (e, ← f) (simp append_assoc)
 more_glue : (o b t r c l R : List ℕ) → l ≡ o ++ b ++ t → l ++ r ++ c ≡ R → o ++ (b ++ t ++ [] ++ r) ++ c ≡ R
 more_glue o b t r c l R e f = rw (← f, e) (simp (append_assoc, append-nil))
 
--- what the lines are, behind those elements of an open line
+-- what the lines are, after those elements of an open line
 abbrev pub Closes : ℕ → List ℕ → (ℕ → List ℕ) → List ℕ → ℕ → List ℕ → Type 0
 Closes n word text part k xs = opened word text part ++ open_text n word text k xs ++ close (in_line_after n k xs) ≡ flat_map (line word text) (rows_from n part xs)
 

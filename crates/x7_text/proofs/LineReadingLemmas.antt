@@ -111,11 +111,11 @@ module _ {B : Type 0} (taken : B → List (List ℕ) → Type 0) (ls : List (Lis
 -- ---- want of memory
 
 module _ (wants : List (List ℕ) → List ℕ → Type 0) (lines : List (List ℕ)) where
-  -- at a line that has its end, behind others of its text
+  -- at a line that has its end, after others of its text
   pub wants-here : (more : List (List ℕ)) (text rest line after : List ℕ) → split text ≡ more ++ split rest → split rest ≡ line ∷ split after → wants (lines ++ more) line → WantsAt wants lines text
   wants-here more text rest line after e f w = record { before = more; line = line; after = split after; texts = e ∙ ap (λ x. more ++ x) f; wanting = w }
 
-  -- at a line of what is left, behind lines of the text
+  -- at a line of what is left, after lines of the text
   pub wants-behind : (more : List (List ℕ)) (text rest : List ℕ) → split text ≡ more ++ split rest → WantsAt wants (lines ++ more) rest → WantsAt wants lines text
   wants-behind more text rest e w = record {
     before = more ++ w.before;

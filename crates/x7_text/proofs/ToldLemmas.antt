@@ -7,7 +7,7 @@ use Rattle.x7_text.specs.Digits.{hex_byte}
 use Rattle.x7_text.specs.Row.{element_text, in_line_after, next_in_line, open_text, spaced}
 use Rattle.x7_text.proofs.LineLemmas.{open_text-append, in_line_after-append}
 
--- after the elements xs, which were given behind `start` of an open line, to a text that was `old`
+-- after the elements xs, which were given after `start` of an open line, to a text that was `old`
 pub record Told (n : ℕ) (word : List ℕ) (text : ℕ → List ℕ) (start : ℕ) (old xs items : List ℕ) (count : ℕ) : Type 0 where
   pub text_is : items ≡ old ++ open_text n word text start xs
   pub count_is : count ≡ in_line_after n start xs

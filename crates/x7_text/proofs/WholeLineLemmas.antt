@@ -12,7 +12,7 @@ use Rattle.x7_text.proofs.LineLemmas.{in_line_after-append, in_line_after-filled
 use Rattle.x7_words.proofs.WordLemmas.{length-words, words_of_bytes-append}
 use Rattle.x7_text.proofs.WordLemmas.{hex_words}
 
--- the words of a whole line, each behind a space
+-- the words of a whole line, each after a space
 pub whole_line : (bs digits : List ℕ) → length bs ≡ 32 → Each1 (λ b. b < 256) bs → digits ≡ flat_map hex_byte bs
     → codes "data" ++ (flat_map (λ (w : List ℕ). 32 ∷ w) (first_chunks 8 8 digits) ++ 10 ∷ []) ≡ line (codes "data") spaced (words_of_bytes bs)
 whole_line bs digits full fit same =
@@ -63,7 +63,7 @@ lines_count n elements r (suc k) bs h =
     ∙ lines_count n elements r k (drop 32 bs) (omega (arith, length-drop 32 bs))
     ∙ ap (λ t. in_line_after n 0 (elements t)) (drop_row k bs)
 
--- elements that fill the open line, and those behind them
+-- elements that fill the open line, and those after them
 pub filled_text : (n : ℕ) (word : List ℕ) (text : ℕ → List ℕ) (i : ℕ) (xs ys : List ℕ) → in_line_after n i xs ≡ 0 → open_text n word text i (xs ++ ys) ≡ open_text n word text i xs ++ open_text n word text 0 ys
 filled_text n word text i xs ys filled = open_text-append n word text i xs ys ∙ ap (λ j. open_text n word text i xs ++ open_text n word text j ys) filled
 

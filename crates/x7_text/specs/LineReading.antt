@@ -39,7 +39,7 @@ pub record TakesPrefix {B : Type 0} (taken : B → List (List ℕ) → Type 0) (
 
 -- ---- where memory may be wanting
 
--- behind some lines, memory may be wanting at one of the lines of a text
+-- after some lines, memory may be wanting at one of the lines of a text
 pub record WantsAt (wants : List (List ℕ) → List ℕ → Type 0) (lines : List (List ℕ)) (text : List ℕ) : Type 0 where
   pub before : List (List ℕ)
   pub line : List ℕ
@@ -47,7 +47,7 @@ pub record WantsAt (wants : List (List ℕ) → List ℕ → Type 0) (lines : Li
   pub texts : split text ≡ before ++ line ∷ after
   pub wanting : wants (lines ++ before) line
 
--- behind some lines, all lines of a text that have their end were taken, and the beginning of one that comes is to be held
+-- after some lines, all lines of a text that have their end were taken, and the beginning of one that comes is to be held
 pub record HoldsPart {B : Type 0} (taken : B → List (List ℕ) → Type 0) (lines : List (List ℕ)) (text : List ℕ) : Type 0 where
   pub taker : B
   pub more : List (List ℕ)
@@ -56,6 +56,6 @@ pub record HoldsPart {B : Type 0} (taken : B → List (List ℕ) → Type 0) (li
   pub took : taken taker (lines ++ more)
   pub begun : rest ≡ [] → ⊥
 
--- behind some lines, memory may be wanting as a piece is taken: at one of its lines, or to hold the beginning of a line
+-- after some lines, memory may be wanting as a piece is taken: at one of its lines, or to hold the beginning of a line
 abbrev pub WantsIn : {B : Type 0} → (B → List (List ℕ) → Type 0) → (List (List ℕ) → List ℕ → Type 0) → List (List ℕ) → List ℕ → Type 0
 WantsIn taken wants lines piece = WantsAt wants lines piece ⊎ HoldsPart taken lines piece

@@ -28,7 +28,7 @@ pub trait TakesLines: Drop {
     /// The fault is want of memory.
     ghost is_want: { Self.Fault → Type 0 } = { λ _. Unit {0} };
 
-    /// Behind these lines memory may be wanting at this line. Where an impl says nothing, it may be wanting at each.
+    /// After these lines memory may be wanting at this line. Where an impl says nothing, it may be wanting at each.
     ghost wants: { Self → List (List ℕ) → List ℕ → Type 0 } = { λ _ _ _. Unit {0} };
 
     /// The fault where memory runs out.
@@ -42,7 +42,7 @@ pub trait TakesLines: Drop {
         ensures memory { (first : Self) (lines : List (List ℕ)) → n ≡ length lines + 1 → took first self.old lines
             → IfErr result (λ fault. is_want fault → wants first lines line.now) };
 
-    /// Takes the lines of a text that have their end, behind `n` lines. Answers what is left of the text, and how many lines
+    /// Takes the lines of a text that have their end, after `n` lines. Answers what is left of the text, and how many lines
     /// were taken in all. After an error nothing more may be taken.
     fn put_lines<'t>(&mut self, n: u64, text: &'t [u8]) -> Result<(&'t [u8], u64), Self::Fault>
         ensures read { (first : Self) (lines : List (List ℕ)) → n ≡ length lines → n + length text.now < 2 ^ 63 → took first self.old lines
@@ -113,7 +113,7 @@ impl<T: TakesLines> LineReader<T> {
         }
     }
 
-    /// Takes the line that a piece completes, if it completes the one that is held. Answers the text behind it.
+    /// Takes the line that a piece completes, if it completes the one that is held. Answers the text after it.
     fn complete<'t>(&mut self, piece: &'t [u8]) -> Result<Option<&'t [u8]>, T::Fault>
         ensures { (first : T) (text : List ℕ) → length (text ++ piece.now) < 2 ^ 63 → StandsFor (T.took first) self.old text
             → MatchResult result (λ found. MatchOption found (StandsFor (T.took first) self.new (text ++ piece.now)) (λ rest. TakesPrefix (T.took first) self.new text piece.now rest.now))
@@ -178,7 +178,7 @@ impl<T: TakesLines> LineReader<T> {
 
     /// Takes the next piece of a text of fewer than 2^63 bytes, which may end inside a line. A fault is that of the whole
     /// text, whatever follows. Where no beginning of a line is held, memory is wanting only at a line of the piece, or to
-    /// hold the beginning of a line behind them.
+    /// hold the beginning of a line after them.
     pub fn feed(self, piece: &[u8]) -> Result<LineReader<T>, T::Fault>
         ensures read { (first : T) (text : List ℕ) → length (text ++ piece.now) < 2 ^ 63 → StandsFor (T.took first) self text
             → MatchResult result (λ reader. StandsFor (T.took first) reader (text ++ piece.now)) (λ fault. FailsFrom (T.fails first fault) (text ++ piece.now)) }

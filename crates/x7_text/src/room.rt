@@ -15,7 +15,7 @@ pub fn put(text: &mut Vec<u8>, bytes: &[u8])
     }
 }
 
-/// Makes room for so many bytes more. After an error the text is as it was.
+/// Makes room for this many bytes more. After an error the text is as it was.
 pub fn make_room(text: &mut Vec<u8>, more: usize) -> Result<(), NoMemory>
     ensures items { text.new.items ≡ text.old.items }
     ensures room { OnOk result (vec_len text.new + more ≤ vec_capacity text.new) }

@@ -10,7 +10,7 @@ use Rattle.x7_forms.specs.Step.{AnswersBy, CameIn, DueBy, IsCaused, IsCausedBy, 
 use Rattle.x7_forms.proofs.ReadLemmas.{outside_goes}
 
 module _ {T F : Type 0} (took : T → List (List ℕ) → Type 0) (fails : F → List (List ℕ) → Type 0) (read : Result (ReaderState T) F) where
-  -- a piece behind a fault
+  -- a piece after a fault
   pub fed_on : (f : F) (text piece : List ℕ) → read ≡ Err f → IsFed took fails read text → IsFed took fails (Err f) (text ++ piece)
   fed_on f text piece e h = λ more. subst (λ t. fails f (split t)) (sym (append_assoc text piece more)) (subst (λ o. IsFed took fails o text) e h (piece ++ more))
 

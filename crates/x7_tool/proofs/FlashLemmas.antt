@@ -247,7 +247,7 @@ uses_same form inputs s since =
 pub reads_asked : (name : List ℕ) (old new : FlashState) (past since : ℕ → List ℕ → Type 0) → FlashStays old new past since → AsksFor old name new → ReadsFlash name old new
 reads_asked name old new past since s a = record { bytes = s.bytes; write_faults = s.unwritten.write_faults; moments = s.unwritten.moments; faults = s.faults; absences = s.absences; no_other = a.no_other }
 
--- reads behind it
+-- reads after it
 pub reads_on : (name : List ℕ) (old mid new : FlashState) (past since : ℕ → List ℕ → Type 0) → ReadsFlash name old mid → OnlyReads mid new past since → ReadsFlash name old new
 reads_on name old mid new past since r o = record {
   bytes = o.bytes ∙ r.bytes;

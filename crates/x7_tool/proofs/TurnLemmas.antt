@@ -113,7 +113,7 @@ stream_whole bytes line sent e = ap stream_listing (sym (append-nil bytes)) ∙ 
 pub line_part : (first now : Option (List ℕ)) (line more : List ℕ) → PutsPrefix first line now → PutsPrefix first (line ++ more) now
 line_part first now line more p = (p.0, (p.1.0 ++ more, ap (λ t. t ++ more) p.1.1 ∙ append_assoc p.0 p.1.0 more, p.1.2))
 
--- a lister that begins behind a line
+-- a lister that begins after a line
 pub begins_behind : (l : ListerState) (old mid : Option (List ℕ)) (line : List ℕ) → ListerStandsFor l [] [] [] → l.text ≡ [] → mid ≡ appended old line → Lists l (appended old line) mid []
 begins_behind l old mid line stands clear e = record { given = []; stands = stands; put = e ∙ sym (appended-nil (appended old line)); clear = clear }
 

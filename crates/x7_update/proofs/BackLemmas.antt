@@ -12,7 +12,7 @@ use Rattle.x7_update.proofs.ReadyLemmas.{sees_to}
 use Rattle.x7_update.proofs.StreamLemmas.{wanted_inside}
 use Rattle.x7_update.proofs.SwitchLemmas.{same_four}
 
--- so many bytes from a place on are as they are wanted
+-- this many bytes from a place on are as they are wanted
 abbrev AreWanted : ℕ → List ℕ → ℕ → ℕ → List ℕ → Type 0
 AreWanted from piece place count all = (i : ℕ) → i < count → get_or all (place + i) 0 ≡ wanted_at from piece (place + i)
 
@@ -65,7 +65,7 @@ stream_wanted : (known : Option (List ℕ)) (update : ℕ) (stream : List ℕ) (
 stream_wanted None update stream place count size behind within s h = tt
 stream_wanted (Some all) update stream place count size behind within s h = λ i l. h (place + i) (omega arith) (omega (arith, s))
 
--- so many bytes of the stream, or of FF behind it, were read back from a place on
+-- this many bytes of the stream, or of FF after it, were read back from a place on
 pub stream_fails : (update : ℕ) (stream : List ℕ) (place count : ℕ) (buffer : List ℕ) (old new : FlashState) (result : Result (Unit {0}) UpdateFault) → length buffer ≡ count → Sees new place buffer → new.extent ≡ old.extent → HasSize old.extent → CanStandAt old.extent update
     → update + length stream ≤ old.extent → update ≤ place → place + count ≤ old.extent → IfKnown old.bytes (λ all. old.extent ≡ length all) → IfKnown old.bytes (HasWanted update stream)
     → IfKnown old.bytes (λ all. buffer ≡ slice_range all place (place + count)) → SeesWanted update stream update place new → IfErr result (IsWrong update stream place buffer) → IfErr result (EndFails stream old new)

@@ -29,7 +29,7 @@ open_not_free flash slot o f =
 open_not_spent : spent_switch ≡ open_switch → ⊥
 open_not_spent same = let first : 0 ≡ 0xAA = ap (λ l. get_or l 0 0) same in absurd (omega (arith, first))
 
--- what is behind a switch word is in no switch word
+-- what is after a switch word is in no switch word
 pub behind : (slot i : ℕ) → 4 ≤ i % 32 → (i < 32 * slot) ⊎ (32 * slot + 4 ≤ i)
 behind slot i h = elim (cases_lt i (32 * slot)) [
   | inl less ↦ inl less
@@ -127,7 +127,7 @@ module _ (all : List ℕ) (slots : Slots) (finds : Finds (length all) all slots)
   closing_replaces slot found h is (inl same) = inl same
   closing_replaces slot found h is (inr only) = inr (between_closing (length all) slot all found finds.has h is only)
 
-  -- while the stream is written behind closed slots
+  -- while the stream is written after closed slots
   pub writing_replaces : (closed found : List ℕ) → ClosesTo all closed → KeepsBelow slots.update closed found → Replacing all found
   writing_replaces closed found closes keeps =
       inr (between_below (length all) all closed found finds.has (between_closed all closed finds.has closes) (subst (λ u. KeepsBelow u closed found) finds.update keeps))

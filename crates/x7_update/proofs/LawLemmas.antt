@@ -54,7 +54,7 @@ back_apart flash = (
 )
 
 module _ (flash found : List ℕ) (l : HasLayout flash) (b : IsBetween flash found) where
-  -- a byte behind a switch word
+  -- a byte after a switch word
   byte_at : (i m : ℕ) → i < 65536 → i % 32 ≡ m → 4 ≤ m → get_or found i 0 ≡ get_or (first_slot flash) m 0
   byte_at i m h e k =
       let at : 32 * (i / 32) + m ≡ i = omega arith in

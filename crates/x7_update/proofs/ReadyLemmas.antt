@@ -15,7 +15,7 @@ use Rattle.x7_update.specs.declared.slots.Slots.{Slots}
 
 -- ---- what is seen
 
--- so many bytes more, which were read and are as they are wanted
+-- this many bytes more, which were read and are as they are wanted
 pub sees_to : (update : ℕ) (stream : List ℕ) (place count : ℕ) (buffer : List ℕ) (new : FlashState) → count ≤ length buffer → Sees new place buffer → SeesWanted update stream update place new → ReadsWantedTo update stream place buffer count
     → SeesWanted update stream update (place + count) new
 sees_to update stream place count buffer new within seen had wanted at l h = elim (cases_lt at place) [

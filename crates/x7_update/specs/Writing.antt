@@ -90,7 +90,7 @@ HasWanted update stream flash = (place : ℕ) → update ≤ place → place < l
 abbrev pub SeesWanted : ℕ → List ℕ → ℕ → ℕ → FlashState → Type 0
 SeesWanted update stream from to state = (place : ℕ) → from ≤ place → place < to → IsTrue (state.seen place (wanted_at update stream place))
 
--- so many bytes of what was read from a place on are as they are wanted there
+-- this many bytes of what was read from a place on are as they are wanted there
 abbrev pub ReadsWantedTo : ℕ → List ℕ → ℕ → List ℕ → ℕ → Type 0
 ReadsWantedTo update stream place buffer count = (i : ℕ) → i < count → get_or buffer i 0 ≡ wanted_at update stream (place + i)
 

@@ -40,7 +40,7 @@ shorter_front (x ∷ xs) (y ∷ ys) cs ds h e =
     let r : (m : List ℕ) × (ys ≡ xs ++ m) = shorter_front xs ys cs ds (omega arith) tail in
     (r.0, cons_front x y xs ys r.0 head r.1)
 
--- xs is a prefix of ys, behind which cs goes on as ds does behind ys
+-- xs is a prefix of ys, after which cs goes on as ds does after ys
 pub record IsFront (xs ys cs ds : List ℕ) : Type 0 where
   pub more : List ℕ
   pub prefix : ys ≡ xs ++ more
@@ -83,7 +83,7 @@ all_from_places P (x ∷ xs) h = (h 0 (omega arith), all_from_places P xs (λ k 
 pub all_take : {X : Type 0} → (P : X → Type 0) (n : ℕ) (xs : List X) → AllByRecursion P xs → AllByRecursion P (take n xs)
 all_take P n xs a = all_front P (take n xs) (drop n xs) (rw take-append-drop a)
 
--- a front and what stands behind it up to a later place
+-- a front and what stands after it up to a later place
 pub take_up_to : {X : Type 0} → (xs : List X) (from to : ℕ) → from ≤ to → take from xs ++ take (to - from) (drop from xs) ≡ take to xs
 take_up_to xs from to h = let sum : from + (to - from) ≡ to = omega arith in sym (take-add from (to - from) xs) ∙ ap (λ (k : ℕ). take k xs) sum
 

@@ -13,7 +13,7 @@ pub bytes-fit : (ws : List ℕ) → AreBytes (flat_map bytes_of_word ws)
 bytes-fit [] = tt
 bytes-fit (w ∷ ws) = (omega arith, (omega arith, (omega arith, (omega arith, bytes-fit ws))))
 
--- words are those of their bytes, whatever stands behind these
+-- words are those of their bytes, whatever stands after these
 pub words-back : (ws zs : List ℕ) → AreWords ws → words_of_bytes (flat_map bytes_of_word ws ++ zs) ≡ ws ++ words_of_bytes zs
 words-back [] zs h = refl
 words-back (w ∷ ws) zs h = ap₂ (λ (x : ℕ) (t : List ℕ). x ∷ t) (word-whole w h.0) (words-back ws zs h.1)
@@ -85,7 +85,7 @@ words_by_chunks (suc n) (a ∷ b ∷ c ∷ d ∷ bs) h = ap (λ x. word_of_bytes
 pub chunk_count : (bytes : List ℕ) (chunks : List (List ℕ)) → chunks ≡ first_chunks 4 (length bytes / 4) bytes → length chunks ≡ length (words_of_bytes bytes)
 chunk_count bytes chunks e = sym (ap length (words_by_chunks (length bytes / 4) bytes refl ∙ ap (map word_of_bytes) (sym e)) ∙ length-map chunks word_of_bytes)
 
--- the words of the first bytes, and of those behind them
+-- the words of the first bytes, and of those after them
 pub words_apart : (k : ℕ) (bs : List ℕ) → k * 4 ≤ length bs → words_of_bytes bs ≡ words_of_bytes (take (k * 4) bs) ++ words_of_bytes (drop (k * 4) bs)
 words_apart zero bs h = refl
 words_apart (suc k) [] h = absurd (omega arith)

@@ -6,12 +6,12 @@ use Rattle.x7_packets.specs.declared.header.Step.TheVariants.{Nop}
 use Rattle.x7_regs.specs.Register.{reg_name}
 use Rattle.x7_listing.specs.HeadLine.{command_line, text_of_head}
 
--- the lines of a word in a header's place, so many times
+-- the lines of a word in a header's place, this many times
 abbrev pub equal_lines : Step → ℕ → ℕ → List ℕ
 equal_lines step w zero = []
 equal_lines step w (suc n) = text_of_head step w ++ equal_lines step w n
 
--- the lines of so many no-ops
+-- the lines of this many no-ops
 abbrev pub nop_lines : ℕ → List ℕ
 nop_lines n = equal_lines Nop no_op n
 
@@ -44,7 +44,7 @@ AreRowsFrom text n (row ∷ rows) = (row_text row ≡ text n) × AreRowsFrom tex
 abbrev pub bytes_differ : ℕ → ℕ → Bool
 bytes_differ a b = not (a == b)
 
--- what stands where a line has words: eight bytes for each, the first behind one at place p, the others nine further each
+-- what stands where a line has words: eight bytes for each, the first after one at place p, the others nine further each
 abbrev pub words_in_row : List ℕ → ℕ → ℕ → List (List ℕ)
 words_in_row text p zero = []
 words_in_row text p (suc n) = take 8 (drop (p + 1) text) ∷ words_in_row text (p + 9) n

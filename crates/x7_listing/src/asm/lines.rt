@@ -34,7 +34,7 @@ fn put_checked(out: &mut Vec<u8>, start: usize, checker: &mut Checker, line: &[u
     put_line(out, check, line)
 }
 
-/// The bytes that the lines of a text gave so far, where those behind a header's begin, and their check.
+/// The bytes that the lines of a text gave so far, where those after a header's begin, and their check.
 #[derive(Drop)]
 pub struct AsmLines {
     alloc: Global,
@@ -115,7 +115,7 @@ impl AsmLines {
         self.put_one(n, line)
     }
 
-    /// Appends the bytes of the text's first lines behind `n` lines, as far as they are read at once.
+    /// Appends the bytes of the text's first lines after `n` lines, as far as they are read at once.
     fn put_at_once(&mut self, n: u64, text: &[u8]) -> WholeLines
         ensures takes { TakesLines text.now (drop result.size text.now) self.old.out self.new.out result.count }
         ensures start { self.new.start ≡ self.old.start }

@@ -52,7 +52,7 @@ fn register_before(text: &[u8]) -> Option<(u8, &[u8])>
     Some((number, &text[at + 1..]))
 }
 
-/// A register's number and a word count, where a space stands behind the name at this place.
+/// A register's number and a word count, where a space stands after the name at this place.
 pub(crate) fn access_at(text: &[u8], space: usize) -> Option<(u8, u32)>
     ensures { IfSome result (λ a. IsAccess (a.0, a.1) × (text.now ≡ access_text (a.0, a.1))) }
 {
@@ -116,7 +116,7 @@ fn count_of(digits: &[u8], limit: u32) -> Option<u32>
     Some(count as u32)
 }
 
-/// Appends the header of a type 2 write of so many words.
+/// Appends the header of a type 2 write of this many words.
 fn put_write2(out: &mut Vec<u8>, digits: &[u8]) -> bool
     requires { vec_len out.old + 32 ≤ vec_capacity out.old }
     ensures reads { Reads (λ n. n < 2 ^ 27) decimal (λ n. bytes_of_word (type2_write n)) result digits.now out.old.items out.new.items }
@@ -131,7 +131,7 @@ fn put_write2(out: &mut Vec<u8>, digits: &[u8]) -> bool
     }
 }
 
-/// Appends the header of a type 2 read of so many words.
+/// Appends the header of a type 2 read of this many words.
 fn put_read2(out: &mut Vec<u8>, digits: &[u8]) -> bool
     requires { vec_len out.old + 32 ≤ vec_capacity out.old }
     ensures reads { Reads (λ n. n < 2 ^ 27) decimal (λ n. bytes_of_word (type2_read n)) result digits.now out.old.items out.new.items }

@@ -105,7 +105,7 @@ fn put_count(text: &mut Vec<u8>, word: &[u8], count: u32)
     put(text, b"\n");
 }
 
-/// Appends a line of one word, behind four letters and a space.
+/// Appends a line of one word, after four letters and a space.
 fn put_whole_word(text: &mut Vec<u8>, word: &[u8; 5], w: u32)
     requires { vec_len text.old + 47 ≤ vec_capacity text.old }
     ensures appends { Appends text.old text.new (word.now ++ hex_word w ++ 10 ∷ []) 47 }
@@ -116,7 +116,7 @@ fn put_whole_word(text: &mut Vec<u8>, word: &[u8; 5], w: u32)
     put(text, &line);
 }
 
-/// Appends the line of a word in a header's place, behind an open line of `in_line` words.
+/// Appends the line of a word in a header's place, after an open line of `in_line` words.
 pub(crate) fn put_head(text: &mut Vec<u8>, in_line: usize, step: Step, w: u32)
     requires { vec_len text.old + 48 ≤ vec_capacity text.old }
     ensures appends { Appends text.old text.new (close in_line ++ text_of_head step w) 48 }
@@ -125,7 +125,7 @@ pub(crate) fn put_head(text: &mut Vec<u8>, in_line: usize, step: Step, w: u32)
     HeadLine::new(step, w).put(text);
 }
 
-/// Appends the line of a payload word of CMD, behind an open line of `in_line` words.
+/// Appends the line of a payload word of CMD, after an open line of `in_line` words.
 pub(crate) fn put_command(text: &mut Vec<u8>, in_line: usize, w: u32)
     requires { vec_len text.old + 48 ≤ vec_capacity text.old }
     ensures appends { Appends text.old text.new (close in_line ++ command_line w) 48 }
@@ -140,7 +140,7 @@ pub(crate) fn put_command(text: &mut Vec<u8>, in_line: usize, w: u32)
     put(text, b"\n");
 }
 
-/// Appends the line of a sync word, behind an open line of `in_line` bytes.
+/// Appends the line of a sync word, after an open line of `in_line` bytes.
 pub(crate) fn put_sync(text: &mut Vec<u8>, in_line: usize)
     requires { vec_len text.old + 48 ≤ vec_capacity text.old }
     ensures appends { Appends text.old text.new (close in_line ++ codes "sync\n") 48 }

@@ -139,7 +139,7 @@ fn hold_all(text: &mut Vec<u8>, pen: Pen, bytes: &[u8]) -> Pen
     }
 }
 
-/// Appends a payload word behind an open line of `in_line` words. Gives that count afterwards.
+/// Appends a payload word after an open line of `in_line` words. Gives that count afterwards.
 fn put_payload(text: &mut Vec<u8>, in_line: usize, register: u8, w: u32) -> usize
     requires within { in_line < 8 }
     requires room { vec_len text.old + 48 ≤ vec_capacity text.old }
@@ -154,7 +154,7 @@ fn put_payload(text: &mut Vec<u8>, in_line: usize, register: u8, w: u32) -> usiz
     put_word(text, in_line, w)
 }
 
-/// Appends payload words of one packet, one of CMD, behind an open line of `in_line` words. Gives that count afterwards.
+/// Appends payload words of one packet, one of CMD, after an open line of `in_line` words. Gives that count afterwards.
 fn put_body(text: &mut Vec<u8>, in_line: usize, register: u8, body: &[u8]) -> usize
     requires within { in_line < 8 }
     requires whole { length body.now ≡ 4 * (length body.now / 4) }

@@ -1,4 +1,4 @@
--- Lemmas on `TakesLines` of specs/Assembling: lines that are read at once, and the texts behind them.
+-- Lemmas on `TakesLines` of specs/Assembling: lines that are read at once, and the texts after them.
 use Rattle.std.proofs.Math.Seq.{drop-nil}
 use Rattle.std.proofs.Common.{◌≡◌, ℕ, zero, suc, ◌+◌, ◌-◌, ◌<◌, ◌≤◌, List, [], ◌∷◌, ◌++◌, length, map, fold, take, drop, get_or, refl, ap, sym, subst, ◌∙◌, arith, append_assoc, append-nil, length-append, length-drop, take_all}
 use Rattle.std.proofs.lemmas.Grind.{flat_map-append}
@@ -60,7 +60,7 @@ takes-both text mid rest old out new j k s t = record {
 pub left-from : (n : ℕ) (t : List ℕ) → n ≤ length t → take (length t - n) (drop n t) ≡ drop n t
 left-from n t h = take_all (length t - n) (drop n t) (omega (arith, length-drop n t))
 
--- lines that are read at once, and further ones behind them
+-- lines that are read at once, and further ones after them
 pub takes-more : (text old out new : List ℕ) (a n j k : ℕ) → a ≤ length text → TakesLines text (drop a text) old out j → TakesFirst (take (length text - a) (drop a text)) out new n k
     → (a + n ≤ length text) × TakesLines text (drop (a + n) text) old new (j + k)
 takes-more text old out new a n j k h s t =

@@ -23,7 +23,7 @@ use Rattle.x7_listing.specs.Fast.AtOnce.{words_in_row}
 use Rattle.x7_listing.specs.Line.{Bytes, Data}
 use Rattle.x7_listing.proofs.asm.fast.QuickLemmas.{takes-line}
 
--- words behind spaces, one after another
+-- words after spaces, one after another
 told-at : (n p : ℕ) (text : List ℕ) → p + 9 * n ≤ length text → ((k : ℕ) → k < n → get_or text (p + 9 * k) 0 ≡ 32) → take (p + 9 * n) text ≡ take p text ++ flat_map (λ (w : List ℕ). 32 ∷ w) (words_in_row text p n)
 told-at zero p text h s = ap (λ (k : ℕ). take k text) (let e : p + 9 * 0 ≡ p = omega arith in e) ∙ sym (append-nil (take p text))
 told-at (suc n) p text h s =

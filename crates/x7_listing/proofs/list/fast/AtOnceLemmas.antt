@@ -121,7 +121,7 @@ one_equal c w step synced s2 line l2 from held h2 text text2 given before bytes 
     took_run c c (Head w step) synced s2 line l2 held h2 text text2 given before bytes (bytes_of_word w) s takes is
     (by_head (Head w step) synced s2 line l2 from held h2 given text text2 w step refl same e f t)
 
--- equal words behind a line that has its end
+-- equal words after a line that has its end
 more_equal : (n : ℕ) (c : CutterState) (w : ℕ) (step : Step) (line : ℕ) (held text text2 given before bytes : List ℕ) → IsRun (Head w step) → TakesAsOneRun c c (bytes_of_word w) (Head w step) → line ≡ 0 → text2 ≡ text ++ equal_lines step w n
     → Tells (lister_of c true line held text) given before bytes → Tells (lister_of c true line held text2) given before (bytes ++ equal_bytes w n)
 more_equal zero c w step line held text text2 given before bytes is takes f t s =
@@ -183,7 +183,7 @@ short_told c d synced s2 line l2 from register count held h2 text text2 given be
     (t ∙ ap (λ (w : List ℕ). text ++ (close from ++ text_of_head (Open register count) (type1_write register count) ++ open_words 0 (payload_steps register w))) are ∙ sym (append_assoc text (close from ++ H) D))) in
     subst (Tells (lister_of d s2 l2 h2 text2) given before) (append_assoc bytes (bytes_of_word (type1_write register count)) (take (4 * count) (drop 4 rest)) ∙ ap (λ k. bytes ++ (k ++ take (4 * count) (drop 4 rest))) (sym x.bytes) ∙ ap (λ k. bytes ++ k) (sym (take-add 4 (4 * count) rest))) two
 
--- bytes of a gap and the sync word, behind a session
+-- bytes of a gap and the sync word, after a session
 gap_begun : (given text text1 start : List ℕ) (gap taken listed : List ℕ) → taken ≡ listed ++ sync_bytes → text1 ≡ text ++ open_text 32 (codes "bytes ") hex_byte 0 listed
     → GapListed (given ++ text) start 0 [] gap → GapListed (given ++ text1) start (in_line_after 32 0 listed) sync_bytes (gap ++ taken)
 gap_begun given text text1 start gap taken listed e f g = told_more given text text1 start 0 (in_line_after 32 0 listed) [] sync_bytes gap taken listed g e refl f refl
@@ -208,7 +208,7 @@ gap_told c d true s2 line l2 count held h2 text text2 given before bytes rest le
     ∙ sym (append_assoc text (open_text 32 (codes "bytes ") hex_byte 0 (take count rest)) (close (in_line_after 32 0 (take count rest)) ++ codes "sync\n")))) in
     subst (Tells (lister_of d s2 l2 h2 text2) given before) (append-nil (bytes ++ take (count + 4) rest)) two
 
--- the bytes that are left of a piece, and some of them behind those before
+-- the bytes that are left of a piece, and some of them after those before
 pub rest_length : (piece : List ℕ) (at : ℕ) → at ≤ length piece → length (take (length piece - at) (drop at piece)) ≡ length piece - at
 rest_length piece at h = length-take-le (length piece - at) (drop at piece) (omega (arith, length-drop at piece))
 

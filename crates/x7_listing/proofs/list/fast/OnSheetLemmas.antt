@@ -13,11 +13,11 @@ use Rattle.x7_listing.specs.HeadLine.{command_line, text_of_head}
 use Rattle.x7_listing.proofs.list.fast.AtOnceLemmas.{equal_block, equal_front, short_line-is}
 use Rattle.x7_listing.proofs.SessionLemmas.{word_line}
 
--- a row behind the end of an open line
+-- a row after the end of an open line
 pub row_behind : (shown begin row all new : List ℕ) (line : ℕ) → begin ≡ shown ++ close line → all ≡ begin ++ new → new ≡ row → all ≡ shown ++ (close line ++ row)
 row_behind shown begin row all new line e f g = f ∙ ap (λ t. begin ++ t) g ∙ ap (λ t. t ++ row) e ∙ append_assoc shown (close line) row
 
--- a text behind another
+-- a text after another
 pub behind_text : (text shown now more : List ℕ) → now ≡ shown ++ more → text ++ now ≡ (text ++ shown) ++ more
 behind_text text shown now more e = ap (λ t. text ++ t) e ∙ sym (append_assoc text shown more)
 

@@ -92,7 +92,7 @@ fn row_digits(text: &[u8]) -> [u8; 64]
     all.to_array()
 }
 
-/// Whether spaces stand where a `data` line of so many words has them.
+/// Whether spaces stand where a `data` line of this many words has them.
 #[inline(always)]
 fn has_spaces(text: &[u8], count: usize) -> bool
     requires long { 77 ≤ length text.now }

@@ -1,4 +1,4 @@
-//! A sheet of text: each piece is stored whole, as a fixed number of bytes, and the next one behind what of it is text. How
+//! A sheet of text: each piece is stored whole, as a fixed number of bytes, and the next one after what of it is text. How
 //! many bytes are text stands beside the sheet, not in it, so that it may stay in a register.
 ghost use Rattle.std.specs.Prelude.{◌≡◌, ◌≤◌, ◌+◌, ◌++◌, length, take};
 ghost use Rattle.x7_listing.specs.Fast.AtOnce.{row_text};
@@ -8,7 +8,7 @@ use std::simd::prelude::*;
 /// How many bytes a sheet has.
 pub(crate) const SHEET: usize = 2048;
 
-/// Stores a piece behind a text of `len` bytes, which its first `count` bytes go on. Gives how long the text is then.
+/// Stores a piece after a text of `len` bytes, which its first `count` bytes go on. Gives how long the text is then.
 #[inline(always)]
 pub(crate) fn put_prefix(sheet: &mut [u8; SHEET], len: usize, piece: &[u8], count: usize) -> usize
     requires room { len + length piece.now ≤ 2048 }
@@ -20,7 +20,7 @@ pub(crate) fn put_prefix(sheet: &mut [u8; SHEET], len: usize, piece: &[u8], coun
     len + count
 }
 
-/// Stores a piece behind a text of `len` bytes, which it goes on. Gives how long the text is then.
+/// Stores a piece after a text of `len` bytes, which it goes on. Gives how long the text is then.
 #[inline(always)]
 pub(crate) fn put_whole(sheet: &mut [u8; SHEET], len: usize, piece: &[u8]) -> usize
     requires room { len + length piece.now ≤ 2048 }
@@ -30,7 +30,7 @@ pub(crate) fn put_whole(sheet: &mut [u8; SHEET], len: usize, piece: &[u8]) -> us
     put_prefix(sheet, len, piece, piece.len())
 }
 
-/// Stores a row behind a text of `len` bytes, which the row's text goes on. Gives how long the text is then.
+/// Stores a row after a text of `len` bytes, which the row's text goes on. Gives how long the text is then.
 #[inline(always)]
 pub(crate) fn put_row(sheet: &mut [u8; SHEET], len: usize, row: &[u8; 32]) -> usize
     requires room { len + 32 ≤ 2048 }

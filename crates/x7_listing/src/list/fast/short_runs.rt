@@ -50,7 +50,7 @@ fn put_close(sheet: &mut [u8; SHEET], len: usize, in_line: usize) -> usize
     put_whole(sheet, len, b"\n")
 }
 
-/// Puts the lines of a write of a word to CMD, behind an open line of `in_line` words.
+/// Puts the lines of a write of a word to CMD, after an open line of `in_line` words.
 #[inline(always)]
 fn put_command(sheet: &mut [u8; SHEET], len: usize, in_line: usize, w: u32) -> usize
     requires room { len + 42 ≤ 2048 }
@@ -66,7 +66,7 @@ fn put_command(sheet: &mut [u8; SHEET], len: usize, in_line: usize, w: u32) -> u
     put_whole(sheet, end, b"\n")
 }
 
-/// Puts the lines of a write of one word, behind an open line of `in_line` words.
+/// Puts the lines of a write of one word, after an open line of `in_line` words.
 #[inline(always)]
 fn put_one_word(sheet: &mut [u8; SHEET], len: usize, in_line: usize, register: u8, w: u32) -> End
     requires range { register < 32 }
@@ -104,7 +104,7 @@ fn put_count(sheet: &mut [u8; SHEET], len: usize, count: usize) -> usize
     put_whole(sheet, len, &[b'1', b'0' + (count - 10) as u8, b'\n'])
 }
 
-/// Puts the line of the header of a write of a few words, behind an open line of `in_line` words.
+/// Puts the line of the header of a write of a few words, after an open line of `in_line` words.
 #[inline(always)]
 fn put_head(
     sheet: &mut [u8; SHEET],
@@ -167,7 +167,7 @@ fn put_words(sheet: &mut [u8; SHEET], len: usize, bytes: &[u8; 64], count: usize
     put_in_row(sheet, start, &rows[1], count - 8)
 }
 
-/// Puts the lines of a short gap and of the sync word behind it.
+/// Puts the lines of a short gap and of the sync word after it.
 #[inline(always)]
 fn put_bytes_and_sync(sheet: &mut [u8; SHEET], len: usize, bytes: &[u8; 32], count: usize) -> usize
     requires few { count < 32 }
@@ -182,7 +182,7 @@ fn put_bytes_and_sync(sheet: &mut [u8; SHEET], len: usize, bytes: &[u8; 32], cou
     put_whole(sheet, end, b"\nsync\n")
 }
 
-/// What was put on a sheet: the pen behind it, how long the sheet's text is then, and how many bytes of the piece it was.
+/// What was put on a sheet: the pen after it, how long the sheet's text is then, and how many bytes of the piece it was.
 #[derive(Clone, Copy)]
 struct Next {
     pen: Pen,
@@ -276,7 +276,7 @@ fn put_few_nops(sheet: &mut [u8; SHEET], len: usize, pen: Pen, count: usize) -> 
     }
 }
 
-/// Puts what a gap behind a session adds, and the sync word behind it, which begin these bytes.
+/// Puts what a gap after a session adds, and the sync word after it, which begin these bytes.
 #[inline(always)]
 fn put_gap(sheet: &mut [u8; SHEET], len: usize, pen: Pen, count: usize, rest: &[u8]) -> Next
     requires session { pen.synced ≡ true }
@@ -344,7 +344,7 @@ fn may_come(rest: &[u8]) -> bool {
     *first == WRITE || *first == NO_OP
 }
 
-/// What was taken at once: the pen behind it, and how many bytes it has.
+/// What was taken at once: the pen after it, and how many bytes it has.
 #[derive(Clone, Copy)]
 pub(crate) struct Taken {
     pub(crate) pen: Pen,

@@ -15,7 +15,7 @@ use Rattle.x7_engine.proofs.PastLemmas.{past_later}
 use Rattle.x7_engine.proofs.UntilLemmas.{quiet_commands}
 use Rattle.x7_engine.proofs.device.Device.pass_nops.Goals as goal
 
--- the device before the no-ops, and behind them
+-- the device before the no-ops, and after them
 abbrev device_before : goal.After-self-2-1 → DeviceState
 device_before c = record { part = c.self.inside.part; cutter = c.self.inside.cutter; registers = registers_in c.self.inside.registers; wrapped = c.self.inside.wrapped; taken = c.self.inside.taken; fed = c.self.inside.fed }
 

@@ -18,7 +18,7 @@ run-left-requires-clause-holds c =
     holds_run c.self.inside.cutter c.cut-run.new.self c.cut-run.result (length c.args.piece.now - c.args.at.now) (c.cut-run.new.at - c.args.at.now) cut c.cut-run.ensures.lent c.cut-run.ensures.joined
     (sym (length_between c.args.piece.now c.args.at.now c.cut-run.new.at c.cut-run.ensures.forward c.cut-run.ensures.within))
 
--- the device before the run, and behind it
+-- the device before the run, and after it
 abbrev device_before : goal.After-is_done → DeviceState
 device_before c = record { part = c.self.inside.part; cutter = c.self.inside.cutter; registers = registers_in c.self.inside.registers; wrapped = c.self.inside.wrapped; taken = c.self.inside.taken; fed = c.self.inside.fed }
 

@@ -12,7 +12,7 @@ use Rattle.x7_engine.proofs.PastLemmas.{past_later}
 use Rattle.x7_engine.proofs.WriteLemmas.{write_at}
 use Rattle.x7_engine.proofs.device.Device.take_write.Goals as goal
 
--- the device before the write, and behind it
+-- the device before the write, and after it
 abbrev device_before : goal.After-self-2-1 → DeviceState
 device_before c = record { part = c.self.inside.part; cutter = c.self.inside.cutter; registers = registers_in c.self.inside.registers; wrapped = c.self.inside.wrapped; taken = c.self.inside.taken; fed = c.self.inside.fed }
 

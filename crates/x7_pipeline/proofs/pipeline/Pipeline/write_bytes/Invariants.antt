@@ -5,7 +5,7 @@ use Rattle.x7_pipeline.specs.Pipeline.{AreOf}
 use Rattle.x7_pipeline.proofs.WordLemmas.{ReachesRun}
 use Rattle.x7_pipeline.proofs.pipeline.Pipeline.write_bytes.Given as goal
 
--- so many bytes were written
+-- this many bytes were written
 abbrev pub invariant-somes : goal.invariant-somes
 invariant-somes l = record {
   part : AreOf l.part l.self l.memory;

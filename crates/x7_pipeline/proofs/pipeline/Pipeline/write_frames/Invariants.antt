@@ -5,7 +5,7 @@ use Rattle.x7_pipeline.specs.Pipeline.{AreOf}
 use Rattle.x7_pipeline.proofs.FrameLemmas.{WritesFrames}
 use Rattle.x7_pipeline.proofs.pipeline.Pipeline.write_frames.Given as goal
 
--- whole frames were written, so many bytes
+-- whole frames were written, this many bytes
 abbrev pub invariant-frames : goal.invariant-frames
 invariant-frames l = record {
   part : AreOf l.part l.self l.memory;
