@@ -2,6 +2,8 @@
 #![tactic(auto)]
 
 #[cfg(test)]
+mod boots;
+#[cfg(test)]
 mod faults;
 #[cfg(test)]
 mod forgetful;
@@ -23,5 +25,7 @@ mod status;
 mod streams;
 #[cfg(test)]
 mod texts;
+#[cfg(test)]
+mod tiny;
 #[cfg(test)]
 mod updates;

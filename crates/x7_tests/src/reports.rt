@@ -1,15 +1,9 @@
-//! The report of a device and the text of a boot, each made at once.
+//! The report of a device, made at once.
+use crate::tiny::TINY;
 use std::alloc::Global;
-use x7_boot::boot;
 use x7_engine::Device;
-use x7_in_memory::MemoryFlash;
 use x7_part::part_of;
-use x7_tool::{boot_text, report};
-use x7_words::Flash;
-
-/// A part with four frames.
-const TINY: &[u8] =
-    b"name = \"tiny\"\nidcode = 0x0362D093\nmode = 1\nrow = [{block = 0, half = 0, row = 0, minors = [2]}, {block = 0, half = 1, row = 0, minors = [2]}]\n";
+use x7_tool::report;
 
 /// The report of a new device of the part, and of two words.
 const NEW: &[u8] =
@@ -23,44 +17,13 @@ fn reported(alloc: Global, reads: &[u32]) -> Option<Vec<u8>> {
     let Ok(device) = Device::new(alloc, &part) else {
         return None;
     };
-    match report(alloc, &device, reads) {
-        Ok(text) => Some(text),
-        Err(_) => None,
-    }
+    report(alloc, &device, reads).ok()
 }
 
 #[test]
 fn the_report_of_a_new_device(rt: HostRuntime) {
-    assert!(rt; reported(rt.alloc(), &[1, 0xFFFF_FFFF]).is_some_and(|text| text.as_slice() == NEW));
-}
-
-/// The first lines of a boot whose two attempts end at a wrong check.
-const CRC: &[u8] =
-    b"boot tiny\nattempt 1 power 00000000 crc\nattempt 2 fallback 00000000 crc\nend stopped\npart tiny\ntaken 12\nend fault Crc 00000000 00000001\n";
-
-/// The text of a boot of the part from a flash of these bytes; none without memory.
-fn booted(alloc: Global, bytes: &[u8]) -> Option<Vec<u8>> {
-    let Ok(part) = part_of(alloc, TINY) else {
-        return None;
+    let Some(text) = reported(rt.alloc(), &[1, 0xFFFF_FFFF]) else {
+        panic!(rt; "no memory")
     };
-    let Ok(mut flash) = MemoryFlash::new(alloc, "f", bytes) else {
-        return None;
-    };
-    if flash.attach("f").is_err() {
-        return None;
-    }
-    let Ok(booted) = boot(alloc, &part, &mut flash) else {
-        return None;
-    };
-    match boot_text(alloc, &booted) {
-        Ok(text) => Some(text),
-        Err(_) => None,
-    }
-}
-
-#[test]
-fn the_text_of_a_boot_that_stops(rt: HostRuntime) {
-    let wrong_check = b"\xAA\x99\x55\x66\x30\0\0\x01\0\0\0\x01";
-    let text = booted(rt.alloc(), wrong_check.as_slice());
-    assert!(rt; text.is_some_and(|text| text.len() == 453 && text.starts_with(CRC)));
+    assert!(rt; text.as_slice() == NEW);
 }

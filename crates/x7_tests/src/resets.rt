@@ -1,11 +1,9 @@
 //! A device that is reset as if attempts of a boot were before.
+use crate::tiny::TINY;
 use std::alloc::Global;
 use x7_engine::{Device, Fed, Kept, ReadBuf};
 use x7_part::part_of;
 use x7_regs::{Attempt, Cause, Kind};
-
-const TINY: &[u8] =
-    b"name = \"tiny\"\nidcode = 0x0362D093\nmode = 1\nrow = [{block = 0, half = 0, row = 0, minors = [2]}, {block = 0, half = 1, row = 0, minors = [2]}]\n";
 
 /// The sync word, and IPROG written to CMD.
 const IPROG: [u8; 12] = [

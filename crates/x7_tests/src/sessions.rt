@@ -1,33 +1,20 @@
 //! How many bytes the moves of a debug session give to its device.
+use crate::tiny::TINY;
 use std::alloc::Global;
 use x7_debug::Session;
 use x7_engine::{Device, ReadBuf};
 use x7_part::{Part, part_of};
-use x7_words::bytes_of;
-
-/// Four frames of 101 words.
-const TINY: &[u8] =
-    b"name = \"tiny\"\nidcode = 0x0362D093\nmode = 1\nrow = [{block = 0, half = 0, row = 0, minors = [2]}, {block = 0, half = 1, row = 0, minors = [2]}]\n";
 
 /// What comes before the frame data of a write to frame 00000001: the sync word, IDCODE, WCFG, FAR, and FDRI with 202 words.
-const BEFORE: [u32; 9] = [
-    0xAA99_5566,
-    0x3001_8001,
-    0x0362_D093,
-    0x3000_8001,
-    0x0000_0001,
-    0x3000_2001,
-    0x0000_0001,
-    0x3000_4000,
-    0x5000_00CA,
+#[rattlefmt::skip]
+const BEFORE: [u8; 36] = [
+    0xAA, 0x99, 0x55, 0x66, 0x30, 0x01, 0x80, 0x01, 0x03, 0x62, 0xD0, 0x93, 0x30, 0x00, 0x80, 0x01, 0x00, 0x00, 0x00, 0x01, //
+    0x30, 0x00, 0x20, 0x01, 0x00, 0x00, 0x00, 0x01, 0x30, 0x00, 0x40, 0x00, 0x50, 0x00, 0x00, 0xCA,
 ];
 
 /// A stream of 844 bytes that writes frame 00000001: a frame and a pad frame after 36 bytes; none without memory.
 fn frame_write(alloc: Global) -> Option<Vec<u8>> {
-    let mut stream = Vec::new(alloc);
-    for word in BEFORE {
-        stream.extend_from_slice(&bytes_of(word)).ok()?;
-    }
+    let mut stream = Vec::from_slice(alloc, &BEFORE).ok()?;
     stream.resize(440, 0xAA).ok()?;
     stream.resize(844, 0).ok()?;
     Some(stream)
@@ -36,11 +23,14 @@ fn frame_write(alloc: Global) -> Option<Vec<u8>> {
 /// Whether a device shows what a new one does that is fed the stream's first `count` bytes; none without memory.
 fn is_as_played(alloc: Global, part: &Part, device: &Device, count: usize) -> Option<bool> {
     let stream = frame_write(alloc)?;
-    let Ok(mut fresh) = Device::new(alloc, part) else {
-        return None;
-    };
-    fresh.feed(stream.get(..count)?, &mut ReadBuf::dropping());
-    Some(fresh.state() == device.state())
+    let bytes = stream.get(..count)?;
+    match Device::new(alloc, part) {
+        Ok(mut fresh) => {
+            fresh.feed(bytes, &mut ReadBuf::dropping());
+            Some(fresh.state() == device.state())
+        }
+        Err(_) => None,
+    }
 }
 
 /// By how much a move back by `count` bytes raises what the session's device was fed, and whether the device is then as one that
@@ -52,20 +42,26 @@ fn went_back(alloc: Global, part: &Part, session: &mut Session, count: u64) -> O
     Some((session.device().fed().wrapping_sub(fed), played))
 }
 
-/// What moves back by 4, 252 and 500 bytes from the stream's end raise; none without memory.
+/// What moves back by 4, 252 and 500 bytes from byte 844 raise; none without memory.
+fn moves_of(alloc: Global, part: &Part, session: &mut Session) -> Option<[(u64, bool); 3]> {
+    session.go(844);
+    Some([
+        went_back(alloc, part, session, 4)?,
+        went_back(alloc, part, session, 252)?,
+        went_back(alloc, part, session, 500)?,
+    ])
+}
+
+/// What the moves raise in a session of the stream; none without memory.
 fn moves_back(alloc: Global) -> Option<[(u64, bool); 3]> {
+    let stream = frame_write(alloc)?;
     let Ok(part) = part_of(alloc, TINY) else {
         return None;
     };
-    let Ok(mut session) = Session::new(alloc, &part, frame_write(alloc)?) else {
-        return None;
-    };
-    session.go(844);
-    Some([
-        went_back(alloc, &part, &mut session, 4)?,
-        went_back(alloc, &part, &mut session, 252)?,
-        went_back(alloc, &part, &mut session, 500)?,
-    ])
+    match Session::new(alloc, &part, stream) {
+        Ok(mut session) => moves_of(alloc, &part, &mut session),
+        Err(_) => None,
+    }
 }
 
 #[test]

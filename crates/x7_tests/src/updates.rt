@@ -2,8 +2,7 @@
 use crate::forgetful::Forgetful;
 use std::alloc::{AllocError, Global};
 use std::os::unix::fs::symlink;
-use std::path::PathBuf;
-use std::test::Fail;
+use std::path::{Path, PathBuf};
 use std::{env, fs, process};
 use x7_in_memory::{MemoryFlash, MemoryInputs, MemorySink};
 use x7_tool::run;
@@ -16,30 +15,32 @@ const FREE: [u8; 4] = [0xFF; 4];
 
 const SPENT: [u8; 4] = [0; 4];
 
-/// The words of a slot after its switch word, which lead to 131,072.
+/// A free slot: its switch word, and the words that lead to 131,072.
 #[rattlefmt::skip]
-const LEAD: [u8; 28] = [
-    0x20, 0x00, 0x00, 0x00, 0x30, 0x02, 0x00, 0x01, 0x00, 0x02, 0x00, 0x00, //
+const SLOT: [u8; 32] = [
+    0xFF, 0xFF, 0xFF, 0xFF, 0x20, 0x00, 0x00, 0x00, 0x30, 0x02, 0x00, 0x01, 0x00, 0x02, 0x00, 0x00, //
     0x30, 0x00, 0x80, 0x01, 0x00, 0x00, 0x00, 0x0F, 0x30, 0x00, 0x80, 0x01, 0x00, 0x00, 0x00, 0x0D,
 ];
 
+/// What stands behind the slots: up to a length a byte again and again. A golden stream, an update, and erased bytes.
+const BEHIND: [(usize, u8); 3] = [(131072, 0x11), (131172, 0x22), (262144, 0xFF)];
+
 /// A flash of four sectors: slots, of which the first is open, a golden stream of 65,536 bytes 11, an update of 22.
 fn image(alloc: Global) -> Result<Vec<u8>, AllocError> {
-    let mut all = Vec::new(alloc);
-    for slot in 0..2048 {
-        all.extend_from_slice(if slot == 0 { &OPEN } else { &FREE })?;
-        all.extend_from_slice(&LEAD)?;
+    let mut all = Vec::from_slice(alloc, &OPEN)?;
+    all.extend_from_slice(&SLOT[4..])?;
+    for _ in 1..2048 {
+        all.extend_from_slice(&SLOT)?;
     }
-    all.resize(131072, 0x11)?;
-    all.resize(131172, 0x22)?;
-    all.resize(262144, 0xFF)?;
+    for (length, byte) in BEHIND {
+        all.resize(length, byte)?;
+    }
     Ok(all)
 }
 
 /// The stream of an update: 70,000 bytes.
 fn stream(alloc: Global) -> Result<Vec<u8>, AllocError> {
-    let mut all = Vec::new(alloc);
-    all.resize(16, 0xFF)?;
+    let mut all = Vec::from_slice(alloc, &[0xFF; 16])?;
     all.resize(70000, 0x35)?;
     Ok(all)
 }
@@ -52,119 +53,233 @@ fn stands_at(all: &[u8], place: usize, bytes: &[u8]) -> bool {
     }
 }
 
-/// Runs `update NAME n` over the flash; the status, and the message.
-fn run_over<F: Flash>(alloc: Global, flash: &mut F, name: &str) -> Result<(u8, Vec<u8>), Fail> {
-    let mut words = Vec::new(alloc);
+/// The words of `update NAME n`.
+fn words_of(alloc: Global, name: &str) -> Result<Vec<String>, AllocError> {
+    let mut words = Vec::with_capacity(alloc, 3)?;
     for word in ["update", name, "n"] {
         words.push(String::from_str(alloc, word)?)?;
     }
+    Ok(words)
+}
+
+/// Inputs that have the stream under the name `n`; none without memory.
+fn inputs_of(alloc: Global) -> Option<MemoryInputs> {
+    let stream = stream(alloc).ok()?;
     let mut inputs = MemoryInputs::new(alloc);
-    inputs.put("n", &stream(alloc)?)?;
-    let mut out = MemorySink::new(alloc, 10)?;
-    let mut err = MemorySink::new(alloc, 200)?;
-    let status = run(alloc, &words, &mut inputs, flash, &mut out, &mut err);
-    let mut message = Vec::new(alloc);
-    message.extend_from_slice(out.bytes())?;
-    message.extend_from_slice(err.bytes())?;
-    Ok((status.number(), message))
+    match inputs.put("n", &stream) {
+        Ok(()) => Some(inputs),
+        Err(_) => None,
+    }
 }
 
-/// A flash in memory that holds the image, with room for an update.
-fn flash_of(alloc: Global) -> Result<MemoryFlash, Fail> {
-    let mut flash = MemoryFlash::new(alloc, "i", &image(alloc)?)?;
-    flash.make_room(20, 1000000)?;
-    Ok(flash)
+/// Runs `update NAME n` over the flash: the status; none without memory.
+fn run_on<F: Flash>(
+    alloc: Global,
+    flash: &mut F,
+    name: &str,
+    out: &mut MemorySink,
+    err: &mut MemorySink,
+) -> Option<u8> {
+    let words = words_of(alloc, name).ok()?;
+    match inputs_of(alloc) {
+        Some(mut inputs) => Some(run(alloc, &words, &mut inputs, flash, out, err).number()),
+        None => None,
+    }
 }
 
-/// A new file that holds the image.
-fn file_of(rt: &HostRuntime, kind: &str) -> Result<PathBuf, Fail> {
-    let folder = env::temp_dir(rt)?;
-    let name = format!(in rt.alloc(); "x7-{kind}-{}", process::id(rt.process()))?;
-    let path = folder.join(rt.alloc(), name.as_str())?;
-    fs::write(rt, path.as_path(), image(rt.alloc())?.as_slice())?;
-    Ok(path)
+/// Runs `update NAME n` over the flash: the status, and whether it was so with this message and no text; none without memory.
+fn run_over<F: Flash>(
+    alloc: Global,
+    flash: &mut F,
+    name: &str,
+    message: &[u8],
+) -> Option<(u8, bool)> {
+    let mut out = MemorySink::new(alloc, 10).ok()?;
+    let mut err = MemorySink::new(alloc, 200).ok()?;
+    match run_on(alloc, flash, name, &mut out, &mut err) {
+        Some(status) => Some((status, out.bytes().is_empty() && err.bytes() == message)),
+        None => None,
+    }
+}
+
+/// A flash in memory that holds the image, with room for an update; none without memory.
+fn flash_of(alloc: Global) -> Option<MemoryFlash> {
+    let image = image(alloc).ok()?;
+    let mut flash = MemoryFlash::new(alloc, "i", &image).ok()?;
+    match flash.make_room(20, 1000000) {
+        Ok(()) => Some(flash),
+        Err(_) => None,
+    }
 }
 
 #[test]
-fn a_byte_that_was_lost_differs(rt: HostRuntime) -> Result<(), Fail> {
-    let mut flash = Forgetful {
-        flash: flash_of(rt.alloc())?,
+fn a_byte_that_was_lost_differs(rt: HostRuntime) {
+    let Some(flash) = flash_of(rt.alloc()) else {
+        panic!(rt; "no memory")
     };
-    let (status, message) = run_over(rt.alloc(), &mut flash, "i")?;
-    assert!(rt; status == 11);
-    assert!(rt; message.as_slice() == b"x7: differs i: byte 131088\n".as_slice());
-    assert!(rt; stands_at(flash.flash.bytes(), 0, &SPENT));
-    assert!(rt; stands_at(flash.flash.bytes(), 32, &FREE));
-    Ok(())
+    let mut flash = Forgetful { flash };
+    let message = b"x7: differs i: byte 131088\n";
+    assert!(rt; run_over(rt.alloc(), &mut flash, "i", message) == Some((11, true)));
+    let left = flash.flash.bytes();
+    assert!(rt; stands_at(left, 0, &SPENT) && stands_at(left, 32, &FREE));
+}
+
+/// A path of this kind in the folder of temporary files; none without memory.
+fn path_of(rt: &HostRuntime, kind: &str) -> Option<PathBuf> {
+    let folder = env::temp_dir(rt).ok()?;
+    let name = format!(in rt.alloc(); "x7-{kind}-{}", process::id(rt.process())).ok()?;
+    folder.join(rt.alloc(), name.as_str()).ok()
+}
+
+/// Writes the image into a file; none where that can't be done.
+fn put_image(rt: &HostRuntime, path: Path<'_>) -> Option<()> {
+    let image = image(rt.alloc()).ok()?;
+    fs::write(rt, path, image.as_slice()).ok()
+}
+
+/// The bytes of a file, which is removed; none where that can't be done.
+fn taken(rt: &HostRuntime, path: Path<'_>) -> Option<Vec<u8>> {
+    let bytes = fs::read(rt, path).ok()?;
+    match fs::remove_file(rt, path) {
+        Ok(()) => Some(bytes),
+        Err(_) => None,
+    }
+}
+
+/// The status of an update of a flash by this name; none without memory.
+fn status_of<F: Flash>(alloc: Global, flash: &mut F, name: &str) -> Option<u8> {
+    match run_over(alloc, flash, name, b"") {
+        Some((status, _)) => Some(status),
+        None => None,
+    }
+}
+
+/// Updates a flash in memory: the status, and whether it then holds these bytes; none without memory.
+fn updated_in_memory(alloc: Global, bytes: &[u8]) -> Option<(u8, bool)> {
+    let mut flash = flash_of(alloc)?;
+    match status_of(alloc, &mut flash, "i") {
+        Some(status) => Some((status, flash.bytes() == bytes)),
+        None => None,
+    }
+}
+
+/// The status of an update of a new file at the path; none where it can't be made.
+fn status_at(rt: &HostRuntime, path: Path<'_>) -> Option<u8> {
+    put_image(rt, path)?;
+    let mut file = FileFlash::new(rt);
+    status_of(rt.alloc(), &mut file, path.as_str())
+}
+
+/// Updates a file: the status, and the file's bytes then; none where that can't be done.
+fn updated_in_file(rt: &HostRuntime) -> Option<(u8, Vec<u8>)> {
+    let path = path_of(rt, "updated")?;
+    let status = status_at(rt, path.as_path())?;
+    match taken(rt, path.as_path()) {
+        Some(bytes) => Some((status, bytes)),
+        None => None,
+    }
 }
 
 #[test]
-fn a_file_is_updated_as_a_flash_in_memory(rt: HostRuntime) -> Result<(), Fail> {
-    let path = file_of(&rt, "updated")?;
-    let mut file = FileFlash::new(&rt);
-    let (status, _) = run_over(rt.alloc(), &mut file, path.as_path().as_str())?;
-    let bytes = fs::read(&rt, path.as_path())?;
-    fs::remove_file(&rt, path.as_path())?;
-    let mut flash = flash_of(rt.alloc())?;
-    let (other, _) = run_over(rt.alloc(), &mut flash, "i")?;
+fn a_file_is_updated_as_a_flash_in_memory(rt: HostRuntime) {
+    let Some((status, bytes)) = updated_in_file(&rt) else {
+        panic!(rt; "no memory or no file")
+    };
     assert!(rt; status == 0);
-    assert!(rt; other == 0);
-    assert!(rt; flash.bytes() == bytes.as_slice());
-    Ok(())
+    assert!(rt; updated_in_memory(rt.alloc(), &bytes) == Some((0, true)));
+}
+
+/// The statuses of updates by a link, by the link once it is removed, and of a folder; none where that can't be done.
+fn statuses_of<F: Flash>(
+    rt: &HostRuntime,
+    flash: &mut F,
+    link: Path<'_>,
+    folder: Path<'_>,
+) -> Option<(u8, u8, u8)> {
+    let linked = status_of(rt.alloc(), flash, link.as_str())?;
+    fs::remove_file(rt, link).ok()?;
+    let gone = status_of(rt.alloc(), flash, link.as_str())?;
+    let no_file = status_of(rt.alloc(), flash, folder.as_str())?;
+    Some((linked, gone, no_file))
+}
+
+/// The statuses over a new file and a new link to it; none where that can't be done.
+fn statuses_by_link(rt: &HostRuntime, path: Path<'_>, link: Path<'_>) -> Option<(u8, u8, u8)> {
+    put_image(rt, path)?;
+    symlink(rt, path, link).ok()?;
+    let folder = env::temp_dir(rt).ok()?;
+    let mut file = FileFlash::new(rt);
+    statuses_of(rt, &mut file, link, folder.as_path())
+}
+
+/// The statuses of updates by a link to a file, by the link once it is removed, and of a folder, and whether the file's first
+/// free slot was opened; none where that can't be done.
+fn linked(rt: &HostRuntime) -> Option<((u8, u8, u8), bool)> {
+    let path = path_of(rt, "linked")?;
+    let link = path_of(rt, "link")?;
+    let statuses = statuses_by_link(rt, path.as_path(), link.as_path())?;
+    match taken(rt, path.as_path()) {
+        Some(bytes) => Some((statuses, stands_at(&bytes, 32, &OPEN))),
+        None => None,
+    }
 }
 
 #[test]
-fn a_link_is_its_file_and_a_folder_is_none(rt: HostRuntime) -> Result<(), Fail> {
-    let path = file_of(&rt, "linked")?;
-    let folder = env::temp_dir(&rt)?;
-    let name = format!(in rt.alloc(); "x7-link-{}", process::id(rt.process()))?;
-    let link = folder.join(rt.alloc(), name.as_str())?;
-    symlink(&rt, path.as_path(), link.as_path())?;
-    let mut file = FileFlash::new(&rt);
-    let (linked, _) = run_over(rt.alloc(), &mut file, link.as_path().as_str())?;
-    let bytes = fs::read(&rt, path.as_path())?;
-    fs::remove_file(&rt, link.as_path())?;
-    let (gone, _) = run_over(rt.alloc(), &mut file, link.as_path().as_str())?;
-    let (no_file, _) = run_over(rt.alloc(), &mut file, folder.as_path().as_str())?;
-    fs::remove_file(&rt, path.as_path())?;
-    assert!(rt; linked == 0);
-    assert!(rt; stands_at(&bytes, 32, &OPEN));
-    assert!(rt; gone == 3);
-    assert!(rt; no_file == 6);
-    Ok(())
+fn a_link_is_its_file_and_a_folder_is_none(rt: HostRuntime) {
+    assert!(rt; linked(&rt) == Some(((0, 3, 6), true)));
 }
 
-/// Attaches a file, writes these bytes in its place, and updates it; the answer, and what the file holds then.
+/// Attaches a file, writes these bytes in its place, and updates it; none where that can't be done.
+fn answer_of(rt: &HostRuntime, path: Path<'_>, bytes: &[u8]) -> Option<Result<(), UpdateFault>> {
+    put_image(rt, path)?;
+    let mut file = FileFlash::new(rt);
+    if file.attach(path.as_str()).is_err() || fs::write(rt, path, bytes).is_err() {
+        return None;
+    }
+    Some(update(rt.alloc(), &mut file, b"new"))
+}
+
+/// What an update of a file comes to in whose place these bytes are written once it is attached, and what the file holds then;
+/// none where that can't be done.
 fn changed(
     rt: &HostRuntime,
     kind: &str,
     bytes: &[u8],
-) -> Result<(Result<(), UpdateFault>, Vec<u8>), Fail> {
-    let path = file_of(rt, kind)?;
-    let mut file = FileFlash::new(rt);
-    file.attach(path.as_path().as_str())?;
-    fs::write(rt, path.as_path(), bytes)?;
-    let answer = update(rt.alloc(), &mut file, b"new");
-    let left = fs::read(rt, path.as_path())?;
-    fs::remove_file(rt, path.as_path())?;
-    Ok((answer, left))
+) -> Option<(Result<(), UpdateFault>, Vec<u8>)> {
+    let path = path_of(rt, kind)?;
+    let answer = answer_of(rt, path.as_path(), bytes)?;
+    match taken(rt, path.as_path()) {
+        Some(left) => Some((answer, left)),
+        None => None,
+    }
 }
 
 #[test]
-fn a_file_that_shrank_cannot_be_read(rt: HostRuntime) -> Result<(), Fail> {
-    let (answer, left) = changed(&rt, "shrank", b"short")?;
-    assert!(rt; answer == Err(UpdateFault::Failed { writing: false }));
-    assert!(rt; left.as_slice() == b"short".as_slice());
-    Ok(())
+fn a_file_that_shrank_cannot_be_read(rt: HostRuntime) {
+    let Some((answer, left)) = changed(&rt, "shrank", b"short") else {
+        panic!(rt; "no memory or no file")
+    };
+    assert!(rt;
+        answer == Err(UpdateFault::Failed { writing: false })
+            && left.as_slice() == b"short".as_slice()
+    );
+}
+
+/// The image, and bytes behind it; none without memory.
+fn grown(alloc: Global) -> Result<Vec<u8>, AllocError> {
+    let mut all = image(alloc)?;
+    all.extend_from_slice(b"grown")?;
+    Ok(all)
 }
 
 #[test]
-fn a_file_that_grew_is_updated_as_far_as_it_was_attached(rt: HostRuntime) -> Result<(), Fail> {
-    let mut grown = image(rt.alloc())?;
-    grown.extend_from_slice(b"grown")?;
-    let (answer, left) = changed(&rt, "grew", &grown)?;
+fn a_file_that_grew_is_updated_as_far_as_it_was_attached(rt: HostRuntime) {
+    let Ok(grown) = grown(rt.alloc()) else {
+        panic!(rt; "no memory")
+    };
+    let Some((answer, left)) = changed(&rt, "grew", &grown) else {
+        panic!(rt; "no memory or no file")
+    };
     assert!(rt; answer == Ok(()));
-    assert!(rt; stands_at(&left, 131072, b"new\xFF"));
-    assert!(rt; stands_at(&left, 262144, b"grown"));
-    Ok(())
+    assert!(rt; stands_at(&left, 131072, b"new\xFF") && stands_at(&left, 262144, b"grown"));
 }
