@@ -279,12 +279,13 @@ piece_of (x ∷ old) mid piece all bytes n a b c e s f h g = record {
 }
 
 -- the beginning that was read
-pub beginning_read : (old mid piece bytes line : List ℕ) (n start : ℕ) (last : Bool) (s0 s1 s2 : InputsState) → IsPiece old piece bytes n → mid ≡ old ++ piece → bytes ≡ mid → Reads s0 old s1 → Takes s1 piece s2 → s2.asked ≡ s1.asked → Stays s1 s2 → (last ≡ true → AtEnd s2.rest)
+pub beginning_read : (old mid piece bytes line : List ℕ) (n start : ℕ) (last : Bool) (s0 s1 s2 : InputsState) → IsPiece old piece bytes n → mid ≡ old ++ piece → bytes ≡ mid → Reads s0 old s1 → Takes s1 piece s2 → s2.asked ≡ s1.asked → Stays s1 s2 → (last ≡ true → AtEnd s2.rest) → (last ≡ false → s2.ends ≤ s0.ends)
     → length old ≤ longest_header → length piece ≤ turn_bytes → (start ≤ length bytes) × IsBeginning bytes last line start → BeginAt bytes start → ReadsBeginning mid line start last s0 s2
-beginning_read old mid piece bytes line n start last s0 s1 s2 p a b r t q k e few short j begin =
+beginning_read old mid piece bytes line n start last s0 s1 s2 p a b r t q k e more few short j begin =
     subst (λ (m : List ℕ). ReadsBeginning m line start last s0 s2) b (record {
       reads = reads_as s0 s2 bytes (old ++ piece) (b ∙ a) (reads_on s0 s1 s2 old piece r t q k);
       end = e;
+      goes = more;
       within = j.0;
       few = omega (arith, few, short, ap length (b ∙ a), length-append old piece);
       holds_few = holds_few old piece bytes n start p begin;

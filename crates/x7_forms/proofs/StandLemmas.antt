@@ -1,7 +1,7 @@
 -- Lemmas on the last input that was asked for, and on how few bytes of it are given.
 use Rattle.std.proofs.Common.{◌≡◌, ◌<◌, ◌≤◌, ◌+◌, ◌-◌, ℕ, Bool, true, false, if◌then◌else◌, List, [], ◌∷◌, ◌++◌, Option, None, Some, Result, Ok, Err, append_assoc, drop, length, length-append, map, suc, add-one, get_or, inl, inr, refl, subst, sym, ap, ◌∙◌, arith}
 use Rattle.std.specs.Prelude.{IfSome, nat_lt}
-use Rattle.x7_words.specs.Input.{Asks, InputsState}
+use Rattle.x7_words.specs.Input.{Asks, AsksFew, AsksOnce, InputsState}
 use Rattle.x7_forms.specs.declared.bad_input.InputFault.TheVariants as input
 use Rattle.x7_forms.specs.Event.{Event, bad_input, bad_part, missing, no_memory, read_fault, too_large}
 use Rattle.x7_forms.specs.Known.{Absent, Broken, Found, Held, Mishap, StreamRead, and_so, bytes_found, data_in, found, read_of, taken_whole, with_inputs, within}
@@ -10,9 +10,9 @@ use Rattle.x7_forms.specs.Stop.{IsAbout, Limited, StopsAmong, limited, limited_t
 use Rattle.x7_forms.specs.Turn.{GivesFew, IsAt, Reads, StandsAt, UnreadBeginning, Unopened}
 use Rattle.x7_forms.proofs.ReadLemmas.{asked_on, left_at}
 
--- a turn after what was read
-pub gives_on : (old mid new : InputsState) (taken : List ℕ) (limit left : ℕ) → Reads old taken mid → length taken + left ≡ limit → GivesFew mid left new → GivesFew old limit new
-gives_on old mid new taken limit left r n g = record { asked = g.asked ∙ r.asked; selects = g.selects ∙ r.takes.selects; given = omega (arith, n, r.takes.given, g.given) }
+-- a turn behind what was read
+pub gives_on : (old mid new : InputsState) (taken : List ℕ) (limit left : ℕ) → Reads old taken mid → length taken + left ≡ limit → mid.ends ≤ old.ends → GivesFew mid left new → GivesFew old limit new
+gives_on old mid new taken limit left r n e g = record { asked = g.asked ∙ r.asked; selects = g.selects ∙ r.takes.selects; ends = omega (arith, e, g.ends); given = omega (arith, n, r.takes.given, g.given) }
 
 -- an input of which nothing was read
 pub stands_opened : (name : List ℕ) (limit : ℕ) (now : InputsState) → Asks name now → StandsAt name limit now
@@ -25,6 +25,19 @@ stands_read name limit opened now a g = record { asked = asked_on name opened no
 -- a turn after what was read of it
 pub stands_turn : (name taken : List ℕ) (limit left : ℕ) (mid new : InputsState) → IsAt name taken mid → length taken + left ≡ limit → GivesFew mid left new → StandsAt name limit new
 stands_turn name taken limit left mid new a n g = record { asked = subst (λ k. IfSome k (λ kept. kept ≡ name)) (sym g.asked) a.asked; given = omega (arith, n, a.given, g.given) }
+
+-- a first turn and what was read behind it
+pub stands_rest : (name taken : List ℕ) (limit left : ℕ) (opened mid new : InputsState) → Asks name opened → Reads opened taken mid → length taken + left ≡ limit → GivesFew mid left new → StandsAt name limit new
+stands_rest name taken limit left opened mid new a r n g = record { asked = asked_on name opened new a (g.asked ∙ r.asked); given = omega (arith, n, a.given, r.takes.given, g.given) }
+
+-- an input that was asked for once, and its end read once at most
+pub few_read : (old opened new : InputsState) (limit : ℕ) → AsksOnce old opened → GivesFew opened limit new → AsksFew old 1 new
+few_read old opened new limit o g = record { selects = omega (arith, o.selects, g.selects); ends = omega (arith, o.ends, g.ends) }
+
+-- one of which a first turn was read, and what is behind it where that was not the last
+pub few_behind : (last : Bool) (old opened mid new : InputsState) (limit left : ℕ) → AsksOnce old opened → GivesFew opened limit mid → (last ≡ false → mid.ends ≤ opened.ends) → GivesFew mid left new → (last ≡ true → new.ends ≤ mid.ends) → AsksFew old 1 new
+few_behind true old opened mid new limit left o f go g none = record { selects = omega (arith, o.selects, f.selects, g.selects); ends = omega (arith, o.ends, f.ends, none refl) }
+few_behind false old opened mid new limit left o f go g none = record { selects = omega (arith, o.selects, f.selects, g.selects); ends = omega (arith, o.ends, go refl, g.ends) }
 
 pub stands_less : (name : List ℕ) (left limit : ℕ) (now : InputsState) → left ≤ limit → StandsAt name left now → StandsAt name limit now
 stands_less name left limit now h s = record { asked = s.asked; given = omega (arith, h, s.given) }
@@ -64,15 +77,23 @@ unfronted_about old new name event (inr (inr h)) = about_same name event (bad_in
 
 -- an event of one of the inputs
 pub about_among : (inputs before : List Limited) (input : Limited) (after : List Limited) (old now : InputsState) (event : Event)
-    → inputs ≡ before ++ input ∷ after → StandsAt input.name input.limit now → now.selects ≤ old.selects + (length before + 1) → IsAbout input.name event → StopsAmong inputs old now event
+    → inputs ≡ before ++ input ∷ after → StandsAt input.name input.limit now → AsksFew old (length before + 1) now → IsAbout input.name event → StopsAmong inputs old now event
 about_among inputs before input after old now event a s n (inl e) = inl e
 about_among inputs before input after old now event a s n (inr t) = inr (record { before = before; input = input; after = after; among = a; tells = t; stands = s; asks = n })
 
--- one of the inputs after a first one
-pub stops_behind : (first : Limited) (inputs : List Limited) (old mid now : InputsState) (event : Event) → mid.selects ≤ old.selects + 1 → StopsAmong inputs mid now event → StopsAmong (first ∷ inputs) old now event
+-- one of the inputs behind a first one
+pub stops_behind : (first : Limited) (inputs : List Limited) (old mid now : InputsState) (event : Event) → AsksFew old 1 mid → StopsAmong inputs mid now event → StopsAmong (first ∷ inputs) old now event
 stops_behind first inputs old mid now event n (inl e) = inl e
 stops_behind first inputs old mid now event n (inr h) =
-    inr (record { before = first ∷ h.before; input = h.input; after = h.after; among = ap (λ (x : List Limited). first ∷ x) h.among; tells = h.tells; stands = h.stands; asks = omega (arith, n, h.asks) })
+    inr (record {
+      before = first ∷ h.before;
+      input = h.input;
+      after = h.after;
+      among = ap (λ (x : List Limited). first ∷ x) h.among;
+      tells = h.tells;
+      stands = h.stands;
+      asks = record { selects = omega (arith, n.selects, h.asks.selects); ends = omega (arith, n.ends, h.asks.ends) };
+    })
 
 -- ---- inputs that are within a limit together
 
@@ -136,10 +157,10 @@ limits_next f all contents ss k left less s name h e nm l fewer =
 
 -- a stream of several that isn't played
 pub limits_stop : {X : Type 0} (f : X → List ℕ) (all : List Limited) (contents : Option (List ℕ → Option (List ℕ))) (ss : List X) (k left : ℕ) (s : X) (name : List ℕ) (old mid now : InputsState) (event : Event)
-    → k < length ss → s ≡ get_or ss k s → name ≡ f s → LimitsFrom all contents k left (map f (drop k ss)) → mid.selects ≤ old.selects + k → now.selects ≤ mid.selects + 1
+    → k < length ss → s ≡ get_or ss k s → name ≡ f s → LimitsFrom all contents k left (map f (drop k ss)) → AsksFew old k mid → AsksFew mid 1 now
     → StandsAt name left now → IsUnplayed name event → StopsAmong all old now event
 limits_stop f all contents ss k left s name old mid now event h e nm l few once stands u =
     let eq : map f (drop k ss) ≡ name ∷ map f (drop (suc k) ss) = rw nm (left_at f ss k s h e) in
     let split = l.split ∙ ap (λ (x : List (List ℕ)). l.passed ++ limited_together contents l.room x) eq in
     about_among all l.passed (limited l.room name) (limited_together contents (l.room - size_in contents name) (map f (drop (suc k) ss))) old now event split (stands_less name left l.room now l.enough stands)
-    (omega (arith, few, once, l.as_many)) (unplayed_about name event u)
+    (record { selects = omega (arith, few.selects, once.selects, l.as_many); ends = omega (arith, few.ends, once.ends, l.as_many) }) (unplayed_about name event u)

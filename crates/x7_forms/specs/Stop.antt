@@ -1,6 +1,6 @@
 -- At which input reading stops (this project's choice).
-use Rattle.std.specs.Prelude.{◌≡◌, ◌≤◌, ◌+◌, ◌-◌, ◌⊎◌, ℕ, List, [], ◌∷◌, ◌++◌, Option, None, Some, length}
-use Rattle.x7_words.specs.Input.{InputsState}
+use Rattle.std.specs.Prelude.{◌≡◌, ◌+◌, ◌-◌, ◌⊎◌, ℕ, List, [], ◌∷◌, ◌++◌, Option, None, Some, length}
+use Rattle.x7_words.specs.Input.{AsksFew, InputsState}
 use Rattle.x7_forms.specs.Event.{Event, no_memory}
 use Rattle.x7_forms.specs.Turn.{StandsAt}
 
@@ -30,7 +30,7 @@ limited_together contents limit (name ∷ names) = limited limit name ∷ limite
 abbrev pub IsAbout : List ℕ → Event → Type 0
 IsAbout name event = (event ≡ no_memory) ⊎ (event.concerned ≡ name)
 
--- Reading stopped at one of these inputs, which the event names: it is the last that was asked for, no more than a byte over its limit was given of it, and no more inputs were asked for than stand up to it.
+-- Reading stopped at one of these inputs, which the event names: it is the last that was asked for, no more than a byte over its limit was given of it, and no more inputs were asked for than stand up to it, nor more ends of inputs read.
 pub record StopsAt (inputs : List Limited) (old now : InputsState) (event : Event) : Type 0 where
   pub before : List Limited
   pub input : Limited
@@ -38,7 +38,7 @@ pub record StopsAt (inputs : List Limited) (old now : InputsState) (event : Even
   pub among : inputs ≡ before ++ input ∷ after
   pub tells : event.concerned ≡ input.name
   pub stands : StandsAt input.name input.limit now
-  pub asks : now.selects ≤ old.selects + (length before + 1)
+  pub asks : AsksFew old (length before + 1) now
 
 -- want of memory, or reading stopped at one of these inputs, which the event names
 abbrev pub StopsAmong : List Limited → InputsState → InputsState → Event → Type 0

@@ -45,10 +45,11 @@ pub record IsAt (name bytes : List ℕ) (now : InputsState) : Type 0 where
   pub asked : IfSome now.asked (λ kept. kept ≡ name)
   pub given : now.given ≤ length bytes
 
--- No input was asked for since, and of the selected one at most `left` bytes and one more were given.
+-- No input was asked for since, and of the selected one at most `left` bytes and one more were given, and its end read once at most.
 pub record GivesFew (old : InputsState) (left : ℕ) (new : InputsState) : Type 0 where
   pub asked : new.asked ≡ old.asked
   pub selects : new.selects ≡ old.selects
+  pub ends : new.ends ≤ old.ends + 1
   pub given : new.given ≤ old.given + (left + 1)
 
 -- The input of this name is the last that was asked for, and no more than a byte over this limit was given of it.
@@ -100,6 +101,7 @@ HeaderGoesOn bytes last = (last ≡ false) × (length bytes ≤ longest_header) 
 pub record ReadsBeginning (bytes line : List ℕ) (start : ℕ) (last : Bool) (old new : InputsState) : Type 0 where
   pub reads : Reads old bytes new
   pub end : last ≡ true → AtEnd new.rest
+  pub goes : last ≡ false → new.ends ≤ old.ends
   pub within : start ≤ length bytes
   pub few : length bytes ≤ longest_beginning
   pub holds_few : HoldsFew bytes start

@@ -1,6 +1,6 @@
 //! Reading a part file, and playing the data of streams while they are read.
 ghost use Rattle.std.specs.Prelude.{◌≡◌, ℕ, List, [], ◌∷◌, ◌+◌, ◌<◌, ◌≤◌, ◌⊎◌, true, length, map, string_bytes, Ok, Err, IfErr, IfOk};
-ghost use Rattle.x7_words.specs.Input.{AtEnd, Stays};
+ghost use Rattle.x7_words.specs.Input.{AsksFew, AtEnd, Stays};
 ghost use Rattle.x7_forms.specs.Message.{event_of};
 ghost use Rattle.x7_forms.specs.Event.{no_memory};
 ghost use Rattle.x7_forms.specs.Known.{part_limit, part_of as part_due, stream_limit};
@@ -46,7 +46,7 @@ pub fn read_part<'w, I: Inputs>(
         (λ known. part_due known name.now) (seen (λ part. part) result) }
     ensures named { IfErr result (λ r. IsNoPart name.now (event_of r)) }
     ensures stands { StandsAt name.now part_limit (I.state inputs.new) }
-    ensures once { (I.state inputs.new).selects ≤ (I.state inputs.old).selects + 1 }
+    ensures once { AsksFew (I.state inputs.old) 1 (I.state inputs.new) }
     ensures inputs { Stays (I.state inputs.old) (I.state inputs.new) }
 {
     let text = match read_whole(alloc, inputs, name, PART_LIMIT) {
@@ -77,6 +77,7 @@ fn play_rest<'w, I: Inputs>(
     ensures err { IfErr result (λ r. (event_of r ≡ no_memory) ⊎ UnreadRest (I.state inputs.old) name.now (I.state inputs.new) limit (event_of r)) }
     ensures length { length piece.new ≡ length piece.old }
     ensures few { GivesFew (I.state inputs.old) limit (I.state inputs.new) }
+    ensures ended { last ≡ true → (I.state inputs.new).ends ≤ (I.state inputs.old).ends }
     ensures inputs { Stays (I.state inputs.old) (I.state inputs.new) }
 {
     if last {
@@ -113,7 +114,7 @@ fn play_stream<'w, I: Inputs>(
     ensures err { IfErr result (λ r. ReadsStream (I.state inputs.old) (I.state inputs.new) limit name.now (Err (event_of r))) }
     ensures named { IfErr result (λ r. IsUnplayed name.now (event_of r)) }
     ensures stands { StandsAt name.now limit (I.state inputs.new) }
-    ensures once { (I.state inputs.new).selects ≤ (I.state inputs.old).selects + 1 }
+    ensures once { AsksFew (I.state inputs.old) 1 (I.state inputs.new) }
     ensures length { length piece.new ≡ length piece.old }
     ensures inputs { Stays (I.state inputs.old) (I.state inputs.new) }
 {
@@ -153,7 +154,7 @@ pub fn play_streams<'w, I: Inputs>(
     ensures named { IfErr result (λ r. IsOneUnplayed (map string_bytes streams.now) (event_of r)) }
     ensures stops { IfErr result (λ r. StopsAmong (limited_together (I.state inputs.old).contents stream_limit (map string_bytes streams.now))
         (I.state inputs.old) (I.state inputs.new) (event_of r)) }
-    ensures once { (I.state inputs.new).selects ≤ (I.state inputs.old).selects + length streams.now }
+    ensures once { AsksFew (I.state inputs.old) (length streams.now) (I.state inputs.new) }
     ensures inputs { Stays (I.state inputs.old) (I.state inputs.new) }
 {
     let Ok(mut player) = Player::new(alloc, part) else {

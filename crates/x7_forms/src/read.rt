@@ -1,6 +1,6 @@
 //! Reading an input in turns: each fills a buffer, which is used before the next turn.
 ghost use Rattle.std.specs.Prelude.{◌≡◌, ◌+◌, ◌-◌, ◌<◌, ◌≤◌, ◌++◌, ◌⊎◌, ℕ, List, drop, length, take, true, false, vec_len, IfErr, IfOk, OnOk};
-ghost use Rattle.x7_words.specs.Input.{Asks, AtEnd, Opens, Stays, Takes};
+ghost use Rattle.x7_words.specs.Input.{Asks, AsksFew, AsksOnce, AtEnd, Opens, Stays, Takes};
 ghost use Rattle.x7_words.specs.Word.{AreBytes};
 ghost use Rattle.x7_forms.specs.Message.{event_of};
 ghost use Rattle.x7_forms.specs.Event.{no_memory, read_fault, too_large};
@@ -42,6 +42,8 @@ fn fill<'w, I: Inputs>(inputs: &mut I, name: &'w str, buf: &mut [u8]) -> Result<
     ensures ok { IfOk result (λ n. Takes (I.state inputs.old) (take n buf.new) (I.state inputs.new)) }
     ensures within { IfOk result (λ n. n ≤ length buf.old) }
     ensures end { IfOk result (λ n. n < length buf.old → AtEnd (I.state inputs.new).rest) }
+    ensures full { IfOk result (λ n. n ≡ length buf.old → (I.state inputs.new).ends ≤ (I.state inputs.old).ends) }
+    ensures once { (I.state inputs.new).ends ≤ (I.state inputs.old).ends + 1 }
     ensures length { length buf.new ≡ length buf.old }
     ensures failed { IfErr result (λ r. (event_of r ≡ read_fault name.now) × Breaks (I.state inputs.old) (length buf.old) (I.state inputs.new)) }
     ensures asked { (I.state inputs.new).asked ≡ (I.state inputs.old).asked }
@@ -71,7 +73,7 @@ pub fn open<'w, I: Inputs>(inputs: &mut I, name: &'w str) -> Result<(), Refusal<
     ensures ok { OnOk result (Opens (I.state inputs.old) name.now (I.state inputs.new)) }
     ensures err { IfErr result (λ r. Unopened (I.state inputs.old) name.now (I.state inputs.new) (event_of r)) }
     ensures asks { Asks name.now (I.state inputs.new) }
-    ensures once { (I.state inputs.new).selects ≤ (I.state inputs.old).selects + 1 }
+    ensures once { AsksOnce (I.state inputs.old) (I.state inputs.new) }
     ensures inputs { Stays (I.state inputs.old) (I.state inputs.new) }
 {
     match inputs.select(name) {
@@ -109,6 +111,7 @@ pub fn next_turn<'w, I: Inputs>(
     ensures within { IfOk result (λ turn. (turn.count ≤ left) × (turn.count ≤ length buf.old)) }
     ensures goes { IfOk result (λ turn. turn.last ≡ false → turn.count ≡ length buf.old) }
     ensures end { IfOk result (λ turn. turn.last ≡ true → AtEnd (I.state inputs.new).rest) }
+    ensures more { IfOk result (λ turn. turn.last ≡ false → (I.state inputs.new).ends ≤ (I.state inputs.old).ends) }
     ensures length { length buf.new ≡ length buf.old }
     ensures err { IfErr result (λ r. Unread (I.state inputs.old) name.now (I.state inputs.new) left (event_of r)) }
     ensures soon { IfErr result (λ r. event_of r ≡ read_fault name.now → (I.state inputs.new).given < (I.state inputs.old).given + length buf.old) }
@@ -178,7 +181,7 @@ pub fn read_whole<'w, I: Inputs>(
     ensures named { IfErr result (λ r. IsUnread name.now (event_of r)) }
     ensures within { IfOk result (λ whole. vec_len whole ≤ limit) }
     ensures stands { StandsAt name.now limit (I.state inputs.new) }
-    ensures once { (I.state inputs.new).selects ≤ (I.state inputs.old).selects + 1 }
+    ensures once { AsksFew (I.state inputs.old) 1 (I.state inputs.new) }
     ensures inputs { Stays (I.state inputs.old) (I.state inputs.new) }
 {
     match open(inputs, name) {
@@ -208,6 +211,7 @@ pub(crate) fn skip_rest<'w, I: Inputs>(
     ensures err { IfErr result (λ r. UnreadRest (I.state inputs.old) name.now (I.state inputs.new) limit (event_of r)) }
     ensures length { length buf.new ≡ length buf.old }
     ensures few { GivesFew (I.state inputs.old) limit (I.state inputs.new) }
+    ensures ended { last ≡ true → (I.state inputs.new).ends ≤ (I.state inputs.old).ends }
     ensures inputs { Stays (I.state inputs.old) (I.state inputs.new) }
 {
     if last {

@@ -2,7 +2,7 @@
 use Rattle.std.specs.Prelude.{◌==◌, ◌||◌, not, nat_le, ℕ, ◌+◌, ◌-◌, ◌^◌, List, [], ◌∷◌, ◌++◌, Bool, true, false, ◌&&◌, nat_lt, Option, None, Some, Result, Ok, Err, if◌then◌else◌, is_none, is_some, length, take, drop, get_or, min, max, option_map, option_and_then, unwrap_or, slice_range, bit_and, bit_or, bit_xor}
 use Rattle.std.specs.List.{list_any}
 use Rattle.std.specs.Str.{bytes_eq}
-use Rattle.x7_words.specs.Count.{raised}
+use Rattle.x7_words.specs.Count.{ends_counted, raised}
 use Rattle.x7_words.specs.Flash.{FlashState, replaced, zip_with}
 use Rattle.x7_words.specs.Input.{InputsState}
 use Rattle.x7_words.specs.declared.input.SelectFault.{SelectFault}
@@ -45,6 +45,8 @@ pub record InputsInMemory : Type 0 where
   pub asked : Option (List ℕ)
   -- the selects counted; the last u64 stays
   pub selects : ℕ
+  -- the reads counted that gave nothing; the last u64 stays
+  pub ends : ℕ
   -- how many bytes were given since the last select
   pub given : ℕ
   -- the most bytes that a read gives
@@ -70,6 +72,7 @@ known_inputs m = record {
   rest = m.rest;
   asked = m.asked;
   selects = m.selects;
+  ends = m.ends;
   given = m.given;
   faults = m.faults;
   absences = 0;
@@ -109,6 +112,7 @@ after_read m len =
       calls = numbered m.calls;
       faults = raised_if (next_fails m.calls) m.faults;
       rest = if next_fails m.calls then None else option_map (drop (read_count m len)) m.rest;
+      ends = if next_fails m.calls then m.ends else ends_counted (read_count m len) m.ends;
       given = if next_fails m.calls then m.given else m.given + read_count m len;
     }
 

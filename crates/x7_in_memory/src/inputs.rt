@@ -7,7 +7,7 @@ use crate::calls::Calls;
 use crate::put::{Put, left_at, next_place, place_of};
 use std::alloc::Global;
 use std::marker::Model;
-use x7_words::{Failed, Inputs, NoMemory, SelectFault, next_count};
+use x7_words::{Failed, Inputs, NoMemory, SelectFault, count_end, next_count};
 
 /// Inputs in memory, known whole: what was put under each name last is what a select of it gives.
 ///
@@ -22,6 +22,7 @@ pub struct MemoryInputs {
     // The place in `puts` of the name last asked for, where it is there.
     asked: Option<usize>,
     selects: u64,
+    ends: u64,
     most: usize,
     calls: Calls,
     faults: u64,
@@ -42,6 +43,7 @@ impl Model for MemoryInputs {
       rest = left_of m.puts.items m.place m.selected;
       asked = name_of m.puts.items m.asked;
       selects = m.selects;
+      ends = m.ends;
       given = m.place;
       most = m.most;
       calls = m.calls;
@@ -52,13 +54,14 @@ impl Model for MemoryInputs {
         × ForSome m.selected (λ which. which < vec_len m.puts)
         × ForSome m.asked (λ which. which < vec_len m.puts)
         × (m.selects < 2 ^ 64)
+        × (m.ends < 2 ^ 64)
         × (m.faults < 2 ^ 64) };
 }
 
 impl MemoryInputs {
     /// No inputs. A read gives as many bytes as the buffer takes.
     pub fn new(alloc: Global) -> MemoryInputs
-        ensures { result ≡ record { entries = []; rest = None; asked = None; selects = 0; given = 0; most = usize.MAX; calls = no_calls; faults = 0 } }
+        ensures { result ≡ record { entries = []; rest = None; asked = None; selects = 0; ends = 0; given = 0; most = usize.MAX; calls = no_calls; faults = 0 } }
     {
         MemoryInputs {
             puts: Vec::new(alloc),
@@ -66,6 +69,7 @@ impl MemoryInputs {
             place: 0,
             asked: None,
             selects: 0,
+            ends: 0,
             most: usize::MAX,
             calls: Calls::new(alloc),
             faults: 0,
@@ -111,6 +115,7 @@ impl Inputs for MemoryInputs {
         ensures answer { result ≡ select_answer self.old name.now }
         ensures after { self.new ≡ after_select self.old name.now }
         ensures once { self.new.selects ≤ self.old.selects + 1 }
+        ensures ends { self.new.ends ≤ self.old.ends }
         ensures faults { self.old.faults ≤ self.new.faults }
         ensures last_fault { self.new.faults < 2 ^ 64 }
     {
@@ -139,6 +144,9 @@ impl Inputs for MemoryInputs {
         ensures err { OnErr result (buf.new ≡ buf.old) }
         ensures length { length buf.new ≡ length buf.old }
         ensures after { self.new ≡ after_read self.old (length buf.old) }
+        ensures end_once { self.new.ends ≤ self.old.ends + 1 }
+        ensures more { IfOk result (λ n. 0 < n → self.new.ends ≤ self.old.ends) }
+        ensures lost { OnErr result (self.new.ends ≤ self.old.ends) }
         ensures faults { self.old.faults ≤ self.new.faults }
         ensures last_fault { self.new.faults < 2 ^ 64 }
     {
@@ -153,6 +161,7 @@ impl Inputs for MemoryInputs {
         let left = left_at(&self.puts, which, self.place);
         let count = buf.len().min(self.most).min(left.len());
         buf[..count].copy_from_slice(&left[..count]);
+        self.ends = count_end(count, self.ends);
         self.place += count;
         Ok(count)
     }

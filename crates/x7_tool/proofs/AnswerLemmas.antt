@@ -1,9 +1,9 @@
 -- How a form is answered, and how its answer is carried out.
-use Rattle.std.proofs.Common.{◌≡◌, ◌≤◌, ◌+◌, arith, Bool, List, ℕ, Option, None, Some, Result, Ok, Err, refl, subst, sym}
+use Rattle.std.proofs.Common.{◌≡◌, Bool, List, ℕ, Option, None, Some, Result, Ok, Err, refl, subst, sym}
 use Rattle.x7_words.specs.Flash.{FlashState}
 use Rattle.x7_words.specs.Input.{InputsState}
 use Rattle.x7_words.specs.Sink.{SinkState, Tells}
-use Rattle.x7_words.proofs.InputLemmas.{stays_at}
+use Rattle.x7_words.proofs.InputLemmas.{few_at, stays_at}
 use Rattle.x7_forms.specs.declared.status.Status.{Status}
 use Rattle.x7_forms.specs.Event.{Event, line_of, status_of, usage}
 use Rattle.x7_forms.specs.Form.{Asked, Unused, flash_use, listed_by, updated_by}
@@ -86,7 +86,6 @@ ran_refused form asks old new s event e t w a =
 -- words without a form
 pub ran_none : (form : Option Asked) (old : Outside) (err : SinkState) (s : Status) → form ≡ None → s ≡ status_of usage → Tells old.err (line_of usage) err → RanAs form old (record old { err = err }) s
 ran_none form old err s e t w =
-    let same : old.inputs.selects ≤ old.inputs.selects + 0 = omega arith in
     subst (λ (f : Option Asked). RanAs f old (record old { err = err }) s) (sym e)
     (record {
       end = Err usage;
@@ -95,6 +94,6 @@ ran_none form old err s e t w =
       ends = record { cause = refl; wrote = refl; near = tt; measured = λ name a e. absurd a; last = tt; updates = tt };
       stops = tt;
       judges = tt;
-      asks = same;
+      asks = few_at old.inputs;
       stays = stays_at old.inputs;
     })

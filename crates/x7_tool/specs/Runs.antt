@@ -1,6 +1,6 @@
 -- What a run comes to: how it ended and why, its status, and what the outside holds then (this project's choice).
-use Rattle.std.specs.Prelude.{◌≡◌, ◌≤◌, ◌+◌, ℕ, length, List, Option, None, Some, ◌⊎◌, false, Result, Ok}
-use Rattle.x7_words.specs.Input.{Stays}
+use Rattle.std.specs.Prelude.{◌≡◌, ◌≤◌, ℕ, length, List, Option, None, Some, ◌⊎◌, false, Result, Ok}
+use Rattle.x7_words.specs.Input.{AsksFew, Stays}
 use Rattle.x7_words.specs.Word.{AreBytes}
 use Rattle.x7_listing.specs.StreamListing.{stream_listing}
 use Rattle.x7_mcs.specs.Text.{mcs_text}
@@ -49,7 +49,7 @@ pub record RanAs (form : Option Asked) (old new : Outside) (s : Status) : Type 0
   pub ends : Ends form old new end
   pub stops : Stops form old.inputs new.inputs end
   pub judges : JudgesFlash form (sources old.inputs old.flash) (sources new.inputs new.flash) end
-  pub asks : new.inputs.selects ≤ old.inputs.selects + length (names_of form)
+  pub asks : AsksFew old.inputs (length (names_of form)) new.inputs
   pub stays : Stays old.inputs new.inputs
 
 -- a run of the command that the words ask for
@@ -82,8 +82,8 @@ pub record Runs (form : Option Asked) (old new : Outside) (s : Status) : Type 0 
   pub stops : Stops form old.inputs new.inputs end
   -- an update whose flash isn't there, wasn't attached or is too large asks for no stream
   pub judges : JudgesFlash form (sources old.inputs old.flash) (sources new.inputs new.flash) end
-  -- no more inputs were asked for than the words name: none was read again
-  pub asks : new.inputs.selects ≤ old.inputs.selects + length (names_of form)
+  -- no more inputs were asked for than the words name, so that none was read again, nor more ends of inputs read
+  pub asks : AsksFew old.inputs (length (names_of form)) new.inputs
   -- every input keeps its bytes, and no count of theirs falls
   pub stays : Stays old.inputs new.inputs
   -- the flash is untouched, read or written as the form says, and was asked for no name but the form's

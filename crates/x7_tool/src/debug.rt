@@ -1,7 +1,7 @@
 //! The command `debug`.
 ghost use Rattle.x7_forms.specs.Stop.{StopsAmong, limited};
-ghost use Rattle.std.specs.Prelude.{◌≡◌, ◌⊎◌, [], ◌∷◌, Ok, Err, IfErr, IfOk, ◌≤◌, ◌+◌};
-ghost use Rattle.x7_words.specs.Input.{Stays};
+ghost use Rattle.std.specs.Prelude.{◌≡◌, ◌⊎◌, [], ◌∷◌, Ok, Err, IfErr, IfOk};
+ghost use Rattle.x7_words.specs.Input.{AsksFew, Stays};
 ghost use Rattle.x7_tool.specs.Debug.{given_of};
 ghost use Rattle.x7_forms.specs.Message.{event_of};
 ghost use Rattle.x7_forms.specs.Event.{no_memory};
@@ -58,7 +58,7 @@ fn read_given<'w, I: Inputs>(
     ensures stands { IfOk result (λ given. StandsAt script.now script_limit (I.state inputs.new)) }
     ensures stops { IfErr result (λ r. StopsAmong (limited part_limit part.now ∷ limited stream_limit stream.now ∷ limited script_limit script.now ∷ [])
         (I.state inputs.old) (I.state inputs.new) (event_of r)) }
-    ensures asks { (I.state inputs.new).selects ≤ (I.state inputs.old).selects + 3 }
+    ensures asks { AsksFew (I.state inputs.old) 3 (I.state inputs.new) }
     ensures inputs { Stays (I.state inputs.old) (I.state inputs.new) }
 {
     let part = match read_part(alloc, inputs, part) {

@@ -1,6 +1,6 @@
 //! Streams that are read whole, each of a limit of its own.
-ghost use Rattle.std.specs.Prelude.{◌≡◌, ◌≤◌, [], ◌∷◌, IfErr, IfOk, length, ◌+◌};
-ghost use Rattle.x7_words.specs.Input.{Stays};
+ghost use Rattle.std.specs.Prelude.{◌≡◌, ◌≤◌, [], ◌∷◌, IfErr, IfOk, length};
+ghost use Rattle.x7_words.specs.Input.{AsksFew, Stays};
 ghost use Rattle.x7_tool.specs.Outcome.{stream_data};
 ghost use Rattle.x7_forms.specs.Known.{stream_limit};
 ghost use Rattle.x7_forms.specs.Message.{event_of};
@@ -30,7 +30,7 @@ pub(crate) fn read_stream<'w, I: Inputs>(
     ensures named { IfErr result (λ r. IsUnplayed name.now (event_of r)) }
     ensures stands { StandsAt name.now stream_limit (I.state inputs.new) }
     ensures within { IfOk result (λ stream. stream.start ≤ length stream.bytes.items) }
-    ensures asks { (I.state inputs.new).selects ≤ (I.state inputs.old).selects + 1 }
+    ensures asks { AsksFew (I.state inputs.old) 1 (I.state inputs.new) }
     ensures inputs { Stays (I.state inputs.old) (I.state inputs.new) }
 {
     let bytes = match read_whole(alloc, inputs, name, STREAM_LIMIT) {
@@ -68,7 +68,7 @@ pub(crate) fn read_data<'w, I: Inputs>(
         (λ known. stream_data known name.now) (seen (λ bytes. bytes.items) result) }
     ensures named { IfErr result (λ r. IsUnplayed name.now (event_of r)) }
     ensures stands { StandsAt name.now stream_limit (I.state inputs.new) }
-    ensures asks { (I.state inputs.new).selects ≤ (I.state inputs.old).selects + 1 }
+    ensures asks { AsksFew (I.state inputs.old) 1 (I.state inputs.new) }
     ensures inputs { Stays (I.state inputs.old) (I.state inputs.new) }
 {
     match read_stream(alloc, inputs, name) {

@@ -1,8 +1,9 @@
 -- Lemmas on the real inputs: what they count is what a caller of any inputs may know.
 use Rattle.std.proofs.Common.{◌≡◌, ℕ, List, ◌≤◌, true, false, take, length, ◌<◌, Result, Ok, Err, Option, None, OnOk, OnErr, IfOk, IfErr, refl, ap, ◌∙◌, inr, arith}
+use Rattle.std.proofs.lemmas.Bool.Decides.{nat_tests}
 use Rattle.std.proofs.lemmas.List.{length-take-le}
 use Rattle.std.specs.declared.io.ErrorKind.{ErrorKind}
-use Rattle.x7_words.specs.Count.{added, raised}
+use Rattle.x7_words.specs.Count.{added, ends_counted, raised}
 use Rattle.x7_words.specs.Input.{Asks, Fails, Opens, Refuses, Takes}
 use Rattle.x7_words.proofs.CountLemmas.{raised_risen}
 use Rattle.x7_words.specs.Files.{RealInputs, after_open, known_inputs}
@@ -44,7 +45,7 @@ opened-asks old new rest refusal name (Err Missing) e = record { asked = tt; giv
 opened-asks old new rest refusal name (Err Failed) e = record { asked = tt; given = ap (λ f. f.given) e }
 
 -- a read that is Ok leaves the file selected, and of a rest that is never known nothing is said
-pub read_ok : (old new : RealInputs) (buf : List ℕ) (answer : Result ℕ FailedRead) → old.selected ≡ true → IfOk answer (λ n. n ≤ length buf) → IfOk answer (λ n. new ≡ record old { rest = new.rest; given = added old.given n })
+pub read_ok : (old new : RealInputs) (buf : List ℕ) (answer : Result ℕ FailedRead) → old.selected ≡ true → IfOk answer (λ n. n ≤ length buf) → IfOk answer (λ n. new ≡ record old { rest = new.rest; ends = ends_counted n old.ends; given = added old.given n })
     → IfOk answer (λ n. Takes (known_inputs old) (take n buf) (known_inputs new))
 read_ok old new buf (Ok n) s h e = record {
   selected = ap (λ f. f.selected) e ∙ s;
@@ -60,12 +61,22 @@ read_gives old new (Ok _) e = tt
 read_gives old new (Err _) e = let same : new.given ≡ old.given = ap (λ f. f.given) e in omega arith
 
 -- a read asks for no input
-pub read_selects : (old new : RealInputs) (answer : Result ℕ FailedRead) → IfOk answer (λ n. new ≡ record old { rest = new.rest; given = added old.given n }) → OnErr answer (new ≡ record old { selected = false; rest = None; faults = raised old.faults }) → new.selects ≡ old.selects
+pub read_selects : (old new : RealInputs) (answer : Result ℕ FailedRead) → IfOk answer (λ n. new ≡ record old { rest = new.rest; ends = ends_counted n old.ends; given = added old.given n }) → OnErr answer (new ≡ record old { selected = false; rest = None; faults = raised old.faults }) → new.selects ≡ old.selects
 read_selects old new (Ok _) o e = ap (λ f. f.selects) o
 read_selects old new (Err _) o e = ap (λ f. f.selects) e
 
+-- a read that gives something reads no end
+pub read_more : (old new : RealInputs) (answer : Result ℕ FailedRead) → IfOk answer (λ n. new ≡ record old { rest = new.rest; ends = ends_counted n old.ends; given = added old.given n }) → IfOk answer (λ n. 0 < n → new.ends ≤ old.ends)
+read_more old new (Ok n) e = λ h. let count : new.ends ≡ ends_counted n old.ends = ap (λ f. f.ends) e in grind (arith, nat_tests)
+read_more old new (Err _) e = tt
+
+-- a read that fails reads no end
+pub read_lost : (old new : RealInputs) (answer : Result ℕ FailedRead) → OnErr answer (new ≡ record old { selected = false; rest = None; faults = raised old.faults }) → OnErr answer (new.ends ≤ old.ends)
+read_lost old new (Ok _) e = tt
+read_lost old new (Err _) e = let same : new.ends ≡ old.ends = ap (λ f. f.ends) e in omega arith
+
 -- a read never lowers the count of absences
-pub read_absences : (old new : RealInputs) (answer : Result ℕ FailedRead) → IfOk answer (λ n. new ≡ record old { rest = new.rest; given = added old.given n }) → OnErr answer (new ≡ record old { selected = false; rest = None; faults = raised old.faults }) → old.absences ≤ new.absences
+pub read_absences : (old new : RealInputs) (answer : Result ℕ FailedRead) → IfOk answer (λ n. new ≡ record old { rest = new.rest; ends = ends_counted n old.ends; given = added old.given n }) → OnErr answer (new ≡ record old { selected = false; rest = None; faults = raised old.faults }) → old.absences ≤ new.absences
 read_absences old new (Ok _) o e = let same : new.absences ≡ old.absences = ap (λ f. f.absences) o in omega arith
 read_absences old new (Err _) o e = let same : new.absences ≡ old.absences = ap (λ f. f.absences) e in omega arith
 

@@ -1,5 +1,5 @@
 -- Counts of 64 bits that only rise (this project's choice).
-use Rattle.std.specs.Prelude.{◌≡◌, ℕ, ◌<◌, ◌⊎◌, ◌^◌, ◌+◌, ◌-◌, min}
+use Rattle.std.specs.Prelude.{◌≡◌, ℕ, ◌<◌, ◌⊎◌, ◌^◌, ◌+◌, ◌-◌, min, if◌then◌else◌, ◌==◌}
 
 -- the count rose, or it is the last u64, at which it stays
 abbrev pub HasRisen : ℕ → ℕ → Type 0
@@ -12,3 +12,7 @@ raised count = min (count + 1) (2 ^ 64 - 1)
 -- the count raised by `more`; after the last u64 it stays
 abbrev pub added : ℕ → ℕ → ℕ
 added count more = min (count + more) (2 ^ 64 - 1)
+
+-- the count of reads that gave nothing, after a read that gave this many bytes
+abbrev pub ends_counted : ℕ → ℕ → ℕ
+ends_counted given count = if given == 0 then raised count else count

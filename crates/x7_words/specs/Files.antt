@@ -35,6 +35,8 @@ pub record RealInputs : Type 0 where
   pub refusal : Option ErrorKind
   -- the selects counted; the last u64 stays
   pub selects : ℕ
+  -- the reads counted that gave nothing; the last u64 stays
+  pub ends : ℕ
   -- the bytes given since the last select; the last u64 stays
   pub given : ℕ
   -- the faults counted; the last u64 stays
@@ -50,6 +52,7 @@ known_inputs f = record {
   rest = None;
   asked = None;
   selects = f.selects;
+  ends = f.ends;
   given = f.given;
   faults = f.faults;
   absences = f.absences;

@@ -17,6 +17,8 @@ pub record InputsState : Type 0 where
   pub asked : Option (List ℕ)
   -- how often an input was asked for, by a count that may stop
   pub selects : ℕ
+  -- how often a read gave nothing, by a count that may stop
+  pub ends : ℕ
   -- how many bytes were given since the last select, by a count that may stop; a fault leaves it
   pub given : ℕ
   -- how often a select or a read has failed
@@ -71,6 +73,16 @@ pub record Opens (old : InputsState) (name : List ℕ) (new : InputsState) : Typ
 pub record Asks (name : List ℕ) (new : InputsState) : Type 0 where
   pub asked : IfSome new.asked (λ kept. kept ≡ name)
   pub given : new.given ≡ 0
+
+-- at most one input was asked for, and no end of an input was read
+pub record AsksOnce (old new : InputsState) : Type 0 where
+  pub selects : new.selects ≤ old.selects + 1
+  pub ends : new.ends ≤ old.ends
+
+-- at most this many inputs were asked for, and at most as many ends of inputs were read
+pub record AsksFew (old : InputsState) (count : ℕ) (new : InputsState) : Type 0 where
+  pub selects : new.selects ≤ old.selects + count
+  pub ends : new.ends ≤ old.ends + count
 
 -- the bytes were taken from the selected input and are counted as given; the input stays selected and was not asked for again
 pub record Takes (old : InputsState) (bytes : List ℕ) (new : InputsState) : Type 0 where

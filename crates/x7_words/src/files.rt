@@ -1,12 +1,12 @@
 //! The real outside: files as inputs and as a flash, and a writer such as standard output as a sink.
 ghost use Rattle.std.specs.Prelude.{◌≡◌, ◌<◌, ◌≤◌, ◌+◌, ◌^◌, length, None, Some, true, false, is_some, IfErr, IfOk, OnOk, OnErr};
 ghost use Rattle.std.specs.Io.KnownBytes.{ReadConsumes, WriteAppends};
-ghost use Rattle.x7_words.specs.Count.{added, raised};
+ghost use Rattle.x7_words.specs.Count.{added, ends_counted, raised};
 ghost use Rattle.x7_words.specs.Files.{after_open, known_inputs, faults_after, missing_after, Gives, RefusedFor};
 
 mod flash;
 
-use crate::count::next_count;
+use crate::count::{count_end, next_count};
 use crate::input::{Failed, Inputs, SelectFault};
 use crate::sink::Sink;
 pub use flash::FileFlash;
@@ -60,6 +60,7 @@ pub struct FileInputs<'r, R: Files> {
     file: Option<R::File>,
     refusal: Option<ErrorKind>,
     selects: u64,
+    ends: u64,
     given: u64,
     faults: u64,
     absences: u64,
@@ -76,24 +77,26 @@ impl<'r, R: Files> Model for FileInputs<'r, R> {
       rest = rest_of R.File.remaining f.file;
       refusal = f.refusal;
       selects = f.selects;
+      ends = f.ends;
       given = f.given;
       faults = f.faults;
       absences = f.absences;
     } };
 
-    ghost invariant = { λ f. (f.selects < 2 ^ 64) × (f.given < 2 ^ 64) × (f.faults < 2 ^ 64) × (f.absences < 2 ^ 64) };
+    ghost invariant = { λ f. (f.selects < 2 ^ 64) × (f.ends < 2 ^ 64) × (f.given < 2 ^ 64) × (f.faults < 2 ^ 64) × (f.absences < 2 ^ 64) };
 }
 
 impl<'r, R: Files> FileInputs<'r, R> {
     /// The files of the runtime. None is selected.
     pub fn new(rt: &'r R) -> FileInputs<'r, R>
-        ensures { result ≡ record { selected = false; rest = None; refusal = None; selects = 0; given = 0; faults = 0; absences = 0 } }
+        ensures { result ≡ record { selected = false; rest = None; refusal = None; selects = 0; ends = 0; given = 0; faults = 0; absences = 0 } }
     {
         FileInputs {
             rt,
             file: None,
             refusal: None,
             selects: 0,
+            ends: 0,
             given: 0,
             faults: 0,
             absences: 0,
@@ -108,6 +111,7 @@ impl<'r, R: Files> Inputs for FileInputs<'r, R> {
         ensures after { self.new ≡ after_open self.old self.new.rest self.new.refusal result }
         ensures refused { IfErr result (RefusedFor self.new.refusal) }
         ensures once { self.new.selects ≤ self.old.selects + 1 }
+        ensures ends { self.new.ends ≡ self.old.ends }
         ensures faults { self.old.faults ≤ self.new.faults }
         ensures absences { self.old.absences ≤ self.new.absences }
         ensures last_fault { self.new.faults < 2 ^ 64 }
@@ -136,9 +140,10 @@ impl<'r, R: Files> Inputs for FileInputs<'r, R> {
         ensures length { length buf.new ≡ length buf.old }
         ensures bytes { IfOk result (Gives self.old.rest self.new.rest buf.new) }
         ensures ok { IfOk result (λ n. self.new ≡
-            record self.old { rest = self.new.rest; given = added self.old.given n }) }
+            record self.old { rest = self.new.rest; ends = ends_counted n self.old.ends; given = added self.old.given n }) }
         ensures err { OnErr result (self.new ≡
             record self.old { selected = false; rest = None; faults = raised self.old.faults }) }
+        ensures once { self.new.ends ≤ self.old.ends + 1 }
         ensures faults { self.old.faults ≤ self.new.faults }
         ensures last_fault { self.new.faults < 2 ^ 64 }
         ensures last_absence { self.new.absences < 2 ^ 64 }
@@ -148,6 +153,7 @@ impl<'r, R: Files> Inputs for FileInputs<'r, R> {
         };
         match read_once(file, buf) {
             Ok(count) => {
+                self.ends = count_end(count, self.ends);
                 self.given = self.given.saturating_add(count as u64);
                 Ok(count)
             }

@@ -1,6 +1,6 @@
 //! Inputs that are read by name, and what can go wrong with the outside.
 ghost use Rattle.std.specs.Prelude.{◌≡◌, ◌<◌, ◌≤◌, ◌+◌, length, take, true, false, IfErr, IfOk, OnOk, OnErr};
-ghost use Rattle.x7_words.specs.Input.{InputsState, Asks, AtEnd, Fails, Fits, Opens, Refuses, Stays, Takes};
+ghost use Rattle.x7_words.specs.Input.{InputsState, Asks, AsksOnce, AtEnd, Fails, Fits, Opens, Refuses, Stays, Takes};
 
 use std::alloc::{AllocError, AllocFailed};
 
@@ -48,7 +48,7 @@ pub trait Inputs {
         ensures refused { IfErr result (Refuses (state self.old) name.now (state self.new)) }
         ensures err { OnErr result ((state self.new).selected ≡ false) }
         ensures asks { Asks name.now (state self.new) }
-        ensures once { (state self.new).selects ≤ (state self.old).selects + 1 }
+        ensures once { AsksOnce (state self.old) (state self.new) }
         ensures stays { Stays (state self.old) (state self.new) }
         ensures fits { Fits (state self.new) };
 
@@ -66,6 +66,9 @@ pub trait Inputs {
         ensures given { OnErr result ((state self.new).given ≤ (state self.old).given) }
         ensures asked { (state self.new).asked ≡ (state self.old).asked }
         ensures selects { (state self.new).selects ≡ (state self.old).selects }
+        ensures more { IfOk result (λ n. 0 < n → (state self.new).ends ≤ (state self.old).ends) }
+        ensures lost { OnErr result ((state self.new).ends ≤ (state self.old).ends) }
+        ensures once { (state self.new).ends ≤ (state self.old).ends + 1 }
         ensures stays { Stays (state self.old) (state self.new) }
         ensures fits { Fits (state self.new) };
 }

@@ -10,7 +10,7 @@ mod sink;
 mod word;
 
 pub use bytes::is_same;
-pub use count::next_count;
+pub use count::{count_end, next_count};
 pub use files::{FileFlash, FileInputs, KnownSink, StdSink};
 pub use flash::{FLASH_LIMIT, Flash, SECTOR};
 pub use input::{Failed, Inputs, NoMemory, SelectFault};

@@ -24,7 +24,7 @@ returns-in-Ok-Some-clause-begins g c =
     let long = length-take-le count c.next_turn.new.buf within in
     let p = piece_of old mid piece c.deref.result.now bytes c.wanted.result joined c.deref-in-loop-turn.ensures.value (omega (arith, long, c.in-Ok.ensures.within.1, c.min-count.ensures, length-take-le c.min-count.result c.loop-turn.piece (omega (arith, c.min-count.ensures, v.piece)))) c.wanted.ensures.some c.deref.ensures.value c.wanted.ensures.fixed c.wanted.ensures.waits v.waiting in
     beginning_read old mid piece bytes c.in-Ok-Some.judged.line.items c.wanted.result c.in-Ok-Some.judged.start c.in-Ok.turn.last (i.state c.args.inputs.now) (i.state c.loop-turn.inputs) (i.state c.next_turn.new.inputs)
-    p joined c.deref-in-loop-turn.ensures.value (reads_by (i.state c.args.inputs.now) (i.state c.loop-turn.inputs) old v.selected v.taken v.given v.asked v.inputs v.selects) c.in-Ok.ensures.ok c.next_turn.ensures.asked c.next_turn.ensures.inputs c.in-Ok.ensures.end v.few (omega (arith, long, c.in-Ok.ensures.within.1, c.min-count.ensures, length-take-le c.min-count.result c.loop-turn.piece (omega (arith, c.min-count.ensures, v.piece)))) (found_some c.in-Ok-Some.field-0 c.in-Ok-Some.judged _ (λ (j : Judged). (j.start ≤ length bytes) × IsBeginning bytes c.in-Ok.turn.last j.line.items j.start) c.in-Ok-Some.field-0-is c.in-Ok-Some.ensures.judged) (found_some c.in-Ok-Some.field-0 c.in-Ok-Some.judged _ (λ (j : Judged). BeginAt bytes j.start) c.in-Ok-Some.field-0-is c.in-Ok-Some.ensures.begin)
+    p joined c.deref-in-loop-turn.ensures.value (reads_by (i.state c.args.inputs.now) (i.state c.loop-turn.inputs) old v.selected v.taken v.given v.asked v.inputs v.selects) c.in-Ok.ensures.ok c.next_turn.ensures.asked c.next_turn.ensures.inputs c.in-Ok.ensures.end (λ e. omega (arith, v.ends, c.in-Ok.ensures.more e)) v.few (omega (arith, long, c.in-Ok.ensures.within.1, c.min-count.ensures, length-take-le c.min-count.result c.loop-turn.piece (omega (arith, c.min-count.ensures, v.piece)))) (found_some c.in-Ok-Some.field-0 c.in-Ok-Some.judged _ (λ (j : Judged). (j.start ≤ length bytes) × IsBeginning bytes c.in-Ok.turn.last j.line.items j.start) c.in-Ok-Some.field-0-is c.in-Ok-Some.ensures.judged) (found_some c.in-Ok-Some.field-0 c.in-Ok-Some.judged _ (λ (j : Judged). BeginAt bytes j.start) c.in-Ok-Some.field-0-is c.in-Ok-Some.ensures.begin)
 
 pub returns-in-Err-judge-clause-err : goal.returns-in-Err-judge-clause-err
 returns-in-Err-judge-clause-err g c =
@@ -87,6 +87,7 @@ loop-turn-preserved g c =
       waiting = λ some. subst EndsInHeader c.deref-in-loop-turn.ensures.value none.2;
       asked = c.next_turn.ensures.asked ∙ v.asked;
       selects = c.in-Ok.ensures.ok.selects ∙ v.selects;
+      ends = omega (arith, v.ends, c.in-Ok.ensures.more none.0);
       given = omega (arith, v.given, c.in-Ok.ensures.ok.given, ap length joined, length-append old piece);
       taken = joined_taken (i.state c.args.inputs.now).rest (i.state c.loop-turn.inputs).rest (i.state c.next_turn.new.inputs).rest old piece mid mid v.taken c.in-Ok.ensures.ok.taken joined refl;
     }
@@ -96,7 +97,7 @@ returns-in-Err-clause-few g c =
     let i = g.I.Inputs in
     let v = c.loop-turn.invariant in
     gives_on (i.state c.args.inputs.now) (i.state c.loop-turn.inputs) (i.state c.next_turn.new.inputs) c.loop-turn.bytes.items stream_limit (stream_limit - c.len-left.result)
-    (reads_by (i.state c.args.inputs.now) (i.state c.loop-turn.inputs) c.loop-turn.bytes.items v.selected v.taken v.given v.asked v.inputs v.selects) (omega (arith, v.few, c.len-left.ensures)) c.next_turn.ensures.few
+    (reads_by (i.state c.args.inputs.now) (i.state c.loop-turn.inputs) c.loop-turn.bytes.items v.selected v.taken v.given v.asked v.inputs v.selects) (omega (arith, v.few, c.len-left.ensures)) v.ends c.next_turn.ensures.few
 
 pub returns-in-Err-clause-short : goal.returns-in-Err-clause-short
 returns-in-Err-clause-short g c =
@@ -111,7 +112,7 @@ returns-in-Err-extend_from_slice-clause-few g c =
     let i = g.I.Inputs in
     let v = c.loop-turn.invariant in
     gives_on (i.state c.args.inputs.now) (i.state c.loop-turn.inputs) (i.state c.next_turn.new.inputs) c.loop-turn.bytes.items stream_limit (stream_limit - c.len-left.result)
-    (reads_by (i.state c.args.inputs.now) (i.state c.loop-turn.inputs) c.loop-turn.bytes.items v.selected v.taken v.given v.asked v.inputs v.selects) (omega (arith, v.few, c.len-left.ensures)) c.next_turn.ensures.few
+    (reads_by (i.state c.args.inputs.now) (i.state c.loop-turn.inputs) c.loop-turn.bytes.items v.selected v.taken v.given v.asked v.inputs v.selects) (omega (arith, v.few, c.len-left.ensures)) v.ends c.next_turn.ensures.few
 
 pub returns-in-Err-extend_from_slice-clause-short : goal.returns-in-Err-extend_from_slice-clause-short
 returns-in-Err-extend_from_slice-clause-short g c =
@@ -126,7 +127,7 @@ returns-in-Ok-Some-clause-few g c =
     let i = g.I.Inputs in
     let v = c.loop-turn.invariant in
     gives_on (i.state c.args.inputs.now) (i.state c.loop-turn.inputs) (i.state c.next_turn.new.inputs) c.loop-turn.bytes.items stream_limit (stream_limit - c.len-left.result)
-    (reads_by (i.state c.args.inputs.now) (i.state c.loop-turn.inputs) c.loop-turn.bytes.items v.selected v.taken v.given v.asked v.inputs v.selects) (omega (arith, v.few, c.len-left.ensures)) c.next_turn.ensures.few
+    (reads_by (i.state c.args.inputs.now) (i.state c.loop-turn.inputs) c.loop-turn.bytes.items v.selected v.taken v.given v.asked v.inputs v.selects) (omega (arith, v.few, c.len-left.ensures)) v.ends c.next_turn.ensures.few
 
 pub returns-in-Ok-Some-clause-short : goal.returns-in-Ok-Some-clause-short
 returns-in-Ok-Some-clause-short g c =
@@ -141,7 +142,7 @@ returns-in-Err-judge-clause-few g c =
     let i = g.I.Inputs in
     let v = c.loop-turn.invariant in
     gives_on (i.state c.args.inputs.now) (i.state c.loop-turn.inputs) (i.state c.next_turn.new.inputs) c.loop-turn.bytes.items stream_limit (stream_limit - c.len-left.result)
-    (reads_by (i.state c.args.inputs.now) (i.state c.loop-turn.inputs) c.loop-turn.bytes.items v.selected v.taken v.given v.asked v.inputs v.selects) (omega (arith, v.few, c.len-left.ensures)) c.next_turn.ensures.few
+    (reads_by (i.state c.args.inputs.now) (i.state c.loop-turn.inputs) c.loop-turn.bytes.items v.selected v.taken v.given v.asked v.inputs v.selects) (omega (arith, v.few, c.len-left.ensures)) v.ends c.next_turn.ensures.few
 
 pub returns-in-Err-judge-clause-short : goal.returns-in-Err-judge-clause-short
 returns-in-Err-judge-clause-short g c =

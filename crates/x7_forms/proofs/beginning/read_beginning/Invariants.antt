@@ -16,6 +16,7 @@ invariant-loop-turn g l =
       waiting : 0 < length l.bytes.items → EndsInHeader l.bytes.items;
       asked : (i.state l.inputs).asked ≡ (i.state l.fn.inputs).asked;
       selects : (i.state l.inputs).selects ≡ (i.state l.fn.inputs).selects;
+      ends : (i.state l.inputs).ends ≤ (i.state l.fn.inputs).ends;
       given : (i.state l.inputs).given ≤ (i.state l.fn.inputs).given + length l.bytes.items;
       taken : (i.state l.fn.inputs).rest ≡ preceded l.bytes.items (i.state l.inputs).rest;
     }

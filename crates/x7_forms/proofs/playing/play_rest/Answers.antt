@@ -1,4 +1,4 @@
-use Rattle.std.proofs.Common.{◌≡◌, [], ◌++◌, ◌-◌, length, take, length-append, length-take-le, arith, inr, sym, ◌∙◌}
+use Rattle.std.proofs.Common.{◌≡◌, [], ◌++◌, ◌-◌, length, take, length-append, length-take-le, arith, inr, sym, ◌∙◌, false, true}
 use Rattle.x7_words.proofs.InputLemmas.{stays_at, stays_on}
 use Rattle.x7_forms.specs.Message.{event_of}
 use Rattle.x7_forms.specs.Play.{PlaysOn}
@@ -44,6 +44,7 @@ loop-turn-preserved g c =
     record {
       selected = c.in-Ok.ensures.ok.selected;
       inputs = stays_on _ _ _ v.inputs c.next_turn.ensures.inputs;
+      ends = omega (arith, v.ends, c.in-Ok.ensures.more c.if-turn.false);
       left = omega (arith, v.left);
       piece = c.next_turn.ensures.length ∙ v.piece;
       may = may_on c.loop-turn.player c.play.new.self piece c.loop-turn.left (c.loop-turn.left - n) (omega (arith, size, c.in-Ok.ensures.within.0)) plays v.may;
@@ -51,16 +52,25 @@ loop-turn-preserved g c =
     }
 
 pub loop-turn-init : goal.loop-turn-init
-loop-turn-init g c = record { selected = c.requires.selected; inputs = stays_at _; left = omega arith; piece = c.requires.buffer; may = c.requires.may; told = ([], (omega arith, on_none c.args.player.now, reads_none (g.I.Inputs.state c.args.inputs.now) c.requires.selected)) }
+loop-turn-init g c = record { selected = c.requires.selected; inputs = stays_at _; ends = omega arith; left = omega arith; piece = c.requires.buffer; may = c.requires.may; told = ([], (omega arith, on_none c.args.player.now, reads_none (g.I.Inputs.state c.args.inputs.now) c.requires.selected)) }
 
 pub returns-in-Err-clause-few : goal.returns-in-Err-clause-few
 returns-in-Err-clause-few g c =
     let i = g.I.Inputs in
     let v = c.loop-turn.invariant in
-    gives_on (i.state c.args.inputs.now) (i.state c.loop-turn.inputs) (i.state c.next_turn.new.inputs) v.told.0 c.args.limit c.loop-turn.left v.told.1.2 v.told.1.0 c.next_turn.ensures.few
+    gives_on (i.state c.args.inputs.now) (i.state c.loop-turn.inputs) (i.state c.next_turn.new.inputs) v.told.0 c.args.limit c.loop-turn.left v.told.1.2 v.told.1.0 v.ends c.next_turn.ensures.few
 
 pub returns-then-turn-clause-few : goal.returns-then-turn-clause-few
 returns-then-turn-clause-few g c =
     let i = g.I.Inputs in
     let v = c.loop-turn.invariant in
-    gives_on (i.state c.args.inputs.now) (i.state c.loop-turn.inputs) (i.state c.next_turn.new.inputs) v.told.0 c.args.limit c.loop-turn.left v.told.1.2 v.told.1.0 c.next_turn.ensures.few
+    gives_on (i.state c.args.inputs.now) (i.state c.loop-turn.inputs) (i.state c.next_turn.new.inputs) v.told.0 c.args.limit c.loop-turn.left v.told.1.2 v.told.1.0 v.ends c.next_turn.ensures.few
+
+pub returns-in-Err-clause-ended : goal.returns-in-Err-clause-ended
+returns-in-Err-clause-ended g c = λ e. let never : false ≡ true = sym c.if-last.false ∙ e in absurd cc
+
+pub returns-then-is_err-clause-ended : goal.returns-then-is_err-clause-ended
+returns-then-is_err-clause-ended g c = λ e. let never : false ≡ true = sym c.if-last.false ∙ e in absurd cc
+
+pub returns-then-turn-clause-ended : goal.returns-then-turn-clause-ended
+returns-then-turn-clause-ended g c = λ e. let never : false ≡ true = sym c.if-last.false ∙ e in absurd cc

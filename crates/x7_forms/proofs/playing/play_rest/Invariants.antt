@@ -10,6 +10,7 @@ invariant-loop-turn g l =
     record {
       selected : (i.state l.inputs).selected ≡ true;
       inputs : Stays (i.state l.fn.inputs) (i.state l.inputs);
+      ends : (i.state l.inputs).ends ≤ (i.state l.fn.inputs).ends;
       left : l.left ≤ l.limit;
       piece : length l.piece ≡ play_turn_bytes;
       may : MayPlay l.player l.left;

@@ -10,8 +10,8 @@ use Rattle.x7_forms.specs.Step.{CameIn, IsCaused, step_over}
 use Rattle.x7_forms.proofs.ResultLemmas.{err_weaker, ok_weaker, from_ok}
 use Rattle.x7_forms.proofs.PlayerLemmas.{may_less, may_on, on_on}
 use Rattle.x7_forms.proofs.ReadLemmas.{header_refused, reads_first, slice_of, stream_read, stream_refused, stream_unopened, stream_unread, turn_unread, unopened_unread, want_or_rest, want_unread}
-use Rattle.x7_words.proofs.InputLemmas.{stays_on}
-use Rattle.x7_forms.proofs.StandLemmas.{gives_on, stands_opened, stands_read}
+use Rattle.x7_words.proofs.InputLemmas.{few_once, stays_on}
+use Rattle.x7_forms.proofs.StandLemmas.{few_behind, few_read, stands_rest, stands_opened, stands_read}
 use Rattle.x7_forms.proofs.playing.play_stream.Goals as goal
 
 pub play-requires : goal.play-requires
@@ -139,7 +139,7 @@ pub returns-in-Err-next_turn-clause-stands : goal.returns-in-Err-next_turn-claus
 returns-in-Err-next_turn-clause-stands g c = stands_read c.args.name.now c.args.limit (g.I.Inputs.state c.open.new.inputs) (g.I.Inputs.state c.next_turn.new.inputs) c.open.ensures.asks c.next_turn.ensures.few
 
 pub returns-in-Err-next_turn-clause-once : goal.returns-in-Err-next_turn-clause-once
-returns-in-Err-next_turn-clause-once g c = omega (arith, c.open.ensures.once, c.next_turn.ensures.few.selects)
+returns-in-Err-next_turn-clause-once g c = few_read (g.I.Inputs.state c.args.inputs.now) (g.I.Inputs.state c.open.new.inputs) (g.I.Inputs.state c.next_turn.new.inputs) c.args.limit c.open.ensures.once c.next_turn.ensures.few
 
 pub returns-in-Err-next_turn-clause-inputs : goal.returns-in-Err-next_turn-clause-inputs
 returns-in-Err-next_turn-clause-inputs g c = stays_on _ _ _ c.open.ensures.inputs c.next_turn.ensures.inputs
@@ -148,7 +148,7 @@ pub returns-then-is_err-clause-stands : goal.returns-then-is_err-clause-stands
 returns-then-is_err-clause-stands g c = stands_read c.args.name.now c.args.limit (g.I.Inputs.state c.open.new.inputs) (g.I.Inputs.state c.next_turn.new.inputs) c.open.ensures.asks c.next_turn.ensures.few
 
 pub returns-then-is_err-clause-once : goal.returns-then-is_err-clause-once
-returns-then-is_err-clause-once g c = omega (arith, c.open.ensures.once, c.next_turn.ensures.few.selects)
+returns-then-is_err-clause-once g c = few_read (g.I.Inputs.state c.args.inputs.now) (g.I.Inputs.state c.open.new.inputs) (g.I.Inputs.state c.next_turn.new.inputs) c.args.limit c.open.ensures.once c.next_turn.ensures.few
 
 pub returns-then-is_err-clause-inputs : goal.returns-then-is_err-clause-inputs
 returns-then-is_err-clause-inputs g c = stays_on _ _ _ c.open.ensures.inputs c.next_turn.ensures.inputs
@@ -160,11 +160,14 @@ returns-else-is_err-clause-stands g c =
     let first = take count c.next_turn.new.buf in
     let size : length first ≡ count = length-take-le count c.next_turn.new.buf (omega (arith, c.in-Ok-next_turn.ensures.within.1, c.next_turn.ensures.length)) in
     let reads = reads_first (i.state c.open.new.inputs) (i.state c.next_turn.new.inputs) first c.in-Ok-next_turn.ensures.ok c.next_turn.ensures.asked c.next_turn.ensures.inputs in
-    stands_read c.args.name.now c.args.limit (i.state c.open.new.inputs) (i.state c.play_rest.new.inputs) c.open.ensures.asks
-    (gives_on (i.state c.open.new.inputs) (i.state c.next_turn.new.inputs) (i.state c.play_rest.new.inputs) first c.args.limit (c.args.limit - count) reads (omega (arith, size, c.in-Ok-next_turn.ensures.within.0)) c.play_rest.ensures.few)
+    stands_rest c.args.name.now first c.args.limit (c.args.limit - count) (i.state c.open.new.inputs) (i.state c.next_turn.new.inputs) (i.state c.play_rest.new.inputs)
+    c.open.ensures.asks reads (omega (arith, size, c.in-Ok-next_turn.ensures.within.0)) c.play_rest.ensures.few
 
 pub returns-else-is_err-clause-once : goal.returns-else-is_err-clause-once
-returns-else-is_err-clause-once g c = omega (arith, c.open.ensures.once, c.next_turn.ensures.few.selects, c.play_rest.ensures.few.selects)
+returns-else-is_err-clause-once g c =
+    let i = g.I.Inputs in
+    few_behind c.in-Ok-next_turn.turn.last (i.state c.args.inputs.now) (i.state c.open.new.inputs) (i.state c.next_turn.new.inputs) (i.state c.play_rest.new.inputs) c.args.limit (c.args.limit - c.in-Ok-next_turn.turn.count)
+    c.open.ensures.once c.next_turn.ensures.few c.in-Ok-next_turn.ensures.more c.play_rest.ensures.few c.play_rest.ensures.ended
 
 pub returns-else-is_err-clause-inputs : goal.returns-else-is_err-clause-inputs
 returns-else-is_err-clause-inputs g c = stays_on _ _ _ (stays_on _ _ _ c.open.ensures.inputs c.next_turn.ensures.inputs) c.play_rest.ensures.inputs
@@ -176,11 +179,14 @@ returns-in-Err-skip_rest-clause-stands g c =
     let first = take count c.next_turn.new.buf in
     let size : length first ≡ count = length-take-le count c.next_turn.new.buf (omega (arith, c.in-Ok-next_turn.ensures.within.1, c.next_turn.ensures.length)) in
     let reads = reads_first (i.state c.open.new.inputs) (i.state c.next_turn.new.inputs) first c.in-Ok-next_turn.ensures.ok c.next_turn.ensures.asked c.next_turn.ensures.inputs in
-    stands_read c.args.name.now c.args.limit (i.state c.open.new.inputs) (i.state c.skip_rest.new.inputs) c.open.ensures.asks
-    (gives_on (i.state c.open.new.inputs) (i.state c.next_turn.new.inputs) (i.state c.skip_rest.new.inputs) first c.args.limit (c.args.limit - count) reads (omega (arith, size, c.in-Ok-next_turn.ensures.within.0)) c.skip_rest.ensures.few)
+    stands_rest c.args.name.now first c.args.limit (c.args.limit - count) (i.state c.open.new.inputs) (i.state c.next_turn.new.inputs) (i.state c.skip_rest.new.inputs)
+    c.open.ensures.asks reads (omega (arith, size, c.in-Ok-next_turn.ensures.within.0)) c.skip_rest.ensures.few
 
 pub returns-in-Err-skip_rest-clause-once : goal.returns-in-Err-skip_rest-clause-once
-returns-in-Err-skip_rest-clause-once g c = omega (arith, c.open.ensures.once, c.next_turn.ensures.few.selects, c.skip_rest.ensures.few.selects)
+returns-in-Err-skip_rest-clause-once g c =
+    let i = g.I.Inputs in
+    few_behind c.in-Ok-next_turn.turn.last (i.state c.args.inputs.now) (i.state c.open.new.inputs) (i.state c.next_turn.new.inputs) (i.state c.skip_rest.new.inputs) c.args.limit (c.args.limit - c.in-Ok-next_turn.turn.count)
+    c.open.ensures.once c.next_turn.ensures.few c.in-Ok-next_turn.ensures.more c.skip_rest.ensures.few c.skip_rest.ensures.ended
 
 pub returns-in-Err-skip_rest-clause-inputs : goal.returns-in-Err-skip_rest-clause-inputs
 returns-in-Err-skip_rest-clause-inputs g c = stays_on _ _ _ (stays_on _ _ _ c.open.ensures.inputs c.next_turn.ensures.inputs) c.skip_rest.ensures.inputs
@@ -192,11 +198,17 @@ returns-in-Ok-skip_rest-clause-stands g c =
     let first = take count c.next_turn.new.buf in
     let size : length first ≡ count = length-take-le count c.next_turn.new.buf (omega (arith, c.in-Ok-next_turn.ensures.within.1, c.next_turn.ensures.length)) in
     let reads = reads_first (i.state c.open.new.inputs) (i.state c.next_turn.new.inputs) first c.in-Ok-next_turn.ensures.ok c.next_turn.ensures.asked c.next_turn.ensures.inputs in
-    stands_read c.args.name.now c.args.limit (i.state c.open.new.inputs) (i.state c.skip_rest.new.inputs) c.open.ensures.asks
-    (gives_on (i.state c.open.new.inputs) (i.state c.next_turn.new.inputs) (i.state c.skip_rest.new.inputs) first c.args.limit (c.args.limit - count) reads (omega (arith, size, c.in-Ok-next_turn.ensures.within.0)) c.skip_rest.ensures.few)
+    stands_rest c.args.name.now first c.args.limit (c.args.limit - count) (i.state c.open.new.inputs) (i.state c.next_turn.new.inputs) (i.state c.skip_rest.new.inputs)
+    c.open.ensures.asks reads (omega (arith, size, c.in-Ok-next_turn.ensures.within.0)) c.skip_rest.ensures.few
 
 pub returns-in-Ok-skip_rest-clause-once : goal.returns-in-Ok-skip_rest-clause-once
-returns-in-Ok-skip_rest-clause-once g c = omega (arith, c.open.ensures.once, c.next_turn.ensures.few.selects, c.skip_rest.ensures.few.selects)
+returns-in-Ok-skip_rest-clause-once g c =
+    let i = g.I.Inputs in
+    few_behind c.in-Ok-next_turn.turn.last (i.state c.args.inputs.now) (i.state c.open.new.inputs) (i.state c.next_turn.new.inputs) (i.state c.skip_rest.new.inputs) c.args.limit (c.args.limit - c.in-Ok-next_turn.turn.count)
+    c.open.ensures.once c.next_turn.ensures.few c.in-Ok-next_turn.ensures.more c.skip_rest.ensures.few c.skip_rest.ensures.ended
 
 pub returns-in-Ok-skip_rest-clause-inputs : goal.returns-in-Ok-skip_rest-clause-inputs
 returns-in-Ok-skip_rest-clause-inputs g c = stays_on _ _ _ (stays_on _ _ _ c.open.ensures.inputs c.next_turn.ensures.inputs) c.skip_rest.ensures.inputs
+
+pub returns-in-Err-clause-once : goal.returns-in-Err-clause-once
+returns-in-Err-clause-once g c = few_once (g.I.Inputs.state c.args.inputs.now) (g.I.Inputs.state c.open.new.inputs) c.open.ensures.once

@@ -1,5 +1,5 @@
-use Rattle.std.proofs.Common.{◌≡◌, ℕ, List, [], ◌∷◌, ◌++◌, None, arith, drop, length, length-append, length-take-le, map, string_bytes, refl, ◌∙◌, ap}
-use Rattle.x7_words.proofs.InputLemmas.{stays_at, stays_on}
+use Rattle.std.proofs.Common.{◌≡◌, ℕ, List, [], ◌∷◌, ◌++◌, ◌+◌, None, arith, drop, length, length-append, length-take-le, map, string_bytes, refl, ◌∙◌, ap}
+use Rattle.x7_words.proofs.InputLemmas.{few_at, few_more, few_on, stays_at, stays_on}
 use Rattle.x7_forms.specs.Turn.{play_turn_bytes}
 use Rattle.x7_forms.specs.Message.{event_of}
 use Rattle.x7_forms.specs.Known.{StreamRead, stream_limit}
@@ -14,7 +14,7 @@ loop-name-init g c =
     let i = g.I.Inputs in
     record {
       inputs = stays_at _;
-      selects = omega arith;
+      asks = few_at _;
       within = omega arith;
       limits = limits_first (i.state c.args.inputs.now).contents stream_limit (map string_bytes c.args.streams.now);
       piece = omega (arith, c.in-Ok-vec.ensures.len, c.in-Ok-vec.piece.ok.0);
@@ -48,7 +48,7 @@ loop-name-preserved g c =
     let size : length new ≡ play_turn_bytes = c.play_stream.ensures.length ∙ ap length c.deref_mut.ensures.value ∙ v.piece in
     record {
       inputs = stays_on _ _ _ v.inputs c.play_stream.ensures.inputs;
-      selects = omega (arith, v.selects, c.play_stream.ensures.once);
+      asks = few_on _ _ _ c.loop-name.name-index 1 v.asks c.play_stream.ensures.once;
       within = omega (arith, c.loop-name-test.true);
       limits = limits_next string_bytes (limited_together (i.state c.args.inputs.now).contents stream_limit (map string_bytes c.args.streams.now)) (i.state c.args.inputs.now).contents c.args.streams.now c.loop-name.name-index c.loop-name.left c.in-Ok-play_stream.left c.name-item.result name
           c.loop-name-test.true c.name-item.is c.as_str.ensures.value v.limits (room_left (i.state c.args.inputs.now).contents (i.state c.loop-name.inputs).contents C name c.loop-name.left read v.inputs.map (omega (arith, p.within)) (p.reads None));
@@ -76,10 +76,15 @@ returns-in-Err-clause-stops g c =
     let v = c.loop-name.invariant in
     let old = i.state c.args.inputs.now in
     limits_stop string_bytes (limited_together old.contents stream_limit (map string_bytes c.args.streams.now)) old.contents c.args.streams.now c.loop-name.name-index c.loop-name.left c.name-item.result c.as_str.result.now
-    old (i.state c.loop-name.inputs) (i.state c.play_stream.new.inputs) (event_of c.in-Err.refusal) c.loop-name-test.true c.name-item.is c.as_str.ensures.value v.limits v.selects c.play_stream.ensures.once c.play_stream.ensures.stands c.in-Err.ensures.named
+    old (i.state c.loop-name.inputs) (i.state c.play_stream.new.inputs) (event_of c.in-Err.refusal) c.loop-name-test.true c.name-item.is c.as_str.ensures.value v.limits v.asks c.play_stream.ensures.once c.play_stream.ensures.stands c.in-Err.ensures.named
 
 pub returns-in-Err-clause-once : goal.returns-in-Err-clause-once
-returns-in-Err-clause-once g c = omega (arith, c.loop-name.invariant.selects, c.loop-name-test.true, c.play_stream.ensures.once)
+returns-in-Err-clause-once g c =
+    let i = g.I.Inputs in
+    let first = i.state c.args.inputs.now in
+    let last = i.state c.play_stream.new.inputs in
+    let count = c.loop-name.name-index in
+    few_more first last (count + 1) (length c.args.streams.now) (omega (arith, c.loop-name-test.true)) (few_on first (i.state c.loop-name.inputs) last count 1 c.loop-name.invariant.asks c.play_stream.ensures.once)
 
 pub returns-clause-once : goal.returns-clause-once
-returns-clause-once g c = omega (arith, c.loop-name.invariant.selects, c.loop-name.invariant.within)
+returns-clause-once g c = few_more (g.I.Inputs.state c.args.inputs.now) (g.I.Inputs.state c.loop-name.inputs) c.loop-name.name-index (length c.args.streams.now) (omega (arith, c.loop-name.invariant.within)) c.loop-name.invariant.asks

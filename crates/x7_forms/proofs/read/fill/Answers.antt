@@ -16,6 +16,7 @@ loop-at-preserved g c =
       length = grind (arith, overwrites, read.length, i.length);
       took = takes_as _ _ _ _ (filled c.loop-at.buf c.read.new.buf _ at c.in-Ok.count i.within (omega (arith, read.length, read.within)) part) (takes_on _ _ _ _ _ i.took read.ok);
       asked = c.read.ensures.asked ∙ i.asked;
+      ends = omega (arith, i.ends, read.more (omega arith));
       inputs = stays_on _ _ _ i.inputs read.stays;
     }
 

@@ -10,6 +10,7 @@ invariant-loop-at g l =
       length : length l.buf ≡ length l.fn.buf;
       took : Takes (i.state l.fn.inputs) (take l.at l.buf) (i.state l.inputs);
       asked : (i.state l.inputs).asked ≡ (i.state l.fn.inputs).asked;
+      ends : (i.state l.inputs).ends ≤ (i.state l.fn.inputs).ends;
       inputs : Stays (i.state l.fn.inputs) (i.state l.inputs);
     }
 

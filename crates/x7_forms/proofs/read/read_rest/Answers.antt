@@ -8,7 +8,7 @@ use Rattle.x7_forms.proofs.read.read_rest.Goals as goal
 pub loop-turn-init : goal.loop-turn-init
 loop-turn-init g c =
     let i = g.I.Inputs in
-    record { selected = c.requires.selected; inputs = stays_at _; left = omega arith; piece = refl; told = ([], (sym (append-nil _), omega arith, reads_none (i.state c.args.inputs.now) c.requires.selected)) }
+    record { selected = c.requires.selected; inputs = stays_at _; ends = omega arith; left = omega arith; piece = refl; told = ([], (sym (append-nil _), omega arith, reads_none (i.state c.args.inputs.now) c.requires.selected)) }
 
 pub returns-in-Err-clause-err : goal.returns-in-Err-clause-err
 returns-in-Err-clause-err g c =
@@ -38,6 +38,7 @@ loop-turn-preserved g c =
     record {
       selected = c.in-Ok.ensures.ok.selected;
       inputs = stays_on _ _ _ v.inputs c.next_turn.ensures.inputs;
+      ends = omega (arith, v.ends, c.in-Ok.ensures.more c.if-turn.false);
       left = omega (arith, v.left);
       piece = c.next_turn.ensures.length ∙ v.piece;
       told = (v.told.0 ++ piece, (c.in-Ok-extend_from_slice.ensures.items ∙ ap (λ t. t ++ piece) v.told.1.0 ∙ append_assoc _ v.told.0 piece, omega (arith, v.told.1.1, size, length-append v.told.0 piece, c.in-Ok.ensures.within.0), reads));
@@ -47,16 +48,16 @@ pub returns-in-Err-clause-few : goal.returns-in-Err-clause-few
 returns-in-Err-clause-few g c =
     let i = g.I.Inputs in
     let v = c.loop-turn.invariant in
-    gives_on (i.state c.args.inputs.now) (i.state c.loop-turn.inputs) (i.state c.next_turn.new.inputs) v.told.0 c.args.limit c.loop-turn.left v.told.1.2 v.told.1.1 c.next_turn.ensures.few
+    gives_on (i.state c.args.inputs.now) (i.state c.loop-turn.inputs) (i.state c.next_turn.new.inputs) v.told.0 c.args.limit c.loop-turn.left v.told.1.2 v.told.1.1 v.ends c.next_turn.ensures.few
 
 pub returns-in-Err-extend_from_slice-clause-few : goal.returns-in-Err-extend_from_slice-clause-few
 returns-in-Err-extend_from_slice-clause-few g c =
     let i = g.I.Inputs in
     let v = c.loop-turn.invariant in
-    gives_on (i.state c.args.inputs.now) (i.state c.loop-turn.inputs) (i.state c.next_turn.new.inputs) v.told.0 c.args.limit c.loop-turn.left v.told.1.2 v.told.1.1 c.next_turn.ensures.few
+    gives_on (i.state c.args.inputs.now) (i.state c.loop-turn.inputs) (i.state c.next_turn.new.inputs) v.told.0 c.args.limit c.loop-turn.left v.told.1.2 v.told.1.1 v.ends c.next_turn.ensures.few
 
 pub returns-then-turn-clause-few : goal.returns-then-turn-clause-few
 returns-then-turn-clause-few g c =
     let i = g.I.Inputs in
     let v = c.loop-turn.invariant in
-    gives_on (i.state c.args.inputs.now) (i.state c.loop-turn.inputs) (i.state c.next_turn.new.inputs) v.told.0 c.args.limit c.loop-turn.left v.told.1.2 v.told.1.1 c.next_turn.ensures.few
+    gives_on (i.state c.args.inputs.now) (i.state c.loop-turn.inputs) (i.state c.next_turn.new.inputs) v.told.0 c.args.limit c.loop-turn.left v.told.1.2 v.told.1.1 v.ends c.next_turn.ensures.few

@@ -9,6 +9,7 @@ invariant-loop-turn g l =
     record {
       selected : (i.state l.inputs).selected ≡ true;
       inputs : Stays (i.state l.fn.inputs) (i.state l.inputs);
+      ends : (i.state l.inputs).ends ≤ (i.state l.fn.inputs).ends;
       left : l.left ≤ l.limit;
       piece : length l.piece ≡ turn_bytes;
       told : (taken : List ℕ) × ((l.onto.items ≡ l.fn.onto.items ++ taken) × (length taken + l.left ≡ l.limit) × Reads (i.state l.fn.inputs) taken (i.state l.inputs));

@@ -4,7 +4,8 @@ use Rattle.x7_forms.specs.Message.{event_of}
 use Rattle.x7_forms.specs.Step.{CameIn, IsCaused, step_over}
 use Rattle.x7_forms.specs.Known.{whole_in, with_inputs}
 use Rattle.x7_forms.proofs.ReadLemmas.{open_refused, unopened_unread, want_unread, whole_read, whole_refused}
-use Rattle.x7_forms.proofs.StandLemmas.{stands_opened, stands_read}
+use Rattle.x7_forms.proofs.StandLemmas.{few_read, stands_opened, stands_read}
+use Rattle.x7_words.proofs.InputLemmas.{few_once}
 use Rattle.x7_forms.proofs.read.read_whole.Goals as goal
 
 pub returns-in-Err-clause-due : goal.returns-in-Err-clause-due
@@ -48,3 +49,12 @@ returns-in-Ok-read_rest-clause-stands g c = stands_read c.args.name.now c.args.l
 
 pub returns-clause-stands : goal.returns-clause-stands
 returns-clause-stands g c = stands_read c.args.name.now c.args.limit (g.I.Inputs.state c.open.new.inputs) (g.I.Inputs.state c.read_rest.new.inputs) c.open.ensures.asks c.read_rest.ensures.few
+
+pub returns-in-Err-clause-once : goal.returns-in-Err-clause-once
+returns-in-Err-clause-once g c = few_once (g.I.Inputs.state c.args.inputs.now) (g.I.Inputs.state c.open.new.inputs) c.open.ensures.once
+
+pub returns-in-Ok-read_rest-clause-once : goal.returns-in-Ok-read_rest-clause-once
+returns-in-Ok-read_rest-clause-once g c = few_read (g.I.Inputs.state c.args.inputs.now) (g.I.Inputs.state c.open.new.inputs) (g.I.Inputs.state c.read_rest.new.inputs) c.args.limit c.open.ensures.once c.read_rest.ensures.few
+
+pub returns-clause-once : goal.returns-clause-once
+returns-clause-once g c = few_read (g.I.Inputs.state c.args.inputs.now) (g.I.Inputs.state c.open.new.inputs) (g.I.Inputs.state c.read_rest.new.inputs) c.args.limit c.open.ensures.once c.read_rest.ensures.few

@@ -1,4 +1,4 @@
-use Rattle.std.proofs.Common.{ℕ, List, [], ◌∷◌, Result, Ok, Err, inr, refl}
+use Rattle.std.proofs.Common.{ℕ, List, [], ◌∷◌, Result, Ok, Err, arith, inr, refl}
 use Rattle.x7_forms.specs.Event.{Event}
 use Rattle.x7_part.specs.Part.{PartData}
 use Rattle.x7_forms.specs.Message.{event_of}
@@ -9,6 +9,7 @@ use Rattle.x7_tool.proofs.DebugLemmas.{stream_steady}
 use Rattle.x7_forms.proofs.StandLemmas.{about_among, no_part_about, unplayed_about, unread_about}
 use Rattle.x7_forms.specs.Stop.{limited}
 use Rattle.x7_tool.proofs.StopLemmas.{both_asked, all_asked}
+use Rattle.x7_words.proofs.InputLemmas.{few_more, few_on}
 use Rattle.x7_tool.proofs.debug.read_given.Goals as goal
 
 pub returns-in-Err-read_data-clause-due : goal.returns-in-Err-read_data-clause-due
@@ -73,3 +74,15 @@ returns-in-Ok-read_whole-clause-due g c =
     (answers_go (List ℕ) DebugInputs (stream ∷ []) (script ∷ []) (stream ∷ script ∷ []) first second last (λ t. stream_data t stream) (λ t bytes. and_so (whole_in t script_limit script) (λ text. Ok (record { part = c.in-Ok.part; stream = bytes; script = text }))) content got
     (stream_steady stream) c.read_data.ensures.inputs (λ n h. inr h) c.in-Ok-read_data.ensures.due
     (answers_end (List ℕ) DebugInputs (script ∷ []) second last (λ t. whole_in t script_limit script) (λ text. Ok (record { part = c.in-Ok.part; stream = content; script = text })) text got (whole_steady script_limit script) c.in-Ok-read_whole.ensures.due (inr (tt, tt, refl))))
+
+pub returns-in-Err-clause-asks : goal.returns-in-Err-clause-asks
+returns-in-Err-clause-asks g c = few_more _ _ 1 3 (omega arith) c.read_part.ensures.once
+
+pub returns-in-Err-read_data-clause-asks : goal.returns-in-Err-read_data-clause-asks
+returns-in-Err-read_data-clause-asks g c = few_more _ _ 2 3 (omega arith) (few_on _ _ _ 1 1 c.read_part.ensures.once c.read_data.ensures.asks)
+
+pub returns-in-Err-read_whole-clause-asks : goal.returns-in-Err-read_whole-clause-asks
+returns-in-Err-read_whole-clause-asks g c = few_on _ _ _ 2 1 (few_on _ _ _ 1 1 c.read_part.ensures.once c.read_data.ensures.asks) c.read_whole.ensures.once
+
+pub returns-in-Ok-read_whole-clause-asks : goal.returns-in-Ok-read_whole-clause-asks
+returns-in-Ok-read_whole-clause-asks g c = few_on _ _ _ 2 1 (few_on _ _ _ 1 1 c.read_part.ensures.once c.read_data.ensures.asks) c.read_whole.ensures.once

@@ -1,11 +1,11 @@
 use Rattle.std.proofs.Common.{◌≡◌, ◌∷◌, [], ◌+◌, ◌^◌, ◌<◌, ◌≤◌, ◌++◌, length, length-append, length-take-le, take, arith, ap, ◌∙◌}
-use Rattle.x7_words.proofs.InputLemmas.{stays_on}
+use Rattle.x7_words.proofs.InputLemmas.{few_once, once_on, stays_on}
 use Rattle.x7_forms.specs.Message.{event_of}
 use Rattle.x7_tool.specs.Outcome.{text_limit}
 use Rattle.x7_forms.specs.Step.{CameIn, step_over}
 use Rattle.x7_forms.proofs.ReadLemmas.{at_on, open_refused, turn_refused, whole_read, turn_unread, unopened_unread}
 use Rattle.x7_tool.proofs.TurnLemmas.{taken_more}
-use Rattle.x7_forms.proofs.StandLemmas.{stands_opened, stands_turn}
+use Rattle.x7_forms.proofs.StandLemmas.{few_read, stands_opened, stands_turn}
 use Rattle.x7_tool.proofs.feeding.feed_whole.Goals as goal
 
 pub returns-then-turn-clause-ok : goal.returns-then-turn-clause-ok
@@ -42,7 +42,7 @@ loop-turn-preserved g c =
     record {
       selected = c.in-Ok-next_turn.ensures.ok.selected;
       inputs = stays_on _ _ _ v.inputs c.next_turn.ensures.inputs;
-      selects = omega (arith, v.selects, c.in-Ok-next_turn.ensures.ok.selects);
+      once = once_on _ _ _ v.once c.in-Ok-next_turn.ensures.ok.selects (c.in-Ok-next_turn.ensures.more c.if-turn.false);
       left = omega (arith, v.left);
       piece = c.next_turn.ensures.length ∙ v.piece;
       told = (taken ++ piece, (sel, c.take_turn-read.ensures c.args.taker taken fits v.told.1.1, omega (arith, size, v.told.1.2, c.in-Ok-next_turn.ensures.within.0), at_on name taken piece (i.state c.loop-turn.inputs) (i.state c.next_turn.new.inputs) v.told.1.3 c.in-Ok-next_turn.ensures.ok c.next_turn.ensures.asked));
@@ -74,3 +74,12 @@ returns-in-Err-next_turn-clause-stands g c = let v = c.loop-turn.invariant in st
 
 pub returns-then-turn-clause-stands : goal.returns-then-turn-clause-stands
 returns-then-turn-clause-stands g c = let v = c.loop-turn.invariant in stands_turn c.args.name.now v.told.0 text_limit c.loop-turn.left (g.I.Inputs.state c.loop-turn.inputs) (g.I.Inputs.state c.next_turn.new.inputs) v.told.1.3 v.told.1.2 c.next_turn.ensures.few
+
+pub returns-in-Err-clause-asks : goal.returns-in-Err-clause-asks
+returns-in-Err-clause-asks g c = few_once _ _ c.open.ensures.once
+
+pub returns-in-Err-next_turn-clause-asks : goal.returns-in-Err-next_turn-clause-asks
+returns-in-Err-next_turn-clause-asks g c = few_read _ _ _ c.loop-turn.left c.loop-turn.invariant.once c.next_turn.ensures.few
+
+pub returns-then-turn-clause-asks : goal.returns-then-turn-clause-asks
+returns-then-turn-clause-asks g c = few_read _ _ _ c.loop-turn.left c.loop-turn.invariant.once c.next_turn.ensures.few

@@ -1,5 +1,5 @@
-use Rattle.std.proofs.Common.{[], ◌∷◌, ◌+◌, ◌≤◌, Err, inr, refl, arith}
-use Rattle.x7_words.proofs.InputLemmas.{stays_on}
+use Rattle.std.proofs.Common.{[], ◌∷◌, Err, inr, refl}
+use Rattle.x7_words.proofs.InputLemmas.{few_on, stays_on}
 use Rattle.x7_part.specs.Part.{PartData}
 use Rattle.x7_forms.specs.Form.{ImagingFor}
 use Rattle.x7_forms.specs.Known.{Answer, and_so, part_limit, part_of, stream_limit}
@@ -42,7 +42,7 @@ returns-in-Ok-read_streams g c =
     let known = c.in-Ok.part in
     let streams = streams_of c.in-Ok-read_streams.streams in
     let made = c.part_text.result in
-    let asks : new.selects ≤ old.selects + 3 = omega (arith, c.read_part.ensures.once, c.read_streams.ensures.asks) in
+    let asks = few_on old mid new 1 2 c.read_part.ensures.once c.read_streams.ensures.asks in
     record {
       due = answers_go PartData Answer (part ∷ []) (golden ∷ update ∷ []) (part ∷ golden ∷ update ∷ []) old mid new (λ t. part_of t part) (λ t p. and_so (image_streams t golden update) (image_by update p.start_unit)) known (seen whole_of made)
           (part_steady part) c.read_part.ensures.inputs (λ n h. inr h) c.in-Ok.ensures.due
@@ -63,7 +63,7 @@ returns g c =
     let golden = c.args.golden.now in
     let update = c.args.update.now in
     let event = event_of c.in-Err-read_streams.refusal in
-    let asks : new.selects ≤ old.selects + 3 = omega (arith, c.read_part.ensures.once, c.read_streams.ensures.asks) in
+    let asks = few_on old mid new 1 2 c.read_part.ensures.once c.read_streams.ensures.asks in
     record {
       due = answers_go PartData Answer (part ∷ []) (golden ∷ update ∷ []) (part ∷ golden ∷ update ∷ []) old mid new (λ t. part_of t part) (λ t p. and_so (image_streams t golden update) (image_by update p.start_unit)) c.in-Ok.part (Err event)
           (part_steady part) c.read_part.ensures.inputs (λ n h. inr h) c.in-Ok.ensures.due

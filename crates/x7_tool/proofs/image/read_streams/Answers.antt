@@ -1,4 +1,4 @@
-use Rattle.std.proofs.Common.{ℕ, List, [], ◌∷◌, Result, Ok, Err, inr, refl}
+use Rattle.std.proofs.Common.{ℕ, List, [], ◌∷◌, Result, Ok, Err, arith, inr, refl}
 use Rattle.x7_forms.specs.Event.{Event}
 use Rattle.x7_forms.specs.Message.{event_of}
 use Rattle.x7_forms.specs.Known.{and_so, stream_limit}
@@ -9,6 +9,7 @@ use Rattle.x7_tool.proofs.DebugLemmas.{stream_steady}
 use Rattle.x7_forms.proofs.StandLemmas.{about_among, unplayed_about}
 use Rattle.x7_tool.proofs.StopLemmas.{both_asked}
 use Rattle.x7_forms.specs.Stop.{limited}
+use Rattle.x7_words.proofs.InputLemmas.{few_more, few_on}
 use Rattle.x7_tool.proofs.image.read_streams.Goals as goal
 
 pub returns-in-Err-clause-due : goal.returns-in-Err-clause-due
@@ -47,3 +48,12 @@ returns-in-Ok-read_stream-clause-due g c =
     answers_go (List ℕ) ImageStreams (golden ∷ []) (update ∷ []) (golden ∷ update ∷ []) (i.state c.args.inputs.now) (i.state c.read_stream.new.inputs) (i.state c.read_stream-2.new.inputs) (λ t. stream_data t golden)
     (λ t first. and_so (stream_data t update) (λ second. Ok (record { golden = first; update = second }))) first got (stream_steady golden) c.read_stream.ensures.inputs (λ n h. inr h) c.in-Ok.ensures.due
     (answers_end (List ℕ) ImageStreams (update ∷ []) (i.state c.read_stream.new.inputs) (i.state c.read_stream-2.new.inputs) (λ t. stream_data t update) (λ second. Ok (record { golden = first; update = second })) second got (stream_steady update) c.in-Ok-read_stream.ensures.due (inr (tt, tt, refl)))
+
+pub returns-in-Err-clause-asks : goal.returns-in-Err-clause-asks
+returns-in-Err-clause-asks g c = few_more _ _ 1 2 (omega arith) c.read_stream.ensures.asks
+
+pub returns-in-Err-read_stream-clause-asks : goal.returns-in-Err-read_stream-clause-asks
+returns-in-Err-read_stream-clause-asks g c = few_on _ _ _ 1 1 c.read_stream.ensures.asks c.read_stream-2.ensures.asks
+
+pub returns-in-Ok-read_stream-clause-asks : goal.returns-in-Ok-read_stream-clause-asks
+returns-in-Ok-read_stream-clause-asks g c = few_on _ _ _ 1 1 c.read_stream.ensures.asks c.read_stream-2.ensures.asks

@@ -3,7 +3,7 @@ use Rattle.std.proofs.lemmas.Result.{on_ok_weaker}
 use Rattle.x7_words.specs.Sink.{SinkFails, appended, PutsPrefix}
 use Rattle.x7_words.specs.Input.{preceded, Selects}
 use Rattle.x7_words.specs.Word.{AreBytes}
-use Rattle.x7_words.proofs.InputLemmas.{stays_on}
+use Rattle.x7_words.proofs.InputLemmas.{few_once, once_on, stays_on}
 use Rattle.x7_words.proofs.CountLemmas.{risen_from}
 use Rattle.x7_listing.specs.Listing.{listing_of}
 use Rattle.x7_listing.specs.StreamListing.{stream_listing}
@@ -22,7 +22,7 @@ use Rattle.x7_tool.proofs.Causes.{Ended, PutsListed, both_err, ends_same, list_e
 use Rattle.x7_forms.proofs.ReadLemmas.{asked_on, at_on, turn_unread}
 use Rattle.x7_forms.proofs.ResultLemmas.{err_weaker}
 use Rattle.x7_tool.proofs.TurnLemmas.{end_failed, front_failed, front_so_far, goes_on, line_front, line_then, stream_so_far, stream_whole, taken_more, unread_end, write_failed}
-use Rattle.x7_forms.proofs.StandLemmas.{stands_opened, stands_read, stands_turn, unfronted_about, unopened_about, unread_about}
+use Rattle.x7_forms.proofs.StandLemmas.{few_read, stands_opened, stands_read, stands_turn, unfronted_about, unopened_about, unread_about}
 use Rattle.x7_tool.proofs.StopLemmas.{front_stops, put_stops, written_stops, first_stops}
 use Rattle.x7_forms.specs.Stop.{limited}
 use Rattle.x7_tool.proofs.list.list.Goals as goal
@@ -35,11 +35,11 @@ returns-in-Err g c = λ before after.
     let new = record after { inputs = i.state c.open.new.inputs; out = o.state c.args.out.now } in
     let stream = c.args.stream.now in
     let event = event_of c.in-Err.refusal in
-    let asks : (i.state c.open.new.inputs).selects ≤ (i.state c.args.inputs.now).selects + 1 = c.open.ensures.once in
+    let asks = few_once (i.state c.args.inputs.now) (i.state c.open.new.inputs) c.open.ensures.once in
     record {
       ends = list_ends stream old new (Err event) (unopened old.inputs new.inputs old.flash.bytes stream (SinkFails old.out new.out) old.out.written event c.in-Err.ensures.err c.open.ensures.asks)
           (stays_near event stream old new (unopened_near old.inputs.contents stream new.inputs.rest old.out.written new.out.written old.inputs new.inputs stream event c.open.ensures.asks (same_now old.out) c.in-Err.ensures.err));
-      stops = first_stops (Listing c.args.stream.now) (limited stream_limit c.args.stream.now) [] (g.I.Inputs.state c.args.inputs.now) (g.I.Inputs.state c.open.new.inputs) (event_of c.in-Err.refusal) refl (stands_opened c.args.stream.now stream_limit (g.I.Inputs.state c.open.new.inputs) c.open.ensures.asks) c.open.ensures.once (unopened_about (g.I.Inputs.state c.args.inputs.now) (g.I.Inputs.state c.open.new.inputs) c.args.stream.now (event_of c.in-Err.refusal) c.in-Err.ensures.err);
+      stops = first_stops (Listing c.args.stream.now) (limited stream_limit c.args.stream.now) [] (g.I.Inputs.state c.args.inputs.now) (g.I.Inputs.state c.open.new.inputs) (event_of c.in-Err.refusal) refl (stands_opened c.args.stream.now stream_limit (g.I.Inputs.state c.open.new.inputs) c.open.ensures.asks) asks (unopened_about (g.I.Inputs.state c.args.inputs.now) (g.I.Inputs.state c.open.new.inputs) c.args.stream.now (event_of c.in-Err.refusal) c.in-Err.ensures.err);
       judges = tt;
       asks = asks;
       stays = c.open.ensures.inputs;
@@ -53,12 +53,12 @@ returns-in-Err-read_beginning g c = λ before after.
     let new = record after { inputs = i.state c.read_beginning.new.inputs; out = o.state c.args.out.now } in
     let stream = c.args.stream.now in
     let event = event_of c.in-Err-read_beginning.refusal in
-    let asks : (i.state c.read_beginning.new.inputs).selects ≤ (i.state c.args.inputs.now).selects + 1 = omega (arith, c.open.ensures.once, c.read_beginning.ensures.few.selects) in
+    let asks = few_read (i.state c.args.inputs.now) (i.state c.open.new.inputs) (i.state c.read_beginning.new.inputs) stream_limit c.open.ensures.once c.read_beginning.ensures.few in
     record {
       ends = list_ends stream old new (Err event)
           (unfronted old.inputs (i.state c.open.new.inputs) new.inputs old.flash.bytes stream (SinkFails old.out new.out) old.out.written event c.open.ensures.inputs c.in-Ok.ensures.ok.found c.open.ensures.asks c.in-Err-read_beginning.ensures.err)
           (stays_near event stream old new (unfronted_near old.inputs.contents stream new.inputs.rest old.out.written new.out.written (i.state c.open.new.inputs) new.inputs stream event refl c.in-Ok.ensures.ok.found c.open.ensures.asks c.read_beginning.ensures.short (same_now old.out) c.in-Err-read_beginning.ensures.err));
-      stops = first_stops (Listing c.args.stream.now) (limited stream_limit c.args.stream.now) [] (g.I.Inputs.state c.args.inputs.now) (g.I.Inputs.state c.read_beginning.new.inputs) (event_of c.in-Err-read_beginning.refusal) refl (stands_read c.args.stream.now stream_limit (g.I.Inputs.state c.open.new.inputs) (g.I.Inputs.state c.read_beginning.new.inputs) c.open.ensures.asks c.read_beginning.ensures.few) (omega (arith, c.open.ensures.once, c.read_beginning.ensures.few.selects)) (unfronted_about (g.I.Inputs.state c.open.new.inputs) (g.I.Inputs.state c.read_beginning.new.inputs) c.args.stream.now (event_of c.in-Err-read_beginning.refusal) c.in-Err-read_beginning.ensures.err);
+      stops = first_stops (Listing c.args.stream.now) (limited stream_limit c.args.stream.now) [] (g.I.Inputs.state c.args.inputs.now) (g.I.Inputs.state c.read_beginning.new.inputs) (event_of c.in-Err-read_beginning.refusal) refl (stands_read c.args.stream.now stream_limit (g.I.Inputs.state c.open.new.inputs) (g.I.Inputs.state c.read_beginning.new.inputs) c.open.ensures.asks c.read_beginning.ensures.few) asks (unfronted_about (g.I.Inputs.state c.open.new.inputs) (g.I.Inputs.state c.read_beginning.new.inputs) c.args.stream.now (event_of c.in-Err-read_beginning.refusal) c.in-Err-read_beginning.ensures.err);
       judges = tt;
       asks = asks;
       stays = stays_on _ _ _ c.open.ensures.inputs c.read_beginning.ensures.inputs;
@@ -98,7 +98,7 @@ returns-in-Err-put_beginning g c = λ before after.
     let longer = longer_front old now _ put in
     let few : given ≤ longest_beginning = omega (arith, c.open.ensures.asks.given, c.read_beginning.ensures.short) in
     let near = unwritten_near contents stream rest old now _ given r (front_given contents stream given old now few longer) (front_near contents stream taken rest old now sel f.few longer) c.in-Err-put_beginning.ensures.why in
-    let asks : (i.state c.read_beginning.new.inputs).selects ≤ (i.state c.args.inputs.now).selects + 1 = omega (arith, c.open.ensures.once, c.read_beginning.ensures.few.selects) in
+    let asks = few_read (i.state c.args.inputs.now) (i.state c.open.new.inputs) (i.state c.read_beginning.new.inputs) stream_limit c.open.ensures.once c.read_beginning.ensures.few in
     record {
       ends = list_ends stream (record before { inputs = i.state c.args.inputs.now; out = o.state c.args.out.now }) (record after { inputs = i.state c.read_beginning.new.inputs; out = o.state c.put_beginning.new.out }) (Err r) (end c.in-Err-put_beginning.ensures.why) (stays_near r stream (record before { inputs = i.state c.args.inputs.now; out = o.state c.args.out.now }) (record after { inputs = i.state c.read_beginning.new.inputs; out = o.state c.put_beginning.new.out }) near);
       stops = front_stops (Listing c.args.stream.now) (g.I.Inputs.state c.args.inputs.now) (g.I.Inputs.state c.read_beginning.new.inputs) (event_of c.in-Err-put_beginning.refusal) c.in-Err-put_beginning.ensures.why;
@@ -155,7 +155,7 @@ returns-then-beginning g c = λ before after.
     let few : given ≤ longest_beginning = omega (arith, c.open.ensures.asks.given, c.read_beginning.ensures.short) in
     stays_near (event_of r) stream first later (unwritten_near contents stream rest old now _ given (event_of r) (front_given contents stream given old now few longer) (front_near contents stream taken rest old now sel f.few longer) (why_weaker w)))
     c.put_short.ensures.err c.put_short.ensures.why in
-    let asks : (i.state c.read_beginning.new.inputs).selects ≤ (i.state c.args.inputs.now).selects + 1 = omega (arith, c.open.ensures.once, c.read_beginning.ensures.few.selects) in
+    let asks = few_read (i.state c.args.inputs.now) (i.state c.open.new.inputs) (i.state c.read_beginning.new.inputs) stream_limit c.open.ensures.once c.read_beginning.ensures.few in
     record {
       ends = list_seen stream first later c.put_short.result ok err near;
       stops = written_stops _ _ (Listing c.args.stream.now) (g.I.Inputs.state c.args.inputs.now) (g.I.Inputs.state c.read_beginning.new.inputs) c.put_short.result c.put_short.ensures.why;
@@ -174,14 +174,14 @@ returns-in-Err-next_turn g c = λ before after.
     let stream = c.args.stream.now in
     let event = event_of c.in-Err-next_turn.refusal in
     let t = v.told.1.1 in
-    let asks : (i.state c.next_turn.new.inputs).selects ≤ (i.state c.args.inputs.now).selects + 1 = omega (arith, c.loop-turn.invariant.selects, c.next_turn.ensures.few.selects) in
+    let asks = few_read (i.state c.args.inputs.now) (i.state c.loop-turn.inputs) (i.state c.next_turn.new.inputs) c.loop-turn.left c.loop-turn.invariant.once c.next_turn.ensures.few in
     record {
       ends = list_ends stream old new (Err event)
           (unread_end old.inputs (i.state c.loop-turn.inputs) new.inputs old.flash.bytes stream v.told.0 c.loop-turn.lister c.loop-turn.left (SinkFails old.out new.out) old.out.written new.out.written event
           v.inputs v.told.1.0 v.told.1.3 v.told.1.1 v.told.1.2 c.in-Err-next_turn.ensures.err c.next_turn.ensures.asked)
           (stays_near event stream old new (unread_near old.inputs.contents stream new.inputs.rest old.out.written new.out.written (i.state c.loop-turn.inputs) new.inputs stream v.told.0 c.loop-turn.lister c.loop-turn.left event refl v.told.1.0 t
           (omega (arith, v.told.1.3.given, c.next_turn.ensures.turn, v.piece)) (λ e. omega (arith, c.in-Err-next_turn.ensures.over e, v.piece)) (same_now (o.state c.loop-turn.out)) c.in-Err-next_turn.ensures.err));
-      stops = let v = c.loop-turn.invariant in first_stops (Listing c.args.stream.now) (limited stream_limit c.args.stream.now) [] (g.I.Inputs.state c.args.inputs.now) (g.I.Inputs.state c.next_turn.new.inputs) (event_of c.in-Err-next_turn.refusal) refl (stands_turn c.args.stream.now v.told.0 stream_limit c.loop-turn.left (g.I.Inputs.state c.loop-turn.inputs) (g.I.Inputs.state c.next_turn.new.inputs) v.told.1.3 v.told.1.2 c.next_turn.ensures.few) (omega (arith, v.selects, c.next_turn.ensures.few.selects)) (unread_about c.args.stream.now (event_of c.in-Err-next_turn.refusal) (turn_unread (g.I.Inputs.state c.loop-turn.inputs) (g.I.Inputs.state c.next_turn.new.inputs) c.args.stream.now c.loop-turn.left (event_of c.in-Err-next_turn.refusal) c.in-Err-next_turn.ensures.err));
+      stops = let v = c.loop-turn.invariant in first_stops (Listing c.args.stream.now) (limited stream_limit c.args.stream.now) [] (g.I.Inputs.state c.args.inputs.now) (g.I.Inputs.state c.next_turn.new.inputs) (event_of c.in-Err-next_turn.refusal) refl (stands_turn c.args.stream.now v.told.0 stream_limit c.loop-turn.left (g.I.Inputs.state c.loop-turn.inputs) (g.I.Inputs.state c.next_turn.new.inputs) v.told.1.3 v.told.1.2 c.next_turn.ensures.few) asks (unread_about c.args.stream.now (event_of c.in-Err-next_turn.refusal) (turn_unread (g.I.Inputs.state c.loop-turn.inputs) (g.I.Inputs.state c.next_turn.new.inputs) c.args.stream.now c.loop-turn.left (event_of c.in-Err-next_turn.refusal) c.in-Err-next_turn.ensures.err));
       judges = tt;
       asks = asks;
       stays = stays_on _ _ _ c.loop-turn.invariant.inputs c.next_turn.ensures.inputs;
@@ -223,7 +223,7 @@ returns-in-Err-put_turn g c = λ before after.
     let told = stream_whole taken t.line t.sent (t.goes []) in
     let near = turn_near contents stream taken piece t.line t.sent c.loop-turn.lister rest old (o.state c.loop-turn.out).written now sel t.close few told t.lists c.put_turn.ensures.longer in
     let gives = turn_given contents stream taken t.line t.sent given c.loop-turn.lister (i.state c.loop-turn.inputs).rest old (o.state c.loop-turn.out).written now v.told.1.0 (omega (arith, v.told.1.3.given, c.next_turn.ensures.turn, v.piece)) told t.lists c.put_turn.ensures.longer in
-    let asks : (i.state c.next_turn.new.inputs).selects ≤ (i.state c.args.inputs.now).selects + 1 = omega (arith, c.loop-turn.invariant.selects, c.next_turn.ensures.few.selects) in
+    let asks = few_read (i.state c.args.inputs.now) (i.state c.loop-turn.inputs) (i.state c.next_turn.new.inputs) c.loop-turn.left c.loop-turn.invariant.once c.next_turn.ensures.few in
     record {
       ends = list_ends stream (record before { inputs = i.state c.args.inputs.now; out = o.state c.args.out.now }) (record after { inputs = i.state c.next_turn.new.inputs; out = o.state c.put_turn.new.out }) (Err r) (end c.in-Err-put_turn.ensures.why) (stays_near r stream (record before { inputs = i.state c.args.inputs.now; out = o.state c.args.out.now }) (record after { inputs = i.state c.next_turn.new.inputs; out = o.state c.put_turn.new.out }) (unwritten_near contents stream rest old now _ given r gives near (why_weaker c.in-Err-put_turn.ensures.why)));
       stops = put_stops (Listing c.args.stream.now) (g.I.Inputs.state c.args.inputs.now) (g.I.Inputs.state c.next_turn.new.inputs) (event_of c.in-Err-put_turn.refusal) c.in-Err-put_turn.ensures.why;
@@ -282,7 +282,7 @@ returns-then-turn g c = λ before after.
     let near = turn_near contents stream taken piece t.line t.sent c.loop-turn.lister (i.state c.next_turn.new.inputs).rest old (o.state c.loop-turn.out).written now sel t.close few whole t.lists longer in
     let gives = turn_given contents stream taken t.line t.sent given c.loop-turn.lister (i.state c.loop-turn.inputs).rest old (o.state c.loop-turn.out).written now v.told.1.0 (omega (arith, v.told.1.3.given, c.next_turn.ensures.turn, v.piece)) whole t.lists longer in
     let close = err_weaker c.put_end.result (λ r w. stays_near (event_of r) stream (record before { inputs = i.state c.args.inputs.now; out = o.state c.args.out.now }) (record after { inputs = i.state c.next_turn.new.inputs; out = o.state c.put_end.new.out }) (unwritten_near contents stream (i.state c.next_turn.new.inputs).rest old now _ given (event_of r) gives near (why_weaker w))) c.put_end.ensures.why in
-    let asks : (i.state c.next_turn.new.inputs).selects ≤ (i.state c.args.inputs.now).selects + 1 = omega (arith, c.loop-turn.invariant.selects, c.next_turn.ensures.few.selects) in
+    let asks = few_read (i.state c.args.inputs.now) (i.state c.loop-turn.inputs) (i.state c.next_turn.new.inputs) c.loop-turn.left c.loop-turn.invariant.once c.next_turn.ensures.few in
     record {
       ends = list_seen stream (record before { inputs = i.state c.args.inputs.now; out = o.state c.args.out.now }) (record after { inputs = i.state c.next_turn.new.inputs; out = o.state c.put_end.new.out }) c.put_end.result ok err close;
       stops = written_stops _ _ (Listing c.args.stream.now) (g.I.Inputs.state c.args.inputs.now) (g.I.Inputs.state c.next_turn.new.inputs) c.put_end.result c.put_end.ensures.why;
@@ -311,7 +311,7 @@ loop-turn-preserved g c =
     record {
       selected = c.in-Ok-next_turn.ensures.ok.selected;
       inputs = stays_on _ _ _ v.inputs c.next_turn.ensures.inputs;
-      selects = omega (arith, v.selects, c.in-Ok-next_turn.ensures.ok.selects);
+      once = once_on _ _ _ v.once c.in-Ok-next_turn.ensures.ok.selects (c.in-Ok-next_turn.ensures.more c.if-turn.false);
       written = omega (arith, v.written, c.put_turn.ensures.counts.faults);
       left = omega (arith, v.left);
       piece = omega (arith, c.next_turn.ensures.length, v.piece);
@@ -340,7 +340,7 @@ loop-turn-init g c =
       selected = c.in-Ok-read_beginning.ensures.selected;
       inputs = stays_on _ _ _ c.open.ensures.inputs c.read_beginning.ensures.inputs;
       written = c.put_beginning.ensures.counts.faults;
-      selects = omega (arith, c.open.ensures.once, c.read_beginning.ensures.few.selects);
+      once = once_on _ _ _ c.open.ensures.once c.read_beginning.ensures.few.selects (f.goes c.if-beginning.false);
       left = omega arith;
       piece = refl;
       told = (taken, (sel, record { line = line; sent = sent; lists = c.in-Ok-put_beginning.ensures.ok; goes = goes; close = omega (arith, f.few) }, omega (arith, f.few, c.len-left.ensures), record { asked = asked_on stream (i.state c.open.new.inputs) now c.open.ensures.asks f.reads.asked; given = omega (arith, c.open.ensures.asks.given, f.reads.takes.given) }));

@@ -1,5 +1,5 @@
 use Rattle.std.proofs.Common.{◌≡◌, ℕ, List, ◌+◌, ◌≤◌, length, true}
-use Rattle.x7_words.specs.Input.{Selects, Stays, preceded}
+use Rattle.x7_words.specs.Input.{AsksOnce, Selects, Stays, preceded}
 use Rattle.x7_forms.specs.Known.{stream_limit}
 use Rattle.x7_forms.specs.Turn.{IsAt, turn_bytes}
 use Rattle.x7_tool.specs.Turns.{ListsStream}
@@ -13,7 +13,7 @@ invariant-loop-turn g l =
       selected : (i.state l.inputs).selected ≡ true;
       inputs : Stays (i.state l.fn.inputs) (i.state l.inputs);
       written : (o.state l.fn.out).faults ≤ (o.state l.out).faults;
-      selects : (i.state l.inputs).selects ≤ (i.state l.fn.inputs).selects + 1;
+      once : AsksOnce (i.state l.fn.inputs) (i.state l.inputs);
       left : l.left ≤ stream_limit;
       piece : length l.piece ≡ turn_bytes;
       told : (taken : List ℕ) × (Selects (i.state l.fn.inputs).contents l.stream (preceded taken (i.state l.inputs).rest) × ListsStream l.lister (o.state l.fn.out).written (o.state l.out).written taken × (length taken + l.left ≡ stream_limit) × IsAt l.stream taken (i.state l.inputs));

@@ -1,4 +1,4 @@
-use Rattle.std.proofs.Common.{arith, ℕ, List, [], ◌∷◌, Err, inr, map, string_bytes, inl, refl}
+use Rattle.std.proofs.Common.{ℕ, List, [], ◌∷◌, Err, inr, map, string_bytes, inl, refl}
 use Rattle.x7_part.specs.Part.{PartData}
 use Rattle.x7_forms.specs.Message.{event_of}
 use Rattle.x7_forms.specs.Known.{Answer, and_so, data_of, part_of, stream_limit, part_limit}
@@ -38,7 +38,7 @@ returns g c =
           (part_steady part) c.read_part.ensures.inputs (λ n h. inr h) c.in-Ok.ensures.due
           (answers_stop (List ℕ) Answer streams streams (i.state c.read_part.new.inputs) (i.state c.play_streams.new.inputs) (λ t. data_of t stream_limit streams) (λ t. reported c.in-Ok.part) event (λ n h. h) c.in-Err-play_streams.ensures.err);
       stops = streams_stop c.args.part.now (map string_bytes c.args.streams.now) (g.I.Inputs.state c.args.inputs.now) (g.I.Inputs.state c.read_part.new.inputs) (g.I.Inputs.state c.play_streams.new.inputs) (event_of c.in-Err-play_streams.refusal) c.read_part.ensures.inputs.map c.read_part.ensures.once c.in-Err-play_streams.ensures.stops;
-      asks = streams_asked string_bytes c.args.part.now c.args.streams.now (g.I.Inputs.state c.args.inputs.now) (g.I.Inputs.state c.play_streams.new.inputs) (omega (arith, c.read_part.ensures.once, c.play_streams.ensures.once));
+      asks = streams_asked string_bytes c.args.part.now c.args.streams.now (g.I.Inputs.state c.args.inputs.now) (g.I.Inputs.state c.read_part.new.inputs) (g.I.Inputs.state c.play_streams.new.inputs) c.read_part.ensures.once c.play_streams.ensures.once;
       stays = stays_on _ _ _ c.read_part.ensures.inputs c.play_streams.ensures.inputs;
     }
 
@@ -54,6 +54,6 @@ returns-in-Ok-play_streams g c =
           (answers_end (List ℕ) Answer streams (i.state c.read_part.new.inputs) (i.state c.play_streams.new.inputs) (λ t. data_of t stream_limit streams) (reported c.in-Ok.part) p.0 (seen text_of_play c.text_of.result) (data_steady streams stream_limit) p.2
           (text_ends c.in-Ok.part p.0 c.in-Ok-play_streams.player c.text_of.result p.1 c.text_of.ensures.ok c.text_of.ensures.err));
       stops = reads_only text_of_play (Playing c.args.part.now (map string_bytes c.args.streams.now)) (g.I.Inputs.state c.args.inputs.now) (g.I.Inputs.state c.play_streams.new.inputs) c.text_of.result (err_weaker c.text_of.result (λ r h. elim h [ inl e ↦ inl e | inr e ↦ inr e.0 ]) c.text_of.ensures.err);
-      asks = streams_asked string_bytes c.args.part.now c.args.streams.now (g.I.Inputs.state c.args.inputs.now) (g.I.Inputs.state c.play_streams.new.inputs) (omega (arith, c.read_part.ensures.once, c.play_streams.ensures.once));
+      asks = streams_asked string_bytes c.args.part.now c.args.streams.now (g.I.Inputs.state c.args.inputs.now) (g.I.Inputs.state c.read_part.new.inputs) (g.I.Inputs.state c.play_streams.new.inputs) c.read_part.ensures.once c.play_streams.ensures.once;
       stays = stays_on _ _ _ c.read_part.ensures.inputs c.play_streams.ensures.inputs;
     }

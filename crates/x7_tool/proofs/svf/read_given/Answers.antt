@@ -1,4 +1,4 @@
-use Rattle.std.proofs.Common.{[], ◌∷◌, Ok, refl}
+use Rattle.std.proofs.Common.{[], ◌∷◌, Ok, arith, refl}
 use Rattle.x7_part.specs.Part.{PartData}
 use Rattle.x7_forms.specs.Message.{event_of}
 use Rattle.x7_forms.specs.Known.{and_so, part_of, whole_in, part_limit}
@@ -8,6 +8,7 @@ use Rattle.x7_tool.specs.Outcome.{PlanTexts, text_limit}
 use Rattle.x7_forms.proofs.StandLemmas.{about_among, no_part_about, unread_about}
 use Rattle.x7_tool.proofs.StopLemmas.{both_asked}
 use Rattle.x7_forms.specs.Stop.{limited}
+use Rattle.x7_words.proofs.InputLemmas.{few_more, few_on}
 use Rattle.x7_tool.proofs.svf.read_given.Goals as goal
 
 pub returns-in-Err-read_whole-clause-given : goal.returns-in-Err-read_whole-clause-given
@@ -33,3 +34,12 @@ returns-in-Err-clause-stops g c = about_among (limited part_limit c.args.part.no
 
 pub returns-in-Err-read_whole-clause-stops : goal.returns-in-Err-read_whole-clause-stops
 returns-in-Err-read_whole-clause-stops g c = about_among (limited part_limit c.args.part.now ∷ limited text_limit c.args.text.now ∷ []) (limited part_limit c.args.part.now ∷ []) (limited text_limit c.args.text.now) [] (g.I.Inputs.state c.args.inputs.now) (g.I.Inputs.state c.read_whole.new.inputs) (event_of c.in-Err-read_whole.refusal) refl c.read_whole.ensures.stands (both_asked (g.I.Inputs.state c.args.inputs.now) (g.I.Inputs.state c.read_part.new.inputs) (g.I.Inputs.state c.read_whole.new.inputs) c.read_part.ensures.once c.read_whole.ensures.once) (unread_about c.args.text.now (event_of c.in-Err-read_whole.refusal) c.in-Err-read_whole.ensures.named)
+
+pub returns-in-Err-clause-asks : goal.returns-in-Err-clause-asks
+returns-in-Err-clause-asks g c = few_more _ _ 1 2 (omega arith) c.read_part.ensures.once
+
+pub returns-in-Err-read_whole-clause-asks : goal.returns-in-Err-read_whole-clause-asks
+returns-in-Err-read_whole-clause-asks g c = few_on _ _ _ 1 1 c.read_part.ensures.once c.read_whole.ensures.once
+
+pub returns-in-Ok-read_whole-clause-asks : goal.returns-in-Ok-read_whole-clause-asks
+returns-in-Ok-read_whole-clause-asks g c = few_on _ _ _ 1 1 c.read_part.ensures.once c.read_whole.ensures.once

@@ -1,7 +1,7 @@
 use Rattle.std.proofs.Common.{arith, ◌≤◌, ◌-◌, ℕ, Bool, List, [], ◌∷◌, drop, length, take, Option, None, Some, Err, inl, refl, subst, sym, ◌∙◌}
 use Rattle.std.specs.Prelude.{IsTrue}
 use Rattle.x7_words.specs.Flash.{IfKnown}
-use Rattle.x7_words.proofs.InputLemmas.{stays_at}
+use Rattle.x7_words.proofs.InputLemmas.{few_at, few_more, stays_at}
 use Rattle.x7_boot.specs.Image.{flash_limit}
 use Rattle.x7_update.specs.After.{IsAfter}
 use Rattle.x7_update.specs.Layout.{HasLayout}
@@ -15,7 +15,7 @@ use Rattle.x7_tool.specs.Outside.{Outside, sources}
 use Rattle.x7_tool.specs.Run.{EndsAs}
 use Rattle.x7_tool.specs.Streamed.{data_from}
 use Rattle.x7_tool.proofs.UpdateLemmas.{cause_from, data_given, done_ends, fault_ends, keeps_all, refused_ends, rest_of, unopened_last, unopened_measured, unopened_over, unplayed_last, unplayed_measured, unread_over, uses_opened, uses_updated}
-use Rattle.x7_tool.proofs.StopLemmas.{first_asked, stream_judges, unopened_judges, updated_judges, unopened_stops, updated_stops, first_stops}
+use Rattle.x7_tool.proofs.StopLemmas.{stream_judges, unopened_judges, updated_judges, unopened_stops, updated_stops, first_stops}
 use Rattle.x7_forms.specs.Stop.{limited}
 use Rattle.x7_forms.proofs.StandLemmas.{unplayed_about}
 use Rattle.x7_tool.proofs.update.update.Goals as goal
@@ -31,7 +31,7 @@ returns-in-Err-clause-answered g c = λ before after out.
       ends = refused_ends c.args.name.now c.args.stream.now old new event out (unopened_measured (Some (UpdatingFlash c.args.name.now c.args.stream.now)) c.args.name.now first mid event c.in-Err.ensures.err) (unopened_last (UpdatingFlash c.args.name.now c.args.stream.now) c.args.name.now old.inputs first mid event c.in-Err.ensures.err) (unopened_over c.args.name.now c.args.stream.now old new event c.in-Err.ensures.err) (keeps_all event.reason first mid c.open_flash.ensures.stays.bytes);
       stops = unopened_stops c.args.name.now c.args.stream.now (g.I.Inputs.state c.args.inputs.now) (g.I.Inputs.state c.args.inputs.now) (g.F.Flash.state c.args.flash.now) (g.F.Flash.state c.open_flash.new.flash) (event_of c.in-Err.refusal) c.in-Err.ensures.err;
       judges = unopened_judges c.args.name.now c.args.stream.now (sources (g.I.Inputs.state c.args.inputs.now) (g.F.Flash.state c.args.flash.now)) (sources (g.I.Inputs.state c.args.inputs.now) (g.F.Flash.state c.open_flash.new.flash)) (event_of c.in-Err.refusal) refl;
-      asks = first_asked c.args.stream.now [] (g.I.Inputs.state c.args.inputs.now) (g.I.Inputs.state c.args.inputs.now) (omega arith);
+      asks = few_more (g.I.Inputs.state c.args.inputs.now) (g.I.Inputs.state c.args.inputs.now) 0 1 (omega arith) (few_at (g.I.Inputs.state c.args.inputs.now));
       stays = stays_at _;
     }
 

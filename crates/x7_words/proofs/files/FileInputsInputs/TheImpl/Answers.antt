@@ -1,5 +1,5 @@
-use Rattle.std.proofs.Common.{refl, length}
-use Rattle.x7_words.proofs.FilesLemmas.{opened-asks, opened-ok, opened-refused, opened-err, failed_read, read_ok, read_err, read_gives, read_absences, read_selects, untold_read, within_buffer}
+use Rattle.std.proofs.Common.{refl, length, arith}
+use Rattle.x7_words.proofs.FilesLemmas.{opened-asks, opened-ok, opened-refused, opened-err, failed_read, read_ok, read_err, read_gives, read_absences, read_lost, read_more, read_selects, untold_read, within_buffer}
 use Rattle.x7_words.proofs.files.FileInputsInputs.TheImpl.Goals as goal
 
 pub select-tells : goal.select-tells
@@ -11,7 +11,7 @@ select-tells g c =
       refused = opened-refused old new new.rest new.refusal c.args.name.now c.result c.ensures.after;
       err = opened-err old new new.rest new.refusal c.result c.ensures.after;
       asks = opened-asks old new new.rest new.refusal c.args.name.now c.result c.ensures.after;
-      once = c.ensures.once;
+      once = record { selects = c.ensures.once; ends = omega (arith, c.ensures.ends) };
       stays = record { map = refl; faults = c.ensures.faults; absences = c.ensures.absences };
       fits = (c.ensures.last_fault, c.ensures.last_absence);
     }
@@ -30,6 +30,9 @@ read-tells g c =
       given = read_gives old new c.result c.ensures.err;
       asked = refl;
       selects = read_selects old new c.result c.ensures.ok c.ensures.err;
+      more = read_more old new c.result c.ensures.ok;
+      lost = read_lost old new c.result c.ensures.err;
+      once = c.ensures.once;
       stays = record { map = refl; faults = c.ensures.faults; absences = read_absences old new c.result c.ensures.ok c.ensures.err };
       fits = (c.ensures.last_fault, c.ensures.last_absence);
     }
