@@ -18,7 +18,7 @@ use Rattle.x7_tool.specs.Leaving.{MayBeFound, UsesFlash}
 use Rattle.x7_boot.specs.Image.{flash_limit}
 use Rattle.x7_forms.specs.declared.refusal.Refusal.{Refusal}
 use Rattle.x7_forms.specs.Message.{event_of}
-use Rattle.x7_tool.specs.Outcome.{BootedAs, FlashBoots, Gives, no_text}
+use Rattle.x7_tool.specs.Outcome.{BootedAs, FlashBoots, FormGives, no_text}
 use Rattle.x7_tool.specs.Outside.{Came, KeepsFlash, Outside, ReadsFlash, known_from, known_in, sources}
 use Rattle.x7_tool.specs.Run.{Agrees, AnswersOver, FlashComes, IsMeasured, FailsLast, IsUnattached}
 use Rattle.x7_forms.specs.Step.{Among, CameIn, DueBy, IsCaused, IsCausedBy, IsDecided, IsDue, IsNoPart, IsPossible, IsUnread, seen, step_over}
@@ -32,9 +32,9 @@ came_wider form old new (Failing name given) h = (h.0, inl h.1)
 came_wider form old new (Lacking name) h = inl h
 
 -- a text that has its cause in the inputs that a form names has it in what the form names, a flash too
-pub answers_over : (form : Asked) (old new : Outside) (whole : Result Answer Event) → IsCausedBy (known_in old) (CameIn (step_over (names_of (Some form)) old.inputs new.inputs)) (λ t end. Gives t form end) whole → AnswersOver form old new whole
+pub answers_over : (form : Asked) (old new : Outside) (whole : Result Answer Event) → IsCausedBy (known_in old) (CameIn (step_over (names_of (Some form)) old.inputs new.inputs)) (λ t end. FormGives t form end) whole → AnswersOver form old new whole
 answers_over form old new whole c =
-    caused_on_by Answer (known_in old) (CameIn (step_over (names_of (Some form)) old.inputs new.inputs)) (Came (Some form) old new) (λ t end. Gives t form end) whole (came_wider form old new) c
+    caused_on_by Answer (known_in old) (CameIn (step_over (names_of (Some form)) old.inputs new.inputs)) (Came (Some form) old new) (λ t end. FormGives t form end) whole (came_wider form old new) c
 
 -- ---- a boot
 
@@ -45,7 +45,7 @@ flash_spoiled (Lacking other) t name part event h e = let here = name_is name in
 
 -- a mishap of the flash is the first event of a boot whose part was read
 boot_mishap : (known : Option Known) (m : Mishap) (name part_name : List ℕ) (part : PartData) (event : Event) → mishap_event m ≡ event → spoiled_name m ≡ name → FlashBoots name part (Some (spoiled m Absent)) (Err event)
-    → IsDue {A = PartData} known (λ t r. part_of t part_name ≡ r) (Ok part) → DueBy {A = Answer} known m (λ t end. Gives t (Booting part_name name) end) event
+    → IsDue {A = PartData} known (λ t r. part_of t part_name ≡ r) (Ok part) → DueBy {A = Answer} known m (λ t end. FormGives t (Booting part_name name) end) event
 boot_mishap None m name part_name part event e n h read = tt
 boot_mishap (Some t) m name part_name part event e n h read = elim ((part_steady part_name).steady m t part read.1) [
   | inl same ↦ subst (λ (r : Result PartData Event). BootedAs name r ((with_mishap m t).flash name) (Err event)) (sym same) (flash_spoiled m t name part event h n)
@@ -61,7 +61,7 @@ flash_open name part None event h = h
 flash_open name part (Some all) event h = h.1
 
 booted_due : (known : Option Known) (flash : Option (List ℕ)) (C : Mishap → Type 0) (name part_name : List ℕ) (part : PartData) (end : Result Answer Event) → ((t : Known) → known ≡ Some t → t.flash name ≡ flash_found flash)
-    → IsPossible end × IsDecided end → IsDue {A = PartData} known (λ t r. part_of t part_name ≡ r) (Ok part) → FlashBoots name part (flash_found flash) end → IsCausedBy known C (λ t end. Gives t (Booting part_name name) end) end
+    → IsPossible end × IsDecided end → IsDue {A = PartData} known (λ t r. part_of t part_name ≡ r) (Ok part) → FlashBoots name part (flash_found flash) end → IsCausedBy known C (λ t end. FormGives t (Booting part_name name) end) end
 booted_due None flash C name part_name part end same o read h = inr o.0
 booted_due (Some t) flash C name part_name part end same o read h =
     inr (o.1, subst (λ (r : Result PartData Event). BootedAs name r (t.flash name) end) (sym read.1) (subst (λ (f : Option Found). FlashBoots name part f end) (sym (same t refl)) h))
@@ -198,13 +198,13 @@ boot_last value name part_name old new (Err r) h g = λ other a e at. elim a [
 ]
 
 -- a part that was not read: by its cause, the boot ends with the same event, whatever its flash is
-boot_due_kept : (known : Option Known) (m : Mishap) (name part_name : List ℕ) (event : Event) → DueBy {A = PartData} known m (λ t r. part_of t part_name ≡ r) event → DueBy {A = Answer} known m (λ t end. Gives t (Booting part_name name) end) event
+boot_due_kept : (known : Option Known) (m : Mishap) (name part_name : List ℕ) (event : Event) → DueBy {A = PartData} known m (λ t r. part_of t part_name ≡ r) event → DueBy {A = Answer} known m (λ t end. FormGives t (Booting part_name name) end) event
 boot_due_kept None m name part_name event h = tt
 boot_due_kept (Some t) m name part_name event h = subst (λ (r : Result PartData Event). BootedAs name r ((with_mishap m t).flash name) (Err event)) (sym h) refl
 
-boot_kept : (known : Option Known) (C : Mishap → Type 0) (name part_name : List ℕ) (event : Event) → IsCaused {A = PartData} known C (λ t. part_of t part_name) (Err event) → IsCausedBy {A = Answer} known C (λ t end. Gives t (Booting part_name name) end) (Err event)
+boot_kept : (known : Option Known) (C : Mishap → Type 0) (name part_name : List ℕ) (event : Event) → IsCaused {A = PartData} known C (λ t. part_of t part_name) (Err event) → IsCausedBy {A = Answer} known C (λ t end. FormGives t (Booting part_name name) end) (Err event)
 boot_kept known C name part_name event (inl h) =
-    inl (outside_goes PartData Answer known C C (λ t r. part_of t part_name ≡ r) (λ t end. Gives t (Booting part_name name) end) event (λ m x. x) (λ m e x. boot_due_kept known m name part_name event x) h)
+    inl (outside_goes PartData Answer known C C (λ t r. part_of t part_name ≡ r) (λ t end. FormGives t (Booting part_name name) end) event (λ m x. x) (λ m e x. boot_due_kept known m name part_name event x) h)
 boot_kept None C name part_name event (inr h) = inr h
 boot_kept (Some t) C name part_name event (inr h) = inr (h.0, subst (λ (r : Result PartData Event). BootedAs name r (t.flash name) (Err event)) (sym h.1) refl)
 

@@ -22,7 +22,7 @@ use Rattle.x7_forms.specs.Known.{Answer, Failing, Known, Lacking, Mishap, mishap
 use Rattle.x7_forms.specs.Step.{Among, DecidedBy, IsCausedBy, IsDue, IsFromOutside, PossibleBy}
 use Rattle.x7_tool.specs.Ahead.{StaysNear, StaysNearIn}
 use Rattle.x7_tool.specs.Leaving.{Updates}
-use Rattle.x7_tool.specs.Outcome.{AssembledAs, Gives, IsOutcome, mcs_image, text_limit}
+use Rattle.x7_tool.specs.Outcome.{AssembledAs, FormGives, IsOutcome, mcs_image, text_limit}
 use Rattle.x7_tool.specs.Outside.{Came, IsQuiet, KeepsFlash, Outside, known_in}
 use Rattle.x7_tool.specs.Promise.{Promise}
 use Rattle.x7_tool.specs.Run.{Agrees, AnswersForm, AnswersOver, CausedBy, EndIsCaused, Ends, EndsAs, FailsLast, GetsBy, GetsPrefix, Happens, IsMeasured, LeavesBy, LeftAtBreak, LeftBy, Puts}
@@ -45,7 +45,7 @@ never_came form old new (Lacking name) q h = q.1 name h
 
 -- an event of a form is want of memory or the outcome
 event_by : (known : Known) (form : Asked) (old new : Outside) (event : Event) (cause : Cause) → known_in old ≡ Some known → IsQuiet (Some form) old new
-    → CausedBy cause form old new event → (event ≡ no_memory) ⊎ Gives known form (Err event)
+    → CausedBy cause form old new event → (event ≡ no_memory) ⊎ FormGives known form (Err event)
 event_by known form old new event Wording k q h = absurd h
 event_by known form old new event Want k q h = inl h
 event_by known form old new event Fault k q h = absurd (never_came form old new h.mishap q h.came)
@@ -62,7 +62,7 @@ outcome_is None old new s end e h known k q = inr (sym h)
 outcome_is (Some form) old new s (Ok answer) e h known k q = inr (rw k at h)
 outcome_is (Some form) old new s (Err event) e h known k q = by (event_by known form old new event (cause_of event) k q h)
   where
-    by : (event ≡ no_memory) ⊎ Gives known form (Err event) → (s ≡ status.NoMemory) ⊎ Gives known form (Err event)
+    by : (event ≡ no_memory) ⊎ FormGives known form (Err event) → (s ≡ status.NoMemory) ⊎ FormGives known form (Err event)
     by (inl n) = inl (e ∙ want_is event n)
     by (inr g) = inr g
 
@@ -87,11 +87,11 @@ mishap_cause : (m : Mishap) (form : Asked) (old new : Outside) (event : Event) �
 mishap_cause (Failing name given) form old new event e h = subst (λ (c : Cause). CausedBy c form old new event) (ap cause_of e) h
 mishap_cause (Lacking name) form old new event e h = subst (λ (c : Cause). CausedBy c form old new event) (ap cause_of e) (inl h)
 
-outside_cause : (form : Asked) (old new : Outside) (event : Event) → IsFromOutside {A = Answer} (known_in old) (Came (Some form) old new) (λ t end. Gives t form end) (Err event) → CausedBy (cause_of event) form old new event
+outside_cause : (form : Asked) (old new : Outside) (event : Event) → IsFromOutside {A = Answer} (known_in old) (Came (Some form) old new) (λ t end. FormGives t form end) (Err event) → CausedBy (cause_of event) form old new event
 outside_cause form old new event (inl e) = subst (λ (x : Event). CausedBy (cause_of x) form old new x) (sym e) refl
 outside_cause form old new event (inr h) = mishap_cause h.mishap form old new event h.is h
 
-known_cause : (cause : Cause) (known : Known) (form : Asked) (old new : Outside) (event : Event) → known_in old ≡ Some known → DecidedBy cause → Gives known form (Err event) → CausedBy cause form old new event
+known_cause : (cause : Cause) (known : Known) (form : Asked) (old new : Outside) (event : Event) → known_in old ≡ Some known → DecidedBy cause → FormGives known form (Err event) → CausedBy cause form old new event
 known_cause Absence known form old new event k d h = inr (rw k h)
 known_cause Contents known form old new event k d h = rw k h
 known_cause cause known form old new event k d h = absurd d
@@ -100,7 +100,7 @@ open_cause : (cause : Cause) (form : Asked) (old new : Outside) (event : Event) 
 open_cause Contents form old new event k o = rw k tt
 open_cause cause form old new event k o = absurd o
 
-due_cause : (known : Option Known) (form : Asked) (old new : Outside) (got : Result Answer Event) → known_in old ≡ known → IsDue known (λ t end. Gives t form end) got → EndIsCaused (Some form) old new got
+due_cause : (known : Option Known) (form : Asked) (old new : Outside) (got : Result Answer Event) → known_in old ≡ known → IsDue known (λ t end. FormGives t form end) got → EndIsCaused (Some form) old new got
 due_cause None form old new (Ok answer) k h = rw k tt
 due_cause (Some known) form old new (Ok answer) k h = rw k h.1
 due_cause None form old new (Err event) k h = open_cause (cause_of event) form old new event k h
@@ -130,7 +130,7 @@ asm_back name text bytes (Err event) is h =
 mcs_back : (name text bytes : List ℕ) (end : Result Answer Event) → mcs_of text ≡ Ok bytes → mcs_image name (mcs_of text) ≡ end → end ≡ Ok (record { stopped = false; text = bytes })
 mcs_back name text bytes end is h = sym h ∙ ap (mcs_image name) is
 
-leads_back : (s : Status) (form : Asked) (known : Known) (end goal_end : Result Answer Event) → (s ≡ status.NoMemory) ⊎ IsOutcome known (Some form) end → (Gives known form end → end ≡ goal_end) → (s ≡ status.NoMemory) ⊎ (end ≡ goal_end)
+leads_back : (s : Status) (form : Asked) (known : Known) (end goal_end : Result Answer Event) → (s ≡ status.NoMemory) ⊎ IsOutcome known (Some form) end → (FormGives known form end → end ≡ goal_end) → (s ≡ status.NoMemory) ⊎ (end ≡ goal_end)
 leads_back s form known end goal_end (inl n) back = inl n
 leads_back s form known end goal_end (inr h) back = inr (back h)
 
@@ -291,7 +291,7 @@ puts_end form old new (Err event) (Err other) l u m f c p =
     subst (λ (e : Event). Ends (Some form) old new (Err e)) (sym (ap event_in p.0))
     (record {
       cause = has_cause form old new (Err event) c;
-      wrote = leaves_all form (cause_of event) old new event l (no_break (known_in old) (Came (Some form) old new) (λ t end. Gives t form end) event c) p.1;
+      wrote = leaves_all form (cause_of event) old new event l (no_break (known_in old) (Came (Some form) old new) (λ t end. FormGives t form end) event c) p.1;
       near = near_all form (status_of event) old new l;
       measured = m;
       last = f;

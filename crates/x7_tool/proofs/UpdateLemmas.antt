@@ -27,7 +27,7 @@ use Rattle.x7_forms.specs.Known.{Absent, Answer, Failing, Found, Known, Lacking,
 use Rattle.x7_forms.specs.Step.{Among, CameIn, DueBy, IsCaused, IsDecided, IsDue, IsPossible, IsUnplayed, step_over}
 use Rattle.x7_forms.proofs.ReadLemmas.{name_is, outside_goes}
 use Rattle.x7_tool.specs.Leaving.{HasData, KeepsBytes, MayBeFound, UsesFlash}
-use Rattle.x7_tool.specs.Outcome.{FlashUpdates, Gives, IsUpdateFault, UpdateNames, UpdatesBytes, UpdatesWith, no_text, stream_data, update_event}
+use Rattle.x7_tool.specs.Outcome.{FlashUpdates, FormGives, IsUpdateFault, UpdateNames, UpdatesBytes, UpdatesWith, no_text, stream_data, update_event}
 use Rattle.x7_tool.specs.Outside.{Came, Outside, known_in, sources}
 use Rattle.x7_tool.specs.Run.{Agrees, AnswersOver, EndsAs, FailsLast, IsMeasured, IsUnopened}
 use Rattle.x7_tool.proofs.FlashLemmas.{bad_small, came_wider, detached, not_fault, not_large, other_fault, told_flash, unattached_measured, unread_last, unread_measured}
@@ -52,12 +52,12 @@ found_updates n None read end h = h
 found_updates n (Some all) read end h = h
 
 -- what is due of a flash that is told
-update_given : (t : Known) (bytes : Option (List ℕ)) (flash stream : List ℕ) (end : Result Answer Event) → t.flash flash ≡ flash_found bytes → UpdatesBytes (names flash stream) bytes (stream_data t stream) end → Gives t (UpdatingFlash flash stream) end
+update_given : (t : Known) (bytes : Option (List ℕ)) (flash stream : List ℕ) (end : Result Answer Event) → t.flash flash ≡ flash_found bytes → UpdatesBytes (names flash stream) bytes (stream_data t stream) end → FormGives t (UpdatingFlash flash stream) end
 update_given t bytes flash stream end same h =
     subst (λ (f : Option Found). FlashUpdates (names flash stream) f (stream_data t stream) end) (sym same) (found_updates (names flash stream) bytes (stream_data t stream) end h)
 
 update_due : (known : Option Known) (bytes : Option (List ℕ)) (flash stream : List ℕ) (end : Result Answer Event) → IsTold known flash bytes → IsPossible end × IsDecided end
-    → ((t : Known) → known ≡ Some t → UpdatesBytes (names flash stream) bytes (stream_data t stream) end) → IsDue {A = Answer} known (λ t end. Gives t (UpdatingFlash flash stream) end) end
+    → ((t : Known) → known ≡ Some t → UpdatesBytes (names flash stream) bytes (stream_data t stream) end) → IsDue {A = Answer} known (λ t end. FormGives t (UpdatingFlash flash stream) end) end
 update_due None bytes flash stream end same o h = o.0
 update_due (Some t) bytes flash stream end same o h = (o.1, update_given t bytes flash stream end (same t refl) (h t refl))
 
@@ -77,7 +77,7 @@ flash_mishap : (m : Mishap) (t : Known) (flash stream : List ℕ) (read : Result
 flash_mishap (Failing other given) t flash stream read e = let here = name_is flash in rw (e, here) refl
 flash_mishap (Lacking other) t flash stream read e = let here = name_is flash in rw (e, here) refl
 
-flash_due : (known : Option Known) (m : Mishap) (flash stream : List ℕ) → spoiled_name m ≡ flash → DueBy {A = Answer} known m (λ t end. Gives t (UpdatingFlash flash stream) end) (mishap_event m)
+flash_due : (known : Option Known) (m : Mishap) (flash stream : List ℕ) → spoiled_name m ≡ flash → DueBy {A = Answer} known m (λ t end. FormGives t (UpdatingFlash flash stream) end) (mishap_event m)
 flash_due None m flash stream e = tt
 flash_due (Some t) m flash stream e = flash_mishap m t flash stream (stream_data (with_mishap m t) stream) e
 
@@ -94,7 +94,7 @@ is_name a b e = grind (arith, bytes_eq-Decides a b, e)
 
 -- a mishap of the stream, or of a flash of the same name
 stream_mishap : (b : Bool) (m : Mishap) (t : Known) (bytes : Option (List ℕ)) (flash stream : List ℕ) (event : Event) → bytes_eq flash (spoiled_name m) ≡ b → mishap_event m ≡ event → t.flash flash ≡ flash_found bytes → IsWithin bytes
-    → stream_data (with_mishap m t) stream ≡ Err event → Gives (with_mishap m t) (UpdatingFlash flash stream) (Err event)
+    → stream_data (with_mishap m t) stream ≡ Err event → FormGives (with_mishap m t) (UpdatingFlash flash stream) (Err event)
 stream_mishap true m t bytes flash stream event b e same within h =
     let read = stream_data (with_mishap m t) stream in
     subst (λ (x : Event). FlashUpdates (names flash stream) ((with_mishap m t).flash flash) read (Err x)) e (flash_mishap m t flash stream read (sym (is_name flash (spoiled_name m) b)))
@@ -103,12 +103,12 @@ stream_mishap false m t bytes flash stream event b e same within h =
     (unread_told (names flash stream) bytes (stream_data (with_mishap m t) stream) event within h)
 
 stream_due : (known : Option Known) (m : Mishap) (bytes : Option (List ℕ)) (flash stream : List ℕ) (event : Event) → mishap_event m ≡ event → IsTold known flash bytes → IsWithin bytes → DueBy {A = List ℕ} known m (λ t r. stream_data t stream ≡ r) event
-    → DueBy {A = Answer} known m (λ t end. Gives t (UpdatingFlash flash stream) end) event
+    → DueBy {A = Answer} known m (λ t end. FormGives t (UpdatingFlash flash stream) end) event
 stream_due None m bytes flash stream event e same within h = tt
 stream_due (Some t) m bytes flash stream event e same within h = stream_mishap (bytes_eq flash (spoiled_name m)) m t bytes flash stream event refl e (same t refl) within h
 
 unread_due : (known : Option Known) (bytes : Option (List ℕ)) (flash stream : List ℕ) (event : Event) → IsTold known flash bytes → IsWithin bytes → IsDue {A = List ℕ} known (λ t r. stream_data t stream ≡ r) (Err event)
-    → IsDue {A = Answer} known (λ t end. Gives t (UpdatingFlash flash stream) end) (Err event)
+    → IsDue {A = Answer} known (λ t end. FormGives t (UpdatingFlash flash stream) end) (Err event)
 unread_due None bytes flash stream event same within h = h
 unread_due (Some t) bytes flash stream event same within h = (h.0, update_given t bytes flash stream (Err event) (same t refl) (unread_told (names flash stream) bytes (stream_data t stream) event within h.1))
 
@@ -155,7 +155,7 @@ unopened_over flash stream old new event (inr h) =
 pub unread_over : (flash stream : List ℕ) (old new : Outside) (event : Event) → IsWithin old.flash.bytes
     → IsCaused {A = List ℕ} (known_in old) (CameIn (step_over (stream ∷ []) old.inputs new.inputs)) (λ t. stream_data t stream) (Err event) → AnswersOver (UpdatingFlash flash stream) old new (Err event)
 unread_over flash stream old new event within (inl h) =
-    inl (outside_goes (List ℕ) Answer (known_in old) (CameIn (step_over (stream ∷ []) old.inputs new.inputs)) (Came (Some (UpdatingFlash flash stream)) old new) (λ t r. stream_data t stream ≡ r) (λ t end. Gives t (UpdatingFlash flash stream) end) event
+    inl (outside_goes (List ℕ) Answer (known_in old) (CameIn (step_over (stream ∷ []) old.inputs new.inputs)) (Came (Some (UpdatingFlash flash stream)) old new) (λ t r. stream_data t stream ≡ r) (λ t end. FormGives t (UpdatingFlash flash stream) end) event
     (came_wider (UpdatingFlash flash stream) old new) (λ m e x. stream_due (known_in old) m old.flash.bytes flash stream event e (told_flash old.inputs.contents old.flash.bytes flash) within x) h)
 unread_over flash stream old new event within (inr h) = inr (unread_due (known_in old) old.flash.bytes flash stream event (told_flash old.inputs.contents old.flash.bytes flash) within h)
 
@@ -177,7 +177,7 @@ refused_ends flash stream old new event out m l a kept =
     let form = UpdatingFlash flash stream in
     record {
       cause = has_cause form old new (Err event) a;
-      wrote = leaves_all form (cause_of event) old new event refl (no_break (known_in old) (Came (Some form) old new) (λ t end. Gives t form end) event a) (out_same old new out);
+      wrote = leaves_all form (cause_of event) old new event refl (no_break (known_in old) (Came (Some form) old new) (λ t end. FormGives t form end) event a) (out_same old new out);
       near = near_all form (status_of event) old new refl;
       measured = m;
       last = l;

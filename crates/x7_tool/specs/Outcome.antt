@@ -354,24 +354,24 @@ abbrev pub UpdatedAs : Known → UpdateNames → Result Answer Event → Type 0
 UpdatedAs known names end = FlashUpdates names (known.flash names.flash) (stream_data known names.stream) end
 
 -- a form comes to this end, each form one case
-abbrev pub Gives : Known → Asked → Result Answer Event → Type 0
-Gives known (Listing stream) end = listed known stream ≡ end
-Gives known (Playing part streams) end = played known part streams ≡ end
-Gives known (Assembling text) end = AssembledAs text (whole_in known text_limit text) end
-Gives known (ToMcs image) end = mcs_written known image ≡ end
-Gives known (FromMcs text) end = mcs_read known text ≡ end
-Gives known (PlanningFull part frames) end = PlannedFull frames (plan_texts known part frames) end
-Gives known (PlanningPartial part frames) end = PlannedPartial frames (plan_texts known part frames) end
-Gives known (PlanningRead part far n) end = PlannedRead part far n (part_of known part) end
-Gives known (Generating part seed) end = gen_made known part seed ≡ end
-Gives known (Imaging golden update) end = imaged known golden update ≡ end
-Gives known (ImagingFor part golden update) end = imaged_for known part golden update ≡ end
-Gives known (Debugging part stream script) end = DebuggedAs script (debug_inputs known part stream script) end
-Gives known (PlayingSvf part text) end = PlayedSvf text (plan_texts known part text) end
-Gives known (Booting part flash) end = BootedAs flash (part_of known part) (known.flash flash) end
-Gives known (UpdatingFlash flash stream) end = UpdatedAs known (record { flash = flash; stream = stream }) end
+abbrev pub FormGives : Known → Asked → Result Answer Event → Type 0
+FormGives known (Listing stream) end = listed known stream ≡ end
+FormGives known (Playing part streams) end = played known part streams ≡ end
+FormGives known (Assembling text) end = AssembledAs text (whole_in known text_limit text) end
+FormGives known (ToMcs image) end = mcs_written known image ≡ end
+FormGives known (FromMcs text) end = mcs_read known text ≡ end
+FormGives known (PlanningFull part frames) end = PlannedFull frames (plan_texts known part frames) end
+FormGives known (PlanningPartial part frames) end = PlannedPartial frames (plan_texts known part frames) end
+FormGives known (PlanningRead part far n) end = PlannedRead part far n (part_of known part) end
+FormGives known (Generating part seed) end = gen_made known part seed ≡ end
+FormGives known (Imaging golden update) end = imaged known golden update ≡ end
+FormGives known (ImagingFor part golden update) end = imaged_for known part golden update ≡ end
+FormGives known (Debugging part stream script) end = DebuggedAs script (debug_inputs known part stream script) end
+FormGives known (PlayingSvf part text) end = PlayedSvf text (plan_texts known part text) end
+FormGives known (Booting part flash) end = BootedAs flash (part_of known part) (known.flash flash) end
+FormGives known (UpdatingFlash flash stream) end = UpdatedAs known (record { flash = flash; stream = stream }) end
 
 -- the words come to this end: words without a form are a wrong usage
 abbrev pub IsOutcome : Known → Option Asked → Result Answer Event → Type 0
 IsOutcome known None end = Err usage ≡ end
-IsOutcome known (Some form) end = Gives known form end
+IsOutcome known (Some form) end = FormGives known form end

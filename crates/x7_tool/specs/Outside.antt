@@ -62,17 +62,17 @@ pub record FlashLacksAmong (names : List (List ℕ)) (old new : FlashState) (nam
   pub risen : HasRisen old.absences new.absences
 
 -- the input of a name that the form gives failed, or its flash of that name
-abbrev pub Fails : Option Asked → Outside → Outside → List ℕ → Type 0
-Fails form old new name = FailsAmong (names_of form) old.inputs new.inputs name ⊎ FlashFailsAmong (flash_names form) old.flash new.flash name
+abbrev pub FormFails : Option Asked → Outside → Outside → List ℕ → Type 0
+FormFails form old new name = FailsAmong (names_of form) old.inputs new.inputs name ⊎ FlashFailsAmong (flash_names form) old.flash new.flash name
 
 -- the input of a name that the form gives was missing, or its flash of that name, by the counts of absences
-abbrev pub Lacks : Option Asked → Outside → Outside → List ℕ → Type 0
-Lacks form old new name = LacksAmong (names_of form) old.inputs new.inputs name ⊎ FlashLacksAmong (flash_names form) old.flash new.flash name
+abbrev pub FormLacks : Option Asked → Outside → Outside → List ℕ → Type 0
+FormLacks form old new name = LacksAmong (names_of form) old.inputs new.inputs name ⊎ FlashLacksAmong (flash_names form) old.flash new.flash name
 
 -- a mishap came: an input or the flash of a name that the form gives failed, after the bytes that were given of the last input, or was missing
 abbrev pub Came : Option Asked → Outside → Outside → Mishap → Type 0
-Came form old new (Failing name given) = (given ≡ new.inputs.given) × Fails form old new name
-Came form old new (Lacking name) = Lacks form old new name
+Came form old new (Failing name given) = (given ≡ new.inputs.given) × FormFails form old new name
+Came form old new (Lacking name) = FormLacks form old new name
 
 -- a write of the flash failed, which only a form with a stream for it writes
 abbrev pub WritesFail : Option (List ℕ) → FlashState → FlashState → Type 0
@@ -82,7 +82,7 @@ WritesFail (Some stream) old new = WriteFails old new
 -- nothing that the form names failed or was missing, and neither the output nor a write of the flash failed
 abbrev pub IsQuiet : Option Asked → Outside → Outside → Type 0
 IsQuiet form old new =
-    ((name : List ℕ) → ¬ Fails form old new name) × ((name : List ℕ) → ¬ Lacks form old new name) × (¬ SinkFails old.out new.out) × (¬ WritesFail (updated_by form) old.flash new.flash)
+    ((name : List ℕ) → ¬ FormFails form old new name) × ((name : List ℕ) → ¬ FormLacks form old new name) × (¬ SinkFails old.out new.out) × (¬ WritesFail (updated_by form) old.flash new.flash)
 
 -- ---- the flash
 

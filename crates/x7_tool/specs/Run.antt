@@ -17,7 +17,7 @@ use Rattle.x7_part.specs.Part.{PartData}
 use Rattle.x7_forms.specs.Message.{final_status}
 use Rattle.x7_forms.specs.Step.{Among, AnswersBy, IsCausedBy, IsOfMishap, seen, step_over}
 use Rattle.x7_tool.specs.Ahead.{StaysNear}
-use Rattle.x7_tool.specs.Outcome.{FlashBoots, Gives, no_text}
+use Rattle.x7_tool.specs.Outcome.{FlashBoots, FormGives, no_text}
 use Rattle.x7_tool.specs.Leaving.{HasData, Updates}
 use Rattle.x7_tool.specs.Outside.{Came, FlashFailsAmong, FlashLacksAmong, Outside, Sources, Transfer, WritesFail, known_in, sources, with_sources, with_transfer}
 use Rattle.x7_tool.specs.Stopping.{Stops}
@@ -27,16 +27,16 @@ use Rattle.x7_tool.specs.Stopping.{Stops}
 -- the contents are known, and the form comes to this end; where they aren't, never
 abbrev pub Shows : Option Known → Asked → Result Answer Event → Type 0
 Shows None form end = ⊥
-Shows (Some known) form end = Gives known form end
+Shows (Some known) form end = FormGives known form end
 
 -- where the contents are known, the form comes to this end; where they aren't, always
 abbrev pub Agrees : Option Known → Asked → Result Answer Event → Type 0
 Agrees None form end = Unit {0}
-Agrees (Some known) form end = Gives known form end
+Agrees (Some known) form end = FormGives known form end
 
 -- the event reports a mishap that came, and where the contents are known, the form comes to it over them with that mishap; where they aren't, the mishap is all that is said
 abbrev pub Happens : Asked → Outside → Outside → Event → Type 0
-Happens form old new event = IsOfMishap Answer (known_in old) (Came (Some form) old new) (λ known end. Gives known form end) event
+Happens form old new event = IsOfMishap Answer (known_in old) (Came (Some form) old new) (λ known end. FormGives known form end) event
 
 -- a byte is another than the one that an update with the stream's data writes at this place of a flash of this size; with some data, where the contents aren't known
 pub record ReadsWrongAt (known : Option Known) (stream : List ℕ) (size place : ℕ) : Type 0 where
@@ -109,7 +109,7 @@ ListsSome known stream old new = (bytes : List ℕ) × ((known.inputs stream ≡
 
 -- the sink got a prefix of the whole text of the form over what is known
 abbrev pub GetsSome : Known → Asked → SinkState → SinkState → Type 0
-GetsSome known form old new = (answer : Answer) × (Gives known form (Ok answer) × PutsSome old answer.text new)
+GetsSome known form old new = (answer : Answer) × (FormGives known form (Ok answer) × PutsSome old answer.text new)
 
 -- the sink got a prefix of the whole text: that of a listing, or of another form
 abbrev pub GetsBy : Option (List ℕ) → Known → Asked → SinkState → SinkState → Type 0
@@ -202,9 +202,9 @@ abbrev pub written_by : Result Bool Refusal → Result Bool Event
 written_by result = seen (λ stopped. stopped) result
 
 -- what the sink of messages got: nothing after a whole text, and else the event's line, or a prefix of it where the sink failed
-abbrev pub Says : SinkState → SinkState → Result Answer Event → Type 0
-Says old new (Ok answer) = new.written ≡ old.written
-Says old new (Err event) = Tells old (line_of event) new
+abbrev pub SaysEnd : SinkState → SinkState → Result Answer Event → Type 0
+SaysEnd old new (Ok answer) = new.written ≡ old.written
+SaysEnd old new (Err event) = Tells old (line_of event) new
 
 -- how a text that is ready, or none, was written: whether it reports a fault, or the event
 abbrev pub Puts : Result Answer Event → SinkState → SinkState → Result Bool Event → Type 0
@@ -214,7 +214,7 @@ Puts (Ok answer) old new (Err event) = (event ≡ write_fault) × SinkFails old 
 
 -- a text of the form that is ready has its cause: it is due by what is known, or what the form names failed or was missing
 abbrev pub AnswersOver : Asked → Outside → Outside → Result Answer Event → Type 0
-AnswersOver form old new got = IsCausedBy (known_in old) (Came (Some form) old new) (λ known end. Gives known form end) got
+AnswersOver form old new got = IsCausedBy (known_in old) (Came (Some form) old new) (λ known end. FormGives known form end) got
 
 -- a text of the form that is ready has its cause in what the form reads, whatever the sinks hold
 abbrev pub AnswersFrom : Asked → Sources → Sources → Result Answer Event → Type 0
@@ -222,7 +222,7 @@ AnswersFrom form old new got = (before after : Outside) → AnswersOver form (wi
 
 -- a text of a form that reads no flash has its cause in the inputs, whatever a flash holds
 abbrev pub AnswersForm : Asked → InputsState → InputsState → Result Answer Event → Type 0
-AnswersForm form old new got = AnswersBy (step_over (names_of (Some form)) old new) (λ known end. Gives known form end) got
+AnswersForm form old new got = AnswersBy (step_over (names_of (Some form)) old new) (λ known end. FormGives known form end) got
 
 -- A form that reads inputs alone made its text ready, or not: the text has its cause, reading stopped where an input ends the form, no more inputs were asked for than the form names, and every input keeps its bytes.
 pub record MakesReady (form : Asked) (old new : InputsState) (got : Result Answer Event) : Type 0 where

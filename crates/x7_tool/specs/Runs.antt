@@ -17,7 +17,7 @@ use Rattle.x7_tool.specs.Outcome.{IsOutcome}
 use Rattle.x7_tool.specs.Outside.{IsQuiet, KeepsFlash, Outside, known_in, sources}
 use Rattle.x7_tool.specs.Promise.{Promise}
 use Rattle.x7_tool.specs.Stopping.{Stops}
-use Rattle.x7_tool.specs.Run.{EndIsCaused, Ends, FailsLast, IsMeasured, JudgesFlash, Says, Wrote}
+use Rattle.x7_tool.specs.Run.{EndIsCaused, Ends, FailsLast, IsMeasured, JudgesFlash, SaysEnd, Wrote}
 
 -- an input has this text
 abbrev pub HasText : Outside → List ℕ → List ℕ → Type 0
@@ -45,7 +45,7 @@ Back form old new s end = Unit {0}
 pub record RanAs (form : Option Asked) (old new : Outside) (s : Status) : Type 0 where
   pub end : Result Answer Event
   pub ends_as : s ≡ final_status end
-  pub said : Says old.err new.err end
+  pub said : SaysEnd old.err new.err end
   pub ends : Ends form old new end
   pub stops : Stops form old.inputs new.inputs end
   pub judges : JudgesFlash form (sources old.inputs old.flash) (sources new.inputs new.flash) end
@@ -63,7 +63,7 @@ pub record Runs (form : Option Asked) (old new : Outside) (s : Status) : Type 0 
   -- the output got the whole text, or what the event leaves of it
   pub wrote : Wrote form old new end
   -- messages got nothing after a whole text, and else the event's one line, or a prefix of it where they failed
-  pub said : Says old.err new.err end
+  pub said : SaysEnd old.err new.err end
   -- by the status: how far a stream that is listed was read where the output failed, its header was refused or a fault came
   pub near : StaysNear s form old new
   -- where all that the form needs is known and nothing failed, the end is the outcome, or want of memory

@@ -2,5 +2,5 @@
 use Rattle.x7_tool.specs.declared.svf.Given.{Given}
 use Rattle.x7_tool.specs.Outcome.{PlanTexts}
 
-abbrev pub texts_of : Given → PlanTexts
-texts_of g = record { part = g.part; text = g.text.items }
+abbrev pub svf_texts : Given → PlanTexts
+svf_texts g = record { part = g.part; text = g.text.items }

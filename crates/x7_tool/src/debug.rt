@@ -2,7 +2,7 @@
 ghost use Rattle.x7_forms.specs.Stop.{StopsAmong, limited};
 ghost use Rattle.std.specs.Prelude.{◌≡◌, ◌⊎◌, [], ◌∷◌, Ok, Err, IfErr, IfOk};
 ghost use Rattle.x7_words.specs.Input.{AsksFew, Stays};
-ghost use Rattle.x7_tool.specs.Debug.{given_of};
+ghost use Rattle.x7_tool.specs.Debug.{debug_given};
 ghost use Rattle.x7_forms.specs.Message.{event_of};
 ghost use Rattle.x7_forms.specs.Event.{no_memory};
 ghost use Rattle.x7_tool.specs.Outcome.{DebuggedAs, debug_inputs, script_event, script_limit, shown_of};
@@ -54,7 +54,7 @@ fn read_given<'w, I: Inputs>(
     script: &'w str,
 ) -> Result<Given, Refusal<'w>>
     ensures due { AnswersAs (step_over (part.now ∷ stream.now ∷ script.now ∷ []) (I.state inputs.old) (I.state inputs.new))
-        (λ known. debug_inputs known part.now stream.now script.now) (seen given_of result) }
+        (λ known. debug_inputs known part.now stream.now script.now) (seen debug_given result) }
     ensures stands { IfOk result (λ given. StandsAt script.now script_limit (I.state inputs.new)) }
     ensures stops { IfErr result (λ r. StopsAmong (limited part_limit part.now ∷ limited stream_limit stream.now ∷ limited script_limit script.now ∷ [])
         (I.state inputs.old) (I.state inputs.new) (event_of r)) }
@@ -96,8 +96,8 @@ fn shown<'w>(alloc: Global, session: &mut Session, script: &Script) -> Result<Te
 
 /// What a script shows of a stream, and whether the device has a fault where it ends.
 fn text_of<'w>(alloc: Global, given: Given, name: &'w str) -> Result<Text, Refusal<'w>>
-    ensures ok { IfOk result (λ text. DebuggedAs name.now (Ok (given_of given)) (Ok (whole_of text))) }
-    ensures err { IfErr result (λ r. (event_of r ≡ no_memory) ⊎ DebuggedAs name.now (Ok (given_of given)) (Err (event_of r))) }
+    ensures ok { IfOk result (λ text. DebuggedAs name.now (Ok (debug_given given)) (Ok (whole_of text))) }
+    ensures err { IfErr result (λ r. (event_of r ≡ no_memory) ⊎ DebuggedAs name.now (Ok (debug_given given)) (Err (event_of r))) }
 {
     let Given {
         part,

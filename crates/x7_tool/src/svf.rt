@@ -13,7 +13,7 @@ ghost use Rattle.x7_tool.specs.Outcome.{PlayedSvf, plan_texts, svf_answer, svf_e
 ghost use Rattle.x7_forms.specs.Known.{part_limit};
 ghost use Rattle.x7_forms.specs.Turn.{StandsAt};
 ghost use Rattle.x7_tool.specs.Play.{text_of_play};
-ghost use Rattle.x7_tool.specs.Svf.{texts_of};
+ghost use Rattle.x7_tool.specs.Svf.{svf_texts};
 
 use std::alloc::Global;
 use x7_engine::Device;
@@ -51,7 +51,7 @@ fn read_given<'w, I: Inputs>(
     text: &'w str,
 ) -> Result<Given, Refusal<'w>>
     ensures given { AnswersAs (step_over (part.now ∷ text.now ∷ []) (I.state inputs.old) (I.state inputs.new))
-        (λ known. plan_texts known part.now text.now) (seen texts_of result) }
+        (λ known. plan_texts known part.now text.now) (seen svf_texts result) }
     ensures stands { IfOk result (λ given. StandsAt text.now text_limit (I.state inputs.new)) }
     ensures stops { IfErr result (λ r. StopsAmong (limited part_limit part.now ∷ limited text_limit text.now ∷ []) (I.state inputs.old) (I.state inputs.new) (event_of r)) }
     ensures within { IfOk result (λ given. vec_len given.text ≤ text_limit) }
@@ -105,8 +105,8 @@ fn played(alloc: Global, part: &Part, svf: &Svf) -> Result<PlayText, NoMemory>
 /// The text of an SVF text's part and bytes.
 fn text_of<'w>(alloc: Global, given: Given, name: &'w str) -> Result<PlayText, Refusal<'w>>
     requires { vec_len given.text ≤ text_limit }
-    ensures ok { IfOk result (λ text. PlayedSvf name.now (Ok (texts_of given)) (Ok (text_of_play text))) }
-    ensures err { IfErr result (λ r. (event_of r ≡ no_memory) ⊎ PlayedSvf name.now (Ok (texts_of given)) (Err (event_of r))) }
+    ensures ok { IfOk result (λ text. PlayedSvf name.now (Ok (svf_texts given)) (Ok (text_of_play text))) }
+    ensures err { IfErr result (λ r. (event_of r ≡ no_memory) ⊎ PlayedSvf name.now (Ok (svf_texts given)) (Err (event_of r))) }
 {
     let Given { part, text } = given;
     let svf = match statements_of(alloc, text, name) {

@@ -5,7 +5,7 @@ use Rattle.x7_forms.specs.Message.{event_of}
 use Rattle.x7_forms.specs.Stop.{limited}
 use Rattle.x7_forms.proofs.ReadLemmas.{answers_by, answers_kept}
 use Rattle.x7_forms.proofs.ResultLemmas.{err_weaker}
-use Rattle.x7_tool.specs.Debug.{given_of}
+use Rattle.x7_tool.specs.Debug.{debug_given}
 use Rattle.x7_tool.specs.Outcome.{DebugInputs, DebuggedAs, debug_inputs, script_limit}
 use Rattle.x7_tool.specs.Ready.{whole_of}
 use Rattle.x7_forms.specs.Step.{seen}
@@ -20,7 +20,7 @@ returns-in-Ok g c =
     let part = c.args.part.now in
     let stream = c.args.stream.now in
     let script = c.args.script.now in
-    let given = given_of c.in-Ok.given in
+    let given = debug_given c.in-Ok.given in
     let made = c.text_of.result in
     record {
       due = answers_by DebugInputs Answer (part ∷ stream ∷ script ∷ []) old new (λ t. debug_inputs t part stream script) given (DebuggedAs script) (seen whole_of made) c.in-Ok.ensures.due (debug_due script given made c.text_of.ensures.ok c.text_of.ensures.err);

@@ -8,7 +8,7 @@ use Rattle.x7_forms.proofs.ReadLemmas.{answers_by, answers_kept}
 use Rattle.x7_forms.proofs.ResultLemmas.{err_weaker}
 use Rattle.x7_tool.specs.Outcome.{PlanTexts, PlayedSvf, plan_texts, text_limit}
 use Rattle.x7_tool.specs.Play.{text_of_play}
-use Rattle.x7_tool.specs.Svf.{texts_of}
+use Rattle.x7_tool.specs.Svf.{svf_texts}
 use Rattle.x7_tool.proofs.ReadyLemmas.{svf_due}
 use Rattle.x7_tool.proofs.StopLemmas.{result_stops, svf_played_about, among_stops, second_stops}
 use Rattle.x7_tool.proofs.svf.svf.Goals as goal
@@ -19,7 +19,7 @@ returns-in-Ok g c =
     let new = g.I.Inputs.state c.read_given.new.inputs in
     let part = c.args.part.now in
     let text = c.args.text.now in
-    let given = texts_of c.in-Ok.given in
+    let given = svf_texts c.in-Ok.given in
     let made = c.text_of.result in
     record {
       due = answers_by PlanTexts Answer (part ∷ text ∷ []) old new (λ t. plan_texts t part text) given (PlayedSvf text) (seen text_of_play made) c.in-Ok.ensures.given (svf_due text given made c.text_of.ensures.ok c.text_of.ensures.err);
