@@ -10,7 +10,7 @@ use Rattle.x7_forms.specs.Stop.{IsAbout, Limited, StopsAmong, limited, limited_t
 use Rattle.x7_forms.specs.Turn.{GivesFew, IsAt, Reads, StandsAt, UnreadBeginning, Unopened}
 use Rattle.x7_forms.proofs.ReadLemmas.{asked_on, left_at}
 
--- a turn behind what was read
+-- a turn after what was read
 pub gives_on : (old mid new : InputsState) (taken : List ℕ) (limit left : ℕ) → Reads old taken mid → length taken + left ≡ limit → mid.ends ≤ old.ends → GivesFew mid left new → GivesFew old limit new
 gives_on old mid new taken limit left r n e g = record { asked = g.asked ∙ r.asked; selects = g.selects ∙ r.takes.selects; ends = omega (arith, e, g.ends); given = omega (arith, n, r.takes.given, g.given) }
 
@@ -26,7 +26,7 @@ stands_read name limit opened now a g = record { asked = asked_on name opened no
 pub stands_turn : (name taken : List ℕ) (limit left : ℕ) (mid new : InputsState) → IsAt name taken mid → length taken + left ≡ limit → GivesFew mid left new → StandsAt name limit new
 stands_turn name taken limit left mid new a n g = record { asked = subst (λ k. IfSome k (λ kept. kept ≡ name)) (sym g.asked) a.asked; given = omega (arith, n, a.given, g.given) }
 
--- a first turn and what was read behind it
+-- a first turn and what was read after it
 pub stands_rest : (name taken : List ℕ) (limit left : ℕ) (opened mid new : InputsState) → Asks name opened → Reads opened taken mid → length taken + left ≡ limit → GivesFew mid left new → StandsAt name limit new
 stands_rest name taken limit left opened mid new a r n g = record { asked = asked_on name opened new a (g.asked ∙ r.asked); given = omega (arith, n, a.given, r.takes.given, g.given) }
 
@@ -34,7 +34,7 @@ stands_rest name taken limit left opened mid new a r n g = record { asked = aske
 pub few_read : (old opened new : InputsState) (limit : ℕ) → AsksOnce old opened → GivesFew opened limit new → AsksFew old 1 new
 few_read old opened new limit o g = record { selects = omega (arith, o.selects, g.selects); ends = omega (arith, o.ends, g.ends) }
 
--- one of which a first turn was read, and what is behind it where that was not the last
+-- one of which a first turn was read, and what is after it where that was not the last
 pub few_behind : (last : Bool) (old opened mid new : InputsState) (limit left : ℕ) → AsksOnce old opened → GivesFew opened limit mid → (last ≡ false → mid.ends ≤ opened.ends) → GivesFew mid left new → (last ≡ true → new.ends ≤ mid.ends) → AsksFew old 1 new
 few_behind true old opened mid new limit left o f go g none = record { selects = omega (arith, o.selects, f.selects, g.selects); ends = omega (arith, o.ends, f.ends, none refl) }
 few_behind false old opened mid new limit left o f go g none = record { selects = omega (arith, o.selects, f.selects, g.selects); ends = omega (arith, o.ends, go refl, g.ends) }
@@ -81,7 +81,7 @@ pub about_among : (inputs before : List Limited) (input : Limited) (after : List
 about_among inputs before input after old now event a s n (inl e) = inl e
 about_among inputs before input after old now event a s n (inr t) = inr (record { before = before; input = input; after = after; among = a; tells = t; stands = s; asks = n })
 
--- one of the inputs behind a first one
+-- one of the inputs after a first one
 pub stops_behind : (first : Limited) (inputs : List Limited) (old mid now : InputsState) (event : Event) → AsksFew old 1 mid → StopsAmong inputs mid now event → StopsAmong (first ∷ inputs) old now event
 stops_behind first inputs old mid now event n (inl e) = inl e
 stops_behind first inputs old mid now event n (inr h) =

@@ -22,7 +22,7 @@ const SLOT: [u8; 32] = [
     0x30, 0x00, 0x80, 0x01, 0x00, 0x00, 0x00, 0x0F, 0x30, 0x00, 0x80, 0x01, 0x00, 0x00, 0x00, 0x0D,
 ];
 
-/// What stands behind the slots: up to a length a byte again and again. A golden stream, an update, and erased bytes.
+/// What stands after the slots: up to a length a byte again and again. A golden stream, an update, and erased bytes.
 const BEHIND: [(usize, u8); 3] = [(131072, 0x11), (131172, 0x22), (262144, 0xFF)];
 
 /// A flash of four sectors: slots, of which the first is open, a golden stream of 65,536 bytes 11, an update of 22.
@@ -265,7 +265,7 @@ fn a_file_that_shrank_cannot_be_read(rt: HostRuntime) {
     );
 }
 
-/// The image, and bytes behind it; none without memory.
+/// The image, and bytes after it; none without memory.
 fn grown(alloc: Global) -> Result<Vec<u8>, AllocError> {
     let mut all = image(alloc)?;
     all.extend_from_slice(b"grown")?;

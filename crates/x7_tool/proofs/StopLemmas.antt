@@ -132,7 +132,7 @@ pub reads_only : {A B : Type 0} (value : A → B) (form : Asked) (old now : Inpu
 reads_only value form old now (Ok a) h = tt
 reads_only value form old now (Err x) h = reads_stop form old now (event_of x) h
 
--- streams that are played one after the other, behind a part
+-- streams that are played one after the other, after a part
 pub streams_stop : (part : List ℕ) (streams : List (List ℕ)) (old mid now : InputsState) (event : Event) → mid.contents ≡ old.contents → AsksFew old 1 mid
     → StopsAmong (limited_together mid.contents stream_limit streams) mid now event → StopsBy (cause_of event) (Playing part streams) old now event
 streams_stop part streams old mid now event e n h =
