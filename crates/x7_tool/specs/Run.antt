@@ -3,7 +3,7 @@ use Rattle.std.specs.Prelude.{◌≡◌, ◌<◌, ◌≤◌, ◌+◌, ℕ, List,
 use Rattle.x7_words.specs.Flash.{FlashState, IfKnown}
 use Rattle.x7_words.specs.Input.{AsksFew, InputsState, Stays}
 use Rattle.x7_boot.specs.Image.{flash_limit}
-use Rattle.x7_update.specs.Writing.{IsReadWrong}
+use Rattle.x7_update.specs.Writing.{IsFirstRead, IsReadWrong}
 use Rattle.x7_words.specs.Sink.{PutsAll, PutsPrefix, PutsSome, SinkFails, SinkState, Tells}
 use Rattle.x7_words.specs.Word.{AreBytes}
 use Rattle.x7_listing.specs.StreamListing.{stream_listing}
@@ -38,17 +38,18 @@ Agrees (Some known) form end = FormGives known form end
 abbrev pub Happens : Asked → Outside → Outside → Event → Type 0
 Happens form old new event = IsOfMishap Answer (known_in old) (Came (Some form) old new) (λ known end. FormGives known form end) event
 
--- a byte is another than the one that an update with the stream's data writes at this place of a flash of this size; with some data, where the contents aren't known
-pub record ReadsWrongAt (known : Option Known) (stream : List ℕ) (size place : ℕ) : Type 0 where
+-- a byte was read that is another than the one that an update with the stream's data writes at this place of the flash, and is the first of the update or of its slot's switch word that is; with some data, where the contents aren't known
+pub record ReadsWrongAt (known : Option Known) (stream : List ℕ) (new : FlashState) (place : ℕ) : Type 0 where
   pub bytes : List ℕ
   pub has : HasData known stream bytes
   pub wrote : ℕ
   pub read : ℕ
-  pub wrong : IsReadWrong size bytes place wrote read
+  pub wrong : IsReadWrong new.extent bytes place wrote read
+  pub first : IsFirstRead new wrong.from wrong.piece place read
 
 -- the event is a byte that differs, of a flash that the form updates and whose bytes aren't known
 abbrev pub IsDifference : Asked → Outside → Outside → Event → Type 0
-IsDifference (UpdatingFlash name stream) old new event = (place : ℕ) × (event ≡ differs name place) × (old.flash.bytes ≡ None) × ReadsWrongAt (known_in old) stream new.flash.extent place
+IsDifference (UpdatingFlash name stream) old new event = (place : ℕ) × (event ≡ differs name place) × (old.flash.bytes ≡ None) × ReadsWrongAt (known_in old) stream new.flash place
 IsDifference _ old new event = ⊥
 
 -- A write of the flash of a form failed once all else was done: the flash is within the limit, and over what is known the form comes to its end.

@@ -36,7 +36,7 @@ wrong_fails from piece place count end buffer stream old new (Differs at wrote r
     from = from;
     end = end;
     written = written;
-    behind = omega (arith, behind, w.2);
+    begun = omega (arith, behind, w.2);
     before = omega (arith, within, long, w.1, w.2);
     wants = w.3;
     differs = w.5;

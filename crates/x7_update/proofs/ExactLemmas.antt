@@ -8,7 +8,7 @@ use Rattle.x7_update.specs.declared.fault.UpdateFault.TheVariants.{Differs, Fail
 use Rattle.x7_update.proofs.ToldLemmas.{told_at}
 
 differs_not : (flash : List ℕ) (slot place : ℕ) → Leads flash slot → DiffersAt flash slot place → ⊥
-differs_not flash slot place leads d = d.differs (ap (λ p. get_or flash p 0) d.is ∙ leads d.i d.behind d.within)
+differs_not flash slot place leads d = d.differs (ap (λ p. get_or flash p 0) d.is ∙ leads d.i d.after_switch d.within)
 
 -- a flash with a layout has no place at which it lacks one
 pub layout_or_not : (flash : List ℕ) (place : ℕ) → HasLayout flash → NoLayoutAt (length flash) flash place → ⊥

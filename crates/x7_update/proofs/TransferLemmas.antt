@@ -40,7 +40,7 @@ module _ (first all : List ℕ) (same : (i : ℕ) → i < 65536 → get_or first
       let short : place < 65536 = omega (arith, d.is, d.within) in
       record {
         i = d.i;
-        behind = d.behind;
+        after_switch = d.after_switch;
         within = d.within;
         is = d.is;
         differs = λ e. d.differs (same place short ∙ e ∙ sym (ap (λ b. get_or b d.i 0) first_slot_same));

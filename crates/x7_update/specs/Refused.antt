@@ -10,7 +10,7 @@ use Rattle.x7_update.specs.declared.fault.UpdateFault.TheVariants.{Differs, Fail
 -- the first place of a slot, after its switch word, at which the slot differs from what it has to be
 pub record DiffersAt (flash : List ℕ) (slot place : ℕ) : Type 0 where
   pub i : ℕ
-  pub behind : 4 ≤ i
+  pub after_switch : 4 ≤ i
   pub within : i < 32
   pub is : place ≡ 32 * slot + i
   pub differs : get_or flash place 0 ≢ get_or (first_slot flash) i 0

@@ -121,7 +121,7 @@ pub record IsReadWrong (size : ℕ) (stream : List ℕ) (place wrote read : ℕ)
   pub from : ℕ
   pub end : ℕ
   pub written : IsWritten size stream piece from end
-  pub behind : from ≤ place
+  pub begun : from ≤ place
   pub before : place < end
   pub wants : wrote ≡ wanted_at from piece place
   pub differs : wrote ≢ read
