@@ -2,7 +2,7 @@
 """The tables by which names are read back: where a register's or a command's name stands in a table of 64.
 
 x7_regs (src/named.rt) looks at a name's first two letters, its last one and its length; x7_listing (src/asm/fast/write_pairs.rt) at its
-first four bytes, of which the byte behind a short name is one. The factors are such that no two names have one place.
+first four bytes, of which the byte after a short name is one. The factors are such that no two names have one place.
 
     python3 bench/name_tables.py           compares the tables with those of the two files
     python3 bench/name_tables.py --print   writes them
@@ -27,16 +27,16 @@ def by_letters(name, _behind):
     return (ord(name[0]) + 13 * ord(name[1]) + 3 * ord(name[-1]) + 2 * len(name)) % 64
 
 
-def by_four_bytes(name, behind):
-    four = (name + behind).encode()[:4]
+def by_four_bytes(name, after):
+    four = (name + after).encode()[:4]
     return (int.from_bytes(four, "little") * SPREAD % 2**32) >> 26
 
 
-def table(what, names, place, behind):
+def table(what, names, place, after):
     result = [0] * 64
     taken = {}
     for number, name in names.items():
-        at = place(name, behind)
+        at = place(name, after)
         if at in taken:
             sys.exit(f"{what}: {name} and {taken[at]} have one place; other factors are wanted")
         taken[at] = name
@@ -58,8 +58,8 @@ def main():
         ("crates/x7_listing/src/asm/fast/write_pairs.rt", "REGISTERS", registers, by_four_bytes, " "),
         ("crates/x7_listing/src/asm/fast/write_pairs.rt", "COMMANDS", COMMANDS, by_four_bytes, "\n"),
     ]
-    for path, name, names, place, behind in wanted:
-        numbers = table(f"{path} {name}", names, place, behind)
+    for path, name, names, place, after in wanted:
+        numbers = table(f"{path} {name}", names, place, after)
         if "--print" in sys.argv:
             print(f"{path} {name}")
             for row in range(0, 64, 16):

@@ -155,7 +155,7 @@ def layout_of(flash):
     check_slot(flash, 0, wanted)
     update = word_at(flash, 12)
     if update % SECTOR or not 2 * SECTOR <= update <= size:
-        refuse_layout(12, f"the start address {update:08X} is no sector of this flash behind the golden stream's (of a part whose start address counts 256 bytes no flash is updated)")
+        refuse_layout(12, f"the start address {update:08X} is no sector of this flash after the golden stream's (of a part whose start address counts 256 bytes no flash is updated)")
     opened, next_slot = None, 0
     for slot in range(SLOTS):
         check_slot(flash, slot, wanted)

@@ -10,16 +10,16 @@ from x7parts import family_of, idcode_of_name, is_7_series, name_of_idcode, SSI
 
 SECTOR = 65536
 AGAIN = "take the file again; where it goes through a cable or a processor, compare the number of bytes that arrive"
-# What `x7 image` writes in a slot of the first sector behind its switch word, around the address (docs/FORMATS.md).
+# What `x7 image` writes in a slot of the first sector after its switch word, around the address (docs/FORMATS.md).
 SLOT = (bytes.fromhex("2000000030020001"), bytes.fromhex("300080010000000F300080010000000D"))
 
-Cause = namedtuple("Cause", "cause remedy section behind source")
+Cause = namedtuple("Cause", "cause remedy section after source")
 
 
-def cause(text, remedy, section, behind=None, source=None):
-    """A cause: its text, the remedy, the section of the page BOARD, the place behind its last byte in the data of all streams, or
+def cause(text, remedy, section, after=None, source=None):
+    """A cause: its text, the remedy, the section of the page BOARD, the place after its last byte in the data of all streams, or
     the stream that it is one of."""
-    return Cause(text, remedy, section, behind, source)
+    return Cause(text, remedy, section, after, source)
 
 
 class Source:
@@ -66,20 +66,20 @@ class Subject:
         it = self.device
         return Fate(it.end, it.taken, it.phase, it.gts, it.gwe, int(it.ghigh), {**it.registers, "STAT": 12})
 
-    def source_at(self, behind):
-        """The stream that the byte in front of a place stands in, or none."""
-        return next((it for it in self.sources if it.first < behind <= it.first + len(it.data)), None)
+    def source_at(self, after):
+        """The stream that the byte before a place stands in, or none."""
+        return next((it for it in self.sources if it.first < after <= it.first + len(it.data)), None)
 
     def has(self, name):
         """Whether a command was executed."""
         return any(it.register == "CMD" and it.word == name for it in self.device.written)
 
-    def place(self, behind):
+    def place(self, after):
         """A place as a text: the byte, the line of the listing, and the header of its packet."""
-        source = self.source_at(behind)
+        source = self.source_at(after)
         if source is None:
-            return f"byte {behind} of the data of all streams, which isn't in these"
-        at = behind - source.first
+            return f"byte {after} of the data of all streams, which isn't in these"
+        at = after - source.first
         found = x7.listed_line_at(source.path, at) if source.is_listing else x7.line_at(source, at)
         several = len(self.sources) > 1
         text = f"byte {at} of the data{f' of {source.name}' if several else ''}"
@@ -103,7 +103,7 @@ def of_kind(source):
     if not data:
         if source.told:
             return unsynced(
-                f"the stream is cut off right behind its header, which tells of {source.told} bytes of data", retake, source)
+                f"the stream is cut off right after its header, which tells of {source.told} bytes of data", retake, source)
         return unsynced(
             "the file has no data: it is empty, or `x7 list` refused it: see its line", "write it again", source)
     kind = x7kinds.kind_of(data) if not source.header else None
@@ -114,7 +114,7 @@ def of_kind(source):
         return None
     found = x7kinds.turning_of(data)
     if found:
-        lead = "no sync word: " if x7.SYNC not in data else "behind the sync word stands no packet: "
+        lead = "no sync word: " if x7.SYNC not in data else "after the sync word stands no packet: "
         return unsynced(f"{lead}{found.way.what} are {found.way.how}", "tools/turn FILE > NEW", source)
     return of_no_sync(source) if x7.SYNC not in data else None
 
@@ -133,7 +133,7 @@ def of_no_sync(source):
             "take the file again", source)
     if source.lost > 0:
         return unsynced(
-            f"the stream is cut off in front of its sync word: its header tells of {source.told} bytes, and it has {len(data)}",
+            f"the stream is cut off before its sync word: its header tells of {source.told} bytes, and it has {len(data)}",
             "take the file again", source)
     bits = x7kinds.late_by(data)
     if bits:
@@ -146,13 +146,13 @@ def of_no_sync(source):
 
 
 def damaged_sync(data, packets):
-    """What became of the sync word in front of packets."""
+    """What became of the sync word before packets."""
     front = data[max(packets - 64, 0) : packets]
     for at in range(0, len(front) - 3):
         differs = int.from_bytes(front[at : at + 4], "big") ^ 0xAA995566
         if bin(differs).count("1") <= 4:
             return f"it is damaged: {front[at:at + 4].hex().upper()} stands where it should"
-    return "the front of the stream is lost"
+    return "the beginning of the stream is lost"
 
 
 def of_header(source):
@@ -170,13 +170,13 @@ def of_family(source):
     words = idcodes_of(source)
     if words and not is_7_series(words[0][1]) and idcode_of_name(source.part) is None:
         text = f"the stream is for the IDCODE {words[0][1]:08X}, which is one of no 7-series device: other families have other frames"
-        behind = source.first + words[0][0]
-        return cause(text, "give a stream of a 7-series device", "A stream for another device", behind, source)
+        after = source.first + words[0][0]
+        return cause(text, "give a stream of a 7-series device", "A stream for another device", after, source)
     return None
 
 
 def idcodes_of(source):
-    """The identifications that a stream writes, each with the place behind it."""
+    """The identifications that a stream writes, each with the place after it."""
     found = []
     for step in x7.steps(source.data):
         if step.kind == "write" and step.register == x7.IDCODE and step.present:
@@ -228,7 +228,7 @@ def of_belonging(subject):
 
 
 def of_swallowed(subject):
-    """The cause where frame data have taken packets behind them for frames: words were lost among them, or their count is damaged."""
+    """The cause where frame data have taken packets after them for frames: words were lost among them, or their count is damaged."""
     for source in subject.sources:
         for step in x7.steps(source.data):
             if step.kind != "write" or step.register != x7.FDRI or step.count < 64:
@@ -256,7 +256,7 @@ def swallowed(source, step, begins):
     head, place = x7.head_line(step), source.first + begins + 4
     if source.header and source.lost == 0:
         text = (
-            f"the packet '{head}' takes packets behind the frames for frames: its count is {-(-missing // 4)} words too large: "
+            f"the packet '{head}' takes packets after the frames for frames: its count is {-(-missing // 4)} words too large: "
             "the count is damaged, or the header's length is another file's"
         )
         return cause(text, "take the file again", "Lost words", place, source)
@@ -264,7 +264,7 @@ def swallowed(source, step, begins):
         return None
     told = f" (its header tells of {source.lost} bytes more than there are)" if source.lost > 0 else ""
     text = (
-        f"{missing} bytes were lost among the frame data of '{head}'{told}: it takes the packets behind them for frames, so "
+        f"{missing} bytes were lost among the frame data of '{head}'{told}: it takes the packets after them for frames, so "
         "check, START or DESYNC are missing"
     )
     return cause(text, AGAIN, "Lost words", place, source)
@@ -273,18 +273,18 @@ def swallowed(source, step, begins):
 def of_early_end(subject):
     """The cause where a session ends, and packets follow that no session takes, or none."""
     for source in subject.sources:
-        behind = 0
+        after = 0
         for step in x7.steps(source.data):
-            if step.kind == "bytes" and behind:
+            if step.kind == "bytes" and after:
                 more = re.compile(rb"\x30\x00\x80\x01\x00\x00\x00[\x01-\x0D]").search(source.data, step.place, step.end)
                 if more and (more.start() - step.place) % 4 == 0 and not source.data.startswith(x7.SYNC, step.end):
                     text = (
-                        f"DESYNC comes too early: the {len(source.data) - behind} bytes behind it, packets among them, are not "
+                        f"DESYNC comes too early: the {len(source.data) - after} bytes after it, packets among them, are not "
                         "taken: another command was damaged into it"
                     )
-                    return cause(text, "take the file again", "A stream that ends early", source.first + behind, source)
+                    return cause(text, "take the file again", "A stream that ends early", source.first + after, source)
             if step.kind == "write" and x7.ends_session(source.data, step):
-                behind = step.end
+                after = step.end
     return None
 
 
@@ -305,7 +305,7 @@ def of_large_counts(subject):
 
 
 def of_text_mode(source):
-    """Whether a file went through a transfer as text, which puts 0D in front of each 0A."""
+    """Whether a file went through a transfer as text, which puts 0D before each 0A."""
     lone = len(re.findall(rb"(?<!\r)\n", source.data))
     return lone == 0 and source.data.count(b"\n") > 8
 
@@ -316,30 +316,30 @@ def of_text_mode(source):
 def of_fault(subject):
     """The cause of a fault."""
     kind, words = subject.fate.end[1], subject.fate.end[2:]
-    behind = subject.fate.taken
-    source = subject.source_at(behind) or subject.sources[-1]
+    after = subject.fate.taken
+    source = subject.source_at(after) or subject.sources[-1]
     take = {
         "Crc": of_check, "Id": of_identification, "Packet": of_packet, "Encrypted": of_encryption, "Watchdog": of_watchdog,
         "Address": of_address, "Overrun": of_overrun, "Multi": of_copy,
     }
-    return take[kind](subject, source, words, behind)
+    return take[kind](subject, source, words, after)
 
 
-def of_check(subject, source, words, behind):
+def of_check(subject, source, words, after):
     return cause(
         f"a check fails (INIT_B goes low): the words before it have {words[0]}, the stream says {words[1]}; one of them, or the "
         "check, is damaged or lost",
         "take the file again from where it was made, and compare the listings with diff; in a listing that was edited on "
         "purpose, put a line 'crc' in place of each 'write CRC 1' and its data",
-        "A check fails", behind, source,
+        "A check fails", after, source,
     )
 
 
-def of_identification(subject, source, words, behind):
+def of_identification(subject, source, words, after):
     section = "A stream for another device"
     if words[1] == "00000000":
         return cause(
-            "frames, or START, come before any IDCODE", "a front of the stream is missing: take the file again", section, behind,
+            "frames, or START, come before any IDCODE", "the beginning of the stream is missing: take the file again", section, after,
             source,
         )
     want, got = int(words[0], 16), int(words[1], 16)
@@ -348,10 +348,10 @@ def of_identification(subject, source, words, behind):
     if told is not None and not (told ^ want) & 0xFFFFFFF:
         return cause(
             f"{text}; or the word is damaged: its header is for {source.part}, which is this one",
-            "take the file again; compare it with a good copy", section, behind, source,
+            "take the file again; compare it with a good copy", section, after, source,
         )
     return cause(
-        text, "choose the device that is on the board, or the part file of the device that the stream is for", section, behind,
+        text, "choose the device that is on the board, or the part file of the device that the stream is for", section, after,
         source,
     )
 
@@ -361,58 +361,58 @@ def named(idcode):
     return f" ({name})" if name else ""
 
 
-def of_packet(subject, source, words, behind):
+def of_packet(subject, source, words, after):
     if of_text_mode(source):
         return cause(
-            f"{words[0]} stands where a packet's header should: the file went through a transfer as text, which puts 0D in "
-            "front of each 0A",
-            "take the file again, as binary", "Lost words", behind, source,
+            f"{words[0]} stands where a packet's header should: the file went through a transfer as text, which puts 0D "
+            "before each 0A",
+            "take the file again, as binary", "Lost words", after, source,
         )
     return cause(
         f"{words[0]} stands where a packet's header should: words were lost or added before it, or the word itself is damaged",
-        AGAIN, "Lost words", behind, source,
+        AGAIN, "Lost words", after, source,
     )
 
 
-def of_encryption(subject, source, words, behind):
-    return cause("the stream is encrypted, which x7 doesn't read", "write it without encryption", "Further faults", behind, source)
+def of_encryption(subject, source, words, after):
+    return cause("the stream is encrypted, which x7 doesn't read", "write it without encryption", "Further faults", after, source)
 
 
-def of_watchdog(subject, source, words, behind):
+def of_watchdog(subject, source, words, after):
     count = 4 * (subject.fate.registers["TIMER"] & 0x3FFFFFFF)
     return cause(
-        f"the watchdog fires: startup hasn't ended {count} bytes behind the write to TIMER",
-        "give TIMER a larger number, or write LTIMER now and then", "The watchdog", behind, source,
+        f"the watchdog fires: startup hasn't ended {count} bytes after the write to TIMER",
+        "give TIMER a larger number, or write LTIMER now and then", "The watchdog", after, source,
     )
 
 
-def of_address(subject, source, words, behind):
+def of_address(subject, source, words, after):
     return cause(
         f"frames go to {words[0]}, an address that the part file doesn't have",
         "the part file lacks a column or a row, or is another device's; or the address is damaged: compare with a good copy",
-        "Further faults", behind, source,
+        "Further faults", after, source,
     )
 
 
-def of_overrun(subject, source, words, behind):
+def of_overrun(subject, source, words, after):
     return cause(
         "there are more frames than the part file has places", "the part file lacks columns or rows, or is another device's",
-        "Further faults", behind, source,
+        "Further faults", after, source,
     )
 
 
-def of_copy(subject, source, words, behind):
-    """A copy needs MFW behind WCFG; the command that stands there tells what was damaged."""
-    commands = [it for it in subject.device.written if it.register == "CMD" and it.behind <= behind]
+def of_copy(subject, source, words, after):
+    """A copy needs MFW after WCFG; the command that stands there tells what was damaged."""
+    commands = [it for it in subject.device.written if it.register == "CMD" and it.after <= after]
     if commands and commands[-1].word != "MFW":
         text = (
             f"a frame is to be copied under the command {commands[-1].word}, and copies want MFW: that word is damaged, or MFW "
             "was lost"
         )
-        return cause(text, "take the file again", "Further faults", commands[-1].behind, source)
+        return cause(text, "take the file again", "Further faults", commands[-1].after, source)
     return cause(
         "a frame is to be copied, and none was written before", "words were lost before it, or it isn't a stream of this family",
-        "Further faults", behind, source,
+        "Further faults", after, source,
     )
 
 
@@ -438,7 +438,7 @@ def of_phase(subject):
         return of_no_start(subject)
     if fate.phase == 0 and device.begun is None:
         return cause(
-            "no DESYNC behind START, and startup begins with DESYNC", "the stream lacks its end", "A stream that ends early", None,
+            "no DESYNC after START, and startup begins with DESYNC", "the stream lacks its end", "A stream that ends early", None,
             last,
         )
     waits = waiting(fate.phase, fate.registers)
@@ -450,29 +450,29 @@ def of_phase(subject):
             "Startup waits",
         )
     return cause(
-        f"the bytes end in phase {fate.phase} of startup: behind DESYNC each phase takes four bytes, or a clock",
-        "send the no-ops behind DESYNC too, or go on clocking", "Startup waits",
+        f"the bytes end in phase {fate.phase} of startup: after DESYNC each phase takes four bytes, or a clock",
+        "send the no-ops after DESYNC too, or go on clocking", "Startup waits",
     )
 
 
 def of_open_session(subject):
     """The cause where the bytes end inside a session."""
-    last, behind = subject.sources[-1], subject.fate.taken
+    last, after = subject.sources[-1], subject.fate.taken
     if last.lost > 0:
         return cause(
             f"the stream is cut off: its header tells of {last.told} bytes, and it has {len(last.data)}", "take the file again",
-            "A stream that ends early", behind, last,
+            "A stream that ends early", after, last,
         )
     commands = [it for it in subject.device.written if it.register == "CMD"]
     at = next((at for at, it in enumerate(commands) if it.word == "START"), None)
     if at is not None and len(commands) > at + 1:
         text = (
-            f"the session doesn't end: behind START stands the command {commands[-1].word}, and no DESYNC: that word is "
+            f"the session doesn't end: after START stands the command {commands[-1].word}, and no DESYNC: that word is "
             "damaged, or DESYNC was lost"
         )
-        return cause(text, "take the file again", "A stream that ends early", commands[-1].behind, last)
+        return cause(text, "take the file again", "A stream that ends early", commands[-1].after, last)
     return cause(
-        "the session doesn't end: no DESYNC", "the stream is cut off, or lacks its end", "A stream that ends early", behind, last,
+        "the session doesn't end: no DESYNC", "the stream is cut off, or lacks its end", "A stream that ends early", after, last,
     )
 
 
@@ -483,17 +483,17 @@ def of_no_start(subject):
     if not device.frames and subject.device.reads:
         return cause(
             "the streams read a device, and start nothing",
-            "play them behind the full stream of the device: x7 play PART full.bit read.bin", section,
+            "play them after the full stream of the device: x7 play PART full.bit read.bin", section,
         )
     commands = [it.word for it in device.written if it.register == "CMD"]
     if device.last("COR0") and "LFRM" in commands and "START" not in commands:
-        lfrm = max(it.behind for it in device.written if it.register == "CMD" and it.word == "LFRM")
-        after = next((it for it in device.written if it.register == "CMD" and it.behind > lfrm and it.word in ("NULL", "SWITCH", "CRCC")), None)
+        lfrm = max(it.after for it in device.written if it.register == "CMD" and it.word == "LFRM")
+        following = next((it for it in device.written if it.register == "CMD" and it.after > lfrm and it.word in ("NULL", "SWITCH", "CRCC")), None)
         text = "the stream has no START, though it sets COR0 and ends with LFRM as a full one does: START is damaged or lost"
-        return cause(text, "take the file again", "A stream that ends early", after.behind if after else lfrm, last)
+        return cause(text, "take the file again", "A stream that ends early", following.after if following else lfrm, last)
     return cause(
         "the stream has no START: a partial one changes frames and starts nothing",
-        "play it behind the full stream of the device: x7 play PART full.bit partial.bit", section,
+        "play it after the full stream of the device: x7 play PART full.bit partial.bit", section,
     )
 
 
@@ -509,16 +509,16 @@ def of_started(subject):
             )
     if not fate.ghigh:
         return cause(
-            "phase 7 comes, and all interconnect is held high (GHIGH_B is 0): AGHIGH without LFRM behind it",
+            "phase 7 comes, and all interconnect is held high (GHIGH_B is 0): AGHIGH without LFRM after it",
             "the last stream lacks its LFRM: take it again", section,
         )
     if device.dropped:
         step = device.dropped[0]
-        by = next(it for it in reversed(device.written) if it.register == "CTL0" and it.behind <= step.place)
+        by = next(it for it in reversed(device.written) if it.register == "CTL0" and it.after <= step.place)
         source = subject.source_at(step.end)
         return cause(
             f"the frames of {source.name} are dropped: CTL0 has SBITS 1x, which forbids writing frames, since "
-            f"{subject.place(by.behind)}",
+            f"{subject.place(by.after)}",
             "write the stream before it with BITSTREAM.READBACK.SECURITY NONE (or LEVEL1)", "A partial stream that is damaged", step.first + 4, source,
         )
     return of_unchecked_loss(subject)
@@ -530,7 +530,7 @@ def of_unchecked_loss(subject):
         if source.lost > 0 and not has_check(source):
             text = (
                 f"{source.lost} bytes of the stream were lost, and nothing on the device notices, since the stream has no "
-                "check: all frames behind them stand at wrong addresses"
+                "check: all frames after them stand at wrong addresses"
             )
             return cause(text, "take the file again; write it with BITSTREAM.GENERAL.CRC ENABLE", "A check fails", None, source)
     return None
@@ -545,7 +545,7 @@ def of_play(subject):
     fate = subject.fate
     if fate.phase == 7 and fate.end[0] == "fault":
         found = of_fault(subject)
-        return found._replace(cause=f"it runs (phase 7), but behind startup a fault came: {found.cause}", section="A partial stream that is damaged")
+        return found._replace(cause=f"it runs (phase 7), but after startup a fault came: {found.cause}", section="A partial stream that is damaged")
     if fate.end[0] == "fault":
         return of_fault(subject)
     if fate.end[0] == "iprog":
@@ -554,7 +554,7 @@ def of_play(subject):
         return of_phase(subject)
     if fate.end[0] == "synced":
         return cause(
-            "it runs (phase 7), but a session behind startup doesn't end: no DESYNC",
+            "it runs (phase 7), but a session after startup doesn't end: no DESYNC",
             "the last stream is cut off, or lacks its end", "A partial stream that is damaged", fate.taken, subject.sources[-1],
         )
     return of_started(subject)
@@ -639,7 +639,7 @@ def of_started_boot(subject, path, leads):
 
 
 def is_golden_alone(subject):
-    """Whether the one attempt took the golden stream behind a first sector: by the bytes taken, or by the front of a listed flash."""
+    """Whether the one attempt took the golden stream after a first sector: by the bytes taken, or by the first bytes of a listed flash."""
     total, taken, front = len(subject.data), subject.report.taken, subject.data[:40]
     return all(part in front for part in SLOT) or max(SECTOR, total) < taken <= SECTOR + total
 
@@ -697,13 +697,13 @@ def of_name(subject):
     if subject.report:
         return None
     written = [(source, *it) for source in subject.sources for it in idcodes_of(source)]
-    for source, behind, word in written:
+    for source, after, word in written:
         if (word ^ written[0][2]) & 0xFFFFFFF:
             text = (
                 f"the streams are for different devices: {written[0][0].name} for {written[0][2]:08X}{named(written[0][2])}, "
                 f"{source.name} for {word:08X}{named(word)}"
             )
-            return cause(text, "give the streams of one device", "A stream for another device", source.first + behind, None)
+            return cause(text, "give the streams of one device", "A stream for another device", source.first + after, None)
     for source in subject.sources:
         told, words = idcode_of_name(source.part), idcodes_of(source)
         if told is not None and words and (told ^ words[0][1]) & 0xFFFFFFF:

@@ -10,8 +10,8 @@ MOST_READS = 1 << 24
 KEPT = ["CTL0", "MASK", "COR0", "AXSS", "COR1", "WBSTAR", "TIMER", "CTL1", "BSPI"]
 KEPT_NUMBERS = {x7.NUMBERS[name]: name for name in KEPT}
 
-# A word that was written: the place behind it, the register's name, and the word or the command's name.
-Written = namedtuple("Written", "behind register word")
+# A word that was written: the place after it, the register's name, and the word or the command's name.
+Written = namedtuple("Written", "after register word")
 
 
 def phase_after(ticks, cor0, lock, match):
@@ -74,7 +74,7 @@ class Device:
     # what it takes
 
     def play(self, data):
-        """Takes the data of streams, one behind the other, from the beginning."""
+        """Takes the data of streams, one after the other, from the beginning."""
         for step in x7.steps(data):
             self.take(data, step)
             if self.has_stopped:
@@ -102,13 +102,13 @@ class Device:
         elif step.kind == "write":
             self.write(data, step)
 
-    def stop(self, behind, *end):
+    def stop(self, after, *end):
         if not self.has_stopped:
-            self.end, self.taken = list(end), behind
+            self.end, self.taken = list(end), after
 
-    def watch(self, behind):
+    def watch(self, after):
         """Lets the watchdog fire where its time is over and startup hasn't ended."""
-        if self.deadline is None or behind < self.deadline:
+        if self.deadline is None or after < self.deadline:
             return
         ticks = 0 if self.begun is None else (self.deadline - self.begun) // 4
         if phase_after(ticks, self.cor0, self.lock, self.match) != 7:
@@ -140,83 +140,83 @@ class Device:
         name = x7.REGISTERS[step.register]
         compared = iter(self.check.write(data, step))
         for at, word in enumerate(x7.payload(data, step)):
-            behind = step.first + 4 * at + 4
-            self.watch(behind)
+            after = step.first + 4 * at + 4
+            self.watch(after)
             if self.has_stopped:
                 return
-            self.written.append(Written(behind, name, x7.command_of(word) if step.register == x7.CMD else word))
-            self.store(step.register, word, behind, next(compared, None))
+            self.written.append(Written(after, name, x7.command_of(word) if step.register == x7.CMD else word))
+            self.store(step.register, word, after, next(compared, None))
 
-    def store(self, number, word, behind, compared):
+    def store(self, number, word, after, compared):
         """Stores a word, and lets its effects and faults follow."""
         name = KEPT_NUMBERS.get(number)
         if number in (x7.CTL0, x7.CTL1):
             mask = self.registers["MASK"]
             self.registers[name] = self.registers[name] & ~mask | word & mask
             if number == x7.CTL0 and self.registers["CTL0"] >> 6 & 1:
-                self.stop(behind, "fault", "Encrypted")
+                self.stop(after, "fault", "Encrypted")
         elif name:
             self.registers[name] = word
             if number == x7.TIMER:
-                self.load_watchdog(behind)
+                self.load_watchdog(after)
         elif number == x7.CRC:
-            self.compare(compared, behind)
+            self.compare(compared, after)
         elif number == x7.CBC:
-            self.stop(behind, "fault", "Encrypted")
+            self.stop(after, "fault", "Encrypted")
         elif number == x7.IDCODE:
-            self.identify(word, behind)
+            self.identify(word, after)
         elif number == x7.FAR and self.command not in (DESYNC, IPROG):
-            self.execute(self.command, behind)
+            self.execute(self.command, after)
         elif number == x7.CMD:
             self.command = word & 31
-            self.execute(self.command, behind)
+            self.execute(self.command, after)
 
-    def compare(self, compared, behind):
+    def compare(self, compared, after):
         """Compares the running check."""
         if compared[1] != compared[2]:
-            self.stop(behind, "fault", "Crc", f"{compared[1]:08X}", f"{compared[2]:08X}")
+            self.stop(after, "fault", "Crc", f"{compared[1]:08X}", f"{compared[2]:08X}")
         else:
             self.checked += 1
-            self.take_shutdown(behind)
+            self.take_shutdown(after)
 
-    def identify(self, word, behind):
+    def identify(self, word, after):
         """Compares the identification, where the device is known."""
         if self.idcode is not None and (word ^ self.idcode) & 0xFFFFFFF:
-            self.stop(behind, "fault", "Id", f"{self.idcode:08X}", f"{word:08X}")
+            self.stop(after, "fault", "Id", f"{self.idcode:08X}", f"{word:08X}")
         self.matched = True
 
-    def load_watchdog(self, behind):
+    def load_watchdog(self, after):
         timer = self.registers["TIMER"]
         runs = timer >> 30 & 1 and timer & 0x3FFFFFFF
-        self.deadline, self.loaded = behind + 4 * (timer & 0x3FFFFFFF) if runs else None, behind
+        self.deadline, self.loaded = after + 4 * (timer & 0x3FFFFFFF) if runs else None, after
 
-    def take_shutdown(self, behind):
+    def take_shutdown(self, after):
         """Takes a shutdown that is pending; the watchdog, which stood still since phase 7, goes on."""
         if self.shutdown:
             if self.deadline is not None and self.begun is not None:
                 ended = self.begun + 4 * ticks_to_the_end(self.cor0, self.lock, self.match)
-                self.deadline += max(behind - max(ended - 1, self.loaded), 0)
+                self.deadline += max(after - max(ended - 1, self.loaded), 0)
             self.shutdown, self.begun, self.armed, self.ghigh = False, None, False, False
 
-    def execute(self, command, behind):
+    def execute(self, command, after):
         """Executes a command."""
         name = x7.COMMANDS.get(command, "NULL")
         if name == "RCRC":
-            self.take_shutdown(behind)
+            self.take_shutdown(after)
         elif name == "SHUTDOWN":
             self.shutdown = True
         elif name in ("LFRM", "AGHIGH"):
             self.ghigh = name == "LFRM"
         elif name == "LTIMER":
-            self.load_watchdog(behind)
+            self.load_watchdog(after)
         elif name == "START":
             self.armed = True
             if not self.matched:
-                self.stop(behind, "fault", "Id", f"{self.idcode or 0:08X}", "00000000")
+                self.stop(after, "fault", "Id", f"{self.idcode or 0:08X}", "00000000")
         elif name == "IPROG":
-            self.stop(behind, "iprog", f"{self.registers['WBSTAR']:08X}")
+            self.stop(after, "iprog", f"{self.registers['WBSTAR']:08X}")
         elif name == "DESYNC":
             self.end = ["searching"]
             if self.armed and self.begun is None:
-                self.begun, self.cor0 = behind, self.registers["COR0"]
+                self.begun, self.cor0 = after, self.registers["COR0"]
             self.armed = False

@@ -97,7 +97,7 @@ def text_of(field):
 
 # ---- steps: what stands in the data, in order
 
-# Kinds: 'bytes' are no words (before a sync word, behind a session, the tail); 'sync' begins a session; 'nop' are `count` words
+# Kinds: 'bytes' are no words (before a sync word, after a session, the tail); 'sync' begins a session; 'nop' are `count` words
 # 20000000; 'write' and 'read' are packets of `count` words of a register, of which a write's payload has `present` from `first`
 # on; 'filler' is a word without effect, 'bad' one that is no packet. The step ends before `end`.
 Step = namedtuple("Step", "kind place word register count first present end")
@@ -118,7 +118,7 @@ def steps(data):
 
 
 def session(data, place):
-    """The steps of a session behind its sync word; answers where it ends."""
+    """The steps of a session after its sync word; answers where it ends."""
     named = None
     while place + 4 <= len(data):
         end = end_of_nops(data, place)
@@ -205,7 +205,7 @@ def rows(name, digits, width, blanks):
 
 
 def step_lines(data, step):
-    """The lines of a step, each with its place and the place behind it."""
+    """The lines of a step, each with its place and the place after it."""
     if step.kind == "bytes":
         for at, line in enumerate(rows("bytes", data[step.place : step.end].hex().upper(), 64, 64)):
             yield line, step.place + 32 * at, min(step.place + 32 * at + 32, step.end)
@@ -242,13 +242,13 @@ def listing_of(stream):
 
 
 def line_at(stream, place):
-    """The line of `x7 list` that the byte in front of a place stands in: its number, its text, and the header of its packet where
+    """The line of `x7 list` that the byte before a place stands in: its number, its text, and the header of its packet where
     it is a payload's."""
     number = 1 if stream.header else 0
     for step in steps(stream.data):
-        for line, first, behind in step_lines(stream.data, step):
+        for line, first, after in step_lines(stream.data, step):
             number += 1
-            if first < place <= behind:
+            if first < place <= after:
                 return number, line, head_line(step) if first >= step.first and step.kind == "write" else ""
     return None
 
@@ -326,7 +326,7 @@ def read_listing(path):
 
 
 def listed_line_at(path, place):
-    """The line of a listing that the byte in front of a place stands in: its number, its text, and the last header before it where
+    """The line of a listing that the byte before a place stands in: its number, its text, and the last header before it where
     it is a payload's."""
     number, at, head = 0, 0, ""
     with open(path, "rb") as file:
@@ -444,7 +444,7 @@ Attempt = namedtuple("Attempt", "number kind address ending")
 
 class Report:
     """A report of `x7 play`, or the text of `x7 boot` or `x7 svf`. `svf` is none, 'done', or statement and bit. `end` has the words
-    behind 'end'. `frames` has the digits of each frame by its address."""
+    after 'end'. `frames` has the digits of each frame by its address."""
 
     def __init__(self):
         self.part, self.taken, self.end, self.attempts, self.boot_end, self.svf = "", 0, [], [], "", None
@@ -606,7 +606,7 @@ class Part:
         return [far for row in self.rows for far in self.row_addresses(row)]
 
     def slots(self):
-        """The slots in the order of writing: an address, or none at the two pads behind each row."""
+        """The slots in the order of writing: an address, or none at the two pads after each row."""
         return [it for row in self.rows for it in [*self.row_addresses(row), None, None]]
 
 

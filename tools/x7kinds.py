@@ -98,7 +98,7 @@ WAYS = [
 
 
 def reads(data):
-    """Whether the data have a sync word, and behind it begins what a stream begins with: packets, one of which is of CMD or IDCODE."""
+    """Whether the data have a sync word, and after it begins what a stream begins with: packets, one of which is of CMD or IDCODE."""
     at = data.find(x7.SYNC)
     if at < 0:
         return False
@@ -136,7 +136,7 @@ def late_by(data):
 
 
 def of_digits(raw):
-    """The data of a .rbt file: its lines of 32 digits, behind some lines of text. A line that is damaged is refused, and `Bits:`
+    """The data of a .rbt file: its lines of 32 digits, after some lines of text. A line that is damaged is refused, and `Bits:`
     compared."""
     told, lines, begun = None, [], False
     for number, line in enumerate(raw.rstrip(b"\r\n").split(b"\n"), 1):

@@ -64,29 +64,29 @@ class PartDevice(Device):
         self.earlier, self.base, self.run, self.given = self.memory(), base, [], 0
         self.ahead = self.slots_from_base()
 
-    def add_to_run(self, word, behind):
+    def add_to_run(self, word, after):
         """Takes a word of frame data."""
         self.run.append(word)
         if not self.ahead:
-            self.stop(behind, "fault", "Address", f"{self.base:08X}")
+            self.stop(after, "fault", "Address", f"{self.base:08X}")
         elif len(self.run) > len(self.ahead) * self.size and len(self.run) % self.size == 0:
-            self.stop(behind, "fault", "Overrun")
+            self.stop(after, "fault", "Overrun")
 
-    def copy(self, behind):
+    def copy(self, after):
         """Puts the source at the base."""
         if self.command != MFW or self.source is None:
-            self.stop(behind, "fault", "Multi")
+            self.stop(after, "fault", "Multi")
         elif self.base not in self.earlier:
-            self.stop(behind, "fault", "Address", f"{self.base:08X}")
+            self.stop(after, "fault", "Address", f"{self.base:08X}")
         else:
             self.earlier[self.base] = self.source
 
-    def read_back(self, count, behind):
+    def read_back(self, count, after):
         """The next words of a readback: a frame of zeros, the frames from the base on, and zeros."""
         if self.command != RCFG or self.registers["CTL0"] >> 4 & 3:
             return [0] * count
         if self.base not in self.earlier:
-            self.stop(behind, "fault", "Address", f"{self.base:08X}")
+            self.stop(after, "fault", "Address", f"{self.base:08X}")
             return []
         frames = [self.zeros, *(self.earlier.get(far, self.zeros) for far in self.ahead)]
         first, self.given = self.given, self.given + count
@@ -108,11 +108,11 @@ class PartDevice(Device):
             if self.has_stopped:
                 return
 
-    def look_for_the_end(self, behind):
+    def look_for_the_end(self, after):
         """Keeps the first place at which startup has come to phase 7."""
         if self.started is None and self.begun is not None:
             place = self.begun + 4 * ticks_to_the_end(self.cor0, self.lock, self.match)
-            self.started = place if place <= behind else None
+            self.started = place if place <= after else None
 
     def frame_data(self, data, step):
         """Takes a write of a word to FDRI or MFWR."""
@@ -127,26 +127,26 @@ class PartDevice(Device):
             elif self.command == WCFG:
                 self.add_to_run(word, step.end)
 
-    def store(self, number, word, behind, compared):
-        """Stores a word; FAR and CMD begin a run, and MFW behind WCFG takes the newest frame of the one that ends as its source."""
+    def store(self, number, word, after, compared):
+        """Stores a word; FAR and CMD begin a run, and MFW after WCFG takes the newest frame of the one that ends as its source."""
         if number == x7.FAR:
             self.begin_run(word & (1 << sum(self.part.far)) - 1)
         elif number == x7.CMD:
             newest = self.frames_of_run()[-1:] if (self.command, word & 31) == (WCFG, MFW) else []
             self.source = newest[0] if newest else None
             self.begin_run(self.far())
-        super().store(number, word, behind, compared)
+        super().store(number, word, after, compared)
 
-    def execute(self, command, behind):
+    def execute(self, command, after):
         """Executes a command; a fallback ignores IPROG."""
         if command == x7.CODES["IPROG"] and self.start.kind == "fallback":
             self.ignored = True
         else:
-            super().execute(command, behind)
+            super().execute(command, after)
 
-    def load_watchdog(self, behind):
+    def load_watchdog(self, after):
         if self.start.kind != "fallback":
-            super().load_watchdog(behind)
+            super().load_watchdog(after)
 
     def read(self, step):
         """Takes a read."""

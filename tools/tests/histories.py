@@ -108,7 +108,7 @@ class Maker:
         return self.order(name) + (self.gap() if name == "DESYNC" else between()) + self.far() + self.read()
 
     def frames(self):
-        """Frame data, mostly behind WCFG and FAR, and at times in several packets with others between them."""
+        """Frame data, mostly after WCFG and FAR, and at times in several packets with others between them."""
         lines = self.order("WCFG") if self.rng.random() < 0.7 else []
         lines += self.far() if self.rng.random() < (0.85 if self.is_tame else 0.6) else []
         lines += self.write("FDRI", self.frame_words(len(self.part.slots()) + 1 if self.is_wild(0.3) else 4))
@@ -117,7 +117,7 @@ class Maker:
         return lines
 
     def copies(self):
-        """Copies of a frame, mostly behind the frame that is their source."""
+        """Copies of a frame, mostly after the frame that is their source."""
         lines = []
         if self.is_tame or self.rng.random() < 0.7:
             lines += self.order("WCFG") + self.far()
@@ -130,7 +130,7 @@ class Maker:
         return lines
 
     def readback(self):
-        """Reads of frame data, mostly behind RCFG and FAR."""
+        """Reads of frame data, mostly after RCFG and FAR."""
         lines = self.order("RCFG") if self.rng.random() < 0.8 else []
         lines += self.far() if self.rng.random() < (0.85 if self.is_tame else 0.6) else []
         size = self.part.frame_words

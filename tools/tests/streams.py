@@ -56,7 +56,7 @@ def front():
 
 
 def end():
-    """The words behind the frames."""
+    """The words after the frames."""
     lines = ["crc", "nop", "nop", *command("GRESTORE"), "nop", *command("LFRM")] + ["nop"] * 100
     lines += [*command("START"), "nop", "write FAR 1", "data 00000000", "write MASK 1", "data 00000501", "write CTL0 1", "data 00000501", "crc", "nop", "nop"]
     return lines + command("DESYNC") + ["nop"] * 400

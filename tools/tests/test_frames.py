@@ -152,7 +152,7 @@ def vendor_sequences(bench, name):
     listed = list(x7.listing_of(x7.stream_of(bench.get("vendor"))))
     for at, line in enumerate(listed):
         if line == "cmd MFW":
-            bench.tally.same(f"{name} behind MFW", listed[at + 1 : at + 14], ["nop"] * 12 + ["write MFWR 8"])
+            bench.tally.same(f"{name} after MFW", listed[at + 1 : at + 14], ["nop"] * 12 + ["write MFWR 8"])
     if "cmd MFW" in listed:
         first, last = listed.index("write CTL1 1"), len(listed) - 1 - listed[::-1].index("write CTL1 1")
         bench.tally.same(f"{name} CTL1", (listed[first + 1], listed[last + 1]), ("data 00001000", "data 00000000"))

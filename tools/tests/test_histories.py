@@ -143,17 +143,17 @@ class HasNoPadFrame(r.PartDevice):
 class KeepsTheSource(r.PartDevice):
     """Takes the source of copies also over another command."""
 
-    def store(self, number, word, behind, compared):
+    def store(self, number, word, after, compared):
         before = self.source
-        super().store(number, word, behind, compared)
+        super().store(number, word, after, compared)
         self.source = self.source or before
 
 
 class MovesAtCopies(r.PartDevice):
     """Moves FAR at each copy."""
 
-    def copy(self, behind):
-        super().copy(behind)
+    def copy(self, after):
+        super().copy(after)
         place = self.slots.index(self.base) if self.base in self.earlier else -1
         self.base = self.base if self.slots[place + 1] is None else self.slots[place + 1]
 
@@ -161,9 +161,9 @@ class MovesAtCopies(r.PartDevice):
 class RunsOverFar(r.PartDevice):
     """Doesn't execute the command again at a FAR load."""
 
-    def execute(self, command, behind):
+    def execute(self, command, after):
         if self.is_cmd:
-            super().execute(command, behind)
+            super().execute(command, after)
 
     def write(self, data, step):
         self.is_cmd, self.check.command = step.register == x7.CMD, 0
@@ -173,28 +173,28 @@ class RunsOverFar(r.PartDevice):
 class IgnoresMask(r.PartDevice):
     """Takes all bits of CTL0."""
 
-    def store(self, number, word, behind, compared):
+    def store(self, number, word, after, compared):
         kept = self.registers["MASK"]
         self.registers["MASK"] = kept if number != x7.CTL0 else 0xFFFFFFFF
-        super().store(number, word, behind, compared)
+        super().store(number, word, after, compared)
         self.registers["MASK"] = kept if number == x7.CTL0 else self.registers["MASK"]
 
 
 class StartsAtOnce(r.PartDevice):
     """Begins startup at START."""
 
-    def execute(self, command, behind):
-        super().execute(command, behind)
+    def execute(self, command, after):
+        super().execute(command, after)
         if command == x7.CODES["START"] and self.begun is None:
-            self.begun, self.cor0 = behind, self.registers["COR0"]
+            self.begun, self.cor0 = after, self.registers["COR0"]
 
 
 class ForgetsNoShutdown(r.PartDevice):
     """Takes a shutdown without RCRC or a right check."""
 
-    def execute(self, command, behind):
-        super().execute(command, behind)
-        self.take_shutdown(behind)
+    def execute(self, command, after):
+        super().execute(command, after)
+        self.take_shutdown(after)
 
 
 class FoldsLout(r.PartDevice):
@@ -209,8 +209,8 @@ class FoldsLout(r.PartDevice):
 class CountsOneByteMore(r.PartDevice):
     """Lets the watchdog fire a byte later."""
 
-    def load_watchdog(self, behind):
-        super().load_watchdog(behind)
+    def load_watchdog(self, after):
+        super().load_watchdog(after)
         self.deadline = self.deadline and self.deadline + 1
 
 
@@ -234,8 +234,8 @@ class AsksTooLate(r.PartDevice):
 class ObeysIprog(r.PartDevice):
     """Obeys IPROG in a fallback."""
 
-    def execute(self, command, behind):
-        super(r.PartDevice, self).execute(command, behind)
+    def execute(self, command, after):
+        super(r.PartDevice, self).execute(command, after)
 
 
 class ForgetsTheAttempt(r.PartDevice):

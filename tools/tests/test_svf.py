@@ -12,7 +12,7 @@ def text_of(frames):
 
 
 def make(bench):
-    """A full stream with a header, a change, and a read of three frames, over the pads behind a row."""
+    """A full stream with a header, a change, and a read of three frames, over the pads after a row."""
     bench.put("made.part", DEVICE)
     bench.put("full.frames", text_of({"00000000": frame_of(1), "00000101": frame_of(2), "00800004": frame_of(3)}))
     bench.put("change.frames", text_of({"00000101": frame_of(4), "00000102": frame_of(5), "00400000": frame_of(6)}))
@@ -24,13 +24,13 @@ def make(bench):
 
 
 def with_header(data, length=None):
-    """A stream behind a header."""
+    """A stream after a header."""
     fields = b"".join(letter + len(text).to_bytes(2, "big") + text for letter, text in ((b"a", b"design\0"), (b"b", b"made\0"), (b"c", b"\0"), (b"d", b"\0")))
     return x7.FIXED + fields + b"e" + (len(data) if length is None else length).to_bytes(4, "big") + data
 
 
 def ends(bench, name, *texts):
-    """Plays texts one behind the other on a new port: the line, and the report."""
+    """Plays texts one after the other on a new port: the line, and the report."""
     bench.put("played", b"".join(bench.get(text) for text in texts))
     came = bench.x7("svf", "made.part", "played")
     bench.put("came", came.out)

@@ -1,5 +1,5 @@
 #!/usr/bin/env python3
-"""Tests tools/turn: each way of turning comes back, from the file's first byte on, a few bytes later and behind headers of all
+"""Tests tools/turn: each way of turning comes back, from the file's first byte on, a few bytes later and after headers of all
 lengths; text and packed files; and what isn't taken leaves no output."""
 from casefiles import Tally, os, put_file
 import gzip
@@ -33,10 +33,10 @@ def ways():
     for way in x7kinds.WAYS:
         raw = way.back(DATA)
         turned(f"{way.what}, a raw file", raw, DATA, f"{way.what} {way.how}")
-        turned(f"{way.what}, behind three bytes", b"abc" + raw, DATA)
+        turned(f"{way.what}, after three bytes", b"abc" + raw, DATA)
         for length in range(8):
             front = streams.header(len(DATA), design="m" * length)
-            turned(f"{way.what}, behind a header of {len(front)} bytes", front + raw, front + DATA)
+            turned(f"{way.what}, after a header of {len(front)} bytes", front + raw, front + DATA)
             turned(f"{way.what}, a whole file of {len(front)} bytes more", way.back(front + DATA), DATA)
 
 

@@ -74,7 +74,7 @@ def do_steps(bench, name, stream, *options):
 
 
 def steps(bench):
-    """Several updates one behind the other, by each form of the list."""
+    """Several updates one after the other, by each form of the list."""
     for number, options in enumerate([[], ["--page", "256"], ["--bytes"], ["--bytes", "--page", "100"]]):
         for stream in ("next", "update"):
             do_steps(bench, f"update {number} {stream}", stream, *options)
@@ -85,7 +85,7 @@ def steps(bench):
     bench.put("nothing", b"")
     do_steps(bench, "an empty stream", "nothing")
     bench.put("headed", header() + bench.get("next"))
-    do_steps(bench, "a stream behind a header", "headed", "--page", "512")
+    do_steps(bench, "a stream after a header", "headed", "--page", "512")
     bench.put("closed", x7.bytes_of([0]) + bench.get("image")[4:].ljust(SIZE - 4, b"\xff"))
     bench.put("flash", bench.get("closed"))
     do_steps(bench, "no slot is open", "next")

@@ -44,20 +44,20 @@ def swap(how):
 # name, streams, a pattern of what is said, and whether it is good
 GOOD_ONES = [
     ("a .bit file", [RAW]), ("a raw file", [DATA]), ("a compressed one", [s.bit(SMALL)]), ("bytes in front", [b"\x12\x34\x56" + DATA]),
-    ("another version", [s.bit(s.with_data(FULL, "IDCODE", "1362D093"))]), ("no-ops behind DESYNC lost", [RAW[:-400]]),
+    ("another version", [s.bit(s.with_data(FULL, "IDCODE", "1362D093"))]), ("no-ops after DESYNC lost", [RAW[:-400]]),
     ("full and partial", [RAW, s.bit(PARTIAL)]), ("the full one twice", [RAW, RAW]),
 ]
 BAD = [
     ("cut in frames", [RAW[: HEADER + 3000]], "cut off: its header tells of"), ("cut before START", [RAW[: HEADER + START]], "cut off"),
-    ("cut behind the header", [RAW[:HEADER]], "cut off right behind its header"), ("cut in FF", [RAW[: HEADER + 20]], "cut off in front of its sync word"),
-    ("cut before the sync word", [RAW[: HEADER + 44]], "cut off in front of its sync word"), ("cut behind DESYNC", [RAW[: HEADER + DESYNC + 20]], "end in phase 3"),
+    ("cut after the header", [RAW[:HEADER]], "cut off right after its header"), ("cut in FF", [RAW[: HEADER + 20]], "cut off before its sync word"),
+    ("cut before the sync word", [RAW[: HEADER + 44]], "cut off before its sync word"), ("cut after DESYNC", [RAW[: HEADER + DESYNC + 20]], "end in phase 3"),
     ("a front lost", [DATA[60:]], "packets follow from byte"), ("the sync word damaged", [RAW.replace(x7.SYNC, b"\xaa\x99\x55\x67", 1)], "it is damaged: AA995567"),
     ("another device", [s.bit(s.with_data(FULL, "IDCODE", "0362C093"))], r"0362C093 \(xc7a50t\).*7a35tcpg236"),
     ("another family by its header", [s.bit(FULL, "6slx9tqg144")], "Spartan-6"), ("Spartan-3E", [s.header(8, "3s500evq100") + b"\xff" * 4 + b"\xaa\x99\x55\x66"], "Spartan-3"),
     ("UltraScale", [s.bit(FULL, "xcvu9p-flga2104")], "Virtex UltraScale"), ("another family by its IDCODE", [s.data_of(s.with_data(FULL, "IDCODE", "04B31093"))], "no 7-series device"),
     ("no IDCODE", [s.bit([it for at, it in enumerate(FULL) if at not in (FULL.index("write IDCODE 1"), FULL.index("write IDCODE 1") + 1)])], "before any IDCODE"),
     ("a bit of a frame", [flipped(RAW, HEADER + FDRI + 40)], "a check fails"), ("START damaged", [s.bit(s.replaced(FULL, "cmd START", "cmd NULL"))], "START is damaged or lost"),
-    ("DESYNC damaged", [s.bit(s.replaced(FULL, "cmd DESYNC", "cmd NULL"))], "behind START stands the command NULL, and no DESYNC"),
+    ("DESYNC damaged", [s.bit(s.replaced(FULL, "cmd DESYNC", "cmd NULL"))], "after START stands the command NULL, and no DESYNC"),
     ("DESYNC to IPROG", [s.bit(s.replaced(FULL, "cmd DESYNC", "cmd IPROG"))], "it stands where DESYNC should"),
     ("DESYNC too early", [s.bit(s.replaced(FULL, "cmd NULL", "cmd DESYNC"))], "DESYNC comes too early"), ("again too early", [s.bit(s.replaced(FULL, "cmd SWITCH", "cmd DESYNC"))], "DESYNC comes too early"),
     ("MFW damaged", [s.bit(s.replaced(SMALL, "cmd MFW", "cmd NULL"))], "under the command NULL, and copies want MFW"),
@@ -65,11 +65,11 @@ BAD = [
     ("no check and a frame lost", [without(s.bit(no_check(SMALL)), HEADER + FDRI, 24)], "lost|stands where"),
     ("encrypted", [s.bit(s.with_data(s.with_data(FULL, "MASK", "00000541"), "CTL0", "00000541"))], "encrypted"),
     ("GTS kept", [s.bit(s.with_data(FULL, "COR0", "02003FFD"))], "the outputs stay off for ever: GTS_CYCLE"), ("GWE kept", [s.bit(s.with_data(FULL, "COR0", "02003FE7"))], "GWE_CYCLE"),
-    ("AGHIGH behind startup", [RAW, s.data_of(["sync", *s.command("AGHIGH"), *s.command("DESYNC")])], "GHIGH_B is 0"),
+    ("AGHIGH after startup", [RAW, s.data_of(["sync", *s.command("AGHIGH"), *s.command("DESYNC")])], "GHIGH_B is 0"),
     ("full, then IPROG", [RAW, s.data_of(["sync", "write WBSTAR 1", "data 00400000", *s.command("IPROG")])], r"it starts \(phase 7\), and then the stream leads on to flash address 00400000"),
     ("SBITS, then a partial one", [s.bit(s.replaced(FULL, "data 00000501", "data 00000521", 3)), s.bit(PARTIAL)], "SBITS 1x"),
     ("a watchdog", [s.bit(s.with_data(FULL, "TIMER", "40000010"))], "the watchdog fires: startup hasn't ended 64 bytes"),
-    ("full and a damaged partial", [RAW, flipped(s.bit(PARTIAL), HEADER + 180)], "s1.bit: it runs .phase 7., but behind startup a fault came: a check fails"),
+    ("full and a damaged partial", [RAW, flipped(s.bit(PARTIAL), HEADER + 180)], "s1.bit: it runs .phase 7., but after startup a fault came: a check fails"),
     ("partial and a damaged full", [s.bit(PARTIAL), flipped(RAW, HEADER + FDRI + 40)], "s1.bit: a check fails"), ("damaged full and partial", [flipped(RAW, HEADER + FDRI + 40), s.bit(PARTIAL)], "s0.bit: a check fails"),
     ("streams of two devices", [s.bit(s.with_data(FULL, "IDCODE", "0362C093"), "7a50tcpg236"), s.bit(PARTIAL)], "for different devices|for a device with IDCODE 0362C093"),
     ("a count up", [RAW.replace(DATA[FDRI : FDRI + 8], DATA[FDRI : FDRI + 5] + b"\x02" + DATA[FDRI + 6 : FDRI + 8], 1)], "its count is"),
@@ -86,7 +86,7 @@ BAD = [
 BAD += [(f"{count} bytes lost among frames", [without(RAW, HEADER + FDRI + 800, count)], f"{count} bytes {LOST}") for count in (80, 404, 480, 510, 512, 1024, 2048)]
 BAD += [(f"{count} bytes lost, no header", [without(DATA, FDRI + 800, count)], LOST) for count in (404, 1024)]
 BAD += [(f"{way.what} turned", [way.back(DATA)], f"{way.what} (is|are) {way.how}") for way in x7kinds.WAYS]
-BAD += [(f"{way.what} turned behind a header", [s.header(len(DATA), design="mm") + way.back(DATA)], f"{way.what} (is|are) {way.how}") for way in x7kinds.WAYS]
+BAD += [(f"{way.what} turned after a header", [s.header(len(DATA), design="mm") + way.back(DATA)], f"{way.what} (is|are) {way.how}") for way in x7kinds.WAYS]
 NOTES = [
     ("no check", [s.bit(no_check(FULL))], "note: no write to CRC"), ("a clock of the cable", [s.bit(s.with_data(FULL, "COR0", "02013FE5"))], "note: startup runs on TCK"),
     ("a clock of the design", [s.bit(s.with_data(FULL, "COR0", "0200BFE5"))], "note: startup runs on a clock of the design"), ("a length that is too large", [s.header(len(DATA) + 4096) + DATA], "length: the header tells of"),
