@@ -8,7 +8,7 @@ use Rattle.lru.specs.LruCache.{LruCache, lru_cache, promoted, put_entries}
 use Rattle.lru.proofs.CallerLemmas.{Contains-lookup, Contains-lookup_entry, Contains-promoted, Contains-put_entries, lookup-put_entries}
 use Rattle.x7_words.specs.Flash.{IfKnown}
 use Rattle.x7_boot.specs.Image.{flash_limit}
-use Rattle.x7_boot.specs.Pages.{AreFrom, ArePages, HasPage, IsBlock, IsLoaded, IsRest, Pages, Reaches, block_end, page_end, page_size}
+use Rattle.x7_boot.specs.Pages.{AreFrom, ArePages, HasPage, IsBlock, IsLoaded, IsRest, Pages, BlockReaches, block_end, page_end, page_size}
 use Rattle.x7_boot.specs.declared.cache.Loaded.{Loaded}
 use Rattle.x7_boot.specs.declared.cache.Loaded.TheVariants.{Kept, Read}
 
@@ -210,7 +210,7 @@ loaded_from known told extent size number block loaded e f read =
     subst (λ (k : Option (List ℕ)). IsLoaded k extent number block loaded) e (subst (λ (n : ℕ). IsLoaded told n number block loaded) f read)
 
 -- a block that was read reaches the place for which it was
-pub reaches : (known : Option (List ℕ)) (extent at : ℕ) (block : List ℕ) (loaded : Loaded) → at < extent → IsLoaded known extent (at / page_size) block loaded → Reaches at block loaded
+pub reaches : (known : Option (List ℕ)) (extent at : ℕ) (block : List ℕ) (loaded : Loaded) → at < extent → IsLoaded known extent (at / page_size) block loaded → BlockReaches at block loaded
 reaches known extent at block Kept within read = tt
 reaches known extent at block (Read count) within read = place_in_block known extent at count block within read.0 read.1
 

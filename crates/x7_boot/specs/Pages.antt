@@ -39,9 +39,9 @@ IsLoaded known extent number block Kept = Unit {0}
 IsLoaded known extent number block (Read count) = (0 < count) × IsBlock known extent number count block
 
 -- the block, where one was read, is long enough to have the place `at`, which lies in its first page
-abbrev pub Reaches : ℕ → List ℕ → Loaded → Type 0
-Reaches at block Kept = Unit {0}
-Reaches at block (Read count) = at % page_size < length block
+abbrev pub BlockReaches : ℕ → List ℕ → Loaded → Type 0
+BlockReaches at block Kept = Unit {0}
+BlockReaches at block (Read count) = at % page_size < length block
 
 -- `bytes` are those of a flash from the place `at` on, one at least
 pub record AreFrom (known : Option (List ℕ)) (extent at : ℕ) (bytes : List ℕ) : Type 0 where

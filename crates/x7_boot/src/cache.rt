@@ -3,7 +3,7 @@ ghost use Rattle.std.specs.Prelude.{◌≡◌, ◌+◌, ◌*◌, ◌/◌, ◌%�
 ghost use Rattle.x7_words.specs.Flash.{FlashFails, OnlyReads};
 ghost use Rattle.std.specs.Map.{lookup};
 ghost use Rattle.x7_boot.specs.Image.{flash_limit};
-ghost use Rattle.x7_boot.specs.Pages.{ArePages, HasPage, HoldsFrom, IsLoaded, IsRest, KeepsPages, Reaches, block_pages, page_size};
+ghost use Rattle.x7_boot.specs.Pages.{ArePages, HasPage, HoldsFrom, IsLoaded, IsRest, KeepsPages, BlockReaches, block_pages, page_size};
 
 use crate::fault::BootFault;
 use crate::pages::{BLOCK_PAGES, PAGE, read_block};
@@ -144,7 +144,7 @@ impl PageCache {
     /// The bytes from a place on, whose page was loaded: to the end of the block that was read for it, or else of the page.
     pub(crate) fn bytes_from(&self, at: u64, loaded: Loaded) -> &[u8]
         requires page { HasPage self.now.pages.entries at }
-        requires block { Reaches at self.now.block.items loaded }
+        requires block { BlockReaches at self.now.block.items loaded }
         ensures { HoldsFrom self.now.pages.entries self.now.block.items at loaded result.now }
     {
         match loaded {

@@ -2,7 +2,7 @@
 use Rattle.std.proofs.Common.{◌≡◌, ◌==◌, ◌||◌, ◌≤◌, ◌<◌, ◌^◌, Bool, ◌+◌, ◌-◌, ◌*◌, ℕ, true, false, [], ◌∷◌, ◌++◌, List, length, take, drop, refl, sym, ap, subst, ◌∙◌, lit<, arith, append_assoc, take_all, length-drop, length-append}
 use Rattle.std.proofs.lemmas.List.{take-append-drop, take-append-le}
 use Rattle.x7_words.proofs.ListLemmas.{take_up_to}
-use Rattle.x7_packets.specs.Cutting.{between, CutterState, CutterStandsFor, Goes, run_steps, Went}
+use Rattle.x7_packets.specs.Cutting.{between, CutterState, CutterStandsFor, ComesNearer, run_steps, AfterRun}
 use Rattle.x7_packets.specs.History.{command_held, entered_all, entry, executes, History, history_of, next_word, Write}
 use Rattle.x7_packets.specs.Packet.{payload_steps}
 use Rattle.x7_packets.specs.Reading.{Place, Session}
@@ -37,13 +37,13 @@ entered-more register n (v ∷ ws) w h = let e : n + 4 + 4 * length ws + 4 ≡ n
 -- a call of the cutter, and the sum after its run
 pub took : (c d : CutterState) (run : Cut) (check held check2 held2 at to : ℕ) (bytes piece : List ℕ)
     → Checks c check held (bytes ++ take at piece) → at ≤ to
-    → ((bs : List ℕ) (sessions : List Session) (spot : Place) → CutterStandsFor c bs sessions spot → Went c d (bs ++ between piece at to) sessions spot run)
+    → ((bs : List ℕ) (sessions : List Session) (spot : Place) → CutterStandsFor c bs sessions spot → AfterRun c d (bs ++ between piece at to) sessions spot run)
     → ((h : History) (n : ℕ) → IsSum check held h → IsSum check2 held2 (entered_all n (run_steps run) h))
     → Checks d check2 held2 (bytes ++ take to piece)
 took c d run check held check2 held2 at to bytes piece s h went after =
     let old : List ℕ = bytes ++ take at piece in
     let more : List ℕ = between piece at to in
-    let w : Went c d (bytes ++ take at piece ++ between piece at to) s.sessions s.place run = went (bytes ++ take at piece) s.sessions s.place s.stands in
+    let w : AfterRun c d (bytes ++ take at piece ++ between piece at to) s.sessions s.place run = went (bytes ++ take at piece) s.sessions s.place s.stands in
     let n : ℕ = next_word s.sessions s.place in
     let grown : history_of (bytes ++ take at piece ++ between piece at to) ≡ entered_all (next_word s.sessions s.place) (run_steps run) (history_of (bytes ++ take at piece)) =
     cut_enters c d (bytes ++ take at piece) (between piece at to) s.sessions s.place run (next_word s.sessions s.place) s.stands w (next_word-is (bytes ++ take at piece) s.sessions s.place s.stands.reading) in
@@ -59,11 +59,11 @@ took c d run check held check2 held2 at to bytes piece s h went after =
 -- the last call, with the piece used up
 pub took_all : (c d : CutterState) (run : Cut) (check held at to : ℕ) (bytes piece : List ℕ)
     → Checks c check held (bytes ++ take at piece) → at ≤ to → length piece ≤ to → run ≡ Need
-    → ((bs : List ℕ) (sessions : List Session) (spot : Place) → CutterStandsFor c bs sessions spot → Went c d (bs ++ between piece at to) sessions spot run)
+    → ((bs : List ℕ) (sessions : List Session) (spot : Place) → CutterStandsFor c bs sessions spot → AfterRun c d (bs ++ between piece at to) sessions spot run)
     → Checks d check held (bytes ++ piece)
 took_all c d run check held at to bytes piece s h full is went =
-    let went2 : (bs : List ℕ) (sessions : List Session) (spot : Place) → CutterStandsFor c bs sessions spot → Went c d (bs ++ between piece at to) sessions spot Need =
-    λ bs sessions spot t. subst (λ r. Went c d (bs ++ between piece at to) sessions spot r) is (went bs sessions spot t) in
+    let went2 : (bs : List ℕ) (sessions : List Session) (spot : Place) → CutterStandsFor c bs sessions spot → AfterRun c d (bs ++ between piece at to) sessions spot Need =
+    λ bs sessions spot t. subst (λ r. AfterRun c d (bs ++ between piece at to) sessions spot r) is (went bs sessions spot t) in
     subst (λ t. Checks d check held (bytes ++ t)) (take_all to piece full) (took c d Need check held check held at to bytes piece s h went2 (λ g n t. t))
 
 -- the bytes after those taken are taken, and so all are
@@ -82,7 +82,7 @@ still-keeps c bytes more new e k =
     subst (λ t. Keeps c t) (sym e) (record { within = omega (arith, k.within, length-append bytes more); checks = subst (λ t. HasTaken c.pieces t) (sym (take-append-le c.taken bytes more k.within)) k.checks })
 
 -- a call that needs more bytes has used the piece up
-pub used_up : (run : Cut) (left before after : ℕ) → run ≡ Need → Goes run left before after → left ≡ 0
+pub used_up : (run : Cut) (left before after : ℕ) → run ≡ Need → ComesNearer run left before after → left ≡ 0
 used_up run left before after e g = rw e at g
 
 none-of : (a b c d : Bool) → (a || b || c || d) ≡ false → (a ≡ false) × (b ≡ false) × (c ≡ false) × (d ≡ false)

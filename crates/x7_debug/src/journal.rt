@@ -2,7 +2,7 @@
 ghost use Rattle.std.specs.Prelude.{◌≡◌, ◌≤◌, ◌<◌, ◌+◌, ◌-◌, ◌^◌, ◌∷◌, ℕ, List, length, take, IfOk};
 ghost use Rattle.x7_engine.specs.Past.{OfPast};
 ghost use Rattle.x7_engine.specs.Standing.{NoWordDue, fed_of};
-ghost use Rattle.x7_engine.specs.Undo.{Keeps, UndoState};
+ghost use Rattle.x7_engine.specs.Undo.{KeepsDevice, UndoState};
 ghost use Rattle.x7_debug.specs.Journal.{AreRecordsOf, IsFedAtMost, IsOn, oldest_by, record_bytes, record_room, records_of};
 ghost use Rattle.x7_debug.specs.Session.{TakesPiece};
 
@@ -81,7 +81,7 @@ impl Journal {
         ensures none_due { OfPast device.old (λ p. NoWordDue device.new) }
         ensures fed { IsFedAtMost device.old device.new (device.new.taken - device.old.taken) }
         ensures records { AreRecordsOf device.old.part self.new }
-        ensures more { (u : UndoState) × Keeps u device.old × (records_of self.new ≡ u ∷ take (record_room - 1) (records_of self.old)) }
+        ensures more { (u : UndoState) × KeepsDevice u device.old × (records_of self.new ≡ u ∷ take (record_room - 1) (records_of self.old)) }
     {
         let Some(mut undo) = self.records.pop_back() else {
             unreachable!();

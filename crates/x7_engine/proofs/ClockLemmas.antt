@@ -11,7 +11,7 @@ use Rattle.x7_startup.proofs.CallLemmas.{idle_stands, one_phase_after, phase_nev
 use Rattle.x7_startup.proofs.CountLemmas.{idle_fires, idle_watches, timer_load, timer_reload, timer_watched}
 use Rattle.x7_engine.specs.Course.{course_at}
 use Rattle.x7_engine.specs.declared.kept.Kept.{Kept}
-use Rattle.x7_engine.specs.Clock.{AreAlike, ClockState, IsClock, Ticks, newest_place, startup_call_by, watch_call_by}
+use Rattle.x7_engine.specs.Clock.{AreEndedAlike, ClockState, IsClock, Ticks, newest_place, startup_call_by, watch_call_by}
 use Rattle.x7_engine.specs.Kept.{is_fallback}
 use Rattle.x7_engine.specs.Registers.{takes_shutdown}
 use Rattle.x7_engine.specs.Startup.{has_ended, phase_by, phase_of, startup_call, startup_calls, startup_progress}
@@ -360,7 +360,7 @@ ended_on part h n i l e =
     by : (a b : ℕ) → a ≤ b → b ≤ 7 → (a == 7) ≡ true → (b == 7) ≡ true
     by a b l m e = let first : a ≡ 7 = grind (arith, nat_tests, e) in let here : b ≡ 7 = omega (arith, l, m, first) in grind (arith, nat_tests, here)
 
-pub ended_alike : (part : PartData) (kept : Kept) (c : ClockState) (h : History) (n a count : ℕ) → newest_place h ≤ n → has_ended part h (n + a) ≡ true → IsClock part kept c h (n + a) → AreAlike (course_at part kept h (n + a)) c count true
+pub ended_alike : (part : PartData) (kept : Kept) (c : ClockState) (h : History) (n a count : ℕ) → newest_place h ≤ n → has_ended part h (n + a) ≡ true → IsClock part kept c h (n + a) → AreEndedAlike (course_at part kept h (n + a)) c count true
 ended_alike part kept c h n a count l e s =
     let newest : newest_place h ≤ n + a = omega (arith, l) in
     record { newest = newest; each = λ i m. ended_on part h (n + a) i newest e; stands = s }

@@ -9,7 +9,7 @@ use Rattle.x7_packets.specs.declared.cutter.Cut.TheVariants.{Body, Head, Need, S
 use Rattle.x7_packets.specs.Mode.{Mode}
 use Rattle.x7_packets.specs.declared.header.Step.{Step}
 use Rattle.x7_packets.specs.declared.header.Step.TheVariants as step
-use Rattle.x7_packets.specs.Cutting.{AtPlace, between, CutterState, CutterStandsFor, IsLent, IsRun, Longer, Went, run_bytes, run_steps}
+use Rattle.x7_packets.specs.Cutting.{AtPlace, between, CutterState, CutterStandsFor, IsLent, IsRun, LongerSession, AfterRun, run_bytes, run_steps}
 use Rattle.x7_packets.specs.History.{History, Placed, entered_all, history_of, next_word, until}
 use Rattle.x7_packets.specs.Packet.{Packet, payload_steps}
 use Rattle.x7_packets.specs.Reading.{IsReading, Place, Searching, Session, Synced, tail_of}
@@ -62,7 +62,7 @@ no_tail c Mode.Due gap tail packets a e = a.1
 no_tail c Mode.Synced gap tail packets a e = a.1 ∙ e
 
 -- a session's words end where the bytes do
-words_place : (n : CutterState) (bytes gap tail : List ℕ) (packets : List Packet) (more : List (ℕ × Step)) (sessions new_sessions : List Session) (new : Place) → CutterStandsFor n bytes new_sessions new → Longer gap packets more sessions new_sessions new
+words_place : (n : CutterState) (bytes gap tail : List ℕ) (packets : List Packet) (more : List (ℕ × Step)) (sessions new_sessions : List Session) (new : Place) → CutterStandsFor n bytes new_sessions new → LongerSession gap packets more sessions new_sessions new
     → length bytes ≡ next_word sessions (Synced gap packets tail) + 4 * length more
 words_place n bytes gap tail packets more sessions new_sessions new s l =
     let ends : (next_word new_sessions new ≡ next_word sessions (Synced gap packets tail) + 4 * length more) × (tail_of new ≡ []) = words_end gap tail packets more sessions new_sessions new l in
@@ -72,13 +72,13 @@ body_words : (register : ℕ) (bs : List ℕ) → length (payload_steps register
 body_words register bs = length-map (words_of_bytes bs) _ ∙ length_of_words bs
 
 pub one_word_ends : (n : CutterState) (bytes cut gap tail : List ℕ) (packets : List Packet) (s : ℕ × Step) (sessions new_sessions : List Session) (new : Place) → IsReading bytes sessions (Synced gap packets tail) → CutterStandsFor n (bytes ++ cut) new_sessions new
-    → Longer gap packets (s ∷ []) sessions new_sessions new → (let from : ℕ = next_word sessions (Synced gap packets tail) in (length bytes < from + 4) × (from + 4 ≡ length bytes + length cut))
+    → LongerSession gap packets (s ∷ []) sessions new_sessions new → (let from : ℕ = next_word sessions (Synced gap packets tail) in (length bytes < from + 4) × (from + 4 ≡ length bytes + length cut))
 one_word_ends n bytes cut gap tail packets s sessions new_sessions new r k l =
     let few : length tail < 4 = r.ends.3 in
     (omega (arith, next_word-is bytes sessions (Synced gap packets tail) r, few), omega (arith, words_place n (bytes ++ cut) gap tail packets (s ∷ []) sessions new_sessions new k l, length-append bytes cut))
 
 -- the words of a run end where its bytes do
-pub ends_words : (c n : CutterState) (bytes cut : List ℕ) (sessions : List Session) (place : Place) (run : Cut) (left : ℕ) → CutterStandsFor c bytes sessions place → Went c n (bytes ++ cut) sessions place run → IsRun run → IsLent c left run
+pub ends_words : (c n : CutterState) (bytes cut : List ℕ) (sessions : List Session) (place : Place) (run : Cut) (left : ℕ) → CutterStandsFor c bytes sessions place → AfterRun c n (bytes ++ cut) sessions place run → IsRun run → IsLent c left run
     → EndsWords run (next_word sessions place) (length bytes) (length cut)
 ends_words c n bytes cut sessions place Need left s w r k = tt
 ends_words c n bytes cut sessions place (Skip bs) left s w r k = tt
@@ -101,7 +101,7 @@ going_taken part kept bytes e = ap (λ (o : Option Stopped). history_by o (histo
 
 -- a run more
 pub turned : (part : PartData) (kept : Kept) (wrapped : Bool) (d e : DeviceState) (bytes cut more rest : List ℕ) (run : Cut) (count left room : ℕ) → DeviceStandsFor part kept wrapped d bytes → d.registers.stop ≡ None
-    → ((sessions : List Session) (place : Place) → CutterStandsFor d.cutter bytes sessions place → Went d.cutter e.cutter (bytes ++ cut) sessions place run)
+    → ((sessions : List Session) (place : Place) → CutterStandsFor d.cutter bytes sessions place → AfterRun d.cutter e.cutter (bytes ++ cut) sessions place run)
     → ((h : History) (from n : ℕ) → EndsWords run from n count → RegistersStandFor part kept d.registers h n → RegistersStandFor part kept e.registers (until (counted_in e.registers.stop (n + (count - left))) (entered_all from (run_steps run) h)) (n + (count - left)))
     → ((h : History) (from n : ℕ) → EndsWords run from n count → RegistersStandFor part kept d.registers h n
     → read_out part kept (until (counted_in e.registers.stop (n + (count - left))) (entered_all from (run_steps run) h))
@@ -114,7 +114,7 @@ turned part kept wrapped d e bytes cut more rest run count left room s going wen
     let old : history_taken part kept bytes ≡ history_of bytes = going_taken part kept bytes none in
     let before : RegistersStandFor part kept d.registers (history_of bytes) (length bytes) = subst (λ (h : History). RegistersStandFor part kept d.registers h (length bytes)) old s.registers_are in
     let cutter : IsCutterOf d.cutter bytes = s.cutter_is going in
-    let w : Went d.cutter e.cutter (bytes ++ cut) cutter.sessions cutter.place run = went cutter.sessions cutter.place cutter.stands in
+    let w : AfterRun d.cutter e.cutter (bytes ++ cut) cutter.sessions cutter.place run = went cutter.sessions cutter.place cutter.stands in
     let from : ℕ = next_word cutter.sessions cutter.place in
     let all : History = entered_all from (run_steps run) (history_of bytes) in
     let whole : history_of (bytes ++ cut) ≡ all = cut_enters d.cutter e.cutter bytes cut cutter.sessions cutter.place run from cutter.stands w (next_word-is bytes cutter.sessions cutter.place cutter.stands.reading) in

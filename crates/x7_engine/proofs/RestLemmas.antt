@@ -18,7 +18,7 @@ use Rattle.x7_engine.specs.Clock.{newest_place}
 use Rattle.x7_engine.specs.Kept.{is_fallback, on_the_bench}
 use Rattle.x7_flow.specs.Controls.{ctl0_held}
 use Rattle.x7_engine.specs.Registers.{is_pending}
-use Rattle.x7_engine.specs.Rest.{AtRest, GoesOn}
+use Rattle.x7_engine.specs.Rest.{AtRest, LastGapGoesOn}
 use Rattle.x7_engine.specs.Startup.{has_ended, phase_of, startup_calls, startup_progress}
 use Rattle.x7_flow.specs.Controls.{forbids_reading}
 use Rattle.x7_engine.specs.Stops.{Stopped, or_else, stop_of, stopped_by_watchdog}
@@ -29,7 +29,7 @@ use Rattle.x7_engine.proofs.TurnLemmas.{newest_within}
 
 -- ---- the reading and the history
 
-reading_on : (bytes more : List ℕ) → AreBytes (bytes ++ more) → (g : GoesOn bytes more) → IsReading (bytes ++ more) (reading_of bytes).sessions (Searching (g.gap ++ more))
+reading_on : (bytes more : List ℕ) → AreBytes (bytes ++ more) → (g : LastGapGoesOn bytes more) → IsReading (bytes ++ more) (reading_of bytes).sessions (Searching (g.gap ++ more))
 reading_on bytes more fits g =
     let sessions : List Session = (reading_of bytes).sessions in
     let now : IsReading bytes sessions (Searching g.gap) = subst (λ (p : Place). IsReading bytes sessions p) g.searching (reading_is_found bytes (all_front (λ b. b < 256) bytes more fits)) in
@@ -40,13 +40,13 @@ reading_on bytes more fits g =
       ends = g.none;
     }
 
-pub history_on : (bytes more : List ℕ) → AreBytes (bytes ++ more) → GoesOn bytes more → history_of (bytes ++ more) ≡ history_of bytes
+pub history_on : (bytes more : List ℕ) → AreBytes (bytes ++ more) → LastGapGoesOn bytes more → history_of (bytes ++ more) ≡ history_of bytes
 history_on bytes more fits g =
     let sessions : List Session = (reading_of bytes).sessions in
     let now : IsReading bytes sessions (Searching g.gap) = subst (λ (p : Place). IsReading bytes sessions p) g.searching (reading_is_found bytes (all_front (λ b. b < 256) bytes more fits)) in
     sym (history_is (bytes ++ more) sessions (Searching (g.gap ++ more)) (reading_on bytes more fits g)) ∙ history_is bytes sessions (Searching g.gap) now
 
-searching_on : (bytes more : List ℕ) → AreBytes (bytes ++ more) → GoesOn bytes more → is_synced (reading_of (bytes ++ more)).place ≡ false
+searching_on : (bytes more : List ℕ) → AreBytes (bytes ++ more) → LastGapGoesOn bytes more → is_synced (reading_of (bytes ++ more)).place ≡ false
 searching_on bytes more fits g =
     sym (ap is_synced (reading_is (bytes ++ more) (reading_of bytes).sessions (Searching (g.gap ++ more)) (reading_on bytes more fits g)).1)
 
@@ -80,7 +80,7 @@ startup_on part h n k l (inr e) =
 
 -- ---- at rest
 
-pub rest_on : (part : PartData) (kept : Kept) (bytes more : List ℕ) → AreBytes (bytes ++ more) → GoesOn bytes more → AtRest part kept bytes → AtRest part kept (bytes ++ more)
+pub rest_on : (part : PartData) (kept : Kept) (bytes more : List ℕ) → AreBytes (bytes ++ more) → LastGapGoesOn bytes more → AtRest part kept bytes → AtRest part kept (bytes ++ more)
 rest_on part kept bytes more fits g r =
     let h : History = history_of bytes in
     let n : ℕ = length bytes in

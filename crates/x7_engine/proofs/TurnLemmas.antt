@@ -18,7 +18,7 @@ use Rattle.x7_engine.specs.declared.kept.Kept.{Kept}
 use Rattle.x7_engine.specs.declared.stop.Stop.{Stop}
 use Rattle.x7_engine.specs.declared.stop.Stop.TheVariants as stop
 use Rattle.x7_engine.specs.Clock.{ClockState, Ticks, newest_place}
-use Rattle.x7_engine.specs.Standing.{FramesAre, IsNext, RegistersStandFor, RegistersState, counted_in, frames_due}
+use Rattle.x7_engine.specs.Standing.{FramesAre, IsNextAccess, RegistersStandFor, RegistersState, counted_in, frames_due}
 use Rattle.x7_engine.specs.State.{history_by, last_counted}
 use Rattle.x7_engine.specs.Stops.{Stopped, why_at, or_else, stop_of, stopped_at, stopped_by_watchdog}
 use Rattle.x7_engine.specs.Values.{read_out}
@@ -215,7 +215,7 @@ none_there None e = refl
 none_there (Some x) e = absurd cc
 
 -- an access may come next after some bytes more
-pub next_at : (n count : ℕ) (h : History) → 0 < count → Placed n h → IsNext (n + count) h
+pub next_at : (n count : ℕ) (h : History) → 0 < count → Placed n h → IsNextAccess (n + count) h
 next_at n count h l p = (omega (arith, l), placed_within n (n + count - 1) h (omega (arith, l)) p)
 
 pub until_all : (part : PartData) (kept : Kept) (d : RegistersState) (h : History) (m : ℕ) → counted_in d.stop m ≡ m → RegistersStandFor part kept d h m → until (counted_in d.stop m) h ≡ h

@@ -5,7 +5,7 @@ use Rattle.std.proofs.lemmas.List.{length-append, length-drop, take-append-drop,
 use Rattle.x7_packets.specs.Cutting.{between}
 use Rattle.x7_packets.specs.History.{Access, Bad, History, Read, Write, history_of}
 use Rattle.x7_part.specs.Part.{PartData}
-use Rattle.x7_engine.specs.ReadBuffer.{HasRoomBy, HasRoomForWords, HoldsFew, ReadBufState, gathered, with_words}
+use Rattle.x7_engine.specs.ReadBuffer.{HasRoomBy, HasRoomForWords, HoldsWithinMost, ReadBufState, gathered, with_words}
 use Rattle.x7_engine.specs.declared.kept.Kept.{Kept}
 use Rattle.x7_engine.specs.Standing.{DeviceStandsFor, DeviceState, NoWordDue, reads_given}
 use Rattle.x7_engine.specs.State.{history_by, reads_of, stop_in}
@@ -56,23 +56,23 @@ turn_piece part kept wrapped d e bytes piece from to k l m going due s after f m
     ap (reads_of part kept) (sym all) ∙ turn_reads_none part kept wrapped d e taken (between piece from to) going s after f j inside ∙ sym (told_all part kept d taken due)
 
 -- the words that a buffer got had room in it
-room_for : (b : ReadBufState) (more : List ℕ) → HoldsFew b.most (with_words b more).words → HasRoomForWords b more
+room_for : (b : ReadBufState) (more : List ℕ) → HoldsWithinMost b.most (with_words b more).words → HasRoomForWords b more
 room_for b more f = by b.most b.words more f
   where
-    by : (most : Option ℕ) (words more : List ℕ) → HoldsFew most (gathered most words more) → HasRoomBy most (length words + length more)
+    by : (most : Option ℕ) (words more : List ℕ) → HoldsWithinMost most (gathered most words more) → HasRoomBy most (length words + length more)
     by None words more f = tt
     by (Some most) words more f = omega (arith, f, length-append words more)
 
 -- the words told before and those that the buffer has got, at each byte of a turn but its last
 pub room_read_on : (part : PartData) (kept : Kept) (wrapped : Bool) (d e : DeviceState) (first read : ReadBufState) (bytes piece told : List ℕ) (from to : ℕ) → from ≤ to → to ≤ length piece → d.registers.stop ≡ None → NoWordDue d
     → DeviceStandsFor part kept wrapped d (bytes ++ take from piece) → DeviceStandsFor part kept wrapped e ((bytes ++ take from piece) ++ between piece from to) → CommandsLast (bytes ++ take from piece) (between piece from to)
-    → HoldsFew read.most read.words → ((more : List ℕ) × (read ≡ with_words first more) × (reads_given part kept d (bytes ++ take from piece) ≡ told ++ more))
+    → HoldsWithinMost read.most read.words → ((more : List ℕ) × (read ≡ with_words first more) × (reads_given part kept d (bytes ++ take from piece) ≡ told ++ more))
     → RoomBefore (record { part = part; kept = kept; wrapped = wrapped; bytes = bytes }) piece from told first → RoomBefore (record { part = part; kept = kept; wrapped = wrapped; bytes = bytes }) piece to told first
 room_read_on part kept wrapped d e first read bytes piece told from to l m going due s after f few now before = λ k n. elim (cases_lt k from) [
   | inl less ↦ before k less
   | inr more ↦ (
     now.0,
     turn_piece part kept wrapped d e bytes piece from to k l m going due s after f more n ∙ now.2,
-    room_for first now.0 (subst (λ (b : ReadBufState). HoldsFew b.most b.words) now.1 few),
+    room_for first now.0 (subst (λ (b : ReadBufState). HoldsWithinMost b.most b.words) now.1 few),
   )
 ]

@@ -6,14 +6,14 @@ use Rattle.x7_packets.specs.PacketWords.{type1_write}
 use Rattle.x7_packets.specs.declared.cutter.Cut.TheVariants as run
 use Rattle.x7_packets.specs.declared.header.Step.TheVariants as step
 use Rattle.x7_packets.specs.AtOnce.{WritesOne}
-use Rattle.x7_packets.specs.Cutting.{CutterState, CutterStandsFor, Went, between}
+use Rattle.x7_packets.specs.Cutting.{CutterState, CutterStandsFor, AfterRun, between}
 use Rattle.x7_packets.specs.History.{History, Placed, Write, entry, history_of, next_word, until}
 use Rattle.x7_packets.specs.Reading.{Place, Searching, Session, Synced}
 use Rattle.x7_packets.proofs.GrowthLemmas.{front_of, until_placed}
 use Rattle.x7_packets.proofs.HistoryLemmas.{cut_enters, next_word-is}
 use Rattle.x7_part.specs.Part.{PartData}
 use Rattle.x7_engine.specs.declared.kept.Kept.{Kept}
-use Rattle.x7_engine.specs.Standing.{DeviceStandsFor, DeviceState, IsCutterOf, IsNext, RegistersStandFor, counted_in, due_count}
+use Rattle.x7_engine.specs.Standing.{DeviceStandsFor, DeviceState, IsCutterOf, IsNextAccess, RegistersStandFor, counted_in, due_count}
 use Rattle.x7_engine.specs.State.{history_by, history_taken, reads_of, stop_in}
 use Rattle.x7_engine.specs.Stops.{stop_of, stopped_at}
 use Rattle.x7_engine.specs.UntilStarted.{CommandsLast}
@@ -24,7 +24,7 @@ use Rattle.x7_engine.proofs.FrameLemmas.{none_due}
 use Rattle.x7_engine.proofs.TurnLemmas.{history_until, newest_within, next_at, step_until, ticked}
 
 -- a payload word ends where its bytes do
-word_ends : (c n : CutterState) (bytes cut : List ℕ) (sessions : List Session) (place : Place) (register w : ℕ) → CutterStandsFor c bytes sessions place → Went c n (bytes ++ cut) sessions place (run.Word register w)
+word_ends : (c n : CutterState) (bytes cut : List ℕ) (sessions : List Session) (place : Place) (register w : ℕ) → CutterStandsFor c bytes sessions place → AfterRun c n (bytes ++ cut) sessions place (run.Word register w)
     → next_word sessions place + 4 ≡ length bytes + length cut
 word_ends c n bytes cut sessions (Searching gap) register w s t = absurd t.adds
 word_ends c n bytes cut sessions (Synced gap packets tail) register w s t =
@@ -40,8 +40,8 @@ written_one : (c n : CutterState) (bytes rest : List ℕ) (register w : ℕ) →
 written_one c n bytes rest register w cutter one =
     let head : List ℕ = bytes_of_word (type1_write register 1) in
     let word : List ℕ = bytes_of_word w in
-    let first : Went c one.between (bytes ++ head) cutter.sessions cutter.place (run.Head (type1_write register 1) (step.Open register 1)) = one.head bytes cutter.sessions cutter.place cutter.stands in
-    let next : Went one.between n ((bytes ++ head) ++ word) first.new_sessions first.new_place (run.Word register w) = one.word (bytes ++ head) first.new_sessions first.new_place first.stands in
+    let first : AfterRun c one.between (bytes ++ head) cutter.sessions cutter.place (run.Head (type1_write register 1) (step.Open register 1)) = one.head bytes cutter.sessions cutter.place cutter.stands in
+    let next : AfterRun one.between n ((bytes ++ head) ++ word) first.new_sessions first.new_place (run.Word register w) = one.word (bytes ++ head) first.new_sessions first.new_place first.stands in
     let joined : (bytes ++ head) ++ word ≡ bytes ++ take 8 rest = append_assoc bytes head word ∙ ap (λ (t : List ℕ). bytes ++ t) (sym one.bytes) in
     let quiet : history_of (bytes ++ head) ≡ history_of bytes =
     cut_enters c one.between bytes head cutter.sessions cutter.place (run.Head (type1_write register 1) (step.Open register 1)) (next_word cutter.sessions cutter.place) cutter.stands first (next_word-is bytes cutter.sessions cutter.place cutter.stands.reading) in
@@ -70,7 +70,7 @@ written_last bytes more register w count fits placed longer = λ k l.
 -- the device after the write of one word
 pub write_taken : (part : PartData) (kept : Kept) (wrapped : Bool) (d e : DeviceState) (bytes rest : List ℕ) (register w : ℕ) → DeviceStandsFor part kept wrapped d bytes → d.registers.stop ≡ None
     → d.registers.clock.startup.begun ≡ None → d.registers.clock.watchdog.limit ≡ 0 → WritesOne d.cutter e.cutter rest register w
-    → ((h : History) (place : ℕ) → IsNext place h → RegistersStandFor part kept d.registers h place → RegistersStandFor part kept e.registers (entry (Write register w) place ∷ h) place)
+    → ((h : History) (place : ℕ) → IsNextAccess place h → RegistersStandFor part kept d.registers h place → RegistersStandFor part kept e.registers (entry (Write register w) place ∷ h) place)
     → ((n : ℕ) → counted_in e.registers.stop n ≡ n) → due_count e.registers.due ≡ 0 → e.part ≡ d.part → e.wrapped ≡ d.wrapped → e.taken ≡ d.taken + 8
     → DeviceStandsFor part kept wrapped e (bytes ++ take 8 rest) × (reads_of part kept (bytes ++ take 8 rest) ≡ reads_of part kept bytes) × CommandsLast bytes (take 8 rest)
 write_taken part kept wrapped d e bytes rest register w s going begun limit one write counts due p y t =
@@ -113,7 +113,7 @@ write_taken part kept wrapped d e bytes rest register w s going begun limit one 
 -- the device after the write of one word at a place of a piece
 pub write_at : (part : PartData) (kept : Kept) (wrapped : Bool) (d e : DeviceState) (bytes piece : List ℕ) (from register w : ℕ) → DeviceStandsFor part kept wrapped d bytes → d.registers.stop ≡ None
     → d.registers.clock.startup.begun ≡ None → d.registers.clock.watchdog.limit ≡ 0 → WritesOne d.cutter e.cutter (take (length piece - from) (drop from piece)) register w
-    → ((h : History) (place : ℕ) → IsNext place h → RegistersStandFor part kept d.registers h place → RegistersStandFor part kept e.registers (entry (Write register w) place ∷ h) place)
+    → ((h : History) (place : ℕ) → IsNextAccess place h → RegistersStandFor part kept d.registers h place → RegistersStandFor part kept e.registers (entry (Write register w) place ∷ h) place)
     → ((n : ℕ) → counted_in e.registers.stop n ≡ n) → due_count e.registers.due ≡ 0 → e.part ≡ d.part → e.wrapped ≡ d.wrapped → e.taken ≡ d.taken + 8
     → (let more : List ℕ = between piece from (from + 8) in DeviceStandsFor part kept wrapped e (bytes ++ more) × (reads_of part kept (bytes ++ more) ≡ reads_of part kept bytes) × CommandsLast bytes more)
 write_at part kept wrapped d e bytes piece from register w s going begun limit one write counts due p y t =

@@ -45,7 +45,7 @@ abbrev pub TicksOn : PartData → ClockState → ClockState → ℕ → Option �
 TicksOn part old new count result = (kept : Kept) (h : History) (n : ℕ) → newest_place h ≤ n → IsClock part kept old h n → Ticks (course_at part kept h n) new count result
 
 -- at each of `count` bytes more startup has ended, or at none, and `clock` is the clock before them
-pub record AreAlike (c : Course) (clock : ClockState) (count : ℕ) (ended : Bool) : Type 0 where
+pub record AreEndedAlike (c : Course) (clock : ClockState) (count : ℕ) (ended : Bool) : Type 0 where
   pub newest : newest_place c.history ≤ c.taken
   pub each : (i : ℕ) → i < count → has_ended c.part c.history (c.taken + i + 1) ≡ ended
   pub stands : IsClock c.part c.kept clock c.history c.taken

@@ -11,7 +11,7 @@ use Rattle.x7_part.specs.Part.{PartData}
 use Rattle.x7_engine.specs.declared.due.Due.{Due}
 use Rattle.x7_engine.specs.declared.kept.Kept.{Kept}
 use Rattle.x7_engine.specs.declared.registers.Registers.{Registers}
-use Rattle.x7_engine.specs.Standing.{EndsWords, IsNext, RegistersStandFor, RegistersState, counted_in, registers_in, words_left}
+use Rattle.x7_engine.specs.Standing.{EndsWords, IsNextAccess, RegistersStandFor, RegistersState, counted_in, registers_in, words_left}
 use Rattle.x7_engine.specs.Values.{answer_of, read_out}
 
 -- what holds of what the registers stand for: what the reset kept, the history, and the number of bytes
@@ -26,8 +26,8 @@ pub record HaveHistory (part : PartData) (d : RegistersState) : Type 0 where
   pub stands : RegistersStandFor part kept d history taken
 
 -- a longer history, by the place at which its accesses begin
-abbrev pub Longer : Type 0
-Longer = ℕ → History → History
+abbrev pub Extension : Type 0
+Extension = ℕ → History → History
 
 -- the registers of a part's device before and after a call
 pub record Change : Type 0 where
@@ -40,27 +40,27 @@ abbrev pub change_of : PartData → Registers → Registers → Change
 change_of part old new = record { part = part; old = registers_in old; new = registers_in new }
 
 -- `taken` bytes were taken, and the history that the registers stand for became the longer one
-abbrev pub Enters : Change → Longer → ℕ → Type 0
+abbrev pub Enters : Change → Extension → ℕ → Type 0
 Enters x longer taken = OfHistory x.part x.old (λ kept h n. RegistersStandFor x.part kept x.new (longer n h) (n + taken))
 
 -- the longer history up to the stop, where one came
-abbrev pub up_to_stop : RegistersState → Longer → ℕ → Longer
+abbrev pub up_to_stop : RegistersState → Extension → ℕ → Extension
 up_to_stop new longer taken n h = until (counted_in new.stop (n + taken)) (longer n h)
 
 -- where a condition holds, `taken` bytes were taken, and the history that the registers stand for became the longer one
-abbrev pub EntersIf : Type 0 → Change → Longer → ℕ → Type 0
+abbrev pub EntersIf : Type 0 → Change → Extension → ℕ → Type 0
 EntersIf Condition x longer taken = (kept : Kept) (h : History) (n : ℕ) → Condition → RegistersStandFor x.part kept x.old h n → RegistersStandFor x.part kept x.new (longer n h) (n + taken)
 
 -- an access entered at the next place
-abbrev pub EntersAt : Change → Longer → Type 0
-EntersAt x longer = (kept : Kept) (h : History) (place : ℕ) → IsNext place h → RegistersStandFor x.part kept x.old h place → RegistersStandFor x.part kept x.new (longer place h) place
+abbrev pub EntersAt : Change → Extension → Type 0
+EntersAt x longer = (kept : Kept) (h : History) (place : ℕ) → IsNextAccess place h → RegistersStandFor x.part kept x.old h place → RegistersStandFor x.part kept x.new (longer place h) place
 
 -- the longer history reads out the words that are due, and no others
 abbrev pub AreRead : PartData → Kept → History → History → Due → Type 0
 AreRead part kept h longer due = read_out part kept longer ≡ read_out part kept h ++ words_left part longer due
 
 -- where a condition holds, the longer history reads out the words that are then due, and no others
-abbrev pub ReadsIf : Type 0 → Change → Longer → Type 0
+abbrev pub ReadsIf : Type 0 → Change → Extension → Type 0
 ReadsIf Condition x longer = (kept : Kept) (h : History) (n : ℕ) → Condition → RegistersStandFor x.part kept x.old h n → AreRead x.part kept h (longer n h) x.new.due
 
 -- the words that an access reads out are those due
@@ -70,19 +70,19 @@ AreAnswer part kept h e due = answer_of part kept h e.access e.place ≡ words_l
 -- ---- words and runs
 
 -- words written to a register, four bytes each
-abbrev pub words_entered : ℕ → List ℕ → Longer
+abbrev pub words_entered : ℕ → List ℕ → Extension
 words_entered register bytes n h = entered_all n (payload_steps register (words_of_bytes bytes)) h
 
 -- a word written to a register, which ends `count` bytes further
-abbrev pub word_entered : ℕ → ℕ → ℕ → Longer
+abbrev pub word_entered : ℕ → ℕ → ℕ → Extension
 word_entered register word count n h = entry (Write register word) (n + count) ∷ h
 
 -- the step of a word in a header's place, which ends `count` bytes further
-abbrev pub step_entered : Step → ℕ → Longer
+abbrev pub step_entered : Step → ℕ → Extension
 step_entered step count n h = entered (n + count) step h
 
 -- a read of a register
-abbrev pub read_entered : ℕ → ℕ → Longer
+abbrev pub read_entered : ℕ → ℕ → Extension
 read_entered register count place h = entry (Read register count) place ∷ h
 
 -- the words of a run, the first of which begins at `from`

@@ -40,9 +40,9 @@ abbrev pub IsFull : ReadBufState → Type 0
 IsFull b = IsFullBy b.most (length b.words)
 
 -- a gathering buffer holds its most at most, and a dropping one nothing
-abbrev pub HoldsFew : Option ℕ → List ℕ → Type 0
-HoldsFew None words = words ≡ []
-HoldsFew (Some most) words = length words ≤ most
+abbrev pub HoldsWithinMost : Option ℕ → List ℕ → Type 0
+HoldsWithinMost None words = words ≡ []
+HoldsWithinMost (Some most) words = length words ≤ most
 
 -- where a buffer has its words: nowhere (it drops each, or has room for none), in place, or in a vector with room for the most
 abbrev pub words_in : Room → List ℕ
@@ -59,8 +59,8 @@ most_in (room.One words) = Some 1
 most_in (room.Many words most) = Some most
 
 -- a buffer's words are no more than its most, for which there is memory
-abbrev pub HasRoom : Room → Type 0
-HasRoom room.Nothing = Unit {0}
-HasRoom room.Full = Unit {0}
-HasRoom (room.One words) = length words ≤ 1
-HasRoom (room.Many words most) = (vec_len words ≤ most) × (most ≤ vec_capacity words)
+abbrev pub HasRoomForMost : Room → Type 0
+HasRoomForMost room.Nothing = Unit {0}
+HasRoomForMost room.Full = Unit {0}
+HasRoomForMost (room.One words) = length words ≤ 1
+HasRoomForMost (room.Many words most) = (vec_len words ≤ most) × (most ≤ vec_capacity words)

@@ -25,7 +25,7 @@ pub record AtRest (part : PartData) (kept : Kept) (bytes : List ℕ) : Type 0 wh
   pub no_watchdog : (turns_on (timer_held kept (history_of bytes)) && not (is_fallback kept.kind)) ≡ false
 
 -- the bytes end in a gap, and the gap goes on through the bytes `more` without a sync word
-pub record GoesOn (bytes more : List ℕ) : Type 0 where
+pub record LastGapGoesOn (bytes more : List ℕ) : Type 0 where
   pub gap : List ℕ
   pub searching : (reading_of bytes).place ≡ Searching gap
   pub none : HasNoSync (gap ++ more)

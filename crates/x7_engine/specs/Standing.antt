@@ -155,8 +155,8 @@ pub record IsProgress (idcode : ℕ) (d : ProgressState) (h : History) : Type 0 
   pub iprog : d.iprog ≡ wrote_iprog h
 
 -- an access may come next at this place
-abbrev pub IsNext : ℕ → History → Type 0
-IsNext place h = (0 < place) × Placed (place - 1) h
+abbrev pub IsNextAccess : ℕ → History → Type 0
+IsNextAccess place h = (0 < place) × Placed (place - 1) h
 
 -- The registers are those of a history with n bytes taken: there is no stop in them, or it came at the last one. A word that ends at a firing of the watchdog is not of the history.
 pub record RegistersStandFor (part : PartData) (kept : Kept) (d : RegistersState) (h : History) (n : ℕ) : Type 0 where

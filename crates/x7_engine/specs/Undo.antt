@@ -72,7 +72,7 @@ pub record KeepsValues (u : UndoState) (d : DeviceState) : Type 0 where
   pub taken : u.taken ≡ d.taken
 
 -- a device is kept: its values, and the frame that its next word or copy would change
-pub record Keeps (u : UndoState) (d : DeviceState) : Type 0 where
+pub record KeepsDevice (u : UndoState) (d : DeviceState) : Type 0 where
   pub values : KeepsValues u d
   pub frames : KeepsFrames d.part u.frames d.registers.frames
   pub frames_fit : FramesFit d.part d.registers.frames
@@ -88,7 +88,7 @@ pub record TookFewSince (u : UndoState) (d : DeviceState) : Type 0 where
   pub past : Past
   pub more : List ℕ
   pub old : DeviceState
-  pub keeps : Keeps u old
+  pub keeps : KeepsDevice u old
   pub none_due : NoWordDue old
   pub few : length more ≤ 4
   pub had : HasPast old past

@@ -5,7 +5,7 @@ ghost use Rattle.x7_part.specs.Part.{PartData};
 ghost use Rattle.x7_flow.specs.Standing.{word_to, written_to};
 ghost use Rattle.x7_startup.specs.Calls.{Call, StandsFor, ticks_of};
 ghost use Rattle.x7_startup.specs.Count.{WatchCall, WatchesFor};
-ghost use Rattle.x7_engine.specs.Clock.{AreAlike, HasEndedBy, TakesEntry, Ticks, TicksOn, newest_place, startup_call_by, watch_call_by};
+ghost use Rattle.x7_engine.specs.Clock.{AreEndedAlike, HasEndedBy, TakesEntry, Ticks, TicksOn, newest_place, startup_call_by, watch_call_by};
 ghost use Rattle.x7_engine.specs.Course.{course_at};
 ghost use Rattle.x7_engine.specs.Kept.{is_fallback};
 ghost use Rattle.x7_engine.specs.Registers.{IsWrite};
@@ -164,7 +164,7 @@ impl Clock {
     /// Takes bytes, in each of which startup has ended or in none, up to the one at which the watchdog fires.
     fn alike(&mut self, part: &Part, count: usize, eos: bool) -> Option<usize>
         ensures within { IfSome result (λ k. (0 < k) × (k ≤ count)) }
-        ensures ticks { (kept : Kept) (h : History) (n : ℕ) → AreAlike (course_at part.now kept h n) (clock_in self.old) count eos
+        ensures ticks { (kept : Kept) (h : History) (n : ℕ) → AreEndedAlike (course_at part.now kept h n) (clock_in self.old) count eos
             → Ticks (course_at part.now kept h n) (clock_in self.new) count result }
     {
         let Some(k) = self.watchdog.bytes(count as u64, eos) else {

@@ -7,7 +7,7 @@ ghost use Rattle.x7_memory.specs.Frames.{AreFramesOf, frame_at};
 ghost use Rattle.x7_engine.specs.UntilRead.{RoomBefore};
 ghost use Rattle.x7_engine.specs.Kept.{on_the_bench};
 ghost use Rattle.x7_engine.specs.Readout.{Gives};
-ghost use Rattle.x7_engine.specs.ReadBuffer.{HoldsFew, IsFull};
+ghost use Rattle.x7_engine.specs.ReadBuffer.{HoldsWithinMost, IsFull};
 ghost use Rattle.x7_engine.specs.Standing.{DeviceStandsFor, MayWrap, NoWordDue, due_count, fed_by, fed_more, fed_of, frames_due, taken_in, with_wrap};
 ghost use Rattle.x7_engine.specs.State.{attempt_in, end_by, kept_after, why_of, memory_in, state_owing};
 ghost use Rattle.x7_engine.specs.Stops.{fault_of};
@@ -211,7 +211,7 @@ impl Device {
         requires going { self.old.registers.stop ≡ None }
         ensures none_left { IsTrue result ↔ NoWordDue self.new }
         ensures full { 0 < due_count self.new.registers.due → IsFull read.new }
-        ensures few { HoldsFew read.new.most read.new.words }
+        ensures few { HoldsWithinMost read.new.most read.new.words }
         ensures going { self.new.registers.stop ≡ None }
         ensures taken { self.new.taken ≡ self.old.taken }
         ensures part { self.new.part ≡ self.old.part }
@@ -320,7 +320,7 @@ impl Device {
         ensures stands { TakesJust self.old self.new (part_taken piece.now result) }
         ensures answer { AnswersFor self.old self.new (part_taken piece.now result) read.new result }
         ensures reads { GivesWordsNext self.old self.new (part_taken piece.now result) read.old read.new }
-        ensures few { HoldsFew read.new.most read.new.words }
+        ensures few { HoldsWithinMost read.new.most read.new.words }
         ensures first { OfPast self.old (λ p. RoomBefore p piece.now (taken_in (length piece.now) result) (reads_given_at self.old p) read.old) }
         ensures stopped { OfPast self.old (λ p. IsSome (stop_at p) → (self.new ≡ self.old) × (read.new ≡ read.old) × (taken_in (length piece.now) result ≡ 0)) }
         ensures stays { (why : Stop) → self.old.registers.stop ≡ Some why → (self.new ≡ self.old) × (read.new ≡ read.old) × (result ≡ fed_by why 0) }

@@ -15,7 +15,7 @@ ghost use Rattle.x7_flow.specs.Controls.{masked, same_idcode};
 ghost use Rattle.x7_flow.specs.Standing.{word_to};
 ghost use Rattle.x7_engine.specs.Registers.{HasMaskedBits, cor0_held, has_ghigh, clears_check, is_pending, takes_shutdown};
 ghost use Rattle.x7_engine.specs.Past.{HasStoppedBefore, IsAttempt, OfPast, Past, StandsBefore, cause_in, due_at, history_at, later, memory_at, reads_at, state_at, stop_at, taken_at, reads_given_at};
-ghost use Rattle.x7_engine.specs.Rest.{AtRest, GoesOn};
+ghost use Rattle.x7_engine.specs.Rest.{AtRest, LastGapGoesOn};
 ghost use Rattle.x7_engine.specs.Sequence.{Begins, HasGhigh, IsPending};
 ghost use Rattle.x7_engine.specs.Standing.{DeviceState, NoWordDue};
 ghost use Rattle.x7_engine.specs.Startup.{phase_of, startup_progress};
@@ -85,8 +85,8 @@ pub fn checks_before_startup()
 
 /// A device at rest stays so over bytes without a sync word, which enter no access; and a new one is at rest.
 pub fn rest_lasts()
-    ensures stays { (part : PartData) (kept : Kept) (bytes more : List ℕ) → AreBytes (bytes ++ more) → GoesOn bytes more → AtRest part kept bytes → AtRest part kept (bytes ++ more) }
-    ensures history { (bytes more : List ℕ) → AreBytes (bytes ++ more) → GoesOn bytes more → history_of (bytes ++ more) ≡ history_of bytes }
+    ensures stays { (part : PartData) (kept : Kept) (bytes more : List ℕ) → AreBytes (bytes ++ more) → LastGapGoesOn bytes more → AtRest part kept bytes → AtRest part kept (bytes ++ more) }
+    ensures history { (bytes more : List ℕ) → AreBytes (bytes ++ more) → LastGapGoesOn bytes more → history_of (bytes ++ more) ≡ history_of bytes }
     ensures new { (part : PartData) → AtRest part on_the_bench [] }
 {}
 

@@ -1,6 +1,6 @@
 //! Words read out of a device.
 ghost use Rattle.std.specs.Prelude.{◌≡◌, ◌≤◌, ◌<◌, ◌-◌, ◌∷◌, [], false, length, replicate, ◌==◌, ℕ, List, IfOk, IsTrue, Some, None};
-ghost use Rattle.x7_engine.specs.ReadBuffer.{HoldsFew, IsFull, no_room, with_words};
+ghost use Rattle.x7_engine.specs.ReadBuffer.{HoldsWithinMost, IsFull, no_room, with_words};
 
 use std::alloc::Global;
 use std::marker::Model;
@@ -80,13 +80,13 @@ pub struct ReadBuf {
 }
 
 impl Model for ReadBuf {
-    ghost use Rattle.x7_engine.specs.ReadBuffer.{ReadBufState, most_in, words_in, HasRoom};
+    ghost use Rattle.x7_engine.specs.ReadBuffer.{ReadBufState, most_in, words_in, HasRoomForMost};
 
     ghost Value = { ReadBufState };
 
     ghost view = { λ b. record { most = most_in b.room; words = words_in b.room } };
 
-    ghost invariant = { λ b. HasRoom b.room };
+    ghost invariant = { λ b. HasRoomForMost b.room };
 }
 
 impl ReadBuf {
@@ -131,7 +131,7 @@ impl ReadBuf {
     /// The words gathered since the buffer was made or cleared.
     pub fn words(&self) -> &[u32]
         ensures now { result.now ≡ self.now.words }
-        ensures few { HoldsFew self.now.most result.now }
+        ensures few { HoldsWithinMost self.now.most result.now }
     {
         match &self.room {
             Room::Nothing | Room::Full => &[],
@@ -153,7 +153,7 @@ impl ReadBuf {
 
     /// A buffer never holds more words than its most. The call is for proofs alone, and does nothing.
     pub(crate) fn holds_few(&self)
-        ensures { HoldsFew self.now.most self.now.words }
+        ensures { HoldsWithinMost self.now.most self.now.words }
     {
         // the words are what it rests on
         let _words = self.words();

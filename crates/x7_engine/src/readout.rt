@@ -3,7 +3,7 @@ ghost use Rattle.std.specs.Prelude.{◌≡◌, ◌≤◌, ◌<◌, ℕ, IsTrue, 
 ghost use Rattle.x7_packets.specs.History.{History};
 ghost use Rattle.x7_flow.specs.Standing.{FramesFit, FramesStandFor, HaveDue, read_entry, words_due};
 ghost use Rattle.x7_engine.specs.Readout.{GotAllBut};
-ghost use Rattle.x7_engine.specs.ReadBuffer.{HoldsFew, IsFull};
+ghost use Rattle.x7_engine.specs.ReadBuffer.{HoldsWithinMost, IsFull};
 ghost use Rattle.x7_engine.specs.Ready.{AreReady, RestsAtStop};
 ghost use Rattle.x7_engine.specs.Standing.{due_count};
 ghost use Rattle.x7_engine.specs.Entering.{AreAnswer, EntersAt, HaveHistory, OfHistory, change_of, read_entered};
@@ -103,7 +103,7 @@ impl Registers {
         requires history { HaveHistory part.now (registers_in self.old) }
         ensures none_left { IsTrue result ↔ (due_count self.new.due ≡ 0) }
         ensures full { 0 < due_count self.new.due → IsFull read.new }
-        ensures few { HoldsFew read.new.most read.new.words }
+        ensures few { HoldsWithinMost read.new.most read.new.words }
         ensures going { self.new.stop ≡ None }
         ensures frames { FramesFit part.now self.new.frames }
         ensures given { OfHistory part.now (registers_in self.old) (λ kept h n. Gave (course_at part.now kept h n) (registers_in self.old) (registers_in self.new) read.old read.new) }

@@ -11,7 +11,7 @@ use Rattle.x7_flow.specs.Settings.{Settings, held_after, settings_from}
 use Rattle.x7_flow.specs.Flow.{Flow, asked, flow_by, write_asked}
 use Rattle.x7_flow.specs.FrameMemory.{puts}
 use Rattle.x7_flow.specs.Later.{flow_from, flow_loaded, pairs_from, pairs_loaded}
-use Rattle.x7_flow.specs.Alike.{AreAlike, MasksFirst, sets_mask}
+use Rattle.x7_flow.specs.Alike.{AreSameButForMask, MasksFirst, sets_mask}
 
 -- ---- settings
 
@@ -33,8 +33,8 @@ mask_same (Write r w) b m n p e = by (r == 6) e
 mask_same (Read r count) b m n p e = p e
 mask_same (Bad w) b m n p e = p e
 
-pub settings_alike : (idcode : ℕ) (s t : Settings) (later : History) → AreAlike s t → MasksFirst later →
-    AreAlike (settings_from idcode s later) (settings_from idcode t later) × (sets_mask later ≡ true → (settings_from idcode s later).mask ≡ (settings_from idcode t later).mask)
+pub settings_alike : (idcode : ℕ) (s t : Settings) (later : History) → AreSameButForMask s t → MasksFirst later →
+    AreSameButForMask (settings_from idcode s later) (settings_from idcode t later) × (sets_mask later ≡ true → (settings_from idcode s later).mask ≡ (settings_from idcode t later).mask)
 unfolding settings_from
 settings_alike idcode s t [] a m = (a, λ e. absurd cc)
 settings_alike idcode s t (e ∷ later) a m =
@@ -52,7 +52,7 @@ settings_alike idcode s t (e ∷ later) a m =
 
 -- ---- what is asked, the flow and the pairs
 
-asked_alike : (s t : Settings) (access : Access) → AreAlike s t → asked s access ≡ asked t access
+asked_alike : (s t : Settings) (access : Access) → AreSameButForMask s t → asked s access ≡ asked t access
 asked_alike s t (Write r w) a =
     let by : Bool → ℕ → ℕ → Asked = λ b c d. write_asked (record { matched = b; mask = 0; ctl0 = c; held = d }) r w in
     ap (λ (b : Bool). by b s.ctl0 s.held) a.matched_same ∙ ap (λ (c : ℕ). by t.matched c s.held) a.ctl0_same ∙ ap (λ (d : ℕ). by t.matched t.ctl0 d) a.held_same
@@ -61,7 +61,7 @@ asked_alike s t (Read r count) a =
     ap (λ (c : ℕ). by c s.held) a.ctl0_same ∙ ap (λ (d : ℕ). by t.ctl0 d) a.held_same
 asked_alike s t (Bad w) a = refl
 
-pub flow_alike : (part : PartData) (s t : Settings) (f : Flow) (later : History) → AreAlike s t → MasksFirst later → flow_from part s f later ≡ flow_from part t f later
+pub flow_alike : (part : PartData) (s t : Settings) (f : Flow) (later : History) → AreSameButForMask s t → MasksFirst later → flow_from part s f later ≡ flow_from part t f later
 unfolding flow_from
 flow_alike part s t f [] a m = refl
 flow_alike part s t f (e ∷ later) a m =
@@ -70,7 +70,7 @@ flow_alike part s t f (e ∷ later) a m =
     ap (λ (q : Asked). flow_by part q (flow_from part s f later)) (asked_alike x y e.access (settings_alike part.idcode s t later a m.1).0)
     ∙ ap (flow_by part (asked y e.access)) (flow_alike part s t f later a m.1)
 
-pub pairs_alike : (part : PartData) (s t : Settings) (f : Flow) (later : History) → AreAlike s t → MasksFirst later → pairs_from part s f later ≡ pairs_from part t f later
+pub pairs_alike : (part : PartData) (s t : Settings) (f : Flow) (later : History) → AreSameButForMask s t → MasksFirst later → pairs_from part s f later ≡ pairs_from part t f later
 unfolding pairs_from
 pairs_alike part s t f [] a m = refl
 pairs_alike part s t f (e ∷ later) a m =
@@ -80,7 +80,7 @@ pairs_alike part s t f (e ∷ later) a m =
     ∙ ap (λ (g : Flow). puts part (asked y e.access) g ++ pairs_from part s f later) (flow_alike part s t f later a m.1)
     ∙ ap (λ (ps : List PlanRow). puts part (asked y e.access) (flow_from part t f later) ++ ps) (pairs_alike part s t f later a m.1)
 
-pub loaded_alike : (part : PartData) (s t : Settings) (source : Option (List ℕ)) (w : ℕ) (later : History) → AreAlike s t → MasksFirst later → pairs_loaded part s source w later ≡ pairs_loaded part t source w later
+pub loaded_alike : (part : PartData) (s t : Settings) (source : Option (List ℕ)) (w : ℕ) (later : History) → AreSameButForMask s t → MasksFirst later → pairs_loaded part s source w later ≡ pairs_loaded part t source w later
 loaded_alike part s t source w later a m =
     ap (λ (held : ℕ). pairs_from part s (record { command = command_with held; base = loaded_base part w; run = []; source = source; given = 0 }) later) a.held_same
     ∙ pairs_alike part s t (flow_loaded part t source w) later a m

@@ -22,7 +22,7 @@ use Rattle.x7_pipeline.specs.Runs.{written_frames, put_over, Lands}
 use Rattle.x7_pipeline.specs.FarAsRead.{has_frame_at, loaded_base}
 use Rattle.x7_pipeline.specs.Copies.{copied, is_mfw}
 use Rattle.x7_pipeline.specs.Faults.{address_fault, copy_fault, drop_fault, read_fault}
-use Rattle.x7_pipeline.specs.Flow.{GoesOn, HoldsFlow, LandsAt, OfFlow, after_reads, after_words, begun_at, begun_by, copied_by, fault_of_copy}
+use Rattle.x7_pipeline.specs.Flow.{FlowGoesOn, HoldsFlow, LandsAt, OfFlow, after_reads, after_words, begun_at, begun_by, copied_by, fault_of_copy}
 use Rattle.x7_pipeline.specs.Pipeline.{AreOf, PipelineData}
 use Rattle.x7_pipeline.specs.Readback.{read_at, read_slot, word_at, word_of}
 use Rattle.x7_flow.specs.Asked.{Asked, Load, Order, Word, Copies, Reads, Other}
@@ -38,7 +38,7 @@ abbrev given_so : Flow → ℕ → Flow
 given_so f n = record f { given = n }
 
 pub did_load : (part : PartData) (p q : PipelineData) (frames : List (List ℕ)) (w : ℕ) →
-    ((part : PartData) → GoesOn part p q (begun_at (loaded_base part w))) →
+    ((part : PartData) → FlowGoesOn part p q (begun_at (loaded_base part w))) →
     Did part (Load w) (frames_state p frames) (frames_state q frames)
 did_load part p q frames w stands = record {
   flow = λ f h. record { stands = stands part f h.stands; nowhere = λ e. refl };
@@ -46,7 +46,7 @@ did_load part p q frames w stands = record {
 }
 
 pub did_order : (part : PartData) (p q : PipelineData) (frames : List (List ℕ)) (c : Command) →
-    GoesOn part p q (begun_by part c) →
+    FlowGoesOn part p q (begun_by part c) →
     Did part (Order c) (frames_state p frames) (frames_state q frames)
 did_order part p q frames c stands = record {
   flow = λ f h. record { stands = stands f h.stands; nowhere = λ e. refl };
@@ -59,7 +59,7 @@ word_memory part base w run old new l =
     rw (← same) l.memory
 
 pub did_word : (part : PartData) (p q : PipelineData) (old new : List (List ℕ)) (w : ℕ) →
-    GoesOn part p q (after_words (w ∷ [])) →
+    FlowGoesOn part p q (after_words (w ∷ [])) →
     OfFlow part p (λ f. LandsAt part f (w ∷ []) (frame_at part old) (frame_at part new)) →
     Did part (Word w) (frames_state p old) (frames_state q new)
 did_word part p q old new w stands lands = record {
@@ -164,7 +164,7 @@ read_begins part p frames e h count a t are =
 -- the next of the words due
 pub read_next : (part : PartData) (p q : PipelineData) (frames : List (List ℕ)) (h : History) (due word : ℕ) → AreFramesAfter part p frames h (due + 1) →
     OfFlow part p (λ f. word ≡ read_at part f.base (frame_at part frames) f.given) →
-    GoesOn part p q (after_reads 1) →
+    FlowGoesOn part p q (after_reads 1) →
     AreFramesAfter part q frames h due × (words_due part h (suc due) ≡ word ∷ words_due part h due)
 read_next part p q frames h due word are is stands =
     let f : Flow = flow_of part h in
@@ -199,7 +199,7 @@ due_somewhere part p frames h due are = by (has_frame_at part (base_of part h)) 
 
 -- this many of the words due are passed over
 pub read_past : (part : PartData) (p q : PipelineData) (frames : List (List ℕ)) (h : History) (due count : ℕ) → AreFramesAfter part p frames h (due + count) →
-    GoesOn part p q (after_reads count) →
+    FlowGoesOn part p q (after_reads count) →
     AreFramesAfter part q frames h due
 read_past part p q frames h due count are stands =
     let f : Flow = flow_of part h in

@@ -6,7 +6,7 @@ use Rattle.x7_regs.specs.Register.{number_of}
 use Rattle.x7_flow.specs.Settings.{Settings}
 
 -- two settings are the same but for MASK
-pub record AreAlike (s t : Settings) : Type 0 where
+pub record AreSameButForMask (s t : Settings) : Type 0 where
   pub matched_same : s.matched ≡ t.matched
   pub ctl0_same : s.ctl0 ≡ t.ctl0
   pub held_same : s.held ≡ t.held

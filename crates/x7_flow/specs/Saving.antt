@@ -15,7 +15,7 @@ pub record KeepsFrames (part : PartData) (s : SavedState) (f : FramesState) : Ty
   pub pair : s.pair ≡ pair_at (frame_at part f.memory) (next_put part f.pipeline)
 
 -- the old frames are kept, and the old and the new frames are the part's
-pub record AreKept (part : PartData) (s : SavedState) (old new : FramesState) : Type 0 where
+pub record FramesAreKept (part : PartData) (s : SavedState) (old new : FramesState) : Type 0 where
   pub keeps : KeepsFrames part s old
   pub old_fit : FramesFit part old
   pub new_fit : FramesFit part new

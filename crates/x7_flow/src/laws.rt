@@ -10,7 +10,7 @@ ghost use Rattle.x7_pipeline.specs.Flow.{LandsAt, after_words};
 ghost use Rattle.x7_pipeline.specs.Runs.{written_frames, onto};
 ghost use Rattle.x7_pipeline.specs.Saving.{SavedState};
 ghost use Rattle.x7_pipeline.specs.declared.fault.RunFault.{RunFault};
-ghost use Rattle.x7_flow.specs.Alike.{AreAlike, MasksFirst};
+ghost use Rattle.x7_flow.specs.Alike.{AreSameButForMask, MasksFirst};
 ghost use Rattle.x7_flow.specs.Flow.{Flow, HasAddress, asks, base_of, begins, far_read, flow_of, frame_fault, count_given, is_copy, is_read, is_word, run_of, source_of};
 ghost use Rattle.x7_flow.specs.FrameAccess.{copies_frame, reads_frame_data, writes_frame_data};
 ghost use Rattle.x7_flow.specs.FrameMemory.{written_frames_more, memory_of};
@@ -20,7 +20,7 @@ ghost use Rattle.x7_flow.specs.Inside.{HasFrames};
 ghost use Rattle.x7_flow.specs.Later.{BeginsRun, MemoryGets, Start, after_load, flow_from, flow_on, has_mfw, pairs_after, pairs_alone, pairs_after_load, pairs_from, pairs_loaded, pairs_on, start_on};
 ghost use Rattle.x7_flow.specs.NeedsAddress.{LacksAddress, LacksSlot, LacksSource, RunsAtAddress, WritesWord};
 ghost use Rattle.x7_flow.specs.Quiet.{AreQuiet};
-ghost use Rattle.x7_flow.specs.Saving.{AreKept, FramesBack, GetAccess};
+ghost use Rattle.x7_flow.specs.Saving.{FramesAreKept, FramesBack, GetAccess};
 ghost use Rattle.x7_flow.specs.Settings.{Settings, TakesFrames, settings_after, settings_from, settings_of};
 ghost use Rattle.x7_flow.specs.Sound.{IsSound};
 ghost use Rattle.x7_flow.specs.Standing.{FramesDid, FramesFit, FramesStandFor, FramesState, ReadsData, ReadsFrames, ReadsMore, flow_read, frames_map, frames_read, less, words_due, written_to};
@@ -104,7 +104,7 @@ pub fn later_laws()
     ensures settings { (idcode : ℕ) (s : Settings) (later middle : History) → settings_from idcode s (later ++ middle) ≡ settings_from idcode (settings_from idcode s middle) later }
     ensures flow { (x : Start) (later middle : History) → flow_on x (later ++ middle) ≡ flow_on (start_on x middle) later }
     ensures pairs { (x : Start) (later middle : History) → pairs_on x (later ++ middle) ≡ pairs_on (start_on x middle) later ++ pairs_on x middle }
-    ensures alike { (part : PartData) (s t : Settings) (source : Option (List ℕ)) (w : ℕ) (h : History) → AreAlike s t → MasksFirst h →
+    ensures alike { (part : PartData) (s t : Settings) (source : Option (List ℕ)) (w : ℕ) (h : History) → AreSameButForMask s t → MasksFirst h →
         pairs_loaded part s source w h ≡ pairs_loaded part t source w h }
     ensures alone { (part : PartData) (later earlier : History) (w place : ℕ) → has_mfw earlier ≡ false →
         MemoryGets part (later ++ after_load w place earlier) earlier (pairs_alone part earlier w later) }
@@ -153,8 +153,8 @@ pub fn words_have_room()
 
 /// What is kept of frames without a word due leads back from the same history, and from one with one access more.
 pub fn saving_laws()
-    ensures same { (part : PartData) (s : SavedState) (old new : FramesState) → AreKept part s old new →
+    ensures same { (part : PartData) (s : SavedState) (old new : FramesState) → FramesAreKept part s old new →
         AreSame (frames_map part new) (frames_map part old) → FramesBack part s new old }
-    ensures one { (part : PartData) (s : SavedState) (old new : FramesState) (h : History) (e : Entry) → AreKept part s old new →
+    ensures one { (part : PartData) (s : SavedState) (old new : FramesState) (h : History) (e : Entry) → FramesAreKept part s old new →
         GetAccess part old new h e → FramesBack part s new old }
 {}

@@ -8,31 +8,31 @@ use Rattle.x7_forms.specs.declared.form.Form.{Form}
 use Rattle.x7_forms.specs.declared.form.Form.TheVariants as form
 
 -- what the words ask for
-pub data Asked : Type 0 where
-  Listing : (stream : List ℕ) → Asked
-  Playing : (part : List ℕ) (streams : List (List ℕ)) → Asked
-  Assembling : (text : List ℕ) → Asked
-  ToMcs : (image : List ℕ) → Asked
-  FromMcs : (text : List ℕ) → Asked
-  PlanningFull : (part frames : List ℕ) → Asked
-  PlanningPartial : (part frames : List ℕ) → Asked
-  PlanningRead : (part : List ℕ) (far n : ℕ) → Asked
-  Generating : (part : List ℕ) (seed : ℕ) → Asked
-  Imaging : (golden update : List ℕ) → Asked
-  ImagingFor : (part golden update : List ℕ) → Asked
-  Debugging : (part stream script : List ℕ) → Asked
-  PlayingSvf : (part text : List ℕ) → Asked
-  Booting : (part flash : List ℕ) → Asked
-  UpdatingFlash : (flash stream : List ℕ) → Asked
+pub data AskedForm : Type 0 where
+  Listing : (stream : List ℕ) → AskedForm
+  Playing : (part : List ℕ) (streams : List (List ℕ)) → AskedForm
+  Assembling : (text : List ℕ) → AskedForm
+  ToMcs : (image : List ℕ) → AskedForm
+  FromMcs : (text : List ℕ) → AskedForm
+  PlanningFull : (part frames : List ℕ) → AskedForm
+  PlanningPartial : (part frames : List ℕ) → AskedForm
+  PlanningRead : (part : List ℕ) (far n : ℕ) → AskedForm
+  Generating : (part : List ℕ) (seed : ℕ) → AskedForm
+  Imaging : (golden update : List ℕ) → AskedForm
+  ImagingFor : (part golden update : List ℕ) → AskedForm
+  Debugging : (part stream script : List ℕ) → AskedForm
+  PlayingSvf : (part text : List ℕ) → AskedForm
+  Booting : (part flash : List ℕ) → AskedForm
+  UpdatingFlash : (flash stream : List ℕ) → AskedForm
 
 -- a form of one name
-abbrev pub one_name : (List ℕ → Asked) → List (List ℕ) → Option Asked
+abbrev pub one_name : (List ℕ → AskedForm) → List (List ℕ) → Option AskedForm
 one_name form [] = None
 one_name form (name ∷ []) = Some (form name)
 one_name form (name ∷ next ∷ more) = None
 
 -- a form of two names
-abbrev pub two_names : (List ℕ → List ℕ → Asked) → List (List ℕ) → Option Asked
+abbrev pub two_names : (List ℕ → List ℕ → AskedForm) → List (List ℕ) → Option AskedForm
 two_names form [] = None
 two_names form (first ∷ []) = None
 two_names form (first ∷ second ∷ []) = Some (form first second)
@@ -47,11 +47,11 @@ abbrev pub number_in : List ℕ → Option ℕ
 number_in digits = if bytes_eq (decimal (digits_value 10 digits)) digits && nat_lt (digits_value 10 digits) 4294967296 then Some (digits_value 10 digits) else None
 
 -- `plan read PART FAR N`
-abbrev pub read_asked : List ℕ → Option ℕ → Option ℕ → Option Asked
+abbrev pub read_asked : List ℕ → Option ℕ → Option ℕ → Option AskedForm
 read_asked part (Some far) (Some n) = Some (PlanningRead part far n)
 read_asked part _ _ = None
 
-abbrev pub plan_read_form : List (List ℕ) → Option Asked
+abbrev pub plan_read_form : List (List ℕ) → Option AskedForm
 plan_read_form [] = None
 plan_read_form (part ∷ []) = None
 plan_read_form (part ∷ far ∷ []) = None
@@ -59,18 +59,18 @@ plan_read_form (part ∷ far ∷ n ∷ []) = read_asked part (word_in far) (numb
 plan_read_form (part ∷ far ∷ n ∷ more ∷ others) = None
 
 -- `gen PART SEED`
-abbrev pub gen_asked : List ℕ → Option ℕ → Option Asked
+abbrev pub gen_asked : List ℕ → Option ℕ → Option AskedForm
 gen_asked part (Some seed) = Some (Generating part seed)
 gen_asked part None = None
 
-abbrev pub gen_form : List (List ℕ) → Option Asked
+abbrev pub gen_form : List (List ℕ) → Option AskedForm
 gen_form [] = None
 gen_form (part ∷ []) = None
 gen_form (part ∷ seed ∷ []) = gen_asked part (number_in seed)
 gen_form (part ∷ seed ∷ more ∷ others) = None
 
 -- `plan ..`, by the second word
-abbrev pub plan_form : List (List ℕ) → Option Asked
+abbrev pub plan_form : List (List ℕ) → Option AskedForm
 plan_form [] = None
 plan_form (kind ∷ names) =
     if bytes_eq kind (codes "full") then two_names PlanningFull names
@@ -79,23 +79,23 @@ plan_form (kind ∷ names) =
     else None
 
 -- `play PART STREAM..`, one to eight streams
-abbrev pub play_form : List (List ℕ) → Option Asked
+abbrev pub play_form : List (List ℕ) → Option AskedForm
 play_form [] = None
 play_form (part ∷ streams) = if nat_le 1 (length streams) && nat_le (length streams) 8 then Some (Playing part streams) else None
 
 -- `debug PART STREAM SCRIPT`
-abbrev pub debug_form : List (List ℕ) → Option Asked
+abbrev pub debug_form : List (List ℕ) → Option AskedForm
 debug_form (part ∷ stream ∷ script ∷ []) = Some (Debugging part stream script)
 debug_form _ = None
 
 -- `image GOLDEN UPDATE`, for parts whose start address counts bytes, or `image PART GOLDEN UPDATE`
-abbrev pub image_form : List (List ℕ) → Option Asked
+abbrev pub image_form : List (List ℕ) → Option AskedForm
 image_form (golden ∷ update ∷ []) = Some (Imaging golden update)
 image_form (part ∷ golden ∷ update ∷ []) = Some (ImagingFor part golden update)
 image_form _ = None
 
 -- the form of the words, by the first of them
-abbrev pub form_of : List (List ℕ) → Option Asked
+abbrev pub form_of : List (List ℕ) → Option AskedForm
 form_of [] = None
 form_of (command ∷ names) =
     if bytes_eq command (codes "list") then one_name Listing names
@@ -113,11 +113,11 @@ form_of (command ∷ names) =
     else None
 
 -- the form of the words as a program gets them
-abbrev pub form_in : {Z : Type 0} → List (String Z) → Option Asked
+abbrev pub form_in : {Z : Type 0} → List (String Z) → Option AskedForm
 form_in words = form_of (map string_bytes words)
 
 -- what a form of the code asks for
-abbrev pub asked_by : Form → Asked
+abbrev pub asked_by : Form → AskedForm
 asked_by (form.List stream) = Listing stream.now
 asked_by (form.Play part streams) = Playing part.now (map string_bytes streams.now)
 asked_by (form.Asm text) = Assembling text.now
@@ -134,12 +134,12 @@ asked_by (form.Svf part text) = PlayingSvf part.now text.now
 asked_by (form.Boot part flash) = Booting part.now flash.now
 asked_by (form.Update flash stream) = UpdatingFlash flash.now stream.now
 
-abbrev pub asked : Option Form → Option Asked
+abbrev pub asked : Option Form → Option AskedForm
 asked None = None
 asked (Some form) = Some (asked_by form)
 
 -- the names of the inputs that a form reads
-abbrev pub names_of : Option Asked → List (List ℕ)
+abbrev pub names_of : Option AskedForm → List (List ℕ)
 names_of None = []
 names_of (Some (Listing stream)) = stream ∷ []
 names_of (Some (Imaging golden update)) = golden ∷ update ∷ []
@@ -163,7 +163,7 @@ pub data FlashUse : Type 0 where
   Read : (name : List ℕ) → FlashUse
   Updated : (name : List ℕ) → FlashUse
 
-abbrev pub flash_use : Option Asked → FlashUse
+abbrev pub flash_use : Option AskedForm → FlashUse
 flash_use (Some (Booting part flash)) = Read flash
 flash_use (Some (UpdatingFlash flash stream)) = Updated flash
 flash_use form = Unused
@@ -174,15 +174,15 @@ names_used (Read name) = name ∷ []
 names_used (Updated name) = name ∷ []
 
 -- the name of the flash that a form reads or updates
-abbrev pub flash_names : Option Asked → List (List ℕ)
+abbrev pub flash_names : Option AskedForm → List (List ℕ)
 flash_names form = names_used (flash_use form)
 
 -- the stream that a form lists as it reads it; every other form writes its whole text at its end
-abbrev pub listed_by : Option Asked → Option (List ℕ)
+abbrev pub listed_by : Option AskedForm → Option (List ℕ)
 listed_by (Some (Listing stream)) = Some stream
 listed_by form = None
 
 -- the stream with which a form updates its flash; no other form writes a flash
-abbrev pub updated_by : Option Asked → Option (List ℕ)
+abbrev pub updated_by : Option AskedForm → Option (List ℕ)
 updated_by (Some (UpdatingFlash flash stream)) = Some stream
 updated_by form = None

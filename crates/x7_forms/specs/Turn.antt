@@ -72,8 +72,8 @@ abbrev pub UnreadRest : InputsState → List ℕ → InputsState → ℕ → Eve
 UnreadRest old name new limit event = Unread old name new limit event × (new.asked ≡ old.asked)
 
 -- where these bytes are the last, nothing follows them
-abbrev pub MayFollow : Bool → List ℕ → Type 0
-MayFollow last rest = last ≡ true → rest ≡ []
+abbrev pub FollowsUnlessLast : Bool → List ℕ → Type 0
+FollowsUnlessLast last rest = last ≡ true → rest ≡ []
 
 -- the data begin at this byte: after a header, or at the first byte where there is none
 abbrev pub BeginAt : List ℕ → ℕ → Type 0
@@ -91,7 +91,7 @@ RefusedAt bytes place = (place ≡ length bytes) ⊎ HasOtherLetterAt bytes plac
 
 -- the first bytes of a stream, where its header is judged: its line or nothing, and where the data begin
 abbrev pub IsBeginning : List ℕ → Bool → List ℕ → ℕ → Type 0
-IsBeginning bytes last line start = (rest : List ℕ) → MayFollow last rest → stream_listing (bytes ++ rest) ≡ Ok (line ++ listing_of (drop start bytes ++ rest))
+IsBeginning bytes last line start = (rest : List ℕ) → FollowsUnlessLast last rest → stream_listing (bytes ++ rest) ≡ Ok (line ++ listing_of (drop start bytes ++ rest))
 
 -- bytes that end inside a header, of a stream that may have more
 abbrev pub HeaderGoesOn : List ℕ → Bool → Type 0
@@ -109,7 +109,7 @@ pub record ReadsBeginning (bytes line : List ℕ) (start : ℕ) (last : Bool) (o
 
 -- the first bytes of a stream whose header is refused at this byte
 abbrev pub IsRefused : List ℕ → Bool → ℕ → Type 0
-IsRefused bytes last place = (rest : List ℕ) → MayFollow last rest → stream_listing (bytes ++ rest) ≡ Err place
+IsRefused bytes last place = (rest : List ℕ) → FollowsUnlessLast last rest → stream_listing (bytes ++ rest) ≡ Err place
 
 -- the first bytes of a stream, read up to a byte at which its header is refused
 pub record IsBadBeginning (old new : InputsState) (name : List ℕ) (event : Event) : Type 0 where

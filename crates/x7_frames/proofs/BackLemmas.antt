@@ -15,7 +15,7 @@ use Rattle.x7_text.proofs.ReadRowLemmas.{hex-words}
 use Rattle.x7_text.proofs.SplitLemmas.{split-ended}
 use Rattle.x7_part.specs.Part.{PartData, frame_words}
 use Rattle.x7_memory.specs.Planned.{PlanRow, PlanData, IsPlanFor, IsPlanRow, AreApart, AreInOrder}
-use Rattle.x7_frames.specs.FramesText.{frame_head, frame_line, plan_text, AreLines, no_line, no_frame, frame, IsFrameLine, IsPlanOf, Plans}
+use Rattle.x7_frames.specs.FramesText.{frame_head, frame_line, plan_text, AreLinesOfRows, no_line, no_frame, frame, IsFrameLine, IsPlanOf, Plans}
 use Rattle.x7_frames.specs.declared.fault.FramesFault.{FramesFault}
 use Rattle.x7_frames.specs.declared.fault.FramesFault.TheVariants as fault
 use Rattle.x7_frames.proofs.OneLemmas.{no-fault, one-plan}
@@ -65,7 +65,7 @@ ended (r ∷ rows) = ap₂ (λ (x y : List ℕ). x ++ y) (sym (append_assoc (fra
 lines-of : (rows : List PlanRow) → split (flat_map frame_line rows) ≡ map bare rows ++ [] ∷ []
 lines-of rows = ap split (ended rows) ∙ split-ended (map bare rows) (all-free rows)
 
-are-lines : (width : ℕ) (rows : List PlanRow) → All IsPlanRow rows → All (λ r. length r.words ≡ width) rows → AreLines width (map bare rows ++ [] ∷ []) rows
+are-lines : (width : ℕ) (rows : List PlanRow) → All IsPlanRow rows → All (λ r. length r.words ≡ width) rows → AreLinesOfRows width (map bare rows ++ [] ∷ []) rows
 are-lines width [] each wide = no_frame width [] [] [] refl (no_line width)
 are-lines width (r ∷ rows) each wide =
     frame width (bare r) (map bare rows ++ [] ∷ []) r rows (bare-line width r (All-head IsPlanRow r rows each) (All-head (λ s. length s.words ≡ width) r rows wide))
@@ -80,7 +80,7 @@ pub back : (part : PartData) (plan : PlanData) → IsPlanFor part plan → Plans
 back part plan fits = record {
   rows = plan.rows;
   good = record {
-    read = subst (λ t. AreLines (frame_words part) t plan.rows) (sym (lines-of plan.rows)) (are-lines (frame_words part) plan.rows fits.is_plan.each (subst (λ (w : ℕ). All (λ r. length r.words ≡ w) plan.rows) fits.width fits.is_plan.width));
+    read = subst (λ t. AreLinesOfRows (frame_words part) t plan.rows) (sym (lines-of plan.rows)) (are-lines (frame_words part) plan.rows fits.is_plan.each (subst (λ (w : ℕ). All (λ r. length r.words ≡ w) plan.rows) fits.width fits.is_plan.width));
     addresses = fits.addressed;
     apart = in-order-apart plan.rows fits.is_plan.order;
   };

@@ -15,7 +15,7 @@ use Rattle.x7_part.specs.AddressOrder.{addresses_in}
 use Rattle.x7_part.specs.Part.{PartData, frame_words}
 use Rattle.x7_memory.specs.Planned.{IsPlanRow, PlanRow, planned_addresses}
 use Rattle.x7_memory.proofs.DraftLemmas.{sorted_plan}
-use Rattle.x7_frames.specs.FramesText.{AreGood, AreLines, frame, frame_head, HasPlan, IsFrameLine, IsGoodText, means_nothing, no_frame, no_line}
+use Rattle.x7_frames.specs.FramesText.{AreGood, AreLinesOfRows, frame, frame_head, HasPlan, IsFrameLine, IsGoodText, means_nothing, no_frame, no_line}
 use Rattle.x7_frames.specs.Steps.{IsFaultAt, TakesLine}
 use Rattle.x7_frames.specs.declared.fault.FramesFault.{FramesFault}
 use Rattle.x7_frames.specs.declared.fault.FramesFault.TheVariants as fault
@@ -146,12 +146,12 @@ pairs-fit (a ∷ b ∷ cs) bytes e = by (λ xs f. pairs-fit cs xs f) (byte_of (d
 row-fits : (width : ℕ) (line : List ℕ) (row : PlanRow) → IsFrameLine width line row → IsPlanRow row
 row-fits width line row is = record { far = is.far; words = subst AreWords (sym is.words) (words-fit is.bytes (pairs-fit is.digits is.bytes is.read)) }
 
-rows-fit : (width : ℕ) (lines : List (List ℕ)) (rows : List PlanRow) → AreLines width lines rows → All IsPlanRow rows
+rows-fit : (width : ℕ) (lines : List (List ℕ)) (rows : List PlanRow) → AreLinesOfRows width lines rows → All IsPlanRow rows
 rows-fit width _ _ (no_line w) = All-nil IsPlanRow
 rows-fit width _ _ (no_frame w line lines rows e more) = rows-fit width lines rows more
 rows-fit width _ _ (frame w line lines row rows is more) = All-cons IsPlanRow row rows (row-fits width line row is) (rows-fit width lines rows more)
 
-rows-long : (width : ℕ) (lines : List (List ℕ)) (rows : List PlanRow) → AreLines width lines rows → All (λ r. length r.words ≡ width) rows
+rows-long : (width : ℕ) (lines : List (List ℕ)) (rows : List PlanRow) → AreLinesOfRows width lines rows → All (λ r. length r.words ≡ width) rows
 rows-long width _ _ (no_line w) = All-nil (λ r. length r.words ≡ width)
 rows-long width _ _ (no_frame w line lines rows e more) = rows-long width lines rows more
 rows-long width _ _ (frame w line lines row rows is more) = All-cons (λ r. length r.words ≡ width) row rows (frame-long width line row is) (rows-long width lines rows more)

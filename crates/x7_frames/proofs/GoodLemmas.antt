@@ -7,19 +7,19 @@ use Rattle.std.proofs.lemmas.List.Elements.{All-push, All-nil, Contains-push, Co
 use Rattle.x7_part.specs.AddressOrder.{addresses_in, Rises, risen, rise}
 use Rattle.x7_part.specs.Part.{PartData, frame_words}
 use Rattle.x7_memory.specs.Planned.{PlanRow, AreApart, planned_addresses}
-use Rattle.x7_frames.specs.FramesText.{means_nothing, AreGood, AreLines, no_line, no_frame, frame, IsFrameLine, IsPlanOf, Reaches}
+use Rattle.x7_frames.specs.FramesText.{means_nothing, AreGood, AreLinesOfRows, no_line, no_frame, frame, IsFrameLine, IsPlanOf, ReachesLine}
 use Rattle.x7_frames.specs.Steps.{HasMarks, IsFaultAt, TakesLine}
 use Rattle.x7_frames.specs.declared.fault.FramesFault.{FramesFault}
 use Rattle.x7_frames.specs.declared.fault.FramesFault.TheVariants as fault
 
 -- ---- one line more
 
-lines-skip : (width : ℕ) (lines : List (List ℕ)) (rows : List PlanRow) (line : List ℕ) → means_nothing line ≡ true → AreLines width lines rows → AreLines width (lines ++ line ∷ []) rows
+lines-skip : (width : ℕ) (lines : List (List ℕ)) (rows : List PlanRow) (line : List ℕ) → means_nothing line ≡ true → AreLinesOfRows width lines rows → AreLinesOfRows width (lines ++ line ∷ []) rows
 lines-skip width _ _ line e (no_line w) = no_frame width line [] [] e (no_line width)
 lines-skip width _ _ line e (no_frame w t ts rows f more) = no_frame width t (ts ++ line ∷ []) rows f (lines-skip width ts rows line e more)
 lines-skip width _ _ line e (frame w t ts row rows f more) = frame width t (ts ++ line ∷ []) row rows f (lines-skip width ts rows line e more)
 
-lines-frame : (width : ℕ) (lines : List (List ℕ)) (rows : List PlanRow) (line : List ℕ) (last : PlanRow) → IsFrameLine width line last → AreLines width lines rows → AreLines width (lines ++ line ∷ []) (rows ++ last ∷ [])
+lines-frame : (width : ℕ) (lines : List (List ℕ)) (rows : List PlanRow) (line : List ℕ) (last : PlanRow) → IsFrameLine width line last → AreLinesOfRows width lines rows → AreLinesOfRows width (lines ++ line ∷ []) (rows ++ last ∷ [])
 lines-frame width _ _ line last e (no_line w) = frame width line [] last [] e (no_line width)
 lines-frame width _ _ line last e (no_frame w t ts rows f more) = no_frame width t (ts ++ line ∷ []) (rows ++ last ∷ []) f (lines-frame width ts rows line last e more)
 lines-frame width _ _ line last e (frame w t ts row rows f more) = frame width t (ts ++ line ∷ []) row (rows ++ last ∷ []) f (lines-frame width ts rows line last e more)
@@ -59,10 +59,10 @@ pub no-rows-good : (part : PartData) → AreGood part [] []
 no-rows-good part = record { read = no_line (frame_words part); addresses = All-nil (λ r. Contains (addresses_in part) r.far); apart = no-rows-apart }
 
 -- what a line at fault tells of the text
-pub fault-of : (part : PartData) (text line : List ℕ) (rows : List PlanRow) (n : ℕ) (f : FramesFault) → Reaches part text n line rows → IsFaultAt part rows n line f → IsPlanOf part text (Err f)
-fault-of part text line rows n (fault.Line m) r h = (line, rows, subst (λ k. Reaches part text k line rows) (sym h.0) r, h.1)
-fault-of part text line rows n (fault.Address m) r h = (line, rows, subst (λ k. Reaches part text k line rows) (sym h.0) r, h.1)
-fault-of part text line rows n (fault.Twice m) r h = (line, rows, subst (λ k. Reaches part text k line rows) (sym h.0) r, h.1)
+pub fault-of : (part : PartData) (text line : List ℕ) (rows : List PlanRow) (n : ℕ) (f : FramesFault) → ReachesLine part text n line rows → IsFaultAt part rows n line f → IsPlanOf part text (Err f)
+fault-of part text line rows n (fault.Line m) r h = (line, rows, subst (λ k. ReachesLine part text k line rows) (sym h.0) r, h.1)
+fault-of part text line rows n (fault.Address m) r h = (line, rows, subst (λ k. ReachesLine part text k line rows) (sym h.0) r, h.1)
+fault-of part text line rows n (fault.Twice m) r h = (line, rows, subst (λ k. ReachesLine part text k line rows) (sym h.0) r, h.1)
 fault-of part text line rows n fault.NoMemory r h = h
 
 apart-takes : (part : PartData) (line : List ℕ) (rows new : List PlanRow) → AreApart rows → TakesLine part line rows new → AreApart new

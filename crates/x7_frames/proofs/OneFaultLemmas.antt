@@ -5,7 +5,7 @@ use Rattle.std.proofs.lemmas.Bool.{cases_order}
 use Rattle.x7_part.specs.AddressOrder.{addresses_in}
 use Rattle.x7_part.specs.Part.{PartData, frame_words}
 use Rattle.x7_memory.specs.Planned.{PlanRow}
-use Rattle.x7_frames.specs.FramesText.{AreGood, IsForeign, IsNoLine, IsPlanOf, IsRepeated, Reaches}
+use Rattle.x7_frames.specs.FramesText.{AreGood, IsForeign, IsNoLine, IsPlanOf, IsRepeated, ReachesLine}
 use Rattle.x7_frames.specs.declared.fault.FramesFault.{FramesFault}
 use Rattle.x7_frames.specs.declared.fault.FramesFault.TheVariants as fault
 use Rattle.x7_frames.proofs.OneLemmas.{foreign-there, no-line-there, one-row, one-rows, repeated-there}
@@ -56,7 +56,7 @@ IsWrong part rows line fault.NoMemory = ⊥
 record Finds (part : PartData) (text : List ℕ) (f : FramesFault) : Type 0 where
   line : List ℕ
   rows : List PlanRow
-  reached : Reaches part text (place_of f) line rows
+  reached : ReachesLine part text (place_of f) line rows
   wrong : IsWrong part rows line f
 
 finds : (part : PartData) (text : List ℕ) (f : FramesFault) → IsPlanOf part text (Err f) → Finds part text f

@@ -16,7 +16,7 @@ use Rattle.x7_text.proofs.ValueLemmas.{word-back}
 use Rattle.x7_part.specs.AddressOrder.{addresses_in}
 use Rattle.x7_part.specs.Part.{PartData, frame_words}
 use Rattle.x7_memory.specs.Planned.{PlanRow, PlanData, AreApart, AreInOrder}
-use Rattle.x7_frames.specs.FramesText.{frame_head, means_nothing, AreGood, AreLines, no_line, no_frame, frame, IsFrameLine, IsNoLine, IsForeign, IsRepeated, IsPlanOf, Plans}
+use Rattle.x7_frames.specs.FramesText.{frame_head, means_nothing, AreGood, AreLinesOfRows, no_line, no_frame, frame, IsFrameLine, IsNoLine, IsForeign, IsRepeated, IsPlanOf, Plans}
 use Rattle.x7_frames.specs.declared.fault.FramesFault.{FramesFault}
 use Rattle.x7_frames.specs.declared.fault.FramesFault.TheVariants as fault
 
@@ -37,7 +37,7 @@ one-row width line a b is other =
 no-comment : (width : ℕ) (line : List ℕ) (row : PlanRow) → IsFrameLine width line row → means_nothing line ≡ true → ⊥
 no-comment width line row is e = false≢true (sym (ap means_nothing is.is) ∙ e)
 
-pub one-rows : (width : ℕ) (lines others : List (List ℕ)) (xs ys : List PlanRow) → lines ≡ others → AreLines width lines xs → AreLines width others ys → xs ≡ ys
+pub one-rows : (width : ℕ) (lines others : List (List ℕ)) (xs ys : List PlanRow) → lines ≡ others → AreLinesOfRows width lines xs → AreLinesOfRows width others ys → xs ≡ ys
 one-rows width _ _ _ _ e (no_line w) (no_line v) = refl
 one-rows width _ _ _ _ e (no_line w) (no_frame v t ts ys g rest) = absurd cc
 one-rows width _ _ _ _ e (no_line w) (frame v t ts b ys is rest) = absurd cc
@@ -59,11 +59,11 @@ record Parts (width : ℕ) (first second : List (List ℕ)) (rows : List PlanRow
   before : List PlanRow
   after : List PlanRow
   joined : rows ≡ before ++ after
-  prefix : AreLines width first before
-  back : AreLines width second after
+  prefix : AreLinesOfRows width first before
+  back : AreLinesOfRows width second after
 
-parts : (width : ℕ) (first second all : List (List ℕ)) (rows : List PlanRow) → all ≡ first ++ second → AreLines width all rows → Parts width first second rows
-parts width [] second all rows e l = record { before = []; after = rows; joined = refl; prefix = no_line width; back = subst (λ a. AreLines width a rows) e l }
+parts : (width : ℕ) (first second all : List (List ℕ)) (rows : List PlanRow) → all ≡ first ++ second → AreLinesOfRows width all rows → Parts width first second rows
+parts width [] second all rows e l = record { before = []; after = rows; joined = refl; prefix = no_line width; back = subst (λ a. AreLinesOfRows width a rows) e l }
 parts width (t ∷ ts) second _ _ e (no_line w) = absurd cc
 parts width (t ∷ ts) second _ _ e (no_frame w s ss rows f more) =
     let head : s ≡ t = cc in let tail : ss ≡ ts ++ second = cc in
@@ -74,7 +74,7 @@ parts width (t ∷ ts) second _ _ e (frame w s ss row rows is more) =
     let p = parts width ts second ss rows tail more in
     record { before = row ∷ p.before; after = p.after; joined = ap (λ x. row ∷ x) p.joined; prefix = frame width t ts row p.before (subst (λ l. IsFrameLine width l row) head is) p.prefix; back = p.back }
 
-first-line : (width : ℕ) (line : List ℕ) (more all : List (List ℕ)) (rows : List PlanRow) → all ≡ line ∷ more → AreLines width all rows
+first-line : (width : ℕ) (line : List ℕ) (more all : List (List ℕ)) (rows : List PlanRow) → all ≡ line ∷ more → AreLinesOfRows width all rows
     → (means_nothing line ≡ true) ⊎ ((row : PlanRow) × (rest : List PlanRow) × (rows ≡ row ∷ rest) × IsFrameLine width line row)
 first-line width line more _ _ e (no_line w) = absurd cc
 first-line width line more _ _ e (no_frame w s ss rows f rest) = let head : s ≡ line = cc in inl (ap means_nothing (sym head) ∙ f)

@@ -9,7 +9,7 @@ use Rattle.x7_frames.specs.declared.fault.FramesFault.{FramesFault}
 use Rattle.x7_frames.specs.declared.fault.FramesFault.TheVariants as fault
 
 -- rows and their width, the marks of their addresses, and the room for a frame's words are those of a part
-pub record IsSound (part : PartData) (rows : List PlanRow) (width : ℕ) (marks : List Bool) (room : ℕ) : Type 0 where
+pub record AreSoundRows (part : PartData) (rows : List PlanRow) (width : ℕ) (marks : List Bool) (room : ℕ) : Type 0 where
   pub wide : width ≡ frame_words part
   pub marked : HasMarks part rows marks
   pub roomy : frame_words part ≤ room

@@ -35,16 +35,16 @@ pub record IsFrameLine (width : ℕ) (line : List ℕ) (row : PlanRow) : Type 0 
   pub words : row.words ≡ words_of_bytes bytes
 
 -- lines that mean nothing and, in order, those of the rows
-pub data AreLines : ℕ → List (List ℕ) → List PlanRow → Type 0 where
-  no_line : (width : ℕ) → AreLines width [] []
+pub data AreLinesOfRows : ℕ → List (List ℕ) → List PlanRow → Type 0 where
+  no_line : (width : ℕ) → AreLinesOfRows width [] []
   no_frame : (width : ℕ) (line : List ℕ) (lines : List (List ℕ)) (rows : List PlanRow) → means_nothing line ≡ true →
-      AreLines width lines rows → AreLines width (line ∷ lines) rows
+      AreLinesOfRows width lines rows → AreLinesOfRows width (line ∷ lines) rows
   frame : (width : ℕ) (line : List ℕ) (lines : List (List ℕ)) (row : PlanRow) (rows : List PlanRow) → IsFrameLine width line row →
-      AreLines width lines rows → AreLines width (line ∷ lines) (row ∷ rows)
+      AreLinesOfRows width lines rows → AreLinesOfRows width (line ∷ lines) (row ∷ rows)
 
 -- good lines: their frames are the part's, and no two have one address
 pub record AreGood (part : PartData) (lines : List (List ℕ)) (rows : List PlanRow) : Type 0 where
-  pub read : AreLines (frame_words part) lines rows
+  pub read : AreLinesOfRows (frame_words part) lines rows
   pub addresses : AreAddressed part rows
   pub apart : AreApart rows
 
@@ -57,7 +57,7 @@ pub record Plans (part : PartData) (text : List ℕ) (plan : PlanData) : Type 0 
   pub width : plan.width ≡ frame_words part
 
 -- line n is this one, and the lines before it are good and have these rows
-pub record Reaches (part : PartData) (text : List ℕ) (n : ℕ) (line : List ℕ) (rows : List PlanRow) : Type 0 where
+pub record ReachesLine (part : PartData) (text : List ℕ) (n : ℕ) (line : List ℕ) (rows : List PlanRow) : Type 0 where
   pub before : List (List ℕ)
   pub after : List (List ℕ)
   pub texts : split text ≡ before ++ line ∷ after
@@ -85,9 +85,9 @@ pub record IsRepeated (part : PartData) (rows : List PlanRow) (line : List ℕ) 
 -- what a text comes to: its plan, or its first line at fault; want of memory is never the text's
 abbrev pub IsPlanOf : PartData → List ℕ → Result PlanData FramesFault → Type 0
 IsPlanOf part text (Ok plan) = Plans part text plan
-IsPlanOf part text (Err (fault.Line n)) = (line : List ℕ) × (rows : List PlanRow) × Reaches part text n line rows × IsNoLine (frame_words part) line
-IsPlanOf part text (Err (fault.Address n)) = (line : List ℕ) × (rows : List PlanRow) × Reaches part text n line rows × IsForeign part line
-IsPlanOf part text (Err (fault.Twice n)) = (line : List ℕ) × (rows : List PlanRow) × Reaches part text n line rows × IsRepeated part rows line
+IsPlanOf part text (Err (fault.Line n)) = (line : List ℕ) × (rows : List PlanRow) × ReachesLine part text n line rows × IsNoLine (frame_words part) line
+IsPlanOf part text (Err (fault.Address n)) = (line : List ℕ) × (rows : List PlanRow) × ReachesLine part text n line rows × IsForeign part line
+IsPlanOf part text (Err (fault.Twice n)) = (line : List ℕ) × (rows : List PlanRow) × ReachesLine part text n line rows × IsRepeated part rows line
 IsPlanOf part text (Err fault.NoMemory) = ⊥
 
 -- a text has a plan

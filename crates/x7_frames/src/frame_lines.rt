@@ -24,13 +24,13 @@ pub struct FrameLines<'p> {
 
 impl<'p> Model for FrameLines<'p> {
     ghost use Rattle.std.specs.Prelude.{vec_capacity};
-    ghost use Rattle.x7_frames.specs.FrameLines.{IsSound, Rows};
+    ghost use Rattle.x7_frames.specs.FrameLines.{AreSoundRows, Rows};
 
     ghost Value = { Rows };
 
     ghost view = { λ l. record { part = l.part.now; rows = l.reading.draft.rows } };
 
-    ghost invariant = { λ l. IsSound l.part.now l.reading.draft.rows l.reading.draft.width l.reading.marks.items (vec_capacity l.reading.frame) };
+    ghost invariant = { λ l. AreSoundRows l.part.now l.reading.draft.rows l.reading.draft.width l.reading.marks.items (vec_capacity l.reading.frame) };
 }
 
 impl<'p> FrameLines<'p> {

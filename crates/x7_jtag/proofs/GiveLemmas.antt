@@ -10,7 +10,7 @@ use Rattle.x7_engine.specs.declared.fed.Fed.{Fed}
 use Rattle.x7_engine.specs.declared.fed.Fed.TheVariants as fed
 use Rattle.x7_engine.specs.Kept.{on_the_bench}
 use Rattle.x7_engine.specs.Past.{Answers, past_of}
-use Rattle.x7_engine.specs.ReadBuffer.{HoldsFew, ReadBufState, no_room, with_words}
+use Rattle.x7_engine.specs.ReadBuffer.{HoldsWithinMost, ReadBufState, no_room, with_words}
 use Rattle.x7_engine.specs.Standing.{DeviceStandsFor, DeviceState, NoWordDue, taken_in}
 use Rattle.x7_engine.specs.State.{reads_of, stop_in}
 use Rattle.x7_engine.specs.UntilRead.{RoomBefore}
@@ -151,10 +151,10 @@ module _ (part : PartData) (k : QueueState) (d e : DeviceState) (q : Queue) (pie
   given-by (fed.ReadFull n) read s z b l stands a same before stopped = given-front n s z b l stands same stopped before
 
 -- a buffer without room gets no word
-pub none-got : (words : List ℕ) (read : ReadBufState) → read ≡ with_words no_room words → HoldsFew read.most read.words → words ≡ []
+pub none-got : (words : List ℕ) (read : ReadBufState) → read ≡ with_words no_room words → HoldsWithinMost read.most read.words → words ≡ []
 none-got [] read e f = refl
 none-got (w ∷ words) read e f =
-    let few : suc (length words) ≤ 0 = subst (λ (b : ReadBufState). HoldsFew b.most b.words) e f in
+    let few : suc (length words) ≤ 0 = subst (λ (b : ReadBufState). HoldsWithinMost b.most b.words) e f in
     absurd (omega (arith, few))
 
 -- a piece is given, and then the word that it reads out is taken

@@ -9,7 +9,7 @@ use Rattle.x7_words.proofs.ListLemmas.{all-append}
 use Rattle.x7_part.specs.Part.{PartData}
 use Rattle.x7_engine.specs.declared.fed.Fed.{Fed}
 use Rattle.x7_engine.specs.Kept.{on_the_bench}
-use Rattle.x7_engine.specs.ReadBuffer.{HoldsFew, IsFull, IsFullBy, ReadBufState}
+use Rattle.x7_engine.specs.ReadBuffer.{HoldsWithinMost, IsFull, IsFullBy, ReadBufState}
 use Rattle.x7_engine.specs.ReadBuffer.{with_words as read_with}
 use Rattle.x7_engine.specs.Past.{Answers, past_of}
 use Rattle.x7_engine.specs.Standing.{DeviceStandsFor, DeviceState, NoWordDue, due_count, taken_in, words_left}
@@ -173,12 +173,12 @@ pub fed : (part : PartData) (k n : QueueState) (d e : DeviceState) (given held p
     → Answers (past_of part on_the_bench false (h.bytes ++ take (taken_in (length piece) f) piece)) e read f
     → ((more : List ℕ) × (read ≡ read_with old more) × (words_taken part e (h.bytes ++ take (taken_in (length piece) f) piece) ≡ words_taken part d h.bytes ++ more))
     → (IsSome (stop_in part on_the_bench h.bytes) → (e ≡ d) × (read ≡ old) × (taken_in (length piece) f ≡ 0))
-    → old ≡ record { most = Some 1; words = [] } → words ≡ read.words → HoldsFew read.most words → n ≡ with_word_taken k words → QueueStandsFor part n e (queue_of (given ++ piece) held out)
+    → old ≡ record { most = Some 1; words = [] } → words ≡ read.words → HoldsWithinMost read.most words → n ≡ with_word_taken k words → QueueStandsFor part n e (queue_of (given ++ piece) held out)
 fed part k n d e given held piece words out old read f h z fits few none w stands a reads stopped is there holds with =
     let more : List ℕ = reads.0 in
     let all : read ≡ record { most = Some 1; words = more } = reads.1 ∙ ap (λ (b : ReadBufState). read_with b more) is in
     let same : words ≡ more = there ∙ ap (λ (b : ReadBufState). b.words) all in
-    let count : length words ≤ 1 = subst (λ (m : Option ℕ). HoldsFew m words) (ap (λ (b : ReadBufState). b.most) all) holds in
+    let count : length words ≤ 1 = subst (λ (m : Option ℕ). HoldsWithinMost m words) (ap (λ (b : ReadBufState). b.most) all) holds in
     fed-by part k n d e given held piece more out read f h z fits few none w stands a reads.2 (λ s. (stopped s).2) all (omega (arith, count, ap length same)) (with ∙ ap (with_word_taken k) same)
 
 -- ---- all that is held is given, and what is read of it dropped

@@ -3,8 +3,8 @@ use Rattle.std.proofs.Common.{◌≡◌, inl, inr, ℕ, ◌+◌, ◌-◌, ◌<�
 use Rattle.std.proofs.lemmas.List.{drop-append-le, length-take-le, take-append-drop, take-append-le}
 use Rattle.std.proofs.lemmas.List.Sums.{fold-append}
 use Rattle.x7_words.proofs.ListLemmas.{all-append, map-append}
-use Rattle.x7_listing.specs.Assembly.{AreHeadedAsm, Assembles, assembled, Begins, IsBad, IsTooLong, with_line}
-use Rattle.x7_listing.specs.Assembling.{asm_state, Goes, Opens, Went}
+use Rattle.x7_listing.specs.Assembly.{AreHeadedAsm, Assembles, assembled, BeginsWithLines, IsFirstBadText, PassesLimitAt, with_line}
+use Rattle.x7_listing.specs.Assembling.{asm_state, TextsAreRead, OpensText, LinesAreRead}
 use Rattle.x7_listing.specs.declared.assembler.AsmFault.TheVariants as fault
 use Rattle.x7_crc.specs.Checking.{check_of_bytes}
 use Rattle.x7_crc.specs.Checking.{CheckerState, Keeps}
@@ -21,22 +21,22 @@ longer lines l = length-append lines (l ∷ [])
 grown : (lines : List Line) (l : Line) (old new : List ℕ) → old ≡ assembled lines → new ≡ old ++ line_bytes (check_of_bytes old) l → new ≡ assembled (lines ++ l ∷ [])
 grown lines l old new is e = e ∙ ap (λ b. b ++ line_bytes (check_of_bytes b) l) is ∙ sym (one-more lines l)
 
-pub begins-more : (limit : ℕ) (texts : List (List ℕ)) (lines : List Line) (l : Line) (t : List ℕ) (left : List (List ℕ)) → Begins limit texts lines (t ∷ left) → FitsLine l → t ≡ text_of l → length (assembled (lines ++ l ∷ [])) ≤ limit
-    → Begins limit texts (lines ++ l ∷ []) left
+pub begins-more : (limit : ℕ) (texts : List (List ℕ)) (lines : List Line) (l : Line) (t : List ℕ) (left : List (List ℕ)) → BeginsWithLines limit texts lines (t ∷ left) → FitsLine l → t ≡ text_of l → length (assembled (lines ++ l ∷ [])) ≤ limit
+    → BeginsWithLines limit texts (lines ++ l ∷ []) left
 begins-more limit texts lines l t left b fits e within = record {
   texts = b.texts ∙ ap (λ s. map text_of lines ++ s ∷ left) e ∙ sym (append_assoc (map text_of lines) (text_of l ∷ []) left) ∙ ap (λ s. s ++ left) (sym (map-append text_of lines (l ∷ [])));
   fits = all-append FitsLine lines (l ∷ []) b.fits (fits, tt);
   within = within;
 }
 
-pub begins-at : (limit : ℕ) (texts : List (List ℕ)) (lines : List Line) (left left2 : List (List ℕ)) → left ≡ left2 → Begins limit texts lines left → Begins limit texts lines left2
-begins-at limit texts lines left left2 e b = subst (λ s. Begins limit texts lines s) e b
+pub begins-at : (limit : ℕ) (texts : List (List ℕ)) (lines : List Line) (left left2 : List (List ℕ)) → left ≡ left2 → BeginsWithLines limit texts lines left → BeginsWithLines limit texts lines left2
+begins-at limit texts lines left left2 e b = subst (λ s. BeginsWithLines limit texts lines s) e b
 
-module _ (limit : ℕ) (texts : List (List ℕ)) (t old new : List ℕ) (left : List (List ℕ)) (n : ℕ) (g : Went limit texts (t ∷ left) old n) where
-  pub bad : Reads FitsLine text_of (line_bytes (check_of_bytes old)) false t old new → IsBad limit texts (n + 1)
+module _ (limit : ℕ) (texts : List (List ℕ)) (t old new : List ℕ) (left : List (List ℕ)) (n : ℕ) (g : LinesAreRead limit texts (t ∷ left) old n) where
+  pub bad : Reads FitsLine text_of (line_bytes (check_of_bytes old)) false t old new → IsFirstBadText limit texts (n + 1)
   bad r = record { lines = g.lines; bad = t; left = left; begins = g.begins; count = ap (λ (k : ℕ). k + 1) g.count; no_line = λ l i. r.0 l i.fits i.is }
 
-  pub too-long : Reads FitsLine text_of (line_bytes (check_of_bytes old)) true t old new → limit < length new → IsTooLong limit texts (n + 1)
+  pub too-long : Reads FitsLine text_of (line_bytes (check_of_bytes old)) true t old new → limit < length new → PassesLimitAt limit texts (n + 1)
   too-long r h = record {
     lines = g.lines;
     last = r.0;
@@ -47,15 +47,15 @@ module _ (limit : ℕ) (texts : List (List ℕ)) (t old new : List ℕ) (left : 
     passes = subst (λ b. limit < length b) (grown g.lines r.0 old new g.is r.3) h;
   }
 
-  pub next : Reads FitsLine text_of (line_bytes (check_of_bytes old)) true t old new → length new ≤ limit → Went limit texts left new (n + 1)
+  pub next : Reads FitsLine text_of (line_bytes (check_of_bytes old)) true t old new → length new ≤ limit → LinesAreRead limit texts left new (n + 1)
   next r h =
       let e : new ≡ assembled (g.lines ++ r.0 ∷ []) = grown g.lines r.0 old new g.is r.3 in
       record { lines = g.lines ++ r.0 ∷ []; begins = begins-more limit texts g.lines r.0 t left g.begins r.1 r.2 (subst (λ b. length b ≤ limit) e h); is = e; count = ap (λ (k : ℕ). k + 1) g.count ∙ sym (longer g.lines r.0) }
 
-pub went-nothing : (limit : ℕ) (texts : List (List ℕ)) → Went limit texts texts [] 0
+pub went-nothing : (limit : ℕ) (texts : List (List ℕ)) → LinesAreRead limit texts texts [] 0
 went-nothing limit texts = record { lines = []; begins = record { texts = refl; fits = tt; within = omega arith }; is = refl; count = refl }
 
-pub went-all : (limit : ℕ) (texts : List (List ℕ)) (bytes : List ℕ) (n : ℕ) → Went limit texts [] bytes n → Assembles limit texts bytes
+pub went-all : (limit : ℕ) (texts : List (List ℕ)) (bytes : List ℕ) (n : ℕ) → LinesAreRead limit texts [] bytes n → Assembles limit texts bytes
 went-all limit texts bytes n g = record { lines = g.lines; begins = g.begins; is = g.is }
 
 -- a line is read after a header's bytes as it is without them
@@ -68,7 +68,7 @@ front-stays start a true t old new h r = (ap (take start) r.3 ∙ take-append-le
 front-stays start a false t old new h r = (ap (take start) r.1, omega (arith, h, ap length r.1))
 
 -- what texts come to after those of a header, or of none
-pub close-ok : (all others : List (List ℕ)) (prefix out : List ℕ) (start first : ℕ) → start ≡ length prefix → Opens all others prefix first → Assembles (67108864 - start) others (drop start out) → take start out ≡ prefix → AreHeadedAsm all (Ok out)
+pub close-ok : (all others : List (List ℕ)) (prefix out : List ℕ) (start first : ℕ) → start ≡ length prefix → OpensText all others prefix first → Assembles (67108864 - start) others (drop start out) → take start out ≡ prefix → AreHeadedAsm all (Ok out)
 close-ok all others prefix out start first n (inl h) a same = inl (record {
   header = h.header;
   held = h.held;
@@ -86,7 +86,7 @@ close-ok all others prefix out start first n (inr p) a same =
     let b : Assembles 67108864 others (drop start out) = subst (λ (k : ℕ). Assembles (67108864 - k) others (drop start out)) zero a in
     inr (p.no_head, subst (λ (t : List (List ℕ)). Assembles 67108864 t out) (sym p.texts) (subst (Assembles 67108864 others) is b))
 
-pub close-bad : (all others : List (List ℕ)) (prefix : List ℕ) (start first m n : ℕ) → start ≡ length prefix → Opens all others prefix first → IsBad (67108864 - start) others m → n ≡ first + m → AreHeadedAsm all (Err (fault.Line n))
+pub close-bad : (all others : List (List ℕ)) (prefix : List ℕ) (start first m n : ℕ) → start ≡ length prefix → OpensText all others prefix first → IsFirstBadText (67108864 - start) others m → n ≡ first + m → AreHeadedAsm all (Err (fault.Line n))
 close-bad all others prefix start first m n s (inl h) b e =
     let one : n ≡ m + 1 = omega (arith, e, h.one) in
     inl (record {
@@ -94,15 +94,15 @@ close-bad all others prefix start first m n s (inl h) b e =
       held = h.held;
       others = others;
       texts = h.texts;
-      follows = record { rest = Err (fault.Line m); lines = subst (λ (k : ℕ). IsBad (67108864 - k) others m) (s ∙ ap length h.are) b; is = ap (λ (k : ℕ). Err (fault.Line k)) one };
+      follows = record { rest = Err (fault.Line m); lines = subst (λ (k : ℕ). IsFirstBadText (67108864 - k) others m) (s ∙ ap length h.are) b; is = ap (λ (k : ℕ). Err (fault.Line k)) one };
     })
 close-bad all others prefix start first m n s (inr p) b e =
     let zero : start ≡ 0 = s ∙ ap length p.are in
     let same : m ≡ n = omega (arith, e, p.none) in
-    let c : IsBad 67108864 others m = subst (λ (k : ℕ). IsBad (67108864 - k) others m) zero b in
-    inr (p.no_head, subst (λ (t : List (List ℕ)). IsBad 67108864 t n) (sym p.texts) (subst (IsBad 67108864 others) same c))
+    let c : IsFirstBadText 67108864 others m = subst (λ (k : ℕ). IsFirstBadText (67108864 - k) others m) zero b in
+    inr (p.no_head, subst (λ (t : List (List ℕ)). IsFirstBadText 67108864 t n) (sym p.texts) (subst (IsFirstBadText 67108864 others) same c))
 
-pub close-long : (all others : List (List ℕ)) (prefix : List ℕ) (start first m n : ℕ) → start ≡ length prefix → Opens all others prefix first → IsTooLong (67108864 - start) others m → n ≡ first + m → AreHeadedAsm all (Err (fault.TooLong n))
+pub close-long : (all others : List (List ℕ)) (prefix : List ℕ) (start first m n : ℕ) → start ≡ length prefix → OpensText all others prefix first → PassesLimitAt (67108864 - start) others m → n ≡ first + m → AreHeadedAsm all (Err (fault.TooLong n))
 close-long all others prefix start first m n s (inl h) b e =
     let one : n ≡ m + 1 = omega (arith, e, h.one) in
     inl (record {
@@ -110,22 +110,22 @@ close-long all others prefix start first m n s (inl h) b e =
       held = h.held;
       others = others;
       texts = h.texts;
-      follows = record { rest = Err (fault.TooLong m); lines = subst (λ (k : ℕ). IsTooLong (67108864 - k) others m) (s ∙ ap length h.are) b; is = ap (λ (k : ℕ). Err (fault.TooLong k)) one };
+      follows = record { rest = Err (fault.TooLong m); lines = subst (λ (k : ℕ). PassesLimitAt (67108864 - k) others m) (s ∙ ap length h.are) b; is = ap (λ (k : ℕ). Err (fault.TooLong k)) one };
     })
 close-long all others prefix start first m n s (inr p) b e =
     let zero : start ≡ 0 = s ∙ ap length p.are in
     let same : m ≡ n = omega (arith, e, p.none) in
-    let c : IsTooLong 67108864 others m = subst (λ (k : ℕ). IsTooLong (67108864 - k) others m) zero b in
-    inr (p.no_head, subst (λ (t : List (List ℕ)). IsTooLong 67108864 t n) (sym p.texts) (subst (IsTooLong 67108864 others) same c))
+    let c : PassesLimitAt 67108864 others m = subst (λ (k : ℕ). PassesLimitAt (67108864 - k) others m) zero b in
+    inr (p.no_head, subst (λ (t : List (List ℕ)). PassesLimitAt 67108864 t n) (sym p.texts) (subst (PassesLimitAt 67108864 others) same c))
 
 -- the outcome of a text all of whose lines are read
-pub goes-whole : (all : List (List ℕ)) (out : List ℕ) (start : ℕ) (checker : CheckerState) (n : ℕ) → Goes all [] (asm_state out start checker n) → AreHeadedAsm all (Ok out)
+pub goes-whole : (all : List (List ℕ)) (out : List ℕ) (start : ℕ) (checker : CheckerState) (n : ℕ) → TextsAreRead all [] (asm_state out start checker n) → AreHeadedAsm all (Ok out)
 goes-whole all out start checker n g = close-ok all g.others (take start out) out start g.first (sym (length-take-le start out g.long)) g.opens (went-all (67108864 - start) g.others (drop start out) g.read g.went) refl
 
 -- one line more is read: it is bad, passes the limit, or is taken
 module _ (line out mid new : List ℕ) (start n c : ℕ) (old-checker new-checker : CheckerState) (r : Bool) (same : mid ≡ out) (n-is : c ≡ n + 1)
     (reads : Reads FitsLine text_of (line_bytes (check_of_bytes (drop start mid))) r line mid new) (keeps : Keeps new-checker (drop start new)) where
-  module _ (all left : List (List ℕ)) (g : Goes all (line ∷ left) (asm_state out start old-checker n)) where
+  module _ (all left : List (List ℕ)) (g : TextsAreRead all (line ∷ left) (asm_state out start old-checker n)) where
     got : Reads FitsLine text_of (line_bytes (check_of_bytes (drop start out))) r line out new
     got = subst (λ (m : List ℕ). Reads FitsLine text_of (line_bytes (check_of_bytes (drop start m))) r line m new) same reads
 
@@ -145,7 +145,7 @@ module _ (line out mid new : List ℕ) (start n c : ℕ) (old-checker new-checke
         (too-long (67108864 - start) g.others line (drop start out) (drop start new) left g.read g.went (yes e) (omega (arith, h, g.short, length-drop start new)))
         (omega (arith, n-is, g.count_is))
 
-    pub read-on : r ≡ true → length new ≤ 67108864 → Goes all left (asm_state new start new-checker c)
+    pub read-on : r ≡ true → length new ≤ 67108864 → TextsAreRead all left (asm_state new start new-checker c)
     read-on e h =
         let f = front-stays start (check_of_bytes (drop start out)) r line out new g.long got in
         record {
@@ -155,7 +155,7 @@ module _ (line out mid new : List ℕ) (start n c : ℕ) (old-checker new-checke
           long = f.1;
           short = g.short;
           keeps = keeps;
-          opens = subst (λ (b : List ℕ). Opens all g.others b g.first) (sym f.0) g.opens;
+          opens = subst (λ (b : List ℕ). OpensText all g.others b g.first) (sym f.0) g.opens;
           went = next (67108864 - start) g.others line (drop start out) (drop start new) left g.read g.went (yes e) (omega (arith, h, length-drop start new));
           count_is = omega (arith, n-is, g.count_is);
         }

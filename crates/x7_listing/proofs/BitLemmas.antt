@@ -7,7 +7,7 @@ use Rattle.std.specs.Str.{bytes_eq}
 use Rattle.x7_words.specs.Word.{AreBytes, bytes_of_word}
 use Rattle.x7_header.specs.Header.{Contents, field_bytes, HaveHeader, header_bytes, Kind, longest_header}
 use Rattle.x7_text.specs.Digits.{hex_byte, hex_digit}
-use Rattle.x7_listing.specs.BitLine.{bit_text, field_text, has_no_space, IsCut, IsField, IsHeaderOf, IsHeld}
+use Rattle.x7_listing.specs.BitLine.{bit_text, field_text, has_no_space, IsCutAtSpace, IsField, IsHeaderOf, IsHeld}
 use Rattle.x7_listing.specs.Line.{Empty, IsLine, Line, text_of}
 use Rattle.x7_text.specs.DigitValue.{bytes_value}
 use Rattle.x7_listing.proofs.GuessLemmas.{after_space, after-space, before_space, before-space, decimal_after, decimal-back, line-is}
@@ -108,7 +108,7 @@ pub same-rest : (a b r s : List ℕ) → AreBytes a → AreBytes b → field_tex
 same-rest a b r s h k e = (same-field a b r s h k e).1
 
 -- a text without a field before its first space
-pub no-cut : (t digits rest : List ℕ) → IsCut t digits rest → ((field : List ℕ) → IsField field → digits ≡ field_text field → ⊥) → (field more : List ℕ) → IsField field → t ≡ field_text field ++ 32 ∷ more → ⊥
+pub no-cut : (t digits rest : List ℕ) → IsCutAtSpace t digits rest → ((field : List ℕ) → IsField field → digits ≡ field_text field → ⊥) → (field more : List ℕ) → IsField field → t ≡ field_text field ++ 32 ∷ more → ⊥
 no-cut t digits rest c none field more h e =
     none field h (sym (before-space digits rest c.free) ∙ ap before_space (sym c.is ∙ e) ∙ before-space (field_text field) more (field-free field))
 

@@ -10,7 +10,7 @@ use Rattle.x7_text.specs.Lines.{split}
 use Rattle.x7_header.specs.Header.{Contents, header_bytes}
 use Rattle.x7_listing.specs.BitLine.{bit_text, IsHeld}
 use Rattle.x7_listing.specs.Line.{Line, Empty, Comment, Bytes, Sync, Nop, Write, Read, Write2, Read2, Word, Data, Cmd, Check, FitsLine, IsLine, text_of}
-use Rattle.x7_listing.specs.Assembly.{after_one_line, AreAsm, AreHeadedAsm, asm_limit, assembled, Begins, HasNoHeaderLine, HasOutcome}
+use Rattle.x7_listing.specs.Assembly.{after_one_line, AreAsm, AreHeadedAsm, asm_limit, assembled, BeginsWithLines, HasNoHeaderLine, HasOutcome}
 use Rattle.x7_listing.specs.declared.assembler.AsmFault.{AsmFault}
 use Rattle.x7_listing.specs.declared.assembler.AsmFault.TheVariants as fault
 use Rattle.x7_listing.proofs.AssemblingLemmas.{begins-at, begins-more}
@@ -130,12 +130,12 @@ header-or t = header-by-guess t (header_by (drop 4 t)) (header-is t)
 HasAsm : ℕ → List (List ℕ) → Type 0
 HasAsm limit texts = (outcome : Result (List ℕ) AsmFault) × AreAsm limit texts outcome
 
-from : (limit : ℕ) (all left : List (List ℕ)) (lines : List Line) → Begins limit all lines left → HasAsm limit all
+from : (limit : ℕ) (all left : List (List ℕ)) (lines : List Line) → BeginsWithLines limit all lines left → HasAsm limit all
 unfolding HasAsm
 from limit all [] lines b = (Ok (assembled lines), record { lines = lines; begins = b; is = refl })
 from limit all (t ∷ left) lines b = by (λ l. from limit all left (lines ++ l ∷ [])) (line-or t)
   where
-    by-size : (l : Line) → IsLine t l → (Begins limit all (lines ++ l ∷ []) left → HasAsm limit all) → Decided (length (assembled (lines ++ l ∷ [])) ≤ limit) → HasAsm limit all
+    by-size : (l : Line) → IsLine t l → (BeginsWithLines limit all (lines ++ l ∷ []) left → HasAsm limit all) → Decided (length (assembled (lines ++ l ∷ [])) ≤ limit) → HasAsm limit all
     by-size l i goes-on (inl h) = goes-on (begins-more limit all lines l t left b i.fits i.is h)
     by-size l i goes-on (inr n) = (
       Err (fault.TooLong (length lines + 1)),
@@ -156,7 +156,7 @@ from limit all (t ∷ left) lines b = by (λ l. from limit all left (lines ++ l 
           | inr h ↦ absurd (n h)
         ]
 
-    by : ((l : Line) → Begins limit all (lines ++ l ∷ []) left → HasAsm limit all) → ((l : Line) × IsLine t l) ⊎ ((l : Line) → IsLine t l → ⊥) → HasAsm limit all
+    by : ((l : Line) → BeginsWithLines limit all (lines ++ l ∷ []) left → HasAsm limit all) → ((l : Line) × IsLine t l) ⊎ ((l : Line) → IsLine t l → ⊥) → HasAsm limit all
     by goes-on (inl (l, i)) = by-size l i (goes-on l) (up-to-or (length (assembled (lines ++ l ∷ []))) limit)
     by goes-on (inr none) = (Err (fault.Line (length lines + 1)), record { lines = lines; bad = t; left = left; begins = b; count = refl; no_line = none })
 

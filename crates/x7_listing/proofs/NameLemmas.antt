@@ -1,6 +1,6 @@
 -- The name before the first space of a text.
 use Rattle.std.proofs.Common.{◌≡◌, ◌==◌, ℕ, zero, suc, ◌+◌, ◌-◌, ◌<◌, ◌≤◌, Bool, true, false, if◌then◌else◌, List, [], ◌∷◌, ◌++◌, length, take, drop, get_or, refl, ap, sym, ◌∙◌, arith, length-append, length-drop, take_all}
-use Rattle.x7_listing.specs.BitLine.{has_no_space, IsCut}
+use Rattle.x7_listing.specs.BitLine.{has_no_space, IsCutAtSpace}
 use Rattle.std.proofs.lemmas.Grind.{common_steps}
 use Rattle.x7_regs.specs.Register.{reg_name}
 use Rattle.x7_regs.proofs.NamedLemmas.{register-place}
@@ -58,7 +58,7 @@ split-at (c ∷ cs) zero l e = ap (λ (d : ℕ). d ∷ cs) (equal_numbers c 32 e
 split-at (c ∷ cs) (suc k) l e = ap (λ s. c ∷ s) (split-at cs k (omega arith) e)
 
 -- a text at its first space
-pub cut-at : (t : List ℕ) (k : ℕ) → ((j : ℕ) → 0 ≤ j → j < k → (get_or t j 0 == 32) ≡ true → ⊥) → k < length t → (get_or t k 0 == 32) ≡ true → IsCut t (take k t) (take (length t - (k + 1)) (drop (k + 1) t))
+pub cut-at : (t : List ℕ) (k : ℕ) → ((j : ℕ) → 0 ≤ j → j < k → (get_or t j 0 == 32) ≡ true → ⊥) → k < length t → (get_or t k 0 == 32) ≡ true → IsCutAtSpace t (take k t) (take (length t - (k + 1)) (drop (k + 1) t))
 cut-at t k h l e =
     let one : suc k ≡ k + 1 = omega arith in
     let all : take (length t - (k + 1)) (drop (k + 1) t) ≡ drop (k + 1) t = take_all (length t - (k + 1)) (drop (k + 1) t) (omega (arith, length-drop (k + 1) t)) in

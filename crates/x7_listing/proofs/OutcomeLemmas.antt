@@ -2,7 +2,7 @@
 use Rattle.std.proofs.Common.{◌≡◌, ◌⊎◌, ℕ, ◌+◌, ◌-◌, ◌<◌, ◌≤◌, List, [], ◌∷◌, ◌++◌, inl, inr, Result, Ok, Err, MatchResult, length, map, fold, refl, ap, sym, subst, ◌∙◌, arith, append_assoc, append-nil, length-append}
 use Rattle.std.proofs.lemmas.Grind.{fold-append}
 use Rattle.std.specs.List.{AllByRecursion}
-use Rattle.x7_listing.specs.Assembly.{asm_limit, Assembles, assembled, Begins, AreAsm, after_one_line, Follows, HasNoHeaderLine, IsBad, IsAsm, IsHeaded, IsTooLong, with_line}
+use Rattle.x7_listing.specs.Assembly.{asm_limit, Assembles, assembled, BeginsWithLines, AreAsm, after_one_line, Follows, HasNoHeaderLine, IsFirstBadText, IsAsm, IsHeaded, PassesLimitAt, with_line}
 use Rattle.x7_text.specs.Lines.{split}
 use Rattle.x7_header.specs.Header.{header_bytes}
 use Rattle.x7_listing.specs.BitLine.{bit_text}
@@ -43,12 +43,12 @@ fronts (l ∷ ls) (m ∷ ms) here there a b e =
 
 -- nothing can be read after these lines
 unfoldable Stops : ℕ → List (List ℕ) → List Line → List (List ℕ) → Type 0
-Stops limit texts ls here = (ms : List Line) (there : List (List ℕ)) → Begins limit texts ms there → (f : Front ls ms here there) → f.more ≡ []
+Stops limit texts ls here = (ms : List Line) (there : List (List ℕ)) → BeginsWithLines limit texts ms there → (f : Front ls ms here there) → f.more ≡ []
 
 at-front : (ls ms : List Line) (here there : List (List ℕ)) (f : Front ls ms here there) → f.more ≡ [] → (ls ≡ ms) × (here ≡ there)
 at-front ls ms here there f e = (sym (f.lines ∙ ap (λ t. ls ++ t) e ∙ append-nil ls), f.texts ∙ ap (λ t. map text_of t ++ there) e)
 
-one-place : (limit : ℕ) (texts : List (List ℕ)) (ls ms : List Line) (here there : List (List ℕ)) → Begins limit texts ls here → Begins limit texts ms there → Stops limit texts ls here → Stops limit texts ms there → (ls ≡ ms) × (here ≡ there)
+one-place : (limit : ℕ) (texts : List (List ℕ)) (ls ms : List Line) (here there : List (List ℕ)) → BeginsWithLines limit texts ls here → BeginsWithLines limit texts ms there → Stops limit texts ls here → Stops limit texts ms there → (ls ≡ ms) × (here ≡ there)
 unfolding Stops
 one-place limit texts ls ms here there a b s t =
     elim (fronts ls ms here there a.fits b.fits (sym a.texts ∙ b.texts)) [
@@ -98,23 +98,23 @@ module _ (limit : ℕ) (texts : List (List ℕ)) where
   pub one-bytes : (x y : List ℕ) → Assembles limit texts x → Assembles limit texts y → x ≡ y
   one-bytes x y a b = let p = one-place limit texts a.lines b.lines [] [] a.begins b.begins (end-stops limit texts a.lines) (end-stops limit texts b.lines) in a.is ∙ ap assembled p.0 ∙ sym b.is
 
-  pub not-bad : (x : List ℕ) (n : ℕ) → Assembles limit texts x → IsBad limit texts n → ⊥
+  pub not-bad : (x : List ℕ) (n : ℕ) → Assembles limit texts x → IsFirstBadText limit texts n → ⊥
   not-bad x n a b = let p = one-place limit texts a.lines b.lines [] (b.bad ∷ b.left) a.begins b.begins (end-stops limit texts a.lines) (bad-stops limit texts b.lines b.bad b.left b.no_line) in
       let e : ◌≡◌ {A = List (List ℕ)} [] (b.bad ∷ b.left) = p.1 in cc
 
-  pub not-long : (x : List ℕ) (n : ℕ) → Assembles limit texts x → IsTooLong limit texts n → ⊥
+  pub not-long : (x : List ℕ) (n : ℕ) → Assembles limit texts x → PassesLimitAt limit texts n → ⊥
   not-long x n a b = let p = one-place limit texts a.lines b.lines [] (text_of b.last ∷ b.left) a.begins b.begins (end-stops limit texts a.lines) (long-stops limit texts b.lines b.last b.left b.fits b.passes) in
       let e : ◌≡◌ {A = List (List ℕ)} [] (text_of b.last ∷ b.left) = p.1 in cc
 
-  pub one-bad : (m n : ℕ) → IsBad limit texts m → IsBad limit texts n → m ≡ n
+  pub one-bad : (m n : ℕ) → IsFirstBadText limit texts m → IsFirstBadText limit texts n → m ≡ n
   one-bad m n a b = let p = one-place limit texts a.lines b.lines (a.bad ∷ a.left) (b.bad ∷ b.left) a.begins b.begins (bad-stops limit texts a.lines a.bad a.left a.no_line) (bad-stops limit texts b.lines b.bad b.left b.no_line) in
       a.count ∙ ap (λ (ls : List Line). length ls + 1) p.0 ∙ sym b.count
 
-  pub one-long : (m n : ℕ) → IsTooLong limit texts m → IsTooLong limit texts n → m ≡ n
+  pub one-long : (m n : ℕ) → PassesLimitAt limit texts m → PassesLimitAt limit texts n → m ≡ n
   one-long m n a b = let p = one-place limit texts a.lines b.lines (text_of a.last ∷ a.left) (text_of b.last ∷ b.left) a.begins b.begins (long-stops limit texts a.lines a.last a.left a.fits a.passes) (long-stops limit texts b.lines b.last b.left b.fits b.passes) in
       a.count ∙ ap (λ (ls : List Line). length ls + 1) p.0 ∙ sym b.count
 
-  pub not-both : (m n : ℕ) → IsBad limit texts m → IsTooLong limit texts n → ⊥
+  pub not-both : (m n : ℕ) → IsFirstBadText limit texts m → PassesLimitAt limit texts n → ⊥
   not-both m n a b = let p = one-place limit texts a.lines b.lines (a.bad ∷ a.left) (text_of b.last ∷ b.left) a.begins b.begins (bad-stops limit texts a.lines a.bad a.left a.no_line) (long-stops limit texts b.lines b.last b.left b.fits b.passes) in
       let e : a.bad ∷ a.left ≡ text_of b.last ∷ b.left = p.1 in
       let is : a.bad ≡ text_of b.last = cc in a.no_line b.last (record { fits = b.fits; is = is })

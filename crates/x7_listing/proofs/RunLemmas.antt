@@ -11,21 +11,21 @@ use Rattle.x7_packets.specs.declared.cutter.Cut.{Cut}
 use Rattle.x7_packets.specs.declared.cutter.Cut.TheVariants.{Need, Skip, Sync, Head, Word, Body}
 use Rattle.x7_text.specs.Row.{close}
 use Rattle.x7_listing.specs.HeadLine.{text_of_head}
-use Rattle.x7_listing.specs.Telling.{GapListed, HasListed, words_place, open_words, Writes, WrittenSoFar, written_of}
+use Rattle.x7_listing.specs.Telling.{GapListed, HasListed, words_place, open_words, WritesRun, WrittenSoFar, written_of}
 use Rattle.x7_listing.proofs.TellingLemmas.{skip_told, sync_told, words_told_at}
 use Rattle.x7_listing.proofs.SessionLemmas.{head_next, head_told}
 
 -- a statement for a run is one for what the run is
-as_run : (run run2 : Cut) (synced s2 : Bool) (line l2 : ℕ) (held h2 all all2 : List ℕ) → run ≡ run2 → Writes run2 (written_of synced line held all) (written_of s2 l2 h2 all2) → Writes run (written_of synced line held all) (written_of s2 l2 h2 all2)
-as_run run run2 synced s2 line l2 held h2 all all2 e w = subst (λ r. Writes r (written_of synced line held all) (written_of s2 l2 h2 all2)) (sym e) w
+as_run : (run run2 : Cut) (synced s2 : Bool) (line l2 : ℕ) (held h2 all all2 : List ℕ) → run ≡ run2 → WritesRun run2 (written_of synced line held all) (written_of s2 l2 h2 all2) → WritesRun run (written_of synced line held all) (written_of s2 l2 h2 all2)
+as_run run run2 synced s2 line l2 held h2 all all2 e w = subst (λ r. WritesRun r (written_of synced line held all) (written_of s2 l2 h2 all2)) (sym e) w
 
-synced_pen : (run : Cut) (synced s2 : Bool) (line l2 l3 : ℕ) (held h2 all all2 : List ℕ) → s2 ≡ true → l2 ≡ l3 → Writes run (written_of synced line held all) (written_of true l3 h2 all2) → Writes run (written_of synced line held all) (written_of s2 l2 h2 all2)
-synced_pen run synced s2 line l2 l3 held h2 all all2 e f w = subst (λ s. Writes run (written_of synced line held all) (written_of s l2 h2 all2)) (sym e) (subst (λ l. Writes run (written_of synced line held all) (written_of true l h2 all2)) (sym f) w)
+synced_pen : (run : Cut) (synced s2 : Bool) (line l2 l3 : ℕ) (held h2 all all2 : List ℕ) → s2 ≡ true → l2 ≡ l3 → WritesRun run (written_of synced line held all) (written_of true l3 h2 all2) → WritesRun run (written_of synced line held all) (written_of s2 l2 h2 all2)
+synced_pen run synced s2 line l2 l3 held h2 all all2 e f w = subst (λ s. WritesRun run (written_of synced line held all) (written_of s l2 h2 all2)) (sym e) (subst (λ l. WritesRun run (written_of synced line held all) (written_of true l h2 all2)) (sym f) w)
 
 longer : (given old new more : List ℕ) → new ≡ old ++ more → given ++ new ≡ given ++ old ++ more
 longer given old new more e = ap (λ x. given ++ x) e ∙ sym (append_assoc given old more)
 
-pub by_sync : (run : Cut) (synced s2 : Bool) (line l2 : ℕ) (held h2 given old new : List ℕ) → run ≡ Sync → s2 ≡ true → l2 ≡ 0 → new ≡ old ++ (close line ++ codes "sync\n") → Writes run (written_of synced line held (given ++ old)) (written_of s2 l2 h2 (given ++ new))
+pub by_sync : (run : Cut) (synced s2 : Bool) (line l2 : ℕ) (held h2 given old new : List ℕ) → run ≡ Sync → s2 ≡ true → l2 ≡ 0 → new ≡ old ++ (close line ++ codes "sync\n") → WritesRun run (written_of synced line held (given ++ old)) (written_of s2 l2 h2 (given ++ new))
 by_sync run synced s2 line l2 held h2 given old new is e f t =
     let all2 : given ++ new ≡ given ++ old ++ close line ++ codes "sync\n" = ap (λ x. given ++ x) (t ∙ sym (append_assoc old (close line) (codes "sync\n"))) ∙ sym (append_assoc given (old ++ close line) (codes "sync\n")) ∙ ap (λ x. x ++ codes "sync\n") (sym (append_assoc given old (close line))) in
     as_run run Sync synced s2 line l2 held h2 (given ++ old) (given ++ new) is (synced_pen Sync synced s2 line l2 0 held h2 (given ++ old) (given ++ new) e f
@@ -61,7 +61,7 @@ body_adds synced line l2 held h2 all all2 before bytes sessions new_sessions (Sy
     words_told_at synced line l2 held h2 all all2 before bytes sessions new_sessions gap tail packets np o n (payload_steps register (words_of_bytes body.now)) t p q a r h
 
 pub by_head : (run : Cut) (synced s2 : Bool) (line l2 from : ℕ) (held h2 given old new : List ℕ) (w : ℕ) (step : Step) → run ≡ Head w step → (synced ≡ true → from ≡ line) → s2 ≡ true → l2 ≡ 0
-    → new ≡ old ++ (close from ++ text_of_head step w) → Writes run (written_of synced line held (given ++ old)) (written_of s2 l2 h2 (given ++ new))
+    → new ≡ old ++ (close from ++ text_of_head step w) → WritesRun run (written_of synced line held (given ++ old)) (written_of s2 l2 h2 (given ++ new))
 by_head run synced s2 line l2 from held h2 given old new w step is same e f t =
     as_run run (Head w step) synced s2 line l2 held h2 (given ++ old) (given ++ new) is (synced_pen (Head w step) synced s2 line l2 0 held h2 (given ++ old) (given ++ new) e f
     (λ before bytes sessions new_sessions spot np o n listed adds turns is_run reading. head_adds synced line 0 held h2 (given ++ old) (given ++ new) before bytes sessions new_sessions spot np o n w step listed adds turns.0 turns.1 reading
@@ -71,7 +71,7 @@ by_head run synced s2 line l2 from held h2 given old new w step is same e f t =
     ))))
 
 pub by_word : (run : Cut) (synced s2 : Bool) (line l2 from : ℕ) (held h2 given old new : List ℕ) (register w : ℕ) → run ≡ Word register w → (synced ≡ true → from ≡ line) → s2 ≡ true → l2 ≡ words_place from (payload_steps register (w ∷ []))
-    → new ≡ old ++ open_words from (payload_steps register (w ∷ [])) → Writes run (written_of synced line held (given ++ old)) (written_of s2 l2 h2 (given ++ new))
+    → new ≡ old ++ open_words from (payload_steps register (w ∷ [])) → WritesRun run (written_of synced line held (given ++ old)) (written_of s2 l2 h2 (given ++ new))
 by_word run synced s2 line l2 from held h2 given old new register w is same e f t =
     let more : List (ℕ × Step) = payload_steps register (w ∷ []) in
     as_run run (Word register w) synced s2 line l2 held h2 (given ++ old) (given ++ new) is (synced_pen (Word register w) synced s2 line l2 (words_place from more) held h2 (given ++ old) (given ++ new) e f
@@ -79,7 +79,7 @@ by_word run synced s2 line l2 from held h2 given old new register w is same e f 
     (λ s. (longer given old new (open_words from more) t ∙ ap (λ k. given ++ old ++ open_words k more) (same s), ap (λ k. words_place k more) (same s)))))
 
 pub by_body : (run : Cut) (synced s2 : Bool) (line l2 from : ℕ) (held h2 given old new : List ℕ) (register : ℕ) (body : Bor (List ℕ)) → run ≡ Body register body → (synced ≡ true → from ≡ line) → s2 ≡ true → l2 ≡ words_place from (payload_steps register (words_of_bytes body.now))
-    → new ≡ old ++ open_words from (payload_steps register (words_of_bytes body.now)) → Writes run (written_of synced line held (given ++ old)) (written_of s2 l2 h2 (given ++ new))
+    → new ≡ old ++ open_words from (payload_steps register (words_of_bytes body.now)) → WritesRun run (written_of synced line held (given ++ old)) (written_of s2 l2 h2 (given ++ new))
 by_body run synced s2 line l2 from held h2 given old new register body is same e f t =
     let more : List (ℕ × Step) = payload_steps register (words_of_bytes body.now) in
     as_run run (Body register body) synced s2 line l2 held h2 (given ++ old) (given ++ new) is (synced_pen (Body register body) synced s2 line l2 (words_place from more) held h2 (given ++ old) (given ++ new) e f
@@ -87,9 +87,9 @@ by_body run synced s2 line l2 from held h2 given old new register body is same e
     (λ s. (longer given old new (open_words from more) t ∙ ap (λ k. given ++ old ++ open_words k more) (same s), ap (λ k. words_place k more) (same s)))))
 
 pub by_skip : (run : Cut) (part : Bor (List ℕ)) (synced s2 : Bool) (line l1 l2 : ℕ) (held h1 h2 given old new : List ℕ) → run ≡ Skip part → s2 ≡ false → l1 ≡ (if synced then 0 else line) → h1 ≡ (if synced then [] else held)
-    → ((given start gap : List ℕ) → GapListed (given ++ old) start l1 h1 gap → GapListed (given ++ new) start l2 h2 (gap ++ part.now)) → Writes run (written_of synced line held (given ++ old)) (written_of s2 l2 h2 (given ++ new))
+    → ((given start gap : List ℕ) → GapListed (given ++ old) start l1 h1 gap → GapListed (given ++ new) start l2 h2 (gap ++ part.now)) → WritesRun run (written_of synced line held (given ++ old)) (written_of s2 l2 h2 (given ++ new))
 by_skip run part synced s2 line l1 l2 held h1 h2 given old new is e f k g =
-    as_run run (Skip part) synced s2 line l2 held h2 (given ++ old) (given ++ new) is (subst (λ s. Writes (Skip part) (written_of synced line held (given ++ old)) (written_of s l2 h2 (given ++ new))) (sym e)
+    as_run run (Skip part) synced s2 line l2 held h2 (given ++ old) (given ++ new) is (subst (λ s. WritesRun (Skip part) (written_of synced line held (given ++ old)) (written_of s l2 h2 (given ++ new))) (sym e)
     (λ before bytes sessions new_sessions spot np o n listed adds turns is_run reading. skip_told synced line l2 held h2 (given ++ old) (given ++ new) before sessions new_sessions spot np o n part listed adds turns
     (λ start gap t. g given start gap (subst (λ l. GapListed (given ++ old) start l h1 gap) (sym f) (subst (λ h. GapListed (given ++ old) start (if synced then 0 else line) h gap) (sym k) t)))))
 

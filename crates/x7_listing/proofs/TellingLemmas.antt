@@ -7,7 +7,7 @@ use Rattle.x7_packets.specs.SyncWord.{sync_bytes}
 use Rattle.x7_packets.specs.Packet.{Packet, EachPacket, ended, stepped}
 use Rattle.x7_packets.specs.Taking.{ends_by, is_end}
 use Rattle.x7_packets.specs.Reading.{Place, Searching, Synced, Session, IsReading, IsSession, tail_of}
-use Rattle.x7_packets.specs.Cutting.{Adds, Longer, Turns}
+use Rattle.x7_packets.specs.Cutting.{Adds, LongerSession, Turns}
 use Rattle.x7_packets.specs.declared.header.Step.{Step}
 use Rattle.x7_packets.specs.declared.header.Step.TheVariants.{Filler, Nop, Open, Payload, Read, Bad}
 use Rattle.x7_packets.specs.Mode.{Mode}
@@ -131,7 +131,7 @@ words_by line line2 held2 all all2 before bytes sessions new_sessions gap packet
 
 -- words more of a session are listed: a header's word, or payload words
 pub words_told_at : (synced : Bool) (line line2 : ℕ) (held held2 all all2 before bytes : List ℕ) (sessions new_sessions : List Session) (gap tail : List ℕ) (packets : List Packet) (np : Place) (old new : Mode) (more : List (ℕ × Step))
-    → HasListed (written_of synced line held all) before sessions (Synced gap packets tail) old → (old ≡ Mode.Due → ⊥) → (new ≡ Mode.Due → ⊥) → Longer gap packets more sessions new_sessions np → IsReading bytes new_sessions np
+    → HasListed (written_of synced line held all) before sessions (Synced gap packets tail) old → (old ≡ Mode.Due → ⊥) → (new ≡ Mode.Due → ⊥) → LongerSession gap packets more sessions new_sessions np → IsReading bytes new_sessions np
     → (synced ≡ true → (all2 ≡ all ++ open_words line more) × (line2 ≡ words_place line more)) → HasListed (written_of true line2 held2 all2) before new_sessions np new
 words_told_at false line line2 held held2 all all2 before bytes sessions new_sessions gap tail packets np old new more t o n l r h = absurd (o t.0)
 words_told_at true line line2 held held2 all all2 before bytes sessions new_sessions gap tail packets np old new more t o n l r h =

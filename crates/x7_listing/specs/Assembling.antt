@@ -6,14 +6,14 @@ use Rattle.x7_header.specs.Header.{Contents, header_bytes, longest_header}
 use Rattle.x7_listing.specs.BitLine.{bit_text, IsHeld}
 use Rattle.x7_listing.specs.Line.{Line, line_bytes, FitsLine, IsListed}
 use Rattle.x7_listing.specs.Listed.{ended_texts}
-use Rattle.x7_listing.specs.Assembly.{AreHeadedAsm, asm_limit, assembled, Begins, HasNoHeaderLine}
+use Rattle.x7_listing.specs.Assembly.{AreHeadedAsm, asm_limit, assembled, BeginsWithLines, HasNoHeaderLine}
 use Rattle.x7_listing.specs.declared.assembler.AsmFault.{AsmFault}
 use Rattle.x7_listing.specs.declared.assembler.AsmFault.TheVariants as fault
 
 -- the first texts are those of lines, whose bytes these are, and the others are left
-pub record Went (limit : ℕ) (all left : List (List ℕ)) (bytes : List ℕ) (n : ℕ) : Type 0 where
+pub record LinesAreRead (limit : ℕ) (all left : List (List ℕ)) (bytes : List ℕ) (n : ℕ) : Type 0 where
   pub lines : List Line
-  pub begins : Begins limit all lines left
+  pub begins : BeginsWithLines limit all lines left
   pub is : bytes ≡ assembled lines
   pub count : n ≡ length lines
 
@@ -33,8 +33,8 @@ pub record OpensPlain (all others : List (List ℕ)) (prefix : List ℕ) (n : �
   pub none : n ≡ 0
 
 -- the texts after n texts of a header
-abbrev pub Opens : List (List ℕ) → List (List ℕ) → List ℕ → ℕ → Type 0
-Opens all others prefix n = OpensHeaded all others prefix n ⊎ OpensPlain all others prefix n
+abbrev pub OpensText : List (List ℕ) → List (List ℕ) → List ℕ → ℕ → Type 0
+OpensText all others prefix n = OpensHeaded all others prefix n ⊎ OpensPlain all others prefix n
 
 -- what is read so far: the bytes, where those of lines begin, their check, and how many lines were
 pub record AsmState : Type 0 where
@@ -59,7 +59,7 @@ abbrev pub HasLineRoom : Output → Type 0
 HasLineRoom b = length b.out + 32 ≤ b.room
 
 -- the bytes of lines begin within the bytes so far, and the checker keeps theirs
-pub record IsSound (out : List ℕ) (start : ℕ) (checker : CheckerState) : Type 0 where
+pub record IsSoundOutput (out : List ℕ) (start : ℕ) (checker : CheckerState) : Type 0 where
   pub begun : start ≤ length out
   pub keeps : Keeps checker (drop start out)
 
@@ -68,15 +68,15 @@ abbrev pub state_behind : Output → ℕ → AsmState
 state_behind b n = asm_state b.out b.start b.checker n
 
 -- The texts are read but for those that are left: their bytes are these, those of lines from `start` on, whose check is kept.
-pub record Goes (all left : List (List ℕ)) (b : AsmState) : Type 0 where
+pub record TextsAreRead (all left : List (List ℕ)) (b : AsmState) : Type 0 where
   pub others : List (List ℕ)
   pub first : ℕ
   pub read : ℕ
   pub long : b.start ≤ length b.out
   pub short : b.start ≤ longest_header
   pub keeps : Keeps b.checker (drop b.start b.out)
-  pub opens : Opens all others (take b.start b.out) first
-  pub went : Went (asm_limit - b.start) others left (drop b.start b.out) read
+  pub opens : OpensText all others (take b.start b.out) first
+  pub went : LinesAreRead (asm_limit - b.start) others left (drop b.start b.out) read
   pub count_is : b.count ≡ first + read
 
 -- none of the texts is read yet
@@ -89,7 +89,7 @@ pub record Unbegun (all left : List (List ℕ)) (b : AsmState) : Type 0 where
 
 -- the texts are read but for those that are left: from the first on, or none yet
 abbrev pub Waits : Bool → List (List ℕ) → List (List ℕ) → AsmState → Type 0
-Waits true = Goes
+Waits true = TextsAreRead
 Waits false = Unbegun
 
 -- The text begins with whole lines, none of which is a comment or the check; their bytes were appended, and the rest is left.
@@ -132,7 +132,7 @@ HasAsmFault f lines = (f ≡ fault.NoMemory) ⊎ AreHeadedAsm lines (Err f)
 
 -- a first line is read
 abbrev pub ReadsFirst : Output → Output → List ℕ → Type 0
-ReadsFirst old new line = (all left : List (List ℕ)) → Unbegun all (line ∷ left) (state_behind old 0) → Goes all left (state_behind new 1)
+ReadsFirst old new line = (all left : List (List ℕ)) → Unbegun all (line ∷ left) (state_behind old 0) → TextsAreRead all left (state_behind new 1)
 
 -- a first line is refused for this fault; want of memory says nothing
 abbrev pub FailsFirst : Output → List ℕ → AsmFault → Type 0
@@ -140,8 +140,8 @@ FailsFirst old line f = (f ≡ fault.NoMemory) ⊎ ((all left : List (List ℕ))
 
 -- line n is read, after others
 abbrev pub ReadsNext : Output → Output → ℕ → List ℕ → Type 0
-ReadsNext old new n line = (all left : List (List ℕ)) (k : ℕ) → n ≡ k + 1 → Goes all (line ∷ left) (state_behind old k) → Goes all left (state_behind new n)
+ReadsNext old new n line = (all left : List (List ℕ)) (k : ℕ) → n ≡ k + 1 → TextsAreRead all (line ∷ left) (state_behind old k) → TextsAreRead all left (state_behind new n)
 
 -- line n, after others, is refused for this fault; want of memory says nothing
 abbrev pub FailsNext : Output → ℕ → List ℕ → AsmFault → Type 0
-FailsNext old n line f = (f ≡ fault.NoMemory) ⊎ ((all left : List (List ℕ)) (k : ℕ) → n ≡ k + 1 → Goes all (line ∷ left) (state_behind old k) → AreHeadedAsm all (Err f))
+FailsNext old n line f = (f ≡ fault.NoMemory) ⊎ ((all left : List (List ℕ)) (k : ℕ) → n ≡ k + 1 → TextsAreRead all (line ∷ left) (state_behind old k) → AreHeadedAsm all (Err f))

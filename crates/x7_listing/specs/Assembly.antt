@@ -18,7 +18,7 @@ abbrev pub assembled : List Line → List ℕ
 assembled ls = fold with_line [] ls
 
 -- the first texts are those of these lines, whose bytes are within the limit, and these texts are left
-pub record Begins (limit : ℕ) (all : List (List ℕ)) (lines : List Line) (left : List (List ℕ)) : Type 0 where
+pub record BeginsWithLines (limit : ℕ) (all : List (List ℕ)) (lines : List Line) (left : List (List ℕ)) : Type 0 where
   pub texts : all ≡ map text_of lines ++ left
   pub fits : AllByRecursion FitsLine lines
   pub within : length (assembled lines) ≤ limit
@@ -26,24 +26,24 @@ pub record Begins (limit : ℕ) (all : List (List ℕ)) (lines : List Line) (lef
 -- the texts are those of lines, and these are their bytes
 pub record Assembles (limit : ℕ) (all : List (List ℕ)) (bytes : List ℕ) : Type 0 where
   pub lines : List Line
-  pub begins : Begins limit all lines []
+  pub begins : BeginsWithLines limit all lines []
   pub is : bytes ≡ assembled lines
 
 -- text n is the first that is of no line, and the bytes before it are within the limit
-pub record IsBad (limit : ℕ) (all : List (List ℕ)) (n : ℕ) : Type 0 where
+pub record IsFirstBadText (limit : ℕ) (all : List (List ℕ)) (n : ℕ) : Type 0 where
   pub lines : List Line
   pub bad : List ℕ
   pub left : List (List ℕ)
-  pub begins : Begins limit all lines (bad ∷ left)
+  pub begins : BeginsWithLines limit all lines (bad ∷ left)
   pub count : n ≡ length lines + 1
   pub no_line : (l : Line) → IsLine bad l → ⊥
 
 -- text n is the first at which the bytes pass the limit, and a line each up to it
-pub record IsTooLong (limit : ℕ) (all : List (List ℕ)) (n : ℕ) : Type 0 where
+pub record PassesLimitAt (limit : ℕ) (all : List (List ℕ)) (n : ℕ) : Type 0 where
   pub lines : List Line
   pub last : Line
   pub left : List (List ℕ)
-  pub begins : Begins limit all lines (text_of last ∷ left)
+  pub begins : BeginsWithLines limit all lines (text_of last ∷ left)
   pub fits : FitsLine last
   pub count : n ≡ length lines + 1
   pub passes : limit < length (assembled (lines ++ last ∷ []))
@@ -51,8 +51,8 @@ pub record IsTooLong (limit : ℕ) (all : List (List ℕ)) (n : ℕ) : Type 0 wh
 -- what texts of lines assemble to: their bytes, or their first fault; want of memory is never theirs
 abbrev pub AreAsm : ℕ → List (List ℕ) → Result (List ℕ) AsmFault → Type 0
 AreAsm limit all (Ok bytes) = Assembles limit all bytes
-AreAsm limit all (Err (fault.Line n)) = IsBad limit all n
-AreAsm limit all (Err (fault.TooLong n)) = IsTooLong limit all n
+AreAsm limit all (Err (fault.Line n)) = IsFirstBadText limit all n
+AreAsm limit all (Err (fault.TooLong n)) = PassesLimitAt limit all n
 AreAsm limit all (Err fault.NoMemory) = ⊥
 
 -- how many bytes a text may stand for

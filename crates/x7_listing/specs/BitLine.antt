@@ -48,6 +48,6 @@ abbrev pub IsFirstSpace : List ℕ → ℕ → Type 0
 IsFirstSpace text at = (at < length text) × (slice_index text at ≡ 32) × ((j : ℕ) → j < at → slice_index text j ≢ 32)
 
 -- the text stands before the first space of all, and the rest after it
-pub record IsCut (all text rest : List ℕ) : Type 0 where
+pub record IsCutAtSpace (all text rest : List ℕ) : Type 0 where
   pub is : all ≡ text ++ 32 ∷ rest
   pub free : has_no_space text ≡ true

@@ -7,7 +7,7 @@ use Rattle.x7_packets.specs.declared.cutter.Cut.TheVariants.{Head}
 use Rattle.x7_packets.specs.declared.header.Step.{Step}
 use Rattle.x7_packets.specs.Reading.{Place, Session, tail_of}
 use Rattle.x7_listing.specs.Listing.{reading_text}
-use Rattle.x7_listing.specs.Telling.{GapListed, HasListedAll, ListerState, ListerStandsFor, Tells, WrittenSoFar, lister_of, written_of}
+use Rattle.x7_listing.specs.Telling.{GapListed, HasListedAll, ListerState, ListerStandsFor, HasListedJust, WrittenSoFar, lister_of, written_of}
 use Rattle.x7_listing.specs.declared.list.pen.state.Pen.{Pen}
 
 -- a lister with this pen
@@ -20,11 +20,11 @@ TakesHead c w step = TakesAsOneRun c c (bytes_of_word w) (Head w step)
 
 -- the lister has listed these bytes too
 abbrev pub TellsOn : ListerState → ListerState → List ℕ → Type 0
-TellsOn old new more = (given before bytes : List ℕ) → Tells old given before bytes → Tells new given before (bytes ++ more)
+TellsOn old new more = (given before bytes : List ℕ) → HasListedJust old given before bytes → HasListedJust new given before (bytes ++ more)
 
 -- the lister has listed these bytes too, and no sync word is still to be listed
 abbrev pub RestsOn : ListerState → ListerState → List ℕ → Type 0
-RestsOn old new more = (given before bytes : List ℕ) → Tells old given before bytes → ListerStandsFor new given before (bytes ++ more)
+RestsOn old new more = (given before bytes : List ℕ) → HasListedJust old given before bytes → ListerStandsFor new given before (bytes ++ more)
 
 -- what is written with this pen
 abbrev pub written_with : Pen → List ℕ → WrittenSoFar

@@ -94,8 +94,8 @@ pub record HasListedAll (w : WrittenSoFar) (before : List ℕ) (sessions : List 
   pub not_due : mode ≡ Mode.Due → ⊥
 
 -- A run writes what it adds to a reading: what is listed before it is listed after it.
-abbrev pub Writes : Cut → WrittenSoFar → WrittenSoFar → Type 0
-Writes run w w2 =
+abbrev pub WritesRun : Cut → WrittenSoFar → WrittenSoFar → Type 0
+WritesRun run w w2 =
     (before bytes : List ℕ) (sessions new_sessions : List Session) (place new_place : Place) (old new : Mode)
     → HasListed w before sessions place old → Adds run sessions place new_sessions new_place → Turns run old new new_place → IsRun run
     → IsReading bytes new_sessions new_place → HasListed w2 before new_sessions new_place new
@@ -118,7 +118,7 @@ abbrev pub listing_written : ListerState → List ℕ → WrittenSoFar
 listing_written l given = written_of l.synced l.line l.held (given ++ l.text)
 
 -- The texts given and the lister's are those of listings before, and then what is listed of these bytes.
-pub record Tells (l : ListerState) (given before bytes : List ℕ) : Type 0 where
+pub record HasListedJust (l : ListerState) (given before bytes : List ℕ) : Type 0 where
   pub sessions : List Session
   pub at : Place
   pub cut : CutterStandsFor l.cutter bytes sessions at
@@ -126,7 +126,7 @@ pub record Tells (l : ListerState) (given before bytes : List ℕ) : Type 0 wher
 
 -- A lister of pieces: the texts given and its own are those of listings before, and then what is listed of these bytes; no sync word is still to be listed.
 pub record ListerStandsFor (l : ListerState) (given before bytes : List ℕ) : Type 0 where
-  pub tells : Tells l given before bytes
+  pub tells : HasListedJust l given before bytes
   pub ready : l.cutter.mode ≡ Mode.Due → ⊥
 
 -- A lister that takes the runs of a stream: the texts given and its own are those of listings before, and then what is listed of these

@@ -12,7 +12,7 @@ use Rattle.std.proofs.lemmas.Option.{none-some, same_Some}
 use Rattle.std.proofs.lemmas.Bool.{cases_order}
 use Rattle.x7_words.specs.Word.{AreWords}
 use Rattle.x7_memory.specs.Planned.{PlanRow, IsPlan, IsPlanRow, AreInOrder, AreApart, planned, planned_addresses}
-use Rattle.x7_memory.specs.Places.{IsPlace, IsGap}
+use Rattle.x7_memory.specs.Places.{IsRowPlace, IsGap}
 
 pub no_row : PlanRow
 no_row = record { far = 0; words = [] }
@@ -147,7 +147,7 @@ planned_permuted rows others far same apart = by (planned rows far) refl (planne
 
 -- ---- whether an address is planned
 
-pub place_listed : (rows : List PlanRow) (far i : ℕ) → IsPlace rows far i → Contains (planned_addresses rows) far
+pub place_listed : (rows : List PlanRow) (far i : ℕ) → IsRowPlace rows far i → Contains (planned_addresses rows) far
 place_listed rows far i place =
     let long = length-map rows (λ row. row.far) in
     (i, (let h = place.inside in omega arith), get_or-map (λ row. row.far) rows i no_row far place.inside ∙ place.same no_row)

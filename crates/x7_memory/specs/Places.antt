@@ -3,7 +3,7 @@ use Rattle.std.specs.Prelude.{◌≡◌, ℕ, ◌<◌, ◌≤◌, List, length, 
 use Rattle.x7_memory.specs.Planned.{PlanRow}
 
 -- the row at place i has the address
-pub record IsPlace (rows : List PlanRow) (far i : ℕ) : Type 0 where
+pub record IsRowPlace (rows : List PlanRow) (far i : ℕ) : Type 0 where
   pub inside : i < length rows
   pub same : (d : PlanRow) → (slice_index_or rows i d).far ≡ far
 

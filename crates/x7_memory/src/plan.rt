@@ -2,7 +2,7 @@
 ghost use Rattle.std.specs.Prelude.{◌≡◌, ℕ, ◌<◌, ◌≤◌, ◌==◌, ◌↔◌, true, false, Ok, if◌then◌else◌, [], length, slice_index_or, Contains, Some, None, IfSome, IfNone, IfOk, IfErr, OnOk, OnErr};
 ghost use Rattle.std.specs.List.{insert};
 ghost use Rattle.x7_memory.specs.Planned.{PlanRow, PlanData, IsPlan, HasMore, planned, planned_addresses};
-ghost use Rattle.x7_memory.specs.Places.{IsPlace, IsGap};
+ghost use Rattle.x7_memory.specs.Places.{IsRowPlace, IsGap};
 
 use crate::rows::Rows;
 use std::alloc::{AllocError, Global};
@@ -64,7 +64,7 @@ impl Plan {
 
     /// Where the address is, or where it would go.
     fn search(&self, far: u32) -> Result<usize, usize>
-        ensures found { IfOk result (IsPlace self.now.rows far) }
+        ensures found { IfOk result (IsRowPlace self.now.rows far) }
         ensures gap { IfErr result (IsGap self.now.rows far) }
     {
         self.rows.search(far)

@@ -3,7 +3,7 @@ ghost use Rattle.std.specs.Prelude.{◌≡◌, [], ◌∷◌, ◌++◌, ◌<◌,
 ghost use Rattle.std.specs.List.{insert};
 ghost use Rattle.std.specs.List.Sorted.{IsNonDecreasingBy};
 ghost use Rattle.x7_memory.specs.Planned.{PlanRow, AreInOrder};
-ghost use Rattle.x7_memory.specs.Places.{IsPlace, IsGap};
+ghost use Rattle.x7_memory.specs.Places.{IsRowPlace, IsGap};
 
 use std::alloc::{AllocError, Global};
 use std::marker::Model;
@@ -88,7 +88,7 @@ impl Rows {
     /// Where an address is among rows in order, or where it would go.
     pub(crate) fn search(&self, far: u32) -> Result<usize, usize>
         requires { AreInOrder self.now.rows }
-        ensures found { IfOk result (IsPlace self.now.rows far) }
+        ensures found { IfOk result (IsRowPlace self.now.rows far) }
         ensures gap { IfErr result (IsGap self.now.rows far) }
     {
         self.rows.binary_search_by_key(&far, |row| row.far)

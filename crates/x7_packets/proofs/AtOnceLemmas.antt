@@ -13,7 +13,7 @@ use Rattle.x7_packets.specs.declared.header.Step.TheVariants.{Nop, Open, Payload
 use Rattle.x7_packets.specs.declared.cutter.Cut.TheVariants.{Body, Head, Skip}
 use Rattle.x7_packets.specs.Mode.{Mode}
 use Rattle.x7_packets.specs.AtOnce.{BeginsWrite, EndsGap, in_write, TakesAsOneRun, WritesFew, WritesOne}
-use Rattle.x7_packets.specs.Cutting.{AtPlace, CutterState, CutterStandsFor, Longer, Went}
+use Rattle.x7_packets.specs.Cutting.{AtPlace, CutterState, CutterStandsFor, LongerSession, AfterRun}
 use Rattle.x7_packets.specs.PacketWords.{dummy_word, no_op, sync_word, type1_write, type1_write_kind}
 use Rattle.x7_packets.specs.Packet.{Packet, ends_session, meaning, payload_steps, register_of}
 use Rattle.x7_packets.specs.Reading.{Place, Searching, Session, Synced, packet_bytes, session_bytes}
@@ -64,7 +64,7 @@ fits_word w = (omega arith, (omega arith, (omega arith, (omega arith, tt))))
 record GoesOn (n : CutterState) (bytes : List ℕ) (sessions : List Session) (gap : List ℕ) (packets : List Packet) (more : List (ℕ × Step)) : Type 0 where
   new : Place
   stands : CutterStandsFor n bytes sessions new
-  longer : Longer gap packets more sessions sessions new
+  longer : LongerSession gap packets more sessions sessions new
 
 goes_on : (c n : CutterState) (w : ℕ) (step : Step) (bytes : List ℕ) (sessions : List Session) (gap tail : List ℕ) (packets : List Packet) → c.mode ≡ Mode.Synced → n.mode ≡ Mode.Synced → c.kept ≡ [] → n.kept ≡ []
     → is_end step ≡ false → ((ps : List Packet) → MachineStandsFor c.machine ps → Grows ps ((w, step) ∷ []) n.machine)
@@ -181,7 +181,7 @@ ends_gap old new bs count is to same none2 clear long fits near i =
       long = long;
       found = up_to_sync bs count i.here;
       gap = λ run e bytes sessions place s.
-          subst (λ (t : List ℕ). Went old middle (bytes ++ t) sessions place (Skip run)) (sym e)
+          subst (λ (t : List ℕ). AfterRun old middle (bytes ++ t) sessions place (Skip run)) (sym e)
           (skip_found old middle bytes bs run (count + 4) sessions place s is refl refl (λ gap m n. found_clear old.matcher old.matcher gap bs count clear i m n) e (all_take (λ b. b < 256) (count + 4) bs fits));
       sync = λ bytes sessions place s. sync_told middle new bytes sessions place s refl to same none2;
       none_kept = none2;

@@ -9,7 +9,7 @@ use Rattle.x7_packets.specs.Matching.{MatcherStandsFor, Searched}
 use Rattle.x7_packets.specs.Packet.{Packet, words, stepped}
 use Rattle.x7_packets.specs.Taking.{MachineStandsFor, Grows, ends_by}
 use Rattle.x7_packets.specs.Reading.{Place, Searching, Synced, Session, IsReading, IsSession, packet_bytes, session_bytes}
-use Rattle.x7_packets.specs.Cutting.{CutterState, CutterStandsFor, AtPlace, Cuts, KeepsNone, Longer, Went, run_steps}
+use Rattle.x7_packets.specs.Cutting.{CutterState, CutterStandsFor, AtPlace, Cuts, KeepsNone, LongerSession, AfterRun, run_steps}
 use Rattle.x7_packets.specs.declared.header.Step.{Step}
 use Rattle.x7_packets.specs.declared.header.Step.TheVariants.{Payload}
 use Rattle.x7_packets.specs.Mode.{Mode}
@@ -27,7 +27,7 @@ more_bytes = all-append (λ b. b < 256)
 -- fewer bytes than a word lacks
 pub kept_more : (c n : CutterState) (bytes more : List ℕ) (sessions : List Session) (place : Place) → CutterStandsFor c bytes sessions place
     → c.mode ≡ Mode.Synced → n.mode ≡ Mode.Synced → n.machine ≡ c.machine → n.kept ≡ c.kept ++ more → length c.kept + length more < 4 → AreBytes more
-    → Went c n (bytes ++ more) sessions place Need
+    → AfterRun c n (bytes ++ more) sessions place Need
 kept_more c n bytes more sessions (Searching gap) s is to same kept short fits = absurd (let h : AtPlace c Mode.Synced (Searching gap) = rw is at s.at in h)
 kept_more c n bytes more sessions (Synced gap packets tail) s is to same kept short fits =
     let h : MachineStandsFor c.machine packets × (tail ≡ c.kept) = rw is at s.at in
@@ -50,7 +50,7 @@ kept_more c n bytes more sessions (Synced gap packets tail) s is to same kept sh
 -- the sync word is given
 pub sync_told : (c n : CutterState) (bytes : List ℕ) (sessions : List Session) (place : Place) → CutterStandsFor c bytes sessions place
     → c.mode ≡ Mode.Due → n.mode ≡ Mode.Synced → n.machine ≡ c.machine → n.kept ≡ []
-    → Went c n (bytes ++ []) sessions place Sync
+    → AfterRun c n (bytes ++ []) sessions place Sync
 sync_told c n bytes sessions (Searching gap) s is to same none = absurd (let h : AtPlace c Mode.Due (Searching gap) = rw is at s.at in h)
 sync_told c n bytes sessions (Synced gap packets tail) s is to same none =
     let h : (packets ≡ []) × (tail ≡ []) × MachineStandsFor c.machine [] = rw is at s.at in
@@ -69,7 +69,7 @@ sync_told c n bytes sessions (Synced gap packets tail) s is to same none =
 pub skip_found : (c n : CutterState) (bytes rest : List ℕ) (run : Bor (List ℕ)) (count : ℕ) (sessions : List Session) (place : Place)
     → CutterStandsFor c bytes sessions place → c.mode ≡ Mode.Searching → n.mode ≡ Mode.Due → n.machine ≡ c.machine
     → ((gap : List ℕ) → MatcherStandsFor c.matcher gap → HasNoSync gap → Searched gap rest (Some count) n.matcher) → run.now ≡ take count rest → AreBytes (take count rest)
-    → Went c n (bytes ++ take count rest) sessions place (Skip run)
+    → AfterRun c n (bytes ++ take count rest) sessions place (Skip run)
 skip_found c n bytes rest run count sessions (Synced gap packets tail) s is to same after e fits = absurd (let h : AtPlace c Mode.Searching (Synced gap packets tail) = rw is at s.at in h)
 skip_found c n bytes rest run count sessions (Searching gap) s is to same after e fits =
     let h : MatcherStandsFor c.matcher gap × MachineStandsFor c.machine [] = rw is at s.at in
@@ -93,7 +93,7 @@ skip_found c n bytes rest run count sessions (Searching gap) s is to same after 
 pub skip_all : (c n : CutterState) (bytes rest : List ℕ) (run : Bor (List ℕ)) (sessions : List Session) (place : Place)
     → CutterStandsFor c bytes sessions place → c.mode ≡ Mode.Searching → n.mode ≡ Mode.Searching → n.machine ≡ c.machine
     → ((gap : List ℕ) → MatcherStandsFor c.matcher gap → HasNoSync gap → Searched gap rest None n.matcher) → run.now ≡ rest → AreBytes rest
-    → Went c n (bytes ++ rest) sessions place (Skip run)
+    → AfterRun c n (bytes ++ rest) sessions place (Skip run)
 skip_all c n bytes rest run sessions (Synced gap packets tail) s is to same after e fits = absurd (let h : AtPlace c Mode.Searching (Synced gap packets tail) = rw is at s.at in h)
 skip_all c n bytes rest run sessions (Searching gap) s is to same after e fits =
     let h : MatcherStandsFor c.matcher gap × MachineStandsFor c.machine [] = rw is at s.at in
@@ -119,7 +119,7 @@ not_due false e f = absurd (cc)
 
 -- what words more come to
 abbrev WordsMore : CutterState → List ℕ → List Session → List ℕ → List Packet → List (ℕ × Step) → Type 0
-WordsMore n bytes sessions gap packets more = (new_sessions : List Session) × (new : Place) × CutterStandsFor n bytes new_sessions new × Longer gap packets more sessions new_sessions new
+WordsMore n bytes sessions gap packets more = (new_sessions : List Session) × (new : Place) × CutterStandsFor n bytes new_sessions new × LongerSession gap packets more sessions new_sessions new
 
 pub joined_more : (r bytes gap tail new new_session session word : List ℕ) → bytes ≡ r ++ (gap ++ sync_bytes ++ session ++ tail) → new_session ≡ session ++ word → word ≡ tail ++ new → bytes ++ new ≡ r ++ (gap ++ sync_bytes ++ new_session)
 joined_more r bytes gap tail new new_session session word e f g = rw (e, f, g) (simp append_assoc)
@@ -178,7 +178,7 @@ pub head_more : (c n : CutterState) (bytes new : List ℕ) (sessions : List Sess
     → CutterStandsFor c bytes sessions place → c.mode ≡ Mode.Synced
     → ((ps : List Packet) → MachineStandsFor c.machine ps → Grows ps ((w, step) ∷ []) n.machine) → AreBytes new
     → bytes_of_word w ≡ c.kept ++ new → n.kept ≡ [] → n.mode ≡ (if ends_by ((w, step) ∷ []) then Mode.Searching else Mode.Synced) → (ends_by ((w, step) ∷ []) ≡ true → MatcherStandsFor n.matcher [])
-    → Went c n (bytes ++ new) sessions place (Head w step)
+    → AfterRun c n (bytes ++ new) sessions place (Head w step)
 head_more c n bytes new sessions (Searching gap) w step s is grows fits word none to matcher = absurd (let h : AtPlace c Mode.Synced (Searching gap) = rw is at s.at in h)
 head_more c n bytes new sessions (Synced gap packets tail) w step s is grows fits word none to matcher =
     let m = words_more c n bytes new sessions gap tail packets ((w, step) ∷ []) s is grows fits (append-nil (bytes_of_word w) ∙ word) none to matcher in
@@ -188,7 +188,7 @@ pub word_more : (c n : CutterState) (bytes new : List ℕ) (sessions : List Sess
     → CutterStandsFor c bytes sessions place → c.mode ≡ Mode.Synced
     → ((ps : List Packet) → MachineStandsFor c.machine ps → Grows ps ((w, Payload register w) ∷ []) n.machine) → AreBytes new
     → bytes_of_word w ≡ c.kept ++ new → n.kept ≡ [] → n.mode ≡ (if ends_by ((w, Payload register w) ∷ []) then Mode.Searching else Mode.Synced) → (ends_by ((w, Payload register w) ∷ []) ≡ true → MatcherStandsFor n.matcher [])
-    → Went c n (bytes ++ new) sessions place (Word register w)
+    → AfterRun c n (bytes ++ new) sessions place (Word register w)
 word_more c n bytes new sessions (Searching gap) register w s is grows fits word none to matcher = absurd (let h : AtPlace c Mode.Synced (Searching gap) = rw is at s.at in h)
 word_more c n bytes new sessions (Synced gap packets tail) register w s is grows fits word none to matcher =
     let m = words_more c n bytes new sessions gap tail packets ((w, Payload register w) ∷ []) s is grows fits (append-nil (bytes_of_word w) ∙ word) none to matcher in
@@ -198,7 +198,7 @@ pub body_more : (c n : CutterState) (bytes new : List ℕ) (sessions : List Sess
     → CutterStandsFor c bytes sessions place → c.mode ≡ Mode.Synced
     → ((ps : List Packet) → MachineStandsFor c.machine ps → Grows ps (run_steps (Body register run)) n.machine) → AreBytes new
     → flat_map bytes_of_word (map (λ (s : ℕ × Step). s.0) (run_steps (Body register run))) ≡ c.kept ++ new → n.kept ≡ [] → n.mode ≡ (if ends_by (run_steps (Body register run)) then Mode.Searching else Mode.Synced) → (ends_by (run_steps (Body register run)) ≡ true → MatcherStandsFor n.matcher [])
-    → Went c n (bytes ++ new) sessions place (Body register run)
+    → AfterRun c n (bytes ++ new) sessions place (Body register run)
 body_more c n bytes new sessions (Searching gap) register run s is grows fits word none to matcher = absurd (let h : AtPlace c Mode.Synced (Searching gap) = rw is at s.at in h)
 body_more c n bytes new sessions (Synced gap packets tail) register run s is grows fits word none to matcher =
     let m = words_more c n bytes new sessions gap tail packets (run_steps (Body register run)) s is grows fits word none to matcher in

@@ -11,7 +11,7 @@ use Rattle.x7_packets.specs.declared.cutter.Cut.{Cut}
 use Rattle.x7_packets.specs.declared.cutter.Cut.TheVariants.{Need, Skip, Sync, Head, Word, Body}
 use Rattle.x7_packets.specs.Packet.{Packet, words, stepped, payload_steps, ended}
 use Rattle.x7_packets.specs.Reading.{Place, Searching, Synced, Session, IsReading, session_bytes, place_bytes, packet_bytes, tail_of}
-use Rattle.x7_packets.specs.Cutting.{Adds, CutterState, CutterStandsFor, GoesOnAt, Longer, Went, run_steps}
+use Rattle.x7_packets.specs.Cutting.{Adds, CutterState, CutterStandsFor, GoesOnAt, LongerSession, AfterRun, run_steps}
 use Rattle.x7_packets.specs.ByHand.{Reading, reading_of}
 use Rattle.x7_packets.specs.History.{Read, Write, History, entry, entered, entered_all, entered_sessions, history, history_in, history_of, next_in, next_word}
 use Rattle.x7_packets.proofs.ByHandLemmas.{reading_is}
@@ -71,7 +71,7 @@ pub grown_goes_on : (gap tail : List ℕ) (packets all : List Packet) (more : Li
 grown_goes_on gap tail packets all more sessions e = grown_enters (length (flat_map session_bytes sessions) + length gap + 4) packets all more (entered_sessions 0 sessions []) e
 
 -- words more in a session, by whether they end it
-by_end : (gap tail : List ℕ) (packets : List Packet) (more : List (ℕ × Step)) (sessions new_sessions : List Session) (new : Place) (l : Longer gap packets more sessions new_sessions new) (b : Bool) → ended l.all ≡ b
+by_end : (gap tail : List ℕ) (packets : List Packet) (more : List (ℕ × Step)) (sessions new_sessions : List Session) (new : Place) (l : LongerSession gap packets more sessions new_sessions new) (b : Bool) → ended l.all ≡ b
     → history new_sessions new ≡ entered_all (next_word sessions (Synced gap packets tail)) more (history sessions (Synced gap packets tail))
 by_end gap tail packets more sessions new_sessions new l true e =
     let f : (new_sessions ≡ sessions ++ record { gap = gap; packets = l.all } ∷ []) × (new ≡ Searching []) = l.ends e in
@@ -81,7 +81,7 @@ by_end gap tail packets more sessions new_sessions new l false e =
     rw (f.0, f.1) (grown_goes_on gap tail packets l.all more sessions l.grown)
 
 -- words more in a session enter their accesses
-pub words_enter : (gap tail : List ℕ) (packets : List Packet) (more : List (ℕ × Step)) (sessions new_sessions : List Session) (new : Place) → Longer gap packets more sessions new_sessions new
+pub words_enter : (gap tail : List ℕ) (packets : List Packet) (more : List (ℕ × Step)) (sessions new_sessions : List Session) (new : Place) → LongerSession gap packets more sessions new_sessions new
     → history new_sessions new ≡ entered_all (next_word sessions (Synced gap packets tail)) more (history sessions (Synced gap packets tail))
 words_enter gap tail packets more sessions new_sessions new l = by_end gap tail packets more sessions new_sessions new l (ended l.all) refl
 
@@ -116,7 +116,7 @@ pub next_word-is : (bytes : List ℕ) (sessions : List Session) (place : Place) 
 next_word-is bytes sessions place r = length_of_place sessions place ∙ sym (ap length r.joined ∙ length-append (flat_map session_bytes sessions) (place_bytes place))
 
 -- words more in a session bring the place of the next word on by four bytes each, by whether they end it
-next_by_end : (gap tail : List ℕ) (packets : List Packet) (more : List (ℕ × Step)) (sessions new_sessions : List Session) (new : Place) (l : Longer gap packets more sessions new_sessions new) (b : Bool) → ended l.all ≡ b
+next_by_end : (gap tail : List ℕ) (packets : List Packet) (more : List (ℕ × Step)) (sessions new_sessions : List Session) (new : Place) (l : LongerSession gap packets more sessions new_sessions new) (b : Bool) → ended l.all ≡ b
     → (next_word new_sessions new ≡ next_word sessions (Synced gap packets tail) + 4 * length more) × (tail_of new ≡ [])
 next_by_end gap tail packets more sessions new_sessions new l true e =
     let f : (new_sessions ≡ sessions ++ record { gap = gap; packets = l.all } ∷ []) × (new ≡ Searching []) = l.ends e in
@@ -129,7 +129,7 @@ next_by_end gap tail packets more sessions new_sessions new l false e =
     let f : (new_sessions ≡ sessions) × (new ≡ Synced gap l.all []) = l.goes_on e in
     rw (f.0, f.1) (omega (arith, ap length l.grown, length-append (flat_map stepped packets) more), refl)
 
-pub words_end : (gap tail : List ℕ) (packets : List Packet) (more : List (ℕ × Step)) (sessions new_sessions : List Session) (new : Place) → Longer gap packets more sessions new_sessions new
+pub words_end : (gap tail : List ℕ) (packets : List Packet) (more : List (ℕ × Step)) (sessions new_sessions : List Session) (new : Place) → LongerSession gap packets more sessions new_sessions new
     → (next_word new_sessions new ≡ next_word sessions (Synced gap packets tail) + 4 * length more) × (tail_of new ≡ [])
 words_end gap tail packets more sessions new_sessions new l = next_by_end gap tail packets more sessions new_sessions new l (ended l.all) refl
 
@@ -147,7 +147,7 @@ pub history_is : (bytes : List ℕ) (sessions : List Session) (place : Place) �
 history_is bytes sessions place r = let e = reading_is bytes sessions place r in ap (λ t. history t place) e.0 ∙ ap (history (reading_of bytes).sessions) e.1
 
 -- a call of a cutter enters the accesses of its run behind the bytes that it had taken
-pub cut_enters : (old new : CutterState) (bytes more : List ℕ) (sessions : List Session) (place : Place) (run : Cut) (n : ℕ) → CutterStandsFor old bytes sessions place → Went old new (bytes ++ more) sessions place run
+pub cut_enters : (old new : CutterState) (bytes more : List ℕ) (sessions : List Session) (place : Place) (run : Cut) (n : ℕ) → CutterStandsFor old bytes sessions place → AfterRun old new (bytes ++ more) sessions place run
     → n + length (tail_of place) ≡ length bytes → history_of (bytes ++ more) ≡ entered_all n (run_steps run) (history_of bytes)
 cut_enters old new bytes more sessions place run n s w e =
     let same : next_word sessions place ≡ n = omega (arith, next_word-is bytes sessions place s.reading, e) in

@@ -8,7 +8,7 @@ use Rattle.x7_words.specs.Word.{words_of_bytes}
 use Rattle.x7_packets.specs.SyncWord.{sync_bytes}
 use Rattle.x7_packets.specs.Packet.{Packet, ended, payload_steps}
 use Rattle.x7_packets.specs.Reading.{Place, Searching, Synced, Session, IsPlace, IsReading, tail_of}
-use Rattle.x7_packets.specs.Cutting.{Adds, AtPlace, CompletesNone, CutterState, CutterStandsFor, Cuts, Goes, IsLent, IsNeed, IsRun, SkipsAll, Longer, Turns, Went, between, calls_left, run_bytes}
+use Rattle.x7_packets.specs.Cutting.{Adds, AtPlace, CompletesNone, CutterState, CutterStandsFor, Cuts, ComesNearer, IsLent, IsNeed, IsRun, SkipsAll, LongerSession, Turns, AfterRun, between, calls_left, run_bytes}
 use Rattle.x7_packets.specs.declared.header.Step.{Step}
 use Rattle.x7_packets.specs.declared.cutter.Cut.{Cut}
 use Rattle.x7_packets.specs.declared.cutter.Cut.TheVariants as cut
@@ -18,7 +18,7 @@ use Rattle.x7_packets.specs.declared.stream.Run.{Run}
 use Rattle.x7_packets.specs.declared.stream.Run.TheVariants as run
 use Rattle.x7_packets.specs.PacketsState.{PacketsState}
 use Rattle.x7_packets.specs.Run.{FitsRun, IsNext, RunAdds, cut_of, is_last, bytes_of_run}
-use Rattle.x7_packets.specs.Running.{GivesRun, GivesUp, IsFound, IsLastFound, IsRunOf, PacketsStandFor, Reads, SameDue, Steps, Tells, filled, not_given, with_tail}
+use Rattle.x7_packets.specs.Running.{GivesRun, GivesUp, IsFound, IsLastFound, IsRunOf, PacketsStandFor, ReadsOn, SameDue, Steps, ReadsAndGives, filled, not_given, with_tail}
 
 -- how many reads there are at most until a word is whole
 abbrev pub turns_left : List ℕ → List ℕ → ℕ
@@ -37,7 +37,7 @@ with_tail_twice t u (Synced gap packets tail) = refl
 
 -- ---- what a run adds, whatever bytes are kept after the words before it
 
-longer_bare : {gap : List ℕ} {packets : List Packet} {more : List (ℕ × Step)} {sessions new_sessions : List Session} {new : Place} (b : Bool) (l : Longer gap packets more sessions new_sessions new) → ended l.all ≡ b → tail_of new ≡ []
+longer_bare : {gap : List ℕ} {packets : List Packet} {more : List (ℕ × Step)} {sessions new_sessions : List Session} {new : Place} (b : Bool) (l : LongerSession gap packets more sessions new_sessions new) → ended l.all ≡ b → tail_of new ≡ []
 longer_bare true l e = ap tail_of (l.ends e).1
 longer_bare false l e = ap tail_of (l.goes_on e).1
 
@@ -90,7 +90,7 @@ skip_turns a b old new (Synced gap packets tail) h = h
 
 body_alike : (register : ℕ) (a b : Bor (List ℕ)) (sessions new_sessions : List Session) (place new : Place) → b.now ≡ a.now → Adds (cut.Body register a) sessions place new_sessions new → Adds (cut.Body register b) sessions place new_sessions new
 body_alike register a b sessions ns (Searching gap) new e h = absurd h
-body_alike register a b sessions ns (Synced gap packets tail) new e h = subst (λ t. Longer gap packets (payload_steps register (words_of_bytes t)) sessions ns new) (sym e) h
+body_alike register a b sessions ns (Synced gap packets tail) new e h = subst (λ t. LongerSession gap packets (payload_steps register (words_of_bytes t)) sessions ns new) (sym e) h
 
 same_skip : (a b : Bor (List ℕ)) → b.now ≡ a.now → Same (cut.Skip a) (run.Skip b)
 same_skip a b e = record {
@@ -157,21 +157,21 @@ found_needs_none FoundRun.End c i n = i
 -- ---- one call of the cutter
 
 -- a call of the cutter on all bytes that are left
-pub cuts_whole : (c n : CutterState) (rest : List ℕ) (count : ℕ) (r : Cut) → Goes r (length rest - count) (calls_left c (length rest - 0)) (calls_left n (length rest - count))
+pub cuts_whole : (c n : CutterState) (rest : List ℕ) (count : ℕ) (r : Cut) → ComesNearer r (length rest - count) (calls_left c (length rest - 0)) (calls_left n (length rest - count))
     → (IsNeed r ↔ CompletesNone c c.mode (length rest - 0)) → c.kept ++ between rest 0 count ≡ run_bytes r ++ n.kept → IsRun r → IsLent c (length rest - 0) r → SkipsAll n (length rest - 0) r
-    → ((bytes : List ℕ) (sessions : List Session) (place : Place) → CutterStandsFor c bytes sessions place → Went c n (bytes ++ between rest 0 count) sessions place r)
+    → ((bytes : List ℕ) (sessions : List Session) (place : Place) → CutterStandsFor c bytes sessions place → AfterRun c n (bytes ++ between rest 0 count) sessions place r)
     → Cuts c n rest count r
 cuts_whole c n rest count r g nd j i l k a =
     let all : length rest - 0 ≡ length rest = omega arith in
     let from : count - 0 ≡ count = omega arith in
     record {
-      goes = subst (λ (m : ℕ). Goes r (length rest - count) (calls_left c m) (calls_left n (length rest - count))) all g;
+      goes = subst (λ (m : ℕ). ComesNearer r (length rest - count) (calls_left c m) (calls_left n (length rest - count))) all g;
       need = subst (λ (m : ℕ). IsNeed r ↔ CompletesNone c c.mode m) all nd;
       joined = subst (λ (m : ℕ). c.kept ++ take m rest ≡ run_bytes r ++ n.kept) from j;
       run = i;
       lent = subst (λ (m : ℕ). IsLent c m r) all l;
       skips = subst (λ (m : ℕ). SkipsAll n m r) all k;
-      adds = λ bytes sessions place s. subst (λ (m : ℕ). Went c n (bytes ++ take m rest) sessions place r) from (a bytes sessions place s);
+      adds = λ bytes sessions place s. subst (λ (m : ℕ). AfterRun c n (bytes ++ take m rest) sessions place r) from (a bytes sessions place s);
     }
 
 -- bytes taken of those from one place to another
@@ -252,7 +252,7 @@ pub needs : (old new : PacketsState) (bytes given : List ℕ) (s : Steps old new
 needs old new bytes given s on p =
     let none : not_given old ≡ old.cutter.kept = untold_on old on in
     let still : new.done ≡ false = s.done ∙ on in
-    let w : Went old.cutter new.cutter ((given ++ not_given old) ++ take s.count old.left) p.sessions (with_tail old.cutter.kept p.place) s.run = s.cuts.adds _ p.sessions _ p.cutter in
+    let w : AfterRun old.cutter new.cutter ((given ++ not_given old) ++ take s.count old.left) p.sessions (with_tail old.cutter.kept p.place) s.run = s.cuts.adds _ p.sessions _ p.cutter in
     let k : new.cutter.kept ≡ tail_of w.new_place = s.kept _ w.new_sessions w.new_place w.stands in
     let at : (w.new_sessions ≡ p.sessions) × (w.new_place ≡ with_tail new.cutter.kept p.place) = need_place s.run p.sessions w.new_sessions p.place w.new_place old.cutter.kept new.cutter.kept s.is w.adds k in
     let t : (old.cutter.mode ≡ Mode.Due → ⊥) × (new.cutter.mode ≡ Mode.Due → ⊥) = need_turns s.run old.cutter.mode new.cutter.mode w.new_place s.is w.turns in
@@ -282,7 +282,7 @@ runs old new bytes given r s on last p =
     let never : IsNeed s.run → ⊥ = found_needs_none new.found s.run s.is in
     let none : not_given old ≡ old.cutter.kept = untold_on old on in
     let still : new.done ≡ false = s.done ∙ on in
-    let w : Went old.cutter new.cutter ((given ++ not_given old) ++ take s.count old.left) p.sessions (with_tail old.cutter.kept p.place) s.run = s.cuts.adds _ p.sessions _ p.cutter in
+    let w : AfterRun old.cutter new.cutter ((given ++ not_given old) ++ take s.count old.left) p.sessions (with_tail old.cutter.kept p.place) s.run = s.cuts.adds _ p.sessions _ p.cutter in
     let k : new.cutter.kept ≡ tail_of w.new_place = s.kept _ w.new_sessions w.new_place w.stands in
     let bare : tail_of w.new_place ≡ [] = bare_after s.run p.sessions (with_tail old.cutter.kept p.place) w.new_sessions w.new_place never w.adds in
     let empty : new.cutter.kept ≡ [] = k ∙ bare in
@@ -325,7 +325,7 @@ runs old new bytes given r s on last p =
 -- ---- one read more
 
 -- a call that needs more bytes took all that were left
-need_goes : (c : Cut) (a b d : ℕ) → IsNeed c → Goes c a b d → a ≡ 0
+need_goes : (c : Cut) (a b d : ℕ) → IsNeed c → ComesNearer c a b d → a ≡ 0
 need_goes cut.Need a b d n g = g
 need_goes (cut.Skip bytes) a b d n g = absurd n
 need_goes cut.Sync a b d n g = absurd n
@@ -379,7 +379,7 @@ same_due : (old now new : Mode) → SameDue old now → (now ≡ Mode.Due → �
 same_due old now new s n m = (λ e. absurd (n (s.0 e)), λ e. absurd (m e))
 
 -- after a call that needs more bytes, and a read
-pub reads_on : (first old new : PacketsState) (more piece : List ℕ) (s : Steps old new false) → old.done ≡ false → Reads first old more → Reads first (filled new piece) (more ++ piece)
+pub reads_on : (first old new : PacketsState) (more piece : List ℕ) (s : Steps old new false) → old.done ≡ false → ReadsOn first old more → ReadsOn first (filled new piece) (more ++ piece)
 reads_on first old new more piece s on r = record {
   count = ap (λ t. t + length piece) (s.taken ∙ r.count) ∙ omega (arith, length-append more piece);
   stands = λ bytes given p.
@@ -390,7 +390,7 @@ reads_on first old new more piece s on r = record {
       );
 }
 
-pub reads_none : (p : PacketsState) → Reads p p []
+pub reads_none : (p : PacketsState) → ReadsOn p p []
 reads_none p = record {
   count = omega arith;
   stands = λ bytes given s. (subst (λ t. PacketsStandFor p t given) (sym (append-nil bytes)) s, (λ e. e, λ e. e));
@@ -424,7 +424,7 @@ kind_goes_on (FoundRun.Body register) c r bytes kept i l = ap is_last l.1
 kind_goes_on FoundRun.Tail c r bytes kept i l = absurd i
 kind_goes_on FoundRun.End c r bytes kept i l = absurd i
 
-pub tells_run : (first old new : PacketsState) (more : List ℕ) (r : Run) (s : Steps old new true) → old.done ≡ false → old.failed ≡ false → IsLastFound new r → Reads first old more → Tells first new more r
+pub tells_run : (first old new : PacketsState) (more : List ℕ) (r : Run) (s : Steps old new true) → old.done ≡ false → old.failed ≡ false → IsLastFound new r → ReadsOn first old more → ReadsAndGives first new more r
 tells_run first old new more r s on good last reads =
     let goes : is_last r ≡ false = kind_goes_on new.found s.run r new.bytes new.cutter.kept s.is last in
     record {
@@ -548,9 +548,9 @@ finishes p new r (x ∷ xs) k on none tail end last =
     rw (is, at.1) (tail_ends p at.0 on none (omega (arith, ap length k)) at.2)
 
 -- after a call that needs more bytes, and a read that gave none
-pub tells_end : (first old now new : PacketsState) (more : List ℕ) (r : Run) (s : Steps old now false) → old.done ≡ false → old.failed ≡ false → Reads first old more
+pub tells_end : (first old now new : PacketsState) (more : List ℕ) (r : Run) (s : Steps old now false) → old.done ≡ false → old.failed ≡ false → ReadsOn first old more
     → (now.cutter.kept ≢ [] → new ≡ record (filled now []) { found = FoundRun.Tail; done = true }) → (now.cutter.kept ≡ [] → new ≡ record (filled now []) { found = FoundRun.End; done = true })
-    → IsLastFound new r → Tells first new more r × (is_last r ≡ true)
+    → IsLastFound new r → ReadsAndGives first new more r × (is_last r ≡ true)
 tells_end first old now new more r s on good reads tail end last =
     let e : Ends (filled now []) new r = finishes (filled now []) new r now.cutter.kept refl (s.done ∙ on) refl tail end last in (
       record {
@@ -583,7 +583,7 @@ untold_off : (p : PacketsState) → p.done ≡ true → not_given p ≡ []
 untold_off p e = rw e refl
 
 -- the end is given again
-again : (p : PacketsState) → p.done ≡ true → p.failed ≡ false → Tells p (record p { found = FoundRun.End; done = true }) [] run.End
+again : (p : PacketsState) → p.done ≡ true → p.failed ≡ false → ReadsAndGives p (record p { found = FoundRun.End; done = true }) [] run.End
 again p off good = record {
   count = omega arith;
   stands = λ bytes given s.
@@ -604,7 +604,7 @@ gives_again p rest r off good end at =
     rw (same, at) (record { more = []; taken = sym (preceded-nil rest); tells = again p off good; end = λ _. end })
 
 -- a read that gave none, and then the end
-pub gives_end : (first old now mid new : PacketsState) (more piece : List ℕ) (rest rest_mid rest_now : Option (List ℕ)) (r : Run) (s : Steps old now false) → old.done ≡ false → old.failed ≡ false → Reads first old more
+pub gives_end : (first old now mid new : PacketsState) (more piece : List ℕ) (rest rest_mid rest_now : Option (List ℕ)) (r : Run) (s : Steps old now false) → old.done ≡ false → old.failed ≡ false → ReadsOn first old more
     → rest ≡ preceded more rest_mid → rest_mid ≡ preceded piece rest_now → mid ≡ filled now piece → piece ≡ [] → AtEnd rest_now
     → (mid.cutter.kept ≢ [] → new ≡ record mid { found = FoundRun.Tail; done = true }) → (mid.cutter.kept ≡ [] → new ≡ record mid { found = FoundRun.End; done = true })
     → IsLastFound new r → GivesRun first new rest rest_now r
@@ -620,7 +620,7 @@ gives_end first old now mid new more piece rest rest_mid rest_now r s on good re
     }
 
 -- a read that failed
-pub gives_up : (first old now new : PacketsState) (more : List ℕ) (s : Steps old now false) → old.done ≡ false → Reads first old more → new ≡ record now { bytes = []; failed = true } → GivesUp first new
+pub gives_up : (first old now new : PacketsState) (more : List ℕ) (s : Steps old now false) → old.done ≡ false → ReadsOn first old more → new ≡ record now { bytes = []; failed = true } → GivesUp first new
 gives_up first old now new more s on reads e = rw e (record {
   more = more;
   reads = record {

@@ -4,7 +4,7 @@ use Rattle.std.specs.Borrow.{Bor}
 use Rattle.x7_words.specs.Word.{bytes_of_word}
 use Rattle.x7_regs.specs.Register.{number_of}
 use Rattle.x7_regs.specs.declared.register.Reg.TheVariants.{Cmd}
-use Rattle.x7_packets.specs.Cutting.{CutterState, CutterStandsFor, Went}
+use Rattle.x7_packets.specs.Cutting.{CutterState, CutterStandsFor, AfterRun}
 use Rattle.x7_packets.specs.PacketWords.{type1_write}
 use Rattle.x7_packets.specs.Taking.{MachineState}
 use Rattle.x7_packets.specs.Reading.{Place, Session}
@@ -15,7 +15,7 @@ use Rattle.x7_packets.specs.declared.header.Step.TheVariants.{Open}
 
 -- the bytes `taken`, taken as one run, turn the old cutter into the new one, whatever bytes came before
 abbrev pub TakesAsOneRun : CutterState → CutterState → List ℕ → Cut → Type 0
-TakesAsOneRun old new taken run = (bytes : List ℕ) (sessions : List Session) (place : Place) → CutterStandsFor old bytes sessions place → Went old new (bytes ++ taken) sessions place run
+TakesAsOneRun old new taken run = (bytes : List ℕ) (sessions : List Session) (place : Place) → CutterStandsFor old bytes sessions place → AfterRun old new (bytes ++ taken) sessions place run
 
 -- the bytes begin with a write of one word, its header's reserved bits 0
 pub record BeginsWrite (bytes : List ℕ) (register w : ℕ) : Type 0 where

@@ -63,7 +63,7 @@ run_steps (Body register bytes) = payload_steps register (words_of_bytes bytes.n
 run_steps _ = []
 
 -- words more in a session, each with its step; where the last ends the session, a gap begins
-pub record Longer (gap : List ℕ) (packets : List Packet) (more : List (ℕ × Step)) (sessions new_sessions : List Session) (new : Place) : Type 0 where
+pub record LongerSession (gap : List ℕ) (packets : List Packet) (more : List (ℕ × Step)) (sessions new_sessions : List Session) (new : Place) : Type 0 where
   pub all : List Packet
   pub grown : flat_map stepped all ≡ flat_map stepped packets ++ more
   pub end : ended all ≡ ends_by more
@@ -73,7 +73,7 @@ pub record Longer (gap : List ℕ) (packets : List Packet) (more : List (ℕ × 
 -- a reading in a session goes on by these words, each with its step
 abbrev pub GoesOnAt : List (ℕ × Step) → List Session → Place → Reading → Type 0
 GoesOnAt more sessions (Searching gap) new = ⊥
-GoesOnAt more sessions (Synced gap packets tail) new = Longer gap packets more sessions new.sessions new.place
+GoesOnAt more sessions (Synced gap packets tail) new = LongerSession gap packets more sessions new.sessions new.place
 
 -- a reading goes on by these words of a session, each with its step
 abbrev pub GoesOnBy : List (ℕ × Step) → Reading → Reading → Type 0
@@ -88,11 +88,11 @@ Adds (Skip bytes) sessions (Synced gap packets tail) new_sessions new = ⊥
 Adds Sync sessions (Searching gap) new_sessions new = ⊥
 Adds Sync sessions (Synced gap packets tail) new_sessions new = (packets ≡ []) × (tail ≡ []) × (new_sessions ≡ sessions) × (new ≡ Synced gap [] [])
 Adds (Head w step) sessions (Searching gap) new_sessions new = ⊥
-Adds (Head w step) sessions (Synced gap packets tail) new_sessions new = Longer gap packets (run_steps (Head w step)) sessions new_sessions new
+Adds (Head w step) sessions (Synced gap packets tail) new_sessions new = LongerSession gap packets (run_steps (Head w step)) sessions new_sessions new
 Adds (Word register w) sessions (Searching gap) new_sessions new = ⊥
-Adds (Word register w) sessions (Synced gap packets tail) new_sessions new = Longer gap packets (run_steps (Word register w)) sessions new_sessions new
+Adds (Word register w) sessions (Synced gap packets tail) new_sessions new = LongerSession gap packets (run_steps (Word register w)) sessions new_sessions new
 Adds (Body register bytes) sessions (Searching gap) new_sessions new = ⊥
-Adds (Body register bytes) sessions (Synced gap packets tail) new_sessions new = Longer gap packets (run_steps (Body register bytes)) sessions new_sessions new
+Adds (Body register bytes) sessions (Synced gap packets tail) new_sessions new = LongerSession gap packets (run_steps (Body register bytes)) sessions new_sessions new
 
 -- how a run goes with what the cutter is at before and after it: the sync word is due just after it came, and given at once
 abbrev pub Turns : Cut → Mode → Mode → Place → Type 0
@@ -161,12 +161,12 @@ abbrev pub calls_left : CutterState → ℕ → ℕ
 calls_left c left = 2 * left + syncs_due c.mode
 
 -- a call that needs more bytes has used the piece up; any other comes nearer to that
-abbrev pub Goes : Cut → ℕ → ℕ → ℕ → Type 0
-Goes Need left calls_before calls = left ≡ 0
-Goes _ left calls_before calls = calls < calls_before
+abbrev pub ComesNearer : Cut → ℕ → ℕ → ℕ → Type 0
+ComesNearer Need left calls_before calls = left ≡ 0
+ComesNearer _ left calls_before calls = calls < calls_before
 
 -- the cutter after a call that gave this run: it stands for `bytes`, and the run added to the reading before
-pub record Went (old new : CutterState) (bytes : List ℕ) (sessions : List Session) (place : Place) (run : Cut) : Type 0 where
+pub record AfterRun (old new : CutterState) (bytes : List ℕ) (sessions : List Session) (place : Place) (run : Cut) : Type 0 where
   pub new_sessions : List Session
   pub new_place : Place
   pub stands : CutterStandsFor new bytes new_sessions new_place
@@ -175,7 +175,7 @@ pub record Went (old new : CutterState) (bytes : List ℕ) (sessions : List Sess
 
 -- the cutter after a call that gave this run, from a reading as one value
 abbrev pub WentFrom : CutterState → CutterState → List ℕ → Reading → Cut → Type 0
-WentFrom old new bytes r run = Went old new bytes r.sessions r.place run
+WentFrom old new bytes r run = AfterRun old new bytes r.sessions r.place run
 
 -- some cutter that stood for bytes with this reading took more in a call, as this run
 pub record HasCut (bytes more : List ℕ) (r : Reading) (run : Cut) : Type 0 where
@@ -186,10 +186,10 @@ pub record HasCut (bytes more : List ℕ) (r : Reading) (run : Cut) : Type 0 whe
 
 -- one call of a cutter on the bytes that are left of a piece, of which it took a number
 pub record Cuts (old new : CutterState) (rest : List ℕ) (taken : ℕ) (cut : Cut) : Type 0 where
-  pub goes : Goes cut (length rest - taken) (calls_left old (length rest)) (calls_left new (length rest - taken))
+  pub goes : ComesNearer cut (length rest - taken) (calls_left old (length rest)) (calls_left new (length rest - taken))
   pub need : IsNeed cut ↔ CompletesNone old old.mode (length rest)
   pub joined : old.kept ++ take taken rest ≡ run_bytes cut ++ new.kept
   pub run : IsRun cut
   pub lent : IsLent old (length rest) cut
   pub skips : SkipsAll new (length rest) cut
-  pub adds : (bytes : List ℕ) (sessions : List Session) (place : Place) → CutterStandsFor old bytes sessions place → Went old new (bytes ++ take taken rest) sessions place cut
+  pub adds : (bytes : List ℕ) (sessions : List Session) (place : Place) → CutterStandsFor old bytes sessions place → AfterRun old new (bytes ++ take taken rest) sessions place cut

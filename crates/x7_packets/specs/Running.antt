@@ -96,7 +96,7 @@ abbrev pub SameDue : Mode → Mode → Type 0
 SameDue old new = (old ≡ Mode.Due) ↔ (new ≡ Mode.Due)
 
 -- the reader took more bytes of the input, and gave none
-pub record Reads (old new : PacketsState) (more : List ℕ) : Type 0 where
+pub record ReadsOn (old new : PacketsState) (more : List ℕ) : Type 0 where
   pub count : new.taken ≡ old.taken + length more
   pub stands : (bytes given : List ℕ) → PacketsStandFor old bytes given → PacketsStandFor new (bytes ++ more) given × SameDue old.cutter.mode new.cutter.mode
 
@@ -104,13 +104,13 @@ pub record Reads (old new : PacketsState) (more : List ℕ) : Type 0 where
 -- after what was read; payload words and a gap's bytes among them are lent at once.
 pub record LendsRun (old new : PacketsState) (more : List ℕ) (r : Run) : Type 0 where
   pub at : PacketsState
-  pub reads : Reads old at more
+  pub reads : ReadsOn old at more
   pub bytes : at.cutter.kept ++ at.left ≡ bytes_of_run r ++ new.left
   pub lent : IsLent at.cutter (length at.left) (cut_of r)
   pub skips : SkipsAll new.cutter (length at.left) (cut_of r)
 
 -- the reader took more bytes of the input, and gave those of a run
-pub record Tells (old new : PacketsState) (more : List ℕ) (r : Run) : Type 0 where
+pub record ReadsAndGives (old new : PacketsState) (more : List ℕ) (r : Run) : Type 0 where
   pub count : new.taken ≡ old.taken + length more
   pub stands : (bytes given : List ℕ) → PacketsStandFor old bytes given → PacketsStandFor new (bytes ++ more) (given ++ bytes_of_run r) × IsNext given old.cutter.mode r new.cutter.mode
   pub all : is_last r ≡ true → (bytes given : List ℕ) → PacketsStandFor old bytes given → given ++ bytes_of_run r ≡ bytes ++ more
@@ -122,13 +122,13 @@ pub record Tells (old new : PacketsState) (more : List ℕ) (r : Run) : Type 0 w
 pub record GivesRun (old new : PacketsState) (rest rest_now : Option (List ℕ)) (r : Run) : Type 0 where
   pub more : List ℕ
   pub taken : rest ≡ preceded more rest_now
-  pub tells : Tells old new more r
+  pub tells : ReadsAndGives old new more r
   pub end : is_last r ≡ true → AtEnd rest_now
 
 -- the call failed: what it took before that still counts
 pub record GivesUp (old new : PacketsState) : Type 0 where
   pub more : List ℕ
-  pub reads : Reads old new more
+  pub reads : ReadsOn old new more
   pub failed : new.failed ≡ true
 
 -- a call gave a run, or failed

@@ -4,7 +4,7 @@ ghost use Rattle.x7_words.specs.Word.{bytes_of_word};
 ghost use Rattle.x7_regs.specs.Register.{number_of};
 ghost use Rattle.x7_regs.specs.declared.register.Reg.TheVariants.{Cmd};
 ghost use Rattle.x7_packets.specs.AtOnce.{BeginsWrite, EndsGap, TakesAsOneRun, WritesFew, WritesOne};
-ghost use Rattle.x7_packets.specs.Cutting.{between, calls_left, CompletesNone, Cuts, CutterStandsFor, Goes, IsBody, IsLent, IsNeed, IsOneWord, IsRun, run_bytes, SkipsAll, syncs_due, Went};
+ghost use Rattle.x7_packets.specs.Cutting.{between, calls_left, CompletesNone, Cuts, CutterStandsFor, ComesNearer, IsBody, IsLent, IsNeed, IsOneWord, IsRun, run_bytes, SkipsAll, syncs_due, AfterRun};
 ghost use Rattle.x7_packets.specs.Matching.{IsClear};
 ghost use Rattle.x7_packets.specs.Nops.{Idles, nop_bytes};
 ghost use Rattle.x7_packets.specs.PacketWords.{no_op};
@@ -298,7 +298,7 @@ impl Cutter {
         requires { at.old ≤ length piece.now }
         ensures forward { at.old ≤ at.new }
         ensures within { at.new ≤ length piece.now }
-        ensures goes { Goes result (length piece.now - at.new) (calls_left self.old (length piece.now - at.old)) (calls_left self.new (length piece.now - at.new)) }
+        ensures goes { ComesNearer result (length piece.now - at.new) (calls_left self.old (length piece.now - at.old)) (calls_left self.new (length piece.now - at.new)) }
         ensures need { IsNeed result ↔ CompletesNone self.old self.old.mode (length piece.now - at.old) }
         ensures joined { self.old.kept ++ between piece.now at.old at.new ≡ run_bytes result ++ self.new.kept }
         ensures run { IsRun result }
@@ -373,7 +373,7 @@ impl Cutter {
         requires few { length self.old.kept + length rest.now < 4 }
         ensures same { self.new ≡ record self.old { kept = self.old.kept ++ rest.now } }
         ensures adds { (bytes : List ℕ) (sessions : List Session) (place : Place) → CutterStandsFor self.old bytes sessions place
-            → Went self.old self.new (bytes ++ rest.now) sessions place Cut.Need }
+            → AfterRun self.old self.new (bytes ++ rest.now) sessions place Cut.Need }
     {
         self.count = keep(&mut self.kept, self.count, rest);
     }
@@ -389,7 +389,7 @@ impl Cutter {
         ensures joined { self.old.kept ++ missing.now ≡ run_bytes result }
         ensures run { IsRun result }
         ensures adds { (bytes : List ℕ) (sessions : List Session) (place : Place) → CutterStandsFor self.old bytes sessions place
-            → Went self.old self.new (bytes ++ missing.now) sessions place result }
+            → AfterRun self.old self.new (bytes ++ missing.now) sessions place result }
     {
         let w = whole(&self.kept, self.count, missing);
         let step = self.machine.take(w);
@@ -416,7 +416,7 @@ impl Cutter {
         ensures none_kept { self.new.kept ≡ [] }
         ensures run { IsRun result }
         ensures adds { (bytes : List ℕ) (sessions : List Session) (place : Place) → CutterStandsFor self.old bytes sessions place
-            → Went self.old self.new (bytes ++ body.now) sessions place result }
+            → AfterRun self.old self.new (bytes ++ body.now) sessions place result }
     {
         let register = self.machine.register();
         let ended = self.machine.pass(body);

@@ -28,7 +28,7 @@ pipeline_seen p = record {
 
 -- the vectors of the rest, of the newest frame and of the source have room for a frame each, the rest is shorter than a
 -- frame, and what stands in the other two is a whole frame
-pub record HasRoom (p : Inside) : Type 0 where
+pub record HasFrameRoom (p : Inside) : Type 0 where
   pub some : 0 < p.width
   pub narrow : p.far_width ≤ 32
   pub short : vec_len p.rest < p.width

@@ -48,8 +48,8 @@ abbrev pub OfFlow : PartData → PipelineData → (Flow → Type 0) → Type 0
 OfFlow part p Fact = (f : Flow) → HoldsFlow part p f → Fact f
 
 -- the pipeline goes on to this flow
-abbrev pub GoesOn : PartData → PipelineData → PipelineData → (Flow → Flow) → Type 0
-GoesOn part old new next = OfFlow part old (λ f. HoldsFlow part new (next f))
+abbrev pub FlowGoesOn : PartData → PipelineData → PipelineData → (Flow → Flow) → Type 0
+FlowGoesOn part old new next = OfFlow part old (λ f. HoldsFlow part new (next f))
 
 -- ---- flows that come next
 

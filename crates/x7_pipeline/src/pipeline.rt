@@ -14,7 +14,7 @@ ghost use Rattle.x7_pipeline.specs.Readback.{read_at, word_at};
 ghost use Rattle.x7_pipeline.specs.Faults.{write_fault, read_fault, drop_fault};
 ghost use Rattle.x7_pipeline.specs.Places.{StartsAt};
 ghost use Rattle.x7_pipeline.specs.Pipeline.{AreOf, PipelineData, IsPipelineOf, passed};
-ghost use Rattle.x7_pipeline.specs.Flow.{copied_by, fault_of_copy, GoesOn, HoldsFlow, LandsAt, OfFlow, PutsNewest, after_reads, after_words, begun_at, begun_by, first_flow, with_run, flow_written};
+ghost use Rattle.x7_pipeline.specs.Flow.{copied_by, fault_of_copy, FlowGoesOn, HoldsFlow, LandsAt, OfFlow, PutsNewest, after_reads, after_words, begun_at, begun_by, first_flow, with_run, flow_written};
 
 mod saved;
 
@@ -59,11 +59,11 @@ impl Model for Pipeline {
 
     ghost Value = { PipelineData };
 
-    ghost use Rattle.x7_pipeline.specs.Fields.{pipeline_seen, HasRoom};
+    ghost use Rattle.x7_pipeline.specs.Fields.{pipeline_seen, HasFrameRoom};
 
     ghost view = { pipeline_seen };
 
-    ghost invariant = { HasRoom };
+    ghost invariant = { HasFrameRoom };
 }
 
 impl Pipeline {
@@ -102,7 +102,7 @@ impl Pipeline {
 
     /// A FAR load: a new run begins at this address. The source stays.
     pub fn load(&mut self, far: u32)
-        ensures stands { (part : PartData) → GoesOn part self.old self.new (begun_at (loaded_base part far)) }
+        ensures stands { (part : PartData) → FlowGoesOn part self.old self.new (begun_at (loaded_base part far)) }
         ensures part { (part : PartData) → IsPipelineOf part self.old → IsPipelineOf part self.new }
     {
         self.base = low_bits(far, self.far_width);
@@ -111,7 +111,7 @@ impl Pipeline {
 
     /// A command: a new run begins at FAR as read. MFW takes the run's newest whole frame as the source.
     pub fn command(&mut self, command: Command, part: &Part)
-        ensures stands { GoesOn part.now self.old self.new (begun_by part.now command) }
+        ensures stands { FlowGoesOn part.now self.old self.new (begun_by part.now command) }
         ensures part { IsPipelineOf part.now self.old → IsPipelineOf part.now self.new }
     {
         self.base = self.far(part);
@@ -146,7 +146,7 @@ impl Pipeline {
     /// One word more of a run under WCFG. A word that completes a frame puts the frame before it.
     pub fn write(&mut self, word: u32, part: &Part, memory: &mut Memory) -> Result<(), RunFault>
         requires part { AreOf part.now self.old memory.old }
-        ensures stands { OnOk result (GoesOn part.now self.old self.new (after_words (word ∷ []))) }
+        ensures stands { OnOk result (FlowGoesOn part.now self.old self.new (after_words (word ∷ []))) }
         ensures lands { OnOk result (OfFlow part.now self.old (λ f. LandsAt part.now f (word ∷ []) (frame_at part.now memory.old) (frame_at part.now memory.new))) }
         ensures fault { OfFlow part.now self.old (λ f. result_err result ≡ write_fault part.now f.base f.run) }
 
@@ -215,7 +215,7 @@ impl Pipeline {
         requires some { 4 ≤ length bytes.now }
         requires part { AreOf part.now self.old memory.old }
         ensures words { IfOk result (λ taken. (1 ≤ taken / 4) × (taken % 4 ≡ 0) × (taken ≤ length bytes.now)) }
-        ensures stands { IfOk result (λ taken. GoesOn part.now self.old self.new (after_words (words_of_bytes (take taken bytes.now)))) }
+        ensures stands { IfOk result (λ taken. FlowGoesOn part.now self.old self.new (after_words (words_of_bytes (take taken bytes.now)))) }
         ensures lands { IfOk result (λ taken. OfFlow part.now self.old (λ f. LandsAt part.now f (words_of_bytes (take taken bytes.now)) (frame_at part.now memory.old) (frame_at part.now memory.new))) }
         ensures passes { IfOk result (λ taken. OfFlow part.now self.old (λ f. (flow_written part.now f (words_of_bytes (take taken bytes.now))).fault ≡ None)) }
         ensures fault { IfErr result (λ fault. OfFlow part.now self.old (λ f. Some fault ≡ write_fault part.now f.base f.run)) }
@@ -250,7 +250,7 @@ impl Pipeline {
         requires frame { 4 * self.old.width ≤ length bytes.now }
         requires slot { self.old.frame_count < length (slots_from part.now self.old.base) }
         ensures words { (1 ≤ result / 4) × (result % 4 ≡ 0) × (result ≤ length bytes.now) }
-        ensures stands { GoesOn part.now self.old self.new (after_words (words_of_bytes (take result bytes.now))) }
+        ensures stands { FlowGoesOn part.now self.old self.new (after_words (words_of_bytes (take result bytes.now))) }
         ensures lands { OfFlow part.now self.old (λ f. LandsAt part.now f (words_of_bytes (take result bytes.now)) (frame_at part.now memory.old) (frame_at part.now memory.new)) }
         ensures passes { OfFlow part.now self.old (λ f. (flow_written part.now f (words_of_bytes (take result bytes.now))).fault ≡ None) }
         ensures part { AreOf part.now self.new memory.new }
@@ -363,7 +363,7 @@ impl Pipeline {
     pub fn read_word(&mut self, part: &Part, memory: &Memory) -> Result<u32, RunFault>
         requires part { AreOf part.now self.old memory.now }
         ensures word { IfOk result (λ word. OfFlow part.now self.old (λ f. word ≡ read_at part.now f.base (frame_at part.now memory.now) f.given)) }
-        ensures stands { OnOk result (GoesOn part.now self.old self.new (after_reads 1)) }
+        ensures stands { OnOk result (FlowGoesOn part.now self.old self.new (after_reads 1)) }
         ensures fault { OfFlow part.now self.old (λ f. result_err result ≡ read_fault part.now f.base f.given) }
 
         // Whatever the answer.
@@ -413,7 +413,7 @@ impl Pipeline {
 
     /// Counts a word that was given. The slot changes at the end of a frame alone.
     fn step(&mut self, part: &Part)
-        ensures stands { GoesOn part.now self.old self.new (after_reads 1) }
+        ensures stands { FlowGoesOn part.now self.old self.new (after_reads 1) }
         ensures part { IsPipelineOf part.now self.old → IsPipelineOf part.now self.new }
     {
         // for the proof alone: the part's range keeps the count from its last value
@@ -430,7 +430,7 @@ impl Pipeline {
 
     /// Passes over `n` words of a readback, as `n` calls of `read_word` would.
     pub fn drop_words(&mut self, n: u32, part: &Part) -> Result<(), RunFault>
-        ensures stands { OnOk result (GoesOn part.now self.old self.new (after_reads n)) }
+        ensures stands { OnOk result (FlowGoesOn part.now self.old self.new (after_reads n)) }
         ensures fault { OfFlow part.now self.old (λ f. result_err result ≡ drop_fault part.now f.base f.given n) }
 
         // Whatever the answer.

@@ -76,7 +76,7 @@ pub record TellsMore (s : FullStreamState) (given old new : List ℕ) : Type 0 w
   pub more : HasGiven s (given ++ piece)
 
 -- what is next was appended to bytes, and this is next after it
-pub record Writes (s : FullStreamState) (old new : List ℕ) (after : NextPiece) : Type 0 where
+pub record WritesPiece (s : FullStreamState) (old new : List ℕ) (after : NextPiece) : Type 0 where
   pub piece : List ℕ
   pub adds : new ≡ old ++ piece
   pub before : (given : List ℕ) → HasGiven s given → given ++ piece ≡ stream_of (pieces_before s.part s.plan after)

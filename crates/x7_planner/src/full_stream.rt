@@ -8,7 +8,7 @@ ghost use Rattle.x7_part.specs.Slots.{slots_in};
 ghost use Rattle.x7_planner.specs.FullStream.{frame_at_slot, full_opening, full_settings, full_stream, words_of_slots};
 ghost use Rattle.x7_planner.specs.Refusals.{IsFullFault};
 ghost use Rattle.x7_planner.specs.Stream.{bytes_of_words};
-ghost use Rattle.x7_planner.specs.Telling.{HasGiven, TellsMore, Writes, puts_left, piece_limit};
+ghost use Rattle.x7_planner.specs.Telling.{HasGiven, TellsMore, WritesPiece, puts_left, piece_limit};
 ghost use Rattle.x7_planner.specs.declared.fault.PlanFault.{PlanFault};
 ghost use Rattle.x7_planner.specs.declared.full_stream.NextPiece.{NextPiece};
 
@@ -243,7 +243,7 @@ impl<'p> FullStream<'p> {
 
     /// Appends what is next, and tells what is written after it.
     fn put(&self, out: &mut Vec<u8>) -> Result<NextPiece, NoMemory>
-        ensures writes { IfOk result (Writes self.now out.old.items out.new.items) }
+        ensures writes { IfOk result (WritesPiece self.now out.old.items out.new.items) }
         ensures few { OnOk result (length out.new.items ≤ length out.old.items + piece_limit) }
         ensures failed { OnErr result (take (length out.old.items) out.new.items ≡ out.old.items) }
         ensures room { vec_capacity out.old ≤ vec_capacity out.new }
@@ -279,7 +279,7 @@ impl<'p> FullStream<'p> {
     /// Appends the frames of the slots from one on, and tells what is written after them.
     fn put_frames(&self, out: &mut Vec<u8>, n: u64) -> Result<NextPiece, NoMemory>
         requires { self.now.next ≡ NextPiece.Slot n }
-        ensures writes { IfOk result (Writes self.now out.old.items out.new.items) }
+        ensures writes { IfOk result (WritesPiece self.now out.old.items out.new.items) }
         ensures few { OnOk result (length out.new.items ≤ length out.old.items + piece_limit) }
         ensures failed { OnErr result (take (length out.old.items) out.new.items ≡ out.old.items) }
         ensures room { vec_capacity out.old ≤ vec_capacity out.new }

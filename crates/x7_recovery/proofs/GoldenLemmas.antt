@@ -16,7 +16,7 @@ use Rattle.x7_packets.proofs.SeamLemmas.{none_before_front, none_in_gap}
 use Rattle.x7_part.specs.Part.{PartData}
 use Rattle.x7_regs.specs.declared.boot_status.Kind.TheVariants.{Power}
 use Rattle.x7_planner.specs.FullStream.{full_stream}
-use Rattle.x7_engine.specs.Rest.{AtRest, GoesOn}
+use Rattle.x7_engine.specs.Rest.{AtRest, LastGapGoesOn}
 use Rattle.x7_engine.specs.State.{memory_in, state_of}
 use Rattle.x7_engine.proofs.AlikeLemmas.{alike_memory, alike_state}
 use Rattle.x7_engine.proofs.RestLemmas.{history_on, rest_on}
@@ -237,7 +237,7 @@ found_alike u found b p (after l done) boot = as_after done boot
 
 -- ---- a full stream is such a golden stream
 
-goes : GoesOn [] erased_sector
+goes : LastGapGoesOn [] erased_sector
 goes = record { gap = []; searching = refl; none = subst HasNoSync (take-length erased_sector) (none_in_gap erased_sector [] (length erased_sector) (omega arith) (erased_none [])) }
 
 pub rest_erased : (part : PartData) → AtRest part at_power erased_sector

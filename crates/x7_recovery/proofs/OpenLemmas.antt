@@ -20,7 +20,7 @@ use Rattle.x7_regs.specs.declared.boot_status.Kind.TheVariants.{Power, Iprog}
 use Rattle.x7_startup.specs.Calls.{NotBegun}
 use Rattle.x7_engine.specs.Kept.{is_fallback}
 use Rattle.x7_engine.specs.Registers.{wrote_iprog}
-use Rattle.x7_engine.specs.Rest.{AtRest, GoesOn}
+use Rattle.x7_engine.specs.Rest.{AtRest, LastGapGoesOn}
 use Rattle.x7_engine.specs.State.{history_by, kept_after, why_of, stop_in}
 use Rattle.x7_engine.specs.Stops.{Stopped, fault_of, why_at, stop_of, stopped_at}
 use Rattle.x7_engine.specs.Values.{cause_of}
@@ -243,7 +243,7 @@ module _ (flash : List ℕ) (number start : ℕ) (o : HasOpen flash number start
   pub slot_fits' : AreBytes from_slot
   slot_fits' = all_back (λ b. b < 256) gap from_slot (subst AreBytes sector_is o.fits)
 
-  pub goes : GoesOn (open_slot start) more
+  pub goes : LastGapGoesOn (open_slot start) more
   goes = record { gap = []; searching = slot_place start small; none = more_none }
 
   pub none_sector : NoneBegins gap from_slot

@@ -6,7 +6,7 @@ use Rattle.x7_words.specs.Sink.{SinkState, Tells}
 use Rattle.x7_words.proofs.InputLemmas.{few_at, stays_at}
 use Rattle.x7_forms.specs.declared.status.Status.{Status}
 use Rattle.x7_forms.specs.Event.{Event, line_of, status_of, usage}
-use Rattle.x7_forms.specs.Form.{Asked, Unused, flash_use, listed_by, updated_by}
+use Rattle.x7_forms.specs.Form.{AskedForm, Unused, flash_use, listed_by, updated_by}
 use Rattle.x7_forms.specs.Known.{Answer}
 use Rattle.x7_forms.specs.Message.{text_status}
 use Rattle.x7_tool.specs.Leaving.{UsesFlash}
@@ -19,11 +19,11 @@ use Rattle.x7_tool.proofs.StopLemmas.{done_judges, puts_stop, refused_judges, un
 -- ---- a form
 
 -- an answer of a form, by another name of the form
-pub as_asked : (form asks : Asked) (old new : Outside) (got : Result Bool Event) → form ≡ asks → Answered asks old new got → Answered form old new got
-as_asked form asks old new got e a = subst (λ (f : Asked). Answered f old new got) (sym e) a
+pub as_asked : (form asks : AskedForm) (old new : Outside) (got : Result Bool Event) → form ≡ asks → Answered asks old new got → Answered form old new got
+as_asked form asks old new got e a = subst (λ (f : AskedForm). Answered f old new got) (sym e) a
 
 -- a form that reads inputs alone, and whose text, ready or not, was written
-pub ready_answered : (form asks : Asked) (old new : Outside) (whole : Result Answer Event) (got : Result Bool Event) → form ≡ asks → streamed (listed_by (Some asks)) (updated_by (Some asks)) ≡ None → flash_use (Some asks) ≡ Unused
+pub ready_answered : (form asks : AskedForm) (old new : Outside) (whole : Result Answer Event) (got : Result Bool Event) → form ≡ asks → streamed (listed_by (Some asks)) (updated_by (Some asks)) ≡ None → flash_use (Some asks) ≡ Unused
     → MakesReady asks old.inputs new.inputs whole → Puts whole old.out new.out got → Answered form old new got
 ready_answered form asks old new whole got e l u r p =
     as_asked form asks old new got e (record {
@@ -35,7 +35,7 @@ ready_answered form asks old new whole got e l u r p =
     })
 
 -- a form that reads a flash too, and whose text, ready or not, was written
-pub flash_answered : (form asks : Asked) (old new : Outside) (whole : Result Answer Event) (got : Result Bool Event) → form ≡ asks → streamed (listed_by (Some asks)) (updated_by (Some asks)) ≡ None
+pub flash_answered : (form asks : AskedForm) (old new : Outside) (whole : Result Answer Event) (got : Result Bool Event) → form ≡ asks → streamed (listed_by (Some asks)) (updated_by (Some asks)) ≡ None
     → JudgesFlash (Some asks) (sources old.inputs old.flash) (sources new.inputs new.flash) got → MakesReadyFrom asks (sources old.inputs old.flash) (sources new.inputs new.flash) whole → AnswersOver asks old new whole → Puts whole old.out new.out got
     → Answered form old new got
 flash_answered form asks old new whole got e l j r d p =
@@ -48,15 +48,15 @@ flash_answered form asks old new whole got e l j r d p =
     })
 
 -- what a form does with its flash, by another name of the form
-pub uses_as : (form : Option Asked) (asks : Asked) (inputs : InputsState) (old new : FlashState) (past since : ℕ → List ℕ → Type 0) → form ≡ Some asks → UsesFlash (Some asks) (sources inputs old) new past since → UsesFlash form (sources inputs old) new past since
-uses_as form asks inputs old new past since e h = subst (λ (f : Option Asked). UsesFlash f (sources inputs old) new past since) (sym e) h
+pub uses_as : (form : Option AskedForm) (asks : AskedForm) (inputs : InputsState) (old new : FlashState) (past since : ℕ → List ℕ → Type 0) → form ≡ Some asks → UsesFlash (Some asks) (sources inputs old) new past since → UsesFlash form (sources inputs old) new past since
+uses_as form asks inputs old new past since e h = subst (λ (f : Option AskedForm). UsesFlash f (sources inputs old) new past since) (sym e) h
 
 -- ---- the words
 
 -- a form whose text is whole
-pub ran_done : (form : Option Asked) (asks : Asked) (old new : Outside) (s : Status) (stopped : Bool) → form ≡ Some asks → s ≡ text_status stopped → new.err.written ≡ old.err.written → Answered asks old new (Ok stopped) → RanAs form old new s
+pub ran_done : (form : Option AskedForm) (asks : AskedForm) (old new : Outside) (s : Status) (stopped : Bool) → form ≡ Some asks → s ≡ text_status stopped → new.err.written ≡ old.err.written → Answered asks old new (Ok stopped) → RanAs form old new s
 ran_done form asks old new s stopped e t w a =
-    subst (λ (f : Option Asked). RanAs f old new s) (sym e)
+    subst (λ (f : Option AskedForm). RanAs f old new s) (sym e)
     (record {
       end = Ok (record { stopped = stopped; text = a.ends.0 });
       ends_as = t;
@@ -69,9 +69,9 @@ ran_done form asks old new s stopped e t w a =
     })
 
 -- a form that has no whole text
-pub ran_refused : (form : Option Asked) (asks : Asked) (old new : Outside) (s : Status) (event : Event) → form ≡ Some asks → s ≡ status_of event → Tells old.err (line_of event) new.err → Answered asks old new (Err event) → RanAs form old new s
+pub ran_refused : (form : Option AskedForm) (asks : AskedForm) (old new : Outside) (s : Status) (event : Event) → form ≡ Some asks → s ≡ status_of event → Tells old.err (line_of event) new.err → Answered asks old new (Err event) → RanAs form old new s
 ran_refused form asks old new s event e t w a =
-    subst (λ (f : Option Asked). RanAs f old new s) (sym e)
+    subst (λ (f : Option AskedForm). RanAs f old new s) (sym e)
     (record {
       end = Err event;
       ends_as = t;
@@ -84,9 +84,9 @@ ran_refused form asks old new s event e t w a =
     })
 
 -- words without a form
-pub ran_none : (form : Option Asked) (old : Outside) (err : SinkState) (s : Status) → form ≡ None → s ≡ status_of usage → Tells old.err (line_of usage) err → RanAs form old (record old { err = err }) s
+pub ran_none : (form : Option AskedForm) (old : Outside) (err : SinkState) (s : Status) → form ≡ None → s ≡ status_of usage → Tells old.err (line_of usage) err → RanAs form old (record old { err = err }) s
 ran_none form old err s e t w =
-    subst (λ (f : Option Asked). RanAs f old (record old { err = err }) s) (sym e)
+    subst (λ (f : Option AskedForm). RanAs f old (record old { err = err }) s) (sym e)
     (record {
       end = Err usage;
       ends_as = t;

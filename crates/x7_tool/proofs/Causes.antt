@@ -23,7 +23,7 @@ use Rattle.x7_forms.specs.declared.refusal.Why.{Why}
 use Rattle.x7_forms.specs.declared.refusal.Why.TheVariants as why
 use Rattle.x7_forms.specs.Known.{Absent, Answer, Broken, Failing, Found, Held, Known, Lacking, Mishap, broken_at, bytes_found, found, known_of, stream_limit, with_inputs}
 use Rattle.x7_tool.specs.Outcome.{listed, listed_bytes, listed_found}
-use Rattle.x7_forms.specs.Turn.{IsRefused, MayFollow, UnreadBeginning, Unopened}
+use Rattle.x7_forms.specs.Turn.{IsRefused, FollowsUnlessLast, UnreadBeginning, Unopened}
 use Rattle.x7_tool.specs.Outside.{Outside, known_in}
 use Rattle.x7_tool.specs.Ahead.{StaysNear}
 use Rattle.x7_tool.specs.Run.{EndIsCaused, Ends, EndsAs, GetsPrefix, IsPrefixOf, LeftBy, ListLeaves, ListsSoFar}
@@ -164,12 +164,12 @@ pub out_of_memory : (contents : Option (List ℕ → Option (List ℕ))) (flash 
 out_of_memory contents flash C stream taken rest Full old now s p = (inl (inl refl), (taken, (front_taken contents flash stream taken rest s, p)))
 
 -- what may follow the bytes that were taken
-pub may_follow : (last : Bool) (rest : Option (List ℕ)) (left : List ℕ) → rest ≡ Some left → (last ≡ true → AtEnd rest) → MayFollow last left
+pub may_follow : (last : Bool) (rest : Option (List ℕ)) (left : List ℕ) → rest ≡ Some left → (last ≡ true → AtEnd rest) → FollowsUnlessLast last left
 may_follow last rest left e end = λ l. let none = rw e at (end l) in none
 
 -- a sink that failed after a front of the listing of these bytes and any that may follow
 pub unwritten : (contents : Option (List ℕ → Option (List ℕ))) (flash : Option (List ℕ)) (C : Mishap → Type 0) (stream taken : List ℕ) (rest : Option (List ℕ)) (last : Bool) (Full : Type 0) (old now : Option (List ℕ))
-    → Selects contents stream (preceded taken rest) → (last ≡ true → AtEnd rest) → Full → PutsListed taken old now → ((left : List ℕ) → MayFollow last left → AreBytes (taken ++ left) → PutsListed (taken ++ left) old now)
+    → Selects contents stream (preceded taken rest) → (last ≡ true → AtEnd rest) → Full → PutsListed taken old now → ((left : List ℕ) → FollowsUnlessLast last left → AreBytes (taken ++ left) → PutsListed (taken ++ left) old now)
     → Ended (with_inputs contents flash) C stream Full old now (Err write_fault)
 unwritten None flash C stream taken rest last Full old now s e f here p = (refl, f, (here.0, here.1.1))
 unwritten (Some inputs) flash C stream taken rest last Full old now s e f here p =

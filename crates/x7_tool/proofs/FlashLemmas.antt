@@ -12,7 +12,7 @@ use Rattle.x7_part.specs.declared.fault.PartFault.{PartFault}
 use Rattle.x7_forms.specs.declared.bad_input.InputFault.{InputFault}
 use Rattle.x7_forms.specs.declared.refusal.Why.TheVariants as why
 use Rattle.x7_forms.specs.Event.{Event, bad_input, bad_part, missing, no_memory, read_fault, too_large}
-use Rattle.x7_forms.specs.Form.{Asked, Booting, FlashUse, Read, Unused, Updated, flash_use, names_of, updated_by}
+use Rattle.x7_forms.specs.Form.{AskedForm, Booting, FlashUse, Read, Unused, Updated, flash_use, names_of, updated_by}
 use Rattle.x7_forms.specs.Known.{Absent, Answer, Failing, Found, Known, Lacking, Mishap, flash_found, known_of, mishap_event, part_of, spoiled, spoiled_name, with_inputs, with_mishap}
 use Rattle.x7_tool.specs.Leaving.{MayBeFound, UsesFlash}
 use Rattle.x7_boot.specs.Image.{flash_limit}
@@ -27,12 +27,12 @@ use Rattle.x7_forms.proofs.ReadLemmas.{caused_on_by, name_is, outside_goes, part
 -- ---- what more may fail
 
 -- a mishap of an input that a form names, where it may have a flash too
-pub came_wider : (form : Asked) (old new : Outside) (m : Mishap) → CameIn (step_over (names_of (Some form)) old.inputs new.inputs) m → Came (Some form) old new m
+pub came_wider : (form : AskedForm) (old new : Outside) (m : Mishap) → CameIn (step_over (names_of (Some form)) old.inputs new.inputs) m → Came (Some form) old new m
 came_wider form old new (Failing name given) h = (h.0, inl h.1)
 came_wider form old new (Lacking name) h = inl h
 
 -- a text that has its cause in the inputs that a form names has it in what the form names, a flash too
-pub answers_over : (form : Asked) (old new : Outside) (whole : Result Answer Event) → IsCausedBy (known_in old) (CameIn (step_over (names_of (Some form)) old.inputs new.inputs)) (λ t end. FormGives t form end) whole → AnswersOver form old new whole
+pub answers_over : (form : AskedForm) (old new : Outside) (whole : Result Answer Event) → IsCausedBy (known_in old) (CameIn (step_over (names_of (Some form)) old.inputs new.inputs)) (λ t end. FormGives t form end) whole → AnswersOver form old new whole
 answers_over form old new whole c =
     caused_on_by Answer (known_in old) (CameIn (step_over (names_of (Some form)) old.inputs new.inputs)) (Came (Some form) old new) (λ t end. FormGives t form end) whole (came_wider form old new) c
 
@@ -102,7 +102,7 @@ booted_ends old new name part_name part C (Err event) read (inr (inr h)) =
     (read_due (known_in old) C (λ t. part_of t part_name) part read) h.0
 
 -- an event of another reason says nothing of a flash's size
-pub not_large : (form : Option Asked) (new : FlashState) (event : Event) → (event.reason ≡ why.TooLarge → ⊥) → IsMeasured form new (Err event)
+pub not_large : (form : Option AskedForm) (new : FlashState) (event : Event) → (event.reason ≡ why.TooLarge → ⊥) → IsMeasured form new (Err event)
 not_large form new event n = λ name a e. absurd (n (ap (λ (x : Event). x.reason) e))
 
 -- what is too large is the one that the event names
@@ -110,43 +110,43 @@ same_large : (name other : List ℕ) (event : Event) → event ≡ too_large nam
 same_large name other event e f = let same : too_large other ≡ event = sym f in ap (λ (x : Event). x.concerned) (same ∙ e)
 
 -- events that aren't too_large
-pub no_memory_small : (form : Option Asked) (new : FlashState) (event : Event) → event ≡ no_memory → IsMeasured form new (Err event)
+pub no_memory_small : (form : Option AskedForm) (new : FlashState) (event : Event) → event ≡ no_memory → IsMeasured form new (Err event)
 no_memory_small form new event e = not_large form new event (λ r. let why : why.NoMemory ≡ why.TooLarge = sym (ap (λ (x : Event). x.reason) e) ∙ r in absurd (cc))
 
-missing_small : (form : Option Asked) (new : FlashState) (name : List ℕ) (event : Event) → event ≡ missing name → IsMeasured form new (Err event)
+missing_small : (form : Option AskedForm) (new : FlashState) (name : List ℕ) (event : Event) → event ≡ missing name → IsMeasured form new (Err event)
 missing_small form new name event e = not_large form new event (λ r. let why : why.Missing ≡ why.TooLarge = sym (ap (λ (x : Event). x.reason) e) ∙ r in absurd (cc))
 
-failed_small : (form : Option Asked) (new : FlashState) (name : List ℕ) (event : Event) → event ≡ read_fault name → IsMeasured form new (Err event)
+failed_small : (form : Option AskedForm) (new : FlashState) (name : List ℕ) (event : Event) → event ≡ read_fault name → IsMeasured form new (Err event)
 failed_small form new name event e = not_large form new event (λ r. let why : why.ReadFault ≡ why.TooLarge = sym (ap (λ (x : Event). x.reason) e) ∙ r in absurd (cc))
 
-pub bad_small : (form : Option Asked) (new : FlashState) (name : List ℕ) (fault : InputFault) (event : Event) → event ≡ bad_input name fault → IsMeasured form new (Err event)
+pub bad_small : (form : Option AskedForm) (new : FlashState) (name : List ℕ) (fault : InputFault) (event : Event) → event ≡ bad_input name fault → IsMeasured form new (Err event)
 bad_small form new name fault event e = not_large form new event (λ r. let why : why.BadInput fault ≡ why.TooLarge = sym (ap (λ (x : Event). x.reason) e) ∙ r in absurd (cc))
 
-part_small : (form : Option Asked) (new : FlashState) (name : List ℕ) (fault : PartFault) (event : Event) → event ≡ bad_part name fault → IsMeasured form new (Err event)
+part_small : (form : Option AskedForm) (new : FlashState) (name : List ℕ) (fault : PartFault) (event : Event) → event ≡ bad_part name fault → IsMeasured form new (Err event)
 part_small form new name fault event e = not_large form new event (λ r. let why : why.BadPart fault ≡ why.TooLarge = sym (ap (λ (x : Event). x.reason) e) ∙ r in absurd (cc))
 
 -- an input of a form that is too large
-input_large : (form : Option Asked) (new : FlashState) (name : List ℕ) (event : Event) → Among (names_of form) name → event ≡ too_large name → IsMeasured form new (Err event)
+input_large : (form : Option AskedForm) (new : FlashState) (name : List ℕ) (event : Event) → Among (names_of form) name → event ≡ too_large name → IsMeasured form new (Err event)
 input_large form new name event a e = λ other f g. inr (subst (λ (n : List ℕ). Among (names_of form) n) (sym (same_large name other event e g)) a)
 
-pub unread_measured : (form : Option Asked) (new : FlashState) (name : List ℕ) (event : Event) → Among (names_of form) name → IsUnread name event → IsMeasured form new (Err event)
+pub unread_measured : (form : Option AskedForm) (new : FlashState) (name : List ℕ) (event : Event) → Among (names_of form) name → IsUnread name event → IsMeasured form new (Err event)
 unread_measured form new name event a (inl e) = no_memory_small form new event e
 unread_measured form new name event a (inr (inl e)) = missing_small form new name event e
 unread_measured form new name event a (inr (inr (inl e))) = failed_small form new name event e
 unread_measured form new name event a (inr (inr (inr e))) = input_large form new name event a e
 
 -- a boot whose part was not read
-pub no_part_measured : (form : Option Asked) (new : FlashState) (name : List ℕ) (event : Event) → Among (names_of form) name → IsNoPart name event → IsMeasured form new (Err event)
+pub no_part_measured : (form : Option AskedForm) (new : FlashState) (name : List ℕ) (event : Event) → Among (names_of form) name → IsNoPart name event → IsMeasured form new (Err event)
 no_part_measured form new name event a (inl h) = unread_measured form new name event a h
 no_part_measured form new name event a (inr h) = part_small form new name h.0 event h.1
 
 -- a flash that was not attached
-pub unattached_measured : (form : Option Asked) (name : List ℕ) (old new : FlashState) (event : Event) → IsUnattached name old new event → IsMeasured form new (Err event)
+pub unattached_measured : (form : Option AskedForm) (name : List ℕ) (old new : FlashState) (event : Event) → IsUnattached name old new event → IsMeasured form new (Err event)
 unattached_measured form name old new event (inl h) = missing_small form new name event h.0
 unattached_measured form name old new event (inr h) = failed_small form new name event h.0
 
 -- a boot from a flash of this name
-pub boot_measured : (form : Option Asked) (name : List ℕ) (part : PartData) (old new : FlashState) (end : Result Answer Event) → FlashComes name part old new end → IsMeasured form new end
+pub boot_measured : (form : Option AskedForm) (name : List ℕ) (part : PartData) (old new : FlashState) (end : Result Answer Event) → FlashComes name part old new end → IsMeasured form new end
 boot_measured form name part old new (Ok answer) h = λ other a. h.1
 boot_measured form name part old new (Err event) (inl h) = no_memory_small form new event h
 boot_measured form name part old new (Err event) (inr (inl h)) = unattached_measured form name old new event h
@@ -155,30 +155,30 @@ boot_measured form name part old new (Err event) (inr (inr h)) = λ other a e. i
 -- ---- when a flash fails
 
 -- an event of another reason is no fault of a flash
-pub not_fault : (form : Option Asked) (old : InputsState) (new : FlashState) (event : Event) → (event.reason ≡ why.ReadFault → ⊥) → FailsLast form old new (Err event)
+pub not_fault : (form : Option AskedForm) (old : InputsState) (new : FlashState) (event : Event) → (event.reason ≡ why.ReadFault → ⊥) → FailsLast form old new (Err event)
 not_fault None old new event n = tt
 not_fault (Some form) old new event n = λ name a e at. absurd (n (ap (λ (x : Event). x.reason) e))
 
-pub other_fault : (form : Option Asked) (old : InputsState) (new : FlashState) (event is : Event) → event ≡ is → (is.reason ≡ why.ReadFault → ⊥) → FailsLast form old new (Err event)
+pub other_fault : (form : Option AskedForm) (old : InputsState) (new : FlashState) (event is : Event) → event ≡ is → (is.reason ≡ why.ReadFault → ⊥) → FailsLast form old new (Err event)
 other_fault form old new event is e n = subst (λ (x : Event). FailsLast form old new (Err x)) (sym e) (not_fault form old new is n)
 
 -- an event that comes where no flash is attached is no fault of a flash that is
-pub detached : (form : Asked) (old : InputsState) (new : FlashState) (event : Event) → new.attached ≡ false → FailsLast (Some form) old new (Err event)
+pub detached : (form : AskedForm) (old : InputsState) (new : FlashState) (event : Event) → new.attached ≡ false → FailsLast (Some form) old new (Err event)
 detached form old new event d = λ name a e at. let both : true ≡ false = sym at ∙ d in absurd (cc)
 
 -- an input of the form failed
-input_failed : (form : Asked) (old : InputsState) (new : FlashState) (name : List ℕ) (event : Event) → Among (names_of (Some form)) name → event ≡ read_fault name → FailsLast (Some form) old new (Err event)
+input_failed : (form : AskedForm) (old : InputsState) (new : FlashState) (name : List ℕ) (event : Event) → Among (names_of (Some form)) name → event ≡ read_fault name → FailsLast (Some form) old new (Err event)
 input_failed form old new name event a e = λ other f g at.
     let same : read_fault other ≡ read_fault name = sym g ∙ e in
     inr (subst (λ (n : List ℕ). Among (names_of (Some form)) n) (sym (ap (λ (x : Event). x.concerned) same)) a)
 
-pub unread_last : (form : Asked) (old : InputsState) (new : FlashState) (name : List ℕ) (event : Event) → Among (names_of (Some form)) name → IsUnread name event → FailsLast (Some form) old new (Err event)
+pub unread_last : (form : AskedForm) (old : InputsState) (new : FlashState) (name : List ℕ) (event : Event) → Among (names_of (Some form)) name → IsUnread name event → FailsLast (Some form) old new (Err event)
 unread_last form old new name event a (inl e) = other_fault (Some form) old new event no_memory e (λ r. absurd (cc))
 unread_last form old new name event a (inr (inl e)) = other_fault (Some form) old new event (missing name) e (λ r. absurd (cc))
 unread_last form old new name event a (inr (inr (inl e))) = input_failed form old new name event a e
 unread_last form old new name event a (inr (inr (inr e))) = other_fault (Some form) old new event (too_large name) e (λ r. absurd (cc))
 
-pub no_part_last : (form : Asked) (old : InputsState) (new : FlashState) (name : List ℕ) (event : Event) → Among (names_of (Some form)) name → IsNoPart name event → FailsLast (Some form) old new (Err event)
+pub no_part_last : (form : AskedForm) (old : InputsState) (new : FlashState) (name : List ℕ) (event : Event) → Among (names_of (Some form)) name → IsNoPart name event → FailsLast (Some form) old new (Err event)
 no_part_last form old new name event a (inl h) = unread_last form old new name event a h
 no_part_last form old new name event a (inr h) = other_fault (Some form) old new event (bad_part name h.0) h.1 (λ r. absurd (cc))
 
@@ -238,7 +238,7 @@ pub found_same : (known : Option Known) (stream : Option (List ℕ)) (all : List
 found_same known None all = refl
 found_same known (Some stream) all = inl refl
 
-pub uses_same : (form : Option Asked) (inputs : InputsState) (s : FlashState) (since : ℕ → List ℕ → Type 0) → UsesFlash form (sources inputs s) s since since
+pub uses_same : (form : Option AskedForm) (inputs : InputsState) (s : FlashState) (since : ℕ → List ℕ → Type 0) → UsesFlash form (sources inputs s) s since since
 uses_same form inputs s since =
     let known = known_from (sources inputs s) in
     record { keeps = kept_same (flash_use form) s; moments = moments_none s since (MayBeFound known (updated_by form)) (λ all e. found_same known (updated_by form) all) }
@@ -259,7 +259,7 @@ reads_on name old mid new past since r o = record {
 }
 
 -- a form that reads its flash
-pub uses_read : (form : Option Asked) (asks : Asked) (name : List ℕ) (inputs : InputsState) (old new : FlashState) (past since : ℕ → List ℕ → Type 0) → form ≡ Some asks → flash_use (Some asks) ≡ Read name
+pub uses_read : (form : Option AskedForm) (asks : AskedForm) (name : List ℕ) (inputs : InputsState) (old new : FlashState) (past since : ℕ → List ℕ → Type 0) → form ≡ Some asks → flash_use (Some asks) ≡ Read name
     → ReadsFlash name old new → Unwritten old new past since → UsesFlash form (sources inputs old) new past since
 uses_read form asks name inputs old new past since e n r u =
     let known = known_from (sources inputs old) in

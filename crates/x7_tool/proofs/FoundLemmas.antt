@@ -8,7 +8,7 @@ use Rattle.x7_update.proofs.ToldLemmas.{told_at, told_map}
 use Rattle.x7_recovery.specs.Golden.{BootsAlike, UpdatingAny}
 use Rattle.x7_recovery.proofs.GoldenLemmas.{found_alike}
 use Rattle.x7_forms.specs.Event.{Event}
-use Rattle.x7_forms.specs.Form.{Asked, updated_by}
+use Rattle.x7_forms.specs.Form.{AskedForm, updated_by}
 use Rattle.x7_forms.specs.Known.{Known}
 use Rattle.x7_tool.specs.Leaving.{IsUpdateOf, MayBeFound, PowerLossMayLeave, UsesFlash}
 use Rattle.x7_tool.specs.Outcome.{stream_data}
@@ -16,7 +16,7 @@ use Rattle.x7_tool.specs.Outside.{known_from, sources}
 use Rattle.x7_tool.proofs.FlashLemmas.{found_same}
 
 -- what may be found since a run began is what the flash held then, or was found within the run
-pub found_since_run : (form : Option Asked) (inputs : InputsState) (old new : FlashState) (past since : ℕ → List ℕ → Type 0) → ((found : List ℕ) → past old.moments found → IfKnown old.bytes (λ all. found ≡ all)) → UsesFlash form (sources inputs old) new past since
+pub found_since_run : (form : Option AskedForm) (inputs : InputsState) (old new : FlashState) (past since : ℕ → List ℕ → Type 0) → ((found : List ℕ) → past old.moments found → IfKnown old.bytes (λ all. found ≡ all)) → UsesFlash form (sources inputs old) new past since
     → (found : List ℕ) → since old.moments found → PowerLossMayLeave form (sources inputs old) found
 found_since_run form inputs old new past since only u found had =
     let known = known_from (sources inputs old) in
@@ -33,7 +33,7 @@ left_by r stream flash found e (inl same) = untouched same
 left_by r stream flash found e (inr h) = subst (λ (x : List ℕ). MayBeLeft x flash found) (ok_is h.0 stream r h.1 e) h.2
 
 -- what is found of a flash that a run updates with a stream may be left of that update
-found_left : (form : Option Asked) (inputs : InputsState) (flash : FlashState) (known : Known) (name stream all found : List ℕ) → known_from (sources inputs flash) ≡ Some known → updated_by form ≡ Some name → stream_data known name ≡ Ok stream → flash.bytes ≡ Some all
+found_left : (form : Option AskedForm) (inputs : InputsState) (flash : FlashState) (known : Known) (name stream all found : List ℕ) → known_from (sources inputs flash) ≡ Some known → updated_by form ≡ Some name → stream_data known name ≡ Ok stream → flash.bytes ≡ Some all
     → PowerLossMayLeave form (sources inputs flash) found → MayBeLeft stream all found
 found_left form inputs flash known name stream all found is_known updates told_data told_bytes f =
     let from = known_from (sources inputs flash) in
@@ -43,7 +43,7 @@ found_left form inputs flash known name stream all found is_known updates told_d
     left_by (stream_data known name) stream all found told_data told
 
 -- whatever is found of a flash that a run updates boots as one of the three
-pub found_run_boots : (form : Option Asked) (inputs : InputsState) (flash : FlashState) (u : UpdatingAny) (found : List ℕ) (b : BootedState) → IsUpdateOf form (sources inputs flash) u → PowerLossMayLeave form (sources inputs flash) found → IsBoot u.part found b
+pub found_run_boots : (form : Option AskedForm) (inputs : InputsState) (flash : FlashState) (u : UpdatingAny) (found : List ℕ) (b : BootedState) → IsUpdateOf form (sources inputs flash) u → PowerLossMayLeave form (sources inputs flash) found → IsBoot u.part found b
     → BootsAlike u found b
 found_run_boots form inputs flash u found b w f boot =
     found_alike u found b w.prepared (found_left form inputs flash w.known w.name u.stream u.flash found w.is_known w.updates w.stream w.bytes f) boot

@@ -32,7 +32,7 @@ use Rattle.x7_effects.specs.Played.{PlaysFull, PlaysPartial, PlaysRead, resting_
 use Rattle.x7_effects.proofs.LawLemmas.{full_law, partial_law, read_law}
 use Rattle.x7_forms.specs.declared.bad_input.InputFault.TheVariants as input
 use Rattle.x7_forms.specs.Event.{Event, bad_input, too_many_reads}
-use Rattle.x7_forms.specs.Form.{Asked, Booting, Generating, Imaging, ImagingFor, PlanningFull, PlanningPartial, PlanningRead, Playing, PlayingSvf}
+use Rattle.x7_forms.specs.Form.{AskedForm, Booting, Generating, Imaging, ImagingFor, PlanningFull, PlanningPartial, PlanningRead, Playing, PlayingSvf}
 use Rattle.x7_forms.specs.Known.{Answer, Found, Held, Known, and_so, data_of, part_by, part_limit, part_of, reads_limit, stream_limit, whole_in}
 use Rattle.x7_tool.specs.Play.{report_of, reported}
 use Rattle.x7_tool.specs.Outcome.{BootedAs, IsBootText, FlashBoots, FormGives, ImageStreams, PlanTexts, PlannedFull, PlannedPartial, PlannedRead, PlayedSvf, gen_answer, has_failed, image_by, image_streams, plan_texts, text_limit}
@@ -210,7 +210,7 @@ image_for_promised known part golden update (Err event) s answer e f h = absurd 
 image_for_promised known part golden update (Ok p) (Err event) answer e f h = absurd (cc)
 image_for_promised known part golden update (Ok p) (Ok s) answer e f h = record { device = p; streams = s; part_read = e; read = f; boots = λ more. image_has_streams update p.start_unit s p answer more (part_is known part p e) refl h }
 
-pub promised : (known : Known) (form : Asked) (answer : Answer) → FormGives known form (Ok answer) → PromiseOf known form answer
+pub promised : (known : Known) (form : AskedForm) (answer : Answer) → FormGives known form (Ok answer) → PromiseOf known form answer
 promised known (PlanningFull part frames) answer a = full_promised known part frames (plan_texts known part frames) answer refl a
 promised known (PlanningPartial part frames) answer a = partial_promised known part frames (plan_texts known part frames) answer refl a
 promised known (PlanningRead part far n) answer a = read_promised known part far n (part_of known part) answer refl a

@@ -16,7 +16,7 @@ use Rattle.x7_mcs.proofs.SizeLemmas.{text-short}
 use Rattle.x7_forms.specs.declared.status.Status.{Status}
 use Rattle.x7_forms.specs.declared.status.Status.TheVariants as status
 use Rattle.x7_forms.specs.Event.{Event, Cause, Wording, Want, Fault, Absence, Break, Contents, Difference, cause_of, no_memory, status_of, usage, write_fault}
-use Rattle.x7_forms.specs.Form.{Asked, Assembling, FlashUse, FromMcs, Unused, flash_use, listed_by, names_used, updated_by}
+use Rattle.x7_forms.specs.Form.{AskedForm, Assembling, FlashUse, FromMcs, Unused, flash_use, listed_by, names_used, updated_by}
 use Rattle.x7_forms.specs.Message.{final_status, text_status}
 use Rattle.x7_forms.specs.Known.{Answer, Failing, Known, Lacking, Mishap, mishap_event, and_so, found, known_of, taken_whole, whole_in, with_inputs, within}
 use Rattle.x7_forms.specs.Step.{Among, DecidedBy, IsCausedBy, IsDue, IsFromOutside, PossibleBy}
@@ -26,7 +26,7 @@ use Rattle.x7_tool.specs.Outcome.{AssembledAs, FormGives, IsOutcome, mcs_image, 
 use Rattle.x7_tool.specs.Outside.{Came, IsQuiet, KeepsFlash, Outside, known_in}
 use Rattle.x7_tool.specs.Promise.{Promise}
 use Rattle.x7_tool.specs.Run.{Agrees, AnswersForm, AnswersOver, CausedBy, EndIsCaused, Ends, EndsAs, FailsLast, GetsBy, GetsPrefix, Happens, IsMeasured, LeavesBy, LeftAtBreak, LeftBy, Puts}
-use Rattle.x7_tool.specs.Runs.{Back, RanAs, Runs}
+use Rattle.x7_tool.specs.Runs.{TextsLeadBack, RanAs, Runs}
 use Rattle.x7_tool.proofs.FlashLemmas.{answers_over, not_fault, not_large}
 use Rattle.x7_tool.proofs.PromiseLemmas.{promised}
 
@@ -39,12 +39,12 @@ want_is event e = ap status_of e
 -- ---- where contents are known and nothing failed
 
 -- no mishap came
-never_came : (form : Asked) (old new : Outside) (m : Mishap) → IsQuiet (Some form) old new → Came (Some form) old new m → ⊥
+never_came : (form : AskedForm) (old new : Outside) (m : Mishap) → IsQuiet (Some form) old new → Came (Some form) old new m → ⊥
 never_came form old new (Failing name given) q h = q.0 name h.1
 never_came form old new (Lacking name) q h = q.1 name h
 
 -- an event of a form is want of memory or the outcome
-event_by : (known : Known) (form : Asked) (old new : Outside) (event : Event) (cause : Cause) → known_in old ≡ Some known → IsQuiet (Some form) old new
+event_by : (known : Known) (form : AskedForm) (old new : Outside) (event : Event) (cause : Cause) → known_in old ≡ Some known → IsQuiet (Some form) old new
     → CausedBy cause form old new event → (event ≡ no_memory) ⊎ FormGives known form (Err event)
 event_by known form old new event Wording k q h = absurd h
 event_by known form old new event Want k q h = inl h
@@ -56,7 +56,7 @@ event_by known form old new event Difference k q h = let agrees : Agrees (known_
 event_by known form old new event Contents k q h = inr (rw k at h)
 
 -- the end is the outcome or want of memory
-outcome_is : (form : Option Asked) (old new : Outside) (s : Status) (end : Result Answer Event) → s ≡ final_status end → EndIsCaused form old new end
+outcome_is : (form : Option AskedForm) (old new : Outside) (s : Status) (end : Result Answer Event) → s ≡ final_status end → EndIsCaused form old new end
     → (known : Known) → known_in old ≡ Some known → IsQuiet form old new → (s ≡ status.NoMemory) ⊎ IsOutcome known form end
 outcome_is None old new s end e h known k q = inr (sym h)
 outcome_is (Some form) old new s (Ok answer) e h known k q = inr (rw k at h)
@@ -67,7 +67,7 @@ outcome_is (Some form) old new s (Err event) e h known k q = by (event_by known 
     by (inr g) = inr g
 
 -- words without a form end as a wrong usage
-no_form_is : (form : Option Asked) (old new : Outside) (s : Status) (end : Result Answer Event) → s ≡ final_status end → EndIsCaused form old new end → form ≡ None → s ≡ status.Usage
+no_form_is : (form : Option AskedForm) (old new : Outside) (s : Status) (end : Result Answer Event) → s ≡ final_status end → EndIsCaused form old new end → form ≡ None → s ≡ status.Usage
 no_form_is None old new s end e h n = e ∙ ap final_status h
 no_form_is (Some form) old new s end e h n = absurd (cc)
 
@@ -83,31 +83,31 @@ is_ok (Ok a) = true
 is_ok (Err event) = false
 
 -- an event of a mishap, by that
-mishap_cause : (m : Mishap) (form : Asked) (old new : Outside) (event : Event) → mishap_event m ≡ event → Happens form old new event → CausedBy (cause_of event) form old new event
+mishap_cause : (m : Mishap) (form : AskedForm) (old new : Outside) (event : Event) → mishap_event m ≡ event → Happens form old new event → CausedBy (cause_of event) form old new event
 mishap_cause (Failing name given) form old new event e h = subst (λ (c : Cause). CausedBy c form old new event) (ap cause_of e) h
 mishap_cause (Lacking name) form old new event e h = subst (λ (c : Cause). CausedBy c form old new event) (ap cause_of e) (inl h)
 
-outside_cause : (form : Asked) (old new : Outside) (event : Event) → IsFromOutside {A = Answer} (known_in old) (Came (Some form) old new) (λ t end. FormGives t form end) (Err event) → CausedBy (cause_of event) form old new event
+outside_cause : (form : AskedForm) (old new : Outside) (event : Event) → IsFromOutside {A = Answer} (known_in old) (Came (Some form) old new) (λ t end. FormGives t form end) (Err event) → CausedBy (cause_of event) form old new event
 outside_cause form old new event (inl e) = subst (λ (x : Event). CausedBy (cause_of x) form old new x) (sym e) refl
 outside_cause form old new event (inr h) = mishap_cause h.mishap form old new event h.is h
 
-known_cause : (cause : Cause) (known : Known) (form : Asked) (old new : Outside) (event : Event) → known_in old ≡ Some known → DecidedBy cause → FormGives known form (Err event) → CausedBy cause form old new event
+known_cause : (cause : Cause) (known : Known) (form : AskedForm) (old new : Outside) (event : Event) → known_in old ≡ Some known → DecidedBy cause → FormGives known form (Err event) → CausedBy cause form old new event
 known_cause Absence known form old new event k d h = inr (rw k h)
 known_cause Contents known form old new event k d h = rw k h
 known_cause cause known form old new event k d h = absurd d
 
-open_cause : (cause : Cause) (form : Asked) (old new : Outside) (event : Event) → known_in old ≡ None → PossibleBy cause → CausedBy cause form old new event
+open_cause : (cause : Cause) (form : AskedForm) (old new : Outside) (event : Event) → known_in old ≡ None → PossibleBy cause → CausedBy cause form old new event
 open_cause Contents form old new event k o = rw k tt
 open_cause cause form old new event k o = absurd o
 
-due_cause : (known : Option Known) (form : Asked) (old new : Outside) (got : Result Answer Event) → known_in old ≡ known → IsDue known (λ t end. FormGives t form end) got → EndIsCaused (Some form) old new got
+due_cause : (known : Option Known) (form : AskedForm) (old new : Outside) (got : Result Answer Event) → known_in old ≡ known → IsDue known (λ t end. FormGives t form end) got → EndIsCaused (Some form) old new got
 due_cause None form old new (Ok answer) k h = rw k tt
 due_cause (Some known) form old new (Ok answer) k h = rw k h.1
 due_cause None form old new (Err event) k h = open_cause (cause_of event) form old new event k h
 due_cause (Some known) form old new (Err event) k h = known_cause (cause_of event) known form old new event k h.0 h.1
 
 -- a text that is ready, or none, has its cause
-pub has_cause : (form : Asked) (old new : Outside) (got : Result Answer Event) → AnswersOver form old new got → EndIsCaused (Some form) old new got
+pub has_cause : (form : AskedForm) (old new : Outside) (got : Result Answer Event) → AnswersOver form old new got → EndIsCaused (Some form) old new got
 has_cause form old new (Ok answer) (inl h) = absurd h
 has_cause form old new (Err event) (inl h) = outside_cause form old new event h
 has_cause form old new got (inr h) = due_cause (known_in old) form old new got refl h
@@ -130,11 +130,11 @@ asm_back name text bytes (Err event) is h =
 mcs_back : (name text bytes : List ℕ) (end : Result Answer Event) → mcs_of text ≡ Ok bytes → mcs_image name (mcs_of text) ≡ end → end ≡ Ok (record { stopped = false; text = bytes })
 mcs_back name text bytes end is h = sym h ∙ ap (mcs_image name) is
 
-leads_back : (s : Status) (form : Asked) (known : Known) (end goal_end : Result Answer Event) → (s ≡ status.NoMemory) ⊎ IsOutcome known (Some form) end → (FormGives known form end → end ≡ goal_end) → (s ≡ status.NoMemory) ⊎ (end ≡ goal_end)
+leads_back : (s : Status) (form : AskedForm) (known : Known) (end goal_end : Result Answer Event) → (s ≡ status.NoMemory) ⊎ IsOutcome known (Some form) end → (FormGives known form end → end ≡ goal_end) → (s ≡ status.NoMemory) ⊎ (end ≡ goal_end)
 leads_back s form known end goal_end (inl n) back = inl n
 leads_back s form known end goal_end (inr h) back = inr (back h)
 
-form_back : (form : Asked) (old new : Outside) (s : Status) (end : Result Answer Event) → ((known : Known) → known_in old ≡ Some known → IsQuiet (Some form) old new → (s ≡ status.NoMemory) ⊎ IsOutcome known (Some form) end) → Back (Some form) old new s end
+form_back : (form : AskedForm) (old new : Outside) (s : Status) (end : Result Answer Event) → ((known : Known) → known_in old ≡ Some known → IsQuiet (Some form) old new → (s ≡ status.NoMemory) ⊎ IsOutcome known (Some form) end) → TextsLeadBack (Some form) old new s end
 form_back (Assembling name) old new s end outcome = λ bytes text fits short listed has quiet.
     let known : Known = known_of has.0 old.flash.bytes in
     let is : known_in old ≡ Some known = ap (λ (i : Option (List ℕ → Option (List ℕ))). with_inputs i old.flash.bytes) has.1.0 in
@@ -149,17 +149,17 @@ form_back (FromMcs name) old new s end outcome = λ bytes fits short has quiet.
     (λ h. mcs_back name (mcs_text bytes) bytes end (text-gives bytes fits short) (sym (ap (λ (r : Result (List ℕ) Event). and_so r (λ text. mcs_image name (mcs_of text))) whole) ∙ h))
 form_back form old new s end outcome = tt
 
-back_is : (form : Option Asked) (old new : Outside) (s : Status) (end : Result Answer Event) → ((known : Known) → known_in old ≡ Some known → IsQuiet form old new → (s ≡ status.NoMemory) ⊎ IsOutcome known form end) → Back form old new s end
+back_is : (form : Option AskedForm) (old new : Outside) (s : Status) (end : Result Answer Event) → ((known : Known) → known_in old ≡ Some known → IsQuiet form old new → (s ≡ status.NoMemory) ⊎ IsOutcome known form end) → TextsLeadBack form old new s end
 back_is None old new s end outcome = tt
 back_is (Some form) old new s end outcome = form_back form old new s end outcome
 
 -- ---- promises
 
-promise_by : (known : Option Known) (form : Asked) (answer : Answer) → Agrees known form (Ok answer) → Promise known (Some form) (Ok answer)
+promise_by : (known : Option Known) (form : AskedForm) (answer : Answer) → Agrees known form (Ok answer) → Promise known (Some form) (Ok answer)
 promise_by None form answer h = tt
 promise_by (Some known) form answer h = promised known form answer h
 
-no_promise : (known : Option Known) (form : Option Asked) (event : Event) → Promise known form (Err event)
+no_promise : (known : Option Known) (form : Option AskedForm) (event : Event) → Promise known form (Err event)
 no_promise None form event = tt
 no_promise (Some known) None event = tt
 no_promise (Some known) (Some form) event = tt
@@ -168,7 +168,7 @@ no_form_promise : (known : Option Known) (end : Result Answer Event) → Promise
 no_form_promise None end = tt
 no_form_promise (Some known) end = tt
 
-promise_is : (form : Option Asked) (old new : Outside) (end : Result Answer Event) → EndIsCaused form old new end → Promise (known_in old) form end
+promise_is : (form : Option AskedForm) (old new : Outside) (end : Result Answer Event) → EndIsCaused form old new end → Promise (known_in old) form end
 promise_is None old new end h = no_form_promise (known_in old) end
 promise_is (Some form) old new (Ok answer) h = promise_by (known_in old) form answer h
 promise_is (Some form) old new (Err event) h = no_promise (known_in old) (Some form) event
@@ -176,7 +176,7 @@ promise_is (Some form) old new (Err event) h = no_promise (known_in old) (Some f
 -- ---- a run
 
 -- how a command ended is what its run comes to
-pub runs : (form : Option Asked) (old new : Outside) (s : Status) → RanAs form old new s → KeepsFlash (flash_use form) old.flash new.flash → Runs form old new s
+pub runs : (form : Option AskedForm) (old new : Outside) (s : Status) → RanAs form old new s → KeepsFlash (flash_use form) old.flash new.flash → Runs form old new s
 runs form old new s r f =
     let outcome : (known : Known) → known_in old ≡ Some known → IsQuiet form old new → (s ≡ status.NoMemory) ⊎ IsOutcome known form r.end = outcome_is form old new s r.end r.ends_as r.ends.cause in
     record {
@@ -203,7 +203,7 @@ runs form old new s r f =
 -- ---- a text that is whole before it is written
 
 -- what other forms leave where nothing was written
-pub leaves_all : (form : Asked) (cause : Cause) (old new : Outside) (event : Event) → listed_by (Some form) ≡ None → (cause ≡ Break → ⊥) → new.out.written ≡ old.out.written → LeftBy cause (Some form) old new event
+pub leaves_all : (form : AskedForm) (cause : Cause) (old new : Outside) (event : Event) → listed_by (Some form) ≡ None → (cause ≡ Break → ⊥) → new.out.written ≡ old.out.written → LeftBy cause (Some form) old new event
 leaves_all form Break old new event l n e = absurd (n refl)
 leaves_all form cause old new event l n e = subst (λ (s : Option (List ℕ)). LeavesBy s event old new) (sym l) e
 
@@ -229,11 +229,11 @@ no_break known C Due event (inl h) = outside_by known C Due event h
 no_break None C Due event (inr h) = open_by (cause_of event) h
 no_break (Some t) C Due event (inr h) = decided_by (cause_of event) h.0
 
-gets_by : (known : Option Known) (form : Asked) (answer : Answer) (old new : SinkState) → listed_by (Some form) ≡ None → Agrees known form (Ok answer) → PutsSome old answer.text new → GetsPrefix known form old new
+gets_by : (known : Option Known) (form : AskedForm) (answer : Answer) (old new : SinkState) → listed_by (Some form) ≡ None → Agrees known form (Ok answer) → PutsSome old answer.text new → GetsPrefix known form old new
 gets_by None form answer old new l h p = (answer.text, p)
 gets_by (Some known) form answer old new l h p = subst (λ (s : Option (List ℕ)). GetsBy s known form old new) (sym l) (answer, (h, p))
 
-pub near_all : (form : Asked) (s : Status) (old new : Outside) → listed_by (Some form) ≡ None → StaysNear s (Some form) old new
+pub near_all : (form : AskedForm) (s : Status) (old new : Outside) → listed_by (Some form) ≡ None → StaysNear s (Some form) old new
 near_all form s old new l = subst (λ (x : Option (List ℕ)). StaysNearIn s x old new) (sym l) tt
 
 -- the stream that a form lists, or else the one with which it updates its flash
@@ -250,20 +250,20 @@ none_updated None updated e = e
 none_updated (Some listed) updated e = absurd (cc)
 
 -- a form without a stream for a flash updates no flash
-updates_none : (form : Asked) (old new : Outside) (end : Result Answer Event) → updated_by (Some form) ≡ None → Updates (updated_by (Some form)) old new end
+updates_none : (form : AskedForm) (old new : Outside) (end : Result Answer Event) → updated_by (Some form) ≡ None → Updates (updated_by (Some form)) old new end
 updates_none form old new end u = subst (λ (x : Option (List ℕ)). Updates x old new end) (sym u) tt
 
 -- a form that uses no flash
-unmeasured : (form : Asked) (new : FlashState) (end : Result Answer Event) → flash_use (Some form) ≡ Unused → IsMeasured (Some form) new end
+unmeasured : (form : AskedForm) (new : FlashState) (end : Result Answer Event) → flash_use (Some form) ≡ Unused → IsMeasured (Some form) new end
 unmeasured form new (Ok answer) u = λ name a. absurd (subst (λ (x : FlashUse). Among (names_used x) name) u a)
 unmeasured form new (Err event) u = λ name a e. absurd (subst (λ (x : FlashUse). Among (names_used x) name) u a)
 
-unfailed : (form : Asked) (old : InputsState) (new : FlashState) (end : Result Answer Event) → flash_use (Some form) ≡ Unused → FailsLast (Some form) old new end
+unfailed : (form : AskedForm) (old : InputsState) (new : FlashState) (end : Result Answer Event) → flash_use (Some form) ≡ Unused → FailsLast (Some form) old new end
 unfailed form old new (Ok answer) u = tt
 unfailed form old new (Err event) u = λ name a e at. absurd (subst (λ (x : FlashUse). Among (names_used x) name) u a)
 
 -- a form whose text is ready before any of it is written ends as it should where its text has its cause and was put
-puts_end : (form : Asked) (old new : Outside) (whole : Result Answer Event) (got : Result Bool Event) → listed_by (Some form) ≡ None → updated_by (Some form) ≡ None → IsMeasured (Some form) new.flash whole → FailsLast (Some form) old.inputs new.flash whole → AnswersOver form old new whole → Puts whole old.out new.out got
+puts_end : (form : AskedForm) (old new : Outside) (whole : Result Answer Event) (got : Result Bool Event) → listed_by (Some form) ≡ None → updated_by (Some form) ≡ None → IsMeasured (Some form) new.flash whole → FailsLast (Some form) old.inputs new.flash whole → AnswersOver form old new whole → Puts whole old.out new.out got
     → EndsAs (Some form) old new got
 puts_end form old new (Ok answer) (Ok stopped) l u m f c p = (
   answer.text,
@@ -298,12 +298,12 @@ puts_end form old new (Err event) (Err other) l u m f c p =
       updates = updates_none form old new (Err event) u;
     })
 
-pub text_ends : (form : Asked) (old new : Outside) (whole : Result Answer Event) (got : Result Bool Event)
+pub text_ends : (form : AskedForm) (old new : Outside) (whole : Result Answer Event) (got : Result Bool Event)
     → streamed (listed_by (Some form)) (updated_by (Some form)) ≡ None → IsMeasured (Some form) new.flash whole → FailsLast (Some form) old.inputs new.flash whole → AnswersOver form old new whole → Puts whole old.out new.out got → EndsAs (Some form) old new got
 text_ends form old new whole got n m f c p =
     puts_end form old new whole got (none_listed (listed_by (Some form)) (updated_by (Some form)) n) (none_updated (listed_by (Some form)) (updated_by (Some form)) n) m f c p
 
 -- a form that reads inputs alone ends as it should where its text has its cause and was put
-pub ready_ends : (form : Asked) (old new : Outside) (whole : Result Answer Event) (got : Result Bool Event)
+pub ready_ends : (form : AskedForm) (old new : Outside) (whole : Result Answer Event) (got : Result Bool Event)
     → streamed (listed_by (Some form)) (updated_by (Some form)) ≡ None → flash_use (Some form) ≡ Unused → AnswersForm form old.inputs new.inputs whole → Puts whole old.out new.out got → EndsAs (Some form) old new got
 ready_ends form old new whole got l u c p = text_ends form old new whole got l (unmeasured form new.flash whole u) (unfailed form old.inputs new.flash whole u) (answers_over form old new whole (c old.flash.bytes)) p

@@ -11,7 +11,7 @@ use Rattle.x7_forms.specs.Event.{Absence, Break, Cause, Contents, Difference, Ev
 use Rattle.x7_forms.specs.declared.bad_input.InputFault.TheVariants as input
 use Rattle.x7_forms.specs.declared.refusal.Why.{Why}
 use Rattle.x7_forms.specs.declared.refusal.Why.TheVariants as why
-use Rattle.x7_forms.specs.Form.{Asked, Booting, Playing, Unused, UpdatingFlash, flash_names, flash_use}
+use Rattle.x7_forms.specs.Form.{AskedForm, Booting, Playing, Unused, UpdatingFlash, flash_names, flash_use}
 use Rattle.x7_forms.specs.Known.{Answer, part_limit, stream_limit}
 use Rattle.x7_forms.specs.Message.{event_of}
 use Rattle.x7_forms.specs.Step.{Among, seen}
@@ -83,7 +83,7 @@ svf_played_about name texts event (inr h) = about_by name event (svf_event name 
 
 -- ---- where reading stops
 
-stops_by : (cause : Cause) (form : Asked) (old now : InputsState) (event : Event) → TellsOf form old now event → StopsBy cause form old now event
+stops_by : (cause : Cause) (form : AskedForm) (old now : InputsState) (event : Event) → TellsOf form old now event → StopsBy cause form old now event
 stops_by Wording form old now event t = tt
 stops_by Want form old now event t = tt
 stops_by Break form old now event t = tt
@@ -92,43 +92,43 @@ stops_by Fault form old now event t = t
 stops_by Absence form old now event t = t
 stops_by Contents form old now event t = t
 
-pub want_stops : (form : Asked) (old now : InputsState) (event : Event) → event ≡ no_memory → StopsBy (cause_of event) form old now event
+pub want_stops : (form : AskedForm) (old now : InputsState) (event : Event) → event ≡ no_memory → StopsBy (cause_of event) form old now event
 want_stops form old now event e = subst (λ (x : Event). StopsBy (cause_of x) form old now x) (sym e) tt
 
-pub reads_stop : (form : Asked) (old now : InputsState) (event : Event) → (event ≡ no_memory) ⊎ (event ≡ too_many_reads) → StopsBy (cause_of event) form old now event
+pub reads_stop : (form : AskedForm) (old now : InputsState) (event : Event) → (event ≡ no_memory) ⊎ (event ≡ too_many_reads) → StopsBy (cause_of event) form old now event
 reads_stop form old now event (inl e) = want_stops form old now event e
 reads_stop form old now event (inr e) = stops_by (cause_of event) form old now event (inr (inl e))
 
 -- one of the form's inputs
-pub among_stops : (form : Asked) (old now : InputsState) (event : Event) → StopsAmong (inputs_of old.contents form) old now event → StopsBy (cause_of event) form old now event
+pub among_stops : (form : AskedForm) (old now : InputsState) (event : Event) → StopsAmong (inputs_of old.contents form) old now event → StopsBy (cause_of event) form old now event
 among_stops form old now event (inl e) = want_stops form old now event e
 among_stops form old now event (inr h) = stops_by (cause_of event) form old now event (inr (inr h))
 
 -- the first of the form's inputs
-pub first_stops : (form : Asked) (first : Limited) (others : List Limited) (old now : InputsState) (event : Event)
+pub first_stops : (form : AskedForm) (first : Limited) (others : List Limited) (old now : InputsState) (event : Event)
     → inputs_of old.contents form ≡ first ∷ others → StandsAt first.name first.limit now → AsksFew old 1 now → IsAbout first.name event → StopsBy (cause_of event) form old now event
 first_stops form first others old now event i s n a = among_stops form old now event (about_among (inputs_of old.contents form) [] first others old now event i s n a)
 
 -- the second
-pub second_stops : (form : Asked) (first second : Limited) (others : List Limited) (old now : InputsState) (event : Event)
+pub second_stops : (form : AskedForm) (first second : Limited) (others : List Limited) (old now : InputsState) (event : Event)
     → inputs_of old.contents form ≡ first ∷ second ∷ others → StandsAt second.name second.limit now → AsksFew old 2 now → IsAbout second.name event → StopsBy (cause_of event) form old now event
 second_stops form first second others old now event i s n a = among_stops form old now event (about_among (inputs_of old.contents form) (first ∷ []) second others old now event i s n a)
 
 -- the third
-pub third_stops : (form : Asked) (first second third : Limited) (others : List Limited) (old now : InputsState) (event : Event)
+pub third_stops : (form : AskedForm) (first second third : Limited) (others : List Limited) (old now : InputsState) (event : Event)
     → inputs_of old.contents form ≡ first ∷ second ∷ third ∷ others → StandsAt third.name third.limit now → AsksFew old 3 now → IsAbout third.name event → StopsBy (cause_of event) form old now event
 third_stops form first second third others old now event i s n a = among_stops form old now event (about_among (inputs_of old.contents form) (first ∷ second ∷ []) third others old now event i s n a)
 
 -- a call's result, where each refusal stops so
-pub result_stops : {A B : Type 0} (value : A → B) (form : Asked) (old now : InputsState) (r : Result A Refusal) → IfErr r (λ x. StopsBy (cause_of (event_of x)) form old now (event_of x)) → Stops (Some form) old now (seen value r)
+pub result_stops : {A B : Type 0} (value : A → B) (form : AskedForm) (old now : InputsState) (r : Result A Refusal) → IfErr r (λ x. StopsBy (cause_of (event_of x)) form old now (event_of x)) → Stops (Some form) old now (seen value r)
 result_stops value form old now (Ok a) h = tt
 result_stops value form old now (Err x) h = h
 
-pub want_only : {A B : Type 0} (value : A → B) (form : Asked) (old now : InputsState) (r : Result A Refusal) → IfErr r (λ x. event_of x ≡ no_memory) → Stops (Some form) old now (seen value r)
+pub want_only : {A B : Type 0} (value : A → B) (form : AskedForm) (old now : InputsState) (r : Result A Refusal) → IfErr r (λ x. event_of x ≡ no_memory) → Stops (Some form) old now (seen value r)
 want_only value form old now (Ok a) h = tt
 want_only value form old now (Err x) h = want_stops form old now (event_of x) h
 
-pub reads_only : {A B : Type 0} (value : A → B) (form : Asked) (old now : InputsState) (r : Result A Refusal) → IfErr r (λ x. (event_of x ≡ no_memory) ⊎ (event_of x ≡ too_many_reads)) → Stops (Some form) old now (seen value r)
+pub reads_only : {A B : Type 0} (value : A → B) (form : AskedForm) (old now : InputsState) (r : Result A Refusal) → IfErr r (λ x. (event_of x ≡ no_memory) ⊎ (event_of x ≡ too_many_reads)) → Stops (Some form) old now (seen value r)
 reads_only value form old now (Ok a) h = tt
 reads_only value form old now (Err x) h = reads_stop form old now (event_of x) h
 
@@ -140,10 +140,10 @@ streams_stop part streams old mid now event e n h =
     (subst (λ (k : Option (List ℕ → Option (List ℕ))). StopsAmong (limited_together k stream_limit streams) mid now event) e h))
 
 -- the form's flash
-pub flash_stops : (form : Asked) (old now : InputsState) (event : Event) (name : List ℕ) → event.concerned ≡ name → Among (flash_names (Some form)) name → StopsBy (cause_of event) form old now event
+pub flash_stops : (form : AskedForm) (old now : InputsState) (event : Event) (name : List ℕ) → event.concerned ≡ name → Among (flash_names (Some form)) name → StopsBy (cause_of event) form old now event
 flash_stops form old now event name n a = stops_by (cause_of event) form old now event (inl (subst (λ (x : List ℕ). Among (flash_names (Some form)) x) (sym n) a))
 
-pub write_stops : (form : Asked) (old now : InputsState) (event : Event) → event ≡ write_fault → StopsBy (cause_of event) form old now event
+pub write_stops : (form : AskedForm) (old now : InputsState) (event : Event) → event ≡ write_fault → StopsBy (cause_of event) form old now event
 write_stops form old now event e = subst (λ (x : Event). StopsBy (cause_of x) form old now x) (sym e) tt
 
 -- a boot from a flash
@@ -176,22 +176,22 @@ updated_stops flash stream old now fault event e s n = subst (λ (x : Event). St
 
 -- ---- a listing
 
-pub front_stops : {Q : Type 0} (form : Asked) (old now : InputsState) (event : Event) → (event ≡ no_memory) ⊎ ((event ≡ write_fault) × Q) → StopsBy (cause_of event) form old now event
+pub front_stops : {Q : Type 0} (form : AskedForm) (old now : InputsState) (event : Event) → (event ≡ no_memory) ⊎ ((event ≡ write_fault) × Q) → StopsBy (cause_of event) form old now event
 front_stops form old now event (inl e) = want_stops form old now event e
 front_stops form old now event (inr h) = write_stops form old now event h.0
 
-pub put_stops : {P Q : Type 0} (form : Asked) (old now : InputsState) (event : Event) → ((event ≡ no_memory) × P) ⊎ ((event ≡ write_fault) × Q) → StopsBy (cause_of event) form old now event
+pub put_stops : {P Q : Type 0} (form : AskedForm) (old now : InputsState) (event : Event) → ((event ≡ no_memory) × P) ⊎ ((event ≡ write_fault) × Q) → StopsBy (cause_of event) form old now event
 put_stops form old now event (inl h) = want_stops form old now event h.0
 put_stops form old now event (inr h) = write_stops form old now event h.0
 
-pub written_stops : {A : Type 0} (P Q : Type 0) (form : Asked) (old now : InputsState) (r : Result A Refusal) → IfErr r (λ x. ((event_of x ≡ no_memory) × P) ⊎ ((event_of x ≡ write_fault) × Q)) → Stops (Some form) old now (seen (λ _. false) r)
+pub written_stops : {A : Type 0} (P Q : Type 0) (form : AskedForm) (old now : InputsState) (r : Result A Refusal) → IfErr r (λ x. ((event_of x ≡ no_memory) × P) ⊎ ((event_of x ≡ write_fault) × Q)) → Stops (Some form) old now (seen (λ _. false) r)
 written_stops P Q form old now (Ok a) h = tt
 written_stops P Q form old now (Err x) h = put_stops form old now (event_of x) h
 
 -- ---- the words
 
 -- a text that is ready, or none, and how it was written
-pub puts_stop : (form : Asked) (first now : InputsState) (whole : Result Answer Event) (old new : SinkState) (got : Result Bool Event) → Stops (Some form) first now whole → Puts whole old new got → Stops (Some form) first now got
+pub puts_stop : (form : AskedForm) (first now : InputsState) (whole : Result Answer Event) (old new : SinkState) (got : Result Bool Event) → Stops (Some form) first now whole → Puts whole old new got → Stops (Some form) first now got
 puts_stop form first now (Err event) old new got s p = subst (λ (r : Result Bool Event). Stops (Some form) first now r) (sym p.0) s
 puts_stop form first now (Ok answer) old new (Ok stopped) s p = tt
 puts_stop form first now (Ok answer) old new (Err event) s p = subst (λ (x : Event). StopsBy (cause_of x) form first now x) (sym p.0) tt
@@ -199,15 +199,15 @@ puts_stop form first now (Ok answer) old new (Err event) s p = subst (λ (x : Ev
 -- ---- what an update asks for where its flash can't be used
 
 -- a form that uses no flash judges none
-pub unused_judges : {A : Type 0} (form : Asked) (old new : Sources) (got : Result A Event) → flash_use (Some form) ≡ Unused → JudgesFlash {A = A} (Some form) old new got
+pub unused_judges : {A : Type 0} (form : AskedForm) (old new : Sources) (got : Result A Event) → flash_use (Some form) ≡ Unused → JudgesFlash {A = A} (Some form) old new got
 unused_judges (UpdatingFlash flash stream) old new got u = absurd (cc)
 unused_judges form old new got u = tt
 
-pub done_judges : (form : Asked) (old new : Sources) (answer : Answer) → JudgesFlash {A = Answer} (Some form) old new (Ok answer)
+pub done_judges : (form : AskedForm) (old new : Sources) (answer : Answer) → JudgesFlash {A = Answer} (Some form) old new (Ok answer)
 done_judges (UpdatingFlash flash stream) old new answer = tt
 done_judges form old new answer = tt
 
-pub refused_judges : (form : Asked) (old new : Sources) (event : Event) → JudgesFlash {A = Bool} (Some form) old new (Err event) → JudgesFlash {A = Answer} (Some form) old new (Err event)
+pub refused_judges : (form : AskedForm) (old new : Sources) (event : Event) → JudgesFlash {A = Bool} (Some form) old new (Err event) → JudgesFlash {A = Answer} (Some form) old new (Err event)
 refused_judges (UpdatingFlash flash stream) old new event j = j
 refused_judges form old new event j = tt
 

@@ -17,7 +17,7 @@ use Rattle.x7_forms.specs.Event.{Event, read_fault, too_large, write_fault}
 use Rattle.x7_forms.specs.Known.{Mishap, found, stream_limit, with_inputs}
 use Rattle.x7_tool.specs.Run.{ListsSoFar}
 use Rattle.x7_tool.specs.Turns.{Lists, ListsStream}
-use Rattle.x7_forms.specs.Turn.{IsAt, MayFollow, Unread}
+use Rattle.x7_forms.specs.Turn.{IsAt, FollowsUnlessLast, Unread}
 use Rattle.x7_tool.proofs.Causes.{Ended, PutsListed, broken, ends_same, faulted, oversized, unwritten}
 use Rattle.x7_forms.proofs.ReadLemmas.{at_fault, known_all}
 
@@ -162,7 +162,7 @@ write_failed contents flash C stream taken piece same l rest Full old mid now e 
     unwritten contents flash C stream (taken ++ piece) rest false Full old now s (λ l. absurd cc) f here (λ left m fit. q left (all_back (λ b. b < 256) (taken ++ piece) left fit))
 
 -- what was put at the front of a stream
-pub front_here : (taken line sent : List ℕ) (last : Bool) (old now : Option (List ℕ)) → AreBytes sent → ((left : List ℕ) → MayFollow last left → stream_listing (taken ++ left) ≡ Ok (line ++ listing_of (sent ++ left)))
+pub front_here : (taken line sent : List ℕ) (last : Bool) (old now : Option (List ℕ)) → AreBytes sent → ((left : List ℕ) → FollowsUnlessLast last left → stream_listing (taken ++ left) ≡ Ok (line ++ listing_of (sent ++ left)))
     → ((left : List ℕ) → AreBytes (sent ++ left) → PutsPrefix old (line ++ listing_of (sent ++ left)) now) → PutsListed taken old now
 front_here taken line sent last old now fits g p =
     let put : PutsPrefix old (line ++ listing_of sent) now = subst (λ s. PutsPrefix old (line ++ listing_of s) now) (append-nil sent) (p [] (subst AreBytes (sym (append-nil sent)) fits)) in
@@ -170,10 +170,10 @@ front_here taken line sent last old now fits g p =
 
 -- a sink that failed at the front of a stream
 pub front_failed : (contents : Option (List ℕ → Option (List ℕ))) (flash : Option (List ℕ)) (C : Mishap → Type 0) (stream taken line sent : List ℕ) (rest : Option (List ℕ)) (last : Bool) (Full : Type 0) (old now : Option (List ℕ))
-    → Selects contents stream (preceded taken rest) → (last ≡ true → AtEnd rest) → Full → AreBytes sent → ((left : List ℕ) → MayFollow last left → stream_listing (taken ++ left) ≡ Ok (line ++ listing_of (sent ++ left)))
+    → Selects contents stream (preceded taken rest) → (last ≡ true → AtEnd rest) → Full → AreBytes sent → ((left : List ℕ) → FollowsUnlessLast last left → stream_listing (taken ++ left) ≡ Ok (line ++ listing_of (sent ++ left)))
     → ((left : List ℕ) → AreBytes (sent ++ left) → PutsPrefix old (line ++ listing_of (sent ++ left)) now) → Ended (with_inputs contents flash) C stream Full old now (Err write_fault)
 front_failed contents flash C stream taken line sent rest last Full old now s e f fits g p =
-    let q : (left : List ℕ) → MayFollow last left → AreBytes left → PutsListed (taken ++ left) old now
+    let q : (left : List ℕ) → FollowsUnlessLast last left → AreBytes left → PutsListed (taken ++ left) old now
     = λ left m fit. (line ++ listing_of (sent ++ left), (g left m, p left (all-append (λ b. b < 256) sent left fits fit))) in
     let here : PutsListed taken old now = front_here taken line sent last old now fits g p in
     unwritten contents flash C stream taken rest last Full old now s e f here (λ left m fit. q left m (all_back (λ b. b < 256) taken left fit))

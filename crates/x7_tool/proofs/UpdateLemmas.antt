@@ -21,7 +21,7 @@ use Rattle.x7_forms.specs.declared.bad_input.InputFault.TheVariants as input
 use Rattle.x7_forms.specs.declared.refusal.Why.{Why}
 use Rattle.x7_forms.specs.declared.refusal.Why.TheVariants as why
 use Rattle.x7_forms.specs.Event.{Event, bad_input, cause_of, differs, no_memory, read_fault, status_of, too_large, write_fault}
-use Rattle.x7_forms.specs.Form.{Asked, UpdatingFlash, names_of}
+use Rattle.x7_forms.specs.Form.{AskedForm, UpdatingFlash, names_of}
 use Rattle.x7_forms.specs.Message.{text_status}
 use Rattle.x7_forms.specs.Known.{Absent, Answer, Failing, Found, Known, Lacking, Mishap, flash_found, mishap_event, spoiled, spoiled_name, with_inputs, with_mishap}
 use Rattle.x7_forms.specs.Step.{Among, CameIn, DueBy, IsCaused, IsDecided, IsDue, IsPossible, IsUnplayed, step_over}
@@ -115,26 +115,26 @@ unread_due (Some t) bytes flash stream event same within h = (h.0, update_given 
 -- ---- how an update ends
 
 -- a flash that can't be used, by its size
-pub unopened_measured : (form : Option Asked) (name : List ℕ) (old new : FlashState) (event : Event) → IsUnopened name old new event → IsMeasured form new (Err event)
+pub unopened_measured : (form : Option AskedForm) (name : List ℕ) (old new : FlashState) (event : Event) → IsUnopened name old new event → IsMeasured form new (Err event)
 unopened_measured form name old new event (inl h) = unattached_measured form name old new event h.0
 unopened_measured form name old new event (inr h) = λ other a e. inl h.1
 
 -- a stream that was not read says nothing of it
-pub unplayed_measured : (form : Option Asked) (new : FlashState) (name : List ℕ) (event : Event) → Among (names_of form) name → IsUnplayed name event → IsMeasured form new (Err event)
+pub unplayed_measured : (form : Option AskedForm) (new : FlashState) (name : List ℕ) (event : Event) → Among (names_of form) name → IsUnplayed name event → IsMeasured form new (Err event)
 unplayed_measured form new name event a (inl h) = unread_measured form new name event a h
 unplayed_measured form new name event a (inr h) = bad_small form new name (input.Byte h.0) event h.1
 
 -- neither is a fault of a flash that is attached
-pub unopened_last : (form : Asked) (name : List ℕ) (inputs : InputsState) (old new : FlashState) (event : Event) → IsUnopened name old new event → FailsLast (Some form) inputs new (Err event)
+pub unopened_last : (form : AskedForm) (name : List ℕ) (inputs : InputsState) (old new : FlashState) (event : Event) → IsUnopened name old new event → FailsLast (Some form) inputs new (Err event)
 unopened_last form name inputs old new event (inl h) = detached form inputs new event h.1
 unopened_last form name inputs old new event (inr h) = other_fault (Some form) inputs new event (too_large name) h.0 (λ r. absurd (cc))
 
-pub unplayed_last : (form : Asked) (inputs : InputsState) (new : FlashState) (name : List ℕ) (event : Event) → Among (names_of (Some form)) name → IsUnplayed name event → FailsLast (Some form) inputs new (Err event)
+pub unplayed_last : (form : AskedForm) (inputs : InputsState) (new : FlashState) (name : List ℕ) (event : Event) → Among (names_of (Some form)) name → IsUnplayed name event → FailsLast (Some form) inputs new (Err event)
 unplayed_last form inputs new name event a (inl h) = unread_last form inputs new name event a h
 unplayed_last form inputs new name event a (inr h) = other_fault (Some form) inputs new event (bad_input name (input.Byte h.0)) h.1 (λ r. absurd (cc))
 
 -- a fault of an update says nothing of the size of a flash
-fault_measured : (form : Option Asked) (n : UpdateNames) (new : FlashState) (fault : UpdateFault) → IsMeasured form new (Err (update_event n fault))
+fault_measured : (form : Option AskedForm) (n : UpdateNames) (new : FlashState) (fault : UpdateFault) → IsMeasured form new (Err (update_event n fault))
 fault_measured form n new (Failed true) = not_large form new write_fault (λ r. absurd (cc))
 fault_measured form n new (Failed false) = not_large form new (read_fault n.flash) (λ r. absurd (cc))
 fault_measured form n new TooLong = not_large form new (bad_input n.stream input.Long) (λ r. absurd (cc))

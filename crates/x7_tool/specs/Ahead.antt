@@ -3,7 +3,7 @@ use Rattle.std.specs.Prelude.{◌≡◌, ℕ, ◌+◌, ◌<◌, ◌≤◌, List,
 use Rattle.x7_words.specs.Sink.{SinkState, appended}
 use Rattle.x7_words.specs.Word.{AreBytes}
 use Rattle.x7_listing.specs.StreamListing.{stream_listing}
-use Rattle.x7_forms.specs.Form.{Asked, listed_by}
+use Rattle.x7_forms.specs.Form.{AskedForm, listed_by}
 use Rattle.x7_forms.specs.declared.status.Status.{Status}
 use Rattle.x7_forms.specs.declared.status.Status.TheVariants as status
 use Rattle.x7_tool.specs.Outside.{Outside}
@@ -78,7 +78,7 @@ abbrev pub StaysNearIn : Status → Option (List ℕ) → Outside → Outside �
 StaysNearIn s None old new = Unit {0}
 StaysNearIn s (Some stream) old new = StaysNearBy s stream old new
 
-abbrev pub StaysNear : Status → Option Asked → Outside → Outside → Type 0
+abbrev pub StaysNear : Status → Option AskedForm → Outside → Outside → Type 0
 StaysNear s form old new = StaysNearIn s (listed_by form) old new
 
 -- what the sink has begins with what it had

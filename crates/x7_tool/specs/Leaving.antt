@@ -8,7 +8,7 @@ use Rattle.x7_recovery.specs.Golden.{BootsAlike, IsPreparedAny, UpdatingAny}
 use Rattle.x7_forms.specs.declared.refusal.Why.{Why}
 use Rattle.x7_forms.specs.declared.refusal.Why.TheVariants as why
 use Rattle.x7_forms.specs.Event.{Event}
-use Rattle.x7_forms.specs.Form.{Asked, flash_use, updated_by}
+use Rattle.x7_forms.specs.Form.{AskedForm, flash_use, updated_by}
 use Rattle.x7_forms.specs.Known.{Answer, Known}
 use Rattle.x7_tool.specs.Outcome.{stream_data}
 use Rattle.x7_tool.specs.Outside.{KeepsFlash, Outside, Sources, known_from, known_in}
@@ -24,16 +24,16 @@ MayBeFound known None flash found = found ≡ flash
 MayBeFound known (Some stream) flash found = (found ≡ flash) ⊎ ((bytes : List ℕ) × HasData known stream bytes × MayBeLeft bytes flash found)
 
 -- what a run does to the flash, and what may be found of it at any moment of the run and is left of it
-pub record UsesFlash (form : Option Asked) (old : Sources) (new : FlashState) (past since : ℕ → List ℕ → Type 0) : Type 0 where
+pub record UsesFlash (form : Option AskedForm) (old : Sources) (new : FlashState) (past since : ℕ → List ℕ → Type 0) : Type 0 where
   pub keeps : KeepsFlash (flash_use form) old.flash new
   pub moments : AtAnyMoment old.flash new past since (MayBeFound (known_from old) (updated_by form))
 
 -- what a power loss at any moment of a run may leave of its flash, where the bytes of that are known
-abbrev pub PowerLossMayLeave : Option Asked → Sources → List ℕ → Type 0
+abbrev pub PowerLossMayLeave : Option AskedForm → Sources → List ℕ → Type 0
 PowerLossMayLeave form old found = IfKnown old.flash.bytes (λ all. MayBeFound (known_from old) (updated_by form) all found)
 
 -- A run updates a flash with a stream, whose bytes and data are known; the flash has a layout, and its golden stream, of any kind, starts where the first sector is erased, and ends at U or before it.
-pub record IsUpdateOf (form : Option Asked) (old : Sources) (u : UpdatingAny) : Type 0 where
+pub record IsUpdateOf (form : Option AskedForm) (old : Sources) (u : UpdatingAny) : Type 0 where
   pub known : Known
   pub is_known : known_from old ≡ Some known
   pub name : List ℕ
@@ -43,7 +43,7 @@ pub record IsUpdateOf (form : Option Asked) (old : Sources) (u : UpdatingAny) : 
   pub prepared : IsPreparedAny u
 
 -- where a run is such an update and these bytes are found, each boot from them is that of the flash before it, or starts as the golden stream does, or is that of the updated flash
-abbrev pub EachBoots : Option Asked → Sources → List ℕ → Type 0
+abbrev pub EachBoots : Option AskedForm → Sources → List ℕ → Type 0
 EachBoots form old found = (u : UpdatingAny) (b : BootedState) → IsUpdateOf form old u → IsBoot u.part found b → BootsAlike u found b
 
 -- by the reason of an update that wasn't done: the bytes stay, but where a write or a read of the flash failed, or a byte differs

@@ -53,7 +53,7 @@ use Rattle.x7_debug.specs.Transcript.{final_position, transcript_of}
 use Rattle.x7_tool.specs.Generated.{gen_text}
 use Rattle.x7_forms.specs.declared.bad_input.InputFault.TheVariants as input
 use Rattle.x7_forms.specs.Event.{Event, bad_input, differs, missing, no_memory, read_fault, too_large, usage, write_fault}
-use Rattle.x7_forms.specs.Form.{Asked, Assembling, Booting, Debugging, FromMcs, Imaging, ImagingFor, Listing, PlanningFull, PlanningRead, Playing, PlayingSvf, ToMcs, PlanningPartial, Generating, UpdatingFlash}
+use Rattle.x7_forms.specs.Form.{AskedForm, Assembling, Booting, Debugging, FromMcs, Imaging, ImagingFor, Listing, PlanningFull, PlanningRead, Playing, PlayingSvf, ToMcs, PlanningPartial, Generating, UpdatingFlash}
 use Rattle.x7_tool.specs.BootText.{boot_text}
 use Rattle.x7_forms.specs.Known.{Absent, Answer, Broken, Found, Held, Known, and_so, data_in, part_of, stream_limit, whole_in, within}
 use Rattle.x7_tool.specs.Play.{played}
@@ -354,7 +354,7 @@ abbrev pub UpdatedAs : Known → UpdateNames → Result Answer Event → Type 0
 UpdatedAs known names end = FlashUpdates names (known.flash names.flash) (stream_data known names.stream) end
 
 -- a form comes to this end, each form one case
-abbrev pub FormGives : Known → Asked → Result Answer Event → Type 0
+abbrev pub FormGives : Known → AskedForm → Result Answer Event → Type 0
 FormGives known (Listing stream) end = listed known stream ≡ end
 FormGives known (Playing part streams) end = played known part streams ≡ end
 FormGives known (Assembling text) end = AssembledAs text (whole_in known text_limit text) end
@@ -372,6 +372,6 @@ FormGives known (Booting part flash) end = BootedAs flash (part_of known part) (
 FormGives known (UpdatingFlash flash stream) end = UpdatedAs known (record { flash = flash; stream = stream }) end
 
 -- the words come to this end: words without a form are a wrong usage
-abbrev pub IsOutcome : Known → Option Asked → Result Answer Event → Type 0
+abbrev pub IsOutcome : Known → Option AskedForm → Result Answer Event → Type 0
 IsOutcome known None end = Err usage ≡ end
 IsOutcome known (Some form) end = FormGives known form end

@@ -4,7 +4,7 @@ use Rattle.x7_words.specs.Count.{HasRisen}
 use Rattle.x7_words.specs.Flash.{FlashFails, FlashState, WriteFails}
 use Rattle.x7_words.specs.Input.{InputsState}
 use Rattle.x7_words.specs.Sink.{SinkFails, SinkState}
-use Rattle.x7_forms.specs.Form.{Asked, FlashUse, Read, Unused, Updated, flash_names, names_of, updated_by}
+use Rattle.x7_forms.specs.Form.{AskedForm, FlashUse, Read, Unused, Updated, flash_names, names_of, updated_by}
 use Rattle.x7_forms.specs.Known.{Failing, Known, Lacking, Mishap, with_inputs}
 use Rattle.x7_forms.specs.Step.{Among, FailsAmong, LacksAmong}
 
@@ -62,15 +62,15 @@ pub record FlashLacksAmong (names : List (List ℕ)) (old new : FlashState) (nam
   pub risen : HasRisen old.absences new.absences
 
 -- the input of a name that the form gives failed, or its flash of that name
-abbrev pub FormFails : Option Asked → Outside → Outside → List ℕ → Type 0
+abbrev pub FormFails : Option AskedForm → Outside → Outside → List ℕ → Type 0
 FormFails form old new name = FailsAmong (names_of form) old.inputs new.inputs name ⊎ FlashFailsAmong (flash_names form) old.flash new.flash name
 
 -- the input of a name that the form gives was missing, or its flash of that name, by the counts of absences
-abbrev pub FormLacks : Option Asked → Outside → Outside → List ℕ → Type 0
+abbrev pub FormLacks : Option AskedForm → Outside → Outside → List ℕ → Type 0
 FormLacks form old new name = LacksAmong (names_of form) old.inputs new.inputs name ⊎ FlashLacksAmong (flash_names form) old.flash new.flash name
 
 -- a mishap came: an input or the flash of a name that the form gives failed, after the bytes that were given of the last input, or was missing
-abbrev pub Came : Option Asked → Outside → Outside → Mishap → Type 0
+abbrev pub Came : Option AskedForm → Outside → Outside → Mishap → Type 0
 Came form old new (Failing name given) = (given ≡ new.inputs.given) × FormFails form old new name
 Came form old new (Lacking name) = FormLacks form old new name
 
@@ -80,7 +80,7 @@ WritesFail None old new = ⊥
 WritesFail (Some stream) old new = WriteFails old new
 
 -- nothing that the form names failed or was missing, and neither the output nor a write of the flash failed
-abbrev pub IsQuiet : Option Asked → Outside → Outside → Type 0
+abbrev pub IsQuiet : Option AskedForm → Outside → Outside → Type 0
 IsQuiet form old new =
     ((name : List ℕ) → ¬ FormFails form old new name) × ((name : List ℕ) → ¬ FormLacks form old new name) × (¬ SinkFails old.out new.out) × (¬ WritesFail (updated_by form) old.flash new.flash)
 

@@ -22,7 +22,7 @@ use Rattle.x7_jtag.specs.Svf.{IsSvfOf}
 use Rattle.x7_effects.specs.Played.{PlaysFull, PlaysPartial, PlaysRead, resting_after}
 use Rattle.x7_forms.specs.Event.{Event}
 use Rattle.x7_tool.specs.Generated.{generated, planned_summary}
-use Rattle.x7_forms.specs.Form.{Asked, Booting, Generating, Imaging, ImagingFor, PlanningFull, PlanningPartial, PlanningRead, Playing, PlayingSvf}
+use Rattle.x7_forms.specs.Form.{AskedForm, Booting, Generating, Imaging, ImagingFor, PlanningFull, PlanningPartial, PlanningRead, Playing, PlayingSvf}
 use Rattle.x7_forms.specs.Known.{Answer, Held, Known, data_of, part_of, stream_limit}
 use Rattle.x7_tool.specs.Play.{report_of}
 use Rattle.x7_tool.specs.Outcome.{ImageStreams, PlanTexts, image_streams, plan_texts, svf_answer, IsBootText}
@@ -114,7 +114,7 @@ pub record PromisesStart (known : Known) (part flash : List ℕ) (answer : Answe
   pub opened : (o : Opened) → HoldsOpen known flash device o → BootsFromOpen o answer
 
 -- what a whole text of a form promises over what is known
-abbrev pub PromiseOf : Known → Asked → Answer → Type 0
+abbrev pub PromiseOf : Known → AskedForm → Answer → Type 0
 PromiseOf known (PlanningFull part frames) answer = PromisesFull known part frames answer.text
 PromiseOf known (PlanningPartial part frames) answer = PromisesPartial known part frames answer.text
 PromiseOf known (PlanningRead part far n) answer = PromisesRead known part far n answer.text
@@ -127,6 +127,6 @@ PromiseOf known (Booting part flash) answer = PromisesStart known part flash ans
 PromiseOf known form answer = Unit {0}
 
 -- what a whole text promises where all that its form needs is known
-abbrev pub Promise : Option Known → Option Asked → Result Answer Event → Type 0
+abbrev pub Promise : Option Known → Option AskedForm → Result Answer Event → Type 0
 Promise (Some known) (Some form) (Ok answer) = PromiseOf known form answer
 Promise known form end = Unit {0}

@@ -11,7 +11,7 @@ use Rattle.x7_forms.specs.declared.refusal.Refusal.{Refusal}
 use Rattle.x7_forms.specs.declared.refusal.Why.{Why}
 use Rattle.x7_forms.specs.declared.refusal.Why.TheVariants as why
 use Rattle.x7_forms.specs.Event.{Event, Cause, Wording, Want, Fault, Absence, Break, Contents, Difference, cause_of, differs, line_of, missing, no_memory, read_fault, too_large, usage, write_fault}
-use Rattle.x7_forms.specs.Form.{Asked, Listing, UpdatingFlash, flash_names, listed_by, names_of, updated_by}
+use Rattle.x7_forms.specs.Form.{AskedForm, Listing, UpdatingFlash, flash_names, listed_by, names_of, updated_by}
 use Rattle.x7_forms.specs.Known.{Answer, Held, Known, bytes_found, flash_found, with_inputs}
 use Rattle.x7_part.specs.Part.{PartData}
 use Rattle.x7_forms.specs.Message.{final_status}
@@ -25,17 +25,17 @@ use Rattle.x7_tool.specs.Stopping.{Stops}
 -- ---- why
 
 -- the contents are known, and the form comes to this end; where they aren't, never
-abbrev pub Shows : Option Known → Asked → Result Answer Event → Type 0
+abbrev pub Shows : Option Known → AskedForm → Result Answer Event → Type 0
 Shows None form end = ⊥
 Shows (Some known) form end = FormGives known form end
 
 -- where the contents are known, the form comes to this end; where they aren't, always
-abbrev pub Agrees : Option Known → Asked → Result Answer Event → Type 0
+abbrev pub Agrees : Option Known → AskedForm → Result Answer Event → Type 0
 Agrees None form end = Unit {0}
 Agrees (Some known) form end = FormGives known form end
 
 -- the event reports a mishap that came, and where the contents are known, the form comes to it over them with that mishap; where they aren't, the mishap is all that is said
-abbrev pub Happens : Asked → Outside → Outside → Event → Type 0
+abbrev pub Happens : AskedForm → Outside → Outside → Event → Type 0
 Happens form old new event = IsOfMishap Answer (known_in old) (Came (Some form) old new) (λ known end. FormGives known form end) event
 
 -- a byte was read that is another than the one that an update with the stream's data writes at this place of the flash, and is the first of the update or of its slot's switch word that is; with some data, where the contents aren't known
@@ -48,16 +48,16 @@ pub record ReadsWrongAt (known : Option Known) (stream : List ℕ) (new : FlashS
   pub first : IsFirstRead new wrong.from wrong.piece place read
 
 -- the event is a byte that differs, of a flash that the form updates and whose bytes aren't known
-abbrev pub IsDifference : Asked → Outside → Outside → Event → Type 0
+abbrev pub IsDifference : AskedForm → Outside → Outside → Event → Type 0
 IsDifference (UpdatingFlash name stream) old new event = (place : ℕ) × (event ≡ differs name place) × (old.flash.bytes ≡ None) × ReadsWrongAt (known_in old) stream new.flash place
 IsDifference _ old new event = ⊥
 
 -- A write of the flash of a form failed once all else was done: the flash is within the limit, and over what is known the form comes to its end.
-abbrev pub WritesLast : Asked → Outside → Outside → Type 0
+abbrev pub WritesLast : AskedForm → Outside → Outside → Type 0
 WritesLast form old new = WritesFail (updated_by (Some form)) old.flash new.flash × (new.flash.extent ≤ flash_limit) × Agrees (known_in old) form (Ok no_text)
 
 -- what a cause says of an event: a fault, or an absence by its count, is the first event that comes
-abbrev pub CausedBy : Cause → Asked → Outside → Outside → Event → Type 0
+abbrev pub CausedBy : Cause → AskedForm → Outside → Outside → Event → Type 0
 CausedBy Wording form old new event = ⊥
 CausedBy Want form old new event = event ≡ no_memory
 CausedBy Fault form old new event = Happens form old new event
@@ -67,7 +67,7 @@ CausedBy Difference form old new event = IsDifference form old new event × Agre
 CausedBy Contents form old new event = Agrees (known_in old) form (Err event)
 
 -- why a command ended so: words without a form are a wrong usage, a whole text is that of the known contents, and an event has its cause
-abbrev pub EndIsCaused : Option Asked → Outside → Outside → Result Answer Event → Type 0
+abbrev pub EndIsCaused : Option AskedForm → Outside → Outside → Result Answer Event → Type 0
 EndIsCaused None old new end = end ≡ Err usage
 EndIsCaused (Some form) old new (Ok answer) = Agrees (known_in old) form (Ok answer)
 EndIsCaused (Some form) old new (Err event) = CausedBy (cause_of event) form old new event
@@ -109,49 +109,49 @@ abbrev pub ListsSome : Known → List ℕ → SinkState → SinkState → Type 0
 ListsSome known stream old new = (bytes : List ℕ) × ((known.inputs stream ≡ Held bytes) × (AreBytes bytes → PutsListing bytes old new))
 
 -- the sink got a prefix of the whole text of the form over what is known
-abbrev pub GetsSome : Known → Asked → SinkState → SinkState → Type 0
+abbrev pub GetsSome : Known → AskedForm → SinkState → SinkState → Type 0
 GetsSome known form old new = (answer : Answer) × (FormGives known form (Ok answer) × PutsSome old answer.text new)
 
 -- the sink got a prefix of the whole text: that of a listing, or of another form
-abbrev pub GetsBy : Option (List ℕ) → Known → Asked → SinkState → SinkState → Type 0
+abbrev pub GetsBy : Option (List ℕ) → Known → AskedForm → SinkState → SinkState → Type 0
 GetsBy (Some stream) known form old new = ListsSome known stream old new
 GetsBy None known form old new = GetsSome known form old new
 
 -- where the contents are known the output got a prefix of the whole text, and else of some text
-abbrev pub GetsPrefix : Option Known → Asked → SinkState → SinkState → Type 0
+abbrev pub GetsPrefix : Option Known → AskedForm → SinkState → SinkState → Type 0
 GetsPrefix None form old new = (text : List ℕ) × PutsSome old text new
 GetsPrefix (Some known) form old new = GetsBy (listed_by (Some form)) known form old new
 
 -- what the output got where it failed: a prefix of the text; where a write of the flash failed, nothing
-abbrev pub LeftAtBreak : Option (List ℕ) → Asked → Outside → Outside → Type 0
+abbrev pub LeftAtBreak : Option (List ℕ) → AskedForm → Outside → Outside → Type 0
 LeftAtBreak None form old new = GetsPrefix (known_in old) form old.out new.out
 LeftAtBreak (Some stream) form old new = new.out.written ≡ old.out.written
 
 -- what the output got after an event of this cause
-abbrev pub LeftBy : Cause → Option Asked → Outside → Outside → Event → Type 0
+abbrev pub LeftBy : Cause → Option AskedForm → Outside → Outside → Event → Type 0
 LeftBy Break (Some form) old new event = LeftAtBreak (updated_by (Some form)) form old new
 LeftBy _ form old new event = LeavesBy (listed_by form) event old new
 
 -- what the output got: the whole text, or what the event leaves of it
-abbrev pub Wrote : Option Asked → Outside → Outside → Result Answer Event → Type 0
+abbrev pub Wrote : Option AskedForm → Outside → Outside → Result Answer Event → Type 0
 Wrote form old new (Ok answer) = PutsAll old.out answer.text new.out
 Wrote form old new (Err event) = LeftBy (cause_of event) form old new event
 
 -- ---- how large a flash is
 
 -- by the number of its bytes, known or not: the flash of a form is within the limit where the form's text is whole, and over it where it is too large, if no input of its name is that
-abbrev pub IsMeasured : Option Asked → FlashState → Result Answer Event → Type 0
+abbrev pub IsMeasured : Option AskedForm → FlashState → Result Answer Event → Type 0
 IsMeasured form new (Ok answer) = (name : List ℕ) → Among (flash_names form) name → new.extent ≤ flash_limit
 IsMeasured form new (Err event) = (name : List ℕ) → Among (flash_names form) name → event ≡ too_large name → (flash_limit < new.extent) ⊎ Among (names_of form) name
 
 -- ---- when a flash fails
 
 -- a form has all that it needs but for its flash, which is within the limit: whatever that holds, there is a whole text over what the inputs hold
-abbrev pub NeedsOnlyFlash : Asked → InputsState → FlashState → Type 0
+abbrev pub NeedsOnlyFlash : AskedForm → InputsState → FlashState → Type 0
 NeedsOnlyFlash form old new = (new.extent ≤ flash_limit) × ((answer : Answer) × Agrees (with_inputs old.contents None) form (Ok answer))
 
 -- a fault of a form's flash that is attached comes once the form needs only the flash; it may be that of an input of the same name too
-abbrev pub FailsLast : Option Asked → InputsState → FlashState → Result Answer Event → Type 0
+abbrev pub FailsLast : Option AskedForm → InputsState → FlashState → Result Answer Event → Type 0
 FailsLast None old new end = Unit {0}
 FailsLast (Some form) old new (Ok answer) = Unit {0}
 FailsLast (Some form) old new (Err event) =
@@ -162,14 +162,14 @@ abbrev pub IsUnusable : List ℕ → FlashState → Event → Type 0
 IsUnusable name now event = (event ≡ missing name) ⊎ ((event ≡ too_large name) ⊎ ((event ≡ read_fault name) × (now.attached ≡ false)))
 
 -- an update whose flash can't be used asks for no stream; the event may be that of a stream of its name too
-abbrev pub JudgesFlash : {A : Type 0} → Option Asked → Sources → Sources → Result A Event → Type 0
+abbrev pub JudgesFlash : {A : Type 0} → Option AskedForm → Sources → Sources → Result A Event → Type 0
 JudgesFlash (Some (UpdatingFlash flash stream)) old new (Err event) = IsUnusable flash new.flash event → (new.inputs.selects ≤ old.inputs.selects) ⊎ (flash ≡ stream)
 JudgesFlash form old new end = Unit {0}
 
 -- ---- the end of a command
 
 -- how a command ended: why, what the output got, how far was read, how large the flash is, what was judged where it failed, and what an update left
-pub record Ends (form : Option Asked) (old new : Outside) (end : Result Answer Event) : Type 0 where
+pub record Ends (form : Option AskedForm) (old new : Outside) (end : Result Answer Event) : Type 0 where
   pub cause : EndIsCaused form old new end
   pub wrote : Wrote form old new end
   pub near : StaysNear (final_status end) form old new
@@ -178,12 +178,12 @@ pub record Ends (form : Option Asked) (old new : Outside) (end : Result Answer E
   pub updates : Updates (updated_by form) old new end
 
 -- how a command ended, by whether what it wrote reports a fault, or by the event
-abbrev pub EndsAs : Option Asked → Outside → Outside → Result Bool Event → Type 0
+abbrev pub EndsAs : Option AskedForm → Outside → Outside → Result Bool Event → Type 0
 EndsAs form old new (Ok stopped) = (text : List ℕ) × Ends form old new (Ok (record { stopped = stopped; text = text }))
 EndsAs form old new (Err event) = Ends form old new (Err event)
 
 -- A form came to this end, but for what is said of it: how it ended, where reading stopped, what was judged where its flash can't be used, how often inputs were asked for, and that every input keeps its bytes.
-pub record Answered (form : Asked) (old new : Outside) (got : Result Bool Event) : Type 0 where
+pub record Answered (form : AskedForm) (old new : Outside) (got : Result Bool Event) : Type 0 where
   pub ends : EndsAs (Some form) old new got
   pub stops : Stops (Some form) old.inputs new.inputs got
   pub judges : JudgesFlash (Some form) (sources old.inputs old.flash) (sources new.inputs new.flash) got
@@ -191,7 +191,7 @@ pub record Answered (form : Asked) (old new : Outside) (got : Result Bool Event)
   pub stays : Stays old.inputs new.inputs
 
 -- a form that writes no text came to this end, whatever the sinks hold
-abbrev pub AnsweredSilently : Asked → Sources → Sources → Result Bool Event → Type 0
+abbrev pub AnsweredSilently : AskedForm → Sources → Sources → Result Bool Event → Type 0
 AnsweredSilently form old new got = (before after : Outside) → after.out ≡ before.out → Answered form (with_sources before old) (with_sources after new) got
 
 -- a listing came to this end, whatever the flash and the sink of messages hold
@@ -214,26 +214,26 @@ Puts (Ok answer) old new (Ok stopped) = (stopped ≡ answer.stopped) × PutsAll 
 Puts (Ok answer) old new (Err event) = (event ≡ write_fault) × SinkFails old new × PutsSome old answer.text new
 
 -- a text of the form that is ready has its cause: it is due by what is known, or what the form names failed or was missing
-abbrev pub AnswersOver : Asked → Outside → Outside → Result Answer Event → Type 0
+abbrev pub AnswersOver : AskedForm → Outside → Outside → Result Answer Event → Type 0
 AnswersOver form old new got = IsCausedBy (known_in old) (Came (Some form) old new) (λ known end. FormGives known form end) got
 
 -- a text of the form that is ready has its cause in what the form reads, whatever the sinks hold
-abbrev pub AnswersFrom : Asked → Sources → Sources → Result Answer Event → Type 0
+abbrev pub AnswersFrom : AskedForm → Sources → Sources → Result Answer Event → Type 0
 AnswersFrom form old new got = (before after : Outside) → AnswersOver form (with_sources before old) (with_sources after new) got
 
 -- a text of a form that reads no flash has its cause in the inputs, whatever a flash holds
-abbrev pub AnswersForm : Asked → InputsState → InputsState → Result Answer Event → Type 0
+abbrev pub AnswersForm : AskedForm → InputsState → InputsState → Result Answer Event → Type 0
 AnswersForm form old new got = AnswersBy (step_over (names_of (Some form)) old new) (λ known end. FormGives known form end) got
 
 -- A form that reads inputs alone made its text ready, or not: the text has its cause, reading stopped where an input ends the form, no more inputs were asked for than the form names, and every input keeps its bytes.
-pub record MakesReady (form : Asked) (old new : InputsState) (got : Result Answer Event) : Type 0 where
+pub record MakesReady (form : AskedForm) (old new : InputsState) (got : Result Answer Event) : Type 0 where
   pub due : AnswersForm form old new got
   pub stops : Stops (Some form) old new got
   pub asks : AsksFew old (length (names_of (Some form))) new
   pub stays : Stays old new
 
 -- A form that reads a flash too made its text ready, or not: what is said of a form that reads inputs alone, by what the flash holds too; and of the flash, how large it is, and when it may fail.
-pub record MakesReadyFrom (form : Asked) (old new : Sources) (got : Result Answer Event) : Type 0 where
+pub record MakesReadyFrom (form : AskedForm) (old new : Sources) (got : Result Answer Event) : Type 0 where
   pub due : AnswersFrom form old new got
   pub stops : Stops (Some form) old.inputs new.inputs got
   pub measured : IsMeasured (Some form) new.flash got

@@ -8,7 +8,7 @@ use Rattle.x7_boot.specs.Image.{flash_limit}
 use Rattle.x7_forms.specs.declared.status.Status.{Status}
 use Rattle.x7_forms.specs.declared.status.Status.TheVariants as status
 use Rattle.x7_forms.specs.Event.{Event}
-use Rattle.x7_forms.specs.Form.{Asked, Assembling, FromMcs, flash_use, names_of, updated_by}
+use Rattle.x7_forms.specs.Form.{AskedForm, Assembling, FromMcs, flash_use, names_of, updated_by}
 use Rattle.x7_forms.specs.Message.{final_status}
 use Rattle.x7_forms.specs.Known.{Answer, Known, stream_limit}
 use Rattle.x7_tool.specs.Ahead.{StaysNear}
@@ -28,21 +28,21 @@ abbrev pub LeadsBack : Status → Result Answer Event → List ℕ → Type 0
 LeadsBack s end bytes = (s ≡ status.NoMemory) ⊎ (end ≡ Ok (record { stopped = false; text = bytes }))
 
 -- where nothing failed, the listing of a stream assembles to the stream, its header included
-abbrev pub Assembles : List ℕ → Outside → Outside → Status → Result Answer Event → Type 0
-Assembles name old new s end = (bytes text : List ℕ) → AreBytes bytes → length bytes ≤ stream_limit → stream_listing bytes ≡ Ok text → HasText old name text → IsQuiet (Some (Assembling name)) old new → LeadsBack s end bytes
+abbrev pub ListingAssembles : List ℕ → Outside → Outside → Status → Result Answer Event → Type 0
+ListingAssembles name old new s end = (bytes text : List ℕ) → AreBytes bytes → length bytes ≤ stream_limit → stream_listing bytes ≡ Ok text → HasText old name text → IsQuiet (Some (Assembling name)) old new → LeadsBack s end bytes
 
 -- where nothing failed, the flash text of an image gives the image
 abbrev pub GivesImage : List ℕ → Outside → Outside → Status → Result Answer Event → Type 0
 GivesImage name old new s end = (bytes : List ℕ) → AreBytes bytes → length bytes ≤ flash_limit → HasText old name (mcs_text bytes) → IsQuiet (Some (FromMcs name)) old new → LeadsBack s end bytes
 
 -- texts lead back
-abbrev pub Back : Option Asked → Outside → Outside → Status → Result Answer Event → Type 0
-Back (Some (Assembling name)) old new s end = Assembles name old new s end
-Back (Some (FromMcs name)) old new s end = GivesImage name old new s end
-Back form old new s end = Unit {0}
+abbrev pub TextsLeadBack : Option AskedForm → Outside → Outside → Status → Result Answer Event → Type 0
+TextsLeadBack (Some (Assembling name)) old new s end = ListingAssembles name old new s end
+TextsLeadBack (Some (FromMcs name)) old new s end = GivesImage name old new s end
+TextsLeadBack form old new s end = Unit {0}
 
 -- A command ended so, with this status, and said why where there is no whole text.
-pub record RanAs (form : Option Asked) (old new : Outside) (s : Status) : Type 0 where
+pub record RanAs (form : Option AskedForm) (old new : Outside) (s : Status) : Type 0 where
   pub end : Result Answer Event
   pub ends_as : s ≡ final_status end
   pub said : SaysEnd old.err new.err end
@@ -53,7 +53,7 @@ pub record RanAs (form : Option Asked) (old new : Outside) (s : Status) : Type 0
   pub stays : Stays old.inputs new.inputs
 
 -- a run of the command that the words ask for
-pub record Runs (form : Option Asked) (old new : Outside) (s : Status) : Type 0 where
+pub record Runs (form : Option AskedForm) (old new : Outside) (s : Status) : Type 0 where
   -- how it ended: a whole text, or the event that came before
   pub end : Result Answer Event
   -- the status is that end's
@@ -71,7 +71,7 @@ pub record Runs (form : Option Asked) (old new : Outside) (s : Status) : Type 0 
   -- words without a form are a wrong usage
   pub no_form : form ≡ None → s ≡ status.Usage
   -- what other forms wrote leads back
-  pub back : Back form old new s end
+  pub back : TextsLeadBack form old new s end
   -- a planned stream that was written does on a device at rest what was planned
   pub promise : Promise (known_in old) form end
   -- the flash of the form is within the limit after a whole text, and over it where it is too large, whether its bytes are known or not

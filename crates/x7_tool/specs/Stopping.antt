@@ -3,14 +3,14 @@ use Rattle.std.specs.Prelude.{◌≡◌, ℕ, List, [], ◌∷◌, Option, None,
 use Rattle.x7_words.specs.Input.{InputsState}
 use Rattle.x7_boot.specs.Image.{flash_limit}
 use Rattle.x7_forms.specs.Event.{Absence, Cause, Contents, Event, Fault, cause_of, too_many_reads}
-use Rattle.x7_forms.specs.Form.{Asked, Assembling, Booting, Debugging, FromMcs, Generating, Imaging, ImagingFor, Listing, PlanningFull, PlanningPartial, PlanningRead, Playing, PlayingSvf, ToMcs, UpdatingFlash, flash_names}
+use Rattle.x7_forms.specs.Form.{AskedForm, Assembling, Booting, Debugging, FromMcs, Generating, Imaging, ImagingFor, Listing, PlanningFull, PlanningPartial, PlanningRead, Playing, PlayingSvf, ToMcs, UpdatingFlash, flash_names}
 use Rattle.x7_forms.specs.Known.{part_limit, stream_limit}
 use Rattle.x7_forms.specs.Step.{Among}
 use Rattle.x7_forms.specs.Stop.{Limited, StopsAt, limited, limited_together}
 use Rattle.x7_tool.specs.Outcome.{script_limit, text_limit}
 
 -- the inputs that a form reads, in the order of its words, each with the most bytes that it may have
-abbrev pub inputs_of : Option (List ℕ → Option (List ℕ)) → Asked → List Limited
+abbrev pub inputs_of : Option (List ℕ → Option (List ℕ)) → AskedForm → List Limited
 inputs_of contents (Listing stream) = limited stream_limit stream ∷ []
 inputs_of contents (Playing part streams) = limited part_limit part ∷ limited_together contents stream_limit streams
 inputs_of contents (Assembling text) = limited text_limit text ∷ []
@@ -28,18 +28,18 @@ inputs_of contents (Booting part flash) = limited part_limit part ∷ []
 inputs_of contents (UpdatingFlash flash stream) = limited stream_limit stream ∷ []
 
 -- an event names the form's flash, the words that were read out, or the input at which reading stopped
-abbrev pub TellsOf : Asked → InputsState → InputsState → Event → Type 0
+abbrev pub TellsOf : AskedForm → InputsState → InputsState → Event → Type 0
 TellsOf form old now event = Among (flash_names (Some form)) event.concerned ⊎ ((event ≡ too_many_reads) ⊎ StopsAt (inputs_of old.contents form) old now event)
 
 -- by the cause of an event: one that lies in an input or a flash, in its failing or in its absence
-abbrev pub StopsBy : Cause → Asked → InputsState → InputsState → Event → Type 0
+abbrev pub StopsBy : Cause → AskedForm → InputsState → InputsState → Event → Type 0
 StopsBy Fault form old now event = TellsOf form old now event
 StopsBy Absence form old now event = TellsOf form old now event
 StopsBy Contents form old now event = TellsOf form old now event
 StopsBy _ form old now event = Unit {0}
 
 -- where an input ends a command, no later one was asked for, no earlier one twice, and no more than a byte over its limit was given of it
-abbrev pub Stops : {A : Type 0} → Option Asked → InputsState → InputsState → Result A Event → Type 0
+abbrev pub Stops : {A : Type 0} → Option AskedForm → InputsState → InputsState → Result A Event → Type 0
 Stops None old now end = Unit {0}
 Stops (Some form) old now (Ok a) = Unit {0}
 Stops (Some form) old now (Err event) = StopsBy (cause_of event) form old now event

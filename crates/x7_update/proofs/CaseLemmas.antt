@@ -3,7 +3,7 @@ use Rattle.std.proofs.Common.{◌≡◌, ℕ, ◌+◌, ◌*◌, ◌%◌, ◌<◌
 use Rattle.std.proofs.lemmas.Bool.{cases_eq, cases_lt}
 use Rattle.x7_words.specs.Word.{AreBytes}
 use Rattle.x7_words.specs.Flash.{FlashState, IfKnown}
-use Rattle.x7_update.specs.Layout.{HasLayout, HasSlots, IsOpen, IsFree, IsNext, switch_of, open_switch, free_switch, spent_switch, update_place}
+use Rattle.x7_update.specs.Layout.{HasLayout, HasSlots, IsOpen, IsFree, IsNextFreeSlot, switch_of, open_switch, free_switch, spent_switch, update_place}
 use Rattle.x7_update.specs.After.{ClosesTo, already, spends, IsAfter, IsBetween, MayBeLeft, untouched, between, after, switched, with_stream}
 use Rattle.x7_update.specs.Writing.{AtAnyMoment, Closing, HasWanted, KeepsBelow, OnlySwitch, Opening, Replaced, Replacing}
 use Rattle.x7_update.specs.Slots.{Finds}
@@ -89,12 +89,12 @@ pub stream_keeps : (place : ℕ) (stream all : List ℕ) → place + length stre
 stream_keeps place stream all fits = record { size = length-with_stream place stream all fits; below = with_stream_below place stream all fits }
 
 -- the next slot alone is torn
-pub between_opening : (slot : ℕ) (all mid found : List ℕ) → IsBetween all mid → IsNext all slot → OnlySwitch slot mid found → IsBetween all found
+pub between_opening : (slot : ℕ) (all mid found : List ℕ) → IsBetween all mid → IsNextFreeSlot all slot → OnlySwitch slot mid found → IsBetween all found
 between_opening slot all mid found b next only = record {
   size = only.size ∙ b.size;
   slots = λ i k l. only.others i (behind slot i l) ∙ b.slots i k l;
   closed = closed;
-  switches = λ other k o n. only_other slot other mid found (λ same. n (subst (IsNext all) (sym same) next)) only ∙ b.switches other k o n;
+  switches = λ other k o n. only_other slot other mid found (λ same. n (subst (IsNextFreeSlot all) (sym same) next)) only ∙ b.switches other k o n;
   golden = λ i k l. only.others i (inr (omega arith)) ∙ b.golden i k l;
 }
   where
@@ -105,7 +105,7 @@ between_opening slot all mid found b next only = record {
     ]
 
 -- the next slot is free still when the stream is written
-pub next_free : (next : ℕ) (all closed found : List ℕ) → HasSlots (length all) all → IsNext all next → ClosesTo all closed → KeepsBelow (update_place all) closed found → IsFree found next
+pub next_free : (next : ℕ) (all closed found : List ℕ) → HasSlots (length all) all → IsNextFreeSlot all next → ClosesTo all closed → KeepsBelow (update_place all) closed found → IsFree found next
 next_free next all closed found has n closes keeps =
     same_switch closed found next (λ i h k. keeps.below i (omega (arith, has.place.least, n.within, k))) ∙ free closes
   where

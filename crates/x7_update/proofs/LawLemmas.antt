@@ -4,7 +4,7 @@ use Rattle.std.proofs.lemmas.Bool.{cases_eq, cases_lt, cases_order}
 use Rattle.std.proofs.lemmas.List.{get_or-drop, get_or-take}
 use Rattle.x7_words.specs.Word.{word_of_bytes}
 use Rattle.x7_packets.specs.FlashSlot.{flash_slot}
-use Rattle.x7_update.specs.Layout.{CanStandAt, HasLayout, HasSize, IsFree, IsNext, IsOpen, first_slot, four_at, open_switch, switch_of}
+use Rattle.x7_update.specs.Layout.{CanStandAt, HasLayout, HasSize, IsFree, IsNextFreeSlot, IsOpen, first_slot, four_at, open_switch, switch_of}
 use Rattle.x7_update.specs.After.{ClosesTo, already, spends, IsAfter, IsBetween, MayBeLeft, after, between, untouched, switched, with_stream}
 use Rattle.x7_update.specs.Layout.{spent_switch, update_place}
 use Rattle.x7_update.proofs.CaseLemmas.{behind, between_below, between_closed, open_not_free, stream_keeps, true_or_false}
@@ -125,16 +125,16 @@ layout_with flash found l size slots one_open last_free =
       };
     }
 
-last_stays : (flash found : List ℕ) → HasLayout flash → IsBetween flash found → (IsNext flash 2047 → ⊥) → IsFree found 2047
+last_stays : (flash found : List ℕ) → HasLayout flash → IsBetween flash found → (IsNextFreeSlot flash 2047 → ⊥) → IsFree found 2047
 last_stays flash found l b more = b.switches 2047 (omega arith) (λ o. open_not_free flash 2047 o l.slots.last_free) more ∙ l.slots.last_free
 
 -- the updated flash
-layout_after : (stream flash found : List ℕ) → HasLayout flash → IsAfter stream flash found → (IsNext flash 2047 → ⊥) → HasLayout found
+layout_after : (stream flash found : List ℕ) → HasLayout flash → IsAfter stream flash found → (IsNextFreeSlot flash 2047 → ⊥) → HasLayout found
 layout_after stream flash found l a more =
     layout_with flash found l (ap length a.is ∙ length-switched a.next open_switch now refl within ∙ b.size)
     (λ i h k. ap (λ f. get_or f i 0) a.is ∙ switched_others a.next open_switch now refl within i (behind a.next i k) ∙ b.slots i h k)
     (λ slot other h k o p. the_next slot h o ∙ sym (the_next other k p))
-    (ap (λ f. switch_of f 2047) a.is ∙ switch_other a.next 2047 open_switch now refl within (λ same. more (subst (IsNext flash) (sym same) a.is_next)) ∙ last_stays flash now l b more)
+    (ap (λ f. switch_of f 2047) a.is ∙ switch_other a.next 2047 open_switch now refl within (λ same. more (subst (IsNextFreeSlot flash) (sym same) a.is_next)) ∙ last_stays flash now l b more)
   where
     now : List ℕ
     now = with_stream (update_place flash) stream a.closed
@@ -155,19 +155,19 @@ layout_after stream flash found l a more =
       | inr n ↦ absurd (b.closed slot h (sym (ap (λ f. switch_of f slot) a.is ∙ switch_other a.next slot open_switch now refl within n) ∙ o))
     ]
 
-pub left_layout : (stream flash found : List ℕ) → HasLayout flash → MayBeLeft stream flash found → (IsNext flash 2047 → ⊥) → HasLayout found
+pub left_layout : (stream flash found : List ℕ) → HasLayout flash → MayBeLeft stream flash found → (IsNextFreeSlot flash 2047 → ⊥) → HasLayout found
 left_layout stream flash found l (untouched same) more = subst HasLayout (sym same) l
 left_layout stream flash found l (between layout fits b) more = layout_with flash found l b.size b.slots (λ slot other h k o p. absurd (b.closed slot h o)) (last_stays flash found l b more)
 left_layout stream flash found l (after layout a) more = layout_after stream flash found l a more
 
 -- ---- an update has one outcome
 
-next_least : (flash : List ℕ) (one other : ℕ) → IsNext flash one → IsNext flash other → one < other → ⊥
+next_least : (flash : List ℕ) (one other : ℕ) → IsNextFreeSlot flash one → IsNextFreeSlot flash other → one < other → ⊥
 next_least flash one other a b less =
     let before : suc (other - 1) ≡ other = omega arith in
     b.first (other - 1) before (a.free (other - 1) (omega arith) (omega (arith, b.within)))
 
-pub one_next : (flash : List ℕ) (one other : ℕ) → IsNext flash one → IsNext flash other → one ≡ other
+pub one_next : (flash : List ℕ) (one other : ℕ) → IsNextFreeSlot flash one → IsNextFreeSlot flash other → one ≡ other
 one_next flash one other a b = elim (cases_order one other) [
   | inl same ↦ same
   | inr differ ↦ elim differ [

@@ -3,9 +3,9 @@ use Rattle.std.proofs.Common.{◌≡◌, ℕ, ◌+◌, ◌-◌, ◌*◌, ◌≤�
 use Rattle.std.proofs.lemmas.Bool.{cases_lt}
 use Rattle.x7_words.specs.Flash.{FlashState, IfKnown, Sees}
 use Rattle.x7_update.specs.After.{IsAfter, IsBetween, with_stream}
-use Rattle.x7_update.specs.Layout.{HasLayout, IsClosed, IsNext, IsOpen, open_switch, switch_of, update_place}
+use Rattle.x7_update.specs.Layout.{HasLayout, IsClosed, IsNextFreeSlot, IsOpen, open_switch, switch_of, update_place}
 use Rattle.x7_update.specs.ReadBack.{AllReadBack, ReadBack, WasReady}
-use Rattle.x7_update.specs.Slots.{Finds, Fits}
+use Rattle.x7_update.specs.Slots.{Finds, SlotsFit}
 use Rattle.x7_update.specs.Writing.{ReadsWanted, ReadsWantedTo, Replacing, SeesWanted, wanted_at}
 use Rattle.x7_update.proofs.CaseLemmas.{between_below, between_closed, open_not_free, stream_keeps}
 use Rattle.x7_update.proofs.StreamLemmas.{wanted_inside}
@@ -58,7 +58,7 @@ was_ready state update stream old new ready size seen same closed last = record 
 
 -- what was read back of the slots of the flash
 module _ {F : Type 0} (state : F → FlashState) (stream : List ℕ) (old new : FlashState) (slots : Slots) where
-  pub read_back : Fits new.extent slots → IfKnown old.bytes (λ all. Finds (length all) all slots) → WasReady state slots.update stream new → ReadBack state stream old new
+  pub read_back : SlotsFit new.extent slots → IfKnown old.bytes (λ all. Finds (length all) all slots) → WasReady state slots.update stream new → ReadBack state stream old new
   read_back fits finds was = record {
     update = slots.update;
     stands = fits.place;
@@ -66,14 +66,14 @@ module _ {F : Type 0} (state : F → FlashState) (stream : List ℕ) (old new : 
     ready = was;
   }
 
-  pub all_back : {E : Type 0} (result : Result (Unit {0}) E) → Fits new.extent slots → IfKnown old.bytes (λ all. Finds (length all) all slots) → OnOk result (WasReady state slots.update stream new)
+  pub all_back : {E : Type 0} (result : Result (Unit {0}) E) → SlotsFit new.extent slots → IfKnown old.bytes (λ all. Finds (length all) all slots) → OnOk result (WasReady state slots.update stream new)
       → OnOk result (Sees new (32 * slots.next) open_switch) → OnOk result (AllReadBack state stream old new)
   all_back (Err fault) fits finds was seen = tt
   all_back (Ok _) fits finds was seen = record {
     before = read_back fits finds was;
     slot = slots.next;
     within = fits.next;
-    next = told_map old.bytes (λ all. Finds (length all) all slots) (λ all. IsNext all slots.next) (λ all e f. f.next) finds;
+    next = told_map old.bytes (λ all. Finds (length all) all slots) (λ all. IsNextFreeSlot all slots.next) (λ all e f. f.next) finds;
     switch = seen;
   }
 

@@ -3,7 +3,7 @@ use Rattle.std.proofs.Common.{◌≡◌, ℕ, ◌+◌, ◌*◌, ◌<◌, ◌≤�
 use Rattle.x7_words.specs.Word.{word_of_bytes}
 use Rattle.x7_packets.specs.FlashSlot.{flash_slot}
 use Rattle.x7_update.specs.Layout.{CanStandAt, Leads, IsOpen, IsFree, four_at, switch_of, first_slot, update_place, open_switch}
-use Rattle.x7_update.specs.Refused.{BeginsWell, DiffersAt, IsBad, IsGoodSlot, NoLayoutAt, OpensAgain, bad_first, bad_place, bad_size, bad_slot, last_taken}
+use Rattle.x7_update.specs.Refused.{BeginsWell, DiffersAt, IsBadSlotAt, IsGoodSlot, NoLayoutAt, OpensAgain, bad_first, bad_place, bad_size, bad_slot, last_taken}
 use Rattle.x7_update.specs.Slots.{OpenAmong, Finds}
 use Rattle.x7_update.specs.declared.slots.Slots.{Slots}
 
@@ -83,7 +83,7 @@ module _ (first all : List ℕ) (same : (i : ℕ) → i < 65536 → get_or first
   begins_same : (size : ℕ) → BeginsWell size first → BeginsWell size all
   begins_same size b = record { sized = b.sized; leads = leads_same first all same 0 (omega arith) b.leads; place = stands_same first all same size b.place }
 
-  bad_same : (slot place : ℕ) → slot < 2048 → IsBad first slot place → IsBad all slot place
+  bad_same : (slot place : ℕ) → slot < 2048 → IsBadSlotAt first slot place → IsBadSlotAt all slot place
   bad_same slot place h (inl d) = inl (differs_same first all same slot place h d)
   bad_same slot place h (inr b) = inr (leads_same first all same slot h b.0, again_same first all same slot h b.1, b.2)
 

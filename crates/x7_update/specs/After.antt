@@ -3,7 +3,7 @@ use Rattle.std.specs.Prelude.{◌≡◌, ℕ, ◌+◌, ◌-◌, ◌*◌, ◌%◌
 use Rattle.x7_words.specs.Flash.{replaced}
 use Rattle.x7_words.specs.Word.{AreBytes}
 use Rattle.x7_packets.specs.FlashSlot.{sector_bytes, slot_count}
-use Rattle.x7_update.specs.Layout.{HasLayout, IsClosed, IsNext, IsOpen, open_switch, spent_switch, switch_of, update_place}
+use Rattle.x7_update.specs.Layout.{HasLayout, IsClosed, IsNextFreeSlot, IsOpen, open_switch, spent_switch, switch_of, update_place}
 
 -- the flash with this switch word in a slot
 abbrev pub switched : ℕ → List ℕ → List ℕ → List ℕ
@@ -24,7 +24,7 @@ pub record IsAfter (stream flash after : List ℕ) : Type 0 where
   pub closed : List ℕ
   pub closes : ClosesTo flash closed
   pub next : ℕ
-  pub is_next : IsNext flash next
+  pub is_next : IsNextFreeSlot flash next
   pub fits : update_place flash + length stream ≤ length flash
   pub is : after ≡ switched next open_switch (with_stream (update_place flash) stream closed)
 
@@ -34,7 +34,7 @@ pub record IsBetween (flash found : List ℕ) : Type 0 where
   pub size : length found ≡ length flash
   pub slots : (i : ℕ) → i < sector_bytes → 4 ≤ i % 32 → get_or found i 0 ≡ get_or flash i 0
   pub closed : IsClosed found
-  pub switches : (slot : ℕ) → slot < slot_count → (IsOpen flash slot → ⊥) → (IsNext flash slot → ⊥) → switch_of found slot ≡ switch_of flash slot
+  pub switches : (slot : ℕ) → slot < slot_count → (IsOpen flash slot → ⊥) → (IsNextFreeSlot flash slot → ⊥) → switch_of found slot ≡ switch_of flash slot
   pub golden : (i : ℕ) → sector_bytes ≤ i → i < update_place flash → get_or found i 0 ≡ get_or flash i 0
 
 -- What a power loss may leave of a flash that is being updated with a stream: itself; and of one with a layout bytes that are between, or

@@ -81,7 +81,7 @@ abbrev pub IsClosed : List ℕ → Type 0
 IsClosed flash = (slot : ℕ) → slot < slot_count → switch_of flash slot ≢ open_switch
 
 -- the first slot from which on all are free
-pub record IsNext (flash : List ℕ) (next : ℕ) : Type 0 where
+pub record IsNextFreeSlot (flash : List ℕ) (next : ℕ) : Type 0 where
   pub within : next < slot_count
   pub free : (slot : ℕ) → next ≤ slot → slot < slot_count → IsFree flash slot
   pub first : (slot : ℕ) → suc slot ≡ next → switch_of flash slot ≢ free_switch

@@ -3,7 +3,7 @@ use Rattle.std.specs.Prelude.{◌≡◌, ℕ, ◌+◌, ◌*◌, ◌<◌, ◌≤�
 use Rattle.x7_words.specs.Flash.{FlashState, IfKnown, Sees}
 use Rattle.x7_packets.specs.FlashSlot.{slot_count}
 use Rattle.x7_update.specs.After.{IsAfter}
-use Rattle.x7_update.specs.Layout.{CanStandAt, HasLayout, IsClosed, IsNext, open_switch, update_place}
+use Rattle.x7_update.specs.Layout.{CanStandAt, HasLayout, IsClosed, IsNextFreeSlot, open_switch, update_place}
 use Rattle.x7_update.specs.Writing.{SeesWanted}
 
 module _ {F : Type 0} (state : F → FlashState) where
@@ -32,5 +32,5 @@ module _ {F : Type 0} (state : F → FlashState) where
     pub before : ReadBack stream old new
     pub slot : ℕ
     pub within : slot < slot_count
-    pub next : IfKnown old.bytes (λ all. IsNext all slot)
+    pub next : IfKnown old.bytes (λ all. IsNextFreeSlot all slot)
     pub switch : Sees new (32 * slot) open_switch

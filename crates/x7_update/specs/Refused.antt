@@ -28,8 +28,8 @@ abbrev pub IsGoodSlot : List ℕ → ℕ → Type 0
 IsGoodSlot flash slot = Leads flash slot × (OpensAgain flash slot → ⊥)
 
 -- why a slot is none of a layout, and the place that shows it: the slot doesn't lead to U (where it differs), or is open as one before it is (the slot's place)
-abbrev pub IsBad : List ℕ → ℕ → ℕ → Type 0
-IsBad flash slot place = DiffersAt flash slot place ⊎ (Leads flash slot × OpensAgain flash slot × (place ≡ 32 * slot))
+abbrev pub IsBadSlotAt : List ℕ → ℕ → ℕ → Type 0
+IsBadSlotAt flash slot place = DiffersAt flash slot place ⊎ (Leads flash slot × OpensAgain flash slot × (place ≡ 32 * slot))
 
 -- the size and the first slot are good
 pub record BeginsWell (size : ℕ) (flash : List ℕ) : Type 0 where
@@ -45,7 +45,7 @@ pub data NoLayoutAt (size : ℕ) (flash : List ℕ) (place : ℕ) : Type 0 where
   bad_first : HasSize size → DiffersAt flash 0 place → NoLayoutAt size flash place
   bad_place : HasSize size → Leads flash 0 → (CanStandAt size (update_place flash) → ⊥) → place ≡ 12 → NoLayoutAt size flash place
   bad_slot : BeginsWell size flash → (slot : ℕ) → slot < slot_count → ((earlier : ℕ) → earlier < slot → IsGoodSlot flash earlier)
-      → IsBad flash slot place → NoLayoutAt size flash place
+      → IsBadSlotAt flash slot place → NoLayoutAt size flash place
   last_taken : BeginsWell size flash → ((slot : ℕ) → slot < slot_count → IsGoodSlot flash slot) → (IsFree flash (slot_count - 1) → ⊥) → place ≡ 32 * (slot_count - 1)
       → NoLayoutAt size flash place
 

@@ -1,7 +1,7 @@
 -- What a look at the first sector of a flash finds (this project's choice).
 use Rattle.std.specs.Prelude.{◌≡◌, ◌≢◌, ℕ, suc, ◌<◌, ◌≤◌, List, Option, None, Some}
 use Rattle.x7_packets.specs.FlashSlot.{slot_count}
-use Rattle.x7_update.specs.Layout.{CanStandAt, HasSize, HasSlots, IsFree, IsNext, IsOpen, Leads, free_switch, open_switch, switch_of, update_place}
+use Rattle.x7_update.specs.Layout.{CanStandAt, HasSize, HasSlots, IsFree, IsNextFreeSlot, IsOpen, Leads, free_switch, open_switch, switch_of, update_place}
 use Rattle.x7_update.specs.Refused.{OpensAgain}
 use Rattle.x7_update.specs.declared.slots.Seen.{Seen}
 use Rattle.x7_update.specs.declared.slots.Slots.{Slots}
@@ -26,7 +26,7 @@ pub record Finds (size : ℕ) (flash : List ℕ) (slots : Slots) : Type 0 where
   pub has : HasSlots size flash
   pub update : slots.update ≡ update_place flash
   pub opens : OpenAmong flash slot_count slots.opened
-  pub next : IsNext flash slots.next
+  pub next : IsNextFreeSlot flash slots.next
 
 -- a slot of the first sector, or none
 abbrev pub WithinSlots : Option ℕ → Type 0
@@ -34,7 +34,7 @@ WithinSlots None = Unit {0}
 WithinSlots (Some slot) = slot < slot_count
 
 -- the slots and the update are within a flash of a size
-pub record Fits (size : ℕ) (slots : Slots) : Type 0 where
+pub record SlotsFit (size : ℕ) (slots : Slots) : Type 0 where
   pub sized : HasSize size
   pub place : CanStandAt size slots.update
   pub next : slots.next < slot_count

@@ -2,7 +2,7 @@
 ghost use Rattle.std.specs.Prelude.{◌≡◌, ◌≢◌, ◌-◌, ◌<◌, ℕ, List, length};
 ghost use Rattle.x7_packets.specs.FlashSlot.{sector_bytes, slot_count};
 ghost use Rattle.x7_update.specs.After.{IsAfter, IsBetween, MayBeLeft};
-ghost use Rattle.x7_update.specs.Layout.{HasLayout, IsNext, four_at, open_switch};
+ghost use Rattle.x7_update.specs.Layout.{HasLayout, IsNextFreeSlot, four_at, open_switch};
 ghost use Rattle.x7_update.specs.Refused.{NoLayoutAt};
 
 /// A flash with a layout lacks it at no place.
@@ -25,5 +25,5 @@ pub fn closed_slots_hold_no_sync_word()
 /// Whatever a power loss leaves of a flash with a layout has a layout again, unless the next slot was the last.
 pub fn left_flashes_have_a_layout()
     ensures { (stream flash found : List ℕ) → HasLayout flash → MayBeLeft stream flash found
-        → (IsNext flash (slot_count - 1) → ⊥) → HasLayout found }
+        → (IsNextFreeSlot flash (slot_count - 1) → ⊥) → HasLayout found }
 {}

@@ -3,8 +3,8 @@ ghost use Rattle.std.specs.Prelude.{◌≡◌, ◌+◌, ◌<◌, ℕ, List, true
 ghost use Rattle.x7_words.specs.Flash.{KnowsBytes, OnlyReads, IfKnown};
 ghost use Rattle.x7_packets.specs.FlashSlot.{sector_bytes, slot_count};
 ghost use Rattle.x7_update.specs.Layout.{HasSize, Leads, first_slot};
-ghost use Rattle.x7_update.specs.Refused.{DiffersAt, HasCause, IsBad, IsGoodSlot, NoLayoutAt};
-ghost use Rattle.x7_update.specs.Slots.{Finds, Fits, SoFar};
+ghost use Rattle.x7_update.specs.Refused.{DiffersAt, HasCause, IsBadSlotAt, IsGoodSlot, NoLayoutAt};
+ghost use Rattle.x7_update.specs.Slots.{Finds, SlotsFit, SoFar};
 
 use crate::fault::UpdateFault;
 use crate::layout::{FREE, OPEN, can_stand, first_slot, four_at, has_size};
@@ -55,7 +55,7 @@ fn take_slot(first: &[u8], wanted: &[u8; 32], slot: u64, seen: Seen) -> Result<S
     requires wanted { wanted.now ≡ first_slot first.now }
     requires before { SoFar first.now slot seen }
     ensures ok { IfOk result (SoFar first.now (slot + 1)) }
-    ensures err { IfErr result (IsBad first.now slot) }
+    ensures err { IfErr result (IsBadSlotAt first.now slot) }
 {
     if let Some(place) = difference(first, wanted, slot as usize) {
         return Err(place);
@@ -86,7 +86,7 @@ fn take_slots(first: &[u8], wanted: &[u8; 32]) -> Result<Seen, u64>
     requires wanted { wanted.now ≡ first_slot first.now }
     ensures ok { IfOk result (SoFar first.now slot_count) }
     ensures err { IfErr result (λ place. (slot : ℕ) × (slot < slot_count)
-        × ((earlier : ℕ) → earlier < slot → IsGoodSlot first.now earlier) × IsBad first.now slot place) }
+        × ((earlier : ℕ) → earlier < slot → IsGoodSlot first.now earlier) × IsBadSlotAt first.now slot place) }
 {
     let mut seen = Seen {
         opened: None,
@@ -131,7 +131,7 @@ fn slots_of(first: &[u8], size: u64) -> Result<Slots, u64>
 pub(crate) fn find_slots<F: Flash>(flash: &mut F, buffer: &mut [u8]) -> Result<Slots, UpdateFault>
     requires attached { (F.state flash.old).attached ≡ true }
     requires buffer { length buffer.old ≡ sector_bytes }
-    ensures fits { IfOk result (Fits (F.state flash.old).extent) }
+    ensures fits { IfOk result (SlotsFit (F.state flash.old).extent) }
     ensures finds { IfOk result (λ slots. IfKnown (F.state flash.old).bytes (λ all. Finds (length all) all slots)) }
     ensures fault { (stream : List ℕ) → IfErr result (HasCause stream (F.state flash.old) (F.state flash.new)) }
     ensures bytes { KnowsBytes (F.state flash.old) }

@@ -6,7 +6,7 @@ ghost use Rattle.x7_update.specs.After.{ClosesTo, IsAfter, MayBeLeft, switched};
 ghost use Rattle.x7_update.specs.Layout.{HasLayout, IsClosed, IsFree, open_switch};
 ghost use Rattle.x7_update.specs.ReadBack.{AllReadBack, OpensReadBack, WasReady};
 ghost use Rattle.x7_update.specs.Refused.{CanBeUpdated, HasCause, IsEarly};
-ghost use Rattle.x7_update.specs.Slots.{Finds, Fits};
+ghost use Rattle.x7_update.specs.Slots.{Finds, SlotsFit};
 ghost use Rattle.x7_update.specs.Writing.{AtAnyMoment, Becomes, EndFails, HasWanted, OnlyUses, Opening, Replaced, Replacing, StaysBytes};
 ghost use Rattle.x7_update.specs.declared.fault.UpdateFault.TheVariants.{NoMemory};
 
@@ -21,7 +21,7 @@ use x7_words::{Failed, Flash, SECTOR};
 /// Closes the open slot, if there is one.
 fn close_opened<F: Flash>(flash: &mut F, slots: Slots) -> Result<(), Failed>
     requires attached { (F.state flash.old).attached ≡ true }
-    requires fits { Fits (F.state flash.old).extent slots }
+    requires fits { SlotsFit (F.state flash.old).extent slots }
     requires finds { IfKnown (F.state flash.old).bytes (λ all. Finds (length all) all slots) }
     ensures closed { OnOk result (Becomes (F.state flash.old) (F.state flash.new) ClosesTo) }
     ensures any_moment { AtAnyMoment (F.state flash.old) (F.state flash.new) (F.found_since flash.old) (F.found_since flash.new)
@@ -40,7 +40,7 @@ fn close_opened<F: Flash>(flash: &mut F, slots: Slots) -> Result<(), Failed>
 /// Closes the open slot and writes the stream.
 fn replace<F: Flash>(flash: &mut F, slots: Slots, stream: &[u8]) -> Result<(), Failed>
     requires attached { (F.state flash.old).attached ≡ true }
-    requires fits { Fits (F.state flash.old).extent slots }
+    requires fits { SlotsFit (F.state flash.old).extent slots }
     requires finds { IfKnown (F.state flash.old).bytes (λ all. Finds (length all) all slots) }
     requires stream { slots.update + length stream.now ≤ (F.state flash.old).extent }
     ensures replaced { OnOk result (Becomes (F.state flash.old) (F.state flash.new) (Replaced slots.update stream.now)) }
@@ -63,7 +63,7 @@ fn finish<F: Flash>(
     buffer: &mut [u8],
 ) -> Result<(), UpdateFault>
     requires attached { (F.state flash.old).attached ≡ true }
-    requires fits { Fits (F.state flash.old).extent slots }
+    requires fits { SlotsFit (F.state flash.old).extent slots }
     requires stream { slots.update + length stream.now ≤ (F.state flash.old).extent }
     requires buffer { length buffer.old ≡ sector_bytes }
     requires written { IfKnown (F.state flash.old).bytes (HasWanted slots.update stream.now) }

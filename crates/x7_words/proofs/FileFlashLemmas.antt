@@ -6,7 +6,7 @@ use Rattle.std.specs.List.{concat}
 use Rattle.x7_words.specs.Count.{HasRisen, raised}
 use Rattle.x7_words.specs.Flash.{Elapses, OnlyReads, OnlyWrites, Unattached, Unwritten}
 use Rattle.x7_words.proofs.CountLemmas.{raised_risen}
-use Rattle.x7_words.specs.Files.{Clears, ClearsAt, ClearsPieces, IsExtent, RealFlash, Tells, after_opening, known_flash}
+use Rattle.x7_words.specs.Files.{Clears, ClearsAt, ClearsPieces, IsExtent, RealFlash, KnowsOfFile, after_opening, known_flash}
 use Rattle.x7_words.specs.declared.input.Failed.{Failed as FailedCall}
 use Rattle.x7_words.specs.declared.input.SelectFault.{SelectFault}
 use Rattle.x7_words.specs.declared.input.SelectFault.TheVariants.{Missing, Failed}
@@ -14,12 +14,12 @@ use Rattle.x7_words.specs.declared.input.SelectFault.TheVariants.{Missing, Faile
 -- ---- an attach
 
 -- a file whose end was sought is open
-open-extent : {F : Type 0} → (t : Tells F) (extent : ℕ) (file : Option F) → IsExtent t extent file → is_some file ≡ true
+open-extent : {F : Type 0} → (t : KnowsOfFile F) (extent : ℕ) (file : Option F) → IsExtent t extent file → is_some file ≡ true
 open-extent t extent None e = absurd e
 open-extent t extent (Some file) e = refl
 
 -- an attach that is Ok attaches
-pub attached-ok : {F : Type 0} → (t : Tells F) (extent : ℕ) (file : Option F) (answer : Result (Unit {0}) SelectFault) → OnOk answer (IsExtent t extent file) → OnOk answer (is_some file ≡ true)
+pub attached-ok : {F : Type 0} → (t : KnowsOfFile F) (extent : ℕ) (file : Option F) (answer : Result (Unit {0}) SelectFault) → OnOk answer (IsExtent t extent file) → OnOk answer (is_some file ≡ true)
 attached-ok t extent file (Ok _) e = open-extent t extent file e
 attached-ok t extent file (Err fault) e = tt
 
@@ -88,7 +88,7 @@ on_ok (Ok _) p = p
 on_ok (Err _) p = tt
 
 -- a piece more is cleared
-pieces-more : {F : Type 0} → (reads writes : Tells F) (place : ℕ) (pieces : List (List ℕ)) (piece : List ℕ) (old between new : F) → ClearsPieces reads writes place pieces old between
+pieces-more : {F : Type 0} → (reads writes : KnowsOfFile F) (place : ℕ) (pieces : List (List ℕ)) (piece : List ℕ) (old between new : F) → ClearsPieces reads writes place pieces old between
     → ClearsAt reads writes (place + length (concat pieces)) piece between new → ClearsPieces reads writes place (pieces ++ piece ∷ []) old new
 pieces-more {F} reads writes place [] piece old between new same one =
     let here : place + 0 ≡ place = omega arith in
@@ -97,7 +97,7 @@ pieces-more {F} reads writes place (first ∷ pieces) piece old between new (the
     let there : place + length (first ++ concat pieces) ≡ place + length first + length (concat pieces) = omega (arith, length-append first (concat pieces)) in
     (then, cleared, pieces-more reads writes (place + length first) pieces piece then between new others (subst (λ at. ClearsAt reads writes at piece between new) there one))
 
-pub clears-more : {F : Type 0} → (reads writes : Tells F) (place at : ℕ) (prefix piece given : List ℕ) (old between new : F) → Clears reads writes place prefix old between → at ≡ place + length prefix → ClearsAt reads writes at piece between new
+pub clears-more : {F : Type 0} → (reads writes : KnowsOfFile F) (place at : ℕ) (prefix piece given : List ℕ) (old between new : F) → Clears reads writes place prefix old between → at ≡ place + length prefix → ClearsAt reads writes at piece between new
     → given ≡ prefix ++ piece → Clears reads writes place given old new
 clears-more {F} reads writes place at prefix piece given old between new c is one both = record {
   pieces = c.pieces ++ piece ∷ [];

@@ -78,20 +78,20 @@ after_open f rest refusal (Err fault) =
     }
 
 -- a read gave the first n bytes of the buffer and took them from the file, and gave none only at the end or with no room
-abbrev pub Gives : Option (List ℕ) → Option (List ℕ) → List ℕ → ℕ → Type 0
-Gives old new buf n = Consumes old new (take n buf) × (n ≡ 0 → 0 < length buf → IsAtEnd new)
+abbrev pub ReadGives : Option (List ℕ) → Option (List ℕ) → List ℕ → ℕ → Type 0
+ReadGives old new buf n = Consumes old new (take n buf) × (n ≡ 0 → 0 < length buf → IsAtEnd new)
 
 -- what is known of a file of this type
-pub record Tells (F : Type 0) : Type 0 where
+pub record KnowsOfFile (F : Type 0) : Type 0 where
   -- the place at which the next read or write begins
   pub position : F → Option ℕ
   -- bytes of the file: those that reads will give, or those that were written, or all
   pub bytes : F → Option (List ℕ)
 
-abbrev pub file_tells : {F : Type 0} → (F → Option ℕ) → (F → Option (List ℕ)) → Tells F
+abbrev pub file_tells : {F : Type 0} → (F → Option ℕ) → (F → Option (List ℕ)) → KnowsOfFile F
 file_tells position bytes = record { position = position; bytes = bytes }
 
-module _ {F : Type 0} (t : Tells F) where
+module _ {F : Type 0} (t : KnowsOfFile F) where
   -- a file went to the place, as far as it knows where it is
   abbrev pub StandsAt : ℕ → F → F → Type 0
   StandsAt place old there = IfSome (t.position old) (λ _. t.position there ≡ Some place)
@@ -114,7 +114,7 @@ module _ {F : Type 0} (t : Tells F) where
   IsExtent extent None = ⊥
   IsExtent extent (Some file) = (opened : F) × EndsAt extent opened file
 
-module _ {F : Type 0} (reads writes : Tells F) where
+module _ {F : Type 0} (reads writes : KnowsOfFile F) where
   -- the bytes from the place on were read, and then each of them AND the given one was written there
   pub record ClearsAt (place : ℕ) (given : List ℕ) (old new : F) : Type 0 where
     pub before : List ℕ

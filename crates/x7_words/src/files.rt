@@ -2,7 +2,7 @@
 ghost use Rattle.std.specs.Prelude.{◌≡◌, ◌<◌, ◌≤◌, ◌+◌, ◌^◌, length, None, Some, true, false, is_some, IfErr, IfOk, OnOk, OnErr};
 ghost use Rattle.std.specs.Io.KnownBytes.{ReadConsumes, WriteAppends};
 ghost use Rattle.x7_words.specs.Count.{added, ends_counted, raised};
-ghost use Rattle.x7_words.specs.Files.{after_open, known_inputs, faults_after, missing_after, Gives, RefusedFor};
+ghost use Rattle.x7_words.specs.Files.{after_open, known_inputs, faults_after, missing_after, ReadGives, RefusedFor};
 
 mod flash;
 
@@ -138,7 +138,7 @@ impl<'r, R: Files> Inputs for FileInputs<'r, R> {
         requires { self.old.selected ≡ true }
         ensures within { IfOk result (λ n. n ≤ length buf.old) }
         ensures length { length buf.new ≡ length buf.old }
-        ensures bytes { IfOk result (Gives self.old.rest self.new.rest buf.new) }
+        ensures bytes { IfOk result (ReadGives self.old.rest self.new.rest buf.new) }
         ensures ok { IfOk result (λ n. self.new ≡
             record self.old { rest = self.new.rest; ends = ends_counted n self.old.ends; given = added self.old.given n }) }
         ensures err { OnErr result (self.new ≡

@@ -3,7 +3,7 @@ ghost use Rattle.std.specs.Prelude.{◌≡◌, ◌≤◌, ◌+◌, ◌^◌, ℕ,
 ghost use Rattle.x7_flow.specs.Standing.{FramesFit};
 ghost use Rattle.x7_engine.specs.Kept.{on_the_bench};
 ghost use Rattle.x7_engine.specs.Standing.{DeviceState, DeviceStandsFor, NoWordDue, fed_by, fed_more, fed_of, taken_in};
-ghost use Rattle.x7_engine.specs.Undo.{AreEqual, Back, IsUndoOf, Keeps, TookFewSince, device_kept, dropping};
+ghost use Rattle.x7_engine.specs.Undo.{AreEqual, Back, IsUndoOf, KeepsDevice, TookFewSince, device_kept, dropping};
 ghost use Rattle.x7_engine.specs.declared.stop.Stop.{Stop};
 ghost use Rattle.x7_engine.specs.Past.{AnswersFor, OfPast, TakesJust, part_taken, stop_at, HasPast, Past, later};
 
@@ -73,7 +73,7 @@ impl Device {
     /// Keeps the device.
     fn save(&self, undo: &mut Undo)
         requires { IsUndoOf self.now.part undo.old }
-        ensures keeps { Keeps undo.new self.now }
+        ensures keeps { KeepsDevice undo.new self.now }
         ensures undo { IsUndoOf self.now.part undo.new }
     {
         undo.cutter = self.cutter.copy();
@@ -96,7 +96,7 @@ impl Device {
         ensures taken { self.new.taken ≡ self.old.taken + taken_in (length piece.now) result }
         ensures fed { fed_of self.new ≡ fed_more self.old (taken_in (length piece.now) result) }
         ensures stays { (why : Stop) → self.old.registers.stop ≡ Some why → (self.new ≡ self.old) × (result ≡ fed_by why 0) }
-        ensures keeps { Keeps undo.new self.old }
+        ensures keeps { KeepsDevice undo.new self.old }
         ensures back { OfPast self.old (λ p. Back undo.new self.new self.old) }
         ensures stopped { OfPast self.old (λ p. IsSome (stop_at p) → (self.new ≡ self.old) × (taken_in (length piece.now) result ≡ 0)) }
         ensures undo { IsUndoOf self.old.part undo.new }
@@ -122,7 +122,7 @@ impl Device {
         requires undo { IsUndoOf self.old.part undo.now }
         requires back { TookFewSince undo.now self.old }
         ensures back { (old : DeviceState) → Back undo.now self.old old → AreEqual self.new old }
-        ensures more { (p : Past) (more : List ℕ) (old : DeviceState) → Keeps undo.now old → NoWordDue old → length more ≤ 4
+        ensures more { (p : Past) (more : List ℕ) (old : DeviceState) → KeepsDevice undo.now old → NoWordDue old → length more ≤ 4
             → HasPast old p → HasPast self.old (later p more) → AreEqual self.new old }
         ensures part { self.new.part ≡ self.old.part }
         ensures fed { fed_of self.new ≡ fed_of self.old }

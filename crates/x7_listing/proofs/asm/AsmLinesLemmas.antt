@@ -10,7 +10,7 @@ use Rattle.x7_header.specs.Header.{Contents, longest_header}
 use Rattle.x7_text.specs.Lines.{split}
 use Rattle.x7_text.proofs.LineReadingLemmas.{HasTaken, each-fault}
 use Rattle.x7_listing.specs.Assembly.{AreHeadedAsm}
-use Rattle.x7_listing.specs.Assembling.{AreReadWithRoom, AsmState, FailsFirst, FailsNext, Goes, HasAsmFault, HasLineRoom, IsOutputOf, IsFirstOrGood, IsSound, Output, ReadsFirst, ReadsNext, TakesLines, Unbegun, Waits, Went, state_behind, asm_state, has_any}
+use Rattle.x7_listing.specs.Assembling.{AreReadWithRoom, AsmState, FailsFirst, FailsNext, TextsAreRead, HasAsmFault, HasLineRoom, IsOutputOf, IsFirstOrGood, IsSoundOutput, Output, ReadsFirst, ReadsNext, TakesLines, Unbegun, Waits, LinesAreRead, state_behind, asm_state, has_any}
 use Rattle.x7_listing.specs.BitLine.{bit_text, IsHeaderOf, IsHeld}
 use Rattle.x7_listing.specs.Line.{Line, line_bytes, text_of}
 use Rattle.x7_listing.specs.declared.assembler.AsmFault.{AsmFault}
@@ -20,7 +20,7 @@ use Rattle.x7_listing.proofs.asm.fast.QuickLemmas.{goes-quick, quick-texts}
 
 -- before any line is read: a header's line, and a line that is no header's
 pub goes-header : (all left : List (List ℕ)) (held out header : List ℕ) (start len c n : ℕ) (checker fresh : CheckerState) → IsHeaderOf held header → length header ≤ longest_header → len ≡ length header → c ≡ n + 1 → Keeps fresh []
-    → Unbegun all (held ∷ left) (asm_state out start checker n) → Goes all left (asm_state header len fresh c)
+    → Unbegun all (held ∷ left) (asm_state out start checker n) → TextsAreRead all left (asm_state header len fresh c)
 goes-header all left held out header start len c n checker fresh h short size up new u =
     let none : drop len header ≡ [] = drop_of_length-le header (omega (arith, size)) in
     record {
@@ -31,14 +31,14 @@ goes-header all left held out header start len c n checker fresh h short size up
       short = omega (arith, size, short);
       keeps = subst (λ (b : List ℕ). Keeps fresh b) (sym none) new;
       opens = inl (record { header = h.header; held = h.held; texts = u.texts ∙ ap (λ t. t ∷ left) h.text; are = take_all len header (omega (arith, size)) ∙ h.are; one = refl });
-      went = subst (λ (b : List ℕ). Went (67108864 - len) left left b 0) (sym none) (went-nothing (67108864 - len) left);
+      went = subst (λ (b : List ℕ). LinesAreRead (67108864 - len) left left b 0) (sym none) (went-nothing (67108864 - len) left);
       count_is = omega (arith, up, u.count_is);
     }
 
 first-is : (s t : List ℕ) (ss ts : List (List ℕ)) → s ∷ ss ≡ t ∷ ts → s ≡ t
 first-is s t ss ts e = cc
 
-pub goes-plain : (all left : List (List ℕ)) (held out : List ℕ) (start n : ℕ) (checker : CheckerState) → ((x : Contents) → IsHeld x → held ≡ bit_text x → ⊥) → Unbegun all (held ∷ left) (asm_state out start checker n) → Goes all (held ∷ left) (asm_state out start checker n)
+pub goes-plain : (all left : List (List ℕ)) (held out : List ℕ) (start n : ℕ) (checker : CheckerState) → ((x : Contents) → IsHeld x → held ≡ bit_text x → ⊥) → Unbegun all (held ∷ left) (asm_state out start checker n) → TextsAreRead all (held ∷ left) (asm_state out start checker n)
 goes-plain all left held out start n checker none u =
     let empty : drop start out ≡ [] = ap (drop start) u.out_is ∙ drop-nil start in
     record {
@@ -54,7 +54,7 @@ goes-plain all left held out start n checker none u =
         are = ap (λ (k : ℕ). take k out) u.start_is;
         none = refl;
       });
-      went = subst (λ (b : List ℕ). Went (67108864 - start) (held ∷ left) (held ∷ left) b 0) (sym empty) (went-nothing (67108864 - start) (held ∷ left));
+      went = subst (λ (b : List ℕ). LinesAreRead (67108864 - start) (held ∷ left) (held ∷ left) b 0) (sym empty) (went-nothing (67108864 - start) (held ∷ left));
       count_is = u.count_is;
     }
 
@@ -80,8 +80,8 @@ next-read r old new n line [] m more reads room fails h = absurd (more m)
 next-read (Ok _) old new n line (t ∷ ts) m more reads room fails h =
     let read : IsOutputOf new ((t ∷ ts) ++ line ∷ []) = λ left.
     let k : n ≡ length ((t ∷ ts) ++ line ∷ []) = m ∙ sym (length-append (t ∷ ts) (line ∷ [])) in
-    subst (λ all. Goes all left (state_behind new (length ((t ∷ ts) ++ line ∷ [])))) (sym (append_assoc (t ∷ ts) (line ∷ []) left))
-    (subst (λ (j : ℕ). Goes ((t ∷ ts) ++ line ∷ left) left (state_behind new j)) k (reads ((t ∷ ts) ++ line ∷ left) left (length (t ∷ ts)) m (h.read (line ∷ left)))) in
+    subst (λ all. TextsAreRead all left (state_behind new (length ((t ∷ ts) ++ line ∷ [])))) (sym (append_assoc (t ∷ ts) (line ∷ []) left))
+    (subst (λ (j : ℕ). TextsAreRead ((t ∷ ts) ++ line ∷ left) left (state_behind new j)) k (reads ((t ∷ ts) ++ line ∷ left) left (length (t ∷ ts)) m (h.read (line ∷ left)))) in
     record { read = read; room = λ _. room }
 next-read (Err f) old new n line (t ∷ ts) m more reads room (inl want) h = λ left. inl want
 next-read (Err f) old new n line (t ∷ ts) m more reads room (inr bad) h = λ left. inr (bad ((t ∷ ts) ++ line ∷ left) left (length (t ∷ ts)) m (h.read (line ∷ left)))
@@ -106,7 +106,7 @@ next-wants (Ok _) old new n line lines m more reads h = tt
 next-wants (Err f) old new n line [] m more reads h = absurd (more m)
 next-wants (Err f) old new n line (t ∷ ts) m more reads h = λ want.
     let all : List (List ℕ) = (t ∷ ts) ++ line ∷ [] in
-    let g : Goes all [] (state_behind new n) = reads want (h.room refl) all [] (length (t ∷ ts)) m (h.read (line ∷ [])) in
+    let g : TextsAreRead all [] (state_behind new n) = reads want (h.room refl) all [] (length (t ∷ ts)) m (h.read (line ∷ [])) in
     inr (new.out, goes-whole all new.out new.start new.checker n g)
 
 -- ---- lines that are read at once
@@ -115,14 +115,14 @@ abbrev pub output_by : List ℕ → ℕ → CheckerState → Output
 output_by out start checker = record { out = out; start = start; checker = checker; room = 0 }
 
 -- what was appended leaves lines' bytes and their check
-pub still-sound : (out new : List ℕ) (start : ℕ) (checker : CheckerState) (more : List ℕ) → new ≡ out ++ more → IsSound out start checker → IsSound new start checker
+pub still-sound : (out new : List ℕ) (start : ℕ) (checker : CheckerState) (more : List ℕ) → new ≡ out ++ more → IsSoundOutput out start checker → IsSoundOutput new start checker
 still-sound out new start checker more e s = record {
   begun = omega (arith, s.begun, ap length e, length-append out more);
   keeps = still-keeps checker (drop start out) more (drop start new) (ap (drop start) e ∙ drop-append-le start out more s.begun) s.keeps;
 }
 
 -- a header's bytes and a new checker
-pub header-sound : (header : List ℕ) (len : ℕ) (fresh : CheckerState) → len ≡ length header → Keeps fresh [] → IsSound header len fresh
+pub header-sound : (header : List ℕ) (len : ℕ) (fresh : CheckerState) → len ≡ length header → Keeps fresh [] → IsSoundOutput header len fresh
 header-sound header len fresh size new = record {
   begun = omega (arith, size);
   keeps = subst (λ (b : List ℕ). Keeps fresh b) (sym (drop_of_length-le header (omega (arith, size)))) new;
@@ -142,7 +142,7 @@ quick-read out new text rest start k checker (u ∷ us) t none limit h = λ left
     let texts : List (List ℕ) = map text_of t.lines in
     goes-quick (((u ∷ us) ++ map text_of t.lines) ++ left) left text rest out new start k (length (u ∷ us)) (length ((u ∷ us) ++ map text_of t.lines)) checker t limit
     (length-append (u ∷ us) (map text_of t.lines) ∙ ap (λ (j : ℕ). length (u ∷ us) + j) (length-map t.lines text_of ∙ sym t.count_is))
-    (subst (λ all. Goes all (map text_of t.lines ++ left) (asm_state out start checker (length (u ∷ us)))) (sym (append_assoc (u ∷ us) (map text_of t.lines) left)) (h (map text_of t.lines ++ left)))
+    (subst (λ all. TextsAreRead all (map text_of t.lines ++ left) (asm_state out start checker (length (u ∷ us)))) (sym (append_assoc (u ∷ us) (map text_of t.lines) left)) (h (map text_of t.lines ++ left)))
 
 -- a line was read before, where one is now
 any-before : (lines : List (List ℕ)) (more : List Line) → (length lines ≡ 0 → length more ≡ 0) → has_any (lines ++ map text_of more) ≡ true → has_any lines ≡ true
@@ -171,7 +171,7 @@ at-once-taken old new text rest left k n c size lines is t start checker none li
 
 -- ---- the last line
 
-goes-any : (lines : List (List ℕ)) (line : List ℕ) (all left : List (List ℕ)) (b : AsmState) → Waits (has_any (lines ++ line ∷ [])) all left b → Goes all left b
+goes-any : (lines : List (List ℕ)) (line : List ℕ) (all left : List (List ℕ)) (b : AsmState) → Waits (has_any (lines ++ line ∷ [])) all left b → TextsAreRead all left b
 goes-any [] line all left b w = w
 goes-any (t ∷ ts) line all left b w = w
 

@@ -2,14 +2,14 @@
 use Rattle.std.proofs.Common.{◌≡◌, ℕ, ◌+◌, ◌-◌, ◌<◌, ◌≤◌, Bool, true, false, List, [], ◌++◌, length, take, drop, take-add, take_all, length-take-le, length-drop, length-append, refl, ap, sym, subst, ◌∙◌, append_assoc, append-nil, arith, codes, Vec}
 use Rattle.std.specs.declared.alloc.Global.{Global}
 use Rattle.x7_packets.specs.Reading.{Place, Searching, Session, IsReading, tail_of}
-use Rattle.x7_packets.specs.Cutting.{between, CutterState, CutterStandsFor, Goes, IsRun, syncs_due, Went}
+use Rattle.x7_packets.specs.Cutting.{between, CutterState, CutterStandsFor, ComesNearer, IsRun, syncs_due, AfterRun}
 use Rattle.x7_packets.specs.Mode.{Mode}
 use Rattle.x7_packets.specs.declared.cutter.Cut.{Cut}
 use Rattle.x7_packets.specs.declared.cutter.Cut.TheVariants.{Need, Skip, Sync, Head, Word, Body}
 use Rattle.x7_text.specs.Digits.{hex_byte}
 use Rattle.x7_text.specs.Row.{close, in_line_after, open_text}
 use Rattle.x7_listing.specs.Listing.{IsListing, reading_text}
-use Rattle.x7_listing.specs.Telling.{HasListed, ListerStandsFor, Tells, Writes, lister_of, written_of}
+use Rattle.x7_listing.specs.Telling.{HasListed, ListerStandsFor, HasListedJust, WritesRun, lister_of, written_of}
 use Rattle.x7_listing.proofs.GapLemmas.{fresh_gap}
 use Rattle.x7_listing.proofs.TellingLemmas.{gap_ended, session_over}
 use Rattle.x7_listing.proofs.RunLemmas.{need_adds}
@@ -20,42 +20,42 @@ reached piece at to h = let e : at + (to - at) ≡ to = omega arith in sym (take
 
 -- a call of the cutter, and what its run writes
 pub took : (c d : CutterState) (run : Cut) (synced s2 : Bool) (line l2 at to : ℕ) (held h2 text text2 given before bytes piece : List ℕ)
-    → Tells (lister_of c synced line held text) given before (bytes ++ take at piece) → at ≤ to
-    → ((bs : List ℕ) (sessions : List Session) (spot : Place) → CutterStandsFor c bs sessions spot → Went c d (bs ++ between piece at to) sessions spot run)
-    → IsRun run → Writes run (written_of synced line held (given ++ text)) (written_of s2 l2 h2 (given ++ text2))
-    → Tells (lister_of d s2 l2 h2 text2) given before (bytes ++ take to piece)
+    → HasListedJust (lister_of c synced line held text) given before (bytes ++ take at piece) → at ≤ to
+    → ((bs : List ℕ) (sessions : List Session) (spot : Place) → CutterStandsFor c bs sessions spot → AfterRun c d (bs ++ between piece at to) sessions spot run)
+    → IsRun run → WritesRun run (written_of synced line held (given ++ text)) (written_of s2 l2 h2 (given ++ text2))
+    → HasListedJust (lister_of d s2 l2 h2 text2) given before (bytes ++ take to piece)
 took c d run synced s2 line l2 at to held h2 text text2 given before bytes piece s h went is writes =
-    let w : Went c d (bytes ++ take at piece ++ between piece at to) s.sessions s.at run = went (bytes ++ take at piece) s.sessions s.at s.cut in
+    let w : AfterRun c d (bytes ++ take at piece ++ between piece at to) s.sessions s.at run = went (bytes ++ take at piece) s.sessions s.at s.cut in
     let e : bytes ++ take at piece ++ between piece at to ≡ bytes ++ take to piece = append_assoc bytes (take at piece) (between piece at to) ∙ ap (λ t. bytes ++ t) (reached piece at to h) in
-    let all : Tells (lister_of d s2 l2 h2 text2) given before (bytes ++ take at piece ++ between piece at to) = record {
+    let all : HasListedJust (lister_of d s2 l2 h2 text2) given before (bytes ++ take at piece ++ between piece at to) = record {
       sessions = w.new_sessions;
       at = w.new_place;
       cut = w.stands;
       listed = writes before (bytes ++ take at piece ++ between piece at to) s.sessions w.new_sessions s.at w.new_place c.mode d.mode s.listed w.adds w.turns is w.stands.reading;
     } in
-    subst (λ t. Tells (lister_of d s2 l2 h2 text2) given before t) e all
+    subst (λ t. HasListedJust (lister_of d s2 l2 h2 text2) given before t) e all
 
 -- an equal cutter, and an equal text
-pub told_as : (c d : CutterState) (t u : Vec ℕ Global) (synced : Bool) (line : ℕ) (held given before bytes : List ℕ) → d ≡ c → u ≡ t → Tells (lister_of c synced line held t.items) given before bytes → Tells (lister_of d synced line held u.items) given before bytes
+pub told_as : (c d : CutterState) (t u : Vec ℕ Global) (synced : Bool) (line : ℕ) (held given before bytes : List ℕ) → d ≡ c → u ≡ t → HasListedJust (lister_of c synced line held t.items) given before bytes → HasListedJust (lister_of d synced line held u.items) given before bytes
 told_as c d t u synced line held given before bytes e f s =
-    subst (λ (k : CutterState). Tells (lister_of k synced line held u.items) given before bytes) (sym e) (subst (λ (v : Vec ℕ Global). Tells (lister_of c synced line held v.items) given before bytes) (sym f) s)
+    subst (λ (k : CutterState). HasListedJust (lister_of k synced line held u.items) given before bytes) (sym e) (subst (λ (v : Vec ℕ Global). HasListedJust (lister_of c synced line held v.items) given before bytes) (sym f) s)
 
 -- the last call of the cutter, with the piece used up
 pub took_all : (c d : CutterState) (run : Cut) (synced : Bool) (line at to : ℕ) (held text given before bytes piece : List ℕ)
-    → Tells (lister_of c synced line held text) given before (bytes ++ take at piece) → at ≤ to → length piece ≤ to → run ≡ Need
-    → ((bs : List ℕ) (sessions : List Session) (spot : Place) → CutterStandsFor c bs sessions spot → Went c d (bs ++ between piece at to) sessions spot run)
+    → HasListedJust (lister_of c synced line held text) given before (bytes ++ take at piece) → at ≤ to → length piece ≤ to → run ≡ Need
+    → ((bs : List ℕ) (sessions : List Session) (spot : Place) → CutterStandsFor c bs sessions spot → AfterRun c d (bs ++ between piece at to) sessions spot run)
     → ListerStandsFor (lister_of d synced line held text) given before (bytes ++ piece)
 took_all c d run synced line at to held text given before bytes piece s h full is went =
-    let w0 : Went c d (bytes ++ take at piece ++ between piece at to) s.sessions s.at run = went (bytes ++ take at piece) s.sessions s.at s.cut in
-    let w : Went c d (bytes ++ take at piece ++ between piece at to) s.sessions s.at Need = subst (λ r. Went c d (bytes ++ take at piece ++ between piece at to) s.sessions s.at r) is w0 in
+    let w0 : AfterRun c d (bytes ++ take at piece ++ between piece at to) s.sessions s.at run = went (bytes ++ take at piece) s.sessions s.at s.cut in
+    let w : AfterRun c d (bytes ++ take at piece ++ between piece at to) s.sessions s.at Need = subst (λ r. AfterRun c d (bytes ++ take at piece ++ between piece at to) s.sessions s.at r) is w0 in
     let e : bytes ++ take at piece ++ between piece at to ≡ bytes ++ piece = append_assoc bytes (take at piece) (between piece at to) ∙ ap (λ t. bytes ++ t) (reached piece at to h ∙ take_all to piece full) in
-    let all : Tells (lister_of d synced line held text) given before (bytes ++ take at piece ++ between piece at to) = record {
+    let all : HasListedJust (lister_of d synced line held text) given before (bytes ++ take at piece ++ between piece at to) = record {
       sessions = w.new_sessions;
       at = w.new_place;
       cut = w.stands;
       listed = need_adds synced line held (given ++ text) before s.sessions w.new_sessions s.at w.new_place c.mode d.mode s.listed w.adds w.turns;
     } in
-    record { tells = subst (λ t. Tells (lister_of d synced line held text) given before t) e all; ready = w.turns.1 }
+    record { tells = subst (λ t. HasListedJust (lister_of d synced line held text) given before t) e all; ready = w.turns.1 }
 
 pub ended_gap : (synced : Bool) (line : ℕ) (held given old new before bytes : List ℕ) (sessions : List Session) (spot : Place) (m : Mode) → synced ≡ false → HasListed (written_of synced line held (given ++ old)) before sessions spot m → (m ≡ Mode.Due → ⊥)
     → new ≡ old ++ open_text 32 (codes "bytes ") hex_byte line held ++ close (in_line_after 32 line held) → given ++ new ≡ before ++ reading_text sessions spot
@@ -121,7 +121,7 @@ run_length kept kept2 run piece at to h k e =
     omega (arith, ap length e, length-append kept (between piece at to), length-append run kept2, long)
 
 -- a call that took a run comes nearer to the piece's end
-pub goes_less : (run : Cut) (left before after : ℕ) → (run ≡ Need → ⊥) → Goes run left before after → after < before
+pub goes_less : (run : Cut) (left before after : ℕ) → (run ≡ Need → ⊥) → ComesNearer run left before after → after < before
 goes_less Need left before after n g = absurd (n refl)
 goes_less (Skip bytes) left before after n g = g
 goes_less Sync left before after n g = g
@@ -130,7 +130,7 @@ goes_less (Word register w) left before after n g = g
 goes_less (Body register bytes) left before after n g = g
 
 -- a call that needs more bytes has used the piece up
-pub goes_out : (run : Cut) (left before after : ℕ) → run ≡ Need → Goes run left before after → left ≡ 0
+pub goes_out : (run : Cut) (left before after : ℕ) → run ≡ Need → ComesNearer run left before after → left ≡ 0
 goes_out run left before after e g = rw e at g
 
 pub one_due : (m : Mode) → syncs_due m ≤ 1

@@ -12,7 +12,7 @@ use Rattle.x7_packets.specs.declared.stream.Run.TheVariants as run
 use Rattle.x7_packets.proofs.RunningLemmas.{bare_after}
 use Rattle.x7_packets.proofs.UniqueLemmas.{one_reading}
 use Rattle.x7_listing.specs.Listing.{reading_text, session_text}
-use Rattle.x7_listing.specs.Telling.{Finished, ListerState, TakerStandsFor, SessionListed, HasListed, HasListedAt, Writes, written_of}
+use Rattle.x7_listing.specs.Telling.{Finished, ListerState, TakerStandsFor, SessionListed, HasListed, HasListedAt, WritesRun, written_of}
 use Rattle.x7_listing.specs.ListerOfRuns.{TakesRun, runs_told}
 use Rattle.x7_listing.proofs.GapLemmas.{fresh_gap}
 use Rattle.x7_listing.proofs.list.ListerLemmas.{begins, not_due}
@@ -67,7 +67,7 @@ told_by l given before bytes due t sessions place r =
     )
 
 pub takes_run : (l n : ListerState) (r : Run) (given before bytes : List ℕ) (due next : Mode) → is_last r ≡ false → n.cutter ≡ l.cutter
-    → Writes (cut_of r) (written_of l.synced l.line l.held (given ++ l.text)) (written_of n.synced n.line n.held (given ++ n.text)) → ((IsNeed (cut_of r) → ⊥) → n.synced ≡ true → n.held ≡ [])
+    → WritesRun (cut_of r) (written_of l.synced l.line l.held (given ++ l.text)) (written_of n.synced n.line n.held (given ++ n.text)) → ((IsNeed (cut_of r) → ⊥) → n.synced ≡ true → n.held ≡ [])
     → TakerStandsFor l given before bytes due → IsNext bytes due r next → TakesRun r n (runs_told given before (bytes ++ bytes_of_run r) next)
 takes_run l n r given before bytes due next on same writes none t x =
     let listed = (told_by l given before bytes due t x.sessions x.place x.before).0 in
@@ -83,11 +83,11 @@ takes_run l n r given before bytes due next on same writes none t x =
 
 -- a run that is no tail and no end is taken as the run of a cutter
 pub takes_cut : (l n : ListerState) (r : Run) (k : Cut) (given before bytes : List ℕ) (due next : Mode) → ((tail : Bor (List ℕ)) → r ≡ run.Tail tail → ⊥) → (r ≡ run.End → ⊥) → n.cutter ≡ l.cutter → k ≡ cut_of r
-    → Writes k (written_of l.synced l.line l.held (given ++ l.text)) (written_of n.synced n.line n.held (given ++ n.text)) → ((IsNeed k → ⊥) → n.synced ≡ true → n.held ≡ [])
+    → WritesRun k (written_of l.synced l.line l.held (given ++ l.text)) (written_of n.synced n.line n.held (given ++ n.text)) → ((IsNeed k → ⊥) → n.synced ≡ true → n.held ≡ [])
     → TakerStandsFor l given before bytes due → IsNext bytes due r next → TakesRun r n (runs_told given before (bytes ++ bytes_of_run r) next)
 takes_cut l n r k given before bytes due next no_tail no_end same e writes none t x =
     takes_run l n r given before bytes due next (goes_if r no_tail no_end) same
-    (subst (λ c. Writes c (written_of l.synced l.line l.held (given ++ l.text)) (written_of n.synced n.line n.held (given ++ n.text))) e writes)
+    (subst (λ c. WritesRun c (written_of l.synced l.line l.held (given ++ l.text)) (written_of n.synced n.line n.held (given ++ n.text))) e writes)
     (subst (λ c. (IsNeed c → ⊥) → n.synced ≡ true → n.held ≡ []) e none) t x
   where
     goes_if : (r : Run) → ((tail : Bor (List ℕ)) → r ≡ run.Tail tail → ⊥) → (r ≡ run.End → ⊥) → is_last r ≡ false

@@ -4,7 +4,7 @@ ghost use Rattle.std.specs.List.{flat_map};
 ghost use Rattle.x7_words.specs.Word.{AreBytes};
 ghost use Rattle.x7_header.specs.Header.{Contents, longest_header};
 ghost use Rattle.x7_text.specs.Digits.{hex_byte};
-ghost use Rattle.x7_listing.specs.BitLine.{bit_text, field_text, HasFieldFirst, IsCut, IsField, IsHeaderOf, IsHeld};
+ghost use Rattle.x7_listing.specs.BitLine.{bit_text, field_text, HasFieldFirst, IsCutAtSpace, IsField, IsHeaderOf, IsHeld};
 
 use super::reading::after;
 use memchr::memchr;
@@ -47,7 +47,7 @@ fn field_of(alloc: Global, text: &[u8]) -> Result<Option<Vec<u8>>, NoMemory>
 
 /// What stands before the first space, and what stands after it.
 fn at_space(text: &[u8]) -> Option<(&[u8], &[u8])>
-    ensures { MatchOption result ((word rest : List ℕ) → text.now ≢ word ++ 32 ∷ rest) (λ parts. IsCut text.now parts.0.now parts.1.now) }
+    ensures { MatchOption result ((word rest : List ℕ) → text.now ≢ word ++ 32 ∷ rest) (λ parts. IsCutAtSpace text.now parts.0.now parts.1.now) }
 {
     let Some(at) = memchr(b' ', text) else {
         return None;

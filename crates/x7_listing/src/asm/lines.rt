@@ -45,13 +45,13 @@ pub struct AsmLines {
 
 impl Model for AsmLines {
     ghost use Rattle.std.specs.Prelude.{vec_capacity};
-    ghost use Rattle.x7_listing.specs.Assembling.{IsSound, Output};
+    ghost use Rattle.x7_listing.specs.Assembling.{IsSoundOutput, Output};
 
     ghost Value = { Output };
 
     ghost view = { λ b. record { out = b.out.items; start = b.start; checker = b.checker; room = vec_capacity b.out } };
 
-    ghost invariant = { λ b. IsSound b.out.items b.start b.checker };
+    ghost invariant = { λ b. IsSoundOutput b.out.items b.start b.checker };
 }
 
 impl AsmLines {

@@ -9,7 +9,7 @@ ghost use Rattle.x7_text.specs.Appends.{Appends};
 ghost use Rattle.x7_text.specs.Digits.{hex_byte};
 ghost use Rattle.x7_text.specs.Row.{close, in_line_after, open_text};
 ghost use Rattle.x7_listing.specs.Pens.{EndsWith, GapGoesOn, written_with};
-ghost use Rattle.x7_listing.specs.Telling.{words_place, open_words, Writes};
+ghost use Rattle.x7_listing.specs.Telling.{words_place, open_words, WritesRun};
 
 mod state;
 
@@ -181,7 +181,7 @@ pub(crate) fn put_run(text: &mut Vec<u8>, pen: Pen, run: Cut) -> Pen
     requires room { vec_len text.old + (64 + 3 * length (run_bytes run)) ≤ vec_capacity text.old }
     ensures len { vec_len text.new ≤ vec_len text.old + (64 + 3 * length (run_bytes run.entry)) }
     ensures room { vec_capacity text.old ≤ vec_capacity text.new }
-    ensures listed { (given : List ℕ) → Writes run.entry (written_with pen (given ++ text.old.items)) (written_with result (given ++ text.new.items)) }
+    ensures listed { (given : List ℕ) → WritesRun run.entry (written_with pen (given ++ text.old.items)) (written_with result (given ++ text.new.items)) }
     ensures held { (IsNeed run.entry → ⊥) → result.synced ≡ true → take result.count result.held ≡ [] }
 {
     match run {

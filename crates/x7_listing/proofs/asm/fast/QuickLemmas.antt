@@ -11,7 +11,7 @@ use Rattle.x7_crc.proofs.CheckerLemmas.{still-keeps}
 use Rattle.x7_text.specs.Lines.{split}
 use Rattle.x7_text.proofs.SplitLemmas.{split-line}
 use Rattle.x7_listing.specs.Assembly.{assembled, with_line}
-use Rattle.x7_listing.specs.Assembling.{asm_state, Goes, Opens, TakesFirst, TakesLines}
+use Rattle.x7_listing.specs.Assembling.{asm_state, TextsAreRead, OpensText, TakesFirst, TakesLines}
 use Rattle.x7_listing.specs.Line.{Line, line_bytes, FitsLine, IsListed, text_of}
 use Rattle.x7_listing.specs.Listed.{ended_text, ended_texts}
 use Rattle.x7_listing.proofs.RoundLemmas.{line-free, same-bytes}
@@ -73,7 +73,7 @@ quick-texts text rest old new k t = ap split t.text_is ∙ texts-ahead t.lines r
 
 -- a text of which lines are read at once is read so much further
 pub goes-quick : (all left : List (List ℕ)) (text rest out new : List ℕ) (start k n c : ℕ) (checker : CheckerState) (t : TakesLines text rest out new k) → (length out ≤ 67108864 → length new ≤ 67108864) → c ≡ n + k
-    → Goes all (map text_of t.lines ++ left) (asm_state out start checker n) → Goes all left (asm_state new start checker c)
+    → TextsAreRead all (map text_of t.lines ++ left) (asm_state out start checker n) → TextsAreRead all left (asm_state new start checker c)
 goes-quick all left text rest out new start k n c checker t limit e g =
     let added : List ℕ = flat_map (line_bytes 0) t.lines in
     let body : drop start new ≡ drop start out ++ added = ap (drop start) t.appended ∙ drop-append-le start out added g.long in
@@ -90,7 +90,7 @@ goes-quick all left text rest out new start k n c checker t limit e g =
       long = omega (arith, size, g.long);
       short = g.short;
       keeps = still-keeps checker (drop start out) added (drop start new) body g.keeps;
-      opens = subst (λ (b : List ℕ). Opens all g.others b g.first) (sym prefix) g.opens;
+      opens = subst (λ (b : List ℕ). OpensText all g.others b g.first) (sym prefix) g.opens;
       went = record {
         lines = g.went.lines ++ t.lines;
         begins = record {

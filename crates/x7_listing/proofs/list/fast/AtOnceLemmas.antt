@@ -11,7 +11,7 @@ use Rattle.x7_words.specs.Word.{bytes_of_word, words_of_bytes}
 use Rattle.x7_packets.specs.AtOnce.{EndsGap, TakesAsOneRun, WritesFew, WritesOne}
 use Rattle.x7_packets.specs.PacketWords.{no_op, sync_word, type1_write}
 use Rattle.x7_packets.specs.SyncWord.{sync_bytes}
-use Rattle.x7_packets.specs.Cutting.{CutterState, IsRun, Went}
+use Rattle.x7_packets.specs.Cutting.{CutterState, IsRun, AfterRun}
 use Rattle.x7_packets.specs.Nops.{equal_bytes}
 use Rattle.x7_packets.specs.Mode.{Mode}
 use Rattle.x7_packets.specs.Packet.{payload_steps, register_of}
@@ -28,7 +28,7 @@ use Rattle.x7_listing.specs.declared.line.head_line.HeadLine.TheVariants.{Write}
 use Rattle.x7_listing.specs.Fast.AtOnce.{command_lines, equal_lines, write_line, write_name, write_start}
 use Rattle.x7_listing.specs.HeadLine.{best_line, command_line, text_of_head, line_text}
 use Rattle.x7_listing.specs.Listing.{session_text}
-use Rattle.x7_listing.specs.Telling.{GapListed, HasListedAt, Tells, words_place, open_words, Writes, lister_of, written_of}
+use Rattle.x7_listing.specs.Telling.{GapListed, HasListedAt, HasListedJust, words_place, open_words, WritesRun, lister_of, written_of}
 use Rattle.x7_listing.proofs.GapLemmas.{told_more}
 use Rattle.x7_listing.proofs.RunLemmas.{by_body, by_head, by_skip, by_sync, by_word}
 use Rattle.x7_listing.proofs.SessionLemmas.{data_told, is_data}
@@ -105,9 +105,9 @@ short_written old t1 new head row listed a b e = b ∙ ap (λ t. t ++ row) a ∙
 -- ---- what a lister stands for
 
 took_run : (c d : CutterState) (run : Cut) (synced s2 : Bool) (line l2 : ℕ) (held h2 text text2 given before bytes taken : List ℕ)
-    → Tells (lister_of c synced line held text) given before bytes → TakesAsOneRun c d taken run → IsRun run → Writes run (written_of synced line held (given ++ text)) (written_of s2 l2 h2 (given ++ text2)) → Tells (lister_of d s2 l2 h2 text2) given before (bytes ++ taken)
+    → HasListedJust (lister_of c synced line held text) given before bytes → TakesAsOneRun c d taken run → IsRun run → WritesRun run (written_of synced line held (given ++ text)) (written_of s2 l2 h2 (given ++ text2)) → HasListedJust (lister_of d s2 l2 h2 text2) given before (bytes ++ taken)
 took_run c d run synced s2 line l2 held h2 text text2 given before bytes taken s takes is writes =
-    let w : Went c d (bytes ++ taken) s.sessions s.at run = takes bytes s.sessions s.at s.cut in
+    let w : AfterRun c d (bytes ++ taken) s.sessions s.at run = takes bytes s.sessions s.at s.cut in
     record {
       sessions = w.new_sessions;
       at = w.new_place;
@@ -116,55 +116,55 @@ took_run c d run synced s2 line l2 held h2 text text2 given before bytes taken s
     }
 
 one_equal : (c : CutterState) (w : ℕ) (step : Step) (synced s2 : Bool) (line l2 from : ℕ) (held h2 text text2 given before bytes : List ℕ) → IsRun (Head w step) → TakesAsOneRun c c (bytes_of_word w) (Head w step) → (synced ≡ true → from ≡ line) → s2 ≡ true → l2 ≡ 0
-    → text2 ≡ text ++ (close from ++ text_of_head step w) → Tells (lister_of c synced line held text) given before bytes → Tells (lister_of c s2 l2 h2 text2) given before (bytes ++ bytes_of_word w)
+    → text2 ≡ text ++ (close from ++ text_of_head step w) → HasListedJust (lister_of c synced line held text) given before bytes → HasListedJust (lister_of c s2 l2 h2 text2) given before (bytes ++ bytes_of_word w)
 one_equal c w step synced s2 line l2 from held h2 text text2 given before bytes is takes same e f t s =
     took_run c c (Head w step) synced s2 line l2 held h2 text text2 given before bytes (bytes_of_word w) s takes is
     (by_head (Head w step) synced s2 line l2 from held h2 given text text2 w step refl same e f t)
 
 -- equal words after a line that has its end
 more_equal : (n : ℕ) (c : CutterState) (w : ℕ) (step : Step) (line : ℕ) (held text text2 given before bytes : List ℕ) → IsRun (Head w step) → TakesAsOneRun c c (bytes_of_word w) (Head w step) → line ≡ 0 → text2 ≡ text ++ equal_lines step w n
-    → Tells (lister_of c true line held text) given before bytes → Tells (lister_of c true line held text2) given before (bytes ++ equal_bytes w n)
+    → HasListedJust (lister_of c true line held text) given before bytes → HasListedJust (lister_of c true line held text2) given before (bytes ++ equal_bytes w n)
 more_equal zero c w step line held text text2 given before bytes is takes f t s =
     let same : text ≡ text2 = sym (t ∙ append-nil text) in
-    subst (λ (x : List ℕ). Tells (lister_of c true line held x) given before (bytes ++ [])) same (subst (Tells (lister_of c true line held text) given before) (sym (append-nil bytes)) s)
+    subst (λ (x : List ℕ). HasListedJust (lister_of c true line held x) given before (bytes ++ [])) same (subst (HasListedJust (lister_of c true line held text) given before) (sym (append-nil bytes)) s)
 more_equal (suc n) c w step line held text text2 given before bytes is takes f t s =
     let next : List ℕ = text ++ text_of_head step w in
-    let one : Tells (lister_of c true line held next) given before (bytes ++ bytes_of_word w) = one_equal c w step true true line line 0 held held text next given before bytes is takes (λ e. sym f) refl f refl s in
-    let all : Tells (lister_of c true line held text2) given before ((bytes ++ bytes_of_word w) ++ equal_bytes w n) =
+    let one : HasListedJust (lister_of c true line held next) given before (bytes ++ bytes_of_word w) = one_equal c w step true true line line 0 held held text next given before bytes is takes (λ e. sym f) refl f refl s in
+    let all : HasListedJust (lister_of c true line held text2) given before ((bytes ++ bytes_of_word w) ++ equal_bytes w n) =
     more_equal n c w step line held next text2 given before (bytes ++ bytes_of_word w) is takes f (t ∙ sym (append_assoc text (text_of_head step w) (equal_lines step w n))) one in
-    subst (Tells (lister_of c true line held text2) given before) (append_assoc bytes (bytes_of_word w) (equal_bytes w n)) all
+    subst (HasListedJust (lister_of c true line held text2) given before) (append_assoc bytes (bytes_of_word w) (equal_bytes w n)) all
 
 pub equal_told : (n : ℕ) (c : CutterState) (w : ℕ) (step : Step) (synced s2 : Bool) (line l2 from : ℕ) (held h2 text text1 text2 given before bytes : List ℕ) → 0 < n → IsRun (Head w step) → TakesAsOneRun c c (bytes_of_word w) (Head w step) → (synced ≡ true → from ≡ line) → s2 ≡ true → l2 ≡ 0
-    → text1 ≡ text ++ close from → text2 ≡ text1 ++ equal_lines step w n → Tells (lister_of c synced line held text) given before bytes → Tells (lister_of c s2 l2 h2 text2) given before (bytes ++ equal_bytes w n)
+    → text1 ≡ text ++ close from → text2 ≡ text1 ++ equal_lines step w n → HasListedJust (lister_of c synced line held text) given before bytes → HasListedJust (lister_of c s2 l2 h2 text2) given before (bytes ++ equal_bytes w n)
 equal_told zero c w step synced s2 line l2 from held h2 text text1 text2 given before bytes some is takes same e f a b s = absurd (omega (arith, some))
 equal_told (suc n) c w step synced s2 line l2 from held h2 text text1 text2 given before bytes some is takes same e f a b s =
     let next : List ℕ = text ++ (close from ++ text_of_head step w) in
-    let one : Tells (lister_of c true l2 h2 next) given before (bytes ++ bytes_of_word w) = one_equal c w step synced true line l2 from held h2 text next given before bytes is takes same refl f refl s in
-    let all : Tells (lister_of c true l2 h2 text2) given before ((bytes ++ bytes_of_word w) ++ equal_bytes w n) =
+    let one : HasListedJust (lister_of c true l2 h2 next) given before (bytes ++ bytes_of_word w) = one_equal c w step synced true line l2 from held h2 text next given before bytes is takes same refl f refl s in
+    let all : HasListedJust (lister_of c true l2 h2 text2) given before ((bytes ++ bytes_of_word w) ++ equal_bytes w n) =
     more_equal n c w step l2 h2 next text2 given before (bytes ++ bytes_of_word w) is takes f
     (b ∙ ap (λ t. t ++ (text_of_head step w ++ equal_lines step w n)) a ∙ sym (append_assoc (text ++ close from) (text_of_head step w) (equal_lines step w n)) ∙ ap (λ t. t ++ equal_lines step w n) (append_assoc text (close from) (text_of_head step w))) one in
-    subst (λ (x : Bool). Tells (lister_of c x l2 h2 text2) given before (bytes ++ equal_bytes w (suc n))) (sym e) (subst (Tells (lister_of c true l2 h2 text2) given before) (append_assoc bytes (bytes_of_word w) (equal_bytes w n)) all)
+    subst (λ (x : Bool). HasListedJust (lister_of c x l2 h2 text2) given before (bytes ++ equal_bytes w (suc n))) (sym e) (subst (HasListedJust (lister_of c true l2 h2 text2) given before) (append_assoc bytes (bytes_of_word w) (equal_bytes w n)) all)
 
 pub write_told : (c d : CutterState) (synced s2 : Bool) (line l2 from register w : ℕ) (held h2 text text2 given before bytes rest : List ℕ) → WritesOne c d rest register w → (synced ≡ true → from ≡ line) → s2 ≡ true
     → l2 ≡ words_place 0 (payload_steps register (w ∷ [])) → text2 ≡ text ++ (close from ++ text_of_head (Open register 1) (type1_write register 1) ++ open_words 0 (payload_steps register (w ∷ [])))
-    → Tells (lister_of c synced line held text) given before bytes → Tells (lister_of d s2 l2 h2 text2) given before (bytes ++ take 8 rest)
+    → HasListedJust (lister_of c synced line held text) given before bytes → HasListedJust (lister_of d s2 l2 h2 text2) given before (bytes ++ take 8 rest)
 write_told c d synced s2 line l2 from register w held h2 text text2 given before bytes rest x same e f t s =
     let H : List ℕ = text_of_head (Open register 1) (type1_write register 1) in
     let D : List ℕ = open_words 0 (payload_steps register (w ∷ [])) in
     let head : List ℕ = bytes_of_word (type1_write register 1) in
     let next : List ℕ = text ++ (close from ++ H) in
-    let one : Tells (lister_of x.between true 0 [] next) given before (bytes ++ head) =
+    let one : HasListedJust (lister_of x.between true 0 [] next) given before (bytes ++ head) =
     took_run c x.between (Head (type1_write register 1) (Open register 1)) synced true line 0 held [] text next given before bytes head s x.head tt
     (by_head (Head (type1_write register 1) (Open register 1)) synced true line 0 from held [] given text next (type1_write register 1) (Open register 1) refl same refl refl refl) in
-    let two : Tells (lister_of d s2 l2 h2 text2) given before ((bytes ++ head) ++ bytes_of_word w) =
+    let two : HasListedJust (lister_of d s2 l2 h2 text2) given before ((bytes ++ head) ++ bytes_of_word w) =
     took_run x.between d (Word register w) true s2 0 l2 [] h2 next text2 given before (bytes ++ head) (bytes_of_word w) one x.word x.range
     (by_word (Word register w) true s2 0 l2 0 [] h2 given next text2 register w refl (λ k. refl) e f (t ∙ sym (append_assoc text (close from ++ H) D))) in
-    subst (Tells (lister_of d s2 l2 h2 text2) given before) (append_assoc bytes head (bytes_of_word w) ∙ ap (λ k. bytes ++ k) (sym x.bytes)) two
+    subst (HasListedJust (lister_of d s2 l2 h2 text2) given before) (append_assoc bytes head (bytes_of_word w) ∙ ap (λ k. bytes ++ k) (sym x.bytes)) two
 
 -- a write of a few words: `lent` is any slice
 pub short_told : (c d : CutterState) (synced s2 : Bool) (line l2 from register count : ℕ) (held h2 text text2 given before bytes rest ws : List ℕ) (lent : Bor (List ℕ)) → WritesFew c d rest register count → ws ≡ words_of_bytes (take (4 * count) (drop 4 rest))
     → (synced ≡ true → from ≡ line) → s2 ≡ true → l2 ≡ words_place 0 (payload_steps register ws) → text2 ≡ text ++ (close from ++ text_of_head (Open register count) (type1_write register count) ++ open_words 0 (payload_steps register ws))
-    → Tells (lister_of c synced line held text) given before bytes → Tells (lister_of d s2 l2 h2 text2) given before (bytes ++ take (4 + 4 * count) rest)
+    → HasListedJust (lister_of c synced line held text) given before bytes → HasListedJust (lister_of d s2 l2 h2 text2) given before (bytes ++ take (4 + 4 * count) rest)
 short_told c d synced s2 line l2 from register count held h2 text text2 given before bytes rest ws lent x are same e f t s =
     let H : List ℕ = text_of_head (Open register count) (type1_write register count) in
     let body : List ℕ = take (4 * count) (drop 4 rest) in
@@ -173,15 +173,15 @@ short_told c d synced s2 line l2 from register count held h2 text text2 given be
     let head : List ℕ = bytes_of_word (type1_write register count) in
     let next : List ℕ = text ++ (close from ++ text_of_head (Open register count) (type1_write register count)) in
     let D : List ℕ = open_words 0 (payload_steps register (words_of_bytes (take (4 * count) (drop 4 rest)))) in
-    let one : Tells (lister_of x.between true 0 [] next) given before (bytes ++ bytes_of_word (type1_write register count)) =
+    let one : HasListedJust (lister_of x.between true 0 [] next) given before (bytes ++ bytes_of_word (type1_write register count)) =
     took_run c x.between (Head (type1_write register count) (Open register count)) synced true line 0 held [] text next given before bytes (bytes_of_word (type1_write register count)) s x.head tt
     (by_head (Head (type1_write register count) (Open register count)) synced true line 0 from held [] given text next (type1_write register count) (Open register count) refl same refl refl refl) in
-    let two : Tells (lister_of d s2 l2 h2 text2) given before ((bytes ++ bytes_of_word (type1_write register count)) ++ take (4 * count) (drop 4 rest)) =
+    let two : HasListedJust (lister_of d s2 l2 h2 text2) given before ((bytes ++ bytes_of_word (type1_write register count)) ++ take (4 * count) (drop 4 rest)) =
     took_run x.between d (Body register run) true s2 0 l2 [] h2 next text2 given before (bytes ++ bytes_of_word (type1_write register count)) (take (4 * count) (drop 4 rest)) one (x.words run refl)
     (x.range, omega (arith, size, x.some), omega (arith, size), λ k. absurd (x.other k))
     (by_body (Body register run) true s2 0 l2 0 [] h2 given next text2 register run refl (λ k. refl) e (f ∙ ap (λ (w : List ℕ). words_place 0 (payload_steps register w)) are)
     (t ∙ ap (λ (w : List ℕ). text ++ (close from ++ text_of_head (Open register count) (type1_write register count) ++ open_words 0 (payload_steps register w))) are ∙ sym (append_assoc text (close from ++ H) D))) in
-    subst (Tells (lister_of d s2 l2 h2 text2) given before) (append_assoc bytes (bytes_of_word (type1_write register count)) (take (4 * count) (drop 4 rest)) ∙ ap (λ k. bytes ++ (k ++ take (4 * count) (drop 4 rest))) (sym x.bytes) ∙ ap (λ k. bytes ++ k) (sym (take-add 4 (4 * count) rest))) two
+    subst (HasListedJust (lister_of d s2 l2 h2 text2) given before) (append_assoc bytes (bytes_of_word (type1_write register count)) (take (4 * count) (drop 4 rest)) ∙ ap (λ k. bytes ++ (k ++ take (4 * count) (drop 4 rest))) (sym x.bytes) ∙ ap (λ k. bytes ++ k) (sym (take-add 4 (4 * count) rest))) two
 
 -- bytes of a gap and the sync word, after a session
 gap_begun : (given text text1 start : List ℕ) (gap taken listed : List ℕ) → taken ≡ listed ++ sync_bytes → text1 ≡ text ++ open_text 32 (codes "bytes ") hex_byte 0 listed
@@ -189,7 +189,7 @@ gap_begun : (given text text1 start : List ℕ) (gap taken listed : List ℕ) �
 gap_begun given text text1 start gap taken listed e f g = told_more given text text1 start 0 (in_line_after 32 0 listed) [] sync_bytes gap taken listed g e refl f refl
 
 pub gap_told : (c d : CutterState) (synced s2 : Bool) (line l2 count : ℕ) (held h2 text text2 given before bytes rest : List ℕ) (lent : Bor (List ℕ)) → EndsGap c d rest count → synced ≡ true → s2 ≡ true → l2 ≡ 0
-    → text2 ≡ text ++ (bytes_text (take count rest) ++ codes "sync\n") → Tells (lister_of c synced line held text) given before bytes → Tells (lister_of d s2 l2 h2 text2) given before (bytes ++ take (count + 4) rest)
+    → text2 ≡ text ++ (bytes_text (take count rest) ++ codes "sync\n") → HasListedJust (lister_of c synced line held text) given before bytes → HasListedJust (lister_of d s2 l2 h2 text2) given before (bytes ++ take (count + 4) rest)
 gap_told c d false s2 line l2 count held h2 text text2 given before bytes rest lent x is e f t s = absurd (cc)
 gap_told c d true s2 line l2 count held h2 text text2 given before bytes rest lent x is e f t s =
     let listed : List ℕ = take count rest in
@@ -198,15 +198,15 @@ gap_told c d true s2 line l2 count held h2 text text2 given before bytes rest le
     let run : Bor (List ℕ) = record lent { now = take (count + 4) rest } in
     let size : length (take (count + 4) rest) ≡ count + 4 = length-take-le (count + 4) rest (omega (arith, x.long, x.near)) in
     let text1 : List ℕ = text ++ open_text 32 (codes "bytes ") hex_byte 0 (take count rest) in
-    let one : Tells (lister_of x.between false (in_line_after 32 0 (take count rest)) sync_bytes text1) given before (bytes ++ take (count + 4) rest) =
+    let one : HasListedJust (lister_of x.between false (in_line_after 32 0 (take count rest)) sync_bytes text1) given before (bytes ++ take (count + 4) rest) =
     took_run c x.between (Skip run) true false line (in_line_after 32 0 (take count rest)) held sync_bytes text text1 given before bytes (take (count + 4) rest) s (x.gap run refl) (omega (arith, size))
     (by_skip (Skip run) run true false line 0 (in_line_after 32 0 (take count rest)) held [] sync_bytes given text text1 refl refl refl refl (λ given start gap g. gap_begun given text text1 start gap (take (count + 4) rest) (take count rest) x.found refl g)) in
-    let two : Tells (lister_of d s2 l2 h2 text2) given before ((bytes ++ take (count + 4) rest) ++ []) =
+    let two : HasListedJust (lister_of d s2 l2 h2 text2) given before ((bytes ++ take (count + 4) rest) ++ []) =
     took_run x.between d Sync false s2 (in_line_after 32 0 (take count rest)) l2 sync_bytes h2 text1 text2 given before (bytes ++ take (count + 4) rest) [] one x.sync tt
     (by_sync Sync false s2 (in_line_after 32 0 (take count rest)) l2 sync_bytes h2 given text1 text2 refl e f
     (t ∙ ap (λ (k : List ℕ). text ++ (k ++ codes "sync\n")) (sym (bytes_closed (take count rest))) ∙ ap (λ (k : List ℕ). text ++ k) (append_assoc (open_text 32 (codes "bytes ") hex_byte 0 (take count rest)) (close (in_line_after 32 0 (take count rest))) (codes "sync\n"))
     ∙ sym (append_assoc text (open_text 32 (codes "bytes ") hex_byte 0 (take count rest)) (close (in_line_after 32 0 (take count rest)) ++ codes "sync\n")))) in
-    subst (Tells (lister_of d s2 l2 h2 text2) given before) (append-nil (bytes ++ take (count + 4) rest)) two
+    subst (HasListedJust (lister_of d s2 l2 h2 text2) given before) (append-nil (bytes ++ take (count + 4) rest)) two
 
 -- the bytes that are left of a piece, and some of them after those before
 pub rest_length : (piece : List ℕ) (at : ℕ) → at ≤ length piece → length (take (length piece - at) (drop at piece)) ≡ length piece - at
@@ -223,13 +223,13 @@ any_held line held h2 all start (Searching gap) m h = h
 any_held line held h2 all start (Synced gap packets tail) m h = h
 
 pub in_line_told : (c : CutterState) (synced s2 : Bool) (line l2 : ℕ) (held h2 text given before bytes : List ℕ) → synced ≡ true → s2 ≡ true → l2 ≡ line
-    → Tells (lister_of c synced line held text) given before bytes → Tells (lister_of c s2 l2 h2 text) given before bytes
+    → HasListedJust (lister_of c synced line held text) given before bytes → HasListedJust (lister_of c s2 l2 h2 text) given before bytes
 in_line_told c synced s2 line l2 held h2 text given before bytes a b e t =
-    let u : Tells (lister_of c true line held text) given before bytes = subst (λ (k : Bool). Tells (lister_of c k line held text) given before bytes) a t in
-    let one : Tells (lister_of c true line h2 text) given before bytes = record {
+    let u : HasListedJust (lister_of c true line held text) given before bytes = subst (λ (k : Bool). HasListedJust (lister_of c k line held text) given before bytes) a t in
+    let one : HasListedJust (lister_of c true line h2 text) given before bytes = record {
       sessions = u.sessions;
       at = u.at;
       cut = u.cut;
       listed = any_held line held h2 (given ++ text) (before ++ flat_map session_text u.sessions) u.at c.mode u.listed;
     } in
-    subst (λ (k : Bool). Tells (lister_of c k l2 h2 text) given before bytes) (sym b) (subst (λ (k : ℕ). Tells (lister_of c true k h2 text) given before bytes) (sym e) one)
+    subst (λ (k : Bool). HasListedJust (lister_of c k l2 h2 text) given before bytes) (sym b) (subst (λ (k : ℕ). HasListedJust (lister_of c true k h2 text) given before bytes) (sym e) one)

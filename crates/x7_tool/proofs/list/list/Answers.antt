@@ -16,7 +16,7 @@ use Rattle.x7_forms.specs.Form.{Listing}
 use Rattle.x7_tool.specs.Ahead.{StaysNear}
 use Rattle.x7_tool.specs.Run.{ListsSoFar}
 use Rattle.x7_tool.specs.Turns.{Lists, ListsStream}
-use Rattle.x7_forms.specs.Turn.{MayFollow, longest_beginning, turn_bytes}
+use Rattle.x7_forms.specs.Turn.{FollowsUnlessLast, longest_beginning, turn_bytes}
 use Rattle.x7_tool.proofs.AheadLemmas.{front_given, front_near, longer_front, longer_twice, same_now, stays_near, turn_given, turn_near, unfronted_near, unopened_near, unread_near, unwritten_near, why_weaker}
 use Rattle.x7_tool.proofs.Causes.{Ended, PutsListed, both_err, ends_same, list_ends, list_seen, listed_whole, nothing_put, nothing_taken, out_of_memory, unfronted, unopened}
 use Rattle.x7_forms.proofs.ReadLemmas.{asked_on, at_on, turn_unread}
@@ -83,7 +83,7 @@ returns-in-Err-put_beginning g c = λ before after.
     let cut : sent ≡ drop start taken = take_all (length bytes - start) (drop start bytes) (omega (arith, length-drop start bytes)) ∙ ap (drop start) c.deref.ensures.value in
     let rest = (i.state c.read_beginning.new.inputs).rest in
     let sel : Selects contents stream (preceded taken rest) = subst (λ r. Selects contents stream r) f.reads.takes.taken c.in-Ok.ensures.ok.found in
-    let goes : (left : List ℕ) → MayFollow last left → stream_listing (taken ++ left) ≡ Ok (line ++ listing_of (sent ++ left)) = λ left m. f.begins left m ∙ ap (λ (l : List ℕ). Ok (l ++ listing_of (drop start taken ++ left))) (sym c.deref-line.ensures.value) ∙ ap (λ (s : List ℕ). Ok (line ++ listing_of (s ++ left))) (sym cut) in
+    let goes : (left : List ℕ) → FollowsUnlessLast last left → stream_listing (taken ++ left) ≡ Ok (line ++ listing_of (sent ++ left)) = λ left m. f.begins left m ∙ ap (λ (l : List ℕ). Ok (l ++ listing_of (drop start taken ++ left))) (sym c.deref-line.ensures.value) ∙ ap (λ (s : List ℕ). Ok (line ++ listing_of (s ++ left))) (sym cut) in
     let now = (o.state c.put_beginning.new.out).written in
     let Full : Type 0 = SinkFails (o.state c.args.out.now) (o.state c.put_beginning.new.out) in
     let r = event_of c.in-Err-put_beginning.refusal in
@@ -126,7 +126,7 @@ returns-then-beginning g c = λ before after.
     let cut : sent ≡ drop start taken = take_all (length bytes - start) (drop start bytes) (omega (arith, length-drop start bytes)) ∙ ap (drop start) c.deref.ensures.value in
     let rest = (i.state c.read_beginning.new.inputs).rest in
     let sel : Selects contents stream (preceded taken rest) = subst (λ r. Selects contents stream r) f.reads.takes.taken c.in-Ok.ensures.ok.found in
-    let goes : (left : List ℕ) → MayFollow last left → stream_listing (taken ++ left) ≡ Ok (line ++ listing_of (sent ++ left)) = λ left m. f.begins left m ∙ ap (λ (l : List ℕ). Ok (l ++ listing_of (drop start taken ++ left))) (sym c.deref-line.ensures.value) ∙ ap (λ (s : List ℕ). Ok (line ++ listing_of (s ++ left))) (sym cut) in
+    let goes : (left : List ℕ) → FollowsUnlessLast last left → stream_listing (taken ++ left) ≡ Ok (line ++ listing_of (sent ++ left)) = λ left m. f.begins left m ∙ ap (λ (l : List ℕ). Ok (l ++ listing_of (drop start taken ++ left))) (sym c.deref-line.ensures.value) ∙ ap (λ (s : List ℕ). Ok (line ++ listing_of (s ++ left))) (sym cut) in
     let now = (o.state c.put_short.new.out).written in
     let Full : Type 0 = SinkFails (o.state c.args.out.now) (o.state c.put_short.new.out) in
     let text = line ++ listing_of sent in

@@ -5,7 +5,7 @@ use Rattle.x7_update.specs.After.{IsBetween, MayBeLeft, untouched}
 use Rattle.x7_update.specs.Layout.{HasLayout, HasSize, IsClosed, IsFree}
 use Rattle.x7_update.specs.ReadBack.{OpensReadBack, ReadBack, WasReady}
 use Rattle.x7_update.specs.Refused.{CanTake}
-use Rattle.x7_update.specs.Slots.{Finds, Fits}
+use Rattle.x7_update.specs.Slots.{Finds, SlotsFit}
 use Rattle.x7_update.specs.Writing.{HasWanted, Opening, Replaced, Replacing, StaysBytes}
 use Rattle.x7_update.proofs.BackLemmas.{end_refused, fails_since, none_before}
 use Rattle.x7_update.proofs.ByteLemmas.{bytes_on, moments_both}
@@ -138,7 +138,7 @@ returns-clause-read_back g c =
     let slots = c.in_ok-slots.slots in
     let stream = c.args.stream.now in
     let size : last.extent ≡ first.extent = c.finish.ensures.only.extent ∙ c.replace.ensures.only.extent ∙ c.find_slots.ensures.only.extent in
-    all_back g.F.Flash.state stream first last slots c.finish.result (subst (λ n. Fits n slots) (sym size) c.in_ok-slots.ensures.fits) c.in_ok-slots.ensures.finds c.finish.ensures.ready c.finish.ensures.switch
+    all_back g.F.Flash.state stream first last slots c.finish.result (subst (λ n. SlotsFit n slots) (sym size) c.in_ok-slots.ensures.fits) c.in_ok-slots.ensures.finds c.finish.ensures.ready c.finish.ensures.switch
 
 pub returns-in_default-clause-opens : goal.returns-in_default-clause-opens
 returns-in_default-clause-opens g c =
@@ -177,7 +177,7 @@ returns-clause-opens g c =
     let Was : Type 0 = WasReady g.F.Flash.state slots.update stream last in
     let size : last.extent ≡ first.extent = c.finish.ensures.only.extent ∙ c.replace.ensures.only.extent ∙ c.find_slots.ensures.only.extent in
     let back : Was → ReadBack g.F.Flash.state stream first last =
-    λ was. read_back g.F.Flash.state stream first last slots (subst (λ n. Fits n slots) (sym size) c.in_ok-slots.ensures.fits) c.in_ok-slots.ensures.finds was in
+    λ was. read_back g.F.Flash.state stream first last slots (subst (λ n. SlotsFit n slots) (sym size) c.in_ok-slots.ensures.fits) c.in_ok-slots.ensures.finds was in
     read_moments first mid last _ _ _ Opens (λ all e l a. absurd (after_not_same stream all all l a refl)) c.find_slots.ensures.only.bytes c.find_slots.ensures.only.unwritten
     (moments_on mid then last _ _ _ (Replaced slots.update stream) (λ all found. (found ≡ all) ⊎ Was) Opens
     (λ all now found e r o l a.

@@ -4,7 +4,7 @@ use Rattle.x7_packets.specs.Cutting.{calls_left}
 use Rattle.x7_part.specs.Part.{PartData}
 use Rattle.x7_engine.specs.UntilRead.{RoomBefore}
 use Rattle.x7_engine.specs.declared.kept.Kept.{Kept}
-use Rattle.x7_engine.specs.ReadBuffer.{HoldsFew, with_words}
+use Rattle.x7_engine.specs.ReadBuffer.{HoldsWithinMost, with_words}
 use Rattle.x7_engine.specs.Standing.{DeviceStandsFor, fed_more, fed_of, reads_given}
 use Rattle.x7_engine.proofs.device.Device.feed.Given as goal
 
@@ -20,7 +20,7 @@ invariant-runs l = record {
       → (more : List ℕ) × (l.read ≡ with_words l.initial.read more) × (reads_given part kept l.self (bytes ++ take l.at l.piece) ≡ reads_given part kept l.initial.self bytes ++ more);
   first : (part : PartData) (kept : Kept) (wrapped : Bool) (bytes : List ℕ) → DeviceStandsFor part kept wrapped l.initial.self bytes
       → RoomBefore (record { part = part; kept = kept; wrapped = wrapped; bytes = bytes }) l.piece l.at (reads_given part kept l.initial.self bytes) l.initial.read;
-  few : HoldsFew l.read.most l.read.words;
+  few : HoldsWithinMost l.read.most l.read.words;
   stopped : is_some l.initial.self.registers.stop ≡ true → (l.self ≡ l.initial.self) × (l.read ≡ l.initial.read) × (l.at ≡ 0);
 }
 

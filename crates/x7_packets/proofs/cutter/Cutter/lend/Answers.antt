@@ -6,7 +6,7 @@ use Rattle.x7_packets.specs.declared.cutter.Cut.TheVariants.{Body}
 use Rattle.x7_packets.specs.Mode.{Mode, mode_of}
 use Rattle.x7_packets.specs.declared.header.Step.{Step}
 use Rattle.x7_packets.specs.Packet.{payload_steps}
-use Rattle.x7_packets.specs.Cutting.{CutterState, CutterStandsFor, Went}
+use Rattle.x7_packets.specs.Cutting.{CutterState, CutterStandsFor, AfterRun}
 use Rattle.x7_packets.proofs.PacketLemmas.{words_of_payload}
 use Rattle.x7_packets.proofs.CutLemmas.{body_more, no_count}
 use Rattle.x7_packets.proofs.cutter.Cutter.lend.Goals as goal
@@ -28,7 +28,7 @@ returns-clause-adds c = λ bytes sessions place s.
     let word : flat_map bytes_of_word (map (λ (x : ℕ × Step). x.0) (payload_steps c.self.inside.machine.register (words_of_bytes c.args.body.now))) ≡ take c.self.inside.count c.self.inside.kept ++ c.args.body.now =
     ap (flat_map bytes_of_word) (words_of_payload c.self.inside.machine.register (words_of_bytes c.args.body.now)) ∙ bytes-words c.args.body.now (length c.args.body.now / 4) fits c.requires.whole ∙ ap (λ t. t ++ c.args.body.now) (sym none) in
     let turned = c.after_word-self-inside.ensures ∙ ap (λ (b : Bool). if b then Mode.Searching else Mode.Synced) c.pass-ended.ensures.ends in
-    let went : Went old new (bytes ++ c.args.body.now) sessions place (Body c.self.inside.machine.register c.args.body) =
+    let went : AfterRun old new (bytes ++ c.args.body.now) sessions place (Body c.self.inside.machine.register c.args.body) =
     body_more old new bytes c.args.body.now sessions place c.self.inside.machine.register c.args.body (subst (λ (o : CutterState). CutterStandsFor o bytes sessions place) (sym c.self.view_is) s) synced c.pass-ended.ensures.grows fits word none turned (λ _. c.new-self-inside.ensures) in
-    subst (λ (o : CutterState). Went o new (bytes ++ c.args.body.now) sessions place (Body c.register-register.result c.args.body)) c.self.view_is
-    (subst (λ (r : ℕ). Went old new (bytes ++ c.args.body.now) sessions place (Body r c.args.body)) (sym c.register-register.ensures.value) went)
+    subst (λ (o : CutterState). AfterRun o new (bytes ++ c.args.body.now) sessions place (Body c.register-register.result c.args.body)) c.self.view_is
+    (subst (λ (r : ℕ). AfterRun old new (bytes ++ c.args.body.now) sessions place (Body r c.args.body)) (sym c.register-register.ensures.value) went)

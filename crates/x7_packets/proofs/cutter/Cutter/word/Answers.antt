@@ -7,7 +7,7 @@ use Rattle.x7_packets.specs.declared.header.Step.{Step}
 use Rattle.x7_packets.specs.declared.header.Step.TheVariants.{Payload}
 use Rattle.x7_packets.specs.Packet.{Packet}
 use Rattle.x7_packets.specs.Taking.{Grows, is_end, MachineStandsFor}
-use Rattle.x7_packets.specs.Cutting.{CutterState, CutterStandsFor, Went}
+use Rattle.x7_packets.specs.Cutting.{CutterState, CutterStandsFor, AfterRun}
 use Rattle.x7_packets.proofs.CutLemmas.{head_more, word_more}
 use Rattle.x7_packets.proofs.cutter.Cutter.word.Goals.{in-Payload, in_default}
 use Rattle.x7_packets.proofs.cutter.Cutter.word.Goals as goal
@@ -21,15 +21,15 @@ returns-clause-adds c = λ bytes sessions place s.
     let fits = all_from_places (λ b. b < 256) c.args.missing.now (λ k h. omega (arith, c.type_inv.missing k)) in
     let stands = subst (λ (o : CutterState). CutterStandsFor o bytes sessions place) (sym c.self.view_is) s in
     let turned : mode_of c.after_word-self-inside.result ≡ (if is_end c.take-step.result then Mode.Searching else Mode.Synced) = c.after_word-self-inside.ensures ∙ ap (λ (b : Bool). if b then Mode.Searching else Mode.Synced) c.is_end.ensures in
-    let by_head : Went old new (bytes ++ c.args.missing.now) sessions place (Head c.whole-w.result c.take-step.result) =
+    let by_head : AfterRun old new (bytes ++ c.args.missing.now) sessions place (Head c.whole-w.result c.take-step.result) =
     head_more old new bytes c.args.missing.now sessions place c.whole-w.result c.take-step.result stands synced c.take-step.ensures.grows fits c.whole-w.ensures refl turned (λ _. c.new-self-inside.ensures) in
-    let as_payload : (register : ℕ) → c.take-step.result ≡ Payload register c.whole-w.result → Went old new (bytes ++ c.args.missing.now) sessions place (Word register c.whole-w.result) = λ register e.
+    let as_payload : (register : ℕ) → c.take-step.result ≡ Payload register c.whole-w.result → AfterRun old new (bytes ++ c.args.missing.now) sessions place (Word register c.whole-w.result) = λ register e.
     word_more old new bytes c.args.missing.now sessions place register c.whole-w.result stands synced
     (subst (λ (x : Step). (ps : List Packet) → MachineStandsFor c.self.inside.machine ps → Grows ps ((c.whole-w.result, x) ∷ []) c.take-step.new.self) e c.take-step.ensures.grows) fits c.whole-w.ensures refl
     (subst (λ (x : Step). mode_of c.after_word-self-inside.result ≡ (if is_end x then Mode.Searching else Mode.Synced)) e turned) (λ _. c.new-self-inside.ensures) in
-    subst (λ (o : CutterState). Went o new (bytes ++ c.args.missing.now) sessions place c.match-step.result) c.self.view_is (elim c.match-step.branch [
+    subst (λ (o : CutterState). AfterRun o new (bytes ++ c.args.missing.now) sessions place c.match-step.result) c.self.view_is (elim c.match-step.branch [
       | in-Payload b ↦
           let r = c.take-step.ensures.register b.in-Payload.register b.in-Payload.field-1 b.in-Payload.is in
-          subst (λ (run : Cut). Went old new (bytes ++ c.args.missing.now) sessions place run) (sym b.result-is) (as_payload b.in-Payload.register (b.in-Payload.is ∙ ap (Payload b.in-Payload.register) r.0))
-      | in_default b ↦ subst (λ (run : Cut). Went old new (bytes ++ c.args.missing.now) sessions place run) (sym b.result-is) by_head
+          subst (λ (run : Cut). AfterRun old new (bytes ++ c.args.missing.now) sessions place run) (sym b.result-is) (as_payload b.in-Payload.register (b.in-Payload.is ∙ ap (Payload b.in-Payload.register) r.0))
+      | in_default b ↦ subst (λ (run : Cut). AfterRun old new (bytes ++ c.args.missing.now) sessions place run) (sym b.result-is) by_head
     ])

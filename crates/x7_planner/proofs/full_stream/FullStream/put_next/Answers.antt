@@ -1,7 +1,7 @@
 use Rattle.std.proofs.Common.{ℕ, List, ◌++◌, ◌-◌, ◌<◌, length, take, drop, refl, sym, ap, subst, arith}
 use Rattle.std.proofs.lemmas.Bool.{false≢true}
 use Rattle.x7_crc.specs.Checking.{HasTaken}
-use Rattle.x7_planner.specs.Telling.{FullStreamState, HasGiven, Writes, puts_left}
+use Rattle.x7_planner.specs.Telling.{FullStreamState, HasGiven, WritesPiece, puts_left}
 use Rattle.x7_planner.proofs.TellingLemmas.{told_more}
 use Rattle.x7_planner.proofs.full_stream.FullStream.put_next.Goals as goal
 
@@ -9,7 +9,7 @@ pub returns : goal.returns
 returns c =
     let s : FullStreamState = record { part = c.self.inside.part.now; plan = c.self.inside.plan.now; next = c.self.inside.next; check = c.self.inside.checker } in
     let t : FullStreamState = record { part = c.self.inside.part.now; plan = c.self.inside.plan.now; next = c.in-Ok.next; check = c.take.new.self } in
-    let wrote : Writes s c.args.out.now.items c.put.new.out.items c.in-Ok.next = subst (λ x. Writes x c.args.out.now.items c.put.new.out.items c.in-Ok.next) (sym c.self.view_is) c.in-Ok.ensures.writes in
+    let wrote : WritesPiece s c.args.out.now.items c.put.new.out.items c.in-Ok.next = subst (λ x. WritesPiece x c.args.out.now.items c.put.new.out.items c.in-Ok.next) (sym c.self.view_is) c.in-Ok.ensures.writes in
     let less : puts_left t < puts_left s = wrote.fewer c.in_default.not-Nothing in
     record {
       more = λ given h _. told_more s t given c.args.out.now.items c.put.new.out.items c.len-start.result refl refl (omega (arith, c.len-start.ensures, c.args.out.now.ok.0)) wrote

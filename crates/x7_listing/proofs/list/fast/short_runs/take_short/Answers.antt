@@ -1,5 +1,5 @@
 use Rattle.std.proofs.Common.{◌≡◌, ◌∙◌, ◌-◌, ◌++◌, Bool, true, false, not, append-nil, arith, drop, length, refl, subst, take}
-use Rattle.x7_listing.specs.Telling.{Tells, lister_of}
+use Rattle.x7_listing.specs.Telling.{HasListedJust, lister_of}
 use Rattle.x7_listing.proofs.list.fast.AtOnceLemmas.{in_line_told, rest_length, seam}
 use Rattle.x7_listing.proofs.list.fast.short_runs.take_short.Goals as goal
 
@@ -30,7 +30,7 @@ loop-len-preserved c =
       inside = next.inside;
       few = omega (arith, next.grown, c.loop-len.invariant.few);
       tells = λ given before bytes s.
-          subst (Tells (lister_of c.take_next.new.cutter c.in-Some.next.pen.synced c.in-Some.next.pen.line (take c.in-Some.next.pen.count c.in-Some.next.pen.held) (c.args.text.now.items ++ take c.in-Some.next.len c.take_next.new.sheet)) given before)
+          subst (HasListedJust (lister_of c.take_next.new.cutter c.in-Some.next.pen.synced c.in-Some.next.pen.line (take c.in-Some.next.pen.count c.in-Some.next.pen.held) (c.args.text.now.items ++ take c.in-Some.next.len c.take_next.new.sheet)) given before)
           (seam c.args.rest.now bytes _ c.loop-len.at c.in-Some.next.size c.loop-len.invariant.within refl)
           (c.in-Some.ensures.listed c.args.text.now.items given before (bytes ++ take c.loop-len.at c.args.rest.now) (c.loop-len.invariant.tells given before bytes s));
     }
