@@ -199,7 +199,7 @@ fn clear_words(words: &mut Vec<u32>)
     words.clear();
     match words.resize(count, 0) {
         Ok(()) => (),
-        Err(_) => (),
+        Err(_) => unreachable!(),
     }
 }
 
@@ -232,7 +232,7 @@ fn append(words: &mut Vec<u32>, frame: &[u32])
 {
     match words.extend_from_slice(frame) {
         Ok(()) => (),
-        Err(_) => (),
+        Err(_) => unreachable!(),
     }
 }
 

@@ -505,7 +505,7 @@ fn push_word(words: &mut Vec<u32>, word: u32)
 {
     match words.push(word) {
         Ok(()) => (),
-        Err(_) => (),
+        Err(_) => unreachable!(),
     }
 }
 
@@ -527,7 +527,7 @@ fn set_len(words: &mut Vec<u32>, count: usize)
 {
     match words.resize(count, 0) {
         Ok(()) => (),
-        Err(_) => (),
+        Err(_) => unreachable!(),
     }
 }
 

@@ -11,7 +11,7 @@ pub fn put(text: &mut Vec<u8>, bytes: &[u8])
 {
     match text.extend_from_slice(bytes) {
         Ok(()) => (),
-        Err(_) => (),
+        Err(_) => unreachable!(),
     }
 }
 

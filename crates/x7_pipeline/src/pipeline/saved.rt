@@ -59,7 +59,7 @@ fn copy_words(words: &mut Vec<u32>, from: &[u32])
     words.clear();
     match words.extend_from_slice(from) {
         Ok(()) => (),
-        Err(_) => (),
+        Err(_) => unreachable!(),
     }
 }
 
