@@ -144,7 +144,8 @@ impl Queue {
         requires fits { device.old.taken + length bytes.now ≤ 2 ^ 63 }
         ensures within { result ≤ length bytes.now }
         ensures all { device.new.taken + length self.new.held ≤ device.old.taken + length self.old.held + result }
-        ensures stands { (part : PartData) (q : QueueData) → QueueStandsFor part self.old device.old q → QueueStandsFor part self.new device.new (fold (offered (words_read_out part)) q (take result bytes.now)) }
+        ensures stands { (part : PartData) (q : QueueData) → QueueStandsFor part self.old device.old q
+            → QueueStandsFor part self.new device.new (fold (offered (words_read_out part)) q (take result bytes.now)) }
     {
         if self.left > 0 {
             return 0;
@@ -162,7 +163,8 @@ impl Queue {
         ensures some { 0 < result }
         ensures within { result ≤ length bytes.now }
         ensures all { device.new.taken + length self.new.held ≤ device.old.taken + length self.old.held + result }
-        ensures stands { (part : PartData) (q : QueueData) → QueueStandsFor part self.old device.old q → QueueStandsFor part self.new device.new (fold (offered (words_read_out part)) q (take result bytes.now)) }
+        ensures stands { (part : PartData) (q : QueueData) → QueueStandsFor part self.old device.old q
+            → QueueStandsFor part self.new device.new (fold (offered (words_read_out part)) q (take result bytes.now)) }
     {
         let count = self.give(bytes, device);
         if count > 0 {
