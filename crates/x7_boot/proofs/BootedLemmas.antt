@@ -81,12 +81,12 @@ abbrev pub ByTable : DeviceState → Kept → ℕ → Ending → Next → Type 0
 ByTable d kept number ending next = (part : PartData) (t : Trial) → IsDeviceOf part d t → t.kept.kind ≡ kept.kind → next ≡ next_by part number t ending
 
 -- an attempt as it is reported
-abbrev pub told_as : Kept → ℕ → Ending → Tried
-told_as kept address ending = record { kind = kept.kind; address = address; ending = ending }
+abbrev pub known_as : Kept → ℕ → Ending → Tried
+known_as kept address ending = record { kind = kept.kind; address = address; ending = ending }
 
 pub led_next : (part old_part : PartData) (kept kept_now : Kept) (address address_now : ℕ) (known told : Option (List ℕ)) (d : DeviceState) (ending : Ending) (attempts now : List Tried) (number : ℕ) (next : Next)
     → told ≡ known → old_part ≡ part → IfKnown known (λ all. AreBytes all → Led (attempt_at part kept address) all attempts number) → IfKnown told (λ all. AreBytes all → Tries (attempt_at old_part kept address) all d ending)
-    → ByTable d kept (number + 1) ending next → next ≡ Again kept_now address_now → now ≡ attempts ++ told_as kept address ending ∷ []
+    → ByTable d kept (number + 1) ending next → next ≡ Again kept_now address_now → now ≡ attempts ++ known_as kept address ending ∷ []
     → IfKnown known (λ all. AreBytes all → Led (attempt_at part kept_now address_now) all now (number + 1))
 led_next part old_part kept kept_now address address_now known told d ending attempts now number next same e led tries table is items =
     let here : IfKnown known (λ all. AreBytes all → Tries (attempt_at part kept address) all d ending) =
@@ -97,7 +97,7 @@ led_next part old_part kept kept_now address address_now known told d ending att
 
 pub boot_ends : (part old_part : PartData) (kept : Kept) (address : ℕ) (known told : Option (List ℕ)) (d : DeviceState) (ending : Ending) (attempts now : List Tried) (number : ℕ) (next : Next) (end : BootEnd)
     → told ≡ known → old_part ≡ part → IfKnown known (λ all. AreBytes all → Led (attempt_at part kept address) all attempts number) → IfKnown told (λ all. AreBytes all → Tries (attempt_at old_part kept address) all d ending)
-    → ByTable d kept (number + 1) ending next → next ≡ Ends end → now ≡ attempts ++ told_as kept address ending ∷ []
+    → ByTable d kept (number + 1) ending next → next ≡ Ends end → now ≡ attempts ++ known_as kept address ending ∷ []
     → IfKnown known (λ all. AreBytes all → IsBoot part all (record { attempts = now; end = end; device = d }))
 boot_ends part old_part kept address known told d ending attempts now number next end same e led tries table is items =
     let here : IfKnown known (λ all. AreBytes all → Tries (attempt_at part kept address) all d ending) =

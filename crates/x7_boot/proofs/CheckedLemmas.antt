@@ -2,7 +2,7 @@
 use Rattle.std.proofs.Common.{◌≡◌, ◌==◌, ◌+◌, ◌<◌, inl, inr, ℕ, Bool, true, false, List, ◌∷◌, drop, take, length, Option, None, Some, refl, ap, sym, subst, ◌∙◌, take-append-drop}
 use Rattle.std.specs.Prelude.{if◌then◌else◌, nat_le, ◌||◌}
 use Rattle.x7_words.specs.Word.{AreBytes}
-use Rattle.x7_words.proofs.ListLemmas.{all_back, all_front, all_take}
+use Rattle.x7_words.proofs.ListLemmas.{all_back, all_prefix, all_take}
 use Rattle.x7_packets.specs.History.{Write}
 use Rattle.x7_part.specs.Part.{PartData}
 use Rattle.x7_engine.specs.Kept.{is_fallback}
@@ -55,7 +55,7 @@ trial_fits part flash t fits is = by is
     behind = all_back (λ b. b < 256) (take t.address flash) (drop t.address flash) (subst AreBytes (sym (take-append-drop t.address flash)) fits)
 
     by : IsTrial part flash t → AreBytes t.bytes
-    by (inl first) = all_front (λ b. b < 256) t.bytes first.rest (subst AreBytes first.taken behind)
+    by (inl first) = all_prefix (λ b. b < 256) t.bytes first.rest (subst AreBytes first.taken behind)
     by (inr out) = subst AreBytes (sym out.taken) (all_take (λ b. b < 256) (taken_of part t.kept (drop t.address flash)) (drop t.address flash) behind)
 
 pub attempt_checked : (part : PartData) (flash : List ℕ) (t : Trial) → AreBytes flash → IsTrial part flash t → 0 < (end_state part t).phase → HasChecked part t.kept t.bytes

@@ -52,10 +52,10 @@ range_of_range all block bytes from end start stop at to e f g h l m =
     ∙ ap (take (stop - start)) (drop-drop start from all ∙ ap (λ (n : ℕ). drop n all) g)
     ∙ ap (λ (n : ℕ). take n (drop at all)) same
 
-told_of_block : (known : Option (List ℕ)) (block bytes : List ℕ) (from end start stop at to : ℕ) → IfKnown known (λ all. block ≡ slice_range all from end) → bytes ≡ slice_range block start stop → from + start ≡ at → from + stop ≡ to → to ≤ end
+known_of_block : (known : Option (List ℕ)) (block bytes : List ℕ) (from end start stop at to : ℕ) → IfKnown known (λ all. block ≡ slice_range all from end) → bytes ≡ slice_range block start stop → from + start ≡ at → from + stop ≡ to → to ≤ end
     → start ≤ stop → IfKnown known (λ all. bytes ≡ slice_range all at to)
-told_of_block None block bytes from end start stop at to e f g h l m = tt
-told_of_block (Some all) block bytes from end start stop at to e f g h l m = range_of_range all block bytes from end start stop at to e f g h l m
+known_of_block None block bytes from end start stop at to e f g h l m = tt
+known_of_block (Some all) block bytes from end start stop at to e f g h l m = range_of_range all block bytes from end start stop at to e f g h l m
 
 range_length : (block bytes : List ℕ) (start stop : ℕ) → bytes ≡ slice_range block start stop → stop ≤ length block → length bytes ≡ stop - start
 range_length block bytes start stop e l = ap length e ∙ grind (arith, length-take {A = ℕ}, length-drop {A = ℕ})
@@ -77,7 +77,7 @@ page_of_block known extent number count index start stop block bytes b l f m g e
     let last : number * page_size + stop ≤ block_end number count extent = let w = b.within in let long = b.long in omega (arith, inside, w, long, m) in
     record {
       long = let n : length bytes ≡ stop - start = range_length block bytes start stop e inside in omega (arith, n, end, at);
-      bytes_are = told_of_block known block bytes (number * page_size) (block_end number count extent) start stop ((number + index) * page_size) (page_end ((number + index) * page_size) extent) b.bytes_are e at end
+      bytes_are = known_of_block known block bytes (number * page_size) (block_end number count extent) start stop ((number + index) * page_size) (page_end ((number + index) * page_size) extent) b.bytes_are e at end
           (omega (arith, end, last)) goes;
     }
 
@@ -107,10 +107,10 @@ there_promoted test pages e = by (lookup_entry test pages) refl
 pub within_page : (at extent : ℕ) → at < extent → at < page_end at extent
 within_page at extent l = grind arith
 
-told_from : (known : Option (List ℕ)) (bytes : List ℕ) (start more at end stop : ℕ) → start + more ≡ at → end ≡ stop → at ≤ stop → IfKnown known (λ all. bytes ≡ slice_range all start end)
+known_from : (known : Option (List ℕ)) (bytes : List ℕ) (start more at end stop : ℕ) → start + more ≡ at → end ≡ stop → at ≤ stop → IfKnown known (λ all. bytes ≡ slice_range all start end)
     → IfKnown known (λ all. drop more bytes ≡ slice_range all at stop)
-told_from None bytes start more at end stop e f l w = tt
-told_from (Some all) bytes start more at end stop e f l w =
+known_from None bytes start more at end stop e f l w = tt
+known_from (Some all) bytes start more at end stop e f l w =
     let long : end - start ≡ more + (stop - at) = omega (arith, e, f, l) in
     ap (drop more) (w ∙ ap (λ (n : ℕ). take n (drop start all)) long) ∙ drop-take more (stop - at) (drop start all)
     ∙ ap (take (stop - at)) (drop-drop more start all ∙ ap (λ (n : ℕ). drop n all) e)
@@ -126,7 +126,7 @@ rest_from known extent at bytes within r =
       long = let l : length (drop (at % page_size) bytes) ≡ length bytes - at % page_size = length-drop (at % page_size) bytes in
           let m : length bytes ≡ page_end (page * page_size) extent - page * page_size = r.long in
           omega (arith, l, m, end, sum);
-      bytes_are = told_from known bytes (page * page_size) (at % page_size) at (page_end (page * page_size) extent) (page_end at extent) sum end (omega (arith, inside)) r.bytes_are;
+      bytes_are = known_from known bytes (page * page_size) (at % page_size) at (page_end (page * page_size) extent) (page_end at extent) sum end (omega (arith, inside)) r.bytes_are;
     }
 
 -- the page of a place, among those that are kept
@@ -157,8 +157,8 @@ pub pages_of : (known told : Option (List ℕ)) (extent size : ℕ) (pages : Pag
 pages_of known told extent size pages e f are page c =
     subst (λ (k : Option (List ℕ)). IsRest k extent (page.0 * page_size) page.1.items) e (subst (λ (n : ℕ). IsRest told n (page.0 * page_size) page.1.items) f (are page c))
 
-pub rest_told : (known : Option (List ℕ)) (extent at : ℕ) (page : List ℕ) → at < extent → IsRest known extent at page → IfKnown known (λ all. page ≡ slice_range all at (at + length page))
-rest_told known extent at page within r =
+pub rest_known : (known : Option (List ℕ)) (extent at : ℕ) (page : List ℕ) → at < extent → IsRest known extent at page → IfKnown known (λ all. page ≡ slice_range all at (at + length page))
+rest_known known extent at page within r =
     let inside : at < page_end at extent = within_page at extent within in
     let long : length page ≡ page_end at extent - at = r.long in
     let end : page_end at extent ≡ at + length page = omega (arith, long, inside) in
@@ -182,7 +182,7 @@ rest_within known extent at page within r =
 
 -- what is kept of a page, as bytes from a place on
 pub from_rest : (known : Option (List ℕ)) (extent at : ℕ) (page : List ℕ) → at < extent → IsRest known extent at page → AreFrom known extent at page
-from_rest known extent at page within r = record { some = rest_goes known extent at page within r; within = rest_within known extent at page within r; bytes_are = rest_told known extent at page within r }
+from_rest known extent at page within r = record { some = rest_goes known extent at page within r; within = rest_within known extent at page within r; bytes_are = rest_known known extent at page within r }
 
 -- a block that begins with the page of a place has the place
 pub place_in_block : (known : Option (List ℕ)) (extent at count : ℕ) (block : List ℕ) → at < extent → 0 < count → IsBlock known extent (at / page_size) count block → at % page_size < length block
@@ -200,7 +200,7 @@ from_block known extent at count block lent within some b e =
     let from : AreFrom known extent at bytes = record {
       some = omega (arith, left, inside);
       within = omega (arith, end);
-      bytes_are = told_from known block (at / page_size * page_size) (at % page_size) at (block_end (at / page_size) count extent) (at + length bytes) sum end (omega arith) b.bytes_are;
+      bytes_are = known_from known block (at / page_size * page_size) (at % page_size) at (block_end (at / page_size) count extent) (at + length bytes) sum end (omega arith) b.bytes_are;
     } in
     subst (AreFrom known extent at) (sym (take_rest lent (at % page_size) ∙ ap (drop (at % page_size)) e)) from
 

@@ -5,14 +5,14 @@ use Rattle.std.proofs.lemmas.Bool.Decides.{nat_tests}
 use Rattle.x7_words.specs.Word.{AreBytes}
 use Rattle.x7_words.proofs.ListLemmas.{all_take}
 use Rattle.x7_packets.specs.History.{Entry, History, executes, history_of, until}
-use Rattle.x7_packets.proofs.GrowthLemmas.{front_of}
+use Rattle.x7_packets.proofs.GrowthLemmas.{prefix_of}
 use Rattle.x7_part.specs.Part.{PartData}
 use Rattle.x7_engine.specs.Checked.{HasStarted}
 use Rattle.x7_engine.specs.State.{history_by, history_taken, last_counted, why_of, state_of, stop_in, taken_of}
 use Rattle.x7_engine.specs.Stops.{Stopped}
 use Rattle.x7_engine.specs.declared.kept.Kept.{Kept}
 use Rattle.x7_engine.proofs.CheckedLemmas.{phase_started}
-use Rattle.x7_engine.proofs.StateLemmas.{stop_is_final-stop}
+use Rattle.x7_engine.proofs.StateLemmas.{stop_is_final_stop}
 use Rattle.x7_boot.specs.Attempt.{ending_at, ending_by}
 use Rattle.x7_boot.proofs.TookLemmas.{ends_by_stop}
 
@@ -73,20 +73,20 @@ never_seven part kept bytes fits never = by ((state_of part kept false bytes).ph
 
 -- ---- the first of some bytes
 
-pub front_history : (k : ℕ) (bytes : List ℕ) → AreBytes bytes → history_of (take k bytes) ≡ until (length (take k bytes)) (history_of bytes)
-front_history k bytes fits =
+pub prefix_history : (k : ℕ) (bytes : List ℕ) → AreBytes bytes → history_of (take k bytes) ≡ until (length (take k bytes)) (history_of bytes)
+prefix_history k bytes fits =
     let whole : take k bytes ++ drop k bytes ≡ bytes = take-append-drop k bytes in
-    sym (front_of (take k bytes) (drop k bytes) (subst AreBytes (sym whole) fits)) ∙ ap (λ (b : List ℕ). until (length (take k bytes)) (history_of b)) whole
+    sym (prefix_of (take k bytes) (drop k bytes) (subst AreBytes (sym whole) fits)) ∙ ap (λ (b : List ℕ). until (length (take k bytes)) (history_of b)) whole
 
 -- no stop in more bytes, none in fewer
-pub front_goes : (part : PartData) (kept : Kept) (k : ℕ) (bytes : List ℕ) → AreBytes bytes → stop_in part kept bytes ≡ None → stop_in part kept (take k bytes) ≡ None
-front_goes part kept k bytes fits none = by (stop_in part kept (take k bytes)) refl
+pub prefix_goes : (part : PartData) (kept : Kept) (k : ℕ) (bytes : List ℕ) → AreBytes bytes → stop_in part kept bytes ≡ None → stop_in part kept (take k bytes) ≡ None
+prefix_goes part kept k bytes fits none = by (stop_in part kept (take k bytes)) refl
   where
     by : (o : Option Stopped) → stop_in part kept (take k bytes) ≡ o → o ≡ None
     by None e = refl
     by (Some s) e =
         let whole : take k bytes ++ drop k bytes ≡ bytes = take-append-drop k bytes in
-        let later : stop_in part kept (take k bytes ++ drop k bytes) ≡ Some s = stop_is_final-stop part kept (take k bytes) (drop k bytes) s (subst AreBytes (sym whole) fits) e in
+        let later : stop_in part kept (take k bytes ++ drop k bytes) ≡ Some s = stop_is_final_stop part kept (take k bytes) (drop k bytes) s (subst AreBytes (sym whole) fits) e in
         let both : Some s ≡ None = sym later ∙ ap (stop_in part kept) whole ∙ none in absurd (cc)
 
 -- neither phase 7 nor a stop
@@ -94,7 +94,7 @@ pub goes_on : (part : PartData) (kept : Kept) (bytes : List ℕ) → ((state_of 
 goes_on part kept bytes early none = ends_by_stop part kept bytes early ∙ ap (λ (o : Option Stopped). ending_by (why_of o)) none
 
 -- nothing ends an attempt at fewer bytes, where startup begins nowhere and those have no stop
-pub front_open : (part : PartData) (kept : Kept) (k : ℕ) (bytes : List ℕ) → AreBytes bytes → NeverStarts (history_of bytes) → stop_in part kept (take k bytes) ≡ None → ending_at part kept (take k bytes) ≡ None
-front_open part kept k bytes fits never none =
+pub prefix_open : (part : PartData) (kept : Kept) (k : ℕ) (bytes : List ℕ) → AreBytes bytes → NeverStarts (history_of bytes) → stop_in part kept (take k bytes) ≡ None → ending_at part kept (take k bytes) ≡ None
+prefix_open part kept k bytes fits never none =
     goes_on part kept (take k bytes)
-    (never_seven part kept (take k bytes) (all_take (λ b. b < 256) k bytes fits) (subst NeverStarts (sym (front_history k bytes fits)) (never_until (length (take k bytes)) (history_of bytes) never))) none
+    (never_seven part kept (take k bytes) (all_take (λ b. b < 256) k bytes fits) (subst NeverStarts (sym (prefix_history k bytes fits)) (never_until (length (take k bytes)) (history_of bytes) never))) none

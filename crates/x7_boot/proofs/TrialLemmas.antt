@@ -5,7 +5,7 @@ use Rattle.std.proofs.lemmas.List.{take-append-le}
 use Rattle.std.proofs.Math.Seq.{take-append-add, take-append_seam}
 use Rattle.x7_words.specs.Flash.{IfKnown}
 use Rattle.x7_words.specs.Word.{AreBytes}
-use Rattle.x7_words.proofs.ListLemmas.{all_back, all_front}
+use Rattle.x7_words.proofs.ListLemmas.{all_back, all_prefix}
 use Rattle.x7_part.specs.Part.{PartData}
 use Rattle.x7_regs.specs.declared.boot_status.Cause.TheVariants.{Wrap}
 use Rattle.x7_regs.specs.declared.boot_status.Kind.TheVariants.{Bench}
@@ -18,7 +18,7 @@ use Rattle.x7_engine.specs.State.{why_of, state_of, stop_in, taken_of, taken_by}
 use Rattle.x7_engine.specs.Stops.{Stopped, fault_of, stopped_at}
 use Rattle.x7_engine.specs.Values.{cause_of}
 use Rattle.x7_engine.proofs.BootLemmas.{may_wrap, none_due_at_first}
-use Rattle.x7_engine.proofs.StateLemmas.{stop_is_final-state, stop_is_final-stop}
+use Rattle.x7_engine.proofs.StateLemmas.{stop_is_final_state, stop_is_final_stop}
 use Rattle.x7_boot.specs.Attempt.{Feeds, IsReady, NoneBefore, StepsTo, Took, Trial, Tries, attempt_at, ending_at, ending_by, failed_by, past_in_flash}
 use Rattle.x7_boot.specs.declared.attempt.Ending.{Ending}
 use Rattle.x7_boot.specs.declared.attempt.Ending.TheVariants.{Started, Iprog, Failed}
@@ -113,10 +113,10 @@ ranges_join all a b c l m =
     let d : drop b all ≡ drop (b - a) (drop a all) = sym (ap (λ (n : ℕ). drop n all) e) ∙ sym (drop-drop (b - a) a all) in
     ap (λ (x : List ℕ). take (b - a) (drop a all) ++ take (c - b) x) d ∙ sym (take-add (b - a) (c - b) (drop a all)) ∙ ap (λ (n : ℕ). take n (drop a all)) f
 
-joined_told : (known : Option (List ℕ)) (bytes page : List ℕ) (a b c : ℕ) → a ≤ b → b ≤ c → IfKnown known (λ all. bytes ≡ slice_range all a b) → IfKnown known (λ all. page ≡ slice_range all b c)
+joined_known : (known : Option (List ℕ)) (bytes page : List ℕ) (a b c : ℕ) → a ≤ b → b ≤ c → IfKnown known (λ all. bytes ≡ slice_range all a b) → IfKnown known (λ all. page ≡ slice_range all b c)
     → IfKnown known (λ all. bytes ++ page ≡ slice_range all a c)
-joined_told None bytes page a b c l m e f = tt
-joined_told (Some all) bytes page a b c l m e f = ap (λ (x : List ℕ). x ++ page) e ∙ ap (λ (x : List ℕ). slice_range all a b ++ x) f ∙ ranges_join all a b c l m
+joined_known None bytes page a b c l m e f = tt
+joined_known (Some all) bytes page a b c l m e f = ap (λ (x : List ℕ). x ++ page) e ∙ ap (λ (x : List ℕ). slice_range all a b ++ x) f ∙ ranges_join all a b c l m
 
 pub feeds_on : (part : PartData) (kept : Kept) (address : ℕ) (known : Option (List ℕ)) (d new : DeviceState) (page : List ℕ) (at end : ℕ) (step : Step) → at + length page ≡ end → (f : Feeds (attempt_at part kept address) known d at)
     → IfKnown known (λ all. page ≡ slice_range all at end) → Took (past_in_flash part kept f.bytes) new page step → step ≡ Goes → Feeds (attempt_at part kept address) known new end
@@ -133,7 +133,7 @@ feeds_on part kept address known d new page at end step sum f told t goes =
       open_end = steps.1;
       due = t.due;
       count = omega (arith, count, long, sum);
-      read = joined_told known f.bytes page address at end (omega (arith, count)) (omega (arith, sum)) f.read told;
+      read = joined_known known f.bytes page address at end (omega (arith, count)) (omega (arith, sum)) f.read told;
       none = subst (λ (b : List ℕ). (k : ℕ) → k < length (f.bytes ++ b) → ending_at part kept (take k (f.bytes ++ b)) ≡ None) all (none_joined part kept f.bytes page t.count t.within f.none t.none);
     }
 
@@ -180,8 +180,8 @@ stays_open part kept bytes more fits some none = by (stop_in part kept bytes) re
     by : (o : Option Stopped) → stop_in part kept bytes ≡ o → IsSome o → ending_at part kept (bytes ++ more) ≡ None
     by None e s = cc
     by (Some s) e i =
-        let later : stop_in part kept (bytes ++ more) ≡ Some s = stop_is_final-stop part kept bytes more s fits e in
-        let same : state_of part kept false (bytes ++ more) ≡ state_of part kept false bytes = stop_is_final-state part kept false bytes more s fits e in
+        let later : stop_in part kept (bytes ++ more) ≡ Some s = stop_is_final_stop part kept bytes more s fits e in
+        let same : state_of part kept false (bytes ++ more) ≡ state_of part kept false bytes = stop_is_final_state part kept false bytes more s fits e in
         let no : ((state_of part kept false (bytes ++ more)).phase == 7) ≡ false = ap (λ (r : Regs). r.phase == 7) same ∙ not_started part kept bytes none in
         ends_by_stop part kept (bytes ++ more) no ∙ ap (λ (o : Option Stopped). ending_by (why_of o)) (later ∙ sym e) ∙ no_ending part kept bytes none
 
@@ -201,7 +201,7 @@ none_stopped part kept from bytes rest e fits some open_end none k l = elim (cas
       let sum : length bytes + m ≡ k = omega (arith, late) in
       let here : take k from ≡ bytes ++ take m rest = ap (take k) e ∙ sym (ap (λ (n : ℕ). take n (bytes ++ rest)) sum) ∙ take-append-add bytes rest m in
       let cut : bytes ++ rest ≡ (bytes ++ take m rest) ++ drop m rest = ap (λ (x : List ℕ). bytes ++ x) (sym (take-append-drop m rest)) ∙ sym (append_assoc bytes (take m rest) (drop m rest)) in
-      let fits' : AreBytes (bytes ++ take m rest) = all_front (λ b. b < 256) (bytes ++ take m rest) (drop m rest) (subst AreBytes cut fits) in
+      let fits' : AreBytes (bytes ++ take m rest) = all_prefix (λ b. b < 256) (bytes ++ take m rest) (drop m rest) (subst AreBytes cut fits) in
       subst (λ (b : List ℕ). ending_at part kept b ≡ None) (sym here) (stays_open part kept bytes (take m rest) fits' some open_end)
 ]
 
@@ -212,7 +212,7 @@ taken_stopped part kept d from bytes rest e fits stands some = by (stop_in part 
     by : (o : Option Stopped) → stop_in part kept bytes ≡ o → IsSome o → bytes ≡ take (taken_of part kept from) from
     by None f s = cc
     by (Some s) f i =
-        let later : stop_in part kept from ≡ Some s = ap (stop_in part kept) e ∙ stop_is_final-stop part kept bytes rest s fits f in
+        let later : stop_in part kept from ≡ Some s = ap (stop_in part kept) e ∙ stop_is_final_stop part kept bytes rest s fits f in
         let count : taken_of part kept from ≡ length bytes = ap (λ (o : Option Stopped). taken_by o (length from)) later ∙ stop_at_last part kept d bytes stands s f in
         sym (ap (λ (n : ℕ). take n from) count ∙ ap (take (length bytes)) e ∙ take-append_seam bytes rest)
 

@@ -1,6 +1,6 @@
 -- Four writes to one register at once.
 use Rattle.std.proofs.Common.{◌≡◌, ℕ, zero, suc, ◌+◌, ◌*◌, ◌^◌, ◌<◌, ◌≤◌, List, [], ◌∷◌, ◌++◌, length, bit_xor, refl, sym, ap, ◌∙◌, arith, lit<, drop, get_or, add-one, drop-cons, take, append_assoc, ◌-◌}
-use Rattle.x7_words.proofs.ListLemmas.{map-append}
+use Rattle.x7_words.proofs.ListLemmas.{map_append}
 use Rattle.std.specs.Int.Bits.{xor_assoc, xor_zero_r}
 use Rattle.std.proofs.lemmas.Nat.{xor_comm}
 use Rattle.std.proofs.lemmas.List.{drop_all, drop-drop, length-drop}
@@ -10,17 +10,17 @@ use Rattle.x7_words.proofs.WordLemmas.{words_apart}
 use Rattle.x7_words.specs.Word.{words_of_bytes}
 use Rattle.x7_crc.specs.RunningCheck.{check_after, writes_to}
 use Rattle.x7_crc.specs.ShiftRegister.{advanced}
-use Rattle.x7_crc.proofs.CheckLemmas.{advanced_by_write, check_after-append, check_after_fits, check_after-none}
-use Rattle.x7_crc.proofs.ShiftLemmas.{advanced-xor}
-use Rattle.x7_crc.proofs.TableLemmas.{advanced-add}
+use Rattle.x7_crc.proofs.CheckLemmas.{advanced_by_write, check_after_append, check_after_fits, check_after_none}
+use Rattle.x7_crc.proofs.ShiftLemmas.{advanced_xor}
+use Rattle.x7_crc.proofs.TableLemmas.{advanced_add}
 
 -- one write: the check and the word move by 37 bits, the register by five
 pub one_write : (v register word : ℕ) → v < 2 ^ 32 → register < 2 ^ 5 → word < 2 ^ 32 →
     check_after v ((register, word) ∷ []) ≡ bit_xor (advanced 37 (bit_xor v word)) (advanced 5 register)
 one_write v register word h k l =
     advanced_by_write v register word h k l
-    ∙ advanced-xor 5 (advanced 32 (bit_xor v word)) register
-    ∙ ap (λ x. bit_xor x (advanced 5 register)) (sym (advanced-add 32 5 (bit_xor v word)))
+    ∙ advanced_xor 5 (advanced 32 (bit_xor v word)) register
+    ∙ ap (λ x. bit_xor x (advanced 5 register)) (sym (advanced_add 32 5 (bit_xor v word)))
 
 swapped : (a b c : ℕ) → bit_xor (bit_xor a b) c ≡ bit_xor (bit_xor a c) b
 swapped a b c = xor_assoc a b c ∙ ap (bit_xor a) (xor_comm b c) ∙ sym (xor_assoc a c b)
@@ -32,32 +32,32 @@ parted v x z register word h hz k l e =
     let k5 = advanced 5 register in
     one_write v register word h k l
     ∙ ap (λ t. bit_xor (advanced 37 t) k5) (ap (λ t. bit_xor t word) e ∙ swapped x z word)
-    ∙ ap (λ t. bit_xor t k5) (advanced-xor 37 (bit_xor x word) z)
+    ∙ ap (λ t. bit_xor t k5) (advanced_xor 37 (bit_xor x word) z)
     ∙ xor_assoc (advanced 37 (bit_xor x word)) (advanced 37 z) k5
     ∙ ap (bit_xor (advanced 37 (bit_xor x word)))
     (ap (λ t. bit_xor (advanced 37 t) k5) (sym (xor_zero_r z)) ∙ sym (one_write z register 0 hz k (lit< tt)))
 
 next_check : (v register word : ℕ) (words : List ℕ) → v < 2 ^ 32 →
     check_after v (writes_to register (word ∷ words)) ≡ check_after (check_after v ((register, word) ∷ [])) (writes_to register words)
-next_check v register word words h = check_after-append v ((register, word) ∷ []) (writes_to register words) h
+next_check v register word words h = check_after_append v ((register, word) ∷ []) (writes_to register words) h
 
 -- the words' parts
 spread2 : (m v a b : ℕ) → advanced 37 (bit_xor (advanced m v) b) ≡ bit_xor (advanced (m + 37) v) (advanced 37 b)
-spread2 m v a b = advanced-xor 37 (advanced m v) b ∙ ap (λ t. bit_xor t (advanced 37 b)) (sym (advanced-add m 37 v))
+spread2 m v a b = advanced_xor 37 (advanced m v) b ∙ ap (λ t. bit_xor t (advanced 37 b)) (sym (advanced_add m 37 v))
 
 spread3 : (m n v a b : ℕ) → advanced 37 (bit_xor (bit_xor (advanced m v) (advanced n a)) b) ≡ bit_xor (bit_xor (advanced (m + 37) v) (advanced (n + 37) a)) (advanced 37 b)
 spread3 m n v a b =
-    advanced-xor 37 (bit_xor (advanced m v) (advanced n a)) b
-    ∙ ap (λ t. bit_xor t (advanced 37 b)) (advanced-xor 37 (advanced m v) (advanced n a)
-    ∙ ap (λ t. bit_xor t (advanced 37 (advanced n a))) (sym (advanced-add m 37 v))
-    ∙ ap (bit_xor (advanced (m + 37) v)) (sym (advanced-add n 37 a)))
+    advanced_xor 37 (bit_xor (advanced m v) (advanced n a)) b
+    ∙ ap (λ t. bit_xor t (advanced 37 b)) (advanced_xor 37 (advanced m v) (advanced n a)
+    ∙ ap (λ t. bit_xor t (advanced 37 (advanced n a))) (sym (advanced_add m 37 v))
+    ∙ ap (bit_xor (advanced (m + 37) v)) (sym (advanced_add n 37 a)))
 
 spread4 : (m n o v a b c : ℕ) → advanced 37 (bit_xor (bit_xor (bit_xor (advanced m v) (advanced n a)) (advanced o b)) c)
     ≡ bit_xor (bit_xor (bit_xor (advanced (m + 37) v) (advanced (n + 37) a)) (advanced (o + 37) b)) (advanced 37 c)
 spread4 m n o v a b c =
-    advanced-xor 37 (bit_xor (bit_xor (advanced m v) (advanced n a)) (advanced o b)) c
+    advanced_xor 37 (bit_xor (bit_xor (advanced m v) (advanced n a)) (advanced o b)) c
     ∙ ap (λ t. bit_xor t (advanced 37 c)) (spread3 m n v a (advanced o b)
-    ∙ ap (bit_xor (bit_xor (advanced (m + 37) v) (advanced (n + 37) a))) (sym (advanced-add o 37 b)))
+    ∙ ap (bit_xor (bit_xor (advanced (m + 37) v) (advanced (n + 37) a))) (sym (advanced_add o 37 b)))
 
 first_of_five : (a b c d e : ℕ) → bit_xor a (bit_xor (bit_xor (bit_xor b c) d) e) ≡ bit_xor (bit_xor (bit_xor (bit_xor a b) c) d) e
 first_of_five a b c d e =
@@ -141,8 +141,8 @@ blocks_and_rest v register prefix whole n bs h l e f =
     let a = flat_map words_of_bytes (first_chunks 16 n bs) in
     let b = words_of_bytes (drop (n * 16) bs) in
     f ∙ ap (λ x. check_after x (writes_to register b)) e
-    ∙ sym (check_after-append v (writes_to register a) (writes_to register b) h)
-    ∙ ap (check_after v) (sym (map-append (λ word. (register, word)) a b) ∙ ap (writes_to register) (sym (words_by_blocks n bs l)))
+    ∙ sym (check_after_append v (writes_to register a) (writes_to register b) h)
+    ∙ ap (check_after v) (sym (map_append (λ word. (register, word)) a b) ∙ ap (writes_to register) (sym (words_by_blocks n bs l)))
 
 -- the check of a slice after one block more
 pub block_taken : (v register i next whole : ℕ) (blocks : List (List ℕ)) → v < 2 ^ 32 → i < length blocks →
@@ -154,11 +154,11 @@ block_taken v register i next whole blocks h k e g =
     let b = flat_map words_of_bytes (drop (i + 1) blocks) in
     let prefix : flat_map words_of_bytes (drop i blocks) ≡ a ++ b = rw (add-one, drop-cons blocks i []) refl in
     ap (λ x. check_after x (writes_to register b)) e
-    ∙ sym (check_after-append v (writes_to register a) (writes_to register b) h)
-    ∙ ap (check_after v) (sym (map-append (λ word. (register, word)) a b) ∙ ap (writes_to register) (sym prefix)) ∙ g
+    ∙ sym (check_after_append v (writes_to register a) (writes_to register b) h)
+    ∙ ap (check_after v) (sym (map_append (λ word. (register, word)) a b) ∙ ap (writes_to register) (sym prefix)) ∙ g
 
 pub blocks_end : (v register i whole : ℕ) (blocks : List (List ℕ)) → v < 2 ^ 32 → length blocks ≤ i →
     check_after v (writes_to register (flat_map words_of_bytes (drop i blocks))) ≡ whole → v ≡ whole
 blocks_end v register i whole blocks h k g =
     let none : writes_to register (flat_map words_of_bytes (drop i blocks)) ≡ [] = rw (drop_all i blocks k) refl in
-    sym (ap (check_after v) none ∙ check_after-none v h) ∙ g
+    sym (ap (check_after v) none ∙ check_after_none v h) ∙ g

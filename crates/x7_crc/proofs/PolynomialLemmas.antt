@@ -89,18 +89,18 @@ pub from_highest_lt : (bits : List Bool) → from_highest bits < 2 ^ length bits
 from_highest_lt [] = lit< tt
 from_highest_lt (b ∷ bs) = digit_above (length bs) (digit b) (from_highest bs) (digit_lt b) (from_highest_lt bs)
 
-mirrored-parts : (n v : ℕ) → mirrored (suc n) v ≡ v % 2 * 2 ^ n + mirrored n (v / 2)
+mirrored_parts : (n v : ℕ) → mirrored (suc n) v ≡ v % 2 * 2 ^ n + mirrored n (v / 2)
 unfolding mirrored
-mirrored-parts n v = refl
+mirrored_parts n v = refl
 
-mirrored-power : (n : ℕ) → mirrored (suc n) (2 ^ n) ≡ 1
+mirrored_power : (n : ℕ) → mirrored (suc n) (2 ^ n) ≡ 1
 unfolding mirrored
-mirrored-power zero = refl
-mirrored-power (suc n) =
+mirrored_power zero = refl
+mirrored_power (suc n) =
     let two : 2 ^ suc n ≡ 2 ^ n * 2 = pow-suc 2 n in
     let half : 2 ^ suc n / 2 ≡ 2 ^ n = omega arith in
     let low : 2 ^ suc n % 2 ≡ 0 = omega arith in
-    rw (half, low, mirrored-power n) (omega arith)
+    rw (half, low, mirrored_power n) (omega arith)
 
 odd_again : (v : ℕ) → v % 2 ≡ 1 → bit_xor 1 (2 * (v / 2)) ≡ v
 odd_again v e =
@@ -109,22 +109,22 @@ odd_again v e =
     xor_comm 1 (2 * (v / 2)) ∙ ap (λ x. bit_xor x 1) (sym half) ∙ sum ∙ omega arith
 
 -- mirrored twice, a number of n bits is itself
-pub mirrored-twice : (n v : ℕ) → v < 2 ^ n → mirrored n (mirrored n v) ≡ v
-mirrored-twice zero v h = omega (arith, mirrored_lt 0 (mirrored 0 v))
-mirrored-twice (suc n) v h =
+pub mirrored_twice : (n v : ℕ) → v < 2 ^ n → mirrored n (mirrored n v) ≡ v
+mirrored_twice zero v h = omega (arith, mirrored_lt 0 (mirrored 0 v))
+mirrored_twice (suc n) v h =
     let two : 2 ^ suc n ≡ 2 ^ n * 2 = pow-suc 2 n in
     let r = mirrored n (v / 2) in
     let hr : r < 2 ^ n = mirrored_lt n (v / 2) in
-    let back : mirrored n r ≡ v / 2 = mirrored-twice n (v / 2) (omega arith) in
+    let back : mirrored n r ≡ v / 2 = mirrored_twice n (v / 2) (omega arith) in
     let low : mirrored (suc n) r ≡ 2 * (v / 2) = mirrored_half n r hr ∙ ap (λ x. 2 * x) back in
-    let parts : mirrored (suc n) v ≡ v % 2 * 2 ^ n + r = mirrored-parts n v in
+    let parts : mirrored (suc n) v ≡ v % 2 * 2 ^ n + r = mirrored_parts n v in
     elim (digit_cases (v % 2) (omega arith)) [
       | inl e ↦
           let same : mirrored (suc n) v ≡ r = parts ∙ ap (λ d. d * 2 ^ n + r) e ∙ omega arith in
           ap (mirrored (suc n)) same ∙ low ∙ omega arith
       | inr e ↦
           let same : mirrored (suc n) v ≡ bit_xor (1 * 2 ^ n) r = parts ∙ ap (λ d. d * 2 ^ n + r) e ∙ sym (xor_above n 1 r hr) in
-          let one : mirrored (suc n) (1 * 2 ^ n) ≡ 1 = ap (mirrored (suc n)) (one-mul (2 ^ n)) ∙ mirrored-power n in
+          let one : mirrored (suc n) (1 * 2 ^ n) ≡ 1 = ap (mirrored (suc n)) (one-mul (2 ^ n)) ∙ mirrored_power n in
           ap (mirrored (suc n)) same ∙ mirrored_xor (suc n) (1 * 2 ^ n) r ∙ ap (λ x. bit_xor x (mirrored (suc n) r)) one
           ∙ ap (λ x. bit_xor 1 x) low ∙ odd_again v e
     ]
@@ -215,8 +215,8 @@ mirrored_same (suc n) a b h k e =
 
 -- ---- long division
 
-xor_front : (a b c : ℕ) → bit_xor a (bit_xor b c) ≡ bit_xor b (bit_xor a c)
-xor_front a b c = sym (xor_assoc a b c) ∙ ap (λ x. bit_xor x c) (xor_comm a b) ∙ xor_assoc b a c
+xor_prefix : (a b c : ℕ) → bit_xor a (bit_xor b c) ≡ bit_xor b (bit_xor a c)
+xor_prefix a b c = sym (xor_assoc a b c) ∙ ap (λ x. bit_xor x c) (xor_comm a b) ∙ xor_assoc b a c
 
 xor_again : (a b : ℕ) → bit_xor a (bit_xor a b) ≡ b
 xor_again a b = sym (xor_assoc a a b) ∙ ap (λ x. bit_xor x b) (xor_self a) ∙ xor_zero_l b
@@ -242,7 +242,7 @@ more_of (suc n) p [] =
     (false ∷ r.0, ap (λ x. bit_xor x (2 * product r.0 p)) (zero-mul p) ∙ xor_zero_l (2 * product r.0 p) ∙ raised n p 0 (product r.0 p) r.1)
 more_of (suc n) p (b ∷ q) =
     let r = more_of n p q in
-    (b ∷ r.0, ap (λ x. bit_xor (digit b * p) x) (raised n p (product q p) (product r.0 p) r.1) ∙ xor_front (digit b * p) (p * 2 ^ suc n) (2 * product q p))
+    (b ∷ r.0, ap (λ x. bit_xor (digit b * p) x) (raised n p (product q p) (product r.0 p) r.1) ∙ xor_prefix (digit b * p) (p * 2 ^ suc n) (2 * product q p))
 
 -- of two with the same highest coefficient the sum has none there
 top_goes : (m a b : ℕ) → 2 ^ m ≤ a → a < 2 ^ suc m → 2 ^ m ≤ b → b < 2 ^ suc m → bit_xor a b < 2 ^ m

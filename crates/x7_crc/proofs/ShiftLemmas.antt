@@ -6,14 +6,14 @@ use Rattle.std.proofs.lemmas.Nat.{pow-add, pow_pos, mul-add-lt, xor_comm, xor_sh
 use Rattle.x7_crc.specs.Polynomial.{digit, from_highest, product, IsRemainder, mirrored, remainder}
 use Rattle.x7_crc.specs.RunningCheck.{generator, low_bits, dividend}
 use Rattle.x7_crc.specs.ShiftRegister.{shifted_one, shifted_all, advanced}
-use Rattle.x7_crc.proofs.PolynomialLemmas.{digit_cases, digit_lt, from_highest_lt, mirrored-twice, mirrored_double, mirrored_lt, mirrored_xor, one_remainder, remainder_is, xor_above, xor_double, xor_shl, xor_swap}
+use Rattle.x7_crc.proofs.PolynomialLemmas.{digit_cases, digit_lt, from_highest_lt, mirrored_twice, mirrored_double, mirrored_lt, mirrored_xor, one_remainder, remainder_is, xor_above, xor_double, xor_shl, xor_swap}
 
 -- whether a digit is 1
 abbrev pub is_one : ℕ → Bool
 is_one d = d == 1
 
-pub digit-is_one : (d : ℕ) → d < 2 → digit (is_one d) ≡ d
-digit-is_one d h =
+pub digit_is_one : (d : ℕ) → d < 2 → digit (is_one d) ≡ d
+digit_is_one d h =
     let cases : (d ≡ 0) ⊎ (d ≡ 1) = digit_cases d h in
     elim cases [ inl e ↦ rw e refl | inr e ↦ rw e refl ]
 
@@ -46,7 +46,7 @@ step_divides v b h =
     mirrored_xor 32 (v / 2) (d * 0x82F63B78) in
     left ∙ sym (generator_parts d m small hm)
     ∙ ap (λ x. bit_xor (d * generator) x) (sym next)
-    ∙ ap (λ x. bit_xor (x * generator) (mirrored 32 (shifted_one v b))) (sym (digit-is_one d small))
+    ∙ ap (λ x. bit_xor (x * generator) (mirrored 32 (shifted_one v b))) (sym (digit_is_one d small))
 
 -- ---- a list of bits
 
@@ -103,13 +103,13 @@ pub shifted_all_lt : (v : ℕ) (bits : List Bool) → v < 2 ^ 32 → shifted_all
 shifted_all_lt v [] h = h
 shifted_all_lt v (b ∷ bits) h = shifted_all_lt (shifted_one v b) bits (shifted_lt v b h)
 
-pub shifted_all-append : (v : ℕ) (a b : List Bool) → shifted_all v (a ++ b) ≡ shifted_all (shifted_all v a) b
-shifted_all-append v [] b = refl
-shifted_all-append v (x ∷ a) b = shifted_all-append (shifted_one v x) a b
+pub shifted_all_append : (v : ℕ) (a b : List Bool) → shifted_all v (a ++ b) ≡ shifted_all (shifted_all v a) b
+shifted_all_append v [] b = refl
+shifted_all_append v (x ∷ a) b = shifted_all_append (shifted_one v x) a b
 
-pub shifted_all-divides : (v : ℕ) (bits : List Bool) → v < 2 ^ 32 → IsRemainder (dividend v bits) generator 32 (mirrored 32 (shifted_all v bits))
+pub shifted_all_divides : (v : ℕ) (bits : List Bool) → v < 2 ^ 32 → IsRemainder (dividend v bits) generator 32 (mirrored 32 (shifted_all v bits))
 unfolding dividend
-shifted_all-divides v bits h = divides bits v (mirrored 32 v) [] h (sym (xor_zero_l (mirrored 32 v)))
+shifted_all_divides v bits h = divides bits v (mirrored 32 v) [] h (sym (xor_zero_l (mirrored 32 v)))
 
 dividend_lt : (v : ℕ) (bits : List Bool) → dividend v bits < 2 ^ (32 + length bits)
 unfolding dividend
@@ -121,14 +121,14 @@ dividend_lt v bits =
     xor_lt (32 + n) (mirrored 32 v * 2 ^ n) (from_highest bits * 2 ^ 32) (rw e (omega (arith, a))) (rw e (omega (arith, b)))
 
 -- the remainder by long division is what the register holds
-pub divided-shifted : (v : ℕ) (bits : List Bool) → v < 2 ^ 32 →
+pub divided_shifted : (v : ℕ) (bits : List Bool) → v < 2 ^ 32 →
     mirrored 32 (remainder generator 32 (length bits) (dividend v bits)) ≡ shifted_all v bits
-divided-shifted v bits h =
+divided_shifted v bits h =
     let long : IsRemainder (dividend v bits) generator 32 (remainder generator 32 (length bits) (dividend v bits)) =
     remainder_is (length bits) generator (dividend v bits) (omega arith) (omega arith) (dividend_lt v bits) in
     let same : remainder generator 32 (length bits) (dividend v bits) ≡ mirrored 32 (shifted_all v bits) =
-    one_remainder (dividend v bits) generator _ _ (omega arith) (omega arith) long (shifted_all-divides v bits h) in
-    ap (mirrored 32) same ∙ mirrored-twice 32 (shifted_all v bits) (shifted_all_lt v bits h)
+    one_remainder (dividend v bits) generator _ _ (omega arith) (omega arith) long (shifted_all_divides v bits h) in
+    ap (mirrored 32) same ∙ mirrored_twice 32 (shifted_all v bits) (shifted_all_lt v bits h)
 
 -- ---- the register is linear
 
@@ -149,21 +149,21 @@ one_step_xor a b =
     rw (half, low, scaled_sum (a % 2) (b % 2) 0x82F63B78 (omega arith) (omega arith))
     (xor_swap (a / 2) (b / 2) (a % 2 * 0x82F63B78) (b % 2 * 0x82F63B78))
 
-pub advanced-xor : (n a b : ℕ) → advanced n (bit_xor a b) ≡ bit_xor (advanced n a) (advanced n b)
+pub advanced_xor : (n a b : ℕ) → advanced n (bit_xor a b) ≡ bit_xor (advanced n a) (advanced n b)
 unfolding advanced
-advanced-xor zero a b = refl
-advanced-xor (suc n) a b = ap (advanced n) (one_step_xor a b) ∙ advanced-xor n (one_step a) (one_step b)
+advanced_xor zero a b = refl
+advanced_xor (suc n) a b = ap (advanced n) (one_step_xor a b) ∙ advanced_xor n (one_step a) (one_step b)
 
 -- the bits of a number, at once
-pub shifted_all-low : (n v w : ℕ) → w < 2 ^ n → shifted_all v (low_bits n w) ≡ advanced n (bit_xor v w)
+pub shifted_all_low : (n v w : ℕ) → w < 2 ^ n → shifted_all v (low_bits n w) ≡ advanced n (bit_xor v w)
 unfolding advanced low_bits
-shifted_all-low zero v w h = let z : w ≡ 0 = omega arith in rw z (sym (xor_zero_r v))
-shifted_all-low (suc n) v w h =
+shifted_all_low zero v w h = let z : w ≡ 0 = omega arith in rw z (sym (xor_zero_r v))
+shifted_all_low (suc n) v w h =
     let two : 2 ^ suc n ≡ 2 ^ n * 2 = pow-suc 2 n in
     let b = is_one (w % 2) in
     let d = bit_xor (v % 2) (digit b) * 0x82F63B78 in
     let half : bit_xor v w / 2 ≡ bit_xor (v / 2) (w / 2) = xor_shr v w 1 in
-    let low : bit_xor v w % 2 ≡ bit_xor (v % 2) (digit b) = xor_mod v w 1 ∙ ap (λ x. bit_xor (v % 2) x) (sym (digit-is_one (w % 2) (omega arith))) in
+    let low : bit_xor v w % 2 ≡ bit_xor (v % 2) (digit b) = xor_mod v w 1 ∙ ap (λ x. bit_xor (v % 2) x) (sym (digit_is_one (w % 2) (omega arith))) in
     let e : one_step (bit_xor v w) ≡ bit_xor (shifted_one v b) (w / 2) =
     rw (half, low) (xor_assoc (v / 2) (w / 2) d ∙ ap (λ x. bit_xor (v / 2) x) (xor_comm (w / 2) d) ∙ sym (xor_assoc (v / 2) d (w / 2))) in
-    shifted_all-low n (shifted_one v b) (w / 2) (omega arith) ∙ ap (advanced n) (sym e)
+    shifted_all_low n (shifted_one v b) (w / 2) (omega arith) ∙ ap (advanced n) (sym e)

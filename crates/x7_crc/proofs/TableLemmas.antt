@@ -7,29 +7,29 @@ use Rattle.std.proofs.lemmas.Bool.Decides.{eqb_tells}
 use Rattle.x7_crc.specs.CheckTable.{advance_all, advances}
 use Rattle.x7_crc.specs.ShiftRegister.{advanced}
 use Rattle.x7_crc.proofs.PolynomialLemmas.{xor_above}
-use Rattle.x7_crc.proofs.ShiftLemmas.{advanced-xor, one_step}
+use Rattle.x7_crc.proofs.ShiftLemmas.{advanced_xor, one_step}
 
-pub advanced-shl : (n y : ℕ) → advanced n (y * 2 ^ n) ≡ y
+pub advanced_shl : (n y : ℕ) → advanced n (y * 2 ^ n) ≡ y
 unfolding advanced
-advanced-shl zero y = mul-one y
-advanced-shl (suc n) y =
+advanced_shl zero y = mul-one y
+advanced_shl (suc n) y =
     let e : y * 2 ^ suc n ≡ y * 2 ^ n * 2 = ap (λ x. y * x) (pow-suc 2 n) ∙ sym (mul_assoc y (2 ^ n) 2) in
     let half : y * 2 ^ suc n / 2 ≡ y * 2 ^ n = omega arith in
     let even : y * 2 ^ suc n % 2 ≡ 0 = omega arith in
-    rw (half, even, xor_zero_r (y * 2 ^ n)) (advanced-shl n y)
+    rw (half, even, xor_zero_r (y * 2 ^ n)) (advanced_shl n y)
 
-pub advanced-add : (m n v : ℕ) → advanced (m + n) v ≡ advanced n (advanced m v)
+pub advanced_add : (m n v : ℕ) → advanced (m + n) v ≡ advanced n (advanced m v)
 unfolding advanced
-advanced-add zero n v = rw (zero-add n) refl
-advanced-add (suc m) n v = let e : suc m + n ≡ suc (m + n) = omega arith in rw e (advanced-add m n (one_step v))
+advanced_add zero n v = rw (zero-add n) refl
+advanced_add (suc m) n v = let e : suc m + n ≡ suc (m + n) = omega arith in rw e (advanced_add m n (one_step v))
 
 -- a number by a low part in a table, and the rest shifted
-pub advanced-split : (n v : ℕ) → advanced n v ≡ bit_xor (v / 2 ^ n) (advanced n (v % 2 ^ n))
-advanced-split n v =
+pub advanced_split : (n v : ℕ) → advanced n v ≡ bit_xor (v / 2 ^ n) (advanced n (v % 2 ^ n))
+advanced_split n v =
     let e : v ≡ bit_xor (v / 2 ^ n * 2 ^ n) (v % 2 ^ n) =
     sym (shr_split v n) ∙ sym (xor_above n (v / 2 ^ n) (v % 2 ^ n) (mod-lt v (pow_pos n))) in
-    ap (advanced n) e ∙ advanced-xor n (v / 2 ^ n * 2 ^ n) (v % 2 ^ n)
-    ∙ ap (λ x. bit_xor x (advanced n (v % 2 ^ n))) (advanced-shl n (v / 2 ^ n))
+    ap (advanced n) e ∙ advanced_xor n (v / 2 ^ n * 2 ^ n) (v % 2 ^ n)
+    ∙ ap (λ x. bit_xor x (advanced n (v % 2 ^ n))) (advanced_shl n (v / 2 ^ n))
 
 -- ---- entries
 
@@ -55,9 +55,9 @@ low_mask n v = and_mask v n
 
 advanced_byte : (n v : ℕ) → advanced (8 + n) v ≡ bit_xor (advanced (8 + n) (v % 256)) (advanced n (v / 256))
 advanced_byte n v =
-    advanced-add 8 n v ∙ ap (advanced n) (advanced-split 8 v) ∙ advanced-xor n (v / 256) (advanced 8 (v % 256))
+    advanced_add 8 n v ∙ ap (advanced n) (advanced_split 8 v) ∙ advanced_xor n (v / 256) (advanced 8 (v % 256))
     ∙ xor_comm (advanced n (v / 256)) (advanced n (advanced 8 (v % 256)))
-    ∙ ap (λ x. bit_xor x (advanced n (v / 256))) (sym (advanced-add 8 n (v % 256)))
+    ∙ ap (λ x. bit_xor x (advanced n (v / 256))) (sym (advanced_add 8 n (v % 256)))
 
 advanced_at : (m n v : ℕ) → advanced (8 + m + n) v ≡ bit_xor (advanced (8 + m + n) (v % 256)) (advanced (m + n) (v / 256))
 advanced_at m n v = let e : 8 + m + n ≡ 8 + (m + n) = omega arith in rw e (advanced_byte (m + n) v)

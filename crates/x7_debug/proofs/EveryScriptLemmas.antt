@@ -10,38 +10,38 @@ use Rattle.x7_debug.specs.declared.order.Order.{Order}
 use Rattle.x7_debug.specs.declared.order.Order.TheVariants as order
 use Rattle.x7_debug.specs.declared.order.Stop.TheVariants as stop
 use Rattle.x7_debug.specs.Script.{AreOrders, FitsOrder, has_meaning, HasScript, IsNoOrder, order_text}
-use Rattle.x7_debug.proofs.UniqueLemmas.{order_by, order-is}
+use Rattle.x7_debug.proofs.UniqueLemmas.{order_by, order_is}
 
 -- what a test decides holds, or it doesn't
-holds-or : {P : Type 0} → (r : Bool) → Decides r P → P ⊎ (P → ⊥)
-holds-or true d = inl (d.0 refl)
-holds-or false d = inr (not_from_Decides false d refl)
+holds_or : {P : Type 0} → (r : Bool) → Decides r P → P ⊎ (P → ⊥)
+holds_or true d = inl (d.0 refl)
+holds_or false d = inr (not_from_Decides false d refl)
 
-below-or : (n m : ℕ) → (n < m) ⊎ (n < m → ⊥)
-below-or n m = holds-or _ (Decides-ltb n m)
+below_or : (n m : ℕ) → (n < m) ⊎ (n < m → ⊥)
+below_or n m = holds_or _ (Decides-ltb n m)
 
-fits-or : (o : Order) → FitsOrder o ⊎ (FitsOrder o → ⊥)
-fits-or (order.Step n) = below-or n (2 ^ 32)
-fits-or (order.Back n) = below-or n (2 ^ 32)
-fits-or (order.Go n) = below-or n (2 ^ 32)
-fits-or (order.Until stop.Synced) = inl tt
-fits-or (order.Until stop.Searching) = inl tt
-fits-or (order.Until stop.Stopped) = inl tt
-fits-or (order.Until (stop.Phase p)) = below-or p 8
-fits-or order.Regs = inl tt
-fits-or order.Phase = inl tt
-fits-or (order.Frame far) = below-or far (2 ^ 32)
+fits_or : (o : Order) → FitsOrder o ⊎ (FitsOrder o → ⊥)
+fits_or (order.Step n) = below_or n (2 ^ 32)
+fits_or (order.Back n) = below_or n (2 ^ 32)
+fits_or (order.Go n) = below_or n (2 ^ 32)
+fits_or (order.Until stop.Synced) = inl tt
+fits_or (order.Until stop.Searching) = inl tt
+fits_or (order.Until stop.Stopped) = inl tt
+fits_or (order.Until (stop.Phase p)) = below_or p 8
+fits_or order.Regs = inl tt
+fits_or order.Phase = inl tt
+fits_or (order.Frame far) = below_or far (2 ^ 32)
 
 -- the order of a line, or none: it can only be the one that its letters name
 OrderOr : List ℕ → Type 0
 OrderOr line = ((o : Order) × FitsOrder o × (line ≡ order_text o)) ⊎ ((o : Order) → FitsOrder o → line ≡ order_text o → ⊥)
 
-order-or : (line : List ℕ) → OrderOr line
+order_or : (line : List ℕ) → OrderOr line
 unfolding OrderOr
-order-or line = by (fits-or (order_by line)) (holds-or _ (bytes_eq-Decides line (order_text (order_by line))))
+order_or line = by (fits_or (order_by line)) (holds_or _ (bytes_eq-Decides line (order_text (order_by line))))
   where
     named : (o : Order) → FitsOrder o → line ≡ order_text o → o ≡ order_by line
-    named o f e = sym (order-is o f) ∙ ap order_by (sym e)
+    named o f e = sym (order_is o f) ∙ ap order_by (sym e)
 
     by : FitsOrder (order_by line) ⊎ (FitsOrder (order_by line) → ⊥) → (line ≡ order_text (order_by line)) ⊎ (line ≡ order_text (order_by line) → ⊥) → OrderOr line
     by (inl f) (inl e) = inl (order_by line, f, e)
@@ -64,19 +64,19 @@ LinesOr : List (List ℕ) → Type 0
 LinesOr lines = ((orders : List Order) × AreOrders lines orders) ⊎ FirstBad lines
 
 -- a line without meaning, or that of an order, before lines of these orders
-without-meaning : (line : List ℕ) (lines : List (List ℕ)) (orders : List Order) → has_meaning line ≡ false → AreOrders lines orders → AreOrders (line ∷ lines) orders
-without-meaning line lines orders e good = record { texts = ap (λ (b : Bool). cond b (line ∷ filter has_meaning lines) (filter has_meaning lines)) e ∙ good.texts; fit = good.fit }
+without_meaning : (line : List ℕ) (lines : List (List ℕ)) (orders : List Order) → has_meaning line ≡ false → AreOrders lines orders → AreOrders (line ∷ lines) orders
+without_meaning line lines orders e good = record { texts = ap (λ (b : Bool). cond b (line ∷ filter has_meaning lines) (filter has_meaning lines)) e ∙ good.texts; fit = good.fit }
 
-with-order : (line : List ℕ) (lines : List (List ℕ)) (o : Order) (orders : List Order) → has_meaning line ≡ true → FitsOrder o → line ≡ order_text o → AreOrders lines orders → AreOrders (line ∷ lines) (o ∷ orders)
-with-order line lines o orders e f is good = record {
+with_order : (line : List ℕ) (lines : List (List ℕ)) (o : Order) (orders : List Order) → has_meaning line ≡ true → FitsOrder o → line ≡ order_text o → AreOrders lines orders → AreOrders (line ∷ lines) (o ∷ orders)
+with_order line lines o orders e f is good = record {
   texts = ap (λ (b : Bool). cond b (line ∷ filter has_meaning lines) (filter has_meaning lines)) e ∙ ap₂ (λ (a : List ℕ) (b : List (List ℕ)). a ∷ b) is good.texts;
   fit = (f, good.fit);
 }
 
-lines-or : (lines : List (List ℕ)) → LinesOr lines
+lines_or : (lines : List (List ℕ)) → LinesOr lines
 unfolding LinesOr OrderOr
-lines-or [] = inl ([], record { texts = refl; fit = tt })
-lines-or (line ∷ lines) = by (has_meaning line) refl (lines-or lines)
+lines_or [] = inl ([], record { texts = refl; fit = tt })
+lines_or (line ∷ lines) = by (has_meaning line) refl (lines_or lines)
   where
     behind : (bad : FirstBad lines) (orders : List Order) → AreOrders (line ∷ bad.before) orders → FirstBad (line ∷ lines)
     behind bad orders good = record {
@@ -89,19 +89,19 @@ lines-or (line ∷ lines) = by (has_meaning line) refl (lines-or lines)
       is_bad = bad.is_bad;
     }
 
-    by-order : has_meaning line ≡ true → OrderOr line → LinesOr lines → LinesOr (line ∷ lines)
-    by-order e (inr none) rest = inr (record { before = []; bad = line; after = lines; texts = refl; orders = []; good = record { texts = refl; fit = tt }; is_bad = record { meaning = e; no_order = none } })
-    by-order e (inl (o, f, is)) (inl (orders, good)) = inl (o ∷ orders, with-order line lines o orders e f is good)
-    by-order e (inl (o, f, is)) (inr bad) = inr (behind bad (o ∷ bad.orders) (with-order line bad.before o bad.orders e f is bad.good))
+    by_order : has_meaning line ≡ true → OrderOr line → LinesOr lines → LinesOr (line ∷ lines)
+    by_order e (inr none) rest = inr (record { before = []; bad = line; after = lines; texts = refl; orders = []; good = record { texts = refl; fit = tt }; is_bad = record { meaning = e; no_order = none } })
+    by_order e (inl (o, f, is)) (inl (orders, good)) = inl (o ∷ orders, with_order line lines o orders e f is good)
+    by_order e (inl (o, f, is)) (inr bad) = inr (behind bad (o ∷ bad.orders) (with_order line bad.before o bad.orders e f is bad.good))
 
     by : (b : Bool) → has_meaning line ≡ b → LinesOr lines → LinesOr (line ∷ lines)
-    by true e rest = by-order e (order-or line) rest
-    by false e (inl (orders, good)) = inl (orders, without-meaning line lines orders e good)
-    by false e (inr bad) = inr (behind bad bad.orders (without-meaning line bad.before bad.orders e bad.good))
+    by true e rest = by_order e (order_or line) rest
+    by false e (inl (orders, good)) = inl (orders, without_meaning line lines orders e good)
+    by false e (inr bad) = inr (behind bad bad.orders (without_meaning line bad.before bad.orders e bad.good))
 
-pub has-script : (text : List ℕ) → HasScript text
+pub has_script : (text : List ℕ) → HasScript text
 unfolding LinesOr
-has-script text = by (lines-or (split text))
+has_script text = by (lines_or (split text))
   where
     by : LinesOr (split text) → HasScript text
     by (inl (orders, good)) = (Ok orders, good)

@@ -12,7 +12,7 @@ use Rattle.x7_engine.proofs.BootLemmas.{none_due_at_first}
 use Rattle.x7_engine.specs.Undo.{AreEqual, IsUndoOf, KeepsDevice, TookFewSince, UndoState}
 use Rattle.x7_debug.specs.Journal.{IsFedAtMost, GoesWith, IsOn, IsRecord, JournalState, LeadBack, oldest_by, records_of}
 use Rattle.x7_debug.specs.Session.{SessionState, StandsAtPosition}
-use Rattle.x7_debug.proofs.PositionLemmas.{by-taken, own}
+use Rattle.x7_debug.proofs.PositionLemmas.{by_taken, own}
 use Rattle.std.proofs.lemmas.Option.{none-some}
 use Rattle.std.specs.Prelude.{slice_get}
 
@@ -207,7 +207,7 @@ on_more part stream d new j k to u o s low high a keeps e =
     let there : new.part ≡ part = s.stands.part_is in
     let leads : LeadBack part stream to (records_of k) = subst (LeadBack part stream to) (sym e) (leads_more part stream d d.taken to u (records_of j) o.stands keeps low high o.leads) in
     subst (λ (p : PartData). IsOn p stream new k) (sym there) (record {
-      stands = by-taken part stream new to s;
+      stands = by_taken part stream new to s;
       records = a;
       few = omega (arith, ap length e, length-take 63 (records_of j));
       leads = subst (λ (n : ℕ). LeadBack part stream n (records_of k)) (sym s.taken) leads;
@@ -221,7 +221,7 @@ on_less part stream d new j k u o e a back =
     let leads : LeadBack part stream d.taken (u ∷ records_of k) = subst (LeadBack part stream d.taken) e o.leads in
     let s : StandsAtPosition part stream new u.taken = goes_back part stream d new d.taken u leads.0 o.stands leads.1 leads.2 back in (
       subst (λ (p : PartData). IsOn p stream new k) (sym s.stands.part_is) (record {
-        stands = by-taken part stream new u.taken s;
+        stands = by_taken part stream new u.taken s;
         records = a;
         few = omega (arith, ap length e, o.few);
         leads = subst (λ (n : ℕ). LeadBack part stream n (records_of k)) (sym s.taken) leads.3;
@@ -237,7 +237,7 @@ pub on_further : (part : PartData) (stream : List ℕ) (d new : DeviceState) (j 
 on_further part stream d new j to u older o e s low high =
     let leads : LeadBack part stream to (records_of j) = subst (LeadBack part stream to) (sym e) (leads_further part stream d.taken to u older low high (subst (LeadBack part stream d.taken) e o.leads)) in
     subst (λ (p : PartData). IsOn p stream new j) (sym s.stands.part_is) (record {
-      stands = by-taken part stream new to s;
+      stands = by_taken part stream new to s;
       records = o.records;
       few = o.few;
       leads = subst (λ (n : ℕ). LeadBack part stream n (records_of j)) (sym s.taken) leads;

@@ -3,7 +3,7 @@ use Rattle.std.proofs.Common.{◌≡◌, inl, inr, ℕ, ◌<◌, ◌≤◌, Bool
 use Rattle.std.proofs.lemmas.Bool.{cases_order}
 use Rattle.std.proofs.lemmas.List.{length-take-le, take-append-drop}
 use Rattle.x7_words.specs.Word.{AreBytes}
-use Rattle.x7_words.proofs.ListLemmas.{all_front}
+use Rattle.x7_words.proofs.ListLemmas.{all_prefix}
 use Rattle.x7_packets.specs.ByHand.{reading_of}
 use Rattle.x7_packets.specs.Reading.{is_synced as ends_synced}
 use Rattle.x7_part.specs.Part.{PartData}
@@ -11,15 +11,15 @@ use Rattle.x7_engine.specs.declared.stop.Stop.{Stop as Line}
 use Rattle.x7_engine.specs.Kept.{on_the_bench}
 use Rattle.x7_engine.specs.State.{end_by, why_of, stop_in}
 use Rattle.x7_engine.specs.Stops.{Stopped}
-use Rattle.x7_engine.proofs.StateLemmas.{stop_is_final-stop, stop_place}
+use Rattle.x7_engine.proofs.StateLemmas.{stop_is_final_stop, stop_place}
 use Rattle.x7_debug.specs.declared.order.Stop.TheVariants as stop
 use Rattle.x7_debug.specs.Position.{has_stopped, holds_at, last_of, until_of}
-use Rattle.x7_debug.proofs.FeedLemmas.{taken-stopped}
-use Rattle.x7_debug.proofs.PositionLemmas.{last-within, until-last, until-there}
+use Rattle.x7_debug.proofs.FeedLemmas.{taken_stopped}
+use Rattle.x7_debug.proofs.PositionLemmas.{last_within, until_last, until_there}
 
 -- before the last position nothing has stopped
-none-before : (part : PartData) (stream : List ℕ) (n : ℕ) → AreBytes stream → n < last_of part stream → stop_in part on_the_bench (take n stream) ≡ None
-none-before part stream n fits lt = by (stop_in part on_the_bench (take n stream)) refl
+none_before : (part : PartData) (stream : List ℕ) (n : ℕ) → AreBytes stream → n < last_of part stream → stop_in part on_the_bench (take n stream) ≡ None
+none_before part stream n fits lt = by (stop_in part on_the_bench (take n stream)) refl
   where
     whole : take n stream ++ drop n stream ≡ stream
     whole = take-append-drop n stream
@@ -28,35 +28,35 @@ none-before part stream n fits lt = by (stop_in part on_the_bench (take n stream
     fit = subst (λ b. AreBytes b) (sym whole) fits
 
     long : length (take n stream) ≡ n
-    long = length-take-le n stream (omega (arith, lt, last-within part stream fits))
+    long = length-take-le n stream (omega (arith, lt, last_within part stream fits))
 
     by : (o : Option Stopped) → stop_in part on_the_bench (take n stream) ≡ o → stop_in part on_the_bench (take n stream) ≡ None
     by None e = e
     by (Some s) e =
-        let later : stop_in part on_the_bench stream ≡ Some s = ap (stop_in part on_the_bench) (sym whole) ∙ stop_is_final-stop part on_the_bench (take n stream) (drop n stream) s fit e in
-        let place = stop_place part on_the_bench (take n stream) s (all_front (λ b. b < 256) (take n stream) (drop n stream) fit) e in
-        absurd (omega (arith, taken-stopped part on_the_bench stream s later, place.1, long, lt))
+        let later : stop_in part on_the_bench stream ≡ Some s = ap (stop_in part on_the_bench) (sym whole) ∙ stop_is_final_stop part on_the_bench (take n stream) (drop n stream) s fit e in
+        let place = stop_place part on_the_bench (take n stream) s (all_prefix (λ b. b < 256) (take n stream) (drop n stream) fit) e in
+        absurd (omega (arith, taken_stopped part on_the_bench stream s later, place.1, long, lt))
 
 going : (o : Option Line) (synced : Bool) (wbstar : ℕ) → o ≡ None → has_stopped (end_by o synced wbstar) ≡ false
 going o true wbstar e = ap (λ (x : Option Line). has_stopped (end_by x true wbstar)) e
 going o false wbstar e = ap (λ (x : Option Line). has_stopped (end_by x false wbstar)) e
 
-not-stopped : (part : PartData) (stream : List ℕ) (n : ℕ) → AreBytes stream → n < last_of part stream → holds_at part stream stop.Stopped n ≡ false
-not-stopped part stream n fits lt = going (why_of (stop_in part on_the_bench (take n stream))) (ends_synced (reading_of (take n stream)).place) _ (ap why_of (none-before part stream n fits lt))
+not_stopped : (part : PartData) (stream : List ℕ) (n : ℕ) → AreBytes stream → n < last_of part stream → holds_at part stream stop.Stopped n ≡ false
+not_stopped part stream n fits lt = going (why_of (stop_in part on_the_bench (take n stream))) (ends_synced (reading_of (take n stream)).place) _ (ap why_of (none_before part stream n fits lt))
 
-pub until-stopped : (part : PartData) (stream : List ℕ) (at : ℕ) → AreBytes stream → at ≤ last_of part stream → until_of part stream stop.Stopped at ≡ last_of part stream
-until-stopped part stream at fits le = by (holds_at part stream stop.Stopped (last_of part stream)) refl
+pub until_stopped : (part : PartData) (stream : List ℕ) (at : ℕ) → AreBytes stream → at ≤ last_of part stream → until_of part stream stop.Stopped at ≡ last_of part stream
+until_stopped part stream at fits le = by (holds_at part stream stop.Stopped (last_of part stream)) refl
   where
     by : (b : Bool) → holds_at part stream stop.Stopped (last_of part stream) ≡ b → until_of part stream stop.Stopped at ≡ last_of part stream
     by true e =
         elim (cases_order at (last_of part stream)) [
-          | inl same ↦ until-last part stream stop.Stopped at (last_of part stream) (omega arith) (omega arith) le (λ k h j. absurd (omega arith))
-          | inr (inl below) ↦ until-there part stream stop.Stopped at (last_of part stream) below (omega arith) e (λ k h j. not-stopped part stream k fits j)
+          | inl same ↦ until_last part stream stop.Stopped at (last_of part stream) (omega arith) (omega arith) le (λ k h j. absurd (omega arith))
+          | inr (inl below) ↦ until_there part stream stop.Stopped at (last_of part stream) below (omega arith) e (λ k h j. not_stopped part stream k fits j)
           | inr (inr above) ↦ absurd (omega arith)
         ]
     by false e =
-        until-last part stream stop.Stopped at (last_of part stream) (omega arith) (omega arith) le (λ k h j. elim (cases_order k (last_of part stream)) [
+        until_last part stream stop.Stopped at (last_of part stream) (omega arith) (omega arith) le (λ k h j. elim (cases_order k (last_of part stream)) [
           | inl same ↦ ap (holds_at part stream stop.Stopped) same ∙ e
-          | inr (inl below) ↦ not-stopped part stream k fits below
+          | inr (inl below) ↦ not_stopped part stream k fits below
           | inr (inr above) ↦ absurd (omega arith)
         ])

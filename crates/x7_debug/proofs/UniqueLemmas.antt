@@ -8,7 +8,7 @@ use Rattle.std.specs.List.{AllByRecursion, filter}
 use Rattle.std.specs.Str.{all_ascii_digits}
 use Rattle.x7_text.specs.DigitValue.{word_value}
 use Rattle.x7_text.specs.Lines.{split}
-use Rattle.x7_text.proofs.ValueLemmas.{word-back}
+use Rattle.x7_text.proofs.ValueLemmas.{word_back}
 use Rattle.x7_debug.specs.declared.fault.ScriptFault.{ScriptFault}
 use Rattle.x7_debug.specs.declared.fault.ScriptFault.TheVariants as fault
 use Rattle.x7_debug.specs.declared.order.Order.{Order}
@@ -25,8 +25,8 @@ number_after n (c ∷ cs) = number_after (10 * n + (c - 48)) cs
 own : IsNumeralModel (λ ds. all_ascii_digits ds ≡ true) (number_after 0)
 own = numerals_by_fold _ (search rules) number_after (search rules)
 
-number-back : (n : ℕ) → n < 2 ^ 64 → number_after 0 (decimal n) ≡ n
-number-back n h = digits_value-decimal own n h
+number_back : (n : ℕ) → n < 2 ^ 64 → number_after 0 (decimal n) ≡ n
+number_back n h = digits_value-decimal own n h
 
 -- the order of a line, if it is one's, by its first letter; `until` goes by the second letter after it
 abbrev pub stop_by : List ℕ → Stop
@@ -44,52 +44,52 @@ order_by line =
     if get_or line 0 0 == 114 then order.Regs else
     if get_or line 0 0 == 112 then order.Phase else order.Frame (word_value (drop 6 line))
 
-stop-is : (s : Stop) → FitsStop s → stop_by (stop_text s) ≡ s
-stop-is stop.Synced h = refl
-stop-is stop.Searching h = refl
-stop-is stop.Stopped h = refl
-stop-is (stop.Phase n) h = ap stop.Phase (number-back n (omega arith))
+stop_is : (s : Stop) → FitsStop s → stop_by (stop_text s) ≡ s
+stop_is stop.Synced h = refl
+stop_is stop.Searching h = refl
+stop_is stop.Stopped h = refl
+stop_is (stop.Phase n) h = ap stop.Phase (number_back n (omega arith))
 
-pub order-is : (o : Order) → FitsOrder o → order_by (order_text o) ≡ o
-order-is (order.Step n) h = ap order.Step (number-back n (omega arith))
-order-is (order.Back n) h = ap order.Back (number-back n (omega arith))
-order-is (order.Go n) h = ap order.Go (number-back n (omega arith))
-order-is (order.Until s) h = ap order.Until (stop-is s h)
-order-is order.Regs h = refl
-order-is order.Phase h = refl
-order-is (order.Frame far) h = ap order.Frame (word-back far h)
+pub order_is : (o : Order) → FitsOrder o → order_by (order_text o) ≡ o
+order_is (order.Step n) h = ap order.Step (number_back n (omega arith))
+order_is (order.Back n) h = ap order.Back (number_back n (omega arith))
+order_is (order.Go n) h = ap order.Go (number_back n (omega arith))
+order_is (order.Until s) h = ap order.Until (stop_is s h)
+order_is order.Regs h = refl
+order_is order.Phase h = refl
+order_is (order.Frame far) h = ap order.Frame (word_back far h)
 
-pub one-order : (a b : Order) → FitsOrder a → FitsOrder b → order_text a ≡ order_text b → a ≡ b
-one-order a b f g e = sym (order-is a f) ∙ ap order_by e ∙ order-is b g
+pub one_order : (a b : Order) → FitsOrder a → FitsOrder b → order_text a ≡ order_text b → a ≡ b
+one_order a b f g e = sym (order_is a f) ∙ ap order_by e ∙ order_is b g
 
 -- ---- scripts
 
-one-list : (ps bs : List Order) → AllByRecursion FitsOrder ps → AllByRecursion FitsOrder bs → map order_text ps ≡ map order_text bs → ps ≡ bs
-one-list [] [] f g e = refl
-one-list [] (b ∷ bs) f g e = absurd cc
-one-list (a ∷ ps) [] f g e = absurd cc
-one-list (a ∷ ps) (b ∷ bs) f g e =
+one_list : (ps bs : List Order) → AllByRecursion FitsOrder ps → AllByRecursion FitsOrder bs → map order_text ps ≡ map order_text bs → ps ≡ bs
+one_list [] [] f g e = refl
+one_list [] (b ∷ bs) f g e = absurd cc
+one_list (a ∷ ps) [] f g e = absurd cc
+one_list (a ∷ ps) (b ∷ bs) f g e =
     let first : order_text a ≡ order_text b = cc in
     let rest : map order_text ps ≡ map order_text bs = cc in
-    let head : a ≡ b = one-order a b f.0 g.0 first in
-    let tail : ps ≡ bs = one-list ps bs f.1 g.1 rest in
+    let head : a ≡ b = one_order a b f.0 g.0 first in
+    let tail : ps ≡ bs = one_list ps bs f.1 g.1 rest in
     cc
 
 -- a line that is no order's isn't among those of orders
-none-among : (ps : List Order) (prefix back : List (List ℕ)) (bad : List ℕ) → AllByRecursion FitsOrder ps → IsNoOrder bad → map order_text ps ≡ prefix ++ bad ∷ back → ⊥
-none-among [] [] back bad f n e = absurd cc
-none-among [] (x ∷ prefix) back bad f n e = absurd cc
-none-among (a ∷ ps) [] back bad f n e = let is : bad ≡ order_text a = cc in n.no_order a f.0 is
-none-among (a ∷ ps) (x ∷ prefix) back bad f n e = let rest : map order_text ps ≡ prefix ++ bad ∷ back = cc in none-among ps prefix back bad f.1 n rest
+none_among : (ps : List Order) (prefix back : List (List ℕ)) (bad : List ℕ) → AllByRecursion FitsOrder ps → IsNoOrder bad → map order_text ps ≡ prefix ++ bad ∷ back → ⊥
+none_among [] [] back bad f n e = absurd cc
+none_among [] (x ∷ prefix) back bad f n e = absurd cc
+none_among (a ∷ ps) [] back bad f n e = let is : bad ≡ order_text a = cc in n.no_order a f.0 is
+none_among (a ∷ ps) (x ∷ prefix) back bad f n e = let rest : map order_text ps ≡ prefix ++ bad ∷ back = cc in none_among ps prefix back bad f.1 n rest
 
 -- a bad line keeps its place among those that have a meaning
-bad-stays : (before after : List (List ℕ)) (bad : List ℕ) → IsNoOrder bad → filter has_meaning (before ++ bad ∷ after) ≡ filter has_meaning before ++ bad ∷ filter has_meaning after
-bad-stays before after bad n =
+bad_stays : (before after : List (List ℕ)) (bad : List ℕ) → IsNoOrder bad → filter has_meaning (before ++ bad ∷ after) ≡ filter has_meaning before ++ bad ∷ filter has_meaning after
+bad_stays before after bad n =
     filter-append has_meaning before (bad ∷ after) ∙ ap (λ (b : Bool). filter has_meaning before ++ cond b (bad ∷ filter has_meaning after) (filter has_meaning after)) n.meaning
 
-none-in : (lines before after : List (List ℕ)) (orders : List Order) (bad : List ℕ) → AreOrders lines orders → IsNoOrder bad → lines ≡ before ++ bad ∷ after → ⊥
-none-in lines before after orders bad good n e =
-    none-among orders (filter has_meaning before) (filter has_meaning after) bad good.fit n (sym good.texts ∙ ap (filter has_meaning) e ∙ bad-stays before after bad n)
+none_in : (lines before after : List (List ℕ)) (orders : List Order) (bad : List ℕ) → AreOrders lines orders → IsNoOrder bad → lines ≡ before ++ bad ∷ after → ⊥
+none_in lines before after orders bad good n e =
+    none_among orders (filter has_meaning before) (filter has_meaning after) bad good.fit n (sym good.texts ∙ ap (filter has_meaning) e ∙ bad_stays before after bad n)
 
 -- of two elements of a list one comes first, or they stand at one place
 apart : (xs ys ps bs : List (List ℕ)) (b c : List ℕ) → xs ++ b ∷ ps ≡ ys ++ c ∷ bs → (length xs ≡ length ys) ⊎ (((more : List (List ℕ)) × (ys ≡ xs ++ b ∷ more)) ⊎ ((more : List (List ℕ)) × (xs ≡ ys ++ c ∷ more)))
@@ -105,19 +105,19 @@ apart (x ∷ xs) (y ∷ ys) ps bs b c e =
       | inr (inr m) ↦ inr (inr (m.0, ap (λ (t : List (List ℕ)). x ∷ t) m.1 ∙ ap (λ (h : List ℕ). h ∷ (ys ++ c ∷ m.0)) same))
     ]
 
-one-bad : (text : List ℕ) (m n : ℕ) → IsFirstBadLine text m → IsFirstBadLine text n → m ≡ n
-one-bad text m n a b =
+one_bad : (text : List ℕ) (m n : ℕ) → IsFirstBadLine text m → IsFirstBadLine text n → m ≡ n
+one_bad text m n a b =
     elim (apart a.before b.before a.after b.after a.bad b.bad (sym a.texts ∙ b.texts)) [
       | inl l ↦ a.count ∙ ap (λ (k : ℕ). k + 1) l ∙ sym b.count
-      | inr (inl p) ↦ absurd (none-in b.before a.before p.0 b.orders a.bad b.good a.is_bad p.1)
-      | inr (inr p) ↦ absurd (none-in a.before b.before p.0 a.orders b.bad a.good b.is_bad p.1)
+      | inr (inl p) ↦ absurd (none_in b.before a.before p.0 b.orders a.bad b.good a.is_bad p.1)
+      | inr (inr p) ↦ absurd (none_in a.before b.before p.0 a.orders b.bad a.good b.is_bad p.1)
     ]
 
-pub one-script : (text : List ℕ) (a b : Result (List Order) ScriptFault) → IsScriptOf text a → IsScriptOf text b → a ≡ b
-one-script text (Ok x) (Ok y) h k = ap Ok (one-list x y h.fit k.fit (sym h.texts ∙ k.texts))
-one-script text (Ok x) (Err (fault.Line n)) h k = absurd (none-in (split text) k.before k.after x k.bad h k.is_bad k.texts)
-one-script text (Ok x) (Err fault.NoMemory) h k = absurd k
-one-script text (Err (fault.Line m)) (Ok y) h k = absurd (none-in (split text) h.before h.after y h.bad k h.is_bad h.texts)
-one-script text (Err (fault.Line m)) (Err (fault.Line n)) h k = ap (λ (i : ℕ). Err (fault.Line i)) (one-bad text m n h k)
-one-script text (Err (fault.Line m)) (Err fault.NoMemory) h k = absurd k
-one-script text (Err fault.NoMemory) b h k = absurd h
+pub one_script : (text : List ℕ) (a b : Result (List Order) ScriptFault) → IsScriptOf text a → IsScriptOf text b → a ≡ b
+one_script text (Ok x) (Ok y) h k = ap Ok (one_list x y h.fit k.fit (sym h.texts ∙ k.texts))
+one_script text (Ok x) (Err (fault.Line n)) h k = absurd (none_in (split text) k.before k.after x k.bad h k.is_bad k.texts)
+one_script text (Ok x) (Err fault.NoMemory) h k = absurd k
+one_script text (Err (fault.Line m)) (Ok y) h k = absurd (none_in (split text) h.before h.after y h.bad k h.is_bad h.texts)
+one_script text (Err (fault.Line m)) (Err (fault.Line n)) h k = ap (λ (i : ℕ). Err (fault.Line i)) (one_bad text m n h k)
+one_script text (Err (fault.Line m)) (Err fault.NoMemory) h k = absurd k
+one_script text (Err fault.NoMemory) b h k = absurd h

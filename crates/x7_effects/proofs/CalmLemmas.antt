@@ -7,7 +7,7 @@ use Rattle.x7_engine.specs.Clock.{newest_place}
 use Rattle.x7_engine.specs.Kept.{is_fallback}
 use Rattle.x7_engine.specs.Stops.{why_at, stop_of, stopped_at}
 use Rattle.x7_engine.specs.Watching.{timer_held, turns_on}
-use Rattle.x7_engine.proofs.ClockLemmas.{stop_of-access}
+use Rattle.x7_engine.proofs.ClockLemmas.{stop_of_access}
 use Rattle.x7_engine.proofs.RestLemmas.{stop_on}
 
 -- no watchdog runs
@@ -35,7 +35,7 @@ pub calm_access : (part : PartData) (kept : Kept) (h : History) (access : Access
 calm_access part kept h access n place l c none off =
     let before : IsCalm part kept h place = calm_bytes part kept h n place l c in
     record {
-      no_stop = stop_of-access part kept h access place before.no_stop ∙ ap (stopped_at place) none;
+      no_stop = stop_of_access part kept h access place before.no_stop ∙ ap (stopped_at place) none;
       off = off;
       newest = omega arith;
     }

@@ -5,7 +5,7 @@ use Rattle.x7_packets.specs.History.{History, entry, command_held, last_word, hi
 use Rattle.x7_packets.specs.RunningCheck.{RegisterWrite, open_writes, clears}
 use Rattle.x7_crc.specs.RunningCheck.{check_after, check_of}
 use Rattle.x7_crc.specs.OpenWrites.{in_order}
-use Rattle.x7_crc.proofs.CheckLemmas.{check_after-none, check_after_fits, check_of-more}
+use Rattle.x7_crc.proofs.CheckLemmas.{check_after_none, check_after_fits, check_of_more}
 use Rattle.x7_effects.proofs.Items.{Item, Noop, Dummy, Write, WriteLong, Read, ReadLong, item_words, IsItem, AreItems, writes_entered, item_entered, items_entered}
 use Rattle.x7_effects.proofs.Checking.{Checking, clears_by, after_write, after_writes, after_item, after_items, checking_of, Piece, Put, Check, piece_item, with_checks, IsPiece, ArePieces}
 
@@ -14,9 +14,9 @@ checking_is c d e f = ap (λ (x : ℕ). record { check = x; held = c.held }) e �
 
 check_by_tests : (b d : Bool) (r w : ℕ) (ws : List RegisterWrite)
     → check_of (in_order (if b then [] else if d then ws else record { register = r; word = w } ∷ ws)) ≡ (if b then 0 else if d then check_of (in_order ws) else check_after (check_of (in_order ws)) ((r, w) ∷ []))
-check_by_tests true d r w ws = check_after-none 0 (lit< tt)
+check_by_tests true d r w ws = check_after_none 0 (lit< tt)
 check_by_tests false true r w ws = refl
-check_by_tests false false r w ws = sym (check_of-more (check_of (in_order ws)) (in_order ws) ((r, w) ∷ []) refl)
+check_by_tests false false r w ws = sym (check_of_more (check_of (in_order ws)) (in_order ws) ((r, w) ∷ []) refl)
 
 held_by_test : (b : Bool) (w old : ℕ) → (if b then w else old) % 2 ^ 5 ≡ (if b then w % 2 ^ 5 else old % 2 ^ 5)
 held_by_test true w old = refl
@@ -80,4 +80,4 @@ checks_after c [] back = refl
 checks_after c (p ∷ prefix) back = ap (λ t. piece_item c p ∷ t) (checks_after (after_item c (piece_item c p)) prefix back)
 
 pub begins : checking_of [] ≡ record { check = 0; held = 0 }
-begins = checking_is (checking_of []) (record { check = 0; held = 0 }) (check_after-none 0 (lit< tt)) refl
+begins = checking_is (checking_of []) (record { check = 0; held = 0 }) (check_after_none 0 (lit< tt)) refl

@@ -7,7 +7,7 @@ use Rattle.std.proofs.lemmas.List.Elements.{All-head, All-tail}
 use Rattle.std.proofs.lemmas.Bool.Decides.{eqb_tells}
 use Rattle.x7_memory.proofs.ZeroLemmas.{zero_words}
 use Rattle.x7_words.specs.Word.{AreWords, AreBytes}
-use Rattle.x7_words.proofs.ListLemmas.{all-append}
+use Rattle.x7_words.proofs.ListLemmas.{all_append}
 use Rattle.x7_packets.specs.PacketWords.{no_op, sync_word}
 use Rattle.x7_packets.specs.Packet.{NoneEnds, ends_session}
 use Rattle.x7_part.specs.AddressOrder.{addresses_in}
@@ -18,14 +18,14 @@ use Rattle.x7_part.specs.declared.slot.Slot.{Slot}
 use Rattle.x7_part.specs.declared.slot.Slot.TheVariants.{Frame, Pad, End}
 use Rattle.x7_part.proofs.PartLemmas.{slots_count}
 use Rattle.x7_memory.specs.Planned.{PlanRow, PlanData, IsPlan, planned, planned_addresses}
-use Rattle.x7_memory.proofs.PlanLemmas.{planned_here, planned_behind}
+use Rattle.x7_memory.proofs.PlanLemmas.{planned_here, planned_after}
 use Rattle.x7_effects.proofs.Items.{Item, Write, WriteLong, items_entered, item_words, items_words, bytes_of_words, closed, opened, desync, bus_width_head}
 use Rattle.x7_effects.proofs.Checking.{Checking, Piece, Put, Check, IsPiece, ArePieces, ClearFirst, at_first, with_checks, piece_item, piece_length, pieces_length, after_item}
 use Rattle.x7_effects.proofs.Frames.{joined, AreWide, zero_frame, frame_of, frames_at, row_frames}
 use Rattle.x7_planner.specs.PartialStream.{Stretch, Copies, Rows}
 use Rattle.x7_effects.proofs.Streams.{stream_of, full_pieces, full_stream, copy_pieces, stretch_pieces, stretches_pieces, partial_pieces, read_pieces, HaveWords, IsStretch, AreStretches}
 use Rattle.x7_effects.proofs.FrameLemmas.{all_wide, plan_wide, first_small}
-use Rattle.x7_effects.proofs.StreamLemmas.{bytes_count, appended_history, appended_ends, head_leads, items_entered-append}
+use Rattle.x7_effects.proofs.StreamLemmas.{bytes_count, appended_history, appended_ends, head_leads, items_entered_append}
 use Rattle.x7_effects.proofs.CheckingLemmas.{pieces_fit}
 use Rattle.x7_packets.specs.Appended.{MayFollow}
 use Rattle.x7_packets.specs.ByHand.{reading_of}
@@ -49,7 +49,7 @@ long_fits ws l f = ((omega arith, l, f, none_of_data ws), λ s. absurd (let e : 
 
 joined_words : (frames : List (List ℕ)) → AllByRecursion AreWords frames → AreWords (joined frames)
 joined_words [] f = tt
-joined_words (frame ∷ frames) f = all-append (λ x. x < 2 ^ 32) frame (joined frames) f.0 (joined_words frames f.1)
+joined_words (frame ∷ frames) f = all_append (λ x. x < 2 ^ 32) frame (joined frames) f.0 (joined_words frames f.1)
 
 pub joined_length : (width : ℕ) (frames : List (List ℕ)) → AreWide width frames → length (joined frames) ≡ width * length frames
 joined_length width [] w = omega arith
@@ -63,7 +63,7 @@ planned_words [] far z f g = g
 planned_words (r ∷ rows) far z f g =
     elim (eqb_tells far r.far) [
       | inl y ↦ rw (planned_here r rows far y.1) (All-head (λ row. AreWords row.words) r rows f)
-      | inr n ↦ rw (planned_behind r rows far n.1) (planned_words rows far z (All-tail (λ row. AreWords row.words) r rows f) g)
+      | inr n ↦ rw (planned_after r rows far n.1) (planned_words rows far z (All-tail (λ row. AreWords row.words) r rows f) g)
     ]
 
 frames_words : (part : PartData) (plan : PlanData) (places : List Slot) → HaveWords plan.rows → AllByRecursion AreWords (frames_at part plan places)
@@ -163,7 +163,7 @@ stretch_fits part (Rows rows) f = (
 
 stretches_fit : (part : PartData) (stretches : List Stretch) → AreStretches part stretches → ArePieces (stretches_pieces part stretches)
 stretches_fit part [] f = tt
-stretches_fit part (s ∷ stretches) f = all-append IsPiece (stretch_pieces part s) (stretches_pieces part stretches) (stretch_fits part s f.0) (stretches_fit part stretches f.1)
+stretches_fit part (s ∷ stretches) f = all_append IsPiece (stretch_pieces part s) (stretches_pieces part stretches) (stretch_fits part s f.0) (stretches_fit part stretches f.1)
 
 pub partial_fits : (part : PartData) (stretches : List Stretch) → part.idcode < 2 ^ 32 → AreStretches part stretches → ArePieces (partial_pieces part stretches)
 partial_fits part stretches i f = (
@@ -174,7 +174,7 @@ partial_fits part stretches i f = (
       (tt, λ s. cc),
       (
         one_fits 12 part.idcode (omega arith) (λ h. omega (arith, h)) refl i,
-        all-append IsPiece (stretches_pieces part stretches) (Check ∷ []) (stretches_fit part stretches f) (tt, tt),
+        all_append IsPiece (stretches_pieces part stretches) (Check ∷ []) (stretches_fit part stretches f) (tt, tt),
       ),
     ),
   ),
@@ -232,4 +232,4 @@ stream_ends bytes pieces k b e f = appended_ends bytes bus_width_head (with_chec
 
 -- the word of DESYNC is the last access, and its place
 pub last_is : (n : ℕ) (items : List Item) (h : History) → items_entered n (items ++ desync ∷ []) h ≡ entry (access.Write 4 13) (n + 4 * length (items_words items) + 8) ∷ items_entered n items h
-last_is n items h = items_entered-append n items (desync ∷ []) h ∙ ap (λ (x : ℕ). entry (access.Write 4 13) x ∷ items_entered n items h) (omega arith)
+last_is n items h = items_entered_append n items (desync ∷ []) h ∙ ap (λ (x : ℕ). entry (access.Write 4 13) x ∷ items_entered n items h) (omega arith)

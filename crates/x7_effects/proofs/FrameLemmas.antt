@@ -9,14 +9,14 @@ use Rattle.std.proofs.lemmas.Bool.Decides.{eqb_tells}
 use Rattle.std.proofs.lemmas.Nat.{pow_pos}
 use Rattle.std.proofs.Math.Nat.{pow-le-pow_right}
 use Rattle.std.proofs.lemmas.List.{length-replicate}
-use Rattle.x7_pipeline.proofs.LawLemmas.{zip-nil}
+use Rattle.x7_pipeline.proofs.LawLemmas.{zip_nil}
 use Rattle.x7_part.specs.Part.{FieldWidths, RowData, PartData, frame_words}
 use Rattle.x7_part.specs.PartRange.{IsPart}
 use Rattle.x7_part.specs.FrameAddress.{AreRows, AreWidths, no_row, row, row_address, row_low, column_low, address_width, far_width}
 use Rattle.x7_part.proofs.SlotLemmas.{slots_all}
 use Rattle.x7_part.proofs.WidthLemmas.{columns_fit, pitch_least, row_within}
 use Rattle.x7_part.specs.AddressOrder.{addresses_of, addresses, addresses_in, row_addresses, count_from}
-use Rattle.x7_words.proofs.ListLemmas.{all-append}
+use Rattle.x7_words.proofs.ListLemmas.{all_append}
 use Rattle.x7_part.specs.Slots.{addresses_among, slots, slots_in}
 use Rattle.x7_part.specs.declared.slot.Slot.{Slot}
 use Rattle.x7_part.specs.declared.slot.Slot.TheVariants.{Frame, Pad, End}
@@ -25,10 +25,10 @@ use Rattle.x7_memory.specs.Frames.{zeros, zero_frames}
 use Rattle.x7_memory.specs.Planned.{PlanRow, PlanData, planned, planned_addresses, IsPlan, total}
 use Rattle.x7_memory.proofs.FrameLemmas.{among_none}
 use Rattle.x7_memory.proofs.MapLemmas.{zeros_at, unnamed_none}
-use Rattle.x7_memory.proofs.PlanLemmas.{planned_here, planned_behind}
+use Rattle.x7_memory.proofs.PlanLemmas.{planned_here, planned_after}
 use Rattle.x7_pipeline.specs.Runs.{onto, slots_from, written_frames, put_over}
 use Rattle.x7_pipeline.specs.InWords.{pair_of}
-use Rattle.x7_pipeline.proofs.SlotLemmas.{addresses_among-slots}
+use Rattle.x7_pipeline.proofs.SlotLemmas.{addresses_among_slots}
 use Rattle.x7_flow.proofs.InsideLemmas.{contains_or_not}
 use Rattle.x7_flow.proofs.StreamLemmas.{frames_land}
 use Rattle.x7_effects.proofs.Frames.{joined, AreWide, zero_frame, frame_of, frames_at, row_of, row_frames, row_slots}
@@ -54,7 +54,7 @@ out_of_reverse xs x h = rw (reverse-reverse xs) at (in_reverse (reverse xs) x h)
 -- ---- a plan's rows at slots that follow each other
 
 rows_paired : (rows : List PlanRow) (more : List Slot) → filter_map pair_of (zip (row_slots rows ++ more) (row_frames rows)) ≡ rows
-rows_paired [] more = ap (filter_map pair_of) (zip-nil more)
+rows_paired [] more = ap (filter_map pair_of) (zip_nil more)
 rows_paired (r ∷ rows) more = ap (λ t. r ∷ t) (rows_paired rows more)
 
 pub rows_land : (part : PartData) (base : ℕ) (rows : List PlanRow) (more : List Slot) (last : List ℕ) → 0 < frame_words part → AreWide (frame_words part) (row_frames rows ++ last ∷ [])
@@ -78,7 +78,7 @@ planned_wide width [] far z a l = l
 planned_wide width (r ∷ rows) far z a l =
     elim (eqb_tells far r.far) [
       | inl y ↦ ap (λ t. length (unwrap_or t z)) (planned_here r rows far y.1) ∙ All-head (λ row. length row.words ≡ width) r rows a
-      | inr n ↦ ap (λ t. length (unwrap_or t z)) (planned_behind r rows far n.1) ∙ planned_wide width rows far z (All-tail (λ row. length row.words ≡ width) r rows a) l
+      | inr n ↦ ap (λ t. length (unwrap_or t z)) (planned_after r rows far n.1) ∙ planned_wide width rows far z (All-tail (λ row. length row.words ≡ width) r rows a) l
     ]
 
 pub plan_wide : (part : PartData) (plan : PlanData) → IsPlan plan → plan.width ≡ frame_words part → (far : ℕ) → length (frame_of part plan (Frame far)) ≡ frame_words part
@@ -89,7 +89,7 @@ all_wide part plan [] w = tt
 all_wide part plan (s ∷ places) w = (frame_wide part plan s w, all_wide part plan places w)
 
 frames_paired : (part : PartData) (plan : PlanData) (places more : List Slot) → filter_map pair_of (zip (places ++ more) (frames_at part plan places)) ≡ map (row_of part plan) (addresses_among places)
-frames_paired part plan [] more = ap (filter_map pair_of) (zip-nil more)
+frames_paired part plan [] more = ap (filter_map pair_of) (zip_nil more)
 frames_paired part plan (Frame far ∷ places) more = ap (λ t. row_of part plan far ∷ t) (frames_paired part plan places more)
 frames_paired part plan (Pad ∷ places) more = frames_paired part plan places more
 frames_paired part plan (End ∷ places) more = frames_paired part plan places more
@@ -114,9 +114,9 @@ addresses_before_pad (Frame far ∷ places) = ap (λ t. far ∷ t) (addresses_be
 addresses_before_pad (Pad ∷ places) = addresses_before_pad places
 addresses_before_pad (End ∷ places) = addresses_before_pad places
 
-frames_at-append : (part : PartData) (plan : PlanData) (xs ys : List Slot) → frames_at part plan (xs ++ ys) ≡ frames_at part plan xs ++ frames_at part plan ys
-frames_at-append part plan [] ys = refl
-frames_at-append part plan (x ∷ xs) ys = ap (λ t. frame_of part plan x ∷ t) (frames_at-append part plan xs ys)
+frames_at_append : (part : PartData) (plan : PlanData) (xs ys : List Slot) → frames_at part plan (xs ++ ys) ≡ frames_at part plan xs ++ frames_at part plan ys
+frames_at_append part plan [] ys = refl
+frames_at_append part plan (x ∷ xs) ys = ap (λ t. frame_of part plan x ∷ t) (frames_at_append part plan xs ys)
 
 -- the frames of all slots land at all addresses in order
 pub slots_land : (part : PartData) (plan : PlanData) → IsPart part → IsPlan plan → plan.width ≡ frame_words part
@@ -126,9 +126,9 @@ slots_land part plan is p same_width =
     let e : EndsInPad (slots_in part) = slots_end part.far part.rows is.some in
     let frames : List (List ℕ) = frames_at part plan e.prefix in
     let last : List ℕ = zero_frame part in
-    let split : frames_at part plan (slots_in part) ≡ frames ++ last ∷ [] = ap (frames_at part plan) e.split ∙ frames_at-append part plan e.prefix (Pad ∷ []) in
+    let split : frames_at part plan (slots_in part) ≡ frames ++ last ∷ [] = ap (frames_at part plan) e.split ∙ frames_at_append part plan e.prefix (Pad ∷ []) in
     let wide : AreWide (frame_words part) (frames ++ last ∷ []) = rw split at (all_wide part plan (slots_in part) (plan_wide part plan p same_width)) in
-    let fars : addresses_in part ≡ addresses_among e.prefix = sym (addresses_among-slots part.far part.rows) ∙ ap addresses_among e.split ∙ addresses_before_pad e.prefix in
+    let fars : addresses_in part ≡ addresses_among e.prefix = sym (addresses_among_slots part.far part.rows) ∙ ap addresses_among e.split ∙ addresses_before_pad e.prefix in
     ap (λ t. written_frames part first (onto (joined t) [])) split
     ∙ frames_land part first frames last (omega (arith, is.words)) wide
     ∙ ap (λ t. reverse (filter_map pair_of (zip t frames))) (slots_all part is ∙ e.split)
@@ -141,7 +141,7 @@ row_here part plan [] far (k, low, e) = absurd (omega arith)
 row_here part plan (a ∷ fars) far (k, low, e) =
     elim (eqb_tells far a) [
       | inl y ↦ planned_here (row_of part plan a) (map (row_of part plan) fars) far y.1 ∙ ap (λ x. Some (frame_of part plan (Frame x))) (sym y.1)
-      | inr n ↦ planned_behind (row_of part plan a) (map (row_of part plan) fars) far n.1 ∙ row_here part plan fars far (later k low e n.1)
+      | inr n ↦ planned_after (row_of part plan a) (map (row_of part plan) fars) far n.1 ∙ row_here part plan fars far (later k low e n.1)
     ]
   where
     later : (k : ℕ) → k < length (a ∷ fars) → get_or (a ∷ fars) k far ≡ far → (far ≡ a → ⊥) → Contains fars far
@@ -183,7 +183,7 @@ columns_low base column pitch (n ∷ minors) top p a h =
     let few : n ≤ 128 = (All-head (λ k. (1 ≤ k) × (k ≤ 128)) n minors a).1 in
     let all : (column + (length minors + 1)) * pitch ≡ column * pitch + length minors * pitch + pitch = grind arith in
     let later : (column + 1 + length minors) * pitch ≡ column * pitch + length minors * pitch + pitch = grind arith in
-    all-append (λ x. x < top) (count_from (base + column * pitch) n) (row_addresses pitch base (column + 1) minors)
+    all_append (λ x. x < top) (count_from (base + column * pitch) n) (row_addresses pitch base (column + 1) minors)
     (count_low (base + column * pitch) n top (omega arith))
     (columns_low base (column + 1) pitch minors top p (All-tail (λ k. (1 ≤ k) × (k ≤ 128)) n minors a) (omega arith))
 
@@ -191,7 +191,7 @@ addresses_low : (far : FieldWidths) (least : ℕ) (rows : List RowData) → AreW
 unfolding addresses
 addresses_low far _ _ w (no_row f least) = tt
 addresses_low far _ _ w (row f least r rows le is rest) =
-    all-append (λ x. x < 2 ^ address_width far) (addresses_of far r) (addresses far rows)
+    all_append (λ x. x < 2 ^ address_width far) (addresses_of far r) (addresses far rows)
     (columns_low (row_address far r) 0 (2 ^ column_low far) r.minors (2 ^ address_width far) (pitch_least far w) is.minors
     (let top : row_address far r + 2 ^ row_low far ≤ 2 ^ address_width far = row_within far r w is in let few : (0 + length r.minors) * 2 ^ column_low far ≤ 2 ^ row_low far = columns_fit far (length r.minors) w is.columns in omega arith))
     (addresses_low far _ rows w rest)

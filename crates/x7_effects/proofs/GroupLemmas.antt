@@ -4,18 +4,18 @@ use Rattle.std.specs.List.{flat_map, AllByRecursion}
 use Rattle.std.proofs.lemmas.Grind.{flat_map-append, reverse_onto}
 use Rattle.std.proofs.lemmas.Bool.{cases_eq}
 use Rattle.std.proofs.lemmas.Bool.Decides.{nat_tests}
-use Rattle.x7_words.proofs.ListLemmas.{all-append, all_front, all_back}
+use Rattle.x7_words.proofs.ListLemmas.{all_append, all_prefix, all_back}
 use Rattle.x7_part.specs.Part.{PartData}
 use Rattle.x7_memory.specs.FrameMap.{FrameMap, override, AreSame}
 use Rattle.x7_memory.specs.Planned.{PlanRow, planned, planned_addresses, AreInOrder}
-use Rattle.x7_memory.proofs.PlanLemmas.{planned_here, planned_behind, order_tail}
+use Rattle.x7_memory.proofs.PlanLemmas.{planned_here, planned_after, order_tail}
 use Rattle.x7_memory.proofs.MapLemmas.{override_same}
 use Rattle.x7_pipeline.specs.Runs.{put_over}
 use Rattle.x7_pipeline.proofs.LawLemmas.{put_twice}
 use Rattle.x7_planner.specs.PartialStream.{Stretch, Copies, Rows}
 use Rattle.x7_planner.specs.PartialStream.{same_words, with_content, is_shared, leads_group, groups_led, others, follows, with_row, runs_of, stretches_of}
 use Rattle.x7_planner.specs.PartialStream.{joined_runs, IsRunOfRows, AreLongest, pairs_of}
-use Rattle.x7_planner.proofs.ContentLemmas.{same_words-true, same_words-own}
+use Rattle.x7_planner.proofs.ContentLemmas.{same_words_true, same_words_own}
 use Rattle.x7_effects.proofs.Groups.{put_stretches}
 
 -- ---- the address is one of these rows'
@@ -60,7 +60,7 @@ named_same : (rows pairs : List PlanRow) (far : ℕ) → Agree rows pairs → Na
 named_same rows [] far a n = absurd n
 named_same rows (p ∷ pairs) far a n = elim (cases_eq far p.far) [
   | inl e ↦ planned_here p pairs far e ∙ sym a.0 ∙ ap (planned rows) (sym e)
-  | inr x ↦ planned_behind p pairs far x ∙ named_same rows pairs far a.1 (in_rest n x)
+  | inr x ↦ planned_after p pairs far x ∙ named_same rows pairs far a.1 (in_rest n x)
 ]
   where
     in_rest : (p.far ≡ far) ⊎ Names far pairs → (far ≡ p.far → ⊥) → Names far pairs
@@ -70,12 +70,12 @@ named_same rows (p ∷ pairs) far a n = elim (cases_eq far p.far) [
 unnamed : (pairs : List PlanRow) (far : ℕ) → (Names far pairs → ⊥) → planned pairs far ≡ None
 unfolding planned
 unnamed [] far n = refl
-unnamed (p ∷ pairs) far n = planned_behind p pairs far (λ e. n (inl (sym e))) ∙ unnamed pairs far (λ m. n (inr m))
+unnamed (p ∷ pairs) far n = planned_after p pairs far (λ e. n (inl (sym e))) ∙ unnamed pairs far (λ m. n (inr m))
 
 uncovered : (rows pairs : List PlanRow) (far : ℕ) → Cover rows pairs → (Names far pairs → ⊥) → planned rows far ≡ None
 unfolding planned
 uncovered [] pairs far c n = refl
-uncovered (q ∷ rows) pairs far c n = planned_behind q rows far (λ e. n (subst (λ (x : ℕ). Names x pairs) (sym e) c.0)) ∙ uncovered rows pairs far c.1 n
+uncovered (q ∷ rows) pairs far c n = planned_after q rows far (λ e. n (subst (λ (x : ℕ). Names x pairs) (sym e) c.0)) ∙ uncovered rows pairs far c.1 n
 
 pub same_map : (rows pairs : List PlanRow) → Agree rows pairs → Cover rows pairs → AreSame (planned pairs) (planned rows)
 same_map rows pairs a c far = elim (names_or_not far pairs) [
@@ -94,7 +94,7 @@ later far r rows o n = in_rows rows (λ k d h. o 0 (suc k) d (omega arith) (omeg
 
 own_rest : (r : PlanRow) (rows qs : List PlanRow) → ((far : ℕ) → Names far qs → r.far < far) → Agree rows qs → Agree (r ∷ rows) qs
 own_rest r rows [] f a = tt
-own_rest r rows (q ∷ qs) f a = (planned_behind r rows q.far (λ e. let h : r.far < q.far = f q.far (inl refl) in omega (arith, e)) ∙ a.0, own_rest r rows qs (λ far n. f far (inr n)) a.1)
+own_rest r rows (q ∷ qs) f a = (planned_after r rows q.far (λ e. let h : r.far < q.far = f q.far (inl refl) in omega (arith, e)) ∙ a.0, own_rest r rows qs (λ far n. f far (inr n)) a.1)
 
 pub own : (rows : List PlanRow) → AreInOrder rows → Agree rows rows
 own [] o = tt
@@ -104,7 +104,7 @@ own (r ∷ rows) o = (planned_here r rows r.far refl, own_rest r rows rows (λ f
 
 all_reverse : (P : PlanRow → Type 0) (ps : List PlanRow) → AllByRecursion P ps → AllByRecursion P (reverse ps)
 all_reverse P [] a = tt
-all_reverse P (p ∷ ps) a = subst (AllByRecursion P) (sym (reverse_onto ps p [])) (all-append P (reverse ps) (p ∷ []) (all_reverse P ps a.1) (a.0, tt))
+all_reverse P (p ∷ ps) a = subst (AllByRecursion P) (sym (reverse_onto ps p [])) (all_append P (reverse ps) (p ∷ []) (all_reverse P ps a.1) (a.0, tt))
 
 -- all pairs of stretches, the newest first
 abbrev pub newest : List Stretch → List PlanRow
@@ -120,9 +120,9 @@ put_all (s ∷ stretches) memory far =
 newest_agrees : (rows : List PlanRow) (stretches : List Stretch) → Agree rows (flat_map pairs_of stretches) → Agree rows (newest stretches)
 newest_agrees rows [] a = tt
 newest_agrees rows (s ∷ stretches) a =
-    all-append (λ p. planned rows p.far ≡ Some p.words) (newest stretches) (reverse (pairs_of s))
+    all_append (λ p. planned rows p.far ≡ Some p.words) (newest stretches) (reverse (pairs_of s))
     (newest_agrees rows stretches (all_back (λ p. planned rows p.far ≡ Some p.words) (pairs_of s) (flat_map pairs_of stretches) a))
-    (all_reverse (λ p. planned rows p.far ≡ Some p.words) (pairs_of s) (all_front (λ p. planned rows p.far ≡ Some p.words) (pairs_of s) (flat_map pairs_of stretches) a))
+    (all_reverse (λ p. planned rows p.far ≡ Some p.words) (pairs_of s) (all_prefix (λ p. planned rows p.far ≡ Some p.words) (pairs_of s) (flat_map pairs_of stretches) a))
 
 pub names_either : (far : ℕ) (ps qs : List PlanRow) → Names far (ps ++ qs) → Names far ps ⊎ Names far qs
 names_either far [] qs n = inr n
@@ -157,7 +157,7 @@ content_agrees rows [] words a = tt
 content_agrees rows (q ∷ qs) words a = by_test (same_words q.words words) refl (content_agrees rows qs words a.1)
   where
     by_test : (b : Bool) → same_words q.words words ≡ b → Agree rows (Pairs words (with_content words qs)) → Agree rows (Pairs words (if b then q ∷ with_content words qs else with_content words qs))
-    by_test true t ih = (a.0 ∙ ap (λ x. Some x) (same_words-true q.words words t), ih)
+    by_test true t ih = (a.0 ∙ ap (λ x. Some x) (same_words_true q.words words t), ih)
     by_test false t ih = ih
 
 groups_agree : (all qs : List PlanRow) → Agree all all → Agree all (flat_map pairs_of (groups_led all qs))
@@ -165,7 +165,7 @@ groups_agree all [] a = tt
 groups_agree all (r ∷ qs) a = by_test (leads_group all r) (groups_agree all qs a)
   where
     by_test : (b : Bool) → Agree all (flat_map pairs_of (groups_led all qs)) → Agree all (flat_map pairs_of (if b then Copies r.words (planned_addresses (with_content r.words all)) ∷ groups_led all qs else groups_led all qs))
-    by_test true ih = all-append (λ p. planned all p.far ≡ Some p.words) (Pairs r.words (with_content r.words all)) (flat_map pairs_of (groups_led all qs)) (content_agrees all all r.words a) ih
+    by_test true ih = all_append (λ p. planned all p.far ≡ Some p.words) (Pairs r.words (with_content r.words all)) (flat_map pairs_of (groups_led all qs)) (content_agrees all all r.words a) ih
     by_test false ih = ih
 
 pub others_agree : (all qs : List PlanRow) → Agree all qs → Agree all (others all qs)
@@ -203,7 +203,7 @@ stretches_pairs part rows =
     ∙ ap (λ t. flat_map pairs_of (groups_led rows rows) ++ t) (runs_pairs (runs_of part (others rows rows)) ∙ runs_joined part (others rows rows))
 
 pub stretches_agree : (part : PartData) (rows : List PlanRow) → AreInOrder rows → Agree rows (flat_map pairs_of (stretches_of part rows))
-stretches_agree part rows o = rw (stretches_pairs part rows) (all-append (λ p. planned rows p.far ≡ Some p.words) (flat_map pairs_of (groups_led rows rows)) (others rows rows) (groups_agree rows rows (own rows o)) (others_agree rows rows (own rows o)))
+stretches_agree part rows o = rw (stretches_pairs part rows) (all_append (λ p. planned rows p.far ≡ Some p.words) (flat_map pairs_of (groups_led rows rows)) (others rows rows) (groups_agree rows rows (own rows o)) (others_agree rows rows (own rows o)))
 
 -- the row is one of these
 abbrev IsIn : PlanRow → List PlanRow → Type 0
@@ -217,7 +217,7 @@ content_names words q (r ∷ qs) i e = by_test (same_words r.words words) refl i
     by_test : (b : Bool) → same_words r.words words ≡ b → (r ≡ q) ⊎ IsIn q qs → (IsIn q qs → Names q.far (Pairs words (with_content words qs))) → Names q.far (Pairs words (if b then r ∷ with_content words qs else with_content words qs))
     by_test true t (inl h) ih = inl (ap (λ (x : PlanRow). x.far) h)
     by_test true t (inr i) ih = inr (ih i)
-    by_test false t (inl h) ih = absurd (let y : same_words words words ≡ true = same_words-own words in let z : r.words ≡ words = ap (λ (x : PlanRow). x.words) h ∙ e in let u : same_words r.words words ≡ true = rw z y in cc)
+    by_test false t (inl h) ih = absurd (let y : same_words words words ≡ true = same_words_own words in let z : r.words ≡ words = ap (λ (x : PlanRow). x.words) h ∙ e in let u : same_words r.words words ≡ true = rw z y in cc)
     by_test false t (inr i) ih = ih i
 
 -- the first row of a content
@@ -232,7 +232,7 @@ content_led words [] h = absurd (omega arith)
 content_led words (r ∷ qs) h = by_test (same_words r.words words) refl h (content_led words qs)
   where
     by_test : (b : Bool) → same_words r.words words ≡ b → 0 < length (if b then r ∷ with_content words qs else with_content words qs) → (0 < length (with_content words qs) → LeadsContent words qs) → LeadsContent words (r ∷ qs)
-    by_test true t h ih = record { row = r; there = inl refl; has = same_words-true r.words words t; first = rw t refl }
+    by_test true t h ih = record { row = r; there = inl refl; has = same_words_true r.words words t; first = rw t refl }
     by_test false t h ih = let l : LeadsContent words qs = ih h in record { row = l.row; there = inr l.there; has = l.has; first = rw t l.first }
 
 -- the group that a row leads is there, and names what has its content

@@ -2,7 +2,7 @@
 use Rattle.std.proofs.Common.{◌≡◌, ℕ, ◌<◌, List, [], ◌∷◌, ◌++◌, ap, ◌∙◌}
 use Rattle.std.specs.List.{flat_map, fold}
 use Rattle.x7_words.specs.Word.{AreBytes}
-use Rattle.x7_words.proofs.ListLemmas.{all-append}
+use Rattle.x7_words.proofs.ListLemmas.{all_append}
 use Rattle.x7_crc.specs.Checking.{check_of_bytes}
 use Rattle.x7_part.specs.Part.{PartData}
 use Rattle.x7_part.specs.PartRange.{IsPart}
@@ -25,13 +25,13 @@ use Rattle.x7_effects.proofs.StreamLemmas.{bytes_fit}
 
 pieces_fit : (pieces : List StreamPiece) (bytes : List ℕ) → AreBytes bytes → AreBytes (fold with_piece bytes pieces)
 pieces_fit [] bytes f = f
-pieces_fit (Words ws ∷ pieces) bytes f = pieces_fit pieces (bytes ++ bytes_of_words ws) (all-append (λ b. b < 256) bytes (bytes_of_words ws) f (bytes_fit ws))
+pieces_fit (Words ws ∷ pieces) bytes f = pieces_fit pieces (bytes ++ bytes_of_words ws) (all_append (λ b. b < 256) bytes (bytes_of_words ws) f (bytes_fit ws))
 pieces_fit (Check ∷ pieces) bytes f =
     let check : List ℕ = check_words (check_of_bytes bytes) in
-    pieces_fit pieces (bytes ++ bytes_of_words check) (all-append (λ b. b < 256) bytes (bytes_of_words check) f (bytes_fit check))
+    pieces_fit pieces (bytes ++ bytes_of_words check) (all_append (λ b. b < 256) bytes (bytes_of_words check) f (bytes_fit check))
 
 longer_fits : (bytes : List ℕ) (pieces : List StreamPiece) → AreBytes bytes → AreBytes (bytes ++ stream_of pieces)
-longer_fits bytes pieces f = all-append (λ b. b < 256) bytes (stream_of pieces) f (pieces_fit pieces [] tt)
+longer_fits bytes pieces f = all_append (λ b. b < 256) bytes (stream_of pieces) f (pieces_fit pieces [] tt)
 
 full_fits : (part : PartData) (bytes : List ℕ) (plan : PlanData) → AreBytes bytes → AreBytes (bytes ++ full_stream part plan)
 full_fits part bytes plan f = longer_fits bytes (full_pieces part plan) f

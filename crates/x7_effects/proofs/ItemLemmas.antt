@@ -11,7 +11,7 @@ use Rattle.x7_packets.specs.Packet.{Packet, EachPacket, IsPacket, IsWhole, NoneE
 use Rattle.x7_packets.specs.Taking.{AllWhole}
 use Rattle.x7_packets.specs.History as access
 use Rattle.x7_packets.specs.History.{History, entry, entered, entered_all}
-use Rattle.x7_packets.proofs.HistoryLemmas.{entered_all-append}
+use Rattle.x7_packets.proofs.HistoryLemmas.{entered_all_append}
 use Rattle.x7_effects.proofs.Items.{Item, Noop, Dummy, Write, WriteLong, Read, ReadLong, item_words, items_words, IsItem, AreItems, writes_entered, item_entered, items_entered}
 
 -- what header words mean
@@ -78,13 +78,13 @@ item_whole l (ReadLong r n) f = (
   (bare (Some r) (type2_read n) (step.Read r n) (omega (arith, f.2)) (sym (long_read_means r n f.2)), bare_whole (type2_read n) (step.Read r n) refl, tt),
 )
 
-whole-append : (l : Option ℕ) (ps qs : List Packet) → AllWhole l ps → ((k : Option ℕ) → AllWhole k qs) → AllWhole l (ps ++ qs)
-whole-append l [] qs a b = b l
-whole-append l (p ∷ ps) qs a b = (a.0, a.1, whole-append (latest_after l p.step) ps qs a.2 b)
+whole_append : (l : Option ℕ) (ps qs : List Packet) → AllWhole l ps → ((k : Option ℕ) → AllWhole k qs) → AllWhole l (ps ++ qs)
+whole_append l [] qs a b = b l
+whole_append l (p ∷ ps) qs a b = (a.0, a.1, whole_append (latest_after l p.step) ps qs a.2 b)
 
 pub items_whole : (l : Option ℕ) (items : List Item) → AreItems items → AllWhole l (items_packets items)
 items_whole l [] f = tt
-items_whole l (i ∷ items) f = whole-append l (item_packets i) (items_packets items) (item_whole l i f.0) (λ k. items_whole k items f.1)
+items_whole l (i ∷ items) f = whole_append l (item_packets i) (items_packets items) (item_whole l i f.0) (λ k. items_whole k items f.1)
 
 -- whole packets are packets that do not end the session
 pub each_of_whole : (l : Option ℕ) (ps : List Packet) → AllWhole l ps → EachPacket l ps
@@ -146,7 +146,7 @@ pub items_enter : (place : ℕ) (items : List Item) (h : History) → AreItems i
 items_enter place [] h f = refl
 items_enter place (i ∷ items) h f =
     ap (λ t. entered_all place t h) (flat_map-append stepped (item_packets i) (items_packets items))
-    ∙ entered_all-append place (flat_map stepped (item_packets i)) (flat_map stepped (items_packets items)) h
+    ∙ entered_all_append place (flat_map stepped (item_packets i)) (flat_map stepped (items_packets items)) h
     ∙ ap (λ (x : ℕ). entered_all x (flat_map stepped (items_packets items)) (entered_all place (flat_map stepped (item_packets i)) h)) (omega (arith, length_stepped (item_packets i), ap length (item_same i)))
     ∙ ap (λ (t : History). entered_all (place + 4 * length (item_words i)) (flat_map stepped (items_packets items)) t) (item_enters place i h f.0)
     ∙ items_enter (place + 4 * length (item_words i)) items (item_entered place i h) f.1

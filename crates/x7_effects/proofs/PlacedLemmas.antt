@@ -7,7 +7,7 @@ use Rattle.std.proofs.lemmas.Bool.{cases_eq, eqb-true}
 use Rattle.std.proofs.lemmas.List.{length-replicate}
 use Rattle.x7_planner.proofs.RunLemmas.{all_rows, others_all, others_fewer}
 use Rattle.x7_words.specs.Word.{AreWords}
-use Rattle.x7_words.proofs.ListLemmas.{all-append, all_front, all_back}
+use Rattle.x7_words.proofs.ListLemmas.{all_append, all_prefix, all_back}
 use Rattle.x7_part.specs.AddressOrder.{addresses_in, Rises}
 use Rattle.x7_part.specs.Part.{PartData, frame_words}
 use Rattle.x7_part.specs.PartRange.{IsPart}
@@ -18,7 +18,7 @@ use Rattle.x7_part.proofs.RowLemmas.{part_rises}
 use Rattle.x7_memory.specs.Planned.{PlanRow, planned_addresses}
 use Rattle.x7_pipeline.specs.Runs.{frames_of, slots_from, in_slots, written_frames, onto, but_newest}
 use Rattle.x7_pipeline.specs.Copies.{newest_of}
-use Rattle.x7_pipeline.proofs.SlotLemmas.{addresses_among-slots, slot_among}
+use Rattle.x7_pipeline.proofs.SlotLemmas.{addresses_among_slots, slot_among}
 use Rattle.x7_planner.proofs.FewLemmas.{rises_in, rises_rest, by_rows}
 use Rattle.x7_effects.proofs.Frames.{joined, AreWide, zero_frame, row_frames}
 use Rattle.x7_planner.specs.PartialStream.{Copies, Rows}
@@ -110,7 +110,7 @@ runs_placed part (r ∷ rows) s h = row_placed part r (runs_of part rows) s h.0 
 -- what holds of each row holds of each row of each run, and of the rows that are not shared
 each_run : (P : PlanRow → Type 0) (runs : List (List PlanRow)) → AllByRecursion P (run_rows runs) → AllByRecursion (AllByRecursion P) runs
 each_run P [] a = tt
-each_run P (run ∷ runs) a = (all_front P run (run_rows runs) a, each_run P runs (all_back P run (run_rows runs) a))
+each_run P (run ∷ runs) a = (all_prefix P run (run_rows runs) a, each_run P runs (all_back P run (run_rows runs) a))
 
 pub of_content : (P : PlanRow → Type 0) (words : List ℕ) (qs : List PlanRow) → AllByRecursion P qs → AllByRecursion P (with_content words qs)
 of_content P words [] a = tt
@@ -152,18 +152,18 @@ groups_land part all (r ∷ qs) some w = by_test (leads_group all r) (groups_lan
     by_test false ih = ih
 
 here_of : (part : PartData) (rows : List PlanRow) → All (λ row. Contains (addresses_in part) row.far) rows → AreHere part rows
-here_of part rows a = rw (addresses_among-slots part.far part.rows) (by_rows (λ row. Contains (addresses_in part) row.far) rows a)
+here_of part rows a = rw (addresses_among_slots part.far part.rows) (by_rows (λ row. Contains (addresses_in part) row.far) rows a)
 
 -- the runs of a plan's other rows stand at slots that follow one another
 pub plan_placed : (part : PartData) (rows : List PlanRow) → IsPart part → All (λ row. Contains (addresses_in part) row.far) rows → AllByRecursion (IsPlaced part) (runs_of part (others rows rows))
 plan_placed part rows is h =
-    let rises : Rises 0 (addresses_among (slots_in part)) = rw (addresses_among-slots part.far part.rows) (part_rises part.far part.rows is.far is.rows) in
+    let rises : Rises 0 (addresses_among (slots_in part)) = rw (addresses_among_slots part.far part.rows) (part_rises part.far part.rows is.far is.rows) in
     runs_placed part (others rows rows) rises (others_all (λ row. Contains (addresses_among (slots_in part)) row.far) rows rows (here_of part rows h))
 
 pub stretches_land : (part : PartData) (rows : List PlanRow) → IsPart part → All (λ row. length row.words ≡ frame_words part) rows → All (λ row. Contains (addresses_in part) row.far) rows → AllByRecursion (LandsAs part) (stretches_of part rows)
 stretches_land part rows is w h =
     let wide : AllByRecursion (λ row. length row.words ≡ frame_words part) rows = by_rows (λ row. length row.words ≡ frame_words part) rows w in
-    all-append (LandsAs part) (groups_led rows rows) (map Rows (runs_of part (others rows rows)))
+    all_append (LandsAs part) (groups_led rows rows) (map Rows (runs_of part (others rows rows)))
     (groups_land part rows rows (omega (arith, is.words)) wide)
     (runs_land part (runs_of part (others rows rows)) (omega (arith, is.words))
     (plan_placed part rows is h)
@@ -206,7 +206,7 @@ stretches_are part rows n f a w =
     let aa : AllByRecursion (λ row. AreWords row.words) rows = by_rows (λ row. AreWords row.words) rows a in
     let ww : AllByRecursion (λ row. length row.words ≡ frame_words part) rows = by_rows (λ row. length row.words ≡ frame_words part) rows w in
     let few : length (run_rows (runs_of part (others rows rows))) ≤ length rows = rw (runs_joined part (others rows rows)) (others_fewer rows rows) in
-    all-append (IsStretch part) (groups_led rows rows) (map Rows (runs_of part (others rows rows)))
+    all_append (IsStretch part) (groups_led rows rows) (map Rows (runs_of part (others rows rows)))
     (groups_fit part rows rows (omega arith) ff aa ww)
     (runs_fit part (length rows) (runs_of part (others rows rows)) few n (of_runs (λ row. row.far < 2 ^ 32) part rows ff) (of_runs (λ row. AreWords row.words) part rows aa) (of_runs (λ row. length row.words ≡ frame_words part) part rows ww))
 

@@ -7,7 +7,7 @@ use Rattle.std.proofs.lemmas.Bool.Decides.{nat_tests}
 use Rattle.std.proofs.Math.Nat.{mod-eq_of_lt, mul-le-mul_left}
 use Rattle.std.proofs.lemmas.List.{length-replicate}
 use Rattle.x7_planner.proofs.FewLemmas.{by_rows}
-use Rattle.x7_words.proofs.ListLemmas.{all-append}
+use Rattle.x7_words.proofs.ListLemmas.{all_append}
 use Rattle.x7_part.specs.AddressOrder.{addresses_in}
 use Rattle.x7_part.specs.Part.{PartData, frame_words}
 use Rattle.x7_part.specs.PartRange.{IsPart}
@@ -124,7 +124,7 @@ pub stretches_stand : (part : PartData) (rows : List PlanRow) → IsPart part �
 stretches_stand part rows is w h =
     let wide : AllByRecursion (λ row. length row.words ≡ frame_words part) rows = by_rows (λ row. length row.words ≡ frame_words part) rows w in
     let here : AllByRecursion (λ row. Contains (addresses_in part) row.far) rows = by_rows (λ row. Contains (addresses_in part) row.far) rows h in
-    all-append (Stands part) (groups_led rows rows) (map Rows (runs_of part (others rows rows)))
+    all_append (Stands part) (groups_led rows rows) (map Rows (runs_of part (others rows rows)))
     (groups_stand part rows rows is here wide)
     (runs_stand part (runs_of part (others rows rows)) is (plan_placed part rows is h)
     (of_runs (λ row. Contains (addresses_in part) row.far) part rows here) (of_runs (λ row. length row.words ≡ frame_words part) part rows wide))

@@ -8,7 +8,7 @@ use Rattle.x7_regs.specs.Register.{number_of}
 use Rattle.x7_regs.specs.declared.command.Command.TheVariants.{Desync, Lfrm, Mfw, Rcrc, Shutdown, Start, Wcfg}
 use Rattle.x7_regs.specs.declared.register.Reg.TheVariants.{Cor0, Ctl0, Far, Fdri, Idcode, Mask}
 use Rattle.x7_words.specs.Word.{bytes_of_word}
-use Rattle.x7_words.proofs.ListLemmas.{all-append}
+use Rattle.x7_words.proofs.ListLemmas.{all_append}
 use Rattle.x7_crc.specs.Checking.{check_of_bytes}
 use Rattle.x7_part.specs.AddressOrder.{addresses_in}
 use Rattle.x7_part.specs.Part.{PartData, frame_words}
@@ -79,7 +79,7 @@ spelled_all : (prefix pieces : List Piece) → ArePieces prefix → ArePieces pi
 spelled_all prefix [] f g = ap bytes_so (sym (append-nil prefix))
 spelled_all prefix (p ∷ pieces) f g =
     ap (λ b. fold planner.with_piece b (map spelled pieces)) (spelled_one prefix p f)
-    ∙ spelled_all (prefix ++ p ∷ []) pieces (all-append IsPiece prefix (p ∷ []) f (g.0, tt)) g.1
+    ∙ spelled_all (prefix ++ p ∷ []) pieces (all_append IsPiece prefix (p ∷ []) f (g.0, tt)) g.1
     ∙ ap bytes_so (append_assoc prefix (p ∷ []) pieces)
 
 -- DESYNC and the no-ops
@@ -205,7 +205,7 @@ groups_width part all (r ∷ qs) w = by (leads_group all r) (groups_width part a
 
 stretches_width : (part : PartData) (rows : List PlanRow) → AllByRecursion (λ row. length row.words ≡ frame_words part) rows → AllByRecursion (HasWidth part) (stretches_of part rows)
 stretches_width part rows w =
-    all-append (HasWidth part) (groups_led rows rows) (map stretch.Rows (runs_of part (others rows rows)))
+    all_append (HasWidth part) (groups_led rows rows) (map stretch.Rows (runs_of part (others rows rows)))
     (groups_width part rows rows w) (runs_width part (runs_of part (others rows rows)) (of_runs (λ row. length row.words ≡ frame_words part) part rows w))
 
 -- the pieces before the check

@@ -58,9 +58,9 @@ stream_silent part kept bytes pieces noops f e a c s before after =
 
 -- ---- the pieces of a plan's frames alone
 
-silent-append : (xs ys : List Piece) → AreSilent xs → AreSilent ys → AreSilent (xs ++ ys)
-silent-append [] ys a b = b
-silent-append (x ∷ xs) ys a b = (a.0, silent-append xs ys a.1 b)
+silent_append : (xs ys : List Piece) → AreSilent xs → AreSilent ys → AreSilent (xs ++ ys)
+silent_append [] ys a b = b
+silent_append (x ∷ xs) ys a b = (a.0, silent_append xs ys a.1 b)
 
 copies_silent : (fars : List ℕ) → AreSilent (flat_map copy_pieces fars)
 copies_silent [] = tt
@@ -71,8 +71,8 @@ stretch_silent part (Copies words fars) = (tt, (tt, (tt, (tt, copies_silent fars
 stretch_silent part (Rows rows) = (tt, (tt, (tt, tt)))
 
 pub stretches_silent : (part : PartData) (stretches : List Stretch) (more : List Piece) → AreSilent more → AreSilent (stretches_pieces part stretches ++ more)
-stretches_silent part stretches more a = silent-append (stretches_pieces part stretches) more (each stretches) a
+stretches_silent part stretches more a = silent_append (stretches_pieces part stretches) more (each stretches) a
   where
     each : (stretches : List Stretch) → AreSilent (stretches_pieces part stretches)
     each [] = tt
-    each (s ∷ stretches) = silent-append (stretch_pieces part s) (stretches_pieces part stretches) (stretch_silent part s) (each stretches)
+    each (s ∷ stretches) = silent_append (stretch_pieces part s) (stretches_pieces part stretches) (stretch_silent part s) (each stretches)

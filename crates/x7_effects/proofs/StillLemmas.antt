@@ -7,7 +7,7 @@ use Rattle.x7_startup.specs.Calls.{Begun, Call, NotBegun, StartupProgress, cor0_
 use Rattle.x7_startup.specs.Calls as call
 use Rattle.x7_startup.specs.Lines.{done_line, gts_line, gwe_line}
 use Rattle.x7_startup.specs.declared.lines.Lines.{Lines}
-use Rattle.x7_startup.proofs.CallLemmas.{first_place, further, is_armed-arm, is_armed-bytes, is_armed-desync, is_armed-drop, progress_arm, progress_bytes, progress_desync, progress_drop}
+use Rattle.x7_startup.proofs.CallLemmas.{first_place, further, is_armed_arm, is_armed_bytes, is_armed_desync, is_armed_drop, progress_arm, progress_bytes, progress_desync, progress_drop}
 use Rattle.x7_startup.proofs.PhaseLemmas.{one_phase}
 use Rattle.x7_engine.specs.Clock.{newest_place}
 use Rattle.x7_engine.specs.Startup.{phase_by, phase_of, startup_call, startup_calls, startup_progress}
@@ -24,7 +24,7 @@ pub startup_bytes : (h : History) (n m : ℕ) (armed : Bool) (progress : Startup
 startup_bytes h n m armed progress l k s =
     let sum : n + (m - n) ≡ m = omega (arith, k) in
     subst (λ (x : ℕ). HasStartup h x armed (further (m - n) progress)) sum (record {
-      armed_is = ap (λ (t : List Call). is_armed false (since_taking t)) (startup_more h n (m - n) l) ∙ is_armed-bytes (startup_calls h n) (m - n) ∙ s.armed_is;
+      armed_is = ap (λ (t : List Call). is_armed false (since_taking t)) (startup_more h n (m - n) l) ∙ is_armed_bytes (startup_calls h n) (m - n) ∙ s.armed_is;
       progress_is = ap progress_of (startup_more h n (m - n) l) ∙ progress_bytes (startup_calls h n) (m - n) ∙ ap (further (m - n)) s.progress_is;
     })
 
@@ -46,7 +46,7 @@ pub startup_armed : (h : History) (access : Access) (place : ℕ) (armed : Bool)
 startup_armed h access place armed progress e s =
     let calls : startup_calls (entry access place ∷ h) place ≡ startup_calls h place ++ call.Arm ∷ [] = entered_by h access place (call.Arm ∷ []) e in
     record {
-      armed_is = ap (λ (t : List Call). is_armed false (since_taking t)) calls ∙ is_armed-arm (startup_calls h place);
+      armed_is = ap (λ (t : List Call). is_armed false (since_taking t)) calls ∙ is_armed_arm (startup_calls h place);
       progress_is = ap progress_of calls ∙ progress_arm (startup_calls h place) ∙ s.progress_is;
     }
 
@@ -55,7 +55,7 @@ pub startup_dropped : (h : History) (access : Access) (place : ℕ) → startup_
 startup_dropped h access place e =
     let calls : startup_calls (entry access place ∷ h) place ≡ startup_calls h place ++ call.DropBack ∷ [] = entered_by h access place (call.DropBack ∷ []) e in
     record {
-      armed_is = ap (λ (t : List Call). is_armed false (since_taking t)) calls ∙ is_armed-drop (startup_calls h place);
+      armed_is = ap (λ (t : List Call). is_armed false (since_taking t)) calls ∙ is_armed_drop (startup_calls h place);
       progress_is = ap progress_of calls ∙ progress_drop (startup_calls h place);
     }
 
@@ -65,7 +65,7 @@ pub startup_desynced : (h : History) (access : Access) (place cor0 : ℕ) (armed
 startup_desynced h access place cor0 armed progress e s =
     let calls : startup_calls (entry access place ∷ h) place ≡ startup_calls h place ++ call.Desync cor0 ∷ [] = entered_by h access place (call.Desync cor0 ∷ []) e in
     record {
-      armed_is = ap (λ (t : List Call). is_armed false (since_taking t)) calls ∙ is_armed-desync (startup_calls h place) cor0;
+      armed_is = ap (λ (t : List Call). is_armed false (since_taking t)) calls ∙ is_armed_desync (startup_calls h place) cor0;
       progress_is = ap progress_of calls ∙ progress_desync (startup_calls h place) cor0
           ∙ ap (λ (p : StartupProgress). first_place p (is_armed false (since_taking (startup_calls h place))) cor0) s.progress_is
           ∙ ap (λ (b : Bool). first_place progress b cor0) s.armed_is;
@@ -73,7 +73,7 @@ startup_desynced h access place cor0 armed progress e s =
 
 -- DESYNC is the newest access, or there is none: startup isn't armed
 pub never_armed : (n : ℕ) → is_armed false (since_taking (startup_calls [] n)) ≡ false
-never_armed n = is_armed-bytes [] n
+never_armed n = is_armed_bytes [] n
 
 pub disarmed : (h : History) (access : Access) (place n cor0 : ℕ) → startup_call h access ≡ call.Desync cor0 ∷ [] → place ≤ n → is_armed false (since_taking (startup_calls (entry access place ∷ h) n)) ≡ false
 disarmed h access place n cor0 e l =

@@ -3,7 +3,7 @@ use Rattle.std.proofs.Common.{◌≡◌, ℕ, zero, suc, ◌+◌, ◌*◌, ◌<�
 use Rattle.std.proofs.lemmas.Grind.{flat_map-append}
 use Rattle.std.specs.List.{flat_map}
 use Rattle.x7_words.specs.Word.{AreBytes, bytes_of_word}
-use Rattle.x7_words.proofs.ListLemmas.{all-append}
+use Rattle.x7_words.proofs.ListLemmas.{all_append}
 use Rattle.x7_packets.specs.SyncWord.{sync_bytes}
 use Rattle.x7_packets.specs.PacketWords.{no_op, sync_word, type1_write}
 use Rattle.x7_packets.specs.declared.header.Step.TheVariants as step
@@ -13,9 +13,9 @@ use Rattle.x7_packets.specs.Reading.{Searching, Synced, Session, IsReading, IsSe
 use Rattle.x7_packets.specs.ByHand.{reading_of}
 use Rattle.x7_packets.specs.History as access
 use Rattle.x7_packets.specs.History.{History, entry, entered_all, history, history_of}
-use Rattle.x7_packets.proofs.PacketLemmas.{each_more, ended-more}
+use Rattle.x7_packets.proofs.PacketLemmas.{each_more, ended_more}
 use Rattle.x7_packets.proofs.ByHandLemmas.{reading_is}
-use Rattle.x7_packets.proofs.HistoryLemmas.{entered_all-append, history_is}
+use Rattle.x7_packets.proofs.HistoryLemmas.{entered_all_append, history_is}
 use Rattle.x7_packets.specs.Appended.{LacksFirst, MayFollow, moved}
 use Rattle.x7_effects.proofs.Items.{Item, Noop, Dummy, Write, WriteLong, Read, ReadLong, item_words, items_words, AreItems, writes_entered, item_entered, items_entered, desync, bytes_of_words, opened, closed, MayLead, bus_width_head}
 use Rattle.x7_packets.proofs.SeamLemmas.{none_without_first, first_without}
@@ -67,7 +67,7 @@ is_session : (leading : List ℕ) (items : List Item) → MayLead leading → Ar
 is_session leading items m f = record {
   first = first_without (bytes_of_words leading) m.lacks;
   packets = each_more None (items_packets items) (packet (type1_write 4 1) (step.Open 4 1) (13 ∷ [])) (items_whole None items f) (is_last (latest_of None (items_packets items)));
-  ended = ended-more (items_packets items) (packet (type1_write 4 1) (step.Open 4 1) (13 ∷ []));
+  ended = ended_more (items_packets items) (packet (type1_write 4 1) (step.Open 4 1) (13 ∷ []));
 }
 
 session_words : (items : List Item) → items_words (items ++ desync ∷ []) ≡ flat_map words (items_packets items ++ packet (type1_write 4 1) (step.Open 4 1) (13 ∷ []) ∷ [])
@@ -93,10 +93,10 @@ closed_reading leading items k m f =
       ends = none_without_first rest (noops_lack k);
     }
 
-pub items_entered-append : (n : ℕ) (xs ys : List Item) (h : History) → items_entered n (xs ++ ys) h ≡ items_entered (n + 4 * length (items_words xs)) ys (items_entered n xs h)
-items_entered-append n [] ys h = ap (λ (x : ℕ). items_entered x ys h) (omega arith)
-items_entered-append n (i ∷ xs) ys h =
-    items_entered-append (n + 4 * length (item_words i)) xs ys (item_entered n i h)
+pub items_entered_append : (n : ℕ) (xs ys : List Item) (h : History) → items_entered n (xs ++ ys) h ≡ items_entered (n + 4 * length (items_words xs)) ys (items_entered n xs h)
+items_entered_append n [] ys h = ap (λ (x : ℕ). items_entered x ys h) (omega arith)
+items_entered_append n (i ∷ xs) ys h =
+    items_entered_append (n + 4 * length (item_words i)) xs ys (item_entered n i h)
     ∙ ap (λ (x : ℕ). items_entered x ys (items_entered (n + 4 * length (item_words i)) xs (item_entered n i h))) (omega (arith, length-append (item_words i) (items_words xs)))
 
 pub closed_history : (leading : List ℕ) (items : List Item) (k : ℕ) → MayLead leading → AreItems items → history_of (bytes_of_words (closed leading items k)) ≡ items_entered (4 * length leading + 4) (items ++ desync ∷ []) []
@@ -107,10 +107,10 @@ closed_history leading items k m f =
     sym (history_is (bytes_of_words (closed leading items k)) (session_of leading items ∷ []) (Searching (bytes_of_words (replicate k no_op))) (closed_reading leading items k m f))
     ∙ ap (λ (x : ℕ). entered_all x (flat_map stepped (ps ++ d ∷ [])) []) (omega (arith, bytes_count leading))
     ∙ ap (λ t. entered_all n t []) (flat_map-append stepped ps (d ∷ []))
-    ∙ entered_all-append n (flat_map stepped ps) (stepped d) []
+    ∙ entered_all_append n (flat_map stepped ps) (stepped d) []
     ∙ ap (λ (t : History). entered_all (n + 4 * length (flat_map stepped ps)) (stepped d) t) (items_enter n items [] f)
     ∙ ap (λ (x : ℕ). entered_all x (stepped d) (items_entered n items [])) (omega (arith, length_stepped ps, ap length (items_same items)))
-    ∙ sym (items_entered-append n items (desync ∷ []) [])
+    ∙ sym (items_entered_append n items (desync ∷ []) [])
 
 pub closed_place : (leading : List ℕ) (items : List Item) (k : ℕ) → MayLead leading → AreItems items → (reading_of (bytes_of_words (closed leading items k))).place ≡ Searching (bytes_of_words (replicate k no_op))
 closed_place leading items k m f =
@@ -143,14 +143,14 @@ items_moved n place k (i ∷ items) h g e =
 pub appended_history : (bytes leading : List ℕ) (items : List Item) (k : ℕ) → AreBytes bytes → MayFollow (reading_of bytes).place (bytes_of_words (closed leading items k)) → MayLead leading → AreItems items
     → history_of (bytes ++ bytes_of_words (closed leading items k)) ≡ items_entered (length bytes + 4 * length leading + 4) (items ++ desync ∷ []) (history_of bytes)
 appended_history bytes leading items k b e m f =
-    history_after bytes (bytes_of_words (closed leading items k)) (all-append (λ x. x < 256) bytes (bytes_of_words (closed leading items k)) b (bytes_fit (closed leading items k))) e
+    history_after bytes (bytes_of_words (closed leading items k)) (all_append (λ x. x < 256) bytes (bytes_of_words (closed leading items k)) b (bytes_fit (closed leading items k))) e
     ∙ ap (λ (t : History). moved (length bytes) t ++ history_of bytes) (closed_history leading items k m f)
     ∙ sym (items_moved (length bytes) (4 * length leading + 4) (length bytes + 4 * length leading + 4) (items ++ desync ∷ []) [] (history_of bytes) (omega arith))
 
 pub appended_ends : (bytes leading : List ℕ) (items : List Item) (k : ℕ) → AreBytes bytes → MayFollow (reading_of bytes).place (bytes_of_words (closed leading items k)) → MayLead leading → AreItems items
     → is_synced (reading_of (bytes ++ bytes_of_words (closed leading items k))).place ≡ false
 appended_ends bytes leading items k b e m f =
-    ends_after bytes (bytes_of_words (closed leading items k)) (all-append (λ x. x < 256) bytes (bytes_of_words (closed leading items k)) b (bytes_fit (closed leading items k))) e
+    ends_after bytes (bytes_of_words (closed leading items k)) (all_append (λ x. x < 256) bytes (bytes_of_words (closed leading items k)) b (bytes_fit (closed leading items k))) e
     ∙ ap is_synced (closed_place leading items k m f)
 
 pub head_leads : MayLead bus_width_head

@@ -4,7 +4,7 @@ use Rattle.x7_packets.specs.History.{Entry, History, Placed, executes, last_word
 use Rattle.x7_packets.proofs.GrowthLemmas.{placed_within}
 use Rattle.x7_startup.specs.Calls.{Begun, Call, NotBegun, StartupProgress, is_armed, progress_of, since_taking}
 use Rattle.x7_startup.specs.Calls as call
-use Rattle.x7_startup.proofs.CallLemmas.{first_place, further, is_armed-arm, is_armed-bytes, is_armed-desync, is_armed-drop, progress_arm, progress_bytes, progress_desync, progress_drop}
+use Rattle.x7_startup.proofs.CallLemmas.{first_place, further, is_armed_arm, is_armed_bytes, is_armed_desync, is_armed_drop, progress_arm, progress_bytes, progress_desync, progress_drop}
 use Rattle.x7_engine.specs.Registers.{takes_shutdown}
 use Rattle.x7_engine.specs.Sequence.{Begins, Executes, IsArmed, IsArmedDesync, disarms}
 use Rattle.x7_engine.specs.Since.{NoneSince, Since}
@@ -95,21 +95,21 @@ after_call h e a o s = by (executes 5 h e.access) (takes_shutdown h e.access) (e
         → AfterCall (calls ++ (if x then call.Arm ∷ [] else if t then call.DropBack ∷ [] else if d then call.Desync now.cor0 ∷ [] else [])) (armed_by x (d || t) a) (begun_by t d a o now) e.place
     by true true d a o s f g = absurd (let no : true ≡ false = f refl in cc)
     by true false true a o s f g = absurd (let no : true ≡ false = g refl in cc)
-    by true false false a o s f g = record { armed_is = is_armed-arm calls; progress_is = progress_arm calls ∙ s.progress_is }
-    by false true true a o s f g = record { armed_is = is_armed-drop calls; progress_is = progress_drop calls }
-    by false true false a o s f g = record { armed_is = is_armed-drop calls; progress_is = progress_drop calls }
-    by false false true a o s f g = record { armed_is = is_armed-desync calls now.cor0; progress_is = progress_desync calls now.cor0 ∙ began a o s }
+    by true false false a o s f g = record { armed_is = is_armed_arm calls; progress_is = progress_arm calls ∙ s.progress_is }
+    by false true true a o s f g = record { armed_is = is_armed_drop calls; progress_is = progress_drop calls }
+    by false true false a o s f g = record { armed_is = is_armed_drop calls; progress_is = progress_drop calls }
+    by false false true a o s f g = record { armed_is = is_armed_desync calls now.cor0; progress_is = progress_desync calls now.cor0 ∙ began a o s }
     by false false false a o s f g = same a o s
 
 after_history : (h : History) (n : ℕ) → Placed n h → AfterCall (startup_calls h n) (armed_in h) (begun_in h) n
-after_history [] n p = record { armed_is = is_armed-bytes [] n; progress_is = progress_bytes [] n }
+after_history [] n p = record { armed_is = is_armed_bytes [] n; progress_is = progress_bytes [] n }
 after_history (e ∷ h) n p =
     let calls : List Call = startup_calls h e.place ++ startup_call h e.access in
     let older : Placed e.place h = placed_within (e.place - 1) e.place h (omega arith) p.2 in
     let here : AfterCall calls (armed_in (e ∷ h)) (begun_in (e ∷ h)) e.place = after_call h e (armed_in h) (begun_in h) (after_history h e.place older) in
     let placed : Placed e.place (e ∷ h) = (p.0, omega arith, p.2) in
     record {
-      armed_is = is_armed-bytes calls (n - e.place) ∙ here.armed_is;
+      armed_is = is_armed_bytes calls (n - e.place) ∙ here.armed_is;
       progress_is = progress_bytes calls (n - e.place) ∙ ap (further (n - e.place)) here.progress_is ∙ further_by (begun_in (e ∷ h)) e.place n (λ b. begun_within (e ∷ h) e.place b placed) p.1;
     }
 

@@ -6,20 +6,20 @@ use Rattle.std.specs.Simd.{first_chunks}
 use Rattle.x7_words.specs.Word.{word_of_bytes, words_of_bytes}
 use Rattle.x7_packets.specs.History.{History, Write, entered_all, entry, until}
 use Rattle.x7_packets.specs.Packet.{payload_steps}
-use Rattle.x7_packets.proofs.HistoryLemmas.{entered_all-append}
+use Rattle.x7_packets.proofs.HistoryLemmas.{entered_all_append}
 use Rattle.x7_words.proofs.WordLemmas.{words_by_chunks}
 use Rattle.x7_part.specs.Part.{PartData}
 use Rattle.x7_engine.specs.declared.kept.Kept.{Kept}
 use Rattle.x7_engine.specs.declared.stop.Stop.{Stop}
 use Rattle.x7_engine.specs.Standing.{RegistersStandFor, RegistersState, counted_in}
-use Rattle.x7_engine.proofs.TurnLemmas.{all_counted, counted_within, front_until}
+use Rattle.x7_engine.proofs.TurnLemmas.{all_counted, counted_within, prefix_until}
 
 -- one word more enters one write more, which ends four bytes on
 pub write_more : (register n w : ℕ) (ws : List ℕ) (h : History)
     → entered_all n (payload_steps register (ws ++ w ∷ [])) h ≡ entry (Write register w) (n + 4 * length (payload_steps register ws) + 4) ∷ entered_all n (payload_steps register ws) h
 write_more register n w ws h =
     ap (λ t. entered_all n t h) (map-append _ ws (w ∷ []))
-    ∙ entered_all-append n (payload_steps register ws) (payload_steps register (w ∷ [])) h
+    ∙ entered_all_append n (payload_steps register ws) (payload_steps register (w ∷ [])) h
 
 -- the words of the first chunks, and one chunk more
 pub chunk_word : (bytes : List ℕ) (chunks : List (List ℕ)) (i w : ℕ) → chunks ≡ first_chunks 4 (length bytes / 4) bytes → i < length chunks → w ≡ word_of_bytes (get_or chunks i [])
@@ -76,7 +76,7 @@ word_after part kept old new register n i w left taken m ws h e l t k r f s =
     let some : i + 1 ≤ length (payload_steps register ws) = omega (arith, steps, l) in
     let behind : counted_in new.stop m < n + 4 * (i + 1) + 4 = omega (arith, counted_within new.stop m, r, t) in
     let all : until (counted_in new.stop m) (entered_all n (payload_steps register ws) h) ≡ until (counted_in new.stop m) (entry (Write register w) (n + taken + 4) ∷ prefix) =
-    front_until n (i + 1) (counted_in new.stop m) (payload_steps register ws) h some behind
+    prefix_until n (i + 1) (counted_in new.stop m) (payload_steps register ws) h some behind
     ∙ ap (λ t. until (counted_in new.stop m) (entered_all n t h)) (take-map _ (i + 1) ws)
     ∙ ap (until (counted_in new.stop m)) (sym (word_entered register n i w taken ws h e l t)) in
     subst (λ (x : History). RegistersStandFor part kept new x m) (sym all) one

@@ -5,7 +5,7 @@ use Rattle.std.proofs.lemmas.Bool.Decides.{nat_tests}
 use Rattle.std.proofs.lemmas.List.{length-take-le, take-append-drop}
 use Rattle.x7_words.specs.Word.{AreBytes}
 use Rattle.x7_packets.specs.History.{Access, Bad, Entry, History, Placed, Read, Write, entry, executes, history_of, until}
-use Rattle.x7_packets.proofs.GrowthLemmas.{front_of, placed_of, placed_within}
+use Rattle.x7_packets.proofs.GrowthLemmas.{prefix_of, placed_of, placed_within}
 use Rattle.x7_crc.specs.OpenWrites.{running_check}
 use Rattle.x7_part.specs.Part.{PartData}
 use Rattle.x7_startup.specs.Calls.{Begun, NotBegun, StartupProgress}
@@ -92,7 +92,7 @@ none_before part kept bytes access place older fits s l = by (stop_in part kept 
         let none : stop_in part kept prefix ≡ None = no_stop_before part kept prefix (drop m bytes) t whole (ap (stop_in part kept) all ∙ e) (omega (arith, count, within.0)) in
         let kept_on = until_keeps m newer older access place (omega (arith, k)) in
         let same : history_of prefix ≡ kept_on.0 ++ entry access place ∷ older =
-        sym (front_of prefix (drop m bytes) whole)
+        sym (prefix_of prefix (drop m bytes) whole)
         ∙ ap (λ (x : ℕ). until x (history_of (prefix ++ drop m bytes))) count
         ∙ ap (λ (b : List ℕ). until m (history_of b)) all
         ∙ sym (until_until m (last_counted t.why t.place) (history_of bytes) (counted_most t.why t.place))

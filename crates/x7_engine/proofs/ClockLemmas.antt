@@ -103,8 +103,8 @@ stop_more_bytes part kept (e ∷ h) n k l =
     ∙ or_assoc before why (stopped_by_watchdog first) (stopped_by_watchdog (first_firing part kept (e ∷ h) n k))
 
 -- the stop at the place of an access more
-pub stop_of-access : (part : PartData) (kept : Kept) (h : History) (access : Access) (place : ℕ) → stop_of part kept h place ≡ None → stop_of part kept (entry access place ∷ h) place ≡ stopped_at place (why_at part kept h access)
-stop_of-access part kept h access place e =
+pub stop_of_access : (part : PartData) (kept : Kept) (h : History) (access : Access) (place : ℕ) → stop_of part kept h place ≡ None → stop_of part kept (entry access place ∷ h) place ≡ stopped_at place (why_at part kept h access)
+stop_of_access part kept h access place e =
     let none : place - place ≡ 0 = omega arith in
     ap (λ (o : Option Stopped). or_else o (or_else (stopped_at place (why_at part kept h access)) (stopped_by_watchdog (first_firing part kept (entry access place ∷ h) place (place - place))))) e
     ∙ ap (λ (m : ℕ). or_else (stopped_at place (why_at part kept h access)) (stopped_by_watchdog (first_firing part kept (entry access place ∷ h) place m))) none

@@ -2,10 +2,10 @@
 use Rattle.std.proofs.Common.{◌≡◌, ◌+◌, ◌*◌, ◌/◌, ◌%◌, ◌-◌, ◌≤◌, ℕ, true, inl, inr, List, [], ◌∷◌, ◌++◌, length, take, drop, Option, None, Some, refl, sym, ap, subst, ◌∙◌, arith}
 use Rattle.std.proofs.lemmas.List.{length-drop, length-map, length-take-le, map-append, take-append-drop, take_all}
 use Rattle.x7_words.specs.Word.{words_of_bytes}
-use Rattle.x7_words.proofs.WordLemmas.{words_of_bytes-append}
+use Rattle.x7_words.proofs.WordLemmas.{words_of_bytes_append}
 use Rattle.x7_packets.specs.History.{History, Write, entered_all, entry}
 use Rattle.x7_packets.specs.Packet.{payload_steps}
-use Rattle.x7_packets.proofs.HistoryLemmas.{entered_all-append}
+use Rattle.x7_packets.proofs.HistoryLemmas.{entered_all_append}
 use Rattle.x7_part.specs.Part.{PartData}
 use Rattle.x7_pipeline.specs.declared.fault.RunFault.{RunFault}
 use Rattle.x7_flow.specs.Controls.{is_matched}
@@ -44,16 +44,16 @@ data_quiet r t = elim t [
   | inr e ↦ rw e mfwr_quiet
 ]
 
-take_front : (prefix rest : List ℕ) → take (length prefix) (prefix ++ rest) ≡ prefix
-take_front [] rest = refl
-take_front (x ∷ prefix) rest = ap (λ t. x ∷ t) (take_front prefix rest)
+take_prefix : (prefix rest : List ℕ) → take (length prefix) (prefix ++ rest) ≡ prefix
+take_prefix [] rest = refl
+take_prefix (x ∷ prefix) rest = ap (λ t. x ∷ t) (take_prefix prefix rest)
 
 -- the words before the refused one
 pub given : (part : PartData) (f : FramesState) (h : History) (x : WordsTo) (seen : ℕ × Option RunFault) → WordsTaken part f h x seen
     → (NoneRefused part x.register x.place (take (words_before seen.0 seen.1) x.words) h) × FramesStandFor part f (with_words_to x.register x.place (take (words_before seen.0 seen.1) x.words) h) 0
 given part f h x seen t =
     let size : words_before seen.0 seen.1 ≡ length t.taken = by seen.1 t.counted in
-    let prefix : take (words_before seen.0 seen.1) x.words ≡ t.taken = ap (λ (k : ℕ). take k x.words) size ∙ ap (take (length t.taken)) t.words_are ∙ take_front t.taken t.rest in (
+    let prefix : take (words_before seen.0 seen.1) x.words ≡ t.taken = ap (λ (k : ℕ). take k x.words) size ∙ ap (take (length t.taken)) t.words_are ∙ take_prefix t.taken t.rest in (
       subst (λ (ws : List ℕ). NoneRefused part x.register x.place ws h) (sym prefix) t.none_refused,
       subst (λ (ws : List ℕ). FramesStandFor part f (with_words_to x.register x.place ws h) 0) (sym prefix) t.stands,
     )
@@ -66,7 +66,7 @@ given part f h x seen t =
 data_words : (m : ℕ) (bytes : List ℕ) → m % 4 ≡ 0 → m ≤ length bytes → words_of_bytes bytes ≡ words_of_bytes (take m bytes) ++ words_of_bytes (drop m bytes)
 data_words m bytes whole l =
     let four : length (take m bytes) ≡ 4 * (m / 4) = length-take-le m bytes l ∙ omega (arith, whole) in
-    ap words_of_bytes (sym (take-append-drop m bytes)) ∙ words_of_bytes-append (m / 4) (take m bytes) (drop m bytes) four
+    ap words_of_bytes (sym (take-append-drop m bytes)) ∙ words_of_bytes_append (m / 4) (take m bytes) (drop m bytes) four
 
 data_entered : (register n m : ℕ) (bytes : List ℕ) (h : History) → m % 4 ≡ 0 → m ≤ length bytes
     → entered_all (n + m) (payload_steps register (words_of_bytes (drop m bytes))) (entered_all n (payload_steps register (words_of_bytes (take m bytes))) h) ≡ entered_all n (payload_steps register (words_of_bytes bytes)) h
@@ -77,7 +77,7 @@ data_entered register n m bytes h whole l =
     let place : n + 4 * length (payload_steps register prefix) ≡ n + m = omega (arith, size, length-take-le m bytes l, whole) in
     sym (ap (λ (ws : List ℕ). entered_all n (payload_steps register ws) h) (data_words m bytes whole l)
     ∙ ap (λ t. entered_all n t h) (map-append _ prefix rest)
-    ∙ entered_all-append n (payload_steps register prefix) (payload_steps register rest) h
+    ∙ entered_all_append n (payload_steps register prefix) (payload_steps register rest) h
     ∙ ap (λ (k : ℕ). entered_all k (payload_steps register rest) (entered_all n (payload_steps register prefix) h)) place)
 
 -- words written in two parts are all of them, where the second part is cut out of the bytes

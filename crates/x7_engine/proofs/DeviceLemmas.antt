@@ -3,7 +3,7 @@ use Rattle.std.proofs.Common.{◌≡◌, ◌+◌, ◌-◌, ◌*◌, ◌/◌, ◌
 use Rattle.std.proofs.Math.Seq.{take-append_seam}
 use Rattle.std.proofs.lemmas.List.{length-map, length-take-le, take-append-drop, take-take}
 use Rattle.x7_words.specs.Word.{AreBytes, words_of_bytes}
-use Rattle.x7_words.proofs.ListLemmas.{all_front}
+use Rattle.x7_words.proofs.ListLemmas.{all_prefix}
 use Rattle.x7_packets.specs.declared.cutter.Cut.{Cut}
 use Rattle.x7_packets.specs.declared.cutter.Cut.TheVariants.{Body, Head, Need, Skip, Sync, Word}
 use Rattle.x7_packets.specs.Mode.{Mode}
@@ -13,8 +13,8 @@ use Rattle.x7_packets.specs.Cutting.{AtPlace, between, CutterState, CutterStands
 use Rattle.x7_packets.specs.History.{History, Placed, entered_all, history_of, next_word, until}
 use Rattle.x7_packets.specs.Packet.{Packet, payload_steps}
 use Rattle.x7_packets.specs.Reading.{IsReading, Place, Searching, Session, Synced, tail_of}
-use Rattle.x7_packets.proofs.GrowthLemmas.{front_of, placed_of}
-use Rattle.x7_packets.proofs.HistoryLemmas.{cut_enters, next_word-is, words_end}
+use Rattle.x7_packets.proofs.GrowthLemmas.{prefix_of, placed_of}
+use Rattle.x7_packets.proofs.HistoryLemmas.{cut_enters, next_word_is, words_end}
 use Rattle.x7_part.specs.Part.{PartData}
 use Rattle.x7_engine.specs.declared.kept.Kept.{Kept}
 use Rattle.x7_engine.specs.declared.stop.Stop.{Stop}
@@ -27,18 +27,18 @@ use Rattle.x7_engine.proofs.FrameLemmas.{length_left}
 use Rattle.x7_engine.proofs.TurnLemmas.{history_until, no_rest, stop_until}
 
 -- the words told, where all that is read out are these and some more that are due
-front_told : (told rest : List ℕ) (due : ℕ) → length rest ≡ due → take (length (told ++ rest) - due) (told ++ rest) ≡ told
-front_told told rest due e =
+prefix_given : (told rest : List ℕ) (due : ℕ) → length rest ≡ due → take (length (told ++ rest) - due) (told ++ rest) ≡ told
+prefix_given told rest due e =
     let count : length (told ++ rest) - due ≡ length told = omega (arith, length-append told rest, e) in
     ap (λ (n : ℕ). take n (told ++ rest)) count ∙ take-append_seam told rest
 
-pub told_by : (part : PartData) (kept : Kept) (d : DeviceState) (bytes told : List ℕ) (h : History) → reads_of part kept bytes ≡ told ++ words_left part h d.registers.due → reads_given part kept d bytes ≡ told
-told_by part kept d bytes told h e =
-    ap (λ (t : List ℕ). take (length t - due_count d.registers.due) t) e ∙ front_told told (words_left part h d.registers.due) (due_count d.registers.due) (length_left part h d.registers.due)
+pub given_by : (part : PartData) (kept : Kept) (d : DeviceState) (bytes told : List ℕ) (h : History) → reads_of part kept bytes ≡ told ++ words_left part h d.registers.due → reads_given part kept d bytes ≡ told
+given_by part kept d bytes told h e =
+    ap (λ (t : List ℕ). take (length t - due_count d.registers.due) t) e ∙ prefix_given told (words_left part h d.registers.due) (due_count d.registers.due) (length_left part h d.registers.due)
 
 -- a part of a piece, cut at a place in it
-pub between_front : (piece : List ℕ) (from at left : ℕ) → from ≤ at - left → between piece from at ≡ between piece from (at - left) ++ drop (at - left - from) (between piece from at)
-between_front piece from at left l =
+pub between_prefix : (piece : List ℕ) (from at left : ℕ) → from ≤ at - left → between piece from at ≡ between piece from (at - left) ++ drop (at - left - from) (between piece from at)
+between_prefix piece from at left l =
     let less : at - left - from ≤ at - from = omega arith in
     sym (take-append-drop (at - left - from) (between piece from at))
     ∙ ap (λ t. t ++ drop (at - left - from) (between piece from at)) (take-take (at - left - from) (at - from) (drop from piece) less)
@@ -66,7 +66,7 @@ words_place : (n : CutterState) (bytes gap tail : List ℕ) (packets : List Pack
     → length bytes ≡ next_word sessions (Synced gap packets tail) + 4 * length more
 words_place n bytes gap tail packets more sessions new_sessions new s l =
     let ends : (next_word new_sessions new ≡ next_word sessions (Synced gap packets tail) + 4 * length more) × (tail_of new ≡ []) = words_end gap tail packets more sessions new_sessions new l in
-    omega (arith, next_word-is bytes new_sessions new s.reading, ap length ends.1, ends.0)
+    omega (arith, next_word_is bytes new_sessions new s.reading, ap length ends.1, ends.0)
 
 body_words : (register : ℕ) (bs : List ℕ) → length (payload_steps register (words_of_bytes bs)) ≡ length bs / 4
 body_words register bs = length-map (words_of_bytes bs) _ ∙ length_of_words bs
@@ -75,7 +75,7 @@ pub one_word_ends : (n : CutterState) (bytes cut gap tail : List ℕ) (packets :
     → LongerSession gap packets (s ∷ []) sessions new_sessions new → (let from : ℕ = next_word sessions (Synced gap packets tail) in (length bytes < from + 4) × (from + 4 ≡ length bytes + length cut))
 one_word_ends n bytes cut gap tail packets s sessions new_sessions new r k l =
     let few : length tail < 4 = r.ends.3 in
-    (omega (arith, next_word-is bytes sessions (Synced gap packets tail) r, few), omega (arith, words_place n (bytes ++ cut) gap tail packets (s ∷ []) sessions new_sessions new k l, length-append bytes cut))
+    (omega (arith, next_word_is bytes sessions (Synced gap packets tail) r, few), omega (arith, words_place n (bytes ++ cut) gap tail packets (s ∷ []) sessions new_sessions new k l, length-append bytes cut))
 
 -- the words of a run end where its bytes do
 pub ends_words : (c n : CutterState) (bytes cut : List ℕ) (sessions : List Session) (place : Place) (run : Cut) (left : ℕ) → CutterStandsFor c bytes sessions place → AfterRun c n (bytes ++ cut) sessions place run → IsRun run → IsLent c left run
@@ -91,7 +91,7 @@ ends_words c n bytes cut sessions (Searching gap) (Body register bs) left s w r 
 ends_words c n bytes cut sessions (Synced gap packets tail) (Body register bs) left s w r k =
     let p : ℕ = next_word sessions (Synced gap packets tail) in
     let ss : List (ℕ × Step) = payload_steps register (words_of_bytes bs.now) in
-    let first : p ≡ length bytes = omega (arith, next_word-is bytes sessions (Synced gap packets tail) s.reading, ap length (no_tail c c.mode gap tail packets s.at k.0)) in
+    let first : p ≡ length bytes = omega (arith, next_word_is bytes sessions (Synced gap packets tail) s.reading, ap length (no_tail c c.mode gap tail packets s.at k.0)) in
     let all : length (bytes ++ cut) ≡ p + 4 * length ss = words_place n (bytes ++ cut) gap tail packets ss sessions w.new_sessions w.new_place w.stands w.adds in
     (first, omega (arith, all, first, body_words register bs.now, length-append bytes cut, r.2))
 
@@ -117,13 +117,13 @@ turned part kept wrapped d e bytes cut more rest run count left room s going wen
     let w : AfterRun d.cutter e.cutter (bytes ++ cut) cutter.sessions cutter.place run = went cutter.sessions cutter.place cutter.stands in
     let from : ℕ = next_word cutter.sessions cutter.place in
     let all : History = entered_all from (run_steps run) (history_of bytes) in
-    let whole : history_of (bytes ++ cut) ≡ all = cut_enters d.cutter e.cutter bytes cut cutter.sessions cutter.place run from cutter.stands w (next_word-is bytes cutter.sessions cutter.place cutter.stands.reading) in
+    let whole : history_of (bytes ++ cut) ≡ all = cut_enters d.cutter e.cutter bytes cut cutter.sessions cutter.place run from cutter.stands w (next_word_is bytes cutter.sessions cutter.place cutter.stands.reading) in
     let joined : (bytes ++ more) ++ rest ≡ bytes ++ cut = append_assoc bytes more rest ∙ ap (λ t. bytes ++ t) (sym j) in
     let fits : AreBytes ((bytes ++ more) ++ rest) = subst AreBytes (sym joined) w.stands.reading.fits in
-    let here : AreBytes (bytes ++ more) = all_front (λ b. b < 256) (bytes ++ more) rest fits in
+    let here : AreBytes (bytes ++ more) = all_prefix (λ b. b < 256) (bytes ++ more) rest fits in
     let m : ℕ = length (bytes ++ more) in
     let count_is : length bytes + (count - left) ≡ m = omega (arith, k, ap length j, length-append more rest, l, length-append bytes more) in
-    let prefix : history_of (bytes ++ more) ≡ until m all = sym (front_of (bytes ++ more) rest fits) ∙ ap (until m) (ap history_of joined ∙ whole) in
+    let prefix : history_of (bytes ++ more) ≡ until m all = sym (prefix_of (bytes ++ more) rest fits) ∙ ap (until m) (ap history_of joined ∙ whole) in
     let placed : Placed (length (bytes ++ cut)) all = subst (λ (h : History). Placed (length (bytes ++ cut)) h) whole (placed_of (bytes ++ cut) w.stands.reading.fits) in
     let ends : EndsWords run from (length bytes) count = subst (λ (x : ℕ). EndsWords run from (length bytes) x) (sym k) (ends_words d.cutter e.cutter bytes cut cutter.sessions cutter.place run room cutter.stands w r i) in
     let counted : History = until (counted_in e.registers.stop m) all in

@@ -20,7 +20,7 @@ use Rattle.x7_engine.specs.Past.{Answers, past_of}
 use Rattle.x7_engine.specs.Standing.{DeviceStandsFor, DeviceState, NoWordDue, RegistersStandFor, RegistersState, due_count, fed_by, frames_among, frames_due, taken_in, reads_given, words_left}
 use Rattle.x7_engine.specs.State.{history_taken, reads_of}
 use Rattle.x7_engine.specs.Stops.{stopped_at}
-use Rattle.x7_engine.proofs.DeviceLemmas.{told_by}
+use Rattle.x7_engine.proofs.DeviceLemmas.{given_by}
 use Rattle.x7_engine.proofs.FrameLemmas.{frames_at, frames_of, goes_on}
 
 -- the device gave words that were due
@@ -34,7 +34,7 @@ given part kept wrapped d r bytes old new going on s g =
     record {
       more = g.more;
       read_is = g.read_is;
-      given_are = told_by part kept e bytes (told ++ g.more) h all ∙ ap (λ t. t ++ g.more) (sym (told_by part kept d bytes told h s.due_are.all));
+      given_are = given_by part kept e bytes (told ++ g.more) h all ∙ ap (λ t. t ++ g.more) (sym (given_by part kept d bytes told h s.due_are.all));
       stands = record {
         fits = s.fits;
         part_is = s.part_is;
@@ -80,16 +80,16 @@ pub stands_on : (part : PartData) (kept : Kept) (wrapped : Bool) (d e : DeviceSt
     → DeviceStandsFor part kept wrapped d (bytes ++ take from piece) → DeviceStandsFor part kept wrapped e (bytes ++ take to piece)
 stands_on part kept wrapped d e bytes piece from to l f s = subst (λ (b : List ℕ). DeviceStandsFor part kept wrapped e b) (taken_more bytes piece from to l) (f (bytes ++ take from piece) s)
 
-pub told_on : (part : PartData) (kept : Kept) (wrapped : Bool) (d e : DeviceState) (bytes piece : List ℕ) (from to : ℕ) → from ≤ to
+pub given_on : (part : PartData) (kept : Kept) (wrapped : Bool) (d e : DeviceState) (bytes piece : List ℕ) (from to : ℕ) → from ≤ to
     → ((b : List ℕ) → DeviceStandsFor part kept wrapped d b → reads_given part kept e (b ++ between piece from to) ≡ reads_given part kept d b)
     → DeviceStandsFor part kept wrapped d (bytes ++ take from piece) → reads_given part kept e (bytes ++ take to piece) ≡ reads_given part kept d (bytes ++ take from piece)
-told_on part kept wrapped d e bytes piece from to l f s = sym (ap (reads_given part kept e) (taken_more bytes piece from to l)) ∙ f (bytes ++ take from piece) s
+given_on part kept wrapped d e bytes piece from to l f s = sym (ap (reads_given part kept e) (taken_more bytes piece from to l)) ∙ f (bytes ++ take from piece) s
 
 -- the words told so far, and those that were given now
-pub now_told : (part : PartData) (kept : Kept) (wrapped : Bool) (d e : DeviceState) (first read next : ReadBufState) (taken told : List ℕ) → Gives (record { part = part; kept = kept; wrapped = wrapped; bytes = taken }) d e read next
+pub now_given : (part : PartData) (kept : Kept) (wrapped : Bool) (d e : DeviceState) (first read next : ReadBufState) (taken told : List ℕ) → Gives (record { part = part; kept = kept; wrapped = wrapped; bytes = taken }) d e read next
     → ((more : List ℕ) × (read ≡ with_words first more) × (reads_given part kept d taken ≡ told ++ more))
     → (more : List ℕ) × (next ≡ with_words first more) × (reads_given part kept e taken ≡ told ++ more)
-now_told part kept wrapped d e first read next taken told g m = (
+now_given part kept wrapped d e first read next taken told g m = (
   m.0 ++ g.more,
   g.read_is ∙ ap (λ (b : ReadBufState). with_words b g.more) m.1 ∙ words_append first m.0 g.more,
   g.given_are ∙ ap (λ t. t ++ g.more) m.2 ∙ append_assoc told m.0 g.more,
@@ -101,8 +101,8 @@ pub read_here : (part : PartData) (kept : Kept) (wrapped : Bool) (old new next :
     → ((more : List ℕ) × (read ≡ with_words first more) × (reads_given part kept old (bytes ++ take from piece) ≡ told ++ more))
     → (more : List ℕ) × (last ≡ with_words first more) × (reads_given part kept next (bytes ++ take to piece) ≡ told ++ more)
 read_here part kept wrapped old new next first read last bytes piece told from to g f t m =
-    let now : (more : List ℕ) × (last ≡ with_words first more) × (reads_given part kept new (bytes ++ take from piece) ≡ told ++ more) = now_told part kept wrapped old new first read last (bytes ++ take from piece) told g m in
-    (now.0, now.1, told_on part kept wrapped new next bytes piece from to f t g.stands ∙ now.2)
+    let now : (more : List ℕ) × (last ≡ with_words first more) × (reads_given part kept new (bytes ++ take from piece) ≡ told ++ more) = now_given part kept wrapped old new first read last (bytes ++ take from piece) told g m in
+    (now.0, now.1, given_on part kept wrapped new next bytes piece from to f t g.stands ∙ now.2)
 
 -- what is answered for a stop
 pub taken_by_stop : (why : Stop) (n at : ℕ) → taken_in n (fed_by why at) ≡ at
@@ -116,8 +116,8 @@ answers_stop part kept wrapped d bytes read stop.Iprog at s e = (s.stop_is ∙ a
 -- ---- named facts for the crates above
 
 -- no word is due, so all that was read out was told
-pub told_all : (part : PartData) (kept : Kept) (d : DeviceState) (bytes : List ℕ) → NoWordDue d → reads_given part kept d bytes ≡ reads_of part kept bytes
-told_all part kept d bytes e = ap (λ (n : ℕ). take (length (reads_of part kept bytes) - n) (reads_of part kept bytes)) e ∙ whole (reads_of part kept bytes)
+pub given_all : (part : PartData) (kept : Kept) (d : DeviceState) (bytes : List ℕ) → NoWordDue d → reads_given part kept d bytes ≡ reads_of part kept bytes
+given_all part kept d bytes e = ap (λ (n : ℕ). take (length (reads_of part kept bytes) - n) (reads_of part kept bytes)) e ∙ whole (reads_of part kept bytes)
   where
     whole : (xs : List ℕ) → take (length xs - 0) xs ≡ xs
     whole xs =
@@ -125,8 +125,8 @@ told_all part kept d bytes e = ap (λ (n : ℕ). take (length (reads_of part kep
         ap (λ (n : ℕ). take n xs) all ∙ take-length xs
 
 -- no more was told than was read out
-pub told_within : (part : PartData) (kept : Kept) (d : DeviceState) (bytes : List ℕ) → length (reads_given part kept d bytes) ≤ length (reads_of part kept bytes)
-told_within part kept d bytes = omega (arith, length-take (length (reads_of part kept bytes) - due_count d.registers.due) (reads_of part kept bytes))
+pub given_within : (part : PartData) (kept : Kept) (d : DeviceState) (bytes : List ℕ) → length (reads_given part kept d bytes) ≤ length (reads_of part kept bytes)
+given_within part kept d bytes = omega (arith, length-take (length (reads_of part kept bytes) - due_count d.registers.due) (reads_of part kept bytes))
 
 -- ---- words of frame data given to a buffer
 

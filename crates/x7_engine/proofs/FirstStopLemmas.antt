@@ -4,7 +4,7 @@ use Rattle.std.proofs.lemmas.Bool.Decides.{nat_tests}
 use Rattle.std.proofs.Math.Seq.{take-length}
 use Rattle.std.proofs.lemmas.List.{length-take-le, take-append-drop}
 use Rattle.x7_words.specs.Word.{AreBytes}
-use Rattle.x7_words.proofs.ListLemmas.{all_front}
+use Rattle.x7_words.proofs.ListLemmas.{all_prefix}
 use Rattle.x7_packets.specs.History.{Access, History, Placed, entry, history_of}
 use Rattle.x7_packets.proofs.GrowthLemmas.{OneMore, byte_enters, placed_of}
 use Rattle.x7_part.specs.Part.{PartData}
@@ -27,7 +27,7 @@ split_at (x ∷ bytes) zero l = (x, refl)
 split_at (x ∷ bytes) (suc n) l = let more = split_at bytes n (omega (arith, l)) in (more.0, ap (λ (t : List ℕ). x ∷ t) more.1)
 
 pub bytes_taken : (bytes : List ℕ) (n : ℕ) → AreBytes bytes → AreBytes (take n bytes)
-bytes_taken bytes n f = all_front (λ b. b < 256) (take n bytes) (drop n bytes) (subst AreBytes (sym (take-append-drop n bytes)) f)
+bytes_taken bytes n f = all_prefix (λ b. b < 256) (take n bytes) (drop n bytes) (subst AreBytes (sym (take-append-drop n bytes)) f)
 
 -- ---- the stop of a byte more
 

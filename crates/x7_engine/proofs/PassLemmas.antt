@@ -3,12 +3,12 @@ use Rattle.std.proofs.Common.{◌≡◌, ◌+◌, ◌-◌, ◌<◌, ◌≤◌, �
 use Rattle.std.proofs.Math.Seq.{take-add}
 use Rattle.std.proofs.lemmas.List.{drop-drop}
 use Rattle.x7_words.specs.Word.{AreBytes}
-use Rattle.x7_words.proofs.ListLemmas.{all_front}
+use Rattle.x7_words.proofs.ListLemmas.{all_prefix}
 use Rattle.x7_packets.specs.Cutting.{CutterState, CutterStandsFor, between}
 use Rattle.x7_packets.specs.History.{History, Placed, history_of, until}
 use Rattle.x7_packets.specs.Nops.{Idles}
 use Rattle.x7_packets.specs.Reading.{Place, Session}
-use Rattle.x7_packets.proofs.GrowthLemmas.{front_of, placed_of, placed_within, until_placed}
+use Rattle.x7_packets.proofs.GrowthLemmas.{prefix_of, placed_of, placed_within, until_placed}
 use Rattle.x7_packets.proofs.HistoryLemmas.{history_is}
 use Rattle.x7_part.specs.Part.{PartData}
 use Rattle.x7_engine.specs.declared.fault.Fault.TheVariants as fault
@@ -19,7 +19,7 @@ use Rattle.x7_engine.specs.Standing.{DeviceStandsFor, DeviceState, IsCutterOf, R
 use Rattle.x7_engine.specs.State.{history_by, history_taken, reads_of, stop_in}
 use Rattle.x7_engine.specs.Stops.{stop_of, stopped_at}
 use Rattle.x7_engine.specs.Values.{read_out}
-use Rattle.x7_engine.proofs.DeviceLemmas.{going_taken, told_by}
+use Rattle.x7_engine.proofs.DeviceLemmas.{going_taken, given_by}
 use Rattle.x7_engine.proofs.FrameLemmas.{none_due}
 use Rattle.x7_engine.proofs.TurnLemmas.{history_until, no_rest, quiet_until}
 
@@ -50,12 +50,12 @@ passed part kept wrapped d e bytes cut more rest count left s going quiet idles 
     let whole : history_of (bytes ++ cut) ≡ h = sym (history_is (bytes ++ cut) cutter.sessions i.new_place i.stands.reading) ∙ i.nothing ∙ history_is bytes cutter.sessions cutter.place cutter.stands.reading in
     let joined : (bytes ++ more) ++ rest ≡ bytes ++ cut = append_assoc bytes more rest ∙ ap (λ b. bytes ++ b) (sym j) in
     let fits : AreBytes ((bytes ++ more) ++ rest) = subst AreBytes (sym joined) i.stands.reading.fits in
-    let here : AreBytes (bytes ++ more) = all_front (λ b. b < 256) (bytes ++ more) rest fits in
+    let here : AreBytes (bytes ++ more) = all_prefix (λ b. b < 256) (bytes ++ more) rest fits in
     let m : ℕ = length (bytes ++ more) in
     let count_is : length bytes + (count - left) ≡ m = omega (arith, k, ap length j, length-append more rest, l, length-append bytes more) in
-    let placed : Placed (length bytes) h = placed_of bytes (all_front (λ b. b < 256) bytes more here) in
+    let placed : Placed (length bytes) h = placed_of bytes (all_prefix (λ b. b < 256) bytes more here) in
     let prefix : history_of (bytes ++ more) ≡ h =
-    sym (front_of (bytes ++ more) rest fits) ∙ ap (until m) (ap history_of joined ∙ whole)
+    sym (prefix_of (bytes ++ more) rest fits) ∙ ap (until m) (ap history_of joined ∙ whole)
     ∙ until_placed m h (placed_within (length bytes) m h (omega (arith, length-append bytes more)) placed) in
     let after : RegistersStandFor part kept e.registers h m = subst (λ (x : ℕ). RegistersStandFor part kept e.registers h x) count_is (stands h (length bytes) before) in
     let stops : stop_in part kept (bytes ++ more) ≡ stopped_at m e.registers.stop = ap (λ (x : History). stop_of part kept x m) prefix ∙ after.stop in
@@ -87,7 +87,7 @@ passed part kept wrapped d e bytes cut more rest count left s going quiet idles 
     )
 
 -- the words told stay where none is due before or after
-pub told_same : (part : PartData) (kept : Kept) (d e : DeviceState) (bytes more : List ℕ) → due_count d.registers.due ≡ 0 → due_count e.registers.due ≡ 0 → reads_of part kept more ≡ reads_of part kept bytes → reads_given part kept e more ≡ reads_given part kept d bytes
-told_same part kept d e bytes more i j r =
-    told_by part kept e more (reads_of part kept bytes) [] (r ∙ none_due (reads_of part kept bytes) part [] e.registers.due j)
-    ∙ sym (told_by part kept d bytes (reads_of part kept bytes) [] (none_due (reads_of part kept bytes) part [] d.registers.due i))
+pub given_same : (part : PartData) (kept : Kept) (d e : DeviceState) (bytes more : List ℕ) → due_count d.registers.due ≡ 0 → due_count e.registers.due ≡ 0 → reads_of part kept more ≡ reads_of part kept bytes → reads_given part kept e more ≡ reads_given part kept d bytes
+given_same part kept d e bytes more i j r =
+    given_by part kept e more (reads_of part kept bytes) [] (r ∙ none_due (reads_of part kept bytes) part [] e.registers.due j)
+    ∙ sym (given_by part kept d bytes (reads_of part kept bytes) [] (none_due (reads_of part kept bytes) part [] d.registers.due i))

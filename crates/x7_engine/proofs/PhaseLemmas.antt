@@ -2,7 +2,7 @@
 use Rattle.std.proofs.Common.{◌≡◌, ◌+◌, ◌-◌, ◌/◌, ◌<◌, ◌≤◌, ◌⊎◌, inl, inr, ℕ, zero, suc, Bool, true, false, if◌then◌else◌, List, [], ◌∷◌, ◌++◌, length, length-append, refl, ap, sym, subst, ◌∙◌, append_assoc, append-nil, replicate, arith}
 use Rattle.std.proofs.lemmas.Bool.{cases_lt}
 use Rattle.x7_words.specs.Word.{AreBytes}
-use Rattle.x7_words.proofs.ListLemmas.{all_front}
+use Rattle.x7_words.proofs.ListLemmas.{all_prefix}
 use Rattle.x7_packets.specs.History.{Access, History, entry, executes, history_of, last_word, Placed}
 use Rattle.x7_packets.proofs.GrowthLemmas.{byte_enters, placed_of}
 use Rattle.x7_part.specs.Part.{PartData}
@@ -54,15 +54,15 @@ startup_entered : (p : StartupProgress) (h : History) (access : Access) (n k : �
 startup_entered p h access n k r =
     let none : n - n ≡ 0 = omega arith in
     let here : Reaches p (progress_of (startup_calls h n ++ startup_call h access)) k = called p (startup_calls h n) k (executes 5 h access) (takes_shutdown h access) (executes 13 h access) (last_word 9 0 h) r in
-    subst (λ (t : List Call). Reaches p (progress_of t) k) (sym (append-nil' none)) here
+    subst (λ (t : List Call). Reaches p (progress_of t) k) (sym (append_nil' none)) here
   where
-    append-nil' : n - n ≡ 0 → startup_calls (entry access n ∷ h) n ≡ startup_calls h n ++ startup_call h access
-    append-nil' e = let none : replicate (n - n) Byte ≡ [] = ap (λ (m : ℕ). replicate m Byte) e in ap (λ (t : List Call). (startup_calls h n ++ startup_call h access) ++ t) none ∙ append-nil (startup_calls h n ++ startup_call h access)
+    append_nil' : n - n ≡ 0 → startup_calls (entry access n ∷ h) n ≡ startup_calls h n ++ startup_call h access
+    append_nil' e = let none : replicate (n - n) Byte ≡ [] = ap (λ (m : ℕ). replicate m Byte) e in ap (λ (t : List Call). (startup_calls h n ++ startup_call h access) ++ t) none ∙ append-nil (startup_calls h n ++ startup_call h access)
 
 reach_byte : (p : StartupProgress) (bytes : List ℕ) (x k : ℕ) → AreBytes (bytes ++ x ∷ []) → Reaches p (startup_progress (history_of bytes) (length bytes)) k
     → Reaches p (startup_progress (history_of (bytes ++ x ∷ [])) (length bytes + 1)) (k + 1)
 reach_byte p bytes x k fits r =
-    let placed : Placed (length bytes) (history_of bytes) = placed_of bytes (all_front (λ b. b < 256) bytes (x ∷ []) fits) in
+    let placed : Placed (length bytes) (history_of bytes) = placed_of bytes (all_prefix (λ b. b < 256) bytes (x ∷ []) fits) in
     let on : Reaches p (startup_progress (history_of bytes) (length bytes + 1)) (k + 1) =
     subst (λ (q : StartupProgress). Reaches p q (k + 1)) (sym (startup_on (history_of bytes) (length bytes) 1 placed)) (one_more p (startup_progress (history_of bytes) (length bytes)) k r) in
     elim (byte_enters bytes x fits) [
@@ -80,7 +80,7 @@ reach_bytes p bytes [] k fits r =
 reach_bytes p bytes (x ∷ more) k fits r =
     let shift : bytes ++ x ∷ more ≡ (bytes ++ x ∷ []) ++ more = sym (append_assoc bytes (x ∷ []) more) in
     let fits' : AreBytes ((bytes ++ x ∷ []) ++ more) = subst AreBytes shift fits in
-    let one : Reaches p (startup_progress (history_of (bytes ++ x ∷ [])) (length bytes + 1)) (k + 1) = reach_byte p bytes x k (all_front (λ b. b < 256) (bytes ++ x ∷ []) more fits') r in
+    let one : Reaches p (startup_progress (history_of (bytes ++ x ∷ [])) (length bytes + 1)) (k + 1) = reach_byte p bytes x k (all_prefix (λ b. b < 256) (bytes ++ x ∷ []) more fits') r in
     let long : length bytes + 1 ≡ length (bytes ++ x ∷ []) = sym (length-append bytes (x ∷ [])) in
     let one' : Reaches p (startup_progress (history_of (bytes ++ x ∷ [])) (length (bytes ++ x ∷ []))) (k + 1) = subst (λ (m : ℕ). Reaches p (startup_progress (history_of (bytes ++ x ∷ [])) m) (k + 1)) long one in
     let count : k + 1 + length more ≡ k + length (x ∷ more) = omega arith in

@@ -30,7 +30,7 @@ use Rattle.x7_engine.specs.State.{last_counted}
 use Rattle.x7_engine.specs.Stops.{why_by_access, why_by_frames, why_at, or_else, stop_of, stopped_at, stopped_by_watchdog}
 use Rattle.x7_engine.specs.Watching.{fired_or, fires, first_firing, timer_held, watch_call, watch_calls, watched_bytes}
 use Rattle.x7_engine.proofs.ClockLemmas.{startup_entered, startup_more, stop_more_bytes, watch_entered, watch_more}
-use Rattle.x7_engine.proofs.TurnLemmas.{front_until, newest_within}
+use Rattle.x7_engine.proofs.TurnLemmas.{prefix_until, newest_within}
 
 -- words of the register move no flag, no register under MASK and no clock
 pub record IsQuiet (register : ℕ) : Type 0 where
@@ -149,10 +149,10 @@ clock_plain part kept c h register w place p s =
     clock_other part kept c h (Write register w) place start watch s
 
 -- the last of the words is the one that is held
-pub word_held-all : (kept : Kept) (r register n last : ℕ) (prefix : List ℕ) (h : History) → word_held kept r (entered_all n (payload_steps register (prefix ++ last ∷ [])) h) ≡ (if register == r then last else word_held kept r h)
-word_held-all kept r register n last [] h = refl
-word_held-all kept r register n last (x ∷ prefix) h =
-    word_held-all kept r register (n + 4) last prefix (entry (Write register x) (n + 4) ∷ h)
+pub word_held_all : (kept : Kept) (r register n last : ℕ) (prefix : List ℕ) (h : History) → word_held kept r (entered_all n (payload_steps register (prefix ++ last ∷ [])) h) ≡ (if register == r then last else word_held kept r h)
+word_held_all kept r register n last [] h = refl
+word_held_all kept r register n last (x ∷ prefix) h =
+    word_held_all kept r register (n + 4) last prefix (entry (Write register x) (n + 4) ∷ h)
     ∙ elim (register == r) as (λ b. (if b then last else if b then x else word_held kept r h) ≡ (if b then last else word_held kept r h)) [ true ↦ refl | false ↦ refl ]
 
 -- the chunks up to the last one, and the last one
@@ -273,18 +273,18 @@ clocked_all part kept c d register n m (w ∷ ws) h p none l s =
     (clocked_all part kept c d register (n + 4) m ws (entry (Write register w) (n + 4) ∷ h) p none.1 (omega (arith, l)) (clocked_more part kept c d h n m register w p none.0 (omega (arith, l)) s))
 
 -- the accesses of the words that end before a byte
-pub front_all : (n k m : ℕ) (register : ℕ) (ws : List ℕ) (h : History) → k ≤ length ws → n + 4 * k ≤ m → m < n + 4 * k + 4 → Placed (n + 4 * k) (entered_all n (payload_steps register (take k ws)) h)
+pub prefix_all : (n k m : ℕ) (register : ℕ) (ws : List ℕ) (h : History) → k ≤ length ws → n + 4 * k ≤ m → m < n + 4 * k + 4 → Placed (n + 4 * k) (entered_all n (payload_steps register (take k ws)) h)
     → until m (entered_all n (payload_steps register ws) h) ≡ entered_all n (payload_steps register (take k ws)) h
-front_all n k m register ws h l a b p =
+prefix_all n k m register ws h l a b p =
     let steps : length (payload_steps register ws) ≡ length ws = length-map ws _ in
-    front_until n k m (payload_steps register ws) h (omega (arith, steps, l)) b
+    prefix_until n k m (payload_steps register ws) h (omega (arith, steps, l)) b
     ∙ ap (λ t. until m (entered_all n t h)) (take-map _ k ws)
     ∙ until_placed m (entered_all n (payload_steps register (take k ws)) h) (placed_within (n + 4 * k) m (entered_all n (payload_steps register (take k ws)) h) a p)
 
 -- the words of the first bytes
-pub words_front : (k : ℕ) (bytes : List ℕ) → words_of_bytes (take (k * 4) bytes) ≡ take k (words_of_bytes bytes)
-words_front zero bytes = refl
-words_front (suc k) bytes = ap (λ (n : ℕ). words_of_bytes (take n bytes)) next ∙ by bytes (words_front k)
+pub words_prefix : (k : ℕ) (bytes : List ℕ) → words_of_bytes (take (k * 4) bytes) ≡ take k (words_of_bytes bytes)
+words_prefix zero bytes = refl
+words_prefix (suc k) bytes = ap (λ (n : ℕ). words_of_bytes (take n bytes)) next ∙ by bytes (words_prefix k)
   where
     next : suc k * 4 ≡ suc (suc (suc (suc (k * 4))))
     next = omega arith
@@ -297,8 +297,8 @@ words_front (suc k) bytes = ap (λ (n : ℕ). words_of_bytes (take n bytes)) nex
     by (a ∷ b ∷ c ∷ d ∷ rest) f = ap (λ t. word_of_bytes (a ∷ b ∷ c ∷ d ∷ []) ∷ t) (f rest)
 
 -- the byte up to which words count, after some bytes
-pub counted_behind : (d : Option Stop) (n count left : ℕ) → ((why : Stop) → d ≡ Some why → (why ≡ stop.Fault fault.Watchdog) × (left < count)) → counted_in d (n + (count - left)) ≡ n + counted_in d (count - left)
-counted_behind None n count left f = refl
-counted_behind (Some why) n count left f =
+pub counted_after : (d : Option Stop) (n count left : ℕ) → ((why : Stop) → d ≡ Some why → (why ≡ stop.Fault fault.Watchdog) × (left < count)) → counted_in d (n + (count - left)) ≡ n + counted_in d (count - left)
+counted_after None n count left f = refl
+counted_after (Some why) n count left f =
     let w : (why ≡ stop.Fault fault.Watchdog) × (left < count) = f why refl in
     ap (λ (l : Stop). last_counted l (n + (count - left))) w.0 ∙ omega (arith, w.1) ∙ sym (ap (λ (l : Stop). n + last_counted l (count - left)) w.0)

@@ -2,7 +2,7 @@
 use Rattle.std.proofs.Common.{◌≡◌, ◌==◌, ◌&&◌, ◌+◌, ◌<◌, ◌≤◌, ◌⊎◌, inl, inr, ℕ, Bool, true, false, not, Option, None, List, [], ◌++◌, length, length-append, refl, ap, sym, subst, ◌∙◌, append_assoc, arith}
 use Rattle.std.specs.List.{flat_map}
 use Rattle.x7_words.specs.Word.{AreBytes}
-use Rattle.x7_words.proofs.ListLemmas.{all_front}
+use Rattle.x7_words.proofs.ListLemmas.{all_prefix}
 use Rattle.x7_packets.specs.ByHand.{reading_of}
 use Rattle.x7_packets.specs.History.{History, history_of}
 use Rattle.x7_packets.specs.Reading.{IsReading, Place, Searching, Session, is_synced, session_bytes}
@@ -32,7 +32,7 @@ use Rattle.x7_engine.proofs.TurnLemmas.{newest_within}
 reading_on : (bytes more : List ℕ) → AreBytes (bytes ++ more) → (g : LastGapGoesOn bytes more) → IsReading (bytes ++ more) (reading_of bytes).sessions (Searching (g.gap ++ more))
 reading_on bytes more fits g =
     let sessions : List Session = (reading_of bytes).sessions in
-    let now : IsReading bytes sessions (Searching g.gap) = subst (λ (p : Place). IsReading bytes sessions p) g.searching (reading_is_found bytes (all_front (λ b. b < 256) bytes more fits)) in
+    let now : IsReading bytes sessions (Searching g.gap) = subst (λ (p : Place). IsReading bytes sessions p) g.searching (reading_is_found bytes (all_prefix (λ b. b < 256) bytes more fits)) in
     record {
       fits = fits;
       joined = ap (λ (b : List ℕ). b ++ more) now.joined ∙ append_assoc (flat_map session_bytes sessions) g.gap more;
@@ -43,7 +43,7 @@ reading_on bytes more fits g =
 pub history_on : (bytes more : List ℕ) → AreBytes (bytes ++ more) → LastGapGoesOn bytes more → history_of (bytes ++ more) ≡ history_of bytes
 history_on bytes more fits g =
     let sessions : List Session = (reading_of bytes).sessions in
-    let now : IsReading bytes sessions (Searching g.gap) = subst (λ (p : Place). IsReading bytes sessions p) g.searching (reading_is_found bytes (all_front (λ b. b < 256) bytes more fits)) in
+    let now : IsReading bytes sessions (Searching g.gap) = subst (λ (p : Place). IsReading bytes sessions p) g.searching (reading_is_found bytes (all_prefix (λ b. b < 256) bytes more fits)) in
     sym (history_is (bytes ++ more) sessions (Searching (g.gap ++ more)) (reading_on bytes more fits g)) ∙ history_is bytes sessions (Searching g.gap) now
 
 searching_on : (bytes more : List ℕ) → AreBytes (bytes ++ more) → LastGapGoesOn bytes more → is_synced (reading_of (bytes ++ more)).place ≡ false
@@ -86,7 +86,7 @@ rest_on part kept bytes more fits g r =
     let n : ℕ = length bytes in
     let same : history_of (bytes ++ more) ≡ h = history_on bytes more fits g in
     let count : length (bytes ++ more) ≡ n + length more = length-append bytes more in
-    let newest : newest_place h ≤ n = newest_within n h (placed_of bytes (all_front (λ b. b < 256) bytes more fits)) in
+    let newest : newest_place h ≤ n = newest_within n h (placed_of bytes (all_prefix (λ b. b < 256) bytes more fits)) in
     record {
       no_stop = ap (λ (x : History). stop_of part kept x (length (bytes ++ more))) same ∙ ap (stop_of part kept h) count ∙ stop_on part kept h n (length more) newest r.no_watchdog r.no_stop;
       searching = searching_on bytes more fits g;

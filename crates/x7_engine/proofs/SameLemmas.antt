@@ -13,7 +13,7 @@ use Rattle.x7_regs.specs.Command.{command_by}
 use Rattle.x7_regs.specs.declared.command.Command.{Command}
 use Rattle.x7_startup.specs.Calls.{Call, NotBegun, StartupProgress, is_armed, progress_of, since_taking}
 use Rattle.x7_startup.specs.Calls as call
-use Rattle.x7_startup.proofs.CallLemmas.{first_place, further, is_armed-arm, is_armed-bytes, is_armed-desync, is_armed-drop, progress_arm, progress_bytes, progress_desync, progress_drop}
+use Rattle.x7_startup.proofs.CallLemmas.{first_place, further, is_armed_arm, is_armed_bytes, is_armed_desync, is_armed_drop, progress_arm, progress_bytes, progress_desync, progress_drop}
 use Rattle.x7_flow.specs.Controls.{ctl0_held, is_matched, mask_held, masked_word, names_part}
 use Rattle.x7_flow.specs.Flow.{Flow, asked, asks, fault_by, flow_by, flow_of, frame_fault}
 use Rattle.x7_flow.specs.FrameMemory.{memory_of, puts}
@@ -27,16 +27,16 @@ abbrev pub SameStartup : List Call → List Call → Type 0
 SameStartup a b = (is_armed false (since_taking a) ≡ is_armed false (since_taking b)) × (progress_of a ≡ progress_of b)
 
 one_more : (x : Call) (a b : List Call) → SameStartup a b → SameStartup (a ++ x ∷ []) (b ++ x ∷ [])
-one_more call.Arm a b s = (is_armed-arm a ∙ sym (is_armed-arm b), progress_arm a ∙ s.1 ∙ sym (progress_arm b))
+one_more call.Arm a b s = (is_armed_arm a ∙ sym (is_armed_arm b), progress_arm a ∙ s.1 ∙ sym (progress_arm b))
 one_more (call.Desync d) a b s = (
-  is_armed-desync a d ∙ sym (is_armed-desync b d),
+  is_armed_desync a d ∙ sym (is_armed_desync b d),
   progress_desync a d
       ∙ ap (λ (p : StartupProgress). first_place p (is_armed false (since_taking a)) d) s.1
       ∙ ap (λ (x : Bool). first_place (progress_of b) x d) s.0
       ∙ sym (progress_desync b d),
 )
-one_more call.Byte a b s = (is_armed-bytes a 1 ∙ s.0 ∙ sym (is_armed-bytes b 1), progress_bytes a 1 ∙ ap (further 1) s.1 ∙ sym (progress_bytes b 1))
-one_more call.DropBack a b s = (is_armed-drop a ∙ sym (is_armed-drop b), progress_drop a ∙ sym (progress_drop b))
+one_more call.Byte a b s = (is_armed_bytes a 1 ∙ s.0 ∙ sym (is_armed_bytes b 1), progress_bytes a 1 ∙ ap (further 1) s.1 ∙ sym (progress_bytes b 1))
+one_more call.DropBack a b s = (is_armed_drop a ∙ sym (is_armed_drop b), progress_drop a ∙ sym (progress_drop b))
 
 more_calls : (t a b : List Call) → SameStartup a b → SameStartup (a ++ t) (b ++ t)
 more_calls [] a b s = subst (λ (x : List Call). SameStartup x (b ++ [])) (sym (append-nil a)) (subst (λ (y : List Call). SameStartup a y) (sym (append-nil b)) s)

@@ -2,7 +2,7 @@
 use Rattle.std.proofs.Common.{◌≡◌, ◌+◌, ◌-◌, ◌<◌, ◌≤◌, ℕ, zero, suc, Bool, true, false, if◌then◌else◌, Option, None, Some, List, [], ◌∷◌, ◌++◌, length, refl, ap, sym, ◌∙◌, arith, length-append}
 use Rattle.std.proofs.lemmas.Bool.{lt-ltb}
 use Rattle.x7_words.specs.Word.{AreBytes}
-use Rattle.x7_words.proofs.ListLemmas.{all_front}
+use Rattle.x7_words.proofs.ListLemmas.{all_prefix}
 use Rattle.x7_packets.specs.ByHand.{reading_of}
 use Rattle.x7_packets.specs.History.{AllAfter, History, Placed, history_of, until}
 use Rattle.x7_packets.specs.Reading.{is_synced}
@@ -77,18 +77,18 @@ stop_later part kept (x ∷ h) n m s l e =
     (watchdog_later part kept (x ∷ h) x.place (n - x.place) (m - x.place) s (omega arith)) e
 
 -- newer accesses leave a stop
-stop_stays_behind : (part : PartData) (kept : Kept) (newer h : History) (n k m : ℕ) (s : Stopped) → AllAfter n k newer → n ≤ m → stop_of part kept h n ≡ Some s → stop_of part kept (newer ++ h) m ≡ Some s
-stop_stays_behind part kept [] h n k m s a l e = stop_later part kept h n m s l e
-stop_stays_behind part kept (x ∷ newer) h n k m s a l e =
-    let before : stop_of part kept (newer ++ h) x.place ≡ Some s = stop_stays_behind part kept newer h n k x.place s a.2 (omega (arith, a.0)) e in
+stop_stays_after : (part : PartData) (kept : Kept) (newer h : History) (n k m : ℕ) (s : Stopped) → AllAfter n k newer → n ≤ m → stop_of part kept h n ≡ Some s → stop_of part kept (newer ++ h) m ≡ Some s
+stop_stays_after part kept [] h n k m s a l e = stop_later part kept h n m s l e
+stop_stays_after part kept (x ∷ newer) h n k m s a l e =
+    let before : stop_of part kept (newer ++ h) x.place ≡ Some s = stop_stays_after part kept newer h n k x.place s a.2 (omega (arith, a.0)) e in
     ap (λ (o : Option Stopped). or_else o (or_else (stopped_at x.place (why_at part kept (newer ++ h) x.access)) (stopped_by_watchdog (first_firing part kept (x ∷ (newer ++ h)) x.place (m - x.place))))) before
 
 -- the first stop of bytes is that of further bytes too
-pub stop_is_final-stop : (part : PartData) (kept : Kept) (bytes more : List ℕ) (s : Stopped) → AreBytes (bytes ++ more) → stop_in part kept bytes ≡ Some s → stop_in part kept (bytes ++ more) ≡ Some s
-stop_is_final-stop part kept bytes more s f e =
+pub stop_is_final_stop : (part : PartData) (kept : Kept) (bytes more : List ℕ) (s : Stopped) → AreBytes (bytes ++ more) → stop_in part kept bytes ≡ Some s → stop_in part kept (bytes ++ more) ≡ Some s
+stop_is_final_stop part kept bytes more s f e =
     let n : IsLater (length bytes) (history_of bytes) (bytes ++ more) = newer_of bytes more f in
     ap (λ (h : History). stop_of part kept h (length (bytes ++ more))) n.1
-    ∙ stop_stays_behind part kept n.0 (history_of bytes) (length bytes) (length (bytes ++ more)) (length (bytes ++ more)) s n.2 (omega (arith, length-append bytes more)) e
+    ∙ stop_stays_after part kept n.0 (history_of bytes) (length bytes) (length (bytes ++ more)) (length (bytes ++ more)) s n.2 (omega (arith, length-append bytes more)) e
 
 -- the place of a stop lies in the bytes
 firing_by_sooner : (from count place : ℕ) (o : Option ℕ) (b : Bool) → (o ≡ Some place → (from < place) × (place ≤ from + count)) → fired_or o b (from + count + 1) ≡ Some place → (from < place) × (place ≤ from + suc count)
@@ -145,34 +145,34 @@ counted_least (stop.Fault fault.Watchdog) place = omega arith
 counted_least stop.Iprog place = omega arith
 
 -- accesses past a place don't count up to it
-behind_it : (n k m : ℕ) (newer h : History) → AllAfter n m newer → k ≤ n → until k (newer ++ h) ≡ until k h
-behind_it n k m [] h a l = refl
-behind_it n k m (x ∷ newer) h a l = ap (λ (b : Bool). if b then until k (newer ++ h) else x ∷ (newer ++ h)) (lt-ltb k x.place (omega (arith, a.0))) ∙ behind_it n k m newer h a.2 l
+after_it : (n k m : ℕ) (newer h : History) → AllAfter n m newer → k ≤ n → until k (newer ++ h) ≡ until k h
+after_it n k m [] h a l = refl
+after_it n k m (x ∷ newer) h a l = ap (λ (b : Bool). if b then until k (newer ++ h) else x ∷ (newer ++ h)) (lt-ltb k x.place (omega (arith, a.0))) ∙ after_it n k m newer h a.2 l
 
 -- the history taken is that of further bytes too
 history_final : (part : PartData) (kept : Kept) (bytes more : List ℕ) (s : Stopped) → AreBytes (bytes ++ more) → stop_in part kept bytes ≡ Some s → history_taken part kept (bytes ++ more) ≡ history_taken part kept bytes
 history_final part kept bytes more s f e =
     let n : IsLater (length bytes) (history_of bytes) (bytes ++ more) = newer_of bytes more f in
-    let least : last_counted s.why s.place ≤ length bytes = omega (arith, counted_least s.why s.place, (stop_place part kept bytes s (all_front (λ b. b < 256) bytes more f) e).1) in
-    ap (λ (o : Option Stopped). history_by o (history_of (bytes ++ more))) (stop_is_final-stop part kept bytes more s f e)
+    let least : last_counted s.why s.place ≤ length bytes = omega (arith, counted_least s.why s.place, (stop_place part kept bytes s (all_prefix (λ b. b < 256) bytes more f) e).1) in
+    ap (λ (o : Option Stopped). history_by o (history_of (bytes ++ more))) (stop_is_final_stop part kept bytes more s f e)
     ∙ ap (until (last_counted s.why s.place)) n.1
-    ∙ behind_it (length bytes) (last_counted s.why s.place) (length (bytes ++ more)) n.0 (history_of bytes) n.2 least
+    ∙ after_it (length bytes) (last_counted s.why s.place) (length (bytes ++ more)) n.0 (history_of bytes) n.2 least
     ∙ sym (ap (λ (o : Option Stopped). history_by o (history_of bytes)) e)
 
-pub stop_is_final-reads : (part : PartData) (kept : Kept) (bytes more : List ℕ) (s : Stopped) → AreBytes (bytes ++ more) → stop_in part kept bytes ≡ Some s → reads_of part kept (bytes ++ more) ≡ reads_of part kept bytes
-stop_is_final-reads part kept bytes more s f e = ap (read_out part kept) (history_final part kept bytes more s f e)
+pub stop_is_final_reads : (part : PartData) (kept : Kept) (bytes more : List ℕ) (s : Stopped) → AreBytes (bytes ++ more) → stop_in part kept bytes ≡ Some s → reads_of part kept (bytes ++ more) ≡ reads_of part kept bytes
+stop_is_final_reads part kept bytes more s f e = ap (read_out part kept) (history_final part kept bytes more s f e)
 
-pub stop_is_final-memory : (part : PartData) (kept : Kept) (bytes more : List ℕ) (s : Stopped) → AreBytes (bytes ++ more) → stop_in part kept bytes ≡ Some s → memory_in part kept (bytes ++ more) ≡ memory_in part kept bytes
-stop_is_final-memory part kept bytes more s f e = ap (memory_of part) (history_final part kept bytes more s f e)
+pub stop_is_final_memory : (part : PartData) (kept : Kept) (bytes more : List ℕ) (s : Stopped) → AreBytes (bytes ++ more) → stop_in part kept bytes ≡ Some s → memory_in part kept (bytes ++ more) ≡ memory_in part kept bytes
+stop_is_final_memory part kept bytes more s f e = ap (memory_of part) (history_final part kept bytes more s f e)
 
 -- after a stop it doesn't matter whether the bytes end in a session
 stopped_state : (part : PartData) (kept : Kept) (wrapped : Bool) (why : Stop) (h : History) (n : ℕ) (a b : Bool) → state_by (course_at part kept h n) wrapped (Some why) a ≡ state_by (course_at part kept h n) wrapped (Some why) b
 stopped_state part kept wrapped (stop.Fault f) h n a b = refl
 stopped_state part kept wrapped stop.Iprog h n a b = refl
 
-pub stop_is_final-state : (part : PartData) (kept : Kept) (wrapped : Bool) (bytes more : List ℕ) (s : Stopped) → AreBytes (bytes ++ more) → stop_in part kept bytes ≡ Some s → state_of part kept wrapped (bytes ++ more) ≡ state_of part kept wrapped bytes
-stop_is_final-state part kept wrapped bytes more s f e =
-    let later : stop_in part kept (bytes ++ more) ≡ Some s = stop_is_final-stop part kept bytes more s f e in
+pub stop_is_final_state : (part : PartData) (kept : Kept) (wrapped : Bool) (bytes more : List ℕ) (s : Stopped) → AreBytes (bytes ++ more) → stop_in part kept bytes ≡ Some s → state_of part kept wrapped (bytes ++ more) ≡ state_of part kept wrapped bytes
+stop_is_final_state part kept wrapped bytes more s f e =
+    let later : stop_in part kept (bytes ++ more) ≡ Some s = stop_is_final_stop part kept bytes more s f e in
     let session : Bool = is_synced (reading_of (bytes ++ more)).place in
     ap (λ (o : Option Stopped). state_by (course_at part kept (history_taken part kept (bytes ++ more)) (taken_by o (length (bytes ++ more)))) wrapped (why_of o) session) later
     ∙ ap (λ (h : History). state_by (course_at part kept h s.place) wrapped (Some s.why) session) (history_final part kept bytes more s f e)
@@ -186,8 +186,8 @@ no_stop_before part kept bytes more s f e l = by_stop (stop_in part kept bytes) 
     by_stop : (o : Option Stopped) → stop_in part kept bytes ≡ o → stop_in part kept bytes ≡ None
     by_stop None g = g
     by_stop (Some t) g =
-        let same : t ≡ s = (let later : stop_in part kept (bytes ++ more) ≡ Some t = stop_is_final-stop part kept bytes more t f g in cc) in
-        absurd (omega (arith, (stop_place part kept bytes t (all_front (λ b. b < 256) bytes more f) g).1, ap (λ (x : Stopped). x.place) same, l))
+        let same : t ≡ s = (let later : stop_in part kept (bytes ++ more) ≡ Some t = stop_is_final_stop part kept bytes more t f g in cc) in
+        absurd (omega (arith, (stop_place part kept bytes t (all_prefix (λ b. b < 256) bytes more f) g).1, ap (λ (x : Stopped). x.place) same, l))
 
 -- the last byte that counts is none of those before the last one
 pub counted_most : (why : Stop) (place n : ℕ) → n < place → n ≤ last_counted why place

@@ -10,7 +10,7 @@ use Rattle.x7_packets.specs.declared.header.Step.TheVariants as step
 use Rattle.x7_packets.specs.History.{Bad, History, Placed, Read, Write, entered, entered_all, entry, until}
 use Rattle.x7_packets.specs.Packet.{payload_steps}
 use Rattle.x7_packets.proofs.GrowthLemmas.{placed_within, until_placed}
-use Rattle.x7_packets.proofs.HistoryLemmas.{entered_all-append}
+use Rattle.x7_packets.proofs.HistoryLemmas.{entered_all_append}
 use Rattle.x7_part.specs.Part.{PartData}
 use Rattle.x7_engine.specs.Course.{course_at}
 use Rattle.x7_engine.specs.declared.fault.Fault.TheVariants as fault
@@ -28,30 +28,30 @@ use Rattle.x7_engine.proofs.StateLemmas.{firing_within, counted_least}
 
 -- ---- accesses after a place
 
-step_behind : (m p : ℕ) (s : Step) (h : History) → m < p → until m (entered p s h) ≡ until m h
-step_behind m p (step.Payload r w) h l = ap (λ (b : Bool). if b then until m h else entry (Write r w) p ∷ h) (lt-ltb m p l)
-step_behind m p (step.Read r n) h l =
+step_after : (m p : ℕ) (s : Step) (h : History) → m < p → until m (entered p s h) ≡ until m h
+step_after m p (step.Payload r w) h l = ap (λ (b : Bool). if b then until m h else entry (Write r w) p ∷ h) (lt-ltb m p l)
+step_after m p (step.Read r n) h l =
     elim (n == 0) as (λ b. until m (if b then h else entry (Read r n) p ∷ h) ≡ until m h) [ true ↦ refl | false ↦ ap (λ (b : Bool). if b then until m h else entry (Read r n) p ∷ h) (lt-ltb m p l) ]
-step_behind m p (step.Bad w) h l = ap (λ (b : Bool). if b then until m h else entry (Bad w) p ∷ h) (lt-ltb m p l)
-step_behind m p step.Filler h l = refl
-step_behind m p step.Nop h l = refl
-step_behind m p (step.Open r n) h l = refl
+step_after m p (step.Bad w) h l = ap (λ (b : Bool). if b then until m h else entry (Bad w) p ∷ h) (lt-ltb m p l)
+step_after m p step.Filler h l = refl
+step_after m p step.Nop h l = refl
+step_after m p (step.Open r n) h l = refl
 
-steps_behind : (m p : ℕ) (ss : List (ℕ × Step)) (h : History) → m < p + 4 → until m (entered_all p ss h) ≡ until m h
-steps_behind m p [] h l = refl
-steps_behind m p (s ∷ ss) h l = steps_behind m (p + 4) ss (entered (p + 4) s.1 h) (omega (arith, l)) ∙ step_behind m (p + 4) s.1 h l
+steps_after : (m p : ℕ) (ss : List (ℕ × Step)) (h : History) → m < p + 4 → until m (entered_all p ss h) ≡ until m h
+steps_after m p [] h l = refl
+steps_after m p (s ∷ ss) h l = steps_after m (p + 4) ss (entered (p + 4) s.1 h) (omega (arith, l)) ∙ step_after m (p + 4) s.1 h l
 
 -- the accesses of some words up to a byte before the end of the k-th word after them
-pub front_until : (n k m : ℕ) (ss : List (ℕ × Step)) (h : History) → k ≤ length ss → m < n + 4 * k + 4 → until m (entered_all n ss h) ≡ until m (entered_all n (take k ss) h)
-front_until n k m ss h l e =
+pub prefix_until : (n k m : ℕ) (ss : List (ℕ × Step)) (h : History) → k ≤ length ss → m < n + 4 * k + 4 → until m (entered_all n ss h) ≡ until m (entered_all n (take k ss) h)
+prefix_until n k m ss h l e =
     let count : length (take k ss) ≡ k = length-take-le k ss l in
     ap (λ t. until m (entered_all n t h)) (sym (take-append-drop k ss))
-    ∙ ap (until m) (entered_all-append n (take k ss) (drop k ss) h)
-    ∙ steps_behind m (n + 4 * length (take k ss)) (drop k ss) (entered_all n (take k ss) h) (omega (arith, count, e))
+    ∙ ap (until m) (entered_all_append n (take k ss) (drop k ss) h)
+    ∙ steps_after m (n + 4 * length (take k ss)) (drop k ss) (entered_all n (take k ss) h) (omega (arith, count, e))
 
 -- up to a byte before it, a word more is none
 pub step_until : (n m p : ℕ) (s : Step) (h : History) → Placed n h → n ≤ m → m < p → until m (entered p s h) ≡ h
-step_until n m p s h a l e = step_behind m p s h e ∙ until_placed m h (placed_within n m h l a)
+step_until n m p s h a l e = step_after m p s h e ∙ until_placed m h (placed_within n m h l a)
 
 pub until_until : (k m : ℕ) (h : History) → k ≤ m → until k (until m h) ≡ until k h
 until_until k m [] l = refl
@@ -200,7 +200,7 @@ writes_until part kept n m register (w ∷ ws) h p l =
     by : (n + 4 ≤ m → read_out part kept (until m (entered_all (n + 4) (payload_steps register ws) (entry (Write register w) (n + 4) ∷ h))) ≡ read_out part kept (entry (Write register w) (n + 4) ∷ h)) → (b : Bool) → nat_lt m (n + 4) ≡ b → read_out part kept (until m (entered_all n (payload_steps register (w ∷ ws)) h)) ≡ read_out part kept h
     by i true f =
         let near : m < n + 4 = grind (arith, nat_tests, f) in
-        ap (read_out part kept) (steps_behind m n (payload_steps register (w ∷ ws)) h near ∙ until_placed m h (placed_within n m h l p))
+        ap (read_out part kept) (steps_after m n (payload_steps register (w ∷ ws)) h near ∙ until_placed m h (placed_within n m h l p))
     by i false f =
         let far : n + 4 ≤ m = grind (arith, nat_tests, f) in
         i far

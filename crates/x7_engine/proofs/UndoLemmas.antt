@@ -2,7 +2,7 @@
 use Rattle.std.proofs.Common.{◌≡◌, ℕ, ◌+◌, ◌<◌, ◌≤◌, inl, inr, ◌⊎◌, Bool, true, false, if◌then◌else◌, List, [], ◌∷◌, ◌++◌, length, Option, None, Some, refl, ap, sym, subst, ◌∙◌, arith, append-nil, length-append}
 use Rattle.std.specs.Prelude.{nat_lt}
 use Rattle.x7_words.specs.Word.{AreBytes}
-use Rattle.x7_words.proofs.ListLemmas.{all_front}
+use Rattle.x7_words.proofs.ListLemmas.{all_prefix}
 use Rattle.x7_packets.specs.History.{Entry, History, Placed, history_of, until}
 use Rattle.x7_packets.proofs.GrowthLemmas.{placed_of, placed_within, until_placed}
 use Rattle.x7_packets.proofs.OnceLemmas.{enter_once}
@@ -25,7 +25,7 @@ use Rattle.x7_engine.specs.Stops.{Stopped, stopped_at}
 use Rattle.x7_engine.specs.Undo.{Back, KeepsDevice, UndoState, dropping}
 use Rattle.x7_engine.proofs.DeviceLemmas.{going_taken}
 use Rattle.x7_engine.proofs.FrameLemmas.{frames_of, goes_on, none_frames}
-use Rattle.x7_engine.proofs.StateLemmas.{stop_is_final-stop, counted_most}
+use Rattle.x7_engine.proofs.StateLemmas.{stop_is_final_stop, counted_most}
 
 -- ---- the history of up to four bytes more
 
@@ -47,7 +47,7 @@ taken_one part kept bytes more (Some why) f few some e =
     let place : ℕ = length (bytes ++ more) in
     let long : place ≡ length bytes + length more = length-append bytes more in
     subst (OneEntry (history_of bytes)) (sym (ap (λ (o : Option Stopped). history_by o (history_of (bytes ++ more))) e))
-    (until_one (length bytes) (last_counted why place) (history_of bytes) (history_of (bytes ++ more)) (counted_most why place (length bytes) (omega (arith, long, some))) (placed_of bytes (all_front (λ b. b < 256) bytes more f))
+    (until_one (length bytes) (last_counted why place) (history_of bytes) (history_of (bytes ++ more)) (counted_most why place (length bytes) (omega (arith, long, some))) (placed_of bytes (all_prefix (λ b. b < 256) bytes more f))
     (enter_once bytes more f few))
 
 -- a device that went on had no stop
@@ -60,7 +60,7 @@ no_stop part kept bytes more (Some now) why f some e g = by why g
     at = record { place = length bytes; why = now }
 
     final : stop_in part kept (bytes ++ more) ≡ Some at
-    final = stop_is_final-stop part kept bytes more at f e
+    final = stop_is_final_stop part kept bytes more at f e
 
     place_of : Option Stopped → ℕ
     place_of None = 0

@@ -6,7 +6,7 @@ use Rattle.std.proofs.Math.Seq.{take-add, take-append_seam}
 use Rattle.std.proofs.lemmas.Bool.{cases_lt}
 use Rattle.std.proofs.lemmas.List.{drop-take, length-drop, length-take-le, take-append-drop, take-take}
 use Rattle.x7_words.specs.Word.{AreBytes, words_of_bytes}
-use Rattle.x7_words.proofs.ListLemmas.{all_front}
+use Rattle.x7_words.proofs.ListLemmas.{all_prefix}
 use Rattle.x7_packets.specs.declared.cutter.Cut.{Cut}
 use Rattle.x7_packets.specs.declared.cutter.Cut.TheVariants.{Body, Head, Need, Skip, Sync, Word}
 use Rattle.x7_packets.specs.declared.header.Step.TheVariants as step
@@ -14,8 +14,8 @@ use Rattle.x7_packets.specs.Cutting.{CutterState, CutterStandsFor, IsLent, IsRun
 use Rattle.x7_packets.specs.History.{Access, Bad, History, Placed, Read, Write, command_held, entered_all, entry, executes, history_of, is_command, last_word, next_word, until, writes}
 use Rattle.x7_packets.specs.Packet.{payload_steps}
 use Rattle.x7_packets.specs.Reading.{Place, Session}
-use Rattle.x7_packets.proofs.GrowthLemmas.{front_of, placed_of, placed_within, until_placed}
-use Rattle.x7_packets.proofs.HistoryLemmas.{cut_enters, kept_all, next_word-is}
+use Rattle.x7_packets.proofs.GrowthLemmas.{prefix_of, placed_of, placed_within, until_placed}
+use Rattle.x7_packets.proofs.HistoryLemmas.{cut_enters, kept_all, next_word_is}
 use Rattle.x7_part.specs.Part.{PartData}
 use Rattle.x7_startup.specs.Calls.{Call, Arm, Desync, DropBack, StartupProgress, NotBegun, Begun, StandsFor, cor0_of, progress_of}
 use Rattle.x7_startup.proofs.CallLemmas.{further, progress_arm, progress_bytes, progress_drop}
@@ -37,8 +37,8 @@ use Rattle.x7_engine.proofs.ClockLemmas.{last_of}
 use Rattle.x7_engine.proofs.DeviceLemmas.{ends_words, length_between}
 use Rattle.x7_engine.proofs.FeedLemmas.{taken_more}
 use Rattle.x7_engine.proofs.PhaseLemmas.{phase_later}
-use Rattle.x7_engine.proofs.StateLemmas.{no_stop_before, stop_is_final-stop, taken_is}
-use Rattle.x7_engine.proofs.TurnLemmas.{front_until, step_until}
+use Rattle.x7_engine.proofs.StateLemmas.{no_stop_before, stop_is_final_stop, taken_is}
+use Rattle.x7_engine.proofs.TurnLemmas.{prefix_until, step_until}
 
 -- ---- accesses that write no CMD begin no startup
 
@@ -128,7 +128,7 @@ quieter_run (Body register bs) from n count m h p l k r e = by (register == 4) r
     by true f =
         let is : register ≡ 4 = grind (arith, f) in
         let one : length bs.now ≡ 4 = r.3 is in
-        ([], front_until from 0 m (payload_steps register (words_of_bytes bs.now)) h (omega arith) (omega (arith, k, e.0, e.1, one)) ∙ here, tt)
+        ([], prefix_until from 0 m (payload_steps register (words_of_bytes bs.now)) h (omega arith) (omega (arith, k, e.0, e.1, one)) ∙ here, tt)
     by false f =
         let q : IsQuieter h all = quieter_body register from (words_of_bytes bs.now) h f in
         subst (λ (x : History). IsQuieter h (until m x)) (sym q.1) (quieter_until m q.0 h here q.2)
@@ -138,12 +138,12 @@ pub run_commands : (c n : CutterState) (bytes cut : List ℕ) (sessions : List S
 run_commands c n bytes cut sessions place run left s w r i = λ k l.
     let from : ℕ = next_word sessions place in
     let all : History = entered_all from (run_steps run) (history_of bytes) in
-    let whole : history_of (bytes ++ cut) ≡ all = cut_enters c n bytes cut sessions place run from s w (next_word-is bytes sessions place s.reading) in
+    let whole : history_of (bytes ++ cut) ≡ all = cut_enters c n bytes cut sessions place run from s w (next_word_is bytes sessions place s.reading) in
     let joined : (bytes ++ take k cut) ++ drop k cut ≡ bytes ++ cut = append_assoc bytes (take k cut) (drop k cut) ∙ ap (λ (t : List ℕ). bytes ++ t) (take-append-drop k cut) in
     let fits : AreBytes ((bytes ++ take k cut) ++ drop k cut) = subst AreBytes (sym joined) w.stands.reading.fits in
-    let here : AreBytes bytes = all_front (λ b. b < 256) bytes cut w.stands.reading.fits in
+    let here : AreBytes bytes = all_prefix (λ b. b < 256) bytes cut w.stands.reading.fits in
     let m : ℕ = length (bytes ++ take k cut) in
-    let prefix : history_of (bytes ++ take k cut) ≡ until m all = sym (front_of (bytes ++ take k cut) (drop k cut) fits) ∙ ap (until m) (ap history_of joined ∙ whole) in
+    let prefix : history_of (bytes ++ take k cut) ≡ until m all = sym (prefix_of (bytes ++ take k cut) (drop k cut) fits) ∙ ap (until m) (ap history_of joined ∙ whole) in
     let few : length (take k cut) ≡ k = length-take-le k cut (omega (arith, l)) in
     let count : m ≡ length bytes + k = omega (arith, length-append bytes (take k cut), few) in
     let q : IsQuieter (history_of bytes) (until m all) =
@@ -151,8 +151,8 @@ run_commands c n bytes cut sessions place run left s w r i = λ k l.
     (q.0, prefix ∙ q.1, q.2)
 
 -- the front of such bytes
-pub front_commands : (bytes cut more rest : List ℕ) → cut ≡ more ++ rest → CommandsLast bytes cut → CommandsLast bytes more
-front_commands bytes cut more rest e f = λ k l.
+pub prefix_commands : (bytes cut more rest : List ℕ) → cut ≡ more ++ rest → CommandsLast bytes cut → CommandsLast bytes more
+prefix_commands bytes cut more rest e f = λ k l.
     let longer : length cut ≡ length more + length rest = ap length e ∙ length-append more rest in
     let same : take k cut ≡ take k more = ap (take k) e ∙ take_front k more rest (omega (arith, l)) in
     subst (λ (t : List ℕ). IsQuieter (history_of bytes) (history_of (bytes ++ t))) same (f k (omega (arith, l, longer)))
@@ -166,10 +166,10 @@ front_commands bytes cut more rest e f = λ k l.
 pub quiet_commands : (bytes more : List ℕ) → AreBytes (bytes ++ more) → history_of (bytes ++ more) ≡ history_of bytes → CommandsLast bytes more
 quiet_commands bytes more fits e = λ k l.
     let joined : (bytes ++ take k more) ++ drop k more ≡ bytes ++ more = append_assoc bytes (take k more) (drop k more) ∙ ap (λ (t : List ℕ). bytes ++ t) (take-append-drop k more) in
-    let here : AreBytes bytes = all_front (λ b. b < 256) bytes more fits in
+    let here : AreBytes bytes = all_prefix (λ b. b < 256) bytes more fits in
     let m : ℕ = length (bytes ++ take k more) in
     let prefix : history_of (bytes ++ take k more) ≡ until m (history_of bytes) =
-    sym (front_of (bytes ++ take k more) (drop k more) (subst AreBytes (sym joined) fits)) ∙ ap (until m) (ap history_of joined ∙ e) in
+    sym (prefix_of (bytes ++ take k more) (drop k more) (subst AreBytes (sym joined) fits)) ∙ ap (until m) (ap history_of joined ∙ e) in
     ([], prefix ∙ until_placed m (history_of bytes) (placed_within (length bytes) m (history_of bytes) (omega (arith, length-append bytes (take k more))) (placed_of bytes here)), tt)
 
 -- of bytes without an access and then bytes of a run none but the last ends a command
@@ -218,7 +218,7 @@ going_before part kept wrapped d bytes more s some = by (stop_in part kept bytes
     by : (o : Option Stopped) → stop_in part kept bytes ≡ o → stop_in part kept bytes ≡ None
     by None e = e
     by (Some t) e =
-        let stays : stop_in part kept (bytes ++ more) ≡ Some t = stop_is_final-stop part kept bytes more t s.fits e in
+        let stays : stop_in part kept (bytes ++ more) ≡ Some t = stop_is_final_stop part kept bytes more t s.fits e in
         let last : t.place ≡ length (bytes ++ more) = at_last d.registers.stop t (sym s.stop_is ∙ stays) in
         let count : length (bytes ++ more) ≡ length bytes + length more = length-append bytes more in
         no_stop_before part kept bytes more t s.fits stays (omega (arith, last, count, some))
@@ -254,7 +254,7 @@ none_started part kept wrapped d bytes more going s not f b = λ k l.
     let joined : (bytes ++ prefix) ++ drop k more ≡ bytes ++ more = append_assoc bytes prefix (drop k more) ∙ ap (λ (t : List ℕ). bytes ++ t) (take-append-drop k more) in
     let all : DeviceStandsFor part kept wrapped d ((bytes ++ prefix) ++ drop k more) = subst (DeviceStandsFor part kept wrapped d) (sym joined) s in
     let none : stop_in part kept (bytes ++ prefix) ≡ None = going_before part kept wrapped d (bytes ++ prefix) (drop k more) all (omega (arith, left, l)) in
-    let fits : AreBytes (bytes ++ prefix) = all_front (λ b. b < 256) (bytes ++ prefix) (drop k more) all.fits in
+    let fits : AreBytes (bytes ++ prefix) = all_prefix (λ b. b < 256) (bytes ++ prefix) (drop k more) all.fits in
     let now : (state_of part kept false (bytes ++ prefix)).phase ≡ phase_of part (history_of (bytes ++ prefix)) (length (bytes ++ prefix)) = phase_going part kept false (bytes ++ prefix) none in
     let low : phase_of part (history_of (bytes ++ prefix)) (length (bytes ++ prefix)) < 7 = elim b [
       | inl unbegun ↦
@@ -272,8 +272,8 @@ none_started part kept wrapped d bytes more going s not f b = λ k l.
 -- ---- turns of a piece
 
 -- a part of a piece's front is that part of the piece
-pub between_in_front : (piece : List ℕ) (end from to : ℕ) → from ≤ to → to ≤ end → between (take end piece) from to ≡ between piece from to
-between_in_front piece end from to l m =
+pub between_before : (piece : List ℕ) (end from to : ℕ) → from ≤ to → to ≤ end → between (take end piece) from to ≡ between piece from to
+between_before piece end from to l m =
     let sum : from + (end - from) ≡ end = omega (arith, l, m) in
     let few : to - from ≤ end - from = omega (arith, l, m) in
     ap (λ (k : ℕ). between (take k piece) from to) (sym sum)
@@ -285,7 +285,7 @@ slice_long : (piece : List ℕ) (end : ℕ) → end ≤ length piece → length 
 slice_long piece end l = length-take-le end piece l
 
 pub in_slice : (piece : List ℕ) (end from to : ℕ) → end ≤ length piece → from ≤ to → to ≤ length (take end piece) → between (take end piece) from to ≡ between piece from to
-in_slice piece end from to m l k = between_in_front piece end from to l (omega (arith, k, slice_long piece end m))
+in_slice piece end from to m l k = between_before piece end from to l (omega (arith, k, slice_long piece end m))
 
 turn_stands : (part : PartData) (kept : Kept) (wrapped : Bool) (d : DeviceState) (bytes piece : List ℕ) (end from to : ℕ) → end ≤ length piece → from ≤ to → to ≤ length (take end piece)
     → DeviceStandsFor part kept wrapped d (bytes ++ between (take end piece) from to) → DeviceStandsFor part kept wrapped d (bytes ++ between piece from to)

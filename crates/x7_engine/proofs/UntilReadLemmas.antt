@@ -14,7 +14,7 @@ use Rattle.x7_engine.specs.UntilRead.{RoomBefore}
 use Rattle.x7_engine.specs.UntilStarted.{AreOtherWrites, CommandsLast, IsOtherWrite}
 use Rattle.x7_engine.specs.Values.{answer_of, read_out}
 use Rattle.x7_engine.proofs.DeviceLemmas.{length_between}
-use Rattle.x7_engine.proofs.FeedLemmas.{taken_more, told_all}
+use Rattle.x7_engine.proofs.FeedLemmas.{taken_more, given_all}
 use Rattle.x7_engine.proofs.UntilLemmas.{going_before}
 
 -- writes read out nothing
@@ -53,7 +53,7 @@ turn_piece part kept wrapped d e bytes piece from to k l m going due s after f m
     let here : take j (between piece from to) ≡ between piece from k = take-take j (to - from) (drop from piece) (omega (arith, n, more)) in
     let all : taken ++ take j (between piece from to) ≡ bytes ++ take k piece = ap (λ (t : List ℕ). taken ++ t) here ∙ taken_more bytes piece from k more in
     let inside : j < length (between piece from to) = omega (arith, length_between piece from to l m, n, more) in
-    ap (reads_of part kept) (sym all) ∙ turn_reads_none part kept wrapped d e taken (between piece from to) going s after f j inside ∙ sym (told_all part kept d taken due)
+    ap (reads_of part kept) (sym all) ∙ turn_reads_none part kept wrapped d e taken (between piece from to) going s after f j inside ∙ sym (given_all part kept d taken due)
 
 -- the words that a buffer got had room in it
 room_for : (b : ReadBufState) (more : List ℕ) → HoldsWithinMost b.most (with_words b more).words → HasRoomForWords b more

@@ -9,8 +9,8 @@ use Rattle.x7_packets.specs.AtOnce.{WritesOne}
 use Rattle.x7_packets.specs.Cutting.{CutterState, CutterStandsFor, AfterRun, between}
 use Rattle.x7_packets.specs.History.{History, Placed, Write, entry, history_of, next_word, until}
 use Rattle.x7_packets.specs.Reading.{Place, Searching, Session, Synced}
-use Rattle.x7_packets.proofs.GrowthLemmas.{front_of, until_placed}
-use Rattle.x7_packets.proofs.HistoryLemmas.{cut_enters, next_word-is}
+use Rattle.x7_packets.proofs.GrowthLemmas.{prefix_of, until_placed}
+use Rattle.x7_packets.proofs.HistoryLemmas.{cut_enters, next_word_is}
 use Rattle.x7_part.specs.Part.{PartData}
 use Rattle.x7_engine.specs.declared.kept.Kept.{Kept}
 use Rattle.x7_engine.specs.Standing.{DeviceStandsFor, DeviceState, IsCutterOf, IsNextAccess, RegistersStandFor, counted_in, due_count}
@@ -44,11 +44,11 @@ written_one c n bytes rest register w cutter one =
     let next : AfterRun one.between n ((bytes ++ head) ++ word) first.new_sessions first.new_place (run.Word register w) = one.word (bytes ++ head) first.new_sessions first.new_place first.stands in
     let joined : (bytes ++ head) ++ word ≡ bytes ++ take 8 rest = append_assoc bytes head word ∙ ap (λ (t : List ℕ). bytes ++ t) (sym one.bytes) in
     let quiet : history_of (bytes ++ head) ≡ history_of bytes =
-    cut_enters c one.between bytes head cutter.sessions cutter.place (run.Head (type1_write register 1) (step.Open register 1)) (next_word cutter.sessions cutter.place) cutter.stands first (next_word-is bytes cutter.sessions cutter.place cutter.stands.reading) in
+    cut_enters c one.between bytes head cutter.sessions cutter.place (run.Head (type1_write register 1) (step.Open register 1)) (next_word cutter.sessions cutter.place) cutter.stands first (next_word_is bytes cutter.sessions cutter.place cutter.stands.reading) in
     let from : ℕ = next_word first.new_sessions first.new_place in
     let place : from + 4 ≡ length bytes + 8 = omega (arith, word_ends one.between n (bytes ++ head) word first.new_sessions first.new_place register w first.stands next, length-append bytes head) in
     let longer : history_of ((bytes ++ head) ++ word) ≡ entry (Write register w) (from + 4) ∷ history_of (bytes ++ head) =
-    cut_enters one.between n (bytes ++ head) word first.new_sessions first.new_place (run.Word register w) from first.stands next (next_word-is (bytes ++ head) first.new_sessions first.new_place first.stands.reading) in
+    cut_enters one.between n (bytes ++ head) word first.new_sessions first.new_place (run.Word register w) from first.stands next (next_word_is (bytes ++ head) first.new_sessions first.new_place first.stands.reading) in
     record {
       cutter = record { sessions = next.new_sessions; place = next.new_place; stands = subst (λ (b : List ℕ). CutterStandsFor n b next.new_sessions next.new_place) joined next.stands };
       fits = subst AreBytes joined next.stands.reading.fits;
@@ -62,7 +62,7 @@ written_last bytes more register w count fits placed longer = λ k l.
     let joined : prefix ++ drop k more ≡ bytes ++ more = append_assoc bytes (take k more) (drop k more) ∙ ap (λ (t : List ℕ). bytes ++ t) (take-append-drop k more) in
     let few : length prefix ≡ length bytes + k = omega (arith, length-append bytes (take k more), length-take-le k more (omega (arith, l))) in (
       [],
-      sym (front_of prefix (drop k more) (subst AreBytes (sym joined) fits)) ∙ ap (until (length prefix)) (ap history_of joined ∙ longer)
+      sym (prefix_of prefix (drop k more) (subst AreBytes (sym joined) fits)) ∙ ap (until (length prefix)) (ap history_of joined ∙ longer)
           ∙ step_until (length bytes) (length prefix) (length bytes + 8) (step.Payload register w) (history_of bytes) placed (omega (arith, few)) (omega (arith, few, l, count)),
       tt,
     )

@@ -12,7 +12,7 @@ use Rattle.x7_pipeline.specs.Runs.{rest_of, frames_of, slots_from, in_slots, but
 use Rattle.x7_pipeline.specs.FarAsRead.{has_frame_at}
 use Rattle.x7_pipeline.specs.Copies.{is_wcfg}
 use Rattle.x7_pipeline.proofs.LawLemmas.{put_twice, no_source}
-use Rattle.x7_pipeline.proofs.RunLemmas.{frames-completes, frames-goes_on}
+use Rattle.x7_pipeline.proofs.RunLemmas.{frames_completes, frames_goes_on}
 use Rattle.x7_flow.specs.Asked.{Asked, Load, Order, Word, Copies, Reads, Other}
 use Rattle.x7_flow.specs.Settings.{Settings, settings_of, settings_after, settings_from}
 use Rattle.x7_flow.specs.Flow.{Flow, asked, asks, flow_by, flow_of, source_of}
@@ -33,8 +33,8 @@ pub landed_grows : (part : PartData) (base w : ℕ) (run : List ℕ) → written
 unfolding written_frames written_frames_more
 landed_grows part base w run =
     elim (cases_eq (length (rest_of (frame_words part) run) + 1) (frame_words part)) [
-      | inl e ↦ rw (frames-completes (frame_words part) w run e, eq-eqb (length (rest_of (frame_words part) run) + 1) (frame_words part) e) (landed_step part base (frames_of (frame_words part) run))
-      | inr n ↦ rw (frames-goes_on (frame_words part) w run n, ne_eqb (length (rest_of (frame_words part) run) + 1) (frame_words part) n) refl
+      | inl e ↦ rw (frames_completes (frame_words part) w run e, eq-eqb (length (rest_of (frame_words part) run) + 1) (frame_words part) e) (landed_step part base (frames_of (frame_words part) run))
+      | inr n ↦ rw (frames_goes_on (frame_words part) w run n, ne_eqb (length (rest_of (frame_words part) run) + 1) (frame_words part) n) refl
     ]
 
 pub put_none : (pairs : List PlanRow) (m : FrameMap) → pairs ≡ [] → AreSame (put_over pairs m) m
@@ -110,9 +110,9 @@ load_flow part w place earlier =
     let i = flow_sound part earlier in
     ap (λ (c : Command). record (flow_loaded part (settings_of part.idcode earlier) (source_of part earlier) w) { command = c }) i.command_is
 
-pub memory_behind_load : (part : PartData) (later earlier : History) (w place : ℕ) →
+pub memory_after_load : (part : PartData) (later earlier : History) (w place : ℕ) →
     AreSame (memory_of part (later ++ entry (Write 1 w) place ∷ earlier)) (put_over (pairs_loaded part (settings_of part.idcode earlier) (source_of part earlier) w later) (memory_of part earlier))
 unfolding memory_of planned
-memory_behind_load part later earlier w place far =
+memory_after_load part later earlier w place far =
     memory_joined part later (entry (Write 1 w) place ∷ earlier) far
     ∙ ap (λ (f : Flow). put_over (pairs_from part (settings_of part.idcode earlier) f later) (memory_of part earlier) far) (load_flow part w place earlier)

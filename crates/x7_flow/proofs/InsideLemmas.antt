@@ -15,7 +15,7 @@ use Rattle.x7_memory.specs.Frames.{zero_frames, zeros}
 use Rattle.x7_memory.specs.Planned.{PlanRow, planned}
 use Rattle.x7_memory.proofs.FrameLemmas.{among_none}
 use Rattle.x7_memory.proofs.MapLemmas.{zeros_at}
-use Rattle.x7_memory.proofs.PlanLemmas.{planned_behind, planned_here}
+use Rattle.x7_memory.proofs.PlanLemmas.{planned_after, planned_here}
 use Rattle.x7_pipeline.specs.Copies.{copied, is_mfw, newest_of}
 use Rattle.x7_pipeline.specs.FarAsRead.{has_frame_at}
 use Rattle.x7_pipeline.specs.Faults.{completes}
@@ -118,7 +118,7 @@ puts_frames part Other h some = tt
 pairs_inside : (part : PartData) (pairs : List PlanRow) (far : ℕ) → AreFrames part pairs → (Contains (addresses_in part) far → ⊥) → planned pairs far ≡ None
 unfolding planned
 pairs_inside part [] far a n = refl
-pairs_inside part (p ∷ pairs) far a n = planned_behind p pairs far (λ e. n (subst (Contains (addresses_in part)) (sym e) a.0.0)) ∙ pairs_inside part pairs far a.1 n
+pairs_inside part (p ∷ pairs) far a n = planned_after p pairs far (λ e. n (subst (Contains (addresses_in part)) (sym e) a.0.0)) ∙ pairs_inside part pairs far a.1 n
 
 pairs_wide : (part : PartData) (pairs : List PlanRow) (far : ℕ) (words : List ℕ) → AreFrames part pairs → planned pairs far ≡ Some words → length words ≡ frame_words part
 unfolding planned
@@ -126,7 +126,7 @@ pairs_wide part [] far words a e = absurd (cc)
 pairs_wide part (p ∷ pairs) far words a e =
     elim (eqb_tells far p.far) [
       | inl y ↦ (let same : Some p.words ≡ Some words = sym (planned_here p pairs far y.1) ∙ e in let is : p.words ≡ words = cc in ap length (sym is) ∙ a.0.1)
-      | inr n ↦ pairs_wide part pairs far words a.1 (sym (planned_behind p pairs far n.1) ∙ e)
+      | inr n ↦ pairs_wide part pairs far words a.1 (sym (planned_after p pairs far n.1) ∙ e)
     ]
 
 put_memory : (part : PartData) (pairs : List PlanRow) (m : FrameMap) → AreFrames part pairs → HasFrames part m → HasFrames part (put_over pairs m)

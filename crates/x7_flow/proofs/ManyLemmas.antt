@@ -14,7 +14,7 @@ use Rattle.x7_flow.specs.Settings.{Settings, settings_of, settings_after, settin
 use Rattle.x7_flow.specs.Flow.{Flow, asked, base_of, flow_by, flow_of, run_of}
 use Rattle.x7_flow.specs.FrameMemory.{written_frames_more, memory_of, puts}
 use Rattle.x7_flow.specs.Later.{flow_from, pairs_from, pairs_loaded}
-use Rattle.x7_flow.proofs.FlowLemmas.{flow_more, flow_sound, landed_grows, memory_behind_load, memory_more}
+use Rattle.x7_flow.proofs.FlowLemmas.{flow_more, flow_sound, landed_grows, memory_after_load, memory_more}
 
 -- ---- words of frame data after a history
 
@@ -137,9 +137,9 @@ words_pairs part s f n ws later t none =
 
 -- ---- after a load under another command than MFW no frame is older
 
-pub memory_behind_load_alone : (part : PartData) (later earlier : History) (w place : ℕ) → is_mfw (command_with (command_held earlier)) ≡ false →
+pub memory_after_load_alone : (part : PartData) (later earlier : History) (w place : ℕ) → is_mfw (command_with (command_held earlier)) ≡ false →
     AreSame (memory_of part (later ++ entry (Write 1 w) place ∷ earlier)) (put_over (pairs_loaded part (settings_of part.idcode earlier) None w later) (memory_of part earlier))
-memory_behind_load_alone part later earlier w place other far =
+memory_after_load_alone part later earlier w place other far =
     let i = flow_sound part earlier in
-    memory_behind_load part later earlier w place far
+    memory_after_load part later earlier w place far
     ∙ ap (λ (source : Option (List ℕ)). put_over (pairs_loaded part (settings_of part.idcode earlier) source w later) (memory_of part earlier) far) (i.sourceless (ap is_mfw i.command_is ∙ other))

@@ -14,12 +14,12 @@ use Rattle.x7_part.specs.declared.slot.Slot.TheVariants.{Frame, Pad, End}
 use Rattle.x7_memory.specs.FrameMap.{AreSame, frame_or, override}
 use Rattle.x7_memory.specs.Planned.{PlanRow, planned, planned_addresses}
 use Rattle.x7_memory.proofs.MapLemmas.{override_same, planned_joined}
-use Rattle.x7_memory.proofs.PlanLemmas.{planned_behind, planned_here}
+use Rattle.x7_memory.proofs.PlanLemmas.{planned_after, planned_here}
 use Rattle.x7_pipeline.specs.InWords.{pair_of}
 use Rattle.x7_pipeline.specs.Runs.{frames_of, onto, slots_from}
 use Rattle.x7_pipeline.specs.Copies.{newest_of}
 use Rattle.x7_pipeline.specs.FarAsRead.{loaded_base}
-use Rattle.x7_pipeline.proofs.SlotLemmas.{addresses_among-slots}
+use Rattle.x7_pipeline.proofs.SlotLemmas.{addresses_among_slots}
 use Rattle.x7_flow.specs.Settings.{settings_of, takes_copies, takes_frames}
 use Rattle.x7_flow.specs.Asked.{Copies, Other}
 use Rattle.x7_flow.specs.Flow.{Flow, flow_by, flow_of, run_of, source_of}
@@ -35,15 +35,15 @@ lower : (a b : ℕ) (ys : List ℕ) → a ≤ b → Rises b ys → Rises a ys
 lower a b [] h r = risen a
 lower a b (y ∷ ys) h (rise least x xs l r) = rise a y ys (omega arith) r
 
-behind_first : (least x : ℕ) (xs : List ℕ) → Rises least (x ∷ xs) → (least ≤ x) × Rises (x + 1) xs
-behind_first least x xs (rise a y ys l r) = (l, r)
+after_first : (least x : ℕ) (xs : List ℕ) → Rises least (x ∷ xs) → (least ≤ x) × Rises (x + 1) xs
+after_first least x xs (rise a y ys l r) = (l, r)
 
 rises_from : (least base : ℕ) (places : List Slot) → Rises least (addresses_among places) → Rises least (addresses_among (from base places))
 rises_from least base [] r = r
 rises_from least base (Frame a ∷ places) r =
     elim (cases_eq a base) [
       | inl y ↦ rw (eq-eqb a base y) r
-      | inr n ↦ rw (ne_eqb a base n) (let p = behind_first least a (addresses_among places) r in rises_from least base places (lower least (a + 1) (addresses_among places) (let l = p.0 in omega arith) p.1))
+      | inr n ↦ rw (ne_eqb a base n) (let p = after_first least a (addresses_among places) r in rises_from least base places (lower least (a + 1) (addresses_among places) (let l = p.0 in omega arith) p.1))
     ]
 rises_from least base (Pad ∷ places) r = rises_from least base places r
 rises_from least base (End ∷ places) r = rises_from least base places r
@@ -51,7 +51,7 @@ rises_from least base (End ∷ places) r = rises_from least base places r
 rows_rise : (least : ℕ) (places : List Slot) (frames : List (List ℕ)) → Rises least (addresses_among places) → Rises least (planned_addresses (filter_map pair_of (zip places frames)))
 rows_rise least [] frames r = risen least
 rows_rise least (p ∷ places) [] r = risen least
-rows_rise least (Frame a ∷ places) (f ∷ frames) r = let p = behind_first least a (addresses_among places) r in rise least a _ p.0 (rows_rise (a + 1) places frames p.1)
+rows_rise least (Frame a ∷ places) (f ∷ frames) r = let p = after_first least a (addresses_among places) r in rise least a _ p.0 (rows_rise (a + 1) places frames p.1)
 rows_rise least (Pad ∷ places) (f ∷ frames) r = rows_rise least places frames r
 rows_rise least (End ∷ places) (f ∷ frames) r = rows_rise least places frames r
 
@@ -61,9 +61,9 @@ none_below : (least far : ℕ) (rows : List PlanRow) → Rises least (planned_ad
 unfolding planned
 none_below least far [] r l = refl
 none_below least far (row ∷ rows) r l =
-    let p = behind_first least row.far (planned_addresses rows) r in
+    let p = after_first least row.far (planned_addresses rows) r in
     let low = p.0 in
-    planned_behind row rows far (λ e. absurd (omega arith)) ∙ none_below (row.far + 1) far rows p.1 (omega arith)
+    planned_after row rows far (λ e. absurd (omega arith)) ∙ none_below (row.far + 1) far rows p.1 (omega arith)
 
 or_else_none : (a : Option (List ℕ)) → frame_or a None ≡ a
 or_else_none None = refl
@@ -73,7 +73,7 @@ pub planned_reversed : (least : ℕ) (rows : List PlanRow) → Rises least (plan
 unfolding planned
 planned_reversed least [] r far = refl
 planned_reversed least (row ∷ rows) r far =
-    let p = behind_first least row.far (planned_addresses rows) r in
+    let p = after_first least row.far (planned_addresses rows) r in
     let back : reverse (row ∷ rows) ≡ reverse rows ++ row ∷ [] = reverse_onto rows row [] in
     let joined : planned (reverse (row ∷ rows)) far ≡ frame_or (planned rows far) (planned (row ∷ []) far) =
     ap (λ (rs : List PlanRow). planned rs far) back ∙ planned_joined (reverse rows) (row ∷ []) far ∙ ap (λ (o : Option (List ℕ)). frame_or o (planned (row ∷ []) far)) (planned_reversed (row.far + 1) rows p.1 far) in
@@ -83,7 +83,7 @@ planned_reversed least (row ∷ rows) r far =
           joined ∙ ap (λ (o : Option (List ℕ)). frame_or o (planned (row ∷ []) far)) (none_below (row.far + 1) far rows p.1 (omega arith))
           ∙ planned_here row [] far y.1 ∙ sym (planned_here row rows far y.1)
       | inr n ↦
-          joined ∙ ap (frame_or (planned rows far)) (planned_behind row [] far n.1) ∙ or_else_none (planned rows far) ∙ sym (planned_behind row rows far n.1)
+          joined ∙ ap (frame_or (planned rows far)) (planned_after row [] far n.1) ∙ or_else_none (planned rows far) ∙ sym (planned_after row rows far n.1)
     ]
 
 -- whole frames and one more leave the memory overridden by the frames at the slots in order
@@ -94,7 +94,7 @@ pub write_plans : (part : PartData) (earlier : History) (w place n : ℕ) (frame
 write_plans part earlier w place n frames last some rises t all far =
     let rows : List PlanRow = filter_map pair_of (zip (slots_from part (loaded_base part w)) frames) in
     let up : Rises 0 (planned_addresses rows) =
-    rows_rise 0 (slots_from part (loaded_base part w)) frames (rises_from 0 (loaded_base part w) (slots_in part) (rw (addresses_among-slots part.far part.rows) rises)) in
+    rows_rise 0 (slots_from part (loaded_base part w)) frames (rises_from 0 (loaded_base part w) (slots_in part) (rw (addresses_among_slots part.far part.rows) rises)) in
     write_puts part earlier w place n frames last some t all far
     ∙ override_same (memory_of part earlier) (memory_of part earlier) (planned (reverse rows)) (planned rows) (λ a. refl) (planned_reversed 0 rows up) far
 

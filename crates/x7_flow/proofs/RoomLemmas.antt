@@ -11,7 +11,7 @@ use Rattle.x7_pipeline.specs.FarAsRead.{has_frame_at}
 use Rattle.x7_pipeline.specs.Faults.{address_fault, completes, has_filled, write_fault}
 use Rattle.x7_pipeline.specs.Runs.{frames_of, written_frames, onto, put_over, slots_from}
 use Rattle.x7_pipeline.proofs.LawLemmas.{landed_empty, lands_over}
-use Rattle.x7_pipeline.proofs.RunLemmas.{length-run}
+use Rattle.x7_pipeline.proofs.RunLemmas.{length_run}
 use Rattle.x7_flow.specs.Flow.{Flow, base_of, fault_by, flow_of, frame_fault, run_of}
 use Rattle.x7_flow.specs.FrameMemory.{memory_of}
 use Rattle.x7_flow.specs.Settings.{settings_of, takes_frames}
@@ -32,7 +32,7 @@ write_none part base (w ∷ run) t l = by (completes part (w ∷ run)) (has_fill
     by true true e f =
         let full : length (slots_from part base) ≤ length (frames_of (frame_words part) (w ∷ run)) = grind (arith, nat_tests, f) in
         let more : frame_words part * length (slots_from part base) ≤ frame_words part * length (frames_of (frame_words part) (w ∷ run)) = mul-le-mul_left (frame_words part) full in
-        absurd (omega (arith, l, more, length-run (frame_words part) (w ∷ run)))
+        absurd (omega (arith, l, more, length_run (frame_words part) (w ∷ run)))
 
 -- words for all of which there are slots
 pub words_none : (part : PartData) (n : ℕ) (ws : List ℕ) (h : History) → takes_frames (settings_of part.idcode h) ≡ true → has_frame_at part (base_of part h) ≡ true

@@ -14,8 +14,8 @@ use Rattle.x7_pipeline.specs.InWords.{pair_of}
 use Rattle.x7_pipeline.specs.Runs.{but_newest, frames_of, written_frames, onto, put_over, rest_of, slots_from, Lands}
 use Rattle.x7_pipeline.specs.FarAsRead.{has_frame_at, loaded_base}
 use Rattle.x7_pipeline.specs.Copies.{copied, is_mfw}
-use Rattle.x7_pipeline.proofs.LawLemmas.{landed_empty, landed_in_order, reverse-cons}
-use Rattle.x7_pipeline.proofs.RunLemmas.{frames-completes, frames-goes_on, rest-completes, rest-goes_on}
+use Rattle.x7_pipeline.proofs.LawLemmas.{landed_empty, landed_in_order, reverse_cons}
+use Rattle.x7_pipeline.proofs.RunLemmas.{frames_completes, frames_goes_on, rest_completes, rest_goes_on}
 use Rattle.x7_flow.specs.Asked.{Asked, Copies, Other}
 use Rattle.x7_flow.specs.Settings.{Settings, settings_of, takes_copies, takes_frames}
 use Rattle.x7_flow.specs.Flow.{Flow, asked, base_of, flow_by, flow_of, run_of, source_of}
@@ -25,22 +25,22 @@ use Rattle.x7_flow.proofs.ManyLemmas.{words_land}
 
 -- ---- a run of whole frames
 
-onto-append : (first more run : List ℕ) → onto (first ++ more) run ≡ onto more (onto first run)
-onto-append [] more run = refl
-onto-append (w ∷ first) more run = onto-append first more (w ∷ run)
+onto_append : (first more run : List ℕ) → onto (first ++ more) run ≡ onto more (onto first run)
+onto_append [] more run = refl
+onto_append (w ∷ first) more run = onto_append first more (w ∷ run)
 
 -- the last words of a frame
 completes_frame : (width w : ℕ) (ws run : List ℕ) → length (rest_of width run) + length (w ∷ ws) ≡ width →
     (frames_of width (onto (w ∷ ws) run) ≡ (rest_of width run ++ w ∷ ws) ∷ frames_of width run) × (rest_of width (onto (w ∷ ws) run) ≡ [])
-completes_frame width w [] run e = (frames-completes width w run e, rest-completes width w run e)
+completes_frame width w [] run e = (frames_completes width w run e, rest_completes width w run e)
 completes_frame width w (x ∷ ws) run e =
     let not_yet : length (rest_of width run) + 1 ≡ width → ⊥ = λ full. absurd (omega arith) in
-    let rest : rest_of width (w ∷ run) ≡ rest_of width run ++ w ∷ [] = rest-goes_on width w run not_yet in
+    let rest : rest_of width (w ∷ run) ≡ rest_of width run ++ w ∷ [] = rest_goes_on width w run not_yet in
     let long = length-append (rest_of width run) (w ∷ []) in
     let size = ap length rest in
     let later = completes_frame width x ws (w ∷ run) (omega arith) in (
       later.0
-          ∙ ap (λ (fs : List (List ℕ)). (rest_of width (w ∷ run) ++ x ∷ ws) ∷ fs) (frames-goes_on width w run not_yet)
+          ∙ ap (λ (fs : List (List ℕ)). (rest_of width (w ∷ run) ++ x ∷ ws) ∷ fs) (frames_goes_on width w run not_yet)
           ∙ ap (λ (r : List ℕ). (r ++ x ∷ ws) ∷ frames_of width run) rest
           ∙ ap (λ (f : List ℕ). f ∷ frames_of width run) (append_assoc (rest_of width run) (w ∷ []) (x ∷ ws)),
       later.1,
@@ -59,11 +59,11 @@ pub whole_frames : (width : ℕ) (frames : List (List ℕ)) (run : List ℕ) →
 whole_frames width [] run some all none = refl
 whole_frames width (frame ∷ frames) run some all none =
     let first = one_frame width frame run some all.0 none in
-    ap (frames_of width) (onto-append frame (flat_map (λ f. f) frames) run)
+    ap (frames_of width) (onto_append frame (flat_map (λ f. f) frames) run)
     ∙ whole_frames width frames (onto frame run) some all.1 first.1
     ∙ ap (λ (fs : List (List ℕ)). reverse frames ++ fs) first.0
     ∙ sym (append_assoc (reverse frames) (frame ∷ []) (frames_of width run))
-    ∙ ap (λ (fs : List (List ℕ)). fs ++ frames_of width run) (sym (reverse-cons frame frames))
+    ∙ ap (λ (fs : List (List ℕ)). fs ++ frames_of width run) (sym (reverse_cons frame frames))
 
 nothing_yet : (width : ℕ) → (rest_of width [] ≡ []) × (frames_of width [] ≡ [])
 unfolding rest_of frames_of

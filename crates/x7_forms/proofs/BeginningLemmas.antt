@@ -7,8 +7,8 @@ use Rattle.std.proofs.Math.Seq.{drop-append_seam}
 use Rattle.x7_words.specs.Input.{InputsState, AtEnd, Stays, Takes, preceded}
 use Rattle.x7_words.specs.Word.{AreBytes}
 use Rattle.x7_words.proofs.CountLemmas.{risen_from}
-use Rattle.x7_words.proofs.InputLemmas.{preceded-preceded}
-use Rattle.x7_words.proofs.ListLemmas.{shorter_front}
+use Rattle.x7_words.proofs.InputLemmas.{preceded_preceded}
+use Rattle.x7_words.proofs.ListLemmas.{shorter_prefix}
 use Rattle.x7_header.specs.Header.{Contents, EndsInHeader, contents_in_order, fixed_bytes, HasOtherLetter, HasOtherLetterAt, HaveHeader, fields_bytes, header_bytes, layout}
 use Rattle.x7_header.specs.Reading.{HeaderWaits, header_at}
 use Rattle.x7_header.specs.declared.fault.HeaderFault.{HeaderFault}
@@ -18,7 +18,7 @@ use Rattle.x7_header.proofs.HeaderLemmas.{err_is, field_at_place, header_again, 
 use Rattle.x7_listing.specs.BitLine.{bit_text}
 use Rattle.x7_listing.specs.Listing.{listing_of}
 use Rattle.x7_listing.specs.StreamListing.{listing_by, stream_listing}
-use Rattle.x7_listing.proofs.BitLemmas.{header-limit}
+use Rattle.x7_listing.proofs.BitLemmas.{header_limit}
 use Rattle.x7_forms.specs.Event.{Event, read_fault, too_large}
 use Rattle.x7_forms.specs.Known.{stream_limit}
 use Rattle.x7_forms.specs.Turn.{BeginAt, ReadsBeginning, HoldsFew, IsBeginning, IsRefused, NoLetterGiven, Reads, RefusedAt, UnreadBeginning, Unread, longest_header, turn_bytes}
@@ -43,7 +43,7 @@ raw_by : (bytes : List ℕ) → ((more : List ℕ) → bytes ≡ fixed_bytes ++ 
 raw_by bytes h = raw_listed bytes ((raw_at bytes (starts_with nat_eq bytes fixed_bytes) refl).1 h)
 
 raw_more : (bytes rest : List ℕ) → 13 ≤ length bytes → ((more : List ℕ) → bytes ≡ fixed_bytes ++ more → ⊥) → (more : List ℕ) → bytes ++ rest ≡ fixed_bytes ++ more → ⊥
-raw_more bytes rest long h more e = let s = shorter_front fixed_bytes bytes more rest long (sym e) in h s.0 s.1
+raw_more bytes rest long h more e = let s = shorter_prefix fixed_bytes bytes more rest long (sym e) in h s.0 s.1
 
 pub unheaded : (bytes line : List ℕ) (n : ℕ) (last : Bool) → (last ≡ false → 13 ≤ length bytes) → ((more : List ℕ) → bytes ≡ fixed_bytes ++ more → ⊥) → line ≡ [] → n ≡ 0 → IsBeginning bytes last line n
 unheaded bytes line n true long h none zero = λ rest more.
@@ -83,11 +83,11 @@ cut_refused bytes last place e h = λ rest more. ap (λ r. stream_listing (bytes
 
 -- bytes that end inside a header are few
 pub few_in_header : (bytes : List ℕ) → EndsInHeader bytes → length bytes ≤ longest_header
-few_in_header bytes h = omega (arith, header-limit h.header h.have_header, ap length h.goes_on, length-append bytes (h.next ∷ h.missing))
+few_in_header bytes h = omega (arith, header_limit h.header h.have_header, ap length h.goes_on, length-append bytes (h.next ∷ h.missing))
 
 -- a turn more of a stream's beginning
 pub joined_taken : (old mid new : Option (List ℕ)) (a b c d : List ℕ) → old ≡ preceded a mid → mid ≡ preceded b new → c ≡ a ++ b → d ≡ c → old ≡ preceded d new
-joined_taken old mid new a b c d e f g h = e ∙ ap (preceded a) f ∙ preceded-preceded a b new ∙ ap (λ t. preceded t new) (sym g ∙ sym h)
+joined_taken old mid new a b c d e f g h = e ∙ ap (preceded a) f ∙ preceded_preceded a b new ∙ ap (λ t. preceded t new) (sym g ∙ sym h)
 
 -- ---- no byte is read after the one that judges a header
 
@@ -98,11 +98,11 @@ Judge prefix = (rest : List ℕ) (place : ℕ) → header_at (prefix ++ rest) �
 -- bytes that waited for so many are not judged before the last of them
 judged_before : (old piece prefix more : List ℕ) (n : ℕ) (b : Bool) → nat_le (length prefix) (length old) ≡ b → HeaderWaits old n → 0 < n → length piece ≤ n → old ++ piece ≡ prefix ++ more → 0 < length more → Judge prefix → ⊥
 judged_before old piece prefix more n true l w p k e m j =
-    let s = shorter_front prefix old more piece (leb-true _ _ l) (sym e) in
+    let s = shorter_prefix prefix old more piece (leb-true _ _ l) (sym e) in
     j s.0 (length (old ++ [])) (ap header_at (sym s.1 ∙ sym (append-nil old)) ∙ w [] p)
 judged_before old piece prefix more n false l w p k e m j =
     let less : length old ≤ length prefix = grind (arith, l) in
-    let s = shorter_front old prefix piece more less e in
+    let s = shorter_prefix old prefix piece more less e in
     let long : length s.0 < n = omega (arith, k, m, ap length e, ap length s.1, length-append old piece, length-append prefix more, length-append old s.0) in
     j [] (length (old ++ s.0)) (ap header_at (append-nil prefix ∙ s.1) ∙ w s.0 long)
 
@@ -152,8 +152,8 @@ record LetterFront (bytes : List ℕ) (place : ℕ) : Type 0 where
   long : 13 ≤ length prefix
   judges : Judge prefix
 
-letter_front : (bytes : List ℕ) (place : ℕ) → HasOtherLetterAt bytes place → LetterFront bytes place
-letter_front bytes place h =
+letter_prefix : (bytes : List ℕ) (place : ℕ) → HasOtherLetterAt bytes place → LetterFront bytes place
+letter_prefix bytes place h =
     let o : HasOtherLetter layout h.0 (length bytes - place) = h.3 in
     let before = fields_bytes o.done o.contents in
     let after = before ++ o.other ∷ [] in
@@ -184,7 +184,7 @@ letter_front bytes place h =
 pub refused_soon : (old piece bytes : List ℕ) (n place : ℕ) → IsPiece old piece bytes n → RefusedAt bytes place → length bytes ≤ place + 1
 refused_soon old piece bytes n place p (inl e) = omega (arith, e)
 refused_soon old piece bytes n place p (inr h) =
-    let f = letter_front bytes place h in
+    let f = letter_prefix bytes place h in
     let none = first_judged old piece bytes f.prefix f.more n p f.long f.parts f.judges in
     omega (arith, f.size, ap length f.parts, ap length none, length-append f.prefix f.more)
 
@@ -193,11 +193,11 @@ refused_soon old piece bytes n place p (inr h) =
 -- what judges a header goes on after bytes that wait for so many, up to the last of them at least
 judged_late : (old rest prefix more : List ℕ) (n : ℕ) (b : Bool) → nat_le (length prefix) (length old) ≡ b → HeaderWaits old n → 0 < n → old ++ rest ≡ prefix ++ more → Judge prefix → length prefix < length old + n → ⊥
 judged_late old rest prefix more n true l w p e j k =
-    let s = shorter_front prefix old more rest (leb-true _ _ l) (sym e) in
+    let s = shorter_prefix prefix old more rest (leb-true _ _ l) (sym e) in
     j s.0 (length (old ++ [])) (ap header_at (sym s.1 ∙ sym (append-nil old)) ∙ w [] p)
 judged_late old rest prefix more n false l w p e j k =
     let less : length old ≤ length prefix = grind (arith, l) in
-    let s = shorter_front old prefix rest more less e in
+    let s = shorter_prefix old prefix rest more less e in
     let long : length s.0 < n = omega (arith, k, ap length s.1, length-append old s.0) in
     j [] (length (old ++ s.0)) (ap header_at (append-nil prefix ∙ s.1) ∙ w s.0 long)
 
@@ -205,10 +205,10 @@ judged_late old rest prefix more n false l w p e j k =
 pub letter_late : (old rest all : List ℕ) (n place : ℕ) → 0 < n → all ≡ old → (length all < 13 → length all + n ≡ 13) → (EndsInHeader all → HeaderWaits all n) → (0 < length old → EndsInHeader old)
     → HasOtherLetterAt (old ++ rest) place → length old + n ≤ place + 1
 letter_late [] rest all n place some e fixed waits waiting h =
-    let f = letter_front rest place h in
+    let f = letter_prefix rest place h in
     omega (arith, ap length e, fixed, f.long, f.size)
 letter_late (x ∷ old) rest all n place some e fixed waits waiting h =
-    let f = letter_front ((x ∷ old) ++ rest) place h in
+    let f = letter_prefix ((x ∷ old) ++ rest) place h in
     let w : HeaderWaits (x ∷ old) n = subst (λ (o : List ℕ). EndsInHeader o → HeaderWaits o n) e waits (waiting (omega arith)) in
     by (nat_le (length (x ∷ old) + n) (place + 1)) refl f w
   where

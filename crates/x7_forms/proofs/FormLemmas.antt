@@ -8,7 +8,7 @@ use Rattle.std.proofs.lemmas.Fmt.{decimal_is_IsNumeral}
 use Rattle.std.proofs.lemmas.Slice.Eq.{bytes_eq-Decides}
 use Rattle.x7_text.specs.Digits.{hex_word}
 use Rattle.x7_text.specs.DigitValue.{word_value}
-use Rattle.x7_text.proofs.ValueLemmas.{word-back}
+use Rattle.x7_text.proofs.ValueLemmas.{word_back}
 use Rattle.x7_forms.specs.Form.{number_in, word_in}
 
 -- what is written again: the same, and small
@@ -32,19 +32,19 @@ none_by true true n h = absurd (h refl refl)
 none_by true false n h = refl
 none_by false b n h = refl
 
-pub word-some : (digits : List ℕ) (w : ℕ) → w < 2 ^ 32 → digits ≡ hex_word w → Some w ≡ word_in digits
-word-some digits w h e =
-    let v : word_value digits ≡ w = ap word_value e ∙ word-back w h in
+pub word_some : (digits : List ℕ) (w : ℕ) → w < 2 ^ 32 → digits ≡ hex_word w → Some w ≡ word_in digits
+word_some digits w h e =
+    let v : word_value digits ≡ w = ap word_value e ∙ word_back w h in
     chosen (bytes_eq (hex_word (word_value digits)) digits) (nat_lt (word_value digits) 4294967296) (word_value digits) w (same (hex_word (word_value digits)) digits (ap hex_word v ∙ sym e))
     (small (word_value digits) (subst (λ (n : ℕ). n < 2 ^ 32) (sym v) h)) v
 
-pub word-none : (digits : List ℕ) → ((w : ℕ) → w < 2 ^ 32 → digits ≡ hex_word w → ⊥) → None ≡ word_in digits
-word-none digits none =
+pub word_none : (digits : List ℕ) → ((w : ℕ) → w < 2 ^ 32 → digits ≡ hex_word w → ⊥) → None ≡ word_in digits
+word_none digits none =
     none_by (bytes_eq (hex_word (word_value digits)) digits) (nat_lt (word_value digits) 4294967296) (word_value digits)
     (λ a b. none (word_value digits) (is_small (word_value digits) b) (sym (is (hex_word (word_value digits)) digits a)))
 
-pub number-some : (digits : List ℕ) (n : ℕ) → n < 2 ^ 32 → digits ≡ decimal n → Some n ≡ number_in digits
-number-some digits n h e =
+pub number_some : (digits : List ℕ) (n : ℕ) → n < 2 ^ 32 → digits ≡ decimal n → Some n ≡ number_in digits
+number_some digits n h e =
     let v : digits_value 10 digits ≡ n = ap (digits_value 10) e ∙ (decimal_is_IsNumeral n (omega arith)).1 in
     chosen (bytes_eq (decimal (digits_value 10 digits)) digits) (nat_lt (digits_value 10 digits) 4294967296) (digits_value 10 digits) n (same (decimal (digits_value 10 digits)) digits (ap decimal v ∙ sym e))
     (small (digits_value 10 digits) (subst (λ (k : ℕ). k < 2 ^ 32) (sym v) h)) v

@@ -7,7 +7,7 @@ use Rattle.std.proofs.lemmas.Bool.Decides.{Decides-eqb}
 use Rattle.std.proofs.lemmas.List.{drop-append-le, take-append-le}
 use Rattle.std.proofs.lemmas.Slice.Eq.{starts_is}
 use Rattle.x7_words.specs.Word.{AreBytes}
-use Rattle.x7_words.proofs.ListLemmas.{all-append}
+use Rattle.x7_words.proofs.ListLemmas.{all_append}
 use Rattle.x7_header.specs.Header.{Contents, EndsInHeader, HasOtherLetterAt, fields_bytes, fixed_bytes, header_bytes}
 use Rattle.x7_header.specs.Reading.{ReturnsAs, header_at}
 use Rattle.x7_header.specs.declared.fault.HeaderFault.{HeaderFault}
@@ -79,7 +79,7 @@ cut_short : (bytes : List ℕ) (place : ℕ) → AreBytes bytes → header_at by
 cut_short bytes place fits e =
     let ends : EndsInHeader bytes = ((is_cut (λ (x : Contents × ℕ). x) (header_at bytes) bytes fits (gives_self (header_at bytes)) place).0 e).1 in
     let whole : header_bytes ends.header ++ [] ≡ bytes ++ ends.next ∷ ends.missing = append-nil (header_bytes ends.header) ∙ ends.goes_on in
-    let all : AreBytes (header_bytes ends.header ++ []) = subst (λ b. AreBytes b) (sym whole) (all-append (λ b. b < 256) bytes (ends.next ∷ ends.missing) fits ends.missing_are) in
+    let all : AreBytes (header_bytes ends.header ++ []) = subst (λ b. AreBytes b) (sym whole) (all_append (λ b. b < 256) bytes (ends.next ∷ ends.missing) fits ends.missing_are) in
     let again : ReturnsAs (λ (x : Contents × ℕ). x) (Ok (ends.header, length (header_bytes ends.header))) (header_at (header_bytes ends.header ++ [])) = header_again ends.header [] ends.have_header in
     let few = is_short (λ (x : Contents × ℕ). x) (Ok (ends.header, length (header_bytes ends.header))) (header_bytes ends.header ++ []) all again in
     omega (arith, few, ap length ends.goes_on, length-append bytes (ends.next ∷ ends.missing))

@@ -6,7 +6,7 @@ use Rattle.x7_part.specs.Part.{PartData}
 use Rattle.x7_engine.specs.declared.fed.Fed.{Fed}
 use Rattle.x7_engine.specs.Kept.{on_the_bench}
 use Rattle.x7_engine.specs.ReadBuffer.{IsFull, IsFullBy, ReadBufState, gathered, with_words}
-use Rattle.x7_engine.proofs.FeedLemmas.{told_all, told_within}
+use Rattle.x7_engine.proofs.FeedLemmas.{given_all, given_within}
 use Rattle.x7_engine.specs.Standing.{NoWordDue, DeviceState, DeviceStandsFor, reads_given}
 use Rattle.x7_engine.specs.State.{memory_in, reads_of, state_of, stop_in}
 use Rattle.x7_engine.specs.Stops.{Stopped}
@@ -16,7 +16,7 @@ use Rattle.x7_forms.specs.Play.{IsPlayed, emptied, part_event, reads_room}
 use Rattle.x7_forms.specs.Step.{IsCaused}
 use Rattle.x7_forms.proofs.ReadLemmas.{works}
 use Rattle.x7_engine.proofs.ReadsLemmas.{reads_grow}
-use Rattle.x7_engine.proofs.StateLemmas.{stop_is_final-memory, stop_is_final-reads, stop_is_final-state, stop_is_final-stop}
+use Rattle.x7_engine.proofs.StateLemmas.{stop_is_final_memory, stop_is_final_reads, stop_is_final_state, stop_is_final_stop}
 use Rattle.x7_part.specs.declared.fault.PartFault.TheVariants as part
 use Rattle.x7_engine.specs.declared.fed.Fed.TheVariants as fed
 
@@ -53,7 +53,7 @@ over_limit part d bytes reads words prefix rest fits split told k =
     let grown = reads_grow part on_the_bench prefix rest (subst (λ x. AreBytes x) split fits) in
     let all : length (reads_of part on_the_bench bytes) ≡ length (reads_of part on_the_bench prefix) + length grown.0
     = ap (λ x. length (reads_of part on_the_bench x)) split ∙ ap length grown.1 ∙ length-append (reads_of part on_the_bench prefix) grown.0 in
-    let some : length (reads_given part on_the_bench d prefix) ≤ length (reads_of part on_the_bench prefix) = told_within part on_the_bench d prefix in
+    let some : length (reads_given part on_the_bench d prefix) ≤ length (reads_of part on_the_bench prefix) = given_within part on_the_bench d prefix in
     omega (arith, all, some, ap length told, length-append reads words, k)
 
 abbrev pub IsEnd : Fed → Type 0
@@ -73,10 +73,10 @@ stopped_end part bytes prefix rest d reads s fits split stands told few stop due
     record {
       prefix = prefix;
       stands = stands;
-      stop = ap (stop_in part on_the_bench) split ∙ stop_is_final-stop part on_the_bench prefix rest s all stop ∙ sym stop;
-      state = ap (state_of part on_the_bench false) split ∙ stop_is_final-state part on_the_bench false prefix rest s all stop;
-      memory = ap (memory_in part on_the_bench) split ∙ stop_is_final-memory part on_the_bench prefix rest s all stop;
+      stop = ap (stop_in part on_the_bench) split ∙ stop_is_final_stop part on_the_bench prefix rest s all stop ∙ sym stop;
+      state = ap (state_of part on_the_bench false) split ∙ stop_is_final_state part on_the_bench false prefix rest s all stop;
+      memory = ap (memory_in part on_the_bench) split ∙ stop_is_final_memory part on_the_bench prefix rest s all stop;
       none_due = due;
-      reads_are = told ∙ told_all part on_the_bench d prefix due ∙ sym (ap (reads_of part on_the_bench) split ∙ stop_is_final-reads part on_the_bench prefix rest s all stop);
+      reads_are = told ∙ given_all part on_the_bench d prefix due ∙ sym (ap (reads_of part on_the_bench) split ∙ stop_is_final_reads part on_the_bench prefix rest s all stop);
       few = few;
     }

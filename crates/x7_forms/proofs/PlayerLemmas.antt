@@ -4,7 +4,7 @@ use Rattle.std.specs.Prelude.{IsSome}
 use Rattle.std.proofs.Math.Seq.{take-add, take-length}
 use Rattle.std.proofs.lemmas.List.{take-append-drop}
 use Rattle.x7_words.specs.Word.{AreBytes}
-use Rattle.x7_words.proofs.ListLemmas.{all-append, all_back, all_front}
+use Rattle.x7_words.proofs.ListLemmas.{all_append, all_back, all_prefix}
 use Rattle.x7_part.specs.Part.{PartData}
 use Rattle.x7_engine.specs.declared.fed.Fed.{Fed}
 use Rattle.x7_engine.specs.declared.fed.Fed.TheVariants as fed
@@ -14,10 +14,10 @@ use Rattle.x7_engine.specs.Past.{Answers, past_of}
 use Rattle.x7_engine.specs.Standing.{DeviceState, DeviceStandsFor, NoWordDue, taken_in, reads_given, words_left}
 use Rattle.x7_engine.specs.State.{history_taken, reads_of, stop_in}
 use Rattle.x7_engine.specs.Stops.{Stopped}
-use Rattle.x7_engine.proofs.FeedLemmas.{told_all}
+use Rattle.x7_engine.proofs.FeedLemmas.{given_all}
 use Rattle.x7_engine.proofs.FrameLemmas.{length_left}
 use Rattle.x7_engine.proofs.ReadsLemmas.{reads_grow}
-use Rattle.x7_engine.proofs.StateLemmas.{stop_is_final-stop}
+use Rattle.x7_engine.proofs.StateLemmas.{stop_is_final_stop}
 use Rattle.x7_forms.specs.Known.{reads_limit}
 use Rattle.x7_forms.specs.Play.{HasPlayed, HasPlayedBy, IsPlayed, MayPlay, PlayState, Plays, PlaysOn, ReadsOver}
 use Rattle.x7_forms.specs.declared.player.Player.{Player}
@@ -62,11 +62,11 @@ went_on part bytes piece d reads s fits none = by s.ends
     by (inl e) = s.parts ∙ ap (λ l. s.taken ++ l) e ∙ append-nil s.taken
     by (inr i) =
         let st = the_some (stop_in part on_the_bench s.taken) i in
-        let later = stop_is_final-stop part on_the_bench s.taken piece st.0 fits st.1 in
+        let later = stop_is_final_stop part on_the_bench s.taken piece st.0 fits st.1 in
         absurd (cc)
 
 taken_fit : (part : PartData) (bytes piece : List ℕ) (d : DeviceState) (reads : List ℕ) → (s : Plays part bytes d reads) → AreBytes piece → AreBytes (s.taken ++ piece)
-taken_fit part bytes piece d reads s fits = all-append (λ b. b < 256) s.taken piece (all_front (λ b. b < 256) s.taken s.left (subst (λ x. AreBytes x) s.parts s.fits)) fits
+taken_fit part bytes piece d reads s fits = all_append (λ b. b < 256) s.taken piece (all_prefix (λ b. b < 256) s.taken s.left (subst (λ x. AreBytes x) s.parts s.fits)) fits
 
 -- a feed that waits for room
 pub fed_full : (part : PartData) (bytes piece : List ℕ) (d e : DeviceState) (reads now : List ℕ) → (s : Plays part bytes d reads) → AreBytes piece → DeviceStandsFor part on_the_bench false e (s.taken ++ piece) → stop_in part on_the_bench (s.taken ++ piece) ≡ None
@@ -106,9 +106,9 @@ pub fed_end : (part : PartData) (bytes piece : List ℕ) (d e : DeviceState) (re
     → now ≡ reads_given part on_the_bench e (s.taken ++ take (taken_in (length piece) f) piece) → length now ≤ reads_limit → Plays part (bytes ++ piece) e now × NoWordDue e
 fed_end part bytes piece d e read reads now (fed.ReadFull n) s end fits still stands answer told few = absurd end
 fed_end part bytes piece d e read reads now (fed.Stopped n) s end fits still stands answer told few =
-    (fed_stopped part bytes piece n d e reads now s still (all-append (λ b. b < 256) bytes piece s.fits fits) stands _ answer.1 told few, answer.2)
+    (fed_stopped part bytes piece n d e reads now s still (all_append (λ b. b < 256) bytes piece s.fits fits) stands _ answer.1 told few, answer.2)
 fed_end part bytes piece d e read reads now (fed.Iprog n) s end fits still stands answer told few =
-    (fed_stopped part bytes piece n d e reads now s still (all-append (λ b. b < 256) bytes piece s.fits fits) stands _ answer.0 told few, answer.1)
+    (fed_stopped part bytes piece n d e reads now s still (all_append (λ b. b < 256) bytes piece s.fits fits) stands _ answer.0 told few, answer.1)
 fed_end part bytes piece d e read reads now fed.All s end fits still stands answer told few =
     let whole : take (length piece) piece ≡ piece = take-length piece in
     let there = rw whole at stands in
@@ -132,7 +132,7 @@ played_all part bytes d reads s due = by s.ends
           state = rw all refl;
           memory = rw all refl;
           none_due = due;
-          reads_are = s.reads_are ∙ told_all part on_the_bench d s.taken due ∙ ap (reads_of part on_the_bench) (sym all);
+          reads_are = s.reads_are ∙ given_all part on_the_bench d s.taken due ∙ ap (reads_of part on_the_bench) (sym all);
           few = s.few;
         }
     by (inr i) =
@@ -154,7 +154,7 @@ new_plays part d reads s e =
         ends = inl refl;
         fits = tt;
         stands = s;
-        reads_are = e ∙ sym (told_all part on_the_bench d [] due);
+        reads_are = e ∙ sym (given_all part on_the_bench d [] due);
         few = omega (arith, ap length e);
       },
       due,
@@ -198,12 +198,12 @@ rest_fits : (piece : List ℕ) (at : ℕ) → AreBytes piece → AreBytes (drop 
 rest_fits piece at fits = all_back (λ b. b < 256) (take at piece) (drop at piece) (subst (λ x. AreBytes x) (sym (take-append-drop at piece)) fits)
 
 some_fits : (piece : List ℕ) (n : ℕ) → AreBytes piece → AreBytes (take n piece)
-some_fits piece n fits = all_front (λ b. b < 256) (take n piece) (drop n piece) (subst (λ x. AreBytes x) (sym (take-append-drop n piece)) fits)
+some_fits piece n fits = all_prefix (λ b. b < 256) (take n piece) (drop n piece) (subst (λ x. AreBytes x) (sym (take-append-drop n piece)) fits)
 
 pub turn_over : (part : PartData) (bytes piece : List ℕ) (at n : ℕ) (d e : DeviceState) (reads more : List ℕ) → AreBytes bytes → AreBytes piece → (s : Plays part (bytes ++ take at piece) d reads) → (IsSome (stop_in part on_the_bench s.taken) → n ≡ 0)
     → reads_given part on_the_bench e (s.taken ++ take n (drop at piece)) ≡ reads_given part on_the_bench d s.taken ++ more → reads_limit < length reads + length more → ReadsOver part (bytes ++ piece)
 turn_over part bytes piece at n d e reads more fb fp s still told many =
-    let fits : AreBytes (bytes ++ piece) = all-append (λ b. b < 256) bytes piece fb fp in
+    let fits : AreBytes (bytes ++ piece) = all_append (λ b. b < 256) bytes piece fb fp in
     let rest = behind part (bytes ++ take at piece) (drop at piece) n d reads s still in
     record {
       fits = fits;
@@ -230,5 +230,5 @@ turn_end part bytes piece at d e read reads now more f fp s end still stands ans
 
 -- a player that is over stays so
 pub over_stays : (over : Bool) (part : PartData) (bytes piece : List ℕ) (s : PlayState) → over ≡ true → AreBytes piece → HasPlayedBy over part bytes s → HasPlayedBy over part (bytes ++ piece) s
-over_stays true part bytes piece s e fits h = over_grows part bytes piece (all-append (λ b. b < 256) bytes piece h.fits fits) h
+over_stays true part bytes piece s e fits h = over_grows part bytes piece (all_append (λ b. b < 256) bytes piece h.fits fits) h
 over_stays false part bytes piece s e fits h = absurd (cc)

@@ -10,7 +10,7 @@ use Rattle.x7_words.specs.Input.{InputsState, Asks, AtEnd, Misses, Selects, Stay
 use Rattle.x7_words.specs.Input.{Lacks as MapLacks}
 use Rattle.x7_words.specs.Word.{AreBytes}
 use Rattle.x7_words.proofs.CountLemmas.{risen_from}
-use Rattle.x7_words.proofs.InputLemmas.{preceded-preceded, stays_at, stays_on, takes_none, takes_on}
+use Rattle.x7_words.proofs.InputLemmas.{preceded_preceded, stays_at, stays_on, takes_none, takes_on}
 use Rattle.x7_header.specs.Header.{Contents}
 use Rattle.x7_header.specs.Reading.{header_at}
 use Rattle.x7_header.specs.declared.fault.HeaderFault.{HeaderFault}
@@ -351,7 +351,7 @@ stream_judged known C limit name whole got read e =
 -- ---- an input that is read turn by turn
 
 pub rest_more : (old mid new : Option (List ℕ)) (taken piece : List ℕ) → old ≡ preceded taken mid → mid ≡ preceded piece new → old ≡ preceded (taken ++ piece) new
-rest_more old mid new taken piece e f = e ∙ ap (preceded taken) f ∙ preceded-preceded taken piece new
+rest_more old mid new taken piece e f = e ∙ ap (preceded taken) f ∙ preceded_preceded taken piece new
 
 -- what was read of an input from a moment on, and a piece more
 pub reads_on : (old mid new : InputsState) (taken piece : List ℕ) → Reads old taken mid → Takes mid piece new → new.asked ≡ mid.asked → Stays mid new → Reads old (taken ++ piece) new
@@ -418,7 +418,7 @@ stream_read None flash C name first more after mid rest limit left last s e end 
 stream_read (Some inputs) flash C name first more after mid rest limit left last s e end ends long fits n l head =
     let whole = first ++ more in
     let sizes = sum_more first more left limit n l in
-    let taken : Selects (Some inputs) name (preceded whole rest) = subst (λ (r : Option (List ℕ)). Selects (Some inputs) name r) (ap (preceded first) e ∙ preceded-preceded first more rest) s in
+    let taken : Selects (Some inputs) name (preceded whole rest) = subst (λ (r : Option (List ℕ)). Selects (Some inputs) name r) (ap (preceded first) e ∙ preceded_preceded first more rest) s in
     let judged : data_in name whole ≡ Ok (after ++ more) = data_more name first more fits (enough inputs name first more mid rest last s e ends long) ∙ ap (λ d. and_so d (λ bytes. Ok (bytes ++ more))) (sym head) in
     let read = stream_judged (with_inputs (Some inputs) flash) C limit name whole (Ok (after ++ more)) (whole_read (Some inputs) flash C name whole rest limit taken end sizes.1) (sym judged) in
     subst (λ (room : ℕ). IsCaused (with_inputs (Some inputs) flash) C (λ t. read_of t limit name) (Ok (record { bytes = after ++ more; room = room }))) (sym sizes.0) read
@@ -517,7 +517,7 @@ turn_refused old mid new flash name taken limit left event k s a n (inl h) q =
     (inl (fault_from (List ℕ) (with_inputs old.contents flash) old new name (λ t r. whole_in t limit name ≡ r) f.0 (broken_due old.contents flash name limit new.given (omega (arith, f.1, n)))))
 turn_refused old mid new flash name taken limit left event k s a n (inr h) q =
     let piece = h.1.0 in
-    let all : Selects old.contents name (preceded (taken ++ piece) new.rest) = subst (λ (r : Option (List ℕ)). Selects old.contents name r) (ap (preceded taken) h.1.1.0 ∙ preceded-preceded taken piece new.rest) s in
+    let all : Selects old.contents name (preceded (taken ++ piece) new.rest) = subst (λ (r : Option (List ℕ)). Selects old.contents name r) (ap (preceded taken) h.1.1.0 ∙ preceded_preceded taken piece new.rest) s in
     caused_event (with_inputs old.contents flash) (CameIn (step_over (name ∷ []) old new)) (λ t. whole_in t limit name) event (too_large name) h.0
     (over_whole old.contents flash (CameIn (step_over (name ∷ []) old new)) name (taken ++ piece) new.rest limit all (omega (arith, n, h.1.1.1, length-append taken piece)))
 
@@ -542,7 +542,7 @@ stream_refused None flash C name first more mid rest limit last event s e end en
 stream_refused (Some inputs) flash C name first more mid rest limit last event s e end ends long fits n l head =
     let whole = first ++ more in
     let size : length whole ≤ limit = omega (arith, n, l, length-append first more) in
-    let taken : Selects (Some inputs) name (preceded whole rest) = subst (λ (r : Option (List ℕ)). Selects (Some inputs) name r) (ap (preceded first) e ∙ preceded-preceded first more rest) s in
+    let taken : Selects (Some inputs) name (preceded whole rest) = subst (λ (r : Option (List ℕ)). Selects (Some inputs) name r) (ap (preceded first) e ∙ preceded_preceded first more rest) s in
     let judged : data_in name whole ≡ Err event = data_more name first more fits (enough inputs name first more mid rest last s e ends long) ∙ ap (λ d. and_so d (λ bytes. Ok (bytes ++ more))) (sym head) in
     stream_judged (with_inputs (Some inputs) flash) C limit name whole (Err event) (whole_read (Some inputs) flash C name whole rest limit taken end size) (sym judged)
 

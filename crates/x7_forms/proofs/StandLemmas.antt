@@ -35,9 +35,9 @@ pub few_read : (old opened new : InputsState) (limit : ℕ) → AsksOnce old ope
 few_read old opened new limit o g = record { selects = omega (arith, o.selects, g.selects); ends = omega (arith, o.ends, g.ends) }
 
 -- one of which a first turn was read, and what is after it where that was not the last
-pub few_behind : (last : Bool) (old opened mid new : InputsState) (limit left : ℕ) → AsksOnce old opened → GivesFew opened limit mid → (last ≡ false → mid.ends ≤ opened.ends) → GivesFew mid left new → (last ≡ true → new.ends ≤ mid.ends) → AsksFew old 1 new
-few_behind true old opened mid new limit left o f go g none = record { selects = omega (arith, o.selects, f.selects, g.selects); ends = omega (arith, o.ends, f.ends, none refl) }
-few_behind false old opened mid new limit left o f go g none = record { selects = omega (arith, o.selects, f.selects, g.selects); ends = omega (arith, o.ends, go refl, g.ends) }
+pub few_after : (last : Bool) (old opened mid new : InputsState) (limit left : ℕ) → AsksOnce old opened → GivesFew opened limit mid → (last ≡ false → mid.ends ≤ opened.ends) → GivesFew mid left new → (last ≡ true → new.ends ≤ mid.ends) → AsksFew old 1 new
+few_after true old opened mid new limit left o f go g none = record { selects = omega (arith, o.selects, f.selects, g.selects); ends = omega (arith, o.ends, f.ends, none refl) }
+few_after false old opened mid new limit left o f go g none = record { selects = omega (arith, o.selects, f.selects, g.selects); ends = omega (arith, o.ends, go refl, g.ends) }
 
 pub stands_less : (name : List ℕ) (left limit : ℕ) (now : InputsState) → left ≤ limit → StandsAt name left now → StandsAt name limit now
 stands_less name left limit now h s = record { asked = s.asked; given = omega (arith, h, s.given) }
@@ -82,9 +82,9 @@ about_among inputs before input after old now event a s n (inl e) = inl e
 about_among inputs before input after old now event a s n (inr t) = inr (record { before = before; input = input; after = after; among = a; tells = t; stands = s; asks = n })
 
 -- one of the inputs after a first one
-pub stops_behind : (first : Limited) (inputs : List Limited) (old mid now : InputsState) (event : Event) → AsksFew old 1 mid → StopsAmong inputs mid now event → StopsAmong (first ∷ inputs) old now event
-stops_behind first inputs old mid now event n (inl e) = inl e
-stops_behind first inputs old mid now event n (inr h) =
+pub stops_after : (first : Limited) (inputs : List Limited) (old mid now : InputsState) (event : Event) → AsksFew old 1 mid → StopsAmong inputs mid now event → StopsAmong (first ∷ inputs) old now event
+stops_after first inputs old mid now event n (inl e) = inl e
+stops_after first inputs old mid now event n (inr h) =
     inr (record {
       before = first ∷ h.before;
       input = h.input;

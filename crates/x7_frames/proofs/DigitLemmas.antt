@@ -10,13 +10,13 @@ use Rattle.std.specs.Simd.{first_chunks}
 use Rattle.x7_words.specs.Word.{AreBytes}
 use Rattle.x7_text.specs.Digits.{hex_byte}
 use Rattle.x7_text.specs.EitherCase.{byte_of, digit_of, led, pairs}
-use Rattle.x7_text.proofs.CaseLemmas.{pairs-back}
+use Rattle.x7_text.proofs.CaseLemmas.{pairs_back}
 
 -- two digits a byte
-pub pairs-long : (ds bytes : List ℕ) → pairs ds ≡ Some bytes → length ds ≡ 2 * length bytes
-pairs-long [] bytes e = let same : [] ≡ bytes = same_Some [] bytes e in ap (λ (t : List ℕ). 2 * length t) same
-pairs-long (a ∷ []) bytes e = absurd (none-some bytes e)
-pairs-long (a ∷ b ∷ cs) bytes e = by (λ xs f. pairs-long cs xs f) (byte_of (digit_of a) (digit_of b)) (pairs cs) refl e
+pub pairs_long : (ds bytes : List ℕ) → pairs ds ≡ Some bytes → length ds ≡ 2 * length bytes
+pairs_long [] bytes e = let same : [] ≡ bytes = same_Some [] bytes e in ap (λ (t : List ℕ). 2 * length t) same
+pairs_long (a ∷ []) bytes e = absurd (none-some bytes e)
+pairs_long (a ∷ b ∷ cs) bytes e = by (λ xs f. pairs_long cs xs f) (byte_of (digit_of a) (digit_of b)) (pairs cs) refl e
   where
     by : ((xs : List ℕ) → pairs cs ≡ Some xs → length cs ≡ 2 * length xs) → (o : Option ℕ) (more : Option (List ℕ)) → pairs cs ≡ more → led o more ≡ Some bytes → length (a ∷ b ∷ cs) ≡ 2 * length bytes
     by back None more f g = absurd (none-some bytes g)
@@ -33,72 +33,72 @@ pub behind : List ℕ → Option (List ℕ) → Option (List ℕ)
 behind prefix None = None
 behind prefix (Some bytes) = Some (prefix ++ bytes)
 
-behind-none : (o : Option (List ℕ)) → o ≡ behind [] o
+after_none : (o : Option (List ℕ)) → o ≡ behind [] o
 unfolding behind
-behind-none None = refl
-behind-none (Some bytes) = refl
+after_none None = refl
+after_none (Some bytes) = refl
 
-behind-led : (x : ℕ) (xs : List ℕ) (o : Option (List ℕ)) → led (Some x) (behind xs o) ≡ behind (x ∷ xs) o
+after_led : (x : ℕ) (xs : List ℕ) (o : Option (List ℕ)) → led (Some x) (behind xs o) ≡ behind (x ∷ xs) o
 unfolding behind
-behind-led x xs None = refl
-behind-led x xs (Some bytes) = refl
+after_led x xs None = refl
+after_led x xs (Some bytes) = refl
 
-pub pairs-on : (ds more bytes : List ℕ) → pairs ds ≡ Some bytes → pairs (ds ++ more) ≡ behind bytes (pairs more)
-pairs-on [] more bytes e = behind-none (pairs more) ∙ ap (λ (t : List ℕ). behind t (pairs more)) (same_Some [] bytes e)
-pairs-on (a ∷ []) more bytes e = absurd (none-some bytes e)
-pairs-on (a ∷ b ∷ cs) more bytes e = by (λ xs f. pairs-on cs more xs f) (byte_of (digit_of a) (digit_of b)) refl (pairs cs) refl e
+pub pairs_on : (ds more bytes : List ℕ) → pairs ds ≡ Some bytes → pairs (ds ++ more) ≡ behind bytes (pairs more)
+pairs_on [] more bytes e = after_none (pairs more) ∙ ap (λ (t : List ℕ). behind t (pairs more)) (same_Some [] bytes e)
+pairs_on (a ∷ []) more bytes e = absurd (none-some bytes e)
+pairs_on (a ∷ b ∷ cs) more bytes e = by (λ xs f. pairs_on cs more xs f) (byte_of (digit_of a) (digit_of b)) refl (pairs cs) refl e
   where
     by : ((xs : List ℕ) → pairs cs ≡ Some xs → pairs (cs ++ more) ≡ behind xs (pairs more)) → (o : Option ℕ) → byte_of (digit_of a) (digit_of b) ≡ o → (r : Option (List ℕ)) → pairs cs ≡ r
         → led o r ≡ Some bytes → pairs (a ∷ b ∷ cs ++ more) ≡ behind bytes (pairs more)
     by back None p r f g = absurd (none-some bytes g)
     by back (Some x) p None f g = absurd (none-some bytes g)
     by back (Some x) p (Some xs) f g =
-        ap₂ led p (back xs f) ∙ behind-led x xs (pairs more) ∙ ap (λ (t : List ℕ). behind t (pairs more)) (same_Some (x ∷ xs) bytes g)
+        ap₂ led p (back xs f) ∙ after_led x xs (pairs more) ∙ ap (λ (t : List ℕ). behind t (pairs more)) (same_Some (x ∷ xs) bytes g)
 
-put-rest : (n : ℕ) (bytes new : List ℕ) → take n bytes ++ (new ++ drop (length bytes - n) (drop n bytes)) ≡ take n bytes ++ new
-put-rest n bytes new =
+put_rest : (n : ℕ) (bytes new : List ℕ) → take n bytes ++ (new ++ drop (length bytes - n) (drop n bytes)) ≡ take n bytes ++ new
+put_rest n bytes new =
     let left : length (drop n bytes) ≡ length bytes - n = length-drop n bytes in
     ap (λ (t : List ℕ). take n bytes ++ t) (ap (λ (t : List ℕ). new ++ t) (drop_of_length-le (drop n bytes) (omega (arith, left))) ∙ append-nil new)
 
 -- what is read of the rest, after bytes that were read
-pub read-whole : (ds bytes new : List ℕ) (n : ℕ) (b : Bool) → pairs (take (2 * n) ds) ≡ Some (take n bytes)
+pub read_whole : (ds bytes new : List ℕ) (n : ℕ) (b : Bool) → pairs (take (2 * n) ds) ≡ Some (take n bytes)
     → MatchBool b (pairs (take (length ds - 2 * n) (drop (2 * n) ds)) ≡ Some new) (pairs (take (length ds - 2 * n) (drop (2 * n) ds)) ≡ None)
     → MatchBool b (pairs ds ≡ Some (take n bytes ++ (new ++ drop (length bytes - n) (drop n bytes)))) (pairs ds ≡ None)
 unfolding behind
-read-whole ds bytes new n b e f = by b f
+read_whole ds bytes new n b e f = by b f
   where
     rest : take (length ds - 2 * n) (drop (2 * n) ds) ≡ drop (2 * n) ds
     rest = let left : length (drop (2 * n) ds) ≡ length ds - 2 * n = length-drop (2 * n) ds in take_all (length ds - 2 * n) (drop (2 * n) ds) (omega (arith, left))
 
     whole : pairs ds ≡ behind (take n bytes) (pairs (take (length ds - 2 * n) (drop (2 * n) ds)))
     whole =
-        ap pairs (sym (take-append-drop (2 * n) ds)) ∙ pairs-on (take (2 * n) ds) (drop (2 * n) ds) (take n bytes) e ∙ ap (λ (t : List ℕ). behind (take n bytes) (pairs t)) (sym rest)
+        ap pairs (sym (take-append-drop (2 * n) ds)) ∙ pairs_on (take (2 * n) ds) (drop (2 * n) ds) (take n bytes) e ∙ ap (λ (t : List ℕ). behind (take n bytes) (pairs t)) (sym rest)
 
     by : (b : Bool) → MatchBool b (pairs (take (length ds - 2 * n) (drop (2 * n) ds)) ≡ Some new) (pairs (take (length ds - 2 * n) (drop (2 * n) ds)) ≡ None)
         → MatchBool b (pairs ds ≡ Some (take n bytes ++ (new ++ drop (length bytes - n) (drop n bytes)))) (pairs ds ≡ None)
-    by true g = whole ∙ ap (behind (take n bytes)) g ∙ ap Some (sym (put-rest n bytes new))
+    by true g = whole ∙ ap (behind (take n bytes)) g ∙ ap Some (sym (put_rest n bytes new))
     by false g = whole ∙ ap (behind (take n bytes)) g
 
 -- ---- digits in blocks
 
-chunk-at : (n m k : ℕ) (xs d : List ℕ) → k < m → get_or (first_chunks n m xs) k d ≡ take n (drop (n * k) xs)
-chunk-at n zero k xs d h = absurd (omega (arith, h))
-chunk-at n (suc m) zero xs d h = ap (λ (j : ℕ). take n (drop j xs)) (let e : 0 ≡ n * 0 = omega arith in e)
-chunk-at n (suc m) (suc k) xs d h =
-    chunk-at n m k (drop n xs) d (omega (arith, h)) ∙ ap (take n) (drop-drop (n * k) n xs ∙ ap (λ (j : ℕ). drop j xs) (let m : n * suc k ≡ n * k + n = mul-suc n k in let e : n + n * k ≡ n * suc k = omega (arith, m) in e))
+chunk_at : (n m k : ℕ) (xs d : List ℕ) → k < m → get_or (first_chunks n m xs) k d ≡ take n (drop (n * k) xs)
+chunk_at n zero k xs d h = absurd (omega (arith, h))
+chunk_at n (suc m) zero xs d h = ap (λ (j : ℕ). take n (drop j xs)) (let e : 0 ≡ n * 0 = omega arith in e)
+chunk_at n (suc m) (suc k) xs d h =
+    chunk_at n m k (drop n xs) d (omega (arith, h)) ∙ ap (take n) (drop-drop (n * k) n xs ∙ ap (λ (j : ℕ). drop j xs) (let m : n * suc k ≡ n * k + n = mul-suc n k in let e : n + n * k ≡ n * suc k = omega (arith, m) in e))
 
-pub bytes-by-place : (bs : List ℕ) → ((i : ℕ) → i < length bs → get_or bs i 0 < 256) → AreBytes bs
-bytes-by-place [] f = tt
-bytes-by-place (b ∷ bs) f = (f 0 (omega arith), bytes-by-place bs (λ i h. f (suc i) (omega (arith, h))))
+pub bytes_by_place : (bs : List ℕ) → ((i : ℕ) → i < length bs → get_or bs i 0 < 256) → AreBytes bs
+bytes_by_place [] f = tt
+bytes_by_place (b ∷ bs) f = (f 0 (omega arith), bytes_by_place bs (λ i h. f (suc i) (omega (arith, h))))
 
 -- a block more
-pub block-read : (ds old new read : List ℕ) (blocks : List (List ℕ)) (k : ℕ) (d : List ℕ) → blocks ≡ first_chunks 64 (length ds / 64) ds → k < length blocks → length blocks ≡ length ds / 64
+pub block_read : (ds old new read : List ℕ) (blocks : List (List ℕ)) (k : ℕ) (d : List ℕ) → blocks ≡ first_chunks 64 (length ds / 64) ds → k < length blocks → length blocks ≡ length ds / 64
     → get_or blocks k d ≡ flat_map hex_byte read → AreBytes read → pairs (take (64 * k) ds) ≡ Some (take (32 * k) old) → take (32 * k + 32) new ≡ take (32 * k) old ++ read
     → pairs (take (64 * (k + 1)) ds) ≡ Some (take (32 * (k + 1)) new)
 unfolding behind
-block-read ds old new read blocks k d e h n at fits was now =
+block_read ds old new read blocks k d e h n at fits was now =
     let here : take 64 (drop (64 * k) ds) ≡ flat_map hex_byte read =
-    sym (ap (λ (t : List (List ℕ)). get_or t k d) e ∙ chunk-at 64 (length ds / 64) k ds d (omega (arith, h, n))) ∙ at in
+    sym (ap (λ (t : List (List ℕ)). get_or t k d) e ∙ chunk_at 64 (length ds / 64) k ds d (omega (arith, h, n))) ∙ at in
     let prefix : take (64 * (k + 1)) ds ≡ take (64 * k) ds ++ take 64 (drop (64 * k) ds) = ap (λ (j : ℕ). take j ds) (let j : 64 * (k + 1) ≡ 64 * k + 64 = omega arith in j) ∙ take-add (64 * k) 64 ds in
-    ap pairs (prefix ∙ ap (λ (t : List ℕ). take (64 * k) ds ++ t) here) ∙ pairs-on (take (64 * k) ds) (flat_map hex_byte read) (take (32 * k) old) was ∙ ap (behind (take (32 * k) old)) (pairs-back read fits)
+    ap pairs (prefix ∙ ap (λ (t : List ℕ). take (64 * k) ds ++ t) here) ∙ pairs_on (take (64 * k) ds) (flat_map hex_byte read) (take (32 * k) old) was ∙ ap (behind (take (32 * k) old)) (pairs_back read fits)
     ∙ ap Some (sym now ∙ ap (λ (j : ℕ). take j new) (let j : 32 * k + 32 ≡ 32 * (k + 1) = omega arith in j))

@@ -6,11 +6,11 @@ use Rattle.std.proofs.lemmas.Bool.Decides.{eqb_tells, nat_tests}
 use Rattle.std.proofs.lemmas.List.Elements.{All-cons, All-nil}
 use Rattle.std.proofs.lemmas.Option.{none-some, same_Some}
 use Rattle.x7_words.specs.Word.{AreBytes, AreWords, words_of_bytes}
-use Rattle.x7_words.proofs.WordLemmas.{words-fit}
+use Rattle.x7_words.proofs.WordLemmas.{words_fit}
 use Rattle.x7_text.specs.DigitValue.{word_value}
 use Rattle.x7_text.specs.EitherCase.{byte_of, digit_of, led, pairs}
 use Rattle.x7_text.specs.Lines.{split}
-use Rattle.x7_text.proofs.ValueLemmas.{word-back}
+use Rattle.x7_text.proofs.ValueLemmas.{word_back}
 use Rattle.x7_part.specs.AddressOrder.{addresses_in}
 use Rattle.x7_part.specs.Part.{PartData, frame_words}
 use Rattle.x7_memory.specs.Planned.{IsPlanRow, PlanRow, planned_addresses}
@@ -19,18 +19,18 @@ use Rattle.x7_frames.specs.FramesText.{AreGood, AreLinesOfRows, frame, frame_hea
 use Rattle.x7_frames.specs.Steps.{IsFaultAt, TakesLine}
 use Rattle.x7_frames.specs.declared.fault.FramesFault.{FramesFault}
 use Rattle.x7_frames.specs.declared.fault.FramesFault.TheVariants as fault
-use Rattle.x7_frames.proofs.GoodLemmas.{fault-of, good-next, no-rows-apart}
-use Rattle.x7_frames.proofs.LineLemmas.{frame-long}
-use Rattle.x7_frames.proofs.OrderLemmas.{has-sorted}
+use Rattle.x7_frames.proofs.GoodLemmas.{fault_of, good_next, no_rows_apart}
+use Rattle.x7_frames.proofs.LineLemmas.{frame_long}
+use Rattle.x7_frames.proofs.OrderLemmas.{has_sorted}
 
 -- ---- what is decided of numbers
 
-same-or : (a b : ℕ) → (a ≡ b) ⊎ (a ≡ b → ⊥)
-same-or a b = elim (eqb_tells a b) [ inl y ↦ inl y.1 | inr n ↦ inr n.1 ]
+same_or : (a b : ℕ) → (a ≡ b) ⊎ (a ≡ b → ⊥)
+same_or a b = elim (eqb_tells a b) [ inl y ↦ inl y.1 | inr n ↦ inr n.1 ]
 
-contains-or : (xs : List ℕ) (x : ℕ) → Contains xs x ⊎ (Contains xs x → ⊥)
-contains-or [] x = inr (λ c. let l = c.1 in omega (arith, l))
-contains-or (y ∷ ys) x = by (same-or y x) (contains-or ys x)
+contains_or : (xs : List ℕ) (x : ℕ) → Contains xs x ⊎ (Contains xs x → ⊥)
+contains_or [] x = inr (λ c. let l = c.1 in omega (arith, l))
+contains_or (y ∷ ys) x = by (same_or y x) (contains_or ys x)
   where
     neither : (y ≡ x → ⊥) → (Contains ys x → ⊥) → Contains (y ∷ ys) x → ⊥
     neither n none (zero, l, e) = n e
@@ -47,11 +47,11 @@ heads x y xs ys e = cc
 tails : (x y : ℕ) (xs ys : List ℕ) → (x ∷ xs) ≡ (y ∷ ys) → xs ≡ ys
 tails x y xs ys e = cc
 
-lists-or : (xs ys : List ℕ) → (xs ≡ ys) ⊎ (xs ≡ ys → ⊥)
-lists-or [] [] = inl refl
-lists-or [] (y ∷ ys) = inr (λ e. cc)
-lists-or (x ∷ xs) [] = inr (λ e. cc)
-lists-or (x ∷ xs) (y ∷ ys) = by (same-or x y) (lists-or xs ys)
+lists_or : (xs ys : List ℕ) → (xs ≡ ys) ⊎ (xs ≡ ys → ⊥)
+lists_or [] [] = inl refl
+lists_or [] (y ∷ ys) = inr (λ e. cc)
+lists_or (x ∷ xs) [] = inr (λ e. cc)
+lists_or (x ∷ xs) (y ∷ ys) = by (same_or x y) (lists_or xs ys)
   where
     by : (x ≡ y) ⊎ (x ≡ y → ⊥) → (xs ≡ ys) ⊎ (xs ≡ ys → ⊥) → ((x ∷ xs) ≡ (y ∷ ys)) ⊎ ((x ∷ xs) ≡ (y ∷ ys) → ⊥)
     by (inr n) more = inr (λ e. n (heads x y xs ys e))
@@ -63,9 +63,9 @@ lists-or (x ∷ xs) (y ∷ ys) = by (same-or x y) (lists-or xs ys)
 FrameOr : ℕ → List ℕ → Type 0
 FrameOr width line = ((row : PlanRow) × IsFrameLine width line row) ⊎ ((row : PlanRow) → IsFrameLine width line row → ⊥)
 
-frame-or : (width : ℕ) (line : List ℕ) → FrameOr width line
+frame_or : (width : ℕ) (line : List ℕ) → FrameOr width line
 unfolding FrameOr
-frame-or width line = by-head (lists-or line (frame_head far ++ digits))
+frame_or width line = by_head (lists_or line (frame_head far ++ digits))
   where
     far : ℕ
     far = word_value (take 8 (drop 6 line))
@@ -73,99 +73,99 @@ frame-or width line = by-head (lists-or line (frame_head far ++ digits))
     digits : List ℕ
     digits = drop 15 line
 
-    far-is : (row : PlanRow) (is : IsFrameLine width line row) → row.far ≡ far
-    far-is row is = sym (word-back row.far is.far) ∙ ap (λ (t : List ℕ). word_value (take 8 (drop 6 t))) (sym is.is)
+    far_is : (row : PlanRow) (is : IsFrameLine width line row) → row.far ≡ far
+    far_is row is = sym (word_back row.far is.far) ∙ ap (λ (t : List ℕ). word_value (take 8 (drop 6 t))) (sym is.is)
 
-    digits-are : (row : PlanRow) (is : IsFrameLine width line row) → is.digits ≡ digits
-    digits-are row is = ap (λ (t : List ℕ). drop 15 t) (sym is.is)
+    digits_are : (row : PlanRow) (is : IsFrameLine width line row) → is.digits ≡ digits
+    digits_are row is = ap (λ (t : List ℕ). drop 15 t) (sym is.is)
 
-    by-count : (bytes : List ℕ) → line ≡ frame_head far ++ digits → far < 2 ^ 32 → pairs digits ≡ Some bytes → (length bytes ≡ 4 * width) ⊎ (length bytes ≡ 4 * width → ⊥) → FrameOr width line
-    by-count bytes e l p (inl long) =
+    by_count : (bytes : List ℕ) → line ≡ frame_head far ++ digits → far < 2 ^ 32 → pairs digits ≡ Some bytes → (length bytes ≡ 4 * width) ⊎ (length bytes ≡ 4 * width → ⊥) → FrameOr width line
+    by_count bytes e l p (inl long) =
         inl (record { far = far; words = words_of_bytes bytes }, record { far = l; digits = digits; is = e; bytes = bytes; read = p; long = long; words = refl })
-    by-count bytes e l p (inr n) = inr (λ row is. n (ap length (same_Some bytes is.bytes (sym p ∙ ap pairs (sym (digits-are row is)) ∙ is.read)) ∙ is.long))
+    by_count bytes e l p (inr n) = inr (λ row is. n (ap length (same_Some bytes is.bytes (sym p ∙ ap pairs (sym (digits_are row is)) ∙ is.read)) ∙ is.long))
 
-    by-digits : line ≡ frame_head far ++ digits → far < 2 ^ 32 → (o : Option (List ℕ)) → pairs digits ≡ o → FrameOr width line
-    by-digits e l None p = inr (λ row is. none-some is.bytes (sym p ∙ ap pairs (sym (digits-are row is)) ∙ is.read))
-    by-digits e l (Some bytes) p = by-count bytes e l p (same-or (length bytes) (4 * width))
+    by_digits : line ≡ frame_head far ++ digits → far < 2 ^ 32 → (o : Option (List ℕ)) → pairs digits ≡ o → FrameOr width line
+    by_digits e l None p = inr (λ row is. none-some is.bytes (sym p ∙ ap pairs (sym (digits_are row is)) ∙ is.read))
+    by_digits e l (Some bytes) p = by_count bytes e l p (same_or (length bytes) (4 * width))
 
-    by-far : line ≡ frame_head far ++ digits → (far ≡ 2 ^ 32) ⊎ ((far < 2 ^ 32) ⊎ (2 ^ 32 < far)) → FrameOr width line
-    by-far e (inl f) = inr (λ row is. let l = is.far in let same = far-is row is in omega (arith, l, same, f))
-    by-far e (inr (inl l)) = by-digits e l (pairs digits) refl
-    by-far e (inr (inr g)) = inr (λ row is. let l = is.far in let same = far-is row is in omega (arith, l, same, g))
+    by_far : line ≡ frame_head far ++ digits → (far ≡ 2 ^ 32) ⊎ ((far < 2 ^ 32) ⊎ (2 ^ 32 < far)) → FrameOr width line
+    by_far e (inl f) = inr (λ row is. let l = is.far in let same = far_is row is in omega (arith, l, same, f))
+    by_far e (inr (inl l)) = by_digits e l (pairs digits) refl
+    by_far e (inr (inr g)) = inr (λ row is. let l = is.far in let same = far_is row is in omega (arith, l, same, g))
 
-    by-head : (line ≡ frame_head far ++ digits) ⊎ (line ≡ frame_head far ++ digits → ⊥) → FrameOr width line
-    by-head (inl e) = by-far e (cases_order far (2 ^ 32))
-    by-head (inr n) = inr (λ row is. n (is.is ∙ ap₂ (λ (f : ℕ) (d : List ℕ). frame_head f ++ d) (far-is row is) (digits-are row is)))
+    by_head : (line ≡ frame_head far ++ digits) ⊎ (line ≡ frame_head far ++ digits → ⊥) → FrameOr width line
+    by_head (inl e) = by_far e (cases_order far (2 ^ 32))
+    by_head (inr n) = inr (λ row is. n (is.is ∙ ap₂ (λ (f : ℕ) (d : List ℕ). frame_head f ++ d) (far_is row is) (digits_are row is)))
 
 -- ---- a line is good after these rows, or it is line n at fault
 
 unfoldable pub LineOr : PartData → List PlanRow → ℕ → List ℕ → Type 0
 LineOr part rows n line = ((new : List PlanRow) × TakesLine part line rows new) ⊎ ((f : FramesFault) × IsFaultAt part rows n line f)
 
-pub line-or : (part : PartData) (rows : List PlanRow) (n : ℕ) (line : List ℕ) → LineOr part rows n line
+pub line_or : (part : PartData) (rows : List PlanRow) (n : ℕ) (line : List ℕ) → LineOr part rows n line
 unfolding FrameOr LineOr
-line-or part rows n line = by (means_nothing line) refl
+line_or part rows n line = by (means_nothing line) refl
   where
-    address-or : (row : PlanRow) (is : IsFrameLine (frame_words part) line row) → Contains (addresses_in part) row.far ⊎ (Contains (addresses_in part) row.far → ⊥)
+    address_or : (row : PlanRow) (is : IsFrameLine (frame_words part) line row) → Contains (addresses_in part) row.far ⊎ (Contains (addresses_in part) row.far → ⊥)
         → Contains (planned_addresses rows) row.far ⊎ (Contains (planned_addresses rows) row.far → ⊥) → LineOr part rows n line
-    address-or row is (inr none) twice = inr (fault.Address n, (refl, record { row = row; is = is; foreign = none }))
-    address-or row is (inl there) (inl twice) = inr (fault.Twice n, (refl, record { row = row; is = is; address = there; repeated = twice }))
-    address-or row is (inl there) (inr new) = inl (rows ++ row ∷ [], inr (record { row = row; is = is; address = there; apart = new; rows = refl }))
+    address_or row is (inr none) twice = inr (fault.Address n, (refl, record { row = row; is = is; foreign = none }))
+    address_or row is (inl there) (inl twice) = inr (fault.Twice n, (refl, record { row = row; is = is; address = there; repeated = twice }))
+    address_or row is (inl there) (inr new) = inl (rows ++ row ∷ [], inr (record { row = row; is = is; address = there; apart = new; rows = refl }))
 
-    by-frame : means_nothing line ≡ false → FrameOr (frame_words part) line → LineOr part rows n line
-    by-frame e (inl (row, is)) = address-or row is (contains-or (addresses_in part) row.far) (contains-or (planned_addresses rows) row.far)
-    by-frame e (inr none) = inr (fault.Line n, (refl, record { has_meaning = e; no_frame = none }))
+    by_frame : means_nothing line ≡ false → FrameOr (frame_words part) line → LineOr part rows n line
+    by_frame e (inl (row, is)) = address_or row is (contains_or (addresses_in part) row.far) (contains_or (planned_addresses rows) row.far)
+    by_frame e (inr none) = inr (fault.Line n, (refl, record { has_meaning = e; no_frame = none }))
 
     by : (b : Bool) → means_nothing line ≡ b → LineOr part rows n line
     by true e = inl (rows, inl (e, refl))
-    by false e = by-frame e (frame-or (frame_words part) line)
+    by false e = by_frame e (frame_or (frame_words part) line)
 
 -- ---- the plan of good lines
 
-digit-low : (c x : ℕ) → digit_of c ≡ Some x → x < 16
-digit-low c x e = grind (arith, nat_tests, e)
+digit_low : (c x : ℕ) → digit_of c ≡ Some x → x < 16
+digit_low c x e = grind (arith, nat_tests, e)
 
-byte-fits : (a b x : ℕ) → byte_of (digit_of a) (digit_of b) ≡ Some x → x < 256
-byte-fits a b x e = by (digit_of a) (digit_of b) refl refl e
+byte_fits : (a b x : ℕ) → byte_of (digit_of a) (digit_of b) ≡ Some x → x < 256
+byte_fits a b x e = by (digit_of a) (digit_of b) refl refl e
   where
     by : (h l : Option ℕ) → digit_of a ≡ h → digit_of b ≡ l → byte_of h l ≡ Some x → x < 256
     by None l p q f = absurd (none-some x f)
     by (Some h) None p q f = absurd (none-some x f)
-    by (Some h) (Some l) p q f = omega (arith, digit-low a h p, digit-low b l q, same_Some (16 * h + l) x f)
+    by (Some h) (Some l) p q f = omega (arith, digit_low a h p, digit_low b l q, same_Some (16 * h + l) x f)
 
-pairs-fit : (ds bytes : List ℕ) → pairs ds ≡ Some bytes → AreBytes bytes
-pairs-fit [] bytes e = subst AreBytes (same_Some [] bytes e) tt
-pairs-fit (a ∷ []) bytes e = absurd (none-some bytes e)
-pairs-fit (a ∷ b ∷ cs) bytes e = by (λ xs f. pairs-fit cs xs f) (byte_of (digit_of a) (digit_of b)) (pairs cs) refl refl e
+pairs_fit : (ds bytes : List ℕ) → pairs ds ≡ Some bytes → AreBytes bytes
+pairs_fit [] bytes e = subst AreBytes (same_Some [] bytes e) tt
+pairs_fit (a ∷ []) bytes e = absurd (none-some bytes e)
+pairs_fit (a ∷ b ∷ cs) bytes e = by (λ xs f. pairs_fit cs xs f) (byte_of (digit_of a) (digit_of b)) (pairs cs) refl refl e
   where
     by : ((xs : List ℕ) → pairs cs ≡ Some xs → AreBytes xs) → (o : Option ℕ) (more : Option (List ℕ)) → byte_of (digit_of a) (digit_of b) ≡ o → pairs cs ≡ more → led o more ≡ Some bytes → AreBytes bytes
     by back None more p f g = absurd (none-some bytes g)
     by back (Some x) None p f g = absurd (none-some bytes g)
-    by back (Some x) (Some xs) p f g = subst AreBytes (same_Some (x ∷ xs) bytes g) (byte-fits a b x p, back xs f)
+    by back (Some x) (Some xs) p f g = subst AreBytes (same_Some (x ∷ xs) bytes g) (byte_fits a b x p, back xs f)
 
-row-fits : (width : ℕ) (line : List ℕ) (row : PlanRow) → IsFrameLine width line row → IsPlanRow row
-row-fits width line row is = record { far = is.far; words = subst AreWords (sym is.words) (words-fit is.bytes (pairs-fit is.digits is.bytes is.read)) }
+row_fits : (width : ℕ) (line : List ℕ) (row : PlanRow) → IsFrameLine width line row → IsPlanRow row
+row_fits width line row is = record { far = is.far; words = subst AreWords (sym is.words) (words_fit is.bytes (pairs_fit is.digits is.bytes is.read)) }
 
-rows-fit : (width : ℕ) (lines : List (List ℕ)) (rows : List PlanRow) → AreLinesOfRows width lines rows → All IsPlanRow rows
-rows-fit width _ _ (no_line w) = All-nil IsPlanRow
-rows-fit width _ _ (no_frame w line lines rows e more) = rows-fit width lines rows more
-rows-fit width _ _ (frame w line lines row rows is more) = All-cons IsPlanRow row rows (row-fits width line row is) (rows-fit width lines rows more)
+rows_fit : (width : ℕ) (lines : List (List ℕ)) (rows : List PlanRow) → AreLinesOfRows width lines rows → All IsPlanRow rows
+rows_fit width _ _ (no_line w) = All-nil IsPlanRow
+rows_fit width _ _ (no_frame w line lines rows e more) = rows_fit width lines rows more
+rows_fit width _ _ (frame w line lines row rows is more) = All-cons IsPlanRow row rows (row_fits width line row is) (rows_fit width lines rows more)
 
-rows-long : (width : ℕ) (lines : List (List ℕ)) (rows : List PlanRow) → AreLinesOfRows width lines rows → All (λ r. length r.words ≡ width) rows
-rows-long width _ _ (no_line w) = All-nil (λ r. length r.words ≡ width)
-rows-long width _ _ (no_frame w line lines rows e more) = rows-long width lines rows more
-rows-long width _ _ (frame w line lines row rows is more) = All-cons (λ r. length r.words ≡ width) row rows (frame-long width line row is) (rows-long width lines rows more)
+rows_long : (width : ℕ) (lines : List (List ℕ)) (rows : List PlanRow) → AreLinesOfRows width lines rows → All (λ r. length r.words ≡ width) rows
+rows_long width _ _ (no_line w) = All-nil (λ r. length r.words ≡ width)
+rows_long width _ _ (no_frame w line lines rows e more) = rows_long width lines rows more
+rows_long width _ _ (frame w line lines row rows is more) = All-cons (λ r. length r.words ≡ width) row rows (frame_long width line row is) (rows_long width lines rows more)
 
-pub good-text : (part : PartData) (text : List ℕ) (rows : List PlanRow) → AreGood part (split text) rows → IsGoodText part text
-good-text part text rows good =
-    let s = has-sorted rows in
+pub good_text : (part : PartData) (text : List ℕ) (rows : List PlanRow) → AreGood part (split text) rows → IsGoodText part text
+good_text part text rows good =
+    let s = has_sorted rows in
     let w : ℕ = frame_words part in (
       record { width = w; rows = s.sorted },
       record {
         rows = rows;
         good = good;
         same = s.same;
-        is = sorted_plan w rows s.sorted (record { width = rows-long w (split text) rows good.read; each = rows-fit w (split text) rows good.read }) good.apart s.same s.rises;
+        is = sorted_plan w rows s.sorted (record { width = rows_long w (split text) rows good.read; each = rows_fit w (split text) rows good.read }) good.apart s.same s.rises;
         width = refl;
       },
     )
@@ -174,14 +174,14 @@ good-text part text rows good =
 
 from : (part : PartData) (text : List ℕ) (before rest : List (List ℕ)) (rows : List PlanRow) → split text ≡ before ++ rest → AreGood part before rows → HasPlan part text
 unfolding LineOr
-from part text before [] rows e good = let g = good-text part text rows (subst (λ lines. AreGood part lines rows) (sym (e ∙ append-nil before)) good) in (Ok g.0, g.1)
-from part text before (line ∷ rest) rows e good = by (λ new. from part text (before ++ line ∷ []) rest new (e ∙ sym (append_assoc before (line ∷ []) rest))) (line-or part rows (length before + 1) line)
+from part text before [] rows e good = let g = good_text part text rows (subst (λ lines. AreGood part lines rows) (sym (e ∙ append-nil before)) good) in (Ok g.0, g.1)
+from part text before (line ∷ rest) rows e good = by (λ new. from part text (before ++ line ∷ []) rest new (e ∙ sym (append_assoc before (line ∷ []) rest))) (line_or part rows (length before + 1) line)
   where
     by : ((new : List PlanRow) → AreGood part (before ++ line ∷ []) new → HasPlan part text) → LineOr part rows (length before + 1) line → HasPlan part text
-    by goes-on (inl (new, takes)) = goes-on new (good-next part before line rows new good takes)
+    by goes-on (inl (new, takes)) = goes-on new (good_next part before line rows new good takes)
     by goes-on (inr (f, is)) =
-        (Err f, fault-of part text line rows (length before + 1) f (record { before = before; after = rest; texts = e; good = good; count = refl }) is)
+        (Err f, fault_of part text line rows (length before + 1) f (record { before = before; after = rest; texts = e; good = good; count = refl }) is)
 
-pub has-plan : (part : PartData) (text : List ℕ) → HasPlan part text
-has-plan part text =
-    from part text [] (split text) [] refl (record { read = no_line (frame_words part); addresses = All-nil (λ r. Contains (addresses_in part) r.far); apart = no-rows-apart })
+pub has_plan : (part : PartData) (text : List ℕ) → HasPlan part text
+has_plan part text =
+    from part text [] (split text) [] refl (record { read = no_line (frame_words part); addresses = All-nil (λ r. Contains (addresses_in part) r.far); apart = no_rows_apart })

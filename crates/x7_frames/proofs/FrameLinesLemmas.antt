@@ -8,38 +8,38 @@ use Rattle.x7_frames.specs.FramesText.{IsPlanOf}
 use Rattle.x7_frames.specs.Steps.{IsFaultAt, IsGoodLine, TakesLine}
 use Rattle.x7_frames.specs.declared.fault.FramesFault.{FramesFault}
 use Rattle.x7_frames.specs.declared.fault.FramesFault.TheVariants as fault
-use Rattle.x7_frames.proofs.GoodLemmas.{fault-of, good-next}
+use Rattle.x7_frames.proofs.GoodLemmas.{fault_of, good_next}
 
 -- what holds of each error holds of that of a result
-pub all-err : {A E : Type 0} (r : Result A E) (P : E → Type 0) → ((e : E) → P e) → IfErr r P
-all-err (Ok a) P f = tt
-all-err (Err e) P f = f e
+pub all_err : {A E : Type 0} (r : Result A E) (P : E → Type 0) → ((e : E) → P e) → IfErr r P
+all_err (Ok a) P f = tt
+all_err (Err e) P f = f e
 
 -- a line after good ones is taken, or is at fault
 module _ (part : PartData) (a : Rows) (lines : List (List ℕ)) (line : List ℕ) (n : ℕ) (m : n ≡ length lines + 1) (t : HasRows part a lines) where
-  pub line-good : (b : Rows) → b.part ≡ a.part → TakesLine a.part line a.rows b.rows → HasRows part b (lines ++ line ∷ [])
-  line-good b same takes = (same ∙ t.0, good-next part lines line a.rows b.rows t.1 (subst (λ (p : PartData). TakesLine p line a.rows b.rows) t.0 takes))
+  pub line_good : (b : Rows) → b.part ≡ a.part → TakesLine a.part line a.rows b.rows → HasRows part b (lines ++ line ∷ [])
+  line_good b same takes = (same ∙ t.0, good_next part lines line a.rows b.rows t.1 (subst (λ (p : PartData). TakesLine p line a.rows b.rows) t.0 takes))
 
-  pub line-refused : (f : FramesFault) → (f ≡ fault.NoMemory) ⊎ IsFaultAt a.part a.rows n line f → (others : List (List ℕ)) → AreRefused part f (lines ++ line ∷ others)
-  line-refused f (inl none) others = inl none
-  line-refused f (inr h) others = inr (λ text is. fault-of part text line a.rows n f (record { before = lines; after = others; texts = is; good = t.1; count = m }) (subst (λ (p : PartData). IsFaultAt p a.rows n line f) t.0 h))
+  pub line_refused : (f : FramesFault) → (f ≡ fault.NoMemory) ⊎ IsFaultAt a.part a.rows n line f → (others : List (List ℕ)) → AreRefused part f (lines ++ line ∷ others)
+  line_refused f (inl none) others = inl none
+  line_refused f (inr h) others = inr (λ text is. fault_of part text line a.rows n f (record { before = lines; after = others; texts = is; good = t.1; count = m }) (subst (λ (p : PartData). IsFaultAt p a.rows n line f) t.0 h))
 
-  pub line-read : {A : Type 0} (r : Result A FramesFault) (b : Rows) → b.part ≡ a.part → OnOk r (TakesLine a.part line a.rows b.rows) → IfErr r (λ f. (f ≡ fault.NoMemory) ⊎ IsFaultAt a.part a.rows n line f)
+  pub line_read : {A : Type 0} (r : Result A FramesFault) (b : Rows) → b.part ≡ a.part → OnOk r (TakesLine a.part line a.rows b.rows) → IfErr r (λ f. (f ≡ fault.NoMemory) ⊎ IsFaultAt a.part a.rows n line f)
       → MatchResult r (λ _. HasRows part b (lines ++ line ∷ [])) (λ f. (more : List ℕ) → AreRefused part f (lines ++ line ∷ split more))
-  line-read (Ok _) b same takes fails = line-good b same takes
-  line-read (Err f) b same takes fails = λ more. line-refused f fails (split more)
+  line_read (Ok _) b same takes fails = line_good b same takes
+  line_read (Err f) b same takes fails = λ more. line_refused f fails (split more)
 
   -- memory is wanting at a good line
-  pub line-wants : IsGoodLine a.part a.rows line → AreGoodWith part lines line
-  line-wants good = (good.0, good-next part lines line a.rows good.0 t.1 (subst (λ (p : PartData). TakesLine p line a.rows good.0) t.0 good.1))
+  pub line_wants : IsGoodLine a.part a.rows line → AreGoodWith part lines line
+  line_wants good = (good.0, good_next part lines line a.rows good.0 t.1 (subst (λ (p : PartData). TakesLine p line a.rows good.0) t.0 good.1))
 
-  pub line-wanted : {A : Type 0} (r : Result A FramesFault) → IfErr r (λ f. f ≡ fault.NoMemory → IsGoodLine a.part a.rows line) → IfErr r (λ f. f ≡ fault.NoMemory → AreGoodWith part lines line)
-  line-wanted (Ok _) good = tt
-  line-wanted (Err f) good = λ want. line-wants (good want)
+  pub line_wanted : {A : Type 0} (r : Result A FramesFault) → IfErr r (λ f. f ≡ fault.NoMemory → IsGoodLine a.part a.rows line) → IfErr r (λ f. f ≡ fault.NoMemory → AreGoodWith part lines line)
+  line_wanted (Ok _) good = tt
+  line_wanted (Err f) good = λ want. line_wants (good want)
 
 -- a text that is there whole
-pub whole-read : {P : Type 0} (value : P → PlanData) (part : PartData) (lines : Rows) (text : List ℕ) (r : Result P FramesFault) → lines.part ≡ part
+pub whole_read : {P : Type 0} (value : P → PlanData) (part : PartData) (lines : Rows) (text : List ℕ) (r : Result P FramesFault) → lines.part ≡ part
     → MatchResult r (λ plan. ComeTo lines.part (Ok (value plan)) (split text)) (λ f. AreRefused lines.part f (split text)) → MatchResult r (λ plan. IsPlanOf part text (Ok (value plan))) (λ f. (f ≡ fault.NoMemory) ⊎ IsPlanOf part text (Err f))
-whole-read value part lines text (Ok plan) is h = subst (λ (q : PartData). IsPlanOf q text (Ok (value plan))) is (h text refl)
-whole-read value part lines text (Err f) is (inl none) = inl none
-whole-read value part lines text (Err f) is (inr h) = inr (subst (λ (q : PartData). IsPlanOf q text (Err f)) is (h text refl))
+whole_read value part lines text (Ok plan) is h = subst (λ (q : PartData). IsPlanOf q text (Ok (value plan))) is (h text refl)
+whole_read value part lines text (Err f) is (inl none) = inl none
+whole_read value part lines text (Err f) is (inr h) = inr (subst (λ (q : PartData). IsPlanOf q text (Err f)) is (h text refl))

@@ -14,18 +14,18 @@ use Rattle.x7_frames.specs.declared.fault.FramesFault.TheVariants as fault
 
 -- ---- one line more
 
-lines-skip : (width : ℕ) (lines : List (List ℕ)) (rows : List PlanRow) (line : List ℕ) → means_nothing line ≡ true → AreLinesOfRows width lines rows → AreLinesOfRows width (lines ++ line ∷ []) rows
-lines-skip width _ _ line e (no_line w) = no_frame width line [] [] e (no_line width)
-lines-skip width _ _ line e (no_frame w t ts rows f more) = no_frame width t (ts ++ line ∷ []) rows f (lines-skip width ts rows line e more)
-lines-skip width _ _ line e (frame w t ts row rows f more) = frame width t (ts ++ line ∷ []) row rows f (lines-skip width ts rows line e more)
+lines_skip : (width : ℕ) (lines : List (List ℕ)) (rows : List PlanRow) (line : List ℕ) → means_nothing line ≡ true → AreLinesOfRows width lines rows → AreLinesOfRows width (lines ++ line ∷ []) rows
+lines_skip width _ _ line e (no_line w) = no_frame width line [] [] e (no_line width)
+lines_skip width _ _ line e (no_frame w t ts rows f more) = no_frame width t (ts ++ line ∷ []) rows f (lines_skip width ts rows line e more)
+lines_skip width _ _ line e (frame w t ts row rows f more) = frame width t (ts ++ line ∷ []) row rows f (lines_skip width ts rows line e more)
 
-lines-frame : (width : ℕ) (lines : List (List ℕ)) (rows : List PlanRow) (line : List ℕ) (last : PlanRow) → IsFrameLine width line last → AreLinesOfRows width lines rows → AreLinesOfRows width (lines ++ line ∷ []) (rows ++ last ∷ [])
-lines-frame width _ _ line last e (no_line w) = frame width line [] last [] e (no_line width)
-lines-frame width _ _ line last e (no_frame w t ts rows f more) = no_frame width t (ts ++ line ∷ []) (rows ++ last ∷ []) f (lines-frame width ts rows line last e more)
-lines-frame width _ _ line last e (frame w t ts row rows f more) = frame width t (ts ++ line ∷ []) row (rows ++ last ∷ []) f (lines-frame width ts rows line last e more)
+lines_frame : (width : ℕ) (lines : List (List ℕ)) (rows : List PlanRow) (line : List ℕ) (last : PlanRow) → IsFrameLine width line last → AreLinesOfRows width lines rows → AreLinesOfRows width (lines ++ line ∷ []) (rows ++ last ∷ [])
+lines_frame width _ _ line last e (no_line w) = frame width line [] last [] e (no_line width)
+lines_frame width _ _ line last e (no_frame w t ts rows f more) = no_frame width t (ts ++ line ∷ []) (rows ++ last ∷ []) f (lines_frame width ts rows line last e more)
+lines_frame width _ _ line last e (frame w t ts row rows f more) = frame width t (ts ++ line ∷ []) row (rows ++ last ∷ []) f (lines_frame width ts rows line last e more)
 
-apart-push : (rows : List PlanRow) (row : PlanRow) → AreApart rows → ¬ Contains (planned_addresses rows) row.far → AreApart (rows ++ row ∷ [])
-apart-push rows row apart new i j d lt h e =
+apart_push : (rows : List PlanRow) (row : PlanRow) → AreApart rows → ¬ Contains (planned_addresses rows) row.far → AreApart (rows ++ row ∷ [])
+apart_push rows row apart new i j d lt h e =
     let long = length_push rows row in
     elim (cases_order j (length rows)) [
       | inl last ↦
@@ -40,56 +40,56 @@ apart-push rows row apart new i j d lt h e =
       | inr (inr above) ↦ absurd (omega arith)
     ]
 
-pub good-next : (part : PartData) (lines : List (List ℕ)) (line : List ℕ) (rows new : List PlanRow) → AreGood part lines rows → TakesLine part line rows new → AreGood part (lines ++ line ∷ []) new
-good-next part lines line rows new good (inl same) =
+pub good_next : (part : PartData) (lines : List (List ℕ)) (line : List ℕ) (rows new : List PlanRow) → AreGood part lines rows → TakesLine part line rows new → AreGood part (lines ++ line ∷ []) new
+good_next part lines line rows new good (inl same) =
     subst (λ r. AreGood part (lines ++ line ∷ []) r) (sym same.1)
-    (record { read = lines-skip (frame_words part) lines rows line same.0 good.read; addresses = good.addresses; apart = good.apart })
-good-next part lines line rows new good (inr a) =
+    (record { read = lines_skip (frame_words part) lines rows line same.0 good.read; addresses = good.addresses; apart = good.apart })
+good_next part lines line rows new good (inr a) =
     subst (λ r. AreGood part (lines ++ line ∷ []) r) (sym a.rows)
     (record {
-      read = lines-frame (frame_words part) lines rows line a.row a.is good.read;
+      read = lines_frame (frame_words part) lines rows line a.row a.is good.read;
       addresses = All-push (λ r. Contains (addresses_in part) r.far) rows a.row good.addresses a.address;
-      apart = apart-push rows a.row good.apart a.apart;
+      apart = apart_push rows a.row good.apart a.apart;
     })
 
-pub no-rows-apart : AreApart []
-no-rows-apart i j d lt h e = absurd (omega arith)
+pub no_rows_apart : AreApart []
+no_rows_apart i j d lt h e = absurd (omega arith)
 
-pub no-rows-good : (part : PartData) → AreGood part [] []
-no-rows-good part = record { read = no_line (frame_words part); addresses = All-nil (λ r. Contains (addresses_in part) r.far); apart = no-rows-apart }
+pub no_rows_good : (part : PartData) → AreGood part [] []
+no_rows_good part = record { read = no_line (frame_words part); addresses = All-nil (λ r. Contains (addresses_in part) r.far); apart = no_rows_apart }
 
 -- what a line at fault tells of the text
-pub fault-of : (part : PartData) (text line : List ℕ) (rows : List PlanRow) (n : ℕ) (f : FramesFault) → ReachesLine part text n line rows → IsFaultAt part rows n line f → IsPlanOf part text (Err f)
-fault-of part text line rows n (fault.Line m) r h = (line, rows, subst (λ k. ReachesLine part text k line rows) (sym h.0) r, h.1)
-fault-of part text line rows n (fault.Address m) r h = (line, rows, subst (λ k. ReachesLine part text k line rows) (sym h.0) r, h.1)
-fault-of part text line rows n (fault.Twice m) r h = (line, rows, subst (λ k. ReachesLine part text k line rows) (sym h.0) r, h.1)
-fault-of part text line rows n fault.NoMemory r h = h
+pub fault_of : (part : PartData) (text line : List ℕ) (rows : List PlanRow) (n : ℕ) (f : FramesFault) → ReachesLine part text n line rows → IsFaultAt part rows n line f → IsPlanOf part text (Err f)
+fault_of part text line rows n (fault.Line m) r h = (line, rows, subst (λ k. ReachesLine part text k line rows) (sym h.0) r, h.1)
+fault_of part text line rows n (fault.Address m) r h = (line, rows, subst (λ k. ReachesLine part text k line rows) (sym h.0) r, h.1)
+fault_of part text line rows n (fault.Twice m) r h = (line, rows, subst (λ k. ReachesLine part text k line rows) (sym h.0) r, h.1)
+fault_of part text line rows n fault.NoMemory r h = h
 
-apart-takes : (part : PartData) (line : List ℕ) (rows new : List PlanRow) → AreApart rows → TakesLine part line rows new → AreApart new
-apart-takes part line rows new apart (inl same) = subst AreApart (sym same.1) apart
-apart-takes part line rows new apart (inr a) = subst AreApart (sym a.rows) (apart-push rows a.row apart a.apart)
+apart_takes : (part : PartData) (line : List ℕ) (rows new : List PlanRow) → AreApart rows → TakesLine part line rows new → AreApart new
+apart_takes part line rows new apart (inl same) = subst AreApart (sym same.1) apart
+apart_takes part line rows new apart (inr a) = subst AreApart (sym a.rows) (apart_push rows a.row apart a.apart)
 
-pub apart-taken : {A E : Type 0} (r : Result A E) (part : PartData) (line : List ℕ) (rows new : List PlanRow) → AreApart rows → OnOk r (TakesLine part line rows new) → OnErr r (new ≡ rows) → AreApart new
-apart-taken (Ok a) part line rows new apart takes same = apart-takes part line rows new apart takes
-apart-taken (Err e) part line rows new apart takes same = subst AreApart (sym same) apart
+pub apart_taken : {A E : Type 0} (r : Result A E) (part : PartData) (line : List ℕ) (rows new : List PlanRow) → AreApart rows → OnOk r (TakesLine part line rows new) → OnErr r (new ≡ rows) → AreApart new
+apart_taken (Ok a) part line rows new apart takes same = apart_takes part line rows new apart takes
+apart_taken (Err e) part line rows new apart takes same = subst AreApart (sym same) apart
 
 -- ---- marks
 
-rises-at : (least : ℕ) (xs : List ℕ) (i d : ℕ) → Rises least xs → i < length xs → least ≤ get_or xs i d
-rises-at least _ i d (risen l) h = absurd (omega arith)
-rises-at least _ zero d (rise l x xs le more) h = le
-rises-at least _ (suc i) d (rise l x xs le more) h = let k = rises-at (x + 1) xs i d more (omega arith) in omega arith
+rises_at : (least : ℕ) (xs : List ℕ) (i d : ℕ) → Rises least xs → i < length xs → least ≤ get_or xs i d
+rises_at least _ i d (risen l) h = absurd (omega arith)
+rises_at least _ zero d (rise l x xs le more) h = le
+rises_at least _ (suc i) d (rise l x xs le more) h = let k = rises_at (x + 1) xs i d more (omega arith) in omega arith
 
-rises-apart : (least : ℕ) (xs : List ℕ) (i j d : ℕ) → Rises least xs → i < length xs → j < length xs → get_or xs i d ≡ get_or xs j d → i ≡ j
-rises-apart least _ i j d (risen l) h k e = absurd (omega arith)
-rises-apart least _ zero zero d (rise l x xs le more) h k e = refl
-rises-apart least _ zero (suc j) d (rise l x xs le more) h k e = let low = rises-at (x + 1) xs j d more (omega arith) in absurd (omega arith)
-rises-apart least _ (suc i) zero d (rise l x xs le more) h k e = let low = rises-at (x + 1) xs i d more (omega arith) in absurd (omega arith)
-rises-apart least _ (suc i) (suc j) d (rise l x xs le more) h k e = ap suc (rises-apart (x + 1) xs i j d more (omega arith) (omega arith) e)
+rises_apart : (least : ℕ) (xs : List ℕ) (i j d : ℕ) → Rises least xs → i < length xs → j < length xs → get_or xs i d ≡ get_or xs j d → i ≡ j
+rises_apart least _ i j d (risen l) h k e = absurd (omega arith)
+rises_apart least _ zero zero d (rise l x xs le more) h k e = refl
+rises_apart least _ zero (suc j) d (rise l x xs le more) h k e = let low = rises_at (x + 1) xs j d more (omega arith) in absurd (omega arith)
+rises_apart least _ (suc i) zero d (rise l x xs le more) h k e = let low = rises_at (x + 1) xs i d more (omega arith) in absurd (omega arith)
+rises_apart least _ (suc i) (suc j) d (rise l x xs le more) h k e = ap suc (rises_apart (x + 1) xs i j d more (omega arith) (omega arith) e)
 
-pub marks-more : (part : PartData) (rows new : List PlanRow) (marks : List Bool) (r : ℕ) (row : PlanRow) → HasMarks part rows marks
+pub marks_more : (part : PartData) (rows new : List PlanRow) (marks : List Bool) (r : ℕ) (row : PlanRow) → HasMarks part rows marks
     → r < length (addresses_in part) → slice_index (addresses_in part) r ≡ row.far → new ≡ rows ++ row ∷ [] → HasMarks part new (set marks r true)
-marks-more part rows new marks r row has inside here e =
+marks_more part rows new marks r row has inside here e =
     subst (λ n. HasMarks part n (set marks r true)) (sym e) (record { order = has.order; long = length-set marks r true ∙ has.long; at = at })
   where
     more : planned_addresses (rows ++ row ∷ []) ≡ planned_addresses rows ++ row.far ∷ []
@@ -112,7 +112,7 @@ marks-more part rows new marks r row has inside here e =
                 λ y. subst (λ a. Contains a (slice_index (addresses_in part) q)) (sym more) (Contains-append_left (planned_addresses rows) (row.far ∷ []) (slice_index (addresses_in part) q) (iff.0 (sym old ∙ y))),
                 λ c. elim (Contains-push_cases (planned_addresses rows) row.far (slice_index (addresses_in part) q) (subst (λ a. Contains a (slice_index (addresses_in part) q)) more c)) [
                   | inl there ↦ old ∙ iff.1 there
-                  | inr last ↦ absurd (ne (rises-apart 0 (addresses_in part) q r 0 has.order (omega arith) inside (sym last ∙ sym here)))
+                  | inr last ↦ absurd (ne (rises_apart 0 (addresses_in part) q r 0 has.order (omega arith) inside (sym last ∙ sym here)))
                 ],
               )
         ]

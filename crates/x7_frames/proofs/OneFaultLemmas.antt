@@ -8,7 +8,7 @@ use Rattle.x7_memory.specs.Planned.{PlanRow}
 use Rattle.x7_frames.specs.FramesText.{AreGood, IsForeign, IsNoLine, IsPlanOf, IsRepeated, ReachesLine}
 use Rattle.x7_frames.specs.declared.fault.FramesFault.{FramesFault}
 use Rattle.x7_frames.specs.declared.fault.FramesFault.TheVariants as fault
-use Rattle.x7_frames.proofs.OneLemmas.{foreign-there, no-line-there, one-row, one-rows, repeated-there}
+use Rattle.x7_frames.proofs.OneLemmas.{foreign_there, no_line_there, one_row, one_rows, repeated_there}
 
 abbrev Lines : Type 0
 Lines = List (List ℕ)
@@ -29,14 +29,14 @@ begins (x ∷ before) after (y ∷ longer) later line other e less =
     record { between = rest.between; split = ap₂ (λ (l : List ℕ) (ls : Lines). l ∷ ls) (sym head) rest.split }
 
 -- as many lines before it: the same lines, and the same line
-same-lines : (before after others later : Lines) (line other : List ℕ) → before ++ line ∷ after ≡ others ++ other ∷ later → length before ≡ length others → (before ≡ others) × (line ≡ other)
-same-lines [] after [] later line other e long = (refl, (let head : line ≡ other = cc in head))
-same-lines [] after (y ∷ others) later line other e long = absurd (omega (arith, long))
-same-lines (x ∷ before) after [] later line other e long = absurd (omega (arith, long))
-same-lines (x ∷ before) after (y ∷ others) later line other e long =
+same_lines : (before after others later : Lines) (line other : List ℕ) → before ++ line ∷ after ≡ others ++ other ∷ later → length before ≡ length others → (before ≡ others) × (line ≡ other)
+same_lines [] after [] later line other e long = (refl, (let head : line ≡ other = cc in head))
+same_lines [] after (y ∷ others) later line other e long = absurd (omega (arith, long))
+same_lines (x ∷ before) after [] later line other e long = absurd (omega (arith, long))
+same_lines (x ∷ before) after (y ∷ others) later line other e long =
     let head : x ≡ y = cc in
     let tail : before ++ line ∷ after ≡ others ++ other ∷ later = cc in
-    let rest : (before ≡ others) × (line ≡ other) = same-lines before after others later line other tail (omega (arith, long)) in
+    let rest : (before ≡ others) × (line ≡ other) = same_lines before after others later line other tail (omega (arith, long)) in
     (ap₂ (λ (l : List ℕ) (ls : Lines). l ∷ ls) head rest.0, rest.1)
 
 -- ---- what is wrong with a line
@@ -67,29 +67,29 @@ finds part text fault.NoMemory h = absurd h
 
 -- a line at fault isn't among good lines
 never_good : (part : PartData) (before after : Lines) (line : List ℕ) (rows all : List PlanRow) → AreGood part before rows → AreGood part (before ++ line ∷ after) all → (f : FramesFault) → IsWrong part rows line f → ⊥
-never_good part before after line rows all good whole (fault.Line n) wrong = no-line-there part before after line rows all good whole wrong
-never_good part before after line rows all good whole (fault.Address n) wrong = foreign-there part before after line rows all good whole wrong
-never_good part before after line rows all good whole (fault.Twice n) wrong = repeated-there part before after line rows all good whole wrong
+never_good part before after line rows all good whole (fault.Line n) wrong = no_line_there part before after line rows all good whole wrong
+never_good part before after line rows all good whole (fault.Address n) wrong = foreign_there part before after line rows all good whole wrong
+never_good part before after line rows all good whole (fault.Twice n) wrong = repeated_there part before after line rows all good whole wrong
 never_good part before after line rows all good whole fault.NoMemory wrong = wrong
 
-foreign-or-repeated : (part : PartData) (rows : List PlanRow) (line : List ℕ) → IsForeign part line → IsRepeated part rows line → ⊥
-foreign-or-repeated part rows line f r =
-    let same : r.row ≡ f.row = one-row (frame_words part) line r.row f.row r.is f.is in
+foreign_or_repeated : (part : PartData) (rows : List PlanRow) (line : List ℕ) → IsForeign part line → IsRepeated part rows line → ⊥
+foreign_or_repeated part rows line f r =
+    let same : r.row ≡ f.row = one_row (frame_words part) line r.row f.row r.is f.is in
     f.foreign (subst (λ (row : PlanRow). Contains (addresses_in part) row.far) same r.address)
 
 -- one thing is wrong with a line
-one-kind : (part : PartData) (rows : List PlanRow) (line : List ℕ) (f g : FramesFault) → IsWrong part rows line f → IsWrong part rows line g → place_of f ≡ place_of g → f ≡ g
-one-kind part rows line (fault.Line n) (fault.Line m) a b e = ap fault.Line e
-one-kind part rows line (fault.Line n) (fault.Address m) a b e = absurd (a.no_frame b.row b.is)
-one-kind part rows line (fault.Line n) (fault.Twice m) a b e = absurd (a.no_frame b.row b.is)
-one-kind part rows line (fault.Address n) (fault.Line m) a b e = absurd (b.no_frame a.row a.is)
-one-kind part rows line (fault.Address n) (fault.Address m) a b e = ap fault.Address e
-one-kind part rows line (fault.Address n) (fault.Twice m) a b e = absurd (foreign-or-repeated part rows line a b)
-one-kind part rows line (fault.Twice n) (fault.Line m) a b e = absurd (b.no_frame a.row a.is)
-one-kind part rows line (fault.Twice n) (fault.Address m) a b e = absurd (foreign-or-repeated part rows line b a)
-one-kind part rows line (fault.Twice n) (fault.Twice m) a b e = ap fault.Twice e
-one-kind part rows line fault.NoMemory g a b e = absurd a
-one-kind part rows line f fault.NoMemory a b e = absurd b
+one_kind : (part : PartData) (rows : List PlanRow) (line : List ℕ) (f g : FramesFault) → IsWrong part rows line f → IsWrong part rows line g → place_of f ≡ place_of g → f ≡ g
+one_kind part rows line (fault.Line n) (fault.Line m) a b e = ap fault.Line e
+one_kind part rows line (fault.Line n) (fault.Address m) a b e = absurd (a.no_frame b.row b.is)
+one_kind part rows line (fault.Line n) (fault.Twice m) a b e = absurd (a.no_frame b.row b.is)
+one_kind part rows line (fault.Address n) (fault.Line m) a b e = absurd (b.no_frame a.row a.is)
+one_kind part rows line (fault.Address n) (fault.Address m) a b e = ap fault.Address e
+one_kind part rows line (fault.Address n) (fault.Twice m) a b e = absurd (foreign_or_repeated part rows line a b)
+one_kind part rows line (fault.Twice n) (fault.Line m) a b e = absurd (b.no_frame a.row a.is)
+one_kind part rows line (fault.Twice n) (fault.Address m) a b e = absurd (foreign_or_repeated part rows line b a)
+one_kind part rows line (fault.Twice n) (fault.Twice m) a b e = ap fault.Twice e
+one_kind part rows line fault.NoMemory g a b e = absurd a
+one_kind part rows line f fault.NoMemory a b e = absurd b
 
 -- ---- two faults
 
@@ -99,20 +99,20 @@ earlier part text f g a b less =
     let s : Begins a.reached.before b.reached.before a.line = begins a.reached.before a.reached.after b.reached.before b.reached.after a.line b.line e less in
     never_good part a.reached.before s.between a.line a.rows b.rows a.reached.good (subst (λ (ls : Lines). AreGood part ls b.rows) s.split b.reached.good) f a.wrong
 
-as-many : (part : PartData) (text : List ℕ) (f g : FramesFault) (a : Finds part text f) (b : Finds part text g) → length a.reached.before ≡ length b.reached.before → f ≡ g
-as-many part text f g a b long =
+as_many : (part : PartData) (text : List ℕ) (f g : FramesFault) (a : Finds part text f) (b : Finds part text g) → length a.reached.before ≡ length b.reached.before → f ≡ g
+as_many part text f g a b long =
     let e : a.reached.before ++ a.line ∷ a.reached.after ≡ b.reached.before ++ b.line ∷ b.reached.after = sym a.reached.texts ∙ b.reached.texts in
-    let same : (a.reached.before ≡ b.reached.before) × (a.line ≡ b.line) = same-lines a.reached.before a.reached.after b.reached.before b.reached.after a.line b.line e long in
-    let rows : a.rows ≡ b.rows = one-rows (frame_words part) a.reached.before b.reached.before a.rows b.rows same.0 a.reached.good.read b.reached.good.read in
+    let same : (a.reached.before ≡ b.reached.before) × (a.line ≡ b.line) = same_lines a.reached.before a.reached.after b.reached.before b.reached.after a.line b.line e long in
+    let rows : a.rows ≡ b.rows = one_rows (frame_words part) a.reached.before b.reached.before a.rows b.rows same.0 a.reached.good.read b.reached.good.read in
     let wrong : IsWrong part b.rows b.line f = subst (λ (r : List PlanRow). IsWrong part r b.line f) rows (subst (λ (l : List ℕ). IsWrong part a.rows l f) same.1 a.wrong) in
-    one-kind part b.rows b.line f g wrong b.wrong (a.reached.count ∙ ap (λ (n : ℕ). n + 1) long ∙ sym b.reached.count)
+    one_kind part b.rows b.line f g wrong b.wrong (a.reached.count ∙ ap (λ (n : ℕ). n + 1) long ∙ sym b.reached.count)
 
-pub one-fault : (part : PartData) (text : List ℕ) (f g : FramesFault) → IsPlanOf part text (Err f) → IsPlanOf part text (Err g) → f ≡ g
-one-fault part text f g h k =
+pub one_fault : (part : PartData) (text : List ℕ) (f g : FramesFault) → IsPlanOf part text (Err f) → IsPlanOf part text (Err g) → f ≡ g
+one_fault part text f g h k =
     let a : Finds part text f = finds part text f h in
     let b : Finds part text g = finds part text g k in
     elim (cases_order (length a.reached.before) (length b.reached.before)) [
-      | inl same ↦ as-many part text f g a b same
+      | inl same ↦ as_many part text f g a b same
       | inr (inl less) ↦ absurd (earlier part text f g a b less)
       | inr (inr more) ↦ absurd (earlier part text g f b a more)
     ]

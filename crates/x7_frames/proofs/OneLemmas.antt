@@ -12,7 +12,7 @@ use Rattle.x7_words.specs.Word.{words_of_bytes}
 use Rattle.x7_text.specs.DigitValue.{word_value}
 use Rattle.x7_text.specs.EitherCase.{pairs}
 use Rattle.x7_text.specs.Lines.{split}
-use Rattle.x7_text.proofs.ValueLemmas.{word-back}
+use Rattle.x7_text.proofs.ValueLemmas.{word_back}
 use Rattle.x7_part.specs.AddressOrder.{addresses_in}
 use Rattle.x7_part.specs.Part.{PartData, frame_words}
 use Rattle.x7_memory.specs.Planned.{PlanRow, PlanData, AreApart, AreInOrder}
@@ -22,36 +22,36 @@ use Rattle.x7_frames.specs.declared.fault.FramesFault.TheVariants as fault
 
 -- ---- a line has at most one row
 
-row-is : (a b : PlanRow) → a.far ≡ b.far → a.words ≡ b.words → a ≡ b
-row-is a b e f = ap₂ (λ (x : ℕ) (w : List ℕ). let r : PlanRow = record { far = x; words = w } in r) e f
+row_is : (a b : PlanRow) → a.far ≡ b.far → a.words ≡ b.words → a ≡ b
+row_is a b e f = ap₂ (λ (x : ℕ) (w : List ℕ). let r : PlanRow = record { far = x; words = w } in r) e f
 
-pub one-row : (width : ℕ) (line : List ℕ) (a b : PlanRow) → IsFrameLine width line a → IsFrameLine width line b → a ≡ b
-one-row width line a b is other =
+pub one_row : (width : ℕ) (line : List ℕ) (a b : PlanRow) → IsFrameLine width line a → IsFrameLine width line b → a ≡ b
+one_row width line a b is other =
     let e : frame_head a.far ++ is.digits ≡ frame_head b.far ++ other.digits = sym is.is ∙ other.is in
     let head : frame_head a.far ≡ frame_head b.far = same_prefix (frame_head a.far) (frame_head b.far) is.digits other.digits refl e in
-    let far : a.far ≡ b.far = sym (word-back a.far is.far) ∙ ap (λ (t : List ℕ). word_value (take 8 (drop 6 t))) head ∙ word-back b.far other.far in
+    let far : a.far ≡ b.far = sym (word_back a.far is.far) ∙ ap (λ (t : List ℕ). word_value (take 8 (drop 6 t))) head ∙ word_back b.far other.far in
     let digits : is.digits ≡ other.digits = ap (λ (t : List ℕ). drop 15 t) e in
     let bytes : is.bytes ≡ other.bytes = same_Some is.bytes other.bytes (sym is.read ∙ ap pairs digits ∙ other.read) in
-    row-is a b far (is.words ∙ ap words_of_bytes bytes ∙ sym other.words)
+    row_is a b far (is.words ∙ ap words_of_bytes bytes ∙ sym other.words)
 
-no-comment : (width : ℕ) (line : List ℕ) (row : PlanRow) → IsFrameLine width line row → means_nothing line ≡ true → ⊥
-no-comment width line row is e = false≢true (sym (ap means_nothing is.is) ∙ e)
+no_comment : (width : ℕ) (line : List ℕ) (row : PlanRow) → IsFrameLine width line row → means_nothing line ≡ true → ⊥
+no_comment width line row is e = false≢true (sym (ap means_nothing is.is) ∙ e)
 
-pub one-rows : (width : ℕ) (lines others : List (List ℕ)) (xs ys : List PlanRow) → lines ≡ others → AreLinesOfRows width lines xs → AreLinesOfRows width others ys → xs ≡ ys
-one-rows width _ _ _ _ e (no_line w) (no_line v) = refl
-one-rows width _ _ _ _ e (no_line w) (no_frame v t ts ys g rest) = absurd cc
-one-rows width _ _ _ _ e (no_line w) (frame v t ts b ys is rest) = absurd cc
-one-rows width _ _ _ _ e (no_frame w s ss xs f more) (no_line v) = absurd cc
-one-rows width _ _ _ _ e (no_frame w s ss xs f more) (no_frame v t ts ys g rest) =
-    let tail : ss ≡ ts = cc in one-rows width ss ts xs ys tail more rest
-one-rows width _ _ _ _ e (no_frame w s ss xs f more) (frame v t ts b ys is rest) =
-    let head : s ≡ t = cc in absurd (no-comment width t b is (ap means_nothing (sym head) ∙ f))
-one-rows width _ _ _ _ e (frame w s ss a xs is more) (no_line v) = absurd cc
-one-rows width _ _ _ _ e (frame w s ss a xs is more) (no_frame v t ts ys g rest) =
-    let head : s ≡ t = cc in absurd (no-comment width s a is (ap means_nothing head ∙ g))
-one-rows width _ _ _ _ e (frame w s ss a xs is more) (frame v t ts b ys it rest) =
+pub one_rows : (width : ℕ) (lines others : List (List ℕ)) (xs ys : List PlanRow) → lines ≡ others → AreLinesOfRows width lines xs → AreLinesOfRows width others ys → xs ≡ ys
+one_rows width _ _ _ _ e (no_line w) (no_line v) = refl
+one_rows width _ _ _ _ e (no_line w) (no_frame v t ts ys g rest) = absurd cc
+one_rows width _ _ _ _ e (no_line w) (frame v t ts b ys is rest) = absurd cc
+one_rows width _ _ _ _ e (no_frame w s ss xs f more) (no_line v) = absurd cc
+one_rows width _ _ _ _ e (no_frame w s ss xs f more) (no_frame v t ts ys g rest) =
+    let tail : ss ≡ ts = cc in one_rows width ss ts xs ys tail more rest
+one_rows width _ _ _ _ e (no_frame w s ss xs f more) (frame v t ts b ys is rest) =
+    let head : s ≡ t = cc in absurd (no_comment width t b is (ap means_nothing (sym head) ∙ f))
+one_rows width _ _ _ _ e (frame w s ss a xs is more) (no_line v) = absurd cc
+one_rows width _ _ _ _ e (frame w s ss a xs is more) (no_frame v t ts ys g rest) =
+    let head : s ≡ t = cc in absurd (no_comment width s a is (ap means_nothing head ∙ g))
+one_rows width _ _ _ _ e (frame w s ss a xs is more) (frame v t ts b ys it rest) =
     let head : s ≡ t = cc in let tail : ss ≡ ts = cc in
-    ap₂ (λ (x : PlanRow) (xs : List PlanRow). x ∷ xs) (one-row width t a b (subst (λ l. IsFrameLine width l a) head is) it) (one-rows width ss ts xs ys tail more rest)
+    ap₂ (λ (x : PlanRow) (xs : List PlanRow). x ∷ xs) (one_row width t a b (subst (λ l. IsFrameLine width l a) head is) it) (one_rows width ss ts xs ys tail more rest)
 
 -- ---- lines in two parts
 
@@ -74,11 +74,11 @@ parts width (t ∷ ts) second _ _ e (frame w s ss row rows is more) =
     let p = parts width ts second ss rows tail more in
     record { before = row ∷ p.before; after = p.after; joined = ap (λ x. row ∷ x) p.joined; prefix = frame width t ts row p.before (subst (λ l. IsFrameLine width l row) head is) p.prefix; back = p.back }
 
-first-line : (width : ℕ) (line : List ℕ) (more all : List (List ℕ)) (rows : List PlanRow) → all ≡ line ∷ more → AreLinesOfRows width all rows
+first_line : (width : ℕ) (line : List ℕ) (more all : List (List ℕ)) (rows : List PlanRow) → all ≡ line ∷ more → AreLinesOfRows width all rows
     → (means_nothing line ≡ true) ⊎ ((row : PlanRow) × (rest : List PlanRow) × (rows ≡ row ∷ rest) × IsFrameLine width line row)
-first-line width line more _ _ e (no_line w) = absurd cc
-first-line width line more _ _ e (no_frame w s ss rows f rest) = let head : s ≡ line = cc in inl (ap means_nothing (sym head) ∙ f)
-first-line width line more _ _ e (frame w s ss row rows is rest) = let head : s ≡ line = cc in inr (row, rows, refl, subst (λ l. IsFrameLine width l row) head is)
+first_line width line more _ _ e (no_line w) = absurd cc
+first_line width line more _ _ e (no_frame w s ss rows f rest) = let head : s ≡ line = cc in inl (ap means_nothing (sym head) ∙ f)
+first_line width line more _ _ e (frame w s ss row rows is rest) = let head : s ≡ line = cc in inr (row, rows, refl, subst (λ l. IsFrameLine width l row) head is)
 
 -- ---- a line at fault after good lines, and good lines that go on with it
 
@@ -86,60 +86,60 @@ module _ (part : PartData) (before after : List (List ℕ)) (line : List ℕ) (r
   in_parts : Parts (frame_words part) before (line ∷ after) all
   in_parts = parts (frame_words part) before (line ∷ after) (before ++ line ∷ after) all refl whole.read
 
-  same-rows : in_parts.before ≡ rows
-  same-rows = one-rows (frame_words part) before before in_parts.before rows refl in_parts.prefix good.read
+  same_rows : in_parts.before ≡ rows
+  same_rows = one_rows (frame_words part) before before in_parts.before rows refl in_parts.prefix good.read
 
   -- the line means nothing, or its row is after the others
-  next-row : (means_nothing line ≡ true) ⊎ ((row : PlanRow) × (rest : List PlanRow) × (all ≡ rows ++ row ∷ rest) × IsFrameLine (frame_words part) line row)
-  next-row =
-      elim (first-line (frame_words part) line after (line ∷ after) in_parts.after refl in_parts.back) [
+  next_row : (means_nothing line ≡ true) ⊎ ((row : PlanRow) × (rest : List PlanRow) × (all ≡ rows ++ row ∷ rest) × IsFrameLine (frame_words part) line row)
+  next_row =
+      elim (first_line (frame_words part) line after (line ∷ after) in_parts.after refl in_parts.back) [
         | inl nothing ↦ inl nothing
-        | inr r ↦ inr (r.0, r.1, in_parts.joined ∙ ap₂ (λ (x y : List PlanRow). x ++ y) same-rows r.2, r.3)
+        | inr r ↦ inr (r.0, r.1, in_parts.joined ∙ ap₂ (λ (x y : List PlanRow). x ++ y) same_rows r.2, r.3)
       ]
 
-  pub no-line-there : IsNoLine (frame_words part) line → ⊥
-  no-line-there n =
-      elim next-row [
+  pub no_line_there : IsNoLine (frame_words part) line → ⊥
+  no_line_there n =
+      elim next_row [
         | inl nothing ↦ false≢true (sym n.has_meaning ∙ nothing)
         | inr r ↦ n.no_frame r.0 r.3
       ]
 
-  pub foreign-there : IsForeign part line → ⊥
-  foreign-there f =
-      elim next-row [
-        | inl nothing ↦ no-comment (frame_words part) line f.row f.is nothing
+  pub foreign_there : IsForeign part line → ⊥
+  foreign_there f =
+      elim next_row [
+        | inl nothing ↦ no_comment (frame_words part) line f.row f.is nothing
         | inr r ↦
-            let same : r.0 ≡ f.row = one-row (frame_words part) line r.0 f.row r.3 f.is in
+            let same : r.0 ≡ f.row = one_row (frame_words part) line r.0 f.row r.3 f.is in
             let has : Contains (rows ++ r.0 ∷ r.1) r.0 = Contains-append_right rows (r.0 ∷ r.1) r.0 (0, (omega arith), refl) in
             let there : Contains (addresses_in part) r.0.far = All-contains (λ row. Contains (addresses_in part) row.far) (rows ++ r.0 ∷ r.1) r.0 (subst (λ x. All (λ row. Contains (addresses_in part) row.far) x) r.2 whole.addresses) has in
             f.foreign (subst (λ (row : PlanRow). Contains (addresses_in part) row.far) same there)
       ]
 
-  pub repeated-there : IsRepeated part rows line → ⊥
-  repeated-there f =
-      elim next-row [
-        | inl nothing ↦ no-comment (frame_words part) line f.row f.is nothing
+  pub repeated_there : IsRepeated part rows line → ⊥
+  repeated_there f =
+      elim next_row [
+        | inl nothing ↦ no_comment (frame_words part) line f.row f.is nothing
         | inr r ↦
-            let same : r.0 ≡ f.row = one-row (frame_words part) line r.0 f.row r.3 f.is in
+            let same : r.0 ≡ f.row = one_row (frame_words part) line r.0 f.row r.3 f.is in
             let apart : AreApart (rows ++ r.0 ∷ r.1) = subst (λ x. AreApart x) r.2 whole.apart in
             let k : ℕ = f.repeated.0 in
             let count = length-map rows (λ row. row.far) in
             let inside : k < length rows = let h = f.repeated.1 in omega arith in
-            let long = length-both rows r.0 r.1 in
+            let long = length_both rows r.0 r.1 in
             let early : (get_or (rows ++ r.0 ∷ r.1) k r.0).far ≡ f.row.far =
             ap (λ row. row.far) (get_or_append_left rows (r.0 ∷ r.1) r.0 k inside) ∙ sym (get_or-map (λ row. row.far) rows k r.0 f.row.far inside) ∙ f.repeated.2 in
             let late : (get_or (rows ++ r.0 ∷ r.1) (length rows) r.0).far ≡ f.row.far = ap (λ row. row.far) (get_or_at rows r.0 r.1 r.0 (length rows) refl) ∙ ap (λ row. row.far) same in
             apart k (length rows) r.0 inside (omega arith) (early ∙ sym late)
       ]
     where
-      length-both : (xs : List PlanRow) (y : PlanRow) (ys : List PlanRow) → length xs < length (xs ++ y ∷ ys)
-      length-both [] y ys = omega arith
-      length-both (x ∷ xs) y ys = let l = length-both xs y ys in omega arith
+      length_both : (xs : List PlanRow) (y : PlanRow) (ys : List PlanRow) → length xs < length (xs ++ y ∷ ys)
+      length_both [] y ys = omega arith
+      length_both (x ∷ xs) y ys = let l = length_both xs y ys in omega arith
 
 -- ---- plans of one text
 
-head-low : (x : PlanRow) (xs : List PlanRow) (k : ℕ) (d : PlanRow) → AreInOrder (x ∷ xs) → k < length xs → x.far < (get_or xs k d).far
-head-low x xs k d order h = order 0 (suc k) d (omega arith) (omega arith)
+head_low : (x : PlanRow) (xs : List PlanRow) (k : ℕ) (d : PlanRow) → AreInOrder (x ∷ xs) → k < length xs → x.far < (get_or xs k d).far
+head_low x xs k d order h = order 0 (suc k) d (omega arith) (omega arith)
 
 -- an element of one that is no head is after the other's head
 behind : (x y : PlanRow) (ys : List PlanRow) → Contains (y ∷ ys) x → (x.far ≡ y.far → ⊥) → Contains ys x
@@ -147,40 +147,40 @@ behind x y ys (zero, h, e) n = absurd (n (ap (λ r. r.far) (sym e)))
 behind x y ys (suc k, h, e) n = (k, (omega arith), e)
 
 -- the head of one list is not below that of the other
-not-below : (x y : PlanRow) (ys : List PlanRow) → AreInOrder (y ∷ ys) → Contains (y ∷ ys) x → y.far ≤ x.far
-not-below x y ys order (zero, h, e) = let same = ap (λ r. r.far) e in omega arith
-not-below x y ys order (suc k, h, e) = let low = head-low y ys k x order (omega arith) in let same = ap (λ r. r.far) e in omega arith
+not_below : (x y : PlanRow) (ys : List PlanRow) → AreInOrder (y ∷ ys) → Contains (y ∷ ys) x → y.far ≤ x.far
+not_below x y ys order (zero, h, e) = let same = ap (λ r. r.far) e in omega arith
+not_below x y ys order (suc k, h, e) = let low = head_low y ys k x order (omega arith) in let same = ap (λ r. r.far) e in omega arith
 
-is-head : (x y : PlanRow) (ys : List PlanRow) → AreInOrder (y ∷ ys) → Contains (y ∷ ys) x → x.far ≡ y.far → x ≡ y
-is-head x y ys order (zero, h, e) f = sym e
-is-head x y ys order (suc k, h, e) f = let low = head-low y ys k x order (omega arith) in let same = ap (λ r. r.far) e in absurd (omega arith)
+is_head : (x y : PlanRow) (ys : List PlanRow) → AreInOrder (y ∷ ys) → Contains (y ∷ ys) x → x.far ≡ y.far → x ≡ y
+is_head x y ys order (zero, h, e) f = sym e
+is_head x y ys order (suc k, h, e) f = let low = head_low y ys k x order (omega arith) in let same = ap (λ r. r.far) e in absurd (omega arith)
 
-pub same-order : (xs ys : List PlanRow) → AreInOrder xs → AreInOrder ys → All (Contains ys) xs → All (Contains xs) ys → xs ≡ ys
-same-order [] [] a b f g = refl
-same-order [] (y ∷ ys) a b f g = let h = g 0 y (omega arith) in absurd (let k = h.1 in omega arith)
-same-order (x ∷ xs) [] a b f g = let h = f 0 x (omega arith) in absurd (let k = h.1 in omega arith)
-same-order (x ∷ xs) (y ∷ ys) a b f g =
-    let up = not-below x y ys b (f 0 x (omega arith)) in
-    let down = not-below y x xs a (g 0 y (omega arith)) in
+pub same_order : (xs ys : List PlanRow) → AreInOrder xs → AreInOrder ys → All (Contains ys) xs → All (Contains xs) ys → xs ≡ ys
+same_order [] [] a b f g = refl
+same_order [] (y ∷ ys) a b f g = let h = g 0 y (omega arith) in absurd (let k = h.1 in omega arith)
+same_order (x ∷ xs) [] a b f g = let h = f 0 x (omega arith) in absurd (let k = h.1 in omega arith)
+same_order (x ∷ xs) (y ∷ ys) a b f g =
+    let up = not_below x y ys b (f 0 x (omega arith)) in
+    let down = not_below y x xs a (g 0 y (omega arith)) in
     let far : x.far ≡ y.far = omega arith in
-    let head : x ≡ y = is-head x y ys b (f 0 x (omega arith)) far in
-    let tails : xs ≡ ys = same-order xs ys (order_tail x xs a) (order_tail y ys b)
-    (λ k d h. behind (get_or xs k d) y ys (f (suc k) d (omega arith)) (λ e. let low = head-low x xs k d a h in absurd (omega arith)))
-    (λ k d h. behind (get_or ys k d) x xs (g (suc k) d (omega arith)) (λ e. let low = head-low y ys k d b h in absurd (omega arith))) in
+    let head : x ≡ y = is_head x y ys b (f 0 x (omega arith)) far in
+    let tails : xs ≡ ys = same_order xs ys (order_tail x xs a) (order_tail y ys b)
+    (λ k d h. behind (get_or xs k d) y ys (f (suc k) d (omega arith)) (λ e. let low = head_low x xs k d a h in absurd (omega arith)))
+    (λ k d h. behind (get_or ys k d) x xs (g (suc k) d (omega arith)) (λ e. let low = head_low y ys k d b h in absurd (omega arith))) in
     ap₂ (λ (r : PlanRow) (rs : List PlanRow). r ∷ rs) head tails
 
-pub one-plan : (part : PartData) (text : List ℕ) (p q : PlanData) → Plans part text p → Plans part text q → p ≡ q
-one-plan part text p q a b =
-    let rows : a.rows ≡ b.rows = one-rows (frame_words part) (split text) (split text) a.rows b.rows refl a.good.read b.good.read in
+pub one_plan : (part : PartData) (text : List ℕ) (p q : PlanData) → Plans part text p → Plans part text q → p ≡ q
+one_plan part text p q a b =
+    let rows : a.rows ≡ b.rows = one_rows (frame_words part) (split text) (split text) a.rows b.rows refl a.good.read b.good.read in
     let same : IsPermutation p.rows q.rows = IsPermutation-trans p.rows a.rows q.rows (IsPermutation-sym a.rows p.rows a.same) (subst (λ r. IsPermutation r q.rows) (sym rows) b.same) in
-    let e : p.rows ≡ q.rows = same-order p.rows q.rows a.is.order b.is.order
+    let e : p.rows ≡ q.rows = same_order p.rows q.rows a.is.order b.is.order
     (All-permutation (Contains q.rows) q.rows p.rows (IsPermutation-sym p.rows q.rows same) (All-contains_itself q.rows))
     (All-permutation (Contains p.rows) p.rows q.rows same (All-contains_itself p.rows)) in
     ap₂ (λ (w : ℕ) (r : List PlanRow). let plan : PlanData = record { width = w; rows = r } in plan) (a.width ∙ sym b.width) e
 
 -- a text that has a plan has no fault
-pub no-fault : (part : PartData) (text : List ℕ) (p : PlanData) (f : FramesFault) → Plans part text p → IsPlanOf part text (Err f) → ⊥
-no-fault part text p (fault.Line n) a (line, rows, r, bad) = no-line-there part r.before r.after line rows a.rows r.good (subst (λ t. AreGood part t a.rows) r.texts a.good) bad
-no-fault part text p (fault.Address n) a (line, rows, r, bad) = foreign-there part r.before r.after line rows a.rows r.good (subst (λ t. AreGood part t a.rows) r.texts a.good) bad
-no-fault part text p (fault.Twice n) a (line, rows, r, bad) = repeated-there part r.before r.after line rows a.rows r.good (subst (λ t. AreGood part t a.rows) r.texts a.good) bad
-no-fault part text p fault.NoMemory a h = h
+pub no_fault : (part : PartData) (text : List ℕ) (p : PlanData) (f : FramesFault) → Plans part text p → IsPlanOf part text (Err f) → ⊥
+no_fault part text p (fault.Line n) a (line, rows, r, bad) = no_line_there part r.before r.after line rows a.rows r.good (subst (λ t. AreGood part t a.rows) r.texts a.good) bad
+no_fault part text p (fault.Address n) a (line, rows, r, bad) = foreign_there part r.before r.after line rows a.rows r.good (subst (λ t. AreGood part t a.rows) r.texts a.good) bad
+no_fault part text p (fault.Twice n) a (line, rows, r, bad) = repeated_there part r.before r.after line rows a.rows r.good (subst (λ t. AreGood part t a.rows) r.texts a.good) bad
+no_fault part text p fault.NoMemory a h = h

@@ -12,9 +12,9 @@ use Rattle.x7_memory.specs.Planned.{PlanRow}
 abbrev AreFrom : ℕ → List PlanRow → Type 0
 AreFrom n rows = AllByRecursion (λ r. n ≤ r.far) rows
 
-from-less : (n m : ℕ) (rows : List PlanRow) → n ≤ m → AreFrom m rows → AreFrom n rows
-from-less n m [] l h = tt
-from-less n m (r ∷ rows) l h = (omega (arith, l, h.0), from-less n m rows l h.1)
+from_less : (n m : ℕ) (rows : List PlanRow) → n ≤ m → AreFrom m rows → AreFrom n rows
+from_less n m [] l h = tt
+from_less n m (r ∷ rows) l h = (omega (arith, l, h.0), from_less n m rows l h.1)
 
 -- no row has an address below that of one before it
 abbrev Rising : List PlanRow → Type 0
@@ -41,24 +41,24 @@ later row s rows less low p = record {
   from = λ n l h. (h.0, p.from n l h.1);
 }
 
-put-in : (row : PlanRow) (rows : List PlanRow) → Rising rows → PutIn row rows
-put-in row [] h = first row [] tt tt
-put-in row (s ∷ rows) h = by (put-in row rows h.1) (cases_order s.far row.far)
+put_in : (row : PlanRow) (rows : List PlanRow) → Rising rows → PutIn row rows
+put_in row [] h = first row [] tt tt
+put_in row (s ∷ rows) h = by (put_in row rows h.1) (cases_order s.far row.far)
   where
     before : row.far ≤ s.far → PutIn row (s ∷ rows)
-    before l = first row (s ∷ rows) (l, from-less row.far s.far rows l h.0) h
+    before l = first row (s ∷ rows) (l, from_less row.far s.far rows l h.0) h
 
     by : PutIn row rows → (s.far ≡ row.far) ⊎ ((s.far < row.far) ⊎ (row.far < s.far)) → PutIn row (s ∷ rows)
     by rest (inl e) = before (omega (arith, e))
     by rest (inr (inl l)) = later row s rows l h.0 rest
     by rest (inr (inr g)) = before (omega (arith, g))
 
-rising-sorted : (rows : List PlanRow) → Rising rows → IsNonDecreasingBy (λ r. r.far) rows
-rising-sorted [] h i j d k l = absurd (omega (arith, l))
-rising-sorted (r ∷ rows) h zero zero d k l = omega arith
-rising-sorted (r ∷ rows) h zero (suc j) d k l = All-from_recursion (λ s. r.far ≤ s.far) rows h.0 j d (omega (arith, l))
-rising-sorted (r ∷ rows) h (suc i) zero d k l = absurd (omega (arith, k))
-rising-sorted (r ∷ rows) h (suc i) (suc j) d k l = rising-sorted rows h.1 i j d (omega (arith, k)) (omega (arith, l))
+rising_sorted : (rows : List PlanRow) → Rising rows → IsNonDecreasingBy (λ r. r.far) rows
+rising_sorted [] h i j d k l = absurd (omega (arith, l))
+rising_sorted (r ∷ rows) h zero zero d k l = omega arith
+rising_sorted (r ∷ rows) h zero (suc j) d k l = All-from_recursion (λ s. r.far ≤ s.far) rows h.0 j d (omega (arith, l))
+rising_sorted (r ∷ rows) h (suc i) zero d k l = absurd (omega (arith, k))
+rising_sorted (r ∷ rows) h (suc i) (suc j) d k l = rising_sorted rows h.1 i j d (omega (arith, k)) (omega (arith, l))
 
 record Ordered (rows : List PlanRow) : Type 0 where
   all : List PlanRow
@@ -69,7 +69,7 @@ ordered : (rows : List PlanRow) → Ordered rows
 ordered [] = record { all = []; same = IsPermutation-refl []; rising = tt }
 ordered (r ∷ rows) =
     let o = ordered rows in
-    let p = put-in r o.all o.rising in
+    let p = put_in r o.all o.rising in
     record { all = p.all; same = IsPermutation-trans (r ∷ rows) (r ∷ o.all) p.all (IsPermutation-cons r rows o.all o.same) p.same; rising = p.rising }
 
 -- the rows of a list in the order of their addresses
@@ -78,5 +78,5 @@ pub record HasSorted (rows : List PlanRow) : Type 0 where
   pub same : IsPermutation rows sorted
   pub rises : IsNonDecreasingBy (λ r. r.far) sorted
 
-pub has-sorted : (rows : List PlanRow) → HasSorted rows
-has-sorted rows = let o = ordered rows in record { sorted = o.all; same = o.same; rises = rising-sorted o.all o.rising }
+pub has_sorted : (rows : List PlanRow) → HasSorted rows
+has_sorted rows = let o = ordered rows in record { sorted = o.all; same = o.same; rises = rising_sorted o.all o.rising }

@@ -5,7 +5,7 @@ use Rattle.std.proofs.lemmas.Bool.Decides.{Decides-eqb}
 use Rattle.std.proofs.lemmas.Slice.Eq.{starts_is}
 use Rattle.std.specs.List.{AllByRecursion, starts_with}
 use Rattle.x7_words.specs.Word.{AreBytes}
-use Rattle.x7_words.proofs.ListLemmas.{all-append, all_front, all_back}
+use Rattle.x7_words.proofs.ListLemmas.{all_append, all_prefix, all_back}
 use Rattle.x7_header.specs.Header.{fixed_bytes, Kind, Field, layout, Holds, Hold, HasOtherLetterAt, EndsInHeader, bytes_of_count, field_bytes, fields_bytes, Contents, header_bytes}
 use Rattle.x7_header.specs.Reading.{◌>>=◌, letter_at, content_at, field_at, fields_at, contents_from, layout_at, header_at, ReturnsAs}
 use Rattle.x7_header.specs.declared.fault.HeaderFault.{HeaderFault}
@@ -55,7 +55,7 @@ content_ends total place Kind.Four bytes f e =
       next = 0;
       missing = more;
       holds = filled_long bytes 4 h;
-      content_are = all-append (λ c. c < 256) bytes (0 ∷ more) f fits;
+      content_are = all_append (λ c. c < 256) bytes (0 ∷ more) f fits;
       goes_on = refl;
       missing_are = fits;
     }
@@ -85,7 +85,7 @@ content_ends total place Kind.Counted (high ∷ low ∷ bytes) f e =
       next = 0;
       missing = more;
       holds = n.2;
-      content_are = all-append (λ c. c < 256) bytes (0 ∷ more) f.1.1 fits;
+      content_are = all_append (λ c. c < 256) bytes (0 ∷ more) f.1.1 fits;
       goes_on = two_and (length content / 256) (length content % 256) high low content content (sym n.0) (sym n.1) refl;
       missing_are = fits;
     }
@@ -137,7 +137,7 @@ blank_fields (field ∷ fields) l =
       contents = blank field.kind ∷ others.contents;
       hold = (b.0, others.hold);
       contents_are = (b.1, others.contents_are);
-      bytes_are = (l.0, all-append (λ c. c < 256) (bytes_of_count field.kind (blank field.kind) ++ blank field.kind) (fields_bytes fields others.contents) b.2 others.bytes_are);
+      bytes_are = (l.0, all_append (λ c. c < 256) (bytes_of_count field.kind (blank field.kind) ++ blank field.kind) (fields_bytes fields others.contents) b.2 others.bytes_are);
     }
 
 letter_no_cut : (bytes : List ℕ) (at place : ℕ) (b : Bool) → cond b (done bytes) (Err (fault.Field at)) ≡ Err (fault.Cut place) → ⊥
@@ -172,7 +172,7 @@ field_ends total place field bytes l f e =
 
 content_fits : (field : Field) (content rest : List ℕ) → AreBytes (field_bytes field content ++ rest) → AreBytes content
 content_fits field content rest f =
-    all_back (λ c. c < 256) (field.letter ∷ bytes_of_count field.kind content) content (all_front (λ c. c < 256) (field_bytes field content) rest f)
+    all_back (λ c. c < 256) (field.letter ∷ bytes_of_count field.kind content) content (all_prefix (λ c. c < 256) (field_bytes field content) rest f)
 
 fields_end : (total place : ℕ) (fields : List Field) (bytes : List ℕ) → HaveLetters fields → AreBytes bytes → fields_at total fields bytes ≡ Err (fault.Cut place) → FieldsGoOn fields bytes
 unfolding fields_at
@@ -190,7 +190,7 @@ fields_end total place (field ∷ fields) bytes l f e =
             hold = (w.holds, others.hold);
             contents_are = (w.content_are, others.contents_are);
             goes_on = ap (λ r. r ++ more) w.goes_on ∙ append_assoc bytes (w.next ∷ w.missing) more;
-            missing_are = all-append (λ c. c < 256) (w.next ∷ w.missing) more w.missing_are others.bytes_are;
+            missing_are = all_append (λ c. c < 256) (w.next ∷ w.missing) more w.missing_are others.bytes_are;
           }
       | inr there ↦
           let t = field_takes total field bytes there.0 f there.1 in

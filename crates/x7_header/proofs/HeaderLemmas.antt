@@ -7,9 +7,9 @@ use Rattle.std.proofs.lemmas.Bool.Decides.{Decides-eqb}
 use Rattle.std.proofs.lemmas.Slice.Eq.{starts_is}
 use Rattle.std.specs.List.{AllByRecursion, starts_with}
 use Rattle.x7_words.specs.Word.{AreBytes, bytes_of_word, word_of_bytes}
-use Rattle.x7_words.proofs.ListLemmas.{all_front, all_back}
-use Rattle.x7_words.proofs.WordLemmas.{bytes-words, words-fit}
-use Rattle.x7_words.proofs.WordLemmas.{word-whole}
+use Rattle.x7_words.proofs.ListLemmas.{all_prefix, all_back}
+use Rattle.x7_words.proofs.WordLemmas.{bytes_words, words_fit}
+use Rattle.x7_words.proofs.WordLemmas.{word_whole}
 use Rattle.x7_header.specs.Header.{fixed_bytes, Kind, Field, layout, Holds, Hold, HasOtherLetter, HasOtherLetterAt, bytes_of_count, field_bytes, fields_bytes, Contents, contents_in_order, HaveHeader, header_bytes}
 use Rattle.x7_header.specs.Reading.{◌>>=◌, letter_at, bytes_at, content_at, field_at, fields_at, contents_from, fixed_at, layout_at, header_at, ReturnsAs}
 use Rattle.x7_header.specs.declared.fault.HeaderFault.{HeaderFault}
@@ -60,7 +60,7 @@ pub header_again : (x : Contents) (rest : List ℕ) → HaveHeader x → header_
 unfolding header_at layout_at
 header_again x rest h =
     let size : length (header_bytes x ++ rest) - length rest ≡ length (header_bytes x) = omega (arith, length-append (header_bytes x) rest) in
-    rw (fields_again (length (header_bytes x ++ rest)) layout (contents_in_order x) rest (h.a, (h.b, (h.c, (h.d, (refl, tt))))), size, word-whole x.data_length h.data_length) refl
+    rw (fields_again (length (header_bytes x ++ rest)) layout (contents_in_order x) rest (h.a, (h.b, (h.c, (h.d, (refl, tt))))), size, word_whole x.data_length h.data_length) refl
 
 abbrev pub done : {A : Type 0} → A → Result A HeaderFault
 done x = Ok x
@@ -149,7 +149,7 @@ fields_take total (field ∷ fields) bytes x f e =
     subst (Take (field ∷ fields) bytes) (ok_is made x b.2) (record {
       parts = first.0 ∙ ap (λ (r : List ℕ). field_bytes field a.0.0 ++ r) others.parts ∙ sym (append_assoc (field_bytes field a.0.0) (fields_bytes fields b.0.0) b.0.1);
       hold = (first.1, others.hold);
-      fit = (all_front (λ c. c < 256) a.0.0 a.0.1 content, others.fit);
+      fit = (all_prefix (λ c. c < 256) a.0.0 a.0.1 content, others.fit);
     })
 
 -- the word of four bytes has these bytes
@@ -159,7 +159,7 @@ four_again (a ∷ []) f l = absurd (omega (arith, l))
 four_again (a ∷ b ∷ []) f l = absurd (omega (arith, l))
 four_again (a ∷ b ∷ c ∷ []) f l = absurd (omega (arith, l))
 four_again (a ∷ b ∷ c ∷ d ∷ x ∷ more) f l = absurd (omega (arith, l))
-four_again (a ∷ b ∷ c ∷ d ∷ []) f l = (bytes-words (a ∷ b ∷ c ∷ d ∷ []) 1 f refl, (words-fit (a ∷ b ∷ c ∷ d ∷ []) f).0)
+four_again (a ∷ b ∷ c ∷ d ∷ []) f l = (bytes_words (a ∷ b ∷ c ∷ d ∷ []) 1 f refl, (words_fit (a ∷ b ∷ c ∷ d ∷ []) f).0)
 
 -- fields that hold what the layout's can are those of a head
 pub record FromHead (contents : List (List ℕ)) : Type 0 where

@@ -20,9 +20,9 @@ unfolding field_at
 has_letter total place first field bytes e = letter_by (total - length (first ∷ bytes)) place bytes (content_at total field.kind) (nat_eq first field.letter) e
 
 -- after its letter a field is its content
-behind_letter : (total first : ℕ) (field : Field) (bytes : List ℕ) → nat_eq first field.letter ≡ true → field_at total field (first ∷ bytes) ≡ content_at total field.kind bytes
+after_letter : (total first : ℕ) (field : Field) (bytes : List ℕ) → nat_eq first field.letter ≡ true → field_at total field (first ∷ bytes) ≡ content_at total field.kind bytes
 unfolding field_at
-behind_letter total first field bytes e = rw e refl
+after_letter total first field bytes e = rw e refl
 
 -- this many bytes are not there
 bytes_short : (total count : ℕ) (bytes more : List ℕ) → length more < count - length bytes → bytes_at total count (bytes ++ more) ≡ Err (fault.Cut total)
@@ -48,20 +48,20 @@ pub text_waits : (letter total place : ℕ) (bytes : List ℕ) → field_at tota
 text_waits letter total place [] e = none_waits (record { letter = letter; kind = Kind.Counted })
 text_waits letter total place (first ∷ []) e = λ all more h.
     let field : Field = record { letter = letter; kind = Kind.Counted } in
-    behind_letter all first field more (has_letter total place first field [] e) ∙ count_waits all more h
+    after_letter all first field more (has_letter total place first field [] e) ∙ count_waits all more h
 text_waits letter total place (first ∷ high ∷ []) e = λ all more h.
     let field : Field = record { letter = letter; kind = Kind.Counted } in
-    behind_letter all first field (high ∷ more) (has_letter total place first field (high ∷ []) e) ∙ low_waits all high more h
+    after_letter all first field (high ∷ more) (has_letter total place first field (high ∷ []) e) ∙ low_waits all high more h
 text_waits letter total place (first ∷ high ∷ low ∷ bytes) e = λ all more h.
     let field : Field = record { letter = letter; kind = Kind.Counted } in
-    behind_letter all first field (high ∷ low ∷ (bytes ++ more)) (has_letter total place first field (high ∷ low ∷ bytes) e) ∙ bytes_short all (high * 256 + low) bytes more h
+    after_letter all first field (high ∷ low ∷ (bytes ++ more)) (has_letter total place first field (high ∷ low ∷ bytes) e) ∙ bytes_short all (high * 256 + low) bytes more h
 
 pub number_waits : (letter total place : ℕ) (bytes : List ℕ) → field_at total (record { letter = letter; kind = Kind.Four }) bytes ≡ Err (fault.Cut place) →
     FieldWaits (record { letter = letter; kind = Kind.Four }) bytes (number_lacks bytes)
 number_waits letter total place [] e = none_waits (record { letter = letter; kind = Kind.Four })
 number_waits letter total place (first ∷ bytes) e = λ all more h.
     let field : Field = record { letter = letter; kind = Kind.Four } in
-    behind_letter all first field (bytes ++ more) (has_letter total place first field bytes e) ∙ bytes_short all 4 bytes more h
+    after_letter all first field (bytes ++ more) (has_letter total place first field bytes e) ∙ bytes_short all 4 bytes more h
 
 -- what an error that is handed on has
 pub err_has : {X E : Type 0} (P : E → Type 0) (result : Result X E) (e : E) → IsErr result → IsErrAnd result (λ d. d ≡ e) → P e → IfErr result P

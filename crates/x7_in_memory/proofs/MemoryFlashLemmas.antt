@@ -9,8 +9,8 @@ use Rattle.x7_words.specs.Flash.{replaced, AsksFor, IsTorn, Elapses, FlashStays,
 use Rattle.x7_in_memory.specs.Memory.{FlashInMemory, PastWrite, WriteRecord, left_by, write_refused, next_tear, latest_tear, write_fails_in, known_flash, names_asked, seen_in, after_attach, after_read_at, flash_fails, begun, after_refusal, after_tear, after_tearing, after_write_of, recorded, has_room}
 use Rattle.x7_in_memory.specs.Past.{FoundSince}
 use Rattle.x7_words.proofs.CountLemmas.{raised_risen}
-use Rattle.x7_words.proofs.FlashLemmas.{get_or-slice_range, old_is_torn}
-use Rattle.x7_in_memory.proofs.TornLemmas.{left_is_torn, left_back, length-left_in}
+use Rattle.x7_words.proofs.FlashLemmas.{get_or_slice_range, old_is_torn}
+use Rattle.x7_in_memory.proofs.TornLemmas.{left_is_torn, left_back, length_left_in}
 use Rattle.x7_in_memory.proofs.PastLemmas.{passes_more, passes_none}
 use Rattle.x7_words.specs.declared.input.Failed.{Failed as FailedWrite}
 
@@ -159,7 +159,7 @@ module _ (old new : FlashInMemory) (place : ℕ) (target : List ℕ) (within : p
         passes = tells_passes (is_err answer) w;
         failed = failed answer w;
         attached = tells_same (λ f. f.attached) refl (λ tear. refl) (is_err answer) w;
-        extent = tells_same (λ f. length f.bytes) refl (λ tear. length-left_in tear place target old.bytes within) (is_err answer) w;
+        extent = tells_same (λ f. length f.bytes) refl (λ tear. length_left_in tear place target old.bytes within) (is_err answer) w;
         faults = tells_same (λ f. f.read_faults) refl (λ tear. refl) (is_err answer) w;
         absences = tells_same (λ f. f.absences) refl (λ tear. refl) (is_err answer) w;
         names = tells_same names_asked refl (λ tear. refl) (is_err answer) w;
@@ -244,7 +244,7 @@ module _ (old new : FlashInMemory) (place count : ℕ) (e : new ≡ after_read_a
   read_seen read long works is i h = subst (λ (n : FlashInMemory). IsTrue (seen_in n (place + i) (get_or read i 0))) (sym e) (between (flash_fails old) works)
     where
       same : get_or read i 0 ≡ get_or old.bytes (place + i) 0
-      same = ap (λ b. get_or b i 0) is ∙ get_or-slice_range old.bytes place count i (omega (arith, h, long))
+      same = ap (λ b. get_or b i 0) is ∙ get_or_slice_range old.bytes place count i (omega (arith, h, long))
 
       between : (fails : Bool) → fails ≡ false
           → IsTrue (nat_le (cond fails old.seen_from (min old.seen_from place)) (place + i) && (nat_lt (place + i) (cond fails old.seen_to (max old.seen_to (place + count))) && (get_or read i 0 == get_or old.bytes (place + i) 0)))

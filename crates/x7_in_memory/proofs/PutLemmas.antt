@@ -47,12 +47,12 @@ place_none : (n l : ℕ) → (if nat_lt n l then Some n else None) ≡ None → 
 place_none n l e = grind (arith, common_steps)
 
 -- what stands at the first place of the name is what is under the name
-pub bytes_under-position : (puts : List Put) (name : List ℕ) (place : Option ℕ) → place ≡ position (λ put. bytes_eq (string_bytes put.name) name) puts →
+pub bytes_under_position : (puts : List Put) (name : List ℕ) (place : Option ℕ) → place ≡ position (λ put. bytes_eq (string_bytes put.name) name) puts →
     (is_none place ≡ is_none (bytes_under (map entry_of puts) name)) × (left_of puts 0 place ≡ bytes_under (map entry_of puts) name)
-bytes_under-position puts name None e =
+bytes_under_position puts name None e =
     let none = absent_from puts name (place_none (count_before puts name) (length puts) (sym e)) in
     (rw none refl, sym none)
-bytes_under-position puts name (Some which) e =
+bytes_under_position puts name (Some which) e =
     let at = place_some (count_before puts name) (length puts) which (sym e) in
     let h = found_from puts name at.0 in
     (rw h.1.0 refl, rw (← at.1) (h.1.1 ∙ sym h.1.0))
@@ -70,12 +70,12 @@ name_from (put ∷ puts) name h =
     name_at put puts name (count_before puts name) (bytes_eq (string_bytes put.name) name) refl (name_from puts name) h
 
 -- the name at the first place of the name is the name
-pub name_under-position : (puts : List Put) (name : List ℕ) (place : Option ℕ) → place ≡ position (λ put. bytes_eq (string_bytes put.name) name) puts →
+pub name_under_position : (puts : List Put) (name : List ℕ) (place : Option ℕ) → place ≡ position (λ put. bytes_eq (string_bytes put.name) name) puts →
     name_of puts place ≡ name_under (map entry_of puts) name
-name_under-position puts name None e =
+name_under_position puts name None e =
     let none = absent_from puts name (place_none (count_before puts name) (length puts) (sym e)) in
     rw none refl
-name_under-position puts name (Some which) e =
+name_under_position puts name (Some which) e =
     let at = place_some (count_before puts name) (length puts) which (sym e) in
     let h = found_from puts name at.0 in
     rw h.1.0 (ap (λ n. name_of puts (Some n)) (sym at.1) ∙ name_from puts name at.0)
@@ -86,24 +86,24 @@ got (x ∷ xs) zero d h = refl
 got (x ∷ xs) (suc i) d h = got xs i d (omega arith)
 
 -- what is left of the one that was read
-pub left_of-at : (puts : List Put) (place which : ℕ) (put : Put) (left : List ℕ) → which < length puts → left ≡ drop place (get_or puts which put).bytes.items → left_of puts place (Some which) ≡ Some left
-left_of-at puts place which put left h e = rw (got puts which put h, e) refl
+pub left_of_at : (puts : List Put) (place which : ℕ) (put : Put) (left : List ℕ) → which < length puts → left ≡ drop place (get_or puts which put).bytes.items → left_of puts place (Some which) ≡ Some left
+left_of_at puts place which put left h e = rw (got puts which put h, e) refl
 
-left_in-add : (at : Option Put) (place n : ℕ) (left : List ℕ) → option_map (λ put. drop place put.bytes.items) at ≡ Some left → option_map (λ put. drop (place + n) put.bytes.items) at ≡ Some (drop n left)
-left_in-add None place n left e = absurd (cc)
-left_in-add (Some put) place n left e =
+left_in_add : (at : Option Put) (place n : ℕ) (left : List ℕ) → option_map (λ put. drop place put.bytes.items) at ≡ Some left → option_map (λ put. drop (place + n) put.bytes.items) at ≡ Some (drop n left)
+left_in_add None place n left e = absurd (cc)
+left_in_add (Some put) place n left e =
     let same : drop place put.bytes.items ≡ left = cc in
     let more : drop n (drop place put.bytes.items) ≡ drop (place + n) put.bytes.items = grind (arith, common_steps) in
     rw (← same) (ap Some (sym more))
 
 -- what is left after some more bytes
-pub left_of-add : (puts : List Put) (place n : ℕ) (selected : Option ℕ) (left : List ℕ) → left_of puts place selected ≡ Some left → left_of puts (place + n) selected ≡ Some (drop n left)
-left_of-add puts place n None left e = absurd (cc)
-left_of-add puts place n (Some which) left e = left_in-add (slice_get puts which) place n left e
+pub left_of_add : (puts : List Put) (place n : ℕ) (selected : Option ℕ) (left : List ℕ) → left_of puts place selected ≡ Some left → left_of puts (place + n) selected ≡ Some (drop n left)
+left_of_add puts place n None left e = absurd (cc)
+left_of_add puts place n (Some which) left e = left_in_add (slice_get puts which) place n left e
 
 -- a read gives what it takes from the rest
-pub preceded-taken : (before after : Option (List ℕ)) (left given kept : List ℕ) (n : ℕ) → before ≡ Some left → after ≡ Some (drop n left) → n ≤ length left → given ≡ take n left → before ≡ preceded (take n (given ++ kept)) after
-preceded-taken before after left given kept n b a h e =
+pub preceded_taken : (before after : Option (List ℕ)) (left given kept : List ℕ) (n : ℕ) → before ≡ Some left → after ≡ Some (drop n left) → n ≤ length left → given ≡ take n left → before ≡ preceded (take n (given ++ kept)) after
+preceded_taken before after left given kept n b a h e =
     let long : length given ≡ n = grind (arith, common_steps, ap length e) in
     let prefix : take n (given ++ kept) ≡ given = rw (← long) (take-append_seam given kept) in
     rw (b, a) (ap Some (rw (prefix, e) (sym (take-append-drop n left))))

@@ -4,8 +4,8 @@ use Rattle.std.specs.Int.{bit_at}
 use Rattle.std.proofs.lemmas.Bool.{cases_eq}
 use Rattle.std.proofs.lemmas.Nat.Bits.{bit_at_and, bit_at_or, bit_at_xor, bit_at-lt}
 use Rattle.x7_words.specs.Flash.{sector_size, erased_sector, replaced, IsTorn}
-use Rattle.x7_words.proofs.FlashLemmas.{get_or-replaced_inside, get_or-replaced_outside, get_or-slice_range, length-replaced, length-slice_range, replaced_back, sector_size_is}
-use Rattle.x7_words.proofs.ZipLemmas.{length-zip_with, get_or-zip_with}
+use Rattle.x7_words.proofs.FlashLemmas.{get_or_replaced_inside, get_or_replaced_outside, get_or_slice_range, length_replaced, length_slice_range, replaced_back, sector_size_is}
+use Rattle.x7_words.proofs.ZipLemmas.{length_zip_with, get_or_zip_with}
 use Rattle.x7_in_memory.specs.Memory.{torn_byte, left_by}
 
 -- an empty list filled up to a sector
@@ -34,15 +34,15 @@ torn_bit pattern old target bit =
     ∙ ap (λ r. max (min (bit_at old bit) (bit_at pattern bit)) r) put in
     pick_bit (bit_at (torn_byte pattern old target) bit) (bit_at old bit) (bit_at target bit) (bit_at pattern bit) (bit_at-lt old bit) (bit_at-lt target bit) (bit_at-lt pattern bit) all
 
-length-left_by : (tear : Option ℕ) (before target : List ℕ) → length before ≡ length target → length (left_by tear before target) ≡ length target
-length-left_by None before target e = refl
-length-left_by (Some pattern) before target e = length-zip_with (torn_byte pattern) before target e
+length_left_by : (tear : Option ℕ) (before target : List ℕ) → length before ≡ length target → length (left_by tear before target) ≡ length target
+length_left_by None before target e = refl
+length_left_by (Some pattern) before target e = length_zip_with (torn_byte pattern) before target e
 
 bit_left : (tear : Option ℕ) (before target : List ℕ) (i bit : ℕ) → length before ≡ length target → i < length target
     → (bit_at (get_or (left_by tear before target) i 0) bit ≡ bit_at (get_or before i 0) bit) ⊎ (bit_at (get_or (left_by tear before target) i 0) bit ≡ bit_at (get_or target i 0) bit)
 bit_left None before target i bit e h = inr refl
 bit_left (Some pattern) before target i bit e h =
-    let is = get_or-zip_with (torn_byte pattern) before target i (omega (arith, e)) h in
+    let is = get_or_zip_with (torn_byte pattern) before target i (omega (arith, e)) h in
     subst (λ v. (bit_at v bit ≡ bit_at (get_or before i 0) bit) ⊎ (bit_at v bit ≡ bit_at (get_or target i 0) bit)) (sym is) (torn_bit pattern (get_or before i 0) (get_or target i 0) bit)
 
 -- what a write leaves, torn by a pattern or not
@@ -53,32 +53,32 @@ module _ (tear : Option ℕ) (place : ℕ) (target old : List ℕ) (within : pla
   abbrev left : List ℕ
   left = left_by tear before target
 
-  length-before : length before ≡ length target
-  length-before = length-slice_range old place (length target) within
+  length_before : length before ≡ length target
+  length_before = length_slice_range old place (length target) within
 
-  length-left : length left ≡ length target
-  length-left = length-left_by tear before target length-before
+  length_left : length left ≡ length target
+  length_left = length_left_by tear before target length_before
 
   fits : place + length left ≤ length old
-  fits = omega (arith, length-left, within)
+  fits = omega (arith, length_left, within)
 
   pub left_is_torn : IsTorn place target old (replaced place left old)
   left_is_torn = record {
-    size = length-replaced place left old fits;
-    outside = λ i h. get_or-replaced_outside place left old fits i (subst (λ n. (i < place) ⊎ (place + n ≤ i)) (sym length-left) h);
+    size = length_replaced place left old fits;
+    outside = λ i h. get_or_replaced_outside place left old fits i (subst (λ n. (i < place) ⊎ (place + n ≤ i)) (sym length_left) h);
     inside = λ i bit h. inside_bit i bit h;
   }
     where
       inside_bit : (i bit : ℕ) → i < length target → (bit_at (get_or (replaced place left old) (place + i) 0) bit ≡ bit_at (get_or old (place + i) 0) bit) ⊎ (bit_at (get_or (replaced place left old) (place + i) 0) bit ≡ bit_at (get_or target i 0) bit)
       inside_bit i bit h =
-          let now = get_or-replaced_inside place left old fits i (omega (arith, length-left, h)) in
-          let was = get_or-slice_range old place (length target) i h in
+          let now = get_or_replaced_inside place left old fits i (omega (arith, length_left, h)) in
+          let was = get_or_slice_range old place (length target) i h in
           subst (λ v. (bit_at v bit ≡ bit_at (get_or old (place + i) 0) bit) ⊎ (bit_at v bit ≡ bit_at (get_or target i 0) bit)) (sym now)
-          (subst (λ v. (bit_at (get_or left i 0) bit ≡ bit_at v bit) ⊎ (bit_at (get_or left i 0) bit ≡ bit_at (get_or target i 0) bit)) was (bit_left tear before target i bit length-before h))
+          (subst (λ v. (bit_at (get_or left i 0) bit ≡ bit_at v bit) ⊎ (bit_at (get_or left i 0) bit ≡ bit_at (get_or target i 0) bit)) was (bit_left tear before target i bit length_before h))
 
   -- the old bytes put back
   pub left_back : replaced place before (replaced place left old) ≡ old
-  left_back = ap (λ n. replaced place (slice_range old place (place + n)) (replaced place left old)) (sym length-left) ∙ replaced_back place left old fits
+  left_back = ap (λ n. replaced place (slice_range old place (place + n)) (replaced place left old)) (sym length_left) ∙ replaced_back place left old fits
 
-  pub length-left_in : length (replaced place left old) ≡ length old
-  length-left_in = length-replaced place left old fits
+  pub length_left_in : length (replaced place left old) ≡ length old
+  length_left_in = length_replaced place left old fits

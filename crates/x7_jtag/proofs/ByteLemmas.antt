@@ -18,39 +18,39 @@ use Rattle.x7_jtag.specs.Tap.{QueueStandsFor, StandsForPort, TakesBytes, TapStan
 
 -- ---- eight bits make a byte
 
-bit-value : (n : ℕ) → number_of_bit (n % 2 == 1) ≡ n % 2
-bit-value n = by (n % 2 == 1) refl
+bit_value : (n : ℕ) → number_of_bit (n % 2 == 1) ≡ n % 2
+bit_value n = by (n % 2 == 1) refl
   where
     by : (b : Bool) → (n % 2 == 1) ≡ b → number_of_bit b ≡ n % 2
     by true e = grind (arith, e)
     by false e = grind (arith, e)
 
-bit-in : (y n : ℕ) → with_bit y (n % 2 == 1) ≡ y % 128 * 2 + n % 2
-bit-in y n = ap (λ (v : ℕ). y % 128 * 2 + v) (bit-value n)
+bit_in : (y n : ℕ) → with_bit y (n % 2 == 1) ≡ y % 128 * 2 + n % 2
+bit_in y n = ap (λ (v : ℕ). y % 128 * 2 + v) (bit_value n)
 
-in-2 : (y z b : ℕ) → z ≡ y % 128 * 2 + b / 128 % 2 → b < 256 → z % 2 ≡ b / 128
-in-2 y z b d l = omega (arith, d, l)
+in_2 : (y z b : ℕ) → z ≡ y % 128 * 2 + b / 128 % 2 → b < 256 → z % 2 ≡ b / 128
+in_2 y z b d l = omega (arith, d, l)
 
-in-4 : (y z b : ℕ) → z ≡ y % 128 * 2 + b / 64 % 2 → y % 2 ≡ b / 128 → z % 4 ≡ b / 64
-in-4 y z b d e = omega (arith, d, e)
+in_4 : (y z b : ℕ) → z ≡ y % 128 * 2 + b / 64 % 2 → y % 2 ≡ b / 128 → z % 4 ≡ b / 64
+in_4 y z b d e = omega (arith, d, e)
 
-in-8 : (y z b : ℕ) → z ≡ y % 128 * 2 + b / 32 % 2 → y % 4 ≡ b / 64 → z % 8 ≡ b / 32
-in-8 y z b d e = omega (arith, d, e)
+in_8 : (y z b : ℕ) → z ≡ y % 128 * 2 + b / 32 % 2 → y % 4 ≡ b / 64 → z % 8 ≡ b / 32
+in_8 y z b d e = omega (arith, d, e)
 
-in-16 : (y z b : ℕ) → z ≡ y % 128 * 2 + b / 16 % 2 → y % 8 ≡ b / 32 → z % 16 ≡ b / 16
-in-16 y z b d e = omega (arith, d, e)
+in_16 : (y z b : ℕ) → z ≡ y % 128 * 2 + b / 16 % 2 → y % 8 ≡ b / 32 → z % 16 ≡ b / 16
+in_16 y z b d e = omega (arith, d, e)
 
-in-32 : (y z b : ℕ) → z ≡ y % 128 * 2 + b / 8 % 2 → y % 16 ≡ b / 16 → z % 32 ≡ b / 8
-in-32 y z b d e = omega (arith, d, e)
+in_32 : (y z b : ℕ) → z ≡ y % 128 * 2 + b / 8 % 2 → y % 16 ≡ b / 16 → z % 32 ≡ b / 8
+in_32 y z b d e = omega (arith, d, e)
 
-in-64 : (y z b : ℕ) → z ≡ y % 128 * 2 + b / 4 % 2 → y % 32 ≡ b / 8 → z % 64 ≡ b / 4
-in-64 y z b d e = omega (arith, d, e)
+in_64 : (y z b : ℕ) → z ≡ y % 128 * 2 + b / 4 % 2 → y % 32 ≡ b / 8 → z % 64 ≡ b / 4
+in_64 y z b d e = omega (arith, d, e)
 
-in-128 : (y z b : ℕ) → z ≡ y % 128 * 2 + b / 2 % 2 → y % 64 ≡ b / 4 → z % 128 ≡ b / 2
-in-128 y z b d e = omega (arith, d, e)
+in_128 : (y z b : ℕ) → z ≡ y % 128 * 2 + b / 2 % 2 → y % 64 ≡ b / 4 → z % 128 ≡ b / 2
+in_128 y z b d e = omega (arith, d, e)
 
-in-256 : (y z b : ℕ) → z ≡ y % 128 * 2 + b % 2 → y % 128 ≡ b / 2 → z ≡ b
-in-256 y z b d e = omega (arith, d, e)
+in_256 : (y z b : ℕ) → z ≡ y % 128 * 2 + b % 2 → y % 128 ≡ b / 2 → z ≡ b
+in_256 y z b d e = omega (arith, d, e)
 
 -- the register after the bits of a byte
 abbrev with_1 : ℕ → ℕ → ℕ
@@ -77,16 +77,16 @@ with_7 r b = with_bit (with_6 r b) (b / 2 % 2 == 1)
 abbrev with_8 : ℕ → ℕ → ℕ
 with_8 r b = with_bit (with_7 r b) (b % 2 == 1)
 
-with-byte : (r b : ℕ) → b < 256 → with_8 r b ≡ b
-with-byte r b l =
-    let e1 : with_1 r b % 2 ≡ b / 128 = in-2 r (with_1 r b) b (bit-in r (b / 128)) l in
-    let e2 : with_2 r b % 4 ≡ b / 64 = in-4 (with_1 r b) (with_2 r b) b (bit-in (with_1 r b) (b / 64)) e1 in
-    let e3 : with_3 r b % 8 ≡ b / 32 = in-8 (with_2 r b) (with_3 r b) b (bit-in (with_2 r b) (b / 32)) e2 in
-    let e4 : with_4 r b % 16 ≡ b / 16 = in-16 (with_3 r b) (with_4 r b) b (bit-in (with_3 r b) (b / 16)) e3 in
-    let e5 : with_5 r b % 32 ≡ b / 8 = in-32 (with_4 r b) (with_5 r b) b (bit-in (with_4 r b) (b / 8)) e4 in
-    let e6 : with_6 r b % 64 ≡ b / 4 = in-64 (with_5 r b) (with_6 r b) b (bit-in (with_5 r b) (b / 4)) e5 in
-    let e7 : with_7 r b % 128 ≡ b / 2 = in-128 (with_6 r b) (with_7 r b) b (bit-in (with_6 r b) (b / 2)) e6 in
-    in-256 (with_7 r b) (with_8 r b) b (bit-in (with_7 r b) b) e7
+with_byte : (r b : ℕ) → b < 256 → with_8 r b ≡ b
+with_byte r b l =
+    let e1 : with_1 r b % 2 ≡ b / 128 = in_2 r (with_1 r b) b (bit_in r (b / 128)) l in
+    let e2 : with_2 r b % 4 ≡ b / 64 = in_4 (with_1 r b) (with_2 r b) b (bit_in (with_1 r b) (b / 64)) e1 in
+    let e3 : with_3 r b % 8 ≡ b / 32 = in_8 (with_2 r b) (with_3 r b) b (bit_in (with_2 r b) (b / 32)) e2 in
+    let e4 : with_4 r b % 16 ≡ b / 16 = in_16 (with_3 r b) (with_4 r b) b (bit_in (with_3 r b) (b / 16)) e3 in
+    let e5 : with_5 r b % 32 ≡ b / 8 = in_32 (with_4 r b) (with_5 r b) b (bit_in (with_4 r b) (b / 8)) e4 in
+    let e6 : with_6 r b % 64 ≡ b / 4 = in_64 (with_5 r b) (with_6 r b) b (bit_in (with_5 r b) (b / 4)) e5 in
+    let e7 : with_7 r b % 128 ≡ b / 2 = in_128 (with_6 r b) (with_7 r b) b (bit_in (with_6 r b) (b / 2)) e6 in
+    in_256 (with_7 r b) (with_8 r b) b (bit_in (with_7 r b) b) e7
 
 -- ---- clocks of whole bytes
 
@@ -94,136 +94,136 @@ with-byte r b l =
 abbrev in_bytes : ℕ → Queue → Port
 in_bytes r q = record { state = state.ShiftDr; instruction = instruction.CfgIn; register = r; count = 0; queue = q }
 
-byte-clocked : (part : PartData) (r : ℕ) (q : Queue) (b : ℕ) → b < 256 → fold (clocked part) (in_bytes r q) (inner_clocks (byte_bits b)) ≡ in_bytes b (offered (words_read_out part) q b)
-byte-clocked part r q b l = ap (λ (w : ℕ). in_bytes w (offered (words_read_out part) q w)) (with-byte r b l)
+byte_clocked : (part : PartData) (r : ℕ) (q : Queue) (b : ℕ) → b < 256 → fold (clocked part) (in_bytes r q) (inner_clocks (byte_bits b)) ≡ in_bytes b (offered (words_read_out part) q b)
+byte_clocked part r q b l = ap (λ (w : ℕ). in_bytes w (offered (words_read_out part) q w)) (with_byte r b l)
 
-pub inner-append : (bs cs : List Bool) → inner_clocks (bs ++ cs) ≡ inner_clocks bs ++ inner_clocks cs
-inner-append [] cs = refl
-inner-append (b ∷ bs) cs = ap (λ t. clock false b ∷ t) (inner-append bs cs)
+pub inner_append : (bs cs : List Bool) → inner_clocks (bs ++ cs) ≡ inner_clocks bs ++ inner_clocks cs
+inner_append [] cs = refl
+inner_append (b ∷ bs) cs = ap (λ t. clock false b ∷ t) (inner_append bs cs)
 
-bytes-clocked : (part : PartData) (r : ℕ) (q : Queue) (bs : List ℕ) → AreBytes bs → fold (clocked part) (in_bytes r q) (inner_clocks (bytes_bits bs)) ≡ in_bytes (last_or r bs) (fold (offered (words_read_out part)) q bs)
-bytes-clocked part r q [] f = refl
-bytes-clocked part r q (b ∷ bs) f =
-    ap (fold (clocked part) (in_bytes r q)) (inner-append (byte_bits b) (bytes_bits bs))
+bytes_clocked : (part : PartData) (r : ℕ) (q : Queue) (bs : List ℕ) → AreBytes bs → fold (clocked part) (in_bytes r q) (inner_clocks (bytes_bits bs)) ≡ in_bytes (last_or r bs) (fold (offered (words_read_out part)) q bs)
+bytes_clocked part r q [] f = refl
+bytes_clocked part r q (b ∷ bs) f =
+    ap (fold (clocked part) (in_bytes r q)) (inner_append (byte_bits b) (bytes_bits bs))
     ∙ fold-append (clocked part) (in_bytes r q) (inner_clocks (byte_bits b)) (inner_clocks (bytes_bits bs))
-    ∙ ap (λ (p : Port). fold (clocked part) p (inner_clocks (bytes_bits bs))) (byte-clocked part r q b f.0)
-    ∙ bytes-clocked part b (offered (words_read_out part) q b) bs f.1
+    ∙ ap (λ (p : Port). fold (clocked part) p (inner_clocks (bytes_bits bs))) (byte_clocked part r q b f.0)
+    ∙ bytes_clocked part b (offered (words_read_out part) q b) bs f.1
 
 -- ---- the bytes of digits
 
-mirror-8 : (n : ℕ) → n < 16 → mirrored_digit n / 8 % 2 ≡ n % 2
-mirror-8 n l = omega (arith, l)
+mirror_8 : (n : ℕ) → n < 16 → mirrored_digit n / 8 % 2 ≡ n % 2
+mirror_8 n l = omega (arith, l)
 
-mirror-4 : (n : ℕ) → n < 16 → mirrored_digit n / 4 % 2 ≡ n / 2 % 2
-mirror-4 n l = omega (arith, l)
+mirror_4 : (n : ℕ) → n < 16 → mirrored_digit n / 4 % 2 ≡ n / 2 % 2
+mirror_4 n l = omega (arith, l)
 
-mirror-2 : (n : ℕ) → n < 16 → mirrored_digit n / 2 % 2 ≡ n / 4 % 2
-mirror-2 n l = omega (arith, l)
+mirror_2 : (n : ℕ) → n < 16 → mirrored_digit n / 2 % 2 ≡ n / 4 % 2
+mirror_2 n l = omega (arith, l)
 
-mirror-1 : (n : ℕ) → n < 16 → mirrored_digit n % 2 ≡ n / 8 % 2
-mirror-1 n l = omega (arith, l)
+mirror_1 : (n : ℕ) → n < 16 → mirrored_digit n % 2 ≡ n / 8 % 2
+mirror_1 n l = omega (arith, l)
 
-is-one : (a b : ℕ) → a ≡ b → (a == 1) ≡ (b == 1)
-is-one a b e = ap (λ (v : ℕ). v == 1) e
+is_one : (a b : ℕ) → a ≡ b → (a == 1) ≡ (b == 1)
+is_one a b e = ap (λ (v : ℕ). v == 1) e
 
-cons-8 : (a b c d e f g h p q r s t u v w : Bool) → a ≡ p → b ≡ q → c ≡ r → d ≡ s → e ≡ t → f ≡ u → g ≡ v → h ≡ w
+cons_8 : (a b c d e f g h p q r s t u v w : Bool) → a ≡ p → b ≡ q → c ≡ r → d ≡ s → e ≡ t → f ≡ u → g ≡ v → h ≡ w
     → a ∷ b ∷ c ∷ d ∷ e ∷ f ∷ g ∷ h ∷ [] ≡ p ∷ q ∷ r ∷ s ∷ t ∷ u ∷ v ∷ w ∷ []
-cons-8 a b c d e f g h p q r s t u v w i j k l m n o x = rw (i, j, k, l, m, n, o, x) refl
+cons_8 a b c d e f g h p q r s t u v w i j k l m n o x = rw (i, j, k, l, m, n, o, x) refl
 
-place-of : (place k : ℕ) → k < 4 → (4 * place + k) / 4 ≡ place
-place-of place k l = omega (arith, l)
+place_of : (place k : ℕ) → k < 4 → (4 * place + k) / 4 ≡ place
+place_of place k l = omega (arith, l)
 
-rest-of : (place k : ℕ) → k < 4 → (4 * place + k) % 4 ≡ k
-rest-of place k l = omega (arith, l)
+rest_of : (place k : ℕ) → k < 4 → (4 * place + k) % 4 ≡ k
+rest_of place k l = omega (arith, l)
 
-bit-at-place : (ds : List ℕ) (place k : ℕ) → k < 4 → bit_of ds (4 * place + k) ≡ (if nat_lt place (length ds) then digit_number (slice_index ds (length ds - 1 - place)) / 2 ^ k % 2 == 1 else false)
-bit-at-place ds place k l = ap₂ (λ (p r : ℕ). if nat_lt p (length ds) then digit_number (slice_index ds (length ds - 1 - p)) / 2 ^ r % 2 == 1 else false) (place-of place k l) (rest-of place k l)
+bit_at_place : (ds : List ℕ) (place k : ℕ) → k < 4 → bit_of ds (4 * place + k) ≡ (if nat_lt place (length ds) then digit_number (slice_index ds (length ds - 1 - place)) / 2 ^ k % 2 == 1 else false)
+bit_at_place ds place k l = ap₂ (λ (p r : ℕ). if nat_lt p (length ds) then digit_number (slice_index ds (length ds - 1 - p)) / 2 ^ r % 2 == 1 else false) (place_of place k l) (rest_of place k l)
 
-low-bits : (v k : ℕ) → k < 4 → (v % 16 / 2 ^ k % 2 == 1) ≡ (v / 2 ^ k % 2 == 1)
-low-bits v zero l = is-one (v % 16 / 2 ^ 0 % 2) (v / 2 ^ 0 % 2) (omega arith)
-low-bits v (suc zero) l = is-one (v % 16 / 2 ^ 1 % 2) (v / 2 ^ 1 % 2) (omega arith)
-low-bits v (suc (suc zero)) l = is-one (v % 16 / 2 ^ 2 % 2) (v / 2 ^ 2 % 2) (omega arith)
-low-bits v (suc (suc (suc zero))) l = is-one (v % 16 / 2 ^ 3 % 2) (v / 2 ^ 3 % 2) (omega arith)
-low-bits v (suc (suc (suc (suc k)))) l = absurd (omega (arith, l))
+low_bits : (v k : ℕ) → k < 4 → (v % 16 / 2 ^ k % 2 == 1) ≡ (v / 2 ^ k % 2 == 1)
+low_bits v zero l = is_one (v % 16 / 2 ^ 0 % 2) (v / 2 ^ 0 % 2) (omega arith)
+low_bits v (suc zero) l = is_one (v % 16 / 2 ^ 1 % 2) (v / 2 ^ 1 % 2) (omega arith)
+low_bits v (suc (suc zero)) l = is_one (v % 16 / 2 ^ 2 % 2) (v / 2 ^ 2 % 2) (omega arith)
+low_bits v (suc (suc (suc zero))) l = is_one (v % 16 / 2 ^ 3 % 2) (v / 2 ^ 3 % 2) (omega arith)
+low_bits v (suc (suc (suc (suc k)))) l = absurd (omega (arith, l))
 
-pub bits-within : (ds : List ℕ) (place v : ℕ) → place < length ds → v ≡ digit_number (slice_index ds (length ds - 1 - place)) → (k : ℕ) → k < 4 → (v % 16 / 2 ^ k % 2 == 1) ≡ bit_of ds (4 * place + k)
-bits-within ds place v m e k l =
+pub bits_within : (ds : List ℕ) (place v : ℕ) → place < length ds → v ≡ digit_number (slice_index ds (length ds - 1 - place)) → (k : ℕ) → k < 4 → (v % 16 / 2 ^ k % 2 == 1) ≡ bit_of ds (4 * place + k)
+bits_within ds place v m e k l =
     let some : nat_lt place (length ds) ≡ true = grind (arith, m) in
-    low-bits v k l ∙ ap (λ (x : ℕ). x / 2 ^ k % 2 == 1) e ∙ sym (bit-at-place ds place k l ∙ ap (λ (b : Bool). if b then digit_number (slice_index ds (length ds - 1 - place)) / 2 ^ k % 2 == 1 else false) some)
+    low_bits v k l ∙ ap (λ (x : ℕ). x / 2 ^ k % 2 == 1) e ∙ sym (bit_at_place ds place k l ∙ ap (λ (b : Bool). if b then digit_number (slice_index ds (length ds - 1 - place)) / 2 ^ k % 2 == 1 else false) some)
 
-pub byte-of-digits : (ds : List ℕ) (at place first second byte : ℕ) → at % 4 ≡ 0 → place ≡ at / 4 → first < 16 → second < 16 → byte ≡ mirrored_digit first * 16 + mirrored_digit second
+pub byte_of_digits : (ds : List ℕ) (at place first second byte : ℕ) → at % 4 ≡ 0 → place ≡ at / 4 → first < 16 → second < 16 → byte ≡ mirrored_digit first * 16 + mirrored_digit second
     → ((k : ℕ) → k < 4 → (first / 2 ^ k % 2 == 1) ≡ bit_of ds (4 * place + k)) → ((k : ℕ) → k < 4 → (second / 2 ^ k % 2 == 1) ≡ bit_of ds (4 * (place + 1) + k))
     → byte_bits byte ≡ bits_from ds at 8
-byte-of-digits ds at place first second byte z p l m e f g =
+byte_of_digits ds at place first second byte z p l m e f g =
     let m_is : mirrored_digit second < 16 = omega (arith, m) in
     let first_is : (k i : ℕ) → k < 4 → i ≡ 4 * place + k → (first / 2 ^ k % 2 == 1) ≡ bit_of ds i = λ k i n j. f k n ∙ ap (bit_of ds) (sym j) in
     let second_is : (k i : ℕ) → k < 4 → i ≡ 4 * (place + 1) + k → (second / 2 ^ k % 2 == 1) ≡ bit_of ds i = λ k i n j. g k n ∙ ap (bit_of ds) (sym j) in
-    cons-8 (byte / 128 % 2 == 1) (byte / 64 % 2 == 1) (byte / 32 % 2 == 1) (byte / 16 % 2 == 1) (byte / 8 % 2 == 1) (byte / 4 % 2 == 1) (byte / 2 % 2 == 1) (byte % 2 == 1)
+    cons_8 (byte / 128 % 2 == 1) (byte / 64 % 2 == 1) (byte / 32 % 2 == 1) (byte / 16 % 2 == 1) (byte / 8 % 2 == 1) (byte / 4 % 2 == 1) (byte / 2 % 2 == 1) (byte % 2 == 1)
     (bit_of ds at) (bit_of ds (at + 1)) (bit_of ds (at + 1 + 1)) (bit_of ds (at + 1 + 1 + 1)) (bit_of ds (at + 1 + 1 + 1 + 1)) (bit_of ds (at + 1 + 1 + 1 + 1 + 1)) (bit_of ds (at + 1 + 1 + 1 + 1 + 1 + 1)) (bit_of ds (at + 1 + 1 + 1 + 1 + 1 + 1 + 1))
-    (is-one (byte / 128 % 2) (first / 2 ^ 0 % 2) (omega (arith, e, m_is, l, mirror-8 first l)) ∙ first_is 0 at (omega arith) (omega (arith, z, p)))
-    (is-one (byte / 64 % 2) (first / 2 ^ 1 % 2) (omega (arith, e, m_is, l, mirror-4 first l)) ∙ first_is 1 (at + 1) (omega arith) (omega (arith, z, p)))
-    (is-one (byte / 32 % 2) (first / 2 ^ 2 % 2) (omega (arith, e, m_is, l, mirror-2 first l)) ∙ first_is 2 (at + 1 + 1) (omega arith) (omega (arith, z, p)))
-    (is-one (byte / 16 % 2) (first / 2 ^ 3 % 2) (omega (arith, e, m_is, l, mirror-1 first l)) ∙ first_is 3 (at + 1 + 1 + 1) (omega arith) (omega (arith, z, p)))
-    (is-one (byte / 8 % 2) (second / 2 ^ 0 % 2) (omega (arith, e, m, mirror-8 second m)) ∙ second_is 0 (at + 1 + 1 + 1 + 1) (omega arith) (omega (arith, z, p)))
-    (is-one (byte / 4 % 2) (second / 2 ^ 1 % 2) (omega (arith, e, m, mirror-4 second m)) ∙ second_is 1 (at + 1 + 1 + 1 + 1 + 1) (omega arith) (omega (arith, z, p)))
-    (is-one (byte / 2 % 2) (second / 2 ^ 2 % 2) (omega (arith, e, m, mirror-2 second m)) ∙ second_is 2 (at + 1 + 1 + 1 + 1 + 1 + 1) (omega arith) (omega (arith, z, p)))
-    (is-one (byte % 2) (second / 2 ^ 3 % 2) (omega (arith, e, m, mirror-1 second m)) ∙ second_is 3 (at + 1 + 1 + 1 + 1 + 1 + 1 + 1) (omega arith) (omega (arith, z, p)))
+    (is_one (byte / 128 % 2) (first / 2 ^ 0 % 2) (omega (arith, e, m_is, l, mirror_8 first l)) ∙ first_is 0 at (omega arith) (omega (arith, z, p)))
+    (is_one (byte / 64 % 2) (first / 2 ^ 1 % 2) (omega (arith, e, m_is, l, mirror_4 first l)) ∙ first_is 1 (at + 1) (omega arith) (omega (arith, z, p)))
+    (is_one (byte / 32 % 2) (first / 2 ^ 2 % 2) (omega (arith, e, m_is, l, mirror_2 first l)) ∙ first_is 2 (at + 1 + 1) (omega arith) (omega (arith, z, p)))
+    (is_one (byte / 16 % 2) (first / 2 ^ 3 % 2) (omega (arith, e, m_is, l, mirror_1 first l)) ∙ first_is 3 (at + 1 + 1 + 1) (omega arith) (omega (arith, z, p)))
+    (is_one (byte / 8 % 2) (second / 2 ^ 0 % 2) (omega (arith, e, m, mirror_8 second m)) ∙ second_is 0 (at + 1 + 1 + 1 + 1) (omega arith) (omega (arith, z, p)))
+    (is_one (byte / 4 % 2) (second / 2 ^ 1 % 2) (omega (arith, e, m, mirror_4 second m)) ∙ second_is 1 (at + 1 + 1 + 1 + 1 + 1) (omega arith) (omega (arith, z, p)))
+    (is_one (byte / 2 % 2) (second / 2 ^ 2 % 2) (omega (arith, e, m, mirror_2 second m)) ∙ second_is 2 (at + 1 + 1 + 1 + 1 + 1 + 1) (omega arith) (omega (arith, z, p)))
+    (is_one (byte % 2) (second / 2 ^ 3 % 2) (omega (arith, e, m, mirror_1 second m)) ∙ second_is 3 (at + 1 + 1 + 1 + 1 + 1 + 1 + 1) (omega arith) (omega (arith, z, p)))
 
 -- ---- this many bits from a place on
 
-from-drop : (ds : List ℕ) (from n k : ℕ) → k ≤ n → drop k (bits_from ds from n) ≡ bits_from ds (from + k) (n - k)
-from-drop ds from n zero l = let e : from ≡ from + 0 = omega arith in let f : n ≡ n - 0 = omega arith in ap₂ (bits_from ds) e f
-from-drop ds from zero (suc k) l = absurd (omega (arith, l))
-from-drop ds from (suc n) (suc k) l =
+from_drop : (ds : List ℕ) (from n k : ℕ) → k ≤ n → drop k (bits_from ds from n) ≡ bits_from ds (from + k) (n - k)
+from_drop ds from n zero l = let e : from ≡ from + 0 = omega arith in let f : n ≡ n - 0 = omega arith in ap₂ (bits_from ds) e f
+from_drop ds from zero (suc k) l = absurd (omega (arith, l))
+from_drop ds from (suc n) (suc k) l =
     let e : from + 1 + k ≡ from + suc k = omega arith in
     let f : n - k ≡ suc n - suc k = omega arith in
-    from-drop ds (from + 1) n k (omega (arith, l)) ∙ ap₂ (bits_from ds) e f
+    from_drop ds (from + 1) n k (omega (arith, l)) ∙ ap₂ (bits_from ds) e f
 
-from-take : (ds : List ℕ) (from n k : ℕ) → k ≤ n → take k (bits_from ds from n) ≡ bits_from ds from k
-from-take ds from n zero l = refl
-from-take ds from zero (suc k) l = absurd (omega (arith, l))
-from-take ds from (suc n) (suc k) l = ap (λ t. bit_of ds from ∷ t) (from-take ds (from + 1) n k (omega (arith, l)))
+from_take : (ds : List ℕ) (from n k : ℕ) → k ≤ n → take k (bits_from ds from n) ≡ bits_from ds from k
+from_take ds from n zero l = refl
+from_take ds from zero (suc k) l = absurd (omega (arith, l))
+from_take ds from (suc n) (suc k) l = ap (λ t. bit_of ds from ∷ t) (from_take ds (from + 1) n k (omega (arith, l)))
 
-pub from-part : (ds : List ℕ) (n from k : ℕ) → from + k ≤ n → take k (drop from (bits_from ds 0 n)) ≡ bits_from ds from k
-from-part ds n from k l =
+pub from_part : (ds : List ℕ) (n from k : ℕ) → from + k ≤ n → take k (drop from (bits_from ds 0 n)) ≡ bits_from ds from k
+from_part ds n from k l =
     let e : 0 + from ≡ from = omega arith in
-    ap (take k) (from-drop ds 0 n from (omega (arith, l)) ∙ ap (λ (i : ℕ). bits_from ds i (n - from)) e) ∙ from-take ds from (n - from) k (omega (arith, l))
+    ap (take k) (from_drop ds 0 n from (omega (arith, l)) ∙ ap (λ (i : ℕ). bits_from ds i (n - from)) e) ∙ from_take ds from (n - from) k (omega (arith, l))
 
-pub from-join : (ds : List ℕ) (from m n : ℕ) → bits_from ds from m ++ bits_from ds (from + m) n ≡ bits_from ds from (m + n)
-from-join ds from zero n = let e : from + 0 ≡ from = omega arith in let f : n ≡ 0 + n = omega arith in ap₂ (bits_from ds) e f
-from-join ds from (suc m) n =
+pub from_join : (ds : List ℕ) (from m n : ℕ) → bits_from ds from m ++ bits_from ds (from + m) n ≡ bits_from ds from (m + n)
+from_join ds from zero n = let e : from + 0 ≡ from = omega arith in let f : n ≡ 0 + n = omega arith in ap₂ (bits_from ds) e f
+from_join ds from (suc m) n =
     let e : from + suc m ≡ from + 1 + m = omega arith in
     let f : suc (m + n) ≡ suc m + n = omega arith in
-    ap (λ t. bit_of ds from ∷ t) (ap (λ (i : ℕ). bits_from ds (from + 1) m ++ bits_from ds i n) e ∙ from-join ds (from + 1) m n) ∙ ap (bits_from ds from) f
+    ap (λ t. bit_of ds from ∷ t) (ap (λ (i : ℕ). bits_from ds (from + 1) m ++ bits_from ds i n) e ∙ from_join ds (from + 1) m n) ∙ ap (bits_from ds from) f
 
-bytes-more : (bs : List ℕ) (b : ℕ) → bytes_bits (bs ++ b ∷ []) ≡ bytes_bits bs ++ byte_bits b
-bytes-more [] b = append-nil (byte_bits b)
-bytes-more (c ∷ bs) b = ap (λ t. byte_bits c ++ t) (bytes-more bs b) ∙ sym (append_assoc (byte_bits c) (bytes_bits bs) (byte_bits b))
+bytes_more : (bs : List ℕ) (b : ℕ) → bytes_bits (bs ++ b ∷ []) ≡ bytes_bits bs ++ byte_bits b
+bytes_more [] b = append-nil (byte_bits b)
+bytes_more (c ∷ bs) b = ap (λ t. byte_bits c ++ t) (bytes_more bs b) ∙ sym (append_assoc (byte_bits c) (bytes_bits bs) (byte_bits b))
 
 -- a byte more of a piece
-pub piece-on : (ds : List ℕ) (from at b : ℕ) (old new : List ℕ) → new ≡ old ++ b ∷ [] → at ≡ from + 8 * length old → bytes_bits old ≡ bits_from ds from (8 * length old) → byte_bits b ≡ bits_from ds at 8
+pub piece_on : (ds : List ℕ) (from at b : ℕ) (old new : List ℕ) → new ≡ old ++ b ∷ [] → at ≡ from + 8 * length old → bytes_bits old ≡ bits_from ds from (8 * length old) → byte_bits b ≡ bits_from ds at 8
     → bytes_bits new ≡ bits_from ds from (8 * length new)
-piece-on ds from at b old new n a e f =
+piece_on ds from at b old new n a e f =
     let count : 8 * length old + 8 ≡ 8 * length new = omega (arith, ap length n, length-append old (b ∷ [])) in
-    ap bytes_bits n ∙ bytes-more old b ∙ ap₂ (λ (x y : List Bool). x ++ y) e (f ∙ ap (λ (i : ℕ). bits_from ds i 8) a) ∙ from-join ds from (8 * length old) 8 ∙ ap (bits_from ds from) count
+    ap bytes_bits n ∙ bytes_more old b ∙ ap₂ (λ (x y : List Bool). x ++ y) e (f ∙ ap (λ (i : ℕ). bits_from ds i 8) a) ∙ from_join ds from (8 * length old) 8 ∙ ap (bits_from ds from) count
 
 -- ---- a tap that took whole bytes
 
-port-in-bytes : (p : Port) → p.state ≡ state.ShiftDr → p.instruction ≡ instruction.CfgIn → p.count ≡ 0 → p ≡ in_bytes p.register p.queue
-port-in-bytes p s i c =
+port_in_bytes : (p : Port) → p.state ≡ state.ShiftDr → p.instruction ≡ instruction.CfgIn → p.count ≡ 0 → p ≡ in_bytes p.register p.queue
+port_in_bytes p s i c =
     ap (λ (x : State). record { state = x; instruction = p.instruction; register = p.register; count = p.count; queue = p.queue }) s
     ∙ ap (λ (x : Instruction). record { state = state.ShiftDr; instruction = x; register = p.register; count = p.count; queue = p.queue }) i
     ∙ ap (λ (x : ℕ). record { state = state.ShiftDr; instruction = instruction.CfgIn; register = p.register; count = x; queue = p.queue }) c
 
-pub shifts-bytes : (part : PartData) (k n : TapState) (d e : DeviceState) (cs : List Clock) (bs : List ℕ) → TapStandsFor part k d cs → TakesBytes k → AreBytes bs → n ≡ record k { register = last_or k.register bs; queue = n.queue }
+pub shifts_bytes : (part : PartData) (k n : TapState) (d e : DeviceState) (cs : List Clock) (bs : List ℕ) → TapStandsFor part k d cs → TakesBytes k → AreBytes bs → n ≡ record k { register = last_or k.register bs; queue = n.queue }
     → QueueStandsFor part n.queue e (fold (offered (words_read_out part)) (port_after part cs).queue bs) → TapStandsFor part n e (cs ++ inner_clocks (bytes_bits bs))
-shifts-bytes part k n d e cs bs s t f with q =
+shifts_bytes part k n d e cs bs s t f with q =
     let p : Port = port_after part cs in
     let in_state : p.state ≡ state.ShiftDr = sym s.state_is ∙ t.in_shift in
     let under : p.instruction ≡ instruction.CfgIn = sym s.instruction_is ∙ t.under in
     let first : p.count ≡ 0 = sym s.count_is ∙ t.at_first in
     let all : port_after part (cs ++ inner_clocks (bytes_bits bs)) ≡ in_bytes (last_or p.register bs) (fold (offered (words_read_out part)) p.queue bs) =
-    fold-append (clocked part) new_port cs (inner_clocks (bytes_bits bs)) ∙ ap (λ (x : Port). fold (clocked part) x (inner_clocks (bytes_bits bs))) (port-in-bytes p in_state under first) ∙ bytes-clocked part p.register p.queue bs f in
+    fold-append (clocked part) new_port cs (inner_clocks (bytes_bits bs)) ∙ ap (λ (x : Port). fold (clocked part) x (inner_clocks (bytes_bits bs))) (port_in_bytes p in_state under first) ∙ bytes_clocked part p.register p.queue bs f in
     subst (StandsForPort part n e) (sym all) (record {
       state_is = ap (λ (x : TapState). x.state) with ∙ t.in_shift;
       instruction_is = ap (λ (x : TapState). x.instruction) with ∙ t.under;
@@ -232,9 +232,9 @@ shifts-bytes part k n d e cs bs s t f with q =
       queue_is = q;
     })
 
-pub last-is : (before : ℕ) (bs : List ℕ) → 0 < length bs → slice_index bs (length bs - 1) ≡ last_or before bs
-last-is before [] l = absurd (omega (arith, l))
-last-is before (b ∷ []) l = refl
-last-is before (b ∷ c ∷ cs) l =
+pub last_is : (before : ℕ) (bs : List ℕ) → 0 < length bs → slice_index bs (length bs - 1) ≡ last_or before bs
+last_is before [] l = absurd (omega (arith, l))
+last_is before (b ∷ []) l = refl
+last_is before (b ∷ c ∷ cs) l =
     let e : length (b ∷ c ∷ cs) - 1 ≡ suc (length (c ∷ cs) - 1) = omega arith in
-    ap (λ (n : ℕ). slice_index (b ∷ c ∷ cs) n) e ∙ last-is b (c ∷ cs) (omega arith)
+    ap (λ (n : ℕ). slice_index (b ∷ c ∷ cs) n) e ∙ last_is b (c ∷ cs) (omega arith)

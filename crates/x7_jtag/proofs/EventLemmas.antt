@@ -17,71 +17,71 @@ eighth : (reads : List ℕ → List ℕ) (q : Queue) (x : ℕ) (b : Bool) → (i
 eighth reads q x true = refl
 eighth reads q x false = refl
 
-idled-events : (part : PartData) (i : Instruction) (p : Port) → (idled part i p).queue ≡ fold (by_event (words_read_out part)) p.queue (idle_events i p)
-idled-events part instruction.Jstart p = eighth (words_read_out part) p.queue 255 (p.count == 7)
-idled-events part instruction.CfgOut p = refl
-idled-events part instruction.CfgIn p = refl
-idled-events part instruction.Usercode p = refl
-idled-events part instruction.Idcode p = refl
-idled-events part instruction.Jprogram p = refl
-idled-events part instruction.Jshutdown p = refl
-idled-events part instruction.Bypass p = refl
+idled_events : (part : PartData) (i : Instruction) (p : Port) → (idled part i p).queue ≡ fold (by_event (words_read_out part)) p.queue (idle_events i p)
+idled_events part instruction.Jstart p = eighth (words_read_out part) p.queue 255 (p.count == 7)
+idled_events part instruction.CfgOut p = refl
+idled_events part instruction.CfgIn p = refl
+idled_events part instruction.Usercode p = refl
+idled_events part instruction.Idcode p = refl
+idled_events part instruction.Jprogram p = refl
+idled_events part instruction.Jshutdown p = refl
+idled_events part instruction.Bypass p = refl
 
-captured-events : (part : PartData) (i : Instruction) (p : Port) → (captured part i p).queue ≡ p.queue
-captured-events part instruction.Jstart p = refl
-captured-events part instruction.CfgOut p = refl
-captured-events part instruction.CfgIn p = refl
-captured-events part instruction.Usercode p = refl
-captured-events part instruction.Idcode p = refl
-captured-events part instruction.Jprogram p = refl
-captured-events part instruction.Jshutdown p = refl
-captured-events part instruction.Bypass p = refl
+captured_events : (part : PartData) (i : Instruction) (p : Port) → (captured part i p).queue ≡ p.queue
+captured_events part instruction.Jstart p = refl
+captured_events part instruction.CfgOut p = refl
+captured_events part instruction.CfgIn p = refl
+captured_events part instruction.Usercode p = refl
+captured_events part instruction.Idcode p = refl
+captured_events part instruction.Jprogram p = refl
+captured_events part instruction.Jshutdown p = refl
+captured_events part instruction.Bypass p = refl
 
-shifted-events : (part : PartData) (i : Instruction) (p : Port) (tdi : Bool) → (data_shifted part i p tdi).queue ≡ fold (by_event (words_read_out part)) p.queue (data_events i p tdi)
-shifted-events part instruction.CfgIn p tdi = eighth (words_read_out part) p.queue (with_bit p.register tdi) (p.count == 7)
-shifted-events part instruction.CfgOut p tdi = refl
-shifted-events part instruction.Jstart p tdi = refl
-shifted-events part instruction.Usercode p tdi = refl
-shifted-events part instruction.Idcode p tdi = refl
-shifted-events part instruction.Jprogram p tdi = refl
-shifted-events part instruction.Jshutdown p tdi = refl
-shifted-events part instruction.Bypass p tdi = refl
+shifted_events : (part : PartData) (i : Instruction) (p : Port) (tdi : Bool) → (data_shifted part i p tdi).queue ≡ fold (by_event (words_read_out part)) p.queue (data_events i p tdi)
+shifted_events part instruction.CfgIn p tdi = eighth (words_read_out part) p.queue (with_bit p.register tdi) (p.count == 7)
+shifted_events part instruction.CfgOut p tdi = refl
+shifted_events part instruction.Jstart p tdi = refl
+shifted_events part instruction.Usercode p tdi = refl
+shifted_events part instruction.Idcode p tdi = refl
+shifted_events part instruction.Jprogram p tdi = refl
+shifted_events part instruction.Jshutdown p tdi = refl
+shifted_events part instruction.Bypass p tdi = refl
 
-programmed-events : (reads : List ℕ → List ℕ) (i : Instruction) (q : Queue) → queue_at_update i q ≡ fold (by_event reads) q (update_events i)
-programmed-events reads instruction.Jprogram q = refl
-programmed-events reads instruction.CfgIn q = refl
-programmed-events reads instruction.CfgOut q = refl
-programmed-events reads instruction.Jstart q = refl
-programmed-events reads instruction.Usercode q = refl
-programmed-events reads instruction.Idcode q = refl
-programmed-events reads instruction.Jshutdown q = refl
-programmed-events reads instruction.Bypass q = refl
+programmed_events : (reads : List ℕ → List ℕ) (i : Instruction) (q : Queue) → queue_at_update i q ≡ fold (by_event reads) q (update_events i)
+programmed_events reads instruction.Jprogram q = refl
+programmed_events reads instruction.CfgIn q = refl
+programmed_events reads instruction.CfgOut q = refl
+programmed_events reads instruction.Jstart q = refl
+programmed_events reads instruction.Usercode q = refl
+programmed_events reads instruction.Idcode q = refl
+programmed_events reads instruction.Jshutdown q = refl
+programmed_events reads instruction.Bypass q = refl
 
-acted-events : (part : PartData) (s : State) (p : Port) (tdi : Bool) → (acted part s p tdi).queue ≡ fold (by_event (words_read_out part)) p.queue (events_in s p tdi)
-acted-events part state.TestLogicReset p tdi = refl
-acted-events part state.RunTestIdle p tdi = idled-events part p.instruction p
-acted-events part state.SelectDr p tdi = refl
-acted-events part state.CaptureDr p tdi = captured-events part p.instruction p
-acted-events part state.ShiftDr p tdi = shifted-events part p.instruction p tdi
-acted-events part state.Exit1Dr p tdi = refl
-acted-events part state.PauseDr p tdi = refl
-acted-events part state.Exit2Dr p tdi = refl
-acted-events part state.UpdateDr p tdi = refl
-acted-events part state.SelectIr p tdi = refl
-acted-events part state.CaptureIr p tdi = refl
-acted-events part state.ShiftIr p tdi = refl
-acted-events part state.Exit1Ir p tdi = refl
-acted-events part state.PauseIr p tdi = refl
-acted-events part state.Exit2Ir p tdi = refl
-acted-events part state.UpdateIr p tdi = programmed-events (words_read_out part) (instruction_of p.register) p.queue
+acted_events : (part : PartData) (s : State) (p : Port) (tdi : Bool) → (acted part s p tdi).queue ≡ fold (by_event (words_read_out part)) p.queue (events_in s p tdi)
+acted_events part state.TestLogicReset p tdi = refl
+acted_events part state.RunTestIdle p tdi = idled_events part p.instruction p
+acted_events part state.SelectDr p tdi = refl
+acted_events part state.CaptureDr p tdi = captured_events part p.instruction p
+acted_events part state.ShiftDr p tdi = shifted_events part p.instruction p tdi
+acted_events part state.Exit1Dr p tdi = refl
+acted_events part state.PauseDr p tdi = refl
+acted_events part state.Exit2Dr p tdi = refl
+acted_events part state.UpdateDr p tdi = refl
+acted_events part state.SelectIr p tdi = refl
+acted_events part state.CaptureIr p tdi = refl
+acted_events part state.ShiftIr p tdi = refl
+acted_events part state.Exit1Ir p tdi = refl
+acted_events part state.PauseIr p tdi = refl
+acted_events part state.Exit2Ir p tdi = refl
+acted_events part state.UpdateIr p tdi = programmed_events (words_read_out part) (instruction_of p.register) p.queue
 
-events-from : (part : PartData) (p : Port) (cs : List Clock) → (fold (clocked part) p cs).queue ≡ fold (by_event (words_read_out part)) p.queue (events_of part p cs)
-events-from part p [] = refl
-events-from part p (c ∷ cs) =
+events_from : (part : PartData) (p : Port) (cs : List Clock) → (fold (clocked part) p cs).queue ≡ fold (by_event (words_read_out part)) p.queue (events_of part p cs)
+events_from part p [] = refl
+events_from part p (c ∷ cs) =
     let rest : List QueueEvent = events_of part (clocked part p c) cs in
-    events-from part (clocked part p c) cs
-    ∙ ap (λ (q : Queue). fold (by_event (words_read_out part)) q rest) (acted-events part p.state p c.tdi)
+    events_from part (clocked part p c) cs
+    ∙ ap (λ (q : Queue). fold (by_event (words_read_out part)) q rest) (acted_events part p.state p c.tdi)
     ∙ sym (fold-append (by_event (words_read_out part)) p.queue (events_in p.state p c.tdi) rest)
 
-pub queue-events : (part : PartData) (cs : List Clock) → (port_after part cs).queue ≡ queue_after (words_read_out part) (events_of part new_port cs)
-queue-events part cs = events-from part new_port cs
+pub queue_events : (part : PartData) (cs : List Clock) → (port_after part cs).queue ≡ queue_after (words_read_out part) (events_of part new_port cs)
+queue_events part cs = events_from part new_port cs

@@ -16,12 +16,12 @@ use Rattle.x7_jtag.specs.Queue.{Queue, empty, offered}
 use Rattle.x7_jtag.specs.States.{Clock, next_of}
 use Rattle.x7_jtag.specs.Tap.{QueueStandsFor, QueueState, StandsForPort, TapState, TapStandsFor, TookOfGiven}
 use Rattle.x7_jtag.proofs.StandingLemmas.{resets}
-use Rattle.x7_jtag.proofs.TookLemmas.{state-took}
+use Rattle.x7_jtag.proofs.TookLemmas.{state_took}
 
 -- what a device shows, whatever words of it are due
-pub status-is : (part : PartData) (given bytes : List ℕ) (regs : Regs) (due n : ℕ) → TookOfGiven part given bytes → regs ≡ state_owing part on_the_bench false bytes due → n ≡ status regs.lines.done (regs.stat / 2 ^ 12 % 2 == 1) → n ≡ ir_status part given
-status-is part given bytes regs due n t e f =
-    f ∙ ap (λ (r : Regs). status r.lines.done (r.stat / 2 ^ 12 % 2 == 1)) e ∙ ap (λ (r : Regs). status r.lines.done (r.stat / 2 ^ 12 % 2 == 1)) (sym (state-took part given bytes t))
+pub status_is : (part : PartData) (given bytes : List ℕ) (regs : Regs) (due n : ℕ) → TookOfGiven part given bytes → regs ≡ state_owing part on_the_bench false bytes due → n ≡ status regs.lines.done (regs.stat / 2 ^ 12 % 2 == 1) → n ≡ ir_status part given
+status_is part given bytes regs due n t e f =
+    f ∙ ap (λ (r : Regs). status r.lines.done (r.stat / 2 ^ 12 % 2 == 1)) e ∙ ap (λ (r : Regs). status r.lines.done (r.stat / 2 ^ 12 % 2 == 1)) (sym (state_took part given bytes t))
 
 -- a new tap
 pub begins : (part : PartData) (t : TapState) (d : DeviceState) → DeviceStandsFor part on_the_bench false d [] → t ≡ record { state = state.TestLogicReset; instruction = instruction.Idcode; register = 0; count = 0; queue = t.queue } → t.queue ≡ record { held = []; word = 0; left = 0 }
@@ -98,8 +98,8 @@ moves part m n e p tms tdi s is with = record {
   queue_is = subst (λ (q : QueueState). QueueStandsFor part q e (acted part p.state p tdi).queue) (sym (ap (λ (x : TapState). x.queue) with)) s.queue_is;
 }
 
-pub clocks-on : (part : PartData) (k m n : TapState) (d e : DeviceState) (cs : List Clock) (tms tdi : Bool) → TapStandsFor part k d cs → (StandsForPort part k d (port_after part cs) → StandsForPort part m e (acted part (port_after part cs).state (port_after part cs) tdi))
+pub clocks_on : (part : PartData) (k m n : TapState) (d e : DeviceState) (cs : List Clock) (tms tdi : Bool) → TapStandsFor part k d cs → (StandsForPort part k d (port_after part cs) → StandsForPort part m e (acted part (port_after part cs).state (port_after part cs) tdi))
     → m.state ≡ k.state → n ≡ record m { state = next_of m.state tms } → TapStandsFor part n e (cs ++ record { tms = tms; tdi = tdi } ∷ [])
-clocks-on part k m n d e cs tms tdi s act is with =
+clocks_on part k m n d e cs tms tdi s act is with =
     let c : Clock = record { tms = tms; tdi = tdi } in
     subst (StandsForPort part n e) (sym (fold-append (clocked part) new_port cs (c ∷ []))) (moves part m n e (port_after part cs) tms tdi (act s) (is ∙ s.state_is) with)

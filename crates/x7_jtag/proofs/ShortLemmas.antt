@@ -11,119 +11,119 @@ use Rattle.x7_jtag.specs.Instructions.{instruction_of}
 use Rattle.x7_jtag.specs.Port.{Port, acted, clocked, data_shifted, idled, captured, new_port, port_after, queue_at_update, words_read_out, with_bit}
 use Rattle.x7_jtag.specs.Queue.{Queue, dropped, in_turn, most_bytes_held, offered, give_held, shifted_out, waits, queue_with_room}
 use Rattle.x7_jtag.specs.States.{Clock}
-use Rattle.x7_jtag.proofs.QueueLemmas.{given_on, in-turns}
+use Rattle.x7_jtag.proofs.QueueLemmas.{given_on, in_turns}
 use Rattle.x7_jtag.specs.Tap.{QueueHolds, TapStandsFor, TapState}
 
 abbrev size : Queue → ℕ
 size q = length q.given + length q.held
 
-held-size : (reads : List ℕ → List ℕ) (given hs : List ℕ) (out : ℕ) → size (given_on reads given hs out) ≡ length given + length hs
-held-size reads given [] out = refl
-held-size reads given (h ∷ hs) out = by (waits reads given out) (held-size reads (given ++ h ∷ []) hs out)
+held_size : (reads : List ℕ → List ℕ) (given hs : List ℕ) (out : ℕ) → size (given_on reads given hs out) ≡ length given + length hs
+held_size reads given [] out = refl
+held_size reads given (h ∷ hs) out = by (waits reads given out) (held_size reads (given ++ h ∷ []) hs out)
   where
     by : (b : Bool) → size (given_on reads (given ++ h ∷ []) hs out) ≡ length (given ++ h ∷ []) + length hs → size (if b then record { given = given; held = h ∷ hs; out = out } else given_on reads (given ++ h ∷ []) hs out) ≡ length given + length (h ∷ hs)
     by true e = refl
     by false e = omega (arith, e, length-append given (h ∷ []))
 
-turn-size : (reads : List ℕ → List ℕ) (q : Queue) (x : ℕ) → size (in_turn reads q x) ≡ size q + 1
-turn-size reads q x = by (waits reads q.given q.out)
+turn_size : (reads : List ℕ → List ℕ) (q : Queue) (x : ℕ) → size (in_turn reads q x) ≡ size q + 1
+turn_size reads q x = by (waits reads q.given q.out)
   where
     by : (b : Bool) → size (if b then record { given = q.given; held = q.held ++ x ∷ []; out = q.out } else record { given = q.given ++ x ∷ []; held = q.held; out = q.out }) ≡ size q + 1
     by true = omega (arith, length-append q.held (x ∷ []))
     by false = omega (arith, length-append q.given (x ∷ []))
 
-room-size : (reads : List ℕ → List ℕ) (q : Queue) (b : Bool) → size (if b then dropped reads q else q) ≡ size q
-room-size reads q true = omega (arith, length-append q.given q.held)
-room-size reads q false = refl
+room_size : (reads : List ℕ → List ℕ) (q : Queue) (b : Bool) → size (if b then dropped reads q else q) ≡ size q
+room_size reads q true = omega (arith, length-append q.given q.held)
+room_size reads q false = refl
 
-offered-size : (reads : List ℕ → List ℕ) (q : Queue) (x : ℕ) → size (offered reads q x) ≤ size q + 1
-offered-size reads q x = omega (arith, turn-size reads (queue_with_room reads q) x, room-size reads q (waits reads q.given q.out && length q.held == most_bytes_held))
+offered_size : (reads : List ℕ → List ℕ) (q : Queue) (x : ℕ) → size (offered reads q x) ≤ size q + 1
+offered_size reads q x = omega (arith, turn_size reads (queue_with_room reads q) x, room_size reads q (waits reads q.given q.out && length q.held == most_bytes_held))
 
-shifted-size : (reads : List ℕ → List ℕ) (q : Queue) → size (shifted_out reads q) ≤ size q + 1
-shifted-size reads q = by (waits reads q.given q.out)
+shifted_size : (reads : List ℕ → List ℕ) (q : Queue) → size (shifted_out reads q) ≤ size q + 1
+shifted_size reads q = by (waits reads q.given q.out)
   where
     by : (b : Bool) → size (if b then give_held reads (record q { out = q.out + 1 }) else q) ≤ size q + 1
-    by true = omega (arith, held-size reads q.given q.held (q.out + 1), ap size (in-turns reads q.given q.held (q.out + 1)))
+    by true = omega (arith, held_size reads q.given q.held (q.out + 1), ap size (in_turns reads q.given q.held (q.out + 1)))
     by false = omega arith
 
-if-size : (a q : Queue) (b : Bool) → size a ≤ size q + 1 → size (if b then a else q) ≤ size q + 1
-if-size a q true l = l
-if-size a q false l = omega arith
+if_size : (a q : Queue) (b : Bool) → size a ≤ size q + 1 → size (if b then a else q) ≤ size q + 1
+if_size a q true l = l
+if_size a q false l = omega arith
 
-same-size : (q : Queue) → size q ≤ size q + 1
-same-size q = omega arith
+same_size : (q : Queue) → size q ≤ size q + 1
+same_size q = omega arith
 
-idled-size : (part : PartData) (i : Instruction) (p : Port) → size (idled part i p).queue ≤ size p.queue + 1
-idled-size part instruction.Jstart p = if-size (offered (words_read_out part) p.queue 255) p.queue (p.count == 7) (offered-size (words_read_out part) p.queue 255)
-idled-size part instruction.CfgOut p = same-size p.queue
-idled-size part instruction.CfgIn p = same-size p.queue
-idled-size part instruction.Usercode p = same-size p.queue
-idled-size part instruction.Idcode p = same-size p.queue
-idled-size part instruction.Jprogram p = same-size p.queue
-idled-size part instruction.Jshutdown p = same-size p.queue
-idled-size part instruction.Bypass p = same-size p.queue
+idled_size : (part : PartData) (i : Instruction) (p : Port) → size (idled part i p).queue ≤ size p.queue + 1
+idled_size part instruction.Jstart p = if_size (offered (words_read_out part) p.queue 255) p.queue (p.count == 7) (offered_size (words_read_out part) p.queue 255)
+idled_size part instruction.CfgOut p = same_size p.queue
+idled_size part instruction.CfgIn p = same_size p.queue
+idled_size part instruction.Usercode p = same_size p.queue
+idled_size part instruction.Idcode p = same_size p.queue
+idled_size part instruction.Jprogram p = same_size p.queue
+idled_size part instruction.Jshutdown p = same_size p.queue
+idled_size part instruction.Bypass p = same_size p.queue
 
-captured-size : (part : PartData) (i : Instruction) (p : Port) → size (captured part i p).queue ≤ size p.queue + 1
-captured-size part instruction.Jstart p = same-size p.queue
-captured-size part instruction.CfgOut p = same-size p.queue
-captured-size part instruction.CfgIn p = same-size p.queue
-captured-size part instruction.Usercode p = same-size p.queue
-captured-size part instruction.Idcode p = same-size p.queue
-captured-size part instruction.Jprogram p = same-size p.queue
-captured-size part instruction.Jshutdown p = same-size p.queue
-captured-size part instruction.Bypass p = same-size p.queue
+captured_size : (part : PartData) (i : Instruction) (p : Port) → size (captured part i p).queue ≤ size p.queue + 1
+captured_size part instruction.Jstart p = same_size p.queue
+captured_size part instruction.CfgOut p = same_size p.queue
+captured_size part instruction.CfgIn p = same_size p.queue
+captured_size part instruction.Usercode p = same_size p.queue
+captured_size part instruction.Idcode p = same_size p.queue
+captured_size part instruction.Jprogram p = same_size p.queue
+captured_size part instruction.Jshutdown p = same_size p.queue
+captured_size part instruction.Bypass p = same_size p.queue
 
-data-size : (part : PartData) (i : Instruction) (p : Port) (tdi : Bool) → size (data_shifted part i p tdi).queue ≤ size p.queue + 1
-data-size part instruction.CfgIn p tdi = if-size (offered (words_read_out part) p.queue (with_bit p.register tdi)) p.queue (p.count == 7) (offered-size (words_read_out part) p.queue (with_bit p.register tdi))
-data-size part instruction.CfgOut p tdi = shifted-size (words_read_out part) p.queue
-data-size part instruction.Jstart p tdi = same-size p.queue
-data-size part instruction.Usercode p tdi = same-size p.queue
-data-size part instruction.Idcode p tdi = same-size p.queue
-data-size part instruction.Jprogram p tdi = same-size p.queue
-data-size part instruction.Jshutdown p tdi = same-size p.queue
-data-size part instruction.Bypass p tdi = same-size p.queue
+data_size : (part : PartData) (i : Instruction) (p : Port) (tdi : Bool) → size (data_shifted part i p tdi).queue ≤ size p.queue + 1
+data_size part instruction.CfgIn p tdi = if_size (offered (words_read_out part) p.queue (with_bit p.register tdi)) p.queue (p.count == 7) (offered_size (words_read_out part) p.queue (with_bit p.register tdi))
+data_size part instruction.CfgOut p tdi = shifted_size (words_read_out part) p.queue
+data_size part instruction.Jstart p tdi = same_size p.queue
+data_size part instruction.Usercode p tdi = same_size p.queue
+data_size part instruction.Idcode p tdi = same_size p.queue
+data_size part instruction.Jprogram p tdi = same_size p.queue
+data_size part instruction.Jshutdown p tdi = same_size p.queue
+data_size part instruction.Bypass p tdi = same_size p.queue
 
-programmed-size : (i : Instruction) (q : Queue) → size (queue_at_update i q) ≤ size q + 1
-programmed-size instruction.Jprogram q = omega arith
-programmed-size instruction.CfgIn q = same-size q
-programmed-size instruction.CfgOut q = same-size q
-programmed-size instruction.Jstart q = same-size q
-programmed-size instruction.Usercode q = same-size q
-programmed-size instruction.Idcode q = same-size q
-programmed-size instruction.Jshutdown q = same-size q
-programmed-size instruction.Bypass q = same-size q
+programmed_size : (i : Instruction) (q : Queue) → size (queue_at_update i q) ≤ size q + 1
+programmed_size instruction.Jprogram q = omega arith
+programmed_size instruction.CfgIn q = same_size q
+programmed_size instruction.CfgOut q = same_size q
+programmed_size instruction.Jstart q = same_size q
+programmed_size instruction.Usercode q = same_size q
+programmed_size instruction.Idcode q = same_size q
+programmed_size instruction.Jshutdown q = same_size q
+programmed_size instruction.Bypass q = same_size q
 
-acted-size : (part : PartData) (s : State) (p : Port) (tdi : Bool) → size (acted part s p tdi).queue ≤ size p.queue + 1
-acted-size part state.TestLogicReset p tdi = same-size p.queue
-acted-size part state.RunTestIdle p tdi = idled-size part p.instruction p
-acted-size part state.SelectDr p tdi = same-size p.queue
-acted-size part state.CaptureDr p tdi = captured-size part p.instruction p
-acted-size part state.ShiftDr p tdi = data-size part p.instruction p tdi
-acted-size part state.Exit1Dr p tdi = same-size p.queue
-acted-size part state.PauseDr p tdi = same-size p.queue
-acted-size part state.Exit2Dr p tdi = same-size p.queue
-acted-size part state.UpdateDr p tdi = same-size p.queue
-acted-size part state.SelectIr p tdi = same-size p.queue
-acted-size part state.CaptureIr p tdi = same-size p.queue
-acted-size part state.ShiftIr p tdi = same-size p.queue
-acted-size part state.Exit1Ir p tdi = same-size p.queue
-acted-size part state.PauseIr p tdi = same-size p.queue
-acted-size part state.Exit2Ir p tdi = same-size p.queue
-acted-size part state.UpdateIr p tdi = programmed-size (instruction_of p.register) p.queue
+acted_size : (part : PartData) (s : State) (p : Port) (tdi : Bool) → size (acted part s p tdi).queue ≤ size p.queue + 1
+acted_size part state.TestLogicReset p tdi = same_size p.queue
+acted_size part state.RunTestIdle p tdi = idled_size part p.instruction p
+acted_size part state.SelectDr p tdi = same_size p.queue
+acted_size part state.CaptureDr p tdi = captured_size part p.instruction p
+acted_size part state.ShiftDr p tdi = data_size part p.instruction p tdi
+acted_size part state.Exit1Dr p tdi = same_size p.queue
+acted_size part state.PauseDr p tdi = same_size p.queue
+acted_size part state.Exit2Dr p tdi = same_size p.queue
+acted_size part state.UpdateDr p tdi = same_size p.queue
+acted_size part state.SelectIr p tdi = same_size p.queue
+acted_size part state.CaptureIr p tdi = same_size p.queue
+acted_size part state.ShiftIr p tdi = same_size p.queue
+acted_size part state.Exit1Ir p tdi = same_size p.queue
+acted_size part state.PauseIr p tdi = same_size p.queue
+acted_size part state.Exit2Ir p tdi = same_size p.queue
+acted_size part state.UpdateIr p tdi = programmed_size (instruction_of p.register) p.queue
 
-clocks-size : (part : PartData) (p : Port) (cs : List Clock) → size (fold (clocked part) p cs).queue ≤ size p.queue + length cs
-clocks-size part p [] = omega arith
-clocks-size part p (c ∷ cs) =
-    let step : size (clocked part p c).queue ≤ size p.queue + 1 = acted-size part p.state p c.tdi in
-    omega (arith, step, clocks-size part (clocked part p c) cs)
+clocks_size : (part : PartData) (p : Port) (cs : List Clock) → size (fold (clocked part) p cs).queue ≤ size p.queue + length cs
+clocks_size part p [] = omega arith
+clocks_size part p (c ∷ cs) =
+    let step : size (clocked part p c).queue ≤ size p.queue + 1 = acted_size part p.state p c.tdi in
+    omega (arith, step, clocks_size part (clocked part p c) cs)
 
 -- a device took no more bytes than there were clocks, with the bytes held
-pub held-short : (part : PartData) (t : TapState) (d : DeviceState) (cs : List Clock) → TapStandsFor part t d cs → d.taken + length t.queue.held ≤ length cs
-held-short part t d cs s =
+pub held_short : (part : PartData) (t : TapState) (d : DeviceState) (cs : List Clock) → TapStandsFor part t d cs → d.taken + length t.queue.held ≤ length cs
+held_short part t d cs s =
     let h : QueueHolds part t.queue d (port_after part cs).queue = s.queue_is.holds in
-    omega (arith, h.device.taken_is, ap length h.took.parts, length-append h.bytes h.took.rest, ap length h.held_is, clocks-size part new_port cs)
+    omega (arith, h.device.taken_is, ap length h.took.parts, length-append h.bytes h.took.rest, ap length h.held_is, clocks_size part new_port cs)
 
-pub taken-short : (part : PartData) (t : TapState) (d : DeviceState) (cs : List Clock) → TapStandsFor part t d cs → d.taken ≤ length cs
-taken-short part t d cs s =
+pub taken_short : (part : PartData) (t : TapState) (d : DeviceState) (cs : List Clock) → TapStandsFor part t d cs → d.taken ≤ length cs
+taken_short part t d cs s =
     let h : QueueHolds part t.queue d (port_after part cs).queue = s.queue_is.holds in
-    omega (arith, h.device.taken_is, ap length h.took.parts, length-append h.bytes h.took.rest, clocks-size part new_port cs)
+    omega (arith, h.device.taken_is, ap length h.took.parts, length-append h.bytes h.took.rest, clocks_size part new_port cs)

@@ -9,8 +9,8 @@ module _ (xs : List ℕ) (k at n : ℕ) where
   abbrev pub copied : List ℕ
   copied = take k xs ++ take n (drop at xs)
 
-  copied-long : k ≤ at → at + n ≤ length xs → length copied ≡ k + n
-  copied-long l w =
+  copied_long : k ≤ at → at + n ≤ length xs → length copied ≡ k + n
+  copied_long l w =
       let prefix : length (take k xs) ≡ k = length-take-le k xs (omega (arith, l, w)) in
       let part : length (take n (drop at xs)) ≡ n = length-take-le n (drop at xs) (omega (arith, w, length-drop at xs)) in
       omega (arith, length-append (take k xs) (take n (drop at xs)), prefix, part)
@@ -18,9 +18,9 @@ module _ (xs : List ℕ) (k at n : ℕ) where
   shape : copy_within xs at (at + n) k ≡ copied ++ drop (k + n) xs
   shape = let count : at + n - at ≡ n = omega arith in ap (λ (m : ℕ). take k xs ++ take m (drop at xs) ++ drop (k + m) xs) count
 
-  pub kept-more : k ≤ at → at + n ≤ length xs → take (k + n) (copy_within xs at (at + n) k) ≡ copied
-  kept-more l w = ap (take (k + n)) shape ∙ take_at copied (drop (k + n) xs) (k + n) (copied-long l w)
+  pub kept_more : k ≤ at → at + n ≤ length xs → take (k + n) (copy_within xs at (at + n) k) ≡ copied
+  kept_more l w = ap (take (k + n)) shape ∙ take_at copied (drop (k + n) xs) (k + n) (copied_long l w)
 
-  pub rest-same : k ≤ at → at + n ≤ length xs → drop (at + n) (copy_within xs at (at + n) k) ≡ drop n (drop at xs)
-  rest-same l w =
-      ap (drop (at + n)) shape ∙ drop-append-drop (k + n) xs copied (at + n) (omega (arith, l)) (copied-long l w) ∙ sym (drop-drop n at xs)
+  pub rest_same : k ≤ at → at + n ≤ length xs → drop (at + n) (copy_within xs at (at + n) k) ≡ drop n (drop at xs)
+  rest_same l w =
+      ap (drop (at + n)) shape ∙ drop-append-drop (k + n) xs copied (at + n) (omega (arith, l)) (copied_long l w) ∙ sym (drop-drop n at xs)

@@ -4,7 +4,7 @@ use Rattle.std.proofs.Math.Seq.{take-length}
 use Rattle.std.proofs.lemmas.List.{take-append-drop}
 use Rattle.std.specs.Option.{IsSome, is_some}
 use Rattle.x7_words.specs.Word.{AreBytes}
-use Rattle.x7_words.proofs.ListLemmas.{all-append}
+use Rattle.x7_words.proofs.ListLemmas.{all_append}
 use Rattle.x7_part.specs.Part.{PartData}
 use Rattle.x7_engine.specs.declared.fed.Fed.{Fed}
 use Rattle.x7_engine.specs.declared.fed.Fed.TheVariants as fed
@@ -14,99 +14,99 @@ use Rattle.x7_engine.specs.Past.{Answers, past_of}
 use Rattle.x7_engine.specs.Standing.{DeviceState, NoWordDue, due_count, taken_in}
 use Rattle.x7_engine.specs.State.{reads_of, state_of, stop_in}
 use Rattle.x7_engine.specs.Stops.{Stopped}
-use Rattle.x7_engine.proofs.StateLemmas.{stop_is_final-reads, stop_is_final-state}
+use Rattle.x7_engine.proofs.StateLemmas.{stop_is_final_reads, stop_is_final_state}
 use Rattle.x7_jtag.specs.Tap.{TookOfGiven, words_taken}
 
-drop-all : (xs : List ℕ) → drop (length xs) xs ≡ []
-drop-all [] = refl
-drop-all (x ∷ xs) = drop-all xs
+drop_all : (xs : List ℕ) → drop (length xs) xs ≡ []
+drop_all [] = refl
+drop_all (x ∷ xs) = drop_all xs
 
-piece-split : (bytes piece : List ℕ) (n : ℕ) → (bytes ++ take n piece) ++ drop n piece ≡ bytes ++ piece
-piece-split bytes piece n = append_assoc bytes (take n piece) (drop n piece) ∙ ap (λ t. bytes ++ t) (take-append-drop n piece)
+piece_split : (bytes piece : List ℕ) (n : ℕ) → (bytes ++ take n piece) ++ drop n piece ≡ bytes ++ piece
+piece_split bytes piece n = append_assoc bytes (take n piece) (drop n piece) ∙ ap (λ t. bytes ++ t) (take-append-drop n piece)
 
 -- what is given where nothing is left over
-took-whole : (part : PartData) (given bytes : List ℕ) (t : TookOfGiven part given bytes) → t.rest ≡ [] → given ≡ bytes
-took-whole part given bytes t e = t.parts ∙ ap (λ r. bytes ++ r) e ∙ append-nil bytes
+took_whole : (part : PartData) (given bytes : List ℕ) (t : TookOfGiven part given bytes) → t.rest ≡ [] → given ≡ bytes
+took_whole part given bytes t e = t.parts ∙ ap (λ r. bytes ++ r) e ∙ append-nil bytes
 
 -- the stop of an option that has one
-the-stop : (o : Option Stopped) → IsSome o → (s : Stopped) × (o ≡ Some s)
-the-stop None e = absurd (let f : false ≡ true = e in cc)
-the-stop (Some s) e = (s, refl)
+the_stop : (o : Option Stopped) → IsSome o → (s : Stopped) × (o ≡ Some s)
+the_stop None e = absurd (let f : false ≡ true = e in cc)
+the_stop (Some s) e = (s, refl)
 
 -- a piece more is given
 module _ (part : PartData) (given bytes piece : List ℕ) (n : ℕ) where
-  more-over : IsSome (stop_in part on_the_bench (bytes ++ take n piece)) ⊎ (n ≡ length piece) → (drop n piece ≡ []) ⊎ IsSome (stop_in part on_the_bench (bytes ++ take n piece))
-  more-over (inl s) = inr s
-  more-over (inr e) = inl (ap (λ (k : ℕ). drop k piece) e ∙ drop-all piece)
+  more_over : IsSome (stop_in part on_the_bench (bytes ++ take n piece)) ⊎ (n ≡ length piece) → (drop n piece ≡ []) ⊎ IsSome (stop_in part on_the_bench (bytes ++ take n piece))
+  more_over (inl s) = inr s
+  more_over (inr e) = inl (ap (λ (k : ℕ). drop k piece) e ∙ drop_all piece)
 
-  more-by : AreBytes piece → (t : TookOfGiven part given bytes) → (IsSome (stop_in part on_the_bench bytes) → n ≡ 0) → IsSome (stop_in part on_the_bench (bytes ++ take n piece)) ⊎ (n ≡ length piece)
+  more_by : AreBytes piece → (t : TookOfGiven part given bytes) → (IsSome (stop_in part on_the_bench bytes) → n ≡ 0) → IsSome (stop_in part on_the_bench (bytes ++ take n piece)) ⊎ (n ≡ length piece)
       → (t.rest ≡ []) ⊎ IsSome (stop_in part on_the_bench bytes) → TookOfGiven part (given ++ piece) (bytes ++ take n piece)
-  more-by f t z s (inl e) = record {
-    fits = all-append (λ b. b < 256) given piece t.fits f;
+  more_by f t z s (inl e) = record {
+    fits = all_append (λ b. b < 256) given piece t.fits f;
     rest = drop n piece;
-    parts = ap (λ g. g ++ piece) (took-whole part given bytes t e) ∙ sym (piece-split bytes piece n);
-    over = more-over s;
+    parts = ap (λ g. g ++ piece) (took_whole part given bytes t e) ∙ sym (piece_split bytes piece n);
+    over = more_over s;
   }
-  more-by f t z s (inr stop) =
+  more_by f t z s (inr stop) =
       let same : bytes ++ take n piece ≡ bytes = ap (λ (k : ℕ). bytes ++ take k piece) (z stop) ∙ append-nil bytes in
       record {
-        fits = all-append (λ b. b < 256) given piece t.fits f;
+        fits = all_append (λ b. b < 256) given piece t.fits f;
         rest = t.rest ++ piece;
         parts = ap (λ g. g ++ piece) t.parts ∙ append_assoc bytes t.rest piece ∙ ap (λ b. b ++ (t.rest ++ piece)) (sym same);
         over = inr (subst (λ b. IsSome (stop_in part on_the_bench b)) (sym same) stop);
       }
 
-  pub took-more : AreBytes piece → (t : TookOfGiven part given bytes) → (IsSome (stop_in part on_the_bench bytes) → n ≡ 0) → IsSome (stop_in part on_the_bench (bytes ++ take n piece)) ⊎ (n ≡ length piece)
+  pub took_more : AreBytes piece → (t : TookOfGiven part given bytes) → (IsSome (stop_in part on_the_bench bytes) → n ≡ 0) → IsSome (stop_in part on_the_bench (bytes ++ take n piece)) ⊎ (n ≡ length piece)
       → TookOfGiven part (given ++ piece) (bytes ++ take n piece)
-  took-more f t z s = more-by f t z s t.over
+  took_more f t z s = more_by f t z s t.over
 
 -- what the bytes given read out, those taken read out
-reads-by : (part : PartData) (given bytes : List ℕ) (t : TookOfGiven part given bytes) → (t.rest ≡ []) ⊎ IsSome (stop_in part on_the_bench bytes) → reads_of part on_the_bench given ≡ reads_of part on_the_bench bytes
-reads-by part given bytes t (inl e) = ap (reads_of part on_the_bench) (took-whole part given bytes t e)
-reads-by part given bytes t (inr s) =
-    let stop : (s : Stopped) × (stop_in part on_the_bench bytes ≡ Some s) = the-stop (stop_in part on_the_bench bytes) s in
-    ap (reads_of part on_the_bench) t.parts ∙ stop_is_final-reads part on_the_bench bytes t.rest stop.0 (subst AreBytes t.parts t.fits) stop.1
+reads_by : (part : PartData) (given bytes : List ℕ) (t : TookOfGiven part given bytes) → (t.rest ≡ []) ⊎ IsSome (stop_in part on_the_bench bytes) → reads_of part on_the_bench given ≡ reads_of part on_the_bench bytes
+reads_by part given bytes t (inl e) = ap (reads_of part on_the_bench) (took_whole part given bytes t e)
+reads_by part given bytes t (inr s) =
+    let stop : (s : Stopped) × (stop_in part on_the_bench bytes ≡ Some s) = the_stop (stop_in part on_the_bench bytes) s in
+    ap (reads_of part on_the_bench) t.parts ∙ stop_is_final_reads part on_the_bench bytes t.rest stop.0 (subst AreBytes t.parts t.fits) stop.1
 
-pub reads-took : (part : PartData) (given bytes : List ℕ) → TookOfGiven part given bytes → reads_of part on_the_bench given ≡ reads_of part on_the_bench bytes
-reads-took part given bytes t = reads-by part given bytes t t.over
+pub reads_took : (part : PartData) (given bytes : List ℕ) → TookOfGiven part given bytes → reads_of part on_the_bench given ≡ reads_of part on_the_bench bytes
+reads_took part given bytes t = reads_by part given bytes t t.over
 
-state-by : (part : PartData) (given bytes : List ℕ) (t : TookOfGiven part given bytes) → (t.rest ≡ []) ⊎ IsSome (stop_in part on_the_bench bytes) → state_of part on_the_bench false given ≡ state_of part on_the_bench false bytes
-state-by part given bytes t (inl e) = ap (state_of part on_the_bench false) (took-whole part given bytes t e)
-state-by part given bytes t (inr s) =
-    let stop : (s : Stopped) × (stop_in part on_the_bench bytes ≡ Some s) = the-stop (stop_in part on_the_bench bytes) s in
-    ap (state_of part on_the_bench false) t.parts ∙ stop_is_final-state part on_the_bench false bytes t.rest stop.0 (subst AreBytes t.parts t.fits) stop.1
+state_by : (part : PartData) (given bytes : List ℕ) (t : TookOfGiven part given bytes) → (t.rest ≡ []) ⊎ IsSome (stop_in part on_the_bench bytes) → state_of part on_the_bench false given ≡ state_of part on_the_bench false bytes
+state_by part given bytes t (inl e) = ap (state_of part on_the_bench false) (took_whole part given bytes t e)
+state_by part given bytes t (inr s) =
+    let stop : (s : Stopped) × (stop_in part on_the_bench bytes ≡ Some s) = the_stop (stop_in part on_the_bench bytes) s in
+    ap (state_of part on_the_bench false) t.parts ∙ stop_is_final_state part on_the_bench false bytes t.rest stop.0 (subst AreBytes t.parts t.fits) stop.1
 
-pub state-took : (part : PartData) (given bytes : List ℕ) → TookOfGiven part given bytes → state_of part on_the_bench false given ≡ state_of part on_the_bench false bytes
-state-took part given bytes t = state-by part given bytes t t.over
+pub state_took : (part : PartData) (given bytes : List ℕ) → TookOfGiven part given bytes → state_of part on_the_bench false given ≡ state_of part on_the_bench false bytes
+state_took part given bytes t = state_by part given bytes t t.over
 
 -- where no word is due all words are grown
-pub taken-all : (part : PartData) (d : DeviceState) (bytes : List ℕ) → NoWordDue d → words_taken part d bytes ≡ reads_of part on_the_bench bytes
-taken-all part d bytes none =
+pub taken_all : (part : PartData) (d : DeviceState) (bytes : List ℕ) → NoWordDue d → words_taken part d bytes ≡ reads_of part on_the_bench bytes
+taken_all part d bytes none =
     let all : length (reads_of part on_the_bench bytes) - due_count d.registers.due ≡ length (reads_of part on_the_bench bytes) = omega (arith, none) in
     ap (λ (n : ℕ). take n (reads_of part on_the_bench bytes)) all ∙ take-length (reads_of part on_the_bench bytes)
 
 -- the words taken are the first of those read out
-pub taken-first : (part : PartData) (d : DeviceState) (bytes : List ℕ) → (more : List ℕ) × (words_taken part d bytes ++ more ≡ reads_of part on_the_bench bytes)
-taken-first part d bytes =
+pub taken_first : (part : PartData) (d : DeviceState) (bytes : List ℕ) → (more : List ℕ) × (words_taken part d bytes ++ more ≡ reads_of part on_the_bench bytes)
+taken_first part d bytes =
     let n : ℕ = length (reads_of part on_the_bench bytes) - due_count d.registers.due in
     (drop n (reads_of part on_the_bench bytes), take-append-drop n (reads_of part on_the_bench bytes))
 
-pub taken-few : (part : PartData) (d : DeviceState) (bytes : List ℕ) → length (words_taken part d bytes) ≤ length (reads_of part on_the_bench bytes)
-taken-few part d bytes =
-    let first : (more : List ℕ) × (words_taken part d bytes ++ more ≡ reads_of part on_the_bench bytes) = taken-first part d bytes in
+pub taken_few : (part : PartData) (d : DeviceState) (bytes : List ℕ) → length (words_taken part d bytes) ≤ length (reads_of part on_the_bench bytes)
+taken_few part d bytes =
+    let first : (more : List ℕ) × (words_taken part d bytes ++ more ≡ reads_of part on_the_bench bytes) = taken_first part d bytes in
     omega (arith, ap length first.1, length-append (words_taken part d bytes) first.0)
 
 -- ---- what a feed of at most one byte came to, by its answer
 
 -- the device has stopped, or took the whole piece; a word that is due has come with its byte
-pub goes-on : (part : PartData) (d e : DeviceState) (bytes piece more : List ℕ) (read : ReadBufState) (f : Fed) → Answers (past_of part on_the_bench false (bytes ++ take (taken_in (length piece) f) piece)) e read f → taken_in (length piece) f ≤ length piece → length piece ≤ 1
+pub goes_on : (part : PartData) (d e : DeviceState) (bytes piece more : List ℕ) (read : ReadBufState) (f : Fed) → Answers (past_of part on_the_bench false (bytes ++ take (taken_in (length piece) f) piece)) e read f → taken_in (length piece) f ≤ length piece → length piece ≤ 1
     → (0 < length piece → NoWordDue d) → (IsFull read → length more ≡ 1) → words_taken part e (bytes ++ take (taken_in (length piece) f) piece) ≡ words_taken part d bytes ++ more
     → IsSome (stop_in part on_the_bench (bytes ++ take (taken_in (length piece) f) piece)) ⊎ (taken_in (length piece) f ≡ length piece)
-goes-on part d e bytes piece more read fed.All a w l z full grown = inr refl
-goes-on part d e bytes piece more read (fed.Stopped n) a w l z full grown = inl (ap is_some a.1)
-goes-on part d e bytes piece more read (fed.Iprog n) a w l z full grown = inl (ap is_some a.0)
-goes-on part d e bytes [] more read (fed.ReadFull n) a w l z full grown = inr (omega (arith, w))
-goes-on part d e bytes (x ∷ xs) more read (fed.ReadFull n) a w l z full grown = inr (by n refl)
+goes_on part d e bytes piece more read fed.All a w l z full grown = inr refl
+goes_on part d e bytes piece more read (fed.Stopped n) a w l z full grown = inl (ap is_some a.1)
+goes_on part d e bytes piece more read (fed.Iprog n) a w l z full grown = inl (ap is_some a.0)
+goes_on part d e bytes [] more read (fed.ReadFull n) a w l z full grown = inr (omega (arith, w))
+goes_on part d e bytes (x ∷ xs) more read (fed.ReadFull n) a w l z full grown = inr (by n refl)
   where
     here : n ≡ 0 → bytes ++ take n (x ∷ xs) ≡ bytes
     here g = ap (λ (k : ℕ). bytes ++ take k (x ∷ xs)) g ∙ append-nil bytes
@@ -115,22 +115,22 @@ goes-on part d e bytes (x ∷ xs) more read (fed.ReadFull n) a w l z full grown 
     by zero g =
         let same : bytes ++ take n (x ∷ xs) ≡ bytes = here g in
         let count : length (words_taken part e (bytes ++ take n (x ∷ xs))) ≡ length (words_taken part d bytes) + length more = ap length grown ∙ length-append (words_taken part d bytes) more in
-        let before : length (words_taken part d bytes) ≡ length (reads_of part on_the_bench bytes) = ap length (taken-all part d bytes (z (omega arith))) in
+        let before : length (words_taken part d bytes) ≡ length (reads_of part on_the_bench bytes) = ap length (taken_all part d bytes (z (omega arith))) in
         let after : length (reads_of part on_the_bench (bytes ++ take n (x ∷ xs))) ≡ length (reads_of part on_the_bench bytes) = ap (λ b. length (reads_of part on_the_bench b)) same in
-        absurd (omega (arith, count, before, after, full a.2, taken-few part e (bytes ++ take n (x ∷ xs))))
+        absurd (omega (arith, count, before, after, full a.2, taken_few part e (bytes ++ take n (x ∷ xs))))
     by (suc m) g = omega (arith, g, w, l)
 
 -- where the device gave no word none is due
-pub none-given : (part : PartData) (e : DeviceState) (bytes piece : List ℕ) (read : ReadBufState) (f : Fed) → Answers (past_of part on_the_bench false (bytes ++ take (taken_in (length piece) f) piece)) e read f → (IsFull read → ⊥) → NoWordDue e
-none-given part e bytes piece read fed.All a full = a.1
-none-given part e bytes piece read (fed.Stopped n) a full = a.2
-none-given part e bytes piece read (fed.Iprog n) a full = a.1
-none-given part e bytes piece read (fed.ReadFull n) a full = absurd (full a.2)
+pub none_given : (part : PartData) (e : DeviceState) (bytes piece : List ℕ) (read : ReadBufState) (f : Fed) → Answers (past_of part on_the_bench false (bytes ++ take (taken_in (length piece) f) piece)) e read f → (IsFull read → ⊥) → NoWordDue e
+none_given part e bytes piece read fed.All a full = a.1
+none_given part e bytes piece read (fed.Stopped n) a full = a.2
+none_given part e bytes piece read (fed.Iprog n) a full = a.1
+none_given part e bytes piece read (fed.ReadFull n) a full = absurd (full a.2)
 
 -- a piece for a buffer that drops words
-pub goes-on-dropping : (part : PartData) (e : DeviceState) (bytes piece : List ℕ) (read : ReadBufState) (f : Fed) → Answers (past_of part on_the_bench false (bytes ++ take (taken_in (length piece) f) piece)) e read f → (IsFull read → ⊥)
+pub goes_on_dropping : (part : PartData) (e : DeviceState) (bytes piece : List ℕ) (read : ReadBufState) (f : Fed) → Answers (past_of part on_the_bench false (bytes ++ take (taken_in (length piece) f) piece)) e read f → (IsFull read → ⊥)
     → IsSome (stop_in part on_the_bench (bytes ++ take (taken_in (length piece) f) piece)) ⊎ (taken_in (length piece) f ≡ length piece)
-goes-on-dropping part e bytes piece read fed.All a full = inr refl
-goes-on-dropping part e bytes piece read (fed.Stopped n) a full = inl (ap is_some a.1)
-goes-on-dropping part e bytes piece read (fed.Iprog n) a full = inl (ap is_some a.0)
-goes-on-dropping part e bytes piece read (fed.ReadFull n) a full = absurd (full a.2)
+goes_on_dropping part e bytes piece read fed.All a full = inr refl
+goes_on_dropping part e bytes piece read (fed.Stopped n) a full = inl (ap is_some a.1)
+goes_on_dropping part e bytes piece read (fed.Iprog n) a full = inl (ap is_some a.0)
+goes_on_dropping part e bytes piece read (fed.ReadFull n) a full = absurd (full a.2)

@@ -37,9 +37,9 @@ abbrev pub first_statement : List TextPiece → Option Statement
 first_statement ps = if_ended (pieces_after ps) (statement_of (marks_before ps))
 
 -- the pieces after a statement, none where it never ends
-abbrev pub pieces_behind : Option (List TextPiece) → List TextPiece
-pieces_behind None = []
-pieces_behind (Some after) = after
+abbrev pub pieces_left_after : Option (List TextPiece) → List TextPiece
+pieces_left_after None = []
+pieces_left_after (Some after) = after
 
 -- a statement before what the pieces after it come to, or the line on which one begins that is none
 abbrev pub with_first : ℕ → Option Statement → Result (List Statement) SvfFault → Result (List Statement) SvfFault
@@ -51,7 +51,7 @@ with_first line (Some s) (Err f) = Err f
 abbrev pub outcome_by : ℕ → List TextPiece → Result (List Statement) SvfFault
 outcome_by n [] = Ok []
 outcome_by zero (p ∷ ps) = Err (fault.Line p.line)
-outcome_by (suc n) (p ∷ ps) = with_first p.line (first_statement (p ∷ ps)) (outcome_by n (pieces_behind (pieces_after (p ∷ ps))))
+outcome_by (suc n) (p ∷ ps) = with_first p.line (first_statement (p ∷ ps)) (outcome_by n (pieces_left_after (pieces_after (p ∷ ps))))
 
 -- what pieces come to
 abbrev pub outcome : List TextPiece → Result (List Statement) SvfFault

@@ -10,42 +10,42 @@ use Rattle.x7_text.specs.Digits.{hex_byte, hex_digit}
 use Rattle.x7_listing.specs.BitLine.{bit_text, field_text, has_no_space, IsCutAtSpace, IsField, IsHeaderOf, IsHeld}
 use Rattle.x7_listing.specs.Line.{Empty, IsLine, Line, text_of}
 use Rattle.x7_text.specs.DigitValue.{bytes_value}
-use Rattle.x7_listing.proofs.GuessLemmas.{after_space, after-space, before_space, before-space, decimal_after, decimal-back, line-is}
-use Rattle.x7_text.proofs.ValueLemmas.{bytes-back}
-use Rattle.x7_text.proofs.WholeLineLemmas.{length-hex_bytes}
+use Rattle.x7_listing.proofs.GuessLemmas.{after_space, digits_after_space, before_space, name_before_space, decimal_after, decimal_back, line_is}
+use Rattle.x7_text.proofs.ValueLemmas.{bytes_back}
+use Rattle.x7_text.proofs.WholeLineLemmas.{length_hex_bytes}
 
 -- what a field's text is of, if of anything
 abbrev field_guess : List ℕ → List ℕ
 field_guess t = if bytes_eq t (45 ∷ []) then [] else bytes_value t
 
-and-false : (b : Bool) → (b && false) ≡ false
-and-false true = refl
-and-false false = refl
+and_false : (b : Bool) → (b && false) ≡ false
+and_false true = refl
+and_false false = refl
 
-field-back : (bs : List ℕ) → AreBytes bs → field_guess (field_text bs) ≡ bs
-field-back [] h = refl
-field-back (x ∷ xs) h = ap (λ (b : Bool). if b then [] else bytes_value (flat_map hex_byte (x ∷ xs))) (and-false (hex_digit (x / 2 ^ 4 % 16) == 45)) ∙ bytes-back (x ∷ xs) h
+field_back : (bs : List ℕ) → AreBytes bs → field_guess (field_text bs) ≡ bs
+field_back [] h = refl
+field_back (x ∷ xs) h = ap (λ (b : Bool). if b then [] else bytes_value (flat_map hex_byte (x ∷ xs))) (and_false (hex_digit (x / 2 ^ 4 % 16) == 45)) ∙ bytes_back (x ∷ xs) h
 
-more-free : (x : ℕ) (xs : List ℕ) → (x == 32) ≡ false → has_no_space xs ≡ true → has_no_space (x ∷ xs) ≡ true
-more-free x xs e h = rw e h
+more_free : (x : ℕ) (xs : List ℕ) → (x == 32) ≡ false → has_no_space xs ≡ true → has_no_space (x ∷ xs) ≡ true
+more_free x xs e h = rw e h
 
-digit-free : (n : ℕ) → (hex_digit n == 32) ≡ false
-digit-free n = grind (arith, common_steps)
+digit_free : (n : ℕ) → (hex_digit n == 32) ≡ false
+digit_free n = grind (arith, common_steps)
 
-hex-free : (bs : List ℕ) → has_no_space (flat_map hex_byte bs) ≡ true
-hex-free [] = refl
-hex-free (b ∷ bs) = more-free (hex_digit (b / 2 ^ 4 % 16)) (hex_digit (b % 16) ∷ flat_map hex_byte bs) (digit-free (b / 2 ^ 4 % 16)) (more-free (hex_digit (b % 16)) (flat_map hex_byte bs) (digit-free (b % 16)) (hex-free bs))
+hex_free : (bs : List ℕ) → has_no_space (flat_map hex_byte bs) ≡ true
+hex_free [] = refl
+hex_free (b ∷ bs) = more_free (hex_digit (b / 2 ^ 4 % 16)) (hex_digit (b % 16) ∷ flat_map hex_byte bs) (digit_free (b / 2 ^ 4 % 16)) (more_free (hex_digit (b % 16)) (flat_map hex_byte bs) (digit_free (b % 16)) (hex_free bs))
 
-field-free : (bs : List ℕ) → has_no_space (field_text bs) ≡ true
-field-free [] = refl
-field-free (x ∷ xs) = hex-free (x ∷ xs)
+field_free : (bs : List ℕ) → has_no_space (field_text bs) ≡ true
+field_free [] = refl
+field_free (x ∷ xs) = hex_free (x ∷ xs)
 
 -- the first field of a text, and what stands after it
-first-field : (bs rest : List ℕ) → AreBytes bs → field_guess (before_space (field_text bs ++ 32 ∷ rest)) ≡ bs
-first-field bs rest h = ap field_guess (before-space (field_text bs) rest (field-free bs)) ∙ field-back bs h
+first_field : (bs rest : List ℕ) → AreBytes bs → field_guess (before_space (field_text bs ++ 32 ∷ rest)) ≡ bs
+first_field bs rest h = ap field_guess (name_before_space (field_text bs) rest (field_free bs)) ∙ field_back bs h
 
-behind-field : (bs rest : List ℕ) → after_space (field_text bs ++ 32 ∷ rest) ≡ rest
-behind-field bs rest = after-space (field_text bs) rest (field-free bs)
+after_field : (bs rest : List ℕ) → after_space (field_text bs ++ 32 ∷ rest) ≡ rest
+after_field bs rest = digits_after_space (field_text bs) rest (field_free bs)
 
 -- fields one after the other
 abbrev with_count : List ℕ → ℕ → List ℕ
@@ -54,28 +54,28 @@ with_count d n = field_text d ++ 32 ∷ decimal n
 abbrev field_texts : List ℕ → List ℕ → List ℕ → List ℕ → ℕ → List ℕ
 field_texts a b c d n = field_text a ++ 32 ∷ (field_text b ++ 32 ∷ (field_text c ++ 32 ∷ with_count d n))
 
-same-field : (a b r s : List ℕ) → AreBytes a → AreBytes b → field_text a ++ 32 ∷ r ≡ field_text b ++ 32 ∷ s → (a ≡ b) × (r ≡ s)
-same-field a b r s h k e =
-    (sym (first-field a r h) ∙ ap (λ t. field_guess (before_space t)) e ∙ first-field b s k, sym (behind-field a r) ∙ ap after_space e ∙ behind-field b s)
+same_field : (a b r s : List ℕ) → AreBytes a → AreBytes b → field_text a ++ 32 ∷ r ≡ field_text b ++ 32 ∷ s → (a ≡ b) × (r ≡ s)
+same_field a b r s h k e =
+    (sym (first_field a r h) ∙ ap (λ t. field_guess (before_space t)) e ∙ first_field b s k, sym (after_field a r) ∙ ap after_space e ∙ after_field b s)
 
 abbrev pub contents : List ℕ → List ℕ → List ℕ → List ℕ → ℕ → Contents
 contents a b c d n = record { a = a; b = b; c = c; d = d; data_length = n }
 
-same-contents : (x y : Contents) → x.a ≡ y.a → x.b ≡ y.b → x.c ≡ y.c → x.d ≡ y.d → x.data_length ≡ y.data_length → x ≡ y
-same-contents x y a b c d n = ap₂ (λ s t. contents s t x.c x.d x.data_length) a b ∙ ap₂ (λ s t. contents y.a y.b s t x.data_length) c d ∙ ap (λ k. contents y.a y.b y.c y.d k) n
+same_contents : (x y : Contents) → x.a ≡ y.a → x.b ≡ y.b → x.c ≡ y.c → x.d ≡ y.d → x.data_length ≡ y.data_length → x ≡ y
+same_contents x y a b c d n = ap₂ (λ s t. contents s t x.c x.d x.data_length) a b ∙ ap₂ (λ s t. contents y.a y.b s t x.data_length) c d ∙ ap (λ k. contents y.a y.b y.c y.d k) n
 
-pub one-header : (x y : Contents) → IsHeld x → IsHeld y → bit_text x ≡ bit_text y → x ≡ y
-one-header x y h k e =
+pub one_header : (x y : Contents) → IsHeld x → IsHeld y → bit_text x ≡ bit_text y → x ≡ y
+one_header x y h k e =
     let rest : field_texts x.a x.b x.c x.d x.data_length ≡ field_texts y.a y.b y.c y.d y.data_length = cc in
-    let a = same-field x.a y.a (field_text x.b ++ 32 ∷ (field_text x.c ++ 32 ∷ with_count x.d x.data_length)) (field_text y.b ++ 32 ∷ (field_text y.c ++ 32 ∷ with_count y.d y.data_length)) h.a k.a rest in
-    let b = same-field x.b y.b (field_text x.c ++ 32 ∷ with_count x.d x.data_length) (field_text y.c ++ 32 ∷ with_count y.d y.data_length) h.b k.b a.1 in
-    let c = same-field x.c y.c (with_count x.d x.data_length) (with_count y.d y.data_length) h.c k.c b.1 in
-    let d = same-field x.d y.d (decimal x.data_length) (decimal y.data_length) h.d k.d c.1 in
-    let n : x.data_length ≡ y.data_length = sym (decimal-back x.data_length (omega (arith, h.have.data_length))) ∙ ap (decimal_after 0) d.1 ∙ decimal-back y.data_length (omega (arith, k.have.data_length)) in
-    same-contents x y a.0 b.0 c.0 d.0 n
+    let a = same_field x.a y.a (field_text x.b ++ 32 ∷ (field_text x.c ++ 32 ∷ with_count x.d x.data_length)) (field_text y.b ++ 32 ∷ (field_text y.c ++ 32 ∷ with_count y.d y.data_length)) h.a k.a rest in
+    let b = same_field x.b y.b (field_text x.c ++ 32 ∷ with_count x.d x.data_length) (field_text y.c ++ 32 ∷ with_count y.d y.data_length) h.b k.b a.1 in
+    let c = same_field x.c y.c (with_count x.d x.data_length) (with_count y.d y.data_length) h.c k.c b.1 in
+    let d = same_field x.d y.d (decimal x.data_length) (decimal y.data_length) h.d k.d c.1 in
+    let n : x.data_length ≡ y.data_length = sym (decimal_back x.data_length (omega (arith, h.have.data_length))) ∙ ap (decimal_after 0) d.1 ∙ decimal_back y.data_length (omega (arith, k.have.data_length)) in
+    same_contents x y a.0 b.0 c.0 d.0 n
 
-pub no-line : (x : Contents) (l : Line) → IsLine (bit_text x) l → ⊥
-no-line x l i = let none : l ≡ Empty = line-is (bit_text x) l i in let e : bit_text x ≡ [] = i.is ∙ ap text_of none in cc
+pub no_line : (x : Contents) (l : Line) → IsLine (bit_text x) l → ⊥
+no_line x l i = let none : l ≡ Empty = line_is (bit_text x) l i in let e : bit_text x ≡ [] = i.is ∙ ap text_of none in cc
 
 -- what the fields of a header's line hold, where a text is that of such fields
 pub header_by : List ℕ → Contents
@@ -85,59 +85,59 @@ header_by t =
     let d = after_space c in
     contents (field_guess (before_space t)) (field_guess (before_space b)) (field_guess (before_space c)) (field_guess (before_space d)) (decimal_after 0 (after_space d))
 
-header-back : (x : Contents) → IsHeld x → header_by (field_texts x.a x.b x.c x.d x.data_length) ≡ x
+header_back : (x : Contents) → IsHeld x → header_by (field_texts x.a x.b x.c x.d x.data_length) ≡ x
 unfolding header_by
-header-back x h =
+header_back x h =
     let count = with_count x.d x.data_length in
     let third = field_text x.c ++ 32 ∷ count in
     let second = field_text x.b ++ 32 ∷ third in
-    let b = behind-field x.a second in
-    let c = ap after_space b ∙ behind-field x.b third in
-    let d = ap after_space c ∙ behind-field x.c count in
-    let n = ap after_space d ∙ behind-field x.d (decimal x.data_length) in
+    let b = after_field x.a second in
+    let c = ap after_space b ∙ after_field x.b third in
+    let d = ap after_space c ∙ after_field x.c count in
+    let n = ap after_space d ∙ after_field x.d (decimal x.data_length) in
     let field : List ℕ → List ℕ = λ t. field_guess (before_space t) in
-    same-contents (header_by (field_text x.a ++ 32 ∷ second)) x (first-field x.a second h.a) (ap field b ∙ first-field x.b third h.b) (ap field c ∙ first-field x.c count h.c)
-    (ap field d ∙ first-field x.d (decimal x.data_length) h.d) (ap (decimal_after 0) n ∙ decimal-back x.data_length (omega (arith, h.have.data_length)))
+    same_contents (header_by (field_text x.a ++ 32 ∷ second)) x (first_field x.a second h.a) (ap field b ∙ first_field x.b third h.b) (ap field c ∙ first_field x.c count h.c)
+    (ap field d ∙ first_field x.d (decimal x.data_length) h.d) (ap (decimal_after 0) n ∙ decimal_back x.data_length (omega (arith, h.have.data_length)))
 
 -- the one header whose line a text may be
-pub header-is : (t : List ℕ) (x : Contents) → IsHeld x → t ≡ bit_text x → x ≡ header_by (drop 4 t)
-header-is t x h e = sym (ap (λ s. header_by (drop 4 s)) e ∙ header-back x h)
+pub header_is : (t : List ℕ) (x : Contents) → IsHeld x → t ≡ bit_text x → x ≡ header_by (drop 4 t)
+header_is t x h e = sym (ap (λ s. header_by (drop 4 s)) e ∙ header_back x h)
 
 -- a text that begins with the same field and space goes on alike
-pub same-rest : (a b r s : List ℕ) → AreBytes a → AreBytes b → field_text a ++ 32 ∷ r ≡ field_text b ++ 32 ∷ s → r ≡ s
-same-rest a b r s h k e = (same-field a b r s h k e).1
+pub same_rest : (a b r s : List ℕ) → AreBytes a → AreBytes b → field_text a ++ 32 ∷ r ≡ field_text b ++ 32 ∷ s → r ≡ s
+same_rest a b r s h k e = (same_field a b r s h k e).1
 
 -- a text without a field before its first space
-pub no-cut : (t digits rest : List ℕ) → IsCutAtSpace t digits rest → ((field : List ℕ) → IsField field → digits ≡ field_text field → ⊥) → (field more : List ℕ) → IsField field → t ≡ field_text field ++ 32 ∷ more → ⊥
-no-cut t digits rest c none field more h e =
-    none field h (sym (before-space digits rest c.free) ∙ ap before_space (sym c.is ∙ e) ∙ before-space (field_text field) more (field-free field))
+pub no_cut : (t digits rest : List ℕ) → IsCutAtSpace t digits rest → ((field : List ℕ) → IsField field → digits ≡ field_text field → ⊥) → (field more : List ℕ) → IsField field → t ≡ field_text field ++ 32 ∷ more → ⊥
+no_cut t digits rest c none field more h e =
+    none field h (sym (name_before_space digits rest c.free) ∙ ap before_space (sym c.is ∙ e) ∙ name_before_space (field_text field) more (field_free field))
 
 -- a text that is no field's, where its pairs are those of no bytes
-pub no-field : (t : List ℕ) → (t ≡ codes "-" → ⊥) → ((bs : List ℕ) → AreBytes bs → t ≡ flat_map hex_byte bs → ⊥) → (field : List ℕ) → IsField field → t ≡ field_text field → ⊥
-no-field t dash none [] h e = dash e
-no-field t dash none (x ∷ xs) h e = none (x ∷ xs) h.bytes e
+pub no_field : (t : List ℕ) → (t ≡ codes "-" → ⊥) → ((bs : List ℕ) → AreBytes bs → t ≡ flat_map hex_byte bs → ⊥) → (field : List ℕ) → IsField field → t ≡ field_text field → ⊥
+no_field t dash none [] h e = dash e
+no_field t dash none (x ∷ xs) h e = none (x ∷ xs) h.bytes e
 
-pub no-size : (t : List ℕ) → (t ≡ codes "-" → ⊥) → (0 < length t → length t ≤ 131070 → ⊥) → (field : List ℕ) → IsField field → t ≡ field_text field → ⊥
-no-size t dash long [] h e = dash e
-no-size t dash long (x ∷ xs) h e = long (omega (arith, ap length e)) (omega (arith, ap length e, length-hex_bytes (x ∷ xs), h.short))
+pub no_size : (t : List ℕ) → (t ≡ codes "-" → ⊥) → (0 < length t → length t ≤ 131070 → ⊥) → (field : List ℕ) → IsField field → t ≡ field_text field → ⊥
+no_size t dash long [] h e = dash e
+no_size t dash long (x ∷ xs) h e = long (omega (arith, ap length e)) (omega (arith, ap length e, length_hex_bytes (x ∷ xs), h.short))
 
-pub yes-field : (t bs : List ℕ) → 0 < length t → length t ≤ 131070 → AreBytes bs → t ≡ flat_map hex_byte bs → IsField bs × (t ≡ field_text bs)
-yes-field t [] some long a e = absurd (omega (arith, ap length e))
-yes-field t (b ∷ bs) some long a e = (record { bytes = a; short = omega (arith, ap length e, length-hex_bytes (b ∷ bs)) }, e)
+pub yes_field : (t bs : List ℕ) → 0 < length t → length t ≤ 131070 → AreBytes bs → t ≡ flat_map hex_byte bs → IsField bs × (t ≡ field_text bs)
+yes_field t [] some long a e = absurd (omega (arith, ap length e))
+yes_field t (b ∷ bs) some long a e = (record { bytes = a; short = omega (arith, ap length e, length_hex_bytes (b ∷ bs)) }, e)
 
 -- what is known of an optional value where it is there, and where it isn't
-pub some-of : {X : Type 0} (A : Type 0) (B : X → Type 0) (o : Option X) (x : X) → o ≡ Some x → MatchOption o A B → B x
-some-of A B o x e h = subst (λ p. MatchOption p A B) e h
+pub some_of : {X : Type 0} (A : Type 0) (B : X → Type 0) (o : Option X) (x : X) → o ≡ Some x → MatchOption o A B → B x
+some_of A B o x e h = subst (λ p. MatchOption p A B) e h
 
-pub none-of : {X : Type 0} (A : Type 0) (B : X → Type 0) (o : Option X) → o ≡ None → MatchOption o A B → A
-none-of A B o e h = subst (λ p. MatchOption p A B) e h
+pub none_of : {X : Type 0} (A : Type 0) (B : X → Type 0) (o : Option X) → o ≡ None → MatchOption o A B → A
+none_of A B o e h = subst (λ p. MatchOption p A B) e h
 
-pub field-found : {X E : Type 0} (items : X → List ℕ) (t : List ℕ) (r : Result (Option X) E) → (t ≡ codes "-" → ⊥) → 0 < length t → length t ≤ 131070
+pub field_found : {X E : Type 0} (items : X → List ℕ) (t : List ℕ) (r : Result (Option X) E) → (t ≡ codes "-" → ⊥) → 0 < length t → length t ≤ 131070
     → IfOk r (λ found. MatchOption found ((bs : List ℕ) → AreBytes bs → t ≡ flat_map hex_byte bs → ⊥) (λ x. AreBytes (items x) × (t ≡ flat_map hex_byte (items x))))
     → IfOk r (λ found. MatchOption found ((field : List ℕ) → IsField field → t ≡ field_text field → ⊥) (λ x. IsField (items x) × (t ≡ field_text (items x))))
-field-found items t (Ok None) dash some long h = no-field t dash h
-field-found items t (Ok (Some x)) dash some long h = yes-field t (items x) some long h.0 h.1
-field-found items t (Err e) dash some long h = h
+field_found items t (Ok None) dash some long h = no_field t dash h
+field_found items t (Ok (Some x)) dash some long h = yes_field t (items x) some long h.0 h.1
+field_found items t (Err e) dash some long h = h
 
 -- what stands after each field of a line that is a header's
 abbrev pub fields_text : Contents → List ℕ
@@ -152,17 +152,17 @@ after_b x = field_text x.c ++ 32 ∷ with_count x.d x.data_length
 abbrev pub after_c : Contents → List ℕ
 after_c x = with_count x.d x.data_length
 
-pub line-fields : (line fields : List ℕ) (x : Contents) → line ≡ codes "bit " ++ fields → line ≡ bit_text x → fields ≡ fields_text x
-line-fields line fields x e h = let both : codes "bit " ++ fields ≡ codes "bit " ++ fields_text x = sym e ∙ h in cc
+pub line_fields : (line fields : List ℕ) (x : Contents) → line ≡ codes "bit " ++ fields → line ≡ bit_text x → fields ≡ fields_text x
+line_fields line fields x e h = let both : codes "bit " ++ fields ≡ codes "bit " ++ fields_text x = sym e ∙ h in cc
 
 -- a text after a field goes on as the header's line does there
 pub behind : (here field rest own later : List ℕ) → IsField field → AreBytes own → here ≡ field_text field ++ 32 ∷ rest → here ≡ field_text own ++ 32 ∷ later → rest ≡ later
-behind here field rest own later h a e is = same-rest field own rest later h.bytes a (sym e ∙ is)
+behind here field rest own later h a e is = same_rest field own rest later h.bytes a (sym e ∙ is)
 
 -- a header's line, field by field
-pub line-made : (bit a b c d n t1 t2 t3 t4 t5 t6 t7 t8 : List ℕ) → t1 ≡ bit → t2 ≡ t1 ++ (a ++ 32 ∷ []) → t3 ≡ t2 ++ (b ++ 32 ∷ []) → t4 ≡ t3 ++ (c ++ 32 ∷ []) → t5 ≡ t4 ++ (d ++ 32 ∷ []) → t6 ≡ t5 → t7 ≡ t6 ++ n → t8 ≡ t7 ++ 10 ∷ []
+pub line_made : (bit a b c d n t1 t2 t3 t4 t5 t6 t7 t8 : List ℕ) → t1 ≡ bit → t2 ≡ t1 ++ (a ++ 32 ∷ []) → t3 ≡ t2 ++ (b ++ 32 ∷ []) → t4 ≡ t3 ++ (c ++ 32 ∷ []) → t5 ≡ t4 ++ (d ++ 32 ∷ []) → t6 ≡ t5 → t7 ≡ t6 ++ n → t8 ≡ t7 ++ 10 ∷ []
     → t8 ≡ (bit ++ (a ++ 32 ∷ (b ++ 32 ∷ (c ++ 32 ∷ (d ++ 32 ∷ n))))) ++ 10 ∷ []
-line-made bit a b c d n t1 t2 t3 t4 t5 t6 t7 t8 e1 e2 e3 e4 e5 e6 e7 e8 =
+line_made bit a b c d n t1 t2 t3 t4 t5 t6 t7 t8 e1 e2 e3 e4 e5 e6 e7 e8 =
     let s2 : t2 ≡ bit ++ (a ++ 32 ∷ []) = e2 ∙ ap (λ t. t ++ (a ++ 32 ∷ [])) e1 in
     let s7 : t7 ≡ t4 ++ (d ++ 32 ∷ n) = e7 ∙ ap (λ t. t ++ n) (e6 ∙ e5) ∙ joins t4 d n in
     let s6 : t7 ≡ t3 ++ (c ++ 32 ∷ (d ++ 32 ∷ n)) = s7 ∙ ap (λ t. t ++ (d ++ 32 ∷ n)) e4 ∙ joins t3 c (d ++ 32 ∷ n) in
@@ -173,9 +173,9 @@ line-made bit a b c d n t1 t2 t3 t4 t5 t6 t7 t8 e1 e2 e3 e4 e5 e6 e7 e8 =
     joins t f rest = append_assoc t (f ++ 32 ∷ []) rest ∙ ap (λ s. t ++ s) (append_assoc f (32 ∷ []) rest)
 
 -- the fields of a line are those of a header
-pub header-made : (line fields r1 r2 r3 digits : List ℕ) (x : Contents) (bytes : List ℕ) → line ≡ codes "bit " ++ fields → IsField x.a × (fields ≡ field_text x.a ++ 32 ∷ r1) → IsField x.b × (r1 ≡ field_text x.b ++ 32 ∷ r2)
+pub header_made : (line fields r1 r2 r3 digits : List ℕ) (x : Contents) (bytes : List ℕ) → line ≡ codes "bit " ++ fields → IsField x.a × (fields ≡ field_text x.a ++ 32 ∷ r1) → IsField x.b × (r1 ≡ field_text x.b ++ 32 ∷ r2)
     → IsField x.c × (r2 ≡ field_text x.c ++ 32 ∷ r3) → IsField x.d × (r3 ≡ field_text x.d ++ 32 ∷ digits) → (x.data_length < 2 ^ 32) × (digits ≡ decimal x.data_length) → bytes ≡ header_bytes x → IsHeaderOf line bytes
-header-made line fields r1 r2 r3 digits x bytes e a b c d n is = record {
+header_made line fields r1 r2 r3 digits x bytes e a b c d n is = record {
   header = x;
   held = record { have = record { a = a.0.short; b = b.0.short; c = c.0.short; d = d.0.short; data_length = n.0 }; a = a.0.bytes; b = b.0.bytes; c = c.0.bytes; d = d.0.bytes };
   text = e ∙ ap (λ t. codes "bit " ++ t) (a.1 ∙ ap (λ t. field_text x.a ++ 32 ∷ t) (b.1 ∙ ap (λ t. field_text x.b ++ 32 ∷ t) (c.1 ∙ ap (λ t. field_text x.c ++ 32 ∷ t) (d.1 ∙ ap (λ t. field_text x.d ++ 32 ∷ t) n.1))));
@@ -186,8 +186,8 @@ header-made line fields r1 r2 r3 digits x bytes e a b c d n is = record {
 counted : (letter : ℕ) (x rest : List ℕ) → length x < 2 ^ 16 → length (field_bytes (record { letter = letter; kind = Kind.Counted }) x ++ rest) ≤ 65538 + length rest
 counted letter x rest k = omega (arith, k, length-append x rest)
 
-pub header-limit : (x : Contents) → HaveHeader x → length (header_bytes x) ≤ longest_header
-header-limit x k =
+pub header_limit : (x : Contents) → HaveHeader x → length (header_bytes x) ≤ longest_header
+header_limit x k =
     let last = bytes_of_word x.data_length ++ [] in
     let after_d = 0x65 ∷ last in
     let after_c = field_bytes (record { letter = 0x64; kind = Kind.Counted }) x.d ++ after_d in
@@ -195,20 +195,20 @@ header-limit x k =
     let after_a = field_bytes (record { letter = 0x62; kind = Kind.Counted }) x.b ++ after_b in
     omega (arith, counted 0x61 x.a after_a k.a, counted 0x62 x.b after_b k.b, counted 0x63 x.c after_c k.c, counted 0x64 x.d after_d k.d)
 
-pub header-short : (line bytes : List ℕ) → IsHeaderOf line bytes → length bytes ≤ longest_header
-header-short line bytes h = subst (λ b. length b ≤ longest_header) (sym h.are) (header-limit h.header h.held.have)
+pub header_short : (line bytes : List ℕ) → IsHeaderOf line bytes → length bytes ≤ longest_header
+header_short line bytes h = subst (λ b. length b ≤ longest_header) (sym h.are) (header_limit h.header h.held.have)
 
-pub is-field : (bs : List ℕ) → AreBytes bs → length bs < 2 ^ 16 → IsField bs
-is-field bs a h = record { bytes = a; short = h }
+pub is_field : (bs : List ℕ) → AreBytes bs → length bs < 2 ^ 16 → IsField bs
+is_field bs a h = record { bytes = a; short = h }
 
 -- the length of a text by whether it is empty
-pub none-there : (n : ℕ) → true ≡ (n == 0) → n ≡ 0
-none-there n e = grind (arith, common_steps)
+pub none_there : (n : ℕ) → true ≡ (n == 0) → n ≡ 0
+none_there n e = grind (arith, common_steps)
 
-pub some-there : (n : ℕ) → false ≡ (n == 0) → 0 < n
-some-there n e = grind (arith, common_steps)
+pub some_there : (n : ℕ) → false ≡ (n == 0) → 0 < n
+some_there n e = grind (arith, common_steps)
 
 -- fields as they were lent are those of a header
-pub lent-header : (a b c d a2 b2 c2 d2 : List ℕ) (n : ℕ) (bytes : List ℕ) → a2 ≡ a → b2 ≡ b → c2 ≡ c → d2 ≡ d → bytes ≡ header_bytes (contents a2 b2 c2 d2 n) → bytes ≡ header_bytes (contents a b c d n)
-lent-header a b c d a2 b2 c2 d2 n bytes ea eb ec ed e =
+pub lent_header : (a b c d a2 b2 c2 d2 : List ℕ) (n : ℕ) (bytes : List ℕ) → a2 ≡ a → b2 ≡ b → c2 ≡ c → d2 ≡ d → bytes ≡ header_bytes (contents a2 b2 c2 d2 n) → bytes ≡ header_bytes (contents a b c d n)
+lent_header a b c d a2 b2 c2 d2 n bytes ea eb ec ed e =
     e ∙ ap₂ (λ s t. header_bytes (contents s t c2 d2 n)) ea eb ∙ ap₂ (λ s t. header_bytes (contents a b s t n)) ec ed

@@ -14,14 +14,14 @@ use Rattle.x7_text.specs.Row.{bytes_text, close, element_text, in_line_after, li
 use Rattle.x7_regs.specs.Command.{code_of, command_by, command_name_of}
 use Rattle.x7_regs.specs.Register.{reg_name}
 use Rattle.x7_packets.proofs.ByHandLemmas.{reading_is_found}
-use Rattle.x7_text.proofs.LineLemmas.{bytes_closed, open_text-append}
+use Rattle.x7_text.proofs.LineLemmas.{bytes_closed, open_text_append}
 use Rattle.x7_listing.specs.HeadLine.{command_line, line_of_head, text_of_head, line_text}
 use Rattle.x7_listing.specs.Listing.{listing_of, packet_text, place_text, session_text}
 use Rattle.x7_listing.specs.Telling.{GapListed, ListerStandsFor, ListerState, HasListedAt, TakerStandsFor, open_payload, word_next, open_session_word, open_words, words_place, written_of}
 use Rattle.x7_packets.specs.Mode.{Mode}
 use Rattle.x7_listing.specs.declared.line.head_line.HeadLine.{HeadLine}
 use Rattle.x7_listing.specs.declared.line.head_line.HeadLine.TheVariants as line
-use Rattle.x7_listing.proofs.FrontLemmas.{place_sure, session_over, sure_behind, sure_place, sure_text, told_behind}
+use Rattle.x7_listing.proofs.PrefixLemmas.{place_sure, session_over, sure_after, sure_place, sure_text, listed_after}
 use Rattle.x7_listing.proofs.SessionLemmas.{session_closed}
 
 -- the text of bytes has at least a byte for each
@@ -113,20 +113,20 @@ pub few_held : (l : ListerState) (given before bytes : List ℕ) → ListerStand
 few_held l given before bytes s =
     let t = s.tells in
     let r = t.cut.reading in
-    omega (arith, ap length (told_behind l given before bytes s), length-append (before ++ flat_map session_text t.sessions) (sure_place t.at), length-append before (flat_map session_text t.sessions), ap length r.joined, length-append (flat_map session_bytes t.sessions) (place_bytes t.at), sessions_long t.sessions r.each, place_long t.at r.ends)
+    omega (arith, ap length (listed_after l given before bytes s), length-append (before ++ flat_map session_text t.sessions) (sure_place t.at), length-append before (flat_map session_text t.sessions), ap length r.joined, length-append (flat_map session_bytes t.sessions) (place_bytes t.at), sessions_long t.sessions r.each, place_long t.at r.ends)
 
 -- a sync word is not listed yet: it stands in the gap's bytes, of which all but those that are held are listed
 due_long : (all start : List ℕ) (line : ℕ) (held gap : List ℕ) → GapListed all start line held (gap ++ sync_bytes) → length start + length (gap ++ sync_bytes) ≤ length all + 4
 due_long all start line held gap t =
     omega (arith, ap length t.split, length-append t.prefix held, t.few, ap length t.listed, length-append start (open_text 32 (codes "bytes ") hex_byte 0 t.prefix), bytes_long 0 t.prefix)
 
-told_long : (synced : Bool) (line : ℕ) (held all start : List ℕ) (place : Place) (m : Mode) → HasListedAt (written_of synced line held all) start place m → IsPlace place → length start + length (place_bytes place) ≤ length all + 4
-told_long false line held all start (Searching gap) m t p =
+listed_long : (synced : Bool) (line : ℕ) (held all start : List ℕ) (place : Place) (m : Mode) → HasListedAt (written_of synced line held all) start place m → IsPlace place → length start + length (place_bytes place) ≤ length all + 4
+listed_long false line held all start (Searching gap) m t p =
     omega (arith, ap length t.split, length-append t.prefix held, t.few, ap length t.listed, length-append start (open_text 32 (codes "bytes ") hex_byte 0 t.prefix), bytes_long 0 t.prefix)
-told_long false line held all start (Synced gap packets tail) m t p =
+listed_long false line held all start (Synced gap packets tail) m t p =
     let bytes : place_bytes (Synced gap packets tail) ≡ gap ++ sync_bytes = rw (t.1, t.2) (append-nil (gap ++ sync_bytes ++ []) ∙ append-nil (gap ++ sync_bytes)) in
     omega (arith, due_long all start line held gap t.3, ap length bytes)
-told_long true line held all start place m t p = omega (arith, ap length (told_sure_at line held all start place m t), length-append start (sure_place place), place_long place p)
+listed_long true line held all start place m t p = omega (arith, ap length (told_sure_at line held all start place m t), length-append start (sure_place place), place_long place p)
   where
     told_sure_at : (line : ℕ) (held all start : List ℕ) (place : Place) (m : Mode) → HasListedAt (written_of true line held all) start place m → all ≡ start ++ sure_place place
     told_sure_at line held all start (Searching gap) m t = place_sure true line held all start (Searching gap) Mode.Searching (λ e. let f : Mode.Searching ≡ Mode.Due = e in cc) t
@@ -136,7 +136,7 @@ told_long true line held all start place m t p = omega (arith, ap length (told_s
 pub few_taken : (l : ListerState) (given before bytes : List ℕ) (due : Mode) → TakerStandsFor l given before bytes due → length before + length bytes ≤ length (given ++ l.text) + 4
 few_taken l given before bytes due t =
     let r = t.reading in
-    omega (arith, told_long l.synced l.line l.held (given ++ l.text) (before ++ flat_map session_text t.sessions) t.at due t.listed r.ends, length-append before (flat_map session_text t.sessions), ap length r.joined, length-append (flat_map session_bytes t.sessions) (place_bytes t.at), sessions_long t.sessions r.each)
+    omega (arith, listed_long l.synced l.line l.held (given ++ l.text) (before ++ flat_map session_text t.sessions) t.at due t.listed r.ends, length-append before (flat_map session_text t.sessions), ap length r.joined, length-append (flat_map session_bytes t.sessions) (place_bytes t.at), sessions_long t.sessions r.each)
 
 -- ---- how little is held back
 
@@ -169,7 +169,7 @@ place_short (Searching gap) is =
     let i : ℕ = in_line_after 32 0 (take k gap) in
     let more : List ℕ = open_text 32 (codes "bytes ") hex_byte i (drop k gap) in
     let whole : open_text 32 (codes "bytes ") hex_byte 0 gap ≡ open_text 32 (codes "bytes ") hex_byte 0 (take k gap) ++ more
-    = ap (open_text 32 (codes "bytes ") hex_byte 0) (sym (take-append-drop k gap)) ∙ open_text-append 32 (codes "bytes ") hex_byte 0 (take k gap) (drop k gap) in
+    = ap (open_text 32 (codes "bytes ") hex_byte 0) (sym (take-append-drop k gap)) ∙ open_text_append 32 (codes "bytes ") hex_byte 0 (take k gap) (drop k gap) in
     omega (
       arith,
       ap length (bytes_closed gap),
@@ -209,4 +209,4 @@ pub listing_held : (l : ListerState) (given before bytes : List ℕ) → ListerS
 listing_held l given before bytes s =
     let r : Reading = reading_of bytes in
     let is = reading_is_found bytes s.tells.cut.reading.fits in
-    omega (arith, ap length (sure_behind l given before bytes s), length-append before (sure_text bytes), place_short r.place is.ends, length-append (flat_map session_text r.sessions) (place_text r.place), length-append (flat_map session_text r.sessions) (sure_place r.place))
+    omega (arith, ap length (sure_after l given before bytes s), length-append before (sure_text bytes), place_short r.place is.ends, length-append (flat_map session_text r.sessions) (place_text r.place), length-append (flat_map session_text r.sessions) (sure_place r.place))

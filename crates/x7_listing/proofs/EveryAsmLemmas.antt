@@ -13,9 +13,9 @@ use Rattle.x7_listing.specs.Line.{Line, Empty, Comment, Bytes, Sync, Nop, Write,
 use Rattle.x7_listing.specs.Assembly.{after_one_line, AreAsm, AreHeadedAsm, asm_limit, assembled, BeginsWithLines, HasNoHeaderLine, HasOutcome}
 use Rattle.x7_listing.specs.declared.assembler.AsmFault.{AsmFault}
 use Rattle.x7_listing.specs.declared.assembler.AsmFault.TheVariants as fault
-use Rattle.x7_listing.proofs.AssemblingLemmas.{begins-at, begins-more}
-use Rattle.x7_listing.proofs.BitLemmas.{header_by, header-is}
-use Rattle.x7_listing.proofs.GuessLemmas.{guess, line-is}
+use Rattle.x7_listing.proofs.AssemblingLemmas.{begins_at, begins_more}
+use Rattle.x7_listing.proofs.BitLemmas.{header_by, header_is}
+use Rattle.x7_listing.proofs.GuessLemmas.{guess, line_is}
 
 -- ---- what is decided
 
@@ -23,38 +23,38 @@ use Rattle.x7_listing.proofs.GuessLemmas.{guess, line-is}
 abbrev Decided : Type 0 → Type 0
 Decided P = P ⊎ (P → ⊥)
 
-both-or : {P Q : Type 0} → Decided P → Decided Q → Decided (P × Q)
-both-or (inl p) (inl q) = inl (p, q)
-both-or (inl p) (inr n) = inr (λ h. n h.1)
-both-or (inr n) q = inr (λ h. n h.0)
+both_or : {P Q : Type 0} → Decided P → Decided Q → Decided (P × Q)
+both_or (inl p) (inl q) = inl (p, q)
+both_or (inl p) (inr n) = inr (λ h. n h.1)
+both_or (inr n) q = inr (λ h. n h.0)
 
-texts-or : (s t : List ℕ) → Decided (s ≡ t)
-texts-or s t = by (bytes_eq s t) refl
+texts_or : (s t : List ℕ) → Decided (s ≡ t)
+texts_or s t = by (bytes_eq s t) refl
   where
     by : (b : Bool) → bytes_eq s t ≡ b → Decided (s ≡ t)
     by true e = inl ((bytes_eq-Decides s t).0 e)
     by false e = inr (not_from_Decides (bytes_eq s t) (bytes_eq-Decides s t) e)
 
-below-or : (a b : ℕ) → Decided (a < b)
-below-or a b = by (cases_lt a b)
+below_or : (a b : ℕ) → Decided (a < b)
+below_or a b = by (cases_lt a b)
   where
     by : (a < b) ⊎ (b ≤ a) → Decided (a < b)
     by (inl h) = inl h
     by (inr h) = inr (λ l. omega (arith, h, l))
 
-up-to-or : (a b : ℕ) → Decided (a ≤ b)
-up-to-or a b = by (cases_lt b a)
+up_to_or : (a b : ℕ) → Decided (a ≤ b)
+up_to_or a b = by (cases_lt b a)
   where
     by : (b < a) ⊎ (a ≤ b) → Decided (a ≤ b)
     by (inl h) = inr (λ l. omega (arith, h, l))
     by (inr h) = inl h
 
-all-below-or : (limit : ℕ) (xs : List ℕ) → Decided (AllByRecursion (λ x. x < limit) xs)
-all-below-or limit [] = inl tt
-all-below-or limit (x ∷ xs) = both-or (below-or x limit) (all-below-or limit xs)
+all_below_or : (limit : ℕ) (xs : List ℕ) → Decided (AllByRecursion (λ x. x < limit) xs)
+all_below_or limit [] = inl tt
+all_below_or limit (x ∷ xs) = both_or (below_or x limit) (all_below_or limit xs)
 
-row-or : (limit most : ℕ) (xs : List ℕ) → Decided (AllByRecursion (λ x. x < limit) xs × (0 < length xs) × (length xs ≤ most))
-row-or limit most xs = by (all-below-or limit xs) (below-or 0 (length xs)) (up-to-or (length xs) most)
+row_or : (limit most : ℕ) (xs : List ℕ) → Decided (AllByRecursion (λ x. x < limit) xs × (0 < length xs) × (length xs ≤ most))
+row_or limit most xs = by (all_below_or limit xs) (below_or 0 (length xs)) (up_to_or (length xs) most)
   where
     by : {P Q R : Type 0} → Decided P → Decided Q → Decided R → Decided (P × Q × R)
     by (inl p) (inl q) (inl r) = inl (p, q, r)
@@ -62,30 +62,30 @@ row-or limit most xs = by (all-below-or limit xs) (below-or 0 (length xs)) (up-t
     by p (inr n) r = inr (λ h. n h.1)
     by p q (inr n) = inr (λ h. n h.2)
 
-fits-or : (l : Line) → Decided (FitsLine l)
-fits-or Empty = inl tt
-fits-or (Comment text) = inl tt
-fits-or (Bytes bytes) = row-or 256 32 bytes
-fits-or Sync = inl tt
-fits-or Nop = inl tt
-fits-or (Write register count) = both-or (below-or register 32) (below-or count (2 ^ 11))
-fits-or (Read register count) = both-or (below-or register 32) (below-or count (2 ^ 11))
-fits-or (Write2 count) = below-or count (2 ^ 27)
-fits-or (Read2 count) = below-or count (2 ^ 27)
-fits-or (Word word) = below-or word (2 ^ 32)
-fits-or (Data words) = row-or (2 ^ 32) 8 words
-fits-or (Cmd command) = inl tt
-fits-or Check = inl tt
+fits_or : (l : Line) → Decided (FitsLine l)
+fits_or Empty = inl tt
+fits_or (Comment text) = inl tt
+fits_or (Bytes bytes) = row_or 256 32 bytes
+fits_or Sync = inl tt
+fits_or Nop = inl tt
+fits_or (Write register count) = both_or (below_or register 32) (below_or count (2 ^ 11))
+fits_or (Read register count) = both_or (below_or register 32) (below_or count (2 ^ 11))
+fits_or (Write2 count) = below_or count (2 ^ 27)
+fits_or (Read2 count) = below_or count (2 ^ 27)
+fits_or (Word word) = below_or word (2 ^ 32)
+fits_or (Data words) = row_or (2 ^ 32) 8 words
+fits_or (Cmd command) = inl tt
+fits_or Check = inl tt
 
 -- what a field holds is short and of bytes, or it isn't
 abbrev FieldOr : List ℕ → Type 0
 FieldOr field = Decided ((length field < 2 ^ 16) × AreBytes field)
 
-field-or : (field : List ℕ) → FieldOr field
-field-or field = both-or (below-or (length field) (2 ^ 16)) (all-below-or 256 field)
+field_or : (field : List ℕ) → FieldOr field
+field_or field = both_or (below_or (length field) (2 ^ 16)) (all_below_or 256 field)
 
-held-or : (x : Contents) → Decided (IsHeld x)
-held-or x = by (field-or x.a) (field-or x.b) (field-or x.c) (field-or x.d) (below-or x.data_length (2 ^ 32))
+held_or : (x : Contents) → Decided (IsHeld x)
+held_or x = by (field_or x.a) (field_or x.b) (field_or x.c) (field_or x.d) (below_or x.data_length (2 ^ 32))
   where
     by : FieldOr x.a → FieldOr x.b → FieldOr x.c → FieldOr x.d → Decided (x.data_length < 2 ^ 32) → Decided (IsHeld x)
     by (inl a) (inl b) (inl c) (inl d) (inl n) = inl (record { have = record { a = a.0; b = b.0; c = c.0; d = d.0; data_length = n }; a = a.1; b = b.1; c = c.1; d = d.1 })
@@ -97,32 +97,32 @@ held-or x = by (field-or x.a) (field-or x.b) (field-or x.c) (field-or x.d) (belo
 
 -- ---- the line of a text, and the header of one, or none
 
-line-by : (t : List ℕ) (g : Line) → ((l : Line) → IsLine t l → l ≡ g) → ((l : Line) × IsLine t l) ⊎ ((l : Line) → IsLine t l → ⊥)
-line-by t g only = by (fits-or g) (texts-or t (text_of g))
+line_by : (t : List ℕ) (g : Line) → ((l : Line) → IsLine t l → l ≡ g) → ((l : Line) × IsLine t l) ⊎ ((l : Line) → IsLine t l → ⊥)
+line_by t g only = by (fits_or g) (texts_or t (text_of g))
   where
     by : Decided (FitsLine g) → Decided (t ≡ text_of g) → ((l : Line) × IsLine t l) ⊎ ((l : Line) → IsLine t l → ⊥)
     by (inl f) (inl e) = inl (g, record { fits = f; is = e })
     by (inr n) e = inr (λ l i. n (subst FitsLine (only l i) i.fits))
     by (inl f) (inr n) = inr (λ l i. n (i.is ∙ ap text_of (only l i)))
 
-line-or : (t : List ℕ) → ((l : Line) × IsLine t l) ⊎ ((l : Line) → IsLine t l → ⊥)
-line-or t = line-by t (guess t) (line-is t)
+line_or : (t : List ℕ) → ((l : Line) × IsLine t l) ⊎ ((l : Line) → IsLine t l → ⊥)
+line_or t = line_by t (guess t) (line_is t)
 
 -- a text is that of a header, or of none
 HeaderOr : List ℕ → Type 0
 HeaderOr t = ((x : Contents) × IsHeld x × (t ≡ bit_text x)) ⊎ ((x : Contents) → IsHeld x → t ≡ bit_text x → ⊥)
 
-header-by-guess : (t : List ℕ) (g : Contents) → ((x : Contents) → IsHeld x → t ≡ bit_text x → x ≡ g) → HeaderOr t
+header_by_guess : (t : List ℕ) (g : Contents) → ((x : Contents) → IsHeld x → t ≡ bit_text x → x ≡ g) → HeaderOr t
 unfolding HeaderOr
-header-by-guess t g only = by (held-or g) (texts-or t (bit_text g))
+header_by_guess t g only = by (held_or g) (texts_or t (bit_text g))
   where
     by : Decided (IsHeld g) → Decided (t ≡ bit_text g) → HeaderOr t
     by (inl h) (inl e) = inl (g, h, e)
     by (inr n) e = inr (λ x h is. n (subst IsHeld (only x h is) h))
     by (inl f) (inr n) = inr (λ x h is. n (is ∙ ap bit_text (only x h is)))
 
-header-or : (t : List ℕ) → HeaderOr t
-header-or t = header-by-guess t (header_by (drop 4 t)) (header-is t)
+header_or : (t : List ℕ) → HeaderOr t
+header_or t = header_by_guess t (header_by (drop 4 t)) (header_is t)
 
 -- ---- the lines of a text in turn
 
@@ -133,17 +133,17 @@ HasAsm limit texts = (outcome : Result (List ℕ) AsmFault) × AreAsm limit text
 from : (limit : ℕ) (all left : List (List ℕ)) (lines : List Line) → BeginsWithLines limit all lines left → HasAsm limit all
 unfolding HasAsm
 from limit all [] lines b = (Ok (assembled lines), record { lines = lines; begins = b; is = refl })
-from limit all (t ∷ left) lines b = by (λ l. from limit all left (lines ++ l ∷ [])) (line-or t)
+from limit all (t ∷ left) lines b = by (λ l. from limit all left (lines ++ l ∷ [])) (line_or t)
   where
-    by-size : (l : Line) → IsLine t l → (BeginsWithLines limit all (lines ++ l ∷ []) left → HasAsm limit all) → Decided (length (assembled (lines ++ l ∷ [])) ≤ limit) → HasAsm limit all
-    by-size l i goes-on (inl h) = goes-on (begins-more limit all lines l t left b i.fits i.is h)
-    by-size l i goes-on (inr n) = (
+    by_size : (l : Line) → IsLine t l → (BeginsWithLines limit all (lines ++ l ∷ []) left → HasAsm limit all) → Decided (length (assembled (lines ++ l ∷ [])) ≤ limit) → HasAsm limit all
+    by_size l i goes-on (inl h) = goes-on (begins_more limit all lines l t left b i.fits i.is h)
+    by_size l i goes-on (inr n) = (
       Err (fault.TooLong (length lines + 1)),
       record {
         lines = lines;
         last = l;
         left = left;
-        begins = begins-at limit all lines (t ∷ left) (text_of l ∷ left) (ap (λ s. s ∷ left) i.is) b;
+        begins = begins_at limit all lines (t ∷ left) (text_of l ∷ left) (ap (λ s. s ∷ left) i.is) b;
         fits = i.fits;
         count = refl;
         passes = more (length (assembled (lines ++ l ∷ []))) n;
@@ -157,26 +157,26 @@ from limit all (t ∷ left) lines b = by (λ l. from limit all left (lines ++ l 
         ]
 
     by : ((l : Line) → BeginsWithLines limit all (lines ++ l ∷ []) left → HasAsm limit all) → ((l : Line) × IsLine t l) ⊎ ((l : Line) → IsLine t l → ⊥) → HasAsm limit all
-    by goes-on (inl (l, i)) = by-size l i (goes-on l) (up-to-or (length (assembled (lines ++ l ∷ []))) limit)
+    by goes-on (inl (l, i)) = by_size l i (goes-on l) (up_to_or (length (assembled (lines ++ l ∷ []))) limit)
     by goes-on (inr none) = (Err (fault.Line (length lines + 1)), record { lines = lines; bad = t; left = left; begins = b; count = refl; no_line = none })
 
-has-asm : (limit : ℕ) (texts : List (List ℕ)) → HasAsm limit texts
-has-asm limit texts = from limit texts texts [] (record { texts = refl; fits = tt; within = omega arith })
+has_asm : (limit : ℕ) (texts : List (List ℕ)) → HasAsm limit texts
+has_asm limit texts = from limit texts texts [] (record { texts = refl; fits = tt; within = omega arith })
 
 headed : (texts : List (List ℕ)) → (outcome : Result (List ℕ) AsmFault) × AreHeadedAsm texts outcome
 unfolding HeaderOr HasAsm
-headed [] = let o = has-asm asm_limit [] in (o.0, inr ((λ x others h e. cc), o.1))
-headed (t ∷ others) = by (header-or t)
+headed [] = let o = has_asm asm_limit [] in (o.0, inr ((λ x others h e. cc), o.1))
+headed (t ∷ others) = by (header_or t)
   where
     plain : ((x : Contents) → IsHeld x → t ≡ bit_text x → ⊥) → HasNoHeaderLine (t ∷ others)
     plain none x more h e = let first : t ≡ bit_text x = cc in none x h first
 
     by : HeaderOr t → (outcome : Result (List ℕ) AsmFault) × AreHeadedAsm (t ∷ others) outcome
     by (inl (x, h, e)) =
-        let o = has-asm (asm_limit - length (header_bytes x)) others in
+        let o = has_asm (asm_limit - length (header_bytes x)) others in
         (after_one_line (header_bytes x) o.0, inl (record { header = x; held = h; others = others; texts = ap (λ s. s ∷ others) e; follows = record { rest = o.0; lines = o.1; is = refl } }))
-    by (inr none) = let o = has-asm asm_limit (t ∷ others) in (o.0, inr (plain none, o.1))
+    by (inr none) = let o = has_asm asm_limit (t ∷ others) in (o.0, inr (plain none, o.1))
 
 -- a text assembles to something
-pub has-outcome : (text : List ℕ) → HasOutcome text
-has-outcome text = headed (split text)
+pub has_outcome : (text : List ℕ) → HasOutcome text
+has_outcome text = headed (split text)

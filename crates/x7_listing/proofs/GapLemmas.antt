@@ -4,8 +4,8 @@ use Rattle.std.proofs.lemmas.List.{take_more}
 use Rattle.x7_words.specs.Word.{bytes_of_word, words_of_bytes}
 use Rattle.x7_text.specs.Digits.{hex_byte}
 use Rattle.x7_text.specs.Row.{in_line_after, open_text}
-use Rattle.x7_words.proofs.WordLemmas.{words-four}
-use Rattle.x7_text.proofs.LineLemmas.{in_line_after-append, open_text-append}
+use Rattle.x7_words.proofs.WordLemmas.{words_four}
+use Rattle.x7_text.proofs.LineLemmas.{in_line_after_append, open_text_append}
 use Rattle.x7_listing.specs.Telling.{GapListed}
 
 -- the text of bytes in `bytes` lines
@@ -16,14 +16,14 @@ pub fresh_gap : (all start : List ℕ) (gap : List ℕ) → gap ≡ [] → all �
 fresh_gap all start gap e f = record { prefix = []; split = e; listed = f ∙ sym (append-nil start); count = refl; full = inr refl; few = omega arith }
 
 -- bytes more of a gap: those held and a prefix of the new ones are listed, and four are held then
-pub told_more : (given old new start : List ℕ) (line line2 : ℕ) (held held2 gap more listed : List ℕ) → GapListed (given ++ old) start line held gap → held ++ more ≡ listed ++ held2 → length held2 ≡ 4
+pub listed_more : (given old new start : List ℕ) (line line2 : ℕ) (held held2 gap more listed : List ℕ) → GapListed (given ++ old) start line held gap → held ++ more ≡ listed ++ held2 → length held2 ≡ 4
     → new ≡ old ++ B line listed → line2 ≡ in_line_after 32 line listed → GapListed (given ++ new) start line2 held2 (gap ++ more)
-told_more given old new start line line2 held held2 gap more listed g e four t n = record {
+listed_more given old new start line line2 held held2 gap more listed g e four t n = record {
   prefix = g.prefix ++ listed;
   split = ap (λ t. t ++ more) g.split ∙ append_assoc g.prefix held more ∙ ap (λ t. g.prefix ++ t) e ∙ sym (append_assoc g.prefix listed held2);
   listed = ap (λ t. given ++ t) t ∙ sym (append_assoc given old (B line listed)) ∙ ap (λ t. t ++ B line listed) g.listed ∙ append_assoc start (B 0 g.prefix) (B line listed)
-      ∙ ap (λ k. start ++ (B 0 g.prefix ++ B k listed)) g.count ∙ ap (λ t. start ++ t) (sym (open_text-append 32 (codes "bytes ") hex_byte 0 g.prefix listed));
-  count = n ∙ ap (λ k. in_line_after 32 k listed) g.count ∙ sym (in_line_after-append 32 0 g.prefix listed);
+      ∙ ap (λ k. start ++ (B 0 g.prefix ++ B k listed)) g.count ∙ ap (λ t. start ++ t) (sym (open_text_append 32 (codes "bytes ") hex_byte 0 g.prefix listed));
+  count = n ∙ ap (λ k. in_line_after 32 k listed) g.count ∙ sym (in_line_after_append 32 0 g.prefix listed);
   full = inl four;
   few = omega arith;
 }
@@ -59,18 +59,18 @@ held_then (p ∷ q ∷ r ∷ s ∷ []) n byte e f = rw f refl
 held_then (p ∷ q ∷ r ∷ s ∷ t ∷ xs) n byte e f = absurd (omega (arith, e))
 
 -- bytes held and then a piece, of which all but the last four are listed
-pub told_all : (given old mid new start : List ℕ) (line behind line2 : ℕ) (held gap bytes : List ℕ) → GapListed (given ++ old) start line held gap → 4 ≤ length bytes
+pub listed_all : (given old mid new start : List ℕ) (line behind line2 : ℕ) (held gap bytes : List ℕ) → GapListed (given ++ old) start line held gap → 4 ≤ length bytes
     → mid ≡ old ++ B line held → behind ≡ in_line_after 32 line held
     → new ≡ mid ++ B behind (take (length bytes - 4) bytes) → line2 ≡ in_line_after 32 behind (take (length bytes - 4) bytes)
     → GapListed (given ++ new) start line2 (slice_index_or bytes (length bytes - 4) 0 ∷ slice_index_or bytes (length bytes - 4 + 1) 0 ∷ slice_index_or bytes (length bytes - 4 + 2) 0 ∷ slice_index_or bytes (length bytes - 4 + 3) 0 ∷ []) (gap ++ bytes)
-told_all given old mid new start line behind line2 held gap bytes g h m b t n =
+listed_all given old mid new start line behind line2 held gap bytes g h m b t n =
     let k : ℕ = length bytes - 4 in
     let last : drop k bytes ≡ slice_index_or bytes k 0 ∷ slice_index_or bytes (k + 1) 0 ∷ slice_index_or bytes (k + 2) 0 ∷ slice_index_or bytes (k + 3) 0 ∷ [] = last_four bytes k (omega arith) in
     let split : held ++ bytes ≡ (held ++ take k bytes) ++ slice_index_or bytes k 0 ∷ slice_index_or bytes (k + 1) 0 ∷ slice_index_or bytes (k + 2) 0 ∷ slice_index_or bytes (k + 3) 0 ∷ [] =
     ap (λ t. held ++ t) (sym (take-append-drop k bytes) ∙ ap (λ t. take k bytes ++ t) last) ∙ sym (append_assoc held (take k bytes) (slice_index_or bytes k 0 ∷ slice_index_or bytes (k + 1) 0 ∷ slice_index_or bytes (k + 2) 0 ∷ slice_index_or bytes (k + 3) 0 ∷ [])) in
-    told_more given old new start line line2 held _ gap bytes (held ++ take k bytes) g split refl
-    (t ∙ ap (λ x. x ++ B behind (take k bytes)) m ∙ append_assoc old (B line held) (B behind (take k bytes)) ∙ ap (λ i. old ++ (B line held ++ B i (take k bytes))) b ∙ ap (λ x. old ++ x) (sym (open_text-append 32 (codes "bytes ") hex_byte line held (take k bytes))))
-    (n ∙ ap (λ i. in_line_after 32 i (take k bytes)) b ∙ sym (in_line_after-append 32 line held (take k bytes)))
+    listed_more given old new start line line2 held _ gap bytes (held ++ take k bytes) g split refl
+    (t ∙ ap (λ x. x ++ B behind (take k bytes)) m ∙ append_assoc old (B line held) (B behind (take k bytes)) ∙ ap (λ i. old ++ (B line held ++ B i (take k bytes))) b ∙ ap (λ x. old ++ x) (sym (open_text_append 32 (codes "bytes ") hex_byte line held (take k bytes))))
+    (n ∙ ap (λ i. in_line_after 32 i (take k bytes)) b ∙ sym (in_line_after_append 32 line held (take k bytes)))
 
 -- the words of four bytes
 pub body_word : (body : List ℕ) (w : ℕ) → w < 2 ^ 32 → length body ≡ 4 → bytes_of_word w ≡ slice_index_or body 0 0 ∷ slice_index_or body 1 0 ∷ slice_index_or body 2 0 ∷ slice_index_or body 3 0 ∷ [] → words_of_bytes body ≡ w ∷ []
@@ -78,5 +78,5 @@ body_word [] w g e f = absurd (omega (arith, e))
 body_word (a ∷ []) w g e f = absurd (omega (arith, e))
 body_word (a ∷ b ∷ []) w g e f = absurd (omega (arith, e))
 body_word (a ∷ b ∷ c ∷ []) w g e f = absurd (omega (arith, e))
-body_word (a ∷ b ∷ c ∷ d ∷ []) w g e f = words-four (a ∷ b ∷ c ∷ d ∷ []) w refl f g
+body_word (a ∷ b ∷ c ∷ d ∷ []) w g e f = words_four (a ∷ b ∷ c ∷ d ∷ []) w refl f g
 body_word (a ∷ b ∷ c ∷ d ∷ x ∷ xs) w g e f = absurd (omega (arith, e))

@@ -17,7 +17,7 @@ use Rattle.x7_text.specs.Row.{spaced}
 use Rattle.x7_listing.specs.BitLine.{has_no_space}
 use Rattle.x7_listing.specs.Line.{Line, Empty, Comment, Bytes, Sync, Nop, Write, Read, Write2, Read2, Word, Data, Cmd, Check, FitsLine, IsLine, text_of}
 use Rattle.x7_text.specs.DigitValue.{bytes_value, word_value}
-use Rattle.x7_text.proofs.ValueLemmas.{bytes-back, word-back}
+use Rattle.x7_text.proofs.ValueLemmas.{bytes_back, word_back}
 
 -- what stands after a word that the text begins with
 abbrev pub after : List ℕ → List ℕ → Option (List ℕ)
@@ -83,30 +83,30 @@ guess t =
 pub own : IsNumeralModel (λ ds. all_ascii_digits ds ≡ true) (decimal_after 0)
 own = numerals_by_fold _ (search rules) decimal_after (search rules)
 
-pub decimal-back : (n : ℕ) → n < 2 ^ 64 → decimal_after 0 (decimal n) ≡ n
-decimal-back n h = digits_value-decimal own n h
+pub decimal_back : (n : ℕ) → n < 2 ^ 64 → decimal_after 0 (decimal n) ≡ n
+decimal_back n h = digits_value-decimal own n h
 
-pub words-back : (ws : List ℕ) → AreWords ws → words_value (flat_map spaced ws) ≡ ws
-words-back [] h = refl
-words-back (w ∷ ws) h = ap₂ (λ (x : ℕ) (t : List ℕ). x ∷ t) (word-back w h.0) (words-back ws h.1)
+pub words_back : (ws : List ℕ) → AreWords ws → words_value (flat_map spaced ws) ≡ ws
+words_back [] h = refl
+words_back (w ∷ ws) h = ap₂ (λ (x : ℕ) (t : List ℕ). x ∷ t) (word_back w h.0) (words_back ws h.1)
 
 before_by : (b : Bool) (c : ℕ) (cs ds : List ℕ) → (if b then false else has_no_space cs) ≡ true → (has_no_space cs ≡ true → before_space (cs ++ 32 ∷ ds) ≡ cs)
     → (if b then [] else c ∷ before_space (cs ++ 32 ∷ ds)) ≡ c ∷ cs
 before_by true c cs ds h more = absurd cc
 before_by false c cs ds h more = ap (λ t. c ∷ t) (more h)
 
-pub before-space : (name ds : List ℕ) → has_no_space name ≡ true → before_space (name ++ 32 ∷ ds) ≡ name
-before-space [] ds h = refl
-before-space (c ∷ cs) ds h = before_by (c == 32) c cs ds h (before-space cs ds)
+pub name_before_space : (name ds : List ℕ) → has_no_space name ≡ true → before_space (name ++ 32 ∷ ds) ≡ name
+name_before_space [] ds h = refl
+name_before_space (c ∷ cs) ds h = before_by (c == 32) c cs ds h (name_before_space cs ds)
 
 after_by : (b : Bool) (cs ds : List ℕ) → (if b then false else has_no_space cs) ≡ true → (has_no_space cs ≡ true → after_space (cs ++ 32 ∷ ds) ≡ ds)
     → (if b then cs ++ 32 ∷ ds else after_space (cs ++ 32 ∷ ds)) ≡ ds
 after_by true cs ds h more = absurd cc
 after_by false cs ds h more = more h
 
-pub after-space : (name ds : List ℕ) → has_no_space name ≡ true → after_space (name ++ 32 ∷ ds) ≡ ds
-after-space [] ds h = refl
-after-space (c ∷ cs) ds h = after_by (c == 32) cs ds h (after-space cs ds)
+pub digits_after_space : (name ds : List ℕ) → has_no_space name ≡ true → after_space (name ++ 32 ∷ ds) ≡ ds
+digits_after_space [] ds h = refl
+digits_after_space (c ∷ cs) ds h = after_by (c == 32) cs ds h (digits_after_space cs ds)
 
 -- what holds of each name of the registers by a computed test
 unfoldable pub each_name : (List ℕ → ℕ → Bool) → ℕ → Bool
@@ -145,58 +145,58 @@ all_free : each_name free 32 ≡ true
 unfolding each_name free
 all_free = refl
 
-pub name-place : (n : ℕ) → n < 32 → place_in reg_names (reg_name n) ≡ n
+pub name_place : (n : ℕ) → n < 32 → place_in reg_names (reg_name n) ≡ n
 unfolding in_place
-name-place n h = equal_numbers _ _ (each_holds in_place 32 n h all_in_place)
+name_place n h = equal_numbers _ _ (each_holds in_place 32 n h all_in_place)
 
-pub name-free : (n : ℕ) → n < 32 → has_no_space (reg_name n) ≡ true
+pub name_free : (n : ℕ) → n < 32 → has_no_space (reg_name n) ≡ true
 unfolding free
-name-free n h = each_holds free 32 n h all_free
+name_free n h = each_holds free 32 n h all_free
 
-pub register-back : (n : ℕ) (ds : List ℕ) → n < 32 → register_in (reg_name n ++ 32 ∷ ds) ≡ n
-register-back n ds h = ap (place_in reg_names) (before-space (reg_name n) ds (name-free n h)) ∙ name-place n h
+pub register_back : (n : ℕ) (ds : List ℕ) → n < 32 → register_in (reg_name n ++ 32 ∷ ds) ≡ n
+register_back n ds h = ap (place_in reg_names) (name_before_space (reg_name n) ds (name_free n h)) ∙ name_place n h
 
-pub count-back : (n c : ℕ) → n < 32 → c < 2 ^ 64 → count_in (reg_name n ++ 32 ∷ decimal c) ≡ c
-count-back n c h k = ap (decimal_after 0) (after-space (reg_name n) (decimal c) (name-free n h)) ∙ decimal-back c k
+pub count_back : (n c : ℕ) → n < 32 → c < 2 ^ 64 → count_in (reg_name n ++ 32 ∷ decimal c) ≡ c
+count_back n c h k = ap (decimal_after 0) (digits_after_space (reg_name n) (decimal c) (name_free n h)) ∙ decimal_back c k
 
-pub command-back : (c : Command) → command_with (place_in command_names (command_name_of c)) ≡ c
-command-back command.Null = refl
-command-back command.Wcfg = refl
-command-back command.Mfw = refl
-command-back command.Lfrm = refl
-command-back command.Rcfg = refl
-command-back command.Start = refl
-command-back command.Rcap = refl
-command-back command.Rcrc = refl
-command-back command.Aghigh = refl
-command-back command.Switch = refl
-command-back command.Grestore = refl
-command-back command.Shutdown = refl
-command-back command.Gcapture = refl
-command-back command.Desync = refl
-command-back command.Iprog = refl
-command-back command.Crcc = refl
-command-back command.Ltimer = refl
-command-back command.BspiRead = refl
-command-back command.FallEdge = refl
+pub command_back : (c : Command) → command_with (place_in command_names (command_name_of c)) ≡ c
+command_back command.Null = refl
+command_back command.Wcfg = refl
+command_back command.Mfw = refl
+command_back command.Lfrm = refl
+command_back command.Rcfg = refl
+command_back command.Start = refl
+command_back command.Rcap = refl
+command_back command.Rcrc = refl
+command_back command.Aghigh = refl
+command_back command.Switch = refl
+command_back command.Grestore = refl
+command_back command.Shutdown = refl
+command_back command.Gcapture = refl
+command_back command.Desync = refl
+command_back command.Iprog = refl
+command_back command.Crcc = refl
+command_back command.Ltimer = refl
+command_back command.BspiRead = refl
+command_back command.FallEdge = refl
 
-pub guess-is : (l : Line) → FitsLine l → guess (text_of l) ≡ l
-guess-is Empty h = refl
-guess-is (Comment text) h = refl
-guess-is (Bytes bs) h = ap Bytes (bytes-back bs h.0)
-guess-is Sync h = refl
-guess-is Nop h = refl
-guess-is (Write n c) h = ap₂ Write (register-back n (decimal c) h.0) (count-back n c h.0 (omega arith))
-guess-is (Read n c) h = ap₂ Read (register-back n (decimal c) h.0) (count-back n c h.0 (omega arith))
-guess-is (Write2 c) h = ap Write2 (decimal-back c (omega (arith, h)))
-guess-is (Read2 c) h = ap Read2 (decimal-back c (omega (arith, h)))
-guess-is (Word w) h = ap Word (word-back w h)
-guess-is (Data ws) h = ap Data (words-back ws h.0)
-guess-is (Cmd c) h = ap Cmd (command-back c)
-guess-is Check h = refl
+pub guess_is : (l : Line) → FitsLine l → guess (text_of l) ≡ l
+guess_is Empty h = refl
+guess_is (Comment text) h = refl
+guess_is (Bytes bs) h = ap Bytes (bytes_back bs h.0)
+guess_is Sync h = refl
+guess_is Nop h = refl
+guess_is (Write n c) h = ap₂ Write (register_back n (decimal c) h.0) (count_back n c h.0 (omega arith))
+guess_is (Read n c) h = ap₂ Read (register_back n (decimal c) h.0) (count_back n c h.0 (omega arith))
+guess_is (Write2 c) h = ap Write2 (decimal_back c (omega (arith, h)))
+guess_is (Read2 c) h = ap Read2 (decimal_back c (omega (arith, h)))
+guess_is (Word w) h = ap Word (word_back w h)
+guess_is (Data ws) h = ap Data (words_back ws h.0)
+guess_is (Cmd c) h = ap Cmd (command_back c)
+guess_is Check h = refl
 
-pub line-is : (t : List ℕ) (l : Line) → IsLine t l → l ≡ guess t
-line-is t l i = sym (ap guess i.is ∙ guess-is l i.fits)
+pub line_is : (t : List ℕ) (l : Line) → IsLine t l → l ≡ guess t
+line_is t l i = sym (ap guess i.is ∙ guess_is l i.fits)
 
-pub one-line : (t : List ℕ) (a b : Line) → IsLine t a → IsLine t b → a ≡ b
-one-line t a b i j = line-is t a i ∙ sym (line-is t b j)
+pub one_line : (t : List ℕ) (a b : Line) → IsLine t a → IsLine t b → a ≡ b
+one_line t a b i j = line_is t a i ∙ sym (line_is t b j)

@@ -2,7 +2,7 @@ pub mod AssemblingLemmas
 pub mod BitLemmas
 pub mod BoundLemmas
 pub mod EveryAsmLemmas
-pub mod FrontLemmas
+pub mod PrefixLemmas
 pub mod GapLemmas
 pub mod GuessLemmas
 pub mod LineLemmas

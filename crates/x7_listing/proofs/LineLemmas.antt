@@ -14,7 +14,7 @@ use Rattle.x7_listing.specs.Line.{Line, Empty, Comment, Bytes, Sync, Nop, Write,
 use Rattle.x7_text.specs.Row.{IsByteRow, IsWordRow}
 use Rattle.x7_text.specs.Reads.{Reads}
 use Rattle.x7_text.specs.DigitValue.{bytes_value, word_value}
-use Rattle.x7_listing.proofs.GuessLemmas.{after_space, after-space, name-free, command_names, count_in, decimal_after, line-is, place_in, register_in, words_value}
+use Rattle.x7_listing.proofs.GuessLemmas.{after_space, digits_after_space, name_free, command_names, count_in, decimal_after, line_is, place_in, register_in, words_value}
 
 lift : {A : Type 0} (fits : A → Type 0) (text bytes : A → List ℕ) (check : ℕ) (word : List ℕ) (line : A → Line) (b : Bool) (t rest old new : List ℕ)
     → t ≡ word ++ rest → ((x : A) → fits x → FitsLine (line x)) → ((x : A) → FitsLine (line x) → fits x) → ((x : A) → text_of (line x) ≡ word ++ text x) → ((x : A) → line_bytes check (line x) ≡ bytes x)
@@ -29,81 +29,81 @@ lift fits text bytes check word line false t rest old new e into from texts byte
 )
 
 module _ (check : ℕ) (b : Bool) (t rest old new : List ℕ) where
-  pub data-line : t ≡ codes "data" ++ rest → Reads IsWordRow (flat_map spaced) (flat_map bytes_of_word) b rest old new → Reads FitsLine text_of (line_bytes check) b t old new
-  data-line e r = lift IsWordRow (flat_map spaced) (flat_map bytes_of_word) check (codes "data") Data b t rest old new e (λ x h. h) (λ x h. h) (λ x. refl) (λ x. refl) (λ l i. (words_value rest, line-is _ l i)) r
+  pub data_line : t ≡ codes "data" ++ rest → Reads IsWordRow (flat_map spaced) (flat_map bytes_of_word) b rest old new → Reads FitsLine text_of (line_bytes check) b t old new
+  data_line e r = lift IsWordRow (flat_map spaced) (flat_map bytes_of_word) check (codes "data") Data b t rest old new e (λ x h. h) (λ x h. h) (λ x. refl) (λ x. refl) (λ l i. (words_value rest, line_is _ l i)) r
 
-  pub bytes-line : t ≡ codes "bytes " ++ rest → Reads IsByteRow (flat_map hex_byte) (λ (bs : List ℕ). bs) b rest old new → Reads FitsLine text_of (line_bytes check) b t old new
-  bytes-line e r = lift IsByteRow (flat_map hex_byte) (λ (bs : List ℕ). bs) check (codes "bytes ") Bytes b t rest old new e (λ x h. h) (λ x h. h) (λ x. refl) (λ x. refl) (λ l i. (bytes_value rest, line-is _ l i)) r
+  pub bytes_line : t ≡ codes "bytes " ++ rest → Reads IsByteRow (flat_map hex_byte) (λ (bs : List ℕ). bs) b rest old new → Reads FitsLine text_of (line_bytes check) b t old new
+  bytes_line e r = lift IsByteRow (flat_map hex_byte) (λ (bs : List ℕ). bs) check (codes "bytes ") Bytes b t rest old new e (λ x h. h) (λ x h. h) (λ x. refl) (λ x. refl) (λ l i. (bytes_value rest, line_is _ l i)) r
 
-  pub word-line : t ≡ codes "word " ++ rest → Reads (λ w. w < 2 ^ 32) hex_word bytes_of_word b rest old new → Reads FitsLine text_of (line_bytes check) b t old new
-  word-line e r = lift (λ w. w < 2 ^ 32) hex_word bytes_of_word check (codes "word ") Word b t rest old new e (λ x h. h) (λ x h. h) (λ x. refl) (λ x. refl) (λ l i. (word_value rest, line-is _ l i)) r
+  pub word_line : t ≡ codes "word " ++ rest → Reads (λ w. w < 2 ^ 32) hex_word bytes_of_word b rest old new → Reads FitsLine text_of (line_bytes check) b t old new
+  word_line e r = lift (λ w. w < 2 ^ 32) hex_word bytes_of_word check (codes "word ") Word b t rest old new e (λ x h. h) (λ x h. h) (λ x. refl) (λ x. refl) (λ l i. (word_value rest, line_is _ l i)) r
 
-  pub cmd-line : t ≡ codes "cmd " ++ rest → Reads (λ (c : Command). Unit {0}) command_name_of (λ c. bytes_of_word (code_of c)) b rest old new → Reads FitsLine text_of (line_bytes check) b t old new
-  cmd-line e r = lift (λ (c : Command). Unit {0}) command_name_of (λ c. bytes_of_word (code_of c)) check (codes "cmd ") Cmd b t rest old new e (λ x h. h) (λ x h. h) (λ x. refl) (λ x. refl) (λ l i. (command_with (place_in command_names rest), line-is _ l i)) r
+  pub cmd_line : t ≡ codes "cmd " ++ rest → Reads (λ (c : Command). Unit {0}) command_name_of (λ c. bytes_of_word (code_of c)) b rest old new → Reads FitsLine text_of (line_bytes check) b t old new
+  cmd_line e r = lift (λ (c : Command). Unit {0}) command_name_of (λ c. bytes_of_word (code_of c)) check (codes "cmd ") Cmd b t rest old new e (λ x h. h) (λ x h. h) (λ x. refl) (λ x. refl) (λ l i. (command_with (place_in command_names rest), line_is _ l i)) r
 
-  pub write-line : t ≡ codes "write " ++ rest → Reads IsAccess access_text (λ (a : ℕ × ℕ). bytes_of_word (type1_write a.0 a.1)) b rest old new → Reads FitsLine text_of (line_bytes check) b t old new
-  write-line e r = lift IsAccess access_text (λ (a : ℕ × ℕ). bytes_of_word (type1_write a.0 a.1)) check (codes "write ") (λ (a : ℕ × ℕ). Write a.0 a.1) b t rest old new e (λ x h. h) (λ x h. h) (λ x. refl) (λ x. refl) (λ l i. ((register_in rest, count_in rest), line-is _ l i)) r
+  pub write_line : t ≡ codes "write " ++ rest → Reads IsAccess access_text (λ (a : ℕ × ℕ). bytes_of_word (type1_write a.0 a.1)) b rest old new → Reads FitsLine text_of (line_bytes check) b t old new
+  write_line e r = lift IsAccess access_text (λ (a : ℕ × ℕ). bytes_of_word (type1_write a.0 a.1)) check (codes "write ") (λ (a : ℕ × ℕ). Write a.0 a.1) b t rest old new e (λ x h. h) (λ x h. h) (λ x. refl) (λ x. refl) (λ l i. ((register_in rest, count_in rest), line_is _ l i)) r
 
-  pub read-line : t ≡ codes "read " ++ rest → Reads IsAccess access_text (λ (a : ℕ × ℕ). bytes_of_word (type1_read a.0 a.1)) b rest old new → Reads FitsLine text_of (line_bytes check) b t old new
-  read-line e r = lift IsAccess access_text (λ (a : ℕ × ℕ). bytes_of_word (type1_read a.0 a.1)) check (codes "read ") (λ (a : ℕ × ℕ). Read a.0 a.1) b t rest old new e (λ x h. h) (λ x h. h) (λ x. refl) (λ x. refl) (λ l i. ((register_in rest, count_in rest), line-is _ l i)) r
+  pub read_line : t ≡ codes "read " ++ rest → Reads IsAccess access_text (λ (a : ℕ × ℕ). bytes_of_word (type1_read a.0 a.1)) b rest old new → Reads FitsLine text_of (line_bytes check) b t old new
+  read_line e r = lift IsAccess access_text (λ (a : ℕ × ℕ). bytes_of_word (type1_read a.0 a.1)) check (codes "read ") (λ (a : ℕ × ℕ). Read a.0 a.1) b t rest old new e (λ x h. h) (λ x h. h) (λ x. refl) (λ x. refl) (λ l i. ((register_in rest, count_in rest), line_is _ l i)) r
 
-  pub write2-line : t ≡ codes "write2 " ++ rest → Reads (λ n. n < 2 ^ 27) decimal (λ n. bytes_of_word (type2_write n)) b rest old new → Reads FitsLine text_of (line_bytes check) b t old new
-  write2-line e r = lift (λ n. n < 2 ^ 27) decimal (λ n. bytes_of_word (type2_write n)) check (codes "write2 ") Write2 b t rest old new e (λ x h. h) (λ x h. h) (λ x. refl) (λ x. refl) (λ l i. (decimal_after 0 rest, line-is _ l i)) r
+  pub write2_line : t ≡ codes "write2 " ++ rest → Reads (λ n. n < 2 ^ 27) decimal (λ n. bytes_of_word (type2_write n)) b rest old new → Reads FitsLine text_of (line_bytes check) b t old new
+  write2_line e r = lift (λ n. n < 2 ^ 27) decimal (λ n. bytes_of_word (type2_write n)) check (codes "write2 ") Write2 b t rest old new e (λ x h. h) (λ x h. h) (λ x. refl) (λ x. refl) (λ l i. (decimal_after 0 rest, line_is _ l i)) r
 
-  pub read2-line : t ≡ codes "read2 " ++ rest → Reads (λ n. n < 2 ^ 27) decimal (λ n. bytes_of_word (type2_read n)) b rest old new → Reads FitsLine text_of (line_bytes check) b t old new
-  read2-line e r = lift (λ n. n < 2 ^ 27) decimal (λ n. bytes_of_word (type2_read n)) check (codes "read2 ") Read2 b t rest old new e (λ x h. h) (λ x h. h) (λ x. refl) (λ x. refl) (λ l i. (decimal_after 0 rest, line-is _ l i)) r
+  pub read2_line : t ≡ codes "read2 " ++ rest → Reads (λ n. n < 2 ^ 27) decimal (λ n. bytes_of_word (type2_read n)) b rest old new → Reads FitsLine text_of (line_bytes check) b t old new
+  read2_line e r = lift (λ n. n < 2 ^ 27) decimal (λ n. bytes_of_word (type2_read n)) check (codes "read2 ") Read2 b t rest old new e (λ x h. h) (λ x h. h) (λ x. refl) (λ x. refl) (λ l i. (decimal_after 0 rest, line_is _ l i)) r
 
 -- the text begins with this word
 abbrev pub NotAfter : List ℕ → List ℕ → Type 0
 NotAfter word t = (rest : List ℕ) → t ≢ word ++ rest
 
 -- a text that begins with none of the words is that of a plain line, if of any
-pub only-plain : (t : List ℕ) → NotAfter (codes "data") t → NotAfter (codes "bytes ") t → NotAfter (codes "word ") t → NotAfter (codes "cmd ") t → NotAfter (codes "write ") t → NotAfter (codes "read ") t
+pub only_plain : (t : List ℕ) → NotAfter (codes "data") t → NotAfter (codes "bytes ") t → NotAfter (codes "word ") t → NotAfter (codes "cmd ") t → NotAfter (codes "write ") t → NotAfter (codes "read ") t
     → NotAfter (codes "write2 ") t → NotAfter (codes "read2 ") t → NotAfter (codes "#") t → (l : Line) → FitsLine l → t ≡ text_of l → IsPlain l
-only-plain t d b w c wr re w2 r2 co Empty h e = tt
-only-plain t d b w c wr re w2 r2 co (Comment text) h e = absurd (co text e)
-only-plain t d b w c wr re w2 r2 co (Bytes bs) h e = absurd (b (flat_map hex_byte bs) e)
-only-plain t d b w c wr re w2 r2 co Sync h e = tt
-only-plain t d b w c wr re w2 r2 co Nop h e = tt
-only-plain t d b w c wr re w2 r2 co (Write n k) h e = absurd (wr (access_text (n, k)) e)
-only-plain t d b w c wr re w2 r2 co (Read n k) h e = absurd (re (access_text (n, k)) e)
-only-plain t d b w c wr re w2 r2 co (Write2 k) h e = absurd (w2 (decimal k) e)
-only-plain t d b w c wr re w2 r2 co (Read2 k) h e = absurd (r2 (decimal k) e)
-only-plain t d b w c wr re w2 r2 co (Word x) h e = absurd (w (hex_word x) e)
-only-plain t d b w c wr re w2 r2 co (Data ws) h e = absurd (d (flat_map spaced ws) e)
-only-plain t d b w c wr re w2 r2 co (Cmd x) h e = absurd (c (command_name_of x) e)
-only-plain t d b w c wr re w2 r2 co Check h e = tt
+only_plain t d b w c wr re w2 r2 co Empty h e = tt
+only_plain t d b w c wr re w2 r2 co (Comment text) h e = absurd (co text e)
+only_plain t d b w c wr re w2 r2 co (Bytes bs) h e = absurd (b (flat_map hex_byte bs) e)
+only_plain t d b w c wr re w2 r2 co Sync h e = tt
+only_plain t d b w c wr re w2 r2 co Nop h e = tt
+only_plain t d b w c wr re w2 r2 co (Write n k) h e = absurd (wr (access_text (n, k)) e)
+only_plain t d b w c wr re w2 r2 co (Read n k) h e = absurd (re (access_text (n, k)) e)
+only_plain t d b w c wr re w2 r2 co (Write2 k) h e = absurd (w2 (decimal k) e)
+only_plain t d b w c wr re w2 r2 co (Read2 k) h e = absurd (r2 (decimal k) e)
+only_plain t d b w c wr re w2 r2 co (Word x) h e = absurd (w (hex_word x) e)
+only_plain t d b w c wr re w2 r2 co (Data ws) h e = absurd (d (flat_map spaced ws) e)
+only_plain t d b w c wr re w2 r2 co (Cmd x) h e = absurd (c (command_name_of x) e)
+only_plain t d b w c wr re w2 r2 co Check h e = tt
 
-plain-fits : (l : Line) → IsPlain l → FitsLine l
-plain-fits Empty h = tt
-plain-fits (Comment text) h = tt
-plain-fits (Bytes bs) h = absurd h
-plain-fits Sync h = tt
-plain-fits Nop h = tt
-plain-fits (Write n k) h = absurd h
-plain-fits (Read n k) h = absurd h
-plain-fits (Write2 k) h = absurd h
-plain-fits (Read2 k) h = absurd h
-plain-fits (Word x) h = absurd h
-plain-fits (Data ws) h = absurd h
-plain-fits (Cmd x) h = tt
-plain-fits Check h = tt
+plain_fits : (l : Line) → IsPlain l → FitsLine l
+plain_fits Empty h = tt
+plain_fits (Comment text) h = tt
+plain_fits (Bytes bs) h = absurd h
+plain_fits Sync h = tt
+plain_fits Nop h = tt
+plain_fits (Write n k) h = absurd h
+plain_fits (Read n k) h = absurd h
+plain_fits (Write2 k) h = absurd h
+plain_fits (Read2 k) h = absurd h
+plain_fits (Word x) h = absurd h
+plain_fits (Data ws) h = absurd h
+plain_fits (Cmd x) h = tt
+plain_fits Check h = tt
 
-pub plain-line : (check : ℕ) (b : Bool) (t old new : List ℕ) → ((l : Line) → FitsLine l → t ≡ text_of l → IsPlain l) → Reads IsPlain text_of (line_bytes check) b t old new → Reads FitsLine text_of (line_bytes check) b t old new
-plain-line check true t old new only r = (r.0, plain-fits r.0 r.1, r.2, r.3)
-plain-line check false t old new only r = (λ l h e. r.0 l (only l h e) e, r.1)
+pub plain_line : (check : ℕ) (b : Bool) (t old new : List ℕ) → ((l : Line) → FitsLine l → t ≡ text_of l → IsPlain l) → Reads IsPlain text_of (line_bytes check) b t old new → Reads FitsLine text_of (line_bytes check) b t old new
+plain_line check true t old new only r = (r.0, plain_fits r.0 r.1, r.2, r.3)
+plain_line check false t old new only r = (λ l h e. r.0 l (only l h e) e, r.1)
 
-pub no-access : (t ds : List ℕ) (r : ℕ) → r < 32 → t ≡ reg_name r ++ 32 ∷ ds → ((n : ℕ) → n < 2048 → ds ≢ decimal n) → (a : ℕ × ℕ) → IsAccess a → t ≡ access_text a → ⊥
-no-access t ds r h e none a i k =
-    none a.1 i.1 (sym (after-space (reg_name r) ds (name-free r h)) ∙ ap after_space (sym e ∙ k) ∙ after-space (reg_name a.0) (decimal a.1) (name-free a.0 i.0))
+pub no_access : (t ds : List ℕ) (r : ℕ) → r < 32 → t ≡ reg_name r ++ 32 ∷ ds → ((n : ℕ) → n < 2048 → ds ≢ decimal n) → (a : ℕ × ℕ) → IsAccess a → t ≡ access_text a → ⊥
+no_access t ds r h e none a i k =
+    none a.1 i.1 (sym (digits_after_space (reg_name r) ds (name_free r h)) ∙ ap after_space (sym e ∙ k) ∙ digits_after_space (reg_name a.0) (decimal a.1) (name_free a.0 i.0))
 
-pub two-words : (old first new a b word : List ℕ) → first ≡ old ++ a → new ≡ first ++ word → word ≡ b → new ≡ old ++ (a ++ b)
-two-words old first new a b word e f g = f ∙ ap (λ t. t ++ word) e ∙ append_assoc old a word ∙ ap (λ t. old ++ (a ++ t)) g
+pub two_words : (old first new a b word : List ℕ) → first ≡ old ++ a → new ≡ first ++ word → word ≡ b → new ≡ old ++ (a ++ b)
+two_words old first new a b word e f g = f ∙ ap (λ t. t ++ word) e ∙ append_assoc old a word ∙ ap (λ t. old ++ (a ++ t)) g
 
-pub is-none : (r : Option (Bor (List ℕ))) (P : Type 0) (Q : Bor (List ℕ) → Type 0) → is_some r ≡ false → MatchOption r P Q → P
-is-none None P Q e h = h
-is-none (Some x) P Q e h = absurd cc
+pub is_none : (r : Option (Bor (List ℕ))) (P : Type 0) (Q : Bor (List ℕ) → Type 0) → is_some r ≡ false → MatchOption r P Q → P
+is_none None P Q e h = h
+is_none (Some x) P Q e h = absurd cc
 
-pub is-comment : (r : Option (Bor (List ℕ))) (check : ℕ) (t old : List ℕ) → is_some r ≡ true → MatchOption r (NotAfter (codes "#") t) (λ x. t ≡ codes "#" ++ x.now) → Reads FitsLine text_of (line_bytes check) true t old old
-is-comment None check t old e h = absurd cc
-is-comment (Some x) check t old e h = (Comment x.now, tt, h, sym (append-nil old))
+pub is_comment : (r : Option (Bor (List ℕ))) (check : ℕ) (t old : List ℕ) → is_some r ≡ true → MatchOption r (NotAfter (codes "#") t) (λ x. t ≡ codes "#" ++ x.now) → Reads FitsLine text_of (line_bytes check) true t old old
+is_comment None check t old e h = absurd cc
+is_comment (Some x) check t old e h = (Comment x.now, tt, h, sym (append-nil old))

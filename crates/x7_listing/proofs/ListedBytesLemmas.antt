@@ -3,7 +3,7 @@ use Rattle.std.proofs.Common.{◌≡◌, ℕ, ◌/◌, ◌%◌, ◌^◌, ◌<◌
 use Rattle.std.proofs.lemmas.Grind.{common_steps, flat_map-append}
 use Rattle.std.specs.List.{AllByRecursion, flat_map}
 use Rattle.x7_words.specs.Word.{AreBytes, AreWords, bytes_of_word}
-use Rattle.x7_words.proofs.ListLemmas.{all-append, all_back, all_front}
+use Rattle.x7_words.proofs.ListLemmas.{all_append, all_back, all_prefix}
 use Rattle.x7_regs.specs.Command.{code_of, command_by}
 use Rattle.x7_packets.specs.Packet.{named_by, Packet, register_of, type_and_opcode_of, words}
 use Rattle.x7_packets.specs.PacketWords.{no_op, sync_word, type1_read, type1_write, type2_read_kind, type2_write_kind}
@@ -30,74 +30,74 @@ pub record Stands (lines : List Line) (bytes : List ℕ) : Type 0 where
   pub are : flat_map (line_bytes 0) lines ≡ bytes
   pub each : AllByRecursion Listed lines
 
-both-stand : (a b : List Line) (x y : List ℕ) → Stands a x → Stands b y → Stands (a ++ b) (x ++ y)
-both-stand a b x y s t = record { are = flat_map-append (line_bytes 0) a b ∙ ap₂ (λ (p q : List ℕ). p ++ q) s.are t.are; each = all-append Listed a b s.each t.each }
+both_stand : (a b : List Line) (x y : List ℕ) → Stands a x → Stands b y → Stands (a ++ b) (x ++ y)
+both_stand a b x y s t = record { are = flat_map-append (line_bytes 0) a b ∙ ap₂ (λ (p q : List ℕ). p ++ q) s.are t.are; each = all_append Listed a b s.each t.each }
 
-one-stands : (l : Line) (ls : List Line) (x y : List ℕ) → line_bytes 0 l ≡ x → Listed l → Stands ls y → Stands (l ∷ ls) (x ++ y)
-one-stands l ls x y e h s = record { are = ap₂ (λ (p q : List ℕ). p ++ q) e s.are; each = (h, s.each) }
+one_stands : (l : Line) (ls : List Line) (x y : List ℕ) → line_bytes 0 l ≡ x → Listed l → Stands ls y → Stands (l ∷ ls) (x ++ y)
+one_stands l ls x y e h s = record { are = ap₂ (λ (p q : List ℕ). p ++ q) e s.are; each = (h, s.each) }
 
-stands-for : (ls : List Line) (x y : List ℕ) → x ≡ y → Stands ls x → Stands ls y
-stands-for ls x y e s = subst (λ t. Stands ls t) e s
+stands_for : (ls : List Line) (x y : List ℕ) → x ≡ y → Stands ls x → Stands ls y
+stands_for ls x y e s = subst (λ t. Stands ls t) e s
 
-none-stand : Stands [] []
-none-stand = record { are = refl; each = tt }
+none_stand : Stands [] []
+none_stand = record { are = refl; each = tt }
 
 abbrev pub joined : List (List ℕ) → List ℕ
 joined rs = flat_map (λ (r : List ℕ). r) rs
 
-byte-rows : (rs : List (List ℕ)) → AreFullButLast 32 rs → AreBytes (joined rs) → Stands (map Bytes rs) (joined rs)
-byte-rows [] f a = none-stand
-byte-rows (r ∷ []) f a = one-stands (Bytes r) [] r [] refl ((all_front (λ b. b < 256) r [] a, f.0, f.1), tt) none-stand
-byte-rows (r ∷ s ∷ rs) f a = one-stands (Bytes r) (map Bytes (s ∷ rs)) r (joined (s ∷ rs)) refl ((all_front (λ b. b < 256) r (joined (s ∷ rs)) a, omega (arith, f.0), omega (arith, f.0)), tt) (byte-rows (s ∷ rs) f.1 (all_back (λ b. b < 256) r (joined (s ∷ rs)) a))
+byte_rows : (rs : List (List ℕ)) → AreFullButLast 32 rs → AreBytes (joined rs) → Stands (map Bytes rs) (joined rs)
+byte_rows [] f a = none_stand
+byte_rows (r ∷ []) f a = one_stands (Bytes r) [] r [] refl ((all_prefix (λ b. b < 256) r [] a, f.0, f.1), tt) none_stand
+byte_rows (r ∷ s ∷ rs) f a = one_stands (Bytes r) (map Bytes (s ∷ rs)) r (joined (s ∷ rs)) refl ((all_prefix (λ b. b < 256) r (joined (s ∷ rs)) a, omega (arith, f.0), omega (arith, f.0)), tt) (byte_rows (s ∷ rs) f.1 (all_back (λ b. b < 256) r (joined (s ∷ rs)) a))
 
-word-rows : (rs : List (List ℕ)) → AreFullButLast 8 rs → AreWords (joined rs) → Stands (map Data rs) (flat_map bytes_of_word (joined rs))
-word-rows [] f a = none-stand
-word-rows (r ∷ []) f a = stands-for (Data r ∷ []) (flat_map bytes_of_word r ++ []) (flat_map bytes_of_word (r ++ [])) (sym (flat_map-append bytes_of_word r [])) (one-stands (Data r) [] (flat_map bytes_of_word r) [] refl ((all_front (λ w. w < 2 ^ 32) r [] a, f.0, f.1), tt) none-stand)
-word-rows (r ∷ s ∷ rs) f a =
-    stands-for (Data r ∷ map Data (s ∷ rs)) (flat_map bytes_of_word r ++ flat_map bytes_of_word (joined (s ∷ rs))) (flat_map bytes_of_word (r ++ joined (s ∷ rs))) (sym (flat_map-append bytes_of_word r (joined (s ∷ rs))))
-    (one-stands (Data r) (map Data (s ∷ rs)) (flat_map bytes_of_word r) (flat_map bytes_of_word (joined (s ∷ rs))) refl ((all_front (λ w. w < 2 ^ 32) r (joined (s ∷ rs)) a, omega (arith, f.0), omega (arith, f.0)), tt) (word-rows (s ∷ rs) f.1 (all_back (λ w. w < 2 ^ 32) r (joined (s ∷ rs)) a)))
+word_rows : (rs : List (List ℕ)) → AreFullButLast 8 rs → AreWords (joined rs) → Stands (map Data rs) (flat_map bytes_of_word (joined rs))
+word_rows [] f a = none_stand
+word_rows (r ∷ []) f a = stands_for (Data r ∷ []) (flat_map bytes_of_word r ++ []) (flat_map bytes_of_word (r ++ [])) (sym (flat_map-append bytes_of_word r [])) (one_stands (Data r) [] (flat_map bytes_of_word r) [] refl ((all_prefix (λ w. w < 2 ^ 32) r [] a, f.0, f.1), tt) none_stand)
+word_rows (r ∷ s ∷ rs) f a =
+    stands_for (Data r ∷ map Data (s ∷ rs)) (flat_map bytes_of_word r ++ flat_map bytes_of_word (joined (s ∷ rs))) (flat_map bytes_of_word (r ++ joined (s ∷ rs))) (sym (flat_map-append bytes_of_word r (joined (s ∷ rs))))
+    (one_stands (Data r) (map Data (s ∷ rs)) (flat_map bytes_of_word r) (flat_map bytes_of_word (joined (s ∷ rs))) refl ((all_prefix (λ w. w < 2 ^ 32) r (joined (s ∷ rs)) a, omega (arith, f.0), omega (arith, f.0)), tt) (word_rows (s ∷ rs) f.1 (all_back (λ w. w < 2 ^ 32) r (joined (s ∷ rs)) a)))
 
-gap-stands : (bs : List ℕ) → AreBytes bs → Stands (gap_lines bs) bs
-gap-stands bs a =
+gap_stands : (bs : List ℕ) → AreBytes bs → Stands (gap_lines bs) bs
+gap_stands bs a =
     let same : joined (rows 32 bs) ≡ bs = rows_joined 32 [] bs in
-    stands-for (gap_lines bs) (joined (rows 32 bs)) bs same (byte-rows (rows 32 bs) (rows_full 32 [] bs (omega arith)) (subst (λ t. AreBytes t) (sym same) a))
+    stands_for (gap_lines bs) (joined (rows 32 bs)) bs same (byte_rows (rows 32 bs) (rows_full 32 [] bs (omega arith)) (subst (λ t. AreBytes t) (sym same) a))
 
-data-stands : (ws : List ℕ) → AreWords ws → Stands (map Data (rows 8 ws)) (flat_map bytes_of_word ws)
-data-stands ws a =
+data_stands : (ws : List ℕ) → AreWords ws → Stands (map Data (rows 8 ws)) (flat_map bytes_of_word ws)
+data_stands ws a =
     let same : joined (rows 8 ws) ≡ ws = rows_joined 8 [] ws in
-    stands-for (map Data (rows 8 ws)) (flat_map bytes_of_word (joined (rows 8 ws))) (flat_map bytes_of_word ws) (ap (flat_map bytes_of_word) same) (word-rows (rows 8 ws) (rows_full 8 [] ws (omega arith)) (subst (λ t. AreWords t) (sym same) a))
+    stands_for (map Data (rows 8 ws)) (flat_map bytes_of_word (joined (rows 8 ws))) (flat_map bytes_of_word ws) (ap (flat_map bytes_of_word) same) (word_rows (rows 8 ws) (rows_full 8 [] ws (omega arith)) (subst (λ t. AreWords t) (sym same) a))
 
-pub is-eq : (a b : ℕ) → (a == b) ≡ true → a ≡ b
-is-eq a b e = grind (arith, common_steps)
+pub is_eq : (a b : ℕ) → (a == b) ≡ true → a ≡ b
+is_eq a b e = grind (arith, common_steps)
 
 -- the line of a word in a header's place stands for the word
 abbrev pub IsLineOf : ℕ → Line → Type 0
 IsLineOf w l = (line_bytes 0 l ≡ bytes_of_word w) × Listed l
 
-cmd-by : (b : Bool) (w : ℕ) → w < 2 ^ 32 → (b ≡ true → code_of (command_by w) ≡ w) → IsLineOf w (if b then Cmd (command_by w) else Data (w ∷ []))
-cmd-by true w h e = (ap bytes_of_word (e refl), (tt, tt))
-cmd-by false w h e = (refl, (((h, tt), omega arith, omega arith), tt))
+cmd_by : (b : Bool) (w : ℕ) → w < 2 ^ 32 → (b ≡ true → code_of (command_by w) ≡ w) → IsLineOf w (if b then Cmd (command_by w) else Data (w ∷ []))
+cmd_by true w h e = (ap bytes_of_word (e refl), (tt, tt))
+cmd_by false w h e = (refl, (((h, tt), omega arith, omega arith), tt))
 
-pub cmd-stands : (w : ℕ) → w < 2 ^ 32 → IsLineOf w (cmd_line w)
-cmd-stands w h = cmd-by (code_of (command_by w) == w) w h (is-eq (code_of (command_by w)) w)
+pub cmd_stands : (w : ℕ) → w < 2 ^ 32 → IsLineOf w (cmd_line w)
+cmd_stands w h = cmd_by (code_of (command_by w) == w) w h (is_eq (code_of (command_by w)) w)
 
-cmds-stand : (ws : List ℕ) → AreWords ws → Stands (map cmd_line ws) (flat_map bytes_of_word ws)
-cmds-stand [] a = none-stand
-cmds-stand (w ∷ ws) a = let p : IsLineOf w (cmd_line w) = cmd-stands w a.0 in
-    one-stands (cmd_line w) (map cmd_line ws) (bytes_of_word w) (flat_map bytes_of_word ws) p.0 p.1 (cmds-stand ws a.1)
+cmds_stand : (ws : List ℕ) → AreWords ws → Stands (map cmd_line ws) (flat_map bytes_of_word ws)
+cmds_stand [] a = none_stand
+cmds_stand (w ∷ ws) a = let p : IsLineOf w (cmd_line w) = cmd_stands w a.0 in
+    one_stands (cmd_line w) (map cmd_line ws) (bytes_of_word w) (flat_map bytes_of_word ws) p.0 p.1 (cmds_stand ws a.1)
 
-payload-by : (b : Bool) (ws : List ℕ) → AreWords ws → Stands (if b then map cmd_line ws else map Data (rows 8 ws)) (flat_map bytes_of_word ws)
-payload-by true ws a = cmds-stand ws a
-payload-by false ws a = data-stands ws a
+payload_by : (b : Bool) (ws : List ℕ) → AreWords ws → Stands (if b then map cmd_line ws else map Data (rows 8 ws)) (flat_map bytes_of_word ws)
+payload_by true ws a = cmds_stand ws a
+payload_by false ws a = data_stands ws a
 
-as-bytes : (h : HeadLine) → line_bytes 0 (line_as h) ≡ bytes_of_word (line_word h)
-as-bytes head.Nop = refl
-as-bytes head.Sync = refl
-as-bytes (head.Write r c) = refl
-as-bytes (head.Read r c) = refl
-as-bytes (head.Write2 c) = refl
-as-bytes (head.Read2 c) = refl
-as-bytes (head.Word w) = refl
+as_bytes : (h : HeadLine) → line_bytes 0 (line_as h) ≡ bytes_of_word (line_word h)
+as_bytes head.Nop = refl
+as_bytes head.Sync = refl
+as_bytes (head.Write r c) = refl
+as_bytes (head.Read r c) = refl
+as_bytes (head.Write2 c) = refl
+as_bytes (head.Read2 c) = refl
+as_bytes (head.Word w) = refl
 
 abbrev pub IsHeadOf : ℕ → HeadLine → Type 0
 IsHeadOf w h = (line_word h ≡ w) × Listed (line_as h)
@@ -109,61 +109,61 @@ pick P false x y f g = g
 best : (w : ℕ) → w < 2 ^ 32 → IsHeadOf w (best_line w)
 best w h =
     let r : register_of w < 32 = omega arith in
-    pick (IsHeadOf w) (w == no_op) head.Nop _ (λ e. (sym (is-eq w no_op e), (tt, tt)))
-    (pick (IsHeadOf w) (w == sync_word) head.Sync _ (λ e. (sym (is-eq w sync_word e), (tt, tt)))
-    (pick (IsHeadOf w) (w == type1_write (register_of w) (w % 2 ^ 11)) (head.Write (register_of w) (w % 2 ^ 11)) _ (λ e. (sym (is-eq w (type1_write (register_of w) (w % 2 ^ 11)) e), ((r, omega arith), tt)))
-    (pick (IsHeadOf w) (w == type1_read (register_of w) (w % 2 ^ 11)) (head.Read (register_of w) (w % 2 ^ 11)) _ (λ e. (sym (is-eq w (type1_read (register_of w) (w % 2 ^ 11)) e), ((r, omega arith), tt)))
-    (pick (IsHeadOf w) (type_and_opcode_of w == type2_write_kind) (head.Write2 (w % 2 ^ 27)) _ (λ e. let k : w / 2 ^ 27 ≡ 10 = is-eq (w / 2 ^ 27) 10 e in (omega arith, (omega arith, tt)))
-    (pick (IsHeadOf w) (type_and_opcode_of w == type2_read_kind) (head.Read2 (w % 2 ^ 27)) (head.Word w) (λ e. let k : w / 2 ^ 27 ≡ 9 = is-eq (w / 2 ^ 27) 9 e in (omega arith, (omega arith, tt))) (refl, (h, tt)))))))
+    pick (IsHeadOf w) (w == no_op) head.Nop _ (λ e. (sym (is_eq w no_op e), (tt, tt)))
+    (pick (IsHeadOf w) (w == sync_word) head.Sync _ (λ e. (sym (is_eq w sync_word e), (tt, tt)))
+    (pick (IsHeadOf w) (w == type1_write (register_of w) (w % 2 ^ 11)) (head.Write (register_of w) (w % 2 ^ 11)) _ (λ e. (sym (is_eq w (type1_write (register_of w) (w % 2 ^ 11)) e), ((r, omega arith), tt)))
+    (pick (IsHeadOf w) (w == type1_read (register_of w) (w % 2 ^ 11)) (head.Read (register_of w) (w % 2 ^ 11)) _ (λ e. (sym (is_eq w (type1_read (register_of w) (w % 2 ^ 11)) e), ((r, omega arith), tt)))
+    (pick (IsHeadOf w) (type_and_opcode_of w == type2_write_kind) (head.Write2 (w % 2 ^ 27)) _ (λ e. let k : w / 2 ^ 27 ≡ 10 = is_eq (w / 2 ^ 27) 10 e in (omega arith, (omega arith, tt)))
+    (pick (IsHeadOf w) (type_and_opcode_of w == type2_read_kind) (head.Read2 (w % 2 ^ 27)) (head.Word w) (λ e. let k : w / 2 ^ 27 ≡ 9 = is_eq (w / 2 ^ 27) 9 e in (omega arith, (omega arith, tt))) (refl, (h, tt)))))))
 
-head-of : (s : Step) (w : ℕ) → w < 2 ^ 32 → IsHeadOf w (line_of_head s w)
-head-of (step.Bad x) w h = (refl, (h, tt))
-head-of step.Filler w h = best w h
-head-of step.Nop w h = best w h
-head-of (step.Open r c) w h = best w h
-head-of (step.Payload r x) w h = best w h
-head-of (step.Read r c) w h = best w h
+head_of : (s : Step) (w : ℕ) → w < 2 ^ 32 → IsHeadOf w (line_of_head s w)
+head_of (step.Bad x) w h = (refl, (h, tt))
+head_of step.Filler w h = best w h
+head_of step.Nop w h = best w h
+head_of (step.Open r c) w h = best w h
+head_of (step.Payload r x) w h = best w h
+head_of (step.Read r c) w h = best w h
 
-packet-stands : (p : Packet) → AreWords (words p) → Stands (packet_lines p) (flat_map bytes_of_word (words p))
-packet-stands p a = let q : IsHeadOf p.head (line_of_head p.step p.head) = head-of p.step p.head a.0 in
-    one-stands (line_as (line_of_head p.step p.head)) (payload_lines (named_by p.step) p.payload) (bytes_of_word p.head) (flat_map bytes_of_word p.payload) (as-bytes (line_of_head p.step p.head) ∙ ap bytes_of_word q.0) q.1 (payload-by (named_by p.step == 4) p.payload a.1)
+packet_stands : (p : Packet) → AreWords (words p) → Stands (packet_lines p) (flat_map bytes_of_word (words p))
+packet_stands p a = let q : IsHeadOf p.head (line_of_head p.step p.head) = head_of p.step p.head a.0 in
+    one_stands (line_as (line_of_head p.step p.head)) (payload_lines (named_by p.step) p.payload) (bytes_of_word p.head) (flat_map bytes_of_word p.payload) (as_bytes (line_of_head p.step p.head) ∙ ap bytes_of_word q.0) q.1 (payload_by (named_by p.step == 4) p.payload a.1)
 
-packets-stand : (ps : List Packet) → AreWords (flat_map words ps) → Stands (flat_map packet_lines ps) (packet_bytes ps)
-packets-stand [] a = none-stand
-packets-stand (p ∷ ps) a =
-    stands-for (flat_map packet_lines (p ∷ ps)) (flat_map bytes_of_word (words p) ++ packet_bytes ps) (packet_bytes (p ∷ ps)) (sym (flat_map-append bytes_of_word (words p) (flat_map words ps)))
-    (both-stand (packet_lines p) (flat_map packet_lines ps) (flat_map bytes_of_word (words p)) (packet_bytes ps) (packet-stands p (all_front (λ w. w < 2 ^ 32) (words p) (flat_map words ps) a)) (packets-stand ps (all_back (λ w. w < 2 ^ 32) (words p) (flat_map words ps) a)))
+packets_stand : (ps : List Packet) → AreWords (flat_map words ps) → Stands (flat_map packet_lines ps) (packet_bytes ps)
+packets_stand [] a = none_stand
+packets_stand (p ∷ ps) a =
+    stands_for (flat_map packet_lines (p ∷ ps)) (flat_map bytes_of_word (words p) ++ packet_bytes ps) (packet_bytes (p ∷ ps)) (sym (flat_map-append bytes_of_word (words p) (flat_map words ps)))
+    (both_stand (packet_lines p) (flat_map packet_lines ps) (flat_map bytes_of_word (words p)) (packet_bytes ps) (packet_stands p (all_prefix (λ w. w < 2 ^ 32) (words p) (flat_map words ps) a)) (packets_stand ps (all_back (λ w. w < 2 ^ 32) (words p) (flat_map words ps) a)))
 
-session-stands : (gap : List ℕ) (ps : List Packet) → AreBytes gap → AreWords (flat_map words ps) → Stands (packets_lines gap ps) (gap ++ (sync_bytes ++ packet_bytes ps))
-session-stands gap ps g a = both-stand (gap_lines gap) (Sync ∷ flat_map packet_lines ps) gap (sync_bytes ++ packet_bytes ps) (gap-stands gap g) (one-stands Sync (flat_map packet_lines ps) sync_bytes (packet_bytes ps) refl (tt, tt) (packets-stand ps a))
+session_stands : (gap : List ℕ) (ps : List Packet) → AreBytes gap → AreWords (flat_map words ps) → Stands (packets_lines gap ps) (gap ++ (sync_bytes ++ packet_bytes ps))
+session_stands gap ps g a = both_stand (gap_lines gap) (Sync ∷ flat_map packet_lines ps) gap (sync_bytes ++ packet_bytes ps) (gap_stands gap g) (one_stands Sync (flat_map packet_lines ps) sync_bytes (packet_bytes ps) refl (tt, tt) (packets_stand ps a))
 
-ended-session : (s : Session) → AreBytes (session_bytes s) → AreWords (flat_map words s.packets) → Stands (session_lines s) (session_bytes s)
-ended-session s b a = stands-for (session_lines s) (s.gap ++ (sync_bytes ++ packet_bytes s.packets)) (session_bytes s) (sym (append_assoc s.gap sync_bytes (packet_bytes s.packets)))
-    (session-stands s.gap s.packets (all_front (λ x. x < 256) s.gap (sync_bytes ++ packet_bytes s.packets) (subst (λ t. AreBytes t) (append_assoc s.gap sync_bytes (packet_bytes s.packets)) b)) a)
+ended_session : (s : Session) → AreBytes (session_bytes s) → AreWords (flat_map words s.packets) → Stands (session_lines s) (session_bytes s)
+ended_session s b a = stands_for (session_lines s) (s.gap ++ (sync_bytes ++ packet_bytes s.packets)) (session_bytes s) (sym (append_assoc s.gap sync_bytes (packet_bytes s.packets)))
+    (session_stands s.gap s.packets (all_prefix (λ x. x < 256) s.gap (sync_bytes ++ packet_bytes s.packets) (subst (λ t. AreBytes t) (append_assoc s.gap sync_bytes (packet_bytes s.packets)) b)) a)
 
-sessions-stand : (ss : List Session) → AreBytes (flat_map session_bytes ss) → AllByRecursion IsSession ss → Stands (flat_map session_lines ss) (flat_map session_bytes ss)
-sessions-stand [] b a = none-stand
-sessions-stand (s ∷ ss) b a =
-    both-stand (session_lines s) (flat_map session_lines ss) (session_bytes s) (flat_map session_bytes ss) (ended-session s (all_front (λ x. x < 256) (session_bytes s) (flat_map session_bytes ss) b) (each_fits None s.packets a.0.packets))
-    (sessions-stand ss (all_back (λ x. x < 256) (session_bytes s) (flat_map session_bytes ss) b) a.1)
+sessions_stand : (ss : List Session) → AreBytes (flat_map session_bytes ss) → AllByRecursion IsSession ss → Stands (flat_map session_lines ss) (flat_map session_bytes ss)
+sessions_stand [] b a = none_stand
+sessions_stand (s ∷ ss) b a =
+    both_stand (session_lines s) (flat_map session_lines ss) (session_bytes s) (flat_map session_bytes ss) (ended_session s (all_prefix (λ x. x < 256) (session_bytes s) (flat_map session_bytes ss) b) (each_fits None s.packets a.0.packets))
+    (sessions_stand ss (all_back (λ x. x < 256) (session_bytes s) (flat_map session_bytes ss) b) a.1)
 
-place-stands : (p : Place) → AreBytes (place_bytes p) → IsPlace p → Stands (place_lines p) (place_bytes p)
-place-stands (Searching gap) b i = gap-stands gap b
-place-stands (Synced gap ps tail) b i =
+place_stands : (p : Place) → AreBytes (place_bytes p) → IsPlace p → Stands (place_lines p) (place_bytes p)
+place_stands (Searching gap) b i = gap_stands gap b
+place_stands (Synced gap ps tail) b i =
     let e : gap ++ sync_bytes ++ packet_bytes ps ++ tail ≡ gap ++ (sync_bytes ++ packet_bytes ps) ++ tail = ap (λ t. t ++ tail) (append_assoc gap sync_bytes (packet_bytes ps)) in
-    let prefix : AreBytes (gap ++ (sync_bytes ++ packet_bytes ps)) = all_front (λ x. x < 256) (gap ++ (sync_bytes ++ packet_bytes ps)) tail (subst (λ t. AreBytes t) e b) in
-    stands-for (place_lines (Synced gap ps tail)) (gap ++ (sync_bytes ++ packet_bytes ps) ++ tail) (gap ++ sync_bytes ++ packet_bytes ps ++ tail) (sym e)
-    (both-stand (packets_lines gap ps) (gap_lines tail) (gap ++ (sync_bytes ++ packet_bytes ps)) tail
-    (session-stands gap ps (all_front (λ x. x < 256) gap (sync_bytes ++ packet_bytes ps) prefix) (each_fits None ps i.1))
-    (gap-stands tail (all_back (λ x. x < 256) (gap ++ sync_bytes ++ packet_bytes ps) tail b)))
+    let prefix : AreBytes (gap ++ (sync_bytes ++ packet_bytes ps)) = all_prefix (λ x. x < 256) (gap ++ (sync_bytes ++ packet_bytes ps)) tail (subst (λ t. AreBytes t) e b) in
+    stands_for (place_lines (Synced gap ps tail)) (gap ++ (sync_bytes ++ packet_bytes ps) ++ tail) (gap ++ sync_bytes ++ packet_bytes ps ++ tail) (sym e)
+    (both_stand (packets_lines gap ps) (gap_lines tail) (gap ++ (sync_bytes ++ packet_bytes ps)) tail
+    (session_stands gap ps (all_prefix (λ x. x < 256) gap (sync_bytes ++ packet_bytes ps) prefix) (each_fits None ps i.1))
+    (gap_stands tail (all_back (λ x. x < 256) (gap ++ sync_bytes ++ packet_bytes ps) tail b)))
 
-pub reading-stands : (bytes : List ℕ) (ss : List Session) (p : Place) → IsReading bytes ss p → Stands (flat_map session_lines ss ++ place_lines p) bytes
-reading-stands bytes ss p r =
+pub reading_stands : (bytes : List ℕ) (ss : List Session) (p : Place) → IsReading bytes ss p → Stands (flat_map session_lines ss ++ place_lines p) bytes
+reading_stands bytes ss p r =
     let b : AreBytes (flat_map session_bytes ss ++ place_bytes p) = subst (λ t. AreBytes t) r.joined r.fits in
-    stands-for (flat_map session_lines ss ++ place_lines p) (flat_map session_bytes ss ++ place_bytes p) bytes (sym r.joined)
-    (both-stand (flat_map session_lines ss) (place_lines p) (flat_map session_bytes ss) (place_bytes p)
-    (sessions-stand ss (all_front (λ x. x < 256) (flat_map session_bytes ss) (place_bytes p) b) r.each)
-    (place-stands p (all_back (λ x. x < 256) (flat_map session_bytes ss) (place_bytes p) b) r.ends))
+    stands_for (flat_map session_lines ss ++ place_lines p) (flat_map session_bytes ss ++ place_bytes p) bytes (sym r.joined)
+    (both_stand (flat_map session_lines ss) (place_lines p) (flat_map session_bytes ss) (place_bytes p)
+    (sessions_stand ss (all_prefix (λ x. x < 256) (flat_map session_bytes ss) (place_bytes p) b) r.each)
+    (place_stands p (all_back (λ x. x < 256) (flat_map session_bytes ss) (place_bytes p) b) r.ends))
 
-pub listing-stands : (bytes : List ℕ) → AreBytes bytes → Stands (listing_lines bytes) bytes
-listing-stands bytes a = reading-stands bytes (reading_of bytes).sessions (reading_of bytes).place (reading_is_found bytes a)
+pub listing_stands : (bytes : List ℕ) → AreBytes bytes → Stands (listing_lines bytes) bytes
+listing_stands bytes a = reading_stands bytes (reading_of bytes).sessions (reading_of bytes).place (reading_is_found bytes a)

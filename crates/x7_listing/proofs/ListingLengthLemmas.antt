@@ -7,7 +7,7 @@ use Rattle.std.proofs.lemmas.Bool.Decides.{nat_tests}
 use Rattle.std.proofs.lemmas.Fmt.{length-decimal-le}
 use Rattle.std.proofs.lemmas.Grind.{flat_map-append}
 use Rattle.x7_words.specs.Word.{AreBytes, bytes_of_word}
-use Rattle.x7_words.proofs.ListLemmas.{all-append, all_back, all_front}
+use Rattle.x7_words.proofs.ListLemmas.{all_append, all_back, all_prefix}
 use Rattle.x7_header.specs.Header.{Contents, field_bytes, fixed_bytes, HaveHeader, header_bytes, Kind}
 use Rattle.x7_header.specs.Reading.{header_at}
 use Rattle.x7_header.specs.declared.fault.HeaderFault.{HeaderFault}
@@ -22,9 +22,9 @@ use Rattle.x7_regs.specs.declared.command.Command.TheVariants as command
 use Rattle.x7_regs.specs.Register.{reg_name}
 use Rattle.x7_text.specs.Digits.{hex_byte}
 use Rattle.x7_text.specs.Row.{AreFullButLast, rows, spaced}
-use Rattle.x7_text.proofs.ReadRowLemmas.{length-spaced}
+use Rattle.x7_text.proofs.ReadRowLemmas.{length_spaced}
 use Rattle.x7_text.proofs.RowLemmas.{rows_full}
-use Rattle.x7_text.proofs.WholeLineLemmas.{length-hex_bytes}
+use Rattle.x7_text.proofs.WholeLineLemmas.{length_hex_bytes}
 use Rattle.x7_listing.specs.BitLine.{bit_text, field_text}
 use Rattle.x7_listing.specs.HeadLine.{line_of_head}
 use Rattle.x7_listing.specs.declared.line.head_line.HeadLine.{HeadLine}
@@ -34,48 +34,48 @@ use Rattle.x7_listing.specs.Listed.{cmd_line, ended_text, gap_lines, line_as, pa
 use Rattle.x7_listing.specs.Listing.{listing_of}
 use Rattle.x7_listing.specs.StreamListing.{listing_by, stream_listing}
 use Rattle.x7_listing.proofs.GuessLemmas.{each_holds, each_name}
-use Rattle.x7_listing.proofs.ListedLemmas.{listing-text}
-use Rattle.x7_listing.proofs.ListedBytesLemmas.{Listed, listing-stands}
+use Rattle.x7_listing.proofs.ListedLemmas.{listing_text_is}
+use Rattle.x7_listing.proofs.ListedBytesLemmas.{Listed, listing_stands}
 
 -- names are short
 few : List ℕ → ℕ → Bool
 few name n = nat_lt (length name) 8
 
-all-few : each_name few 32 ≡ true
+all_few : each_name few 32 ≡ true
 unfolding each_name few
-all-few = refl
+all_few = refl
 
-below-by : (a b : ℕ) → nat_lt a b ≡ true → a < b
-below-by a b e = grind (arith, nat_tests)
+below_by : (a b : ℕ) → nat_lt a b ≡ true → a < b
+below_by a b e = grind (arith, nat_tests)
 
-name-few : (n : ℕ) → n < 32 → length (reg_name n) < 8
+name_few : (n : ℕ) → n < 32 → length (reg_name n) < 8
 unfolding few
-name-few n h = below-by (length (reg_name n)) 8 (each_holds few 32 n h all-few)
+name_few n h = below_by (length (reg_name n)) 8 (each_holds few 32 n h all_few)
 
-command-few : (c : Command) → length (command_name_of c) < 10
-command-few command.Null = omega arith
-command-few command.Wcfg = omega arith
-command-few command.Mfw = omega arith
-command-few command.Lfrm = omega arith
-command-few command.Rcfg = omega arith
-command-few command.Start = omega arith
-command-few command.Rcap = omega arith
-command-few command.Rcrc = omega arith
-command-few command.Aghigh = omega arith
-command-few command.Switch = omega arith
-command-few command.Grestore = omega arith
-command-few command.Shutdown = omega arith
-command-few command.Gcapture = omega arith
-command-few command.Desync = omega arith
-command-few command.Iprog = omega arith
-command-few command.Crcc = omega arith
-command-few command.Ltimer = omega arith
-command-few command.BspiRead = omega arith
-command-few command.FallEdge = omega arith
+command_few : (c : Command) → length (command_name_of c) < 10
+command_few command.Null = omega arith
+command_few command.Wcfg = omega arith
+command_few command.Mfw = omega arith
+command_few command.Lfrm = omega arith
+command_few command.Rcfg = omega arith
+command_few command.Start = omega arith
+command_few command.Rcap = omega arith
+command_few command.Rcrc = omega arith
+command_few command.Aghigh = omega arith
+command_few command.Switch = omega arith
+command_few command.Grestore = omega arith
+command_few command.Shutdown = omega arith
+command_few command.Gcapture = omega arith
+command_few command.Desync = omega arith
+command_few command.Iprog = omega arith
+command_few command.Crcc = omega arith
+command_few command.Ltimer = omega arith
+command_few command.BspiRead = omega arith
+command_few command.FallEdge = omega arith
 
-four-each : (ws : List ℕ) → length (flat_map bytes_of_word ws) ≡ 4 * length ws
-four-each [] = refl
-four-each (w ∷ ws) = omega (arith, four-each ws)
+four_each : (ws : List ℕ) → length (flat_map bytes_of_word ws) ≡ 4 * length ws
+four_each [] = refl
+four_each (w ∷ ws) = omega (arith, four_each ws)
 
 -- a line of a listing that is no `bytes` line
 abbrev pub IsWhole : Line → Type 0
@@ -85,120 +85,120 @@ IsWhole (Bytes bytes) = ⊥
 IsWhole Check = ⊥
 IsWhole _ = Unit {0}
 
-access-few : (word : List ℕ) (n c : ℕ) → length word ≤ 6 → n < 32 → c < 2 ^ 11 → length ((word ++ (reg_name n ++ 32 ∷ decimal c)) ++ 10 ∷ []) ≤ 20
-access-few word n c l h k = omega (arith, l, name-few n h, length-decimal-le 4 c (omega arith) (omega (arith, k)) (omega (arith, k)), length-append (word ++ (reg_name n ++ 32 ∷ decimal c)) (10 ∷ []), length-append word (reg_name n ++ 32 ∷ decimal c), length-append (reg_name n) (32 ∷ decimal c))
+access_few : (word : List ℕ) (n c : ℕ) → length word ≤ 6 → n < 32 → c < 2 ^ 11 → length ((word ++ (reg_name n ++ 32 ∷ decimal c)) ++ 10 ∷ []) ≤ 20
+access_few word n c l h k = omega (arith, l, name_few n h, length-decimal-le 4 c (omega arith) (omega (arith, k)) (omega (arith, k)), length-append (word ++ (reg_name n ++ 32 ∷ decimal c)) (10 ∷ []), length-append word (reg_name n ++ 32 ∷ decimal c), length-append (reg_name n) (32 ∷ decimal c))
 
-count-few : (word : List ℕ) (c : ℕ) → length word ≤ 7 → c < 2 ^ 27 → length ((word ++ decimal c) ++ 10 ∷ []) ≤ 20
-count-few word c l k = omega (arith, l, length-decimal-le 9 c (omega arith) (omega (arith, k)) (omega (arith, k)), length-append (word ++ decimal c) (10 ∷ []), length-append word (decimal c))
+count_few : (word : List ℕ) (c : ℕ) → length word ≤ 7 → c < 2 ^ 27 → length ((word ++ decimal c) ++ 10 ∷ []) ≤ 20
+count_few word c l k = omega (arith, l, length-decimal-le 9 c (omega arith) (omega (arith, k)) (omega (arith, k)), length-append (word ++ decimal c) (10 ∷ []), length-append word (decimal c))
 
-line-short : (l : Line) → FitsLine l → IsWhole l → length (ended_text l) ≤ 5 * length (line_bytes 0 l)
-line-short Empty f o = absurd o
-line-short (Comment text) f o = absurd o
-line-short (Bytes bytes) f o = absurd o
-line-short Sync f o = omega arith
-line-short Nop f o = omega arith
-line-short (Write n c) f o = access-few (codes "write ") n c (omega arith) f.0 f.1
-line-short (Read n c) f o = access-few (codes "read ") n c (omega arith) f.0 f.1
-line-short (Write2 c) f o = count-few (codes "write2 ") c (omega arith) f
-line-short (Read2 c) f o = count-few (codes "read2 ") c (omega arith) f
-line-short (Word w) f o = omega arith
-line-short (Data ws) f o = omega (arith, f.1, four-each ws, length-spaced ws, length-append (codes "data" ++ flat_map spaced ws) (10 ∷ []), length-append (codes "data") (flat_map spaced ws))
-line-short (Cmd c) f o = omega (arith, command-few c, length-append (codes "cmd " ++ command_name_of c) (10 ∷ []), length-append (codes "cmd ") (command_name_of c))
-line-short Check f o = absurd o
+line_short : (l : Line) → FitsLine l → IsWhole l → length (ended_text l) ≤ 5 * length (line_bytes 0 l)
+line_short Empty f o = absurd o
+line_short (Comment text) f o = absurd o
+line_short (Bytes bytes) f o = absurd o
+line_short Sync f o = omega arith
+line_short Nop f o = omega arith
+line_short (Write n c) f o = access_few (codes "write ") n c (omega arith) f.0 f.1
+line_short (Read n c) f o = access_few (codes "read ") n c (omega arith) f.0 f.1
+line_short (Write2 c) f o = count_few (codes "write2 ") c (omega arith) f
+line_short (Read2 c) f o = count_few (codes "read2 ") c (omega arith) f
+line_short (Word w) f o = omega arith
+line_short (Data ws) f o = omega (arith, f.1, four_each ws, length_spaced ws, length-append (codes "data" ++ flat_map spaced ws) (10 ∷ []), length-append (codes "data") (flat_map spaced ws))
+line_short (Cmd c) f o = omega (arith, command_few c, length-append (codes "cmd " ++ command_name_of c) (10 ∷ []), length-append (codes "cmd ") (command_name_of c))
+line_short Check f o = absurd o
 
 -- how long the texts of lines are, and their bytes
-texts-long : (a b : List Line) → length (ended_texts (a ++ b)) ≡ length (ended_texts a) + length (ended_texts b)
-texts-long a b = ap length (flat_map-append ended_text a b) ∙ length-append (ended_texts a) (ended_texts b)
+texts_long : (a b : List Line) → length (ended_texts (a ++ b)) ≡ length (ended_texts a) + length (ended_texts b)
+texts_long a b = ap length (flat_map-append ended_text a b) ∙ length-append (ended_texts a) (ended_texts b)
 
-bytes-long : (a b : List Line) → length (flat_map (line_bytes 0) (a ++ b)) ≡ length (flat_map (line_bytes 0) a) + length (flat_map (line_bytes 0) b)
-bytes-long a b = ap length (flat_map-append (line_bytes 0) a b) ∙ length-append (flat_map (line_bytes 0) a) (flat_map (line_bytes 0) b)
+bytes_long : (a b : List Line) → length (flat_map (line_bytes 0) (a ++ b)) ≡ length (flat_map (line_bytes 0) a) + length (flat_map (line_bytes 0) b)
+bytes_long a b = ap length (flat_map-append (line_bytes 0) a b) ∙ length-append (flat_map (line_bytes 0) a) (flat_map (line_bytes 0) b)
 
-lines-short : (ls : List Line) → AllByRecursion Listed ls → AllByRecursion IsWhole ls → length (ended_texts ls) ≤ 5 * length (flat_map (line_bytes 0) ls)
-lines-short [] a o = omega arith
-lines-short (l ∷ ls) a o = omega (arith, line-short l a.0.0 o.0, lines-short ls a.1 o.1, length-append (ended_text l) (ended_texts ls), length-append (line_bytes 0 l) (flat_map (line_bytes 0) ls))
+lines_short : (ls : List Line) → AllByRecursion Listed ls → AllByRecursion IsWhole ls → length (ended_texts ls) ≤ 5 * length (flat_map (line_bytes 0) ls)
+lines_short [] a o = omega arith
+lines_short (l ∷ ls) a o = omega (arith, line_short l a.0.0 o.0, lines_short ls a.1 o.1, length-append (ended_text l) (ended_texts ls), length-append (line_bytes 0 l) (flat_map (line_bytes 0) ls))
 
-row-long : (r : List ℕ) → length (ended_text (Bytes r)) ≡ 7 + 2 * length r
-row-long r = omega (arith, length-hex_bytes r, length-append (codes "bytes " ++ flat_map hex_byte r) (10 ∷ []), length-append (codes "bytes ") (flat_map hex_byte r))
+row_long : (r : List ℕ) → length (ended_text (Bytes r)) ≡ 7 + 2 * length r
+row_long r = omega (arith, length_hex_bytes r, length-append (codes "bytes " ++ flat_map hex_byte r) (10 ∷ []), length-append (codes "bytes ") (flat_map hex_byte r))
 
-rows-short : (rs : List (List ℕ)) → AreFullButLast 32 rs → length (ended_texts (map Bytes rs)) ≤ 5 * length (flat_map (line_bytes 0) (map Bytes rs)) + 4
-rows-short [] f = omega arith
-rows-short (r ∷ []) f = omega (arith, f.0, row-long r, length-append (ended_text (Bytes r)) [], length-append r [])
-rows-short (r ∷ s ∷ rs) f = omega (arith, f.0, row-long r, rows-short (s ∷ rs) f.1, length-append (ended_text (Bytes r)) (ended_texts (map Bytes (s ∷ rs))), length-append r (flat_map (line_bytes 0) (map Bytes (s ∷ rs))))
+rows_short : (rs : List (List ℕ)) → AreFullButLast 32 rs → length (ended_texts (map Bytes rs)) ≤ 5 * length (flat_map (line_bytes 0) (map Bytes rs)) + 4
+rows_short [] f = omega arith
+rows_short (r ∷ []) f = omega (arith, f.0, row_long r, length-append (ended_text (Bytes r)) [], length-append r [])
+rows_short (r ∷ s ∷ rs) f = omega (arith, f.0, row_long r, rows_short (s ∷ rs) f.1, length-append (ended_text (Bytes r)) (ended_texts (map Bytes (s ∷ rs))), length-append r (flat_map (line_bytes 0) (map Bytes (s ∷ rs))))
 
-gap-short : (bs : List ℕ) → length (ended_texts (gap_lines bs)) ≤ 5 * length (flat_map (line_bytes 0) (gap_lines bs)) + 4
-gap-short bs = rows-short (rows 32 bs) (rows_full 32 [] bs (omega arith))
+gap_short : (bs : List ℕ) → length (ended_texts (gap_lines bs)) ≤ 5 * length (flat_map (line_bytes 0) (gap_lines bs)) + 4
+gap_short bs = rows_short (rows 32 bs) (rows_full 32 [] bs (omega arith))
 
 -- packets have no `bytes` line
-head-whole : (h : HeadLine) → IsWhole (line_as h)
-head-whole head.Nop = tt
-head-whole head.Sync = tt
-head-whole (head.Write r c) = tt
-head-whole (head.Read r c) = tt
-head-whole (head.Write2 c) = tt
-head-whole (head.Read2 c) = tt
-head-whole (head.Word w) = tt
+head_whole : (h : HeadLine) → IsWhole (line_as h)
+head_whole head.Nop = tt
+head_whole head.Sync = tt
+head_whole (head.Write r c) = tt
+head_whole (head.Read r c) = tt
+head_whole (head.Write2 c) = tt
+head_whole (head.Read2 c) = tt
+head_whole (head.Word w) = tt
 
-cmd-by : (b : Bool) (w : ℕ) → IsWhole (if b then Cmd (command_by w) else Data (w ∷ []))
-cmd-by true w = tt
-cmd-by false w = tt
+cmd_by : (b : Bool) (w : ℕ) → IsWhole (if b then Cmd (command_by w) else Data (w ∷ []))
+cmd_by true w = tt
+cmd_by false w = tt
 
-cmds-whole : (ws : List ℕ) → AllByRecursion IsWhole (map cmd_line ws)
-cmds-whole [] = tt
-cmds-whole (w ∷ ws) = (cmd-by (code_of (command_by w) == w) w, cmds-whole ws)
+cmds_whole : (ws : List ℕ) → AllByRecursion IsWhole (map cmd_line ws)
+cmds_whole [] = tt
+cmds_whole (w ∷ ws) = (cmd_by (code_of (command_by w) == w) w, cmds_whole ws)
 
-data-whole : (rs : List (List ℕ)) → AllByRecursion IsWhole (map Data rs)
-data-whole [] = tt
-data-whole (r ∷ rs) = (tt, data-whole rs)
+data_whole : (rs : List (List ℕ)) → AllByRecursion IsWhole (map Data rs)
+data_whole [] = tt
+data_whole (r ∷ rs) = (tt, data_whole rs)
 
-payload-by : (b : Bool) (ws : List ℕ) → AllByRecursion IsWhole (if b then map cmd_line ws else map Data (rows 8 ws))
-payload-by true ws = cmds-whole ws
-payload-by false ws = data-whole (rows 8 ws)
+payload_by : (b : Bool) (ws : List ℕ) → AllByRecursion IsWhole (if b then map cmd_line ws else map Data (rows 8 ws))
+payload_by true ws = cmds_whole ws
+payload_by false ws = data_whole (rows 8 ws)
 
-packets-whole : (ps : List Packet) → AllByRecursion IsWhole (flat_map packet_lines ps)
-packets-whole [] = tt
-packets-whole (p ∷ ps) = all-append IsWhole (packet_lines p) (flat_map packet_lines ps) (head-whole (line_of_head p.step p.head), payload-by (named_by p.step == 4) p.payload) (packets-whole ps)
+packets_whole : (ps : List Packet) → AllByRecursion IsWhole (flat_map packet_lines ps)
+packets_whole [] = tt
+packets_whole (p ∷ ps) = all_append IsWhole (packet_lines p) (flat_map packet_lines ps) (head_whole (line_of_head p.step p.head), payload_by (named_by p.step == 4) p.payload) (packets_whole ps)
 
 -- a gap, the sync word and packets
-session-short : (gap : List ℕ) (packets : List Packet) → AllByRecursion Listed (packets_lines gap packets) → length (ended_texts (packets_lines gap packets)) + 11 ≤ 5 * length (flat_map (line_bytes 0) (packets_lines gap packets))
-session-short gap packets a =
+session_short : (gap : List ℕ) (packets : List Packet) → AllByRecursion Listed (packets_lines gap packets) → length (ended_texts (packets_lines gap packets)) + 11 ≤ 5 * length (flat_map (line_bytes 0) (packets_lines gap packets))
+session_short gap packets a =
     let ls : List Line = flat_map packet_lines packets in
     let more = all_back Listed (gap_lines gap) (Sync ∷ ls) a in
     let sync : length (ended_texts (Sync ∷ ls)) ≡ 5 + length (ended_texts ls) = length-append (ended_text Sync) (ended_texts ls) in
     let four : length (flat_map (line_bytes 0) (Sync ∷ ls)) ≡ 4 + length (flat_map (line_bytes 0) ls) = length-append (line_bytes 0 Sync) (flat_map (line_bytes 0) ls) in
-    omega (arith, gap-short gap, lines-short ls more.1 (packets-whole packets), sync, four, texts-long (gap_lines gap) (Sync ∷ ls), bytes-long (gap_lines gap) (Sync ∷ ls))
+    omega (arith, gap_short gap, lines_short ls more.1 (packets_whole packets), sync, four, texts_long (gap_lines gap) (Sync ∷ ls), bytes_long (gap_lines gap) (Sync ∷ ls))
 
-sessions-short : (ss : List Session) → AllByRecursion Listed (flat_map session_lines ss) → length (ended_texts (flat_map session_lines ss)) ≤ 5 * length (flat_map (line_bytes 0) (flat_map session_lines ss))
-sessions-short [] a = omega arith
-sessions-short (s ∷ ss) a =
-    omega (arith, session-short s.gap s.packets (all_front Listed (session_lines s) (flat_map session_lines ss) a), sessions-short ss (all_back Listed (session_lines s) (flat_map session_lines ss) a), texts-long (session_lines s) (flat_map session_lines ss), bytes-long (session_lines s) (flat_map session_lines ss))
+sessions_short : (ss : List Session) → AllByRecursion Listed (flat_map session_lines ss) → length (ended_texts (flat_map session_lines ss)) ≤ 5 * length (flat_map (line_bytes 0) (flat_map session_lines ss))
+sessions_short [] a = omega arith
+sessions_short (s ∷ ss) a =
+    omega (arith, session_short s.gap s.packets (all_prefix Listed (session_lines s) (flat_map session_lines ss) a), sessions_short ss (all_back Listed (session_lines s) (flat_map session_lines ss) a), texts_long (session_lines s) (flat_map session_lines ss), bytes_long (session_lines s) (flat_map session_lines ss))
 
-place-short : (p : Place) → AllByRecursion Listed (place_lines p) → length (ended_texts (place_lines p)) ≤ 5 * length (flat_map (line_bytes 0) (place_lines p)) + 4
-place-short (Searching gap) a = gap-short gap
-place-short (Synced gap packets tail) a =
-    omega (arith, session-short gap packets (all_front Listed (packets_lines gap packets) (gap_lines tail) a), gap-short tail, texts-long (packets_lines gap packets) (gap_lines tail), bytes-long (packets_lines gap packets) (gap_lines tail))
+place_short : (p : Place) → AllByRecursion Listed (place_lines p) → length (ended_texts (place_lines p)) ≤ 5 * length (flat_map (line_bytes 0) (place_lines p)) + 4
+place_short (Searching gap) a = gap_short gap
+place_short (Synced gap packets tail) a =
+    omega (arith, session_short gap packets (all_prefix Listed (packets_lines gap packets) (gap_lines tail) a), gap_short tail, texts_long (packets_lines gap packets) (gap_lines tail), bytes_long (packets_lines gap packets) (gap_lines tail))
 
-listing-short : (bytes : List ℕ) → AreBytes bytes → length (listing_of bytes) ≤ 5 * length bytes + 4
-listing-short bytes fits =
-    let s = listing-stands bytes fits in
+listing_short : (bytes : List ℕ) → AreBytes bytes → length (listing_of bytes) ≤ 5 * length bytes + 4
+listing_short bytes fits =
+    let s = listing_stands bytes fits in
     let ss : List Session = (reading_of bytes).sessions in
     let p : Place = (reading_of bytes).place in
     let one : List Line = flat_map session_lines (reading_of bytes).sessions in
     let two : List Line = place_lines (reading_of bytes).place in
-    omega (arith, sessions-short ss (all_front Listed one two s.each), place-short p (all_back Listed one two s.each), texts-long one two, bytes-long one two, ap length s.are, ap length (listing-text bytes))
+    omega (arith, sessions_short ss (all_prefix Listed one two s.each), place_short p (all_back Listed one two s.each), texts_long one two, bytes_long one two, ap length s.are, ap length (listing_text_is bytes))
 
 -- a header's line
-field-short : (bs : List ℕ) → length (field_text bs) ≤ 2 * length bs + 1
-field-short [] = omega arith
-field-short (b ∷ bs) = omega (arith, length-hex_bytes (b ∷ bs))
+field_short : (bs : List ℕ) → length (field_text bs) ≤ 2 * length bs + 1
+field_short [] = omega arith
+field_short (b ∷ bs) = omega (arith, length_hex_bytes (b ∷ bs))
 
-field-long : (letter : ℕ) (bs rest : List ℕ) → length (field_bytes (record { letter = letter; kind = Kind.Counted }) bs ++ rest) ≡ 3 + length bs + length rest
-field-long letter bs rest = omega (arith, length-append bs rest)
+field_long : (letter : ℕ) (bs rest : List ℕ) → length (field_bytes (record { letter = letter; kind = Kind.Counted }) bs ++ rest) ≡ 3 + length bs + length rest
+field_long letter bs rest = omega (arith, length-append bs rest)
 
-spaced-long : (text rest : List ℕ) → length (text ++ 32 ∷ rest) ≡ length text + 1 + length rest
-spaced-long text rest = omega (arith, length-append text (32 ∷ rest))
+spaced_long : (text rest : List ℕ) → length (text ++ 32 ∷ rest) ≡ length text + 1 + length rest
+spaced_long text rest = omega (arith, length-append text (32 ∷ rest))
 
-bit-short : (x : Contents) → HaveHeader x → length (bit_text x) + 1 ≤ 5 * length (header_bytes x)
-bit-short x h =
+bit_short : (x : Contents) → HaveHeader x → length (bit_text x) + 1 ≤ 5 * length (header_bytes x)
+bit_short x h =
     let e = field_bytes (record { letter = 0x65; kind = Kind.Four }) (bytes_of_word x.data_length) ++ [] in
     let d = field_bytes (record { letter = 0x64; kind = Kind.Counted }) x.d ++ e in
     let c = field_bytes (record { letter = 0x63; kind = Kind.Counted }) x.c ++ d in
@@ -212,35 +212,35 @@ bit-short x h =
     omega (
       arith,
       all,
-      field-long 0x61 x.a b,
-      field-long 0x62 x.b c,
-      field-long 0x63 x.c d,
-      field-long 0x64 x.d e,
+      field_long 0x61 x.a b,
+      field_long 0x62 x.b c,
+      field_long 0x63 x.c d,
+      field_long 0x64 x.d e,
       line,
-      spaced-long (field_text x.a) t2,
-      spaced-long (field_text x.b) t3,
-      spaced-long (field_text x.c) t4,
-      spaced-long (field_text x.d) n,
-      field-short x.a,
-      field-short x.b,
-      field-short x.c,
-      field-short x.d,
+      spaced_long (field_text x.a) t2,
+      spaced_long (field_text x.b) t3,
+      spaced_long (field_text x.c) t4,
+      spaced_long (field_text x.d) n,
+      field_short x.a,
+      field_short x.b,
+      field_short x.c,
+      field_short x.d,
       length-decimal-le 10 x.data_length (omega arith) (omega (arith, h.data_length)) (omega (arith, h.data_length)),
     )
 
-ok-text : (s t : List ℕ) → ◌≡◌ {A = Result (List ℕ) ℕ} (Ok s) (Ok t) → s ≡ t
-ok-text s t f = cc
+ok_text : (s t : List ℕ) → ◌≡◌ {A = Result (List ℕ) ℕ} (Ok s) (Ok t) → s ≡ t
+ok_text s t f = cc
 
-short-by : (b text : List ℕ) (r : Result (Contents × ℕ) HeaderFault) → header_at b ≡ r → AreBytes b → listing_by b r ≡ Ok text → length text ≤ 5 * length b + 4
-short-by b text (Ok top) e fits is =
+short_by : (b text : List ℕ) (r : Result (Contents × ℕ) HeaderFault) → header_at b ≡ r → AreBytes b → listing_by b r ≡ Ok text → length text ≤ 5 * length b + 4
+short_by b text (Ok top) e fits is =
     let p : IsPrefix b top = header_takes b top fits e in
     let rest : List ℕ = drop top.1 b in
     let whole : AreBytes (header_bytes top.0 ++ drop top.1 b) = subst AreBytes p.prefix fits in
     let more : AreBytes (drop top.1 b) = all_back (λ c. c < 256) (header_bytes top.0) (drop top.1 b) whole in
-    omega (arith, ap length (ok-text (bit_text top.0 ++ 10 ∷ listing_of (drop top.1 b)) text is), length-append (bit_text top.0) (10 ∷ listing_of (drop top.1 b)), bit-short top.0 p.have_header, listing-short (drop top.1 b) more, ap length p.prefix, length-append (header_bytes top.0) (drop top.1 b))
-short-by b text (Err fault.Raw) e fits is = omega (arith, ap length (ok-text (listing_of b) text is), listing-short b fits)
-short-by b text (Err (fault.Cut place)) e fits is = absurd cc
-short-by b text (Err (fault.Field place)) e fits is = absurd cc
+    omega (arith, ap length (ok_text (bit_text top.0 ++ 10 ∷ listing_of (drop top.1 b)) text is), length-append (bit_text top.0) (10 ∷ listing_of (drop top.1 b)), bit_short top.0 p.have_header, listing_short (drop top.1 b) more, ap length p.prefix, length-append (header_bytes top.0) (drop top.1 b))
+short_by b text (Err fault.Raw) e fits is = omega (arith, ap length (ok_text (listing_of b) text is), listing_short b fits)
+short_by b text (Err (fault.Cut place)) e fits is = absurd cc
+short_by b text (Err (fault.Field place)) e fits is = absurd cc
 
-pub stream-short : (b text : List ℕ) → AreBytes b → stream_listing b ≡ Ok text → length text ≤ 5 * length b + 4
-stream-short b text fits is = short-by b text (header_at b) refl fits is
+pub stream_short : (b text : List ℕ) → AreBytes b → stream_listing b ≡ Ok text → length text ≤ 5 * length b + 4
+stream_short b text fits is = short_by b text (header_at b) refl fits is

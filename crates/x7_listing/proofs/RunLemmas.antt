@@ -12,8 +12,8 @@ use Rattle.x7_packets.specs.declared.cutter.Cut.TheVariants.{Need, Skip, Sync, H
 use Rattle.x7_text.specs.Row.{close}
 use Rattle.x7_listing.specs.HeadLine.{text_of_head}
 use Rattle.x7_listing.specs.Telling.{GapListed, HasListed, words_place, open_words, WritesRun, WrittenSoFar, written_of}
-use Rattle.x7_listing.proofs.TellingLemmas.{skip_told, sync_told, words_told_at}
-use Rattle.x7_listing.proofs.SessionLemmas.{head_next, head_told}
+use Rattle.x7_listing.proofs.TellingLemmas.{skip_listed, sync_listed, words_listed_at}
+use Rattle.x7_listing.proofs.SessionLemmas.{head_next, head_listed}
 
 -- a statement for a run is one for what the run is
 as_run : (run run2 : Cut) (synced s2 : Bool) (line l2 : ℕ) (held h2 all all2 : List ℕ) → run ≡ run2 → WritesRun run2 (written_of synced line held all) (written_of s2 l2 h2 all2) → WritesRun run (written_of synced line held all) (written_of s2 l2 h2 all2)
@@ -29,7 +29,7 @@ pub by_sync : (run : Cut) (synced s2 : Bool) (line l2 : ℕ) (held h2 given old 
 by_sync run synced s2 line l2 held h2 given old new is e f t =
     let all2 : given ++ new ≡ given ++ old ++ close line ++ codes "sync\n" = ap (λ x. given ++ x) (t ∙ sym (append_assoc old (close line) (codes "sync\n"))) ∙ sym (append_assoc given (old ++ close line) (codes "sync\n")) ∙ ap (λ x. x ++ codes "sync\n") (sym (append_assoc given old (close line))) in
     as_run run Sync synced s2 line l2 held h2 (given ++ old) (given ++ new) is (synced_pen Sync synced s2 line l2 0 held h2 (given ++ old) (given ++ new) e f
-    (λ before bytes sessions new_sessions spot np o n listed adds turns is_run reading. sync_told synced line held h2 (given ++ old) (given ++ new) before sessions new_sessions spot np o n listed adds turns all2))
+    (λ before bytes sessions new_sessions spot np o n listed adds turns is_run reading. sync_listed synced line held h2 (given ++ old) (given ++ new) before sessions new_sessions spot np o n listed adds turns all2))
 
 not_payload : (w : ℕ) (s : Step) → IsRun (Head w s) → (r x : ℕ) → s ≡ Payload r x → ⊥
 not_payload w (Payload a b) h r x e = h
@@ -44,21 +44,21 @@ head_adds : (synced : Bool) (line l2 : ℕ) (held h2 all all2 before bytes : Lis
     → (synced ≡ true → (all2 ≡ all ++ open_words line ((w, step) ∷ [])) × (l2 ≡ words_place line ((w, step) ∷ []))) → HasListed (written_of true l2 h2 all2) before new_sessions np n
 head_adds synced line l2 held h2 all all2 before bytes sessions new_sessions (Searching gap) np o n w step t a p q r h = absurd a
 head_adds synced line l2 held h2 all all2 before bytes sessions new_sessions (Synced gap packets tail) np o n w step t a p q r h =
-    words_told_at synced line l2 held h2 all all2 before bytes sessions new_sessions gap tail packets np o n ((w, step) ∷ []) t p q a r h
+    words_listed_at synced line l2 held h2 all all2 before bytes sessions new_sessions gap tail packets np o n ((w, step) ∷ []) t p q a r h
 
 word_adds : (synced : Bool) (line l2 : ℕ) (held h2 all all2 before bytes : List ℕ) (sessions new_sessions : List Session) (spot np : Place) (o n : Mode) (register w : ℕ)
     → HasListed (written_of synced line held all) before sessions spot o → Adds (Word register w) sessions spot new_sessions np → (o ≡ Mode.Due → ⊥) → (n ≡ Mode.Due → ⊥) → IsReading bytes new_sessions np
     → (synced ≡ true → (all2 ≡ all ++ open_words line (payload_steps register (w ∷ []))) × (l2 ≡ words_place line (payload_steps register (w ∷ [])))) → HasListed (written_of true l2 h2 all2) before new_sessions np n
 word_adds synced line l2 held h2 all all2 before bytes sessions new_sessions (Searching gap) np o n register w t a p q r h = absurd a
 word_adds synced line l2 held h2 all all2 before bytes sessions new_sessions (Synced gap packets tail) np o n register w t a p q r h =
-    words_told_at synced line l2 held h2 all all2 before bytes sessions new_sessions gap tail packets np o n (payload_steps register (w ∷ [])) t p q a r h
+    words_listed_at synced line l2 held h2 all all2 before bytes sessions new_sessions gap tail packets np o n (payload_steps register (w ∷ [])) t p q a r h
 
 body_adds : (synced : Bool) (line l2 : ℕ) (held h2 all all2 before bytes : List ℕ) (sessions new_sessions : List Session) (spot np : Place) (o n : Mode) (register : ℕ) (body : Bor (List ℕ))
     → HasListed (written_of synced line held all) before sessions spot o → Adds (Body register body) sessions spot new_sessions np → (o ≡ Mode.Due → ⊥) → (n ≡ Mode.Due → ⊥) → IsReading bytes new_sessions np
     → (synced ≡ true → (all2 ≡ all ++ open_words line (payload_steps register (words_of_bytes body.now))) × (l2 ≡ words_place line (payload_steps register (words_of_bytes body.now)))) → HasListed (written_of true l2 h2 all2) before new_sessions np n
 body_adds synced line l2 held h2 all all2 before bytes sessions new_sessions (Searching gap) np o n register body t a p q r h = absurd a
 body_adds synced line l2 held h2 all all2 before bytes sessions new_sessions (Synced gap packets tail) np o n register body t a p q r h =
-    words_told_at synced line l2 held h2 all all2 before bytes sessions new_sessions gap tail packets np o n (payload_steps register (words_of_bytes body.now)) t p q a r h
+    words_listed_at synced line l2 held h2 all all2 before bytes sessions new_sessions gap tail packets np o n (payload_steps register (words_of_bytes body.now)) t p q a r h
 
 pub by_head : (run : Cut) (synced s2 : Bool) (line l2 from : ℕ) (held h2 given old new : List ℕ) (w : ℕ) (step : Step) → run ≡ Head w step → (synced ≡ true → from ≡ line) → s2 ≡ true → l2 ≡ 0
     → new ≡ old ++ (close from ++ text_of_head step w) → WritesRun run (written_of synced line held (given ++ old)) (written_of s2 l2 h2 (given ++ new))
@@ -66,7 +66,7 @@ by_head run synced s2 line l2 from held h2 given old new w step is same e f t =
     as_run run (Head w step) synced s2 line l2 held h2 (given ++ old) (given ++ new) is (synced_pen (Head w step) synced s2 line l2 0 held h2 (given ++ old) (given ++ new) e f
     (λ before bytes sessions new_sessions spot np o n listed adds turns is_run reading. head_adds synced line 0 held h2 (given ++ old) (given ++ new) before bytes sessions new_sessions spot np o n w step listed adds turns.0 turns.1 reading
     (λ s. (
-      longer given old new (close from ++ text_of_head step w) t ∙ ap (λ k. given ++ old ++ (close k ++ text_of_head step w)) (same s) ∙ ap (λ x. given ++ old ++ x) (sym (head_told line w step (not_payload w step is_run)) ∙ sym (append-nil _)),
+      longer given old new (close from ++ text_of_head step w) t ∙ ap (λ k. given ++ old ++ (close k ++ text_of_head step w)) (same s) ∙ ap (λ x. given ++ old ++ x) (sym (head_listed line w step (not_payload w step is_run)) ∙ sym (append-nil _)),
       sym (head_next line step (not_payload w step is_run)),
     ))))
 
@@ -90,7 +90,7 @@ pub by_skip : (run : Cut) (part : Bor (List ℕ)) (synced s2 : Bool) (line l1 l2
     → ((given start gap : List ℕ) → GapListed (given ++ old) start l1 h1 gap → GapListed (given ++ new) start l2 h2 (gap ++ part.now)) → WritesRun run (written_of synced line held (given ++ old)) (written_of s2 l2 h2 (given ++ new))
 by_skip run part synced s2 line l1 l2 held h1 h2 given old new is e f k g =
     as_run run (Skip part) synced s2 line l2 held h2 (given ++ old) (given ++ new) is (subst (λ s. WritesRun (Skip part) (written_of synced line held (given ++ old)) (written_of s l2 h2 (given ++ new))) (sym e)
-    (λ before bytes sessions new_sessions spot np o n listed adds turns is_run reading. skip_told synced line l2 held h2 (given ++ old) (given ++ new) before sessions new_sessions spot np o n part listed adds turns
+    (λ before bytes sessions new_sessions spot np o n listed adds turns is_run reading. skip_listed synced line l2 held h2 (given ++ old) (given ++ new) before sessions new_sessions spot np o n part listed adds turns
     (λ start gap t. g given start gap (subst (λ l. GapListed (given ++ old) start l h1 gap) (sym f) (subst (λ h. GapListed (given ++ old) start (if synced then 0 else line) h gap) (sym k) t)))))
 
 -- what was listed at a place after sessions was listed at an equal place after equal sessions

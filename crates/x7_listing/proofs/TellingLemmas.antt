@@ -14,11 +14,11 @@ use Rattle.x7_packets.specs.Mode.{Mode}
 use Rattle.x7_packets.specs.declared.cutter.Cut.TheVariants.{Skip, Sync}
 use Rattle.x7_text.specs.Digits.{hex_byte}
 use Rattle.x7_text.specs.Row.{bytes_text, close, in_line_after, open_text}
-use Rattle.x7_text.proofs.LineLemmas.{bytes_closed, in_line_after-append, open_text-append}
+use Rattle.x7_text.proofs.LineLemmas.{bytes_closed, in_line_after_append, open_text_append}
 use Rattle.x7_listing.specs.Listing.{packets_text, reading_text, session_text}
 use Rattle.x7_listing.specs.Telling.{GapListed, SessionListed, HasListed, HasListedAt, word_next, words_place, open_words, written_of}
 use Rattle.x7_listing.proofs.GapLemmas.{fresh_gap}
-use Rattle.x7_listing.proofs.SessionLemmas.{session_closed, words_place-append, open_words-append}
+use Rattle.x7_listing.proofs.SessionLemmas.{session_closed, words_place_append, open_words_append}
 
 -- the text of bytes in `bytes` lines
 abbrev B : ℕ → List ℕ → List ℕ
@@ -34,15 +34,15 @@ skipped line2 held2 all2 start gap run sessions new_sessions np old new a m g = 
 same_sessions : (synced : Bool) (line : ℕ) (held all before : List ℕ) (sessions new_sessions : List Session) (np : Place) (new : Mode) → new_sessions ≡ sessions → HasListedAt (written_of synced line held all) (before ++ flat_map session_text sessions) np new → HasListed (written_of synced line held all) before new_sessions np new
 same_sessions synced line held all before sessions new_sessions np new e a = subst (λ s. HasListedAt (written_of synced line held all) (before ++ flat_map session_text s) np new) (sym e) a
 
-pub skip_told : (synced : Bool) (line line2 : ℕ) (held held2 all all2 before : List ℕ) (sessions new_sessions : List Session) (at np : Place) (old new : Mode) (run : Bor (List ℕ))
+pub skip_listed : (synced : Bool) (line line2 : ℕ) (held held2 all all2 before : List ℕ) (sessions new_sessions : List Session) (at np : Place) (old new : Mode) (run : Bor (List ℕ))
     → HasListed (written_of synced line held all) before sessions at old → Adds (Skip run) sessions at new_sessions np → Turns (Skip run) old new np
     → ((start gap : List ℕ) → GapListed all start (if synced then 0 else line) (if synced then [] else held) gap → GapListed all2 start line2 held2 (gap ++ run.now))
     → HasListed (written_of false line2 held2 all2) before new_sessions np new
-skip_told synced line line2 held held2 all all2 before sessions new_sessions (Synced gap packets tail) np old new run t a m g = absurd a
-skip_told false line line2 held held2 all all2 before sessions new_sessions (Searching gap) np old new run t a m g =
+skip_listed synced line line2 held held2 all all2 before sessions new_sessions (Synced gap packets tail) np old new run t a m g = absurd a
+skip_listed false line line2 held held2 all all2 before sessions new_sessions (Searching gap) np old new run t a m g =
     let start : List ℕ = before ++ flat_map session_text sessions in
     same_sessions false line2 held2 all2 before sessions new_sessions np new a.0 (skipped line2 held2 all2 start gap run sessions new_sessions np old new a m (g start gap t))
-skip_told true line line2 held held2 all all2 before sessions new_sessions (Searching gap) np old new run t a m g =
+skip_listed true line line2 held held2 all all2 before sessions new_sessions (Searching gap) np old new run t a m g =
     let start : List ℕ = before ++ flat_map session_text sessions in
     same_sessions false line2 held2 all2 before sessions new_sessions np new a.0 (skipped line2 held2 all2 start gap run sessions new_sessions np old new a m (g start gap (fresh_gap all start gap t.0 t.2)))
 
@@ -60,11 +60,11 @@ found_gap all start line held gap g =
     let same : gap ≡ g.prefix = same_prefix gap g.prefix sync_bytes held long g.split in
     gap_closed all start line g.prefix g.listed g.count ∙ ap (λ t. start ++ bytes_text t) (sym same)
 
-pub sync_told : (synced : Bool) (line : ℕ) (held held2 all all2 before : List ℕ) (sessions new_sessions : List Session) (at np : Place) (old new : Mode)
+pub sync_listed : (synced : Bool) (line : ℕ) (held held2 all all2 before : List ℕ) (sessions new_sessions : List Session) (at np : Place) (old new : Mode)
     → HasListed (written_of synced line held all) before sessions at old → Adds Sync sessions at new_sessions np → Turns Sync old new np → all2 ≡ all ++ close line ++ codes "sync\n" → HasListed (written_of true 0 held2 all2) before new_sessions np new
-sync_told synced line held held2 all all2 before sessions new_sessions (Searching gap) np old new t a m e = absurd a
-sync_told true line held held2 all all2 before sessions new_sessions (Synced gap packets tail) np old new t a m e = absurd (t.0 m.0)
-sync_told false line held held2 all all2 before sessions new_sessions (Synced gap packets tail) np old new t a m e =
+sync_listed synced line held held2 all all2 before sessions new_sessions (Searching gap) np old new t a m e = absurd a
+sync_listed true line held held2 all all2 before sessions new_sessions (Synced gap packets tail) np old new t a m e = absurd (t.0 m.0)
+sync_listed false line held held2 all all2 before sessions new_sessions (Synced gap packets tail) np old new t a m e =
     let start : List ℕ = before ++ flat_map session_text sessions in
     let session : SessionListed all2 start 0 gap [] = record {
       listed = e ∙ ap (λ t. t ++ codes "sync\n") (found_gap all start line held gap t.3) ∙ sym (append-nil (start ++ bytes_text gap ++ codes "sync\n"));
@@ -80,8 +80,8 @@ session_words all all2 start line line2 gap packets all_packets more s grown t n
     let X : List ℕ = start ++ bytes_text gap ++ codes "sync\n" in
     record {
       listed = t ∙ ap (λ t. t ++ open_words line more) s.listed ∙ append_assoc X (open_words 0 ss) (open_words line more) ∙ ap (λ k. X ++ (open_words 0 ss ++ open_words k more)) s.count
-          ∙ ap (λ t. X ++ t) (sym (open_words-append 0 ss more)) ∙ ap (λ t. X ++ open_words 0 t) (sym grown);
-      count = n ∙ ap (λ k. words_place k more) s.count ∙ sym (words_place-append 0 ss more) ∙ ap (words_place 0) (sym grown);
+          ∙ ap (λ t. X ++ t) (sym (open_words_append 0 ss more)) ∙ ap (λ t. X ++ open_words 0 t) (sym grown);
+      count = n ∙ ap (λ k. words_place k more) s.count ∙ sym (words_place_append 0 ss more) ∙ ap (words_place 0) (sym grown);
     }
 
 both_true : (a b : Bool) → (a && b) ≡ true → a ≡ true
@@ -130,11 +130,11 @@ words_by line line2 held2 all all2 before bytes sessions new_sessions gap packet
     same_sessions true line2 held2 all2 before sessions new_sessions np new e.0 (subst (λ p. HasListedAt (written_of true line2 held2 all2) (before ++ flat_map session_text sessions) p new) (sym e.1) (due, s))
 
 -- words more of a session are listed: a header's word, or payload words
-pub words_told_at : (synced : Bool) (line line2 : ℕ) (held held2 all all2 before bytes : List ℕ) (sessions new_sessions : List Session) (gap tail : List ℕ) (packets : List Packet) (np : Place) (old new : Mode) (more : List (ℕ × Step))
+pub words_listed_at : (synced : Bool) (line line2 : ℕ) (held held2 all all2 before bytes : List ℕ) (sessions new_sessions : List Session) (gap tail : List ℕ) (packets : List Packet) (np : Place) (old new : Mode) (more : List (ℕ × Step))
     → HasListed (written_of synced line held all) before sessions (Synced gap packets tail) old → (old ≡ Mode.Due → ⊥) → (new ≡ Mode.Due → ⊥) → LongerSession gap packets more sessions new_sessions np → IsReading bytes new_sessions np
     → (synced ≡ true → (all2 ≡ all ++ open_words line more) × (line2 ≡ words_place line more)) → HasListed (written_of true line2 held2 all2) before new_sessions np new
-words_told_at false line line2 held held2 all all2 before bytes sessions new_sessions gap tail packets np old new more t o n l r h = absurd (o t.0)
-words_told_at true line line2 held held2 all all2 before bytes sessions new_sessions gap tail packets np old new more t o n l r h =
+words_listed_at false line line2 held held2 all all2 before bytes sessions new_sessions gap tail packets np old new more t o n l r h = absurd (o t.0)
+words_listed_at true line line2 held held2 all all2 before bytes sessions new_sessions gap tail packets np old new more t o n l r h =
     let e = h refl in
     words_by line line2 held2 all all2 before bytes sessions new_sessions gap packets l.all np new more (ended l.all) refl
     (λ b. e.1 ∙ ends_next line more (sym l.end ∙ b))
@@ -146,8 +146,8 @@ pub gap_ended : (all all2 before : List ℕ) (line : ℕ) (held bytes : List ℕ
 gap_ended all all2 before line held bytes sessions (Synced gap packets tail) m t d e = absurd (d t.0)
 gap_ended all all2 before line held bytes sessions (Searching gap) m t d e =
     let start : List ℕ = before ++ flat_map session_text sessions in
-    let listed : all ++ B line held ≡ start ++ B 0 gap = ap (λ t. t ++ B line held) t.listed ∙ append_assoc start (B 0 t.prefix) (B line held) ∙ ap (λ k. start ++ (B 0 t.prefix ++ B k held)) t.count ∙ ap (λ t. start ++ t) (sym (open_text-append 32 (codes "bytes ") hex_byte 0 t.prefix held)) ∙ ap (λ t. start ++ B 0 t) (sym t.split) in
-    let count : in_line_after 32 line held ≡ in_line_after 32 0 gap = ap (λ k. in_line_after 32 k held) t.count ∙ sym (in_line_after-append 32 0 t.prefix held) ∙ ap (in_line_after 32 0) (sym t.split) in
+    let listed : all ++ B line held ≡ start ++ B 0 gap = ap (λ t. t ++ B line held) t.listed ∙ append_assoc start (B 0 t.prefix) (B line held) ∙ ap (λ k. start ++ (B 0 t.prefix ++ B k held)) t.count ∙ ap (λ t. start ++ t) (sym (open_text_append 32 (codes "bytes ") hex_byte 0 t.prefix held)) ∙ ap (λ t. start ++ B 0 t) (sym t.split) in
+    let count : in_line_after 32 line held ≡ in_line_after 32 0 gap = ap (λ k. in_line_after 32 k held) t.count ∙ sym (in_line_after_append 32 0 t.prefix held) ∙ ap (in_line_after 32 0) (sym t.split) in
     e ∙ gap_closed (all ++ B line held) start (in_line_after 32 line held) gap listed count ∙ append_assoc before (flat_map session_text sessions) (bytes_text gap)
 
 -- the end of a listing in a session

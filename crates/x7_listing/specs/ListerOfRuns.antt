@@ -7,22 +7,22 @@ use Rattle.x7_packets.specs.declared.stream.Run.TheVariants as run
 use Rattle.x7_listing.specs.Telling.{Finished, ListerState, TakerStandsFor}
 
 -- what a lister told of runs: the texts given before its own, the listings before, the bytes of the runs, and what is due after them
-pub record RunsTold : Type 0 where
+pub record RunsListed : Type 0 where
   pub given : List ℕ
   pub before : List ℕ
   pub bytes : List ℕ
   pub due : Mode
 
--- a `RunsTold` with these fields
-abbrev pub runs_told : List ℕ → List ℕ → List ℕ → Mode → RunsTold
-runs_told given before bytes due = record { given = given; before = before; bytes = bytes; due = due }
+-- a `RunsListed` with these fields
+abbrev pub runs_listed : List ℕ → List ℕ → List ℕ → Mode → RunsListed
+runs_listed given before bytes due = record { given = given; before = before; bytes = bytes; due = due }
 
 -- a run was taken, with which the bytes told are listed; the end ends the listing
-abbrev pub TakesRun : Run → ListerState → RunsTold → Type 0
+abbrev pub TakesRun : Run → ListerState → RunsListed → Type 0
 TakesRun run.End l told = Finished l told.given told.before told.bytes
 TakesRun r l told = TakerStandsFor l told.given told.before told.bytes told.due
 
 -- the next run of a stream is taken
 abbrev pub TakesNext : Run → ListerState → ListerState → Type 0
 TakesNext r old new = (given before bytes : List ℕ) (due next : Mode)
-    → TakerStandsFor old given before bytes due → IsNext bytes due r next → TakesRun r new (runs_told given before (bytes ++ bytes_of_run r) next)
+    → TakerStandsFor old given before bytes due → IsNext bytes due r next → TakesRun r new (runs_listed given before (bytes ++ bytes_of_run r) next)

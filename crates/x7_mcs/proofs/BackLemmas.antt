@@ -13,11 +13,11 @@ use Rattle.x7_mcs.specs.Places.{DataRecord, byte_at, covered, covers, extent, re
 use Rattle.x7_mcs.specs.Flash.{FlashReading, after_lines, flash_in, mcs_of, with_end}
 use Rattle.x7_mcs.specs.State.{at_base}
 use Rattle.x7_mcs.specs.Text.{base_line, block_start, data_line, mcs_text, row_lines}
-use Rattle.x7_mcs.proofs.PlaceLemmas.{within, end-is}
-use Rattle.x7_mcs.proofs.ReadLemmas.{read-base, read-free}
+use Rattle.x7_mcs.proofs.PlaceLemmas.{within, end_is}
+use Rattle.x7_mcs.proofs.ReadLemmas.{read_base, read_free}
 
 -- the records give these bytes from place 0 on
-pub record Front (xs : List DataRecord) (done : List ℕ) : Type 0 where
+pub record GiveJust (xs : List DataRecord) (done : List ℕ) : Type 0 where
   pub long : extent xs ≡ length done
   pub at : (p : ℕ) → byte_at xs p ≡ get_or done p 255
   pub marked : (p : ℕ) → covered xs p ≡ nat_lt p (length done)
@@ -25,43 +25,43 @@ pub record Front (xs : List DataRecord) (done : List ℕ) : Type 0 where
 not_less : (a b : ℕ) → b ≤ a → nat_lt a b ≡ false
 not_less a b h = grind (arith, common_steps)
 
-no-overlap : (xs : List DataRecord) (done : List ℕ) → Front xs done → (q n : ℕ) → length done ≤ q → overlap xs q n ≡ None
-no-overlap xs done f q zero h = refl
-no-overlap xs done f q (suc n) h = ap (λ (b : Bool). if b then Some q else overlap xs (q + 1) n) (f.marked q ∙ not_less q (length done) h) ∙ no-overlap xs done f (q + 1) n (omega arith)
+no_overlap : (xs : List DataRecord) (done : List ℕ) → GiveJust xs done → (q n : ℕ) → length done ≤ q → overlap xs q n ≡ None
+no_overlap xs done f q zero h = refl
+no_overlap xs done f q (suc n) h = ap (λ (b : Bool). if b then Some q else overlap xs (q + 1) n) (f.marked q ∙ not_less q (length done) h) ∙ no_overlap xs done f (q + 1) n (omega arith)
 
-pub free-piece : (n : ℕ) (xs : List DataRecord) (done r : List ℕ) (q : ℕ) → Front xs done → q ≡ length done → 0 < length r → q + length r ≤ 2 ^ 27 → with_record n xs (record { place = q; bytes = r }) ≡ Ok (record { place = q; bytes = r } ∷ xs)
-free-piece n xs done r q f e h l = within n xs (record { place = q; bytes = r }) h l ∙ ap (λ o. unless_covered o (record { place = q; bytes = r } ∷ xs)) (no-overlap xs done f q (length r) (omega (arith, e)))
+pub free_piece : (n : ℕ) (xs : List DataRecord) (done r : List ℕ) (q : ℕ) → GiveJust xs done → q ≡ length done → 0 < length r → q + length r ≤ 2 ^ 27 → with_record n xs (record { place = q; bytes = r }) ≡ Ok (record { place = q; bytes = r } ∷ xs)
+free_piece n xs done r q f e h l = within n xs (record { place = q; bytes = r }) h l ∙ ap (λ o. unless_covered o (record { place = q; bytes = r } ∷ xs)) (no_overlap xs done f q (length r) (omega (arith, e)))
 
-covers-below : (x : DataRecord) (p : ℕ) → p < x.place → covers x p ≡ false
-covers-below x p h = grind (arith, common_steps)
+covers_below : (x : DataRecord) (p : ℕ) → p < x.place → covers x p ≡ false
+covers_below x p h = grind (arith, common_steps)
 
-covers-in : (x : DataRecord) (p : ℕ) → x.place ≤ p → p < x.place + length x.bytes → covers x p ≡ true
-covers-in x p h l = grind (arith, common_steps)
+covers_in : (x : DataRecord) (p : ℕ) → x.place ≤ p → p < x.place + length x.bytes → covers x p ≡ true
+covers_in x p h l = grind (arith, common_steps)
 
-covers-after : (x : DataRecord) (p : ℕ) → x.place + length x.bytes ≤ p → covers x p ≡ false
-covers-after x p h = grind (arith, common_steps)
+covers_after : (x : DataRecord) (p : ℕ) → x.place + length x.bytes ≤ p → covers x p ≡ false
+covers_after x p h = grind (arith, common_steps)
 
-marks-more : (x : DataRecord) (p : ℕ) → (covers x p || nat_lt p x.place) ≡ nat_lt p (x.place + length x.bytes)
-marks-more x p = grind (arith, common_steps)
+marks_more : (x : DataRecord) (p : ℕ) → (covers x p || nat_lt p x.place) ≡ nat_lt p (x.place + length x.bytes)
+marks_more x p = grind (arith, common_steps)
 
 top : (a b : ℕ) → max a (a + b) ≡ a + b
 top a b = grind (arith, common_steps)
 
-at-more : (xs : List DataRecord) (x : DataRecord) (done : List ℕ) → Front xs done → x.place ≡ length done → (p : ℕ) → byte_at (x ∷ xs) p ≡ get_or (done ++ x.bytes) p 255
-at-more xs x done f e p = elim (cases_lt p x.place) [
-  | inl below ↦ ap (λ (b : Bool). if b then get_or x.bytes (p - x.place) 255 else byte_at xs p) (covers-below x p below) ∙ f.at p ∙ sym (get_or_append_left done x.bytes 255 p (omega (arith, e, below)))
+at_more : (xs : List DataRecord) (x : DataRecord) (done : List ℕ) → GiveJust xs done → x.place ≡ length done → (p : ℕ) → byte_at (x ∷ xs) p ≡ get_or (done ++ x.bytes) p 255
+at_more xs x done f e p = elim (cases_lt p x.place) [
+  | inl below ↦ ap (λ (b : Bool). if b then get_or x.bytes (p - x.place) 255 else byte_at xs p) (covers_below x p below) ∙ f.at p ∙ sym (get_or_append_left done x.bytes 255 p (omega (arith, e, below)))
   | inr above ↦ elim (cases_lt p (x.place + length x.bytes)) [
-    | inl low ↦ ap (λ (b : Bool). if b then get_or x.bytes (p - x.place) 255 else byte_at xs p) (covers-in x p above low) ∙ sym (get_or-append_right done x.bytes x.place p 255 (sym e) above)
-    | inr high ↦ ap (λ (b : Bool). if b then get_or x.bytes (p - x.place) 255 else byte_at xs p) (covers-after x p high) ∙ f.at p ∙ get_or_past done p 255 (omega (arith, e, above))
+    | inl low ↦ ap (λ (b : Bool). if b then get_or x.bytes (p - x.place) 255 else byte_at xs p) (covers_in x p above low) ∙ sym (get_or-append_right done x.bytes x.place p 255 (sym e) above)
+    | inr high ↦ ap (λ (b : Bool). if b then get_or x.bytes (p - x.place) 255 else byte_at xs p) (covers_after x p high) ∙ f.at p ∙ get_or_past done p 255 (omega (arith, e, above))
         ∙ sym (get_or_past (done ++ x.bytes) p 255 (omega (arith, e, high, length-append done x.bytes)))
   ]
 ]
 
-pub front-more : (xs : List DataRecord) (x : DataRecord) (done : List ℕ) → Front xs done → x.place ≡ length done → 0 < length x.bytes → Front (x ∷ xs) (done ++ x.bytes)
-front-more xs x done f e h = record {
-  long = ap₂ max (f.long ∙ sym e) (end-is x h) ∙ top x.place (length x.bytes) ∙ ap (λ (k : ℕ). k + length x.bytes) e ∙ sym (length-append done x.bytes);
-  at = at-more xs x done f e;
-  marked = λ p. ap (λ (b : Bool). covers x p || b) (f.marked p ∙ ap (nat_lt p) (sym e)) ∙ marks-more x p ∙ ap (λ (k : ℕ). nat_lt p (k + length x.bytes)) e ∙ ap (nat_lt p) (sym (length-append done x.bytes));
+pub prefix_more : (xs : List DataRecord) (x : DataRecord) (done : List ℕ) → GiveJust xs done → x.place ≡ length done → 0 < length x.bytes → GiveJust (x ∷ xs) (done ++ x.bytes)
+prefix_more xs x done f e h = record {
+  long = ap₂ max (f.long ∙ sym e) (end_is x h) ∙ top x.place (length x.bytes) ∙ ap (λ (k : ℕ). k + length x.bytes) e ∙ sym (length-append done x.bytes);
+  at = at_more xs x done f e;
+  marked = λ p. ap (λ (b : Bool). covers x p || b) (f.marked p ∙ ap (nat_lt p) (sym e)) ∙ marks_more x p ∙ ap (λ (k : ℕ). nat_lt p (k + length x.bytes)) e ∙ ap (nat_lt p) (sym (length-append done x.bytes));
 }
 
 -- what the text of bytes gives
@@ -70,8 +70,8 @@ pub record Ends (n base : ℕ) (xs : List DataRecord) (text all : List ℕ) : Ty
   pub is : with_end (after_lines n (at_base base false xs) (lines_of text)) ≡ Ok reading
   pub image : records_image reading.records ≡ all
 
-pub ends-end : (n base : ℕ) (xs : List DataRecord) (done : List ℕ) → Front xs done → Ends n base xs (codes ":00000001FF\n") done
-ends-end n base xs done f = record {
+pub ends_end : (n base : ℕ) (xs : List DataRecord) (done : List ℕ) → GiveJust xs done → Ends n base xs (codes ":00000001FF\n") done
+ends_end n base xs done f = record {
   reading = record { base = base; ended = true; records = xs };
   is = refl;
   image = sym (fill_by_all (byte_at xs) done (extent xs) 255 (sym f.long) (λ p h. sym (f.at p)));
@@ -88,26 +88,26 @@ eq_false_not a e f = grind (arith, common_steps)
 abbrev pub AtBase : ℕ → ℕ → Type 0
 AtBase place base = (base ≡ 65536 * (place / 65536)) ⊎ (place % 65536 ≡ 0)
 
-read-block : (b : Bool) (n base place : ℕ) (xs : List DataRecord) (rest : List ℕ) → (place % 65536 == 0) ≡ b → place < 2 ^ 27 → AtBase place base
+read_block : (b : Bool) (n base place : ℕ) (xs : List DataRecord) (rest : List ℕ) → (place % 65536 == 0) ≡ b → place < 2 ^ 27 → AtBase place base
     → (m : ℕ) × (after_lines n (at_base base false xs) (lines_of ((if b then base_line (place / 65536) else []) ++ rest)) ≡ after_lines m (at_base (65536 * (place / 65536)) false xs) (lines_of rest))
-read-block true n base place xs rest e h (inl i) = (n + 1, read-base n base (place / 65536) xs rest (omega arith))
-read-block true n base place xs rest e h (inr z) = (n + 1, read-base n base (place / 65536) xs rest (omega arith))
-read-block false n base place xs rest e h (inl i) = (n, ap (λ (v : ℕ). after_lines n (at_base v false xs) (lines_of rest)) i)
-read-block false n base place xs rest e h (inr z) = absurd (eq_false_not (place % 65536) e z)
+read_block true n base place xs rest e h (inl i) = (n + 1, read_base n base (place / 65536) xs rest (omega arith))
+read_block true n base place xs rest e h (inr z) = (n + 1, read_base n base (place / 65536) xs rest (omega arith))
+read_block false n base place xs rest e h (inl i) = (n, ap (λ (v : ℕ). after_lines n (at_base v false xs) (lines_of rest)) i)
+read_block false n base place xs rest e h (inr z) = absurd (eq_false_not (place % 65536) e z)
 
 placed : (place : ℕ) → 65536 * (place / 65536) + place % 65536 ≡ place
 placed place = omega arith
 
-pub one-row : (n base place : ℕ) (xs : List DataRecord) (done r rest : List ℕ) → Front xs done → place ≡ length done → 0 < length r → length r ≤ 16 → place % 16 ≡ 0 → place + length r ≤ 2 ^ 27 → AreBytes r → AtBase place base
+pub one_row : (n base place : ℕ) (xs : List DataRecord) (done r rest : List ℕ) → GiveJust xs done → place ≡ length done → 0 < length r → length r ≤ 16 → place % 16 ≡ 0 → place + length r ≤ 2 ^ 27 → AreBytes r → AtBase place base
     → (m : ℕ) × (after_lines n (at_base base false xs) (lines_of ((block_start place ++ data_line (place % 65536) r) ++ rest)) ≡ after_lines m (at_base (65536 * (place / 65536)) false (record { place = place; bytes = r } ∷ xs)) (lines_of rest))
-one-row n base place xs done r rest f e h l a w b i =
-    let p = read-block (place % 65536 == 0) n base place xs (data_line (place % 65536) r ++ rest) refl (omega arith) i in
+one_row n base place xs done r rest f e h l a w b i =
+    let p = read_block (place % 65536 == 0) n base place xs (data_line (place % 65536) r ++ rest) refl (omega arith) i in
     let q : ℕ = 65536 * (place / 65536) + place % 65536 in
     let is : 65536 * (place / 65536) + place % 65536 ≡ place = placed place in (
       p.0 + 1,
       ap (λ t. after_lines n (at_base base false xs) (lines_of t)) (append_assoc (block_start place) (data_line (place % 65536) r) rest) ∙ p.1
-          ∙ read-free p.0 (65536 * (place / 65536)) (place % 65536) xs r rest b (omega arith) (omega arith) (omega arith)
-          (free-piece p.0 xs done r (65536 * (place / 65536) + place % 65536) f (is ∙ e) h (omega (arith, is)))
+          ∙ read_free p.0 (65536 * (place / 65536)) (place % 65536) xs r rest b (omega arith) (omega arith) (omega arith)
+          (free_piece p.0 xs done r (65536 * (place / 65536) + place % 65536) f (is ∙ e) h (omega (arith, is)))
           ∙ ap (λ (k : ℕ). after_lines (p.0 + 1) (at_base (65536 * (place / 65536)) false (record { place = k; bytes = r } ∷ xs)) (lines_of rest)) is,
     )
 
@@ -116,53 +116,53 @@ abbrev pub Aligned : ℕ → ℕ → List (List ℕ) → Type 0
 Aligned place base [] = Unit {0}
 Aligned place base (r ∷ rs) = (place % 16 ≡ 0) × AtBase place base
 
-first-size : (r : List ℕ) (rs : List (List ℕ)) → AreFullButLast 16 (r ∷ rs) → (0 < length r) × (length r ≤ 16)
-first-size r [] h = h
-first-size r (s ∷ rs) h = (omega (arith, h.0), omega (arith, h.0))
+first_size : (r : List ℕ) (rs : List (List ℕ)) → AreFullButLast 16 (r ∷ rs) → (0 < length r) × (length r ≤ 16)
+first_size r [] h = h
+first_size r (s ∷ rs) h = (omega (arith, h.0), omega (arith, h.0))
 
-rest-full : (r : List ℕ) (rs : List (List ℕ)) → AreFullButLast 16 (r ∷ rs) → AreFullButLast 16 rs
-rest-full r [] h = tt
-rest-full r (s ∷ rs) h = h.1
+rest_full : (r : List ℕ) (rs : List (List ℕ)) → AreFullButLast 16 (r ∷ rs) → AreFullButLast 16 rs
+rest_full r [] h = tt
+rest_full r (s ∷ rs) h = h.1
 
-same-block : (place : ℕ) → place % 16 ≡ 0 → (65536 * (place / 65536) ≡ 65536 * ((place + 16) / 65536)) ⊎ ((place + 16) % 65536 ≡ 0)
-same-block place h = elim (cases_eq ((place + 16) % 65536) 0) [
+same_block : (place : ℕ) → place % 16 ≡ 0 → (65536 * (place / 65536) ≡ 65536 * ((place + 16) / 65536)) ⊎ ((place + 16) % 65536 ≡ 0)
+same_block place h = elim (cases_eq ((place + 16) % 65536) 0) [
   | inl e ↦ inr e
   | inr e ↦ inl (omega (arith, h, e))
 ]
 
-next-aligned : (place : ℕ) (r : List ℕ) (rs : List (List ℕ)) → AreFullButLast 16 (r ∷ rs) → place % 16 ≡ 0 → Aligned (place + length r) (65536 * (place / 65536)) rs
-next-aligned place r [] h a = tt
-next-aligned place r (s ∷ rs) h a = (omega (arith, h.0, a), subst (λ (k : ℕ). AtBase (place + k) (65536 * (place / 65536))) (sym h.0) (same-block place a))
+next_aligned : (place : ℕ) (r : List ℕ) (rs : List (List ℕ)) → AreFullButLast 16 (r ∷ rs) → place % 16 ≡ 0 → Aligned (place + length r) (65536 * (place / 65536)) rs
+next_aligned place r [] h a = tt
+next_aligned place r (s ∷ rs) h a = (omega (arith, h.0, a), subst (λ (k : ℕ). AtBase (place + k) (65536 * (place / 65536))) (sym h.0) (same_block place a))
 
 nil_after : (xs : List ℕ) → xs ≡ xs ++ []
 nil_after [] = refl
 nil_after (x ∷ xs) = ap (λ t. x ∷ t) (nil_after xs)
 
-pub rows-read : (rs : List (List ℕ)) (n base place : ℕ) (xs : List DataRecord) (done all : List ℕ) → Front xs done → place ≡ length done → all ≡ done ++ flat_map (λ (r : List ℕ). r) rs → AreFullButLast 16 rs → Aligned place base rs
+pub rows_read : (rs : List (List ℕ)) (n base place : ℕ) (xs : List DataRecord) (done all : List ℕ) → GiveJust xs done → place ≡ length done → all ≡ done ++ flat_map (λ (r : List ℕ). r) rs → AreFullButLast 16 rs → Aligned place base rs
     → place + length (flat_map (λ (r : List ℕ). r) rs) ≤ 2 ^ 27 → AreBytes (flat_map (λ (r : List ℕ). r) rs) → Ends n base xs (row_lines place rs ++ codes ":00000001FF\n") all
-rows-read [] n base place xs done all f e is full a w b = subst (λ (t : List ℕ). Ends n base xs (codes ":00000001FF\n") t) (nil_after done ∙ sym is) (ends-end n base xs done f)
-rows-read (r ∷ rs) n base place xs done all f e is full a w b =
+rows_read [] n base place xs done all f e is full a w b = subst (λ (t : List ℕ). Ends n base xs (codes ":00000001FF\n") t) (nil_after done ∙ sym is) (ends_end n base xs done f)
+rows_read (r ∷ rs) n base place xs done all f e is full a w b =
     let long : length (r ++ flat_map (λ (s : List ℕ). s) rs) ≡ length r + length (flat_map (λ (s : List ℕ). s) rs) = length-append r (flat_map (λ (s : List ℕ). s) rs) in
-    let size = first-size r rs full in
+    let size = first_size r rs full in
     let both = parts r (flat_map (λ (s : List ℕ). s) rs) b in
-    let p = one-row n base place xs done r (row_lines (place + length r) rs ++ codes ":00000001FF\n") f e size.0 size.1 a.0 (omega (arith, long, w)) both.0 a.1 in
-    let more = rows-read rs p.0 (65536 * (place / 65536)) (place + length r) (record { place = place; bytes = r } ∷ xs) (done ++ r) all (front-more xs (record { place = place; bytes = r }) done f e size.0)
-    (ap (λ (k : ℕ). k + length r) e ∙ sym (length-append done r)) (is ∙ sym (append_assoc done r (flat_map (λ (s : List ℕ). s) rs))) (rest-full r rs full) (next-aligned place r rs full a.0) (omega (arith, long, w)) both.1 in
+    let p = one_row n base place xs done r (row_lines (place + length r) rs ++ codes ":00000001FF\n") f e size.0 size.1 a.0 (omega (arith, long, w)) both.0 a.1 in
+    let more = rows_read rs p.0 (65536 * (place / 65536)) (place + length r) (record { place = place; bytes = r } ∷ xs) (done ++ r) all (prefix_more xs (record { place = place; bytes = r }) done f e size.0)
+    (ap (λ (k : ℕ). k + length r) e ∙ sym (length-append done r)) (is ∙ sym (append_assoc done r (flat_map (λ (s : List ℕ). s) rs))) (rest_full r rs full) (next_aligned place r rs full a.0) (omega (arith, long, w)) both.1 in
     record {
       reading = more.reading;
       is = ap with_end (ap (λ t. after_lines n (at_base base false xs) (lines_of t)) (append_assoc (block_start place ++ data_line (place % 65536) r) (row_lines (place + length r) rs) (codes ":00000001FF\n")) ∙ p.1) ∙ more.is;
       image = more.image;
     }
 
-aligned-none : (rs : List (List ℕ)) → Aligned 0 0 rs
-aligned-none [] = tt
-aligned-none (r ∷ rs) = (refl, inr refl)
+aligned_none : (rs : List (List ℕ)) → Aligned 0 0 rs
+aligned_none [] = tt
+aligned_none (r ∷ rs) = (refl, inr refl)
 
-front-none : Front [] []
-front-none = record { long = refl; at = λ p. refl; marked = λ p. sym (not_less p 0 (omega arith)) }
+prefix_none : GiveJust [] []
+prefix_none = record { long = refl; at = λ p. refl; marked = λ p. sym (not_less p 0 (omega arith)) }
 
-pub text-gives : (bytes : List ℕ) → AreBytes bytes → length bytes ≤ 2 ^ 27 → mcs_of (mcs_text bytes) ≡ Ok bytes
-text-gives bytes h l =
+pub text_gives : (bytes : List ℕ) → AreBytes bytes → length bytes ≤ 2 ^ 27 → mcs_of (mcs_text bytes) ≡ Ok bytes
+text_gives bytes h l =
     let j : flat_map (λ (r : List ℕ). r) (rows 16 bytes) ≡ bytes = rows_joined 16 [] bytes in
-    let e = rows-read (rows 16 bytes) 1 0 0 [] [] bytes front-none refl (sym j) (rows_full 16 [] bytes (omega arith)) (aligned-none (rows 16 bytes)) (omega (arith, ap length j, l)) (subst AreBytes (sym j) h) in
+    let e = rows_read (rows 16 bytes) 1 0 0 [] [] bytes prefix_none refl (sym j) (rows_full 16 [] bytes (omega arith)) (aligned_none (rows 16 bytes)) (omega (arith, ap length j, l)) (subst AreBytes (sym j) h) in
     ap flash_in e.is ∙ ap Ok e.image

@@ -5,10 +5,10 @@ use Rattle.std.proofs.lemmas.Result.{on_ok_weaker}
 use Rattle.std.proofs.lemmas.Grind.{common_steps}
 use Rattle.std.proofs.lemmas.List.{take-append-drop}
 use Rattle.x7_words.specs.Sink.{appended, PutsPrefix}
-use Rattle.x7_words.proofs.SinkLemmas.{appended-appended, appended-nil, front_more}
+use Rattle.x7_words.proofs.SinkLemmas.{appended_appended, appended_nil, prefix_more}
 use Rattle.x7_text.specs.Row.{rows}
 use Rattle.x7_mcs.specs.Text.{mcs_text, row_lines}
-use Rattle.x7_mcs.proofs.LawLemmas.{rows-in-parts}
+use Rattle.x7_mcs.proofs.LawLemmas.{rows_in_parts}
 use Rattle.x7_mcs.proofs.RowsLemmas.{none_of_16}
 
 -- the lines of the rows before this place are written
@@ -27,8 +27,8 @@ whole place n k m e f = elim (by_min n k e) [
   | inr s ↦ inr (omega (arith, s.0, f))
 ]
 
-pub begins-more : (place n k m : ℕ) → k ≡ min n 65536 → m + k ≡ n → place % 65536 ≡ 0 → 0 < m → (place + k) % 65536 ≡ 0
-begins-more place n k m e f h g = elim (by_min n k e) [
+pub begins_more : (place n k m : ℕ) → k ≡ min n 65536 → m + k ≡ n → place % 65536 ≡ 0 → 0 < m → (place + k) % 65536 ≡ 0
+begins_more place n k m e f h g = elim (by_min n k e) [
   | inl s ↦ omega (arith, s, h)
   | inr s ↦ absurd (omega (arith, s.0, f, g))
 ]
@@ -42,7 +42,7 @@ none_left (x ∷ xs) e = absurd (omega arith)
 
 -- the lines of one block and of what is left
 in_two : (place : ℕ) (rest bytes more : List ℕ) → rest ≡ bytes ++ more → (length bytes % 16 ≡ 0) ⊎ (length more ≡ 0) → row_lines place (rows 16 rest) ≡ row_lines place (rows 16 bytes) ++ row_lines (place + length bytes) (rows 16 more)
-in_two place rest bytes more e (inl w) = ap (λ t. row_lines place (rows 16 t)) e ∙ rows-in-parts place bytes more w
+in_two place rest bytes more e (inl w) = ap (λ t. row_lines place (rows 16 t)) e ∙ rows_in_parts place bytes more w
 in_two place rest bytes more e (inr z) =
     ap (λ t. row_lines place (rows 16 t)) (e ∙ ap (λ t. bytes ++ t) (none_left more z) ∙ append-nil bytes)
     ∙ sym (append-nil (row_lines place (rows 16 bytes)))
@@ -62,26 +62,26 @@ module _ (first now : Option (List ℕ)) (flash : List ℕ) (place : ℕ) (rest 
   lines : row_lines 0 (rows 16 flash) ≡ g.done ++ (block ++ row_lines (place + length bytes) (rows 16 more))
   lines = g.lines ∙ ap (λ t. g.done ++ t) (in_two place rest bytes more parts even ∙ ap (λ t. t ++ row_lines (place + length bytes) (rows 16 more)) (sym is))
 
-  pub block-put : (next : Option (List ℕ)) → next ≡ appended now block → Goes first next flash (place + length bytes) more
-  block-put next p = record {
+  pub block_put : (next : Option (List ℕ)) → next ≡ appended now block → Goes first next flash (place + length bytes) more
+  block_put next p = record {
     done = g.done ++ block;
-    put = p ∙ ap (λ t. appended t block) g.put ∙ appended-appended first g.done block;
+    put = p ∙ ap (λ t. appended t block) g.put ∙ appended_appended first g.done block;
     lines = lines ∙ sym (append_assoc g.done block (row_lines (place + length bytes) (rows 16 more)));
   }
 
-  pub block-failed : (next : Option (List ℕ)) → PutsPrefix now block next → PutsPrefix first (row_lines 0 (rows 16 flash)) next
-  block-failed next p = rw lines (front_more first now next g.done block (row_lines (place + length bytes) (rows 16 more)) g.put p)
+  pub block_failed : (next : Option (List ℕ)) → PutsPrefix now block next → PutsPrefix first (row_lines 0 (rows 16 flash)) next
+  block_failed next p = rw lines (prefix_more first now next g.done block (row_lines (place + length bytes) (rows 16 more)) g.put p)
 
 -- ---- the whole text
 
-pub text-begun : (first new : Option (List ℕ)) (image flash : List ℕ) → image ≡ flash → PutsPrefix first (row_lines 0 (rows 16 flash)) new → PutsPrefix first (mcs_text image) new
-text-begun first new image flash e p = rw e (front_more first first new [] (row_lines 0 (rows 16 flash)) (codes ":00000001FF\n") (sym (appended-nil first)) p)
+pub text_begun : (first new : Option (List ℕ)) (image flash : List ℕ) → image ≡ flash → PutsPrefix first (row_lines 0 (rows 16 flash)) new → PutsPrefix first (mcs_text image) new
+text_begun first new image flash e p = rw e (prefix_more first first new [] (row_lines 0 (rows 16 flash)) (codes ":00000001FF\n") (sym (appended_nil first)) p)
 
-pub text-failed : (first now new : Option (List ℕ)) (image flash : List ℕ) → image ≡ flash → now ≡ appended first (row_lines 0 (rows 16 flash)) → PutsPrefix now (codes ":00000001FF\n") new → PutsPrefix first (mcs_text image) new
-text-failed first now new image flash e p q =
-    rw e (subst (λ t. PutsPrefix first (row_lines 0 (rows 16 flash) ++ t) new) (append-nil (codes ":00000001FF\n")) (front_more first now new (row_lines 0 (rows 16 flash)) (codes ":00000001FF\n") [] p q))
+pub text_failed : (first now new : Option (List ℕ)) (image flash : List ℕ) → image ≡ flash → now ≡ appended first (row_lines 0 (rows 16 flash)) → PutsPrefix now (codes ":00000001FF\n") new → PutsPrefix first (mcs_text image) new
+text_failed first now new image flash e p q =
+    rw e (subst (λ t. PutsPrefix first (row_lines 0 (rows 16 flash) ++ t) new) (append-nil (codes ":00000001FF\n")) (prefix_more first now new (row_lines 0 (rows 16 flash)) (codes ":00000001FF\n") [] p q))
 
-pub text-put : {T E : Type 0} (r : Result T E) (first now new : Option (List ℕ)) (image flash : List ℕ) → image ≡ flash → now ≡ appended first (row_lines 0 (rows 16 flash)) → OnOk r (new ≡ appended now (codes ":00000001FF\n"))
+pub text_put : {T E : Type 0} (r : Result T E) (first now new : Option (List ℕ)) (image flash : List ℕ) → image ≡ flash → now ≡ appended first (row_lines 0 (rows 16 flash)) → OnOk r (new ≡ appended now (codes ":00000001FF\n"))
     → OnOk r (new ≡ appended first (mcs_text image))
-text-put r first now new image flash e p q =
-    on_ok_weaker r (λ w. w ∙ ap (λ t. appended t (codes ":00000001FF\n")) p ∙ appended-appended first (row_lines 0 (rows 16 flash)) (codes ":00000001FF\n") ∙ ap (λ t. appended first (mcs_text t)) (sym e)) q
+text_put r first now new image flash e p q =
+    on_ok_weaker r (λ w. w ∙ ap (λ t. appended t (codes ":00000001FF\n")) p ∙ appended_appended first (row_lines 0 (rows 16 flash)) (codes ":00000001FF\n") ∙ ap (λ t. appended first (mcs_text t)) (sym e)) q

@@ -6,73 +6,73 @@ use Rattle.x7_mcs.specs.Record.{byte_of, record_count, digit_of, sum_found, led,
 use Rattle.x7_mcs.specs.Flash.{FlashReading, after_bytes, after_line, after_meaning}
 use Rattle.x7_mcs.specs.declared.fault.McsFault.TheVariants as fault
 
-digit-by : (a b d : Bool) (c n : ℕ) → (a ≡ true → c ≤ 57) → (b ≡ true → c ≤ 70) → (d ≡ true → c ≤ 102) → (if a then Some (c - 48) else if b then Some (c - 55) else if d then Some (c - 87) else None) ≡ Some n → n < 16
-digit-by true b d c n h i j e = let s : c - 48 ≡ n = cc in let l : c ≤ 57 = h refl in omega (arith, s, l)
-digit-by false true d c n h i j e = let s : c - 55 ≡ n = cc in let l : c ≤ 70 = i refl in omega (arith, s, l)
-digit-by false false true c n h i j e = let s : c - 87 ≡ n = cc in let l : c ≤ 102 = j refl in omega (arith, s, l)
-digit-by false false false c n h i j e = absurd cc
+digit_by : (a b d : Bool) (c n : ℕ) → (a ≡ true → c ≤ 57) → (b ≡ true → c ≤ 70) → (d ≡ true → c ≤ 102) → (if a then Some (c - 48) else if b then Some (c - 55) else if d then Some (c - 87) else None) ≡ Some n → n < 16
+digit_by true b d c n h i j e = let s : c - 48 ≡ n = cc in let l : c ≤ 57 = h refl in omega (arith, s, l)
+digit_by false true d c n h i j e = let s : c - 55 ≡ n = cc in let l : c ≤ 70 = i refl in omega (arith, s, l)
+digit_by false false true c n h i j e = let s : c - 87 ≡ n = cc in let l : c ≤ 102 = j refl in omega (arith, s, l)
+digit_by false false false c n h i j e = absurd cc
 
-digit-small : (c n : ℕ) → digit_of c ≡ Some n → n < 16
-digit-small c n e =
-    digit-by (nat_le 48 c && nat_le c 57) (nat_le 65 c && nat_le c 70) (nat_le 97 c && nat_le c 102) c n
+digit_small : (c n : ℕ) → digit_of c ≡ Some n → n < 16
+digit_small c n e =
+    digit_by (nat_le 48 c && nat_le c 57) (nat_le 65 c && nat_le c 70) (nat_le 97 c && nat_le c 102) c n
     (λ t. leb-true c 57 (and_parts (nat_le 48 c) (nat_le c 57) t).1)
     (λ t. leb-true c 70 (and_parts (nat_le 65 c) (nat_le c 70) t).1)
     (λ t. leb-true c 102 (and_parts (nat_le 97 c) (nat_le c 102) t).1) e
 
-byte-small : (p q : Option ℕ) (x : ℕ) → byte_of p q ≡ Some x → ((n : ℕ) → p ≡ Some n → n < 16) → ((n : ℕ) → q ≡ Some n → n < 16) → x < 256
-byte-small None q x e h i = absurd cc
-byte-small (Some a) None x e h i = absurd cc
-byte-small (Some a) (Some b) x e h i = let s : 16 * a + b ≡ x = cc in let k : a < 16 = h a refl in let l : b < 16 = i b refl in omega (arith, s, k, l)
+byte_small : (p q : Option ℕ) (x : ℕ) → byte_of p q ≡ Some x → ((n : ℕ) → p ≡ Some n → n < 16) → ((n : ℕ) → q ≡ Some n → n < 16) → x < 256
+byte_small None q x e h i = absurd cc
+byte_small (Some a) None x e h i = absurd cc
+byte_small (Some a) (Some b) x e h i = let s : 16 * a + b ≡ x = cc in let k : a < 16 = h a refl in let l : b < 16 = i b refl in omega (arith, s, k, l)
 
-led-first : (o : Option ℕ) (p : Option (List ℕ)) (bs : List ℕ) → led o p ≡ Some bs → ((x : ℕ) → o ≡ Some x → x < 256) → get_or bs 0 0 < 256
-led-first None p bs e h = absurd cc
-led-first (Some x) None bs e h = absurd cc
-led-first (Some x) (Some ys) bs e h = let s : x ∷ ys ≡ bs = cc in let f : x ≡ get_or bs 0 0 = ap (λ t. get_or t 0 0) s in let k : x < 256 = h x refl in omega (arith, f, k)
+led_first : (o : Option ℕ) (p : Option (List ℕ)) (bs : List ℕ) → led o p ≡ Some bs → ((x : ℕ) → o ≡ Some x → x < 256) → get_or bs 0 0 < 256
+led_first None p bs e h = absurd cc
+led_first (Some x) None bs e h = absurd cc
+led_first (Some x) (Some ys) bs e h = let s : x ∷ ys ≡ bs = cc in let f : x ≡ get_or bs 0 0 = ap (λ t. get_or t 0 0) s in let k : x < 256 = h x refl in omega (arith, f, k)
 
-led-length : (o : Option ℕ) (p : Option (List ℕ)) (bs : List ℕ) (n : ℕ) → led o p ≡ Some bs → ((ys : List ℕ) → p ≡ Some ys → 2 * length ys ≡ n) → 2 * length bs ≡ n + 2
-led-length None p bs n e h = absurd cc
-led-length (Some x) None bs n e h = absurd cc
-led-length (Some x) (Some ys) bs n e h = let s : x ∷ ys ≡ bs = cc in let f : length (x ∷ ys) ≡ length bs = ap length s in let k : 2 * length ys ≡ n = h ys refl in omega (arith, f, k)
+led_length : (o : Option ℕ) (p : Option (List ℕ)) (bs : List ℕ) (n : ℕ) → led o p ≡ Some bs → ((ys : List ℕ) → p ≡ Some ys → 2 * length ys ≡ n) → 2 * length bs ≡ n + 2
+led_length None p bs n e h = absurd cc
+led_length (Some x) None bs n e h = absurd cc
+led_length (Some x) (Some ys) bs n e h = let s : x ∷ ys ≡ bs = cc in let f : length (x ∷ ys) ≡ length bs = ap length s in let k : 2 * length ys ≡ n = h ys refl in omega (arith, f, k)
 
-pairs-long : (cs bs : List ℕ) → pairs cs ≡ Some bs → 2 * length bs ≡ length cs
-pairs-long [] bs e = let s : [] ≡ bs = cc in let f : length {A = ℕ} [] ≡ length bs = ap length s in omega (arith, f)
-pairs-long (a ∷ []) bs e = absurd cc
-pairs-long (a ∷ b ∷ cs) bs e = let k : 2 * length bs ≡ length cs + 2 = led-length (byte_of (digit_of a) (digit_of b)) (pairs cs) bs (length cs) e (λ ys f. pairs-long cs ys f) in omega (arith, k)
+pairs_long : (cs bs : List ℕ) → pairs cs ≡ Some bs → 2 * length bs ≡ length cs
+pairs_long [] bs e = let s : [] ≡ bs = cc in let f : length {A = ℕ} [] ≡ length bs = ap length s in omega (arith, f)
+pairs_long (a ∷ []) bs e = absurd cc
+pairs_long (a ∷ b ∷ cs) bs e = let k : 2 * length bs ≡ length cs + 2 = led_length (byte_of (digit_of a) (digit_of b)) (pairs cs) bs (length cs) e (λ ys f. pairs_long cs ys f) in omega (arith, k)
 
-count-small : (cs bs : List ℕ) → pairs cs ≡ Some bs → record_count bs < 256
-count-small [] bs e = let s : [] ≡ bs = cc in let f : 0 ≡ get_or bs 0 0 = ap (λ t. get_or t 0 0) s in omega (arith, f)
-count-small (a ∷ []) bs e = absurd cc
-count-small (a ∷ b ∷ cs) bs e = led-first (byte_of (digit_of a) (digit_of b)) (pairs cs) bs e (λ x f. byte-small (digit_of a) (digit_of b) x f (digit-small a) (digit-small b))
+count_small : (cs bs : List ℕ) → pairs cs ≡ Some bs → record_count bs < 256
+count_small [] bs e = let s : [] ≡ bs = cc in let f : 0 ≡ get_or bs 0 0 = ap (λ t. get_or t 0 0) s in omega (arith, f)
+count_small (a ∷ []) bs e = absurd cc
+count_small (a ∷ b ∷ cs) bs e = led_first (byte_of (digit_of a) (digit_of b)) (pairs cs) bs e (λ x f. byte_small (digit_of a) (digit_of b) x f (digit_small a) (digit_small b))
 
 differ : (a b : ℕ) → a < b → (a == b) ≡ false
 differ a b h = grind (arith, common_steps)
 
-long-by : (o : Option (List ℕ)) (n : ℕ) (r : FlashReading) (digits : List ℕ) → pairs digits ≡ o → 520 < length digits → after_bytes n r o ≡ Err (fault.Line n)
-long-by None n r digits e h = refl
-long-by (Some bs) n r digits e h =
-    let long : 2 * length bs ≡ length digits = pairs-long digits bs e in
-    let small : record_count bs < 256 = count-small digits bs e in
+long_by : (o : Option (List ℕ)) (n : ℕ) (r : FlashReading) (digits : List ℕ) → pairs digits ≡ o → 520 < length digits → after_bytes n r o ≡ Err (fault.Line n)
+long_by None n r digits e h = refl
+long_by (Some bs) n r digits e h =
+    let long : 2 * length bs ≡ length digits = pairs_long digits bs e in
+    let small : record_count bs < 256 = count_small digits bs e in
     ap (λ (b : Bool). after_meaning n r bs (if not b then Err (fault.Line n) else if not (sum_wanted bs == sum_found bs) then Err (fault.Sum n (sum_wanted bs) (sum_found bs)) else if r.ended then Err (fault.Line n) else meaning_by_type n bs))
     (differ (record_count bs + 5) (length bs) (omega (arith, long, small)))
 
-too-long : (n : ℕ) (r : FlashReading) (digits : List ℕ) → 520 < length digits → after_bytes n r (pairs digits) ≡ Err (fault.Line n)
-too-long n r digits h = long-by (pairs digits) n r digits refl h
+too_long : (n : ℕ) (r : FlashReading) (digits : List ℕ) → 520 < length digits → after_bytes n r (pairs digits) ≡ Err (fault.Line n)
+too_long n r digits h = long_by (pairs digits) n r digits refl h
 
 same : (c : ℕ) → c ≡ 58 → (c == 58) ≡ true
 same c e = grind (arith, common_steps)
 
 -- a line of `:` and digits whose bytes are at fault
-colon-line : (n : ℕ) (r : FlashReading) (line digits : List ℕ) → get_or line 0 0 ≡ 58 → digits ≡ drop 1 line → 0 < length digits → after_bytes n r (pairs digits) ≡ Err (fault.Line n) → after_line n r line ≡ Err (fault.Line n)
-colon-line n r [] digits e f h bad = absurd (omega (arith, h, ap length f))
-colon-line n r (c ∷ cs) digits e f h bad = ap (λ (b : Bool). if b then after_bytes n r (pairs cs) else Err (fault.Line n)) (same c e) ∙ ap (λ (t : List ℕ). after_bytes n r (pairs t)) (sym f) ∙ bad
+colon_line : (n : ℕ) (r : FlashReading) (line digits : List ℕ) → get_or line 0 0 ≡ 58 → digits ≡ drop 1 line → 0 < length digits → after_bytes n r (pairs digits) ≡ Err (fault.Line n) → after_line n r line ≡ Err (fault.Line n)
+colon_line n r [] digits e f h bad = absurd (omega (arith, h, ap length f))
+colon_line n r (c ∷ cs) digits e f h bad = ap (λ (b : Bool). if b then after_bytes n r (pairs cs) else Err (fault.Line n)) (same c e) ∙ ap (λ (t : List ℕ). after_bytes n r (pairs t)) (sym f) ∙ bad
 
-pub long-line : (n : ℕ) (r : FlashReading) (line digits : List ℕ) → get_or line 0 0 ≡ 58 → digits ≡ drop 1 line → 520 < length digits → after_line n r line ≡ Err (fault.Line n)
-long-line n r line digits e f h = colon-line n r line digits e f (omega (arith, h)) (too-long n r digits h)
+pub long_line : (n : ℕ) (r : FlashReading) (line digits : List ℕ) → get_or line 0 0 ≡ 58 → digits ≡ drop 1 line → 520 < length digits → after_line n r line ≡ Err (fault.Line n)
+long_line n r line digits e f h = colon_line n r line digits e f (omega (arith, h)) (too_long n r digits h)
 
 -- an odd count of digits is no pairs
-odd-by : (o : Option (List ℕ)) (n : ℕ) (r : FlashReading) (digits : List ℕ) → pairs digits ≡ o → length digits % 2 ≡ 1 → after_bytes n r o ≡ Err (fault.Line n)
-odd-by None n r digits e h = refl
-odd-by (Some bs) n r digits e h = absurd (omega (arith, pairs-long digits bs e, h))
+odd_by : (o : Option (List ℕ)) (n : ℕ) (r : FlashReading) (digits : List ℕ) → pairs digits ≡ o → length digits % 2 ≡ 1 → after_bytes n r o ≡ Err (fault.Line n)
+odd_by None n r digits e h = refl
+odd_by (Some bs) n r digits e h = absurd (omega (arith, pairs_long digits bs e, h))
 
-pub odd-line : (n : ℕ) (r : FlashReading) (line digits : List ℕ) → get_or line 0 0 ≡ 58 → digits ≡ drop 1 line → length digits % 2 ≡ 1 → after_line n r line ≡ Err (fault.Line n)
-odd-line n r line digits e f h = colon-line n r line digits e f (omega (arith, h)) (odd-by (pairs digits) n r digits refl h)
+pub odd_line : (n : ℕ) (r : FlashReading) (line digits : List ℕ) → get_or line 0 0 ≡ 58 → digits ≡ drop 1 line → length digits % 2 ≡ 1 → after_line n r line ≡ Err (fault.Line n)
+odd_line n r line digits e f h = colon_line n r line digits e f (omega (arith, h)) (odd_by (pairs digits) n r digits refl h)

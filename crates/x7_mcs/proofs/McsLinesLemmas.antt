@@ -5,8 +5,8 @@ use Rattle.std.specs.List.{flat_map}
 use Rattle.x7_words.specs.Word.{AreBytes}
 use Rattle.x7_text.specs.Digits.{hex_byte}
 use Rattle.x7_text.specs.Lines.{has_no_end, split}
-use Rattle.x7_text.proofs.PieceLemmas.{hex-free}
-use Rattle.x7_text.proofs.SplitLemmas.{split-line, split-some}
+use Rattle.x7_text.proofs.PieceLemmas.{hex_free}
+use Rattle.x7_text.proofs.SplitLemmas.{split_line, split_some}
 use Rattle.x7_mcs.specs.Flash.{FlashReading, after_data, after_line, after_lines, and_then, of_no_line}
 use Rattle.x7_mcs.specs.Lines.{bare, lines_of, without_return}
 use Rattle.x7_mcs.specs.Places.{DataRecord}
@@ -16,96 +16,96 @@ use Rattle.x7_mcs.specs.State.{McsLinesState, FailsAsReading, TookRecords, at_ba
 use Rattle.x7_mcs.specs.Text.{data_line}
 use Rattle.x7_mcs.specs.declared.fault.McsFault.{McsFault}
 use Rattle.x7_mcs.specs.declared.fault.McsFault.TheVariants as fault
-use Rattle.x7_mcs.proofs.GoesLemmas.{gives-bytes, gives-fault, gives-no-end}
-use Rattle.x7_mcs.proofs.LawLemmas.{in-turn, told-one}
-use Rattle.x7_mcs.proofs.LineLemmas.{line-first}
-use Rattle.x7_mcs.proofs.ReadLemmas.{read-data}
+use Rattle.x7_mcs.proofs.GoesLemmas.{gives_bytes, gives_fault, gives_no_end}
+use Rattle.x7_mcs.proofs.LawLemmas.{in_turn, reported_one}
+use Rattle.x7_mcs.proofs.LineLemmas.{line_first}
+use Rattle.x7_mcs.proofs.ReadLemmas.{read_data}
 
 -- ---- lines without their ends
 
-bare-more : (t : List ℕ) (ts : List (List ℕ)) → (ts ≡ [] → ⊥) → bare (t ∷ ts) ≡ without_return t ∷ bare ts
-bare-more t [] h = absurd (h refl)
-bare-more t (u ∷ ts) h = refl
+bare_more : (t : List ℕ) (ts : List (List ℕ)) → (ts ≡ [] → ⊥) → bare (t ∷ ts) ≡ without_return t ∷ bare ts
+bare_more t [] h = absurd (h refl)
+bare_more t (u ∷ ts) h = refl
 
-behind-some : (ls ts : List (List ℕ)) → (ts ≡ [] → ⊥) → ls ++ ts ≡ [] → ⊥
-behind-some [] ts h e = h e
-behind-some (l ∷ ls) ts h e = cc
+after_some : (ls ts : List (List ℕ)) → (ts ≡ [] → ⊥) → ls ++ ts ≡ [] → ⊥
+after_some [] ts h e = h e
+after_some (l ∷ ls) ts h e = cc
 
-bare-behind : (ls ts : List (List ℕ)) → (ts ≡ [] → ⊥) → bare (ls ++ ts) ≡ map without_return ls ++ bare ts
-bare-behind [] ts h = refl
-bare-behind (l ∷ ls) ts h = bare-more l (ls ++ ts) (behind-some ls ts h) ∙ ap (λ us. without_return l ∷ us) (bare-behind ls ts h)
+bare_after : (ls ts : List (List ℕ)) → (ts ≡ [] → ⊥) → bare (ls ++ ts) ≡ map without_return ls ++ bare ts
+bare_after [] ts h = refl
+bare_after (l ∷ ls) ts h = bare_more l (ls ++ ts) (after_some ls ts h) ∙ ap (λ us. without_return l ∷ us) (bare_after ls ts h)
 
-some-behind : (t : List ℕ) (ts : List (List ℕ)) → t ∷ ts ≡ [] → ⊥
-some-behind t ts e = cc
+some_after : (t : List ℕ) (ts : List (List ℕ)) → t ∷ ts ≡ [] → ⊥
+some_after t ts e = cc
 
-then-ok : (r : Result FlashReading McsFault) → and_then r (λ s. Ok s) ≡ r
-then-ok (Ok s) = refl
-then-ok (Err f) = refl
+then_ok : (r : Result FlashReading McsFault) → and_then r (λ s. Ok s) ≡ r
+then_ok (Ok s) = refl
+then_ok (Err f) = refl
 
 -- ---- a line after those that were read
 
 module _ (b : McsLinesState) (lines : List (List ℕ)) (n : ℕ) (m : n ≡ length lines + 1) (t : HasReadRecords b lines) where
-  read-behind : (ts : List (List ℕ)) → after_lines 1 of_no_line (map without_return lines ++ ts) ≡ after_lines n (at_base b.base b.ended t.records) ts
-  read-behind ts =
+  read_behind : (ts : List (List ℕ)) → after_lines 1 of_no_line (map without_return lines ++ ts) ≡ after_lines n (at_base b.base b.ended t.records) ts
+  read_behind ts =
       let k : 1 + length (map without_return lines) ≡ n = omega (arith, m, length-map lines without_return) in
-      in-turn (map without_return lines) 1 of_no_line ts ∙ ap (λ r. and_then r (λ s. after_lines (1 + length (map without_return lines)) s ts)) t.is
+      in_turn (map without_return lines) 1 of_no_line ts ∙ ap (λ r. and_then r (λ s. after_lines (1 + length (map without_return lines)) s ts)) t.is
       ∙ ap (λ (j : ℕ). after_lines j (at_base b.base b.ended t.records) ts) k
 
-  pub line-read : (d : McsLinesState) (line : List ℕ) → TookRecords (after_line n (at_base b.base b.ended t.records) (without_return line)) d.base d.ended d.bytes d.marks → HasReadRecords d (lines ++ line ∷ [])
-  line-read d line w = record {
+  pub line_read : (d : McsLinesState) (line : List ℕ) → TookRecords (after_line n (at_base b.base b.ended t.records) (without_return line)) d.base d.ended d.bytes d.marks → HasReadRecords d (lines ++ line ∷ [])
+  line_read d line w = record {
     records = w.records;
-    is = ap (after_lines 1 of_no_line) (map_push without_return lines line) ∙ read-behind (without_return line ∷ []) ∙ then-ok (after_line n (at_base b.base b.ended t.records) (without_return line)) ∙ w.is;
+    is = ap (after_lines 1 of_no_line) (map_push without_return lines line) ∙ read_behind (without_return line ∷ []) ∙ then_ok (after_line n (at_base b.base b.ended t.records) (without_return line)) ∙ w.is;
     holds = w.holds;
   }
 
-  pub line-fails : (f : McsFault) (line more : List ℕ) → FailsAsReading (after_line n (at_base b.base b.ended t.records) (without_return line)) f → HasMcsFault f (lines ++ line ∷ split more)
-  line-fails f line more (inl none) = inl none.0
-  line-fails f line more (inr h) = gives-fault (lines ++ line ∷ split more) f (inr (
-      ap (after_lines 1 of_no_line) (bare-behind lines (line ∷ split more) (some-behind line (split more)) ∙ ap (λ ts. map without_return lines ++ ts) (bare-more line (split more) (split-some more)))
-      ∙ read-behind (without_return line ∷ bare (split more)) ∙ ap (λ r. and_then r (λ s. after_lines (n + 1) s (bare (split more)))) h
+  pub line_fails : (f : McsFault) (line more : List ℕ) → FailsAsReading (after_line n (at_base b.base b.ended t.records) (without_return line)) f → HasMcsFault f (lines ++ line ∷ split more)
+  line_fails f line more (inl none) = inl none.0
+  line_fails f line more (inr h) = gives_fault (lines ++ line ∷ split more) f (inr (
+      ap (after_lines 1 of_no_line) (bare_after lines (line ∷ split more) (some_after line (split more)) ∙ ap (λ ts. map without_return lines ++ ts) (bare_more line (split more) (split_some more)))
+      ∙ read_behind (without_return line ∷ bare (split more)) ∙ ap (λ r. and_then r (λ s. after_lines (n + 1) s (bare (split more)))) h
       ))
 
-  pub line-came : {A : Type 0} (r : Result A McsFault) (d : McsLinesState) (line bare : List ℕ) → bare ≡ without_return line
+  pub line_came : {A : Type 0} (r : Result A McsFault) (d : McsLinesState) (line bare : List ℕ) → bare ≡ without_return line
       → MatchResult r (λ _. TookRecords (after_line n (at_base b.base b.ended t.records) bare) d.base d.ended d.bytes d.marks) (λ f. FailsAsReading (after_line n (at_base b.base b.ended t.records) bare) f)
       → MatchResult r (λ _. HasReadRecords d (lines ++ line ∷ [])) (λ f. (more : List ℕ) → HasMcsFault f (lines ++ line ∷ split more))
-  line-came (Ok _) d line bare e w = line-read d line (subst (λ l. TookRecords (after_line n (at_base b.base b.ended t.records) l) d.base d.ended d.bytes d.marks) e w)
-  line-came (Err f) d line bare e w = λ more. line-fails f line more (subst (λ l. FailsAsReading (after_line n (at_base b.base b.ended t.records) l) f) e w)
+  line_came (Ok _) d line bare e w = line_read d line (subst (λ l. TookRecords (after_line n (at_base b.base b.ended t.records) l) d.base d.ended d.bytes d.marks) e w)
+  line_came (Err f) d line bare e w = λ more. line_fails f line more (subst (λ l. FailsAsReading (after_line n (at_base b.base b.ended t.records) l) f) e w)
 
   -- memory is wanting at a good line
-  pub line-wants : (f : McsFault) (line : List ℕ) → FailsAsReading (after_line n (at_base b.base b.ended t.records) (without_return line)) f → f ≡ fault.NoMemory → AreGoodWith lines line
-  line-wants f line (inl none) want =
-      inl (none.1.0, ap (after_lines 1 of_no_line) (map_push without_return lines line) ∙ read-behind (without_return line ∷ []) ∙ then-ok (after_line n (at_base b.base b.ended t.records) (without_return line)) ∙ none.1.1)
-  line-wants f line (inr h) want = absurd (told-one (without_return line) n (at_base b.base b.ended t.records) (h ∙ ap Err want))
+  pub line_wants : (f : McsFault) (line : List ℕ) → FailsAsReading (after_line n (at_base b.base b.ended t.records) (without_return line)) f → f ≡ fault.NoMemory → AreGoodWith lines line
+  line_wants f line (inl none) want =
+      inl (none.1.0, ap (after_lines 1 of_no_line) (map_push without_return lines line) ∙ read_behind (without_return line ∷ []) ∙ then_ok (after_line n (at_base b.base b.ended t.records) (without_return line)) ∙ none.1.1)
+  line_wants f line (inr h) want = absurd (reported_one (without_return line) n (at_base b.base b.ended t.records) (h ∙ ap Err want))
 
-  pub line-wanted : {A : Type 0} (r : Result A McsFault) (d : McsLinesState) (line bare : List ℕ) → bare ≡ without_return line
+  pub line_wanted : {A : Type 0} (r : Result A McsFault) (d : McsLinesState) (line bare : List ℕ) → bare ≡ without_return line
       → MatchResult r (λ _. TookRecords (after_line n (at_base b.base b.ended t.records) bare) d.base d.ended d.bytes d.marks) (λ f. FailsAsReading (after_line n (at_base b.base b.ended t.records) bare) f)
       → IfErr r (λ f. f ≡ fault.NoMemory → AreGoodWith lines line)
-  line-wanted (Ok _) d line bare e w = tt
-  line-wanted (Err f) d line bare e w = line-wants f line (subst (λ l. FailsAsReading (after_line n (at_base b.base b.ended t.records) l) f) e w)
+  line_wanted (Ok _) d line bare e w = tt
+  line_wanted (Err f) d line bare e w = line_wants f line (subst (λ l. FailsAsReading (after_line n (at_base b.base b.ended t.records) l) f) e w)
 
   -- the last line
   module _ (line : List ℕ) where
-    last-is : after_lines 1 of_no_line (bare (lines ++ line ∷ [])) ≡ after_line n (at_base b.base b.ended t.records) line
-    last-is =
-        ap (after_lines 1 of_no_line) (bare-behind lines (line ∷ []) (some-behind line []))
-        ∙ read-behind (line ∷ []) ∙ then-ok (after_line n (at_base b.base b.ended t.records) line)
+    last_is : after_lines 1 of_no_line (bare (lines ++ line ∷ [])) ≡ after_line n (at_base b.base b.ended t.records) line
+    last_is =
+        ap (after_lines 1 of_no_line) (bare_after lines (line ∷ []) (some_after line []))
+        ∙ read_behind (line ∷ []) ∙ then_ok (after_line n (at_base b.base b.ended t.records) line)
 
-    last-took : (d : McsLinesState) → TookRecords (after_line n (at_base b.base b.ended t.records) line) d.base d.ended d.bytes d.marks → TookRecords (after_lines 1 of_no_line (bare (lines ++ line ∷ []))) d.base d.ended d.bytes d.marks
-    last-took d w = record { records = w.records; is = last-is ∙ w.is; holds = w.holds }
+    last_took : (d : McsLinesState) → TookRecords (after_line n (at_base b.base b.ended t.records) line) d.base d.ended d.bytes d.marks → TookRecords (after_lines 1 of_no_line (bare (lines ++ line ∷ []))) d.base d.ended d.bytes d.marks
+    last_took d w = record { records = w.records; is = last_is ∙ w.is; holds = w.holds }
 
-    pub last-bytes : (d : McsLinesState) → TookRecords (after_line n (at_base b.base b.ended t.records) line) d.base d.ended d.bytes d.marks → d.ended ≡ true → flash_of_lines (lines ++ line ∷ []) ≡ Ok d.bytes
-    last-bytes d w e = gives-bytes (lines ++ line ∷ []) d.base d.ended d.bytes d.marks (last-took d w) e
+    pub last_bytes : (d : McsLinesState) → TookRecords (after_line n (at_base b.base b.ended t.records) line) d.base d.ended d.bytes d.marks → d.ended ≡ true → flash_of_lines (lines ++ line ∷ []) ≡ Ok d.bytes
+    last_bytes d w e = gives_bytes (lines ++ line ∷ []) d.base d.ended d.bytes d.marks (last_took d w) e
 
-    pub last-no-end : (d : McsLinesState) → TookRecords (after_line n (at_base b.base b.ended t.records) line) d.base d.ended d.bytes d.marks → d.ended ≡ false → HasMcsFault fault.NoEnd (lines ++ line ∷ [])
-    last-no-end d w e = inr (gives-no-end (lines ++ line ∷ []) d.base d.ended d.bytes d.marks (last-took d w) e)
+    pub last_no_end : (d : McsLinesState) → TookRecords (after_line n (at_base b.base b.ended t.records) line) d.base d.ended d.bytes d.marks → d.ended ≡ false → HasMcsFault fault.NoEnd (lines ++ line ∷ [])
+    last_no_end d w e = inr (gives_no_end (lines ++ line ∷ []) d.base d.ended d.bytes d.marks (last_took d w) e)
 
-    pub last-fault : (f : McsFault) → FailsAsReading (after_line n (at_base b.base b.ended t.records) line) f → HasMcsFault f (lines ++ line ∷ [])
-    last-fault f (inl none) = inl none.0
-    last-fault f (inr h) = gives-fault (lines ++ line ∷ []) f (inr (last-is ∙ h))
+    pub last_fault : (f : McsFault) → FailsAsReading (after_line n (at_base b.base b.ended t.records) line) f → HasMcsFault f (lines ++ line ∷ [])
+    last_fault f (inl none) = inl none.0
+    last_fault f (inr h) = gives_fault (lines ++ line ∷ []) f (inr (last_is ∙ h))
 
-    pub last-wants : (f : McsFault) → FailsAsReading (after_line n (at_base b.base b.ended t.records) line) f → f ≡ fault.NoMemory → AreGoodWith lines line
-    last-wants f (inl none) want = inr (none.1.0, last-is ∙ none.1.1)
-    last-wants f (inr h) want = absurd (told-one line n (at_base b.base b.ended t.records) (h ∙ ap Err want))
+    pub last_wants : (f : McsFault) → FailsAsReading (after_line n (at_base b.base b.ended t.records) line) f → f ≡ fault.NoMemory → AreGoodWith lines line
+    last_wants f (inl none) want = inr (none.1.0, last_is ∙ none.1.1)
+    last_wants f (inr h) want = absurd (reported_one line n (at_base b.base b.ended t.records) (h ∙ ap Err want))
 
 -- ---- the line of a row
 
@@ -113,17 +113,17 @@ module _ (b : McsLinesState) (lines : List (List ℕ)) (n : ℕ) (m : n ≡ leng
 abbrev pub row_line : ℕ → List ℕ → List ℕ
 row_line a r = 58 ∷ flat_map hex_byte ((length r ∷ a / 256 ∷ a % 256 ∷ 0 ∷ r) ++ sum_byte (length r ∷ a / 256 ∷ a % 256 ∷ 0 ∷ r) ∷ [])
 
-row-free : (a : ℕ) (r : List ℕ) → has_no_end (row_line a r) ≡ true
-row-free a r = hex-free ((length r ∷ a / 256 ∷ a % 256 ∷ 0 ∷ r) ++ sum_byte (length r ∷ a / 256 ∷ a % 256 ∷ 0 ∷ r) ∷ [])
+row_free : (a : ℕ) (r : List ℕ) → has_no_end (row_line a r) ≡ true
+row_free a r = hex_free ((length r ∷ a / 256 ∷ a % 256 ∷ 0 ∷ r) ++ sum_byte (length r ∷ a / 256 ∷ a % 256 ∷ 0 ∷ r) ∷ [])
 
-pub row-cut : (text rest : List ℕ) (a : ℕ) (r : List ℕ) → text ≡ data_line a r ++ rest → split text ≡ row_line a r ∷ split rest
-row-cut text rest a r e = ap split (e ∙ append_assoc (row_line a r) (10 ∷ []) rest) ∙ split-line (row_line a r) rest (row-free a r)
+pub row_cut : (text rest : List ℕ) (a : ℕ) (r : List ℕ) → text ≡ data_line a r ++ rest → split text ≡ row_line a r ∷ split rest
+row_cut text rest a r e = ap split (e ∙ append_assoc (row_line a r) (10 ∷ []) rest) ∙ split_line (row_line a r) rest (row_free a r)
 
-pub row-is : (n base a : ℕ) (ended : Bool) (xs : List DataRecord) (r : List ℕ) → ended ≡ false → AreBytes r → length r ≡ 16 → a ≤ 65520
+pub row_is : (n base a : ℕ) (ended : Bool) (xs : List DataRecord) (r : List ℕ) → ended ≡ false → AreBytes r → length r ≡ 16 → a ≤ 65520
     → after_data n (at_base base ended xs) a r ≡ after_line n (at_base base ended xs) (without_return (row_line a r))
-row-is n base a ended xs r running bytes long low =
+row_is n base a ended xs r running bytes long low =
     ap (λ (b : Bool). after_data n (at_base base b xs) a r) running
-    ∙ sym (then-ok (after_data n (at_base base false xs) a r)) ∙ sym (read-data n base a xs r [] bytes (omega (arith, long)) (omega (arith, long, low)) (omega (arith, low)))
-    ∙ ap (λ t. after_lines n (at_base base false xs) (lines_of t)) (append-nil (data_line a r)) ∙ ap (after_lines n (at_base base false xs)) (line-first (row_line a r) [] (row-free a r))
-    ∙ then-ok (after_line n (at_base base false xs) (without_return (row_line a r)))
+    ∙ sym (then_ok (after_data n (at_base base false xs) a r)) ∙ sym (read_data n base a xs r [] bytes (omega (arith, long)) (omega (arith, long, low)) (omega (arith, low)))
+    ∙ ap (λ t. after_lines n (at_base base false xs) (lines_of t)) (append-nil (data_line a r)) ∙ ap (after_lines n (at_base base false xs)) (line_first (row_line a r) [] (row_free a r))
+    ∙ then_ok (after_line n (at_base base false xs) (without_return (row_line a r)))
     ∙ ap (λ (b : Bool). after_line n (at_base base b xs) (without_return (row_line a r))) (sym running)

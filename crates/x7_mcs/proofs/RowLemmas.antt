@@ -64,10 +64,10 @@ folded (x ∷ xs) a h = folded xs ((a + x) % 256) (omega arith) ∙ (let e : sum
 
 -- ---- the line
 
-pub row-written : (address v : ℕ) (content fields first second last : List ℕ) → length content ≡ 16 → v ≡ sum_byte (16 ∷ address / 256 ∷ address % 256 ∷ 0 ∷ content)
+pub row_written : (address v : ℕ) (content fields first second last : List ℕ) → length content ≡ 16 → v ≡ sum_byte (16 ∷ address / 256 ∷ address % 256 ∷ 0 ∷ content)
     → fields ≡ flat_map hex_byte (16 ∷ address / 256 ∷ address % 256 ∷ 0 ∷ []) → first ++ second ≡ flat_map hex_byte content → last ≡ hex_byte v
     → 58 ∷ (fields ++ (first ++ (second ++ (last ++ 10 ∷ [])))) ≡ data_line address content
-row-written address v content fields first second last l s f c d =
+row_written address v content fields first second last l s f c d =
     let digits : fields ++ (first ++ (second ++ (last ++ 10 ∷ []))) ≡ flat_map hex_byte ((16 ∷ address / 256 ∷ address % 256 ∷ 0 ∷ content) ++ v ∷ []) ++ 10 ∷ [] =
     ap₂ (λ (t u : List ℕ). t ++ (first ++ (second ++ (u ++ 10 ∷ [])))) f d
     ∙ ap (λ (t : List ℕ). flat_map hex_byte (16 ∷ address / 256 ∷ address % 256 ∷ 0 ∷ []) ++ t) (sym (append_assoc first second (hex_byte v ++ 10 ∷ [])) ∙ ap (λ (t : List ℕ). t ++ (hex_byte v ++ 10 ∷ [])) c)
@@ -78,15 +78,15 @@ row-written address v content fields first second last l s f c d =
     ∙ ap (λ (n : ℕ). record_line (n ∷ address / 256 ∷ address % 256 ∷ 0 ∷ content)) (sym l)
 
 -- a row that is whole
-pub whole-row : (row whole : List ℕ) → whole ≡ take 16 row → length row ≤ 16 → whole ≡ row
-whole-row row whole e h = e ∙ take_all 16 row h
+pub whole_row : (row whole : List ℕ) → whole ≡ take 16 row → length row ≤ 16 → whole ≡ row
+whole_row row whole e h = e ∙ take_all 16 row h
 
 -- two pieces compared
-pub same-piece : (a b : List ℕ) (r : Bool) → r ≡ pointwise eqb a b → r ≡ true → a ≡ b
-same-piece a b r e h = (slice_eq-Decides Decides-eqb a b (pointwise eqb a b) refl).0 (sym e ∙ h)
+pub same_piece : (a b : List ℕ) (r : Bool) → r ≡ pointwise eqb a b → r ≡ true → a ≡ b
+same_piece a b r e h = (slice_eq-Decides Decides-eqb a b (pointwise eqb a b) refl).0 (sym e ∙ h)
 
-pub not-other : (a b : List ℕ) (r : Bool) → r ≡ not (pointwise eqb a b) → r ≡ false → a ≡ b
-not-other a b r e h = same-piece a b (pointwise eqb a b) refl (by (pointwise eqb a b) (sym e ∙ h))
+pub not_other : (a b : List ℕ) (r : Bool) → r ≡ not (pointwise eqb a b) → r ≡ false → a ≡ b
+not_other a b r e h = same_piece a b (pointwise eqb a b) refl (by (pointwise eqb a b) (sym e ∙ h))
   where
     by : (b : Bool) → not b ≡ false → b ≡ true
     by true e = refl
@@ -96,23 +96,23 @@ abbrev Pieces : List ℕ → Type 0
 Pieces xs = get_or xs 0 0 ∷ (chunk 1 8 xs ++ (chunk 9 16 xs ++ (chunk 25 16 xs ++ ((get_or xs 41 0 ∷ get_or xs 42 0 ∷ []) ++ get_or xs 43 0 ∷ [])))) ≡ xs
 
 -- a line of 44 bytes is its pieces
-pub in-pieces : (line : List ℕ) → length line ≡ 44 → get_or line 0 0 ∷ (chunk 1 8 line ++ (chunk 9 16 line ++ (chunk 25 16 line ++ ((get_or line 41 0 ∷ get_or line 42 0 ∷ []) ++ get_or line 43 0 ∷ [])))) ≡ line
-in-pieces line e = let h : Pieces (pick_l 0 line (range_with_len 0 44)) = refl in subst Pieces (pick_l_whole 0 line 44 e) h
+pub in_pieces : (line : List ℕ) → length line ≡ 44 → get_or line 0 0 ∷ (chunk 1 8 line ++ (chunk 9 16 line ++ (chunk 25 16 line ++ ((get_or line 41 0 ∷ get_or line 42 0 ∷ []) ++ get_or line 43 0 ∷ [])))) ≡ line
+in_pieces line e = let h : Pieces (pick_l 0 line (range_with_len 0 44)) = refl in subst Pieces (pick_l_whole 0 line 44 e) h
 
 -- a line whose pieces are those of a row
-pub row-stands : (address v : ℕ) (line content fields first second last f1 s1 g1 : List ℕ) → length line ≡ 44 → length content ≡ 16 → get_or line 0 0 ≡ 58 → get_or line 43 0 ≡ 10 → f1 ≡ chunk 9 16 line → s1 ≡ chunk 25 16 line → g1 ≡ chunk 1 8 line
+pub row_stands : (address v : ℕ) (line content fields first second last f1 s1 g1 : List ℕ) → length line ≡ 44 → length content ≡ 16 → get_or line 0 0 ≡ 58 → get_or line 43 0 ≡ 10 → f1 ≡ chunk 9 16 line → s1 ≡ chunk 25 16 line → g1 ≡ chunk 1 8 line
     → f1 ≡ first → s1 ≡ second → g1 ≡ fields → get_or line 41 0 ∷ get_or line 42 0 ∷ [] ≡ last → v ≡ sum_byte (16 ∷ address / 256 ∷ address % 256 ∷ 0 ∷ content)
     → fields ≡ flat_map hex_byte (16 ∷ address / 256 ∷ address % 256 ∷ 0 ∷ []) → first ++ second ≡ flat_map hex_byte content → last ≡ hex_byte v → line ≡ data_line address content
-row-stands address v line content fields first second last f1 s1 g1 long l zero end a b c d e f g s h i j =
+row_stands address v line content fields first second last f1 s1 g1 long l zero end a b c d e f g s h i j =
     let one : chunk 9 16 line ≡ first = sym a ∙ d in
     let two : chunk 25 16 line ≡ second = sym b ∙ e in
     let three : chunk 1 8 line ≡ fields = sym c ∙ f in
-    sym (in-pieces line long)
+    sym (in_pieces line long)
     ∙ ap₂ (λ (x y : ℕ). x ∷ (chunk 1 8 line ++ (chunk 9 16 line ++ (chunk 25 16 line ++ ((get_or line 41 0 ∷ get_or line 42 0 ∷ []) ++ y ∷ []))))) zero end
     ∙ ap₂ (λ (x y : List ℕ). 58 ∷ (x ++ (y ++ (chunk 25 16 line ++ ((get_or line 41 0 ∷ get_or line 42 0 ∷ []) ++ 10 ∷ []))))) three one
     ∙ ap₂ (λ (x y : List ℕ). 58 ∷ (fields ++ (first ++ (x ++ (y ++ 10 ∷ []))))) two g
-    ∙ row-written address v content fields first second last l s h i j
+    ∙ row_written address v content fields first second last l s h i j
 
-pub are-bytes : (xs : List ℕ) → ((i : ℕ) → get_or xs i 0 < 256) → AreBytes xs
-are-bytes [] h = tt
-are-bytes (x ∷ xs) h = (h 0, are-bytes xs (λ i. h (suc i)))
+pub are_bytes : (xs : List ℕ) → ((i : ℕ) → get_or xs i 0 < 256) → AreBytes xs
+are_bytes [] h = tt
+are_bytes (x ∷ xs) h = (h 0, are_bytes xs (λ i. h (suc i)))

@@ -50,9 +50,9 @@ cut_off k xs e = elim (by_min (length xs) k e) [
 ]
 
 -- one row more of the text is written
-pub row-more : (whole out next : List ℕ) (place k : ℕ) (rest row more : List ℕ) → whole ≡ out ++ row_lines place (rows 16 rest) → 0 < length rest → k ≡ min (length rest) 16
+pub row_more : (whole out next : List ℕ) (place k : ℕ) (rest row more : List ℕ) → whole ≡ out ++ row_lines place (rows 16 rest) → 0 < length rest → k ≡ min (length rest) 16
     → row ≡ take k rest → more ≡ drop k rest → next ≡ out ++ (block_start place ++ data_line (place % 65536) row) → whole ≡ next ++ row_lines (place + length row) (rows 16 more)
-row-more whole out next place k rest row more e h n f g i =
+row_more whole out next place k rest row more e h n f g i =
     let r : row ≡ take 16 rest = f ∙ cut k rest n in
     let m : more ≡ drop 16 rest = g ∙ cut_off k rest n in
     e ∙ ap (λ t. out ++ row_lines place t) (first_of_16 rest h ∙ ap₂ (λ (s : List ℕ) (t : List ℕ). s ∷ rows 16 t) (sym r) (sym m))
@@ -60,8 +60,8 @@ row-more whole out next place k rest row more e h n f g i =
     ∙ ap (λ t. t ++ row_lines (place + length row) (rows 16 more)) (sym i)
 
 -- the room that is left for the rows after one
-pub room-more : (n k m len next cap more : ℕ) → k ≡ min n 16 → m + k ≡ n → 0 < n → (0 < n → len + (4 * n + 60) ≤ cap) → next ≤ len + 60 → cap ≤ more → 0 < m → next + (4 * m + 60) ≤ more
-room-more n k m len next cap more e f h room l c g =
+pub room_more : (n k m len next cap more : ℕ) → k ≡ min n 16 → m + k ≡ n → 0 < n → (0 < n → len + (4 * n + 60) ≤ cap) → next ≤ len + 60 → cap ≤ more → 0 < m → next + (4 * m + 60) ≤ more
+room_more n k m len next cap more e f h room l c g =
     elim (by_min n k e) [
       | inl s ↦ omega (arith, s, f, room h, l, c)
       | inr s ↦ absurd (omega (arith, s.0, f, g))

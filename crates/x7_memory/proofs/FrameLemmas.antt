@@ -12,9 +12,9 @@ pub among_here : (a : ℕ) (rest : List ℕ) (words : List ℕ) (frames : List (
 unfolding frame_among
 among_here a rest words frames far e = rw (eq-eqb far a e) refl
 
-pub among_behind : (a : ℕ) (rest : List ℕ) (words : List ℕ) (frames : List (List ℕ)) (far : ℕ) → (far ≡ a → ⊥) → frame_among (a ∷ rest) (words ∷ frames) far ≡ frame_among rest frames far
+pub among_after : (a : ℕ) (rest : List ℕ) (words : List ℕ) (frames : List (List ℕ)) (far : ℕ) → (far ≡ a → ⊥) → frame_among (a ∷ rest) (words ∷ frames) far ≡ frame_among rest frames far
 unfolding frame_among
-among_behind a rest words frames far n = rw (ne_eqb far a n) refl
+among_after a rest words frames far n = rw (ne_eqb far a n) refl
 
 -- ---- the frame at an address
 
@@ -25,7 +25,7 @@ among_found l r far d (a ∷ fars) [] rises same h e = absurd (omega arith)
 among_found l zero far d (a ∷ fars) (words ∷ frames) rises same h e = among_here a fars words frames far (sym e)
 among_found l (suc r) far d (a ∷ fars) (words ∷ frames) (rise _ _ _ le more) same h e =
     let low = later_larger (a + 1) r fars more (omega arith) in
-    among_behind a fars words frames far (λ there. absurd (omega arith))
+    among_after a fars words frames far (λ there. absurd (omega arith))
     ∙ among_found (a + 1) r far d fars frames more (omega arith) (omega arith) e
 
 pub among_none : (far : ℕ) (fars : List ℕ) (frames : List (List ℕ)) → (Contains fars far → ⊥) → frame_among fars frames far ≡ None
@@ -33,7 +33,7 @@ unfolding frame_among
 among_none far [] frames out = refl
 among_none far (a ∷ fars) [] out = refl
 among_none far (a ∷ fars) (words ∷ frames) out =
-    among_behind a fars words frames far (λ e. out (0, (omega arith), sym e))
+    among_after a fars words frames far (λ e. out (0, (omega arith), sym e))
     ∙ among_none far fars frames (λ has. out (suc has.0, (let h = has.1 in omega arith), has.2))
 
 -- ---- a frame that is put
@@ -45,7 +45,7 @@ among_set l r far new a (b ∷ fars) [] rises same h e = absurd (omega arith)
 among_set l zero far new a (b ∷ fars) (words ∷ frames) rises same h e =
     elim (eqb_tells a far) [
       | inl y ↦ rw (eq-eqb a far y.1) (among_here b fars new frames a (y.1 ∙ sym e))
-      | inr n ↦ rw (ne_eqb a far n.1) (among_behind b fars new frames a (λ x. n.1 (x ∙ e)) ∙ sym (among_behind b fars words frames a (λ x. n.1 (x ∙ e))))
+      | inr n ↦ rw (ne_eqb a far n.1) (among_after b fars new frames a (λ x. n.1 (x ∙ e)) ∙ sym (among_after b fars words frames a (λ x. n.1 (x ∙ e))))
     ]
 among_set l (suc r) far new a (b ∷ fars) (words ∷ frames) (rise _ _ _ le more) same h e =
     let ih = among_set (b + 1) r far new a fars frames more (omega arith) (omega arith) e in
@@ -53,5 +53,5 @@ among_set l (suc r) far new a (b ∷ fars) (words ∷ frames) (rise _ _ _ le mor
     elim (eqb_tells a b) [
       | inl y ↦ let n : a ≡ far → ⊥ = λ x. (let y1 = y.1 in absurd (omega arith)) in
           rw (ne_eqb a far n) (among_here b fars words (set frames r new) a y.1 ∙ sym (among_here b fars words frames a y.1))
-      | inr n ↦ rw (among_behind b fars words (set frames r new) a n.1, among_behind b fars words frames a n.1) ih
+      | inr n ↦ rw (among_after b fars words (set frames r new) a n.1, among_after b fars words frames a n.1) ih
     ]

@@ -9,8 +9,8 @@ use Rattle.x7_part.specs.Part.{PartData, frame_words}
 use Rattle.x7_memory.specs.FrameMap.{FrameMap, frame_or, override, only, AreDisjoint, AreSame}
 use Rattle.x7_memory.specs.Frames.{frame_among, frame_at, zeros, AreFramesOf}
 use Rattle.x7_memory.specs.Planned.{PlanRow, PlanData, AreInOrder, planned, planned_addresses, total}
-use Rattle.x7_memory.proofs.FrameLemmas.{among_here, among_behind, among_found, among_none}
-use Rattle.x7_memory.proofs.PlanLemmas.{no_row, planned_here, planned_behind, planned_none}
+use Rattle.x7_memory.proofs.FrameLemmas.{among_here, among_after, among_found, among_none}
+use Rattle.x7_memory.proofs.PlanLemmas.{no_row, planned_here, planned_after, planned_none}
 
 -- ---- override
 
@@ -55,7 +55,7 @@ among_all zero far words (a ∷ fars) h e = among_here a fars words (replicate (
 among_all (suc k) far words (a ∷ fars) h e =
     elim (eqb_tells far a) [
       | inl y ↦ among_here a fars words (replicate (length fars) words) far y.1
-      | inr n ↦ among_behind a fars words (replicate (length fars) words) far n.1 ∙ among_all k far words fars (omega arith) e
+      | inr n ↦ among_after a fars words (replicate (length fars) words) far n.1 ∙ among_all k far words fars (omega arith) e
     ]
 
 pub zeros_at : (part : PartData) (far : ℕ) → Contains (addresses_in part) far → zeros part far ≡ Some (replicate (frame_words part) 0)
@@ -78,7 +78,7 @@ some_planned (row ∷ rows) zero far h e none = none-some row.words (sym none �
 some_planned (row ∷ rows) (suc k) far h e none =
     elim (eqb_tells far row.far) [
       | inl y ↦ none-some row.words (sym none ∙ planned_here row rows far y.1)
-      | inr n ↦ some_planned rows k far (omega arith) e (sym (planned_behind row rows far n.1) ∙ none)
+      | inr n ↦ some_planned rows k far (omega arith) e (sym (planned_after row rows far n.1) ∙ none)
     ]
 
 pub named_some : (rows : List PlanRow) (far : ℕ) → Contains (planned_addresses rows) far → planned rows far ≡ None → ⊥
@@ -98,7 +98,7 @@ planned_joined [] after far = refl
 planned_joined (row ∷ before) after far =
     elim (eqb_tells far row.far) [
       | inl y ↦ rw (planned_here row (before ++ after) far y.1, planned_here row before far y.1) refl
-      | inr n ↦ rw (planned_behind row (before ++ after) far n.1, planned_behind row before far n.1) (planned_joined before after far)
+      | inr n ↦ rw (planned_after row (before ++ after) far n.1, planned_after row before far n.1) (planned_joined before after far)
     ]
 
 pub planned_apart : (before after : List PlanRow) → AreInOrder (before ++ after) → AreDisjoint (planned before) (planned after)
@@ -112,7 +112,7 @@ planned_apart (row ∷ before) after order far =
           let read = ap (λ r. r.far) (get_or-append-add before after j no_row) in
           let here = y.1 in absurd (omega arith)))
       | inr n ↦ elim (planned_apart before after (λ i j d lt inside. order (suc i) (suc j) d (omega arith) (omega arith)) far) [
-        | inl e ↦ inl (planned_behind row before far n.1 ∙ e)
+        | inl e ↦ inl (planned_after row before far n.1 ∙ e)
         | inr e ↦ inr e
       ]
     ]

@@ -23,9 +23,9 @@ pub planned_here : (row : PlanRow) (rows : List PlanRow) (far : ℕ) → far ≡
 unfolding planned
 planned_here row rows far e = rw (eq-eqb far row.far e) refl
 
-pub planned_behind : (row : PlanRow) (rows : List PlanRow) (far : ℕ) → (far ≡ row.far → ⊥) → planned (row ∷ rows) far ≡ planned rows far
+pub planned_after : (row : PlanRow) (rows : List PlanRow) (far : ℕ) → (far ≡ row.far → ⊥) → planned (row ∷ rows) far ≡ planned rows far
 unfolding planned
-planned_behind row rows far n = rw (ne_eqb far row.far n) refl
+planned_after row rows far n = rw (ne_eqb far row.far n) refl
 
 pub order_tail : (row : PlanRow) (rows : List PlanRow) → AreInOrder (row ∷ rows) → AreInOrder rows
 order_tail row rows order i j d h k = order (suc i) (suc j) d (omega arith) (omega arith)
@@ -37,13 +37,13 @@ planned_at [] i far d order h e = absurd (omega arith)
 planned_at (row ∷ rows) zero far d order h e = planned_here row rows far (sym e)
 planned_at (row ∷ rows) (suc i) far d order h e =
     let low = order 0 (suc i) d (omega arith) h in
-    planned_behind row rows far (λ same. absurd (omega arith)) ∙ planned_at rows i far d (order_tail row rows order) (omega arith) e
+    planned_after row rows far (λ same. absurd (omega arith)) ∙ planned_at rows i far d (order_tail row rows order) (omega arith) e
 
 pub planned_none : (rows : List PlanRow) (far : ℕ) → ((j : ℕ) → j < length rows → (get_or rows j no_row).far ≡ far → ⊥) → planned rows far ≡ None
 unfolding planned
 planned_none [] far free = refl
 planned_none (row ∷ rows) far free =
-    planned_behind row rows far (λ e. free 0 (omega arith) (sym e)) ∙ planned_none rows far (λ j h. free (suc j) (omega arith))
+    planned_after row rows far (λ e. free 0 (omega arith) (sym e)) ∙ planned_none rows far (λ j h. free (suc j) (omega arith))
 
 -- ---- a row that is added
 
@@ -52,7 +52,7 @@ pub planned_insert : (rows : List PlanRow) (i : ℕ) (row : PlanRow) (a : ℕ) �
 planned_insert rows zero row a h free =
     elim (eqb_tells a row.far) [
       | inl y ↦ rw (eq-eqb a row.far y.1) (planned_here row rows a y.1)
-      | inr n ↦ rw (ne_eqb a row.far n.1) (planned_behind row rows a n.1)
+      | inr n ↦ rw (ne_eqb a row.far n.1) (planned_after row rows a n.1)
     ]
 planned_insert [] (suc i) row a h free = absurd (omega arith)
 planned_insert (first ∷ rows) (suc i) row a h free =
@@ -61,7 +61,7 @@ planned_insert (first ∷ rows) (suc i) row a h free =
     elim (eqb_tells a first.far) [
       | inl y ↦ let n : a ≡ row.far → ⊥ = λ x. apart (sym y.1 ∙ x) in
           rw (ne_eqb a row.far n) (planned_here first (insert rows i row) a y.1 ∙ sym (planned_here first rows a y.1))
-      | inr n ↦ rw (planned_behind first (insert rows i row) a n.1, planned_behind first rows a n.1) ih
+      | inr n ↦ rw (planned_after first (insert rows i row) a n.1, planned_after first rows a n.1) ih
     ]
 
 module _ (rows : List PlanRow) (row : PlanRow) (at : ℕ) (gap : IsGap rows row.far at) where
@@ -112,7 +112,7 @@ unplanned [] far e = All-nil (λ r. r.far ≡ far → ⊥)
 unplanned (r ∷ rows) far e =
     elim (eqb_tells far r.far) [
       | inl y ↦ absurd (none-some r.words (sym e ∙ planned_here r rows far y.1))
-      | inr n ↦ All-cons (λ r. r.far ≡ far → ⊥) r rows (λ same. n.1 (sym same)) (unplanned rows far (sym (planned_behind r rows far n.1) ∙ e))
+      | inr n ↦ All-cons (λ r. r.far ≡ far → ⊥) r rows (λ same. n.1 (sym same)) (unplanned rows far (sym (planned_after r rows far n.1) ∙ e))
     ]
 
 -- the frame of an address is that of each of its rows, and a row of it is there
@@ -123,7 +123,7 @@ alone (r ∷ rows) far words apart e =
       | inl y ↦ All-cons (λ r. r.far ≡ far → r.words ≡ words) r rows (λ same. same_Some _ _ (sym (planned_here r rows far y.1) ∙ e))
           (λ k d h same. absurd (apart 0 (suc k) d (omega arith) (omega arith) (sym y.1 ∙ sym same)))
       | inr n ↦ All-cons (λ r. r.far ≡ far → r.words ≡ words) r rows (λ same. absurd (n.1 (sym same)))
-          (alone rows far words (λ i j d lt h. apart (suc i) (suc j) d (omega arith) (omega arith)) (sym (planned_behind r rows far n.1) ∙ e))
+          (alone rows far words (λ i j d lt h. apart (suc i) (suc j) d (omega arith) (omega arith)) (sym (planned_after r rows far n.1) ∙ e))
     ]
 
 found : (rows : List PlanRow) (far : ℕ) (words others : List ℕ) → All (λ r. r.far ≡ far → r.words ≡ words) rows → planned rows far ≡ Some others → others ≡ words
@@ -132,7 +132,7 @@ found [] far words others all e = absurd (none-some others e)
 found (r ∷ rows) far words others all e =
     elim (eqb_tells far r.far) [
       | inl y ↦ same_Some _ _ (sym e ∙ planned_here r rows far y.1) ∙ All-head (λ r. r.far ≡ far → r.words ≡ words) r rows all (sym y.1)
-      | inr n ↦ found rows far words others (All-tail (λ r. r.far ≡ far → r.words ≡ words) r rows all) (sym (planned_behind r rows far n.1) ∙ e)
+      | inr n ↦ found rows far words others (All-tail (λ r. r.far ≡ far → r.words ≡ words) r rows all) (sym (planned_after r rows far n.1) ∙ e)
     ]
 
 pub planned_permuted : (rows others : List PlanRow) (far : ℕ) → IsPermutation rows others → AreApart rows → planned rows far ≡ planned others far

@@ -26,8 +26,8 @@ frame_before w n p ws new h e =
     let left : length (drop (w * p) ws) ≡ length ws - w * p = length-drop (w * p) ws in
     ap (take w) (drop-append-le (w * p) ws new (omega arith)) ∙ take-append-le w (drop (w * p) ws) new (omega arith)
 
-pub frame_behind : (w n : ℕ) (ws new : List ℕ) → length ws ≡ w * n → length new ≡ w → stored_frame w (ws ++ new) n ≡ new
-frame_behind w n ws new e f = ap (take w) (drop_at ws new (w * n) e) ∙ take_all w new (omega arith)
+pub frame_after : (w n : ℕ) (ws new : List ℕ) → length ws ≡ w * n → length new ≡ w → stored_frame w (ws ++ new) n ≡ new
+frame_after w n ws new e f = ap (take w) (drop_at ws new (w * n) e) ∙ take_all w new (omega arith)
 
 -- one written over
 frame_over : (w n p q : ℕ) (ws new : List ℕ) → p < n → q < n → length ws ≡ w * n → length new ≡ w →
@@ -219,7 +219,7 @@ pub first_seen : (m : Inside) (rank : ℕ) (us others new : List ℕ) → HasRoo
     us ≡ m.words.items ++ new → others ≡ set m.numbers.items rank m.stored → map (stored_frame m.width us) others ≡ set (frames_seen m) rank new
 first_seen m rank us others new is r e f g =
     rw (f, g) (seen_set m.width m.words.items (m.words.items ++ new) m.numbers.items (set m.numbers.items rank m.stored) rank new (length-set m.numbers.items rank m.stored) r.inside
-    (ap (stored_frame m.width (m.words.items ++ new)) (get_or-set_same m.numbers.items rank m.stored 0 r.inside) ∙ frame_behind m.width m.stored m.words.items new is.whole e)
+    (ap (stored_frame m.width (m.words.items ++ new)) (get_or-set_same m.numbers.items rank m.stored 0 r.inside) ∙ frame_after m.width m.stored m.words.items new is.whole e)
     (λ i h ne. ap (stored_frame m.width (m.words.items ++ new)) (get_or-set_other m.numbers.items rank i m.stored 0 ne)
     ∙ frame_before m.width m.stored (get_or m.numbers.items i 0) m.words.items new (is.below i h) is.whole))
 

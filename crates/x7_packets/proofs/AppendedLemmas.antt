@@ -3,7 +3,7 @@ use Rattle.std.proofs.Common.{◌≡◌, ℕ, inl, inr, take, drop, take-append-
 use Rattle.std.proofs.lemmas.Grind.{flat_map-append}
 use Rattle.std.specs.List.{flat_map}
 use Rattle.x7_words.specs.Word.{AreBytes}
-use Rattle.x7_words.proofs.ListLemmas.{all-append, all_front, all_back, all_take}
+use Rattle.x7_words.proofs.ListLemmas.{all_append, all_prefix, all_back, all_take}
 use Rattle.x7_packets.specs.SyncWord.{sync_bytes, HasNoSync}
 use Rattle.x7_packets.specs.declared.header.Step.{Step}
 use Rattle.x7_packets.specs.declared.header.Step.TheVariants as step
@@ -15,7 +15,7 @@ use Rattle.x7_packets.specs.History.{History, Read, Write, Bad, entry, entered, 
 use Rattle.x7_packets.proofs.ByHandLemmas.{reading_is, reading_is_found}
 use Rattle.x7_packets.proofs.HistoryLemmas.{history_is}
 use Rattle.x7_packets.specs.Appended.{BeginsWithDummy, MayFollow, moved, after_gap, gap_of, after}
-use Rattle.x7_packets.proofs.SeamLemmas.{first_behind, none_before_dummy, none_before_front, none_behind}
+use Rattle.x7_packets.proofs.SeamLemmas.{first_after, none_before_dummy, none_before_prefix, none_after}
 
 -- a reading is one of these bytes
 abbrev Reads : List ℕ → Reading → Type 0
@@ -27,7 +27,7 @@ joined a b gap ss [] (Searching g) f r s n = record {
   fits = f;
   joined = ap (λ t. t ++ b) r.joined ∙ ap (λ t. (flat_map session_bytes ss ++ gap) ++ t) s.joined ∙ append_assoc (flat_map session_bytes ss) gap g;
   each = r.each;
-  ends = none_behind gap g (subst (NoneBegins gap) s.joined n) s.ends;
+  ends = none_after gap g (subst (NoneBegins gap) s.joined n) s.ends;
 }
 joined a b gap ss [] (Synced g packets tail) f r s n =
     let prefix : List ℕ = flat_map session_bytes ss in
@@ -38,7 +38,7 @@ joined a b gap ss [] (Synced g packets tail) f r s n =
       fits = f;
       joined = ap (λ t. t ++ b) r.joined ∙ ap (λ t. (prefix ++ gap) ++ t) whole ∙ regrouped;
       each = r.each;
-      ends = (first_behind gap g rest (subst (NoneBegins gap) whole n) s.ends.0, s.ends.1, s.ends.2, s.ends.3);
+      ends = (first_after gap g rest (subst (NoneBegins gap) whole n) s.ends.0, s.ends.1, s.ends.2, s.ends.3);
     }
 joined a b gap ss (t ∷ ts) q f r s n =
     let prefix : List ℕ = flat_map session_bytes ss in
@@ -50,7 +50,7 @@ joined a b gap ss (t ∷ ts) q f r s n =
       fits = f;
       joined = ap (λ t. t ++ b) r.joined ∙ ap (λ t. (prefix ++ gap) ++ t) whole ∙ regrouped
           ∙ ap (λ t. t ++ place_bytes q) (sym (flat_map-append session_bytes ss (first ∷ ts)));
-      each = all-append IsSession ss (first ∷ ts) r.each (record { first = first_behind gap t.gap rest (subst (NoneBegins gap) whole n) s.each.0.first; packets = s.each.0.packets; ended = s.each.0.ended }, s.each.1);
+      each = all_append IsSession ss (first ∷ ts) r.each (record { first = first_after gap t.gap rest (subst (NoneBegins gap) whole n) s.each.0.first; packets = s.each.0.packets; ended = s.each.0.ended }, s.each.1);
       ends = s.ends;
     }
 
@@ -58,12 +58,12 @@ same_reading : (r s : Reading) → r.sessions ≡ s.sessions → r.place ≡ s.p
 same_reading r s e f = ap (λ (x : List Session). record { sessions = x; place = r.place }) e ∙ ap (λ (x : Place). record { sessions = s.sessions; place = x }) f
 
 -- more bytes stand after those that end at this place: these end searching, and no sync word begins in the open gap
-pub record IsBehind (place : Place) (more : List ℕ) : Type 0 where
+pub record ComesAfter (place : Place) (more : List ℕ) : Type 0 where
   pub searching : is_synced place ≡ false
   pub none : NoneBegins (gap_of place) more
 
 -- so they do where they may follow
-may_stand : (place : Place) (more : List ℕ) → IsPlace place → MayFollow place more → IsBehind place more
+may_stand : (place : Place) (more : List ℕ) → IsPlace place → MayFollow place more → ComesAfter place more
 may_stand place more is m = record { searching = m.searching; none = by place is m.searching m.apart }
   where
     by : (place : Place) → IsPlace place → is_synced place ≡ false → (gap_of place ≡ []) ⊎ BeginsWithDummy more → NoneBegins (gap_of place) more
@@ -71,7 +71,7 @@ may_stand place more is m = record { searching = m.searching; none = by place is
     by (Searching gap) is e (inr dummy) = none_before_dummy gap more is dummy
     by (Synced gap packets tail) is e (inr dummy) = absurd (cc)
 
-by_place : (a b : List ℕ) (ss : List Session) (p : Place) → AreBytes (a ++ b) → IsReading a ss p → IsBehind p b → reading_of (a ++ b) ≡ after (record { sessions = ss; place = p }) (reading_of b)
+by_place : (a b : List ℕ) (ss : List Session) (p : Place) → AreBytes (a ++ b) → IsReading a ss p → ComesAfter p b → reading_of (a ++ b) ≡ after (record { sessions = ss; place = p }) (reading_of b)
 by_place a b ss (Searching gap) f r d =
     let found : IsReading b (reading_of b).sessions (reading_of b).place = reading_is_found b (all_back (λ x. x < 256) a b f) in
     let all : Reading = after_gap ss gap (reading_of b).sessions (reading_of b).place in
@@ -79,8 +79,8 @@ by_place a b ss (Searching gap) f r d =
     sym (same_reading all (reading_of (a ++ b)) is.0 is.1)
 by_place a b ss (Synced gap packets tail) f r d = absurd (let e : true ≡ false = d.searching in cc)
 
-read_behind : (a b : List ℕ) → AreBytes (a ++ b) → IsBehind (reading_of a).place b → reading_of (a ++ b) ≡ after (reading_of a) (reading_of b)
-read_behind a b f d = by_place a b (reading_of a).sessions (reading_of a).place f (reading_is_found a (all_front (λ x. x < 256) a b f)) d
+read_appended : (a b : List ℕ) → AreBytes (a ++ b) → ComesAfter (reading_of a).place b → reading_of (a ++ b) ≡ after (reading_of a) (reading_of b)
+read_appended a b f d = by_place a b (reading_of a).sessions (reading_of a).place f (reading_is_found a (all_prefix (λ x. x < 256) a b f)) d
 
 synced_same : (before : List Session) (prefix : List ℕ) (ts : List Session) (q : Place) → is_synced (after_gap before prefix ts q).place ≡ is_synced q
 synced_same before prefix [] (Searching gap) = refl
@@ -92,8 +92,8 @@ tail_same before prefix [] (Searching gap) = refl
 tail_same before prefix [] (Synced gap packets tail) = refl
 tail_same before prefix (t ∷ ts) q = refl
 
-pub ends_behind : (a b : List ℕ) → AreBytes (a ++ b) → IsBehind (reading_of a).place b → is_synced (reading_of (a ++ b)).place ≡ is_synced (reading_of b).place
-ends_behind a b f d = ap (λ (r : Reading). is_synced r.place) (read_behind a b f d) ∙ synced_same (reading_of a).sessions (gap_of (reading_of a).place) (reading_of b).sessions (reading_of b).place
+pub ends_appended : (a b : List ℕ) → AreBytes (a ++ b) → ComesAfter (reading_of a).place b → is_synced (reading_of (a ++ b)).place ≡ is_synced (reading_of b).place
+ends_appended a b f d = ap (λ (r : Reading). is_synced r.place) (read_appended a b f d) ∙ synced_same (reading_of a).sessions (gap_of (reading_of a).place) (reading_of b).sessions (reading_of b).place
 
 -- an access entered n bytes later, after others
 entered_moved : (n place k : ℕ) (s : Step) (h g : History) → k ≡ n + place → entered k s (moved n h ++ g) ≡ moved n (entered place s h) ++ g
@@ -156,10 +156,10 @@ history_by_place : (a b : List ℕ) (ss : List Session) (p : Place) → IsReadin
 history_by_place a b ss (Searching gap) r e = history_joined (length a) gap ss (reading_of b).sessions (reading_of b).place (ap length r.joined ∙ length-append (flat_map session_bytes ss) gap)
 history_by_place a b ss (Synced gap packets tail) r e = absurd (cc)
 
-pub history_behind : (a b : List ℕ) → AreBytes (a ++ b) → IsBehind (reading_of a).place b → history_of (a ++ b) ≡ moved (length a) (history_of b) ++ history_of a
-history_behind a b f d =
-    ap (λ (r : Reading). history r.sessions r.place) (read_behind a b f d)
-    ∙ history_by_place a b (reading_of a).sessions (reading_of a).place (reading_is_found a (all_front (λ x. x < 256) a b f)) d.searching
+pub history_appended : (a b : List ℕ) → AreBytes (a ++ b) → ComesAfter (reading_of a).place b → history_of (a ++ b) ≡ moved (length a) (history_of b) ++ history_of a
+history_appended a b f d =
+    ap (λ (r : Reading). history r.sessions r.place) (read_appended a b f d)
+    ∙ history_by_place a b (reading_of a).sessions (reading_of a).place (reading_is_found a (all_prefix (λ x. x < 256) a b f)) d.searching
 
 -- bytes without the sync word are a gap, and enter nothing
 gap_reading : (bytes : List ℕ) → AreBytes bytes → HasNoSync bytes → IsReading bytes [] (Searching bytes)
@@ -173,23 +173,23 @@ nothing_read bytes f n =
 -- ---- bytes that may follow
 
 module _ (a b : List ℕ) (f : AreBytes (a ++ b)) (m : MayFollow (reading_of a).place b) where
-  may : IsBehind (reading_of a).place b
-  may = may_stand (reading_of a).place b (reading_is_found a (all_front (λ x. x < 256) a b f)).ends m
+  may : ComesAfter (reading_of a).place b
+  may = may_stand (reading_of a).place b (reading_is_found a (all_prefix (λ x. x < 256) a b f)).ends m
 
   pub read_after : reading_of (a ++ b) ≡ after (reading_of a) (reading_of b)
-  read_after = read_behind a b f may
+  read_after = read_appended a b f may
 
   pub ends_after : is_synced (reading_of (a ++ b)).place ≡ is_synced (reading_of b).place
-  ends_after = ends_behind a b f may
+  ends_after = ends_appended a b f may
 
   pub tail_after : tail_of (reading_of (a ++ b)).place ≡ tail_of (reading_of b).place
   tail_after = ap (λ (r : Reading). tail_of r.place) read_after ∙ tail_same (reading_of a).sessions (gap_of (reading_of a).place) (reading_of b).sessions (reading_of b).place
 
   pub history_after : history_of (a ++ b) ≡ moved (length a) (history_of b) ++ history_of a
-  history_after = history_behind a b f may
+  history_after = history_appended a b f may
 
   -- the history of a prefix of further bytes
   pub prefix_after : (k : ℕ) → history_of (a ++ take k b) ≡ moved (length a) (history_of (take k b)) ++ history_of a
   prefix_after k =
-      let fits : AreBytes (a ++ take k b) = all-append (λ x. x < 256) a (take k b) (all_front (λ x. x < 256) a b f) (all_take (λ x. x < 256) k b (all_back (λ x. x < 256) a b f)) in
-      history_behind a (take k b) fits (record { searching = m.searching; none = none_before_front (gap_of (reading_of a).place) (take k b) (drop k b) (subst (NoneBegins (gap_of (reading_of a).place)) (sym (take-append-drop k b)) may.none) })
+      let fits : AreBytes (a ++ take k b) = all_append (λ x. x < 256) a (take k b) (all_prefix (λ x. x < 256) a b f) (all_take (λ x. x < 256) k b (all_back (λ x. x < 256) a b f)) in
+      history_appended a (take k b) fits (record { searching = m.searching; none = none_before_prefix (gap_of (reading_of a).place) (take k b) (drop k b) (subst (NoneBegins (gap_of (reading_of a).place)) (sym (take-append-drop k b)) may.none) })

@@ -4,8 +4,8 @@ use Rattle.std.proofs.lemmas.List.{take-append-drop}
 use Rattle.std.proofs.lemmas.Bool.Decides.{nat_tests}
 use Rattle.std.specs.List.{flat_map}
 use Rattle.x7_words.specs.Word.{AreBytes, AreWords, bytes_of_word, words_of_bytes}
-use Rattle.x7_words.proofs.ListLemmas.{all-append, all_back, all_take}
-use Rattle.x7_words.proofs.WordLemmas.{bytes-words, length-words, words-fit}
+use Rattle.x7_words.proofs.ListLemmas.{all_append, all_back, all_take}
+use Rattle.x7_words.proofs.WordLemmas.{bytes_words, length_words, words_fit}
 use Rattle.x7_packets.specs.Matching.{IsClear, IsFirstSync, MatcherStandsFor}
 use Rattle.x7_packets.specs.SyncWord.{sync_bytes}
 use Rattle.x7_packets.specs.declared.header.Step.{Step}
@@ -18,7 +18,7 @@ use Rattle.x7_packets.specs.PacketWords.{dummy_word, no_op, sync_word, type1_wri
 use Rattle.x7_packets.specs.Packet.{Packet, ends_session, meaning, payload_steps, register_of}
 use Rattle.x7_packets.specs.Reading.{Place, Searching, Session, Synced, packet_bytes, session_bytes}
 use Rattle.x7_packets.specs.Taking.{Grows, MachineStandsFor, MachineState, ends_by, is_end}
-use Rattle.x7_packets.proofs.CutLemmas.{body_more, joined_more, packet_bytes-grown, skip_found, sync_told, word_more}
+use Rattle.x7_packets.proofs.CutLemmas.{body_more, joined_more, packet_bytes_grown, skip_found, sync_given, word_more}
 use Rattle.x7_packets.proofs.NopLemmas.{nop_grows}
 use Rattle.x7_packets.proofs.PacketLemmas.{words_of_payload}
 use Rattle.x7_packets.proofs.SearchLemmas.{found_clear, up_to_sync}
@@ -75,12 +75,12 @@ goes_on c n w step bytes sessions gap tail packets is to none none2 calm grows s
     let goes : MachineStandsFor n.machine g.packets = rw calm at g.stands in
     let joined : bytes ++ bytes_of_word w ≡ flat_map session_bytes sessions ++ (gap ++ sync_bytes ++ packet_bytes g.packets) =
     joined_more (flat_map session_bytes sessions) bytes gap tail (bytes_of_word w) (packet_bytes g.packets) (packet_bytes packets) (bytes_of_word w) s.reading.joined
-    (packet_bytes-grown packets g.packets ((w, step) ∷ []) g.grown ∙ ap (λ t. packet_bytes packets ++ t) (append-nil (bytes_of_word w))) (ap (λ t. t ++ bytes_of_word w) (sym (h.1 ∙ none))) in
+    (packet_bytes_grown packets g.packets ((w, step) ∷ []) g.grown ∙ ap (λ t. packet_bytes packets ++ t) (append-nil (bytes_of_word w))) (ap (λ t. t ++ bytes_of_word w) (sym (h.1 ∙ none))) in
     record {
       new = Synced gap g.packets [];
       stands = record {
         reading = record {
-          fits = all-append (λ b. b < 256) bytes (bytes_of_word w) s.reading.fits (fits_word w);
+          fits = all_append (λ b. b < 256) bytes (bytes_of_word w) s.reading.fits (fits_word w);
           joined = joined ∙ ap (λ t. flat_map session_bytes sessions ++ t) (sym (append-nil (gap ++ sync_bytes ++ packet_bytes g.packets)));
           each = s.reading.each;
           ends = (s.reading.ends.0, g.each, g.end ∙ calm, omega arith);
@@ -138,12 +138,12 @@ takes_words : (c n : CutterState) (register count : ℕ) (run : Bor (List ℕ)) 
     → c.machine ≡ in_write register count → ((ps : List Packet) (ws : List ℕ) → AreWords ws → 0 < length ws → MachineStandsFor (in_write register (length ws)) ps → Grows ps (payload_steps register ws) n.machine) → TakesAsOneRun c n run.now (Body register run)
 takes_words c n register count run is to none none2 fits long some other machine grows bytes sessions place s =
     let ws : List ℕ = words_of_bytes run.now in
-    let number : length (words_of_bytes run.now) ≡ count = length-words run.now count long in
+    let number : length (words_of_bytes run.now) ≡ count = length_words run.now count long in
     let same : c.machine ≡ in_write register (length (words_of_bytes run.now)) = machine ∙ ap (in_write register) (sym number) in
     let all : (ps : List Packet) → MachineStandsFor c.machine ps → Grows ps (payload_steps register (words_of_bytes run.now)) n.machine =
-    λ ps t. grows ps (words_of_bytes run.now) (words-fit run.now fits) (omega (arith, number, some)) (subst (λ (m : MachineState). MachineStandsFor m ps) same t) in
+    λ ps t. grows ps (words_of_bytes run.now) (words_fit run.now fits) (omega (arith, number, some)) (subst (λ (m : MachineState). MachineStandsFor m ps) same t) in
     let word : flat_map bytes_of_word (map (λ (x : ℕ × Step). x.0) (payload_steps register (words_of_bytes run.now))) ≡ c.kept ++ run.now =
-    ap (flat_map bytes_of_word) (words_of_payload register (words_of_bytes run.now)) ∙ bytes-words run.now count fits long ∙ ap (λ t. t ++ run.now) (sym none) in
+    ap (flat_map bytes_of_word) (words_of_payload register (words_of_bytes run.now)) ∙ bytes_words run.now count fits long ∙ ap (λ t. t ++ run.now) (sym none) in
     let calm : ends_by (payload_steps register (words_of_bytes run.now)) ≡ false = calm_words register (words_of_bytes run.now) other in
     body_more c n bytes run.now sessions place register run s is all fits word none2 (to ∙ ap (λ (b : Bool). if b then Mode.Searching else Mode.Synced) (sym calm)) (λ e. absurd (let f : true ≡ false = sym e ∙ calm in cc))
 
@@ -183,6 +183,6 @@ ends_gap old new bs count is to same none2 clear long fits near i =
       gap = λ run e bytes sessions place s.
           subst (λ (t : List ℕ). AfterRun old middle (bytes ++ t) sessions place (Skip run)) (sym e)
           (skip_found old middle bytes bs run (count + 4) sessions place s is refl refl (λ gap m n. found_clear old.matcher old.matcher gap bs count clear i m n) e (all_take (λ b. b < 256) (count + 4) bs fits));
-      sync = λ bytes sessions place s. sync_told middle new bytes sessions place s refl to same none2;
+      sync = λ bytes sessions place s. sync_given middle new bytes sessions place s refl to same none2;
       none_kept = none2;
     }

@@ -7,8 +7,8 @@ use Rattle.std.proofs.Math.Seq.{drop-append_seam}
 use Rattle.std.specs.Prelude.{nat_lt}
 use Rattle.std.specs.List.{flat_map, fold}
 use Rattle.x7_words.specs.Word.{AreBytes, AreWords, bytes_of_word, word_of_bytes}
-use Rattle.x7_words.proofs.ListLemmas.{all-append, all_front, all_back, flat_map-last}
-use Rattle.x7_words.proofs.WordLemmas.{bytes-words, words-fit}
+use Rattle.x7_words.proofs.ListLemmas.{all_append, all_prefix, all_back, flat_map_last}
+use Rattle.x7_words.proofs.WordLemmas.{bytes_words, words_fit}
 use Rattle.x7_packets.specs.SyncWord.{sync_bytes, EndsWithSync}
 use Rattle.x7_packets.specs.Packet.{Packet, Packets, EachPacket, IsPacket, IsWhole, OnlyLastEnds, NoneEnds, latest_after, count_of, named_by, words, ended, last_ends}
 use Rattle.x7_packets.specs.Reading.{Place, Searching, Synced, Session, IsReading, IsSession, packet_bytes, session_bytes}
@@ -30,7 +30,7 @@ header_is latest w f = record { fits = (f, tt); means = refl; most = omega arith
 
 longer_is : (latest : Option ℕ) (p : Packet) (w : ℕ) → w < 2 ^ 32 → IsPacket latest p → last_ends (named_by p.step) p.payload ≡ false → length p.payload < count_of p.step → IsPacket latest (with_payload_word p w)
 longer_is latest p w f i e l = record {
-  fits = all-append (λ x. x < 2 ^ 32) (words p) (w ∷ []) i.fits (f, tt);
+  fits = all_append (λ x. x < 2 ^ 32) (words p) (w ∷ []) i.fits (f, tt);
   means = i.means;
   most = omega (arith, length-append p.payload (w ∷ []));
   goes_on = only_more (named_by p.step) p.payload w (none_of (named_by p.step) p.payload i.goes_on e);
@@ -42,15 +42,15 @@ last_each : (latest : Option ℕ) (p : Packet) (w : ℕ) (b : Bool) → nat_lt (
 last_each latest p w true t f i e = longer_is latest p w f i e (ltb-true _ _ t)
 last_each latest p w false t f i e = (i, record { all = (let h : count_of p.step ≤ length p.payload = ltb-false _ _ t in omega (arith, i.most)); none_ends = none_of (named_by p.step) p.payload i.goes_on e }, header_is (latest_after latest p.step) w f)
 
-each_behind : (latest : Option ℕ) (p : Packet) (ps : List Packet) → IsPacket latest p → IsWhole p → EachPacket (latest_after latest p.step) ps → EachPacket latest (p ∷ ps)
-each_behind latest p [] i h a = i
-each_behind latest p (q ∷ ps) i h a = (i, h, a)
+each_after : (latest : Option ℕ) (p : Packet) (ps : List Packet) → IsPacket latest p → IsWhole p → EachPacket (latest_after latest p.step) ps → EachPacket latest (p ∷ ps)
+each_after latest p [] i h a = i
+each_after latest p (q ∷ ps) i h a = (i, h, a)
 
 -- packets that do not end the session, with one word more
 word_each : (latest : Option ℕ) (ps : List Packet) (w : ℕ) → w < 2 ^ 32 → EachPacket latest ps → ended ps ≡ false → EachPacket latest (with_word_after latest ps w)
 word_each latest [] w f a e = header_is latest w f
 word_each latest (p ∷ []) w f a e = last_each latest p w (nat_lt (length p.payload) (count_of p.step)) refl f a e
-word_each latest (p ∷ q ∷ ps) w f a e = each_behind latest p _ a.0 a.1 (word_each (latest_after latest p.step) (q ∷ ps) w f a.2 e)
+word_each latest (p ∷ q ∷ ps) w f a e = each_after latest p _ a.0 a.1 (word_each (latest_after latest p.step) (q ∷ ps) w f a.2 e)
 
 last_joined : (latest : Option ℕ) (p : Packet) (w : ℕ) (b : Bool) → flat_map words (if b then with_payload_word p w ∷ [] else p ∷ header_packet (latest_after latest p.step) w ∷ []) ≡ flat_map words (p ∷ []) ++ w ∷ []
 last_joined latest p w true = append-nil _ ∙ sym (ap (λ t. p.head ∷ t ++ w ∷ []) (append-nil p.payload))
@@ -62,15 +62,15 @@ word_joined latest (p ∷ []) w = last_joined latest p w (nat_lt (length p.paylo
 word_joined latest (p ∷ q ∷ ps) w = ap (λ t. words p ++ t) (word_joined (latest_after latest p.step) (q ∷ ps) w) ∙ sym (append_assoc (words p) (flat_map words (q ∷ ps)) (w ∷ []))
 
 -- words after those of packets that were found
-words_behind : (prefix back : List ℕ) (ps : List Packet) → AreWords back → ((more rest : List ℕ) (w : ℕ) → back ≡ more ++ w ∷ rest → ended (fold packets_with_word ps more) ≡ false) → Packets prefix ps → Packets (prefix ++ back) (fold packets_with_word ps back)
-words_behind prefix [] ps f o a = rw append-nil a
-words_behind prefix (w ∷ back) ps f o a =
+words_after : (prefix back : List ℕ) (ps : List Packet) → AreWords back → ((more rest : List ℕ) (w : ℕ) → back ≡ more ++ w ∷ rest → ended (fold packets_with_word ps more) ≡ false) → Packets prefix ps → Packets (prefix ++ back) (fold packets_with_word ps back)
+words_after prefix [] ps f o a = rw append-nil a
+words_after prefix (w ∷ back) ps f o a =
     let next : Packets (prefix ++ w ∷ []) (packets_with_word ps w) = record { joined = ap (λ t. t ++ w ∷ []) a.joined ∙ sym (word_joined None ps w); each = word_each None ps w f.0 a.each (o [] back w refl) } in
-    let all : Packets ((prefix ++ w ∷ []) ++ back) (fold packets_with_word (packets_with_word ps w) back) = words_behind (prefix ++ w ∷ []) back (packets_with_word ps w) f.1 (λ more rest x e. o (w ∷ more) rest x (ap (λ t. w ∷ t) e)) next in
+    let all : Packets ((prefix ++ w ∷ []) ++ back) (fold packets_with_word (packets_with_word ps w) back) = words_after (prefix ++ w ∷ []) back (packets_with_word ps w) f.1 (λ more rest x e. o (w ∷ more) rest x (ap (λ t. w ∷ t) e)) next in
     rw append_assoc at all
 
 pub packets_are_found : (ws : List ℕ) → AreWords ws → AreOfOneSession ws → Packets ws (packets_of ws)
-packets_are_found ws f o = words_behind [] ws [] f o (record { joined = refl; each = tt })
+packets_are_found ws f o = words_after [] ws [] f o (record { joined = refl; each = tt })
 
 -- the word that ends a session is the last of the words of packets
 goes_on : (ws prefix rest : List ℕ) (w : ℕ) (ps qs : List Packet) (b : Bool) → ended ps ≡ b → Packets ws qs → ws ≡ prefix ++ w ∷ rest → Packets prefix ps → ended ps ≡ false
@@ -90,7 +90,7 @@ words_of_packets_fit ws ps a = rw a.joined (each_fits None ps a.each)
 pub one_session : (ws : List ℕ) (ps : List Packet) → Packets ws ps → AreOfOneSession ws
 one_session ws ps a prefix back w e =
     let fits : AreWords (prefix ++ w ∷ back) = rw e at (words_of_packets_fit ws ps a) in
-    none_early ws [] prefix back w [] ps a e (all_front (λ x. x < 2 ^ 32) prefix (w ∷ back) fits) (record { joined = refl; each = tt })
+    none_early ws [] prefix back w [] ps a e (all_prefix (λ x. x < 2 ^ 32) prefix (w ∷ back) fits) (record { joined = refl; each = tt })
 
 pub packets_are : (ws : List ℕ) (ps : List Packet) → Packets ws ps → ps ≡ packets_of ws
 packets_are ws ps a =
@@ -153,7 +153,7 @@ tail_more sessions bytes gap tail packets byte l f r = record {
 
 -- the bytes of packets with a word more
 word_bytes : (packets : List Packet) (w : ℕ) → packet_bytes (packets_with_word packets w) ≡ packet_bytes packets ++ bytes_of_word w
-word_bytes packets w = ap (flat_map bytes_of_word) (word_joined None packets w) ∙ flat_map-last bytes_of_word (flat_map words packets) w
+word_bytes packets w = ap (flat_map bytes_of_word) (word_joined None packets w) ∙ flat_map_last bytes_of_word (flat_map words packets) w
 
 -- a session with a word more, by whether the word ends it
 word_more : (sessions : List Session) (bytes gap tail : List ℕ) (packets : List Packet) (byte w : ℕ) (b : Bool) → ended (packets_with_word packets w) ≡ b → w < 2 ^ 32 → bytes_of_word w ≡ tail ++ byte ∷ []
@@ -164,11 +164,11 @@ word_more sessions bytes gap tail packets byte w true e f four fits r =
     let grown : packet_bytes all ≡ packet_bytes packets ++ bytes_of_word w = word_bytes packets w in
     let joined : bytes ++ byte ∷ [] ≡ flat_map session_bytes sessions ++ (gap ++ sync_bytes ++ packet_bytes all) = joined_more (flat_map session_bytes sessions) bytes gap tail (byte ∷ []) (packet_bytes all) (packet_bytes packets) (bytes_of_word w) r.joined grown four in
     let session : Session = record { gap = gap; packets = all } in
-    let sessions_are : flat_map session_bytes (sessions ++ session ∷ []) ≡ flat_map session_bytes sessions ++ (gap ++ sync_bytes ++ packet_bytes all) = flat_map-last session_bytes sessions session in
+    let sessions_are : flat_map session_bytes (sessions ++ session ∷ []) ≡ flat_map session_bytes sessions ++ (gap ++ sync_bytes ++ packet_bytes all) = flat_map_last session_bytes sessions session in
     record {
       fits = fits;
       joined = joined ∙ sym sessions_are ∙ sym (append-nil (flat_map session_bytes (sessions ++ session ∷ [])));
-      each = all-append IsSession sessions (session ∷ []) r.each (record { first = r.ends.0; packets = word_each None packets w f r.ends.1 r.ends.2; ended = e }, tt);
+      each = all_append IsSession sessions (session ∷ []) r.each (record { first = r.ends.0; packets = word_each None packets w f r.ends.1 r.ends.2; ended = e }, tt);
       ends = none_empty;
     }
 word_more sessions bytes gap tail packets byte w false e f four fits r =
@@ -189,29 +189,29 @@ session_more sessions bytes gap [] packets byte t b l f r = tail_more sessions b
 session_more sessions bytes gap (x ∷ []) packets byte t b l f r = tail_more sessions bytes gap (x ∷ []) packets byte (omega arith) f r
 session_more sessions bytes gap (x ∷ y ∷ []) packets byte t b l f r = tail_more sessions bytes gap (x ∷ y ∷ []) packets byte (omega arith) f r
 session_more sessions bytes gap (x ∷ y ∷ z ∷ []) packets byte t b l f r =
-    let fits : AreBytes (x ∷ y ∷ z ∷ byte ∷ []) = all-append (λ x. x < 256) (x ∷ y ∷ z ∷ []) (byte ∷ []) t (b, tt) in
+    let fits : AreBytes (x ∷ y ∷ z ∷ byte ∷ []) = all_append (λ x. x < 256) (x ∷ y ∷ z ∷ []) (byte ∷ []) t (b, tt) in
     let w : ℕ = word_of_bytes (x ∷ y ∷ z ∷ byte ∷ []) in
-    let four : bytes_of_word w ≡ x ∷ y ∷ z ∷ byte ∷ [] = bytes-words (x ∷ y ∷ z ∷ byte ∷ []) 1 fits (omega arith) in
-    let small : AreWords (w ∷ []) = words-fit (x ∷ y ∷ z ∷ byte ∷ []) fits in
+    let four : bytes_of_word w ≡ x ∷ y ∷ z ∷ byte ∷ [] = bytes_words (x ∷ y ∷ z ∷ byte ∷ []) 1 fits (omega arith) in
+    let small : AreWords (w ∷ []) = words_fit (x ∷ y ∷ z ∷ byte ∷ []) fits in
     word_more sessions bytes gap (x ∷ y ∷ z ∷ []) packets byte w (ended (packets_with_word packets w)) refl small.0 four f r
 session_more sessions bytes gap (x ∷ y ∷ z ∷ u ∷ tail) packets byte t b l f r = absurd (omega arith)
 
 byte_more : (bytes : List ℕ) (sessions : List Session) (place : Place) (byte : ℕ) → byte < 256 → IsReading bytes sessions place → Reads (bytes ++ byte ∷ []) (with_byte_at sessions place byte)
 byte_more bytes sessions (Searching gap) byte b r =
-    gap_more sessions bytes gap byte (is_sync (last_four (gap ++ byte ∷ []))) refl (all-append (λ x. x < 256) bytes (byte ∷ []) r.fits (b, tt)) r
+    gap_more sessions bytes gap byte (is_sync (last_four (gap ++ byte ∷ []))) refl (all_append (λ x. x < 256) bytes (byte ∷ []) r.fits (b, tt)) r
 byte_more bytes sessions (Synced gap packets tail) byte b r =
     let all : AreBytes (flat_map session_bytes sessions ++ (gap ++ sync_bytes ++ packet_bytes packets ++ tail)) = rw r.joined at r.fits in
     let of_place : AreBytes (gap ++ sync_bytes ++ packet_bytes packets ++ tail) = all_back (λ x. x < 256) (flat_map session_bytes sessions) _ all in
-    session_more sessions bytes gap tail packets byte (all_back (λ x. x < 256) (gap ++ sync_bytes ++ packet_bytes packets) tail of_place) b r.ends.3 (all-append (λ x. x < 256) bytes (byte ∷ []) r.fits (b, tt)) r
+    session_more sessions bytes gap tail packets byte (all_back (λ x. x < 256) (gap ++ sync_bytes ++ packet_bytes packets) tail of_place) b r.ends.3 (all_append (λ x. x < 256) bytes (byte ∷ []) r.fits (b, tt)) r
 
-bytes_behind : (bytes more : List ℕ) (r : Reading) → AreBytes more → Reads bytes r → Reads (bytes ++ more) (fold with_byte r more)
-bytes_behind bytes [] r f a = rw append-nil a
-bytes_behind bytes (byte ∷ more) r f a =
-    let all : Reads ((bytes ++ byte ∷ []) ++ more) (fold with_byte (with_byte r byte) more) = bytes_behind (bytes ++ byte ∷ []) more (with_byte r byte) f.1 (byte_more bytes r.sessions r.place byte f.0 a) in
+bytes_after : (bytes more : List ℕ) (r : Reading) → AreBytes more → Reads bytes r → Reads (bytes ++ more) (fold with_byte r more)
+bytes_after bytes [] r f a = rw append-nil a
+bytes_after bytes (byte ∷ more) r f a =
+    let all : Reads ((bytes ++ byte ∷ []) ++ more) (fold with_byte (with_byte r byte) more) = bytes_after (bytes ++ byte ∷ []) more (with_byte r byte) f.1 (byte_more bytes r.sessions r.place byte f.0 a) in
     rw append_assoc at all
 
 pub reading_is_found : (bytes : List ℕ) → AreBytes bytes → IsReading bytes (reading_of bytes).sessions (reading_of bytes).place
-reading_is_found bytes f = bytes_behind [] bytes (record { sessions = []; place = Searching [] }) f (record { fits = tt; joined = refl; each = tt; ends = none_empty })
+reading_is_found bytes f = bytes_after [] bytes (record { sessions = []; place = Searching [] }) f (record { fits = tt; joined = refl; each = tt; ends = none_empty })
 
 -- the reading of bytes is the one that is found by hand
 pub reading_is : (bytes : List ℕ) (ss : List Session) (p : Place) → IsReading bytes ss p → (ss ≡ (reading_of bytes).sessions) × (p ≡ (reading_of bytes).place)

@@ -3,7 +3,7 @@ use Rattle.std.proofs.Common.{◌≡◌, ℕ, ◌+◌, ◌<◌, ◌≤◌, Bool,
 use Rattle.std.specs.List.{flat_map}
 use Rattle.std.proofs.lemmas.Grind.{flat_map-append}
 use Rattle.x7_words.specs.Word.{AreBytes, bytes_of_word}
-use Rattle.x7_words.proofs.ListLemmas.{all-append}
+use Rattle.x7_words.proofs.ListLemmas.{all_append}
 use Rattle.x7_packets.specs.SyncWord.{sync_bytes, HasNoSync}
 use Rattle.x7_packets.specs.Matching.{MatcherStandsFor, Searched}
 use Rattle.x7_packets.specs.Packet.{Packet, words, stepped}
@@ -22,7 +22,7 @@ pub fresh : (n : CutterState) → n.mode ≡ Mode.Searching → MatcherStandsFor
 fresh n is m a = record { reading = record { fits = tt; joined = refl; each = tt; ends = none_empty }; at = rw is (m, a) }
 
 more_bytes : (bytes more : List ℕ) → AreBytes bytes → AreBytes more → AreBytes (bytes ++ more)
-more_bytes = all-append (λ b. b < 256)
+more_bytes = all_append (λ b. b < 256)
 
 -- fewer bytes than a word lacks
 pub kept_more : (c n : CutterState) (bytes more : List ℕ) (sessions : List Session) (place : Place) → CutterStandsFor c bytes sessions place
@@ -48,11 +48,11 @@ kept_more c n bytes more sessions (Synced gap packets tail) s is to same kept sh
     }
 
 -- the sync word is given
-pub sync_told : (c n : CutterState) (bytes : List ℕ) (sessions : List Session) (place : Place) → CutterStandsFor c bytes sessions place
+pub sync_given : (c n : CutterState) (bytes : List ℕ) (sessions : List Session) (place : Place) → CutterStandsFor c bytes sessions place
     → c.mode ≡ Mode.Due → n.mode ≡ Mode.Synced → n.machine ≡ c.machine → n.kept ≡ []
     → AfterRun c n (bytes ++ []) sessions place Sync
-sync_told c n bytes sessions (Searching gap) s is to same none = absurd (let h : AtPlace c Mode.Due (Searching gap) = rw is at s.at in h)
-sync_told c n bytes sessions (Synced gap packets tail) s is to same none =
+sync_given c n bytes sessions (Searching gap) s is to same none = absurd (let h : AtPlace c Mode.Due (Searching gap) = rw is at s.at in h)
+sync_given c n bytes sessions (Synced gap packets tail) s is to same none =
     let h : (packets ≡ []) × (tail ≡ []) × MachineStandsFor c.machine [] = rw is at s.at in
     record {
       new_sessions = sessions;
@@ -110,8 +110,8 @@ skip_all c n bytes rest run sessions (Searching gap) s is to same after e fits =
     }
 
 -- the bytes of packets with words more
-pub packet_bytes-grown : (ps qs : List Packet) (more : List (ℕ × Step)) → flat_map stepped qs ≡ flat_map stepped ps ++ more → packet_bytes qs ≡ packet_bytes ps ++ flat_map bytes_of_word (map (λ (s : ℕ × Step). s.0) more)
-packet_bytes-grown ps qs more e = ap (flat_map bytes_of_word) (words_grown ps qs more e) ∙ flat_map-append bytes_of_word (flat_map words ps) (map (λ (s : ℕ × Step). s.0) more)
+pub packet_bytes_grown : (ps qs : List Packet) (more : List (ℕ × Step)) → flat_map stepped qs ≡ flat_map stepped ps ++ more → packet_bytes qs ≡ packet_bytes ps ++ flat_map bytes_of_word (map (λ (s : ℕ × Step). s.0) more)
+packet_bytes_grown ps qs more e = ap (flat_map bytes_of_word) (words_grown ps qs more e) ∙ flat_map-append bytes_of_word (flat_map words ps) (map (λ (s : ℕ × Step). s.0) more)
 
 not_due : {m : Mode} (b : Bool) → m ≡ (if b then Mode.Searching else Mode.Synced) → m ≡ Mode.Due → ⊥
 not_due true e f = absurd (cc)
@@ -130,7 +130,7 @@ by_end : (n : CutterState) (bytes new : List ℕ) (sessions : List Session) (gap
     → WordsMore n (bytes ++ new) sessions gap packets more
 by_end n bytes new sessions gap tail packets more true q r g fits word none to matcher =
     let joined : bytes ++ new ≡ flat_map session_bytes sessions ++ (gap ++ sync_bytes ++ packet_bytes g.packets) =
-    joined_more (flat_map session_bytes sessions) bytes gap tail new _ _ _ r.joined (packet_bytes-grown packets g.packets more g.grown) word in
+    joined_more (flat_map session_bytes sessions) bytes gap tail new _ _ _ r.joined (packet_bytes_grown packets g.packets more g.grown) word in
     let session : Session = record { gap = gap; packets = g.packets } in
     let sessions_are : flat_map session_bytes (sessions ++ session ∷ []) ≡ flat_map session_bytes sessions ++ (gap ++ sync_bytes ++ packet_bytes g.packets) =
     flat_map-append session_bytes sessions (session ∷ []) ∙ ap (λ t. flat_map session_bytes sessions ++ t) (append-nil _) in (
@@ -140,7 +140,7 @@ by_end n bytes new sessions gap tail packets more true q r g fits word none to m
         reading = record {
           fits = more_bytes bytes new r.fits fits;
           joined = joined ∙ sym sessions_are ∙ sym (append-nil (flat_map session_bytes (sessions ++ session ∷ [])));
-          each = all-append IsSession sessions (session ∷ []) r.each (record { first = r.ends.0; packets = g.each; ended = g.end ∙ q }, tt);
+          each = all_append IsSession sessions (session ∷ []) r.each (record { first = r.ends.0; packets = g.each; ended = g.end ∙ q }, tt);
           ends = none_empty;
         };
         at = rw to (matcher refl, (let h : MachineStandsFor n.machine [] = rw q at g.stands in h));
@@ -149,7 +149,7 @@ by_end n bytes new sessions gap tail packets more true q r g fits word none to m
     )
 by_end n bytes new sessions gap tail packets more false q r g fits word none to matcher =
     let joined : bytes ++ new ≡ flat_map session_bytes sessions ++ (gap ++ sync_bytes ++ packet_bytes g.packets) =
-    joined_more (flat_map session_bytes sessions) bytes gap tail new _ _ _ r.joined (packet_bytes-grown packets g.packets more g.grown) word in (
+    joined_more (flat_map session_bytes sessions) bytes gap tail new _ _ _ r.joined (packet_bytes_grown packets g.packets more g.grown) word in (
       sessions,
       Synced gap g.packets [],
       record {

@@ -2,7 +2,7 @@
 use Rattle.std.proofs.Common.{◌≡◌, ℕ, true, false, List, [], ◌∷◌, ◌++◌, length, Option, refl, ap, sym, subst, ◌∙◌, append_assoc, append-nil, arith, length-append}
 use Rattle.std.specs.List.{flat_map}
 use Rattle.std.proofs.lemmas.List.{append_cancel_left}
-use Rattle.x7_words.proofs.ListLemmas.{shorter_front}
+use Rattle.x7_words.proofs.ListLemmas.{shorter_prefix}
 use Rattle.x7_packets.specs.Packet.{Packet, EachPacket, IsWhole, OnlyLastEnds, NoneEnds, latest_after, count_of, named_by, words, meaning, ends_session, ended, last_ends}
 use Rattle.x7_packets.proofs.PacketLemmas.{same_packet, same_count}
 
@@ -17,8 +17,8 @@ none_then register [] m e o = cc
 none_then register (x ∷ []) m e o = let h : ends_session register x ≡ false = o.0 in cc
 none_then register (x ∷ y ∷ xs) m e o = none_then register (y ∷ xs) m e o.1
 
-not_front : (p q : Packet) (m : List ℕ) → p.step ≡ q.step → last_ends (named_by p.step) p.payload ≡ true → IsWhole q → q.payload ≡ p.payload ++ m → ⊥
-not_front p q m step d w f = none_then (named_by p.step) p.payload m d (rw (step, ← f) w.none_ends)
+not_prefix : (p q : Packet) (m : List ℕ) → p.step ≡ q.step → last_ends (named_by p.step) p.payload ≡ true → IsWhole q → q.payload ≡ p.payload ++ m → ⊥
+not_prefix p q m step d w f = none_then (named_by p.step) p.payload m d (rw (step, ← f) w.none_ends)
 
 pub after_end : (l : Option ℕ) (ps qs : List Packet) (m : List ℕ) → EachPacket l ps → ended ps ≡ true → EachPacket l qs → flat_map words ps ++ m ≡ flat_map words qs → m ≡ []
 after_end l [] qs m a d b e = absurd (cc)
@@ -35,8 +35,8 @@ after_end l (p ∷ []) (q ∷ r ∷ qs) m a d b e =
     let step : p.step ≡ q.step = a.means ∙ ap (meaning l) head ∙ sym b.0.means in
     let c : count_of p.step ≡ count_of q.step = ap count_of step in
     let tail : p.payload ++ [] ++ m ≡ q.payload ++ flat_map words (r ∷ qs) = cc in
-    let f : (x : List ℕ) × (q.payload ≡ p.payload ++ x) = shorter_front p.payload q.payload m _ (omega (arith, a.most, b.1.all)) (ap (λ t. t ++ m) (sym (append-nil p.payload)) ∙ tail) in
-    absurd (not_front p q f.0 step d b.1 f.1)
+    let f : (x : List ℕ) × (q.payload ≡ p.payload ++ x) = shorter_prefix p.payload q.payload m _ (omega (arith, a.most, b.1.all)) (ap (λ t. t ++ m) (sym (append-nil p.payload)) ∙ tail) in
+    absurd (not_prefix p q f.0 step d b.1 f.1)
 after_end l (p ∷ r ∷ ps) (q ∷ []) m a d b e =
     let head : p.head ≡ q.head = cc in
     let step : p.step ≡ q.step = a.0.means ∙ ap (meaning l) head ∙ sym b.means in

@@ -8,7 +8,7 @@ use Rattle.x7_packets.specs.History.{History, Write, entered, entered_all, enter
 use Rattle.x7_packets.specs.Packet.{Packet, ended, last_ends, named_by, payload_steps, stepped}
 use Rattle.x7_packets.specs.Reading.{IsSession, Place, Searching, Session, Synced, is_synced, session_bytes}
 use Rattle.x7_packets.proofs.ByHandLemmas.{reading_is_found}
-use Rattle.x7_packets.proofs.HistoryLemmas.{entered_all-append}
+use Rattle.x7_packets.proofs.HistoryLemmas.{entered_all_append}
 
 payload_ends : (n register : ℕ) (ws : List ℕ) (h : History) → last_ends register ws ≡ true → newest_ends (entered_all n (payload_steps register ws) h) ≡ true
 payload_ends n register [] h e = absurd (cc)
@@ -20,7 +20,7 @@ packets_end n [] h e = absurd (cc)
 packets_end n (p ∷ []) h e =
     ap (λ t. newest_ends (entered_all n t h)) (append-nil (stepped p)) ∙ payload_ends (n + 4) (named_by p.step) p.payload (entered (n + 4) p.step h) e
 packets_end n (p ∷ q ∷ packets) h e =
-    ap newest_ends (entered_all-append n (stepped p) (flat_map stepped (q ∷ packets)) h)
+    ap newest_ends (entered_all_append n (stepped p) (flat_map stepped (q ∷ packets)) h)
     ∙ packets_end (n + 4 * length (stepped p)) (q ∷ packets) (entered_all n (stepped p) h) e
 
 sessions_end : (n : ℕ) (sessions : List Session) (h : History) → AllByRecursion IsSession sessions → HasEnded h → HasEnded (entered_sessions n sessions h)

@@ -2,7 +2,7 @@
 use Rattle.std.proofs.Common.{ℕ, ◌+◌, ◌/◌, ◌%◌, ◌^◌, ◌<◌, ◌==◌, ◌||◌, Bool, true, false, if◌then◌else◌, List, [], ◌∷◌, Option, None, Some, length, arith}
 use Rattle.std.specs.List.{flat_map, AllByRecursion}
 use Rattle.x7_words.specs.Word.{AreWords}
-use Rattle.x7_words.proofs.ListLemmas.{all-append}
+use Rattle.x7_words.proofs.ListLemmas.{all_append}
 use Rattle.x7_packets.specs.declared.header.Step.{Step}
 use Rattle.x7_packets.specs.declared.header.Step.TheVariants.{Filler, Nop, Open, Payload, Read, Bad}
 use Rattle.x7_packets.specs.Packet.{Packet, EachPacket, IsPacket, type_and_opcode_of, register_of, long_meaning, meaning, named_by, payload_steps, stepped, latest_after}
@@ -70,9 +70,9 @@ packet_fits latest p l i = (packet_step_fits latest p l i, payload_fits (named_b
 
 packets_fit : (latest : Option ℕ) (ps : List Packet) → FitsLatest latest → EachPacket latest ps → AllSteps (flat_map stepped ps)
 packets_fit latest [] l a = tt
-packets_fit latest (p ∷ []) l a = all-append (λ (s : ℕ × Step). FitsStep s.1) (stepped p) [] (packet_fits latest p l a) tt
+packets_fit latest (p ∷ []) l a = all_append (λ (s : ℕ × Step). FitsStep s.1) (stepped p) [] (packet_fits latest p l a) tt
 packets_fit latest (p ∷ q ∷ ps) l a =
-    all-append (λ (s : ℕ × Step). FitsStep s.1) (stepped p) (flat_map stepped (q ∷ ps)) (packet_fits latest p l a.0)
+    all_append (λ (s : ℕ × Step). FitsStep s.1) (stepped p) (flat_map stepped (q ∷ ps)) (packet_fits latest p l a.0)
     (packets_fit (latest_after latest p.step) (q ∷ ps) (latest_fits latest p.step l (packet_step_fits latest p l a.0)) a.2)
 
 entered_fits : (place : ℕ) (s : Step) (h : History) → FitsStep s → AllFit h → AllFit (entered place s h)

@@ -5,7 +5,7 @@ use Rattle.std.proofs.lemmas.List.Sums.{fold-append}
 use Rattle.std.specs.Prelude.{nat_lt}
 use Rattle.std.specs.List.{flat_map}
 use Rattle.x7_words.specs.Word.{AreBytes, word_of_bytes}
-use Rattle.x7_words.proofs.ListLemmas.{all_front}
+use Rattle.x7_words.proofs.ListLemmas.{all_prefix}
 use Rattle.x7_packets.specs.declared.header.Step.{Step}
 use Rattle.x7_packets.specs.declared.header.Step.TheVariants as step
 use Rattle.x7_packets.specs.Packet.{Packet, count_of, ended, latest_after, meaning, named_by, stepped}
@@ -13,7 +13,7 @@ use Rattle.x7_packets.specs.Reading.{Place, Searching, Synced, Session, IsReadin
 use Rattle.x7_packets.specs.ByHand.{before_last_four, header_packet, is_sync, last_four, Reading, reading_of, with_byte, with_byte_at, with_payload_word, with_session_byte, packets_with_word, with_word_after}
 use Rattle.x7_packets.specs.History.{Access, AllAfter, Bad, entered, entered_all, entered_sessions, entry, History, history, history_of, next_word, Placed, Read, until, Write}
 use Rattle.x7_packets.proofs.ByHandLemmas.{reading_is_found}
-use Rattle.x7_packets.proofs.HistoryLemmas.{grown_ends, grown_goes_on, next_word-is}
+use Rattle.x7_packets.proofs.HistoryLemmas.{grown_ends, grown_goes_on, next_word_is}
 use Rattle.x7_packets.proofs.TakeLemmas.{stepped_more}
 
 -- the new history is the old one, or has one access more, which ends at this place
@@ -65,7 +65,7 @@ session_enters bytes sessions gap (a ∷ b ∷ []) packets x r = inl refl
 session_enters bytes sessions gap (a ∷ b ∷ c ∷ []) packets x r =
     let all : List Packet = packets_with_word packets (word_of_bytes (a ∷ b ∷ c ∷ x ∷ [])) in
     closed_enters sessions gap (a ∷ b ∷ c ∷ []) packets all (length bytes + 1) (ended all) (packets_grow None packets (word_of_bytes (a ∷ b ∷ c ∷ x ∷ [])))
-    (omega (arith, next_word-is bytes sessions (Synced gap packets (a ∷ b ∷ c ∷ [])) r))
+    (omega (arith, next_word_is bytes sessions (Synced gap packets (a ∷ b ∷ c ∷ [])) r))
 session_enters bytes sessions gap (a ∷ b ∷ c ∷ d ∷ tail) packets x r = inl refl
 
 -- a gap enters nothing, whether it ends with the sync word or not
@@ -82,7 +82,7 @@ place_enters bytes sessions (Synced gap packets tail) x r = session_enters bytes
 pub byte_enters : (bytes : List ℕ) (x : ℕ) → AreBytes (bytes ++ x ∷ []) → OneMore (length bytes + 1) (history_of bytes) (history_of (bytes ++ x ∷ []))
 byte_enters bytes x f =
     let r : Reading = reading_of bytes in
-    let is : IsReading bytes r.sessions r.place = reading_is_found bytes (all_front (λ b. b < 256) bytes (x ∷ []) f) in
+    let is : IsReading bytes r.sessions r.place = reading_is_found bytes (all_prefix (λ b. b < 256) bytes (x ∷ []) f) in
     let more : reading_of (bytes ++ x ∷ []) ≡ with_byte r x = fold-append with_byte (record { sessions = []; place = Searching [] }) bytes (x ∷ []) in
     subst (λ (t : Reading). OneMore (length bytes + 1) (history_of bytes) (history t.sessions t.place)) (sym more) (place_enters bytes r.sessions r.place x is)
 
@@ -92,20 +92,20 @@ bytes_keep P keeps bytes [] f p = subst P (sym (append-nil bytes)) p
 bytes_keep P keeps bytes (x ∷ more) f p =
     let all : (bytes ++ x ∷ []) ++ more ≡ bytes ++ x ∷ more = append_assoc bytes (x ∷ []) more in
     let fits : AreBytes ((bytes ++ x ∷ []) ++ more) = subst AreBytes (sym all) f in
-    subst P all (bytes_keep P keeps (bytes ++ x ∷ []) more fits (keeps bytes x (all_front (λ b. b < 256) (bytes ++ x ∷ []) more fits) p))
+    subst P all (bytes_keep P keeps (bytes ++ x ∷ []) more fits (keeps bytes x (all_prefix (λ b. b < 256) (bytes ++ x ∷ []) more fits) p))
 
 -- the history of bytes is this one and newer accesses, all past the first n bytes
 abbrev pub IsLater : ℕ → History → List ℕ → Type 0
 IsLater n h bytes = (newer : History) × (history_of bytes ≡ newer ++ h) × AllAfter n (length bytes) newer
 
-behind_within : (n m k : ℕ) (h : History) → m ≤ k → AllAfter n m h → AllAfter n k h
-behind_within n m k [] l a = tt
-behind_within n m k (e ∷ h) l a = (a.0, omega (arith, a.1), behind_within n m k h l a.2)
+after_within : (n m k : ℕ) (h : History) → m ≤ k → AllAfter n m h → AllAfter n k h
+after_within n m k [] l a = tt
+after_within n m k (e ∷ h) l a = (a.0, omega (arith, a.1), after_within n m k h l a.2)
 
 later_more : (n : ℕ) (h : History) (bytes : List ℕ) (x : ℕ) → AreBytes (bytes ++ x ∷ []) → (n ≤ length bytes) × IsLater n h bytes → (n ≤ length (bytes ++ x ∷ [])) × IsLater n h (bytes ++ x ∷ [])
 later_more n h bytes x f p =
     let longer : length (bytes ++ x ∷ []) ≡ length bytes + 1 = length-append bytes (x ∷ []) in
-    let behind : AllAfter n (length (bytes ++ x ∷ [])) p.1.0 = behind_within n (length bytes) (length (bytes ++ x ∷ [])) p.1.0 (omega arith) p.1.2 in
+    let behind : AllAfter n (length (bytes ++ x ∷ [])) p.1.0 = after_within n (length bytes) (length (bytes ++ x ∷ [])) p.1.0 (omega arith) p.1.2 in
     let place : ℕ = length bytes + 1 in
     let later : IsLater n h (bytes ++ x ∷ []) = elim (byte_enters bytes x f) [
       | inl e ↦ (p.1.0, e ∙ p.1.1, behind)
@@ -136,18 +136,18 @@ placed_more bytes x f p =
 pub placed_of : (bytes : List ℕ) → AreBytes bytes → Placed (length bytes) (history_of bytes)
 placed_of bytes f = bytes_keep (λ (b : List ℕ). Placed (length b) (history_of b)) placed_more [] bytes f tt
 
-until_behind : (n m : ℕ) (newer h : History) → AllAfter n m newer → until n (newer ++ h) ≡ until n h
-until_behind n m [] h a = refl
-until_behind n m (e ∷ newer) h a = ap (λ (b : Bool). if b then until n (newer ++ h) else e ∷ (newer ++ h)) (lt-ltb n e.place a.0) ∙ until_behind n m newer h a.2
+until_after : (n m : ℕ) (newer h : History) → AllAfter n m newer → until n (newer ++ h) ≡ until n h
+until_after n m [] h a = refl
+until_after n m (e ∷ newer) h a = ap (λ (b : Bool). if b then until n (newer ++ h) else e ∷ (newer ++ h)) (lt-ltb n e.place a.0) ∙ until_after n m newer h a.2
 
 pub until_placed : (n : ℕ) (h : History) → Placed n h → until n h ≡ h
 until_placed n [] p = refl
 until_placed n (e ∷ h) p = ap (λ (b : Bool). if b then until n h else e ∷ h) (le-ltb n e.place p.1)
 
 -- the accesses of further bytes that end in the first ones are those of the first ones
-pub front_of : (bytes more : List ℕ) → AreBytes (bytes ++ more) → until (length bytes) (history_of (bytes ++ more)) ≡ history_of bytes
-front_of bytes more f =
+pub prefix_of : (bytes more : List ℕ) → AreBytes (bytes ++ more) → until (length bytes) (history_of (bytes ++ more)) ≡ history_of bytes
+prefix_of bytes more f =
     let n : IsLater (length bytes) (history_of bytes) (bytes ++ more) = newer_of bytes more f in
     ap (until (length bytes)) n.1
-    ∙ until_behind (length bytes) (length (bytes ++ more)) n.0 (history_of bytes) n.2
-    ∙ until_placed (length bytes) (history_of bytes) (placed_of bytes (all_front (λ b. b < 256) bytes more f))
+    ∙ until_after (length bytes) (length (bytes ++ more)) n.0 (history_of bytes) n.2
+    ∙ until_placed (length bytes) (history_of bytes) (placed_of bytes (all_prefix (λ b. b < 256) bytes more f))

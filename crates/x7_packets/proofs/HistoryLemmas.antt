@@ -3,7 +3,7 @@ use Rattle.std.proofs.Common.{◌≡◌, ℕ, ◌+◌, ◌*◌, ◌==◌, inl, i
 use Rattle.std.proofs.lemmas.Grind.{flat_map-append}
 use Rattle.std.proofs.lemmas.List.{length-map}
 use Rattle.std.specs.List.{flat_map}
-use Rattle.x7_words.proofs.WordLemmas.{length-bytes}
+use Rattle.x7_words.proofs.WordLemmas.{length_bytes}
 use Rattle.x7_packets.specs.SyncWord.{sync_bytes}
 use Rattle.x7_packets.specs.declared.header.Step.{Step}
 use Rattle.x7_packets.specs.declared.header.Step.TheVariants as step
@@ -18,33 +18,33 @@ use Rattle.x7_packets.proofs.ByHandLemmas.{reading_is}
 use Rattle.x7_packets.proofs.PacketLemmas.{words_stepped}
 
 -- an access is entered in front of what there is
-entered_front : (place : ℕ) (s : Step) (h : History) → entered place s h ≡ entered place s [] ++ h
-entered_front place (step.Payload register w) h = refl
-entered_front place (step.Read register n) h = elim (n == 0) as (λ b. (if b then h else entry (Read register n) place ∷ h) ≡ (if b then [] else entry (Read register n) place ∷ []) ++ h) [ true ↦ refl | false ↦ refl ]
-entered_front place (step.Bad w) h = refl
-entered_front place step.Filler h = refl
-entered_front place step.Nop h = refl
-entered_front place (step.Open register n) h = refl
+entered_prefix : (place : ℕ) (s : Step) (h : History) → entered place s h ≡ entered place s [] ++ h
+entered_prefix place (step.Payload register w) h = refl
+entered_prefix place (step.Read register n) h = elim (n == 0) as (λ b. (if b then h else entry (Read register n) place ∷ h) ≡ (if b then [] else entry (Read register n) place ∷ []) ++ h) [ true ↦ refl | false ↦ refl ]
+entered_prefix place (step.Bad w) h = refl
+entered_prefix place step.Filler h = refl
+entered_prefix place step.Nop h = refl
+entered_prefix place (step.Open register n) h = refl
 
 -- the accesses of words are entered in front of what there is
-pub all_in_front : (n : ℕ) (ss : List (ℕ × Step)) (h : History) → entered_all n ss h ≡ entered_all n ss [] ++ h
-all_in_front n [] h = refl
-all_in_front n (s ∷ ss) h =
-    all_in_front (n + 4) ss (entered (n + 4) s.1 h)
-    ∙ ap (λ (t : History). entered_all (n + 4) ss [] ++ t) (entered_front (n + 4) s.1 h)
+pub all_before : (n : ℕ) (ss : List (ℕ × Step)) (h : History) → entered_all n ss h ≡ entered_all n ss [] ++ h
+all_before n [] h = refl
+all_before n (s ∷ ss) h =
+    all_before (n + 4) ss (entered (n + 4) s.1 h)
+    ∙ ap (λ (t : History). entered_all (n + 4) ss [] ++ t) (entered_prefix (n + 4) s.1 h)
     ∙ sym (append_assoc (entered_all (n + 4) ss []) (entered (n + 4) s.1 []) h)
-    ∙ ap (λ (t : History). t ++ h) (sym (all_in_front (n + 4) ss (entered (n + 4) s.1 [])))
+    ∙ ap (λ (t : History). t ++ h) (sym (all_before (n + 4) ss (entered (n + 4) s.1 [])))
 
-pub entered_all-append : (n : ℕ) (ss ts : List (ℕ × Step)) (h : History) → entered_all n (ss ++ ts) h ≡ entered_all (n + 4 * length ss) ts (entered_all n ss h)
-entered_all-append n [] ts h = ap (λ (x : ℕ). entered_all x ts h) (omega arith)
-entered_all-append n (s ∷ ss) ts h = entered_all-append (n + 4) ss ts (entered (n + 4) s.1 h) ∙ ap (λ (x : ℕ). entered_all x ts (entered_all (n + 4) ss (entered (n + 4) s.1 h))) (omega arith)
+pub entered_all_append : (n : ℕ) (ss ts : List (ℕ × Step)) (h : History) → entered_all n (ss ++ ts) h ≡ entered_all (n + 4 * length ss) ts (entered_all n ss h)
+entered_all_append n [] ts h = ap (λ (x : ℕ). entered_all x ts h) (omega arith)
+entered_all_append n (s ∷ ss) ts h = entered_all_append (n + 4) ss ts (entered (n + 4) s.1 h) ∙ ap (λ (x : ℕ). entered_all x ts (entered_all (n + 4) ss (entered (n + 4) s.1 h))) (omega arith)
 
 -- the accesses of words after others stand in front of theirs
 pub words_after : (n : ℕ) (ss ts : List (ℕ × Step)) (h : History) → entered_all n (ss ++ ts) h ≡ entered_all (n + 4 * length ss) ts [] ++ (entered_all n ss [] ++ h)
 words_after n ss ts h =
-    entered_all-append n ss ts h
-    ∙ all_in_front (n + 4 * length ss) ts (entered_all n ss h)
-    ∙ ap (λ (t : History). entered_all (n + 4 * length ss) ts [] ++ t) (all_in_front n ss h)
+    entered_all_append n ss ts h
+    ∙ all_before (n + 4 * length ss) ts (entered_all n ss h)
+    ∙ ap (λ (t : History). entered_all (n + 4 * length ss) ts [] ++ t) (all_before n ss h)
 
 sessions_more : (n : ℕ) (ss : List Session) (s : Session) (h : History) → entered_sessions n (ss ++ s ∷ []) h ≡ entered_all (n + length (flat_map session_bytes ss) + length s.gap + 4) (flat_map stepped s.packets) (entered_sessions n ss h)
 sessions_more n [] s h = ap (λ (x : ℕ). entered_all x (flat_map stepped s.packets) h) (omega arith)
@@ -55,7 +55,7 @@ sessions_more n (q ∷ ss) s h =
 -- packets that grew enter the accesses of the words more
 grown_enters : (n : ℕ) (packets all : List Packet) (more : List (ℕ × Step)) (h : History) → flat_map stepped all ≡ flat_map stepped packets ++ more
     → entered_all n (flat_map stepped all) h ≡ entered_all (n + 4 * length (flat_map stepped packets)) more (entered_all n (flat_map stepped packets) h)
-grown_enters n packets all more h e = ap (λ t. entered_all n t h) e ∙ entered_all-append n (flat_map stepped packets) more h
+grown_enters n packets all more h e = ap (λ t. entered_all n t h) e ∙ entered_all_append n (flat_map stepped packets) more h
 
 -- a session that grew by words, the last of which ends it
 pub grown_ends : (gap tail : List ℕ) (packets all : List Packet) (more : List (ℕ × Step)) (sessions : List Session) → flat_map stepped all ≡ flat_map stepped packets ++ more
@@ -102,7 +102,7 @@ run_enters (Body register bytes) sessions new_sessions (Synced gap packets tail)
 
 length_of_packets : (packets : List Packet) → length (packet_bytes packets) ≡ 4 * length (flat_map stepped packets)
 length_of_packets packets =
-    length-bytes (flat_map words packets)
+    length_bytes (flat_map words packets)
     ∙ ap (λ t. 4 * length t) (sym (words_stepped packets))
     ∙ ap (λ k. 4 * k) (length-map (flat_map stepped packets) (λ (s : ℕ × Step). s.0))
 
@@ -112,8 +112,8 @@ length_of_place sessions (Synced gap packets tail) =
     omega (arith, length_of_packets packets, length-append (gap ++ sync_bytes ++ packet_bytes packets) tail, length-append (gap ++ sync_bytes) (packet_bytes packets), length-append gap sync_bytes)
 
 -- the next word begins where the bytes end without their tail
-pub next_word-is : (bytes : List ℕ) (sessions : List Session) (place : Place) → IsReading bytes sessions place → next_word sessions place + length (tail_of place) ≡ length bytes
-next_word-is bytes sessions place r = length_of_place sessions place ∙ sym (ap length r.joined ∙ length-append (flat_map session_bytes sessions) (place_bytes place))
+pub next_word_is : (bytes : List ℕ) (sessions : List Session) (place : Place) → IsReading bytes sessions place → next_word sessions place + length (tail_of place) ≡ length bytes
+next_word_is bytes sessions place r = length_of_place sessions place ∙ sym (ap length r.joined ∙ length-append (flat_map session_bytes sessions) (place_bytes place))
 
 -- words more in a session bring the place of the next word on by four bytes each, by whether they end it
 next_by_end : (gap tail : List ℕ) (packets : List Packet) (more : List (ℕ × Step)) (sessions new_sessions : List Session) (new : Place) (l : LongerSession gap packets more sessions new_sessions new) (b : Bool) → ended l.all ≡ b
@@ -150,7 +150,7 @@ history_is bytes sessions place r = let e = reading_is bytes sessions place r in
 pub cut_enters : (old new : CutterState) (bytes more : List ℕ) (sessions : List Session) (place : Place) (run : Cut) (n : ℕ) → CutterStandsFor old bytes sessions place → AfterRun old new (bytes ++ more) sessions place run
     → n + length (tail_of place) ≡ length bytes → history_of (bytes ++ more) ≡ entered_all n (run_steps run) (history_of bytes)
 cut_enters old new bytes more sessions place run n s w e =
-    let same : next_word sessions place ≡ n = omega (arith, next_word-is bytes sessions place s.reading, e) in
+    let same : next_word sessions place ≡ n = omega (arith, next_word_is bytes sessions place s.reading, e) in
     sym (history_is (bytes ++ more) w.new_sessions w.new_place w.stands.reading)
     ∙ run_enters run sessions w.new_sessions place w.new_place w.adds
     ∙ ap (λ (k : ℕ). entered_all k (run_steps run) (history sessions place)) same

@@ -4,8 +4,8 @@ use Rattle.std.specs.List.{flat_map}
 use Rattle.std.specs.Simd.{first_chunks}
 use Rattle.std.proofs.lemmas.List.{get_or-map, length-take-le, replicate-append-replicate, take_more}
 use Rattle.x7_words.specs.Word.{AreBytes, bytes_of_word, word_of_bytes, words_of_bytes}
-use Rattle.x7_words.proofs.ListLemmas.{all-append, all_take}
-use Rattle.x7_words.proofs.WordLemmas.{bytes-words, chunk_count, words_by_chunks, words_taken}
+use Rattle.x7_words.proofs.ListLemmas.{all_append, all_take}
+use Rattle.x7_words.proofs.WordLemmas.{bytes_words, chunk_count, words_by_chunks, words_taken}
 use Rattle.x7_packets.specs.SyncWord.{sync_bytes}
 use Rattle.x7_packets.specs.declared.header.Step.TheVariants.{Nop}
 use Rattle.x7_packets.specs.Mode.{Mode}
@@ -16,7 +16,7 @@ use Rattle.x7_packets.specs.PacketWords.{no_op}
 use Rattle.x7_packets.specs.Packet.{Packet}
 use Rattle.x7_packets.specs.Reading.{Place, Searching, Session, Synced, packet_bytes, session_bytes}
 use Rattle.x7_packets.specs.Taking.{Grows, MachineStandsFor, MachineState}
-use Rattle.x7_packets.proofs.CutLemmas.{joined_more, packet_bytes-grown}
+use Rattle.x7_packets.proofs.CutLemmas.{joined_more, packet_bytes_grown}
 use Rattle.x7_packets.proofs.HistoryLemmas.{grown_goes_on}
 use Rattle.x7_packets.proofs.TakeLemmas.{header_whole}
 
@@ -36,7 +36,7 @@ pub equal_taken : (k w : ℕ) (bytes : List ℕ) → AreBytes bytes → 4 * k �
 equal_taken k w bytes fits l e =
     let prefix : List ℕ = take (4 * k) bytes in
     let count : length prefix ≡ 4 * k = length-take-le (4 * k) bytes l in
-    sym (bytes-words prefix k (all_take (λ b. b < 256) (4 * k) bytes fits) count) ∙ ap (flat_map bytes_of_word) (words_taken k bytes l ∙ e)
+    sym (bytes_words prefix k (all_take (λ b. b < 256) (4 * k) bytes fits) count) ∙ ap (flat_map bytes_of_word) (words_taken k bytes l ∙ e)
 
 -- ---- a machine in a header's place
 
@@ -60,12 +60,12 @@ one_nop c bytes sessions gap packets synced none s =
     let fits : AreBytes word = (omega arith, (omega arith, (omega arith, (omega arith, tt)))) in
     let joined : bytes ++ word ≡ flat_map session_bytes sessions ++ (gap ++ sync_bytes ++ packet_bytes g.packets) =
     joined_more (flat_map session_bytes sessions) bytes gap [] word (packet_bytes g.packets) (packet_bytes packets) word s.reading.joined
-    (packet_bytes-grown packets g.packets ((no_op, Nop) ∷ []) g.grown ∙ ap (λ t. packet_bytes packets ++ t) (append-nil word)) refl in
+    (packet_bytes_grown packets g.packets ((no_op, Nop) ∷ []) g.grown ∙ ap (λ t. packet_bytes packets ++ t) (append-nil word)) refl in
     record {
       all = g.packets;
       stands = record {
         reading = record {
-          fits = all-append (λ b. b < 256) bytes word s.reading.fits fits;
+          fits = all_append (λ b. b < 256) bytes word s.reading.fits fits;
           joined = joined ∙ ap (λ t. flat_map session_bytes sessions ++ t) (sym (append-nil (gap ++ sync_bytes ++ packet_bytes g.packets)));
           each = s.reading.each;
           ends = (s.reading.ends.0, g.each, g.end, omega arith);

@@ -2,7 +2,7 @@
 use Rattle.std.proofs.Common.{◌≡◌, ℕ, ◌+◌, ◌≤◌, ◌<◌, ◌⊎◌, inl, inr, Bool, true, false, if◌then◌else◌, List, [], ◌∷◌, ◌++◌, length, refl, ap, sym, subst, ◌∙◌, append_assoc, append-nil, arith, length-append}
 use Rattle.std.proofs.lemmas.List.Sums.{fold-append}
 use Rattle.x7_words.specs.Word.{AreBytes, word_of_bytes}
-use Rattle.x7_words.proofs.ListLemmas.{all_front}
+use Rattle.x7_words.proofs.ListLemmas.{all_prefix}
 use Rattle.x7_packets.specs.Packet.{Packet, ended}
 use Rattle.x7_packets.specs.Reading.{Place, Searching, Synced, Session, tail_of}
 use Rattle.x7_packets.specs.ByHand.{Reading, before_last_four, is_sync, last_four, reading_of, with_byte, with_byte_at, packets_with_word}
@@ -68,7 +68,7 @@ once_by h bytes (x ∷ more) i f few o =
     let all : (bytes ++ x ∷ []) ++ more ≡ bytes ++ x ∷ more = append_assoc bytes (x ∷ []) more in
     let fits : AreBytes ((bytes ++ x ∷ []) ++ more) = subst AreBytes (sym all) f in
     subst (λ (b : List ℕ). (history_of b ≡ h) ⊎ ((e : Entry) × (history_of b ≡ e ∷ h))) all
-    (once_by h (bytes ++ x ∷ []) more (i + 1) fits (omega (arith, few)) (once_step h bytes x i (all_front (λ b. b < 256) (bytes ++ x ∷ []) more fits) (omega (arith, few)) o))
+    (once_by h (bytes ++ x ∷ []) more (i + 1) fits (omega (arith, few)) (once_step h bytes x i (all_prefix (λ b. b < 256) (bytes ++ x ∷ []) more fits) (omega (arith, few)) o))
 
 pub enter_once : (bytes more : List ℕ) → AreBytes (bytes ++ more) → length more ≤ 4 → (history_of (bytes ++ more) ≡ history_of bytes) ⊎ ((e : Entry) × (history_of (bytes ++ more) ≡ e ∷ history_of bytes))
 enter_once bytes more f few = once_by (history_of bytes) bytes more 0 f (omega (arith, few)) (inl refl)

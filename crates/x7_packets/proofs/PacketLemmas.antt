@@ -3,7 +3,7 @@ use Rattle.std.proofs.Common.{◌≡◌, ℕ, List, [], ◌∷◌, ◌++◌, Opt
 use Rattle.std.proofs.lemmas.List.{append_cancel_left}
 use Rattle.std.proofs.lemmas.Grind.{common_steps}
 use Rattle.std.specs.List.{flat_map}
-use Rattle.x7_words.proofs.ListLemmas.{flat_map-last, same_prefix, map-append}
+use Rattle.x7_words.proofs.ListLemmas.{flat_map_last, same_prefix, map_append}
 use Rattle.x7_packets.specs.declared.header.Step.{Step}
 use Rattle.x7_packets.specs.declared.header.Step.TheVariants.{Payload}
 use Rattle.x7_packets.specs.Packet.{Packet, Packets, EachPacket, IsPacket, IsWhole, OnlyLastEnds, NoneEnds, latest_of, latest_after, count_of, named_by, words, payload_steps, stepped, meaning, ends_session, ended, last_ends}
@@ -20,7 +20,7 @@ each_more l (q ∷ r ∷ ps) p a i = (a.0, a.1, each_more (latest_after l q.step
 
 -- a packet more at the end of packets that are all whole
 pub packet_more : (ws : List ℕ) (ps : List Packet) (p : Packet) → Packets ws ps → AllWhole None ps → IsPacket (latest_of None ps) p → Packets (ws ++ words p) (ps ++ p ∷ [])
-packet_more ws ps p a w i = record { joined = ap (λ t. t ++ words p) a.joined ∙ sym (flat_map-last words ps p); each = each_more None ps p w i }
+packet_more ws ps p a w i = record { joined = ap (λ t. t ++ words p) a.joined ∙ sym (flat_map_last words ps p); each = each_more None ps p w i }
 
 pub whole_after : (ps : List Packet) (p : Packet) → AllWhole None ps → IsPacket (latest_of None ps) p → IsWhole p → AllWhole None (ps ++ p ∷ [])
 whole_after = whole_more None
@@ -46,15 +46,15 @@ header_ends l w = grind (arith, common_steps)
 pub no_payload : (l : Option ℕ) (w register x : ℕ) → meaning l w ≡ Payload register x → ⊥
 no_payload l w register x = grind (arith, common_steps)
 
-pub last_ends-more : (register : ℕ) (ws : List ℕ) (w : ℕ) → last_ends register (ws ++ w ∷ []) ≡ ends_session register w
-last_ends-more register [] w = refl
-last_ends-more register (x ∷ []) w = refl
-last_ends-more register (x ∷ y ∷ ws) w = last_ends-more register (y ∷ ws) w
+pub last_ends_more : (register : ℕ) (ws : List ℕ) (w : ℕ) → last_ends register (ws ++ w ∷ []) ≡ ends_session register w
+last_ends_more register [] w = refl
+last_ends_more register (x ∷ []) w = refl
+last_ends_more register (x ∷ y ∷ ws) w = last_ends_more register (y ∷ ws) w
 
-pub ended-more : (ps : List Packet) (p : Packet) → ended (ps ++ p ∷ []) ≡ last_ends (named_by p.step) p.payload
-ended-more [] p = refl
-ended-more (q ∷ []) p = refl
-ended-more (q ∷ r ∷ ps) p = ended-more (r ∷ ps) p
+pub ended_more : (ps : List Packet) (p : Packet) → ended (ps ++ p ∷ []) ≡ last_ends (named_by p.step) p.payload
+ended_more [] p = refl
+ended_more (q ∷ []) p = refl
+ended_more (q ∷ r ∷ ps) p = ended_more (r ∷ ps) p
 
 firsts_payload : (register : ℕ) (ws : List ℕ) → map (λ (s : ℕ × Step). s.0) (payload_steps register ws) ≡ ws
 firsts_payload register [] = refl
@@ -64,14 +64,14 @@ firsts_payload register (w ∷ ws) = ap (λ t. w ∷ t) (firsts_payload register
 pub words_stepped : (ps : List Packet) → map (λ (s : ℕ × Step). s.0) (flat_map stepped ps) ≡ flat_map words ps
 words_stepped [] = refl
 words_stepped (p ∷ ps) =
-    map-append (λ (s : ℕ × Step). s.0) (stepped p) (flat_map stepped ps)
+    map_append (λ (s : ℕ × Step). s.0) (stepped p) (flat_map stepped ps)
     ∙ ap (λ t. p.head ∷ t ++ map (λ (s : ℕ × Step). s.0) (flat_map stepped ps)) (firsts_payload (named_by p.step) p.payload)
     ∙ ap (λ t. words p ++ t) (words_stepped ps)
 
 -- the words of packets that grew
 pub words_grown : (ps qs : List Packet) (more : List (ℕ × Step)) → flat_map stepped qs ≡ flat_map stepped ps ++ more → flat_map words qs ≡ flat_map words ps ++ map (λ (s : ℕ × Step). s.0) more
 words_grown ps qs more e =
-    sym (words_stepped qs) ∙ ap (map (λ (s : ℕ × Step). s.0)) e ∙ map-append (λ (s : ℕ × Step). s.0) (flat_map stepped ps) more
+    sym (words_stepped qs) ∙ ap (map (λ (s : ℕ × Step). s.0)) e ∙ map_append (λ (s : ℕ × Step). s.0) (flat_map stepped ps) more
     ∙ ap (λ t. t ++ map (λ (s : ℕ × Step). s.0) more) (words_stepped ps)
 
 pub words_of_payload : (register : ℕ) (ws : List ℕ) → map (λ (s : ℕ × Step). s.0) (payload_steps register ws) ≡ ws

@@ -16,26 +16,26 @@ lane p q r s = bit_and (bit_and (cond p 255 0) (cond q 255 0)) (bit_and (cond r 
 abbrev All : Bool → Bool → Bool → Bool → Type 0
 All p q r s = (p ≡ true) × (q ≡ true) × (r ≡ true) × (s ≡ true)
 
-top-all : (p q r s : Bool) → 128 ≤ lane p q r s → All p q r s
-top-all true true true true h = (refl, refl, refl, refl)
-top-all true true true false h = absurd (omega (arith, h))
-top-all true true false true h = absurd (omega (arith, h))
-top-all true true false false h = absurd (omega (arith, h))
-top-all true false true true h = absurd (omega (arith, h))
-top-all true false true false h = absurd (omega (arith, h))
-top-all true false false true h = absurd (omega (arith, h))
-top-all true false false false h = absurd (omega (arith, h))
-top-all false true true true h = absurd (omega (arith, h))
-top-all false true true false h = absurd (omega (arith, h))
-top-all false true false true h = absurd (omega (arith, h))
-top-all false true false false h = absurd (omega (arith, h))
-top-all false false true true h = absurd (omega (arith, h))
-top-all false false true false h = absurd (omega (arith, h))
-top-all false false false true h = absurd (omega (arith, h))
-top-all false false false false h = absurd (omega (arith, h))
+top_all : (p q r s : Bool) → 128 ≤ lane p q r s → All p q r s
+top_all true true true true h = (refl, refl, refl, refl)
+top_all true true true false h = absurd (omega (arith, h))
+top_all true true false true h = absurd (omega (arith, h))
+top_all true true false false h = absurd (omega (arith, h))
+top_all true false true true h = absurd (omega (arith, h))
+top_all true false true false h = absurd (omega (arith, h))
+top_all true false false true h = absurd (omega (arith, h))
+top_all true false false false h = absurd (omega (arith, h))
+top_all false true true true h = absurd (omega (arith, h))
+top_all false true true false h = absurd (omega (arith, h))
+top_all false true false true h = absurd (omega (arith, h))
+top_all false true false false h = absurd (omega (arith, h))
+top_all false false true true h = absurd (omega (arith, h))
+top_all false false true false h = absurd (omega (arith, h))
+top_all false false false true h = absurd (omega (arith, h))
+top_all false false false false h = absurd (omega (arith, h))
 
-all-top : (p q r s : Bool) → p ≡ true → q ≡ true → r ≡ true → s ≡ true → 128 ≤ lane p q r s
-all-top p q r s a b c d = subst (λ (t : Bool). 128 ≤ lane t q r s) (sym a) (subst (λ (t : Bool). 128 ≤ lane true t r s) (sym b) (subst (λ (t : Bool). 128 ≤ lane true true t s) (sym c) (subst (λ (t : Bool). 128 ≤ lane true true true t) (sym d) (omega arith))))
+all_top : (p q r s : Bool) → p ≡ true → q ≡ true → r ≡ true → s ≡ true → 128 ≤ lane p q r s
+all_top p q r s a b c d = subst (λ (t : Bool). 128 ≤ lane t q r s) (sym a) (subst (λ (t : Bool). 128 ≤ lane true t r s) (sym b) (subst (λ (t : Bool). 128 ≤ lane true true t s) (sym c) (subst (λ (t : Bool). 128 ≤ lane true true true t) (sym d) (omega arith))))
 
 -- the vector has, at lane k, whether the sync word's bytes stand from place at + k on
 abbrev pub SyncLanes : List ℕ → ℕ → List ℕ → Type 0
@@ -63,7 +63,7 @@ moved bytes at k i x e = ap (λ (j : ℕ). get_or bytes j 0) (let same : at + k 
 pub sync_there : (bytes v : List ℕ) (at k : ℕ) → at + 35 ≤ length bytes → SyncLanes bytes at v → 128 ≤ get_or v k 0 → (k < 32) × OccursAt bytes sync_bytes (at + k)
 sync_there bytes v at k room s h = elim (cases_lt k 32) [
   | inl l ↦ (
-      let a = top-all _ _ _ _ (subst (λ (x : ℕ). 128 ≤ x) (s.each k l) h) in
+      let a = top_all _ _ _ _ (subst (λ (x : ℕ). 128 ≤ x) (s.each k l) h) in
       (l, occurs_by_bytes bytes (at + k) (omega arith) (eqb-true _ _ a.0) (moved bytes at k 1 0x99 a.1) (moved bytes at k 2 0x55 a.2) (moved bytes at k 3 0x66 a.3))
       )
   | inr m ↦ (let none : get_or v k 0 ≡ 0 = get_or_past v k 0 (omega (arith, s.long, m)) in absurd (omega (arith, h, none)))
@@ -76,7 +76,7 @@ pub sync_seen : (bytes v : List ℕ) (at k : ℕ) → SyncLanes bytes at v → k
 sync_seen bytes v at k s l o =
     let first : get_or bytes (at + k) 0 ≡ 0xAA = ap (λ (j : ℕ). get_or bytes j 0) (let same : at + k ≡ at + k + 0 = omega arith in same) ∙ o.reads 0 (omega arith) in
     subst (λ (x : ℕ). 128 ≤ x) (sym (s.each k l))
-    (all-top _ _ _ _ (eq-eqb _ _ first) (at_byte bytes at k 1 0x99 (o.reads 1 (omega arith))) (at_byte bytes at k 2 0x55 (o.reads 2 (omega arith))) (at_byte bytes at k 3 0x66 (o.reads 3 (omega arith))))
+    (all_top _ _ _ _ (eq-eqb _ _ first) (at_byte bytes at k 1 0x99 (o.reads 1 (omega arith))) (at_byte bytes at k 2 0x55 (o.reads 2 (omega arith))) (at_byte bytes at k 3 0x66 (o.reads 3 (omega arith))))
 
 -- the lane of the first and the last byte
 pub ends_seen : (bytes l0 l3 e0 e3 v : List ℕ) (at k : ℕ) → HasLanes l0 (λ k. get_or bytes (at + k) 0) → HasLanes l3 (λ k. get_or bytes (at + 3 + k) 0)
@@ -125,11 +125,11 @@ nowhere_then i j k a b m low high = elim (cases_lt m j) [
 ]
 
 -- the first place after places without it
-pub found_behind : (bytes : List ℕ) (from to place : ℕ) → Nowhere (OccursAt bytes sync_bytes) 0 from → NoneBefore (OccursAt bytes sync_bytes) from to place × OccursAt bytes sync_bytes place → NoneBefore (OccursAt bytes sync_bytes) 0 (length bytes + 1) place × OccursAt bytes sync_bytes place
-found_behind bytes from to place none found = (record { low = omega arith; high = omega (arith, found.1.fits); before = nowhere_then 0 from place none found.0.before }, found.1)
+pub found_after : (bytes : List ℕ) (from to place : ℕ) → Nowhere (OccursAt bytes sync_bytes) 0 from → NoneBefore (OccursAt bytes sync_bytes) from to place × OccursAt bytes sync_bytes place → NoneBefore (OccursAt bytes sync_bytes) 0 (length bytes + 1) place × OccursAt bytes sync_bytes place
+found_after bytes from to place none found = (record { low = omega arith; high = omega (arith, found.1.fits); before = nowhere_then 0 from place none found.0.before }, found.1)
 
 -- the last places, which may overlap others
 pub last_places : (bytes : List ℕ) (from last : ℕ) (r : Option ℕ) → Nowhere (OccursAt bytes sync_bytes) 0 from → last ≤ from → last + 35 ≡ length bytes → IsFirst (OccursAt bytes sync_bytes) last (last + 32) r → IsFirst (OccursAt bytes sync_bytes) 0 (length bytes + 1) r
 last_places bytes from last None none e l found = nowhere_then 0 last (length bytes + 1) (λ k low high. none k low (omega (arith, high, e)))
     (nowhere_then last (last + 32) (length bytes + 1) found (λ k low high o. omega (arith, o.fits, low, l)))
-last_places bytes from last (Some place) none e l found = found_behind bytes last (last + 32) place (λ k low high. none k low (omega (arith, high, e))) found
+last_places bytes from last (Some place) none e l found = found_after bytes last (last + 32) place (λ k low high. none k low (omega (arith, high, e))) found

@@ -3,7 +3,7 @@ use Rattle.std.proofs.Common.{Option, ◌≡◌, ◌≢◌, ℕ, ◌+◌, ◌*�
 use Rattle.std.specs.Bool.{⊤}
 use Rattle.std.proofs.lemmas.List.{drop-drop, drop-take, take-append-drop, take-take, take_all, take_at, drop_all}
 use Rattle.x7_words.specs.Input.{AtEnd, preceded}
-use Rattle.x7_words.proofs.InputLemmas.{preceded-nil}
+use Rattle.x7_words.proofs.InputLemmas.{preceded_nil}
 use Rattle.x7_words.specs.Word.{words_of_bytes}
 use Rattle.x7_packets.specs.SyncWord.{sync_bytes}
 use Rattle.x7_packets.specs.Packet.{Packet, ended, payload_steps}
@@ -179,8 +179,8 @@ pub within_piece : (items piece : List ℕ) (at end n : ℕ) → piece ≡ items
 within_piece items piece at end n e h l = omega (arith, h, l, length-take (end - at) (drop at piece))
 
 -- what is left of a buffer after bytes that were taken, and these bytes
-pub left_behind : (items : List ℕ) (at end n : ℕ) → at + n ≤ end → between items (at + n) end ≡ drop n (between items at end)
-left_behind items at end n h =
+pub left_after : (items : List ℕ) (at end n : ℕ) → at + n ≤ end → between items (at + n) end ≡ drop n (between items at end)
+left_after items at end n h =
     let parts : end - at ≡ n + (end - (at + n)) = omega (arith, h) in
     sym (ap (λ k. drop n (take k (drop at items))) parts ∙ drop-take n (end - (at + n)) (drop at items) ∙ ap (take (end - (at + n))) (drop-drop n at items))
 
@@ -601,7 +601,7 @@ again p off good = record {
 pub gives_again : (p : PacketsState) (rest : Option (List ℕ)) (r : Run) → p.done ≡ true → p.failed ≡ false → AtEnd rest → r ≡ run.End → GivesRun p (record p { found = FoundRun.End }) rest rest r
 gives_again p rest r off good end at =
     let same : record p { found = FoundRun.End } ≡ record p { found = FoundRun.End; done = true } = ap (λ (d : Bool). record p { found = FoundRun.End; done = d }) off in
-    rw (same, at) (record { more = []; taken = sym (preceded-nil rest); tells = again p off good; end = λ _. end })
+    rw (same, at) (record { more = []; taken = sym (preceded_nil rest); tells = again p off good; end = λ _. end })
 
 -- a read that gave none, and then the end
 pub gives_end : (first old now mid new : PacketsState) (more piece : List ℕ) (rest rest_mid rest_now : Option (List ℕ)) (r : Run) (s : Steps old now false) → old.done ≡ false → old.failed ≡ false → ReadsOn first old more
@@ -614,7 +614,7 @@ gives_end first old now mid new more piece rest rest_mid rest_now r s on good re
     let by_none : now.cutter.kept ≡ [] → new ≡ record (filled now []) { found = FoundRun.End; done = true } = subst (λ (m : PacketsState). m.cutter.kept ≡ [] → new ≡ record m { found = FoundRun.End; done = true }) at no_tail in
     record {
       more = more;
-      taken = t ∙ ap (preceded more) (u ∙ ap (λ (p : List ℕ). preceded p rest_now) none ∙ preceded-nil rest_now);
+      taken = t ∙ ap (preceded more) (u ∙ ap (λ (p : List ℕ). preceded p rest_now) none ∙ preceded_nil rest_now);
       tells = (tells_end first old now new more r s on good reads by_tail by_none last).0;
       end = λ _. end;
     }

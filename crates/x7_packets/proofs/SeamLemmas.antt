@@ -2,7 +2,7 @@
 use Rattle.std.proofs.Common.{◌≡◌, ℕ, ◌==◌, true, false, List, [], ◌∷◌, ◌++◌, length, inl, inr, refl, ap, sym, subst, eq-eqb, ◌∙◌, append_assoc, arith, length-append, ◌≤◌, take, drop, take-append-drop, length-take-le}
 use Rattle.std.specs.List.{AllByRecursion}
 use Rattle.std.proofs.lemmas.List.{append_cancel_left}
-use Rattle.x7_words.proofs.ListLemmas.{fronts_of, all_front, all_back, shorter_front}
+use Rattle.x7_words.proofs.ListLemmas.{prefixes_of, all_prefix, all_back, shorter_prefix}
 use Rattle.x7_packets.specs.SyncWord.{HasNoSync, IsBeforeSync, sync_bytes}
 use Rattle.x7_packets.specs.Appended.{BeginsWithDummy, LacksFirst}
 use Rattle.x7_packets.specs.Gap.{NoneBegins}
@@ -19,7 +19,7 @@ seam gap prefix (x ∷ y ∷ z ∷ u ∷ more) rest back n g e =
 
 -- none begins in a gap that a dummy word follows
 pub none_before_dummy : (gap more : List ℕ) → HasNoSync gap → BeginsWithDummy more → NoneBegins gap more
-none_before_dummy gap more n d prefix back e = elim (fronts_of gap prefix more (sync_bytes ++ back) e) [
+none_before_dummy gap more n d prefix back e = elim (prefixes_of gap prefix more (sync_bytes ++ back) e) [
   | inl l ↦ omega (arith, ap length l.prefix, length-append gap l.more)
   | inr l ↦ absurd (seam gap prefix l.more d.0 back n l.prefix (l.back ∙ ap (λ t. l.more ++ t) d.1))
 ]
@@ -27,30 +27,30 @@ none_before_dummy gap more n d prefix back e = elim (fronts_of gap prefix more (
 -- ---- a gap in which none begins
 
 -- a sync word stands in the bytes after it
-stands_behind : (gap more prefix back : List ℕ) → NoneBegins gap more → gap ++ more ≡ prefix ++ (sync_bytes ++ back) → (x : List ℕ) × (prefix ≡ gap ++ x) × (more ≡ x ++ (sync_bytes ++ back))
-stands_behind gap more prefix back n e =
-    let f : (m : List ℕ) × (prefix ≡ gap ++ m) = shorter_front gap prefix more (sync_bytes ++ back) (n prefix back e) e in
+stands_after : (gap more prefix back : List ℕ) → NoneBegins gap more → gap ++ more ≡ prefix ++ (sync_bytes ++ back) → (x : List ℕ) × (prefix ≡ gap ++ x) × (more ≡ x ++ (sync_bytes ++ back))
+stands_after gap more prefix back n e =
+    let f : (m : List ℕ) × (prefix ≡ gap ++ m) = shorter_prefix gap prefix more (sync_bytes ++ back) (n prefix back e) e in
     (f.0, f.1, append_cancel_left gap more (f.0 ++ (sync_bytes ++ back)) (e ∙ ap (λ (p : List ℕ). p ++ (sync_bytes ++ back)) f.1 ∙ append_assoc gap f.0 (sync_bytes ++ back)))
 
 -- none begins in it before fewer bytes
-pub none_before_front : (gap more rest : List ℕ) → NoneBegins gap (more ++ rest) → NoneBegins gap more
-none_before_front gap more rest n prefix back e =
+pub none_before_prefix : (gap more rest : List ℕ) → NoneBegins gap (more ++ rest) → NoneBegins gap more
+none_before_prefix gap more rest n prefix back e =
     let longer : (prefix ++ (sync_bytes ++ back)) ++ rest ≡ prefix ++ (sync_bytes ++ (back ++ rest)) = simp append_assoc in
     n prefix (back ++ rest) (sym (append_assoc gap more rest) ∙ ap (λ (x : List ℕ). x ++ rest) e ∙ longer)
 
-pub none_behind : (gap more : List ℕ) → NoneBegins gap more → HasNoSync more → HasNoSync (gap ++ more)
-none_behind gap more n m = record {
+pub none_after : (gap more : List ℕ) → NoneBegins gap more → HasNoSync more → HasNoSync (gap ++ more)
+none_after gap more n m = record {
   none = λ prefix back e.
-      let r : (x : List ℕ) × (prefix ≡ gap ++ x) × (more ≡ x ++ (sync_bytes ++ back)) = stands_behind gap more prefix back n (e ∙ append_assoc prefix sync_bytes back) in
+      let r : (x : List ℕ) × (prefix ≡ gap ++ x) × (more ≡ x ++ (sync_bytes ++ back)) = stands_after gap more prefix back n (e ∙ append_assoc prefix sync_bytes back) in
       m.none r.0 back (r.2 ∙ sym (append_assoc r.0 sync_bytes back));
 }
 
-pub first_behind : (gap more rest : List ℕ) → NoneBegins gap (more ++ (sync_bytes ++ rest)) → IsBeforeSync more → IsBeforeSync (gap ++ more)
-first_behind gap more rest n m = record {
+pub first_after : (gap more rest : List ℕ) → NoneBegins gap (more ++ (sync_bytes ++ rest)) → IsBeforeSync more → IsBeforeSync (gap ++ more)
+first_after gap more rest n m = record {
   first = λ prefix back e.
-      let there : NoneBegins gap (more ++ sync_bytes) = none_before_front gap (more ++ sync_bytes) rest (subst (NoneBegins gap) (sym (append_assoc more sync_bytes rest)) n) in
+      let there : NoneBegins gap (more ++ sync_bytes) = none_before_prefix gap (more ++ sync_bytes) rest (subst (NoneBegins gap) (sym (append_assoc more sync_bytes rest)) n) in
       let r : (x : List ℕ) × (prefix ≡ gap ++ x) × (more ++ sync_bytes ≡ x ++ (sync_bytes ++ back)) =
-      stands_behind gap (more ++ sync_bytes) prefix back there (sym (append_assoc gap more sync_bytes) ∙ e ∙ append_assoc prefix sync_bytes back) in
+      stands_after gap (more ++ sync_bytes) prefix back there (sym (append_assoc gap more sync_bytes) ∙ e ∙ append_assoc prefix sync_bytes back) in
       m.first r.0 back (r.2 ∙ sym (append_assoc r.0 sync_bytes back));
 }
 
@@ -70,7 +70,7 @@ pub none_without_first : (bytes : List ℕ) → LacksFirst bytes → HasNoSync b
 none_without_first bytes l = record {
   none = λ prefix back e.
       let all : LacksFirst ((prefix ++ sync_bytes) ++ back) = rw e at l in
-      let there : LacksFirst sync_bytes = all_back (λ b. (b == 0xAA) ≡ false) prefix sync_bytes (all_front (λ b. (b == 0xAA) ≡ false) (prefix ++ sync_bytes) back all) in
+      let there : LacksFirst sync_bytes = all_back (λ b. (b == 0xAA) ≡ false) prefix sync_bytes (all_prefix (λ b. (b == 0xAA) ≡ false) (prefix ++ sync_bytes) back all) in
       let no : true ≡ false = there.0 in cc;
 }
 
@@ -89,7 +89,7 @@ pub none_without : (bytes prefix back : List ℕ) (x : ℕ) → sync_bytes ≡ p
 none_without bytes prefix back x s l = record {
   none = λ f r e.
       let all : AllByRecursion (λ b. (b == x) ≡ false) ((f ++ sync_bytes) ++ r) = rw e at l in
-      let word : AllByRecursion (λ b. (b == x) ≡ false) sync_bytes = all_back (λ b. (b == x) ≡ false) f sync_bytes (all_front (λ b. (b == x) ≡ false) (f ++ sync_bytes) r all) in
+      let word : AllByRecursion (λ b. (b == x) ≡ false) sync_bytes = all_back (λ b. (b == x) ≡ false) f sync_bytes (all_prefix (λ b. (b == x) ≡ false) (f ++ sync_bytes) r all) in
       let there : AllByRecursion (λ b. (b == x) ≡ false) (x ∷ back) = all_back (λ b. (b == x) ≡ false) prefix (x ∷ back) (subst (AllByRecursion (λ b. (b == x) ≡ false)) s word) in
       let yes : (x == x) ≡ true = eq-eqb x x refl in let no : (x == x) ≡ false = there.0 in cc;
 }

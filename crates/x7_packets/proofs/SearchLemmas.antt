@@ -4,7 +4,7 @@ use Rattle.std.proofs.lemmas.List.{take-append-drop, take_more, take-take, drop_
 use Rattle.std.specs.Option.{is_some, IfSome}
 use Rattle.memchr.specs.Find.{OccursAt}
 use Rattle.memchr.proofs.lemmas.MatchLemmas.{OccursAt-part, OccursAt-from_part}
-use Rattle.x7_words.proofs.ListLemmas.{fronts_of, shorter_front, IsFront}
+use Rattle.x7_words.proofs.ListLemmas.{prefixes_of, shorter_prefix, IsFront}
 use Rattle.x7_packets.specs.SyncWord.{EndsWithSync, HasNoSync, IsBeforeSync, sync_bytes}
 use Rattle.x7_packets.specs.Matching.{IsClear, IsFirstSync, LastThree, MatcherStandsFor, Searched}
 use Rattle.x7_packets.proofs.SyncLemmas.{ends_so, first_here, none_yet, took_one}
@@ -21,11 +21,11 @@ in_the_seam : (gap bytes prefix more back : List ℕ) → HasNoSync (gap ++ take
 in_the_seam gap bytes prefix more back n e f s =
     let long : length sync_bytes ≤ length (more ++ take 3 bytes) = omega (arith, ap length f, length-append more (take 3 bytes), length-append more bytes, length-append sync_bytes back, length-take 3 bytes) in
     let whole : sync_bytes ++ back ≡ (more ++ take 3 bytes) ++ drop 3 bytes = f ∙ ap (λ t. more ++ t) (sym (take-append-drop 3 bytes)) ∙ sym (append_assoc more (take 3 bytes) (drop 3 bytes)) in
-    let r : (m : List ℕ) × (more ++ take 3 bytes ≡ sync_bytes ++ m) = shorter_front sync_bytes (more ++ take 3 bytes) back (drop 3 bytes) long whole in
+    let r : (m : List ℕ) × (more ++ take 3 bytes ≡ sync_bytes ++ m) = shorter_prefix sync_bytes (more ++ take 3 bytes) back (drop 3 bytes) long whole in
     n.none prefix r.0 (ap (λ t. t ++ take 3 bytes) e ∙ append_assoc prefix more (take 3 bytes) ∙ ap (λ t. prefix ++ t) r.1 ∙ sym (append_assoc prefix sync_bytes r.0))
 
 nowhere : (gap bytes prefix back : List ℕ) → HasNoSync (gap ++ take 3 bytes) → ((k : ℕ) → OccursAt bytes sync_bytes k → ⊥) → gap ++ bytes ≡ prefix ++ (sync_bytes ++ back) → ⊥
-nowhere gap bytes prefix back n o e = elim (fronts_of gap prefix bytes (sync_bytes ++ back) e) [
+nowhere gap bytes prefix back n o e = elim (prefixes_of gap prefix bytes (sync_bytes ++ back) e) [
   | inl l ↦ o (length l.more) (occurs bytes l.more back l.back)
   | inr l ↦ seam l
 ]
@@ -65,8 +65,8 @@ none_near gap bytes near None m h e s =
 none_near gap bytes near (Some n) m h e s = absurd (cc)
 
 -- the sync word stands in a prefix of the bytes as it stands in them
-occurs_in_front : (bytes : List ℕ) (n k : ℕ) → OccursAt (take n bytes) sync_bytes k → (k + 4 ≤ n) × OccursAt bytes sync_bytes k
-occurs_in_front bytes n k o =
+occurs_before : (bytes : List ℕ) (n k : ℕ) → OccursAt (take n bytes) sync_bytes k → (k + 4 ≤ n) × OccursAt bytes sync_bytes k
+occurs_before bytes n k o =
     let within : k + 4 ≤ n = omega (arith, o.fits, length-take n bytes) in (
       within,
       record {
@@ -81,7 +81,7 @@ found_in_piece gap bytes at n o before =
     let cut : List ℕ = take (at + 3) bytes in
     let same : take 3 cut ≡ take 3 bytes = take-take 3 (at + 3) bytes (omega arith) in
     let seam : HasNoSync (gap ++ take 3 cut) = rw same n in
-    let none : (k : ℕ) → OccursAt cut sync_bytes k → ⊥ = λ k h. let g : (k + 4 ≤ at + 3) × OccursAt bytes sync_bytes k = occurs_in_front bytes (at + 3) k h in before k (omega arith) (omega (arith, g.0)) g.1 in
+    let none : (k : ℕ) → OccursAt cut sync_bytes k → ⊥ = λ k h. let g : (k + 4 ≤ at + 3) × OccursAt bytes sync_bytes k = occurs_before bytes (at + 3) k h in before k (omega arith) (omega (arith, g.0)) g.1 in
     let there : take (at + 4) bytes ≡ take at bytes ++ sync_bytes = take-add at 4 bytes ∙ ap (λ t. take at bytes ++ t) (OccursAt-part bytes sync_bytes at o) in
     let prefix : List ℕ = gap ++ take at bytes in
     let whole : gap ++ take (at + 4) bytes ≡ prefix ++ sync_bytes = ap (λ t. gap ++ t) there ∙ sym (append_assoc gap (take at bytes) sync_bytes) in
@@ -98,8 +98,8 @@ last_three (a ∷ b ∷ c ∷ []) zero e = refl
 last_three (a ∷ b ∷ c ∷ d ∷ xs) zero e = absurd (omega (arith, e))
 last_three (x ∷ xs) (suc k) e = last_three xs k (omega (arith, e))
 
-pub stands_behind : (gap bytes : List ℕ) → 3 ≤ length bytes → MatcherStandsFor (record { first = get_or bytes (length bytes - 3) 0; second = get_or bytes (length bytes - 2) 0; third = get_or bytes (length bytes - 1) 0 }) (gap ++ bytes)
-stands_behind gap bytes h =
+pub stands_after : (gap bytes : List ℕ) → 3 ≤ length bytes → MatcherStandsFor (record { first = get_or bytes (length bytes - 3) 0; second = get_or bytes (length bytes - 2) 0; third = get_or bytes (length bytes - 1) 0 }) (gap ++ bytes)
+stands_after gap bytes h =
     let k : ℕ = length bytes - 3 in
     let two : length bytes - 2 ≡ suc k = omega arith in
     let one : length bytes - 1 ≡ suc (suc k) = omega arith in

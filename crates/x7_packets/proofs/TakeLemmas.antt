@@ -4,12 +4,12 @@ use Rattle.std.proofs.lemmas.Bool.{cases_eq}
 use Rattle.std.proofs.lemmas.Bool.Decides.{nat_tests}
 use Rattle.std.specs.List.{flat_map}
 use Rattle.x7_words.specs.Word.{AreWords}
-use Rattle.x7_words.proofs.ListLemmas.{flat_map-last, map-append, all-append}
+use Rattle.x7_words.proofs.ListLemmas.{flat_map_last, map_append, all_append}
 use Rattle.x7_packets.specs.declared.header.Step.{Step}
 use Rattle.x7_packets.specs.declared.header.Step.TheVariants.{Filler, Nop, Open, Payload, Read, Bad}
 use Rattle.x7_packets.specs.Packet.{Packet, IsPacket, IsWhole, NoneEnds, latest_of, latest_after, count_of, named_by, words, payload_steps, stepped, meaning, ends_session, last_ends}
 use Rattle.x7_packets.specs.Taking.{MachineState, MachineStandsFor, AtHeader, InPayload, Grows, is_end, ends_by}
-use Rattle.x7_packets.proofs.PacketLemmas.{whole_more, each_more, latest_more, none_more, only_more, header_ends, last_ends-more, ended-more}
+use Rattle.x7_packets.proofs.PacketLemmas.{whole_more, each_more, latest_more, none_more, only_more, header_ends, last_ends_more, ended_more}
 
 -- a header whose packet is whole at once
 pub header_whole : (m n : MachineState) (ps : List Packet) (w : ℕ) (s : Step) → w < 2 ^ 32 → AtHeader m ps → s ≡ meaning m.latest w → count_of s ≡ 0 → n.latest ≡ latest_after m.latest s → n.due ≡ 0 → Grows ps ((w, s) ∷ []) n
@@ -21,8 +21,8 @@ header_whole m n ps w s f a e z l d =
     record {
       packets = ps ++ p ∷ [];
       each = each_more None ps p a.whole i;
-      grown = flat_map-last stepped ps p;
-      end = ended-more ps p ∙ sym calm;
+      grown = flat_map_last stepped ps p;
+      end = ended_more ps p ∙ sym calm;
       stands = rw calm (inl (record { whole = whole_more None ps p a.whole i is_whole; latest = l ∙ ap (λ o. latest_after o s) a.latest ∙ sym (latest_more None ps p); due = d }));
     }
 
@@ -35,8 +35,8 @@ header_opens m n ps w register count f a e z l d r =
     record {
       packets = ps ++ p ∷ [];
       each = each_more None ps p a.whole i;
-      grown = flat_map-last stepped ps p;
-      end = ended-more ps p;
+      grown = flat_map_last stepped ps p;
+      end = ended_more ps p;
       stands = inr (record { prefix = ps; last = p; split = refl; whole = a.whole; fits = (f, tt); means = means; count = count; is = ap (λ x. Open x count) (sym r); latest = l ∙ ap (λ x. Some x) (sym r); due = omega arith; more = omega arith; none_ends = tt });
     }
 
@@ -47,10 +47,10 @@ extended p w = record { head = p.head; step = p.step; payload = p.payload ++ w �
 -- the stepped words of packets whose last has one payload word more
 pub stepped_more : (prefix : List Packet) (p : Packet) (w : ℕ) → flat_map stepped (prefix ++ extended p w ∷ []) ≡ flat_map stepped (prefix ++ p ∷ []) ++ (w, Payload (named_by p.step) w) ∷ []
 stepped_more prefix p w =
-    flat_map-last stepped prefix (extended p w)
-    ∙ ap (λ t. flat_map stepped prefix ++ (p.head, p.step) ∷ t) (map-append (λ x. (x, Payload (named_by p.step) x)) p.payload (w ∷ []))
+    flat_map_last stepped prefix (extended p w)
+    ∙ ap (λ t. flat_map stepped prefix ++ (p.head, p.step) ∷ t) (map_append (λ x. (x, Payload (named_by p.step) x)) p.payload (w ∷ []))
     ∙ sym (append_assoc (flat_map stepped prefix) (stepped p) ((w, Payload (named_by p.step) w) ∷ []))
-    ∙ ap (λ t. t ++ (w, Payload (named_by p.step) w) ∷ []) (sym (flat_map-last stepped prefix p))
+    ∙ ap (λ t. t ++ (w, Payload (named_by p.step) w) ∷ []) (sym (flat_map_last stepped prefix p))
 
 -- the stepped words of an open payload with one word more
 open_more : (m : MachineState) (ps : List Packet) (w : ℕ) (a : InPayload m ps) → flat_map stepped (a.prefix ++ extended a.last w ∷ []) ≡ flat_map stepped ps ++ (w, Payload m.register w) ∷ []
@@ -59,7 +59,7 @@ open_more m ps w a =
     stepped_more a.prefix a.last w ∙ ap (λ x. flat_map stepped (a.prefix ++ a.last ∷ []) ++ (w, Payload x w) ∷ []) same_register ∙ ap (λ x. flat_map stepped x ++ (w, Payload m.register w) ∷ []) (sym a.split)
 
 fits_more : (p : Packet) (w : ℕ) → AreWords (words p) → w < 2 ^ 32 → AreWords (words (extended p w))
-fits_more p w a f = all-append (λ x. x < 2 ^ 32) (words p) (w ∷ []) a (f, tt)
+fits_more p w a f = all_append (λ x. x < 2 ^ 32) (words p) (w ∷ []) a (f, tt)
 
 -- a payload word that goes on
 pub payload_goes : (m n : MachineState) (ps : List Packet) (w : ℕ) → w < 2 ^ 32 → InPayload m ps → ends_session m.register w ≡ false → n.register ≡ m.register → n.latest ≡ m.latest → n.due + 1 ≡ m.due → Grows ps ((w, Payload m.register w) ∷ []) n
@@ -75,7 +75,7 @@ payload_goes m n ps w f a e r l d =
       packets = a.prefix ++ p ∷ [];
       each = each_more None a.prefix p a.whole i;
       grown = open_more m ps w a;
-      end = ended-more a.prefix p ∙ ap (λ x. last_ends x p.payload) same_register ∙ last_ends-more m.register a.last.payload w;
+      end = ended_more a.prefix p ∙ ap (λ x. last_ends x p.payload) same_register ∙ last_ends_more m.register a.last.payload w;
       stands = rw e (elim (cases_eq n.due 0) [
         | inl z ↦ inl (record { whole = whole_more None a.prefix p a.whole i (record { all = omega (arith, a.due); none_ends = rw same_register none }); latest = l ∙ a.latest ∙ sym (latest_more None a.prefix p ∙ ap (latest_after (latest_of None a.prefix)) a.is); due = z })
         | inr z ↦ inr (record { prefix = a.prefix; last = p; split = refl; whole = a.whole; fits = fits; means = a.means; count = a.count; is = a.is ∙ ap (λ x. Open x a.count) (sym r); latest = l ∙ a.latest ∙ ap (λ x. Some x) (sym r); due = omega (arith, a.due); more = omega arith; none_ends = rw r none })
@@ -94,7 +94,7 @@ payload_ends m n ps w f a e s =
       packets = a.prefix ++ p ∷ [];
       each = each_more None a.prefix p a.whole i;
       grown = open_more m ps w a;
-      end = ended-more a.prefix p ∙ ap (λ x. last_ends x p.payload) same_register ∙ last_ends-more m.register a.last.payload w;
+      end = ended_more a.prefix p ∙ ap (λ x. last_ends x p.payload) same_register ∙ last_ends_more m.register a.last.payload w;
       stands = rw e s;
     }
 

@@ -3,7 +3,7 @@ use Rattle.std.proofs.Common.{◌≡◌, ℕ, ◌<◌, true, false, List, [], �
 use Rattle.std.specs.List.{flat_map, AllByRecursion}
 use Rattle.std.proofs.lemmas.List.{append_cancel_right}
 use Rattle.x7_words.specs.Word.{AreWords, bytes_of_word}
-use Rattle.x7_words.proofs.ListLemmas.{IsFront, fronts_of, all-append}
+use Rattle.x7_words.proofs.ListLemmas.{IsFront, prefixes_of, all_append}
 use Rattle.x7_packets.specs.SyncWord.{sync_bytes, IsBeforeSync}
 use Rattle.x7_packets.specs.Packet.{Packet, EachPacket, words, ended, latest_after}
 use Rattle.x7_packets.specs.Reading.{Place, Searching, Synced, Session, IsReading, IsSession, IsPlace, session_bytes, place_bytes, packet_bytes}
@@ -25,13 +25,13 @@ same_longer g h cs ds f l =
 
 -- the gap before the first sync word is one
 one_gap : (g h cs ds : List ℕ) → IsBeforeSync g → IsBeforeSync h → g ++ sync_bytes ++ cs ≡ h ++ sync_bytes ++ ds → Same g h cs ds
-one_gap g h cs ds f k e = elim (fronts_of (g ++ sync_bytes) (h ++ sync_bytes) cs ds e) [
+one_gap g h cs ds f k e = elim (prefixes_of (g ++ sync_bytes) (h ++ sync_bytes) cs ds e) [
   | inl l ↦ same_longer g h cs ds k l
   | inr l ↦ let s : Same h g ds cs = same_longer h g ds cs f l in record { gap = sym s.gap; rest = sym s.rest }
 ]
 
-bytes_of_word-injective : (w v : ℕ) → w < 2 ^ 32 → v < 2 ^ 32 → bytes_of_word w ≡ bytes_of_word v → w ≡ v
-bytes_of_word-injective w v f g e =
+bytes_of_word_injective : (w v : ℕ) → w < 2 ^ 32 → v < 2 ^ 32 → bytes_of_word w ≡ bytes_of_word v → w ≡ v
+bytes_of_word_injective w v f g e =
     let a : w / 2 ^ 24 % 256 ≡ v / 2 ^ 24 % 256 = cc in
     let b : w / 2 ^ 16 % 256 ≡ v / 2 ^ 16 % 256 = cc in
     let c : w / 2 ^ 8 % 256 ≡ v / 2 ^ 8 % 256 = cc in
@@ -47,14 +47,14 @@ record WordsFront (ws vs cs ds : List ℕ) : Type 0 where
 cons_more : (w v : ℕ) (ws vs more : List ℕ) → w ≡ v → vs ≡ ws ++ more → v ∷ vs ≡ w ∷ (ws ++ more)
 cons_more w v ws vs more h t = cc
 
-words_fronts : (ws vs cs ds : List ℕ) → AreWords ws → AreWords vs → flat_map bytes_of_word ws ++ cs ≡ flat_map bytes_of_word vs ++ ds → WordsFront ws vs cs ds ⊎ WordsFront vs ws ds cs
-words_fronts [] vs cs ds f g e = inl (record { more = vs; prefix = refl; back = e })
-words_fronts (w ∷ ws) [] cs ds f g e = inr (record { more = w ∷ ws; prefix = refl; back = sym e })
-words_fronts (w ∷ ws) (v ∷ vs) cs ds f g e =
+words_prefixes : (ws vs cs ds : List ℕ) → AreWords ws → AreWords vs → flat_map bytes_of_word ws ++ cs ≡ flat_map bytes_of_word vs ++ ds → WordsFront ws vs cs ds ⊎ WordsFront vs ws ds cs
+words_prefixes [] vs cs ds f g e = inl (record { more = vs; prefix = refl; back = e })
+words_prefixes (w ∷ ws) [] cs ds f g e = inr (record { more = w ∷ ws; prefix = refl; back = sym e })
+words_prefixes (w ∷ ws) (v ∷ vs) cs ds f g e =
     let same : bytes_of_word w ≡ bytes_of_word v = cc in
-    let head : w ≡ v = bytes_of_word-injective w v f.0 g.0 same in
+    let head : w ≡ v = bytes_of_word_injective w v f.0 g.0 same in
     let tail : flat_map bytes_of_word ws ++ cs ≡ flat_map bytes_of_word vs ++ ds = cc in
-    elim (words_fronts ws vs cs ds f.1 g.1 tail) [
+    elim (words_prefixes ws vs cs ds f.1 g.1 tail) [
       | inl l ↦ inl (record { more = l.more; prefix = cons_more w v ws vs l.more head l.prefix; back = l.back })
       | inr l ↦ inr (record { more = l.more; prefix = cons_more v w vs ws l.more (sym head) l.prefix; back = l.back })
     ]
@@ -62,8 +62,8 @@ words_fronts (w ∷ ws) (v ∷ vs) cs ds f g e =
 -- the words of packets are words
 pub each_fits : (l : Option ℕ) (ps : List Packet) → EachPacket l ps → AreWords (flat_map words ps)
 each_fits l [] a = tt
-each_fits l (p ∷ []) a = all-append (λ w. w < 2 ^ 32) (words p) [] a.fits tt
-each_fits l (p ∷ q ∷ ps) a = all-append (λ w. w < 2 ^ 32) (words p) (flat_map words (q ∷ ps)) a.0.fits (each_fits (latest_after l p.step) (q ∷ ps) a.2)
+each_fits l (p ∷ []) a = all_append (λ w. w < 2 ^ 32) (words p) [] a.fits tt
+each_fits l (p ∷ q ∷ ps) a = all_append (λ w. w < 2 ^ 32) (words p) (flat_map words (q ∷ ps)) a.0.fits (each_fits (latest_after l p.step) (q ∷ ps) a.2)
 
 record SamePackets (ps qs : List Packet) (cs ds : List ℕ) : Type 0 where
   packets : ps ≡ qs
@@ -79,7 +79,7 @@ no_more ps qs cs ds a d b l =
     }
 
 both_ended : (ps qs : List Packet) (cs ds : List ℕ) → EachPacket None ps → ended ps ≡ true → EachPacket None qs → ended qs ≡ true → packet_bytes ps ++ cs ≡ packet_bytes qs ++ ds → SamePackets ps qs cs ds
-both_ended ps qs cs ds a d b k e = elim (words_fronts (flat_map words ps) (flat_map words qs) cs ds (each_fits None ps a) (each_fits None qs b) e) [
+both_ended ps qs cs ds a d b k e = elim (words_prefixes (flat_map words ps) (flat_map words qs) cs ds (each_fits None ps a) (each_fits None qs b) e) [
   | inl l ↦ no_more ps qs cs ds a d b l
   | inr l ↦ let s : SamePackets qs ps ds cs = no_more qs ps ds cs b k a l in record { packets = sym s.packets; rest = sym s.rest }
 ]
@@ -98,13 +98,13 @@ open_more ps qs cs ds a b h l =
     }
 
 both_open : (ps qs : List Packet) (cs ds : List ℕ) → EachPacket None ps → length cs < 4 → EachPacket None qs → length ds < 4 → packet_bytes ps ++ cs ≡ packet_bytes qs ++ ds → SamePackets ps qs cs ds
-both_open ps qs cs ds a h b k e = elim (words_fronts (flat_map words ps) (flat_map words qs) cs ds (each_fits None ps a) (each_fits None qs b) e) [
+both_open ps qs cs ds a h b k e = elim (words_prefixes (flat_map words ps) (flat_map words qs) cs ds (each_fits None ps a) (each_fits None qs b) e) [
   | inl l ↦ open_more ps qs cs ds a b h l
   | inr l ↦ let s : SamePackets qs ps ds cs = open_more qs ps ds cs b a k l in record { packets = sym s.packets; rest = sym s.rest }
 ]
 
 ended_open : (ps qs : List Packet) (cs ds : List ℕ) → EachPacket None ps → ended ps ≡ true → EachPacket None qs → ended qs ≡ false → length ds < 4 → packet_bytes ps ++ cs ≡ packet_bytes qs ++ ds → ⊥
-ended_open ps qs cs ds a d b k h e = elim (words_fronts (flat_map words ps) (flat_map words qs) cs ds (each_fits None ps a) (each_fits None qs b) e) [
+ended_open ps qs cs ds a d b k h e = elim (words_prefixes (flat_map words ps) (flat_map words qs) cs ds (each_fits None ps a) (each_fits None qs b) e) [
   | inl l ↦ (let s : SamePackets ps qs cs ds = no_more ps qs cs ds a d b l in let t : ended ps ≡ ended qs = ap ended s.packets in cc)
   | inr l ↦ (let s : SamePackets qs ps ds cs = open_more qs ps ds cs b a h l in let t : ended qs ≡ ended ps = ap ended s.packets in cc)
 ]

@@ -19,20 +19,20 @@ use Rattle.x7_part.specs.Slots.{from}
 
 -- ---- numbers in a row
 
-pub length-count_from : (a n : ℕ) → length (count_from a n) ≡ n
-length-count_from a zero = refl
-length-count_from a (suc n) = ap suc (length-count_from (a + 1) n)
+pub length_count_from : (a n : ℕ) → length (count_from a n) ≡ n
+length_count_from a zero = refl
+length_count_from a (suc n) = ap suc (length_count_from (a + 1) n)
 
-pub get_or-count_from : (a n i d : ℕ) → i < n → get_or (count_from a n) i d ≡ a + i
-get_or-count_from a zero i d h = absurd (omega arith)
-get_or-count_from a (suc n) zero d h = sym (add-zero a)
-get_or-count_from a (suc n) (suc i) d h =
-    let e : a + 1 + i ≡ a + suc i = omega arith in get_or-count_from (a + 1) n i d (omega arith) ∙ e
+pub get_or_count_from : (a n i d : ℕ) → i < n → get_or (count_from a n) i d ≡ a + i
+get_or_count_from a zero i d h = absurd (omega arith)
+get_or_count_from a (suc n) zero d h = sym (add-zero a)
+get_or_count_from a (suc n) (suc i) d h =
+    let e : a + 1 + i ≡ a + suc i = omega arith in get_or_count_from (a + 1) n i d (omega arith) ∙ e
 
 pub count_from_bounds : (a n x : ℕ) → Contains (count_from a n) x → (a ≤ x) × (x < a + n)
 count_from_bounds a n x (k, h, e) =
-    let len : length (count_from a n) ≡ n = length-count_from a n in
-    let at : get_or (count_from a n) k x ≡ a + k = get_or-count_from a n k x (omega arith) in
+    let len : length (count_from a n) ≡ n = length_count_from a n in
+    let at : get_or (count_from a n) k x ≡ a + k = get_or_count_from a n k x (omega arith) in
     let s : x ≡ a + k = sym e ∙ at in
     (omega arith, omega arith)
 
@@ -82,13 +82,13 @@ rank_is _ _ _ _ (column r s l c cs er es le pos top rest) (suc i) d h =
     let ih : (get_or cs i d).rank ≡ r + c.count + length (column_addresses (take i cs)) =
     rank_is (r + c.count) (s + c.count + c.pads) (c.first + c.count) cs rest i d (omega arith) in
     let len : length (count_from c.first c.count ++ column_addresses (take i cs)) ≡ c.count + length (column_addresses (take i cs)) =
-    length-append (count_from c.first c.count) (column_addresses (take i cs)) ∙ ap (λ x. x + length (column_addresses (take i cs))) (length-count_from c.first c.count) in
+    length-append (count_from c.first c.count) (column_addresses (take i cs)) ∙ ap (λ x. x + length (column_addresses (take i cs))) (length_count_from c.first c.count) in
     omega arith
 
 pub slots_length : (c : Column) → length (slots_of c) ≡ c.count + c.pads
 slots_length c =
     length-append (map Frame (frames_of c)) (replicate c.pads Pad)
-    ∙ rw (length-map (frames_of c) Frame, length-count_from c.first c.count, length-replicate c.pads Pad) refl
+    ∙ rw (length-map (frames_of c) Frame, length_count_from c.first c.count, length-replicate c.pads Pad) refl
 
 pub slot_is : (r s l : ℕ) (cs : List Column) → IsTable r s l cs → (i : ℕ) (d : Column) → i < length cs →
     (get_or cs i d).slot ≡ s + length (column_slots (take i cs))
@@ -110,8 +110,8 @@ unfolding column_addresses
 address_at cs t i j d h k =
     let c = get_or cs i d in
     let e : c.rank ≡ length (column_addresses (take i cs)) = rank_is 0 0 0 cs t i d h ∙ zero-add (length (column_addresses (take i cs))) in
-    let len : length (count_from c.first c.count) ≡ c.count = length-count_from c.first c.count in
-    rw e (get_or-flat_map frames_of cs i j d 0 h (omega arith) ∙ get_or-count_from c.first c.count j 0 k)
+    let len : length (count_from c.first c.count) ≡ c.count = length_count_from c.first c.count in
+    rw e (get_or-flat_map frames_of cs i j d 0 h (omega arith) ∙ get_or_count_from c.first c.count j 0 k)
 
 -- the addresses end after the last column's
 pub ends : (r s l : ℕ) (cs : List Column) → IsTable r s l cs → (i : ℕ) (d : Column) → i < length cs →
@@ -120,13 +120,13 @@ unfolding column_addresses
 ends _ _ _ _ (no_column r s l) i d h = absurd (omega arith)
 ends _ _ _ _ (column r s l c cs er es le pos top rest) zero d h =
     let len : length (count_from c.first c.count ++ column_addresses cs) ≡ c.count + length (column_addresses cs) =
-    length-append (count_from c.first c.count) (column_addresses cs) ∙ ap (λ x. x + length (column_addresses cs)) (length-count_from c.first c.count) in
+    length-append (count_from c.first c.count) (column_addresses cs) ∙ ap (λ x. x + length (column_addresses cs)) (length_count_from c.first c.count) in
     omega arith
 ends _ _ _ _ (column r s l c cs er es le pos top rest) (suc i) d h =
     let ih : (get_or cs i d).rank + (get_or cs i d).count ≤ r + c.count + length (column_addresses cs) =
     ends (r + c.count) (s + c.count + c.pads) (c.first + c.count) cs rest i d (omega arith) in
     let len : length (count_from c.first c.count ++ column_addresses cs) ≡ c.count + length (column_addresses cs) =
-    length-append (count_from c.first c.count) (column_addresses cs) ∙ ap (λ x. x + length (column_addresses cs)) (length-count_from c.first c.count) in
+    length-append (count_from c.first c.count) (column_addresses cs) ∙ ap (λ x. x + length (column_addresses cs)) (length_count_from c.first c.count) in
     omega arith
 
 -- what lies in no column is no address
@@ -164,13 +164,13 @@ unfolding column_addresses
 ends_last _ _ _ _ (no_column r s l) i d h = absurd (omega arith)
 ends_last _ _ _ _ (column r s l c [] er es le pos top rest) zero d h =
     let len : length (count_from c.first c.count ++ []) ≡ c.count + 0 =
-    length-append (count_from c.first c.count) [] ∙ ap (λ x. x + 0) (length-count_from c.first c.count) in omega arith
+    length-append (count_from c.first c.count) [] ∙ ap (λ x. x + 0) (length_count_from c.first c.count) in omega arith
 ends_last _ _ _ _ (column r s l c (b ∷ cs) er es le pos top rest) zero d h = absurd (omega arith)
 ends_last _ _ _ _ (column r s l c cs er es le pos top rest) (suc i) d h =
     let ih : r + c.count + length (column_addresses cs) ≡ (get_or cs i d).rank + (get_or cs i d).count =
     ends_last (r + c.count) (s + c.count + c.pads) (c.first + c.count) cs rest i d (omega arith) in
     let len : length (count_from c.first c.count ++ column_addresses cs) ≡ c.count + length (column_addresses cs) =
-    length-append (count_from c.first c.count) (column_addresses cs) ∙ ap (λ x. x + length (column_addresses cs)) (length-count_from c.first c.count) in
+    length-append (count_from c.first c.count) (column_addresses cs) ∙ ap (λ x. x + length (column_addresses cs)) (length_count_from c.first c.count) in
     omega arith
 
 pub next_rank : (r s l : ℕ) (cs : List Column) → IsTable r s l cs → (i : ℕ) (d : Column) → i + 1 < length cs →
@@ -252,14 +252,14 @@ slot_in cs t i j d h k =
 
 frame_in : (c : Column) (j : ℕ) → j < c.count → get_or (slots_of c) j End ≡ Frame (c.first + j)
 frame_in c j h =
-    let len : length (frames_of c) ≡ c.count = length-count_from c.first c.count in
+    let len : length (frames_of c) ≡ c.count = length_count_from c.first c.count in
     let mlen : length (map Frame (frames_of c)) ≡ c.count = length-map (frames_of c) Frame ∙ len in
     get_or_append_left (map Frame (frames_of c)) (replicate c.pads Pad) End j (omega arith)
-    ∙ get_or-map Frame (frames_of c) j 0 End (omega arith) ∙ ap (λ (x : ℕ). Frame x) (get_or-count_from c.first c.count j 0 h)
+    ∙ get_or-map Frame (frames_of c) j 0 End (omega arith) ∙ ap (λ (x : ℕ). Frame x) (get_or_count_from c.first c.count j 0 h)
 
 pad_in : (c : Column) (j : ℕ) → c.count ≤ j → j < c.count + c.pads → get_or (slots_of c) j End ≡ Pad
 pad_in c j h k =
-    let mlen : length (map Frame (frames_of c)) ≡ c.count = length-map (frames_of c) Frame ∙ length-count_from c.first c.count in
+    let mlen : length (map Frame (frames_of c)) ≡ c.count = length-map (frames_of c) Frame ∙ length_count_from c.first c.count in
     get_or-append_right (map Frame (frames_of c)) (replicate c.pads Pad) c.count j End mlen h
     ∙ get_or-replicate c.pads (j - c.count) Pad End (omega arith)
 

@@ -6,10 +6,10 @@ use Rattle.std.proofs.lemmas.List.Elements.{Contains-append_left, Contains-appen
 use Rattle.x7_part.specs.Part.{FieldWidths, RowData, PartData}
 use Rattle.x7_part.specs.FrameAddress.{row_address, frame_address, column_low, IsAddressOf}
 use Rattle.x7_part.specs.AddressOrder.{count_from, row_addresses, addresses_of, addresses, addresses_in}
-use Rattle.x7_part.proofs.ColumnLemmas.{length-count_from, get_or-count_from, count_from_bounds}
+use Rattle.x7_part.proofs.ColumnLemmas.{length_count_from, get_or_count_from, count_from_bounds}
 
 counted : (a n i : ℕ) → i < n → Contains (count_from a n) (a + i)
-counted a n i h = (i, let e : length (count_from a n) ≡ n = length-count_from a n in omega arith, get_or-count_from a n i (a + i) h)
+counted a n i h = (i, let e : length (count_from a n) ≡ n = length_count_from a n in omega arith, get_or_count_from a n i (a + i) h)
 
 -- an address of a row is of one of its columns
 row_fields : (pitch base i far : ℕ) (minors : List ℕ) → Contains (row_addresses pitch base i minors) far →

@@ -136,14 +136,14 @@ handed_from (Err e) text fault h is = rw h.1 is
 
 -- ---- the faults of a text
 
-told_is : (text : List ℕ) (t : Members) (fault : PartFault) → part_in text ≡ part_of_table (Some t) → fault_of t ≡ Some fault → part_in text ≡ Err fault
-told_is text t fault is e = is ∙ ap (part_unless t) e
+reported_is : (text : List ℕ) (t : Members) (fault : PartFault) → part_in text ≡ part_of_table (Some t) → fault_of t ≡ Some fault → part_in text ≡ Err fault
+reported_is text t fault is e = is ∙ ap (part_unless t) e
 
-pub types_told : (text : List ℕ) (t : Members) (fault : PartFault) → part_in text ≡ part_of_table (Some t) → (fault ≡ NoMemory) ⊎ (type_fault t ≡ Some fault) →
+pub types_reported : (text : List ℕ) (t : Members) (fault : PartFault) → part_in text ≡ part_of_table (Some t) → (fault ≡ NoMemory) ⊎ (type_fault t ≡ Some fault) →
     (fault ≡ NoMemory) ⊎ (part_in text ≡ Err fault)
 unfolding fault_of
-types_told text t fault is (inl e) = inl e
-types_told text t fault is (inr e) = inr (told_is text t fault is (rw e refl))
+types_reported text t fault is (inl e) = inl e
+types_reported text t fault is (inr e) = inr (reported_is text t fault is (rw e refl))
 
 -- a text of a table of these values, whose types are right
 pub record Typed (text : List ℕ) (t : Members) (v : TopValues) : Type 0 where
@@ -154,25 +154,25 @@ pub record Typed (text : List ℕ) (t : Members) (v : TopValues) : Type 0 where
 pub typed : (text : List ℕ) (t : Members) (v : TopValues) → IsUtf8 text × (parse_document text ≡ Some t) → v ≡ top_values t → type_fault t ≡ None → Typed text t v
 typed text t v is values types = record { is = toml_is text t is; values = values; types = types }
 
-pub others_told : (text : List ℕ) (t : Members) (v : TopValues) (fault : PartFault) → Typed text t v → Some fault ≡ other_fault v → part_in text ≡ Err fault
+pub others_reported : (text : List ℕ) (t : Members) (v : TopValues) (fault : PartFault) → Typed text t v → Some fault ≡ other_fault v → part_in text ≡ Err fault
 unfolding fault_of
-others_told text t v fault h e = told_is text t fault h.is (rw (h.types, ap other_fault (sym h.values) ∙ sym e) refl)
+others_reported text t v fault h e = reported_is text t fault h.is (rw (h.types, ap other_fault (sym h.values) ∙ sym e) refl)
 
-range_told : (text : List ℕ) (t : Members) (v : TopValues) (fault : PartFault) → Typed text t v → None ≡ other_fault v → range_fault v ≡ Some fault → part_in text ≡ Err fault
+range_reported : (text : List ℕ) (t : Members) (v : TopValues) (fault : PartFault) → Typed text t v → None ≡ other_fault v → range_fault v ≡ Some fault → part_in text ≡ Err fault
 unfolding fault_of
-range_told text t v fault h others e =
-    told_is text t fault h.is (rw (h.types, ap other_fault (sym h.values) ∙ sym others, ap range_fault (sym h.values) ∙ e) refl)
+range_reported text t v fault h others e =
+    reported_is text t fault h.is (rw (h.types, ap other_fault (sym h.values) ∙ sym others, ap range_fault (sym h.values) ∙ e) refl)
 
-pub settings_told : (text : List ℕ) (t : Members) (v : TopValues) (fault : PartFault) → Typed text t v → None ≡ other_fault v → Some fault ≡ top_range_fault v →
+pub settings_reported : (text : List ℕ) (t : Members) (v : TopValues) (fault : PartFault) → Typed text t v → None ≡ other_fault v → Some fault ≡ top_range_fault v →
     part_in text ≡ Err fault
 unfolding range_fault
-settings_told text t v fault h others e = range_told text t v fault h others (rw (← e) refl)
+settings_reported text t v fault h others e = range_reported text t v fault h others (rw (← e) refl)
 
-pub rows_told : (text : List ℕ) (t : Members) (v : TopValues) (fault : PartFault) → Typed text t v → None ≡ other_fault v → None ≡ top_range_fault v →
+pub rows_reported : (text : List ℕ) (t : Members) (v : TopValues) (fault : PartFault) → Typed text t v → None ≡ other_fault v → None ≡ top_range_fault v →
     (fault ≡ NoMemory) ⊎ (rows_fault row_range_fault 1 v.rows ≡ Some fault) → (fault ≡ NoMemory) ⊎ (part_in text ≡ Err fault)
 unfolding range_fault
-rows_told text t v fault h others before (inl e) = inl e
-rows_told text t v fault h others before (inr e) = inr (range_told text t v fault h others (rw (← before, e) refl))
+rows_reported text t v fault h others before (inl e) = inl e
+rows_reported text t v fault h others before (inr e) = inr (range_reported text t v fault h others (rw (← before, e) refl))
 
 -- what the checks of keys and values leave
 pub record Passed (text : List ℕ) (t : Members) (v : TopValues) (s : Settings) (rows : List RowData) : Type 0 where
@@ -211,9 +211,9 @@ rest_is text t v s rows h =
     rw (h.typed.types, ap other_fault values ∙ sym h.others, ap range_fault values ∙ ranges_none text t v s rows h)
     (ap (λ x. first_of (same_row_fault [] (map row_by_values x.rows) ∷ frames_fault (part_with x (map row_by_values x.rows)) ∷ [])) values ∙ found)
 
-pub last_told : (text : List ℕ) (t : Members) (v : TopValues) (s : Settings) (rows : List RowData) (fault : PartFault) → Passed text t v s rows →
+pub last_reported : (text : List ℕ) (t : Members) (v : TopValues) (s : Settings) (rows : List RowData) (fault : PartFault) → Passed text t v s rows →
     Some fault ≡ first_of (same_row_fault [] rows ∷ frames_fault (part_data v.name s rows) ∷ []) → part_in text ≡ Err fault
-last_told text t v s rows fault h e = told_is text t fault h.typed.is (rest_is text t v s rows h ∙ sym e)
+last_reported text t v s rows fault h e = reported_is text t fault h.typed.is (rest_is text t v s rows h ∙ sym e)
 
 -- a part in which no check has found a fault
 pub record Whole (text name : List ℕ) (s : Settings) (rows : List RowData) : Type 0 where
@@ -244,14 +244,14 @@ pub handed_on : {T : Type 0} (r : Result T PartFault) (text : List ℕ) (fault :
 handed_on (Ok x) text fault h is = tt
 handed_on (Err e) text fault h is = inr (rw h.1 is)
 
-pub told_from : {T : Type 0} (r : Result T PartFault) (fault : PartFault) → IsErr r × IsErrAnd r (λ e. e ≡ fault) → fault_of_call r ≡ Some fault
-told_from (Ok x) fault h = absurd (false≢true h.0)
-told_from (Err e) fault h = ap Some h.1
+pub reported_from : {T : Type 0} (r : Result T PartFault) (fault : PartFault) → IsErr r × IsErrAnd r (λ e. e ≡ fault) → fault_of_call r ≡ Some fault
+reported_from (Ok x) fault h = absurd (false≢true h.0)
+reported_from (Err e) fault h = ap Some h.1
 
 -- the start unit is the first number out of range
-pub unit_told : (v : TopValues) (fault : PartFault) → None ≡ unless (is_odd v.idcode) (Range (top key.Idcode)) → None ≡ unless (is_in 0 7 v.mode) (Range (top key.Mode)) →
+pub unit_reported : (v : TopValues) (fault : PartFault) → None ≡ unless (is_odd v.idcode) (Range (top key.Idcode)) → None ≡ unless (is_in 0 7 v.mode) (Range (top key.Mode)) →
     None ≡ unless (is_in 0 3 v.bus_width) (Range (top key.BusWidth)) → None ≡ unless (is_in 0 65535 v.lock) (Range (top key.Lock)) →
     None ≡ unless (is_in 0 65535 v.matched) (Range (top key.Match)) → None ≡ unless (is_in 2 255 v.words) (Range (top key.FrameWords)) →
     None ≡ unless (are_widths_or_none v.far) (Range (top key.Far)) → Some fault ≡ unless (is_unit v.start_unit) (Range (top key.StartUnit)) → Some fault ≡ number_range_fault v
 unfolding number_range_fault
-unit_told v fault idcode mode bus_width lock matched words far unit = rw (← idcode, ← mode, ← bus_width, ← lock, ← matched, ← words, ← far, ← unit) refl
+unit_reported v fault idcode mode bus_width lock matched words far unit = rw (← idcode, ← mode, ← bus_width, ← lock, ← matched, ← words, ← far, ← unit) refl

@@ -14,7 +14,7 @@ use Rattle.x7_part.specs.Slots.{slots}
 use Rattle.x7_part.specs.AddressOrder.{count_from, row_addresses, addresses, Rises, risen, rise}
 use Rattle.x7_part.specs.FrameAddress.{row_address, column_low, row_low, AreWidths, AreRows, no_row, row}
 use Rattle.x7_part.specs.Columns.{frames_of, slots_of, column_addresses, column_slots, IsTable, no_column, column, row_columns, table_of}
-use Rattle.x7_part.proofs.ColumnLemmas.{length-count_from}
+use Rattle.x7_part.proofs.ColumnLemmas.{length_count_from}
 use Rattle.x7_part.proofs.WidthLemmas.{column_end, columns_fit, pitch_least, row_top}
 
 -- ---- lists
@@ -27,13 +27,13 @@ slots_append : (xs ys : List Column) → column_slots (xs ++ ys) ≡ column_slot
 unfolding column_slots
 slots_append xs ys = flat_map-append slots_of xs ys
 
-map-append : (xs ys : List ℕ) → map Frame (xs ++ ys) ≡ map Frame xs ++ map Frame ys
-map-append [] ys = refl
-map-append (x ∷ xs) ys = ap (λ (l : List Slot). Frame x ∷ l) (map-append xs ys)
+map_append : (xs ys : List ℕ) → map Frame (xs ++ ys) ≡ map Frame xs ++ map Frame ys
+map_append [] ys = refl
+map_append (x ∷ xs) ys = ap (λ (l : List Slot). Frame x ∷ l) (map_append xs ys)
 
-append-nil : (xs : List Slot) → xs ++ [] ≡ xs
-append-nil [] = refl
-append-nil (x ∷ xs) = ap (λ (l : List Slot). x ∷ l) (append-nil xs)
+append_nil : (xs : List Slot) → xs ++ [] ≡ xs
+append_nil [] = refl
+append_nil (x ∷ xs) = ap (λ (l : List Slot). x ∷ l) (append_nil xs)
 
 -- ---- one row
 
@@ -49,15 +49,15 @@ row_slots_are : (pitch base i rank slot : ℕ) (minors : List ℕ) → 0 < lengt
 unfolding column_slots
 row_slots_are pitch base i rank slot [] h = absurd (omega arith)
 row_slots_are pitch base i rank slot (n ∷ []) h =
-    append-nil (map Frame (count_from (base + i * pitch) n) ++ Pad ∷ Pad ∷ [])
-    ∙ ap (λ (l : List Slot). l ++ Pad ∷ Pad ∷ []) (sym (map-append (count_from (base + i * pitch) n) [] ∙ append-nil (map Frame (count_from (base + i * pitch) n))))
+    append_nil (map Frame (count_from (base + i * pitch) n) ++ Pad ∷ Pad ∷ [])
+    ∙ ap (λ (l : List Slot). l ++ Pad ∷ Pad ∷ []) (sym (map_append (count_from (base + i * pitch) n) [] ∙ append_nil (map Frame (count_from (base + i * pitch) n))))
 row_slots_are pitch base i rank slot (n ∷ m ∷ minors) h =
     let f = map Frame (count_from (base + i * pitch) n) in
     let tail = map Frame (row_addresses pitch base (i + 1) (m ∷ minors)) in
     ap (λ (l : List Slot). f ++ [] ++ l) (row_slots_are pitch base (i + 1) (rank + n) (slot + n) (m ∷ minors) (omega arith))
-    ∙ ap (λ (l : List Slot). l ++ (tail ++ Pad ∷ Pad ∷ [])) (append-nil f)
+    ∙ ap (λ (l : List Slot). l ++ (tail ++ Pad ∷ Pad ∷ [])) (append_nil f)
     ∙ sym (append_assoc f tail (Pad ∷ Pad ∷ []))
-    ∙ ap (λ (l : List Slot). l ++ Pad ∷ Pad ∷ []) (sym (map-append (count_from (base + i * pitch) n) (row_addresses pitch base (i + 1) (m ∷ minors))))
+    ∙ ap (λ (l : List Slot). l ++ Pad ∷ Pad ∷ []) (sym (map_append (count_from (base + i * pitch) n) (row_addresses pitch base (i + 1) (m ∷ minors))))
 
 lower : (r s l l' : ℕ) (cs : List Column) → l' ≤ l → IsTable r s l cs → IsTable r s l' cs
 lower _ _ _ l' _ h (no_column r s l) = no_column r s l'
@@ -75,7 +75,7 @@ row_table pitch base i rank slot least top [] rest p some le short high all t = 
 row_table pitch base i rank slot least top (n ∷ []) rest p some le short high all t =
     let size = All-head (λ n. (1 ≤ n) × (n ≤ 128)) n [] all in
     let end = column_end i 1 pitch in
-    let len : length (count_from (base + i * pitch) n ++ []) ≡ n + 0 = length-append (count_from (base + i * pitch) n) [] ∙ ap (λ x. x + 0) (length-count_from (base + i * pitch) n) in
+    let len : length (count_from (base + i * pitch) n ++ []) ≡ n + 0 = length-append (count_from (base + i * pitch) n) [] ∙ ap (λ x. x + 0) (length_count_from (base + i * pitch) n) in
     column rank slot least _ rest refl refl le size.0 (omega arith)
     (moved _ _ _ (rank + n) (slot + n + 2) (base + i * pitch + n) rest (omega arith) (omega arith) (omega arith) t)
 row_table pitch base i rank slot least top (n ∷ m ∷ minors) rest p some le short high all t =
@@ -85,7 +85,7 @@ row_table pitch base i rank slot least top (n ∷ m ∷ minors) rest p some le s
     let end = column_end i (length (n ∷ m ∷ minors)) pitch in
     let same : i + 1 + length (m ∷ minors) ≡ i + length (n ∷ m ∷ minors) = omega arith in
     let len : length (count_from (base + i * pitch) n ++ more) ≡ n + length more =
-    length-append (count_from (base + i * pitch) n) more ∙ ap (λ x. x + length more) (length-count_from (base + i * pitch) n) in
+    length-append (count_from (base + i * pitch) n) more ∙ ap (λ x. x + length more) (length_count_from (base + i * pitch) n) in
     let behind : IsTable (rank + n + length more) (slot + n + length more + 2) top rest =
     moved _ _ _ (rank + n + length more) (slot + n + length more + 2) top rest (omega arith) (omega arith) (omega arith) t in
     let next : IsTable (rank + n) (slot + n) (base + i * pitch + n) (row_columns pitch base (i + 1) (rank + n) (slot + n) (m ∷ minors) ++ rest) =

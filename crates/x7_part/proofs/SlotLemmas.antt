@@ -120,9 +120,9 @@ same_place l (x ∷ xs) zero (suc j) (rise _ _ _ le more) h k e = let low = late
 same_place l (x ∷ xs) (suc i) zero (rise _ _ _ le more) h k e = let low = later_larger (x + 1) i xs more (omega arith) in absurd (omega arith)
 same_place l (x ∷ xs) (suc i) (suc j) (rise _ _ _ le more) h k e = ap suc (same_place (x + 1) xs i j more (omega arith) (omega arith) e)
 
-rises_behind : (l : ℕ) (xs ys : List ℕ) → Rises l (xs ++ ys) → (m : ℕ) × Rises m ys
-rises_behind l [] ys rises = (l, rises)
-rises_behind l (x ∷ xs) ys (rise _ _ _ le more) = rises_behind (x + 1) xs ys more
+rises_after : (l : ℕ) (xs ys : List ℕ) → Rises l (xs ++ ys) → (m : ℕ) × Rises m ys
+rises_after l [] ys rises = (l, rises)
+rises_after l (x ∷ xs) ys (rise _ _ _ le more) = rises_after (x + 1) xs ys more
 
 pad_is_no_frame : (far : ℕ) → Pad ≡ Frame far → ⊥
 pad_is_no_frame far e = cc
@@ -152,9 +152,9 @@ skips x [] rest n = refl
 skips x (a ∷ xs) rest n =
     rw (ne_eqb a x (λ e. n (0, omega arith, e))) (skips x xs rest (λ has. n (suc has.0, (let h = has.1 in omega arith), has.2)))
 
-rises_front : (l : ℕ) (xs ys : List ℕ) → Rises l (xs ++ ys) → Rises l xs
-rises_front l [] ys rises = risen l
-rises_front l (x ∷ xs) ys (rise _ _ _ le more) = rise l x xs le (rises_front (x + 1) xs ys more)
+rises_prefix : (l : ℕ) (xs ys : List ℕ) → Rises l (xs ++ ys) → Rises l xs
+rises_prefix l [] ys rises = risen l
+rises_prefix l (x ∷ xs) ys (rise _ _ _ le more) = rise l x xs le (rises_prefix (x + 1) xs ys more)
 
 frame_is : (a b : ℕ) → Frame a ≡ Frame b → a ≡ b
 frame_is a b e = cc
@@ -195,9 +195,9 @@ module _ (far : FieldWidths) (r : RowData) (rows : List RowData) (l x y : ℕ) (
       let at : get_or A k 0 ≡ x = sym (get_or_default A k x 0 h) ∙ e in
       elim (cases_lt (k + 1) (length A)) [
         | inl low ↦
-            let is : get_or A (k + 1) 0 ≡ y = frame_is _ y (sym (inside l x k A (Pad ∷ Pad ∷ slots far rows) (rises_front l A B rises) low at) ∙ s) in
+            let is : get_or A (k + 1) 0 ≡ y = frame_is _ y (sym (inside l x k A (Pad ∷ Pad ∷ slots far rows) (rises_prefix l A B rises) low at) ∙ s) in
             ((k, omega (arith, low, long), left k h ∙ at, left (k + 1) low ∙ is), (r, (0, omega arith, refl), (k, h, e), (k + 1, low, get_or_default A (k + 1) y 0 low ∙ is)))
-        | inr high ↦ absurd (pad_is_no_frame y (sym (at_end l x k A (Pad ∷ slots far rows) (rises_front l A B rises) (omega (arith, h, high)) at) ∙ s))
+        | inr high ↦ absurd (pad_is_no_frame y (sym (at_end l x k A (Pad ∷ slots far rows) (rises_prefix l A B rises) (omega (arith, h, high)) at) ∙ s))
       ]
 
   here_frame : Contains A x → IsFollowedBy (A ++ B) x y → InOne far (r ∷ rows) x y → get_or (from x (map Frame A ++ (Pad ∷ Pad ∷ slots far rows))) 1 End ≡ Frame y
@@ -209,7 +209,7 @@ module _ (far : FieldWidths) (r : RowData) (rows : List RowData) (l x y : ℕ) (
       let m_low : m < length A = omega (arith, ml, mine) in
       let there : get_or A m 0 ≡ y = sym (get_or_default A m y 0 m_low) ∙ ap (λ q. get_or (addresses_of far q) m y) je ∙ me in
       let m_is : m ≡ i + 1 = same_place l (A ++ B) m (i + 1) rises (omega (arith, m_low, long)) low (left m m_low ∙ there ∙ sym g) in
-      inside l x k A (Pad ∷ Pad ∷ slots far rows) (rises_front l A B rises) (omega (arith, m_is, i_is, m_low)) at
+      inside l x k A (Pad ∷ Pad ∷ slots far rows) (rises_prefix l A B rises) (omega (arith, m_is, i_is, m_low)) at
       ∙ ap (λ (q : ℕ). Frame q) (ap (λ q. get_or A q 0) (let q : k + 1 ≡ m = omega (arith, m_is, i_is) in q) ∙ there)
   here_frame has follows (s, (suc j, jl, je), ax, ay) = absurd (not_both has (row_holds far rows s x (j, omega arith, je) ax))
 
@@ -249,7 +249,7 @@ next_is far l (r ∷ rows) x y rises has =
         λ f. ap (λ t. get_or t 1 End) (flat far r rows l x y rises) ∙ here_frame far r rows l x y rises here f.0 f.1,
       )
       | inr behind ↦
-          let ih = next_is far (rises_behind l (addresses_of far r) (addresses far rows) rises).0 rows x y (rises_behind l (addresses_of far r) (addresses far rows) rises).1 behind in
+          let ih = next_is far (rises_after l (addresses_of far r) (addresses far rows) rises).0 rows x y (rises_after l (addresses_of far r) (addresses far rows) rises).1 behind in
           let same = flat far r rows l x y rises ∙ skips x (addresses_of far r) (Pad ∷ Pad ∷ slots far rows) (λ here. not_both far r rows l x y rises here behind) in (
             λ s. let f = ih.0 (ap (λ t. get_or t 1 End) (sym same) ∙ s) in (more_follows far r rows l x y rises f.0, more_row far r rows l x y rises f.1),
             λ f. ap (λ t. get_or t 1 End) same ∙ ih.1 (later_follows far r rows l x y rises behind f.0, later_row far r rows l x y rises behind f.1),

@@ -7,7 +7,7 @@ use Rattle.x7_part.specs.Part.{FieldWidths, RowData}
 use Rattle.x7_part.specs.FrameAddress.{row_address, column_low}
 use Rattle.x7_part.specs.AddressOrder.{count_from, row_addresses, addresses_of, addresses}
 use Rattle.x7_part.specs.Columns.{row_columns, table_of}
-use Rattle.x7_part.proofs.ColumnLemmas.{length-count_from}
+use Rattle.x7_part.proofs.ColumnLemmas.{length_count_from}
 use Rattle.x7_part.specs.declared.column.Column.{Column}
 
 -- a row has as many addresses as its minors' sum
@@ -16,7 +16,7 @@ row_length pitch base i [] = refl
 row_length pitch base i (n ∷ minors) =
     let s : sum (n ∷ minors) ≡ n + sum minors = sum_by-cons (λ x. x) n minors in
     length-append (count_from (base + i * pitch) n) (row_addresses pitch base (i + 1) minors)
-    ∙ rw (length-count_from (base + i * pitch) n, row_length pitch base (i + 1) minors, s) refl
+    ∙ rw (length_count_from (base + i * pitch) n, row_length pitch base (i + 1) minors, s) refl
 
 pub frames_cons : (far : FieldWidths) (r : RowData) (rows : List RowData) → length (addresses far (r ∷ rows)) ≡ sum r.minors + length (addresses far rows)
 unfolding addresses

@@ -11,13 +11,13 @@ use Rattle.x7_pipeline.specs.FarAsRead.{has_frame_at, first_address, last_addres
 use Rattle.x7_pipeline.specs.InWords.{FarStandsAt, HasNoAddress, HasNoFrame, IsFirstAddress}
 
 -- a base that is no address is FAR itself
-pub far_at-none : (part : PartData) (base slot : ℕ) → has_frame_at part base ≡ false → base ≡ far_at part base slot
+pub far_at_none : (part : PartData) (base slot : ℕ) → has_frame_at part base ≡ false → base ≡ far_at part base slot
 unfolding far_at
-far_at-none part base slot f = rw f refl
+far_at_none part base slot f = rw f refl
 
-pub far_at-some : (part : PartData) (base slot : ℕ) → has_frame_at part base ≡ true → far_at part base slot ≡ unwrap_or (first_address (drop slot (slots_from part base))) (last_address part)
+pub far_at_some : (part : PartData) (base slot : ℕ) → has_frame_at part base ≡ true → far_at part base slot ≡ unwrap_or (first_address (drop slot (slots_from part base))) (last_address part)
 unfolding far_at
-far_at-some part base slot t = rw t refl
+far_at_some part base slot t = rw t refl
 
 -- ---- the search from a slot on
 
@@ -30,14 +30,14 @@ pub found_here : (part : PartData) (base slot place far : ℕ) → has_frame_at 
     Frame far ≡ get_or (slots_from part base) place End → far ≡ far_at part base slot
 found_here part base slot place far t h same e =
     let there : first_address (drop place (slots_from part base)) ≡ Some far = first_more (slots_from part base) place h ∙ rw (← e) refl in
-    sym (far_at-some part base slot t ∙ ap (λ o. unwrap_or o (last_address part)) (sym same ∙ there))
+    sym (far_at_some part base slot t ∙ ap (λ o. unwrap_or o (last_address part)) (sym same ∙ there))
 
 -- past the last slot it is the last address
 pub far_past : (part : PartData) (base slot place : ℕ) → has_frame_at part base ≡ true → length (slots_from part base) ≤ place →
     first_address (drop place (slots_from part base)) ≡ first_address (drop slot (slots_from part base)) → last_address part ≡ far_at part base slot
 far_past part base slot place t h same =
     let none : first_address (drop slot (slots_from part base)) ≡ None = sym same ∙ ap first_address (drop_all place (slots_from part base) h) in
-    sym (far_at-some part base slot t ∙ ap (λ o. unwrap_or o (last_address part)) none)
+    sym (far_at_some part base slot t ∙ ap (λ o. unwrap_or o (last_address part)) none)
 
 -- ---- by the count of words given as it is stored
 
@@ -97,7 +97,7 @@ first_found (slot ∷ places) (suc n) = slot_put_before slot places n (suc n) (f
 
 pub far_stands : (part : PartData) (base n : ℕ) → has_frame_at part base ≡ true → FarStandsAt part base n (far_at part base n)
 unfolding AddressFrom
-far_stands part base n t = by (first_address (drop n (slots_from part base))) (first_found (slots_from part base) n) (far_at-some part base n t)
+far_stands part base n t = by (first_address (drop n (slots_from part base))) (first_found (slots_from part base) n) (far_at_some part base n t)
   where
     by : (o : Option ℕ) → AddressFrom (slots_from part base) n o → far_at part base n ≡ unwrap_or o (last_address part) → FarStandsAt part base n (far_at part base n)
     by None none e = inr (none, e)

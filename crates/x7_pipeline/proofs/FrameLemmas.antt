@@ -3,7 +3,7 @@ use Rattle.std.proofs.Common.{◌≡◌, ℕ, zero, suc, ◌+◌, ◌-◌, ◌*�
 use Rattle.std.proofs.lemmas.List.{length-take-le, drop-drop, drop_all, take_all}
 use Rattle.std.proofs.lemmas.Option.{none-some}
 use Rattle.x7_words.specs.Word.{word_of_bytes, words_of_bytes}
-use Rattle.x7_words.proofs.WordLemmas.{words_apart, words_count, words_of_bytes-append}
+use Rattle.x7_words.proofs.WordLemmas.{words_apart, words_count, words_of_bytes_append}
 use Rattle.x7_part.specs.Part.{PartData}
 use Rattle.x7_part.specs.declared.slot.Slot.TheVariants.{End}
 use Rattle.x7_memory.specs.FrameMap.{FrameMap, AreSame}
@@ -92,11 +92,11 @@ pub record Front (words : List ℕ) : Type 0 where
   pub last : ℕ
   pub are : words ≡ prefix ++ last ∷ []
 
-pub front_of : (words : List ℕ) → 0 < length words → Front words
-front_of [] h = absurd (omega arith)
-front_of (w ∷ []) h = record { prefix = []; last = w; are = refl }
-front_of (w ∷ v ∷ words) h =
-    let f : Front (v ∷ words) = front_of (v ∷ words) (omega arith) in
+pub prefix_of : (words : List ℕ) → 0 < length words → Front words
+prefix_of [] h = absurd (omega arith)
+prefix_of (w ∷ []) h = record { prefix = []; last = w; are = refl }
+prefix_of (w ∷ v ∷ words) h =
+    let f : Front (v ∷ words) = prefix_of (v ∷ words) (omega arith) in
     record { prefix = w ∷ f.prefix; last = f.last; are = ap (λ t. w ∷ t) f.are }
 
 -- what comes of a whole frame's words
@@ -114,7 +114,7 @@ unfolding written
 whole part p q old new command base run source given frame s begins wide slot e none some =
     let nothing : length p.rest ≡ 0 = ap length begins in
     let positive = s.some_words in
-    let f : Front frame = front_of frame (omega arith) in
+    let f : Front frame = prefix_of frame (omega arith) in
     let long : length frame ≡ length f.prefix + 1 = ap length f.are ∙ length-append f.prefix (f.last ∷ []) in
     let first : p.frame_count ≡ 0 → length p.rest ≡ 0 → has_frame_at part p.base ≡ true = λ a b. lt-ltb 0 (length (slots_from part p.base)) (omega arith) in
     let w : Within part p old command base run source given f.prefix = within part p old command base run source given f.prefix s first (omega arith) in
@@ -176,7 +176,7 @@ words_from at n bs e h =
 pub words_taken : (at n : ℕ) (bs : List ℕ) → at % 4 ≡ 0 → at + n ≤ length bs → words_of_bytes (take (at + n) bs) ≡ words_of_bytes (take at bs) ++ words_of_bytes (take n (drop at bs))
 words_taken at n bs e h =
     let long : length (take at bs) ≡ at = length-take-le at bs (omega arith) in
-    ap words_of_bytes (take-add at n bs) ∙ words_of_bytes-append (at / 4) (take at bs) (take n (drop at bs)) (omega arith)
+    ap words_of_bytes (take-add at n bs) ∙ words_of_bytes_append (at / 4) (take at bs) (take n (drop at bs)) (omega arith)
 
 -- ---- words written over words
 

@@ -8,7 +8,7 @@ use Rattle.std.proofs.lemmas.List.{length-reverse, drop_all, drop_more, get_or_p
 use Rattle.std.proofs.lemmas.List.Elements.{All-nil, All-cons}
 use Rattle.std.proofs.Math.Nat.{le-div_iff_mul-le, zero-div}
 use Rattle.std.proofs.lemmas.Nat.{div-mul-add, mod-mul-add}
-use Rattle.x7_words.proofs.ListLemmas.{flat_map-last}
+use Rattle.x7_words.proofs.ListLemmas.{flat_map_last}
 use Rattle.x7_part.specs.Part.{FieldWidths, RowData, PartData, frame_words}
 use Rattle.x7_part.specs.AddressOrder.{addresses_of}
 use Rattle.x7_part.specs.Slots.{slots, slots_in, from}
@@ -29,15 +29,15 @@ use Rattle.x7_pipeline.specs.Readback.{word_at, read_at, read_limit, given_store
 use Rattle.x7_pipeline.specs.Faults.{address_fault, completes, has_filled, write_fault, copy_fault, read_fault}
 use Rattle.x7_pipeline.specs.Pipeline.{PipelineData}
 use Rattle.x7_pipeline.specs.Flow.{Flow, HoldsFlow}
-use Rattle.x7_pipeline.proofs.RunLemmas.{rest-goes_on, rest-completes, frames-completes, length-run}
+use Rattle.x7_pipeline.proofs.RunLemmas.{rest_goes_on, rest_completes, frames_completes, length_run}
 use Rattle.x7_pipeline.proofs.SlotLemmas.{no_slots}
-use Rattle.x7_pipeline.proofs.FarLemmas.{far_at-none, far_at-some, far_stands}
-use Rattle.x7_pipeline.proofs.ReadLemmas.{read_slot-pad, read_slot-frame}
+use Rattle.x7_pipeline.proofs.FarLemmas.{far_at_none, far_at_some, far_stands}
+use Rattle.x7_pipeline.proofs.ReadLemmas.{read_slot_pad, read_slot_frame}
 
 -- ---- a run is its whole frames and a rest
 
-pub reverse-cons : {X : Type 0} → (x : X) (xs : List X) → reverse (x ∷ xs) ≡ reverse xs ++ x ∷ []
-reverse-cons x xs = reverse_onto xs x []
+pub reverse_cons : {X : Type 0} → (x : X) (xs : List X) → reverse (x ∷ xs) ≡ reverse xs ++ x ∷ []
+reverse_cons x xs = reverse_onto xs x []
 
 pub cut : (width : ℕ) (run : List ℕ) → 0 < width → AreCutFrom width run (frames_of width run) (rest_of width run)
 unfolding rest_of frames_of
@@ -45,13 +45,13 @@ cut width [] some = record { joined = refl; each = All-nil (λ (frame : List ℕ
 cut width (w ∷ run) some =
     let ih : AreCutFrom width run (frames_of width run) (rest_of width run) = cut width run some in
     let joined : reverse (w ∷ run) ≡ flat_map (λ (frame : List ℕ). frame) (reverse (frames_of width run)) ++ (rest_of width run ++ w ∷ []) =
-    reverse-cons w run ∙ ap (λ t. t ++ w ∷ []) ih.joined ∙ append_assoc (flat_map (λ (frame : List ℕ). frame) (reverse (frames_of width run))) (rest_of width run) (w ∷ []) in
+    reverse_cons w run ∙ ap (λ t. t ++ w ∷ []) ih.joined ∙ append_assoc (flat_map (λ (frame : List ℕ). frame) (reverse (frames_of width run))) (rest_of width run) (w ∷ []) in
     let long = length-append (rest_of width run) (w ∷ []) in
     let short = ih.short in
     elim (cases_eq (length (rest_of width run) + 1) width) [
       | inl e ↦ rw (eq-eqb (length (rest_of width run) + 1) width e) (record {
-        joined = joined ∙ sym (append-nil _ ∙ ap (flat_map (λ (frame : List ℕ). frame)) (reverse-cons (rest_of width run ++ w ∷ []) (frames_of width run))
-            ∙ flat_map-last (λ (frame : List ℕ). frame) (reverse (frames_of width run)) (rest_of width run ++ w ∷ []));
+        joined = joined ∙ sym (append-nil _ ∙ ap (flat_map (λ (frame : List ℕ). frame)) (reverse_cons (rest_of width run ++ w ∷ []) (frames_of width run))
+            ∙ flat_map_last (λ (frame : List ℕ). frame) (reverse (frames_of width run)) (rest_of width run ++ w ∷ []));
         each = All-cons (λ (frame : List ℕ). length frame ≡ width) (rest_of width run ++ w ∷ []) (frames_of width run) (omega arith) ih.each;
         short = some;
       })
@@ -60,23 +60,23 @@ cut width (w ∷ run) some =
 
 -- ---- the written pairs are frames with slots, those at pads left out
 
-pub zip-nil : (places : List Slot) → zip {K = Slot} {X = List ℕ} places [] ≡ []
-zip-nil [] = refl
-zip-nil (p ∷ places) = refl
+pub zip_nil : (places : List Slot) → zip {K = Slot} {X = List ℕ} places [] ≡ []
+zip_nil [] = refl
+zip_nil (p ∷ places) = refl
 
 paired_more : (places : List Slot) (frames : List (List ℕ)) (frame : List ℕ) →
     filter_map pair_of (zip places (frames ++ frame ∷ [])) ≡ filter_map pair_of (zip places frames) ++ at_slot (get_or places (length frames) End) frame []
 paired_more [] [] frame = refl
 paired_more [] (f ∷ frames) frame = refl
-paired_more (Frame far ∷ places) [] frame = ap (λ t. record { far = far; words = frame } ∷ filter_map pair_of t) (zip-nil places)
-paired_more (Pad ∷ places) [] frame = ap (filter_map pair_of) (zip-nil places)
-paired_more (End ∷ places) [] frame = ap (filter_map pair_of) (zip-nil places)
+paired_more (Frame far ∷ places) [] frame = ap (λ t. record { far = far; words = frame } ∷ filter_map pair_of t) (zip_nil places)
+paired_more (Pad ∷ places) [] frame = ap (filter_map pair_of) (zip_nil places)
+paired_more (End ∷ places) [] frame = ap (filter_map pair_of) (zip_nil places)
 paired_more (Frame far ∷ places) (f ∷ frames) frame = ap (λ t. record { far = far; words = f } ∷ t) (paired_more places frames frame)
 paired_more (Pad ∷ places) (f ∷ frames) frame = paired_more places frames frame
 paired_more (End ∷ places) (f ∷ frames) frame = paired_more places frames frame
 
 reverse_at : (slot : Slot) (frame : List ℕ) (pairs : List PlanRow) → reverse (at_slot slot frame pairs) ≡ reverse pairs ++ at_slot slot frame []
-reverse_at (Frame far) frame pairs = reverse-cons (record { far = far; words = frame }) pairs
+reverse_at (Frame far) frame pairs = reverse_cons (record { far = far; words = frame }) pairs
 reverse_at Pad frame pairs = sym (append-nil (reverse pairs))
 reverse_at End frame pairs = sym (append-nil (reverse pairs))
 
@@ -89,7 +89,7 @@ in_order places (frame ∷ older) =
     ∙ ap (λ t. t ++ at_slot (get_or places (length older) End) frame []) (in_order places older)
     ∙ ap (λ n. filter_map pair_of (zip places (reverse older)) ++ at_slot (get_or places n End) frame []) (sym (length-reverse older))
     ∙ sym (paired_more places (reverse older) frame)
-    ∙ ap (λ t. filter_map pair_of (zip places t)) (sym (reverse-cons frame older))
+    ∙ ap (λ t. filter_map pair_of (zip places t)) (sym (reverse_cons frame older))
 
 pub landed_in_order : (part : PartData) (base : ℕ) (run : List ℕ) →
     reverse (written_frames part base run) ≡ filter_map pair_of (zip (slots_from part base) (reverse (but_newest (frames_of (frame_words part) run))))
@@ -147,8 +147,8 @@ first_from far (End ∷ places) h = first_from far places h
 
 loaded_at : (part : PartData) (base : ℕ) (b : Bool) → has_frame_at part base ≡ b → far_at part base 0 ≡ base
 loaded_at part base true t =
-    far_at-some part base 0 t ∙ ap (λ o. unwrap_or o (last_address part)) (first_from base (slots_in part) (ltb-true 0 (length (slots_from part base)) t))
-loaded_at part base false f = sym (far_at-none part base 0 f)
+    far_at_some part base 0 t ∙ ap (λ o. unwrap_or o (last_address part)) (first_from base (slots_in part) (ltb-true 0 (length (slots_from part base)) t))
+loaded_at part base false f = sym (far_at_none part base 0 f)
 
 pub far_loaded : (part : PartData) (base : ℕ) → far_of part base [] 0 ≡ base
 unfolding far_of frames_of
@@ -159,7 +159,7 @@ far_loaded part base = ap (far_at part base) (let z = nothing_divided (frame_wor
 
 pub far_nowhere : (part : PartData) (base : ℕ) (run : List ℕ) (given : ℕ) → has_frame_at part base ≡ false → far_of part base run given ≡ base
 unfolding far_of
-far_nowhere part base run given f = sym (far_at-none part base (max (length (frames_of (frame_words part) run)) (given / frame_words part) - 1) f)
+far_nowhere part base run given f = sym (far_at_none part base (max (length (frames_of (frame_words part) run)) (given / frame_words part) - 1) f)
 
 -- this many whole frames are in this many words
 whole_count : (width count rest : ℕ) → rest < width → (width * count + rest) / width ≡ count
@@ -168,7 +168,7 @@ whole_count width count rest h = ap (λ x. x / width) (let e : width * count + r
 frames_cut : (width count rest : ℕ) (run : List ℕ) → length run ≡ width * count + rest → rest < width → length (frames_of width run) ≡ count
 frames_cut width count rest run e h =
     let short : length (rest_of width run) < width = (cut width run (omega arith)).short in
-    sym (whole_count width (length (frames_of width run)) (length (rest_of width run)) short) ∙ ap (λ x. x / width) (sym (length-run width run) ∙ e) ∙ whole_count width count rest h
+    sym (whole_count width (length (frames_of width run)) (length (rest_of width run)) short) ∙ ap (λ x. x / width) (sym (length_run width run) ∙ e) ∙ whole_count width count rest h
 
 pub far_written : (part : PartData) (base count rest : ℕ) (run : List ℕ) → has_frame_at part base ≡ true → length run ≡ place_in part count rest → rest < frame_words part → FarStandsAt part base count (far_of part base run 0)
 unfolding far_of
@@ -211,14 +211,14 @@ unfolding far_of
 far_last part base run given some t h =
     let many = many_frames part base given some h in
     let place = max (length (frames_of (frame_words part) run)) (given / frame_words part) - 1 in
-    far_at-some part base place t
+    far_at_some part base place t
     ∙ ap (λ places. unwrap_or (first_address places) (last_address part)) (drop_all place (slots_from part base) (omega arith))
 
 -- ---- readback
 
 pub read_pad_frame : (part : PartData) (base : ℕ) (memory : FrameMap) (i : ℕ) → i < frame_words part → read_at part base memory i ≡ 0
 unfolding read_at
-read_pad_frame part base memory i h = ap (λ slot. word_at slot memory (i % frame_words part)) (read_slot-pad part base i h)
+read_pad_frame part base memory i h = ap (λ slot. word_at slot memory (i % frame_words part)) (read_slot_pad part base i h)
 
 divided : (w n i : ℕ) → i < w → ((w * (1 + n) + i) / w ≡ 1 + n) × ((w * (1 + n) + i) % w ≡ i)
 divided w n i h =
@@ -231,7 +231,7 @@ unfolding read_at
 read_frames part base memory n i h =
     let d = divided (frame_words part) n i h in
     let place : (frame_words part * (1 + n) + i) / frame_words part - 1 ≡ n = omega (arith, d.0) in
-    ap (λ slot. word_at slot memory ((frame_words part * (1 + n) + i) % frame_words part)) (read_slot-frame part base (frame_words part * (1 + n) + i) (λ z. omega (arith, d.0)))
+    ap (λ slot. word_at slot memory ((frame_words part * (1 + n) + i) % frame_words part)) (read_slot_frame part base (frame_words part * (1 + n) + i) (λ z. omega (arith, d.0)))
     ∙ ap (λ k. word_at (get_or (slots_from part base) k End) memory ((frame_words part * (1 + n) + i) % frame_words part)) place
     ∙ ap (word_at (get_or (slots_from part base) n End) memory) d.1
 
@@ -246,11 +246,11 @@ stored_more part base given n = lesser given n (read_limit part base)
 EndsInPad : List Slot → Type 0
 EndsInPad places = (i far : ℕ) → length places ≤ i + 1 → get_or places i End ≡ Frame far → ⊥
 
-ends_behind : (prefix back : List Slot) → 0 < length back → EndsInPad back → EndsInPad (prefix ++ back)
+ends_appended : (prefix back : List Slot) → 0 < length back → EndsInPad back → EndsInPad (prefix ++ back)
 unfolding EndsInPad
-ends_behind [] back some ends i far h e = ends i far h e
-ends_behind (p ∷ prefix) back some ends zero far h e = let long = length-append prefix back in omega arith
-ends_behind (p ∷ prefix) back some ends (suc i) far h e = ends_behind prefix back some ends i far (omega arith) e
+ends_appended [] back some ends i far h e = ends i far h e
+ends_appended (p ∷ prefix) back some ends zero far h e = let long = length-append prefix back in omega arith
+ends_appended (p ∷ prefix) back some ends (suc i) far h e = ends_appended prefix back some ends i far (omega arith) e
 
 two_pads : (tail : List Slot) → EndsInPad tail → EndsInPad (Pad ∷ Pad ∷ tail)
 unfolding EndsInPad
@@ -264,7 +264,7 @@ slots_end widths [] i far h e = cc
 slots_end widths (r ∷ rows) i far h e =
     let tail : List Slot = slots widths rows in
     let same : map Frame (addresses_of widths r) ++ (Pad ∷ Pad ∷ tail) ≡ slots widths (r ∷ rows) = sym (append_assoc (map Frame (addresses_of widths r)) (Pad ∷ Pad ∷ []) tail) in
-    ends_behind (map Frame (addresses_of widths r)) (Pad ∷ Pad ∷ tail) (omega arith) (two_pads tail (slots_end widths rows)) i far (rw same h) (rw same e)
+    ends_appended (map Frame (addresses_of widths r)) (Pad ∷ Pad ∷ tail) (omega arith) (two_pads tail (slots_end widths rows)) i far (rw same h) (rw same e)
 
 from_end : (base : ℕ) (places : List Slot) → EndsInPad places → EndsInPad (from base places)
 unfolding EndsInPad
@@ -320,11 +320,11 @@ refused_landed part base [] word fault e =
     let f = (no_address part base fault e).0 in landed_nowhere part base (word ∷ []) f ∙ sym (landed_nowhere part base [] f)
 refused_landed part base (v ∷ run) word fault e =
     let p = past_slots part base v run fault e in
-    ap (λ frames. in_slots (slots_from part base) (but_newest frames)) (frames-completes (frame_words part) word (v ∷ run) p.0)
+    ap (λ frames. in_slots (slots_from part base) (but_newest frames)) (frames_completes (frame_words part) word (v ∷ run) p.0)
     ∙ at_newest (slots_from part base) (frames_of (frame_words part) (v ∷ run)) p.1 (last_slot part base)
 
-none_behind : (places : List Slot) (i : ℕ) → length places ≤ i + 1 → ((i far : ℕ) → length places ≤ i + 1 → get_or places i End ≡ Frame far → ⊥) → first_address (drop i places) ≡ None
-none_behind places i h ends =
+none_after : (places : List Slot) (i : ℕ) → length places ≤ i + 1 → ((i far : ℕ) → length places ≤ i + 1 → get_or places i End ≡ Frame far → ⊥) → first_address (drop i places) ≡ None
+none_after places i h ends =
     elim (cases_lt i (length places)) [
       | inl low ↦ ap first_address (drop_more places i End low ∙ ap (λ t. get_or places i End ∷ t) (drop_all (i + 1) places h)) ∙ no_frame (get_or places i End) (λ far. ends i far h)
       | inr past ↦ ap first_address (drop_all i places past)
@@ -336,10 +336,10 @@ none_behind places i h ends =
     no_frame End none = refl
 
 far_at_end : (part : PartData) (base i j : ℕ) (b : Bool) → has_frame_at part base ≡ b → length (slots_from part base) ≤ i + 1 → length (slots_from part base) ≤ j + 1 → far_at part base i ≡ far_at part base j
-far_at_end part base i j false f h k = sym (far_at-none part base i f) ∙ far_at-none part base j f
+far_at_end part base i j false f h k = sym (far_at_none part base i f) ∙ far_at_none part base j f
 far_at_end part base i j true t h k =
-    far_at-some part base i t ∙ ap (λ o. unwrap_or o (last_address part)) (none_behind (slots_from part base) i h (last_slot part base) ∙ sym (none_behind (slots_from part base) j k (last_slot part base)))
-    ∙ sym (far_at-some part base j t)
+    far_at_some part base i t ∙ ap (λ o. unwrap_or o (last_address part)) (none_after (slots_from part base) i h (last_slot part base) ∙ sym (none_after (slots_from part base) j k (last_slot part base)))
+    ∙ sym (far_at_some part base j t)
 
 -- and would leave FAR as it is
 pub refused_far : (part : PartData) (base : ℕ) (run : List ℕ) (word given : ℕ) (fault : RunFault) → write_fault part base run ≡ Some fault → far_of part base (word ∷ run) given ≡ far_of part base run given
@@ -348,7 +348,7 @@ refused_far part base [] word given fault e =
     let f = (no_address part base fault e).0 in far_nowhere part base (word ∷ []) given f ∙ sym (far_nowhere part base [] given f)
 refused_far part base (v ∷ run) word given fault e =
     let p = past_slots part base v run fault e in
-    let more = ap length (frames-completes (frame_words part) word (v ∷ run) p.0) in
+    let more = ap length (frames_completes (frame_words part) word (v ∷ run) p.0) in
     let enough = p.1 in
     far_at_end part base (max (length (frames_of (frame_words part) (word ∷ v ∷ run))) (given / frame_words part) - 1) (max (length (frames_of (frame_words part) (v ∷ run))) (given / frame_words part) - 1)
     (has_frame_at part base) refl (omega arith) (omega arith)
@@ -362,21 +362,21 @@ overrun_is part base word v run = (over, back)
     over : write_fault part base (v ∷ run) ≡ Some Overrun → (rest_of (frame_words part) (word ∷ v ∷ run) ≡ []) × (length (slots_from part base) < length (frames_of (frame_words part) (word ∷ v ∷ run)))
     over e =
         let p = past_slots part base v run Overrun e in
-        let more = ap length (frames-completes (frame_words part) word (v ∷ run) p.0) in
+        let more = ap length (frames_completes (frame_words part) word (v ∷ run) p.0) in
         let enough = p.1 in
-        (rest-completes (frame_words part) word (v ∷ run) p.0, omega arith)
+        (rest_completes (frame_words part) word (v ∷ run) p.0, omega arith)
 
     back : (rest_of (frame_words part) (word ∷ v ∷ run) ≡ []) × (length (slots_from part base) < length (frames_of (frame_words part) (word ∷ v ∷ run))) → write_fault part base (v ∷ run) ≡ Some Overrun
     back h =
         elim (cases_eq (length (rest_of (frame_words part) (v ∷ run)) + 1) (frame_words part)) [
           | inl full ↦
-              let more = ap length (frames-completes (frame_words part) word (v ∷ run) full) in
+              let more = ap length (frames_completes (frame_words part) word (v ∷ run) full) in
               let past = h.1 in
               let whole : completes part (v ∷ run) ≡ true = eq-eqb (length (rest_of (frame_words part) (v ∷ run)) + 1) (frame_words part) full in
               let filled : has_filled part base (v ∷ run) ≡ true = le-leb (length (slots_from part base)) (length (frames_of (frame_words part) (v ∷ run))) (omega arith) in
               rw (whole, filled) refl
           | inr n ↦
-              let none = ap length (sym (rest-goes_on (frame_words part) word (v ∷ run) n) ∙ h.0) in
+              let none = ap length (sym (rest_goes_on (frame_words part) word (v ∷ run) n) ∙ h.0) in
               let long = length-append (rest_of (frame_words part) (v ∷ run)) (word ∷ []) in absurd (omega arith)
         ]
 

@@ -15,21 +15,21 @@ use Rattle.x7_pipeline.specs.Readback.{word_at, read_slot, read_at, read_limit, 
 
 -- ---- a slot among those of a readback
 
-pub behind_pad : (places : List Slot) (frame : ℕ) → (frame ≡ 0 → ⊥) → get_or places (frame - 1) End ≡ get_or (Pad ∷ places) frame End
-behind_pad places zero n = absurd (n refl)
-behind_pad places (suc frame) n = ap (λ i. get_or places i End) (omega arith)
+pub after_pad : (places : List Slot) (frame : ℕ) → (frame ≡ 0 → ⊥) → get_or places (frame - 1) End ≡ get_or (Pad ∷ places) frame End
+after_pad places zero n = absurd (n refl)
+after_pad places (suc frame) n = ap (λ i. get_or places i End) (omega arith)
 
-pub read_slot-frame : (part : PartData) (base place : ℕ) → (place / frame_words part ≡ 0 → ⊥) → read_slot part base place ≡ get_or (slots_from part base) (place / frame_words part - 1) End
+pub read_slot_frame : (part : PartData) (base place : ℕ) → (place / frame_words part ≡ 0 → ⊥) → read_slot part base place ≡ get_or (slots_from part base) (place / frame_words part - 1) End
 unfolding read_slot
-read_slot-frame part base place n = sym (behind_pad (slots_from part base) (place / frame_words part) n)
+read_slot_frame part base place n = sym (after_pad (slots_from part base) (place / frame_words part) n)
 
-pub read_slot-pad : (part : PartData) (base place : ℕ) → place < frame_words part → read_slot part base place ≡ Pad
+pub read_slot_pad : (part : PartData) (base place : ℕ) → place < frame_words part → read_slot part base place ≡ Pad
 unfolding read_slot
-read_slot-pad part base place h = ap (λ i. get_or (Pad ∷ slots_from part base) i End) (div-eq_of_lt h)
+read_slot_pad part base place h = ap (λ i. get_or (Pad ∷ slots_from part base) i End) (div-eq_of_lt h)
 
 -- before any word it is the pad
 pub first_slot : (part : PartData) (base : ℕ) → 0 < frame_words part → Pad ≡ read_slot part base (given_stored part base 0)
-first_slot part base some = sym (read_slot-pad part base (given_stored part base 0) (omega arith))
+first_slot part base some = sym (read_slot_pad part base (given_stored part base 0) (omega arith))
 
 -- ---- the limit
 
@@ -39,33 +39,33 @@ NoEnds (Frame far ∷ places) = NoEnds places
 NoEnds (Pad ∷ places) = NoEnds places
 NoEnds (End ∷ places) = ⊥
 
-ends-append : (prefix back : List Slot) → NoEnds prefix → NoEnds back → NoEnds (prefix ++ back)
+ends_append : (prefix back : List Slot) → NoEnds prefix → NoEnds back → NoEnds (prefix ++ back)
 unfolding NoEnds
-ends-append [] back f b = b
-ends-append (Frame far ∷ prefix) back f b = ends-append prefix back f b
-ends-append (Pad ∷ prefix) back f b = ends-append prefix back f b
-ends-append (End ∷ prefix) back f b = absurd f
+ends_append [] back f b = b
+ends_append (Frame far ∷ prefix) back f b = ends_append prefix back f b
+ends_append (Pad ∷ prefix) back f b = ends_append prefix back f b
+ends_append (End ∷ prefix) back f b = absurd f
 
-ends-frames : (fars : List ℕ) → NoEnds (map Frame fars)
+ends_frames : (fars : List ℕ) → NoEnds (map Frame fars)
 unfolding NoEnds
-ends-frames [] = tt
-ends-frames (far ∷ fars) = ends-frames fars
+ends_frames [] = tt
+ends_frames (far ∷ fars) = ends_frames fars
 
-ends-slots : (far : FieldWidths) (rows : List RowData) → NoEnds (slots far rows)
+ends_slots : (far : FieldWidths) (rows : List RowData) → NoEnds (slots far rows)
 unfolding NoEnds slots
-ends-slots far [] = tt
-ends-slots far (r ∷ rows) = ends-append (map Frame (addresses_of far r) ++ Pad ∷ Pad ∷ []) (slots far rows) (ends-append (map Frame (addresses_of far r)) (Pad ∷ Pad ∷ []) (ends-frames (addresses_of far r)) tt) (ends-slots far rows)
+ends_slots far [] = tt
+ends_slots far (r ∷ rows) = ends_append (map Frame (addresses_of far r) ++ Pad ∷ Pad ∷ []) (slots far rows) (ends_append (map Frame (addresses_of far r)) (Pad ∷ Pad ∷ []) (ends_frames (addresses_of far r)) tt) (ends_slots far rows)
 
-ends-from : (far : ℕ) (places : List Slot) → NoEnds places → NoEnds (from far places)
+ends_from : (far : ℕ) (places : List Slot) → NoEnds places → NoEnds (from far places)
 unfolding NoEnds
-ends-from far [] n = n
-ends-from far (Frame a ∷ places) n =
+ends_from far [] n = n
+ends_from far (Frame a ∷ places) n =
     elim (cases_eq a far) [
       | inl y ↦ rw (eq-eqb a far y) n
-      | inr x ↦ rw (ne_eqb a far x) (ends-from far places n)
+      | inr x ↦ rw (ne_eqb a far x) (ends_from far places n)
     ]
-ends-from far (Pad ∷ places) n = ends-from far places n
-ends-from far (End ∷ places) n = absurd n
+ends_from far (Pad ∷ places) n = ends_from far places n
+ends_from far (End ∷ places) n = absurd n
 
 no_end : (places : List Slot) (i : ℕ) → NoEnds places → i < length places → get_or places i End ≡ End → ⊥
 unfolding NoEnds
@@ -91,7 +91,7 @@ pub at_end : (part : PartData) (base place : ℕ) → 0 < frame_words part → r
 unfolding read_slot read_limit NoEnds
 at_end part base place some e =
     elim (cases_lt (place / frame_words part) (1 + length (slots_from part base))) [
-      | inl low ↦ absurd (no_end (Pad ∷ slots_from part base) (place / frame_words part) (ends-from base (slots_in part) (ends-slots part.far part.rows)) (omega arith) e)
+      | inl low ↦ absurd (no_end (Pad ∷ slots_from part base) (place / frame_words part) (ends_from base (slots_in part) (ends_slots part.far part.rows)) (omega arith) e)
       | inr past ↦ commute (1 + length (slots_from part base)) (frame_words part) place
           ((le-div_iff_mul-le {k = frame_words part} {x = 1 + length (slots_from part base)} {y = place} some).0 past)
     ]

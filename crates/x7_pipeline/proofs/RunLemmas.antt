@@ -5,23 +5,23 @@ use Rattle.x7_pipeline.specs.Runs.{rest_of, frames_of}
 
 -- ---- within a frame
 
-pub rest-goes_on : (width w : ℕ) (run : List ℕ) → (length (rest_of width run) + 1 ≡ width → ⊥) → rest_of width (w ∷ run) ≡ rest_of width run ++ w ∷ []
+pub rest_goes_on : (width w : ℕ) (run : List ℕ) → (length (rest_of width run) + 1 ≡ width → ⊥) → rest_of width (w ∷ run) ≡ rest_of width run ++ w ∷ []
 unfolding rest_of
-rest-goes_on width w run n = rw (ne_eqb (length (rest_of width run) + 1) width n) refl
+rest_goes_on width w run n = rw (ne_eqb (length (rest_of width run) + 1) width n) refl
 
-pub frames-goes_on : (width w : ℕ) (run : List ℕ) → (length (rest_of width run) + 1 ≡ width → ⊥) → frames_of width (w ∷ run) ≡ frames_of width run
+pub frames_goes_on : (width w : ℕ) (run : List ℕ) → (length (rest_of width run) + 1 ≡ width → ⊥) → frames_of width (w ∷ run) ≡ frames_of width run
 unfolding frames_of
-frames-goes_on width w run n = rw (ne_eqb (length (rest_of width run) + 1) width n) refl
+frames_goes_on width w run n = rw (ne_eqb (length (rest_of width run) + 1) width n) refl
 
 -- ---- at its last word
 
-pub rest-completes : (width w : ℕ) (run : List ℕ) → length (rest_of width run) + 1 ≡ width → rest_of width (w ∷ run) ≡ []
+pub rest_completes : (width w : ℕ) (run : List ℕ) → length (rest_of width run) + 1 ≡ width → rest_of width (w ∷ run) ≡ []
 unfolding rest_of
-rest-completes width w run e = rw (eq-eqb (length (rest_of width run) + 1) width e) refl
+rest_completes width w run e = rw (eq-eqb (length (rest_of width run) + 1) width e) refl
 
-pub frames-completes : (width w : ℕ) (run : List ℕ) → length (rest_of width run) + 1 ≡ width → frames_of width (w ∷ run) ≡ (rest_of width run ++ w ∷ []) ∷ frames_of width run
+pub frames_completes : (width w : ℕ) (run : List ℕ) → length (rest_of width run) + 1 ≡ width → frames_of width (w ∷ run) ≡ (rest_of width run ++ w ∷ []) ∷ frames_of width run
 unfolding frames_of
-frames-completes width w run e = rw (eq-eqb (length (rest_of width run) + 1) width e) refl
+frames_completes width w run e = rw (eq-eqb (length (rest_of width run) + 1) width e) refl
 
 -- ---- sizes
 
@@ -29,8 +29,8 @@ frames-completes width w run e = rw (eq-eqb (length (rest_of width run) + 1) wid
 pub some_words : (width w : ℕ) (run : List ℕ) → length (rest_of width (w ∷ run)) ≡ 0 → length (frames_of width (w ∷ run)) ≡ 0 → ⊥
 some_words width w run no_rest no_frame =
     elim (cases_eq (length (rest_of width run) + 1) width) [
-      | inl e ↦ let c = ap length (frames-completes width w run e) in omega arith
-      | inr n ↦ let r = ap length (rest-goes_on width w run n) in
+      | inl e ↦ let c = ap length (frames_completes width w run e) in omega arith
+      | inr n ↦ let r = ap length (rest_goes_on width w run n) in
           let long = length-append (rest_of width run) (w ∷ []) in omega arith
     ]
 
@@ -39,16 +39,16 @@ nothing_cut : (width : ℕ) → length {A = ℕ} [] ≡ width * length (frames_o
 unfolding frames_of rest_of
 nothing_cut width = omega arith
 
-pub length-run : (width : ℕ) (run : List ℕ) → length run ≡ width * length (frames_of width run) + length (rest_of width run)
-length-run width [] = nothing_cut width
-length-run width (w ∷ run) =
-    let ih : length run ≡ width * length (frames_of width run) + length (rest_of width run) = length-run width run in
+pub length_run : (width : ℕ) (run : List ℕ) → length run ≡ width * length (frames_of width run) + length (rest_of width run)
+length_run width [] = nothing_cut width
+length_run width (w ∷ run) =
+    let ih : length run ≡ width * length (frames_of width run) + length (rest_of width run) = length_run width run in
     elim (cases_eq (length (rest_of width run) + 1) width) [
-      | inl y ↦ (let rest : length (rest_of width (w ∷ run)) ≡ 0 = ap length (rest-completes width w run y) in
-          let frames : length (frames_of width (w ∷ run)) ≡ length (frames_of width run) + 1 = omega (arith, ap length (frames-completes width w run y)) in
+      | inl y ↦ (let rest : length (rest_of width (w ∷ run)) ≡ 0 = ap length (rest_completes width w run y) in
+          let frames : length (frames_of width (w ∷ run)) ≡ length (frames_of width run) + 1 = omega (arith, ap length (frames_completes width w run y)) in
           let product : width * length (frames_of width (w ∷ run)) ≡ width * length (frames_of width run) + width = ap (λ (k : ℕ). width * k) frames ∙ grind arith in
           omega (arith, ih, rest, product, y))
-      | inr n ↦ (let rest : length (rest_of width (w ∷ run)) ≡ length (rest_of width run) + 1 = ap length (rest-goes_on width w run n) ∙ length-append (rest_of width run) (w ∷ []) in
-          let frames : width * length (frames_of width (w ∷ run)) ≡ width * length (frames_of width run) = ap (λ t. width * length t) (frames-goes_on width w run n) in
+      | inr n ↦ (let rest : length (rest_of width (w ∷ run)) ≡ length (rest_of width run) + 1 = ap length (rest_goes_on width w run n) ∙ length-append (rest_of width run) (w ∷ []) in
+          let frames : width * length (frames_of width (w ∷ run)) ≡ width * length (frames_of width run) = ap (λ t. width * length t) (frames_goes_on width w run n) in
           omega (arith, ih, rest, frames))
     ]

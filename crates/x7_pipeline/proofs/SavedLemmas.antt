@@ -21,7 +21,7 @@ use Rattle.x7_pipeline.proofs.FlowLemmas.{StandsFor}
 use Rattle.x7_pipeline.specs.Copies.{copied, is_mfw}
 use Rattle.x7_pipeline.specs.Saving.{ChangesAt, address_at_slot, next_put, pair_at, pair_held, pair_of_frame, expects_copies}
 use Rattle.x7_pipeline.proofs.SlotLemmas.{slot_address}
-use Rattle.x7_pipeline.proofs.RunLemmas.{frames-completes, frames-goes_on}
+use Rattle.x7_pipeline.proofs.RunLemmas.{frames_completes, frames_goes_on}
 use Rattle.x7_pipeline.proofs.StateLemmas.{at_slot_more}
 
 -- ---- the pair
@@ -146,10 +146,10 @@ word_changes part p command base run source given word old new s words l =
           let full : length (rest_of (frame_words part) run) + 1 ≡ frame_words part = sym rest ∙ e ∙ s.width_is in
           rw (copies, eq-eqb (length p.rest + 1) p.width e, s.base_is)
           (lands_newest part base run (word ∷ run) (frames_of (frame_words part) run) p.frame_count old new refl s.count_is
-          (ap (λ (fs : List (List ℕ)). in_slots (slots_from part base) (but_newest fs)) (frames-completes (frame_words part) word run full)) l)
+          (ap (λ (fs : List (List ℕ)). in_slots (slots_from part base) (but_newest fs)) (frames_completes (frame_words part) word run full)) l)
       | inr n ↦
           let inside : length (rest_of (frame_words part) run) + 1 ≡ frame_words part → ⊥ = λ e. n (rest ∙ e ∙ sym s.width_is) in
           rw (copies, ne_eqb (length p.rest + 1) p.width n)
           (changes_none None old new
-          (lands_none part base run (word ∷ run) old new (ap (λ (fs : List (List ℕ)). in_slots (slots_from part base) (but_newest fs)) (frames-goes_on (frame_words part) word run inside)) l))
+          (lands_none part base run (word ∷ run) old new (ap (λ (fs : List (List ℕ)). in_slots (slots_from part base) (but_newest fs)) (frames_goes_on (frame_words part) word run inside)) l))
     ]

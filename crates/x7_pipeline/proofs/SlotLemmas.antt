@@ -22,26 +22,26 @@ addresses_among (Frame far ∷ places) = far ∷ addresses_among places
 addresses_among (Pad ∷ places) = addresses_among places
 addresses_among (End ∷ places) = addresses_among places
 
-addresses_among-append : (first second : List Slot) → addresses_among (first ++ second) ≡ addresses_among first ++ addresses_among second
-addresses_among-append [] second = refl
-addresses_among-append (Frame far ∷ first) second = ap (λ rest. far ∷ rest) (addresses_among-append first second)
-addresses_among-append (Pad ∷ first) second = addresses_among-append first second
-addresses_among-append (End ∷ first) second = addresses_among-append first second
+addresses_among_append : (first second : List Slot) → addresses_among (first ++ second) ≡ addresses_among first ++ addresses_among second
+addresses_among_append [] second = refl
+addresses_among_append (Frame far ∷ first) second = ap (λ rest. far ∷ rest) (addresses_among_append first second)
+addresses_among_append (Pad ∷ first) second = addresses_among_append first second
+addresses_among_append (End ∷ first) second = addresses_among_append first second
 
-addresses_among-map : (fars : List ℕ) → addresses_among (map Frame fars) ≡ fars
-addresses_among-map [] = refl
-addresses_among-map (far ∷ fars) = ap (λ rest. far ∷ rest) (addresses_among-map fars)
+addresses_among_map : (fars : List ℕ) → addresses_among (map Frame fars) ≡ fars
+addresses_among_map [] = refl
+addresses_among_map (far ∷ fars) = ap (λ rest. far ∷ rest) (addresses_among_map fars)
 
 -- the slots of rows have just the rows' addresses
-pub addresses_among-slots : (far : FieldWidths) (rows : List RowData) → addresses_among (slots far rows) ≡ addresses far rows
+pub addresses_among_slots : (far : FieldWidths) (rows : List RowData) → addresses_among (slots far rows) ≡ addresses far rows
 unfolding slots addresses
-addresses_among-slots far [] = refl
-addresses_among-slots far (r ∷ rows) =
-    addresses_among-append (map Frame (addresses_of far r) ++ Pad ∷ Pad ∷ []) (slots far rows)
-    ∙ ap (λ rest. rest ++ addresses_among (slots far rows)) (addresses_among-append (map Frame (addresses_of far r)) (Pad ∷ Pad ∷ []))
+addresses_among_slots far [] = refl
+addresses_among_slots far (r ∷ rows) =
+    addresses_among_append (map Frame (addresses_of far r) ++ Pad ∷ Pad ∷ []) (slots far rows)
+    ∙ ap (λ rest. rest ++ addresses_among (slots far rows)) (addresses_among_append (map Frame (addresses_of far r)) (Pad ∷ Pad ∷ []))
     ∙ append_assoc (addresses_among (map Frame (addresses_of far r))) [] (addresses_among (slots far rows))
-    ∙ ap (λ rest. rest ++ addresses_among (slots far rows)) (addresses_among-map (addresses_of far r))
-    ∙ ap (λ rest. addresses_of far r ++ rest) (addresses_among-slots far rows)
+    ∙ ap (λ rest. rest ++ addresses_among (slots far rows)) (addresses_among_map (addresses_of far r))
+    ∙ ap (λ rest. addresses_of far r ++ rest) (addresses_among_slots far rows)
 
 -- ---- the slots from an address on
 
@@ -95,26 +95,26 @@ some_from far (Frame a ∷ places) h =
 some_from far (Pad ∷ places) h = some_from far places h
 some_from far (End ∷ places) h = some_from far places h
 
-length-from : (far : ℕ) (places : List Slot) → length (from far places) ≤ length places
-length-from far [] = omega arith
-length-from far (Frame a ∷ places) =
+length_from : (far : ℕ) (places : List Slot) → length (from far places) ≤ length places
+length_from far [] = omega arith
+length_from far (Frame a ∷ places) =
     elim (cases_eq a far) [
       | inl y ↦ rw (eq-eqb a far y) (omega arith)
-      | inr x ↦ rw (ne_eqb a far x) (let ih = length-from far places in omega arith)
+      | inr x ↦ rw (ne_eqb a far x) (let ih = length_from far places in omega arith)
     ]
-length-from far (Pad ∷ places) = let ih = length-from far places in omega arith
-length-from far (End ∷ places) = let ih = length-from far places in omega arith
+length_from far (Pad ∷ places) = let ih = length_from far places in omega arith
+length_from far (End ∷ places) = let ih = length_from far places in omega arith
 
 -- ---- of a part
 
 -- an address has slots from it on
 pub address_has : (part : PartData) (far : ℕ) → Contains (addresses_in part) far → has_frame_at part far ≡ true
 address_has part far has =
-    lt-ltb 0 (length (slots_from part far)) (from_some far (slots_in part) (rw (addresses_among-slots part.far part.rows) has))
+    lt-ltb 0 (length (slots_from part far)) (from_some far (slots_in part) (rw (addresses_among_slots part.far part.rows) has))
 
 pub has_address : (part : PartData) (far : ℕ) → has_frame_at part far ≡ true → Contains (addresses_in part) far
 has_address part far t =
-    rw (addresses_among-slots part.far part.rows) at (some_from far (slots_in part) (ltb-true 0 (length (slots_from part far)) t))
+    rw (addresses_among_slots part.far part.rows) at (some_from far (slots_in part) (ltb-true 0 (length (slots_from part far)) t))
 
 -- the test for an address
 pub is_base_so : (part : PartData) (far : ℕ) (b : Bool) → (b ≡ true) ↔ Contains (addresses_in part) far → b ≡ has_frame_at part far
@@ -138,9 +138,9 @@ no_slot part far n f = sym (get_or_past (slots_from part far) n End (let none = 
 
 -- a slot of a frame has an address of the part
 pub slot_address : (part : PartData) (base n far : ℕ) → Frame far ≡ get_or (slots_from part base) n End → Contains (addresses_in part) far
-slot_address part base n far e = rw (addresses_among-slots part.far part.rows) at (slot_among base n far (slots_in part) (sym e))
+slot_address part base n far e = rw (addresses_among_slots part.far part.rows) at (slot_among base n far (slots_in part) (sym e))
 
 -- a part has fewer than 2^31 slots
 pub few_slots : (part : PartData) (far : ℕ) → IsPart part → length (slots_from part far) < 2 ^ 31
 few_slots part far is =
-    let few = is.frames in let rows = is.few in let count = slots_count part.far part.rows in let from_there = length-from far (slots_in part) in omega arith
+    let few = is.frames in let rows = is.few in let count = slots_count part.far part.rows in let from_there = length_from far (slots_in part) in omega arith

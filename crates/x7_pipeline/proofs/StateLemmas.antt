@@ -20,7 +20,7 @@ use Rattle.x7_pipeline.specs.Readback.{word_at, read_slot, read_at, read_limit, 
 use Rattle.x7_pipeline.specs.Faults.{address_fault, completes, has_filled, write_fault, copy_fault, read_fault, drop_fault}
 use Rattle.x7_pipeline.specs.Pipeline.{PipelineData}
 use Rattle.x7_pipeline.proofs.FlowLemmas.{StandsFor}
-use Rattle.x7_pipeline.proofs.RunLemmas.{rest-goes_on, frames-goes_on, rest-completes, frames-completes, some_words}
+use Rattle.x7_pipeline.proofs.RunLemmas.{rest_goes_on, frames_goes_on, rest_completes, frames_completes, some_words}
 use Rattle.x7_pipeline.proofs.SlotLemmas.{few_slots}
 use Rattle.x7_pipeline.proofs.FarLemmas.{far_stored}
 use Rattle.x7_pipeline.proofs.ReadLemmas.{first_slot, none_given, passed, read_stored, stands_still, goes_up, same_slot}
@@ -68,8 +68,8 @@ pub goes_on : (part : PartData) (p q : PipelineData) (w : ℕ) (command : Comman
 goes_on part p q w command base run source given s short e =
     let rest = s.rest_is in let width = s.width_is in
     let inside : length (rest_of (frame_words part) run) + 1 ≡ frame_words part → ⊥ = λ same. (let long = ap length rest in absurd (omega arith)) in
-    let r = rest-goes_on (frame_words part) w run inside in
-    let f = frames-goes_on (frame_words part) w run inside in
+    let r = rest_goes_on (frame_words part) w run inside in
+    let f = frames_goes_on (frame_words part) w run inside in
     rw e (record {
       some_words = s.some_words;
       width_is = s.width_is;
@@ -91,8 +91,8 @@ pub completes_frame : (part : PartData) (p q : PipelineData) (w : ℕ) (command 
 completes_frame part p q w command base run source given s whole low e =
     let rest = s.rest_is in let width = s.width_is in
     let full : length (rest_of (frame_words part) run) + 1 ≡ frame_words part = (let long = ap length rest in omega arith) in
-    let r = rest-completes (frame_words part) w run full in
-    let f = frames-completes (frame_words part) w run full in
+    let r = rest_completes (frame_words part) w run full in
+    let f = frames_completes (frame_words part) w run full in
     let count = s.count_is in
     rw e (record {
       some_words = s.some_words;
@@ -122,7 +122,7 @@ unfolding written_frames
 lands_nothing part p w command base run source given old new s short same =
     let rest = s.rest_is in let width = s.width_is in
     let inside : length (rest_of (frame_words part) run) + 1 ≡ frame_words part → ⊥ = λ same. (let long = ap length rest in absurd (omega arith)) in
-    same_lands part base run (w ∷ run) old new (ap (λ frames. in_slots (slots_from part base) (but_newest frames)) (frames-goes_on (frame_words part) w run inside)) same
+    same_lands part base run (w ∷ run) old new (ap (λ frames. in_slots (slots_from part base) (but_newest frames)) (frames_goes_on (frame_words part) w run inside)) same
 
 pub at_slot_more : (slot : Slot) (words : List ℕ) (pairs : List PlanRow) → at_slot slot words pairs ≡ at_slot slot words [] ++ pairs
 at_slot_more (Frame far) words pairs = refl
@@ -156,7 +156,7 @@ lands_frame part p w command base run source given old new s whole none some =
     let rest = s.rest_is in let width = s.width_is in
     let full : length (rest_of (frame_words part) run) + 1 ≡ frame_words part = (let long = ap length rest in omega arith) in
     lands_by part base run (w ∷ run) (frames_of (frame_words part) run) old new refl
-    (ap (λ frames. in_slots (slots_from part base) (but_newest frames)) (frames-completes (frame_words part) w run full))
+    (ap (λ frames. in_slots (slots_from part base) (but_newest frames)) (frames_completes (frame_words part) w run full))
     (λ e. none (s.newest_is ∙ e))
     (λ frame e. rw (← s.base_is, ← s.count_is) (some frame (s.newest_is ∙ e)))
 

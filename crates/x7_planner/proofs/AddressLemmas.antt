@@ -8,9 +8,9 @@ use Rattle.x7_part.specs.Part.{PartData}
 use Rattle.x7_memory.specs.Planned.{AreAddressed, PlanRow}
 use Rattle.x7_planner.specs.Refusals.{IsFirstForeign}
 
-pub foreign-at : (part : PartData) (rows : List PlanRow) (i : ℕ) (row : PlanRow) → i < length rows → get_or rows i row ≡ row → AreAddressed part (take i rows) → ¬ Contains (addresses_in part) row.far
+pub foreign_at : (part : PartData) (rows : List PlanRow) (i : ℕ) (row : PlanRow) → i < length rows → get_or rows i row ≡ row → AreAddressed part (take i rows) → ¬ Contains (addresses_in part) row.far
     → IsFirstForeign part rows row.far
-foreign-at part rows i row h e before foreign = record {
+foreign_at part rows i row h e before foreign = record {
   before = take i rows;
   row = row;
   after = drop (i + 1) rows;
@@ -20,7 +20,7 @@ foreign-at part rows i row h e before foreign = record {
   is = refl;
 }
 
-pub addressed-more : (part : PartData) (rows : List PlanRow) (i : ℕ) (row : PlanRow) → i < length rows → get_or rows i row ≡ row → AreAddressed part (take i rows) → Contains (addresses_in part) row.far
+pub addressed_more : (part : PartData) (rows : List PlanRow) (i : ℕ) (row : PlanRow) → i < length rows → get_or rows i row ≡ row → AreAddressed part (take i rows) → Contains (addresses_in part) row.far
     → AreAddressed part (take (i + 1) rows)
-addressed-more part rows i row h e before here =
+addressed_more part rows i row h e before here =
     subst (λ t. AreAddressed part t) (sym (take_more rows i row h ∙ ap (λ (r : PlanRow). take i rows ++ r ∷ []) e)) (All-push (λ r. Contains (addresses_in part) r.far) (take i rows) row before here)

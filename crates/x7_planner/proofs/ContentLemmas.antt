@@ -19,54 +19,54 @@ use Rattle.x7_planner.specs.declared.content.Content.{Content}
 
 -- ---- the same words
 
-pub same_words-true : (xs ys : List ℕ) → same_words xs ys ≡ true → xs ≡ ys
-same_words-true [] [] e = refl
-same_words-true [] (y ∷ ys) e = absurd (cc)
-same_words-true (x ∷ xs) [] e = absurd (cc)
-same_words-true (x ∷ xs) (y ∷ ys) e = both (x == y) refl e (same_words-true xs ys)
+pub same_words_true : (xs ys : List ℕ) → same_words xs ys ≡ true → xs ≡ ys
+same_words_true [] [] e = refl
+same_words_true [] (y ∷ ys) e = absurd (cc)
+same_words_true (x ∷ xs) [] e = absurd (cc)
+same_words_true (x ∷ xs) (y ∷ ys) e = both (x == y) refl e (same_words_true xs ys)
   where
     both : (b : Bool) → (x == y) ≡ b → (b && same_words xs ys) ≡ true → (same_words xs ys ≡ true → xs ≡ ys) → x ∷ xs ≡ y ∷ ys
     both true t e ih = let h : x ≡ y = eqb-true x y t in let r : xs ≡ ys = ih e in cc
     both false t e ih = absurd (cc)
 
-pub same_words-own : (xs : List ℕ) → same_words xs xs ≡ true
-same_words-own [] = refl
-same_words-own (x ∷ xs) = rw (eq-eqb x x refl) (same_words-own xs)
+pub same_words_own : (xs : List ℕ) → same_words xs xs ≡ true
+same_words_own [] = refl
+same_words_own (x ∷ xs) = rw (eq-eqb x x refl) (same_words_own xs)
 
-pub same_words-false : (xs ys : List ℕ) → same_words xs ys ≡ false → xs ≢ ys
-same_words-false xs ys e h = false≢true (sym e ∙ ap (λ t. same_words xs t) (sym h) ∙ same_words-own xs)
+pub same_words_false : (xs ys : List ℕ) → same_words xs ys ≡ false → xs ≢ ys
+same_words_false xs ys e h = false≢true (sym e ∙ ap (λ t. same_words xs t) (sym h) ∙ same_words_own xs)
 
-pub same_words-other : (xs ys : List ℕ) → xs ≢ ys → same_words xs ys ≡ false
-same_words-other xs ys n = by (same_words xs ys) refl
+pub same_words_other : (xs ys : List ℕ) → xs ≢ ys → same_words xs ys ≡ false
+same_words_other xs ys n = by (same_words xs ys) refl
   where
     by : (b : Bool) → same_words xs ys ≡ b → b ≡ false
-    by true e = absurd (n (same_words-true xs ys e))
+    by true e = absurd (n (same_words_true xs ys e))
     by false e = refl
 
 -- ---- rows with a content
 
-pub content-same : (words : List ℕ) (r : PlanRow) (rows : List PlanRow) → r.words ≡ words → with_content words (r ∷ rows) ≡ r ∷ with_content words rows
-content-same words r rows e = rw (ap (λ t. same_words t words) e ∙ same_words-own words) refl
+pub content_same : (words : List ℕ) (r : PlanRow) (rows : List PlanRow) → r.words ≡ words → with_content words (r ∷ rows) ≡ r ∷ with_content words rows
+content_same words r rows e = rw (ap (λ t. same_words t words) e ∙ same_words_own words) refl
 
-pub content-other : (words : List ℕ) (r : PlanRow) (rows : List PlanRow) → r.words ≢ words → with_content words (r ∷ rows) ≡ with_content words rows
-content-other words r rows n = rw (same_words-other r.words words n) refl
+pub content_other : (words : List ℕ) (r : PlanRow) (rows : List PlanRow) → r.words ≢ words → with_content words (r ∷ rows) ≡ with_content words rows
+content_other words r rows n = rw (same_words_other r.words words n) refl
 
-pub content-append : (words : List ℕ) (xs ys : List PlanRow) → with_content words (xs ++ ys) ≡ with_content words xs ++ with_content words ys
-content-append words [] ys = refl
-content-append words (x ∷ xs) ys = by (same_words x.words words) (content-append words xs ys)
+pub content_append : (words : List ℕ) (xs ys : List PlanRow) → with_content words (xs ++ ys) ≡ with_content words xs ++ with_content words ys
+content_append words [] ys = refl
+content_append words (x ∷ xs) ys = by (same_words x.words words) (content_append words xs ys)
   where
     by : (b : Bool) → with_content words (xs ++ ys) ≡ with_content words xs ++ with_content words ys
         → (if b then x ∷ with_content words (xs ++ ys) else with_content words (xs ++ ys)) ≡ (if b then x ∷ with_content words xs else with_content words xs) ++ with_content words ys
     by true ih = ap (λ t. x ∷ t) ih
     by false ih = ih
 
-pub content-none : (words : List ℕ) (xs : List PlanRow) → ((k : ℕ) (d : PlanRow) → k < length xs → (get_or xs k d).words ≢ words) → with_content words xs ≡ []
-content-none words [] n = refl
-content-none words (x ∷ xs) n = content-other words x xs (n 0 x (omega arith)) ∙ content-none words xs (λ k d h. n (suc k) d (omega (arith, h)))
+pub content_none : (words : List ℕ) (xs : List PlanRow) → ((k : ℕ) (d : PlanRow) → k < length xs → (get_or xs k d).words ≢ words) → with_content words xs ≡ []
+content_none words [] n = refl
+content_none words (x ∷ xs) n = content_other words x xs (n 0 x (omega arith)) ∙ content_none words xs (λ k d h. n (suc k) d (omega (arith, h)))
 
-pub content-shorter : (words : List ℕ) (xs : List PlanRow) → length (with_content words xs) ≤ length xs
-content-shorter words [] = omega arith
-content-shorter words (x ∷ xs) = by (same_words x.words words) (content-shorter words xs)
+pub content_shorter : (words : List ℕ) (xs : List PlanRow) → length (with_content words xs) ≤ length xs
+content_shorter words [] = omega arith
+content_shorter words (x ∷ xs) = by (same_words x.words words) (content_shorter words xs)
   where
     by : (b : Bool) → length (with_content words xs) ≤ length xs → length (if b then x ∷ with_content words xs else with_content words xs) ≤ suc (length xs)
     by true ih = omega (arith, ih)
@@ -74,29 +74,29 @@ content-shorter words (x ∷ xs) = by (same_words x.words words) (content-shorte
 
 -- ---- where a content begins and ends
 
-pub none-before : (rows : List PlanRow) (words : List ℕ) (a : ℕ) → AreTogether rows → IsFirst rows words a → with_content words (take a rows) ≡ []
-none-before rows words a t f = content-none words (take a rows) (λ k d h e.
+pub none_before : (rows : List PlanRow) (words : List ℕ) (a : ℕ) → AreTogether rows → IsFirst rows words a → with_content words (take a rows) ≡ []
+none_before rows words a t f = content_none words (take a rows) (λ k d h e.
     let below : k < a = omega (arith, h, length-take-le a rows (let i = f.inside in omega (arith, i))) in
     let at : (get_or rows k d).words ≡ words = ap (λ (r : PlanRow). r.words) (sym (get_or-take a rows k d below)) ∙ e in
     f.before d (omega (arith, below)) (t k (a - 1) a d (omega (arith, below)) (omega arith) f.inside (at ∙ sym (f.has d)) ∙ at))
 
-pub none-behind : (rows : List PlanRow) (words : List ℕ) (a b : ℕ) → AreTogether rows → IsFirst rows words a → a ≤ b → ((d : PlanRow) → (get_or rows b d).words ≢ words) → with_content words (drop b rows) ≡ []
-none-behind rows words a b t f l n = content-none words (drop b rows) (λ k d h e.
+pub none_after : (rows : List PlanRow) (words : List ℕ) (a b : ℕ) → AreTogether rows → IsFirst rows words a → a ≤ b → ((d : PlanRow) → (get_or rows b d).words ≢ words) → with_content words (drop b rows) ≡ []
+none_after rows words a b t f l n = content_none words (drop b rows) (λ k d h e.
     let inside : b + k < length rows = omega (arith, h, length-drop b rows) in
     let at : (get_or rows (b + k) d).words ≡ words = ap (λ (r : PlanRow). r.words) (sym (get_or-drop b rows k d)) ∙ e in
     n d (t a b (b + k) d l (omega arith) inside (f.has d ∙ sym at) ∙ f.has d))
 
-pub from-first : (rows : List PlanRow) (words : List ℕ) (a : ℕ) → AreTogether rows → IsFirst rows words a → with_content words rows ≡ with_content words (drop a rows)
-from-first rows words a t f =
-    ap (with_content words) (sym (take-append-drop a rows)) ∙ content-append words (take a rows) (drop a rows) ∙ ap (λ x. x ++ with_content words (drop a rows)) (none-before rows words a t f)
+pub from_first : (rows : List PlanRow) (words : List ℕ) (a : ℕ) → AreTogether rows → IsFirst rows words a → with_content words rows ≡ with_content words (drop a rows)
+from_first rows words a t f =
+    ap (with_content words) (sym (take-append-drop a rows)) ∙ content_append words (take a rows) (drop a rows) ∙ ap (λ x. x ++ with_content words (drop a rows)) (none_before rows words a t f)
 
-pub up-to : (rows : List PlanRow) (words : List ℕ) (a b : ℕ) → AreTogether rows → IsFirst rows words a → a ≤ b → ((d : PlanRow) → (get_or rows b d).words ≢ words) → with_content words rows ≡ with_content words (take b rows)
-up-to rows words a b t f l n =
-    ap (with_content words) (sym (take-append-drop b rows)) ∙ content-append words (take b rows) (drop b rows) ∙ ap (λ x. with_content words (take b rows) ++ x) (none-behind rows words a b t f l n)
+pub up_to : (rows : List PlanRow) (words : List ℕ) (a b : ℕ) → AreTogether rows → IsFirst rows words a → a ≤ b → ((d : PlanRow) → (get_or rows b d).words ≢ words) → with_content words rows ≡ with_content words (take b rows)
+up_to rows words a b t f l n =
+    ap (with_content words) (sym (take-append-drop b rows)) ∙ content_append words (take b rows) (drop b rows) ∙ ap (λ x. with_content words (take b rows) ++ x) (none_after rows words a b t f l n)
     ∙ append-nil (with_content words (take b rows))
 
-pub step-in : (rows : List PlanRow) (words : List ℕ) (a : ℕ) (d : PlanRow) → a < length rows → (get_or rows a d).words ≡ words → with_content words (drop a rows) ≡ get_or rows a d ∷ with_content words (drop (a + 1) rows)
-step-in rows words a d l e = ap (with_content words) (drop_more rows a d l) ∙ content-same words (get_or rows a d) (drop (a + 1) rows) e
+pub step_in : (rows : List PlanRow) (words : List ℕ) (a : ℕ) (d : PlanRow) → a < length rows → (get_or rows a d).words ≡ words → with_content words (drop a rows) ≡ get_or rows a d ∷ with_content words (drop (a + 1) rows)
+step_in rows words a d l e = ap (with_content words) (drop_more rows a d l) ∙ content_same words (get_or rows a d) (drop (a + 1) rows) e
 
 pub at_least : (n : ℕ) → 3 ≤ n → nat_le 3 n ≡ true
 at_least n l = grind (arith, nat_tests)
@@ -104,38 +104,38 @@ at_least n l = grind (arith, nat_tests)
 pub at_most : (n : ℕ) → n < 3 → nat_le 3 n ≡ false
 at_most n l = grind (arith, nat_tests)
 
-pub is-group : (rows : List PlanRow) (words : List ℕ) (a : ℕ) (d : PlanRow) → AreTogether rows → IsFirst rows words a → a + 2 < length rows → (get_or rows (a + 2) d).words ≡ words → nat_le 3 (length (with_content words rows)) ≡ true
-is-group rows words a d t f l e =
+pub is_group : (rows : List PlanRow) (words : List ℕ) (a : ℕ) (d : PlanRow) → AreTogether rows → IsFirst rows words a → a + 2 < length rows → (get_or rows (a + 2) d).words ≡ words → nat_le 3 (length (with_content words rows)) ≡ true
+is_group rows words a d t f l e =
     let second : (get_or rows (a + 1) d).words ≡ words = t a (a + 1) (a + 2) d (omega arith) (omega arith) l (f.has d ∙ sym e) ∙ f.has d in
     let whole : with_content words rows ≡ get_or rows a d ∷ get_or rows (a + 1) d ∷ get_or rows (a + 2) d ∷ with_content words (drop (a + 2 + 1) rows) =
-    from-first rows words a t f ∙ step-in rows words a d f.inside (f.has d)
-    ∙ ap (λ x. get_or rows a d ∷ x) (step-in rows words (a + 1) d (omega (arith, l)) second ∙ ap (λ x. get_or rows (a + 1) d ∷ x) (ap (λ (k : ℕ). with_content words (drop k rows)) (omega arith) ∙ step-in rows words (a + 2) d l e)) in
+    from_first rows words a t f ∙ step_in rows words a d f.inside (f.has d)
+    ∙ ap (λ x. get_or rows a d ∷ x) (step_in rows words (a + 1) d (omega (arith, l)) second ∙ ap (λ x. get_or rows (a + 1) d ∷ x) (ap (λ (k : ℕ). with_content words (drop k rows)) (omega arith) ∙ step_in rows words (a + 2) d l e)) in
     at_least (length (with_content words rows)) (let n : length (with_content words rows) ≡ suc (suc (suc (length (with_content words (drop (a + 2 + 1) rows))))) = ap length whole in omega (arith, n))
 
-pub no-group-short : (rows : List PlanRow) (words : List ℕ) (a : ℕ) → AreTogether rows → IsFirst rows words a → length rows - a < 3 → nat_le 3 (length (with_content words rows)) ≡ false
-no-group-short rows words a t f l =
-    at_most (length (with_content words rows)) (let n : length (with_content words rows) ≡ length (with_content words (drop a rows)) = ap length (from-first rows words a t f) in omega (arith, n, content-shorter words (drop a rows), length-drop a rows, l))
+pub no_group_short : (rows : List PlanRow) (words : List ℕ) (a : ℕ) → AreTogether rows → IsFirst rows words a → length rows - a < 3 → nat_le 3 (length (with_content words rows)) ≡ false
+no_group_short rows words a t f l =
+    at_most (length (with_content words rows)) (let n : length (with_content words rows) ≡ length (with_content words (drop a rows)) = ap length (from_first rows words a t f) in omega (arith, n, content_shorter words (drop a rows), length-drop a rows, l))
 
-pub no-group : (rows : List PlanRow) (words : List ℕ) (a : ℕ) → AreTogether rows → IsFirst rows words a → a + 2 < length rows → ((d : PlanRow) → (get_or rows (a + 2) d).words ≢ words) → nat_le 3 (length (with_content words rows)) ≡ false
-no-group rows words a t f l n =
+pub no_group : (rows : List PlanRow) (words : List ℕ) (a : ℕ) → AreTogether rows → IsFirst rows words a → a + 2 < length rows → ((d : PlanRow) → (get_or rows (a + 2) d).words ≢ words) → nat_le 3 (length (with_content words rows)) ≡ false
+no_group rows words a t f l n =
     let parts : with_content words (drop a rows) ≡ with_content words (take 2 (drop a rows)) ++ with_content words (drop 2 (drop a rows)) =
-    ap (with_content words) (sym (take-append-drop 2 (drop a rows))) ∙ content-append words (take 2 (drop a rows)) (drop 2 (drop a rows)) in
-    let behind : with_content words (drop 2 (drop a rows)) ≡ [] = ap (with_content words) (drop-drop 2 a rows) ∙ none-behind rows words a (a + 2) t f (omega arith) n in
+    ap (with_content words) (sym (take-append-drop 2 (drop a rows))) ∙ content_append words (take 2 (drop a rows)) (drop 2 (drop a rows)) in
+    let behind : with_content words (drop 2 (drop a rows)) ≡ [] = ap (with_content words) (drop-drop 2 a rows) ∙ none_after rows words a (a + 2) t f (omega arith) n in
     let whole : length (with_content words rows) ≡ length (with_content words (take 2 (drop a rows))) + length (with_content words (drop 2 (drop a rows))) =
-    ap length (from-first rows words a t f ∙ parts) ∙ length-append (with_content words (take 2 (drop a rows))) (with_content words (drop 2 (drop a rows))) in
+    ap length (from_first rows words a t f ∙ parts) ∙ length-append (with_content words (take 2 (drop a rows))) (with_content words (drop 2 (drop a rows))) in
     let none : length (with_content words (drop 2 (drop a rows))) ≡ 0 = ap length behind in
     let two : length (take 2 (drop a rows)) ≡ 2 = length-take-le 2 (drop a rows) (omega (arith, length-drop a rows, l)) in
-    at_most (length (with_content words rows)) (omega (arith, whole, none, two, content-shorter words (take 2 (drop a rows))))
+    at_most (length (with_content words rows)) (omega (arith, whole, none, two, content_shorter words (take 2 (drop a rows))))
 
-pub first-of : (rows : List PlanRow) (words : List ℕ) (a : ℕ) (d : PlanRow) → AreTogether rows → IsFirst rows words a → with_content words rows ≡ get_or rows a d ∷ with_content words (drop (a + 1) rows)
-first-of rows words a d t f = from-first rows words a t f ∙ step-in rows words a d f.inside (f.has d)
+pub first_of : (rows : List PlanRow) (words : List ℕ) (a : ℕ) (d : PlanRow) → AreTogether rows → IsFirst rows words a → with_content words rows ≡ get_or rows a d ∷ with_content words (drop (a + 1) rows)
+first_of rows words a d t f = from_first rows words a t f ∙ step_in rows words a d f.inside (f.has d)
 
 -- ---- rows of contents
 
-pub row-at : (contents : List Content) (i : ℕ) (d : PlanRow) (e : Content) → i < length contents → get_or (content_rows contents) i d ≡ content_row (get_or contents i e)
-row-at [] i d e l = absurd (omega (arith, l))
-row-at (c ∷ contents) zero d e l = refl
-row-at (c ∷ contents) (suc i) d e l = row-at contents i d e (omega (arith, l))
+pub row_at : (contents : List Content) (i : ℕ) (d : PlanRow) (e : Content) → i < length contents → get_or (content_rows contents) i d ≡ content_row (get_or contents i e)
+row_at [] i d e l = absurd (omega (arith, l))
+row_at (c ∷ contents) zero d e l = refl
+row_at (c ∷ contents) (suc i) d e l = row_at contents i d e (omega (arith, l))
 
 -- ---- the order of contents
 
@@ -147,7 +147,7 @@ equal_is_same = same_from_slice_cmp nat_cmp is_eq same_words refl (λ _ _. refl)
 
 tied : (xs ys : List ℕ) → is_lt (slice_cmp nat_cmp xs ys) ≡ false → is_lt (slice_cmp nat_cmp ys xs) ≡ false → xs ≡ ys
 tied xs ys f g =
-    same_words-true xs ys (sym (equal_is_same xs ys (slice_cmp nat_cmp xs ys) refl) ∙ by (slice_cmp nat_cmp xs ys) (slice_cmp nat_cmp ys xs) f g (nat_list_cmp_total.antisymm xs ys))
+    same_words_true xs ys (sym (equal_is_same xs ys (slice_cmp nat_cmp xs ys) refl) ∙ by (slice_cmp nat_cmp xs ys) (slice_cmp nat_cmp ys xs) f g (nat_list_cmp_total.antisymm xs ys))
   where
     by : (o p : Ordering) → is_lt o ≡ false → is_lt p ≡ false → o ≡ ordering_reverse p → is_eq o ≡ true
     by Less p f g e = absurd (cc)
@@ -189,9 +189,9 @@ sorted_together [] s i k j d l m h e = absurd (omega (arith, h))
 sorted_together (c ∷ contents) s i k j d l m h e =
     let all : List Content = c ∷ contents in
     let inside : j < length all = omega (arith, h, length-map all content_row) in
-    let first : get_or (content_rows all) i d ≡ content_row (get_or all i c) = row-at all i d c (omega (arith, l, m, inside)) in
-    let middle : get_or (content_rows all) k d ≡ content_row (get_or all k c) = row-at all k d c (omega (arith, m, inside)) in
-    let last : get_or (content_rows all) j d ≡ content_row (get_or all j c) = row-at all j d c inside in
+    let first : get_or (content_rows all) i d ≡ content_row (get_or all i c) = row_at all i d c (omega (arith, l, m, inside)) in
+    let middle : get_or (content_rows all) k d ≡ content_row (get_or all k c) = row_at all k d c (omega (arith, m, inside)) in
+    let last : get_or (content_rows all) j d ≡ content_row (get_or all j c) = row_at all j d c inside in
     let same : (get_or all i c).words.now ≡ (get_or all j c).words.now = ap (λ (r : PlanRow). r.words) (sym first) ∙ e ∙ ap (λ (r : PlanRow). r.words) last in
     let up : by_words (get_or all k c) (get_or all i c) ≡ false = sorted_far by_words words_order all s i k c l (omega (arith, m, inside)) in
     let over : by_words (get_or all j c) (get_or all k c) ≡ false = sorted_far by_words words_order all s k j c m inside in
@@ -204,31 +204,31 @@ row_there (c ∷ contents) i p l =
     subst (Contains (map (λ (c : Content). c.row) (c ∷ contents))) (get_or-map (λ (c : Content). c.row) (c ∷ contents) i c 0 l ∙ p i c l)
     (Contains-get_or (map (λ (c : Content). c.row) (c ∷ contents)) i 0 (omega (arith, l, length-map (c ∷ contents) (λ (c : Content). c.row))))
 
-pub grouped-is : (rows : List PlanRow) (old new : List Content) → content_rows old ≡ rows → ((k : ℕ) (d : Content) → k < length old → (get_or old k d).row ≡ k) → IsPermutation old new → IsSortedBy by_words new → IsStableBy by_words old new
+pub grouped_is : (rows : List PlanRow) (old new : List Content) → content_rows old ≡ rows → ((k : ℕ) (d : Content) → k < length old → (get_or old k d).row ≡ k) → IsPermutation old new → IsSortedBy by_words new → IsStableBy by_words old new
     → AreGrouped rows new
-grouped-is rows old new e p m s t =
+grouped_is rows old new e p m s t =
     let long : length rows ≡ length old = ap length (sym e) ∙ length-map old content_row in
     record {
       together = sorted_together new s;
       same = (λ k d l. content_is_filter (get_or new k d) new ∙ ap content_rows (t (get_or new k d)) ∙ sym (content_is_filter (get_or new k d) old) ∙ ap (with_content (get_or new k d).words.now) e);
-      placed = All-permutation (IsPlaced rows) old new m (λ k d l. (omega (arith, p k d l, l, long), (λ f. ap (λ (n : ℕ). get_or rows n f) (p k d l) ∙ ap (λ t. get_or t k f) (sym e) ∙ row-at old k f d l)));
+      placed = All-permutation (IsPlaced rows) old new m (λ k d l. (omega (arith, p k d l, l, long), (λ f. ap (λ (n : ℕ). get_or rows n f) (p k d l) ∙ ap (λ t. get_or t k f) (sym e) ∙ row_at old k f d l)));
       each = (λ i l. Contains-permutation (map (λ (c : Content). c.row) old) (map (λ (c : Content). c.row) new) i (IsPermutation-map (λ (c : Content). c.row) old new m) (row_there old i p (omega (arith, l, long))));
     }
 
 -- ---- where contents begin
 
-pub begun-same : (rows : List PlanRow) (start k : ℕ) (d : PlanRow) → IsBegun rows start k → k < length rows → (get_or rows k d).words ≡ (get_or rows start d).words → IsFirst rows (get_or rows k d).words start
-begun-same rows start zero d b l e = record {
+pub begun_same : (rows : List PlanRow) (start k : ℕ) (d : PlanRow) → IsBegun rows start k → k < length rows → (get_or rows k d).words ≡ (get_or rows start d).words → IsFirst rows (get_or rows k d).words start
+begun_same rows start zero d b l e = record {
   inside = omega (arith, l, b.none refl);
   has = (λ f. ap (λ (r : PlanRow). r.words) (get_or_default rows start f d (omega (arith, l, b.none refl))) ∙ sym e);
   before = (λ f h. absurd (omega (arith, h, b.none refl)));
 }
-begun-same rows start (suc k) d b l e =
+begun_same rows start (suc k) d b l e =
     let f = b.first d (omega arith) in
     subst (λ t. IsFirst rows t start) (sym (f.has d) ∙ sym e) f
 
-pub begun-new : (rows : List PlanRow) (start k : ℕ) (d : PlanRow) → IsBegun rows start k → k < length rows → (get_or rows k d).words ≢ (get_or rows start d).words → IsFirst rows (get_or rows k d).words k
-begun-new rows start k d b l n = record {
+pub begun_new : (rows : List PlanRow) (start k : ℕ) (d : PlanRow) → IsBegun rows start k → k < length rows → (get_or rows k d).words ≢ (get_or rows start d).words → IsFirst rows (get_or rows k d).words k
+begun_new rows start k d b l n = record {
   inside = l;
   has = (λ f. ap (λ (r : PlanRow). r.words) (get_or_default rows k f d l));
   before = (λ f h e. let g = b.first f h in n (sym e ∙ sym (g.has d)));
@@ -237,16 +237,16 @@ begun-new rows start k d b l n = record {
 pub start_same : (contents : List Content) (start k : ℕ) (e : Content) → IsBegun (content_rows contents) start k → k < length contents → same_words (get_or contents k e).words.now (get_or contents start e).words.now ≡ true
     → (d : PlanRow) → IsFirst (content_rows contents) (get_or (content_rows contents) k d).words start
 start_same contents start k e b l t d =
-    begun-same (content_rows contents) start k d b (omega (arith, l, length-map contents content_row))
-    (ap (λ (r : PlanRow). r.words) (row-at contents k d e l) ∙ same_words-true (get_or contents k e).words.now (get_or contents start e).words.now t
-    ∙ ap (λ (r : PlanRow). r.words) (sym (row-at contents start d e (let h = b.behind in omega (arith, h, l)))))
+    begun_same (content_rows contents) start k d b (omega (arith, l, length-map contents content_row))
+    (ap (λ (r : PlanRow). r.words) (row_at contents k d e l) ∙ same_words_true (get_or contents k e).words.now (get_or contents start e).words.now t
+    ∙ ap (λ (r : PlanRow). r.words) (sym (row_at contents start d e (let h = b.behind in omega (arith, h, l)))))
 
 pub start_new : (contents : List Content) (start k : ℕ) (e : Content) → IsBegun (content_rows contents) start k → k < length contents → same_words (get_or contents k e).words.now (get_or contents start e).words.now ≡ false
     → (d : PlanRow) → IsFirst (content_rows contents) (get_or (content_rows contents) k d).words k
 start_new contents start k e b l t d =
-    begun-new (content_rows contents) start k d b (omega (arith, l, length-map contents content_row)) (λ s.
-    same_words-false (get_or contents k e).words.now (get_or contents start e).words.now t
-    (ap (λ (r : PlanRow). r.words) (sym (row-at contents k d e l)) ∙ s ∙ ap (λ (r : PlanRow). r.words) (row-at contents start d e (let h = b.behind in omega (arith, h, l)))))
+    begun_new (content_rows contents) start k d b (omega (arith, l, length-map contents content_row)) (λ s.
+    same_words_false (get_or contents k e).words.now (get_or contents start e).words.now t
+    (ap (λ (r : PlanRow). r.words) (sym (row_at contents k d e l)) ∙ s ∙ ap (λ (r : PlanRow). r.words) (row_at contents start d e (let h = b.behind in omega (arith, h, l)))))
 
 -- places up to k know where their content begins
 pub record FirstsUpTo (rows : List PlanRow) (firsts : List ℕ) (start k : ℕ) : Type 0 where
@@ -280,27 +280,27 @@ pub firsts_all : (rows : List PlanRow) (firsts : List ℕ) (start k : ℕ) → F
 firsts_all rows firsts start k u n = record { count = u.count ∙ n; each = (λ j d h. u.each j d (omega (arith, h, n))) }
 
 -- a content begins at one place
-not-later : (rows : List PlanRow) (words : List ℕ) (a b : ℕ) → AreTogether rows → IsFirst rows words a → IsFirst rows words b → a < b → ⊥
-not-later rows words a b t f g l =
+not_later : (rows : List PlanRow) (words : List ℕ) (a b : ℕ) → AreTogether rows → IsFirst rows words a → IsFirst rows words b → a < b → ⊥
+not_later rows words a b t f g l =
     let d : PlanRow = record { far = 0; words = [] } in
     g.before d (omega (arith, l)) (t a (b - 1) b d (omega (arith, l)) (omega arith) g.inside (f.has d ∙ sym (g.has d)) ∙ f.has d)
 
-pub same-first : (rows : List PlanRow) (words : List ℕ) (a b : ℕ) → AreTogether rows → IsFirst rows words a → IsFirst rows words b → a ≡ b
-same-first rows words a b t f g = elim (cases_order a b) [
+pub same_first : (rows : List PlanRow) (words : List ℕ) (a b : ℕ) → AreTogether rows → IsFirst rows words a → IsFirst rows words b → a ≡ b
+same_first rows words a b t f g = elim (cases_order a b) [
   | inl e ↦ e
-  | inr (inl l) ↦ absurd (not-later rows words a b t f g l)
-  | inr (inr l) ↦ absurd (not-later rows words b a t g f l)
+  | inr (inl l) ↦ absurd (not_later rows words a b t f g l)
+  | inr (inr l) ↦ absurd (not_later rows words b a t g f l)
 ]
 
 -- a place has the content that begins at a place exactly where its own begins there
-pub place-same : (rows : List PlanRow) (words firsts : List ℕ) (a k : ℕ) (d : PlanRow) → AreFirsts rows firsts → IsFirst rows words a → k < length rows → get_or firsts k 0 ≡ a → (get_or rows k d).words ≡ words
-place-same rows words firsts a k d m f l e =
+pub place_same : (rows : List PlanRow) (words firsts : List ℕ) (a k : ℕ) (d : PlanRow) → AreFirsts rows firsts → IsFirst rows words a → k < length rows → get_or firsts k 0 ≡ a → (get_or rows k d).words ≡ words
+place_same rows words firsts a k d m f l e =
     let g : IsFirst rows (get_or rows k d).words a = subst (λ (x : ℕ). IsFirst rows (get_or rows k d).words x) e (m.each k d l) in
     sym (g.has d) ∙ f.has d
 
-pub place-other : (rows : List PlanRow) (words firsts : List ℕ) (a k : ℕ) (d : PlanRow) → AreTogether rows → AreFirsts rows firsts → IsFirst rows words a → k < length rows → (get_or firsts k 0 ≡ a → ⊥) → (get_or rows k d).words ≢ words
-place-other rows words firsts a k d t m f l n e =
-    n (same-first rows words (get_or firsts k 0) a t (subst (λ (ws : List ℕ). IsFirst rows ws (get_or firsts k 0)) e (m.each k d l)) f)
+pub place_other : (rows : List PlanRow) (words firsts : List ℕ) (a k : ℕ) (d : PlanRow) → AreTogether rows → AreFirsts rows firsts → IsFirst rows words a → k < length rows → (get_or firsts k 0 ≡ a → ⊥) → (get_or rows k d).words ≢ words
+place_other rows words firsts a k d t m f l n e =
+    n (same_first rows words (get_or firsts k 0) a t (subst (λ (ws : List ℕ). IsFirst rows ws (get_or firsts k 0)) e (m.each k d l)) f)
 
 -- places up to k are marked
 pub record StartsUpTo (rows : List PlanRow) (contents : List Content) (starts : List ℕ) (k : ℕ) : Type 0 where
@@ -315,7 +315,7 @@ starts_more rows contents starts k s c g u n l r f = record {
     here : (e : PlanRow) → IsFirst (content_rows contents) (get_or rows c.row e).words (get_or (set starts c.row s) c.row 0)
     here e =
         let placed : IsPlaced rows c = subst (IsPlaced rows) (sym r) (g.placed k c l) in
-        let words : (get_or (content_rows contents) k e).words ≡ (get_or rows c.row e).words = ap (λ (r : PlanRow). r.words) (row-at contents k e c l ∙ ap content_row (sym r) ∙ sym (placed.1 e)) in
+        let words : (get_or (content_rows contents) k e).words ≡ (get_or rows c.row e).words = ap (λ (r : PlanRow). r.words) (row_at contents k e c l ∙ ap content_row (sym r) ∙ sym (placed.1 e)) in
         rw (get_or-set_same starts c.row s 0 (omega (arith, placed.0, n))) (subst (λ t. IsFirst (content_rows contents) t s) words (f e))
 
     at : (j : ℕ) (d : Content) (e : PlanRow) → j < k + 1 → (j ≡ k) ⊎ (j ≢ k) → IsFirst (content_rows contents) (get_or rows (get_or contents j d).row e).words (get_or (set starts c.row s) (get_or contents j d).row 0)

@@ -14,8 +14,8 @@ use Rattle.x7_planner.specs.Contents.{AreFirsts, AreGrouped, AreStarts, AreToget
 use Rattle.x7_planner.specs.PartialStream.{Copies, copy_words, groups_led, is_shared, leads_group, others, stretch_words, with_content}
 use Rattle.x7_planner.specs.Stream.{bytes_of_words}
 use Rattle.x7_planner.specs.declared.content.Content.{Content}
-use Rattle.x7_planner.proofs.ContentLemmas.{content-append, content-same, first-of, is-group, no-group, no-group-short, none-before, place-other, place-same, row-at, up-to}
-use Rattle.x7_planner.proofs.SlotLemmas.{written-on}
+use Rattle.x7_planner.proofs.ContentLemmas.{content_append, content_same, first_of, is_group, no_group, no_group_short, none_before, place_other, place_same, row_at, up_to}
+use Rattle.x7_planner.proofs.SlotLemmas.{written_on}
 
 -- ---- contents of a plan's rows
 
@@ -44,7 +44,7 @@ content_pushed rows old new n c d e l p h at r m =
 -- ---- whether a content stands at three addresses or more
 
 pub short_group : (contents : List Content) (words : List ℕ) (a : ℕ) → AreTogether (content_rows contents) → IsFirst (content_rows contents) words a → length contents - a < 3 → false ≡ nat_le 3 (length (with_content words (content_rows contents)))
-short_group contents words a t f l = sym (no-group-short (content_rows contents) words a t f (omega (arith, l, length-map contents content_row)))
+short_group contents words a t f l = sym (no_group_short (content_rows contents) words a t f (omega (arith, l, length-map contents content_row)))
 
 pub group_by : (contents : List Content) (words firsts : List ℕ) (a x : ℕ) → AreTogether (content_rows contents) → AreFirsts (content_rows contents) firsts → IsFirst (content_rows contents) words a → a + 2 < length contents
     → (get_or firsts (a + 2) x == a) ≡ nat_le 3 (length (with_content words (content_rows contents)))
@@ -59,16 +59,16 @@ group_by contents words firsts a x t m f l = by (get_or firsts (a + 2) 0 == a) r
     by : (b : Bool) → (get_or firsts (a + 2) 0 == a) ≡ b → (get_or firsts (a + 2) x == a) ≡ nat_le 3 (length (with_content words (content_rows contents)))
     by true e =
         let d : PlanRow = record { far = 0; words = [] } in
-        ap (λ (i : ℕ). i == a) known ∙ e ∙ sym (is-group (content_rows contents) words a d t f inside (place-same (content_rows contents) words firsts a (a + 2) d m f inside (eqb-true (get_or firsts (a + 2) 0) a e)))
+        ap (λ (i : ℕ). i == a) known ∙ e ∙ sym (is_group (content_rows contents) words a d t f inside (place_same (content_rows contents) words firsts a (a + 2) d m f inside (eqb-true (get_or firsts (a + 2) 0) a e)))
     by false e =
         ap (λ (i : ℕ). i == a) known ∙ e
-        ∙ sym (no-group (content_rows contents) words a t f inside (λ d. place-other (content_rows contents) words firsts a (a + 2) d t m f inside (λ h. false≢true (sym e ∙ eq-eqb (get_or firsts (a + 2) 0) a h))))
+        ∙ sym (no_group (content_rows contents) words a t f inside (λ d. place_other (content_rows contents) words firsts a (a + 2) d t m f inside (λ h. false≢true (sym e ∙ eq-eqb (get_or firsts (a + 2) 0) a h))))
 
 -- a content's first address
 pub first_far : (contents : List Content) (words : List ℕ) (a : ℕ) (e : Content) → AreTogether (content_rows contents) → IsFirst (content_rows contents) words a → get_or (planned_addresses (with_content words (content_rows contents))) 0 0 ≡ (get_or contents a e).far
 first_far contents words a e t f =
     let l : a < length contents = (let i = f.inside in omega (arith, i, length-map contents content_row)) in
-    ap (λ (rows : List PlanRow). get_or (planned_addresses rows) 0 0) (first-of (content_rows contents) words a (content_row e) t f) ∙ ap (λ (r : PlanRow). r.far) (row-at contents a (content_row e) e l)
+    ap (λ (rows : List PlanRow). get_or (planned_addresses rows) 0 0) (first_of (content_rows contents) words a (content_row e) t f) ∙ ap (λ (r : PlanRow). r.far) (row_at contents a (content_row e) e l)
 
 pub leads_by : (contents : List Content) (words : List ℕ) (a far : ℕ) (e : Content) (b : Bool) → AreTogether (content_rows contents) → IsFirst (content_rows contents) words a → b ≡ nat_le 3 (length (with_content words (content_rows contents))) → b ≡ true
     → ((get_or contents a e).far == far) ≡ (nat_le 3 (length (with_content words (content_rows contents))) && (get_or (planned_addresses (with_content words (content_rows contents))) 0 0 == far))
@@ -87,7 +87,7 @@ pub same_content : (rows : List PlanRow) (contents : List Content) (words : List
 same_content rows [] words a g f = absurd (let i = f.inside in omega (arith, i))
 same_content rows (c ∷ contents) words a g f =
     let l : a < length (c ∷ contents) = inside_at (c ∷ contents) words a f in
-    let is : (get_or (c ∷ contents) a c).words.now ≡ words = ap (λ (r : PlanRow). r.words) (sym (row-at (c ∷ contents) a (content_row c) c l)) ∙ f.has (content_row c) in
+    let is : (get_or (c ∷ contents) a c).words.now ≡ words = ap (λ (r : PlanRow). r.words) (sym (row_at (c ∷ contents) a (content_row c) c l)) ∙ f.has (content_row c) in
     subst (λ t. with_content t (content_rows (c ∷ contents)) ≡ with_content t rows) is (g.same a c l)
 
 -- ---- the other rows
@@ -130,7 +130,7 @@ pub group_more : (part : PartData) (rows : List PlanRow) (contents : List Conten
     → mid ≡ old ++ bytes_of_words (flat_map (stretch_words part) (groups_led rows (take n rows))) → new ≡ mid ++ bytes_of_words (flat_map (stretch_words part) (groups_led (content_rows contents) (r ∷ [])))
     → new ≡ old ++ bytes_of_words (flat_map (stretch_words part) (groups_led rows (take (n + 1) rows)))
 group_more part rows contents old mid new a n r d g f l at e h =
-    written-on old mid new (flat_map (stretch_words part) (groups_led rows (take n rows))) (flat_map (stretch_words part) (groups_led (content_rows contents) (r ∷ []))) e h
+    written_on old mid new (flat_map (stretch_words part) (groups_led rows (take n rows))) (flat_map (stretch_words part) (groups_led (content_rows contents) (r ∷ []))) e h
     ∙ ap (λ t. old ++ bytes_of_words (flat_map (stretch_words part) (groups_led rows (take n rows)) ++ flat_map (stretch_words part) t)) (same_led rows (content_rows contents) r (same_content rows contents r.words a g f))
     ∙ ap (λ t. old ++ bytes_of_words t) (sym (flat_map-append (stretch_words part) (groups_led rows (take n rows)) (groups_led rows (r ∷ []))))
     ∙ ap (λ t. old ++ bytes_of_words (flat_map (stretch_words part) t)) (sym (groups_append rows (take n rows) (r ∷ [])) ∙ ap (groups_led rows) (ap (λ (x : PlanRow). take n rows ++ x ∷ []) (sym at) ∙ sym (take_more rows n d l)))
@@ -140,7 +140,7 @@ group_more part rows contents old mid new a n r d g f l at e h =
 pub copies_begin : (contents : List Content) (words old : List ℕ) (a : ℕ) → AreTogether (content_rows contents) → IsFirst (content_rows contents) words a
     → old ≡ old ++ bytes_of_words (flat_map copy_words (planned_addresses (with_content words (take a (content_rows contents)))))
 copies_begin contents words old a t f =
-    sym (ap (λ x. old ++ bytes_of_words (flat_map copy_words (planned_addresses x))) (none-before (content_rows contents) words a t f) ∙ append-nil old)
+    sym (ap (λ x. old ++ bytes_of_words (flat_map copy_words (planned_addresses x))) (none_before (content_rows contents) words a t f) ∙ append-nil old)
 
 pub copies_more : (contents : List Content) (words firsts old mid new : List ℕ) (a k x : ℕ) (e : Content) → AreFirsts (content_rows contents) firsts → IsFirst (content_rows contents) words a → k < length contents → get_or firsts k x ≡ a
     → mid ≡ old ++ bytes_of_words (flat_map copy_words (planned_addresses (with_content words (take k (content_rows contents))))) → new ≡ mid ++ bytes_of_words (copy_words (get_or contents k e).far)
@@ -150,15 +150,15 @@ copies_more contents words firsts old mid new a k x e f g l y h m =
     let r : PlanRow = content_row (get_or contents k e) in
     let inside : k < length rows = omega (arith, l, length-map contents content_row) in
     let here : get_or firsts k 0 ≡ a = get_or_default firsts k 0 x (omega (arith, inside, f.count)) ∙ y in
-    let has : r.words ≡ words = ap (λ (s : PlanRow). s.words) (sym (row-at contents k r e l)) ∙ place-same rows words firsts a k r f g inside here in
+    let has : r.words ≡ words = ap (λ (s : PlanRow). s.words) (sym (row_at contents k r e l)) ∙ place_same rows words firsts a k r f g inside here in
     let more : with_content words (take (k + 1) rows) ≡ with_content words (take k rows) ++ r ∷ [] =
-    ap (with_content words) (take_more rows k r inside ∙ ap (λ (x : PlanRow). take k rows ++ x ∷ []) (row-at contents k r e l))
-    ∙ content-append words (take k rows) (r ∷ []) ∙ ap (λ t. with_content words (take k rows) ++ t) (content-same words r [] has) in
+    ap (with_content words) (take_more rows k r inside ∙ ap (λ (x : PlanRow). take k rows ++ x ∷ []) (row_at contents k r e l))
+    ∙ content_append words (take k rows) (r ∷ []) ∙ ap (λ t. with_content words (take k rows) ++ t) (content_same words r [] has) in
     let all : flat_map copy_words (planned_addresses (with_content words (take (k + 1) rows))) ≡ flat_map copy_words (planned_addresses (with_content words (take k rows))) ++ copy_words r.far =
     ap (λ t. flat_map copy_words (planned_addresses t)) more ∙ ap (flat_map copy_words) (map-append (λ (x : PlanRow). x.far) (with_content words (take k rows)) (r ∷ []))
     ∙ flat_map-append copy_words (planned_addresses (with_content words (take k rows))) (r.far ∷ [])
     ∙ ap (λ t. flat_map copy_words (planned_addresses (with_content words (take k rows))) ++ t) (append-nil (copy_words r.far)) in
-    written-on old mid new (flat_map copy_words (planned_addresses (with_content words (take k rows)))) (copy_words r.far) h m ∙ ap (λ t. old ++ bytes_of_words t) (sym all)
+    written_on old mid new (flat_map copy_words (planned_addresses (with_content words (take k rows)))) (copy_words r.far) h m ∙ ap (λ t. old ++ bytes_of_words t) (sym all)
 
 pub copies_end : (contents : List Content) (words firsts old new : List ℕ) (a k x : ℕ) → AreTogether (content_rows contents) → AreFirsts (content_rows contents) firsts → IsFirst (content_rows contents) words a → a ≤ k → k < length contents
     → (get_or firsts k x ≡ a → ⊥) → new ≡ old ++ bytes_of_words (flat_map copy_words (planned_addresses (with_content words (take k (content_rows contents)))))
@@ -167,7 +167,7 @@ copies_end contents words firsts old new a k x t m f l inner n h =
     let inside : k < length (content_rows contents) = omega (arith, inner, length-map contents content_row) in
     let known : get_or firsts k x ≡ get_or firsts k 0 = get_or_default firsts k x 0 (omega (arith, inside, m.count)) in
     h ∙ ap (λ x. old ++ bytes_of_words (flat_map copy_words (planned_addresses x)))
-    (sym (up-to (content_rows contents) words a k t f l (λ d. place-other (content_rows contents) words firsts a k d t m f inside (λ e. n (known ∙ e)))))
+    (sym (up_to (content_rows contents) words a k t f l (λ d. place_other (content_rows contents) words firsts a k d t m f inside (λ e. n (known ∙ e)))))
 
 pub group_written : (part : PartData) (old one two three new words fars : List ℕ) (first width : ℕ) → width ≡ frame_words part → get_or fars 0 0 ≡ first
     → one ≡ old ++ bytes_of_words (command Wcfg ++ (write_one Far first ++ frame_data width)) → two ≡ one ++ bytes_of_words words → three ≡ two ++ bytes_of_words (command Mfw)
@@ -175,7 +175,7 @@ pub group_written : (part : PartData) (old one two three new words fars : List �
 group_written part old one two three new words fars first width w f a b c d =
     let opening : List ℕ = command Wcfg ++ (write_one Far first ++ frame_data width) in
     let copies : List ℕ = flat_map copy_words fars in
-    written-on old three new ((opening ++ words) ++ command Mfw) copies (written-on old two three (opening ++ words) (command Mfw) (written-on old one two opening words a b) c) d
+    written_on old three new ((opening ++ words) ++ command Mfw) copies (written_on old two three (opening ++ words) (command Mfw) (written_on old one two opening words a b) c) d
     ∙ ap (λ t. old ++ bytes_of_words t)
     (append_assoc (opening ++ words) (command Mfw) copies ∙ append_assoc opening words (command Mfw ++ copies)
     ∙ ap (λ (x : ℕ). command Wcfg ++ (write_one Far x ++ (frame_data width ++ (words ++ (command Mfw ++ copies))))) (sym f)

@@ -19,8 +19,8 @@ use Rattle.x7_planner.specs.Contents.{IsRunLength, content_row, content_rows}
 use Rattle.x7_planner.specs.PartialStream.{Rows, follows, frames_words, groups_led, is_shared, others, partial_ending, partial_opening, partial_stream, stretches_of, runs_of, runs_words, stretch_words, with_row}
 use Rattle.x7_planner.specs.Stream.{Check, Words, bytes_of_words, with_piece}
 use Rattle.x7_planner.specs.declared.content.Content.{Content}
-use Rattle.x7_planner.proofs.ContentLemmas.{row-at}
-use Rattle.x7_planner.proofs.SlotLemmas.{written-on}
+use Rattle.x7_planner.proofs.ContentLemmas.{row_at}
+use Rattle.x7_planner.proofs.SlotLemmas.{written_on}
 
 -- the runs of rows begin with the first row
 record Begins (part : PartData) (s : PlanRow) (rows : List PlanRow) : Type 0 where
@@ -67,8 +67,8 @@ run_found part frames k e b l h j s y = record {
   some = omega (arith, l);
   inside = omega (arith, h, length-map frames content_row);
   joined = j;
-  ends = (λ d m. ap (λ (r : PlanRow). follows part r.far (get_or (content_rows frames) k d).far) (row-at frames (k - 1) d e (omega (arith, h)))
-      ∙ ap (λ (r : PlanRow). follows part (get_or frames (k - 1) e).far r.far) (row-at frames k d e h) ∙ sym s ∙ y);
+  ends = (λ d m. ap (λ (r : PlanRow). follows part r.far (get_or (content_rows frames) k d).far) (row_at frames (k - 1) d e (omega (arith, h)))
+      ∙ ap (λ (r : PlanRow). follows part (get_or frames (k - 1) e).far r.far) (row_at frames k d e h) ∙ sym s ∙ y);
 }
 
 pub run_more : (part : PartData) (frames : List Content) (k : ℕ) (e : Content) (b : Bool) → 1 ≤ k → k < length frames
@@ -77,8 +77,8 @@ pub run_more : (part : PartData) (frames : List Content) (k : ℕ) (e : Content)
     → ((j : ℕ) (d : PlanRow) → j + 1 < k + 1 → follows part (get_or (content_rows frames) j d).far (get_or (content_rows frames) (j + 1) d).far ≡ true)
 run_more part frames k e b l h p s y j d m = elim (cases_eq (j + 1) k) [
   | inl same ↦ (let at : follows part (get_or (content_rows frames) (k - 1) d).far (get_or (content_rows frames) k d).far ≡ true =
-      ap (λ (r : PlanRow). follows part r.far (get_or (content_rows frames) k d).far) (row-at frames (k - 1) d e (omega (arith, h)))
-      ∙ ap (λ (r : PlanRow). follows part (get_or frames (k - 1) e).far r.far) (row-at frames k d e h) ∙ sym s ∙ y in
+      ap (λ (r : PlanRow). follows part r.far (get_or (content_rows frames) k d).far) (row_at frames (k - 1) d e (omega (arith, h)))
+      ∙ ap (λ (r : PlanRow). follows part (get_or frames (k - 1) e).far r.far) (row_at frames k d e h) ∙ sym s ∙ y in
       let back : k - 1 ≡ j = omega (arith, same) in
       ap (λ (i : ℕ). follows part (get_or (content_rows frames) j d).far (get_or (content_rows frames) i d).far) same ∙ ap (λ (i : ℕ). follows part (get_or (content_rows frames) i d).far (get_or (content_rows frames) k d).far) (sym back) ∙ at)
   | inr other ↦ p j d (omega (arith, m, other))
@@ -98,7 +98,7 @@ pub run_written : (part : PartData) (old one two new : List ℕ) (rows : List Pl
     → new ≡ old ++ bytes_of_words (stretch_words part (Rows rows))
 run_written part old one two new rows first width count w f n a b c =
     let opening : List ℕ = command Wcfg ++ (write_one Far first ++ frame_data (width * (count + 1))) in
-    written-on old two new (opening ++ frames_words rows) (replicate width 0) (written-on old one two opening (frames_words rows) a b) c
+    written_on old two new (opening ++ frames_words rows) (replicate width 0) (written_on old one two opening (frames_words rows) a b) c
     ∙ ap (λ t. old ++ bytes_of_words t)
     (append_assoc opening (frames_words rows) (replicate width 0)
     ∙ ap (λ (x : ℕ). command Wcfg ++ (write_one Far x ++ (frame_data (width * (count + 1)) ++ (frames_words rows ++ replicate width 0)))) (sym f)
@@ -106,7 +106,7 @@ run_written part old one two new rows first width count w f n a b c =
     ∙ ap (λ (x : ℕ). command Wcfg ++ (write_one Far (get_or (planned_addresses rows) 0 0) ++ (frame_data (x * (length rows + 1)) ++ (frames_words rows ++ replicate x 0)))) w)
 
 pub address_at : (part : PartData) (frames : List Content) (k : ℕ) (e : Content) → All (λ row. Contains (addresses_in part) row.far) (content_rows frames) → k < length frames → Contains (addresses_in part) (get_or frames k e).far
-address_at part frames k e a l = subst (λ (r : PlanRow). Contains (addresses_in part) r.far) (row-at frames k (content_row e) e l) (a k (content_row e) (omega (arith, l, length-map frames content_row)))
+address_at part frames k e a l = subst (λ (r : PlanRow). Contains (addresses_in part) r.far) (row_at frames k (content_row e) e l) (a k (content_row e) (omega (arith, l, length-map frames content_row)))
 
 pub first_address : (frames : List Content) (e : Content) → 0 < length frames → get_or (planned_addresses (content_rows frames)) 0 0 ≡ (get_or frames 0 e).far
 first_address [] e l = absurd (omega (arith, l))
@@ -177,7 +177,7 @@ alone_few part rows alone is o a e = omega (arith, rows_few part rows is o a, is
 pub stretches_written : (part : PartData) (rows : List PlanRow) (alone : List Content) (old mid new : List ℕ) → content_rows alone ≡ others rows rows → mid ≡ old ++ bytes_of_words (flat_map (stretch_words part) (groups_led rows rows))
     → new ≡ mid ++ bytes_of_words (runs_words part (content_rows alone)) → new ≡ old ++ bytes_of_words (flat_map (stretch_words part) (stretches_of part rows))
 stretches_written part rows alone old mid new e g h =
-    written-on old mid new (flat_map (stretch_words part) (groups_led rows rows)) (runs_words part (content_rows alone)) g h
+    written_on old mid new (flat_map (stretch_words part) (groups_led rows rows)) (runs_words part (content_rows alone)) g h
     ∙ ap (λ t. old ++ bytes_of_words (flat_map (stretch_words part) (groups_led rows rows) ++ runs_words part t)) e
     ∙ ap (λ t. old ++ bytes_of_words t) (sym (flat_map-append (stretch_words part) (groups_led rows rows) (map Rows (runs_of part (others rows rows)))))
 
@@ -186,4 +186,4 @@ pub stream_written : (part : PartData) (rows : List PlanRow) (none one two three
 stream_written part rows none one two three new z a b c d =
     let words : List ℕ = flat_map (stretch_words part) (stretches_of part rows) in
     d ∙ ap (λ t. with_piece t (Words partial_ending))
-    (c ∙ ap (λ t. with_piece t Check) (written-on none one two (partial_opening part) words a b ∙ ap (λ t. t ++ bytes_of_words (partial_opening part ++ words)) z))
+    (c ∙ ap (λ t. with_piece t Check) (written_on none one two (partial_opening part) words a b ∙ ap (λ t. t ++ bytes_of_words (partial_opening part ++ words)) z))

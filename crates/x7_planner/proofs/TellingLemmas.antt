@@ -113,14 +113,14 @@ module _ (s : FullStreamState) (old new : List ℕ) where
   }
 
 -- the part of a list after its old items
-pub behind_old : (old piece new : List ℕ) (start : ℕ) → start ≡ length old → new ≡ old ++ piece → take (length new - start) (drop start new) ≡ piece
-behind_old old piece new start e f =
+pub after_old : (old piece new : List ℕ) (start : ℕ) → start ≡ length old → new ≡ old ++ piece → take (length new - start) (drop start new) ≡ piece
+after_old old piece new start e f =
     take_rest new start ∙ ap (λ (k : ℕ). drop k new) e ∙ ap (λ (t : List ℕ). drop (length old) t) f ∙ drop-append_seam old piece
 
 -- what was written is given, once it is checked too
-pub told_more : (s t : FullStreamState) (given old new : List ℕ) (start : ℕ) → t.part ≡ s.part → t.plan ≡ s.plan → start ≡ length old → WritesPiece s old new t.next
+pub given_more : (s t : FullStreamState) (given old new : List ℕ) (start : ℕ) → t.part ≡ s.part → t.plan ≡ s.plan → start ≡ length old → WritesPiece s old new t.next
     → ((bytes : List ℕ) → HasTaken s.check bytes → HasTaken t.check (bytes ++ take (length new - start) (drop start new))) → HasGiven s given → TellsMore t given old new
-told_more s t given old new start same_part same_plan e w takes h =
+given_more s t given old new start same_part same_plan e w takes h =
     let before : given ++ w.piece ≡ stream_of (pieces_before t.part t.plan t.next) =
     w.before given h ∙ ap (λ (p : PartData). stream_of (pieces_before p s.plan t.next)) (sym same_part) ∙ ap (λ (p : PlanData). stream_of (pieces_before t.part p t.next)) (sym same_plan) in
     let left = left_of t.part t.plan t.next in
@@ -129,7 +129,7 @@ told_more s t given old new start same_part same_plan e w takes h =
       adds = w.adds;
       more = record {
         before = before;
-        checked = subst (λ (x : List ℕ). HasTaken t.check (given ++ x)) (behind_old old w.piece new start e w.adds) (takes given h.checked);
+        checked = subst (λ (x : List ℕ). HasTaken t.check (given ++ x)) (after_old old w.piece new start e w.adds) (takes given h.checked);
         left = left.0;
         whole = ap (λ (x : List ℕ). x ++ left.0) before ∙ left.1;
       };

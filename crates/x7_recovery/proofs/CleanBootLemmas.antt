@@ -4,7 +4,7 @@ use Rattle.std.proofs.lemmas.Bool.{cases_lt}
 use Rattle.std.proofs.lemmas.List.{take-append-le}
 use Rattle.std.proofs.Math.Seq.{take-append-add, take-append_seam, take-length}
 use Rattle.x7_words.specs.Word.{AreBytes}
-use Rattle.x7_words.proofs.ListLemmas.{all-append, all_back, all_take}
+use Rattle.x7_words.proofs.ListLemmas.{all_append, all_back, all_take}
 use Rattle.x7_packets.specs.Appended.{gap_of, moved}
 use Rattle.x7_packets.specs.History.{History, history_of}
 use Rattle.x7_packets.specs.Reading.{is_synced}
@@ -30,7 +30,7 @@ use Rattle.x7_boot.specs.Boot.{at_power, end_state}
 use Rattle.x7_boot.specs.Image.{open_slot}
 use Rattle.x7_boot.specs.declared.attempt.Ending.TheVariants.{Started}
 use Rattle.x7_boot.proofs.OverLemmas.{ends_alike}
-use Rattle.x7_boot.proofs.StartLemmas.{front_goes, front_history, front_open}
+use Rattle.x7_boot.proofs.StartLemmas.{prefix_goes, prefix_history, prefix_open}
 use Rattle.x7_boot.proofs.TookLemmas.{ends_going}
 use Rattle.x7_recovery.specs.Clean.{StartsClean}
 use Rattle.x7_recovery.specs.Golden.{erased_sector, with_erased}
@@ -187,13 +187,13 @@ module _ (o : Opened) (is : IsOpened o) (t : Trial) (c : StartsClean o.part o.fl
     fall_history =
         let rest_k : List ℕ = drop k s ++ x.rest in
         let split : o.flash ≡ (front' ++ sk) ++ rest_k = flash_is ∙ ap (λ (y : List ℕ). (front' ++ y) ++ x.rest) (sym (take-append-drop k s)) ∙ ap (λ (y : List ℕ). y ++ x.rest) (sym (append_assoc front' sk (drop k s))) ∙ append_assoc (front' ++ sk) (drop k s) x.rest in
-        sector_then o.flash o.slot o.start is.has is.small sk rest_k split (all-append (λ b. b < 256) front' sk is.has.fits sk_fits)
+        sector_then o.flash o.slot o.start is.has is.small sk rest_k split (all_append (λ b. b < 256) front' sk is.has.fits sk_fits)
 
     clean : AreClean (history_of sk)
-    clean = subst AreClean (sym (front_history k s s_fits)) (clean_until (length sk) (history_of s) c.clean)
+    clean = subst AreClean (sym (prefix_history k s s_fits)) (clean_until (length sk) (history_of s) c.clean)
 
     power_going : stop_in o.part at_power (erased_sector ++ sk) ≡ None
-    power_going = ap (stop_in o.part at_power) (sym (take-append-add erased_sector s k)) ∙ front_goes o.part at_power (length erased_sector + k) (erased_sector ++ s) erased_all going
+    power_going = ap (stop_in o.part at_power) (sym (take-append-add erased_sector s k)) ∙ prefix_goes o.part at_power (length erased_sector + k) (erased_sector ++ s) erased_all going
 
     module _ (kept : Kept) (fell : is_fallback kept.kind ≡ true) where
       slot_going : IsGoing o.part kept NotBegun (desync_at (32 * o.slot) o.start) 65536
@@ -241,7 +241,7 @@ module _ (o : Opened) (is : IsOpened o) (t : Trial) (c : StartsClean o.part o.fl
         elim (cases_lt k 65536) [
           | inl early ↦
               ap (ending_at o.part kept) (here ∙ take-append-le k front' s (omega (arith, early, front_long)))
-              ∙ front_open o.part kept k front' is.has.fits (sector_never o.flash o.slot o.start is.has is.small) (front_goes o.part kept k front' is.has.fits (sector_rests o.flash o.slot o.start is.has is.small o.part kept fell).no_stop)
+              ∙ prefix_open o.part kept k front' is.has.fits (sector_never o.flash o.slot o.start is.has is.small) (prefix_goes o.part kept k front' is.has.fits (sector_rests o.flash o.slot o.start is.has is.small o.part kept fell).no_stop)
               ∙ sym (x.first k (omega (arith, early, long)))
           | inr late ↦
               let j : ℕ = k - 65536 in
@@ -276,7 +276,7 @@ module _ (o : Opened) (is : IsOpened o) (t : Trial) (c : StartsClean o.part o.fl
     fallen_going = ap (λ (y : List ℕ). stop_in o.part kept (front' ++ y)) (sym all_of) ∙ fall_going (length s) kept fell
 
     fallen_wrote : wrote_iprog (history_of (front' ++ s)) ≡ true
-    fallen_wrote = iprog_later front' s (all-append (λ b. b < 256) front' s is.has.fits s_fits) (sector_wrote o.flash o.slot o.start is.has is.small)
+    fallen_wrote = iprog_later front' s (all_append (λ b. b < 256) front' s is.has.fits s_fits) (sector_wrote o.flash o.slot o.start is.has is.small)
 
   pub falls_clean : (a : BootCourse) (u : Trial) (cause : Cause) → IsCourse o.part o.flash a → UpdateFails o u cause false → FallsBackClean o cause t a
   falls_clean a u cause course fails =

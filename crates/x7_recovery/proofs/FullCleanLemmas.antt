@@ -4,7 +4,7 @@ use Rattle.std.proofs.lemmas.Bool.{cases_lt}
 use Rattle.std.proofs.lemmas.List.{take-append-le}
 use Rattle.std.proofs.Math.Seq.{drop-append_seam, take-append-add, take-append_seam}
 use Rattle.x7_words.specs.Word.{AreBytes}
-use Rattle.x7_words.proofs.ListLemmas.{all-append, all_take}
+use Rattle.x7_words.proofs.ListLemmas.{all_append, all_take}
 use Rattle.x7_packets.specs.History as access
 use Rattle.x7_packets.specs.History.{History, entry, history_of}
 use Rattle.x7_packets.proofs.MovedLemmas.{moved_same}
@@ -33,13 +33,13 @@ use Rattle.x7_effects.proofs.Streams as items
 use Rattle.x7_boot.specs.Attempt.{EndsFirst, Trial, ending_by, failed_by}
 use Rattle.x7_boot.specs.Boot.{at_power}
 use Rattle.x7_boot.specs.declared.attempt.Ending.TheVariants as ending
-use Rattle.x7_boot.proofs.StartLemmas.{front_goes}
+use Rattle.x7_boot.proofs.StartLemmas.{prefix_goes}
 use Rattle.x7_recovery.specs.Clean.{BeginsClean, StartsClean, clear, later, nothing, shutdown}
 use Rattle.x7_recovery.specs.Golden.{StartsAsPlanned, erased_sector, with_erased}
 use Rattle.x7_recovery.specs.Recovery.{IsPrepared, Updating}
 use Rattle.x7_recovery.proofs.CleanStopLemmas.{not_empty}
 use Rattle.x7_recovery.proofs.FullTrialLemmas.{full_ends, full_stream_fits, seven_whole}
-use Rattle.x7_recovery.proofs.GoldenLemmas.{ended, erased_fits, erased_front, erased_history, erased_long, never_erased, rest_erased}
+use Rattle.x7_recovery.proofs.GoldenLemmas.{ended, erased_fits, erased_prefix, erased_history, erased_long, never_erased, rest_erased}
 
 -- ---- the history of a full stream begins clean
 
@@ -87,7 +87,7 @@ module _ (u : Updating) (p : IsPrepared u) (t : Trial) (s : StartsAsPlanned u t)
   stream_fits = full_stream_fits u.part u.golden p.is_part p.plan
 
   short_fits : AreBytes short
-  short_fits = all-append (λ b. b < 256) erased_sector stream erased_fits stream_fits
+  short_fits = all_append (λ b. b < 256) erased_sector stream erased_fits stream_fits
 
   short_long : length short ≡ 65536 + length stream
   short_long = length-append erased_sector stream ∙ ap (λ (n : ℕ). n + length stream) erased_long
@@ -128,7 +128,7 @@ module _ (u : Updating) (p : IsPrepared u) (t : Trial) (s : StartsAsPlanned u t)
   not_fewer few =
       let l : length t.bytes ≤ length erased_sector = omega (arith, few) in
       let cut : take (length t.bytes) short ≡ take (length t.bytes) erased_sector = take-append-le (length t.bytes) erased_sector stream l in
-      let empty : history_of (take (length t.bytes) short) ≡ [] = ap history_of cut ∙ erased_front (length t.bytes) (omega (arith, l, erased_long)) in
+      let empty : history_of (take (length t.bytes) short) ≡ [] = ap history_of cut ∙ erased_prefix (length t.bytes) (omega (arith, l, erased_long)) in
       not_empty (history_of stream) (moved_same 65536 (history_of stream) [] (sym (erased_history stream stream_fits) ∙ sym same_history ∙ empty)) (stream_clean u.part u.golden p.is_part p.plan)
 
   pub full_clean : StartsClean u.part u.flash t
@@ -138,7 +138,7 @@ module _ (u : Updating) (p : IsPrepared u) (t : Trial) (s : StartsAsPlanned u t)
       fits = subst AreBytes (sym taken) (all_take (λ b. b < 256) (length t.bytes) short short_fits)
 
       going : stop_in u.part t.kept t.bytes ≡ None
-      going = ap (λ (k : Kept). stop_in u.part k t.bytes) s.golden.starts.kept ∙ ap (stop_in u.part at_power) taken ∙ front_goes u.part at_power (length t.bytes) short short_fits none
+      going = ap (λ (k : Kept). stop_in u.part k t.bytes) s.golden.starts.kept ∙ ap (stop_in u.part at_power) taken ∙ prefix_goes u.part at_power (length t.bytes) short short_fits none
 
       by : (length t.bytes < length erased_sector) ⊎ (length erased_sector ≤ length t.bytes) → StartsClean u.part u.flash t
       by (inl few) = absurd (not_fewer few)

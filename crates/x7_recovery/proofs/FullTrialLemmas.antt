@@ -5,7 +5,7 @@ use Rattle.std.proofs.Math.Seq.{take-length}
 use Rattle.std.proofs.lemmas.Bool.{or_right}
 use Rattle.std.proofs.lemmas.List.{take-append-le}
 use Rattle.x7_words.specs.Word.{AreBytes}
-use Rattle.x7_words.proofs.ListLemmas.{all-append, all_take}
+use Rattle.x7_words.proofs.ListLemmas.{all_append, all_take}
 use Rattle.x7_packets.specs.ByHand.{reading_of}
 use Rattle.x7_packets.specs.History as access
 use Rattle.x7_packets.specs.History.{History, entry, history_of, until}
@@ -43,7 +43,7 @@ use Rattle.x7_boot.specs.Attempt.{IsTrial, NoneBefore, Trial, ending_at}
 use Rattle.x7_boot.specs.Boot.{end_state}
 use Rattle.x7_boot.specs.declared.attempt.Ending.TheVariants.{Started}
 use Rattle.x7_boot.proofs.LeastLemmas.{IsLeast, least_of}
-use Rattle.x7_boot.proofs.StartLemmas.{NeverStarts, front_goes, front_history, goes_on, never_seven, never_until}
+use Rattle.x7_boot.proofs.StartLemmas.{NeverStarts, prefix_goes, prefix_history, goes_on, never_seven, never_until}
 use Rattle.x7_boot.proofs.TookLemmas.{ends_started}
 
 -- ---- the history of a full stream
@@ -92,7 +92,7 @@ pub seven_whole : (part : PartData) (kept : Kept) (bytes stream : List ℕ) (k :
 seven_whole part kept bytes stream k fits d seven =
     let all : List ℕ = bytes ++ stream in
     let prefix : List ℕ = take k all in
-    let history : history_of prefix ≡ until (length prefix) (history_of all) = front_history k all fits in
+    let history : history_of prefix ≡ until (length prefix) (history_of all) = prefix_history k all fits in
     let cut : history_of prefix ≡ until (length prefix) (entry (access.Write 4 13) d.place ∷ d.before) = history ∙ ap (until (length prefix)) d.is in
     cut ∙ not_less (length prefix) d.place d.before (access.Write 4 13) (λ never.
     let early : ((state_of part kept false prefix).phase == 7) ≡ false = never_seven part kept prefix (all_take (λ b. b < 256) k all fits) (subst NeverStarts (sym cut) never) in
@@ -122,7 +122,7 @@ pub full_starts : (part : PartData) (kept : Kept) (bytes : List ℕ) (plan : Pla
 full_starts part kept bytes plan address flash more ignored fits rest never is for split e =
     let stream : List ℕ = full_stream part plan in
     let all : List ℕ = bytes ++ stream in
-    let all_fit : AreBytes all = all-append (λ b. b < 256) bytes stream fits (full_stream_fits part plan is for) in
+    let all_fit : AreBytes all = all_append (λ b. b < 256) bytes stream fits (full_stream_fits part plan is for) in
     let plays : PlaysFull (resting_after part kept bytes) stream plan = full_law part kept bytes plan fits rest is for.is_plan for.width for.addressed in
     let none : stop_in part kept all ≡ None = plays.rests.no_stop in
     let seven_at : ℕ → Bool = λ k. (state_of part kept false (take k all)).phase == 7 in
@@ -130,12 +130,12 @@ full_starts part kept bytes plan address flash more ignored fits rest never is f
     let l : IsLeast seven_at (length all) = least_of seven_at (length all) seven in
     let taken : List ℕ = take l.least all in
     let count : length taken ≡ l.least = length-take-le l.least all l.within in
-    let going : stop_in part kept taken ≡ None = front_goes part kept l.least all all_fit none in
+    let going : stop_in part kept taken ≡ None = prefix_goes part kept l.least all all_fit none in
     let same : history_of taken ≡ history_of all = seven_whole part kept bytes stream l.least all_fit (full_ends part plan bytes fits rest.searching is for never) l.here in
     let first : NoneBefore part kept (all ++ more) (length taken) = λ k few.
     let less : k < l.least = omega (arith, few, count) in
     let within : k ≤ length all = omega (arith, less, l.within) in
-    ap (ending_at part kept) (take-append-le k all more within) ∙ goes_on part kept (take k all) (l.none_before k less) (front_goes part kept k all all_fit none) in
+    ap (ending_at part kept) (take-append-le k all more within) ∙ goes_on part kept (take k all) (l.none_before k less) (prefix_goes part kept k all all_fit none) in
     record {
       trial = record { kept = kept; address = address; bytes = taken; wrapped = false; ending = Started };
       is = inl (record {

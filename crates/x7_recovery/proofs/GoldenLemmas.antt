@@ -6,13 +6,13 @@ use Rattle.std.proofs.Math.Seq.{take-append_seam, take-length, drop-append_seam}
 use Rattle.std.proofs.lemmas.Bool.{cases_lt}
 use lib.ListN.{get_or-replicate}
 use Rattle.x7_words.specs.Word.{AreBytes}
-use Rattle.x7_words.proofs.ListLemmas.{all-append, all_back, all_front, all_take}
+use Rattle.x7_words.proofs.ListLemmas.{all_append, all_back, all_prefix, all_take}
 use Rattle.x7_packets.specs.Appended.{moved}
 use Rattle.x7_packets.specs.Gap.{AreAlike, AreGaps, NoneBegins}
 use Rattle.x7_packets.specs.History.{history_of}
 use Rattle.x7_packets.specs.SyncWord.{HasNoSync, sync_bytes}
-use Rattle.x7_packets.proofs.GapLemmas.{alike_prefixes, front_asks_nothing, history_passed}
-use Rattle.x7_packets.proofs.SeamLemmas.{none_before_front, none_in_gap}
+use Rattle.x7_packets.proofs.GapLemmas.{alike_prefixes, prefix_asks_nothing, history_passed}
+use Rattle.x7_packets.proofs.SeamLemmas.{none_before_prefix, none_in_gap}
 use Rattle.x7_part.specs.Part.{PartData}
 use Rattle.x7_regs.specs.declared.boot_status.Kind.TheVariants.{Power}
 use Rattle.x7_planner.specs.FullStream.{full_stream}
@@ -56,8 +56,8 @@ shut_none flash gap more shut e l prefix back split = elim (cases_lt (length pre
   | inr past ↦ past
 ]
 
-none_in_front : (flash gap s rest : List ℕ) → IsShut flash → flash ≡ (gap ++ s) ++ rest → length gap ≤ 65536 → NoneBegins gap s
-none_in_front flash gap s rest shut e l = none_before_front gap s rest (shut_none flash gap (s ++ rest) shut (e ∙ append_assoc gap s rest) l)
+none_before : (flash gap s rest : List ℕ) → IsShut flash → flash ≡ (gap ++ s) ++ rest → length gap ≤ 65536 → NoneBegins gap s
+none_before flash gap s rest shut e l = none_before_prefix gap s rest (shut_none flash gap (s ++ rest) shut (e ∙ append_assoc gap s rest) l)
 
 -- ---- an attempt over the other flash
 
@@ -65,9 +65,9 @@ pub ended : (part : PartData) (flash : List ℕ) (t : Trial) → StartsAtPower p
 ended part flash t s = subst (λ (n : ℕ). EndsFirst part (drop n flash) t) s.address (started_first part flash t s.is s.started)
 
 -- after gaps of a sector the same bytes, up to those that the attempt took
-pub starts_behind : (part : PartData) (g h s f r : List ℕ) (t : Trial) → AreGaps g h s → StartsAtPower part ((g ++ s) ++ f) t → length t.bytes ≤ length (g ++ s)
+pub starts_after : (part : PartData) (g h s f r : List ℕ) (t : Trial) → AreGaps g h s → StartsAtPower part ((g ++ s) ++ f) t → length t.bytes ≤ length (g ++ s)
     → StartsAtPower part ((h ++ s) ++ r) (alike_trial t ((h ++ s) ++ r)) × AreAlike t.bytes (alike_trial t ((h ++ s) ++ r)).bytes
-starts_behind part g h s f r t gaps starts within =
+starts_after part g h s f r t gaps starts within =
     let one : List ℕ = (g ++ s) ++ f in
     let other : List ℕ = (h ++ s) ++ r in
     let x : EndsFirst part one t = ended part one t starts in
@@ -147,17 +147,17 @@ module _ (part : PartData) (one other : List ℕ) (t : Trial) (shut : IsShut one
       omega (arith, length-append g s, length-take-le (length t.bytes - 65536) (drop 65536 one) left, g_long)
 
   other_sum : AreBytes (h ++ s)
-  other_sum = all_front (λ x. x < 256) (h ++ s) r (subst AreBytes other_is other_fits)
+  other_sum = all_prefix (λ x. x < 256) (h ++ s) r (subst AreBytes other_is other_fits)
 
   abbrev there : Trial
   there = alike_trial t ((h ++ s) ++ r)
 
   both : StartsAtPower part ((h ++ s) ++ r) there × AreAlike t.bytes there.bytes
   both =
-      starts_behind part g h s f r t (record {
+      starts_after part g h s f r t (record {
         long = g_long ∙ sym h_long;
-        fits = (all-append (λ x. x < 256) g s fits (all_back (λ x. x < 256) h s other_sum), other_sum);
-        none = (none_in_front one g s f shut one_is (omega (arith, g_long)), none_in_front other h s r other_shut other_is (omega (arith, h_long)));
+        fits = (all_append (λ x. x < 256) g s fits (all_back (λ x. x < 256) h s other_sum), other_sum);
+        none = (none_before one g s f shut one_is (omega (arith, g_long)), none_before other h s r other_shut other_is (omega (arith, h_long)));
       }) (subst (λ (x : List ℕ). StartsAtPower part x t) one_is starts) within
 
   pub shut_alike : (b : BootedState) → (boot : IsBoot part other b) → StartsAlike part t (course_of b boot.last)
@@ -196,10 +196,10 @@ erased_none : (more : List ℕ) → NoneBegins erased_sector more
 erased_none more = shut_none (erased_sector ++ more) erased_sector more (erased_shut more) refl (omega (arith, erased_long))
 
 pub erased_history : (more : List ℕ) → AreBytes more → history_of (erased_sector ++ more) ≡ moved 65536 (history_of more)
-erased_history more fits = history_passed erased_sector more (all-append (λ x. x < 256) erased_sector more erased_fits fits) (erased_none more) ∙ ap (λ (n : ℕ). moved n (history_of more)) erased_long
+erased_history more fits = history_passed erased_sector more (all_append (λ x. x < 256) erased_sector more erased_fits fits) (erased_none more) ∙ ap (λ (n : ℕ). moved n (history_of more)) erased_long
 
-pub erased_front : (k : ℕ) → k ≤ 65536 → history_of (take k erased_sector) ≡ []
-erased_front k l = (front_asks_nothing erased_sector [] k (omega (arith, l, erased_long)) erased_fits (erased_none [])).1
+pub erased_prefix : (k : ℕ) → k ≤ 65536 → history_of (take k erased_sector) ≡ []
+erased_prefix k l = (prefix_asks_nothing erased_sector [] k (omega (arith, l, erased_long)) erased_fits (erased_none [])).1
 
 -- ---- what a power loss leaves
 

@@ -4,7 +4,7 @@ use Rattle.std.proofs.lemmas.Bool.{cases_eq, cases_lt}
 use Rattle.std.proofs.lemmas.List.{ext_get_or, get_or-drop, get_or-take, get_or_append_left}
 use Rattle.std.proofs.Math.Seq.{drop-append_seam, take-append_seam}
 use Rattle.x7_words.specs.Word.{AreBytes, bytes_of_word, word_of_bytes}
-use Rattle.x7_words.proofs.WordLemmas.{bytes-words}
+use Rattle.x7_words.proofs.WordLemmas.{bytes_words}
 use Rattle.x7_packets.specs.FlashSlot.{flash_slot}
 use Rattle.x7_packets.specs.SyncWord.{HasNoSync, sync_bytes}
 use Rattle.x7_part.specs.Part.{PartData}
@@ -17,7 +17,7 @@ use Rattle.x7_update.specs.After.{IsAfter, IsBetween, spends, switched, with_str
 use Rattle.x7_update.specs.Layout.{HasLayout, IsOpen, first_slot, four_at, open_switch, spent_switch, switch_of, update_place}
 use Rattle.x7_update.proofs.CaseLemmas.{behind, between_below, between_closed, stream_keeps}
 use Rattle.x7_update.proofs.LawLemmas.{no_sync}
-use Rattle.x7_update.proofs.SwitchLemmas.{length-switched, same_four, switch_switched, switched_others}
+use Rattle.x7_update.proofs.SwitchLemmas.{length_switched, same_four, switch_switched, switched_others}
 use Rattle.x7_boot.specs.Boot.{start_address}
 use Rattle.x7_recovery.specs.OpenBoot.{HasPlanned}
 use Rattle.x7_recovery.specs.OpenSlot.{BeginsAsImage, HasOpen, IsOpened, image_of_flash, slot_of_flash}
@@ -25,7 +25,7 @@ use Rattle.x7_recovery.specs.PlannedImage.{HasImage, golden_image, place_after}
 use Rattle.x7_recovery.specs.Recovery.{HasGolden}
 use Rattle.x7_recovery.proofs.GoldenLemmas.{golden_stands}
 use Rattle.x7_recovery.proofs.LayoutLemmas.{closed_byte, open_is}
-use Rattle.x7_recovery.proofs.SlotLemmas.{closed_none, image_begins, image_has, open_none, place_whole, sector_fits, sector_long, size_behind, slot_long, start_small, start_whole}
+use Rattle.x7_recovery.proofs.SlotLemmas.{closed_none, image_begins, image_has, open_none, place_whole, sector_fits, sector_long, size_after, slot_long, start_small, start_whole}
 
 fits_at : (xs : List ℕ) (i : ℕ) → AreBytes xs → i < length xs → get_or xs i 0 < 256
 fits_at [] i f h = absurd (omega arith)
@@ -33,7 +33,7 @@ fits_at (x ∷ xs) zero f h = f.0
 fits_at (x ∷ xs) (suc i) f h = fits_at xs i f.1 (omega arith)
 
 bytes_back : (a b c d : ℕ) → AreBytes (a ∷ b ∷ c ∷ d ∷ []) → bytes_of_word (word_of_bytes (a ∷ b ∷ c ∷ d ∷ [])) ≡ a ∷ b ∷ c ∷ d ∷ []
-bytes_back a b c d f = bytes-words (a ∷ b ∷ c ∷ d ∷ []) 1 f refl
+bytes_back a b c d f = bytes_words (a ∷ b ∷ c ∷ d ∷ []) 1 f refl
 
 -- ---- a flash that has a slot opened in what is between
 
@@ -160,7 +160,7 @@ module _ (flash : List ℕ) (number : ℕ) (l : HasLayout flash) (within : numbe
   shut = between_closed flash spent l.slots (spends number within is refl)
 
   pub layout_opened : AreBytes (take 65536 flash) → HasOpen flash number (update_place flash)
-  layout_opened fits = opened flash spent flash number l shut within (sym (length-switched number spent_switch flash refl room)) (λ i h. sym (switched_others number spent_switch flash refl room i h)) is fits
+  layout_opened fits = opened flash spent flash number l shut within (sym (length_switched number spent_switch flash refl room)) (λ i h. sym (switched_others number spent_switch flash refl room i h)) is fits
 
 -- ---- a flash after an update
 
@@ -178,7 +178,7 @@ module _ (stream flash found : List ℕ) (l : HasLayout flash) (a : IsAfter stre
   now_room = omega (arith, now_shut.size, a.is_next.within, l.size.least)
 
   found_size : length found ≡ length now
-  found_size = ap length a.is ∙ length-switched a.next open_switch now refl now_room
+  found_size = ap length a.is ∙ length_switched a.next open_switch now refl now_room
 
   found_others : (i : ℕ) → (i < 32 * a.next) ⊎ (32 * a.next + 4 ≤ i) → get_or found i 0 ≡ get_or now i 0
   found_others i h = ap (λ (x : List ℕ). get_or x i 0) a.is ∙ switched_others a.next open_switch now refl now_room i h
@@ -352,7 +352,7 @@ module _ (part : PartData) (golden update behind : List ℕ) (is : IsPart part) 
       (b.0 ++ behind, ap (λ (x : List ℕ). x ++ behind) b.1 ∙ regrouped (first_sector start) golden b.0 behind)
 
   place_low : place ≤ flash_limit
-  place_low = let l : place + length update ≤ image_size (length golden) (length update) = size_behind (length golden) (length update) in omega (arith, l, fits)
+  place_low = let l : place + length update ≤ image_size (length golden) (length update) = size_after (length golden) (length update) in omega (arith, l, fits)
 
   pub image_as : BeginsAsImage part all place
   image_as = record { more = golden ++ begun.0; begins = begun.1; whole = place_whole (length golden); within = place_low }

@@ -2,13 +2,13 @@
 use Rattle.std.proofs.Common.{◌≡◌, ℕ, zero, suc, ◌+◌, ◌-◌, ◌*◌, ◌/◌, ◌%◌, ◌^◌, ◌<◌, ◌≤◌, List, ◌++◌, length, get_or, replicate, refl, drop, ap, sym, subst, ◌∙◌, arith, length-append, append_assoc}
 use Rattle.std.specs.List.{repeat}
 use Rattle.std.proofs.lemmas.List.{length-replicate, get_or-drop, get_or_append_left, get_or-append_right}
-use Rattle.x7_words.proofs.WordLemmas.{word-whole}
+use Rattle.x7_words.proofs.WordLemmas.{word_whole}
 use Rattle.x7_words.specs.Word.{bytes_of_word, word_of_bytes}
 use Rattle.std.proofs.Math.Seq.{drop-append_seam}
 use Rattle.x7_packets.specs.FlashSlot.{flash_slot}
 use Rattle.x7_boot.specs.Image as image
 use Rattle.x7_boot.specs.Image.{closed_slot, closed_slots, filled_to, first_sector, image_of, image_size, open_slot, sector_from, slot}
-use Rattle.x7_recovery.proofs.SlotLemmas.{image_begins, place_whole, sector_long, size_behind, slot_long, update_behind}
+use Rattle.x7_recovery.proofs.SlotLemmas.{image_begins, place_whole, sector_long, size_after, slot_long, update_after}
 use Rattle.x7_recovery.specs.PlannedImage.{HasImage, golden_image}
 use Rattle.x7_part.specs.Part.{PartData}
 use Rattle.x7_memory.specs.Planned.{PlanData}
@@ -32,9 +32,9 @@ slot_among one rest (suc n) (suc k) i e h j =
     ∙ slot_among one rest n k i e (omega arith) j
 
 -- an open slot and a closed one are the same after the switch word
-pub same_behind : (start i : ℕ) → 4 ≤ i → get_or (closed_slot start) i 0 ≡ get_or (open_slot start) i 0
+pub same_after : (start i : ℕ) → 4 ≤ i → get_or (closed_slot start) i 0 ≡ get_or (open_slot start) i 0
 unfolding slot
-same_behind start i h =
+same_after start i h =
     let at : 4 + (i - 4) ≡ i = omega arith in
     ap (λ m. get_or (closed_slot start) m 0) (sym at)
     ∙ sym (get_or-drop 4 (closed_slot start) (i - 4) 0)
@@ -80,13 +80,13 @@ module _ (start : ℕ) (all rest : List ℕ) (begins : all ≡ first_sector star
   first_is = ap (flash_slot open_switch) start_is ∙ open_is start
 
   pub place_is : start < 2 ^ 32 → update_place all ≡ start
-  place_is h = ap word_of_bytes start_is ∙ word-whole start h
+  place_is h = ap word_of_bytes start_is ∙ word_whole start h
 
   pub leads : (k : ℕ) → k < 2048 → Leads all k
   leads zero h = λ i j l.
       let at : 32 * 0 + i ≡ i = omega arith in
       ap (λ m. get_or all m 0) at ∙ open_byte i l ∙ sym (ap (λ s. get_or s i 0) first_is)
-  leads (suc k) h = λ i j l. closed_byte k i (omega arith) l ∙ same_behind start i j ∙ sym (ap (λ s. get_or s i 0) first_is)
+  leads (suc k) h = λ i j l. closed_byte k i (omega arith) l ∙ same_after start i j ∙ sym (ap (λ s. get_or s i 0) first_is)
 
   pub closed_free : (k : ℕ) → k < 2047 → switch_of all (suc k) ≡ free_switch
   closed_free k h =
@@ -113,9 +113,9 @@ unfolding image_of
 image_long golden update =
     let place = image.place_after_golden (length golden) in
     let prefix : List ℕ = first_sector (place / 1) ++ golden in
-    let front_long : length prefix ≤ place = omega (arith, length-append (first_sector (place / 1)) golden, sector_long (place / 1), update_behind (length golden)) in
+    let front_long : length prefix ≤ place = omega (arith, length-append (first_sector (place / 1)) golden, sector_long (place / 1), update_after (length golden)) in
     let whole : List ℕ = filled_to place prefix ++ update in
-    let whole_long : length whole ≤ image_size (length golden) (length update) = omega (arith, length-append (filled_to place prefix) update, filled_long place prefix front_long, size_behind (length golden) (length update)) in
+    let whole_long : length whole ≤ image_size (length golden) (length update) = omega (arith, length-append (filled_to place prefix) update, filled_long place prefix front_long, size_after (length golden) (length update)) in
     filled_long (image_size (length golden) (length update)) whole whole_long
 
 -- an image for a part that counts in bytes has a layout
@@ -127,7 +127,7 @@ image_layout golden update limit =
     let begins : all ≡ first_sector (place / 1) ++ (golden ++ b.0) = b.1 ∙ append_assoc (first_sector (place / 1)) golden b.0 in
     let same : place / 1 ≡ place = omega arith in
     let long = image_long golden update in
-    let within : place + length update ≤ length all = omega (arith, long, size_behind (length golden) (length update)) in
+    let within : place + length update ≤ length all = omega (arith, long, size_after (length golden) (length update)) in
     let least : 131072 ≤ place = omega arith in
     let whole : image_size (length golden) (length update) % 65536 ≡ 0 = omega arith in
     let is : update_place all ≡ place = place_is (place / 1) all (golden ++ b.0) begins (omega (arith, same, within, long, limit)) ∙ same in
@@ -148,7 +148,7 @@ image_place golden update limit =
     let b = image_begins 1 golden update in
     let begins : image_of 1 golden update ≡ first_sector (place / 1) ++ (golden ++ b.0) = b.1 ∙ append_assoc (first_sector (place / 1)) golden b.0 in
     let same : place / 1 ≡ place = omega arith in
-    place_is (place / 1) (image_of 1 golden update) (golden ++ b.0) begins (omega (arith, same, limit, size_behind (length golden) (length update))) ∙ same
+    place_is (place / 1) (image_of 1 golden update) (golden ++ b.0) begins (omega (arith, same, limit, size_after (length golden) (length update))) ∙ same
 
 -- after the first sector stands the golden stream
 image_golden : (golden update : List ℕ) → (rest : List ℕ) × (drop 65536 (image_of 1 golden update) ≡ golden ++ rest)
@@ -171,6 +171,6 @@ image_prepared part golden update stream has unit =
       golden = record {
         rest = stands.0;
         stands = ap (drop 65536) same ∙ stands.1;
-        ends = omega (arith, update_behind (length full), ap update_place same, image_place full update has.fits);
+        ends = omega (arith, update_after (length full), ap update_place same, image_place full update has.fits);
       };
     }

@@ -2,7 +2,7 @@
 use Rattle.std.proofs.Common.{◌≡◌, ◌&&◌, ◌<◌, inl, ℕ, Bool, true, false, Option, None, Some, List, [], ◌∷◌, ◌++◌, drop, take, map, reverse, refl, ap, sym, subst, ◌∙◌, append_assoc, take-append-drop}
 use Rattle.std.proofs.lemmas.List.{reverse-append}
 use Rattle.x7_words.specs.Word.{AreBytes}
-use Rattle.x7_words.proofs.ListLemmas.{all-append, map-append}
+use Rattle.x7_words.proofs.ListLemmas.{all_append, map_append}
 use Rattle.x7_packets.specs.History.{history_of}
 use Rattle.x7_regs.specs.BootStatus.{boot_status_of}
 use Rattle.x7_regs.specs.declared.boot_status.Attempt.{Attempt}
@@ -69,7 +69,7 @@ module _ (o : Opened) (is : IsOpened o) where
         ended = record { is = g.is; kept = g.kept_is; address = g.address_is; ends = refl };
         more = reverse (map tried g.newer);
         attempts_are = course.attempts_are ∙ ap (λ (l : List Trial). reverse (map tried l)) g.split
-            ∙ ap reverse (map-append tried g.newer (t ∷ first ∷ []))
+            ∙ ap reverse (map_append tried g.newer (t ∷ first ∷ []))
             ∙ reverse-append (map tried g.newer) (tried t ∷ obeyed ∷ [])
             ∙ ap (λ (x : Tried). obeyed ∷ x ∷ reverse (map tried g.newer)) (told t t.ending g.kept_is g.address_is refl);
       }
@@ -147,7 +147,7 @@ module _ (o : Opened) (is : IsOpened o) where
   planned_starts kept golden has e =
       let stream : List ℕ = full_stream o.part golden in
       let front : List ℕ = take 65536 o.flash in
-      let fits : AreBytes (front ++ stream) = all-append (λ b. b < 256) front stream is.has.fits (full_stream_fits o.part golden has.is_part has.plan) in
+      let fits : AreBytes (front ++ stream) = all_append (λ b. b < 256) front stream is.has.fits (full_stream_fits o.part golden has.is_part has.plan) in
       let wrote : wrote_iprog (history_of front) ≡ true = sector_wrote o.flash o.slot o.start is.has is.small in
       let split : o.flash ≡ (front ++ stream) ++ has.rest = sym (take-append-drop 65536 o.flash) ∙ ap (λ (x : List ℕ). front ++ x) has.stands ∙ sym (append_assoc front stream has.rest) in
       full_starts o.part kept front golden 0 o.flash has.rest true is.has.fits (sector_rests o.flash o.slot o.start is.has is.small o.part kept e) (sector_never o.flash o.slot o.start is.has is.small) has.is_part has.plan split

@@ -4,7 +4,7 @@ use Rattle.std.proofs.lemmas.Bool.{cases_lt}
 use Rattle.std.proofs.lemmas.List.{take-append-le, take-take}
 use Rattle.std.proofs.Math.Seq.{take-append-add}
 use Rattle.x7_words.specs.Word.{AreBytes}
-use Rattle.x7_words.proofs.ListLemmas.{all-append, all_back, all_front, all_take}
+use Rattle.x7_words.proofs.ListLemmas.{all_append, all_back, all_prefix, all_take}
 use Rattle.x7_packets.specs.ByHand.{reading_of}
 use Rattle.x7_packets.specs.Appended.{moved}
 use Rattle.x7_packets.specs.History as access
@@ -13,7 +13,7 @@ use Rattle.x7_packets.specs.Reading.{is_synced}
 use Rattle.x7_packets.specs.SyncWord.{HasNoSync, sync_bytes}
 use Rattle.x7_packets.specs.Gap.{NoneBegins}
 use Rattle.x7_packets.proofs.GapLemmas.{history_passed, synced_passed}
-use Rattle.x7_packets.proofs.SeamLemmas.{none_before_front}
+use Rattle.x7_packets.proofs.SeamLemmas.{none_before_prefix}
 use Rattle.x7_packets.proofs.GrowthLemmas.{placed_of, until_placed}
 use Rattle.x7_part.specs.Part.{PartData}
 use Rattle.x7_regs.specs.declared.boot_status.Kind.TheVariants.{Power, Iprog}
@@ -26,7 +26,7 @@ use Rattle.x7_engine.specs.Stops.{Stopped, fault_of, why_at, stop_of, stopped_at
 use Rattle.x7_engine.specs.Values.{cause_of}
 use Rattle.x7_engine.specs.declared.kept.Kept.{Kept}
 use Rattle.x7_engine.specs.declared.stop.Stop.TheVariants as stop
-use Rattle.x7_engine.proofs.ClockLemmas.{stop_of-access}
+use Rattle.x7_engine.proofs.ClockLemmas.{stop_of_access}
 use Rattle.x7_engine.proofs.FallbackLemmas.{fallback_off}
 use Rattle.x7_engine.proofs.RestLemmas.{history_on, rest_on}
 use Rattle.x7_engine.proofs.StateLemmas.{no_stop_before}
@@ -40,7 +40,7 @@ use Rattle.x7_boot.specs.Boot.{LeadsTo, at_power, end_state, start_address}
 use Rattle.x7_boot.specs.Image.{open_slot, slot}
 use Rattle.x7_boot.specs.declared.attempt.Ending.TheVariants as ending
 use Rattle.x7_boot.specs.declared.next.Next.TheVariants.{Again}
-use Rattle.x7_boot.proofs.StartLemmas.{NeverStarts, front_open, never_seven}
+use Rattle.x7_boot.proofs.StartLemmas.{NeverStarts, prefix_open, never_seven}
 use Rattle.x7_boot.proofs.TookLemmas.{ends_by_stop}
 use Rattle.x7_recovery.specs.OpenBoot.{kept_at_update}
 use Rattle.x7_recovery.specs.OpenSlot.{HasOpen}
@@ -52,12 +52,12 @@ use Rattle.x7_recovery.proofs.SlotLemmas.{slot_fits, slot_long}
 abbrev slot_end : List ℕ
 slot_end = bytes_of_words (0x30008001 ∷ 13 ∷ [])
 
-slot_behind : (start : ℕ) → open_slot start ≡ power_bytes start ++ slot_end
+slot_after : (start : ℕ) → open_slot start ≡ power_bytes start ++ slot_end
 unfolding slot
-slot_behind start = refl
+slot_after start = refl
 
 power_fits : (start : ℕ) → AreBytes (power_bytes start)
-power_fits start = all_front (λ b. b < 256) (power_bytes start) slot_end (subst AreBytes (slot_behind start) (slot_fits 0xAA995566 start))
+power_fits start = all_prefix (λ b. b < 256) (power_bytes start) slot_end (subst AreBytes (slot_after start) (slot_fits 0xAA995566 start))
 
 -- the histories after WBSTAR, IPROG and DESYNC of a slot after this many bytes
 abbrev wbstar_at : ℕ → ℕ → History
@@ -96,7 +96,7 @@ module _ (flash : List ℕ) (number start : ℕ) (o : HasOpen flash number start
 
   -- no sync word begins before the slot
   pub none_before : (s more : List ℕ) → flash ≡ (gap ++ s) ++ more → NoneBegins gap s
-  none_before s more e = none_before_front gap s more (λ prefix back f. elim (cases_lt (length prefix) (length gap)) [
+  none_before s more e = none_before_prefix gap s more (λ prefix back f. elim (cases_lt (length prefix) (length gap)) [
     | inr past ↦ past
     | inl less ↦
         let there : length prefix ≡ 32 * number = o.alone (length prefix) (omega (arith, less, gap_long, o.within)) (word_at flash prefix back (e ∙ append_assoc gap s more ∙ f)) in
@@ -114,10 +114,10 @@ module _ (flash : List ℕ) (number start : ℕ) (o : HasOpen flash number start
   pub taken_split : flash ≡ taken ++ left
   taken_split =
       let grouped : gap ++ ((power_bytes start ++ slot_end) ++ rest) ≡ (gap ++ power_bytes start) ++ (slot_end ++ rest) = simp append_assoc in
-      split ∙ ap (λ (x : List ℕ). gap ++ (x ++ rest)) (slot_behind start) ∙ grouped
+      split ∙ ap (λ (x : List ℕ). gap ++ (x ++ rest)) (slot_after start) ∙ grouped
 
   taken_fits : AreBytes taken
-  taken_fits = all-append (λ b. b < 256) gap (power_bytes start) gap_fits (power_fits start)
+  taken_fits = all_append (λ b. b < 256) gap (power_bytes start) gap_fits (power_fits start)
 
   taken_long : length taken ≡ 32 * number + 24
   taken_long = length-append gap (power_bytes start) ∙ ap (λ (m : ℕ). m + 24) gap_long
@@ -139,7 +139,7 @@ module _ (flash : List ℕ) (number start : ℕ) (o : HasOpen flash number start
       let why : why_at part at_power (wbstar_at (32 * number) start) (access.Write 4 15) ≡ Some stop.Iprog = refl in
       ap (λ (h : History). stop_of part at_power h (length taken)) taken_history
       ∙ ap (stop_of part at_power (iprog_at (32 * number) start)) taken_long
-      ∙ stop_of-access part at_power (wbstar_at (32 * number) start) (access.Write 4 15) (32 * number + 24) (calm part at_power refl).no_stop
+      ∙ stop_of_access part at_power (wbstar_at (32 * number) start) (access.Write 4 15) (32 * number + 24) (calm part at_power refl).no_stop
       ∙ ap (stopped_at (32 * number + 24)) why
 
   taken_never : NeverStarts (history_of taken)
@@ -157,7 +157,7 @@ module _ (flash : List ℕ) (number start : ℕ) (o : HasOpen flash number start
       let count : length (take k taken) ≡ k = length-take-le k taken within in
       let none : stop_in part at_power (take k taken) ≡ None =
       no_stop_before part at_power (take k taken) (drop k taken) (record { place = 32 * number + 24; why = stop.Iprog }) (subst AreBytes (sym whole) taken_fits) (ap (stop_in part at_power) whole ∙ taken_stop part) (omega (arith, count, few, taken_long)) in
-      ap (λ (x : List ℕ). ending_at part at_power (take k x)) taken_split ∙ ap (ending_at part at_power) (take-append-le k taken left within) ∙ front_open part at_power k taken taken_fits taken_never none
+      ap (λ (x : List ℕ). ending_at part at_power (take k x)) taken_split ∙ ap (ending_at part at_power) (take-append-le k taken left within) ∙ prefix_open part at_power k taken taken_fits taken_never none
 
   abbrev pub power : Trial
   power = record { kept = at_power; address = 0; bytes = taken; wrapped = false; ending = ending.Iprog }

@@ -3,7 +3,7 @@ use Rattle.std.proofs.Common.{◌≡◌, ◌≢◌, ◌+◌, ◌*◌, ◌/◌, �
 use Rattle.std.proofs.lemmas.List.{append-nil, get_or-take, length-replicate}
 use Rattle.std.proofs.Math.Seq.{drop-append_seam, take-append_seam}
 use Rattle.x7_words.specs.Word.{AreBytes}
-use Rattle.x7_words.proofs.FlashLemmas.{bytes-replaced}
+use Rattle.x7_words.proofs.FlashLemmas.{bytes_replaced}
 use Rattle.x7_part.specs.Part.{PartData}
 use Rattle.x7_part.specs.PartRange.{IsPart}
 use Rattle.x7_regs.specs.declared.boot_status.Cause.TheVariants.{Wrap}
@@ -26,7 +26,7 @@ use Rattle.x7_update.proofs.CaseLemmas.{between_closed}
 use Rattle.x7_recovery.specs.Recovery.{IsPrepared, updating_image}
 use Rattle.x7_recovery.proofs.LayoutLemmas.{image_prepared}
 use Rattle.x7_recovery.proofs.FullTrialLemmas.{full_stream_fits}
-use Rattle.x7_recovery.proofs.SlotLemmas.{image_begins, image_fits, place_whole, sector_long, slot_long, update_behind}
+use Rattle.x7_recovery.proofs.SlotLemmas.{image_begins, image_fits, place_whole, sector_long, slot_long, update_after}
 use Rattle.x7_recovery.specs.OpenBoot.{UpdateFails, kept_at_update}
 use Rattle.x7_recovery.specs.OpenSlot.{image_of_flash}
 use Rattle.x7_recovery.specs.PlannedImage.{HasImage, golden_image, place_after}
@@ -67,7 +67,7 @@ empty_ends unit golden =
     let filled : List ℕ = filled_to place prefix in
     let size : ℕ = image_size (length golden) 0 in
     let long : length prefix ≡ 65536 + length golden = length-append (first_sector (place / unit)) golden ∙ ap (λ (n : ℕ). n + length golden) (sector_long (place / unit)) in
-    let count : length filled ≡ place = length-append prefix (replicate (place - length prefix) 255) ∙ omega (arith, length-replicate {A = ℕ} (place - length prefix) 255, long, update_behind (length golden)) in
+    let count : length filled ≡ place = length-append prefix (replicate (place - length prefix) 255) ∙ omega (arith, length-replicate {A = ℕ} (place - length prefix) 255, long, update_after (length golden)) in
     let whole : place % 65536 ≡ 0 = place_whole (length golden) in
     let more : length (filled ++ []) ≡ place = ap length (append-nil filled) ∙ count in
     drop_all place (filled_to size (filled ++ []))
@@ -150,4 +150,4 @@ left_torn part golden update stream image bytes l =
     let left : IsBetween flash found = between_closed flash found l.slots (spends 0 (omega arith) is refl) in
     let fits : AreBytes flash = image_fits part.start_unit (full_stream part golden) update (full_stream_fits part golden image.is_part image.plan) bytes in
     let spent : AreBytes spent_switch = (omega arith, (omega arith, (omega arith, (omega arith, tt)))) in
-    (found, between l (bytes-replaced (32 * 0) spent_switch flash spent fits) left, λ same. left.closed 0 (omega arith) (ap (λ (x : List ℕ). switch_of x 0) same ∙ is))
+    (found, between l (bytes_replaced (32 * 0) spent_switch flash spent fits) left, λ same. left.closed 0 (omega arith) (ap (λ (x : List ℕ). switch_of x 0) same ∙ is))

@@ -7,7 +7,7 @@ use Rattle.std.proofs.lemmas.List.{length-replicate}
 use Rattle.std.proofs.Math.Seq.{drop-append_seam}
 use Rattle.std.specs.List.{repeat}
 use Rattle.x7_words.specs.Word.{AreBytes}
-use Rattle.x7_words.proofs.ListLemmas.{all-append}
+use Rattle.x7_words.proofs.ListLemmas.{all_append}
 use Rattle.x7_packets.specs.Appended.{LacksFirst}
 use Rattle.x7_packets.specs.PacketWords.{command, no_op, write_one}
 use Rattle.x7_packets.specs.SyncWord.{HasNoSync, sync_bytes}
@@ -39,9 +39,9 @@ other_third : (x y z : ℕ) (bytes : List ℕ) → z < 0x55 → HasNoSync (y ∷
 other_third x y z bytes l = none_at x (y ∷ z ∷ bytes) (λ back e. let same : z ≡ 0x55 = cc in omega (arith, l, same))
 
 -- bytes without its first byte before bytes without a sync word
-none_behind : (bytes rest : List ℕ) → LacksFirst bytes → HasNoSync rest → HasNoSync (bytes ++ rest)
-none_behind [] rest l none = none
-none_behind (x ∷ bytes) rest l none = other_first x (bytes ++ rest) l.0 (none_behind bytes rest l.1 none)
+none_after : (bytes rest : List ℕ) → LacksFirst bytes → HasNoSync rest → HasNoSync (bytes ++ rest)
+none_after [] rest l none = none
+none_after (x ∷ bytes) rest l none = other_first x (bytes ++ rest) l.0 (none_after bytes rest l.1 none)
 
 -- what stands after the first two words of a slot, where the start address is of whole pages of 256, and far below AA000000
 abbrev slot_tail : List ℕ
@@ -54,7 +54,7 @@ start_none start rest whole low none =
     let end : ℕ = start % 256 in
     let last : (end == 0xAA) ≡ false = grind (arith, nat_tests, whole) in
     let behind : HasNoSync (end ∷ (slot_tail ++ rest)) =
-    other_first end (slot_tail ++ rest) last (none_behind slot_tail rest (refl, (refl, (refl, (refl, (refl, (refl, (refl, (refl, (refl, (refl, (refl, (refl, (refl, (refl, (refl, (refl, tt)))))))))))))))) none) in
+    other_first end (slot_tail ++ rest) last (none_after slot_tail rest (refl, (refl, (refl, (refl, (refl, (refl, (refl, (refl, (refl, (refl, (refl, (refl, (refl, (refl, (refl, (refl, tt)))))))))))))))) none) in
     let third : HasNoSync (start / 2 ^ 8 % 256 ∷ end ∷ (slot_tail ++ rest)) = other_second (start / 2 ^ 8 % 256) end (slot_tail ++ rest) (omega (arith, whole)) behind in
     let second : HasNoSync (start / 2 ^ 16 % 256 ∷ start / 2 ^ 8 % 256 ∷ end ∷ (slot_tail ++ rest)) = other_third (start / 2 ^ 16 % 256) (start / 2 ^ 8 % 256) end (slot_tail ++ rest) (omega (arith, whole)) third in
     other_first (start / 2 ^ 24 % 256) _ high second
@@ -62,7 +62,7 @@ start_none start rest whole low none =
 slot_none : (start : ℕ) (rest : List ℕ) → start % 256 ≡ 0 → start < 0xAA000000 → HasNoSync rest → HasNoSync (closed_slot start ++ rest)
 unfolding slot
 slot_none start rest whole low none =
-    none_behind (255 ∷ 255 ∷ 255 ∷ 255 ∷ 32 ∷ 0 ∷ 0 ∷ 0 ∷ 0x30 ∷ 2 ∷ 0 ∷ 1 ∷ []) _ (refl, (refl, (refl, (refl, (refl, (refl, (refl, (refl, (refl, (refl, (refl, (refl, tt)))))))))))) (start_none start rest whole low none)
+    none_after (255 ∷ 255 ∷ 255 ∷ 255 ∷ 32 ∷ 0 ∷ 0 ∷ 0 ∷ 0x30 ∷ 2 ∷ 0 ∷ 1 ∷ []) _ (refl, (refl, (refl, (refl, (refl, (refl, (refl, (refl, (refl, (refl, (refl, (refl, tt)))))))))))) (start_none start rest whole low none)
 
 -- an open slot but for its first byte
 pub open_none : (start : ℕ) (rest : List ℕ) → start % 256 ≡ 0 → start < 0xAA000000 → HasNoSync rest → (tail : List ℕ) × (open_slot start ++ rest ≡ 0xAA ∷ tail) × HasNoSync tail
@@ -70,7 +70,7 @@ unfolding slot
 open_none start rest whole low none = (
   _,
   refl,
-  none_behind (0x99 ∷ 0x55 ∷ 0x66 ∷ 32 ∷ 0 ∷ 0 ∷ 0 ∷ 0x30 ∷ 2 ∷ 0 ∷ 1 ∷ []) _ (refl, (refl, (refl, (refl, (refl, (refl, (refl, (refl, (refl, (refl, (refl, tt))))))))))) (start_none start rest whole low none),
+  none_after (0x99 ∷ 0x55 ∷ 0x66 ∷ 32 ∷ 0 ∷ 0 ∷ 0 ∷ 0x30 ∷ 2 ∷ 0 ∷ 1 ∷ []) _ (refl, (refl, (refl, (refl, (refl, (refl, (refl, (refl, (refl, (refl, (refl, tt))))))))))) (start_none start rest whole low none),
 )
 
 slots_none : (n start : ℕ) → start % 256 ≡ 0 → start < 0xAA000000 → HasNoSync (repeat n (closed_slot start))
@@ -89,14 +89,14 @@ slot_fits switch start = bytes_fit (switch ∷ no_op ∷ write_one Wbstar start 
 
 repeat_fits : (n : ℕ) (bytes : List ℕ) → AreBytes bytes → AreBytes (repeat n bytes)
 repeat_fits zero bytes f = tt
-repeat_fits (suc n) bytes f = all-append (λ b. b < 256) bytes (repeat n bytes) f (repeat_fits n bytes f)
+repeat_fits (suc n) bytes f = all_append (λ b. b < 256) bytes (repeat n bytes) f (repeat_fits n bytes f)
 
 closed_fits : (start : ℕ) → AreBytes (closed_slots start)
 unfolding closed_slots
 closed_fits start = repeat_fits 2047 (closed_slot start) (slot_fits 0xFFFFFFFF start)
 
 pub sector_fits : (start : ℕ) → AreBytes (first_sector start)
-sector_fits start = all-append (λ b. b < 256) (open_slot start) (closed_slots start) (slot_fits 0xAA995566 start) (closed_fits start)
+sector_fits start = all_append (λ b. b < 256) (open_slot start) (closed_slots start) (slot_fits 0xAA995566 start) (closed_fits start)
 
 pub fill_fits : (n : ℕ) → AreBytes (replicate n 255)
 fill_fits zero = tt
@@ -110,9 +110,9 @@ image_fits unit golden update g u =
     let prefix : List ℕ = first_sector start ++ golden in
     let filled : List ℕ = filled_to (place_after_golden (length golden)) prefix in
     let size : ℕ = image_size (length golden) (length update) in
-    let front_fits : AreBytes prefix = all-append (λ b. b < 256) (first_sector start) golden (sector_fits start) g in
-    let filled_fits : AreBytes filled = all-append (λ b. b < 256) prefix (replicate (place_after_golden (length golden) - length prefix) 255) front_fits (fill_fits (place_after_golden (length golden) - length prefix)) in
-    all-append (λ b. b < 256) (filled ++ update) (replicate (size - length (filled ++ update)) 255) (all-append (λ b. b < 256) filled update filled_fits u) (fill_fits (size - length (filled ++ update)))
+    let front_fits : AreBytes prefix = all_append (λ b. b < 256) (first_sector start) golden (sector_fits start) g in
+    let filled_fits : AreBytes filled = all_append (λ b. b < 256) prefix (replicate (place_after_golden (length golden) - length prefix) 255) front_fits (fill_fits (place_after_golden (length golden) - length prefix)) in
+    all_append (λ b. b < 256) (filled ++ update) (replicate (size - length (filled ++ update)) 255) (all_append (λ b. b < 256) filled update filled_fits u) (fill_fits (size - length (filled ++ update)))
 
 -- ---- places
 
@@ -123,11 +123,11 @@ place_whole golden = elim (cases_lt (sector_from (65536 + golden)) 131072) [
   | inr l ↦ ap (λ (n : ℕ). n % 65536) (max-eq_right l) ∙ omega arith
 ]
 
-pub update_behind : (golden : ℕ) → 65536 + golden ≤ place_after_golden golden
-update_behind golden = let m : sector_from (65536 + golden) ≤ place_after_golden golden = le-max_right 131072 (sector_from (65536 + golden)) in omega (arith, m)
+pub update_after : (golden : ℕ) → 65536 + golden ≤ place_after_golden golden
+update_after golden = let m : sector_from (65536 + golden) ≤ place_after_golden golden = le-max_right 131072 (sector_from (65536 + golden)) in omega (arith, m)
 
-pub size_behind : (golden update : ℕ) → place_after_golden golden + update ≤ image_size golden update
-size_behind golden update = omega arith
+pub size_after : (golden update : ℕ) → place_after_golden golden + update ≤ image_size golden update
+size_after golden update = omega arith
 
 -- an update's start address is of whole pages of 256, and small, in either unit
 pub start_whole : (unit place : ℕ) → (unit ≡ 1) ⊎ (unit ≡ 256) → place % 65536 ≡ 0 → place / unit % 256 ≡ 0
@@ -177,7 +177,7 @@ image_has unit golden update more =
     let size : ℕ = image_size (length golden) (length update) in
     let end : List ℕ = replicate (size - length (front ++ update)) 255 in
     let long : length prefix ≡ 65536 + length golden = length-append (first_sector (place / unit)) golden ∙ ap (λ (n : ℕ). n + length golden) (sector_long (place / unit)) in
-    let filled : length front ≡ place = length-append prefix (replicate (place - length prefix) 255) ∙ omega (arith, length-replicate {A = ℕ} (place - length prefix) 255, long, update_behind (length golden)) in (
+    let filled : length front ≡ place = length-append prefix (replicate (place - length prefix) 255) ∙ omega (arith, length-replicate {A = ℕ} (place - length prefix) 255, long, update_after (length golden)) in (
       end ++ more,
       ap (drop place) (append_assoc (front ++ update) end more ∙ append_assoc front update (end ++ more))
           ∙ ap (λ (n : ℕ). drop n (front ++ (update ++ (end ++ more)))) (sym filled)

@@ -14,8 +14,8 @@ use Rattle.x7_boot.proofs.OverLemmas.{trial_over}
 use Rattle.x7_recovery.proofs.GoldenLemmas.{erased_long, in_flash}
 use Rattle.x7_recovery.proofs.HasOpenLemmas.{after_golden_same, after_place}
 
-same_fronts : (e xs ys : List ℕ) (m : ℕ) → take (m - length e) xs ≡ take (m - length e) ys → take m (e ++ xs) ≡ take m (e ++ ys)
-same_fronts e xs ys m same = elim (cases_lt m (length e)) [
+same_prefixes : (e xs ys : List ℕ) (m : ℕ) → take (m - length e) xs ≡ take (m - length e) ys → take m (e ++ xs) ≡ take m (e ++ ys)
+same_prefixes e xs ys m same = elim (cases_lt m (length e)) [
   | inl few ↦ (let l : m ≤ length e = omega (arith, few) in take-append-le m e xs l ∙ sym (take-append-le m e ys l))
   | inr more ↦ (let sum : length e + (m - length e) ≡ m = omega (arith, more) in
       ap (λ (n : ℕ). take n (e ++ xs)) (sym sum) ∙ take-append-add e xs (m - length e) ∙ ap (λ (x : List ℕ). e ++ x) same ∙ sym (take-append-add e ys (m - length e)) ∙ ap (λ (n : ℕ). take n (e ++ ys)) sum)
@@ -25,7 +25,7 @@ power_moves : (part : PartData) (flash other : List ℕ) (t : Trial) → StartsA
 power_moves part flash other t s same =
     let at : t.address + length t.bytes ≡ length t.bytes = omega (arith, s.address) in
     let fronts : take (length t.bytes) (with_erased other) ≡ take (length t.bytes) (with_erased flash) =
-    same_fronts erased_sector (drop 65536 other) (drop 65536 flash) (length t.bytes) (ap (λ (n : ℕ). take (length t.bytes - n) (drop 65536 other)) erased_long ∙ same ∙ ap (λ (n : ℕ). take (length t.bytes - n) (drop 65536 flash)) (sym erased_long)) in
+    same_prefixes erased_sector (drop 65536 other) (drop 65536 flash) (length t.bytes) (ap (λ (n : ℕ). take (length t.bytes - n) (drop 65536 other)) erased_long ∙ same ∙ ap (λ (n : ℕ). take (length t.bytes - n) (drop 65536 flash)) (sym erased_long)) in
     record {
       is = trial_over part (with_erased flash) (with_erased other) t s.is (in_flash part (with_erased flash) t s)
           (ap (λ (n : ℕ). take n (with_erased other)) at ∙ fronts ∙ ap (λ (n : ℕ). take n (with_erased flash)) (sym at));

@@ -8,7 +8,7 @@ use Rattle.x7_regs.specs.Named.{place_of}
 use Rattle.x7_regs.specs.declared.command.Command.{Command}
 use Rattle.x7_regs.specs.declared.command.Command.TheVariants.{Null, Wcfg, Mfw, Lfrm, Rcfg, Start, Rcap, Rcrc, Aghigh, Switch, Grestore, Shutdown, Gcapture, Desync, Iprog, Crcc, Ltimer, BspiRead, FallEdge}
 use Rattle.x7_regs.specs.declared.named.TheConstants.{REGISTERS, COMMANDS}
-use Rattle.x7_regs.proofs.CommandLemmas.{command_by-named}
+use Rattle.x7_regs.proofs.CommandLemmas.{command_by_named}
 
 -- a test holds of each number below n
 unfoldable each : (ℕ → Bool) → ℕ → Bool
@@ -44,9 +44,9 @@ equal_numbers a b e = grind (arith, common_steps)
 less : (a b : ℕ) → nat_lt a b ≡ true → a < b
 less a b e = grind (arith, common_steps)
 
-pub register-place : (n : ℕ) → n < 32 → (get_or REGISTERS (place_of (reg_name n)) 0 ≡ n) × (1 < length (reg_name n)) × (length (reg_name n) < 10)
+pub register_place : (n : ℕ) → n < 32 → (get_or REGISTERS (place_of (reg_name n)) 0 ≡ n) × (1 < length (reg_name n)) × (length (reg_name n) < 10)
 unfolding is_found
-register-place n h =
+register_place n h =
     let parts = both (get_or REGISTERS (place_of (reg_name n)) 0 == n) (nat_lt 1 (length (reg_name n)) && nat_lt (length (reg_name n)) 10) (each_holds is_found 32 n h all_found) in
     let lengths = both (nat_lt 1 (length (reg_name n))) (nat_lt (length (reg_name n)) 10) parts.1 in
     (equal_numbers _ _ parts.0, less _ _ lengths.0, less _ _ lengths.1)
@@ -66,38 +66,38 @@ below_at [] k e = omega arith
 below_at (x ∷ xs) zero e = less x 32 (both (nat_lt x 32) (are_below xs) e).0
 below_at (x ∷ xs) (suc k) e = below_at xs k (both (nat_lt x 32) (are_below xs) e).1
 
-pub register-below : (k : ℕ) → get_or REGISTERS k 0 < 32
-register-below k = below_at REGISTERS k all_below
+pub register_below : (k : ℕ) → get_or REGISTERS k 0 < 32
+register_below k = below_at REGISTERS k all_below
 
-pub command-place : (c : Command) → (get_or COMMANDS (place_of (command_name_of c)) 0 ≡ code_of c) × (1 < length (command_name_of c)) × (length (command_name_of c) < 10)
-command-place Null = (refl, omega arith, omega arith)
-command-place Wcfg = (refl, omega arith, omega arith)
-command-place Mfw = (refl, omega arith, omega arith)
-command-place Lfrm = (refl, omega arith, omega arith)
-command-place Rcfg = (refl, omega arith, omega arith)
-command-place Start = (refl, omega arith, omega arith)
-command-place Rcap = (refl, omega arith, omega arith)
-command-place Rcrc = (refl, omega arith, omega arith)
-command-place Aghigh = (refl, omega arith, omega arith)
-command-place Switch = (refl, omega arith, omega arith)
-command-place Grestore = (refl, omega arith, omega arith)
-command-place Shutdown = (refl, omega arith, omega arith)
-command-place Gcapture = (refl, omega arith, omega arith)
-command-place Desync = (refl, omega arith, omega arith)
-command-place Iprog = (refl, omega arith, omega arith)
-command-place Crcc = (refl, omega arith, omega arith)
-command-place Ltimer = (refl, omega arith, omega arith)
-command-place BspiRead = (refl, omega arith, omega arith)
-command-place FallEdge = (refl, omega arith, omega arith)
+pub command_place : (c : Command) → (get_or COMMANDS (place_of (command_name_of c)) 0 ≡ code_of c) × (1 < length (command_name_of c)) × (length (command_name_of c) < 10)
+command_place Null = (refl, omega arith, omega arith)
+command_place Wcfg = (refl, omega arith, omega arith)
+command_place Mfw = (refl, omega arith, omega arith)
+command_place Lfrm = (refl, omega arith, omega arith)
+command_place Rcfg = (refl, omega arith, omega arith)
+command_place Start = (refl, omega arith, omega arith)
+command_place Rcap = (refl, omega arith, omega arith)
+command_place Rcrc = (refl, omega arith, omega arith)
+command_place Aghigh = (refl, omega arith, omega arith)
+command_place Switch = (refl, omega arith, omega arith)
+command_place Grestore = (refl, omega arith, omega arith)
+command_place Shutdown = (refl, omega arith, omega arith)
+command_place Gcapture = (refl, omega arith, omega arith)
+command_place Desync = (refl, omega arith, omega arith)
+command_place Iprog = (refl, omega arith, omega arith)
+command_place Crcc = (refl, omega arith, omega arith)
+command_place Ltimer = (refl, omega arith, omega arith)
+command_place BspiRead = (refl, omega arith, omega arith)
+command_place FallEdge = (refl, omega arith, omega arith)
 
 -- no name of a register, by its length
-pub no-register-length : (text : List ℕ) → (1 < length text → length text < 10 → ⊥) → (n : ℕ) → n < 32 → text ≡ reg_name n → ⊥
-no-register-length text h n b e = let p = register-place n b in let l : length text ≡ length (reg_name n) = ap length e in h (omega (arith, p.1)) (omega (arith, p.2))
+pub no_register_length : (text : List ℕ) → (1 < length text → length text < 10 → ⊥) → (n : ℕ) → n < 32 → text ≡ reg_name n → ⊥
+no_register_length text h n b e = let p = register_place n b in let l : length text ≡ length (reg_name n) = ap length e in h (omega (arith, p.1)) (omega (arith, p.2))
 
 -- no name of a register, where that of the table is another
-pub no-register : (text name : List ℕ) (k : ℕ) → k ≡ get_or REGISTERS (place_of text) 0 → name ≡ reg_name k → (name ≡ text → ⊥) → (n : ℕ) → n < 32 → text ≡ reg_name n → ⊥
-no-register text name k found is other n b e =
-    other (is ∙ ap reg_name (found ∙ ap (λ t. get_or REGISTERS (place_of t) 0) e ∙ (register-place n b).0) ∙ sym e)
+pub no_register : (text name : List ℕ) (k : ℕ) → k ≡ get_or REGISTERS (place_of text) 0 → name ≡ reg_name k → (name ≡ text → ⊥) → (n : ℕ) → n < 32 → text ≡ reg_name n → ⊥
+no_register text name k found is other n b e =
+    other (is ∙ ap reg_name (found ∙ ap (λ t. get_or REGISTERS (place_of t) 0) e ∙ (register_place n b).0) ∙ sym e)
 
 small : (c : Command) → code_of c % 2 ^ 5 ≡ code_of c
 small Null = refl
@@ -121,8 +121,8 @@ small BspiRead = refl
 small FallEdge = refl
 
 -- no name of a command, where that of the table is another
-pub no-command : (text name : List ℕ) (k : ℕ) (found : Command) → k ≡ get_or COMMANDS (place_of text) 0 → found ≡ command_by k → name ≡ command_name_of found → (name ≡ text → ⊥) → (c : Command) → text ≡ command_name_of c → ⊥
-no-command text name k found is by named other c e =
-    let code : k ≡ code_of c = is ∙ ap (λ t. get_or COMMANDS (place_of t) 0) e ∙ (command-place c).0 in
-    let same : found ≡ c = by ∙ ap command_by code ∙ command_by-named c (code_of c) (small c) in
+pub no_command : (text name : List ℕ) (k : ℕ) (found : Command) → k ≡ get_or COMMANDS (place_of text) 0 → found ≡ command_by k → name ≡ command_name_of found → (name ≡ text → ⊥) → (c : Command) → text ≡ command_name_of c → ⊥
+no_command text name k found is by named other c e =
+    let code : k ≡ code_of c = is ∙ ap (λ t. get_or COMMANDS (place_of t) 0) e ∙ (command_place c).0 in
+    let same : found ≡ c = by ∙ ap command_by code ∙ command_by_named c (code_of c) (small c) in
     other (named ∙ ap command_name_of same ∙ sym e)

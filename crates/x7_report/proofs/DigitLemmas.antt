@@ -10,7 +10,7 @@ use Rattle.std.proofs.lemmas.List.{drop-drop, length-drop, take-append-drop}
 use Rattle.std.proofs.lemmas.Simd.{Each1-weaker, get_or_narrower}
 use Rattle.x7_words.specs.Word.{AreWords, bytes_of_word}
 use Rattle.x7_text.specs.Digits.{hex_byte, hex_word}
-use Rattle.x7_text.proofs.ValueLemmas.{word-digits}
+use Rattle.x7_text.proofs.ValueLemmas.{word_digits}
 
 -- the places of the bytes of eight words, the highest of each first
 abbrev pub turned : List ℕ
@@ -56,7 +56,7 @@ digits_by_bytes [] are = refl
 digits_by_bytes (w ∷ ws) are =
     flat_map-append hex_byte (bytes_of_word w) (flat_map bytes_of_word ws)
     ∙ ap (λ t. flat_map hex_byte (bytes_of_word w) ++ t) (digits_by_bytes ws are.1)
-    ∙ ap (λ t. t ++ flat_map hex_word ws) (sym (word-digits w are.0))
+    ∙ ap (λ t. t ++ flat_map hex_word ws) (sym (word_digits w are.0))
 
 -- the digits of words that stand in blocks, block by block
 pub digits_by_blocks : (n : ℕ) (ws : List ℕ) → n * 8 ≤ length ws → flat_map hex_word ws ≡ flat_map (λ (block : List ℕ). flat_map hex_word block) (first_chunks 8 n ws) ++ flat_map hex_word (drop (n * 8) ws)

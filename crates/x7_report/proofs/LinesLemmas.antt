@@ -3,7 +3,7 @@ use Rattle.std.proofs.Common.{◌≡◌, ◌++◌, ℕ, List, [], Option, codes,
 use Rattle.std.proofs.lemmas.Grind.{flat_map-append}
 use Rattle.std.proofs.lemmas.List.{take-append-drop}
 use Rattle.x7_words.specs.Sink.{appended, PutsPrefix}
-use Rattle.x7_words.proofs.SinkLemmas.{appended-nil, appended-appended, front_more}
+use Rattle.x7_words.proofs.SinkLemmas.{appended_nil, appended_appended, prefix_more}
 use Rattle.x7_part.specs.AddressOrder.{addresses_in}
 use Rattle.x7_part.specs.Part.{PartData}
 use Rattle.x7_memory.specs.FrameMap.{AreSame, FrameMap}
@@ -22,7 +22,7 @@ pub record Sent (first now : Option (List ℕ)) (memory : FrameMap) (fars rest :
   pub lines : lines_text memory fars ≡ done ++ lines_text memory rest
 
 pub none_sent : (first : Option (List ℕ)) (memory : FrameMap) (fars : List ℕ) → Sent first first memory fars fars
-none_sent first memory fars = record { done = []; put = sym (appended-nil first); lines = refl }
+none_sent first memory fars = record { done = []; put = sym (appended_nil first); lines = refl }
 
 parted : (memory : FrameMap) (k : ℕ) (rest group more : List ℕ) → group ≡ take k rest → more ≡ drop k rest → lines_text memory rest ≡ lines_text memory group ++ lines_text memory more
 parted memory k rest group more e f =
@@ -33,22 +33,22 @@ module _ (first now : Option (List ℕ)) (memory : FrameMap) (fars rest group mo
   pub more_sent : (next : Option (List ℕ)) → next ≡ appended now (lines_text memory group) → Sent first next memory fars more
   more_sent next p = record {
     done = g.done ++ lines_text memory group;
-    put = p ∙ ap (λ t. appended t (lines_text memory group)) g.put ∙ appended-appended first g.done (lines_text memory group);
+    put = p ∙ ap (λ t. appended t (lines_text memory group)) g.put ∙ appended_appended first g.done (lines_text memory group);
     lines = g.lines ∙ ap (λ t. g.done ++ t) (parted memory k rest group more e f) ∙ sym (append_assoc g.done (lines_text memory group) (lines_text memory more));
   }
 
   pub group_failed : (next : Option (List ℕ)) → PutsPrefix now (lines_text memory group) next → PutsPrefix first (lines_text memory fars) next
-  group_failed next p = rw (g.lines, parted memory k rest group more e f) (front_more first now next g.done (lines_text memory group) (lines_text memory more) g.put p)
+  group_failed next p = rw (g.lines, parted memory k rest group more e f) (prefix_more first now next g.done (lines_text memory group) (lines_text memory more) g.put p)
 
 -- a text that was put after a head
-pub behind_head : (first mid new : Option (List ℕ)) (head lines : List ℕ) → mid ≡ appended first head → new ≡ appended mid lines → new ≡ appended first (head ++ lines)
-behind_head first mid new head lines e f = f ∙ ap (λ t. appended t lines) e ∙ appended-appended first head lines
+pub after_head : (first mid new : Option (List ℕ)) (head lines : List ℕ) → mid ≡ appended first head → new ≡ appended mid lines → new ≡ appended first (head ++ lines)
+after_head first mid new head lines e f = f ∙ ap (λ t. appended t lines) e ∙ appended_appended first head lines
 
 pub head_failed : (first new : Option (List ℕ)) (head lines : List ℕ) → PutsPrefix first head new → PutsPrefix first (head ++ lines) new
-head_failed first new head lines p = front_more first first new [] head lines (sym (appended-nil first)) p
+head_failed first new head lines p = prefix_more first first new [] head lines (sym (appended_nil first)) p
 
 pub lines_failed : (first mid new : Option (List ℕ)) (head lines : List ℕ) → mid ≡ appended first head → PutsPrefix mid lines new → PutsPrefix first (head ++ lines) new
-lines_failed first mid new head lines e p = rw (ap (λ t. head ++ t) (sym (append-nil lines))) (front_more first mid new head lines [] e p)
+lines_failed first mid new head lines e p = rw (ap (λ t. head ++ t) (sym (append-nil lines))) (prefix_more first mid new head lines [] e p)
 
 -- ---- the whole report
 
@@ -92,7 +92,7 @@ report_failed first mid new p q frames memory head kept fars places text a b e f
 pub report_whole : (first mid new : Option (List ℕ)) (p q : PartData) (frames memory : List (List ℕ)) (head kept fars places text : List ℕ) → p ≡ q → frames ≡ memory → head ≡ kept → fars ≡ places →
     kept ++ lines_text (frame_at q memory) places ≡ text → mid ≡ appended first head → new ≡ appended mid (lines_text (frame_at p frames) fars) → new ≡ appended first text
 report_whole first mid new p q frames memory head kept fars places text a b e f t put lines =
-    behind_head first mid new head (lines_text (frame_at p frames) fars) put lines ∙ ap (appended first) (joined p q frames memory head kept fars places a b e f ∙ t)
+    after_head first mid new head (lines_text (frame_at p frames) fars) put lines ∙ ap (appended first) (joined p q frames memory head kept fars places a b e f ∙ t)
 
 -- a text that was put whole was put as a prefix
 pub whole_put : (first new : Option (List ℕ)) (text : List ℕ) → new ≡ appended first text → PutsPrefix first text new

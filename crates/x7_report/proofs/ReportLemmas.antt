@@ -17,9 +17,9 @@ use Rattle.x7_report.specs.Reads.{reads_text}
 use Rattle.x7_report.specs.Report.{report_text}
 use Rattle.x7_report.specs.State.{state_text}
 
-blank-append : (xs ys : List ℕ) → are_zeros (xs ++ ys) ≡ (are_zeros xs && are_zeros ys)
-blank-append [] ys = refl
-blank-append (x ∷ xs) ys = by (x == 0) (are_zeros xs) (are_zeros ys) (are_zeros (xs ++ ys)) (blank-append xs ys)
+blank_append : (xs ys : List ℕ) → are_zeros (xs ++ ys) ≡ (are_zeros xs && are_zeros ys)
+blank_append [] ys = refl
+blank_append (x ∷ xs) ys = by (x == 0) (are_zeros xs) (are_zeros ys) (are_zeros (xs ++ ys)) (blank_append xs ys)
   where
     by : (z a b c : Bool) → c ≡ (a && b) → (z && c) ≡ ((z && a) && b)
     by true a b c e = e
@@ -41,11 +41,11 @@ or_blank a w = elim (eq-zero-or-pos a) [
 pub word_taken : (words : List ℕ) (i any : ℕ) → i < length words → (any == 0) ≡ are_zeros (take i words) → (bit_or any (get_or words i 0) == 0) ≡ are_zeros (take (i + 1) words)
 word_taken words i any h e =
     or_blank any (get_or words i 0) ∙ ap (λ (b : Bool). b && (get_or words i 0 == 0 && true)) e
-    ∙ sym (ap are_zeros (take_more words i 0 h) ∙ blank-append (take i words) (get_or words i 0 ∷ []))
+    ∙ sym (ap are_zeros (take_more words i 0 h) ∙ blank_append (take i words) (get_or words i 0 ∷ []))
 
-pub shown-append : (memory : FrameMap) (xs ys : List ℕ) → addresses_shown memory (xs ++ ys) ≡ addresses_shown memory xs ++ addresses_shown memory ys
-shown-append memory [] ys = refl
-shown-append memory (x ∷ xs) ys = by (is_shown (memory x)) (addresses_shown memory xs) (addresses_shown memory (xs ++ ys)) (shown-append memory xs ys)
+pub shown_append : (memory : FrameMap) (xs ys : List ℕ) → addresses_shown memory (xs ++ ys) ≡ addresses_shown memory xs ++ addresses_shown memory ys
+shown_append memory [] ys = refl
+shown_append memory (x ∷ xs) ys = by (is_shown (memory x)) (addresses_shown memory xs) (addresses_shown memory (xs ++ ys)) (shown_append memory xs ys)
   where
     by : (b : Bool) (first all : List ℕ) → all ≡ first ++ addresses_shown memory ys → (if b then x ∷ all else all) ≡ (if b then x ∷ first else first) ++ addresses_shown memory ys
     by true first all e = ap (λ t. x ∷ t) e
@@ -53,7 +53,7 @@ shown-append memory (x ∷ xs) ys = by (is_shown (memory x)) (addresses_shown me
 
 pub shown_more : (memory : FrameMap) (fars : List ℕ) (i : ℕ) (b : Bool) → i < length fars → is_shown (memory (get_or fars i 0)) ≡ b → addresses_shown memory (take (i + 1) fars) ≡ addresses_shown memory (take i fars) ++ (if b then get_or fars i 0 ∷ [] else [])
 shown_more memory fars i b l e =
-    ap (addresses_shown memory) (take_more fars i 0 l) ∙ shown-append memory (take i fars) (get_or fars i 0 ∷ [])
+    ap (addresses_shown memory) (take_more fars i 0 l) ∙ shown_append memory (take i fars) (get_or fars i 0 ∷ [])
     ∙ ap (λ (x : Bool). addresses_shown memory (take i fars) ++ (if x then get_or fars i 0 ∷ [] else [])) e
 
 shown_same : (m n : FrameMap) (fars : List ℕ) → AreSame m n → addresses_shown m fars ≡ addresses_shown n fars

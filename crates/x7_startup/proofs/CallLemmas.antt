@@ -258,17 +258,17 @@ progress_desync calls d = ap (start_of false) (since_push calls (Desync d ∷ []
 pub progress_drop : (calls : List Call) → progress_of (calls ++ DropBack ∷ []) ≡ NotBegun
 progress_drop calls = ap (start_of false) (since_last calls)
 
-pub is_armed-arm : (calls : List Call) → is_armed false (since_taking (calls ++ Arm ∷ [])) ≡ true
-is_armed-arm calls = ap (is_armed false) (since_push calls (Arm ∷ []) refl) ∙ armed_arm false (since_taking calls)
+pub is_armed_arm : (calls : List Call) → is_armed false (since_taking (calls ++ Arm ∷ [])) ≡ true
+is_armed_arm calls = ap (is_armed false) (since_push calls (Arm ∷ []) refl) ∙ armed_arm false (since_taking calls)
 
-pub is_armed-desync : (calls : List Call) (d : ℕ) → is_armed false (since_taking (calls ++ Desync d ∷ [])) ≡ false
-is_armed-desync calls d = ap (is_armed false) (since_push calls (Desync d ∷ []) refl) ∙ armed_desync false (since_taking calls) d
+pub is_armed_desync : (calls : List Call) (d : ℕ) → is_armed false (since_taking (calls ++ Desync d ∷ [])) ≡ false
+is_armed_desync calls d = ap (is_armed false) (since_push calls (Desync d ∷ []) refl) ∙ armed_desync false (since_taking calls) d
 
-pub is_armed-drop : (calls : List Call) → is_armed false (since_taking (calls ++ DropBack ∷ [])) ≡ false
-is_armed-drop calls = ap (is_armed false) (since_last calls)
+pub is_armed_drop : (calls : List Call) → is_armed false (since_taking (calls ++ DropBack ∷ [])) ≡ false
+is_armed_drop calls = ap (is_armed false) (since_last calls)
 
-pub is_armed-bytes : (calls : List Call) (n : ℕ) → is_armed false (since_taking (calls ++ replicate n Byte)) ≡ is_armed false (since_taking calls)
-is_armed-bytes calls n = ap (is_armed false) (since_push calls (replicate n Byte) (no_taking n)) ∙ armed_bytes false (since_taking calls) n
+pub is_armed_bytes : (calls : List Call) (n : ℕ) → is_armed false (since_taking (calls ++ replicate n Byte)) ≡ is_armed false (since_taking calls)
+is_armed_bytes calls n = ap (is_armed false) (since_push calls (replicate n Byte) (no_taking n)) ∙ armed_bytes false (since_taking calls) n
 
 pub progress_bytes : (calls : List Call) (n : ℕ) → progress_of (calls ++ replicate n Byte) ≡ further n (progress_of calls)
 progress_bytes calls n = ap (start_of false) (since_push calls (replicate n Byte) (no_taking n)) ∙ start_bytes false (since_taking calls) n

@@ -133,22 +133,22 @@ reload_watches off first w calls h = record {
 
 -- ---- bytes alike
 
-push-replicate : (calls : List WatchCall) (n : ℕ) (e : Bool) → calls ++ bytes_alike (suc n) e ≡ (calls ++ bytes_alike n e) ++ Watched e ∷ []
-push-replicate [] zero e = refl
-push-replicate [] (suc n) e = ap (λ (l : List WatchCall). Watched e ∷ l) (push-replicate [] n e)
-push-replicate (c ∷ calls) n e = ap (λ (l : List WatchCall). c ∷ l) (push-replicate calls n e)
+push_replicate : (calls : List WatchCall) (n : ℕ) (e : Bool) → calls ++ bytes_alike (suc n) e ≡ (calls ++ bytes_alike n e) ++ Watched e ∷ []
+push_replicate [] zero e = refl
+push_replicate [] (suc n) e = ap (λ (l : List WatchCall). Watched e ∷ l) (push_replicate [] n e)
+push_replicate (c ∷ calls) n e = ap (λ (l : List WatchCall). c ∷ l) (push_replicate calls n e)
 
-append-none : (calls : List WatchCall) → calls ++ [] ≡ calls
-append-none [] = refl
-append-none (c ∷ calls) = ap (λ (l : List WatchCall). c ∷ l) (append-none calls)
+append_none : (calls : List WatchCall) → calls ++ [] ≡ calls
+append_none [] = refl
+append_none (c ∷ calls) = ap (λ (l : List WatchCall). c ∷ l) (append_none calls)
 
 pub timer_alike : (t n : ℕ) (calls : List WatchCall) (e : Bool) → timer_after t (calls ++ bytes_alike n e) ≡ timer_after t calls
-timer_alike t zero calls e = rw (append-none calls) refl
-timer_alike t (suc n) calls e = rw (push-replicate calls n e) (timer_watched t (calls ++ bytes_alike n e) e ∙ timer_alike t n calls e)
+timer_alike t zero calls e = rw (append_none calls) refl
+timer_alike t (suc n) calls e = rw (push_replicate calls n e) (timer_watched t (calls ++ bytes_alike n e) e ∙ timer_alike t n calls e)
 
 pub count_alike : (off : Bool) (t n : ℕ) (calls : List WatchCall) (e : Bool) →
     count_of off t (calls ++ bytes_alike n e) ≡ count_of off t calls + n * tick (is_on off (timer_after t calls) e)
-count_alike off t zero calls e = rw (append-none calls) (omega arith)
+count_alike off t zero calls e = rw (append_none calls) (omega arith)
 count_alike off t (suc n) calls e =
     let b = tick (is_on off (timer_after t calls) e) in
     let ih : count_of off t (calls ++ bytes_alike n e) ≡ count_of off t calls + n * b = count_alike off t n calls e in
@@ -156,7 +156,7 @@ count_alike off t (suc n) calls e =
     let one : count_of off t ((calls ++ bytes_alike n e) ++ Watched e ∷ []) ≡ count_of off t (calls ++ bytes_alike n e) + tick (is_on off (timer_after t (calls ++ bytes_alike n e)) e) =
     count_watched off t (calls ++ bytes_alike n e) e in
     let same : tick (is_on off (timer_after t (calls ++ bytes_alike n e)) e) ≡ b = ap (λ (u : ℕ). tick (is_on off u e)) (timer_alike t n calls e) in
-    ap (count_of off t) (push-replicate calls n e) ∙ omega arith
+    ap (count_of off t) (push_replicate calls n e) ∙ omega arith
 
 pub alike_watches : (off : Bool) (first : ℕ) (w : Watch) (calls : List WatchCall) (e on : Bool) (n count : ℕ) → WatchesFor off first w calls →
     on ≡ (not (w.limit == 0) && not e) → count ≡ min (w.count + n * tick on) (2 ^ 32 - 1) →
@@ -183,7 +183,7 @@ alike_fires off first w calls e on n k o t full =
     let all : count_of off first (calls ++ bytes_alike (suc n) e) ≡ count_of off first calls + suc n * 1 =
     count_alike off first (suc n) calls e ∙ ap (λ x. count_of off first calls + suc n * x) one in
     let push : count_of off first ((calls ++ bytes_alike n e) ++ Watched e ∷ []) ≡ count_of off first (calls ++ bytes_alike (suc n) e) =
-    ap (count_of off first) (sym (push-replicate calls n e)) in
+    ap (count_of off first) (sym (push_replicate calls n e)) in
     let old : w.count ≡ min (count_of off first calls) (2 ^ 32 - 1) = k.count_is in
     let limit : w.limit ≡ timer_value_of timer * 4 = k.limit_is ∙ full_on off timer e now in
     let small : timer_value_of timer < 2 ^ 30 = value_small timer in
@@ -200,7 +200,7 @@ alike_quiet off first w calls e on n k o not' (now', full') =
     let all : count_of off first (calls ++ bytes_alike (suc n) e) ≡ count_of off first calls + suc n * 1 =
     count_alike off first (suc n) calls e ∙ ap (λ x. count_of off first calls + suc n * x) one in
     let push : count_of off first ((calls ++ bytes_alike n e) ++ Watched e ∷ []) ≡ count_of off first (calls ++ bytes_alike (suc n) e) =
-    ap (count_of off first) (sym (push-replicate calls n e)) in
+    ap (count_of off first) (sym (push_replicate calls n e)) in
     let old : w.count ≡ min (count_of off first calls) (2 ^ 32 - 1) = k.count_is in
     let limit : w.limit ≡ timer_value_of timer * 4 = k.limit_is ∙ full_on off timer e now in
     let small : timer_value_of timer < 2 ^ 30 = value_small timer in

@@ -28,43 +28,43 @@ each : (ℕ → Bool) → ℕ → Bool
 each p zero = true
 each p (suc n) = if p n then each p n else false
 
-each-step : (a b : Bool) → (if a then b else false) ≡ true → (a ≡ true) × (b ≡ true)
-each-step true true e = (refl, refl)
-each-step true false e = absurd (cc)
-each-step false b e = absurd (cc)
+each_step : (a b : Bool) → (if a then b else false) ≡ true → (a ≡ true) × (b ≡ true)
+each_step true true e = (refl, refl)
+each_step true false e = absurd (cc)
+each_step false b e = absurd (cc)
 
-each-at : (p : ℕ → Bool) (n k : ℕ) → each p n ≡ true → k < n → p k ≡ true
+each_at : (p : ℕ → Bool) (n k : ℕ) → each p n ≡ true → k < n → p k ≡ true
 unfolding each
-each-at p zero k e h = absurd (omega (arith, h))
-each-at p (suc n) k e h = elim (cases_lt k n) [
-  | inl l ↦ each-at p n k (each-step (p n) (each p n) e).1 l
-  | inr g ↦ (let last : n ≡ k = omega (arith, g, h) in subst (λ (m : ℕ). p m ≡ true) last (each-step (p n) (each p n) e).0)
+each_at p zero k e h = absurd (omega (arith, h))
+each_at p (suc n) k e h = elim (cases_lt k n) [
+  | inl l ↦ each_at p n k (each_step (p n) (each p n) e).1 l
+  | inr g ↦ (let last : n ≡ k = omega (arith, g, h) in subst (λ (m : ℕ). p m ≡ true) last (each_step (p n) (each p n) e).0)
 ]
 
 abbrev pub table : List ℕ
 table = codes "0123456789ABCDEF0123456789ABCDEF0123456789ABCDEF0123456789ABCDEF"
 
-is-digit : ℕ → Bool
-is-digit k = get_or table k 0 == hex_digit (k % 16)
+is_digit : ℕ → Bool
+is_digit k = get_or table k 0 == hex_digit (k % 16)
 
-all-digits : each is-digit 64 ≡ true
-unfolding each is-digit
-all-digits = refl
+all_digits : each is_digit 64 ≡ true
+unfolding each is_digit
+all_digits = refl
 
-table-digit : (k : ℕ) → k < 64 → get_or table k 0 ≡ hex_digit (k % 16)
-unfolding is-digit
-table-digit k h = eqb-true _ _ (each-at is-digit 64 k all-digits h)
+table_digit : (k : ℕ) → k < 64 → get_or table k 0 ≡ hex_digit (k % 16)
+unfolding is_digit
+table_digit k h = eqb-true _ _ (each_at is_digit 64 k all_digits h)
 
-pub look-up-fits : (js : List ℕ) → length js ≡ 64 → Each1 (λ n. n < 16) js → SwzOk w8 16 64 0 js
-look-up-fits js long small = SwzOk-from_below w8 16 4 64 0 js refl (omega (arith, long)) small
+pub look_up_fits : (js : List ℕ) → length js ≡ 64 → Each1 (λ n. n < 16) js → SwzOk w8 16 64 0 js
+look_up_fits js long small = SwzOk-from_below w8 16 4 64 0 js refl (omega (arith, long)) small
 
-pub looked-up : (js : List ℕ) → length js ≡ 64 → Each1 (λ n. n < 16) js → swz_l w8 16 table 0 js ≡ map hex_digit js
-looked-up js long small =
+pub looked_up : (js : List ℕ) → length js ≡ 64 → Each1 (λ n. n < 16) js → swz_l w8 16 table 0 js ≡ map hex_digit js
+looked_up js long small =
     ext_get_or 0 (swz_l w8 16 table 0 js) (map hex_digit js) (length-swz_l w8 16 table 0 js ∙ sym (length-map js hex_digit)) (λ i h.
     let within : i < length js = omega (arith, h, length-swz_l w8 16 table 0 js) in
     let below : get_or js i 0 < 16 = Each1-get_or (λ n. n < 16) js i 0 within small in
     let rest : (16 * ((0 + i) / 16) + get_or js i 0) % 16 ≡ get_or js i 0 = omega (arith, below) in
-    get_or-swz_l_below w8 16 table 0 js i within below ∙ table-digit (16 * ((0 + i) / 16) + get_or js i 0) (omega (arith, within, long, below)) ∙ ap hex_digit rest ∙ sym (get_or-map hex_digit js i 0 0 within))
+    get_or-swz_l_below w8 16 table 0 js i within below ∙ table_digit (16 * ((0 + i) / 16) + get_or js i 0) (omega (arith, within, long, below)) ∙ ap hex_digit rest ∙ sym (get_or-map hex_digit js i 0 0 within))
 
 abbrev pub positions : List ℕ
 positions = 0 ∷ 32 ∷ 1 ∷ 33 ∷ 2 ∷ 34 ∷ 3 ∷ 35 ∷ 4 ∷ 36 ∷ 5 ∷ 37 ∷ 6 ∷ 38 ∷ 7 ∷ 39 ∷ 8 ∷ 40 ∷ 9 ∷ 41 ∷ 10 ∷ 42 ∷ 11 ∷ 43 ∷ 12 ∷ 44 ∷ 13 ∷ 45 ∷ 14 ∷ 46 ∷ 15 ∷ 47 ∷ 16 ∷ 48 ∷ 17 ∷ 49 ∷ 18 ∷ 50 ∷ 19 ∷ 51 ∷ 20 ∷ 52 ∷ 21 ∷ 53 ∷ 22 ∷ 54 ∷ 23 ∷ 55 ∷ 24 ∷ 56 ∷ 25 ∷ 57 ∷ 26 ∷ 58 ∷ 27 ∷ 59 ∷ 28 ∷ 60 ∷ 29 ∷ 61 ∷ 30 ∷ 62 ∷ 31 ∷ 63 ∷ []
@@ -107,24 +107,24 @@ bytes_fit bs h = Each1-from_get_or (λ b. b < 256) bs 0 (λ i l. h i)
 abbrev pub FourWoven : List ℕ → Type 0
 FourWoven bs = pick_l 0 (zip2 (λ a b. a / 2 ^ b) bs (replicate 4 4) ++ zip2 bit_and bs (replicate 4 15)) (0 ∷ 4 ∷ 1 ∷ 5 ∷ 2 ∷ 6 ∷ 3 ∷ 7 ∷ []) ≡ flat_map (λ b. b / 2 ^ 4 ∷ bit_and b 15 ∷ []) bs
 
-four-woven : (bs : List ℕ) → length bs ≡ 4 → FourWoven bs
-four-woven bs e = let h : FourWoven (pick_l 0 bs (range_with_len 0 4)) = refl in subst FourWoven (pick_l_whole 0 bs 4 e) h
+four_woven : (bs : List ℕ) → length bs ≡ 4 → FourWoven bs
+four_woven bs e = let h : FourWoven (pick_l 0 bs (range_with_len 0 4)) = refl in subst FourWoven (pick_l_whole 0 bs 4 e) h
 
 pub four_halves : (bs : List ℕ) → length bs ≡ 4 → pick_l 0 (zip2 (λ a b. a / 2 ^ b) bs (replicate 4 4) ++ zip2 bit_and bs (replicate 4 15)) (0 ∷ 4 ∷ 1 ∷ 5 ∷ 2 ∷ 6 ∷ 3 ∷ 7 ∷ []) ≡ halves bs
-four_halves bs e = four-woven bs e ∙ masked_are bs
+four_halves bs e = four_woven bs e ∙ masked_are bs
 
 -- a `bytes` line, its digits stored over line ends after its word
-pub bytes-line : (bs digits : List ℕ) → digits ≡ flat_map hex_byte bs → length bs ≡ 32
+pub bytes_line : (bs digits : List ℕ) → digits ≡ flat_map hex_byte bs → length bs ≡ 32
     → codes "bytes " ++ (put_chunk 0 (replicate 65 10) digits ++ []) ≡ line (codes "bytes ") hex_byte bs
-bytes-line bs digits e long =
-    let size : length digits ≡ 64 = ap length e ∙ length-hex bs ∙ ap (λ (n : ℕ). 2 * n) long in
+bytes_line bs digits e long =
+    let size : length digits ≡ 64 = ap length e ∙ length_hex bs ∙ ap (λ (n : ℕ). 2 * n) long in
     let behind : drop (length digits) (replicate 65 10) ≡ 10 ∷ [] = ap (λ (n : ℕ). drop n (replicate 65 10)) size in
     ap (λ t. codes "bytes " ++ t) (append-nil (put_chunk 0 (replicate 65 10) digits) ∙ put_chunk_is 0 (replicate 65 10) digits (omega (arith, size)) ∙ ap (λ t. digits ++ t) behind ∙ ap (λ t. t ++ 10 ∷ []) e)
     ∙ sym (append_assoc (codes "bytes ") (flat_map hex_byte bs) (10 ∷ []))
   where
-    length-hex : (xs : List ℕ) → length (flat_map hex_byte xs) ≡ 2 * length xs
-    length-hex [] = refl
-    length-hex (x ∷ xs) = omega (arith, length-hex xs)
+    length_hex : (xs : List ℕ) → length (flat_map hex_byte xs) ≡ 2 * length xs
+    length_hex [] = refl
+    length_hex (x ∷ xs) = omega (arith, length_hex xs)
 
 -- ---- a `data` line by sixteen bytes: its digits, of which five parts are made with the bytes of what stands beside them
 

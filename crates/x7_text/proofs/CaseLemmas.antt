@@ -6,16 +6,16 @@ use Rattle.x7_words.specs.Word.{AreBytes}
 use Rattle.x7_text.specs.Digits.{hex_byte, hex_digit}
 use Rattle.x7_text.specs.EitherCase.{byte_of, digit_of, led, pairs}
 
-pub digit-upper : (n : ℕ) → n < 16 → digit_of (hex_digit n) ≡ Some n
-digit-upper n h = grind (arith, common_steps)
+pub digit_upper : (n : ℕ) → n < 16 → digit_of (hex_digit n) ≡ Some n
+digit_upper n h = grind (arith, common_steps)
 
-pub digit-is : (c n : ℕ) → digit_of c ≡ Some n → (n < 16) × ((c ≡ hex_digit n) ⊎ (c ≡ hex_digit n + 32))
-digit-is c n e = (grind (arith, common_steps), grind (arith, common_steps))
+pub digit_is : (c n : ℕ) → digit_of c ≡ Some n → (n < 16) × ((c ≡ hex_digit n) ⊎ (c ≡ hex_digit n + 32))
+digit_is c n e = (grind (arith, common_steps), grind (arith, common_steps))
 
-pub byte-pair : (b : ℕ) → b < 256 → byte_of (digit_of (hex_digit (b / 2 ^ 4 % 16))) (digit_of (hex_digit (b % 16))) ≡ Some b
-byte-pair b h =
-    ap₂ byte_of (digit-upper (b / 2 ^ 4 % 16) (omega arith)) (digit-upper (b % 16) (omega arith)) ∙ ap Some (let e : 16 * (b / 2 ^ 4 % 16) + b % 16 ≡ b = omega arith in e)
+pub byte_pair : (b : ℕ) → b < 256 → byte_of (digit_of (hex_digit (b / 2 ^ 4 % 16))) (digit_of (hex_digit (b % 16))) ≡ Some b
+byte_pair b h =
+    ap₂ byte_of (digit_upper (b / 2 ^ 4 % 16) (omega arith)) (digit_upper (b % 16) (omega arith)) ∙ ap Some (let e : 16 * (b / 2 ^ 4 % 16) + b % 16 ≡ b = omega arith in e)
 
-pub pairs-back : (bs : List ℕ) → AreBytes bs → pairs (flat_map hex_byte bs) ≡ Some bs
-pairs-back [] h = refl
-pairs-back (b ∷ bs) h = ap₂ led (byte-pair b h.0) (pairs-back bs h.1)
+pub pairs_back : (bs : List ℕ) → AreBytes bs → pairs (flat_map hex_byte bs) ≡ Some bs
+pairs_back [] h = refl
+pairs_back (b ∷ bs) h = ap₂ led (byte_pair b h.0) (pairs_back bs h.1)

@@ -12,31 +12,31 @@ found : {A : Type 0} → Result A FromHexError → Option A
 found (Ok x) = Some x
 found (Err e) = None
 
-digit-same : (c : ℕ) → digit_of c ≡ hex_digit_value c
-digit-same c = grind (arith, nat_tests, common_steps)
+digit_same : (c : ℕ) → digit_of c ≡ hex_digit_value c
+digit_same c = grind (arith, nat_tests, common_steps)
 
-digit-found : (c i : ℕ) → found (value_at c i) ≡ digit_of c
+digit_found : (c i : ℕ) → found (value_at c i) ≡ digit_of c
 unfolding found
-digit-found c i = by (hex_digit_value c) ∙ sym (digit-same c)
+digit_found c i = by (hex_digit_value c) ∙ sym (digit_same c)
   where
     by : (o : Option ℕ) → found (digit_or_error c i o) ≡ o
     by (Some v) = refl
     by None = refl
 
-pair-found : (high low i : ℕ) → found (pair_value high low i) ≡ byte_of (digit_of high) (digit_of low)
+pair_found : (high low i : ℕ) → found (pair_value high low i) ≡ byte_of (digit_of high) (digit_of low)
 unfolding found
-pair-found high low i = by (value_at high i) (value_at low (i + 1)) ∙ ap₂ byte_of (digit-found high i) (digit-found low (i + 1))
+pair_found high low i = by (value_at high i) (value_at low (i + 1)) ∙ ap₂ byte_of (digit_found high i) (digit_found low (i + 1))
   where
     by : (h l : Result ℕ FromHexError) → found (h >>= (λ (x : ℕ). l >>= (λ (y : ℕ). Ok (x * 16 + y)))) ≡ byte_of (found h) (found l)
     by (Err e) l = refl
     by (Ok x) (Err e) = refl
     by (Ok x) (Ok y) = ap Some (let e : x * 16 + y ≡ 16 * x + y = omega arith in e)
 
-pairs-found : (i : ℕ) (ds : List ℕ) → found (decode_pairs i ds) ≡ pairs ds
+pairs_found : (i : ℕ) (ds : List ℕ) → found (decode_pairs i ds) ≡ pairs ds
 unfolding found decode_pairs
-pairs-found i [] = refl
-pairs-found i (a ∷ []) = refl
-pairs-found i (a ∷ b ∷ cs) = by (pair_value a b i) (decode_pairs (i + 2) cs) ∙ ap₂ led (pair-found a b i) (pairs-found (i + 2) cs)
+pairs_found i [] = refl
+pairs_found i (a ∷ []) = refl
+pairs_found i (a ∷ b ∷ cs) = by (pair_value a b i) (decode_pairs (i + 2) cs) ∙ ap₂ led (pair_found a b i) (pairs_found (i + 2) cs)
   where
     by : (p : Result ℕ FromHexError) (more : Result (List ℕ) FromHexError) → found (p >>= (λ (x : ℕ). more >>= (λ (xs : List ℕ). Ok (x ∷ xs)))) ≡ led (found p) (found more)
     by (Err e) more = refl
@@ -63,5 +63,5 @@ decoded ds new n b r long value is = by (decode_sized ds n) refl value
     no e p = rw e p
 
     by : (d : Result (List ℕ) FromHexError) → decode_sized ds n ≡ d → MatchResult d (λ bytes. (r ≡ Ok tt) × (new ≡ bytes)) (λ e. r ≡ Err e) → MatchBool b (pairs ds ≡ Some new) (pairs ds ≡ None)
-    by (Ok bytes) e v = yes (is ∙ ap is_ok v.0) (sym (pairs-found 0 ds) ∙ ap found (sym at ∙ e) ∙ ap Some (sym v.1))
-    by (Err f) e v = no (is ∙ ap is_ok v) (sym (pairs-found 0 ds) ∙ ap found (sym at ∙ e))
+    by (Ok bytes) e v = yes (is ∙ ap is_ok v.0) (sym (pairs_found 0 ds) ∙ ap found (sym at ∙ e) ∙ ap Some (sym v.1))
+    by (Err f) e v = no (is ∙ ap is_ok v) (sym (pairs_found 0 ds) ∙ ap found (sym at ∙ e))

@@ -4,14 +4,14 @@ pub mod ByteLemmas
 pub mod CaseLemmas
 pub mod DecodeLemmas
 pub mod DigitLemmas
-pub mod FrontLemmas
+pub mod PrefixLemmas
 pub mod LineLemmas
 pub mod LineReadingLemmas
 pub mod PieceLemmas
 pub mod ReadRowLemmas
 pub mod RowLemmas
 pub mod SplitLemmas
-pub mod ToldLemmas
+pub mod OpenLineLemmas
 pub mod ValueLemmas
 pub mod WholeLineLemmas
 pub mod WordLemmas

@@ -6,26 +6,26 @@ use Rattle.std.proofs.lemmas.List.{take-append-le, take-take}
 use Rattle.std.specs.List.{flat_map}
 use Rattle.std.specs.Simd.{first_chunks}
 use Rattle.x7_words.specs.Word.{words_of_bytes}
-use Rattle.x7_words.proofs.WordLemmas.{length-words, words_of_bytes-append, words_taken}
+use Rattle.x7_words.proofs.WordLemmas.{length_words, words_of_bytes_append, words_taken}
 use Rattle.x7_text.specs.Digits.{hex_byte}
 use Rattle.x7_text.specs.Row.{bytes_text, close, in_line_after, line, open_text, spaced}
-use Rattle.x7_text.proofs.FewLemmas.{few_count, few_text, hex_front}
-use Rattle.x7_text.proofs.LineLemmas.{bytes_closed, in_line_after-row, in_line_after-whole, open_text-row, open_text-whole}
-use Rattle.x7_text.proofs.ReadRowLemmas.{take-spaced}
-use Rattle.x7_text.proofs.WholeLineLemmas.{length-hex_bytes}
+use Rattle.x7_text.proofs.FewLemmas.{few_count, few_text, hex_prefix}
+use Rattle.x7_text.proofs.LineLemmas.{bytes_closed, in_line_after_row, in_line_after_whole, open_text_row, open_text_whole}
+use Rattle.x7_text.proofs.ReadRowLemmas.{take_spaced}
+use Rattle.x7_text.proofs.WholeLineLemmas.{length_hex_bytes}
 
 -- how many words the first bytes are
 first_count : (bytes : List ℕ) (count : ℕ) → 4 * count ≤ length bytes → length (words_of_bytes (take (4 * count) bytes)) ≡ count
-first_count bytes count h = length-words (take (4 * count) bytes) count (length-take-le (4 * count) bytes h)
+first_count bytes count h = length_words (take (4 * count) bytes) count (length-take-le (4 * count) bytes h)
 
 all_words : (bytes : List ℕ) (count : ℕ) → length bytes ≡ 32 → count ≡ 8 → words_of_bytes (take (4 * count) bytes) ≡ words_of_bytes bytes
 all_words bytes count long e = ap words_of_bytes (take_all (4 * count) bytes (omega (arith, long, e)))
 
 pub whole_words : (bytes : List ℕ) (count : ℕ) → length bytes ≡ 32 → count ≡ 8 → line (codes "data") spaced (words_of_bytes bytes) ≡ open_text 8 (codes "data") spaced 0 (words_of_bytes (take (4 * count) bytes))
-whole_words bytes count long e = sym (open_text-whole 8 (codes "data") spaced (words_of_bytes bytes) (length-words bytes 8 (omega (arith, long))) (omega arith)) ∙ ap (open_text 8 (codes "data") spaced 0) (sym (all_words bytes count long e))
+whole_words bytes count long e = sym (open_text_whole 8 (codes "data") spaced (words_of_bytes bytes) (length_words bytes 8 (omega (arith, long))) (omega arith)) ∙ ap (open_text 8 (codes "data") spaced 0) (sym (all_words bytes count long e))
 
 pub whole_count : (bytes : List ℕ) (count : ℕ) → length bytes ≡ 32 → count ≡ 8 → 0 ≡ in_line_after 8 0 (words_of_bytes (take (4 * count) bytes))
-whole_count bytes count long e = sym (ap (in_line_after 8 0) (all_words bytes count long e) ∙ in_line_after-whole 8 (words_of_bytes bytes) (length-words bytes 8 (omega (arith, long))) (omega arith))
+whole_count bytes count long e = sym (ap (in_line_after 8 0) (all_words bytes count long e) ∙ in_line_after_whole 8 (words_of_bytes bytes) (length_words bytes 8 (omega (arith, long))) (omega arith))
 
 pub first_words_count : (bytes : List ℕ) (count : ℕ) → length bytes ≡ 32 → count < 8 → count ≡ in_line_after 8 0 (words_of_bytes (take (4 * count) bytes))
 first_words_count bytes count long few =
@@ -34,22 +34,22 @@ first_words_count bytes count long few =
     omega (arith, told, n)
 
 -- a prefix of what was appended
-kept_front : (old all told new : List ℕ) (n k : ℕ) → n ≡ length old + k → all ≡ old ++ told → new ≡ take n all → new ≡ old ++ take k told
-kept_front old all told new n k e f g = g ∙ ap (λ (m : ℕ). take m all) e ∙ ap (take (length old + k)) f ∙ take-append-add old told k
+kept_prefix : (old all told new : List ℕ) (n k : ℕ) → n ≡ length old + k → all ≡ old ++ told → new ≡ take n all → new ≡ old ++ take k told
+kept_prefix old all told new n k e f g = g ∙ ap (λ (m : ℕ). take m all) e ∙ ap (take (length old + k)) f ∙ take-append-add old told k
 
 pub first_words : (old all told new bytes : List ℕ) (n count : ℕ) → 0 < count → count < 8 → length bytes ≡ 32 → told ≡ line (codes "data") spaced (words_of_bytes bytes) → n ≡ length old + (4 + 9 * count) → all ≡ old ++ told → new ≡ take n all
     → new ≡ old ++ open_text 8 (codes "data") spaced 0 (words_of_bytes (take (4 * count) bytes))
 first_words old all told new bytes n count some few long is e f g =
     let ws : List ℕ = words_of_bytes bytes in
     let prefix : List ℕ = words_of_bytes (take (4 * count) bytes) in
-    let eight : length (words_of_bytes bytes) ≡ 8 = length-words bytes 8 (omega (arith, long)) in
+    let eight : length (words_of_bytes bytes) ≡ 8 = length_words bytes 8 (omega (arith, long)) in
     let number : length (words_of_bytes (take (4 * count) bytes)) ≡ count = first_count bytes count (omega (arith, long, few)) in
     let four : 4 + 9 * count ≡ suc (suc (suc (suc (9 * count)))) = omega arith in
     let digits : take (9 * count) (flat_map spaced (words_of_bytes bytes) ++ 10 ∷ []) ≡ flat_map spaced (words_of_bytes (take (4 * count) bytes)) =
-    take-spaced count (words_of_bytes bytes) (10 ∷ []) (omega (arith, eight, few)) ∙ ap (flat_map spaced) (sym (words_taken count bytes (omega (arith, long, few)))) in
+    take_spaced count (words_of_bytes bytes) (10 ∷ []) (omega (arith, eight, few)) ∙ ap (flat_map spaced) (sym (words_taken count bytes (omega (arith, long, few)))) in
     let shown : take (4 + 9 * count) told ≡ codes "data" ++ flat_map spaced (words_of_bytes (take (4 * count) bytes)) =
     ap (take (4 + 9 * count)) is ∙ ap (λ (m : ℕ). take m (line (codes "data") spaced (words_of_bytes bytes))) four ∙ ap (λ t. codes "data" ++ t) digits in
-    kept_front old all told new n (4 + 9 * count) e f g ∙ ap (λ t. old ++ t) (shown ∙ sym (few_text 8 (codes "data") spaced 0 (words_of_bytes (take (4 * count) bytes)) (omega (arith, number, some)) (omega (arith, number, few))))
+    kept_prefix old all told new n (4 + 9 * count) e f g ∙ ap (λ t. old ++ t) (shown ∙ sym (few_text 8 (codes "data") spaced 0 (words_of_bytes (take (4 * count) bytes)) (omega (arith, number, some)) (omega (arith, number, few))))
 
 -- the first rows of a block
 row_zero : (n : ℕ) (bytes : List ℕ) → 0 < n → get_or (first_chunks 32 n bytes) 0 [] ≡ take 32 bytes
@@ -79,15 +79,15 @@ in_two_rows bytes first second count long more few e f =
     let whole : length first ≡ 4 * 8 = ap length e ∙ length-take-le 32 bytes (omega (arith, long)) in
     ap (λ (m : ℕ). words_of_bytes (take m bytes)) split ∙ ap words_of_bytes (take-add 32 (4 * (count - 8)) bytes)
     ∙ ap (λ t. words_of_bytes (t ++ take (4 * (count - 8)) (drop 32 bytes))) (sym e) ∙ ap (λ t. words_of_bytes (first ++ t)) (sym same)
-    ∙ words_of_bytes-append 8 first (take (4 * (count - 8)) second) whole
+    ∙ words_of_bytes_append 8 first (take (4 * (count - 8)) second) whole
 
 row_of_eight : (bytes first : List ℕ) → length bytes ≡ 64 → first ≡ take 32 bytes → length (words_of_bytes first) ≡ 8
-row_of_eight bytes first long e = length-words first 8 (ap length e ∙ length-take-le 32 bytes (omega (arith, long)) ∙ omega arith)
+row_of_eight bytes first long e = length_words first 8 (ap length e ∙ length-take-le 32 bytes (omega (arith, long)) ∙ omega arith)
 
 pub two_rows_count : (bytes first second : List ℕ) (count last : ℕ) → length bytes ≡ 64 → 8 < count → count ≤ 16 → first ≡ take 32 bytes → second ≡ take 32 (drop 32 bytes)
     → last ≡ in_line_after 8 0 (words_of_bytes (take (4 * (count - 8)) second)) → last ≡ in_line_after 8 0 (words_of_bytes (take (4 * count) bytes))
 two_rows_count bytes first second count last long more few e f g =
-    g ∙ sym (ap (in_line_after 8 0) (in_two_rows bytes first second count long more few e f) ∙ in_line_after-row 8 (words_of_bytes first) (words_of_bytes (take (4 * (count - 8)) second)) (row_of_eight bytes first long e) (omega arith))
+    g ∙ sym (ap (in_line_after 8 0) (in_two_rows bytes first second count long more few e f) ∙ in_line_after_row 8 (words_of_bytes first) (words_of_bytes (take (4 * (count - 8)) second)) (row_of_eight bytes first long e) (omega arith))
 
 pub two_rows : (bytes first second old middle new told : List ℕ) (count : ℕ) → length bytes ≡ 64 → 8 < count → count ≤ 16 → first ≡ take 32 bytes → second ≡ take 32 (drop 32 bytes)
     → told ≡ line (codes "data") spaced (words_of_bytes first) → middle ≡ old ++ told → new ≡ middle ++ open_text 8 (codes "data") spaced 0 (words_of_bytes (take (4 * (count - 8)) second))
@@ -96,7 +96,7 @@ two_rows bytes first second old middle new told count long more few e f t a b =
     b ∙ ap (λ x. x ++ open_text 8 (codes "data") spaced 0 (words_of_bytes (take (4 * (count - 8)) second))) (a ∙ ap (λ x. old ++ x) t)
     ∙ append_assoc old (line (codes "data") spaced (words_of_bytes first)) (open_text 8 (codes "data") spaced 0 (words_of_bytes (take (4 * (count - 8)) second)))
     ∙ ap (λ x. old ++ x) (sym (ap (open_text 8 (codes "data") spaced 0) (in_two_rows bytes first second count long more few e f)
-    ∙ open_text-row 8 (codes "data") spaced (words_of_bytes first) (words_of_bytes (take (4 * (count - 8)) second)) (row_of_eight bytes first long e) (omega arith)))
+    ∙ open_text_row 8 (codes "data") spaced (words_of_bytes first) (words_of_bytes (take (4 * (count - 8)) second)) (row_of_eight bytes first long e) (omega arith)))
 
 closes : (k : ℕ) → 0 < k → close k ≡ 10 ∷ []
 closes k h = let e : (k == 0) ≡ false = grind (arith, nat_tests) in rw e refl
@@ -106,7 +106,7 @@ pub first_bytes : (old begun all told cut new bytes : List ℕ) (n count : ℕ) 
 first_bytes old begun all told cut new bytes n count some few long is b e f g h =
     let prefix : List ℕ = take count bytes in
     let number : length (take count bytes) ≡ count = length-take-le count bytes (omega (arith, long, few)) in
-    let shown : cut ≡ begun ++ flat_map hex_byte (take count bytes) = kept_front begun all told cut n (2 * count) (omega (arith, e, ap length b, length-append old (codes "bytes "))) f g ∙ ap (λ t. begun ++ take (2 * count) t) is ∙ ap (λ t. begun ++ t) (hex_front count bytes (omega (arith, long, few))) in
+    let shown : cut ≡ begun ++ flat_map hex_byte (take count bytes) = kept_prefix begun all told cut n (2 * count) (omega (arith, e, ap length b, length-append old (codes "bytes "))) f g ∙ ap (λ t. begun ++ take (2 * count) t) is ∙ ap (λ t. begun ++ t) (hex_prefix count bytes (omega (arith, long, few))) in
     let told_so : in_line_after 32 0 (take count bytes) ≡ 0 + length (take count bytes) = few_count 32 0 (take count bytes) (omega (arith, number, few)) in
     let ends : close (in_line_after 32 0 (take count bytes)) ≡ 10 ∷ [] = closes (in_line_after 32 0 (take count bytes)) (omega (arith, told_so, number, some)) in
     let text : bytes_text (take count bytes) ≡ (codes "bytes " ++ flat_map hex_byte (take count bytes)) ++ 10 ∷ [] =
@@ -123,6 +123,6 @@ first_of_line old all cut new bytes n count some few long e at f g =
     let begun : List ℕ = old ++ codes "bytes " in
     let whole : all ≡ ((old ++ codes "bytes ") ++ flat_map hex_byte bytes) ++ 10 ∷ [] =
     e ∙ sym (append_assoc old (codes "bytes " ++ hex) (10 ∷ [])) ∙ ap (λ t. t ++ 10 ∷ []) (sym (append_assoc old (codes "bytes ") hex)) in
-    let within : n ≤ length ((old ++ codes "bytes ") ++ flat_map hex_byte bytes) = omega (arith, at, few, long, length-append (old ++ codes "bytes ") hex, length-append old (codes "bytes "), length-hex_bytes bytes) in
+    let within : n ≤ length ((old ++ codes "bytes ") ++ flat_map hex_byte bytes) = omega (arith, at, few, long, length-append (old ++ codes "bytes ") hex, length-append old (codes "bytes "), length_hex_bytes bytes) in
     first_bytes old (old ++ codes "bytes ") ((old ++ codes "bytes ") ++ flat_map hex_byte bytes) (flat_map hex_byte bytes) cut new bytes n count some few long refl refl at refl
     (f ∙ ap (take n) whole ∙ take-append-le n ((old ++ codes "bytes ") ++ flat_map hex_byte bytes) (10 ∷ []) within) g

@@ -3,7 +3,7 @@ use Rattle.std.proofs.Common.{◌≡◌, ℕ, ◌+◌, ◌<◌, ◌≤◌, ◌�
 use Rattle.x7_words.specs.Input.{Asks, InputsState, preceded, Selects}
 use Rattle.x7_words.specs.Word.{AreBytes}
 use Rattle.x7_words.specs.Sink.{SinkState, appended, PutsPrefix}
-use Rattle.x7_words.proofs.SinkLemmas.{appended-appended, appended-nil}
+use Rattle.x7_words.proofs.SinkLemmas.{appended_appended, appended_nil}
 use Rattle.x7_listing.specs.Telling.{ListerState}
 use Rattle.x7_listing.proofs.BoundLemmas.{few_held, listing_held}
 use Rattle.x7_listing.specs.Listing.{listing_of}
@@ -71,13 +71,13 @@ abbrev pub Longer : Option (List ℕ) → Option (List ℕ) → Type 0
 Longer old new = (more : List ℕ) × (new ≡ appended old more)
 
 pub same_now : (old : SinkState) → IsLonger old old
-same_now old = ([], sym (appended-nil old.written))
+same_now old = ([], sym (appended_nil old.written))
 
-pub longer_front : (old new : Option (List ℕ)) (text : List ℕ) → PutsPrefix old text new → Longer old new
-longer_front old new text p = (p.0, p.1.2)
+pub longer_prefix : (old new : Option (List ℕ)) (text : List ℕ) → PutsPrefix old text new → Longer old new
+longer_prefix old new text p = (p.0, p.1.2)
 
 pub longer_twice : (old mid new : Option (List ℕ)) → Longer old mid → Longer mid new → Longer old new
-longer_twice old mid new a b = (a.0 ++ b.0, b.1 ∙ ap (λ (k : Option (List ℕ)). appended k b.0) a.1 ∙ appended-appended old a.0 b.0)
+longer_twice old mid new a b = (a.0 ++ b.0, b.1 ∙ ap (λ (k : Option (List ℕ)). appended k b.0) a.1 ∙ appended_appended old a.0 b.0)
 
 -- why a turn was not written
 pub why_weaker : {A B C D : Type 0} → (A × B) ⊎ (C × D) → A ⊎ (C × D)
@@ -125,8 +125,8 @@ near_by contents stream early late rest old new s few h inputs bytes left before
       near = omega (arith, ap length whole, ap length tail, length-append (early ++ late) t.0, w.1);
     }
 
-pub front_near : (contents : Option (List ℕ → Option (List ℕ))) (stream taken : List ℕ) (rest old new : Option (List ℕ)) → Selects contents stream (preceded taken rest) → length taken ≤ longest_beginning → Longer old new → NearBy contents stream rest old new
-front_near contents stream taken rest old new s few l =
+pub prefix_near : (contents : Option (List ℕ → Option (List ℕ))) (stream taken : List ℕ) (rest old new : Option (List ℕ)) → Selects contents stream (preceded taken rest) → length taken ≤ longest_beginning → Longer old new → NearBy contents stream rest old new
+prefix_near contents stream taken rest old new s few l =
     near_by contents stream [] taken rest old new s (omega (arith, few))
     (λ before after o n.
     let w = nothing_written old new l before after o n in
@@ -147,8 +147,8 @@ turn_near contents stream taken piece line sent l rest old mid new s close few e
 
 -- ---- what was given
 
-pub front_given : (contents : Option (List ℕ → Option (List ℕ))) (stream : List ℕ) (given : ℕ) (old new : Option (List ℕ)) → given ≤ longest_beginning → Longer old new → GivenBy contents stream given old new
-front_given contents stream given old new few l inputs bytes before after c b o n =
+pub prefix_given : (contents : Option (List ℕ → Option (List ℕ))) (stream : List ℕ) (given : ℕ) (old new : Option (List ℕ)) → given ≤ longest_beginning → Longer old new → GivenBy contents stream given old new
+prefix_given contents stream given old new few l inputs bytes before after c b o n =
     let none : length {A = ℕ} [] ≡ 0 = refl in
     record { early = []; others = bytes; split = refl; few = omega (arith, none, few); written = nothing_written old new l before after o n }
 
@@ -177,8 +177,8 @@ bad_soon contents stream name m n event s b inputs bytes left place c i r l =
 -- ---- what a fault finds
 
 -- where the header was not judged yet, no wrong letter was given
-pub front_unjudged : (contents : Option (List ℕ → Option (List ℕ))) (stream name : List ℕ) (m n : InputsState) → Selects contents stream m.rest → Asks name m → NoLetterGiven m n → UnjudgedBy contents stream n.given
-front_unjudged contents stream name m n s a g inputs bytes place c i fits e l =
+pub prefix_unjudged : (contents : Option (List ℕ → Option (List ℕ))) (stream name : List ℕ) (m n : InputsState) → Selects contents stream m.rest → Asks name m → NoLetterGiven m n → UnjudgedBy contents stream n.given
+prefix_unjudged contents stream name m n s a g inputs bytes place c i fits e l =
     let t = known_all inputs stream [] m.rest (nothing_taken (Some inputs) stream m.rest (subst (λ (k : Option (List ℕ → Option (List ℕ))). Selects k stream m.rest) c s)) in
     let whole : bytes ≡ t.0 = let f = t.1.1 in cc in
     let rest : m.rest ≡ Some bytes = t.1.0 ∙ ap Some (sym whole) in
@@ -202,13 +202,13 @@ module _ (contents : Option (List ℕ → Option (List ℕ))) (stream : List ℕ
 
   pub unopened_near : (s n : InputsState) (name : List ℕ) (event : Event) → Asks name n → Longer old new → Unopened s name n event → StaysBy (status_of event) contents stream n.given rest old new
   unopened_near s n name event a l (inl h, none) = as_event n.given event (missing name) h.0 tt
-  unopened_near s n name event a l (inr h, none) = as_event n.given event (read_fault name) h.0 (λ inputs bytes place c i fits e f. omega (arith, a.given), front_given contents stream n.given old new (omega (arith, a.given)) l)
+  unopened_near s n name event a l (inr h, none) = as_event n.given event (read_fault name) h.0 (λ inputs bytes place c i fits e f. omega (arith, a.given), prefix_given contents stream n.given old new (omega (arith, a.given)) l)
 
   pub unfronted_near : (m n : InputsState) (name : List ℕ) (event : Event) → n.rest ≡ rest → Selects contents stream m.rest → Asks name m → n.given ≤ m.given + longest_beginning → Longer old new → UnreadBeginning m name n event
       → StaysBy (status_of event) contents stream n.given rest old new
-  unfronted_near m n name event e s a few l (inl h) = as_event n.given event no_memory h (front_given contents stream n.given old new (omega (arith, a.given, few)) l)
+  unfronted_near m n name event e s a few l (inl h) = as_event n.given event no_memory h (prefix_given contents stream n.given old new (omega (arith, a.given, few)) l)
   unfronted_near m n name event e s a few l (inr (inl h)) =
-      as_event n.given event (read_fault name) h.0 (front_unjudged contents stream name m n s a h.3, front_given contents stream n.given old new (omega (arith, a.given, few)) l)
+      as_event n.given event (read_fault name) h.0 (prefix_unjudged contents stream name m n s a h.3, prefix_given contents stream n.given old new (omega (arith, a.given, few)) l)
   unfronted_near m n name event e s a few l (inr (inr h)) =
       as_event n.given event (bad_input name (input.Byte h.place)) h.is (subst (λ (r : Option (List ℕ)). SoonBy contents stream r) e (bad_soon contents stream name m n event s h))
 

@@ -9,7 +9,7 @@ use Rattle.x7_words.specs.Input.{InputsState, Asks, AtEnd, Misses, Selects, Stay
 use Rattle.x7_words.specs.Input.{Lacks as MapLacks}
 use Rattle.x7_words.specs.Sink.{SinkFails, SinkState, appended, PutsPrefix}
 use Rattle.x7_words.specs.Word.{AreBytes}
-use Rattle.x7_words.proofs.SinkLemmas.{appended-nil}
+use Rattle.x7_words.proofs.SinkLemmas.{appended_nil}
 use Rattle.x7_header.specs.Header.{fixed_bytes}
 use Rattle.x7_header.proofs.HeaderLemmas.{raw_at}
 use Rattle.x7_listing.specs.Listing.{listing_of}
@@ -130,12 +130,12 @@ pub faulted : (old new : InputsState) (flash : Option (List ℕ)) (stream : List
     → IsCaused {A = Answer} (with_inputs old.contents flash) (CameIn (step_over (stream ∷ []) old new)) (λ known. listed known stream) (Err (read_fault stream))
 faulted old new flash stream f g = inl (fault_from Answer (with_inputs old.contents flash) old new stream (λ t r. listed t stream ≡ r) f (broken_due old.contents flash stream new.given g))
 
-front_none : (contents : Option (List ℕ → Option (List ℕ))) (flash : Option (List ℕ)) (name : List ℕ) → IsPrefixOf (with_inputs contents flash) name []
-front_none None flash name = tt
-front_none (Some inputs) flash name = (bytes_found (found (inputs name)), refl)
+prefix_none : (contents : Option (List ℕ → Option (List ℕ))) (flash : Option (List ℕ)) (name : List ℕ) → IsPrefixOf (with_inputs contents flash) name []
+prefix_none None flash name = tt
+prefix_none (Some inputs) flash name = (bytes_found (found (inputs name)), refl)
 
 none_put : (old : Option (List ℕ)) (text : List ℕ) → PutsPrefix old text old
-none_put old text = ([], (text, refl, sym (appended-nil old)))
+none_put old text = ([], (text, refl, sym (appended_nil old)))
 
 pub nothing_listed : stream_listing [] ≡ Ok (listing_of [])
 nothing_listed = raw_listed [] ((raw_at [] (starts_with nat_eq [] fixed_bytes) refl).1 (λ rest. λ e. absurd cc))
@@ -145,10 +145,10 @@ pub nothing_put : (old : Option (List ℕ)) → ListsSoFar [] old old
 nothing_put old = record { has = (listing_of [], nothing_listed); goes = λ rest text fits e. none_put old text }
 
 -- the bytes that were taken are a front of the input
-front_taken : (contents : Option (List ℕ → Option (List ℕ))) (flash : Option (List ℕ)) (name taken : List ℕ) (rest : Option (List ℕ)) → Selects contents name (preceded taken rest) → IsPrefixOf (with_inputs contents flash) name taken
-front_taken None flash name taken rest s = tt
-front_taken (Some inputs) flash name taken None s = let h = s.2 in absurd (cc)
-front_taken (Some inputs) flash name taken (Some rest) s =
+prefix_taken : (contents : Option (List ℕ → Option (List ℕ))) (flash : Option (List ℕ)) (name taken : List ℕ) (rest : Option (List ℕ)) → Selects contents name (preceded taken rest) → IsPrefixOf (with_inputs contents flash) name taken
+prefix_taken None flash name taken rest s = tt
+prefix_taken (Some inputs) flash name taken None s = let h = s.2 in absurd (cc)
+prefix_taken (Some inputs) flash name taken (Some rest) s =
     let h = s.2 in
     let same : taken ++ rest ≡ s.0 = cc in
     (rest, ap (λ (t : Option (List ℕ)). bytes_found (found t)) s.1 ∙ sym same)
@@ -156,12 +156,12 @@ front_taken (Some inputs) flash name taken (Some rest) s =
 -- a stream whose reading failed after these bytes
 pub broken : (contents : Option (List ℕ → Option (List ℕ))) (flash : Option (List ℕ)) (C : Mishap → Type 0) (stream taken : List ℕ) (rest : Option (List ℕ)) (Full : Type 0) (old now : Option (List ℕ))
     → Selects contents stream (preceded taken rest) → IsCaused {A = Answer} (with_inputs contents flash) C (λ known. listed known stream) (Err (read_fault stream)) → ListsSoFar taken old now → Ended (with_inputs contents flash) C stream Full old now (Err (read_fault stream))
-broken contents flash C stream taken rest Full old now s c p = (c, (taken, (front_taken contents flash stream taken rest s, p)))
+broken contents flash C stream taken rest Full old now s c p = (c, (taken, (prefix_taken contents flash stream taken rest s, p)))
 
 -- memory that ended after these bytes
 pub out_of_memory : (contents : Option (List ℕ → Option (List ℕ))) (flash : Option (List ℕ)) (C : Mishap → Type 0) (stream taken : List ℕ) (rest : Option (List ℕ)) (Full : Type 0) (old now : Option (List ℕ))
     → Selects contents stream (preceded taken rest) → ListsSoFar taken old now → Ended (with_inputs contents flash) C stream Full old now (Err no_memory)
-out_of_memory contents flash C stream taken rest Full old now s p = (inl (inl refl), (taken, (front_taken contents flash stream taken rest s, p)))
+out_of_memory contents flash C stream taken rest Full old now s p = (inl (inl refl), (taken, (prefix_taken contents flash stream taken rest s, p)))
 
 -- what may follow the bytes that were taken
 pub may_follow : (last : Bool) (rest : Option (List ℕ)) (left : List ℕ) → rest ≡ Some left → (last ≡ true → AtEnd rest) → FollowsUnlessLast last left
@@ -196,7 +196,7 @@ oversized (Some inputs) flash C stream taken listed_front rest more Full old now
     let all = known_all inputs stream taken rest s in
     let text = h all.0 in
     let long : nat_lt stream_limit (length (taken ++ all.0)) ≡ true = grind (arith, length-append taken all.0, l, nat_tests) in
-    (inr (tt, listed_is inputs flash stream (taken ++ all.0) all.1.1 ∙ due_over stream (taken ++ all.0) text.0 true text.1 long), (listed_front, (front_taken (Some inputs) flash stream listed_front more t, p)))
+    (inr (tt, listed_is inputs flash stream (taken ++ all.0) all.1.1 ∙ due_over stream (taken ++ all.0) text.0 true text.1 long), (listed_front, (prefix_taken (Some inputs) flash stream listed_front more t, p)))
 
 -- a stream whose header is refused
 pub refused : (contents : Option (List ℕ → Option (List ℕ))) (flash : Option (List ℕ)) (C : Mishap → Type 0) (stream taken : List ℕ) (rest : Option (List ℕ)) (last : Bool) (place : ℕ) (Full : Type 0) (old : Option (List ℕ))
@@ -229,7 +229,7 @@ unopened s n flash stream Full old event (inl h, none) a =
     ends_same (with_inputs s.contents flash) (CameIn (step_over (stream ∷ []) s n)) stream Full old old event (missing stream) h.0 (absent s n flash stream a none h.1, refl)
 unopened s n flash stream Full old event (inr h, none) a =
     ends_same (with_inputs s.contents flash) (CameIn (step_over (stream ∷ []) s n)) stream Full old old event (read_fault stream) h.0
-    (faulted s n flash stream (record { among = inl refl; over = record { asked = a.asked; selected = none }; risen = h.1 }) (omega (arith, a.given)), ([], (front_none s.contents flash stream, nothing_put old)))
+    (faulted s n flash stream (record { among = inl refl; over = record { asked = a.asked; selected = none }; risen = h.1 }) (omega (arith, a.given)), ([], (prefix_none s.contents flash stream, nothing_put old)))
 
 -- an error by two of its clauses
 pub both_err : {A B : Type 0} (r : Result A B) (P Q R : B → Type 0) → ((e : B) → P e → Q e → R e) → IfErr r P → IfErr r Q → IfErr r R

@@ -4,7 +4,7 @@ use Rattle.std.specs.Prelude.{IsTrue}
 use Rattle.x7_words.specs.Count.{HasRisen}
 use Rattle.x7_words.specs.Flash.{AsksFor, FlashFails, FlashState, FlashStays, OnlyReads, Unattached, Unwritten}
 use Rattle.x7_words.specs.Input.{InputsState}
-use Rattle.x7_update.proofs.ToldLemmas.{moments_none, only_read}
+use Rattle.x7_update.proofs.OpenLineLemmas.{moments_none, only_read}
 use Rattle.x7_words.specs.declared.input.SelectFault.{SelectFault}
 use Rattle.x7_words.specs.declared.input.SelectFault.TheVariants.{Missing, Failed}
 use Rattle.x7_part.specs.Part.{PartData}
@@ -67,9 +67,9 @@ booted_due (Some t) flash C name part_name part end same o read h =
     inr (o.1, subst (λ (r : Result PartData Event). BootedAs name r (t.flash name) end) (sym read.1) (subst (λ (f : Option Found). FlashBoots name part f end) (sym (same t refl)) h))
 
 -- what is known of the flash
-pub told_flash : (contents : Option (List ℕ → Option (List ℕ))) (flash : Option (List ℕ)) (name : List ℕ) (t : Known) → with_inputs contents flash ≡ Some t → t.flash name ≡ flash_found flash
-told_flash None flash name t e = absurd (cc)
-told_flash (Some inputs) flash name t e = let same : known_of inputs flash ≡ t = cc in ap (λ (k : Known). k.flash name) (sym same)
+pub known_flash : (contents : Option (List ℕ → Option (List ℕ))) (flash : Option (List ℕ)) (name : List ℕ) (t : Known) → with_inputs contents flash ≡ Some t → t.flash name ≡ flash_found flash
+known_flash None flash name t e = absurd (cc)
+known_flash (Some inputs) flash name t e = let same : known_of inputs flash ≡ t = cc in ap (λ (k : Known). k.flash name) (sym same)
 
 read_due : {A : Type 0} (known : Option Known) (C : Mishap → Type 0) (due : Known → Result A Event) (a : A) → IsCaused known C due (Ok a) → IsDue {A = A} known (λ t r. due t ≡ r) (Ok a)
 read_due known C due a (inl h) = absurd h
@@ -83,7 +83,7 @@ both name part flash (Err event) h = large_is name (λ e. IsPossible {A = Answer
 pub booted_ends : (old new : Outside) (name part_name : List ℕ) (part : PartData) (C : Mishap → Type 0) (end : Result Answer Event) → IsCaused (known_in old) C (λ known. part_of known part_name) (Ok part)
     → FlashComes name part old.flash new.flash end → AnswersOver (Booting part_name name) old new end
 booted_ends old new name part_name part C (Ok answer) read h =
-    booted_due (known_in old) old.flash.bytes (Came (Some (Booting part_name name)) old new) name part_name part (Ok answer) (told_flash old.inputs.contents old.flash.bytes name) (tt, tt)
+    booted_due (known_in old) old.flash.bytes (Came (Some (Booting part_name name)) old new) name part_name part (Ok answer) (known_flash old.inputs.contents old.flash.bytes name) (tt, tt)
     (read_due (known_in old) C (λ t. part_of t part_name) part read) h.0
 booted_ends old new name part_name part C (Err event) read (inl h) = subst (λ (e : Event). AnswersOver (Booting part_name name) old new (Err e)) (sym h) (inl (inl refl))
 booted_ends old new name part_name part C (Err event) read (inr (inl (inl h))) =
@@ -98,7 +98,7 @@ booted_ends old new name part_name part C (Err event) read (inr (inl (inr h))) =
       due = boot_mishap (known_in old) (Failing name new.inputs.given) name part_name part (read_fault name) refl refl refl (read_due (known_in old) C (λ t. part_of t part_name) part read);
     })))
 booted_ends old new name part_name part C (Err event) read (inr (inr h)) =
-    booted_due (known_in old) old.flash.bytes (Came (Some (Booting part_name name)) old new) name part_name part (Err event) (told_flash old.inputs.contents old.flash.bytes name) (both name part old.flash.bytes (Err event) h.0)
+    booted_due (known_in old) old.flash.bytes (Came (Some (Booting part_name name)) old new) name part_name part (Err event) (known_flash old.inputs.contents old.flash.bytes name) (both name part old.flash.bytes (Err event) h.0)
     (read_due (known_in old) C (λ t. part_of t part_name) part read) h.0
 
 -- an event of another reason says nothing of a flash's size

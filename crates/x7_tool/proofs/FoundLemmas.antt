@@ -4,7 +4,7 @@ use Rattle.x7_words.specs.Flash.{FlashState, IfKnown}
 use Rattle.x7_words.specs.Input.{InputsState}
 use Rattle.x7_boot.specs.Boot.{BootedState, IsBoot}
 use Rattle.x7_update.specs.After.{MayBeLeft, untouched}
-use Rattle.x7_update.proofs.ToldLemmas.{told_at, told_map}
+use Rattle.x7_update.proofs.OpenLineLemmas.{known_at, known_map}
 use Rattle.x7_recovery.specs.Golden.{BootsAlike, UpdatingAny}
 use Rattle.x7_recovery.proofs.GoldenLemmas.{found_alike}
 use Rattle.x7_forms.specs.Event.{Event}
@@ -21,7 +21,7 @@ pub found_since_run : (form : Option AskedForm) (inputs : InputsState) (old new 
 found_since_run form inputs old new past since only u found had =
     let known = known_from (sources inputs old) in
     let P : List ℕ → Type 0 = λ all. MayBeFound known (updated_by form) all found in
-    ⊎_elim (λ before. told_map old.bytes (λ all. found ≡ all) P (λ all e same. subst (λ (x : List ℕ). MayBeFound known (updated_by form) all x) (sym same) (found_same known (updated_by form) all)) (only found before)) (λ within. within)
+    ⊎_elim (λ before. known_map old.bytes (λ all. found ≡ all) P (λ all e same. subst (λ (x : List ℕ). MayBeFound known (updated_by form) all x) (sym same) (found_same known (updated_by form) all)) (only found before)) (λ within. within)
     (u.moments.elapses.nothing_else old.moments found (omega arith) had)
 
 ok_is : (a b : List ℕ) (r : Result (List ℕ) Event) → r ≡ Ok a → r ≡ Ok b → a ≡ b
@@ -37,7 +37,7 @@ found_left : (form : Option AskedForm) (inputs : InputsState) (flash : FlashStat
     → PowerLossMayLeave form (sources inputs flash) found → MayBeLeft stream all found
 found_left form inputs flash known name stream all found is_known updates told_data told_bytes f =
     let from = known_from (sources inputs flash) in
-    let here : MayBeFound from (updated_by form) all found = told_at flash.bytes (λ x. MayBeFound from (updated_by form) x found) f all told_bytes in
+    let here : MayBeFound from (updated_by form) all found = known_at flash.bytes (λ x. MayBeFound from (updated_by form) x found) f all told_bytes in
     let named : MayBeFound from (Some name) all found = subst (λ (s : Option (List ℕ)). MayBeFound from s all found) updates here in
     let told : MayBeFound (Some known) (Some name) all found = subst (λ (k : Option Known). MayBeFound k (Some name) all found) is_known named in
     left_by (stream_data known name) stream all found told_data told

@@ -13,7 +13,7 @@ use Rattle.x7_memory.proofs.PlanLemmas.{words_by_place}
 use Rattle.x7_part.proofs.RowLemmas.{part_rises}
 use Rattle.x7_words.specs.Word.{AreWords}
 use Rattle.x7_effects.proofs.FrameLemmas.{address_small}
-use Rattle.x7_frames.proofs.OneLemmas.{same-order}
+use Rattle.x7_frames.proofs.OneLemmas.{same_order}
 use Rattle.std.proofs.lemmas.List.Elements.{All-cons, All-contains_itself, All-head, All-nil, All-tail}
 use Rattle.std.proofs.lemmas.List.Sorted.{All-permutation, IsPermutation-sym}
 use Rattle.x7_memory.specs.Frames.{frame_at}
@@ -101,7 +101,7 @@ pub plan_is : (part : PartData) (seed : ℕ) (draft plan : PlanData) → Rises 0
     → IsPermutation draft.rows plan.rows → IsPlan plan → plan ≡ generated part seed
 plan_is part seed draft plan r e w v same is =
     let permuted : IsPermutation (generated part seed).rows plan.rows = subst (λ (t : List PlanRow). IsPermutation t plan.rows) e same in
-    let rows : plan.rows ≡ (generated part seed).rows = same-order plan.rows (generated part seed).rows is.order (rows_order (frame_words part) seed 0 (addresses_in part) r)
+    let rows : plan.rows ≡ (generated part seed).rows = same_order plan.rows (generated part seed).rows is.order (rows_order (frame_words part) seed 0 (addresses_in part) r)
     (All-permutation (Contains (generated part seed).rows) (generated part seed).rows plan.rows permuted (All-contains_itself (generated part seed).rows))
     (All-permutation (Contains plan.rows) plan.rows (generated part seed).rows (IsPermutation-sym (generated part seed).rows plan.rows permuted) (All-contains_itself plan.rows)) in
     ap (λ (n : ℕ). let p : PlanData = record { width = n; rows = plan.rows } in p) (v ∙ w) ∙ ap (λ (t : List PlanRow). let p : PlanData = record { width = frame_words part; rows = t } in p) rows
@@ -228,8 +228,8 @@ pub record PlaysAlong (part : PartData) (plan : PlanData) (stream : FullStreamSt
   pub of_plan : stream.plan ≡ plan
 
 -- what was told of a full stream is no longer than a stream may be
-told_few : (part : PartData) (plan : PlanData) (stream : FullStreamState) (told : List ℕ) → IsPart part → IsPlan plan → plan.width ≡ frame_words part → stream.part ≡ part → stream.plan ≡ plan → HasGiven stream told → length told ≤ 2 ^ 27
-told_few part plan stream told is p e a b h =
+known_few : (part : PartData) (plan : PlanData) (stream : FullStreamState) (told : List ℕ) → IsPart part → IsPlan plan → plan.width ≡ frame_words part → stream.part ≡ part → stream.plan ≡ plan → HasGiven stream told → length told ≤ 2 ^ 27
+known_few part plan stream told is p e a b h =
     let whole : told ++ h.left ≡ full_stream part plan = h.whole ∙ ap (λ (x : PartData). full_stream x stream.plan) a ∙ ap (full_stream part) b in
     let size : length told + length h.left ≡ 4 * (55 + frame_words part * length (slots_in part)) = sym (length-append told h.left) ∙ ap length (whole ∙ full_same part plan is p e) ∙ full_length part plan p e in
     let slots : frame_words part * length (slots_in part) ≡ frame_words part * (length (addresses_in part) + 2 * length part.rows) = ap (λ (k : ℕ). frame_words part * k) (slots_number part) in
@@ -242,7 +242,7 @@ module _ (part : PartData) (plan : PlanData) (stream later : FullStreamState) (p
   -- a piece more is within what a device counts
   pub piece_fits : IsPart part → IsPlan plan → plan.width ≡ frame_words part → later.part ≡ stream.part → later.plan ≡ stream.plan → length v.told + length new ≤ 2 ^ 27
   piece_fits is p e a b =
-      let few : length (v.told ++ m.piece) ≤ 2 ^ 27 = told_few part plan later (v.told ++ m.piece) is p e (a ∙ v.of_part) (b ∙ v.of_plan) m.more in
+      let few : length (v.told ++ m.piece) ≤ 2 ^ 27 = known_few part plan later (v.told ++ m.piece) is p e (a ∙ v.of_part) (b ∙ v.of_plan) m.more in
       omega (arith, few, length-append v.told m.piece, ap length piece_is)
 
   -- a piece more is played

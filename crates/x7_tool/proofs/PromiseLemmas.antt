@@ -5,7 +5,7 @@ use Rattle.std.proofs.lemmas.Bool.Decides.{nat_tests}
 use Rattle.std.proofs.lemmas.List.Sorted.{All-permutation}
 use Rattle.std.proofs.lemmas.List.{take-append-drop}
 use Rattle.x7_words.specs.Word.{AreBytes}
-use Rattle.x7_words.proofs.ListLemmas.{all_front}
+use Rattle.x7_words.proofs.ListLemmas.{all_prefix}
 use Rattle.x7_part.specs.AddressOrder.{addresses_in}
 use Rattle.x7_part.specs.Part.{PartData}
 use Rattle.x7_part.specs.PartFile.{part_in}
@@ -27,7 +27,7 @@ use Rattle.x7_jtag.specs.Play.{clocks_played, first_difference, port_played}
 use Rattle.x7_jtag.specs.Port.{Port, words_read_out}
 use Rattle.x7_jtag.specs.Queue.{Sound}
 use Rattle.x7_jtag.specs.Shown.{bytes_taken}
-use Rattle.x7_jtag.proofs.QueueLemmas.{port-sound}
+use Rattle.x7_jtag.proofs.QueueLemmas.{port_sound}
 use Rattle.x7_effects.specs.Played.{PlaysFull, PlaysPartial, PlaysRead, resting_after}
 use Rattle.x7_effects.proofs.LawLemmas.{full_law, partial_law, read_law}
 use Rattle.x7_forms.specs.declared.bad_input.InputFault.TheVariants as input
@@ -125,16 +125,16 @@ starts_checked part flash answer fits b = record {
   started = λ ok. last_checked part flash b.last b.older b.end fits b.leads (has_started b.end (sym b.stopped ∙ ok));
 }
 
-boots_told : (name : List ℕ) (part : PartData) (told : Option Found) (flash : List ℕ) (answer : Answer) → told ≡ Some (Held flash) → FlashBoots name part told (Ok answer) → AreBytes flash → IsBootText part flash answer
-boots_told name part told flash answer e h fits =
+boots_known : (name : List ℕ) (part : PartData) (told : Option Found) (flash : List ℕ) (answer : Answer) → told ≡ Some (Held flash) → FlashBoots name part told (Ok answer) → AreBytes flash → IsBootText part flash answer
+boots_known name part told flash answer e h fits =
     let here : FlashBoots name part (Some (Held flash)) (Ok answer) = subst (λ (f : Option Found). FlashBoots name part f (Ok answer)) e h in
     here.1 fits
 
 -- ---- from a flash with an open slot
 
-opened_told : (known : Known) (name : List ℕ) (part : PartData) (o : Opened) (answer : Answer) → FlashBoots name part (known.flash name) (Ok answer) → HoldsOpen known name part o → BootsFromOpen o answer
-opened_told known name part o answer h holds =
-    let boot : IsBootText part o.flash answer = boots_told name part (known.flash name) o.flash answer holds.held h holds.bytes in
+opened_known : (known : Known) (name : List ℕ) (part : PartData) (o : Opened) (answer : Answer) → FlashBoots name part (known.flash name) (Ok answer) → HoldsOpen known name part o → BootsFromOpen o answer
+opened_known known name part o answer h holds =
+    let boot : IsBootText part o.flash answer = boots_known name part (known.flash name) o.flash answer holds.held h holds.bytes in
     let here : IsBootText o.part o.flash answer = subst (λ (p : PartData). IsBootText p o.flash answer) (sym holds.part_is) boot in
     record { boot = here; comes = boots_open o holds.opened (course_along here.last here.older here.end) (record { older = here.older; leads = here.leads; attempts_are = refl }) }
 
@@ -143,8 +143,8 @@ start_promised known part flash (Err event) answer e p = absurd (cc)
 start_promised known part flash (Ok device) answer e p = record {
   device = device;
   read = e;
-  starts = λ all is fits. starts_checked device all answer fits (boots_told flash device (known.flash flash) all answer is p fits);
-  opened = λ o holds. opened_told known flash device o answer p holds;
+  starts = λ all is fits. starts_checked device all answer fits (boots_known flash device (known.flash flash) all answer is p fits);
+  opened = λ o holds. opened_known known flash device o answer p holds;
 }
 
 -- ---- a play
@@ -171,9 +171,9 @@ taken_fits : (part : PartData) (statements : List Statement) → AreBytes (bytes
 taken_fits part statements =
     let p : Port = port_played part statements in
     let n : ℕ = taken_of part on_the_bench p.queue.given in
-    let sound : Sound (words_read_out part) p.queue = port-sound part (clocks_played statements (first_difference part statements)) in
-    let fits : AreBytes p.queue.given = all_front (λ b. b < 256) p.queue.given p.queue.held sound.fits in
-    all_front (λ b. b < 256) (take n p.queue.given) (drop n p.queue.given) (subst AreBytes (sym (take-append-drop n p.queue.given)) fits)
+    let sound : Sound (words_read_out part) p.queue = port_sound part (clocks_played statements (first_difference part statements)) in
+    let fits : AreBytes p.queue.given = all_prefix (λ b. b < 256) p.queue.given p.queue.held sound.fits in
+    all_prefix (λ b. b < 256) (take n p.queue.given) (drop n p.queue.given) (subst AreBytes (sym (take-append-drop n p.queue.given)) fits)
 
 port_promised : (known : Known) (part text : List ℕ) (read : Result PlanTexts Event) (answer : Answer) → plan_texts known part text ≡ read → PlayedSvf text read (Ok answer) → PromisesPort known part text answer
 port_promised known part text (Err event) answer e p = absurd (cc)

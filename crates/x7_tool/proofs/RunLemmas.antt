@@ -6,13 +6,13 @@ use Rattle.x7_words.specs.Flash.{FlashState}
 use Rattle.x7_words.specs.Input.{InputsState}
 use Rattle.x7_words.specs.Sink.{SinkState, PutsSome}
 use Rattle.x7_listing.specs.Assembly.{IsAsm}
-use Rattle.x7_listing.proofs.OutcomeLemmas.{one-outcome}
-use Rattle.x7_listing.proofs.StreamLemmas.{stream-back}
+use Rattle.x7_listing.proofs.OutcomeLemmas.{one_outcome}
+use Rattle.x7_listing.proofs.StreamLemmas.{stream_back}
 use Rattle.x7_mcs.specs.Flash.{mcs_of}
-use Rattle.x7_listing.proofs.ListingLengthLemmas.{stream-short}
+use Rattle.x7_listing.proofs.ListingLengthLemmas.{stream_short}
 use Rattle.x7_mcs.specs.Text.{mcs_text}
-use Rattle.x7_mcs.proofs.BackLemmas.{text-gives}
-use Rattle.x7_mcs.proofs.SizeLemmas.{text-short}
+use Rattle.x7_mcs.proofs.BackLemmas.{text_gives}
+use Rattle.x7_mcs.proofs.SizeLemmas.{text_short}
 use Rattle.x7_forms.specs.declared.status.Status.{Status}
 use Rattle.x7_forms.specs.declared.status.Status.TheVariants as status
 use Rattle.x7_forms.specs.Event.{Event, Cause, Wording, Want, Fault, Absence, Break, Contents, Difference, cause_of, no_memory, status_of, usage, write_fault}
@@ -120,11 +120,11 @@ within_limit name text limit h = let short : nat_lt limit (length text) ≡ fals
 
 asm_back : (name text bytes : List ℕ) (end : Result Answer Event) → IsAsm text (Ok bytes) → AssembledAs name (Ok text) end → end ≡ Ok (record { stopped = false; text = bytes })
 asm_back name text bytes (Ok answer) is h =
-    let same : Ok answer.text ≡ Ok bytes = one-outcome text (Ok answer.text) (Ok bytes) h.1 is in
+    let same : Ok answer.text ≡ Ok bytes = one_outcome text (Ok answer.text) (Ok bytes) h.1 is in
     let text_is : answer.text ≡ bytes = cc in
     ap (λ (s : Bool). Ok (record { stopped = s; text = answer.text })) h.0 ∙ ap (λ (t : List ℕ). Ok (record { stopped = false; text = t })) text_is
 asm_back name text bytes (Err event) is h =
-    let same = one-outcome text (Err h.0) (Ok bytes) h.1.0 is in
+    let same = one_outcome text (Err h.0) (Ok bytes) h.1.0 is in
     absurd (cc)
 
 mcs_back : (name text bytes : List ℕ) (end : Result Answer Event) → mcs_of text ≡ Ok bytes → mcs_image name (mcs_of text) ≡ end → end ≡ Ok (record { stopped = false; text = bytes })
@@ -138,15 +138,15 @@ form_back : (form : AskedForm) (old new : Outside) (s : Status) (end : Result An
 form_back (Assembling name) old new s end outcome = λ bytes text fits short listed has quiet.
     let known : Known = known_of has.0 old.flash.bytes in
     let is : known_in old ≡ Some known = ap (λ (i : Option (List ℕ → Option (List ℕ))). with_inputs i old.flash.bytes) has.1.0 in
-    let whole : whole_in known text_limit name ≡ Ok text = ap (λ (i : Option (List ℕ)). taken_whole name text_limit (found i)) has.1.1 ∙ within_limit name text text_limit (omega (arith, short, stream-short bytes text fits listed)) in
+    let whole : whole_in known text_limit name ≡ Ok text = ap (λ (i : Option (List ℕ)). taken_whole name text_limit (found i)) has.1.1 ∙ within_limit name text text_limit (omega (arith, short, stream_short bytes text fits listed)) in
     leads_back s (Assembling name) known end (Ok (record { stopped = false; text = bytes })) (outcome known is quiet)
-    (λ h. asm_back name text bytes end (stream-back bytes text fits short listed) (subst (λ (r : Result (List ℕ) Event). AssembledAs name r end) whole h))
+    (λ h. asm_back name text bytes end (stream_back bytes text fits short listed) (subst (λ (r : Result (List ℕ) Event). AssembledAs name r end) whole h))
 form_back (FromMcs name) old new s end outcome = λ bytes fits short has quiet.
     let known : Known = known_of has.0 old.flash.bytes in
     let is : known_in old ≡ Some known = ap (λ (i : Option (List ℕ → Option (List ℕ))). with_inputs i old.flash.bytes) has.1.0 in
-    let whole : whole_in known text_limit name ≡ Ok (mcs_text bytes) = ap (λ (i : Option (List ℕ)). taken_whole name text_limit (found i)) has.1.1 ∙ within_limit name (mcs_text bytes) text_limit (omega (arith, short, text-short bytes)) in
+    let whole : whole_in known text_limit name ≡ Ok (mcs_text bytes) = ap (λ (i : Option (List ℕ)). taken_whole name text_limit (found i)) has.1.1 ∙ within_limit name (mcs_text bytes) text_limit (omega (arith, short, text_short bytes)) in
     leads_back s (FromMcs name) known end (Ok (record { stopped = false; text = bytes })) (outcome known is quiet)
-    (λ h. mcs_back name (mcs_text bytes) bytes end (text-gives bytes fits short) (sym (ap (λ (r : Result (List ℕ) Event). and_so r (λ text. mcs_image name (mcs_of text))) whole) ∙ h))
+    (λ h. mcs_back name (mcs_text bytes) bytes end (text_gives bytes fits short) (sym (ap (λ (r : Result (List ℕ) Event). and_so r (λ text. mcs_image name (mcs_of text))) whole) ∙ h))
 form_back form old new s end outcome = tt
 
 back_is : (form : Option AskedForm) (old new : Outside) (s : Status) (end : Result Answer Event) → ((known : Known) → known_in old ≡ Some known → IsQuiet form old new → (s ≡ status.NoMemory) ⊎ IsOutcome known form end) → TextsLeadBack form old new s end

@@ -17,7 +17,7 @@ use Rattle.x7_forms.specs.Message.{event_of}
 use Rattle.x7_forms.specs.Step.{Among, seen}
 use Rattle.x7_forms.specs.Stop.{IsAbout, Limited, StopsAmong, limited, limited_together}
 use Rattle.x7_forms.specs.Turn.{StandsAt}
-use Rattle.x7_forms.proofs.StandLemmas.{about_among, about_by, stops_behind}
+use Rattle.x7_forms.proofs.StandLemmas.{about_among, about_by, stops_after}
 use Rattle.x7_frames.specs.declared.fault.FramesFault.{FramesFault}
 use Rattle.x7_frames.specs.declared.fault.FramesFault.TheVariants as frames
 use Rattle.x7_planner.specs.declared.fault.PlanFault.{PlanFault}
@@ -136,7 +136,7 @@ reads_only value form old now (Err x) h = reads_stop form old now (event_of x) h
 pub streams_stop : (part : List ℕ) (streams : List (List ℕ)) (old mid now : InputsState) (event : Event) → mid.contents ≡ old.contents → AsksFew old 1 mid
     → StopsAmong (limited_together mid.contents stream_limit streams) mid now event → StopsBy (cause_of event) (Playing part streams) old now event
 streams_stop part streams old mid now event e n h =
-    among_stops (Playing part streams) old now event (stops_behind (limited part_limit part) (limited_together old.contents stream_limit streams) old mid now event n
+    among_stops (Playing part streams) old now event (stops_after (limited part_limit part) (limited_together old.contents stream_limit streams) old mid now event n
     (subst (λ (k : Option (List ℕ → Option (List ℕ))). StopsAmong (limited_together k stream_limit streams) mid now event) e h))
 
 -- the form's flash
@@ -176,9 +176,9 @@ updated_stops flash stream old now fault event e s n = subst (λ (x : Event). St
 
 -- ---- a listing
 
-pub front_stops : {Q : Type 0} (form : AskedForm) (old now : InputsState) (event : Event) → (event ≡ no_memory) ⊎ ((event ≡ write_fault) × Q) → StopsBy (cause_of event) form old now event
-front_stops form old now event (inl e) = want_stops form old now event e
-front_stops form old now event (inr h) = write_stops form old now event h.0
+pub prefix_stops : {Q : Type 0} (form : AskedForm) (old now : InputsState) (event : Event) → (event ≡ no_memory) ⊎ ((event ≡ write_fault) × Q) → StopsBy (cause_of event) form old now event
+prefix_stops form old now event (inl e) = want_stops form old now event e
+prefix_stops form old now event (inr h) = write_stops form old now event h.0
 
 pub put_stops : {P Q : Type 0} (form : AskedForm) (old now : InputsState) (event : Event) → ((event ≡ no_memory) × P) ⊎ ((event ≡ write_fault) × Q) → StopsBy (cause_of event) form old now event
 put_stops form old now event (inl h) = want_stops form old now event h.0

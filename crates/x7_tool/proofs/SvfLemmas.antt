@@ -15,7 +15,7 @@ use Rattle.x7_jtag.specs.PlayLine.{play_text}
 use Rattle.x7_jtag.specs.Port.{Port, port_after}
 use Rattle.x7_jtag.specs.Shown.{bytes_taken, fault_shown, memory_shown, state_shown}
 use Rattle.x7_jtag.specs.Tap.{TapStandsFor, TapState}
-use Rattle.x7_jtag.proofs.LawLemmas.{shows-is}
+use Rattle.x7_jtag.proofs.LawLemmas.{shows_is}
 use Rattle.x7_tool.specs.Outcome.{svf_answer, svf_shown}
 use Rattle.x7_tool.specs.Play.{text_of_play}
 
@@ -34,6 +34,6 @@ svf_is part statements t d differ fault stopped line report text s e f b l r is 
     let p : Port = played_to part statements differ in
     ap text_of_play is ∙ ap (λ (x : PlayTextState). record { stopped = x.stopped; text = line ++ x.text }) r
     ∙ ap (λ (x : List ℕ). record { stopped = stopped; text = x ++ report_text part (state_owing part on_the_bench false (bytes_taken part p) (frames_due d.registers.due)) [] (memory_shown part p) }) l
-    ∙ ap (λ (x : Regs). record { stopped = stopped; text = play_text differ ++ report_text part x [] (memory_shown part p) }) (shows-is part t d (clocks_played statements differ) s)
+    ∙ ap (λ (x : Regs). record { stopped = stopped; text = play_text differ ++ report_text part x [] (memory_shown part p) }) (shows_is part t d (clocks_played statements differ) s)
     ∙ ap (λ (x : Bool). record { stopped = x; text = play_text differ ++ report_text part (state_shown part p) [] (memory_shown part p) }) (b ∙ ap (λ (x : Option Fault). is_some differ || is_some x) f)
     ∙ ap (λ (x : Option Differ). svf_shown part x (played_to part statements x)) e

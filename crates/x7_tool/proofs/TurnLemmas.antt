@@ -2,17 +2,17 @@
 use Rattle.std.proofs.Common.{length-append, arith, inl, inr, ◌≡◌, ℕ, ◌+◌, ◌<◌, Bool, true, List, [], ◌∷◌, ◌++◌, false, Option, None, Some, Ok, Err, length, refl, ap, sym, subst, ◌∙◌, append_assoc, append-nil, Result}
 use Rattle.x7_words.specs.Sink.{appended, PutsPrefix, SinkState, Tells}
 use Rattle.x7_words.specs.Word.{AreBytes}
-use Rattle.x7_words.proofs.SinkLemmas.{appended-appended, appended-nil, front_more}
+use Rattle.x7_words.proofs.SinkLemmas.{appended_appended, appended_nil, prefix_more}
 use Rattle.x7_packets.specs.ByHand.{reading_of}
 use Rattle.x7_packets.proofs.ByHandLemmas.{reading_is}
 use Rattle.x7_listing.specs.Listing.{IsListing, listing_of, reading_text}
 use Rattle.x7_listing.specs.StreamListing.{stream_listing}
 use Rattle.x7_listing.specs.Telling.{Finished, ListerStandsFor, ListerState}
-use Rattle.x7_listing.proofs.FrontLemmas.{told_front}
+use Rattle.x7_listing.proofs.PrefixLemmas.{listed_prefix}
 use Rattle.x7_words.specs.Input.{InputsState, AtEnd, Selects, Stays, preceded}
-use Rattle.x7_words.proofs.ListLemmas.{all-append, all_back}
+use Rattle.x7_words.proofs.ListLemmas.{all_append, all_back}
 use Rattle.x7_forms.specs.Step.{CameIn, step_over}
-use Rattle.x7_words.proofs.InputLemmas.{preceded-preceded}
+use Rattle.x7_words.proofs.InputLemmas.{preceded_preceded}
 use Rattle.x7_forms.specs.Event.{Event, read_fault, too_large, write_fault}
 use Rattle.x7_forms.specs.Known.{Mishap, found, stream_limit, with_inputs}
 use Rattle.x7_tool.specs.Run.{ListsSoFar}
@@ -32,16 +32,16 @@ stands_fit : (l : ListerState) (given bytes : List ℕ) → ListerStandsFor l gi
 stands_fit l given bytes stands = stands.tells.cut.reading.fits
 
 -- what was put is a front of the listing of the bytes and any that may follow
-pub lists_front : (l : ListerState) (first now : Option (List ℕ)) (bytes rest : List ℕ) → Lists l first now bytes → AreBytes (bytes ++ rest) → PutsPrefix first (listing_of (bytes ++ rest)) now
-lists_front l first now bytes rest t fits =
-    let front = told_front l t.given bytes rest t.stands fits in
+pub lists_prefix : (l : ListerState) (first now : Option (List ℕ)) (bytes rest : List ℕ) → Lists l first now bytes → AreBytes (bytes ++ rest) → PutsPrefix first (listing_of (bytes ++ rest)) now
+lists_prefix l first now bytes rest t fits =
+    let front = listed_prefix l t.given bytes rest t.stands fits in
     (t.given, (front.0, front.1 ∙ ap (λ x. (t.given ++ x) ++ front.0) t.clear ∙ ap (λ x. x ++ front.0) (append-nil t.given), t.put))
 
 -- what was put is a front of the listing of the bytes
 pub lists_here : (l : ListerState) (first now : Option (List ℕ)) (bytes : List ℕ) → Lists l first now bytes → PutsPrefix first (listing_of bytes) now
 lists_here l first now bytes t =
     let fits : AreBytes (bytes ++ []) = rw (append-nil bytes) (stands_fit l t.given bytes t.stands) in
-    let front = lists_front l first now bytes [] t fits in
+    let front = lists_prefix l first now bytes [] t fits in
     let all : bytes ++ [] ≡ bytes = append-nil bytes in
     rw all at front
 
@@ -52,7 +52,7 @@ pub lists_more : (l fed clear : ListerState) (first mid now : Option (List ℕ))
 lists_more l fed clear first mid now bytes piece text t feeds same put none clears = record {
   given = t.given ++ fed.text;
   stands = clears t.given [] (bytes ++ piece) (feeds t.given [] bytes t.stands);
-  put = rw (put, t.put, same) (appended-appended first t.given fed.text);
+  put = rw (put, t.put, same) (appended_appended first t.given fed.text);
   clear = none;
 }
 
@@ -63,9 +63,9 @@ pub lists_part : (l fed : ListerState) (first mid now : Option (List ℕ)) (byte
 lists_part l fed first mid now bytes piece rest text t feeds same front fits =
     let all : (bytes ++ piece) ++ rest ≡ bytes ++ (piece ++ rest) = append_assoc bytes piece rest in
     let fits2 : AreBytes ((bytes ++ piece) ++ rest) = rw all fits in
-    let told = told_front fed t.given (bytes ++ piece) rest (feeds t.given [] bytes t.stands) fits2 in
+    let told = listed_prefix fed t.given (bytes ++ piece) rest (feeds t.given [] bytes t.stands) fits2 in
     let here : listing_of (bytes ++ (piece ++ rest)) ≡ t.given ++ (text ++ told.0) = ap listing_of (sym all) ∙ told.1 ∙ append_assoc t.given fed.text told.0 ∙ ap (λ x. t.given ++ (x ++ told.0)) (sym same) in
-    rw here (front_more first mid now t.given text told.0 t.put front)
+    rw here (prefix_more first mid now t.given text told.0 t.put front)
 
 -- the end of a listing was written
 pub end_put : (l done : ListerState) (first mid now : Option (List ℕ)) (bytes text : List ℕ) → Lists l first mid bytes
@@ -73,7 +73,7 @@ pub end_put : (l done : ListerState) (first mid now : Option (List ℕ)) (bytes 
 end_put l done first mid now bytes text t ends same put =
     let f = ends t.given [] bytes t.stands in
     let whole : t.given ++ text ≡ listing_of bytes = ap (λ x. t.given ++ x) same ∙ f.listed ∙ listing_is bytes f.listing f.is in
-    rw (put, t.put) (appended-appended first t.given text) ∙ ap (appended first) whole
+    rw (put, t.put) (appended_appended first t.given text) ∙ ap (appended first) whole
 
 -- the end of a listing was written in part
 pub end_part : (l done : ListerState) (first mid now : Option (List ℕ)) (bytes text : List ℕ) → Lists l first mid bytes
@@ -81,7 +81,7 @@ pub end_part : (l done : ListerState) (first mid now : Option (List ℕ)) (bytes
 end_part l done first mid now bytes text t ends same front =
     let f = ends t.given [] bytes t.stands in
     let whole : listing_of bytes ≡ t.given ++ (text ++ []) = sym (ap (λ x. t.given ++ x) (append-nil text ∙ same) ∙ f.listed ∙ listing_is bytes f.listing f.is) in
-    rw whole (front_more first mid now t.given text [] t.put front)
+    rw whole (prefix_more first mid now t.given text [] t.put front)
 
 -- what a lister that was fed all of a stream's data lists
 pub whole_text : (l fed done : ListerState) (sent text : List ℕ) → ListerStandsFor l [] [] [] → ((given before taken : List ℕ) → ListerStandsFor l given before taken → ListerStandsFor fed given before (taken ++ sent))
@@ -98,12 +98,12 @@ tells_prefix old new text (inr some) = some.1
 -- bytes more were taken
 pub taken_more : (contents : Option (List ℕ → Option (List ℕ))) (name taken piece : List ℕ) (old new : Option (List ℕ)) → Selects contents name (preceded taken old) → old ≡ preceded piece new → Selects contents name (preceded (taken ++ piece) new)
 taken_more contents name taken piece old new s e =
-    let whole : preceded taken old ≡ preceded (taken ++ piece) new = ap (preceded taken) e ∙ preceded-preceded taken piece new in
+    let whole : preceded taken old ≡ preceded (taken ++ piece) new = ap (preceded taken) e ∙ preceded_preceded taken piece new in
     subst (λ r. Selects contents name r) whole s
 
 -- what was put is a front of the listing of the stream's bytes
-pub line_front : (first now : Option (List ℕ)) (line text : List ℕ) → PutsPrefix (appended first line) text now → PutsPrefix first (line ++ text) now
-line_front first now line text p = subst (λ t. PutsPrefix first (line ++ t) now) (append-nil text) (front_more first (appended first line) now line text [] refl p)
+pub line_prefix : (first now : Option (List ℕ)) (line text : List ℕ) → PutsPrefix (appended first line) text now → PutsPrefix first (line ++ text) now
+line_prefix first now line text p = subst (λ t. PutsPrefix first (line ++ t) now) (append-nil text) (prefix_more first (appended first line) now line text [] refl p)
 
 -- the listing of a whole stream
 pub stream_whole : (bytes line sent : List ℕ) → stream_listing (bytes ++ []) ≡ Ok (line ++ listing_of (sent ++ [])) → stream_listing bytes ≡ Ok (line ++ listing_of sent)
@@ -114,12 +114,12 @@ pub line_part : (first now : Option (List ℕ)) (line more : List ℕ) → PutsP
 line_part first now line more p = (p.0, (p.1.0 ++ more, ap (λ t. t ++ more) p.1.1 ∙ append_assoc p.0 p.1.0 more, p.1.2))
 
 -- a lister that begins after a line
-pub begins_behind : (l : ListerState) (old mid : Option (List ℕ)) (line : List ℕ) → ListerStandsFor l [] [] [] → l.text ≡ [] → mid ≡ appended old line → Lists l (appended old line) mid []
-begins_behind l old mid line stands clear e = record { given = []; stands = stands; put = e ∙ sym (appended-nil (appended old line)); clear = clear }
+pub begins_after : (l : ListerState) (old mid : Option (List ℕ)) (line : List ℕ) → ListerStandsFor l [] [] [] → l.text ≡ [] → mid ≡ appended old line → Lists l (appended old line) mid []
+begins_after l old mid line stands clear e = record { given = []; stands = stands; put = e ∙ sym (appended_nil (appended old line)); clear = clear }
 
 -- a front and then its listing
 pub line_then : (first now : Option (List ℕ)) (line text : List ℕ) → now ≡ appended (appended first line) text → now ≡ appended first (line ++ text)
-line_then first now line text e = e ∙ appended-appended first line text
+line_then first now line text e = e ∙ appended_appended first line text
 
 -- the text that a stream has is one
 one_text : (all given : List ℕ) (r : Result (List ℕ) ℕ) → r ≡ Ok given → r ≡ Ok all → given ≡ all
@@ -130,18 +130,18 @@ pub stream_so_far : (l : ListerState) (first now : Option (List ℕ)) (bytes : L
 stream_so_far l first now bytes t = record {
   has = (t.line ++ listing_of t.sent, stream_whole bytes t.line t.sent (t.goes []));
   goes = λ rest text fits e.
-      let sent : AreBytes (t.sent ++ rest) = all-append (λ b. b < 256) t.sent rest (stands_fit l t.lists.given t.sent t.lists.stands) fits in
-      let front = line_front first now t.line (listing_of (t.sent ++ rest)) (lists_front l (appended first t.line) now t.sent rest t.lists sent) in
+      let sent : AreBytes (t.sent ++ rest) = all_append (λ b. b < 256) t.sent rest (stands_fit l t.lists.given t.sent t.lists.stands) fits in
+      let front = line_prefix first now t.line (listing_of (t.sent ++ rest)) (lists_prefix l (appended first t.line) now t.sent rest t.lists sent) in
       subst (λ (x : List ℕ). PutsPrefix first x now) (one_text text (t.line ++ listing_of (t.sent ++ rest)) (stream_listing (bytes ++ rest)) (t.goes rest) e) front;
 }
 
 -- a prefix of the listing of a stream that may go on, put while its first data are listed
-pub front_so_far : (taken line sent : List ℕ) (old now : Option (List ℕ)) → AreBytes sent → ((left : List ℕ) → stream_listing (taken ++ left) ≡ Ok (line ++ listing_of (sent ++ left)))
+pub prefix_so_far : (taken line sent : List ℕ) (old now : Option (List ℕ)) → AreBytes sent → ((left : List ℕ) → stream_listing (taken ++ left) ≡ Ok (line ++ listing_of (sent ++ left)))
     → ((left : List ℕ) → AreBytes (sent ++ left) → PutsPrefix old (line ++ listing_of (sent ++ left)) now) → ListsSoFar taken old now
-front_so_far taken line sent old now fits g p = record {
+prefix_so_far taken line sent old now fits g p = record {
   has = (line ++ listing_of sent, stream_whole taken line sent (g []));
   goes = λ rest text more e.
-      subst (λ (x : List ℕ). PutsPrefix old x now) (one_text text (line ++ listing_of (sent ++ rest)) (stream_listing (taken ++ rest)) (g rest) e) (p rest (all-append (λ b. b < 256) sent rest fits more));
+      subst (λ (x : List ℕ). PutsPrefix old x now) (one_text text (line ++ listing_of (sent ++ rest)) (stream_listing (taken ++ rest)) (g rest) e) (p rest (all_append (λ b. b < 256) sent rest fits more));
 }
 
 -- a stream that goes on
@@ -156,26 +156,26 @@ write_failed contents flash C stream taken piece same l rest Full old mid now e 
     let sent : AreBytes t.sent = stands_fit l t.lists.given t.sent t.lists.stands in
     let q : (left : List ℕ) → AreBytes left → PutsListed ((taken ++ piece) ++ left) old now
     = λ left fit.
-    let front : PutsPrefix (appended old t.line) (listing_of (t.sent ++ (piece ++ left))) now = subst (λ x. PutsPrefix (appended old t.line) (listing_of (t.sent ++ (x ++ left))) now) e (p left (all-append (λ b. b < 256) t.sent (same ++ left) sent (all-append (λ b. b < 256) same left fits fit))) in
-    (t.line ++ listing_of (t.sent ++ (piece ++ left)), (ap stream_listing (append_assoc taken piece left) ∙ t.goes (piece ++ left), line_front old now t.line (listing_of (t.sent ++ (piece ++ left))) front)) in
+    let front : PutsPrefix (appended old t.line) (listing_of (t.sent ++ (piece ++ left))) now = subst (λ x. PutsPrefix (appended old t.line) (listing_of (t.sent ++ (x ++ left))) now) e (p left (all_append (λ b. b < 256) t.sent (same ++ left) sent (all_append (λ b. b < 256) same left fits fit))) in
+    (t.line ++ listing_of (t.sent ++ (piece ++ left)), (ap stream_listing (append_assoc taken piece left) ∙ t.goes (piece ++ left), line_prefix old now t.line (listing_of (t.sent ++ (piece ++ left))) front)) in
     let here : PutsListed (taken ++ piece) old now = subst (λ x. PutsListed x old now) (append-nil (taken ++ piece)) (q [] tt) in
     unwritten contents flash C stream (taken ++ piece) rest false Full old now s (λ l. absurd cc) f here (λ left m fit. q left (all_back (λ b. b < 256) (taken ++ piece) left fit))
 
 -- what was put at the front of a stream
-pub front_here : (taken line sent : List ℕ) (last : Bool) (old now : Option (List ℕ)) → AreBytes sent → ((left : List ℕ) → FollowsUnlessLast last left → stream_listing (taken ++ left) ≡ Ok (line ++ listing_of (sent ++ left)))
+pub prefix_here : (taken line sent : List ℕ) (last : Bool) (old now : Option (List ℕ)) → AreBytes sent → ((left : List ℕ) → FollowsUnlessLast last left → stream_listing (taken ++ left) ≡ Ok (line ++ listing_of (sent ++ left)))
     → ((left : List ℕ) → AreBytes (sent ++ left) → PutsPrefix old (line ++ listing_of (sent ++ left)) now) → PutsListed taken old now
-front_here taken line sent last old now fits g p =
+prefix_here taken line sent last old now fits g p =
     let put : PutsPrefix old (line ++ listing_of sent) now = subst (λ s. PutsPrefix old (line ++ listing_of s) now) (append-nil sent) (p [] (subst AreBytes (sym (append-nil sent)) fits)) in
     (line ++ listing_of sent, (stream_whole taken line sent (g [] (λ l. refl)), put))
 
 -- a sink that failed at the front of a stream
-pub front_failed : (contents : Option (List ℕ → Option (List ℕ))) (flash : Option (List ℕ)) (C : Mishap → Type 0) (stream taken line sent : List ℕ) (rest : Option (List ℕ)) (last : Bool) (Full : Type 0) (old now : Option (List ℕ))
+pub prefix_failed : (contents : Option (List ℕ → Option (List ℕ))) (flash : Option (List ℕ)) (C : Mishap → Type 0) (stream taken line sent : List ℕ) (rest : Option (List ℕ)) (last : Bool) (Full : Type 0) (old now : Option (List ℕ))
     → Selects contents stream (preceded taken rest) → (last ≡ true → AtEnd rest) → Full → AreBytes sent → ((left : List ℕ) → FollowsUnlessLast last left → stream_listing (taken ++ left) ≡ Ok (line ++ listing_of (sent ++ left)))
     → ((left : List ℕ) → AreBytes (sent ++ left) → PutsPrefix old (line ++ listing_of (sent ++ left)) now) → Ended (with_inputs contents flash) C stream Full old now (Err write_fault)
-front_failed contents flash C stream taken line sent rest last Full old now s e f fits g p =
+prefix_failed contents flash C stream taken line sent rest last Full old now s e f fits g p =
     let q : (left : List ℕ) → FollowsUnlessLast last left → AreBytes left → PutsListed (taken ++ left) old now
-    = λ left m fit. (line ++ listing_of (sent ++ left), (g left m, p left (all-append (λ b. b < 256) sent left fits fit))) in
-    let here : PutsListed taken old now = front_here taken line sent last old now fits g p in
+    = λ left m fit. (line ++ listing_of (sent ++ left), (g left m, p left (all_append (λ b. b < 256) sent left fits fit))) in
+    let here : PutsListed taken old now = prefix_here taken line sent last old now fits g p in
     unwritten contents flash C stream taken rest last Full old now s e f here (λ left m fit. q left m (all_back (λ b. b < 256) taken left fit))
 
 -- a sink that failed at the end

@@ -8,7 +8,7 @@ use Rattle.x7_words.specs.Flash.{AsksFor, FlashState, FlashStays, IfKnown}
 use Rattle.x7_words.specs.Input.{InputsState}
 use Rattle.x7_words.specs.Sink.{SinkState}
 use Rattle.x7_words.proofs.CountLemmas.{risen_from}
-use Rattle.x7_words.proofs.SinkLemmas.{appended-nil}
+use Rattle.x7_words.proofs.SinkLemmas.{appended_nil}
 use Rattle.x7_boot.specs.Image.{flash_limit}
 use Rattle.x7_update.specs.After.{IsAfter, MayBeLeft}
 use Rattle.x7_update.specs.Layout.{HasLayout}
@@ -16,7 +16,7 @@ use Rattle.x7_update.specs.Refused.{CanTake, HasCause, IsEarly, IsTooLong, NoLay
 use Rattle.x7_update.specs.Writing.{AtAnyMoment, Becomes, BecomesBytes, OnlyUses}
 use Rattle.x7_update.specs.declared.fault.UpdateFault.{UpdateFault}
 use Rattle.x7_update.specs.declared.fault.UpdateFault.TheVariants.{Differs, Failed, NoLayout, NoMemory, TooLong}
-use Rattle.x7_update.proofs.ToldLemmas.{moments_weaker, only_read, read_moments}
+use Rattle.x7_update.proofs.OpenLineLemmas.{moments_weaker, only_read, read_moments}
 use Rattle.x7_forms.specs.declared.bad_input.InputFault.TheVariants as input
 use Rattle.x7_forms.specs.declared.refusal.Why.{Why}
 use Rattle.x7_forms.specs.declared.refusal.Why.TheVariants as why
@@ -30,7 +30,7 @@ use Rattle.x7_tool.specs.Leaving.{HasData, KeepsBytes, MayBeFound, UsesFlash}
 use Rattle.x7_tool.specs.Outcome.{FlashUpdates, FormGives, IsUpdateFault, UpdateNames, UpdatesBytes, UpdatesWith, no_text, stream_data, update_event}
 use Rattle.x7_tool.specs.Outside.{Came, Outside, known_in, sources}
 use Rattle.x7_tool.specs.Run.{Agrees, AnswersOver, EndsAs, FailsLast, IsMeasured, IsUnopened}
-use Rattle.x7_tool.proofs.FlashLemmas.{bad_small, came_wider, detached, not_fault, not_large, other_fault, told_flash, unattached_measured, unread_last, unread_measured}
+use Rattle.x7_tool.proofs.FlashLemmas.{bad_small, came_wider, detached, not_fault, not_large, other_fault, known_flash, unattached_measured, unread_last, unread_measured}
 use Rattle.x7_tool.proofs.RunLemmas.{has_cause, leaves_all, near_all, no_break}
 
 -- the names of an update
@@ -63,7 +63,7 @@ update_due (Some t) bytes flash stream end same o h = (o.1, update_given t bytes
 
 update_over : (flash stream : List ℕ) (old new : Outside) (end : Result Answer Event) → IsPossible end × IsDecided end
     → ((t : Known) → known_in old ≡ Some t → UpdatesBytes (names flash stream) old.flash.bytes (stream_data t stream) end) → AnswersOver (UpdatingFlash flash stream) old new end
-update_over flash stream old new end o h = inr (update_due (known_in old) old.flash.bytes flash stream end (told_flash old.inputs.contents old.flash.bytes flash) o h)
+update_over flash stream old new end o h = inr (update_due (known_in old) old.flash.bytes flash stream end (known_flash old.inputs.contents old.flash.bytes flash) o h)
 
 agreed : (known : Option Known) (bytes : Option (List ℕ)) (flash stream : List ℕ) (end : Result Answer Event) → IsTold known flash bytes
     → ((t : Known) → known ≡ Some t → UpdatesBytes (names flash stream) bytes (stream_data t stream) end) → Agrees known (UpdatingFlash flash stream) end
@@ -82,8 +82,8 @@ flash_due None m flash stream e = tt
 flash_due (Some t) m flash stream e = flash_mishap m t flash stream (stream_data (with_mishap m t) stream) e
 
 -- the event of a stream that was not read
-unread_told : (n : UpdateNames) (bytes : Option (List ℕ)) (read : Result (List ℕ) Event) (event : Event) → IsWithin bytes → read ≡ Err event → UpdatesBytes n bytes read (Err event)
-unread_told n bytes read event within e = inr (within, subst (λ (r : Result (List ℕ) Event). UpdatesWith n bytes r (Err event)) (sym e) refl)
+unread_known : (n : UpdateNames) (bytes : Option (List ℕ)) (read : Result (List ℕ) Event) (event : Event) → IsWithin bytes → read ≡ Err event → UpdatesBytes n bytes read (Err event)
+unread_known n bytes read event within e = inr (within, subst (λ (r : Result (List ℕ) Event). UpdatesWith n bytes r (Err event)) (sym e) refl)
 
 spared : (b : Bool) (x y : Option Found) → b ≡ false → (if b then x else y) ≡ y
 spared true x y e = absurd (cc)
@@ -100,7 +100,7 @@ stream_mishap true m t bytes flash stream event b e same within h =
     subst (λ (x : Event). FlashUpdates (names flash stream) ((with_mishap m t).flash flash) read (Err x)) e (flash_mishap m t flash stream read (sym (is_name flash (spoiled_name m) b)))
 stream_mishap false m t bytes flash stream event b e same within h =
     update_given (with_mishap m t) bytes flash stream (Err event) (spared (bytes_eq flash (spoiled_name m)) (Some (spoiled m Absent)) (t.flash flash) b ∙ same)
-    (unread_told (names flash stream) bytes (stream_data (with_mishap m t) stream) event within h)
+    (unread_known (names flash stream) bytes (stream_data (with_mishap m t) stream) event within h)
 
 stream_due : (known : Option Known) (m : Mishap) (bytes : Option (List ℕ)) (flash stream : List ℕ) (event : Event) → mishap_event m ≡ event → IsTold known flash bytes → IsWithin bytes → DueBy {A = List ℕ} known m (λ t r. stream_data t stream ≡ r) event
     → DueBy {A = Answer} known m (λ t end. FormGives t (UpdatingFlash flash stream) end) event
@@ -110,7 +110,7 @@ stream_due (Some t) m bytes flash stream event e same within h = stream_mishap (
 unread_due : (known : Option Known) (bytes : Option (List ℕ)) (flash stream : List ℕ) (event : Event) → IsTold known flash bytes → IsWithin bytes → IsDue {A = List ℕ} known (λ t r. stream_data t stream ≡ r) (Err event)
     → IsDue {A = Answer} known (λ t end. FormGives t (UpdatingFlash flash stream) end) (Err event)
 unread_due None bytes flash stream event same within h = h
-unread_due (Some t) bytes flash stream event same within h = (h.0, update_given t bytes flash stream (Err event) (same t refl) (unread_told (names flash stream) bytes (stream_data t stream) event within h.1))
+unread_due (Some t) bytes flash stream event same within h = (h.0, update_given t bytes flash stream (Err event) (same t refl) (unread_known (names flash stream) bytes (stream_data t stream) event within h.1))
 
 -- ---- how an update ends
 
@@ -156,8 +156,8 @@ pub unread_over : (flash stream : List ℕ) (old new : Outside) (event : Event) 
     → IsCaused {A = List ℕ} (known_in old) (CameIn (step_over (stream ∷ []) old.inputs new.inputs)) (λ t. stream_data t stream) (Err event) → AnswersOver (UpdatingFlash flash stream) old new (Err event)
 unread_over flash stream old new event within (inl h) =
     inl (outside_goes (List ℕ) Answer (known_in old) (CameIn (step_over (stream ∷ []) old.inputs new.inputs)) (Came (Some (UpdatingFlash flash stream)) old new) (λ t r. stream_data t stream ≡ r) (λ t end. FormGives t (UpdatingFlash flash stream) end) event
-    (came_wider (UpdatingFlash flash stream) old new) (λ m e x. stream_due (known_in old) m old.flash.bytes flash stream event e (told_flash old.inputs.contents old.flash.bytes flash) within x) h)
-unread_over flash stream old new event within (inr h) = inr (unread_due (known_in old) old.flash.bytes flash stream event (told_flash old.inputs.contents old.flash.bytes flash) within h)
+    (came_wider (UpdatingFlash flash stream) old new) (λ m e x. stream_due (known_in old) m old.flash.bytes flash stream event e (known_flash old.inputs.contents old.flash.bytes flash) within x) h)
+unread_over flash stream old new event within (inr h) = inr (unread_due (known_in old) old.flash.bytes flash stream event (known_flash old.inputs.contents old.flash.bytes flash) within h)
 
 -- what was written to the output is what it had
 out_same : (old new : Outside) → new.out ≡ old.out → new.out.written ≡ old.out.written
@@ -202,8 +202,8 @@ data_at : (known : Option Known) (stream bytes : List ℕ) → HasData known str
 data_at known stream bytes h t e = let at : HasData (Some t) stream bytes = subst (λ (k : Option Known). HasData k stream bytes) e h in at
 
 -- a refusal by what the flash holds
-fault_told : (n : UpdateNames) (told : Option (List ℕ)) (read : Result (List ℕ) Event) (bytes : List ℕ) (fault : UpdateFault) → IsWithin told → read ≡ Ok bytes → IsUpdateFault told bytes fault → UpdatesBytes n told read (Err (update_event n fault))
-fault_told n told read bytes fault within e h = inr (within, subst (λ (r : Result (List ℕ) Event). UpdatesWith n told r (Err (update_event n fault))) (sym e) (fault, h, refl))
+fault_known : (n : UpdateNames) (told : Option (List ℕ)) (read : Result (List ℕ) Event) (bytes : List ℕ) (fault : UpdateFault) → IsWithin told → read ≡ Ok bytes → IsUpdateFault told bytes fault → UpdatesBytes n told read (Err (update_event n fault))
+fault_known n told read bytes fault within e h = inr (within, subst (λ (r : Result (List ℕ) Event). UpdatesWith n told r (Err (update_event n fault))) (sym e) (fault, h, refl))
 
 -- a refusal's cause since before the attach
 pub cause_from : (bytes : List ℕ) (a b c : FlashState) (fault : UpdateFault) → b.bytes ≡ a.bytes → b.write_faults ≡ a.write_faults → a.faults ≤ b.faults → HasCause bytes b c fault → HasCause bytes a c fault
@@ -219,7 +219,7 @@ could_end : (flash stream bytes : List ℕ) (old : Outside) → IsWithin old.fla
 could_end flash stream bytes old within has can =
     let told = old.flash.bytes in
     let n = names flash stream in
-    agreed (known_in old) told flash stream (Ok no_text) (told_flash old.inputs.contents told flash)
+    agreed (known_in old) told flash stream (Ok no_text) (known_flash old.inputs.contents told flash)
     (λ t e. inr (within, subst (λ (r : Result (List ℕ) Event). UpdatesWith n told r (Ok no_text)) (sym (data_at (known_in old) stream bytes has t e)) (refl, can)))
 
 -- the stream is good, whatever the flash holds
@@ -247,16 +247,16 @@ fault_ends flash stream bytes old new (Failed false) out asked within has reads 
     (inl (inr (record { mishap = Failing flash new.inputs.given; came = (refl, inr (record { among = inl refl; asked = asked; risen = h.0 })); is = refl; due = flash_due (known_in old) (Failing flash new.inputs.given) flash stream refl }))) (inl h.0)
 fault_ends flash stream bytes old new TooLong out asked within has reads size h early =
     refused_ends flash stream old new (bad_input stream input.Long) out (fault_measured (Some (UpdatingFlash flash stream)) (names flash stream) new.flash TooLong) (fault_last flash stream bytes old.inputs new.flash TooLong reads size)
-    (update_over flash stream old new (Err (bad_input stream input.Long)) (tt, tt) (λ t e. fault_told (names flash stream) old.flash.bytes (stream_data t stream) bytes TooLong within (data_at (known_in old) stream bytes has t e) h)) (early tt)
+    (update_over flash stream old new (Err (bad_input stream input.Long)) (tt, tt) (λ t e. fault_known (names flash stream) old.flash.bytes (stream_data t stream) bytes TooLong within (data_at (known_in old) stream bytes has t e) h)) (early tt)
 fault_ends flash stream bytes old new (NoLayout place) out asked within has reads size h early =
     refused_ends flash stream old new (bad_input flash (input.Layout place)) out (fault_measured (Some (UpdatingFlash flash stream)) (names flash stream) new.flash (NoLayout place)) (fault_last flash stream bytes old.inputs new.flash (NoLayout place) reads size)
     (update_over flash stream old new (Err (bad_input flash (input.Layout place))) (tt, tt)
-    (λ t e. fault_told (names flash stream) old.flash.bytes (stream_data t stream) bytes (NoLayout place) within (data_at (known_in old) stream bytes has t e) h)) (early tt)
+    (λ t e. fault_known (names flash stream) old.flash.bytes (stream_data t stream) bytes (NoLayout place) within (data_at (known_in old) stream bytes has t e) h)) (early tt)
 fault_ends flash stream bytes old new (Differs place wrote read) out asked within has reads size h early = record {
   cause = (
     (place, refl, h.1, record { bytes = bytes; has = has; wrote = wrote; read = read; wrong = h.0; first = h.2 }),
-    agreed (known_in old) old.flash.bytes flash stream (Err (differs flash place)) (told_flash old.inputs.contents old.flash.bytes flash)
-        (λ t e. fault_told (names flash stream) old.flash.bytes (stream_data t stream) bytes (Differs place wrote read) within (data_at (known_in old) stream bytes has t e) ((new.flash.extent, h.0), h.1)),
+    agreed (known_in old) old.flash.bytes flash stream (Err (differs flash place)) (known_flash old.inputs.contents old.flash.bytes flash)
+        (λ t e. fault_known (names flash stream) old.flash.bytes (stream_data t stream) bytes (Differs place wrote read) within (data_at (known_in old) stream bytes has t e) ((new.flash.extent, h.0), h.1)),
   );
   wrote = out_same old new out;
   near = near_all (UpdatingFlash flash stream) (status_of (differs flash place)) old new refl;
@@ -278,7 +278,7 @@ done_ends flash stream bytes old new out within has layout size becomes =
       [],
       record {
         cause = could_end flash stream bytes old within has (can_take told new.flash.bytes bytes layout becomes);
-        wrote = out_same old new out ∙ sym (appended-nil old.out.written);
+        wrote = out_same old new out ∙ sym (appended_nil old.out.written);
         near = near_all (UpdatingFlash flash stream) (text_status false) old new refl;
         measured = λ name a. size;
         last = tt;

@@ -2,7 +2,7 @@
 use Rattle.std.proofs.Common.{◌≡◌, ℕ, ◌+◌, ◌-◌, ◌*◌, ◌<◌, ◌≤◌, IsTrue, true, false, List, length, Option, None, Some, option_map, Result, Ok, Err, IfErr, get_or, slice_range, refl, ap, sym, subst, ◌∙◌, arith}
 use Rattle.x7_words.specs.Flash.{FlashState, IfKnown, Sees}
 use Rattle.x7_words.proofs.CountLemmas.{risen_from}
-use Rattle.x7_words.proofs.FlashLemmas.{get_or-slice_range}
+use Rattle.x7_words.proofs.FlashLemmas.{get_or_slice_range}
 use Rattle.x7_update.specs.Layout.{CanStandAt, HasSize, IsOpen, open_switch}
 use Rattle.x7_update.specs.Refused.{CanTake, HasCause}
 use Rattle.x7_update.specs.Writing.{BecomesBytes, EndFails, HasWanted, IsWritten, IsWrong, SeesWanted, in_stream, in_switch, wanted_at}
@@ -22,7 +22,7 @@ not_known : (known : Option (List ℕ)) (from : ℕ) (piece : List ℕ) (place c
 not_known None from piece place count buffer at wrote read long r h w = refl
 not_known (Some all) from piece place count buffer at wrote read long r h w =
     let within : w.0 < count = omega (arith, long, w.1) in
-    let found : read ≡ get_or all (place + w.0) 0 = w.4 ∙ ap (λ b. get_or b w.0 0) r ∙ get_or-slice_range all place count w.0 within in
+    let found : read ≡ get_or all (place + w.0) 0 = w.4 ∙ ap (λ b. get_or b w.0 0) r ∙ get_or_slice_range all place count w.0 within in
     let same : wrote ≡ read = w.3 ∙ ap (wanted_at from piece) w.2 ∙ sym (found ∙ h w.0 within) in
     absurd (w.5 same)
 

@@ -4,7 +4,7 @@ use Rattle.x7_words.specs.Flash.{Elapses, FlashState, IfKnown, IsTorn, TornFrom,
 use Rattle.x7_words.specs.Word.{AreBytes}
 use Rattle.x7_words.proofs.FlashLemmas.{torn_bytes}
 use Rattle.x7_update.specs.Writing.{AtAnyMoment, StaysBytes}
-use Rattle.x7_update.proofs.ToldLemmas.{moments_on, moments_weaker, told_all, told_at, write_moments}
+use Rattle.x7_update.proofs.KnownLemmas.{moments_on, moments_weaker, known_all, known_at, write_moments}
 
 -- two calls, one after the other
 pub bytes_on : (a b c : FlashState) (past mids since : ℕ → List ℕ → Type 0) → AtAnyMoment a b past mids StaysBytes → AtAnyMoment b c mids since StaysBytes → AtAnyMoment a c past since StaysBytes
@@ -22,9 +22,9 @@ bytes_write place target old new past since answer fits within done torn passes 
 -- at any moment both
 pub moments_both : (a b : FlashState) (past since : ℕ → List ℕ → Type 0) (P Q : List ℕ → List ℕ → Type 0) → AtAnyMoment a b past since P → AtAnyMoment a b past since Q → AtAnyMoment a b past since (λ all found. P all found × Q all found)
 moments_both a b past since P Q m n = record {
-  leaves = told_all a.bytes (λ all. (now : List ℕ) × (b.bytes ≡ Some now) × (P all now × Q all now)) (λ all e.
-      let p = told_at a.bytes (λ all. (now : List ℕ) × (b.bytes ≡ Some now) × P all now) m.leaves all e in
-      let q = told_at a.bytes (λ all. (now : List ℕ) × (b.bytes ≡ Some now) × Q all now) n.leaves all e in
+  leaves = known_all a.bytes (λ all. (now : List ℕ) × (b.bytes ≡ Some now) × (P all now × Q all now)) (λ all e.
+      let p = known_at a.bytes (λ all. (now : List ℕ) × (b.bytes ≡ Some now) × P all now) m.leaves all e in
+      let q = known_at a.bytes (λ all. (now : List ℕ) × (b.bytes ≡ Some now) × Q all now) n.leaves all e in
       let both : Some p.0 ≡ Some q.0 = sym p.1 ∙ q.1 in
       let same : p.0 ≡ q.0 = cc in
       (p.0, p.1, (p.2, subst (Q all) (sym same) q.2)));

@@ -8,9 +8,9 @@ use Rattle.x7_update.specs.After.{ClosesTo, already, spends, IsAfter, IsBetween,
 use Rattle.x7_update.specs.Writing.{AtAnyMoment, Closing, HasWanted, KeepsBelow, OnlySwitch, Opening, Replaced, Replacing}
 use Rattle.x7_update.specs.Slots.{Finds}
 use Rattle.x7_update.specs.declared.slots.Slots.{Slots}
-use Rattle.x7_update.proofs.StreamLemmas.{length-with_stream, with_stream_below, with_stream_wanted}
-use Rattle.x7_update.proofs.SwitchLemmas.{length-switched, switched_others, switch_switched, switch_other}
-use Rattle.x7_update.proofs.ToldLemmas.{told_map}
+use Rattle.x7_update.proofs.StreamLemmas.{length_with_stream, with_stream_below, with_stream_wanted}
+use Rattle.x7_update.proofs.SwitchLemmas.{length_switched, switched_others, switch_switched, switch_other}
+use Rattle.x7_update.proofs.KnownLemmas.{known_map}
 
 pub true_or_false : (b : Bool) → b ≡ true → b ≡ false → ⊥
 true_or_false b t f = let same : true ≡ false = sym t ∙ f in cc
@@ -64,7 +64,7 @@ between_closing size slot all found has h is only = record {
 -- the slot is spent
 pub only_spent : (slot : ℕ) (all : List ℕ) → 32 * slot + 4 ≤ length all → OnlySwitch slot all (switched slot spent_switch all)
 only_spent slot all within = record {
-  size = length-switched slot spent_switch all refl within;
+  size = length_switched slot spent_switch all refl within;
   others = switched_others slot spent_switch all refl within;
   shut = λ o. open_not_spent (sym (switch_switched slot 0 0 0 0 all within) ∙ o);
 }
@@ -86,7 +86,7 @@ between_below size all mid found has b keeps = record {
 }
 
 pub stream_keeps : (place : ℕ) (stream all : List ℕ) → place + length stream ≤ length all → KeepsBelow place all (with_stream place stream all)
-stream_keeps place stream all fits = record { size = length-with_stream place stream all fits; below = with_stream_below place stream all fits }
+stream_keeps place stream all fits = record { size = length_with_stream place stream all fits; below = with_stream_below place stream all fits }
 
 -- the next slot alone is torn
 pub between_opening : (slot : ℕ) (all mid found : List ℕ) → IsBetween all mid → IsNextFreeSlot all slot → OnlySwitch slot mid found → IsBetween all found
@@ -180,4 +180,4 @@ pub found_left : (stream : List ℕ) (old new : FlashState) (past since : ℕ �
     → (found : List ℕ) → since old.moments found → IfKnown old.bytes (λ all. MayBeLeft stream all found)
 found_left stream old new past since only m found had =
     let now : old.moments ≤ old.moments = omega arith in
-    ⊎_elim (λ before. told_map old.bytes (λ all. found ≡ all) (λ all. MayBeLeft stream all found) (λ all e same. untouched same) (only found before)) (λ within. within) (m.elapses.nothing_else old.moments found now had)
+    ⊎_elim (λ before. known_map old.bytes (λ all. found ≡ all) (λ all. MayBeLeft stream all found) (λ all e same. untouched same) (only found before)) (λ within. within) (m.elapses.nothing_else old.moments found now had)

@@ -5,7 +5,7 @@ use Rattle.x7_update.specs.Layout.{HasLayout, Leads}
 use Rattle.x7_update.specs.Refused.{CanBeUpdated, DiffersAt, HasCause, IsTooLong, NoLayoutAt, bad_first, bad_place, bad_size, bad_slot, last_taken}
 use Rattle.x7_update.specs.declared.fault.UpdateFault.{UpdateFault}
 use Rattle.x7_update.specs.declared.fault.UpdateFault.TheVariants.{Differs, Failed, NoLayout, NoMemory, TooLong}
-use Rattle.x7_update.proofs.ToldLemmas.{told_at}
+use Rattle.x7_update.proofs.KnownLemmas.{known_at}
 
 differs_not : (flash : List ℕ) (slot place : ℕ) → Leads flash slot → DiffersAt flash slot place → ⊥
 differs_not flash slot place leads d = d.differs (ap (λ p. get_or flash p 0) d.is ∙ leads d.i d.after_switch d.within)
@@ -26,10 +26,10 @@ only_memory : (stream : List ℕ) (old new : FlashState) (fault : UpdateFault) �
 only_memory stream old new (Failed true) cause can = absurd (can.writes cause.0)
 only_memory stream old new (Failed false) cause can = absurd (can.reads cause.0)
 only_memory stream old new TooLong cause can =
-    let long = told_at old.bytes (IsTooLong stream) cause can.flash can.known in
+    let long = known_at old.bytes (IsTooLong stream) cause can.flash can.known in
     absurd (omega (arith, long.passes, can.fits))
 only_memory stream old new (NoLayout place) cause can =
-    absurd (layout_or_not can.flash place can.layout (told_at old.bytes (λ flash. NoLayoutAt (length flash) flash place) cause can.flash can.known))
+    absurd (layout_or_not can.flash place can.layout (known_at old.bytes (λ flash. NoLayoutAt (length flash) flash place) cause can.flash can.known))
 only_memory stream old new (Differs at wrote read) cause can = let both : None ≡ Some can.flash = sym cause.1 ∙ can.known in cc
 only_memory stream old new NoMemory cause can = refl
 

@@ -8,7 +8,7 @@ use Rattle.x7_update.specs.Layout.{CanStandAt, HasLayout, HasSize, IsFree, IsNex
 use Rattle.x7_update.specs.After.{ClosesTo, already, spends, IsAfter, IsBetween, MayBeLeft, after, between, untouched, switched, with_stream}
 use Rattle.x7_update.specs.Layout.{spent_switch, update_place}
 use Rattle.x7_update.proofs.CaseLemmas.{behind, between_below, between_closed, open_not_free, stream_keeps, true_or_false}
-use Rattle.x7_update.proofs.SwitchLemmas.{length-switched, switch_other, switched_others}
+use Rattle.x7_update.proofs.SwitchLemmas.{length_switched, switch_other, switched_others}
 
 -- none of the bytes is AA, with which a sync word begins
 abbrev NoStart : List ℕ → Type 0
@@ -23,8 +23,8 @@ no_start [] h i k = absurd (omega arith)
 no_start (x ∷ xs) h zero k = h.0
 no_start (x ∷ xs) h (suc i) k = no_start xs h.1 i (omega arith)
 
-front_apart : (flash : List ℕ) → NoStart (take 8 (drop 4 (first_slot flash)))
-front_apart flash = (apart 0x20 refl, (apart 0 refl, (apart 0 refl, (apart 0 refl, (apart 0x30 refl, (apart 2 refl, (apart 0 refl, (apart 1 refl, tt))))))))
+prefix_apart : (flash : List ℕ) → NoStart (take 8 (drop 4 (first_slot flash)))
+prefix_apart flash = (apart 0x20 refl, (apart 0 refl, (apart 0 refl, (apart 0 refl, (apart 0x30 refl, (apart 2 refl, (apart 0 refl, (apart 1 refl, tt))))))))
 
 back_apart : (flash : List ℕ) → NoStart (drop 16 (first_slot flash))
 back_apart flash = (
@@ -89,7 +89,7 @@ module _ (flash found : List ℕ) (l : HasLayout flash) (b : IsBetween flash fou
           | inr behind ↦ elim (cases_lt j 12) [
             | inl prefix ↦
                 let at : 4 + (j - 4) ≡ j = omega arith in
-                no_start (take 8 (drop 4 (first_slot flash))) (front_apart flash) (j - 4) (omega arith)
+                no_start (take 8 (drop 4 (first_slot flash))) (prefix_apart flash) (j - 4) (omega arith)
                 (get_or-take 8 (drop 4 (first_slot flash)) (j - 4) 0 (omega arith) ∙ get_or-drop 4 (first_slot flash) (j - 4) 0 ∙ ap (λ n. get_or (first_slot flash) n 0) at ∙ sym (byte_at place j h refl behind) ∙ e0)
             | inr start ↦ elim (cases_eq j 12) [
               | inl twelve ↦
@@ -131,7 +131,7 @@ last_stays flash found l b more = b.switches 2047 (omega arith) (λ o. open_not_
 -- the updated flash
 layout_after : (stream flash found : List ℕ) → HasLayout flash → IsAfter stream flash found → (IsNextFreeSlot flash 2047 → ⊥) → HasLayout found
 layout_after stream flash found l a more =
-    layout_with flash found l (ap length a.is ∙ length-switched a.next open_switch now refl within ∙ b.size)
+    layout_with flash found l (ap length a.is ∙ length_switched a.next open_switch now refl within ∙ b.size)
     (λ i h k. ap (λ f. get_or f i 0) a.is ∙ switched_others a.next open_switch now refl within i (behind a.next i k) ∙ b.slots i h k)
     (λ slot other h k o p. the_next slot h o ∙ sym (the_next other k p))
     (ap (λ f. switch_of f 2047) a.is ∙ switch_other a.next 2047 open_switch now refl within (λ same. more (subst (IsNextFreeSlot flash) (sym same) a.is_next)) ∙ last_stays flash now l b more)

@@ -10,7 +10,7 @@ use Rattle.x7_update.specs.Writing.{ReadsWanted, ReadsWantedTo, Replacing, SeesW
 use Rattle.x7_update.proofs.CaseLemmas.{between_below, between_closed, open_not_free, stream_keeps}
 use Rattle.x7_update.proofs.StreamLemmas.{wanted_inside}
 use Rattle.x7_update.proofs.SwitchLemmas.{switch_switched}
-use Rattle.x7_update.proofs.ToldLemmas.{told_map}
+use Rattle.x7_update.proofs.KnownLemmas.{known_map}
 use Rattle.x7_update.specs.declared.slots.Slots.{Slots}
 
 -- ---- what is seen
@@ -62,7 +62,7 @@ module _ {F : Type 0} (state : F → FlashState) (stream : List ℕ) (old new : 
   read_back fits finds was = record {
     update = slots.update;
     stands = fits.place;
-    place = told_map old.bytes (λ all. Finds (length all) all slots) (λ all. slots.update ≡ update_place all) (λ all e f. f.update) finds;
+    place = known_map old.bytes (λ all. Finds (length all) all slots) (λ all. slots.update ≡ update_place all) (λ all e f. f.update) finds;
     ready = was;
   }
 
@@ -73,7 +73,7 @@ module _ {F : Type 0} (state : F → FlashState) (stream : List ℕ) (old new : 
     before = read_back fits finds was;
     slot = slots.next;
     within = fits.next;
-    next = told_map old.bytes (λ all. Finds (length all) all slots) (λ all. IsNextFreeSlot all slots.next) (λ all e f. f.next) finds;
+    next = known_map old.bytes (λ all. Finds (length all) all slots) (λ all. IsNextFreeSlot all slots.next) (λ all e f. f.next) finds;
     switch = seen;
   }
 

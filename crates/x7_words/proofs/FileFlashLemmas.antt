@@ -14,25 +14,25 @@ use Rattle.x7_words.specs.declared.input.SelectFault.TheVariants.{Missing, Faile
 -- ---- an attach
 
 -- a file whose end was sought is open
-open-extent : {F : Type 0} → (t : KnowsOfFile F) (extent : ℕ) (file : Option F) → IsExtent t extent file → is_some file ≡ true
-open-extent t extent None e = absurd e
-open-extent t extent (Some file) e = refl
+open_extent : {F : Type 0} → (t : KnowsOfFile F) (extent : ℕ) (file : Option F) → IsExtent t extent file → is_some file ≡ true
+open_extent t extent None e = absurd e
+open_extent t extent (Some file) e = refl
 
 -- an attach that is Ok attaches
-pub attached-ok : {F : Type 0} → (t : KnowsOfFile F) (extent : ℕ) (file : Option F) (answer : Result (Unit {0}) SelectFault) → OnOk answer (IsExtent t extent file) → OnOk answer (is_some file ≡ true)
-attached-ok t extent file (Ok _) e = open-extent t extent file e
-attached-ok t extent file (Err fault) e = tt
+pub attached_ok : {F : Type 0} → (t : KnowsOfFile F) (extent : ℕ) (file : Option F) (answer : Result (Unit {0}) SelectFault) → OnOk answer (IsExtent t extent file) → OnOk answer (is_some file ≡ true)
+attached_ok t extent file (Ok _) e = open_extent t extent file e
+attached_ok t extent file (Err fault) e = tt
 
 -- an attach that is not Ok attaches nothing
-pub attached-err : {F : Type 0} → (old new : RealFlash F) (answer : Result (Unit {0}) SelectFault) → new ≡ after_opening old answer new → OnErr answer (is_some new.file ≡ false)
-attached-err old new (Ok _) e = tt
-attached-err old new (Err _) e = ap (λ f. is_some f.file) e
+pub attached_err : {F : Type 0} → (old new : RealFlash F) (answer : Result (Unit {0}) SelectFault) → new ≡ after_opening old answer new → OnErr answer (is_some new.file ≡ false)
+attached_err old new (Ok _) e = tt
+attached_err old new (Err _) e = ap (λ f. is_some f.file) e
 
 -- an attach that is not Ok counts what it answers
-pub attached-refused : {F : Type 0} → (old new : RealFlash F) (answer : Result (Unit {0}) SelectFault) → new ≡ after_opening old answer new → IfErr answer (Unattached (known_flash old) (known_flash new))
-attached-refused old new (Ok _) e = tt
-attached-refused old new (Err Missing) e = raised_risen old.absences new.absences (ap (λ f. f.absences) e)
-attached-refused old new (Err Failed) e = raised_risen old.faults new.faults (ap (λ f. f.faults) e)
+pub attached_refused : {F : Type 0} → (old new : RealFlash F) (answer : Result (Unit {0}) SelectFault) → new ≡ after_opening old answer new → IfErr answer (Unattached (known_flash old) (known_flash new))
+attached_refused old new (Ok _) e = tt
+attached_refused old new (Err Missing) e = raised_risen old.absences new.absences (ap (λ f. f.absences) e)
+attached_refused old new (Err Failed) e = raised_risen old.faults new.faults (ap (λ f. f.faults) e)
 
 -- an attach leaves the count of faults of writes
 pub attach_write_faults : {F : Type 0} → (old new : RealFlash F) (answer : Result (Unit {0}) SelectFault) → new ≡ after_opening old answer new → new.write_faults ≡ old.write_faults
@@ -88,21 +88,21 @@ on_ok (Ok _) p = p
 on_ok (Err _) p = tt
 
 -- a piece more is cleared
-pieces-more : {F : Type 0} → (reads writes : KnowsOfFile F) (place : ℕ) (pieces : List (List ℕ)) (piece : List ℕ) (old between new : F) → ClearsPieces reads writes place pieces old between
+pieces_more : {F : Type 0} → (reads writes : KnowsOfFile F) (place : ℕ) (pieces : List (List ℕ)) (piece : List ℕ) (old between new : F) → ClearsPieces reads writes place pieces old between
     → ClearsAt reads writes (place + length (concat pieces)) piece between new → ClearsPieces reads writes place (pieces ++ piece ∷ []) old new
-pieces-more {F} reads writes place [] piece old between new same one =
+pieces_more {F} reads writes place [] piece old between new same one =
     let here : place + 0 ≡ place = omega arith in
     (new, subst (λ file. ClearsAt reads writes place piece file new) same (subst (λ at. ClearsAt reads writes at piece between new) here one), refl)
-pieces-more {F} reads writes place (first ∷ pieces) piece old between new (then, cleared, others) one =
+pieces_more {F} reads writes place (first ∷ pieces) piece old between new (then, cleared, others) one =
     let there : place + length (first ++ concat pieces) ≡ place + length first + length (concat pieces) = omega (arith, length-append first (concat pieces)) in
-    (then, cleared, pieces-more reads writes (place + length first) pieces piece then between new others (subst (λ at. ClearsAt reads writes at piece between new) there one))
+    (then, cleared, pieces_more reads writes (place + length first) pieces piece then between new others (subst (λ at. ClearsAt reads writes at piece between new) there one))
 
-pub clears-more : {F : Type 0} → (reads writes : KnowsOfFile F) (place at : ℕ) (prefix piece given : List ℕ) (old between new : F) → Clears reads writes place prefix old between → at ≡ place + length prefix → ClearsAt reads writes at piece between new
+pub clears_more : {F : Type 0} → (reads writes : KnowsOfFile F) (place at : ℕ) (prefix piece given : List ℕ) (old between new : F) → Clears reads writes place prefix old between → at ≡ place + length prefix → ClearsAt reads writes at piece between new
     → given ≡ prefix ++ piece → Clears reads writes place given old new
-clears-more {F} reads writes place at prefix piece given old between new c is one both = record {
+clears_more {F} reads writes place at prefix piece given old between new c is one both = record {
   pieces = c.pieces ++ piece ∷ [];
   are = concat-append c.pieces (piece ∷ []) ∙ ap (λ s. concat c.pieces ++ s) (append-nil piece) ∙ ap (λ s. s ++ piece) c.are ∙ sym both;
-  each = pieces-more reads writes place c.pieces piece old between new c.each (subst (λ n. ClearsAt reads writes n piece between new) (is ∙ ap (λ s. place + length s) (sym c.are)) one);
+  each = pieces_more reads writes place c.pieces piece old between new c.each (subst (λ n. ClearsAt reads writes n piece between new) (is ∙ ap (λ s. place + length s) (sym c.are)) one);
 }
 
 -- a write that fails counts a fault of writes

@@ -12,21 +12,21 @@ use Rattle.x7_words.specs.declared.input.SelectFault.{SelectFault}
 use Rattle.x7_words.specs.declared.input.SelectFault.TheVariants.{Missing, Failed}
 
 -- an open that is Ok selects, and of a rest that is never known nothing is said
-pub opened-ok : (old new : RealInputs) (rest : Option (List ℕ)) (refusal : Option ErrorKind) (name : List ℕ) (answer : Result (Unit {0}) SelectFault) → new ≡ after_open old rest refusal answer → OnOk answer (Opens (known_inputs old) name (known_inputs new))
-opened-ok old new rest refusal name (Ok _) e = record { selected = ap (λ f. f.selected) e; found = tt }
-opened-ok old new rest refusal name (Err fault) e = tt
+pub opened_ok : (old new : RealInputs) (rest : Option (List ℕ)) (refusal : Option ErrorKind) (name : List ℕ) (answer : Result (Unit {0}) SelectFault) → new ≡ after_open old rest refusal answer → OnOk answer (Opens (known_inputs old) name (known_inputs new))
+opened_ok old new rest refusal name (Ok _) e = record { selected = ap (λ f. f.selected) e; found = tt }
+opened_ok old new rest refusal name (Err fault) e = tt
 
 -- an open that is not Ok counts what it answers
-pub opened-refused : (old new : RealInputs) (rest : Option (List ℕ)) (refusal : Option ErrorKind) (name : List ℕ) (answer : Result (Unit {0}) SelectFault) → new ≡ after_open old rest refusal answer → IfErr answer (Refuses (known_inputs old) name (known_inputs new))
-opened-refused old new rest refusal name (Ok _) e = tt
-opened-refused old new rest refusal name (Err Missing) e = inr (raised_risen old.absences new.absences (ap (λ f. f.absences) e))
-opened-refused old new rest refusal name (Err Failed) e = raised_risen old.faults new.faults (ap (λ f. f.faults) e)
+pub opened_refused : (old new : RealInputs) (rest : Option (List ℕ)) (refusal : Option ErrorKind) (name : List ℕ) (answer : Result (Unit {0}) SelectFault) → new ≡ after_open old rest refusal answer → IfErr answer (Refuses (known_inputs old) name (known_inputs new))
+opened_refused old new rest refusal name (Ok _) e = tt
+opened_refused old new rest refusal name (Err Missing) e = inr (raised_risen old.absences new.absences (ap (λ f. f.absences) e))
+opened_refused old new rest refusal name (Err Failed) e = raised_risen old.faults new.faults (ap (λ f. f.faults) e)
 
 -- an open that is not Ok selects nothing
-pub opened-err : (old new : RealInputs) (rest : Option (List ℕ)) (refusal : Option ErrorKind) (answer : Result (Unit {0}) SelectFault) → new ≡ after_open old rest refusal answer → OnErr answer (new.selected ≡ false)
-opened-err old new rest refusal (Ok _) e = tt
-opened-err old new rest refusal (Err Missing) e = ap (λ f. f.selected) e
-opened-err old new rest refusal (Err Failed) e = ap (λ f. f.selected) e
+pub opened_err : (old new : RealInputs) (rest : Option (List ℕ)) (refusal : Option ErrorKind) (answer : Result (Unit {0}) SelectFault) → new ≡ after_open old rest refusal answer → OnErr answer (new.selected ≡ false)
+opened_err old new rest refusal (Ok _) e = tt
+opened_err old new rest refusal (Err Missing) e = ap (λ f. f.selected) e
+opened_err old new rest refusal (Err Failed) e = ap (λ f. f.selected) e
 
 -- a read that fails counts a fault
 pub failed_read : (old new : RealInputs) (answer : Result ℕ FailedRead) → OnErr answer (new ≡ record old { selected = false; rest = None; faults = raised old.faults }) → OnErr answer (Fails (known_inputs old) (known_inputs new))
@@ -39,10 +39,10 @@ read_err old new (Ok _) e = tt
 read_err old new (Err _) e = ap (λ f. f.selected) e
 
 -- whatever an open answers, nothing was given since
-pub opened-asks : (old new : RealInputs) (rest : Option (List ℕ)) (refusal : Option ErrorKind) (name : List ℕ) (answer : Result (Unit {0}) SelectFault) → new ≡ after_open old rest refusal answer → Asks name (known_inputs new)
-opened-asks old new rest refusal name (Ok _) e = record { asked = tt; given = ap (λ f. f.given) e }
-opened-asks old new rest refusal name (Err Missing) e = record { asked = tt; given = ap (λ f. f.given) e }
-opened-asks old new rest refusal name (Err Failed) e = record { asked = tt; given = ap (λ f. f.given) e }
+pub opened_asks : (old new : RealInputs) (rest : Option (List ℕ)) (refusal : Option ErrorKind) (name : List ℕ) (answer : Result (Unit {0}) SelectFault) → new ≡ after_open old rest refusal answer → Asks name (known_inputs new)
+opened_asks old new rest refusal name (Ok _) e = record { asked = tt; given = ap (λ f. f.given) e }
+opened_asks old new rest refusal name (Err Missing) e = record { asked = tt; given = ap (λ f. f.given) e }
+opened_asks old new rest refusal name (Err Failed) e = record { asked = tt; given = ap (λ f. f.given) e }
 
 -- a read that is Ok leaves the file selected, and of a rest that is never known nothing is said
 pub read_ok : (old new : RealInputs) (buf : List ℕ) (answer : Result ℕ FailedRead) → old.selected ≡ true → IfOk answer (λ n. n ≤ length buf) → IfOk answer (λ n. new ≡ record old { rest = new.rest; ends = ends_counted n old.ends; given = added old.given n })

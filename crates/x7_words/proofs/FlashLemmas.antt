@@ -7,41 +7,41 @@ use Rattle.std.proofs.lemmas.Nat.{and_mask}
 use Rattle.std.proofs.lemmas.Nat.Bits.{bit_at_above, bit_at_and, bit_at_ones, bit_at_ones_above, bit_at-lt, same_from_bits}
 use Rattle.x7_words.specs.Flash.{FlashState, OnlyReads, Unwritten, sector_size, erased_sector, replaced, cleared, zip_with, IsTorn, Elapses}
 use Rattle.x7_words.specs.Word.{AreBytes}
-use Rattle.x7_words.proofs.ListLemmas.{all-append, all_back, all_from_places, all_take}
-use Rattle.x7_words.proofs.ZipLemmas.{length-zip_with}
+use Rattle.x7_words.proofs.ListLemmas.{all_append, all_back, all_from_places, all_take}
+use Rattle.x7_words.proofs.ZipLemmas.{length_zip_with}
 
 pub sector_size_is : sector_size ≡ 65536
 unfolding sector_size
 sector_size_is = refl
 
-pub length-erased_sector : length erased_sector ≡ 65536
-length-erased_sector = length-replicate sector_size 255 ∙ sector_size_is
+pub length_erased_sector : length erased_sector ≡ 65536
+length_erased_sector = length-replicate sector_size 255 ∙ sector_size_is
 
-pub get_or-erased_sector : (i : ℕ) → i < 65536 → get_or erased_sector i 0 ≡ 255
-get_or-erased_sector i h = get_or-replicate sector_size i 255 0 (omega (arith, sector_size_is))
+pub get_or_erased_sector : (i : ℕ) → i < 65536 → get_or erased_sector i 0 ≡ 255
+get_or_erased_sector i h = get_or-replicate sector_size i 255 0 (omega (arith, sector_size_is))
 
-pub length-slice_range : (all : List ℕ) (place count : ℕ) → place + count ≤ length all → length (slice_range all place (place + count)) ≡ count
-length-slice_range all place count h =
+pub length_slice_range : (all : List ℕ) (place count : ℕ) → place + count ≤ length all → length (slice_range all place (place + count)) ≡ count
+length_slice_range all place count h =
     length-take-le (place + count - place) (drop place all) (omega (arith, length-drop place all)) ∙ omega arith
 
-pub get_or-slice_range : (all : List ℕ) (place count i : ℕ) → i < count → get_or (slice_range all place (place + count)) i 0 ≡ get_or all (place + i) 0
-get_or-slice_range all place count i h =
+pub get_or_slice_range : (all : List ℕ) (place count i : ℕ) → i < count → get_or (slice_range all place (place + count)) i 0 ≡ get_or all (place + i) 0
+get_or_slice_range all place count i h =
     get_or-take (place + count - place) (drop place all) i 0 (omega arith) ∙ get_or-drop place all i 0
 
 -- a piece in the place of as many bytes
 module _ (place : ℕ) (piece all : List ℕ) (within : place + length piece ≤ length all) where
-  pub length-replaced : length (replaced place piece all) ≡ length all
-  length-replaced =
+  pub length_replaced : length (replaced place piece all) ≡ length all
+  length_replaced =
       length-append (take place all) (piece ++ drop (place + length piece) all)
       ∙ omega (arith, length-append piece (drop (place + length piece) all), length-take-le place all (omega arith), length-drop (place + length piece) all)
 
-  pub get_or-replaced_below : (i : ℕ) → i < place → get_or (replaced place piece all) i 0 ≡ get_or all i 0
-  get_or-replaced_below i h =
+  pub get_or_replaced_below : (i : ℕ) → i < place → get_or (replaced place piece all) i 0 ≡ get_or all i 0
+  get_or_replaced_below i h =
       get_or_append_left (take place all) (piece ++ drop (place + length piece) all) 0 i (omega (arith, length-take-le place all (omega arith)))
       ∙ get_or-take place all i 0 h
 
-  pub get_or-replaced_inside : (i : ℕ) → i < length piece → get_or (replaced place piece all) (place + i) 0 ≡ get_or piece i 0
-  get_or-replaced_inside i h =
+  pub get_or_replaced_inside : (i : ℕ) → i < length piece → get_or (replaced place piece all) (place + i) 0 ≡ get_or piece i 0
+  get_or_replaced_inside i h =
       get_or-append_right (take place all) (piece ++ drop (place + length piece) all) place (place + i) 0 (length-take-le place all (omega arith)) (omega arith)
       ∙ ap (λ k. get_or (piece ++ drop (place + length piece) all) k 0) back
       ∙ get_or_append_left piece (drop (place + length piece) all) 0 i h
@@ -49,8 +49,8 @@ module _ (place : ℕ) (piece all : List ℕ) (within : place + length piece ≤
       back : place + i - place ≡ i
       back = omega arith
 
-  pub get_or-replaced_above : (i : ℕ) → place + length piece ≤ i → get_or (replaced place piece all) i 0 ≡ get_or all i 0
-  get_or-replaced_above i h =
+  pub get_or_replaced_above : (i : ℕ) → place + length piece ≤ i → get_or (replaced place piece all) i 0 ≡ get_or all i 0
+  get_or_replaced_above i h =
       get_or-append_right (take place all) (piece ++ drop (place + length piece) all) place i 0 (length-take-le place all (omega arith)) (omega arith)
       ∙ get_or-append_right piece (drop (place + length piece) all) (length piece) (i - place) 0 refl (omega arith)
       ∙ get_or-drop (place + length piece) all (i - place - length piece) 0
@@ -59,46 +59,46 @@ module _ (place : ℕ) (piece all : List ℕ) (within : place + length piece ≤
       back : place + length piece + (i - place - length piece) ≡ i
       back = omega arith
 
-  pub get_or-replaced_outside : (i : ℕ) → (i < place) ⊎ (place + length piece ≤ i) → get_or (replaced place piece all) i 0 ≡ get_or all i 0
-  get_or-replaced_outside i (inl h) = get_or-replaced_below i h
-  get_or-replaced_outside i (inr h) = get_or-replaced_above i h
+  pub get_or_replaced_outside : (i : ℕ) → (i < place) ⊎ (place + length piece ≤ i) → get_or (replaced place piece all) i 0 ≡ get_or all i 0
+  get_or_replaced_outside i (inl h) = get_or_replaced_below i h
+  get_or_replaced_outside i (inr h) = get_or_replaced_above i h
 
 -- the old bytes put back
 pub replaced_back : (place : ℕ) (piece all : List ℕ) → place + length piece ≤ length all → replaced place (slice_range all place (place + length piece)) (replaced place piece all) ≡ all
-replaced_back place piece all within = ext_get_or 0 (replaced place old now) all (length-replaced place old now fits ∙ length-now) each
+replaced_back place piece all within = ext_get_or 0 (replaced place old now) all (length_replaced place old now fits ∙ length_now) each
   where
     old : List ℕ
     old = slice_range all place (place + length piece)
 
-    length-old : length old ≡ length piece
-    length-old = length-slice_range all place (length piece) within
+    length_old : length old ≡ length piece
+    length_old = length_slice_range all place (length piece) within
 
     now : List ℕ
     now = replaced place piece all
 
-    length-now : length now ≡ length all
-    length-now = length-replaced place piece all within
+    length_now : length now ≡ length all
+    length_now = length_replaced place piece all within
 
     fits : place + length old ≤ length now
-    fits = omega (arith, length-old, length-now, within)
+    fits = omega (arith, length_old, length_now, within)
 
     each : (i : ℕ) → i < length (replaced place old now) → get_or (replaced place old now) i 0 ≡ get_or all i 0
     each i h = elim (cases_lt i place) [
-      | inl below ↦ get_or-replaced_below place old now fits i below ∙ get_or-replaced_below place piece all within i below
+      | inl below ↦ get_or_replaced_below place old now fits i below ∙ get_or_replaced_below place piece all within i below
       | inr from ↦ elim (cases_lt i (place + length piece)) [
         | inl to ↦
             let k = i - place in
             let at : place + k ≡ i = omega arith in
             ap (λ n. get_or (replaced place old now) n 0) (sym at)
-            ∙ get_or-replaced_inside place old now fits k (omega (arith, length-old, at))
-            ∙ get_or-slice_range all place (length piece) k (omega (arith, at))
+            ∙ get_or_replaced_inside place old now fits k (omega (arith, length_old, at))
+            ∙ get_or_slice_range all place (length piece) k (omega (arith, at))
             ∙ ap (λ n. get_or all n 0) at
-        | inr above ↦ get_or-replaced_above place old now fits i (omega (arith, length-old, above)) ∙ get_or-replaced_above place piece all within i above
+        | inr above ↦ get_or_replaced_above place old now fits i (omega (arith, length_old, above)) ∙ get_or_replaced_above place piece all within i above
       ]
     ]
 
-pub length-cleared : (place : ℕ) (given all : List ℕ) → place + length given ≤ length all → length (cleared place given all) ≡ length given
-length-cleared place given all within = length-zip_with bit_and (slice_range all place (place + length given)) given (length-slice_range all place (length given) within)
+pub length_cleared : (place : ℕ) (given all : List ℕ) → place + length given ≤ length all → length (cleared place given all) ≡ length given
+length_cleared place given all within = length_zip_with bit_and (slice_range all place (place + length given)) given (length_slice_range all place (length given) within)
 
 -- before a write its bytes are there
 pub old_is_torn : (place : ℕ) (target old : List ℕ) → IsTorn place target old old
@@ -107,9 +107,9 @@ old_is_torn place target old = record { size = refl; outside = λ i h. refl; ins
 -- after a write that was done its target is there
 pub target_is_torn : (place : ℕ) (target old : List ℕ) → place + length target ≤ length old → IsTorn place target old (replaced place target old)
 target_is_torn place target old within = record {
-  size = length-replaced place target old within;
-  outside = λ i h. get_or-replaced_outside place target old within i h;
-  inside = λ i bit h. inr (ap (λ v. bit_at v bit) (get_or-replaced_inside place target old within i h));
+  size = length_replaced place target old within;
+  outside = λ i h. get_or_replaced_outside place target old within i h;
+  inside = λ i bit h. inr (ap (λ v. bit_at v bit) (get_or_replaced_inside place target old within i h));
 }
 
 -- ---- bytes
@@ -150,24 +150,24 @@ torn_bytes place target old found t o torn = all_from_places (λ b. b < 256) fou
       ]
     ]
 
-pub bytes-erased_sector : AreBytes erased_sector
-bytes-erased_sector = all_from_places (λ b. b < 256) erased_sector (λ i h. omega (arith, get_or-erased_sector i (omega (arith, h, length-erased_sector))))
+pub bytes_erased_sector : AreBytes erased_sector
+bytes_erased_sector = all_from_places (λ b. b < 256) erased_sector (λ i h. omega (arith, get_or_erased_sector i (omega (arith, h, length_erased_sector))))
 
-bytes-and : (xs ys : List ℕ) → AreBytes ys → AreBytes (zip_with bit_and xs ys)
-bytes-and [] ys h = tt
-bytes-and (x ∷ xs) [] h = tt
-bytes-and (x ∷ xs) (y ∷ ys) h = (byte_of_bits (bit_and x y) (λ bit high. omega (arith, bit_at_and x y bit, bit_at_above y 8 bit h.0 high)), bytes-and xs ys h.1)
+bytes_and : (xs ys : List ℕ) → AreBytes ys → AreBytes (zip_with bit_and xs ys)
+bytes_and [] ys h = tt
+bytes_and (x ∷ xs) [] h = tt
+bytes_and (x ∷ xs) (y ∷ ys) h = (byte_of_bits (bit_and x y) (λ bit high. omega (arith, bit_at_and x y bit, bit_at_above y 8 bit h.0 high)), bytes_and xs ys h.1)
 
-pub bytes-cleared : (place : ℕ) (given all : List ℕ) → AreBytes given → AreBytes (cleared place given all)
-bytes-cleared place given all h = bytes-and (slice_range all place (place + length given)) given h
+pub bytes_cleared : (place : ℕ) (given all : List ℕ) → AreBytes given → AreBytes (cleared place given all)
+bytes_cleared place given all h = bytes_and (slice_range all place (place + length given)) given h
 
-pub bytes-drop : (n : ℕ) (bytes : List ℕ) → AreBytes bytes → AreBytes (drop n bytes)
-bytes-drop n bytes h = all_back (λ b. b < 256) (take n bytes) (drop n bytes) (subst AreBytes (sym (take-append-drop n bytes)) h)
+pub bytes_drop : (n : ℕ) (bytes : List ℕ) → AreBytes bytes → AreBytes (drop n bytes)
+bytes_drop n bytes h = all_back (λ b. b < 256) (take n bytes) (drop n bytes) (subst AreBytes (sym (take-append-drop n bytes)) h)
 
-pub bytes-replaced : (place : ℕ) (piece all : List ℕ) → AreBytes piece → AreBytes all → AreBytes (replaced place piece all)
-bytes-replaced place piece all p h =
-    all-append (λ b. b < 256) (take place all) (piece ++ drop (place + length piece) all) (all_take (λ b. b < 256) place all h)
-    (all-append (λ b. b < 256) piece (drop (place + length piece) all) p (bytes-drop (place + length piece) all h))
+pub bytes_replaced : (place : ℕ) (piece all : List ℕ) → AreBytes piece → AreBytes all → AreBytes (replaced place piece all)
+bytes_replaced place piece all p h =
+    all_append (λ b. b < 256) (take place all) (piece ++ drop (place + length piece) all) (all_take (λ b. b < 256) place all h)
+    (all_append (λ b. b < 256) piece (drop (place + length piece) all) p (bytes_drop (place + length piece) all h))
 
 -- ---- moments: one call after another
 

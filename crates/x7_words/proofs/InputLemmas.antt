@@ -3,14 +3,14 @@ use Rattle.std.proofs.Common.{◌≡◌, ℕ, List, [], ◌++◌, ◌+◌, ◌�
 use Rattle.x7_words.specs.Input.{AsksFew, AsksOnce, InputsState, Stays, Takes, preceded}
 
 -- before anything was taken, the rest is all
-pub preceded-nil : (rest : Option (List ℕ)) → preceded [] rest ≡ rest
-preceded-nil None = refl
-preceded-nil (Some rest) = refl
+pub preceded_nil : (rest : Option (List ℕ)) → preceded [] rest ≡ rest
+preceded_nil None = refl
+preceded_nil (Some rest) = refl
 
 -- two pieces taken one after the other are the joined piece
-pub preceded-preceded : (first second : List ℕ) (rest : Option (List ℕ)) → preceded first (preceded second rest) ≡ preceded (first ++ second) rest
-preceded-preceded first second None = refl
-preceded-preceded first second (Some rest) = ap Some (sym (append_assoc first second rest))
+pub preceded_preceded : (first second : List ℕ) (rest : Option (List ℕ)) → preceded first (preceded second rest) ≡ preceded (first ++ second) rest
+preceded_preceded first second None = refl
+preceded_preceded first second (Some rest) = ap Some (sym (append_assoc first second rest))
 
 -- where nothing happened, all stays
 pub stays_at : (s : InputsState) → Stays s s
@@ -24,7 +24,7 @@ stays_on a b c p q = record { map = q.map ∙ p.map; faults = omega (arith, p.fa
 pub takes_on : (a b c : InputsState) (first second : List ℕ) → Takes a first b → Takes b second c → Takes a (first ++ second) c
 takes_on a b c first second p q = record {
   selected = q.selected;
-  taken = p.taken ∙ ap (preceded first) q.taken ∙ preceded-preceded first second c.rest;
+  taken = p.taken ∙ ap (preceded first) q.taken ∙ preceded_preceded first second c.rest;
   given = omega (arith, p.given, q.given, length-append first second);
   selects = q.selects ∙ p.selects;
 }
@@ -35,7 +35,7 @@ takes_as a b bytes same e t = rw e t
 
 -- before anything was taken
 pub takes_none : (s : InputsState) → s.selected ≡ true → Takes s [] s
-takes_none s e = record { selected = e; taken = sym (preceded-nil s.rest); given = omega arith; selects = refl }
+takes_none s e = record { selected = e; taken = sym (preceded_nil s.rest); given = omega arith; selects = refl }
 
 -- ---- how often inputs are asked for, and their ends read
 

@@ -2,13 +2,13 @@
 use Rattle.std.proofs.Common.{◌≡◌, ℕ, suc, ◌<◌, ◌≤◌, List, [], ◌∷◌, ◌++◌, ◌⊎◌, inl, inr, length, map, refl, ap, sym, ◌∙◌, append_assoc, append-nil, arith, length-append, get_or, take, drop, take-append-drop, ◌+◌, ◌-◌, take-add}
 use Rattle.std.specs.List.{flat_map, AllByRecursion}
 
-pub flat_map-last : {X Y : Type 0} → (f : X → List Y) (xs : List X) (x : X) → flat_map f (xs ++ x ∷ []) ≡ flat_map f xs ++ f x
-flat_map-last f [] x = append-nil (f x)
-flat_map-last f (y ∷ ys) x = ap (λ t. f y ++ t) (flat_map-last f ys x) ∙ sym (append_assoc (f y) (flat_map f ys) (f x))
+pub flat_map_last : {X Y : Type 0} → (f : X → List Y) (xs : List X) (x : X) → flat_map f (xs ++ x ∷ []) ≡ flat_map f xs ++ f x
+flat_map_last f [] x = append-nil (f x)
+flat_map_last f (y ∷ ys) x = ap (λ t. f y ++ t) (flat_map_last f ys x) ∙ sym (append_assoc (f y) (flat_map f ys) (f x))
 
-pub map-append : {X Y : Type 0} → (f : X → Y) (xs ys : List X) → map f (xs ++ ys) ≡ map f xs ++ map f ys
-map-append f [] ys = refl
-map-append f (x ∷ xs) ys = ap (λ t. f x ∷ t) (map-append f xs ys)
+pub map_append : {X Y : Type 0} → (f : X → Y) (xs ys : List X) → map f (xs ++ ys) ≡ map f xs ++ map f ys
+map_append f [] ys = refl
+map_append f (x ∷ xs) ys = ap (λ t. f x ∷ t) (map_append f xs ys)
 
 -- two lists that end in as many elements end in the same
 pub same_end : (xs ys cs ds : List ℕ) → length cs ≡ length ds → xs ++ cs ≡ ys ++ ds → cs ≡ ds
@@ -27,18 +27,18 @@ same_prefix (x ∷ xs) (y ∷ ys) cs ds l e =
     let tail : xs ++ cs ≡ ys ++ ds = cc in
     let rest : xs ≡ ys = same_prefix xs ys cs ds (omega (arith, l)) tail in cc
 
-cons_front : (x y : ℕ) (xs ys m : List ℕ) → x ≡ y → ys ≡ xs ++ m → y ∷ ys ≡ x ∷ (xs ++ m)
-cons_front x y xs ys m h t = cc
+cons_prefix : (x y : ℕ) (xs ys m : List ℕ) → x ≡ y → ys ≡ xs ++ m → y ∷ ys ≡ x ∷ (xs ++ m)
+cons_prefix x y xs ys m h t = cc
 
 -- the shorter of two fronts begins the longer
-pub shorter_front : (xs ys cs ds : List ℕ) → length xs ≤ length ys → xs ++ cs ≡ ys ++ ds → (m : List ℕ) × (ys ≡ xs ++ m)
-shorter_front [] ys cs ds h e = (ys, refl)
-shorter_front (x ∷ xs) [] cs ds h e = absurd (omega arith)
-shorter_front (x ∷ xs) (y ∷ ys) cs ds h e =
+pub shorter_prefix : (xs ys cs ds : List ℕ) → length xs ≤ length ys → xs ++ cs ≡ ys ++ ds → (m : List ℕ) × (ys ≡ xs ++ m)
+shorter_prefix [] ys cs ds h e = (ys, refl)
+shorter_prefix (x ∷ xs) [] cs ds h e = absurd (omega arith)
+shorter_prefix (x ∷ xs) (y ∷ ys) cs ds h e =
     let head : x ≡ y = cc in
     let tail : xs ++ cs ≡ ys ++ ds = cc in
-    let r : (m : List ℕ) × (ys ≡ xs ++ m) = shorter_front xs ys cs ds (omega arith) tail in
-    (r.0, cons_front x y xs ys r.0 head r.1)
+    let r : (m : List ℕ) × (ys ≡ xs ++ m) = shorter_prefix xs ys cs ds (omega arith) tail in
+    (r.0, cons_prefix x y xs ys r.0 head r.1)
 
 -- xs is a prefix of ys, after which cs goes on as ds does after ys
 pub record IsFront (xs ys cs ds : List ℕ) : Type 0 where
@@ -47,13 +47,13 @@ pub record IsFront (xs ys cs ds : List ℕ) : Type 0 where
   pub back : cs ≡ more ++ ds
 
 -- of two prefixes of one list, one is a prefix of the other
-pub fronts_of : (xs ys cs ds : List ℕ) → xs ++ cs ≡ ys ++ ds → IsFront xs ys cs ds ⊎ IsFront ys xs ds cs
-fronts_of [] ys cs ds e = inl (record { more = ys; prefix = refl; back = e })
-fronts_of (x ∷ xs) [] cs ds e = inr (record { more = x ∷ xs; prefix = refl; back = sym e })
-fronts_of (x ∷ xs) (y ∷ ys) cs ds e =
+pub prefixes_of : (xs ys cs ds : List ℕ) → xs ++ cs ≡ ys ++ ds → IsFront xs ys cs ds ⊎ IsFront ys xs ds cs
+prefixes_of [] ys cs ds e = inl (record { more = ys; prefix = refl; back = e })
+prefixes_of (x ∷ xs) [] cs ds e = inr (record { more = x ∷ xs; prefix = refl; back = sym e })
+prefixes_of (x ∷ xs) (y ∷ ys) cs ds e =
     let head : x ≡ y = cc in
     let tail : xs ++ cs ≡ ys ++ ds = cc in
-    elim (fronts_of xs ys cs ds tail) [
+    elim (prefixes_of xs ys cs ds tail) [
       | inl l ↦ inl (record { more = l.more; prefix = rw (head, l.prefix) refl; back = l.back })
       | inr l ↦ inr (record { more = l.more; prefix = rw (← head, l.prefix) refl; back = l.back })
     ]
@@ -63,13 +63,13 @@ pub last_of : (xs : List ℕ) → (xs ≡ []) ⊎ ((prefix : List ℕ) × (x : �
 last_of [] = inl refl
 last_of (x ∷ xs) = inr (elim (last_of xs) [ inl e ↦ ([], x, ap (λ t. x ∷ t) e) | inr l ↦ (x ∷ l.0, l.1, ap (λ t. x ∷ t) l.2) ])
 
-pub all-append : {X : Type 0} → (P : X → Type 0) (xs ys : List X) → AllByRecursion P xs → AllByRecursion P ys → AllByRecursion P (xs ++ ys)
-all-append P [] ys a b = b
-all-append P (x ∷ xs) ys a b = (a.0, all-append P xs ys a.1 b)
+pub all_append : {X : Type 0} → (P : X → Type 0) (xs ys : List X) → AllByRecursion P xs → AllByRecursion P ys → AllByRecursion P (xs ++ ys)
+all_append P [] ys a b = b
+all_append P (x ∷ xs) ys a b = (a.0, all_append P xs ys a.1 b)
 
-pub all_front : {X : Type 0} → (P : X → Type 0) (xs ys : List X) → AllByRecursion P (xs ++ ys) → AllByRecursion P xs
-all_front P [] ys a = tt
-all_front P (x ∷ xs) ys a = (a.0, all_front P xs ys a.1)
+pub all_prefix : {X : Type 0} → (P : X → Type 0) (xs ys : List X) → AllByRecursion P (xs ++ ys) → AllByRecursion P xs
+all_prefix P [] ys a = tt
+all_prefix P (x ∷ xs) ys a = (a.0, all_prefix P xs ys a.1)
 
 pub all_back : {X : Type 0} → (P : X → Type 0) (xs ys : List X) → AllByRecursion P (xs ++ ys) → AllByRecursion P ys
 all_back P [] ys a = a
@@ -81,7 +81,7 @@ all_from_places P [] h = tt
 all_from_places P (x ∷ xs) h = (h 0 (omega arith), all_from_places P xs (λ k l. h (suc k) (omega arith)))
 
 pub all_take : {X : Type 0} → (P : X → Type 0) (n : ℕ) (xs : List X) → AllByRecursion P xs → AllByRecursion P (take n xs)
-all_take P n xs a = all_front P (take n xs) (drop n xs) (rw take-append-drop a)
+all_take P n xs a = all_prefix P (take n xs) (drop n xs) (rw take-append-drop a)
 
 -- a front and what stands after it up to a later place
 pub take_up_to : {X : Type 0} → (xs : List X) (from to : ℕ) → from ≤ to → take from xs ++ take (to - from) (drop from xs) ≡ take to xs

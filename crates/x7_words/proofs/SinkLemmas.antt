@@ -5,38 +5,38 @@ use Rattle.std.proofs.lemmas.List.{take-append-drop}
 use Rattle.x7_words.specs.Sink.{appended, Counts, PutsAll, PutsPrefix, PutsSome, SinkFails, SinkState, Tells}
 
 -- nothing more leaves what was written
-pub appended-nil : (known : Option (List ℕ)) → appended known [] ≡ known
-appended-nil None = refl
-appended-nil (Some old) = ap Some (append-nil old)
+pub appended_nil : (known : Option (List ℕ)) → appended known [] ≡ known
+appended_nil None = refl
+appended_nil (Some old) = ap Some (append-nil old)
 
 -- two pieces one after the other are the joined piece
-pub appended-appended : (known : Option (List ℕ)) (a b : List ℕ) → appended (appended known a) b ≡ appended known (a ++ b)
-appended-appended None a b = refl
-appended-appended (Some old) a b = ap Some (append_assoc old a b)
+pub appended_appended : (known : Option (List ℕ)) (a b : List ℕ) → appended (appended known a) b ≡ appended known (a ++ b)
+appended_appended None a b = refl
+appended_appended (Some old) a b = ap Some (append_assoc old a b)
 
 -- a write of what is left of a text
 pub written_more : (first mid last : Option (List ℕ)) (text : List ℕ) (at k : ℕ) → mid ≡ appended first (take at text) → last ≡ appended mid (take k (drop at text)) → last ≡ appended first (take (at + k) text)
 written_more first mid last text at k p q =
-    rw (q, p, appended-appended, take-add at k text) refl
+    rw (q, p, appended_appended, take-add at k text) refl
 
 -- a prefix of a text by its length
-pub puts_front : (first last : Option (List ℕ)) (text : List ℕ) (at : ℕ) → last ≡ appended first (take at text) → PutsPrefix first text last
-puts_front first last text at p = (take at text, (drop at text, sym (take-append-drop at text), p))
+pub puts_prefix : (first last : Option (List ℕ)) (text : List ℕ) (at : ℕ) → last ≡ appended first (take at text) → PutsPrefix first text last
+puts_prefix first last text at p = (take at text, (drop at text, sym (take-append-drop at text), p))
 
 -- some pieces whole and a prefix of the next are a prefix of all
-pub front_more : (first mid last : Option (List ℕ)) (a b c : List ℕ) → mid ≡ appended first a → PutsPrefix mid b last → PutsPrefix first (a ++ (b ++ c)) last
-front_more first mid last a b c p (prefix, (back, split, put)) =
-    (a ++ prefix, (back ++ c, rw (split, append_assoc, append_assoc) refl, rw (put, p, appended-appended) refl))
+pub prefix_more : (first mid last : Option (List ℕ)) (a b c : List ℕ) → mid ≡ appended first a → PutsPrefix mid b last → PutsPrefix first (a ++ (b ++ c)) last
+prefix_more first mid last a b c p (prefix, (back, split, put)) =
+    (a ++ prefix, (back ++ c, rw (split, append_assoc, append_assoc) refl, rw (put, p, appended_appended) refl))
 
 -- the joined pieces around the one at k
-pub flat_map-at : {X : Type 0} (f : X → List ℕ) (pieces : List X) (k : ℕ) (d : X) → k < length pieces → flat_map f pieces ≡ flat_map f (take k pieces) ++ (f (get_or pieces k d) ++ flat_map f (drop (suc k) pieces))
-flat_map-at f [] k d h = absurd (omega arith)
-flat_map-at f (p ∷ ps) zero d h = refl
-flat_map-at f (p ∷ ps) (suc k) d h = ap (λ r. f p ++ r) (flat_map-at f ps k d (omega arith)) ∙ sym (append_assoc (f p) (flat_map f (take k ps)) (f (get_or ps k d) ++ flat_map f (drop (suc k) ps)))
+pub flat_map_at : {X : Type 0} (f : X → List ℕ) (pieces : List X) (k : ℕ) (d : X) → k < length pieces → flat_map f pieces ≡ flat_map f (take k pieces) ++ (f (get_or pieces k d) ++ flat_map f (drop (suc k) pieces))
+flat_map_at f [] k d h = absurd (omega arith)
+flat_map_at f (p ∷ ps) zero d h = refl
+flat_map_at f (p ∷ ps) (suc k) d h = ap (λ r. f p ++ r) (flat_map_at f ps k d (omega arith)) ∙ sym (append_assoc (f p) (flat_map f (take k ps)) (f (get_or ps k d) ++ flat_map f (drop (suc k) ps)))
 
 -- a failure in the piece after some whole ones
-pub tells_front : (first mid last : SinkState) (all a b c : List ℕ) → all ≡ a ++ (b ++ c) → PutsAll first a mid → PutsSome mid b last → SinkFails first last → Tells first all last
-tells_front first mid last all a b c e p q r = inr (r, rw e (front_more first.written mid.written last.written a b c p q))
+pub tells_prefix : (first mid last : SinkState) (all a b c : List ℕ) → all ≡ a ++ (b ++ c) → PutsAll first a mid → PutsSome mid b last → SinkFails first last → Tells first all last
+tells_prefix first mid last all a b c e p q r = inr (r, rw e (prefix_more first.written mid.written last.written a b c p q))
 
 -- a count that does not fall over one call and over the next does not fall over both
 pub counts_on : (a b c : SinkState) → Counts a b → Counts b c → Counts a c

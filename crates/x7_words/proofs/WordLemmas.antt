@@ -6,36 +6,36 @@ use Rattle.std.specs.Simd.{first_chunks}
 use Rattle.x7_words.specs.Word.{AreBytes, AreWords, bytes_of_word, word_of_bytes, words_of_bytes}
 
 -- a word is that of its bytes
-pub word-whole : (w : ℕ) → w < 2 ^ 32 → word_of_bytes (bytes_of_word w) ≡ w
-word-whole w h = omega arith
+pub word_whole : (w : ℕ) → w < 2 ^ 32 → word_of_bytes (bytes_of_word w) ≡ w
+word_whole w h = omega arith
 
-pub bytes-fit : (ws : List ℕ) → AreBytes (flat_map bytes_of_word ws)
-bytes-fit [] = tt
-bytes-fit (w ∷ ws) = (omega arith, (omega arith, (omega arith, (omega arith, bytes-fit ws))))
+pub bytes_fit : (ws : List ℕ) → AreBytes (flat_map bytes_of_word ws)
+bytes_fit [] = tt
+bytes_fit (w ∷ ws) = (omega arith, (omega arith, (omega arith, (omega arith, bytes_fit ws))))
 
 -- words are those of their bytes, whatever stands after these
-pub words-back : (ws zs : List ℕ) → AreWords ws → words_of_bytes (flat_map bytes_of_word ws ++ zs) ≡ ws ++ words_of_bytes zs
-words-back [] zs h = refl
-words-back (w ∷ ws) zs h = ap₂ (λ (x : ℕ) (t : List ℕ). x ∷ t) (word-whole w h.0) (words-back ws zs h.1)
+pub words_back : (ws zs : List ℕ) → AreWords ws → words_of_bytes (flat_map bytes_of_word ws ++ zs) ≡ ws ++ words_of_bytes zs
+words_back [] zs h = refl
+words_back (w ∷ ws) zs h = ap₂ (λ (x : ℕ) (t : List ℕ). x ∷ t) (word_whole w h.0) (words_back ws zs h.1)
 
-pub length-bytes : (ws : List ℕ) → length (flat_map bytes_of_word ws) ≡ 4 * length ws
-length-bytes [] = refl
-length-bytes (w ∷ ws) = omega (arith, length-bytes ws)
+pub length_bytes : (ws : List ℕ) → length (flat_map bytes_of_word ws) ≡ 4 * length ws
+length_bytes [] = refl
+length_bytes (w ∷ ws) = omega (arith, length_bytes ws)
 
 -- four bytes have a word of 32 bits
-word-fits : (a b c d : ℕ) → a < 256 → b < 256 → c < 256 → d < 256 → word_of_bytes (a ∷ b ∷ c ∷ d ∷ []) < 2 ^ 32
-word-fits a b c d e f g h = omega arith
+word_fits : (a b c d : ℕ) → a < 256 → b < 256 → c < 256 → d < 256 → word_of_bytes (a ∷ b ∷ c ∷ d ∷ []) < 2 ^ 32
+word_fits a b c d e f g h = omega arith
 
-pub words-fit : (bs : List ℕ) → AreBytes bs → AreWords (words_of_bytes bs)
-words-fit [] f = tt
-words-fit (a ∷ []) f = tt
-words-fit (a ∷ b ∷ []) f = tt
-words-fit (a ∷ b ∷ c ∷ []) f = tt
-words-fit (a ∷ b ∷ c ∷ d ∷ bs) f = (word-fits a b c d f.0 f.1.0 f.1.1.0 f.1.1.1.0, words-fit bs f.1.1.1.1)
+pub words_fit : (bs : List ℕ) → AreBytes bs → AreWords (words_of_bytes bs)
+words_fit [] f = tt
+words_fit (a ∷ []) f = tt
+words_fit (a ∷ b ∷ []) f = tt
+words_fit (a ∷ b ∷ c ∷ []) f = tt
+words_fit (a ∷ b ∷ c ∷ d ∷ bs) f = (word_fits a b c d f.0 f.1.0 f.1.1.0 f.1.1.1.0, words_fit bs f.1.1.1.1)
 
 -- the word of four bytes has these bytes
-bytes-word : (a b c d : ℕ) → a < 256 → b < 256 → c < 256 → d < 256 → bytes_of_word (word_of_bytes (a ∷ b ∷ c ∷ d ∷ [])) ≡ a ∷ b ∷ c ∷ d ∷ []
-bytes-word a b c d e f g h =
+bytes_word : (a b c d : ℕ) → a < 256 → b < 256 → c < 256 → d < 256 → bytes_of_word (word_of_bytes (a ∷ b ∷ c ∷ d ∷ [])) ≡ a ∷ b ∷ c ∷ d ∷ []
+bytes_word a b c d e f g h =
     let w : ℕ = word_of_bytes (a ∷ b ∷ c ∷ d ∷ []) in
     let p : w / 2 ^ 24 % 256 ≡ a = omega arith in
     let q : w / 2 ^ 16 % 256 ≡ b = omega arith in
@@ -44,12 +44,12 @@ bytes-word a b c d e f g h =
     ap (λ x. x ∷ w / 2 ^ 16 % 256 ∷ w / 2 ^ 8 % 256 ∷ w % 256 ∷ []) p ∙ ap (λ x. a ∷ x ∷ w / 2 ^ 8 % 256 ∷ w % 256 ∷ []) q ∙ ap (λ x. a ∷ b ∷ x ∷ w % 256 ∷ []) r ∙ ap (λ x. a ∷ b ∷ c ∷ x ∷ []) s
 
 -- whole words have their bytes
-pub bytes-words : (bs : List ℕ) (k : ℕ) → AreBytes bs → length bs ≡ 4 * k → flat_map bytes_of_word (words_of_bytes bs) ≡ bs
-bytes-words [] k f e = refl
-bytes-words (a ∷ []) k f e = absurd (omega (arith, e))
-bytes-words (a ∷ b ∷ []) k f e = absurd (omega (arith, e))
-bytes-words (a ∷ b ∷ c ∷ []) k f e = absurd (omega (arith, e))
-bytes-words (a ∷ b ∷ c ∷ d ∷ bs) k f e = ap (λ t. t ++ flat_map bytes_of_word (words_of_bytes bs)) (bytes-word a b c d f.0 f.1.0 f.1.1.0 f.1.1.1.0) ∙ ap (λ t. a ∷ b ∷ c ∷ d ∷ t) (bytes-words bs (k - 1) f.1.1.1.1 (omega (arith, e)))
+pub bytes_words : (bs : List ℕ) (k : ℕ) → AreBytes bs → length bs ≡ 4 * k → flat_map bytes_of_word (words_of_bytes bs) ≡ bs
+bytes_words [] k f e = refl
+bytes_words (a ∷ []) k f e = absurd (omega (arith, e))
+bytes_words (a ∷ b ∷ []) k f e = absurd (omega (arith, e))
+bytes_words (a ∷ b ∷ c ∷ []) k f e = absurd (omega (arith, e))
+bytes_words (a ∷ b ∷ c ∷ d ∷ bs) k f e = ap (λ t. t ++ flat_map bytes_of_word (words_of_bytes bs)) (bytes_word a b c d f.0 f.1.0 f.1.1.0 f.1.1.1.0) ∙ ap (λ t. a ∷ b ∷ c ∷ d ∷ t) (bytes_words bs (k - 1) f.1.1.1.1 (omega (arith, e)))
 
 -- there is a word for each four bytes
 pub words_count : (bs : List ℕ) → length (words_of_bytes bs) ≡ length bs / 4
@@ -59,12 +59,12 @@ words_count (a ∷ b ∷ []) = refl
 words_count (a ∷ b ∷ c ∷ []) = refl
 words_count (a ∷ b ∷ c ∷ d ∷ bs) = let ih = words_count bs in omega arith
 
-pub length-words : (bs : List ℕ) (k : ℕ) → length bs ≡ 4 * k → length (words_of_bytes bs) ≡ k
-length-words bs k e = words_count bs ∙ omega (arith, e)
+pub length_words : (bs : List ℕ) (k : ℕ) → length bs ≡ 4 * k → length (words_of_bytes bs) ≡ k
+length_words bs k e = words_count bs ∙ omega (arith, e)
 
 -- the words of four bytes are their one word
-pub words-four : (bs : List ℕ) (w : ℕ) → length bs ≡ 4 → bytes_of_word w ≡ bs → w < 2 ^ 32 → words_of_bytes bs ≡ w ∷ []
-words-four bs w e f g =
+pub words_four : (bs : List ℕ) (w : ℕ) → length bs ≡ 4 → bytes_of_word w ≡ bs → w < 2 ^ 32 → words_of_bytes bs ≡ w ∷ []
+words_four bs w e f g =
     let h : word_of_bytes (bytes_of_word w) ≡ w = omega arith in
     ap words_of_bytes (sym f) ∙ ap (λ x. x ∷ []) h
 
@@ -107,18 +107,18 @@ words_taken (suc k) (a ∷ b ∷ c ∷ d ∷ bs) l =
     let four : 4 * suc k ≡ suc (suc (suc (suc (4 * k)))) = omega arith in
     ap (λ (m : ℕ). words_of_bytes (take m (a ∷ b ∷ c ∷ d ∷ bs))) four ∙ ap (λ t. word_of_bytes (a ∷ b ∷ c ∷ d ∷ []) ∷ t) (words_taken k bs (omega (arith, l)))
 
-pub words_of_bytes-append : (k : ℕ) (xs ys : List ℕ) → length xs ≡ 4 * k → words_of_bytes (xs ++ ys) ≡ words_of_bytes xs ++ words_of_bytes ys
-words_of_bytes-append zero [] ys e = refl
-words_of_bytes-append zero (a ∷ xs) ys e = absurd (omega (arith, e))
-words_of_bytes-append (suc k) [] ys e = absurd (omega (arith, e))
-words_of_bytes-append (suc k) (a ∷ []) ys e = absurd (omega (arith, e))
-words_of_bytes-append (suc k) (a ∷ b ∷ []) ys e = absurd (omega (arith, e))
-words_of_bytes-append (suc k) (a ∷ b ∷ c ∷ []) ys e = absurd (omega (arith, e))
-words_of_bytes-append (suc k) (a ∷ b ∷ c ∷ d ∷ xs) ys e = ap (λ t. word_of_bytes (a ∷ b ∷ c ∷ d ∷ []) ∷ t) (words_of_bytes-append k xs ys (omega (arith, e)))
+pub words_of_bytes_append : (k : ℕ) (xs ys : List ℕ) → length xs ≡ 4 * k → words_of_bytes (xs ++ ys) ≡ words_of_bytes xs ++ words_of_bytes ys
+words_of_bytes_append zero [] ys e = refl
+words_of_bytes_append zero (a ∷ xs) ys e = absurd (omega (arith, e))
+words_of_bytes_append (suc k) [] ys e = absurd (omega (arith, e))
+words_of_bytes_append (suc k) (a ∷ []) ys e = absurd (omega (arith, e))
+words_of_bytes_append (suc k) (a ∷ b ∷ []) ys e = absurd (omega (arith, e))
+words_of_bytes_append (suc k) (a ∷ b ∷ c ∷ []) ys e = absurd (omega (arith, e))
+words_of_bytes_append (suc k) (a ∷ b ∷ c ∷ d ∷ xs) ys e = ap (λ t. word_of_bytes (a ∷ b ∷ c ∷ d ∷ []) ∷ t) (words_of_bytes_append k xs ys (omega (arith, e)))
 
-pub map-take_more : (groups : List (List ℕ)) (i : ℕ) (d : List ℕ) (w : ℕ) → i < length groups → w ≡ word_of_bytes (get_or groups i d)
+pub map_take_more : (groups : List (List ℕ)) (i : ℕ) (d : List ℕ) (w : ℕ) → i < length groups → w ≡ word_of_bytes (get_or groups i d)
     → map word_of_bytes (take (i + 1) groups) ≡ map word_of_bytes (take i groups) ++ w ∷ []
-map-take_more groups i d w h e = ap (map word_of_bytes) (take_more groups i d h) ∙ map-append word_of_bytes (take i groups) (get_or groups i d ∷ []) ∙ ap (λ x. map word_of_bytes (take i groups) ++ x ∷ []) (sym e)
+map_take_more groups i d w h e = ap (map word_of_bytes) (take_more groups i d h) ∙ map-append word_of_bytes (take i groups) (get_or groups i d ∷ []) ∙ ap (λ x. map word_of_bytes (take i groups) ++ x ∷ []) (sym e)
 
-pub words_of_bytes-all : (bs : List ℕ) (groups : List (List ℕ)) (k i : ℕ) → groups ≡ first_chunks 4 k bs → length bs ≡ 4 * k → length groups ≤ i → map word_of_bytes (take i groups) ≡ words_of_bytes bs
-words_of_bytes-all bs groups k i e f h = ap (map word_of_bytes) (take_all i groups h ∙ e) ∙ sym (words_by_chunks k bs (omega (arith, f)))
+pub words_of_bytes_all : (bs : List ℕ) (groups : List (List ℕ)) (k i : ℕ) → groups ≡ first_chunks 4 k bs → length bs ≡ 4 * k → length groups ≤ i → map word_of_bytes (take i groups) ≡ words_of_bytes bs
+words_of_bytes_all bs groups k i e f h = ap (map word_of_bytes) (take_all i groups h ∙ e) ∙ sym (words_by_chunks k bs (omega (arith, f)))

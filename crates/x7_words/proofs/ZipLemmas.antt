@@ -4,27 +4,27 @@ use Rattle.std.proofs.lemmas.List.{take_all, drop_all, append-nil, drop_more, se
 use Rattle.x7_words.specs.Flash.{zip_with}
 
 module _ (f : ℕ → ℕ → ℕ) where
-  pub length-zip_with : (xs ys : List ℕ) → length xs ≡ length ys → length (zip_with f xs ys) ≡ length ys
-  length-zip_with [] [] e = refl
-  length-zip_with [] (y ∷ ys) e = absurd (omega (arith, e))
-  length-zip_with (x ∷ xs) [] e = absurd (omega (arith, e))
-  length-zip_with (x ∷ xs) (y ∷ ys) e = ap suc (length-zip_with xs ys (omega (arith, e)))
+  pub length_zip_with : (xs ys : List ℕ) → length xs ≡ length ys → length (zip_with f xs ys) ≡ length ys
+  length_zip_with [] [] e = refl
+  length_zip_with [] (y ∷ ys) e = absurd (omega (arith, e))
+  length_zip_with (x ∷ xs) [] e = absurd (omega (arith, e))
+  length_zip_with (x ∷ xs) (y ∷ ys) e = ap suc (length_zip_with xs ys (omega (arith, e)))
 
-  pub get_or-zip_with : (xs ys : List ℕ) (i : ℕ) → i < length xs → i < length ys → get_or (zip_with f xs ys) i 0 ≡ f (get_or xs i 0) (get_or ys i 0)
-  get_or-zip_with [] ys i h k = absurd (omega arith)
-  get_or-zip_with (x ∷ xs) [] i h k = absurd (omega arith)
-  get_or-zip_with (x ∷ xs) (y ∷ ys) zero h k = refl
-  get_or-zip_with (x ∷ xs) (y ∷ ys) (suc i) h k = get_or-zip_with xs ys i (omega arith) (omega arith)
+  pub get_or_zip_with : (xs ys : List ℕ) (i : ℕ) → i < length xs → i < length ys → get_or (zip_with f xs ys) i 0 ≡ f (get_or xs i 0) (get_or ys i 0)
+  get_or_zip_with [] ys i h k = absurd (omega arith)
+  get_or_zip_with (x ∷ xs) [] i h k = absurd (omega arith)
+  get_or_zip_with (x ∷ xs) (y ∷ ys) zero h k = refl
+  get_or_zip_with (x ∷ xs) (y ∷ ys) (suc i) h k = get_or_zip_with xs ys i (omega arith) (omega arith)
 
   -- the values up to the next place
-  pub zip_with-suc : (xs ys : List ℕ) (i : ℕ) → i < length xs → i < length ys → zip_with f (take (suc i) xs) (take (suc i) ys) ≡ zip_with f (take i xs) (take i ys) ++ f (get_or xs i 0) (get_or ys i 0) ∷ []
-  zip_with-suc [] ys i h k = absurd (omega arith)
-  zip_with-suc (x ∷ xs) [] i h k = absurd (omega arith)
-  zip_with-suc (x ∷ xs) (y ∷ ys) zero h k = refl
-  zip_with-suc (x ∷ xs) (y ∷ ys) (suc i) h k = ap (λ t. f x y ∷ t) (zip_with-suc xs ys i (omega arith) (omega arith))
+  pub zip_with_suc : (xs ys : List ℕ) (i : ℕ) → i < length xs → i < length ys → zip_with f (take (suc i) xs) (take (suc i) ys) ≡ zip_with f (take i xs) (take i ys) ++ f (get_or xs i 0) (get_or ys i 0) ∷ []
+  zip_with_suc [] ys i h k = absurd (omega arith)
+  zip_with_suc (x ∷ xs) [] i h k = absurd (omega arith)
+  zip_with_suc (x ∷ xs) (y ∷ ys) zero h k = refl
+  zip_with_suc (x ∷ xs) (y ∷ ys) (suc i) h k = ap (λ t. f x y ∷ t) (zip_with_suc xs ys i (omega arith) (omega arith))
 
   pub zip_with_more : (xs ys : List ℕ) (i : ℕ) → i < length xs → i < length ys → zip_with f (take (i + 1) xs) (take (i + 1) ys) ≡ zip_with f (take i xs) (take i ys) ++ f (get_or xs i 0) (get_or ys i 0) ∷ []
-  zip_with_more xs ys i h k = let e : i + 1 ≡ suc i = omega arith in rw e (zip_with-suc xs ys i h k)
+  zip_with_more xs ys i h k = let e : i + 1 ≡ suc i = omega arith in rw e (zip_with_suc xs ys i h k)
 
   pub zip_with_all : (xs ys : List ℕ) (i : ℕ) → length xs ≤ i → length ys ≤ i → zip_with f (take i xs) (take i ys) ≡ zip_with f xs ys
   zip_with_all xs ys i h k = rw (take_all i xs h, take_all i ys k) refl
@@ -32,7 +32,7 @@ module _ (f : ℕ → ℕ → ℕ) where
   -- the first i of the values in the place of the first i elements
   pub length_front : (xs ys : List ℕ) (i : ℕ) → i ≤ length xs → i ≤ length ys → length (zip_with f (take i xs) (take i ys)) ≡ i
   length_front xs ys i h k =
-      length-zip_with (take i xs) (take i ys) (length-take-le i xs h ∙ sym (length-take-le i ys k)) ∙ length-take-le i ys k
+      length_zip_with (take i xs) (take i ys) (length-take-le i xs h ∙ sym (length-take-le i ys k)) ∙ length-take-le i ys k
 
   -- the next element is the old one
   pub next_in_place : (now xs ys : List ℕ) (i d : ℕ) → i < length xs → i < length ys → now ≡ zip_with f (take i xs) (take i ys) ++ drop i xs → get_or now i d ≡ get_or xs i 0

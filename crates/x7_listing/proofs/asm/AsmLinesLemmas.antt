@@ -5,23 +5,23 @@ use Rattle.std.proofs.Math.ListN.{drop_of_length-le}
 use Rattle.std.proofs.Math.Seq.{drop-nil}
 use Rattle.std.specs.List.{flat_map}
 use Rattle.x7_crc.specs.Checking.{CheckerState, Keeps}
-use Rattle.x7_crc.proofs.CheckerLemmas.{still-keeps}
+use Rattle.x7_crc.proofs.CheckerLemmas.{still_keeps}
 use Rattle.x7_header.specs.Header.{Contents, longest_header}
 use Rattle.x7_text.specs.Lines.{split}
-use Rattle.x7_text.proofs.LineReadingLemmas.{HasTaken, each-fault}
+use Rattle.x7_text.proofs.LineReadingLemmas.{HasTaken, each_fault}
 use Rattle.x7_listing.specs.Assembly.{AreHeadedAsm}
-use Rattle.x7_listing.specs.Assembling.{AreReadWithRoom, AsmState, FailsFirst, FailsNext, TextsAreRead, HasAsmFault, HasLineRoom, IsOutputOf, IsFirstOrGood, IsSoundOutput, Output, ReadsFirst, ReadsNext, TakesLines, Unbegun, Waits, LinesAreRead, state_behind, asm_state, has_any}
+use Rattle.x7_listing.specs.Assembling.{AreReadWithRoom, AsmState, FailsFirst, FailsNext, TextsAreRead, HasAsmFault, HasLineRoom, IsOutputOf, IsFirstOrGood, IsSoundOutput, Output, ReadsFirst, ReadsNext, TakesLines, Unbegun, Waits, LinesAreRead, state_after, asm_state, has_any}
 use Rattle.x7_listing.specs.BitLine.{bit_text, IsHeaderOf, IsHeld}
 use Rattle.x7_listing.specs.Line.{Line, line_bytes, text_of}
 use Rattle.x7_listing.specs.declared.assembler.AsmFault.{AsmFault}
 use Rattle.x7_listing.specs.declared.assembler.AsmFault.TheVariants as fault
-use Rattle.x7_listing.proofs.AssemblingLemmas.{goes-whole, went-nothing}
-use Rattle.x7_listing.proofs.asm.fast.QuickLemmas.{goes-quick, quick-texts}
+use Rattle.x7_listing.proofs.AssemblingLemmas.{goes_whole, went_nothing}
+use Rattle.x7_listing.proofs.asm.fast.QuickLemmas.{goes_quick, quick_texts}
 
 -- before any line is read: a header's line, and a line that is no header's
-pub goes-header : (all left : List (List ℕ)) (held out header : List ℕ) (start len c n : ℕ) (checker fresh : CheckerState) → IsHeaderOf held header → length header ≤ longest_header → len ≡ length header → c ≡ n + 1 → Keeps fresh []
+pub goes_header : (all left : List (List ℕ)) (held out header : List ℕ) (start len c n : ℕ) (checker fresh : CheckerState) → IsHeaderOf held header → length header ≤ longest_header → len ≡ length header → c ≡ n + 1 → Keeps fresh []
     → Unbegun all (held ∷ left) (asm_state out start checker n) → TextsAreRead all left (asm_state header len fresh c)
-goes-header all left held out header start len c n checker fresh h short size up new u =
+goes_header all left held out header start len c n checker fresh h short size up new u =
     let none : drop len header ≡ [] = drop_of_length-le header (omega (arith, size)) in
     record {
       others = left;
@@ -31,15 +31,15 @@ goes-header all left held out header start len c n checker fresh h short size up
       short = omega (arith, size, short);
       keeps = subst (λ (b : List ℕ). Keeps fresh b) (sym none) new;
       opens = inl (record { header = h.header; held = h.held; texts = u.texts ∙ ap (λ t. t ∷ left) h.text; are = take_all len header (omega (arith, size)) ∙ h.are; one = refl });
-      went = subst (λ (b : List ℕ). LinesAreRead (67108864 - len) left left b 0) (sym none) (went-nothing (67108864 - len) left);
+      went = subst (λ (b : List ℕ). LinesAreRead (67108864 - len) left left b 0) (sym none) (went_nothing (67108864 - len) left);
       count_is = omega (arith, up, u.count_is);
     }
 
-first-is : (s t : List ℕ) (ss ts : List (List ℕ)) → s ∷ ss ≡ t ∷ ts → s ≡ t
-first-is s t ss ts e = cc
+first_is : (s t : List ℕ) (ss ts : List (List ℕ)) → s ∷ ss ≡ t ∷ ts → s ≡ t
+first_is s t ss ts e = cc
 
-pub goes-plain : (all left : List (List ℕ)) (held out : List ℕ) (start n : ℕ) (checker : CheckerState) → ((x : Contents) → IsHeld x → held ≡ bit_text x → ⊥) → Unbegun all (held ∷ left) (asm_state out start checker n) → TextsAreRead all (held ∷ left) (asm_state out start checker n)
-goes-plain all left held out start n checker none u =
+pub goes_plain : (all left : List (List ℕ)) (held out : List ℕ) (start n : ℕ) (checker : CheckerState) → ((x : Contents) → IsHeld x → held ≡ bit_text x → ⊥) → Unbegun all (held ∷ left) (asm_state out start checker n) → TextsAreRead all (held ∷ left) (asm_state out start checker n)
+goes_plain all left held out start n checker none u =
     let empty : drop start out ≡ [] = ap (drop start) u.out_is ∙ drop-nil start in
     record {
       others = held ∷ left;
@@ -49,65 +49,65 @@ goes-plain all left held out start n checker none u =
       short = omega (arith, u.start_is);
       keeps = subst (λ (b : List ℕ). Keeps checker b) (sym empty) u.keeps;
       opens = inr (record {
-        no_head = λ x others hx e. none x hx (first-is held (bit_text x) left others (sym u.texts ∙ e));
+        no_head = λ x others hx e. none x hx (first_is held (bit_text x) left others (sym u.texts ∙ e));
         texts = u.texts;
         are = ap (λ (k : ℕ). take k out) u.start_is;
         none = refl;
       });
-      went = subst (λ (b : List ℕ). LinesAreRead (67108864 - start) (held ∷ left) (held ∷ left) b 0) (sym empty) (went-nothing (67108864 - start) (held ∷ left));
+      went = subst (λ (b : List ℕ). LinesAreRead (67108864 - start) (held ∷ left) (held ∷ left) b 0) (sym empty) (went_nothing (67108864 - start) (held ∷ left));
       count_is = u.count_is;
     }
 
-pub err-weaker : {A E : Type 0} → {P Q : E → Type 0} → (r : Result A E) → ((e : E) → P e → Q e) → IfErr r P → IfErr r Q
-err-weaker (Ok a) f h = tt
-err-weaker (Err e) f h = f e h
+pub err_weaker : {A E : Type 0} → {P Q : E → Type 0} → (r : Result A E) → ((e : E) → P e → Q e) → IfErr r P → IfErr r Q
+err_weaker (Ok a) f h = tt
+err_weaker (Err e) f h = f e h
 
-pub if-some : {X : Type 0} → (P : X → Type 0) (o : Option X) (x : X) → o ≡ Some x → IfSome o P → P x
-if-some P o x e h = subst (λ p. IfSome p P) e h
+pub if_some : {X : Type 0} → (P : X → Type 0) (o : Option X) (x : X) → o ≡ Some x → IfSome o P → P x
+if_some P o x e h = subst (λ p. IfSome p P) e h
 
 -- ---- one line more
 
-pub first-read : {A : Type 0} (r : Result A AsmFault) (old new : Output) (line : List ℕ) (lines : List (List ℕ)) → length lines ≡ 0 → OnOk r (ReadsFirst old new line) → OnOk r (HasLineRoom new) → IfErr r (FailsFirst old line) → AreReadWithRoom old lines
+pub first_read : {A : Type 0} (r : Result A AsmFault) (old new : Output) (line : List ℕ) (lines : List (List ℕ)) → length lines ≡ 0 → OnOk r (ReadsFirst old new line) → OnOk r (HasLineRoom new) → IfErr r (FailsFirst old line) → AreReadWithRoom old lines
     → MatchResult r (λ _. AreReadWithRoom new (lines ++ line ∷ [])) (λ f. (left : List (List ℕ)) → HasAsmFault f (lines ++ line ∷ left))
-first-read (Ok _) old new line [] none reads room fails h = record { read = λ left. reads (line ∷ left) left (h.read (line ∷ left)); room = λ _. room }
-first-read (Err f) old new line [] none reads room (inl want) h = λ left. inl want
-first-read (Err f) old new line [] none reads room (inr bad) h = λ left. inr (bad (line ∷ left) left (h.read (line ∷ left)))
-first-read r old new line (t ∷ ts) none reads room fails h = absurd (omega (arith, none))
+first_read (Ok _) old new line [] none reads room fails h = record { read = λ left. reads (line ∷ left) left (h.read (line ∷ left)); room = λ _. room }
+first_read (Err f) old new line [] none reads room (inl want) h = λ left. inl want
+first_read (Err f) old new line [] none reads room (inr bad) h = λ left. inr (bad (line ∷ left) left (h.read (line ∷ left)))
+first_read r old new line (t ∷ ts) none reads room fails h = absurd (omega (arith, none))
 
-pub next-read : {A : Type 0} (r : Result A AsmFault) (old new : Output) (n : ℕ) (line : List ℕ) (lines : List (List ℕ)) → n ≡ length lines + 1 → (n ≡ 1 → ⊥) → OnOk r (ReadsNext old new n line) → OnOk r (HasLineRoom new) → IfErr r (FailsNext old n line) → AreReadWithRoom old lines
+pub next_read : {A : Type 0} (r : Result A AsmFault) (old new : Output) (n : ℕ) (line : List ℕ) (lines : List (List ℕ)) → n ≡ length lines + 1 → (n ≡ 1 → ⊥) → OnOk r (ReadsNext old new n line) → OnOk r (HasLineRoom new) → IfErr r (FailsNext old n line) → AreReadWithRoom old lines
     → MatchResult r (λ _. AreReadWithRoom new (lines ++ line ∷ [])) (λ f. (left : List (List ℕ)) → HasAsmFault f (lines ++ line ∷ left))
-next-read r old new n line [] m more reads room fails h = absurd (more m)
-next-read (Ok _) old new n line (t ∷ ts) m more reads room fails h =
+next_read r old new n line [] m more reads room fails h = absurd (more m)
+next_read (Ok _) old new n line (t ∷ ts) m more reads room fails h =
     let read : IsOutputOf new ((t ∷ ts) ++ line ∷ []) = λ left.
     let k : n ≡ length ((t ∷ ts) ++ line ∷ []) = m ∙ sym (length-append (t ∷ ts) (line ∷ [])) in
-    subst (λ all. TextsAreRead all left (state_behind new (length ((t ∷ ts) ++ line ∷ [])))) (sym (append_assoc (t ∷ ts) (line ∷ []) left))
-    (subst (λ (j : ℕ). TextsAreRead ((t ∷ ts) ++ line ∷ left) left (state_behind new j)) k (reads ((t ∷ ts) ++ line ∷ left) left (length (t ∷ ts)) m (h.read (line ∷ left)))) in
+    subst (λ all. TextsAreRead all left (state_after new (length ((t ∷ ts) ++ line ∷ [])))) (sym (append_assoc (t ∷ ts) (line ∷ []) left))
+    (subst (λ (j : ℕ). TextsAreRead ((t ∷ ts) ++ line ∷ left) left (state_after new j)) k (reads ((t ∷ ts) ++ line ∷ left) left (length (t ∷ ts)) m (h.read (line ∷ left)))) in
     record { read = read; room = λ _. room }
-next-read (Err f) old new n line (t ∷ ts) m more reads room (inl want) h = λ left. inl want
-next-read (Err f) old new n line (t ∷ ts) m more reads room (inr bad) h = λ left. inr (bad ((t ∷ ts) ++ line ∷ left) left (length (t ∷ ts)) m (h.read (line ∷ left)))
+next_read (Err f) old new n line (t ∷ ts) m more reads room (inl want) h = λ left. inl want
+next_read (Err f) old new n line (t ∷ ts) m more reads room (inr bad) h = λ left. inr (bad ((t ∷ ts) ++ line ∷ left) left (length (t ∷ ts)) m (h.read (line ∷ left)))
 
-pub with-more : {A : Type 0} (r : Result A AsmFault) (new : Output) (line : List ℕ) (lines : List (List ℕ)) → MatchResult r (λ _. AreReadWithRoom new (lines ++ line ∷ [])) (λ f. (left : List (List ℕ)) → HasAsmFault f (lines ++ line ∷ left))
+pub with_more : {A : Type 0} (r : Result A AsmFault) (new : Output) (line : List ℕ) (lines : List (List ℕ)) → MatchResult r (λ _. AreReadWithRoom new (lines ++ line ∷ [])) (λ f. (left : List (List ℕ)) → HasAsmFault f (lines ++ line ∷ left))
     → MatchResult r (λ _. AreReadWithRoom new (lines ++ line ∷ [])) (λ f. (more : List ℕ) → HasAsmFault f (lines ++ line ∷ split more))
-with-more (Ok _) new line lines h = h
-with-more (Err f) new line lines h = λ more. h (split more)
+with_more (Ok _) new line lines h = h
+with_more (Err f) new line lines h = λ more. h (split more)
 
 -- ---- want of memory
 
-pub wants-read : {A : Type 0} (r : Result A AsmFault) (old new : Output) (n : ℕ) (line : List ℕ) → ReadsNext old new n line → IfErr r (λ f. f ≡ fault.NoMemory → HasLineRoom old → ReadsNext old new n line)
-wants-read r old new n line h = each-fault r (λ f. f ≡ fault.NoMemory → HasLineRoom old → ReadsNext old new n line) (λ f want room. h)
+pub wants_read : {A : Type 0} (r : Result A AsmFault) (old new : Output) (n : ℕ) (line : List ℕ) → ReadsNext old new n line → IfErr r (λ f. f ≡ fault.NoMemory → HasLineRoom old → ReadsNext old new n line)
+wants_read r old new n line h = each_fault r (λ f. f ≡ fault.NoMemory → HasLineRoom old → ReadsNext old new n line) (λ f want room. h)
 
-pub first-wants : {A : Type 0} (r : Result A AsmFault) (line : List ℕ) (lines : List (List ℕ)) → length lines ≡ 0 → IfErr r (λ f. f ≡ fault.NoMemory → IsFirstOrGood lines line)
-first-wants r line [] none = each-fault r (λ f. f ≡ fault.NoMemory → IsFirstOrGood [] line) (λ f want. inl refl)
-first-wants r line (t ∷ ts) none = absurd (omega (arith, none))
+pub first_wants : {A : Type 0} (r : Result A AsmFault) (line : List ℕ) (lines : List (List ℕ)) → length lines ≡ 0 → IfErr r (λ f. f ≡ fault.NoMemory → IsFirstOrGood lines line)
+first_wants r line [] none = each_fault r (λ f. f ≡ fault.NoMemory → IsFirstOrGood [] line) (λ f want. inl refl)
+first_wants r line (t ∷ ts) none = absurd (omega (arith, none))
 
-pub next-wants : {A : Type 0} (r : Result A AsmFault) (old new : Output) (n : ℕ) (line : List ℕ) (lines : List (List ℕ)) → n ≡ length lines + 1 → (n ≡ 1 → ⊥)
+pub next_wants : {A : Type 0} (r : Result A AsmFault) (old new : Output) (n : ℕ) (line : List ℕ) (lines : List (List ℕ)) → n ≡ length lines + 1 → (n ≡ 1 → ⊥)
     → IfErr r (λ f. f ≡ fault.NoMemory → HasLineRoom old → ReadsNext old new n line) → AreReadWithRoom old lines → IfErr r (λ f. f ≡ fault.NoMemory → IsFirstOrGood lines line)
-next-wants (Ok _) old new n line lines m more reads h = tt
-next-wants (Err f) old new n line [] m more reads h = absurd (more m)
-next-wants (Err f) old new n line (t ∷ ts) m more reads h = λ want.
+next_wants (Ok _) old new n line lines m more reads h = tt
+next_wants (Err f) old new n line [] m more reads h = absurd (more m)
+next_wants (Err f) old new n line (t ∷ ts) m more reads h = λ want.
     let all : List (List ℕ) = (t ∷ ts) ++ line ∷ [] in
-    let g : TextsAreRead all [] (state_behind new n) = reads want (h.room refl) all [] (length (t ∷ ts)) m (h.read (line ∷ [])) in
-    inr (new.out, goes-whole all new.out new.start new.checker n g)
+    let g : TextsAreRead all [] (state_after new n) = reads want (h.room refl) all [] (length (t ∷ ts)) m (h.read (line ∷ [])) in
+    inr (new.out, goes_whole all new.out new.start new.checker n g)
 
 -- ---- lines that are read at once
 
@@ -115,68 +115,68 @@ abbrev pub output_by : List ℕ → ℕ → CheckerState → Output
 output_by out start checker = record { out = out; start = start; checker = checker; room = 0 }
 
 -- what was appended leaves lines' bytes and their check
-pub still-sound : (out new : List ℕ) (start : ℕ) (checker : CheckerState) (more : List ℕ) → new ≡ out ++ more → IsSoundOutput out start checker → IsSoundOutput new start checker
-still-sound out new start checker more e s = record {
+pub still_sound : (out new : List ℕ) (start : ℕ) (checker : CheckerState) (more : List ℕ) → new ≡ out ++ more → IsSoundOutput out start checker → IsSoundOutput new start checker
+still_sound out new start checker more e s = record {
   begun = omega (arith, s.begun, ap length e, length-append out more);
-  keeps = still-keeps checker (drop start out) more (drop start new) (ap (drop start) e ∙ drop-append-le start out more s.begun) s.keeps;
+  keeps = still_keeps checker (drop start out) more (drop start new) (ap (drop start) e ∙ drop-append-le start out more s.begun) s.keeps;
 }
 
 -- a header's bytes and a new checker
-pub header-sound : (header : List ℕ) (len : ℕ) (fresh : CheckerState) → len ≡ length header → Keeps fresh [] → IsSoundOutput header len fresh
-header-sound header len fresh size new = record {
+pub header_sound : (header : List ℕ) (len : ℕ) (fresh : CheckerState) → len ≡ length header → Keeps fresh [] → IsSoundOutput header len fresh
+header_sound header len fresh size new = record {
   begun = omega (arith, size);
   keeps = subst (λ (b : List ℕ). Keeps fresh b) (sym (drop_of_length-le header (omega (arith, size)))) new;
 }
 
-no-lines : (ls : List Line) → length ls ≡ 0 → ls ≡ []
-no-lines [] e = refl
-no-lines (l ∷ ls) e = absurd (omega (arith, e))
+no_lines : (ls : List Line) → length ls ≡ 0 → ls ≡ []
+no_lines [] e = refl
+no_lines (l ∷ ls) e = absurd (omega (arith, e))
 
-pub quick-read : (out new text rest : List ℕ) (start k : ℕ) (checker : CheckerState) (lines : List (List ℕ)) (t : TakesLines text rest out new k) → (length lines ≡ 0 → k ≡ 0) → (length out ≤ 67108864 → length new ≤ 67108864)
+pub quick_read : (out new text rest : List ℕ) (start k : ℕ) (checker : CheckerState) (lines : List (List ℕ)) (t : TakesLines text rest out new k) → (length lines ≡ 0 → k ≡ 0) → (length out ≤ 67108864 → length new ≤ 67108864)
     → IsOutputOf (output_by out start checker) lines → IsOutputOf (output_by new start checker) (lines ++ map text_of t.lines)
-quick-read out new text rest start k checker [] t none limit h =
-    let empty : t.lines ≡ [] = no-lines t.lines (sym t.count_is ∙ none refl) in
+quick_read out new text rest start k checker [] t none limit h =
+    let empty : t.lines ≡ [] = no_lines t.lines (sym t.count_is ∙ none refl) in
     let same : new ≡ out = t.appended ∙ ap (λ ls. out ++ flat_map (line_bytes 0) ls) empty ∙ append-nil out in
     subst (λ ls. IsOutputOf (output_by new start checker) (map text_of ls)) (sym empty) (subst (λ b. IsOutputOf (output_by b start checker) []) (sym same) h)
-quick-read out new text rest start k checker (u ∷ us) t none limit h = λ left.
+quick_read out new text rest start k checker (u ∷ us) t none limit h = λ left.
     let texts : List (List ℕ) = map text_of t.lines in
-    goes-quick (((u ∷ us) ++ map text_of t.lines) ++ left) left text rest out new start k (length (u ∷ us)) (length ((u ∷ us) ++ map text_of t.lines)) checker t limit
+    goes_quick (((u ∷ us) ++ map text_of t.lines) ++ left) left text rest out new start k (length (u ∷ us)) (length ((u ∷ us) ++ map text_of t.lines)) checker t limit
     (length-append (u ∷ us) (map text_of t.lines) ∙ ap (λ (j : ℕ). length (u ∷ us) + j) (length-map t.lines text_of ∙ sym t.count_is))
     (subst (λ all. TextsAreRead all (map text_of t.lines ++ left) (asm_state out start checker (length (u ∷ us)))) (sym (append_assoc (u ∷ us) (map text_of t.lines) left)) (h (map text_of t.lines ++ left)))
 
 -- a line was read before, where one is now
-any-before : (lines : List (List ℕ)) (more : List Line) → (length lines ≡ 0 → length more ≡ 0) → has_any (lines ++ map text_of more) ≡ true → has_any lines ≡ true
-any-before [] [] none e = e
-any-before [] (l ∷ more) none e = absurd (omega (arith, none refl))
-any-before (t ∷ ts) more none e = refl
+any_before : (lines : List (List ℕ)) (more : List Line) → (length lines ≡ 0 → length more ≡ 0) → has_any (lines ++ map text_of more) ≡ true → has_any lines ≡ true
+any_before [] [] none e = e
+any_before [] (l ∷ more) none e = absurd (omega (arith, none refl))
+any_before (t ∷ ts) more none e = refl
 
-all-read : (old new : Output) (text rest : List ℕ) (k : ℕ) (lines : List (List ℕ)) (t : TakesLines text rest old.out new.out k) → new.start ≡ old.start → new.checker ≡ old.checker → (length lines ≡ 0 → k ≡ 0)
+all_read : (old new : Output) (text rest : List ℕ) (k : ℕ) (lines : List (List ℕ)) (t : TakesLines text rest old.out new.out k) → new.start ≡ old.start → new.checker ≡ old.checker → (length lines ≡ 0 → k ≡ 0)
     → (length old.out ≤ 67108864 → length new.out ≤ 67108864) → (HasLineRoom old → HasLineRoom new) → AreReadWithRoom old lines → AreReadWithRoom new (lines ++ map text_of t.lines)
-all-read old new text rest k lines t start checker none limit room h = record {
+all_read old new text rest k lines t start checker none limit room h = record {
   read = subst (λ (s : ℕ). IsOutputOf (output_by new.out s new.checker) (lines ++ map text_of t.lines)) (sym start)
-      (subst (λ (x : CheckerState). IsOutputOf (output_by new.out old.start x) (lines ++ map text_of t.lines)) (sym checker) (quick-read old.out new.out text rest old.start k old.checker lines t none limit h.read));
-  room = λ e. room (h.room (any-before lines t.lines (λ z. sym t.count_is ∙ none z) e));
+      (subst (λ (x : CheckerState). IsOutputOf (output_by new.out old.start x) (lines ++ map text_of t.lines)) (sym checker) (quick_read old.out new.out text rest old.start k old.checker lines t none limit h.read));
+  room = λ e. room (h.room (any_before lines t.lines (λ z. sym t.count_is ∙ none z) e));
 }
 
 -- the lines that AsmLines takes at once
-pub at-once-taken : (old new : Output) (text rest left : List ℕ) (k n c size : ℕ) (lines : List (List ℕ)) → left ≡ drop size rest → TakesLines rest (drop size rest) old.out new.out k → new.start ≡ old.start → new.checker ≡ old.checker
+pub at_once_taken : (old new : Output) (text rest left : List ℕ) (k n c size : ℕ) (lines : List (List ℕ)) → left ≡ drop size rest → TakesLines rest (drop size rest) old.out new.out k → new.start ≡ old.start → new.checker ≡ old.checker
     → (n ≡ 0 → k ≡ 0) → (length old.out ≤ 67108864 → length new.out ≤ 67108864) → (HasLineRoom old → HasLineRoom new) → c ≡ n + k → HasTaken AreReadWithRoom lines text rest old n → HasTaken AreReadWithRoom lines text left new c
-at-once-taken old new text rest left k n c size lines is t start checker none limit room up h = record {
+at_once_taken old new text rest left k n c size lines is t start checker none limit room up h = record {
   more = h.more ++ map text_of t.lines;
-  texts = h.texts ∙ ap (λ ls. h.more ++ ls) (quick-texts rest (drop size rest) old.out new.out k t ∙ ap (λ x. map text_of t.lines ++ split x) (sym is)) ∙ sym (append_assoc h.more (map text_of t.lines) (split left));
+  texts = h.texts ∙ ap (λ ls. h.more ++ ls) (quick_texts rest (drop size rest) old.out new.out k t ∙ ap (λ x. map text_of t.lines ++ split x) (sym is)) ∙ sym (append_assoc h.more (map text_of t.lines) (split left));
   took = subst (AreReadWithRoom new) (append_assoc lines h.more (map text_of t.lines))
-      (all-read old new rest (drop size rest) k (lines ++ h.more) t start checker (λ e. none (h.counts ∙ e)) limit room h.took);
+      (all_read old new rest (drop size rest) k (lines ++ h.more) t start checker (λ e. none (h.counts ∙ e)) limit room h.took);
   counts = up ∙ ap (λ (j : ℕ). j + k) h.counts ∙ ap (λ (j : ℕ). length (lines ++ h.more) + j) (t.count_is ∙ sym (length-map t.lines text_of)) ∙ sym (length-append (lines ++ h.more) (map text_of t.lines)) ∙ ap length (append_assoc lines h.more (map text_of t.lines));
 }
 
 -- ---- the last line
 
-goes-any : (lines : List (List ℕ)) (line : List ℕ) (all left : List (List ℕ)) (b : AsmState) → Waits (has_any (lines ++ line ∷ [])) all left b → TextsAreRead all left b
-goes-any [] line all left b w = w
-goes-any (t ∷ ts) line all left b w = w
+goes_any : (lines : List (List ℕ)) (line : List ℕ) (all left : List (List ℕ)) (b : AsmState) → Waits (has_any (lines ++ line ∷ [])) all left b → TextsAreRead all left b
+goes_any [] line all left b w = w
+goes_any (t ∷ ts) line all left b w = w
 
-pub last-read : (b : Output) (lines : List (List ℕ)) (line : List ℕ) → IsOutputOf b (lines ++ line ∷ []) → AreHeadedAsm (lines ++ line ∷ []) (Ok b.out)
-last-read b lines line h =
+pub last_read : (b : Output) (lines : List (List ℕ)) (line : List ℕ) → IsOutputOf b (lines ++ line ∷ []) → AreHeadedAsm (lines ++ line ∷ []) (Ok b.out)
+last_read b lines line h =
     let all : List (List ℕ) = lines ++ line ∷ [] in
     subst (λ ls. AreHeadedAsm ls (Ok b.out)) (append-nil all)
-    (goes-whole (all ++ []) b.out b.start b.checker (length all) (goes-any lines line (all ++ []) [] (state_behind b (length all)) (h [])))
+    (goes_whole (all ++ []) b.out b.start b.checker (length all) (goes_any lines line (all ++ []) [] (state_after b (length all)) (h [])))

@@ -7,24 +7,24 @@ use Rattle.x7_words.specs.Word.{AreBytes}
 use Rattle.x7_text.specs.Digits.{hex_byte}
 use Rattle.x7_text.specs.Reads.{Reads}
 use Rattle.x7_text.specs.Row.{IsByteRow}
-use Rattle.x7_text.proofs.WholeLineLemmas.{length-hex_bytes}
+use Rattle.x7_text.proofs.WholeLineLemmas.{length_hex_bytes}
 
 -- what is left after the digits of the first bytes is digits of bytes
-left-over : (done bs rest : List ℕ) → AreBytes bs → flat_map hex_byte done ++ rest ≡ flat_map hex_byte bs → (tail : List ℕ) × AreBytes tail × (rest ≡ flat_map hex_byte tail)
-left-over [] bs rest a e = (bs, a, e)
-left-over (d ∷ ds) [] rest a e = absurd cc
-left-over (d ∷ ds) (b ∷ bs) rest a e = let tails : flat_map hex_byte ds ++ rest ≡ flat_map hex_byte bs = cc in left-over ds bs rest a.1 tails
+left_over : (done bs rest : List ℕ) → AreBytes bs → flat_map hex_byte done ++ rest ≡ flat_map hex_byte bs → (tail : List ℕ) × AreBytes tail × (rest ≡ flat_map hex_byte tail)
+left_over [] bs rest a e = (bs, a, e)
+left_over (d ∷ ds) [] rest a e = absurd cc
+left_over (d ∷ ds) (b ∷ bs) rest a e = let tails : flat_map hex_byte ds ++ rest ≡ flat_map hex_byte bs = cc in left_over ds bs rest a.1 tails
 
 -- an even number of digits at the front is digits of bytes
-front-of : (k : ℕ) (row more tail : List ℕ) → length row ≡ 2 * k → AreBytes tail → row ++ more ≡ flat_map hex_byte tail → (prefix : List ℕ) × AreBytes prefix × (row ≡ flat_map hex_byte prefix) × (length prefix ≡ k)
-front-of zero [] more tail h a e = ([], tt, refl, refl)
-front-of zero (r ∷ row) more tail h a e = absurd (omega (arith, h))
-front-of (suc k) [] more tail h a e = absurd (omega (arith, h))
-front-of (suc k) (r ∷ []) more tail h a e = absurd (omega (arith, h))
-front-of (suc k) (r ∷ s ∷ row) more [] h a e = absurd cc
-front-of (suc k) (r ∷ s ∷ row) more (b ∷ tail) h a e =
+prefix_of : (k : ℕ) (row more tail : List ℕ) → length row ≡ 2 * k → AreBytes tail → row ++ more ≡ flat_map hex_byte tail → (prefix : List ℕ) × AreBytes prefix × (row ≡ flat_map hex_byte prefix) × (length prefix ≡ k)
+prefix_of zero [] more tail h a e = ([], tt, refl, refl)
+prefix_of zero (r ∷ row) more tail h a e = absurd (omega (arith, h))
+prefix_of (suc k) [] more tail h a e = absurd (omega (arith, h))
+prefix_of (suc k) (r ∷ []) more tail h a e = absurd (omega (arith, h))
+prefix_of (suc k) (r ∷ s ∷ row) more [] h a e = absurd cc
+prefix_of (suc k) (r ∷ s ∷ row) more (b ∷ tail) h a e =
     let tails : row ++ more ≡ flat_map hex_byte tail = cc in
-    let f = front-of k row more tail (omega (arith, h)) a.1 tails in
+    let f = prefix_of k row more tail (omega (arith, h)) a.1 tails in
     let first : r ∷ s ∷ row ≡ flat_map hex_byte (b ∷ f.0) = cc in
     (b ∷ f.0, (a.0, f.1), first, ap (λ (n : ℕ). suc n) f.3)
 
@@ -36,24 +36,24 @@ module _ (digits done rest row more : List ℕ) (n : ℕ) (prefix : row ≡ take
   whole : rest ≡ row ++ more
   whole = sym (take-append-drop n rest) ∙ ap (λ t. t ++ drop n rest) (sym prefix) ∙ ap (λ t. row ++ t) (sym back)
 
-  long-row : length row ≡ n
-  long-row = ap length prefix ∙ length-take-le n rest (omega (arith, most))
+  long_row : length row ≡ n
+  long_row = ap length prefix ∙ length-take-le n rest (omega (arith, most))
 
-  no-long : ((x : List ℕ) → IsByteRow x → row ≡ flat_map hex_byte x → ⊥) → n ≡ 64 → (tail : List ℕ) → AreBytes tail → rest ≡ flat_map hex_byte tail → ⊥
-  no-long none e tail a is = let f = front-of 32 row more tail (long-row ∙ e) a (sym whole ∙ is) in none f.0 (f.1, omega (arith, f.3), omega (arith, f.3)) f.2
+  no_long : ((x : List ℕ) → IsByteRow x → row ≡ flat_map hex_byte x → ⊥) → n ≡ 64 → (tail : List ℕ) → AreBytes tail → rest ≡ flat_map hex_byte tail → ⊥
+  no_long none e tail a is = let f = prefix_of 32 row more tail (long_row ∙ e) a (sym whole ∙ is) in none f.0 (f.1, omega (arith, f.3), omega (arith, f.3)) f.2
 
-  no-short : ((x : List ℕ) → IsByteRow x → row ≡ flat_map hex_byte x → ⊥) → 0 < length rest → length rest < 64 → (tail : List ℕ) → AreBytes tail → rest ≡ flat_map hex_byte tail → ⊥
-  no-short none some short tail a is =
+  no_short : ((x : List ℕ) → IsByteRow x → row ≡ flat_map hex_byte x → ⊥) → 0 < length rest → length rest < 64 → (tail : List ℕ) → AreBytes tail → rest ≡ flat_map hex_byte tail → ⊥
+  no_short none some short tail a is =
       let empty : more ≡ [] = nothing more (ap length back ∙ length-drop n rest ∙ omega (arith, most, short)) in
       let all : row ≡ rest = sym (append-nil row) ∙ ap (λ t. row ++ t) (sym empty) ∙ sym whole in
-      none tail (a, omega (arith, some, ap length is, length-hex_bytes tail), omega (arith, short, ap length is, length-hex_bytes tail)) (all ∙ is)
+      none tail (a, omega (arith, some, ap length is, length_hex_bytes tail), omega (arith, short, ap length is, length_hex_bytes tail)) (all ∙ is)
 
-  pub no-pairs : ((x : List ℕ) → IsByteRow x → row ≡ flat_map hex_byte x → ⊥) → 0 < length rest → (bs : List ℕ) → AreBytes bs → digits ≡ flat_map hex_byte bs → ⊥
-  no-pairs none some bs a e =
-      let t = left-over done bs rest a (sym read ∙ e) in
+  pub no_pairs : ((x : List ℕ) → IsByteRow x → row ≡ flat_map hex_byte x → ⊥) → 0 < length rest → (bs : List ℕ) → AreBytes bs → digits ≡ flat_map hex_byte bs → ⊥
+  no_pairs none some bs a e =
+      let t = left_over done bs rest a (sym read ∙ e) in
       elim (cases_lt (length rest) 64) [
-        | inl short ↦ no-short none some short t.0 t.1 t.2
-        | inr long ↦ no-long none (omega (arith, most, long)) t.0 t.1 t.2
+        | inl short ↦ no_short none some short t.0 t.1 t.2
+        | inr long ↦ no_long none (omega (arith, most, long)) t.0 t.1 t.2
       ]
 
 pub unread : (r : Bool) (row old new : List ℕ) → r ≡ false → Reads IsByteRow (flat_map hex_byte) (λ (bs : List ℕ). bs) r row old new → (x : List ℕ) → IsByteRow x → row ≡ flat_map hex_byte x → ⊥

@@ -36,8 +36,8 @@ took c d run synced s2 line l2 at to held h2 text text2 given before bytes piece
     subst (λ t. HasListedJust (lister_of d s2 l2 h2 text2) given before t) e all
 
 -- an equal cutter, and an equal text
-pub told_as : (c d : CutterState) (t u : Vec ℕ Global) (synced : Bool) (line : ℕ) (held given before bytes : List ℕ) → d ≡ c → u ≡ t → HasListedJust (lister_of c synced line held t.items) given before bytes → HasListedJust (lister_of d synced line held u.items) given before bytes
-told_as c d t u synced line held given before bytes e f s =
+pub listed_as : (c d : CutterState) (t u : Vec ℕ Global) (synced : Bool) (line : ℕ) (held given before bytes : List ℕ) → d ≡ c → u ≡ t → HasListedJust (lister_of c synced line held t.items) given before bytes → HasListedJust (lister_of d synced line held u.items) given before bytes
+listed_as c d t u synced line held given before bytes e f s =
     subst (λ (k : CutterState). HasListedJust (lister_of k synced line held u.items) given before bytes) (sym e) (subst (λ (v : Vec ℕ Global). HasListedJust (lister_of c synced line held v.items) given before bytes) (sym f) s)
 
 -- the last call of the cutter, with the piece used up

@@ -13,7 +13,7 @@ use Rattle.x7_packets.proofs.RunningLemmas.{bare_after}
 use Rattle.x7_packets.proofs.UniqueLemmas.{one_reading}
 use Rattle.x7_listing.specs.Listing.{reading_text, session_text}
 use Rattle.x7_listing.specs.Telling.{Finished, ListerState, TakerStandsFor, SessionListed, HasListed, HasListedAt, WritesRun, written_of}
-use Rattle.x7_listing.specs.ListerOfRuns.{TakesRun, runs_told}
+use Rattle.x7_listing.specs.ListerOfRuns.{TakesRun, runs_listed}
 use Rattle.x7_listing.proofs.GapLemmas.{fresh_gap}
 use Rattle.x7_listing.proofs.list.ListerLemmas.{begins, not_due}
 
@@ -46,7 +46,7 @@ cut_fits (run.Body register bytes) e f = f
 cut_fits (run.Tail bytes) e f = absurd (let g : true ≡ false = e in cc)
 cut_fits run.End e f = absurd (let g : true ≡ false = e in cc)
 
-takes_as : (r : Run) (l : ListerState) (given before bytes : List ℕ) (due : Mode) → is_last r ≡ false → TakerStandsFor l given before bytes due → TakesRun r l (runs_told given before bytes due)
+takes_as : (r : Run) (l : ListerState) (given before bytes : List ℕ) (due : Mode) → is_last r ≡ false → TakerStandsFor l given before bytes due → TakesRun r l (runs_listed given before bytes due)
 takes_as (run.Skip x) l given before bytes due e t = t
 takes_as run.Sync l given before bytes due e t = t
 takes_as (run.Head w step) l given before bytes due e t = t
@@ -58,9 +58,9 @@ takes_as run.End l given before bytes due e t = absurd (let g : true ≡ false =
 -- ---- a run
 
 -- what was listed of bytes, by any reading of them
-told_by : (l : ListerState) (given before bytes : List ℕ) (due : Mode) (t : TakerStandsFor l given before bytes due) (sessions : List Session) (place : Place) → IsReading bytes sessions place
+listed_by : (l : ListerState) (given before bytes : List ℕ) (due : Mode) (t : TakerStandsFor l given before bytes due) (sessions : List Session) (place : Place) → IsReading bytes sessions place
     → HasListed (written_of l.synced l.line l.held (given ++ l.text)) before sessions place due × (t.at ≡ place)
-told_by l given before bytes due t sessions place r =
+listed_by l given before bytes due t sessions place r =
     let e : (t.sessions ≡ sessions) × (t.at ≡ place) = one_reading bytes t.sessions sessions t.at place t.reading r in (
       subst (λ p. HasListed (written_of l.synced l.line l.held (given ++ l.text)) before sessions p due) e.1 (subst (λ (s : List Session). HasListed (written_of l.synced l.line l.held (given ++ l.text)) before s t.at due) e.0 t.listed),
       e.1,
@@ -68,9 +68,9 @@ told_by l given before bytes due t sessions place r =
 
 pub takes_run : (l n : ListerState) (r : Run) (given before bytes : List ℕ) (due next : Mode) → is_last r ≡ false → n.cutter ≡ l.cutter
     → WritesRun (cut_of r) (written_of l.synced l.line l.held (given ++ l.text)) (written_of n.synced n.line n.held (given ++ n.text)) → ((IsNeed (cut_of r) → ⊥) → n.synced ≡ true → n.held ≡ [])
-    → TakerStandsFor l given before bytes due → IsNext bytes due r next → TakesRun r n (runs_told given before (bytes ++ bytes_of_run r) next)
+    → TakerStandsFor l given before bytes due → IsNext bytes due r next → TakesRun r n (runs_listed given before (bytes ++ bytes_of_run r) next)
 takes_run l n r given before bytes due next on same writes none t x =
-    let listed = (told_by l given before bytes due t x.sessions x.place x.before).0 in
+    let listed = (listed_by l given before bytes due t x.sessions x.place x.before).0 in
     let adds : Adds (cut_of r) x.sessions x.place x.new_sessions x.new_place = cut_adds r x.sessions x.new_sessions x.place x.new_place on x.adds in
     takes_as r n given before (bytes ++ bytes_of_run r) next on (record {
       sessions = x.new_sessions;
@@ -84,7 +84,7 @@ takes_run l n r given before bytes due next on same writes none t x =
 -- a run that is no tail and no end is taken as the run of a cutter
 pub takes_cut : (l n : ListerState) (r : Run) (k : Cut) (given before bytes : List ℕ) (due next : Mode) → ((tail : Bor (List ℕ)) → r ≡ run.Tail tail → ⊥) → (r ≡ run.End → ⊥) → n.cutter ≡ l.cutter → k ≡ cut_of r
     → WritesRun k (written_of l.synced l.line l.held (given ++ l.text)) (written_of n.synced n.line n.held (given ++ n.text)) → ((IsNeed k → ⊥) → n.synced ≡ true → n.held ≡ [])
-    → TakerStandsFor l given before bytes due → IsNext bytes due r next → TakesRun r n (runs_told given before (bytes ++ bytes_of_run r) next)
+    → TakerStandsFor l given before bytes due → IsNext bytes due r next → TakesRun r n (runs_listed given before (bytes ++ bytes_of_run r) next)
 takes_cut l n r k given before bytes due next no_tail no_end same e writes none t x =
     takes_run l n r given before bytes due next (goes_if r no_tail no_end) same
     (subst (λ c. WritesRun c (written_of l.synced l.line l.held (given ++ l.text)) (written_of n.synced n.line n.held (given ++ n.text))) e writes)
@@ -101,12 +101,12 @@ takes_cut l n r k given before bytes due next no_tail no_end same e writes none 
 
 -- ---- the tail
 
-told_tail : (synced : Bool) (line : ℕ) (held all before : List ℕ) (bytes : Bor (List ℕ)) (sessions new_sessions : List Session) (place new : Place) (old next : Mode)
+listed_tail : (synced : Bool) (line : ℕ) (held all before : List ℕ) (bytes : Bor (List ℕ)) (sessions new_sessions : List Session) (place new : Place) (old next : Mode)
     → HasListed (written_of synced line held all) before sessions place old → RunAdds (run.Tail bytes) sessions place new_sessions new → (old ≡ Mode.Due → ⊥) → (next ≡ Mode.Due → ⊥)
     → HasListed (written_of synced line bytes.now all) before new_sessions new next × (tail_of new ≡ bytes.now)
-told_tail synced line held all before bytes sessions ns (Searching gap) new old next t a d e = absurd a
-told_tail false line held all before bytes sessions ns (Synced gap packets tail) new old next t a d e = absurd (d t.0)
-told_tail true line held all before bytes sessions ns (Synced gap packets tail) new old next t a d e = (
+listed_tail synced line held all before bytes sessions ns (Searching gap) new old next t a d e = absurd a
+listed_tail false line held all before bytes sessions ns (Synced gap packets tail) new old next t a d e = absurd (d t.0)
+listed_tail true line held all before bytes sessions ns (Synced gap packets tail) new old next t a d e = (
   subst (λ p. HasListedAt (written_of true line bytes.now all) (before ++ flat_map session_text ns) p next) (sym a.2) (e, subst (λ (s : List Session). SessionListed all (before ++ flat_map session_text s) line gap packets) (sym a.0) t.1),
   ap tail_of a.2,
 )
@@ -114,8 +114,8 @@ told_tail true line held all before bytes sessions ns (Synced gap packets tail) 
 pub takes_tail : (l n : ListerState) (tail : Bor (List ℕ)) (given before bytes : List ℕ) (due next : Mode) → n.cutter ≡ l.cutter → n.synced ≡ l.synced → n.line ≡ l.line → n.held ≡ tail.now → n.text ≡ l.text
     → TakerStandsFor l given before bytes due → IsNext bytes due (run.Tail tail) next → TakerStandsFor n given before (bytes ++ tail.now) next
 takes_tail l n tail given before bytes due next c s i h e t x =
-    let listed = (told_by l given before bytes due t x.sessions x.place x.before).0 in
-    let now = told_tail l.synced l.line l.held (given ++ l.text) before tail x.sessions x.new_sessions x.place x.new_place due next listed x.adds x.turns.0 x.turns.1 in
+    let listed = (listed_by l given before bytes due t x.sessions x.place x.before).0 in
+    let now = listed_tail l.synced l.line l.held (given ++ l.text) before tail x.sessions x.new_sessions x.place x.new_place due next listed x.adds x.turns.0 x.turns.1 in
     record {
       sessions = x.new_sessions;
       at = x.new_place;

@@ -1,12 +1,12 @@
 use Rattle.std.proofs.Common.{[], ◌∷◌, ◌∙◌}
-use Rattle.x7_crc.proofs.CheckLemmas.{check_after-linear, check_of-more}
+use Rattle.x7_crc.proofs.CheckLemmas.{check_after_linear, check_of_more}
 use Rattle.x7_crc.proofs.check.fold.Goals as goal
 
 pub returns-clause-value : goal.returns-clause-value
 returns-clause-value c = c.fold_by_tables.ensures
 
 pub returns-clause-last : goal.returns-clause-last
-returns-clause-last c writes e = c.fold_by_tables.ensures ∙ check_of-more c.args.prev writes ((c.args.reg, c.args.word) ∷ []) e
+returns-clause-last c writes e = c.fold_by_tables.ensures ∙ check_of_more c.args.prev writes ((c.args.reg, c.args.word) ∷ []) e
 
 pub returns-clause-linear : goal.returns-clause-linear
-returns-clause-linear c = c.fold_by_tables.ensures ∙ check_after-linear c.args.prev c.args.reg c.args.word c.ranges.prev.fits c.requires c.ranges.word.fits
+returns-clause-linear c = c.fold_by_tables.ensures ∙ check_after_linear c.args.prev c.args.reg c.args.word c.ranges.prev.fits c.requires c.ranges.word.fits

@@ -3,7 +3,7 @@ use Rattle.std.specs.List.{flat_map}
 use Rattle.x7_words.specs.Word.{words_of_bytes}
 use Rattle.x7_crc.specs.RunningCheck.{check_after, writes_to}
 use Rattle.x7_crc.proofs.BlockLemmas.{blocks_and_rest}
-use Rattle.x7_crc.proofs.CheckLemmas.{check_of-more}
+use Rattle.x7_crc.proofs.CheckLemmas.{check_of_more}
 use Rattle.x7_crc.proofs.check.fold_slice.Goals as goal
 
 pub returns-clause-value : goal.returns-clause-value
@@ -17,4 +17,4 @@ returns-clause-last c writes e =
     blocks_and_rest c.args.prev c.args.reg c.fold_blocks.result _ (length c.args.bytes.now / 16) c.args.bytes.now c.ranges.prev.fits (omega arith)
     (c.fold_blocks.ensures ∙ ap (λ bs. check_after c.args.prev (writes_to c.args.reg (flat_map words_of_bytes bs))) c.as_chunks.ensures.front)
     (c.fold_words.ensures ∙ ap (λ bs. check_after c.fold_blocks.result (writes_to c.args.reg (words_of_bytes bs))) c.as_chunks.ensures.back)
-    ∙ check_of-more c.args.prev writes (writes_to c.args.reg (words_of_bytes c.args.bytes.now)) e
+    ∙ check_of_more c.args.prev writes (writes_to c.args.reg (words_of_bytes c.args.bytes.now)) e

@@ -1,14 +1,14 @@
-use Rattle.x7_crc.proofs.CheckLemmas.{check_after-only, check_after-remainder, check_after_fits, check_of-remainder}
+use Rattle.x7_crc.proofs.CheckLemmas.{check_after_only, check_after_remainder, check_after_fits, check_of_remainder}
 use Rattle.x7_crc.proofs.laws.checks_are_remainders.Goals as goal
 
 pub returns-clause-fits : goal.returns-clause-fits
 returns-clause-fits c = check_after_fits
 
 pub returns-clause-remainder : goal.returns-clause-remainder
-returns-clause-remainder c = check_of-remainder
+returns-clause-remainder c = check_of_remainder
 
 pub returns-clause-continued : goal.returns-clause-continued
-returns-clause-continued c = check_after-remainder
+returns-clause-continued c = check_after_remainder
 
 pub returns-clause-only : goal.returns-clause-only
-returns-clause-only c before check writes h k r = check_after-only before check writes h k r
+returns-clause-only c before check writes h k r = check_after_only before check writes h k r

@@ -4,13 +4,13 @@ use Rattle.x7_words.proofs.ListLemmas.{all_from_places}
 use Rattle.x7_engine.specs.Kept.{on_the_bench}
 use Rattle.x7_debug.specs.Session.{StandsAtPosition}
 use Rattle.x7_debug.proofs.JournalLemmas.{on_more}
-use Rattle.x7_debug.proofs.PositionLemmas.{last-within, moved, stands-there}
+use Rattle.x7_debug.proofs.PositionLemmas.{last_within, moved, stands_there}
 use Rattle.x7_debug.proofs.moving.feed_recorded.Goals as goal
 
 pub slice_bounds-feed-end : goal.slice_bounds-feed-end
 slice_bounds-feed-end c =
     let fits : AreBytes c.args.stream.now = all_from_places (λ b. b < 256) c.args.stream.now (λ k h. omega (arith, c.type_inv.stream k)) in
-    omega (arith, last-within c.args.device.now.part c.args.stream.now fits, c.requires.within)
+    omega (arith, last_within c.args.device.now.part c.args.stream.now fits, c.requires.within)
 
 pub returns-clause-comes : goal.returns-clause-comes
 returns-clause-comes c =
@@ -18,10 +18,10 @@ returns-clause-comes c =
     let part = c.args.device.now.part in
     let from = c.args.device.now.taken in
     let fits : AreBytes stream = all_from_places (λ b. b < 256) stream (λ k h. omega (arith, c.type_inv.stream k)) in
-    let few : c.args.to ≤ length stream = omega (arith, last-within part stream fits, c.requires.within) in
+    let few : c.args.to ≤ length stream = omega (arith, last_within part stream fits, c.requires.within) in
     let stands = c.requires.on.stands.stands in
     let there : StandsAtPosition part stream c.feed.new.device c.args.to =
-    stands-there part stream c.feed.new.device c.args.to c.requires.within
+    stands_there part stream c.feed.new.device c.args.to c.requires.within
     (moved part stream (take (c.args.to - c.taken-from.result) (drop c.taken-from.result stream)) c.feed.new.device from c.args.to fits c.requires.forward few
     (ap (λ (k : ℕ). take (c.args.to - k) (drop k stream)) c.taken-from.ensures.now)
     (c.feed.ensures.stands part on_the_bench false (take from stream) stands) (c.feed.ensures.none_due part on_the_bench false (take from stream) stands)) in

@@ -1,7 +1,7 @@
 use Rattle.std.proofs.Common.{◌<◌, arith}
 use Rattle.x7_words.specs.Word.{AreBytes}
-use Rattle.x7_words.proofs.ListLemmas.{all-append, all_from_places}
-use Rattle.x7_debug.proofs.FeedLemmas.{drops, fed-none-due, fed-stands}
+use Rattle.x7_words.proofs.ListLemmas.{all_append, all_from_places}
+use Rattle.x7_debug.proofs.FeedLemmas.{drops, fed_none_due, fed_stands}
 use Rattle.x7_debug.proofs.moving.take.Goals as goal
 
 pub returns-clause-stands : goal.returns-clause-stands
@@ -9,10 +9,10 @@ returns-clause-stands c = λ part kept wrapped bytes s.
     let piece = c.args.piece.now in
     let fits : AreBytes piece = all_from_places (λ b. b < 256) piece (λ k h. omega (arith, c.type_inv.piece k)) in
     let reads = c.feed.ensures.reads part kept wrapped bytes s in
-    fed-stands part kept wrapped bytes piece c.feed.new.self c.feed.new.read c.feed.result (all-append (λ b. b < 256) bytes piece s.fits fits)
+    fed_stands part kept wrapped bytes piece c.feed.new.self c.feed.new.read c.feed.result (all_append (λ b. b < 256) bytes piece s.fits fits)
     (drops c.dropping-read.result c.feed.new.read reads.0 c.dropping-read.ensures reads.1) (c.feed.ensures.stands part kept wrapped bytes s) (c.feed.ensures.answer part kept wrapped bytes s)
 
 pub returns-clause-none_due : goal.returns-clause-none_due
 returns-clause-none_due c = λ part kept wrapped bytes s.
     let reads = c.feed.ensures.reads part kept wrapped bytes s in
-    fed-none-due part kept wrapped bytes c.args.piece.now c.feed.new.self c.feed.new.read c.feed.result (drops c.dropping-read.result c.feed.new.read reads.0 c.dropping-read.ensures reads.1) (c.feed.ensures.answer part kept wrapped bytes s)
+    fed_none_due part kept wrapped bytes c.args.piece.now c.feed.new.self c.feed.new.read c.feed.result (drops c.dropping-read.result c.feed.new.read reads.0 c.dropping-read.ensures reads.1) (c.feed.ensures.answer part kept wrapped bytes s)

@@ -4,7 +4,7 @@ use Rattle.x7_debug.specs.declared.order.Order.{Order}
 use Rattle.x7_debug.specs.declared.order.Order.TheVariants as order
 use Rattle.x7_debug.specs.Session.{MovesTo}
 use Rattle.x7_debug.specs.Transcript.{final_position, order_shown}
-use Rattle.x7_debug.proofs.TranscriptLemmas.{moves-on, position-more, shows, text-more}
+use Rattle.x7_debug.proofs.TranscriptLemmas.{moves_on, position_more, shows, text_more}
 use Rattle.x7_debug.proofs.showing.transcript.Goals as goal
 
 pub returns-in-Err-clause-err : goal.returns-in-Err-clause-err
@@ -19,8 +19,8 @@ returns-in-Err-clause-err c =
       take (i + 1) orders,
       drop (i + 1) orders,
       sym (take-append-drop (i + 1) orders),
-      moves-on old c.loop-order.session c.follow.new.self (final_position old.part old.stream (take i orders)) (final_position old.part old.stream (take (i + 1) orders)) o c.loop-order.invariant.moves c.follow.ensures
-          (position-more old.part old.stream orders i o (order.Step 0) below (ap (λ (t : List Order). get_or t i (order.Step 0)) same)),
+      moves_on old c.loop-order.session c.follow.new.self (final_position old.part old.stream (take i orders)) (final_position old.part old.stream (take (i + 1) orders)) o c.loop-order.invariant.moves c.follow.ensures
+          (position_more old.part old.stream orders i o (order.Step 0) below (ap (λ (t : List Order). get_or t i (order.Step 0)) same)),
     )
 
 pub loop-order-preserved : goal.loop-order-preserved
@@ -35,11 +35,11 @@ loop-order-preserved c =
     let is : o ≡ get_or orders i (order.Step 0) = ap (λ (t : List Order). get_or t i (order.Step 0)) same in
     let there : ℕ = final_position old.part old.stream (take (i + 1) orders) in
     let moved : MovesTo old c.follow.new.self there
-    = moves-on old c.loop-order.session c.follow.new.self (final_position old.part old.stream (take i orders)) there o c.loop-order.invariant.moves c.follow.ensures (position-more old.part old.stream orders i o (order.Step 0) below is) in
+    = moves_on old c.loop-order.session c.follow.new.self (final_position old.part old.stream (take i orders)) there o c.loop-order.invariant.moves c.follow.ensures (position_more old.part old.stream orders i o (order.Step 0) below is) in
     record {
       moves = moved;
       text =
           c.in-Ok.ensures ∙ ap (λ (t : List ℕ). c.loop-order.text.items ++ t) (shows old c.follow.new.self there o moved)
           ∙ ap (λ (t : List ℕ). t ++ order_shown old.part old.stream there o) c.loop-order.invariant.text
-          ∙ text-more old.part old.stream orders i o (order.Step 0) below is;
+          ∙ text_more old.part old.stream orders i o (order.Step 0) below is;
     }

@@ -3,7 +3,7 @@ use Rattle.x7_part.specs.Part.{PartData}
 use Rattle.x7_debug.specs.Journal.{oldest_by, reach, record_room, records_of}
 use Rattle.x7_debug.specs.Position.{holds_at}
 use Rattle.x7_debug.proofs.JournalLemmas.{Reaches, none_between, none_up_to, reaches_first, reaches_last, reaches_whole, fed_none, fed_on}
-use Rattle.x7_debug.proofs.PositionLemmas.{until-last, until-there}
+use Rattle.x7_debug.proofs.PositionLemmas.{until_last, until_there}
 use Rattle.x7_debug.proofs.until.forward_until.Goals as goal
 
 pub loop-stop-init : goal.loop-stop-init
@@ -31,7 +31,7 @@ returns-then-seek_word-clause-comes c =
     record {
       on = c.seek_word.ensures.comes.on;
       part = c.seek_word.ensures.comes.part ∙ same;
-      taken = sym (until-there part stream c.args.stop from m (omega (arith, c.loop-stop.invariant.since, c.seek_word.ensures.forward.0)) (omega (arith, c.seek_word.ensures.forward.1, c.requires.last)) found
+      taken = sym (until_there part stream c.args.stop from m (omega (arith, c.loop-stop.invariant.since, c.seek_word.ensures.forward.0)) (omega (arith, c.seek_word.ensures.forward.1, c.requires.last)) found
           (none_between (holds_at part stream c.args.stop) from n m c.loop-stop.invariant.none later));
     }
 
@@ -80,6 +80,6 @@ returns-clause-comes c =
     record {
       on = here.on;
       part = here.part;
-      taken = sym (until-last c.args.device.now.part c.args.stream.now c.args.stop c.args.device.now.taken c.loop-stop.device.taken (omega (arith, c.requires.last, at, c.loop-stop-test.false)) (omega (arith, c.requires.last, here.within))
+      taken = sym (until_last c.args.device.now.part c.args.stream.now c.args.stop c.args.device.now.taken c.loop-stop.device.taken (omega (arith, c.requires.last, at, c.loop-stop-test.false)) (omega (arith, c.requires.last, here.within))
           here.since here.none);
     }

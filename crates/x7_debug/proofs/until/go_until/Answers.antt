@@ -6,8 +6,8 @@ use Rattle.x7_debug.specs.Journal.{ComesToPosition, records_of}
 use Rattle.x7_debug.specs.Kept.{session_of}
 use Rattle.x7_debug.specs.Position.{until_of}
 use Rattle.x7_debug.proofs.JournalLemmas.{goes_forward, goes_nowhere, oldest_within}
-use Rattle.x7_debug.proofs.LeastLemmas.{until-stopped}
-use Rattle.x7_debug.proofs.PositionLemmas.{until-last}
+use Rattle.x7_debug.proofs.LeastLemmas.{until_stopped}
+use Rattle.x7_debug.proofs.PositionLemmas.{until_last}
 use Rattle.x7_debug.proofs.until.go_until.Goals as goal
 
 pub returns-then-taken-outline-clause-goes : goal.returns-then-taken-outline-clause-goes
@@ -24,7 +24,7 @@ returns-in-Stopped-clause-comes c =
     record {
       on = there.on;
       part = there.part;
-      taken = there.taken ∙ c.requires.last ∙ sym (until-stopped part stream from fits c.requires.on.stands.within) ∙ ap (λ (s : Stop). until_of part stream s from) (sym c.in-Stopped.is);
+      taken = there.taken ∙ c.requires.last ∙ sym (until_stopped part stream from fits c.requires.on.stands.within) ∙ ap (λ (s : Stop). until_of part stream s from) (sym c.in-Stopped.is);
     }
 
 pub returns-in_default : goal.returns-in_default
@@ -51,5 +51,5 @@ returns-then-taken-outline-clause-comes c =
     record {
       on = c.requires.on;
       part = refl;
-      taken = sym (until-last part c.args.stream.now c.args.stop from from (omega (arith, c.if-taken-outline.true, c.requires.last, c.taken.ensures.now)) within (omega arith) (λ k h j. absurd (omega (arith, h, j))));
+      taken = sym (until_last part c.args.stream.now c.args.stop from from (omega (arith, c.if-taken-outline.true, c.requires.last, c.taken.ensures.now)) within (omega arith) (λ k h j. absurd (omega (arith, h, j))));
     }

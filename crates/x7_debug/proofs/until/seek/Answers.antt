@@ -4,7 +4,7 @@ use Rattle.x7_engine.specs.Kept.{on_the_bench}
 use Rattle.x7_debug.specs.Position.{holds_at}
 use Rattle.x7_debug.specs.Session.{StandsAtPosition}
 use Rattle.x7_debug.proofs.JournalLemmas.{none_there, on_further, stands_of, fed_on}
-use Rattle.x7_debug.proofs.PositionLemmas.{holds-is}
+use Rattle.x7_debug.proofs.PositionLemmas.{holds_is}
 use Rattle.x7_debug.proofs.until.seek.Goals as goal
 
 pub returns-then-holds-clause-found : goal.returns-then-holds-clause-found
@@ -13,7 +13,7 @@ returns-then-holds-clause-found c = λ q.
     let stream = c.args.stream.now in
     let n : ℕ = c.loop-stop.device.taken in
     let there : StandsAtPosition part stream c.loop-stop.device n = stands_of c.loop-stop.device.part part stream c.loop-stop.device c.args.journal.now c.loop-stop.invariant.part c.loop-stop.invariant.on in
-    holds-is part stream c.args.stop n c.end.result c.phase.result c.holds.result (c.end.ensures part on_the_bench false (take n stream) there.stands) (c.phase.ensures part on_the_bench false (take n stream) there.stands) c.holds.ensures ∙ c.if-holds.true
+    holds_is part stream c.args.stop n c.end.result c.phase.result c.holds.result (c.end.ensures part on_the_bench false (take n stream) there.stands) (c.phase.ensures part on_the_bench false (take n stream) there.stands) c.holds.ensures ∙ c.if-holds.true
 
 pub returns-then-at-end-clause-none_at_end : goal.returns-then-at-end-clause-none_at_end
 returns-then-at-end-clause-none_at_end c = λ q.
@@ -22,7 +22,7 @@ returns-then-at-end-clause-none_at_end c = λ q.
     let n : ℕ = c.loop-stop.device.taken in
     let there : StandsAtPosition part stream c.loop-stop.device n = stands_of c.loop-stop.device.part part stream c.loop-stop.device c.args.journal.now c.loop-stop.invariant.part c.loop-stop.invariant.on in
     let here : holds_at part stream c.args.stop n ≡ false =
-    holds-is part stream c.args.stop n c.end.result c.phase.result c.holds.result (c.end.ensures part on_the_bench false (take n stream) there.stands) (c.phase.ensures part on_the_bench false (take n stream) there.stands) c.holds.ensures ∙ c.if-holds.false in
+    holds_is part stream c.args.stop n c.end.result c.phase.result c.holds.result (c.end.ensures part on_the_bench false (take n stream) there.stands) (c.phase.ensures part on_the_bench false (take n stream) there.stands) c.holds.ensures ∙ c.if-holds.false in
     let same : n ≡ c.args.end = omega (arith, c.if-at-end.true, c.taken-at.ensures.now, c.loop-stop.invariant.within) in
     subst (λ (k : ℕ). holds_at part stream c.args.stop k ≡ false) same here
 
@@ -33,7 +33,7 @@ loop-stop-preserved c =
     let n : ℕ = c.loop-stop.device.taken in
     let there : StandsAtPosition part stream c.loop-stop.device n = stands_of c.loop-stop.device.part part stream c.loop-stop.device c.args.journal.now c.loop-stop.invariant.part c.loop-stop.invariant.on in
     let here : holds_at part stream c.args.stop n ≡ false =
-    holds-is part stream c.args.stop n c.end.result c.phase.result c.holds.result (c.end.ensures part on_the_bench false (take n stream) there.stands) (c.phase.ensures part on_the_bench false (take n stream) there.stands) c.holds.ensures ∙ c.if-holds.false in
+    holds_is part stream c.args.stop n c.end.result c.phase.result c.holds.result (c.end.ensures part on_the_bench false (take n stream) there.stands) (c.phase.ensures part on_the_bench false (take n stream) there.stands) c.holds.ensures ∙ c.if-holds.false in
     let at : c.taken-at.result ≡ n = c.taken-at.ensures.now in
     let next : c.feed_to.new.device.taken ≡ n + 1 = omega (arith, at, c.feed_to.ensures.stands.taken) in
     let less : n < c.args.end = omega (arith, at, c.if-at-end.false) in

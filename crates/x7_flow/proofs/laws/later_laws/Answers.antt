@@ -1,4 +1,4 @@
-use Rattle.x7_flow.proofs.ManyLemmas.{flow_twice, memory_behind_load_alone, pairs_twice, settings_twice}
+use Rattle.x7_flow.proofs.ManyLemmas.{flow_twice, memory_after_load_alone, pairs_twice, settings_twice}
 use Rattle.x7_flow.proofs.AlikeLemmas.{loaded_alike}
 use Rattle.x7_flow.proofs.laws.later_laws.Goals as goal
 
@@ -12,7 +12,7 @@ pub returns-clause-pairs : goal.returns-clause-pairs
 returns-clause-pairs c = λ x. pairs_twice x.part x.settings x.flow
 
 pub returns-clause-alone : goal.returns-clause-alone
-returns-clause-alone c = memory_behind_load_alone
+returns-clause-alone c = memory_after_load_alone
 
 pub returns-clause-alike : goal.returns-clause-alike
 returns-clause-alike c = loaded_alike

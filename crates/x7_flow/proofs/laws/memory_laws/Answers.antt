@@ -1,5 +1,5 @@
 use Rattle.x7_flow.proofs.SettingsLemmas.{settings_joined}
-use Rattle.x7_flow.proofs.FlowLemmas.{flow_joined, memory_joined, memory_behind_load}
+use Rattle.x7_flow.proofs.FlowLemmas.{flow_joined, memory_joined, memory_after_load}
 use Rattle.x7_flow.proofs.laws.memory_laws.Goals as goal
 
 pub returns-clause-settings : goal.returns-clause-settings
@@ -12,4 +12,4 @@ pub returns-clause-memory : goal.returns-clause-memory
 returns-clause-memory c = memory_joined
 
 pub returns-clause-loaded : goal.returns-clause-loaded
-returns-clause-loaded c = memory_behind_load
+returns-clause-loaded c = memory_after_load

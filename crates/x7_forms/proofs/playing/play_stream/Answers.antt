@@ -11,7 +11,7 @@ use Rattle.x7_forms.proofs.ResultLemmas.{err_weaker, ok_weaker, from_ok}
 use Rattle.x7_forms.proofs.PlayerLemmas.{may_less, may_on, on_on}
 use Rattle.x7_forms.proofs.ReadLemmas.{header_refused, reads_first, slice_of, stream_read, stream_refused, stream_unopened, stream_unread, turn_unread, unopened_unread, want_or_rest, want_unread}
 use Rattle.x7_words.proofs.InputLemmas.{few_once, stays_on}
-use Rattle.x7_forms.proofs.StandLemmas.{few_behind, few_read, stands_rest, stands_opened, stands_read}
+use Rattle.x7_forms.proofs.StandLemmas.{few_after, few_read, stands_rest, stands_opened, stands_read}
 use Rattle.x7_forms.proofs.playing.play_stream.Goals as goal
 
 pub play-requires : goal.play-requires
@@ -166,7 +166,7 @@ returns-else-is_err-clause-stands g c =
 pub returns-else-is_err-clause-once : goal.returns-else-is_err-clause-once
 returns-else-is_err-clause-once g c =
     let i = g.I.Inputs in
-    few_behind c.in-Ok-next_turn.turn.last (i.state c.args.inputs.now) (i.state c.open.new.inputs) (i.state c.next_turn.new.inputs) (i.state c.play_rest.new.inputs) c.args.limit (c.args.limit - c.in-Ok-next_turn.turn.count)
+    few_after c.in-Ok-next_turn.turn.last (i.state c.args.inputs.now) (i.state c.open.new.inputs) (i.state c.next_turn.new.inputs) (i.state c.play_rest.new.inputs) c.args.limit (c.args.limit - c.in-Ok-next_turn.turn.count)
     c.open.ensures.once c.next_turn.ensures.few c.in-Ok-next_turn.ensures.more c.play_rest.ensures.few c.play_rest.ensures.ended
 
 pub returns-else-is_err-clause-inputs : goal.returns-else-is_err-clause-inputs
@@ -185,7 +185,7 @@ returns-in-Err-skip_rest-clause-stands g c =
 pub returns-in-Err-skip_rest-clause-once : goal.returns-in-Err-skip_rest-clause-once
 returns-in-Err-skip_rest-clause-once g c =
     let i = g.I.Inputs in
-    few_behind c.in-Ok-next_turn.turn.last (i.state c.args.inputs.now) (i.state c.open.new.inputs) (i.state c.next_turn.new.inputs) (i.state c.skip_rest.new.inputs) c.args.limit (c.args.limit - c.in-Ok-next_turn.turn.count)
+    few_after c.in-Ok-next_turn.turn.last (i.state c.args.inputs.now) (i.state c.open.new.inputs) (i.state c.next_turn.new.inputs) (i.state c.skip_rest.new.inputs) c.args.limit (c.args.limit - c.in-Ok-next_turn.turn.count)
     c.open.ensures.once c.next_turn.ensures.few c.in-Ok-next_turn.ensures.more c.skip_rest.ensures.few c.skip_rest.ensures.ended
 
 pub returns-in-Err-skip_rest-clause-inputs : goal.returns-in-Err-skip_rest-clause-inputs
@@ -204,7 +204,7 @@ returns-in-Ok-skip_rest-clause-stands g c =
 pub returns-in-Ok-skip_rest-clause-once : goal.returns-in-Ok-skip_rest-clause-once
 returns-in-Ok-skip_rest-clause-once g c =
     let i = g.I.Inputs in
-    few_behind c.in-Ok-next_turn.turn.last (i.state c.args.inputs.now) (i.state c.open.new.inputs) (i.state c.next_turn.new.inputs) (i.state c.skip_rest.new.inputs) c.args.limit (c.args.limit - c.in-Ok-next_turn.turn.count)
+    few_after c.in-Ok-next_turn.turn.last (i.state c.args.inputs.now) (i.state c.open.new.inputs) (i.state c.next_turn.new.inputs) (i.state c.skip_rest.new.inputs) c.args.limit (c.args.limit - c.in-Ok-next_turn.turn.count)
     c.open.ensures.once c.next_turn.ensures.few c.in-Ok-next_turn.ensures.more c.skip_rest.ensures.few c.skip_rest.ensures.ended
 
 pub returns-in-Ok-skip_rest-clause-inputs : goal.returns-in-Ok-skip_rest-clause-inputs

@@ -1,5 +1,5 @@
-use Rattle.x7_frames.proofs.EveryTextLemmas.{has-plan}
+use Rattle.x7_frames.proofs.EveryTextLemmas.{has_plan}
 use Rattle.x7_frames.proofs.laws.every_text_is_read.Goals as goal
 
 pub returns : goal.returns
-returns c = has-plan
+returns c = has_plan

@@ -1,12 +1,12 @@
-use Rattle.x7_frames.proofs.OneFaultLemmas.{one-fault}
-use Rattle.x7_frames.proofs.OneLemmas.{no-fault, one-plan}
+use Rattle.x7_frames.proofs.OneFaultLemmas.{one_fault}
+use Rattle.x7_frames.proofs.OneLemmas.{no_fault, one_plan}
 use Rattle.x7_frames.proofs.laws.one_plan.Goals as goal
 
 pub returns-clause-plan : goal.returns-clause-plan
-returns-clause-plan c = one-plan
+returns-clause-plan c = one_plan
 
 pub returns-clause-fault : goal.returns-clause-fault
-returns-clause-fault c = no-fault
+returns-clause-fault c = no_fault
 
 pub returns-clause-one_fault : goal.returns-clause-one_fault
-returns-clause-one_fault c = one-fault
+returns-clause-one_fault c = one_fault

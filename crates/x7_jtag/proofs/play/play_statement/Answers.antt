@@ -3,24 +3,24 @@ use Rattle.x7_jtag.specs.declared.statement.Statement.TheVariants as statement
 use Rattle.x7_jtag.specs.Clocks.{from_reset}
 use Rattle.x7_jtag.specs.Play.{difference}
 use Rattle.x7_jtag.specs.Port.{port_after}
-use Rattle.x7_jtag.proofs.PlayLemmas.{of-statement, ready-left, run-ends, short-scan}
+use Rattle.x7_jtag.proofs.PlayLemmas.{of_statement, ready_left, run_ends, short_scan}
 use Rattle.x7_jtag.proofs.play.play_statement.Goals as goal
 
 pub run-requires : goal.run-requires
-run-requires c = ready-left c.args.tap.now c.leave_reset-in-Run.new.tap c.args.device.now c.leave_reset-in-Run.new.device (2 ^ 33) (2 ^ 32) c.requires c.leave_reset-in-Run.ensures (omega arith)
+run-requires c = ready_left c.args.tap.now c.leave_reset-in-Run.new.tap c.args.device.now c.leave_reset-in-Run.new.device (2 ^ 33) (2 ^ 32) c.requires c.leave_reset-in-Run.ensures (omega arith)
 
 pub returns-in-Run-clause-stands : goal.returns-in-Run-clause-stands
 returns-in-Run-clause-stands c = λ part cs s.
     let t = (port_after part cs).state in
-    of-statement part c.run.new.tap c.run.new.device cs t (statement.Run c.in-Run.count) c.args.statement.now c.in-Run.is
-    (run-ends part c.run.new.tap c.run.new.device cs t c.in-Run.count (c.run.ensures.stands part (cs ++ from_reset t) (c.leave_reset-in-Run.ensures part cs s)))
+    of_statement part c.run.new.tap c.run.new.device cs t (statement.Run c.in-Run.count) c.args.statement.now c.in-Run.is
+    (run_ends part c.run.new.tap c.run.new.device cs t c.in-Run.count (c.run.ensures.stands part (cs ++ from_reset t) (c.leave_reset-in-Run.ensures part cs s)))
 
 pub returns-in-Scan-clause-stands : goal.returns-in-Scan-clause-stands
 returns-in-Scan-clause-stands c = λ part cs s.
-    of-statement part c.scan.new.tap c.scan.new.device cs (port_after part cs).state (statement.Scan c.in-Scan.ir c.in-Scan.tdi c.in-Scan.tdo c.in-Scan.mask) c.args.statement.now c.in-Scan.is (c.scan.ensures.stands part cs s)
+    of_statement part c.scan.new.tap c.scan.new.device cs (port_after part cs).state (statement.Scan c.in-Scan.ir c.in-Scan.tdi c.in-Scan.tdo c.in-Scan.mask) c.args.statement.now c.in-Scan.is (c.scan.ensures.stands part cs s)
 
 pub returns-in-Scan-clause-found : goal.returns-in-Scan-clause-found
 returns-in-Scan-clause-found c = λ part cs s. c.scan.ensures.found part cs s ∙ ap (difference part (port_after part cs)) (sym c.in-Scan.is)
 
 pub returns-in-Scan-clause-short : goal.returns-in-Scan-clause-short
-returns-in-Scan-clause-short c = λ s. short-scan s c.in-Scan.ir c.in-Scan.tdi c.in-Scan.tdo c.in-Scan.mask c.args.statement.now c.in-Scan.is c.scan.ensures.few
+returns-in-Scan-clause-short c = λ s. short_scan s c.in-Scan.ir c.in-Scan.tdi c.in-Scan.tdo c.in-Scan.mask c.args.statement.now c.in-Scan.is c.scan.ensures.few

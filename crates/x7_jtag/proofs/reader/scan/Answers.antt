@@ -1,10 +1,10 @@
 use Rattle.std.proofs.Common.{ℕ, List, subst}
 use Rattle.x7_jtag.specs.Spans.{StaysKept}
-use Rattle.x7_jtag.proofs.SpanLemmas.{all-stays}
+use Rattle.x7_jtag.proofs.SpanLemmas.{all_stays}
 use Rattle.x7_jtag.proofs.reader.scan.Goals as goal
 
 pub returns-in_err-count-clause-prefix : goal.returns-in_err-count-clause-prefix
-returns-in_err-count-clause-prefix c = all-stays c.args.source.now.kept c.scan_count.new.source.kept c.scan_count.ensures.kept
+returns-in_err-count-clause-prefix c = all_stays c.args.source.now.kept c.scan_count.new.source.kept c.scan_count.ensures.kept
 
 pub returns-in_err-given-clause-prefix : goal.returns-in_err-given-clause-prefix
 returns-in_err-given-clause-prefix c = subst (λ (k : List ℕ). StaysKept k c.fields.new.source.kept) c.scan_count.ensures.kept c.fields.ensures.prefix

@@ -3,7 +3,7 @@ use Rattle.x7_jtag.specs.Pieces.{mark_of}
 use Rattle.x7_jtag.specs.Source.{left_after, pieces_left}
 use Rattle.x7_jtag.specs.Svf.{marks_before}
 use Rattle.x7_jtag.specs.declared.token.Token.{Token}
-use Rattle.x7_jtag.proofs.NextLemmas.{after-there, marks-end, marks-there}
+use Rattle.x7_jtag.proofs.NextLemmas.{after_there, marks_end, marks_there}
 use Rattle.x7_jtag.proofs.token.next_within.Goals as goal
 
 pub returns-in_err-token-clause-is : goal.returns-in_err-token-clause-is
@@ -16,7 +16,7 @@ returns-in_err-token-clause-is c =
 pub returns-in-End-clause-is : goal.returns-in-End-clause-is
 returns-in-End-clause-is c =
     let new = c.next.new.source in
-    marks-end (pieces_left c.args.source.now) new.line c.in_ok-token.token new.rest (left_after new c.in_ok-token.token) c.in_ok-token.ensures.is c.in-End.is
+    marks_end (pieces_left c.args.source.now) new.line c.in_ok-token.token new.rest (left_after new c.in_ok-token.token) c.in_ok-token.ensures.is c.in-End.is
 
 pub returns-in_default : goal.returns-in_default
 returns-in_default c =
@@ -24,9 +24,9 @@ returns-in_default c =
     let new = c.next.new.source in
     let t = c.in_ok-token.token in
     record {
-      is = marks-there (pieces_left old) new.line t new.rest (left_after new t) c.in_ok-token.ensures.is c.in_default.not-End;
+      is = marks_there (pieces_left old) new.line t new.rest (left_after new t) c.in_ok-token.ensures.is c.in_default.not-End;
       ends = tt;
-      goes_on = after-there (pieces_left old) new.line t new.rest (left_after new t) c.in_ok-token.ensures.is c.in_default.not-End;
+      goes_on = after_there (pieces_left old) new.line t new.rest (left_after new t) c.in_ok-token.ensures.is c.in_default.not-End;
       some = c.in_ok-token.ensures.some;
       within = c.in_ok-token.ensures.within;
       kept = c.in_ok-token.ensures.kept;

@@ -5,37 +5,37 @@ use Rattle.std.proofs.lemmas.Grind.{flat_map-append}
 use Rattle.std.proofs.lemmas.List.{drop-append-le, drop_more, take-append-drop, take-append-le}
 use Rattle.std.proofs.lemmas.List.Sums.{fold-append}
 use Rattle.std.specs.List.{AllByRecursion, flat_map}
-use Rattle.x7_words.proofs.ListLemmas.{all-append, map-append}
+use Rattle.x7_words.proofs.ListLemmas.{all_append, map_append}
 use Rattle.x7_crc.specs.Checking.{check_of_bytes, CheckerState}
-use Rattle.x7_crc.proofs.CheckerLemmas.{still-keeps}
+use Rattle.x7_crc.proofs.CheckerLemmas.{still_keeps}
 use Rattle.x7_text.specs.Lines.{split}
-use Rattle.x7_text.proofs.SplitLemmas.{split-line}
+use Rattle.x7_text.proofs.SplitLemmas.{split_line}
 use Rattle.x7_listing.specs.Assembly.{assembled, with_line}
 use Rattle.x7_listing.specs.Assembling.{asm_state, TextsAreRead, OpensText, TakesFirst, TakesLines}
 use Rattle.x7_listing.specs.Line.{Line, line_bytes, FitsLine, IsListed, text_of}
 use Rattle.x7_listing.specs.Listed.{ended_text, ended_texts}
-use Rattle.x7_listing.proofs.RoundLemmas.{line-free, same-bytes}
+use Rattle.x7_listing.proofs.RoundLemmas.{line_free, same_bytes}
 
-texts-ahead : (ls : List Line) (rest : List ℕ) → AllByRecursion FitsLine ls → AllByRecursion IsListed ls → split (ended_texts ls ++ rest) ≡ map text_of ls ++ split rest
-texts-ahead [] rest f i = refl
-texts-ahead (l ∷ ls) rest f i =
-    ap split (append_assoc (text_of l ++ 10 ∷ []) (ended_texts ls) rest ∙ append_assoc (text_of l) (10 ∷ []) (ended_texts ls ++ rest)) ∙ split-line (text_of l) (ended_texts ls ++ rest) (line-free l f.0 i.0) ∙ ap (λ t. text_of l ∷ t) (texts-ahead ls rest f.1 i.1)
+texts_ahead : (ls : List Line) (rest : List ℕ) → AllByRecursion FitsLine ls → AllByRecursion IsListed ls → split (ended_texts ls ++ rest) ≡ map text_of ls ++ split rest
+texts_ahead [] rest f i = refl
+texts_ahead (l ∷ ls) rest f i =
+    ap split (append_assoc (text_of l ++ 10 ∷ []) (ended_texts ls) rest ∙ append_assoc (text_of l) (10 ∷ []) (ended_texts ls ++ rest)) ∙ split_line (text_of l) (ended_texts ls ++ rest) (line_free l f.0 i.0) ∙ ap (λ t. text_of l ∷ t) (texts_ahead ls rest f.1 i.1)
 
-bytes-behind : (bytes : List ℕ) (ls : List Line) → AllByRecursion IsListed ls → fold with_line bytes ls ≡ bytes ++ flat_map (line_bytes 0) ls
-bytes-behind bytes [] i = sym (append-nil bytes)
-bytes-behind bytes (l ∷ ls) i =
-    bytes-behind (with_line bytes l) ls i.1 ∙ append_assoc bytes (line_bytes (check_of_bytes bytes) l) (flat_map (line_bytes 0) ls) ∙ ap (λ b. bytes ++ (b ++ flat_map (line_bytes 0) ls)) (same-bytes (check_of_bytes bytes) l i.0)
+bytes_after : (bytes : List ℕ) (ls : List Line) → AllByRecursion IsListed ls → fold with_line bytes ls ≡ bytes ++ flat_map (line_bytes 0) ls
+bytes_after bytes [] i = sym (append-nil bytes)
+bytes_after bytes (l ∷ ls) i =
+    bytes_after (with_line bytes l) ls i.1 ∙ append_assoc bytes (line_bytes (check_of_bytes bytes) l) (flat_map (line_bytes 0) ls) ∙ ap (λ b. bytes ++ (b ++ flat_map (line_bytes 0) ls)) (same_bytes (check_of_bytes bytes) l i.0)
 
-pub dropped-twice : (a b : ℕ) (t : List ℕ) → drop b (drop a t) ≡ drop (a + b) t
-dropped-twice zero b t = ap (λ (k : ℕ). drop k t) (omega arith)
-dropped-twice (suc a) b [] = drop-nil b ∙ sym (drop-nil (suc a + b))
-dropped-twice (suc a) b (c ∷ cs) = let e : suc (a + b) ≡ suc a + b = omega arith in dropped-twice a b cs ∙ ap (λ (k : ℕ). drop k (c ∷ cs)) e
+pub dropped_twice : (a b : ℕ) (t : List ℕ) → drop b (drop a t) ≡ drop (a + b) t
+dropped_twice zero b t = ap (λ (k : ℕ). drop k t) (omega arith)
+dropped_twice (suc a) b [] = drop-nil b ∙ sym (drop-nil (suc a + b))
+dropped_twice (suc a) b (c ∷ cs) = let e : suc (a + b) ≡ suc a + b = omega arith in dropped_twice a b cs ∙ ap (λ (k : ℕ). drop k (c ∷ cs)) e
 
 -- a text begins with one line, of a word and a row
-pub takes-row : (l : Line) (word row text old new : List ℕ) (a b : ℕ) → FitsLine l → IsListed l → text_of l ≡ word ++ row → take a text ≡ word → take b (drop a text) ≡ row → get_or text (a + b) 0 ≡ 10 → a + b < length text → new ≡ old ++ line_bytes 0 l
+pub takes_row : (l : Line) (word row text old new : List ℕ) (a b : ℕ) → FitsLine l → IsListed l → text_of l ≡ word ++ row → take a text ≡ word → take b (drop a text) ≡ row → get_or text (a + b) 0 ≡ 10 → a + b < length text → new ≡ old ++ line_bytes 0 l
     → TakesFirst text old new (a + b + 1) 1
-takes-row l word row text old new a b f i e w r end h n =
-    let both : drop b (drop a text) ≡ drop (a + b) text = dropped-twice a b text in
+takes_row l word row text old new a b f i e w r end h n =
+    let both : drop b (drop a text) ≡ drop (a + b) text = dropped_twice a b text in
     let is : text ≡ ended_text l ++ drop (a + b + 1) text =
     sym (take-append-drop a text) ∙ ap (λ t. t ++ drop a text) w ∙ ap (λ t. word ++ t) (sym (take-append-drop b (drop a text)) ∙ ap (λ t. t ++ drop b (drop a text)) r ∙ ap (λ t. row ++ t) (both ∙ drop_more text (a + b) 0 h ∙ ap (λ (c : ℕ). c ∷ drop (a + b + 1) text) end))
     ∙ sym (append_assoc word row (10 ∷ drop (a + b + 1) text)) ∙ ap (λ t. t ++ 10 ∷ drop (a + b + 1) text) (sym e) ∙ sym (append_assoc (text_of l) (10 ∷ []) (drop (a + b + 1) text)) in
@@ -46,40 +46,40 @@ takes-row l word row text old new a b f i e w r end h n =
       takes = record { lines = l ∷ []; fit = (f, tt); listed = (i, tt); text_is = is ∙ ap (λ t. t ++ drop (a + b + 1) text) (sym (append-nil (ended_text l))); appended = n ∙ ap (λ t. old ++ t) (sym (append-nil (line_bytes 0 l))); count_is = refl };
     }
 
-pub takes-both : (text mid rest old out new : List ℕ) (j k : ℕ) → TakesLines text mid old out j → TakesLines mid rest out new k → TakesLines text rest old new (j + k)
-takes-both text mid rest old out new j k s t = record {
+pub takes_both : (text mid rest old out new : List ℕ) (j k : ℕ) → TakesLines text mid old out j → TakesLines mid rest out new k → TakesLines text rest old new (j + k)
+takes_both text mid rest old out new j k s t = record {
   lines = s.lines ++ t.lines;
-  fit = all-append FitsLine s.lines t.lines s.fit t.fit;
-  listed = all-append IsListed s.lines t.lines s.listed t.listed;
+  fit = all_append FitsLine s.lines t.lines s.fit t.fit;
+  listed = all_append IsListed s.lines t.lines s.listed t.listed;
   text_is = s.text_is ∙ ap (λ r. ended_texts s.lines ++ r) t.text_is ∙ sym (append_assoc (ended_texts s.lines) (ended_texts t.lines) rest) ∙ ap (λ r. r ++ rest) (sym (flat_map-append ended_text s.lines t.lines));
   appended = t.appended ∙ ap (λ b. b ++ flat_map (line_bytes 0) t.lines) s.appended ∙ append_assoc old (flat_map (line_bytes 0) s.lines) (flat_map (line_bytes 0) t.lines) ∙ ap (λ b. old ++ b) (sym (flat_map-append (line_bytes 0) s.lines t.lines));
   count_is = omega (arith, s.count_is, t.count_is, length-append s.lines t.lines);
 }
 
 -- a slice from a place on is what is left from there
-pub left-from : (n : ℕ) (t : List ℕ) → n ≤ length t → take (length t - n) (drop n t) ≡ drop n t
-left-from n t h = take_all (length t - n) (drop n t) (omega (arith, length-drop n t))
+pub left_from : (n : ℕ) (t : List ℕ) → n ≤ length t → take (length t - n) (drop n t) ≡ drop n t
+left_from n t h = take_all (length t - n) (drop n t) (omega (arith, length-drop n t))
 
 -- lines that are read at once, and further ones after them
-pub takes-more : (text old out new : List ℕ) (a n j k : ℕ) → a ≤ length text → TakesLines text (drop a text) old out j → TakesFirst (take (length text - a) (drop a text)) out new n k
+pub takes_more : (text old out new : List ℕ) (a n j k : ℕ) → a ≤ length text → TakesLines text (drop a text) old out j → TakesFirst (take (length text - a) (drop a text)) out new n k
     → (a + n ≤ length text) × TakesLines text (drop (a + n) text) old new (j + k)
-takes-more text old out new a n j k h s t =
-    let f : TakesFirst (drop a text) out new n k = subst (λ r. TakesFirst r out new n k) (left-from a text h) t in
-    (omega (arith, f.within, length-drop a text, h), subst (λ r. TakesLines text r old new (j + k)) (dropped-twice a n text) (takes-both text (drop a text) (drop n (drop a text)) old out new j k s f.takes))
+takes_more text old out new a n j k h s t =
+    let f : TakesFirst (drop a text) out new n k = subst (λ r. TakesFirst r out new n k) (left_from a text h) t in
+    (omega (arith, f.within, length-drop a text, h), subst (λ r. TakesLines text r old new (j + k)) (dropped_twice a n text) (takes_both text (drop a text) (drop n (drop a text)) old out new j k s f.takes))
 
 -- the texts of lines that are read at once stand first among those of the text
-pub quick-texts : (text rest old new : List ℕ) (k : ℕ) (t : TakesLines text rest old new k) → split text ≡ map text_of t.lines ++ split rest
-quick-texts text rest old new k t = ap split t.text_is ∙ texts-ahead t.lines rest t.fit t.listed
+pub quick_texts : (text rest old new : List ℕ) (k : ℕ) (t : TakesLines text rest old new k) → split text ≡ map text_of t.lines ++ split rest
+quick_texts text rest old new k t = ap split t.text_is ∙ texts_ahead t.lines rest t.fit t.listed
 
 -- a text of which lines are read at once is read so much further
-pub goes-quick : (all left : List (List ℕ)) (text rest out new : List ℕ) (start k n c : ℕ) (checker : CheckerState) (t : TakesLines text rest out new k) → (length out ≤ 67108864 → length new ≤ 67108864) → c ≡ n + k
+pub goes_quick : (all left : List (List ℕ)) (text rest out new : List ℕ) (start k n c : ℕ) (checker : CheckerState) (t : TakesLines text rest out new k) → (length out ≤ 67108864 → length new ≤ 67108864) → c ≡ n + k
     → TextsAreRead all (map text_of t.lines ++ left) (asm_state out start checker n) → TextsAreRead all left (asm_state new start checker c)
-goes-quick all left text rest out new start k n c checker t limit e g =
+goes_quick all left text rest out new start k n c checker t limit e g =
     let added : List ℕ = flat_map (line_bytes 0) t.lines in
     let body : drop start new ≡ drop start out ++ added = ap (drop start) t.appended ∙ drop-append-le start out added g.long in
     let prefix : take start new ≡ take start out = ap (take start) t.appended ∙ take-append-le start out added g.long in
     let size : length new ≡ length out + length added = ap length t.appended ∙ length-append out added in
-    let now : drop start new ≡ assembled (g.went.lines ++ t.lines) = body ∙ ap (λ b. b ++ added) g.went.is ∙ sym (bytes-behind (assembled g.went.lines) t.lines t.listed) ∙ sym (fold-append with_line [] g.went.lines t.lines) in
+    let now : drop start new ≡ assembled (g.went.lines ++ t.lines) = body ∙ ap (λ b. b ++ added) g.went.is ∙ sym (bytes_after (assembled g.went.lines) t.lines t.listed) ∙ sym (fold-append with_line [] g.went.lines t.lines) in
     let few : length (drop start out) ≤ 67108864 - start = subst (λ (b : List ℕ). length b ≤ 67108864 - start) (sym g.went.is) g.went.begins.within in
     let old_limit : length out ≤ 67108864 = omega (arith, few, length-drop start out, g.short) in
     let within : length (drop start new) ≤ 67108864 - start = omega (arith, limit old_limit, length-drop start new) in
@@ -89,13 +89,13 @@ goes-quick all left text rest out new start k n c checker t limit e g =
       read = g.read + k;
       long = omega (arith, size, g.long);
       short = g.short;
-      keeps = still-keeps checker (drop start out) added (drop start new) body g.keeps;
+      keeps = still_keeps checker (drop start out) added (drop start new) body g.keeps;
       opens = subst (λ (b : List ℕ). OpensText all g.others b g.first) (sym prefix) g.opens;
       went = record {
         lines = g.went.lines ++ t.lines;
         begins = record {
-          texts = g.went.begins.texts ∙ sym (append_assoc (map text_of g.went.lines) (map text_of t.lines) left) ∙ ap (λ s. s ++ left) (sym (map-append text_of g.went.lines t.lines));
-          fits = all-append FitsLine g.went.lines t.lines g.went.begins.fits t.fit;
+          texts = g.went.begins.texts ∙ sym (append_assoc (map text_of g.went.lines) (map text_of t.lines) left) ∙ ap (λ s. s ++ left) (sym (map_append text_of g.went.lines t.lines));
+          fits = all_append FitsLine g.went.lines t.lines g.went.begins.fits t.fit;
           within = subst (λ (b : List ℕ). length b ≤ 67108864 - start) now within;
         };
         is = now;
@@ -105,7 +105,7 @@ goes-quick all left text rest out new start k n c checker t limit e g =
     }
 
 -- a text begins with one line, of a word and a row, whose end stands at a given place
-pub takes-line : (l : Line) (word row text old new : List ℕ) (a b end size : ℕ) → FitsLine l → IsListed l → text_of l ≡ word ++ row → take a text ≡ word → take b (drop a text) ≡ row → end ≡ a + b → size ≡ a + b + 1 → get_or text end 0 ≡ 10 → a + b < length text → new ≡ old ++ line_bytes 0 l
+pub takes_line : (l : Line) (word row text old new : List ℕ) (a b end size : ℕ) → FitsLine l → IsListed l → text_of l ≡ word ++ row → take a text ≡ word → take b (drop a text) ≡ row → end ≡ a + b → size ≡ a + b + 1 → get_or text end 0 ≡ 10 → a + b < length text → new ≡ old ++ line_bytes 0 l
     → TakesFirst text old new size 1
-takes-line l word row text old new a b end size f i e w r at whole is h n =
-    subst (λ (k : ℕ). TakesFirst text old new k 1) (sym whole) (takes-row l word row text old new a b f i e w r (ap (λ (k : ℕ). get_or text k 0) (sym at) ∙ is) h n)
+takes_line l word row text old new a b end size f i e w r at whole is h n =
+    subst (λ (k : ℕ). TakesFirst text old new k 1) (sym whole) (takes_row l word row text old new a b f i e w r (ap (λ (k : ℕ). get_or text k 0) (sym at) ∙ is) h n)

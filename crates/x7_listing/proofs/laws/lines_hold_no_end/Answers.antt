@@ -1,5 +1,5 @@
-use Rattle.x7_listing.proofs.RoundLemmas.{line-free}
+use Rattle.x7_listing.proofs.RoundLemmas.{line_free}
 use Rattle.x7_listing.proofs.laws.lines_hold_no_end.Goals as goal
 
 pub returns : goal.returns
-returns c = line-free
+returns c = line_free

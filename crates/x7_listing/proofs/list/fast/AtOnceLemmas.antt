@@ -29,9 +29,9 @@ use Rattle.x7_listing.specs.Fast.AtOnce.{command_lines, equal_lines, write_line,
 use Rattle.x7_listing.specs.HeadLine.{best_line, command_line, text_of_head, line_text}
 use Rattle.x7_listing.specs.Listing.{session_text}
 use Rattle.x7_listing.specs.Telling.{GapListed, HasListedAt, HasListedJust, words_place, open_words, WritesRun, lister_of, written_of}
-use Rattle.x7_listing.proofs.GapLemmas.{told_more}
+use Rattle.x7_listing.proofs.GapLemmas.{listed_more}
 use Rattle.x7_listing.proofs.RunLemmas.{by_body, by_head, by_skip, by_sync, by_word}
-use Rattle.x7_listing.proofs.SessionLemmas.{data_told, is_data}
+use Rattle.x7_listing.proofs.SessionLemmas.{data_listed, is_data}
 
 -- ---- texts
 
@@ -40,17 +40,17 @@ equal_block step w zero line e = refl
 equal_block step w (suc n) line e = ap (λ t. line ++ t) (equal_block step w n line e) ∙ ap (λ t. t ++ equal_lines step w n) (sym e)
 
 -- the first lines of a block
-pub equal_front : (step : Step) (w size n k : ℕ) → length (text_of_head step w) ≡ size → k ≤ n → take (size * k) (equal_lines step w n) ≡ equal_lines step w k
-equal_front step w size n zero e h = ap (λ (m : ℕ). take m (equal_lines step w n)) (mul-zero size)
-equal_front step w size zero (suc k) e h = absurd (omega (arith, h))
-equal_front step w size (suc n) (suc k) e h =
+pub equal_prefix : (step : Step) (w size n k : ℕ) → length (text_of_head step w) ≡ size → k ≤ n → take (size * k) (equal_lines step w n) ≡ equal_lines step w k
+equal_prefix step w size n zero e h = ap (λ (m : ℕ). take m (equal_lines step w n)) (mul-zero size)
+equal_prefix step w size zero (suc k) e h = absurd (omega (arith, h))
+equal_prefix step w size (suc n) (suc k) e h =
     let more : size * suc k ≡ length (text_of_head step w) + size * k = omega (arith, mul-suc size k, e) in
     ap (λ (m : ℕ). take m (text_of_head step w ++ equal_lines step w n)) more ∙ take-append-add (text_of_head step w) (equal_lines step w n) (size * k)
-    ∙ ap (λ t. text_of_head step w ++ t) (equal_front step w size n k e (omega (arith, h)))
+    ∙ ap (λ t. text_of_head step w ++ t) (equal_prefix step w size n k e (omega (arith, h)))
 
 -- the header's line
-pub write_line-is : (register : ℕ) → register < 32 → text_of_head (Open register 1) (type1_write register 1) ≡ write_line register
-write_line-is register h =
+pub write_line_is : (register : ℕ) → register < 32 → text_of_head (Open register 1) (type1_write register 1) ≡ write_line register
+write_line_is register h =
     let nop : (type1_write register 1 == no_op) ≡ false = grind (arith, nat_tests) in
     let sync : (type1_write register 1 == sync_word) ≡ false = grind (arith, nat_tests) in
     let named : register_of (type1_write register 1) ≡ register = omega arith in
@@ -60,22 +60,22 @@ write_line-is register h =
     ap line_text line ∙ ap (λ t. codes "write " ++ reg_name register ++ 32 ∷ t ++ 10 ∷ []) (decimal_digit 1 (omega arith)) ∙ append_assoc (codes "write " ++ reg_name register) (32 ∷ 49 ∷ []) (10 ∷ [])
 
 -- the lines of a write of one word: a row to CMD, and a row and the digits of a word to another register
-pub command_row-is : (line register w : ℕ) → register ≡ 4 → close line ++ command_lines w ≡ close line ++ text_of_head (Open register 1) (type1_write register 1) ++ open_words 0 (payload_steps register (w ∷ []))
-command_row-is line register w e =
+pub command_row_is : (line register w : ℕ) → register ≡ 4 → close line ++ command_lines w ≡ close line ++ text_of_head (Open register 1) (type1_write register 1) ++ open_words 0 (payload_steps register (w ∷ []))
+command_row_is line register w e =
     subst (λ (r : ℕ). close line ++ command_lines w ≡ close line ++ text_of_head (Open r 1) (type1_write r 1) ++ open_words 0 (payload_steps r (w ∷ []))) (sym e)
-    (sym (append_assoc (close line) (write_line 4) (command_line w)) ∙ ap (λ t. close line ++ t ++ command_line w) (sym (write_line-is 4 (omega arith))) ∙ ap (λ t. close line ++ text_of_head (Open 4 1) (type1_write 4 1) ++ t) (sym (append-nil (command_line w))))
+    (sym (append_assoc (close line) (write_line 4) (command_line w)) ∙ ap (λ t. close line ++ t ++ command_line w) (sym (write_line_is 4 (omega arith))) ∙ ap (λ t. close line ++ text_of_head (Open 4 1) (type1_write 4 1) ++ t) (sym (append-nil (command_line w))))
 
-pub data_row-is : (line register w : ℕ) → register < 32 → (register ≡ 4 → ⊥) → (close line ++ write_start register) ++ hex_word w ≡ close line ++ text_of_head (Open register 1) (type1_write register 1) ++ open_words 0 (payload_steps register (w ∷ []))
-data_row-is line register w h n =
+pub data_row_is : (line register w : ℕ) → register < 32 → (register ≡ 4 → ⊥) → (close line ++ write_start register) ++ hex_word w ≡ close line ++ text_of_head (Open register 1) (type1_write register 1) ++ open_words 0 (payload_steps register (w ∷ []))
+data_row_is line register w h n =
     let H : List ℕ = write_line register in
     let listed : open_words 0 (payload_steps register (w ∷ [])) ≡ codes "data " ++ hex_word w =
-    data_told register 0 (w ∷ []) (is_data register n) ∙ append-nil _ ∙ ap (λ t. codes "data" ++ t) (append-nil (32 ∷ hex_word w)) in
+    data_listed register 0 (w ∷ []) (is_data register n) ∙ append-nil _ ∙ ap (λ t. codes "data" ++ t) (append-nil (32 ∷ hex_word w)) in
     append_assoc (close line) (write_start register) (hex_word w) ∙ ap (λ t. close line ++ t) (append_assoc H (codes "data ") (hex_word w)) ∙ sym (append_assoc (close line) H (codes "data " ++ hex_word w))
-    ∙ ap (λ t. close line ++ t ++ (codes "data " ++ hex_word w)) (sym (write_line-is register h)) ∙ ap (λ t. close line ++ text_of_head (Open register 1) (type1_write register 1) ++ t) (sym listed)
+    ∙ ap (λ t. close line ++ t ++ (codes "data " ++ hex_word w)) (sym (write_line_is register h)) ∙ ap (λ t. close line ++ text_of_head (Open register 1) (type1_write register 1) ++ t) (sym listed)
 
 -- the header's line of a short write
-pub short_line-is : (register count : ℕ) → register < 32 → count < 20 → text_of_head (Open register count) (type1_write register count) ≡ write_name register ++ (decimal count ++ 10 ∷ [])
-short_line-is register count h k =
+pub short_line_is : (register count : ℕ) → register < 32 → count < 20 → text_of_head (Open register count) (type1_write register count) ≡ write_name register ++ (decimal count ++ 10 ∷ [])
+short_line_is register count h k =
     let nop : (type1_write register count == no_op) ≡ false = grind (arith, nat_tests) in
     let sync : (type1_write register count == sync_word) ≡ false = grind (arith, nat_tests) in
     let named : register_of (type1_write register count) ≡ register = omega arith in
@@ -96,8 +96,8 @@ pub first_chunk : (size n : ℕ) (xs : List ℕ) → 0 < n → get_or (first_chu
 first_chunk size zero xs h = absurd (omega (arith, h))
 first_chunk size (suc n) xs h = refl
 
-pub front_of_front : (n count : ℕ) (xs block : List ℕ) → 4 * count ≤ 64 → 64 ≤ n → block ≡ take 64 (take n xs) → take (4 * count) block ≡ take (4 * count) xs
-front_of_front n count xs block h k e = ap (take (4 * count)) e ∙ take-take (4 * count) 64 (take n xs) h ∙ take-take (4 * count) n xs (omega (arith, h, k))
+pub prefix_of_prefix : (n count : ℕ) (xs block : List ℕ) → 4 * count ≤ 64 → 64 ≤ n → block ≡ take 64 (take n xs) → take (4 * count) block ≡ take (4 * count) xs
+prefix_of_prefix n count xs block h k e = ap (take (4 * count)) e ∙ take-take (4 * count) 64 (take n xs) h ∙ take-take (4 * count) n xs (omega (arith, h, k))
 
 pub short_written : (old t1 new head row listed : List ℕ) → t1 ≡ old ++ head → new ≡ t1 ++ row → row ≡ listed → new ≡ old ++ (head ++ listed)
 short_written old t1 new head row listed a b e = b ∙ ap (λ t. t ++ row) a ∙ append_assoc old head row ∙ ap (λ t. old ++ (head ++ t)) e
@@ -134,10 +134,10 @@ more_equal (suc n) c w step line held text text2 given before bytes is takes f t
     more_equal n c w step line held next text2 given before (bytes ++ bytes_of_word w) is takes f (t ∙ sym (append_assoc text (text_of_head step w) (equal_lines step w n))) one in
     subst (HasListedJust (lister_of c true line held text2) given before) (append_assoc bytes (bytes_of_word w) (equal_bytes w n)) all
 
-pub equal_told : (n : ℕ) (c : CutterState) (w : ℕ) (step : Step) (synced s2 : Bool) (line l2 from : ℕ) (held h2 text text1 text2 given before bytes : List ℕ) → 0 < n → IsRun (Head w step) → TakesAsOneRun c c (bytes_of_word w) (Head w step) → (synced ≡ true → from ≡ line) → s2 ≡ true → l2 ≡ 0
+pub equal_listed : (n : ℕ) (c : CutterState) (w : ℕ) (step : Step) (synced s2 : Bool) (line l2 from : ℕ) (held h2 text text1 text2 given before bytes : List ℕ) → 0 < n → IsRun (Head w step) → TakesAsOneRun c c (bytes_of_word w) (Head w step) → (synced ≡ true → from ≡ line) → s2 ≡ true → l2 ≡ 0
     → text1 ≡ text ++ close from → text2 ≡ text1 ++ equal_lines step w n → HasListedJust (lister_of c synced line held text) given before bytes → HasListedJust (lister_of c s2 l2 h2 text2) given before (bytes ++ equal_bytes w n)
-equal_told zero c w step synced s2 line l2 from held h2 text text1 text2 given before bytes some is takes same e f a b s = absurd (omega (arith, some))
-equal_told (suc n) c w step synced s2 line l2 from held h2 text text1 text2 given before bytes some is takes same e f a b s =
+equal_listed zero c w step synced s2 line l2 from held h2 text text1 text2 given before bytes some is takes same e f a b s = absurd (omega (arith, some))
+equal_listed (suc n) c w step synced s2 line l2 from held h2 text text1 text2 given before bytes some is takes same e f a b s =
     let next : List ℕ = text ++ (close from ++ text_of_head step w) in
     let one : HasListedJust (lister_of c true l2 h2 next) given before (bytes ++ bytes_of_word w) = one_equal c w step synced true line l2 from held h2 text next given before bytes is takes same refl f refl s in
     let all : HasListedJust (lister_of c true l2 h2 text2) given before ((bytes ++ bytes_of_word w) ++ equal_bytes w n) =
@@ -145,10 +145,10 @@ equal_told (suc n) c w step synced s2 line l2 from held h2 text text1 text2 give
     (b ∙ ap (λ t. t ++ (text_of_head step w ++ equal_lines step w n)) a ∙ sym (append_assoc (text ++ close from) (text_of_head step w) (equal_lines step w n)) ∙ ap (λ t. t ++ equal_lines step w n) (append_assoc text (close from) (text_of_head step w))) one in
     subst (λ (x : Bool). HasListedJust (lister_of c x l2 h2 text2) given before (bytes ++ equal_bytes w (suc n))) (sym e) (subst (HasListedJust (lister_of c true l2 h2 text2) given before) (append_assoc bytes (bytes_of_word w) (equal_bytes w n)) all)
 
-pub write_told : (c d : CutterState) (synced s2 : Bool) (line l2 from register w : ℕ) (held h2 text text2 given before bytes rest : List ℕ) → WritesOne c d rest register w → (synced ≡ true → from ≡ line) → s2 ≡ true
+pub write_listed : (c d : CutterState) (synced s2 : Bool) (line l2 from register w : ℕ) (held h2 text text2 given before bytes rest : List ℕ) → WritesOne c d rest register w → (synced ≡ true → from ≡ line) → s2 ≡ true
     → l2 ≡ words_place 0 (payload_steps register (w ∷ [])) → text2 ≡ text ++ (close from ++ text_of_head (Open register 1) (type1_write register 1) ++ open_words 0 (payload_steps register (w ∷ [])))
     → HasListedJust (lister_of c synced line held text) given before bytes → HasListedJust (lister_of d s2 l2 h2 text2) given before (bytes ++ take 8 rest)
-write_told c d synced s2 line l2 from register w held h2 text text2 given before bytes rest x same e f t s =
+write_listed c d synced s2 line l2 from register w held h2 text text2 given before bytes rest x same e f t s =
     let H : List ℕ = text_of_head (Open register 1) (type1_write register 1) in
     let D : List ℕ = open_words 0 (payload_steps register (w ∷ [])) in
     let head : List ℕ = bytes_of_word (type1_write register 1) in
@@ -162,10 +162,10 @@ write_told c d synced s2 line l2 from register w held h2 text text2 given before
     subst (HasListedJust (lister_of d s2 l2 h2 text2) given before) (append_assoc bytes head (bytes_of_word w) ∙ ap (λ k. bytes ++ k) (sym x.bytes)) two
 
 -- a write of a few words: `lent` is any slice
-pub short_told : (c d : CutterState) (synced s2 : Bool) (line l2 from register count : ℕ) (held h2 text text2 given before bytes rest ws : List ℕ) (lent : Bor (List ℕ)) → WritesFew c d rest register count → ws ≡ words_of_bytes (take (4 * count) (drop 4 rest))
+pub short_listed : (c d : CutterState) (synced s2 : Bool) (line l2 from register count : ℕ) (held h2 text text2 given before bytes rest ws : List ℕ) (lent : Bor (List ℕ)) → WritesFew c d rest register count → ws ≡ words_of_bytes (take (4 * count) (drop 4 rest))
     → (synced ≡ true → from ≡ line) → s2 ≡ true → l2 ≡ words_place 0 (payload_steps register ws) → text2 ≡ text ++ (close from ++ text_of_head (Open register count) (type1_write register count) ++ open_words 0 (payload_steps register ws))
     → HasListedJust (lister_of c synced line held text) given before bytes → HasListedJust (lister_of d s2 l2 h2 text2) given before (bytes ++ take (4 + 4 * count) rest)
-short_told c d synced s2 line l2 from register count held h2 text text2 given before bytes rest ws lent x are same e f t s =
+short_listed c d synced s2 line l2 from register count held h2 text text2 given before bytes rest ws lent x are same e f t s =
     let H : List ℕ = text_of_head (Open register count) (type1_write register count) in
     let body : List ℕ = take (4 * count) (drop 4 rest) in
     let run : Bor (List ℕ) = record lent { now = take (4 * count) (drop 4 rest) } in
@@ -186,12 +186,12 @@ short_told c d synced s2 line l2 from register count held h2 text text2 given be
 -- bytes of a gap and the sync word, after a session
 gap_begun : (given text text1 start : List ℕ) (gap taken listed : List ℕ) → taken ≡ listed ++ sync_bytes → text1 ≡ text ++ open_text 32 (codes "bytes ") hex_byte 0 listed
     → GapListed (given ++ text) start 0 [] gap → GapListed (given ++ text1) start (in_line_after 32 0 listed) sync_bytes (gap ++ taken)
-gap_begun given text text1 start gap taken listed e f g = told_more given text text1 start 0 (in_line_after 32 0 listed) [] sync_bytes gap taken listed g e refl f refl
+gap_begun given text text1 start gap taken listed e f g = listed_more given text text1 start 0 (in_line_after 32 0 listed) [] sync_bytes gap taken listed g e refl f refl
 
-pub gap_told : (c d : CutterState) (synced s2 : Bool) (line l2 count : ℕ) (held h2 text text2 given before bytes rest : List ℕ) (lent : Bor (List ℕ)) → EndsGap c d rest count → synced ≡ true → s2 ≡ true → l2 ≡ 0
+pub gap_listed : (c d : CutterState) (synced s2 : Bool) (line l2 count : ℕ) (held h2 text text2 given before bytes rest : List ℕ) (lent : Bor (List ℕ)) → EndsGap c d rest count → synced ≡ true → s2 ≡ true → l2 ≡ 0
     → text2 ≡ text ++ (bytes_text (take count rest) ++ codes "sync\n") → HasListedJust (lister_of c synced line held text) given before bytes → HasListedJust (lister_of d s2 l2 h2 text2) given before (bytes ++ take (count + 4) rest)
-gap_told c d false s2 line l2 count held h2 text text2 given before bytes rest lent x is e f t s = absurd (cc)
-gap_told c d true s2 line l2 count held h2 text text2 given before bytes rest lent x is e f t s =
+gap_listed c d false s2 line l2 count held h2 text text2 given before bytes rest lent x is e f t s = absurd (cc)
+gap_listed c d true s2 line l2 count held h2 text text2 given before bytes rest lent x is e f t s =
     let listed : List ℕ = take count rest in
     let shown : List ℕ = open_text 32 (codes "bytes ") hex_byte 0 (take count rest) in
     let open_line : ℕ = in_line_after 32 0 (take count rest) in
@@ -222,9 +222,9 @@ any_held : (line : ℕ) (held h2 all start : List ℕ) (place : Place) (m : Mode
 any_held line held h2 all start (Searching gap) m h = h
 any_held line held h2 all start (Synced gap packets tail) m h = h
 
-pub in_line_told : (c : CutterState) (synced s2 : Bool) (line l2 : ℕ) (held h2 text given before bytes : List ℕ) → synced ≡ true → s2 ≡ true → l2 ≡ line
+pub in_line_listed : (c : CutterState) (synced s2 : Bool) (line l2 : ℕ) (held h2 text given before bytes : List ℕ) → synced ≡ true → s2 ≡ true → l2 ≡ line
     → HasListedJust (lister_of c synced line held text) given before bytes → HasListedJust (lister_of c s2 l2 h2 text) given before bytes
-in_line_told c synced s2 line l2 held h2 text given before bytes a b e t =
+in_line_listed c synced s2 line l2 held h2 text given before bytes a b e t =
     let u : HasListedJust (lister_of c true line held text) given before bytes = subst (λ (k : Bool). HasListedJust (lister_of c k line held text) given before bytes) a t in
     let one : HasListedJust (lister_of c true line h2 text) given before bytes = record {
       sessions = u.sessions;

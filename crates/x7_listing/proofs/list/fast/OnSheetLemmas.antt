@@ -10,16 +10,16 @@ use Rattle.x7_text.specs.Digits.{hex_word}
 use Rattle.x7_text.specs.Row.{close}
 use Rattle.x7_listing.specs.Fast.AtOnce.{command_lines, nop_lines, write_line, write_name, write_start}
 use Rattle.x7_listing.specs.HeadLine.{command_line, text_of_head}
-use Rattle.x7_listing.proofs.list.fast.AtOnceLemmas.{equal_block, equal_front, short_line-is}
+use Rattle.x7_listing.proofs.list.fast.AtOnceLemmas.{equal_block, equal_prefix, short_line_is}
 use Rattle.x7_listing.proofs.SessionLemmas.{word_line}
 
 -- a row after the end of an open line
-pub row_behind : (shown begin row all new : List ℕ) (line : ℕ) → begin ≡ shown ++ close line → all ≡ begin ++ new → new ≡ row → all ≡ shown ++ (close line ++ row)
-row_behind shown begin row all new line e f g = f ∙ ap (λ t. begin ++ t) g ∙ ap (λ t. t ++ row) e ∙ append_assoc shown (close line) row
+pub row_after : (shown begin row all new : List ℕ) (line : ℕ) → begin ≡ shown ++ close line → all ≡ begin ++ new → new ≡ row → all ≡ shown ++ (close line ++ row)
+row_after shown begin row all new line e f g = f ∙ ap (λ t. begin ++ t) g ∙ ap (λ t. t ++ row) e ∙ append_assoc shown (close line) row
 
 -- a text after another
-pub behind_text : (text shown now more : List ℕ) → now ≡ shown ++ more → text ++ now ≡ (text ++ shown) ++ more
-behind_text text shown now more e = ap (λ t. text ++ t) e ∙ sym (append_assoc text shown more)
+pub after_text : (text shown now more : List ℕ) → now ≡ shown ++ more → text ++ now ≡ (text ++ shown) ++ more
+after_text text shown now more e = ap (λ t. text ++ t) e ∙ sym (append_assoc text shown more)
 
 small_code : (c : Command) → code_of c < 32
 small_code Null = omega arith
@@ -55,11 +55,11 @@ pub head_shown : (shown first all : List ℕ) (line register count : ℕ) → re
     → all ≡ shown ++ (close line ++ text_of_head (Open register count) (type1_write register count))
 head_shown shown first all line register count h k a b =
     b ∙ ap (λ t. t ++ (decimal count ++ 10 ∷ [])) a ∙ append_assoc shown (close line ++ write_name register) (decimal count ++ 10 ∷ [])
-    ∙ ap (λ t. shown ++ t) (append_assoc (close line) (write_name register) (decimal count ++ 10 ∷ []) ∙ ap (λ t. close line ++ t) (sym (short_line-is register count h k)))
+    ∙ ap (λ t. shown ++ t) (append_assoc (close line) (write_name register) (decimal count ++ 10 ∷ []) ∙ ap (λ t. close line ++ t) (sym (short_line_is register count h k)))
 
 -- a few no-ops
 pub nops_shown : (count : ℕ) (block : List ℕ) → count ≤ 32 → block ≡ flat_map (λ x. x) (replicate 32 (codes "nop\n")) → take (4 * count) block ≡ nop_lines count
-nops_shown count block few e = ap (take (4 * count)) (e ∙ equal_block Nop no_op 32 (codes "nop\n") refl) ∙ equal_front Nop no_op 4 32 count refl few
+nops_shown count block few e = ap (take (4 * count)) (e ∙ equal_block Nop no_op 32 (codes "nop\n") refl) ∙ equal_prefix Nop no_op 4 32 count refl few
 
 -- a gap and its sync word
 pub gap_shown : (shown cut first all listed : List ℕ) → first ≡ shown ++ cut → all ≡ first ++ (10 ∷ codes "sync\n") → listed ≡ cut ++ 10 ∷ [] → all ≡ shown ++ (listed ++ codes "sync\n")

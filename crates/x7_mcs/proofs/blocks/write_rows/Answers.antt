@@ -2,14 +2,14 @@ use Rattle.std.proofs.Common.{◌≡◌, ◌+◌, ◌%◌, ◌++◌, length, Lis
 use Rattle.x7_words.proofs.SinkLemmas.{counts_on}
 use Rattle.x7_text.specs.Row.{rows}
 use Rattle.x7_mcs.specs.Text.{row_lines}
-use Rattle.x7_mcs.proofs.BlockLemmas.{begins-more, block-failed, block-put}
+use Rattle.x7_mcs.proofs.BlockLemmas.{begins_more, block_failed, block_put}
 use Rattle.x7_mcs.proofs.blocks.write_rows.Goals as goal
 
 pub returns-in_err-write_all-clause-prefix : goal.returns-in_err-write_all-clause-prefix
 returns-in_err-write_all-clause-prefix g c =
     let s = g.S.Sink in
     let block : c.deref.result.now ≡ row_lines c.loop-rest.place (rows 16 c.split_at.result.0.now) = c.deref.ensures.value ∙ c.put_rows.ensures.items ∙ ap (λ (t : List ℕ). t ++ row_lines c.loop-rest.place (rows 16 c.split_at.result.0.now)) c.clear.ensures.items in
-    block-failed (s.state c.args.out.now).written (s.state c.loop-rest.out).written c.args.flash.now c.loop-rest.place c.loop-rest.rest.now c.split_at.result.0.now c.split_at.result.1.now c.deref.result.now c.min.result
+    block_failed (s.state c.args.out.now).written (s.state c.loop-rest.out).written c.args.flash.now c.loop-rest.place c.loop-rest.rest.now c.split_at.result.0.now c.split_at.result.1.now c.deref.result.now c.min.result
     c.loop-rest.invariant.goes c.min.ensures (omega arith) c.split_at.ensures.front c.split_at.ensures.back (omega arith) block (s.state c.write_all.new.sink).written c.in_err-write_all.ensures.prefix
 
 pub loop-rest-preserved : goal.loop-rest-preserved
@@ -18,10 +18,10 @@ loop-rest-preserved g c =
     let block : c.deref.result.now ≡ row_lines c.loop-rest.place (rows 16 c.split_at.result.0.now) = c.deref.ensures.value ∙ c.put_rows.ensures.items ∙ ap (λ (t : List ℕ). t ++ row_lines c.loop-rest.place (rows 16 c.split_at.result.0.now)) c.clear.ensures.items in
     record {
       goes =
-          block-put (s.state c.args.out.now).written (s.state c.loop-rest.out).written c.args.flash.now c.loop-rest.place c.loop-rest.rest.now c.split_at.result.0.now c.split_at.result.1.now c.deref.result.now c.min.result
+          block_put (s.state c.args.out.now).written (s.state c.loop-rest.out).written c.args.flash.now c.loop-rest.place c.loop-rest.rest.now c.split_at.result.0.now c.split_at.result.1.now c.deref.result.now c.min.result
           c.loop-rest.invariant.goes c.min.ensures (omega arith) c.split_at.ensures.front c.split_at.ensures.back (omega arith) block (s.state c.write_all.new.sink).written c.in_ok-write_all.ensures.ok;
       left = omega arith;
-      begins = λ more. ap (λ n. (c.loop-rest.place + n) % 65536) (omega arith) ∙ begins-more c.loop-rest.place (length c.loop-rest.rest.now) c.min.result (length c.split_at.result.1.now) c.min.ensures (omega arith) (c.loop-rest.invariant.begins (omega arith)) more;
+      begins = λ more. ap (λ n. (c.loop-rest.place + n) % 65536) (omega arith) ∙ begins_more c.loop-rest.place (length c.loop-rest.rest.now) c.min.result (length c.split_at.result.1.now) c.min.ensures (omega arith) (c.loop-rest.invariant.begins (omega arith)) more;
       room = omega arith;
       counts = counts_on _ _ _ c.loop-rest.invariant.counts c.in_ok-write_all.ensures.counts;
     }

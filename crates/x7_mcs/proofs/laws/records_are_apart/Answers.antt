@@ -1,5 +1,5 @@
-use Rattle.x7_mcs.proofs.LawLemmas.{records-apart}
+use Rattle.x7_mcs.proofs.LawLemmas.{records_apart}
 use Rattle.x7_mcs.proofs.laws.records_are_apart.Goals as goal
 
 pub returns : goal.returns
-returns c = records-apart
+returns c = records_apart

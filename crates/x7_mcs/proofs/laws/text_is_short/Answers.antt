@@ -1,5 +1,5 @@
-use Rattle.x7_mcs.proofs.SizeLemmas.{text-short}
+use Rattle.x7_mcs.proofs.SizeLemmas.{text_short}
 use Rattle.x7_mcs.proofs.laws.text_is_short.Goals as goal
 
 pub returns : goal.returns
-returns c = text-short
+returns c = text_short

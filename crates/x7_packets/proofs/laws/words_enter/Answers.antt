@@ -1,5 +1,5 @@
 use Rattle.x7_packets.specs.History.{next_in}
-use Rattle.x7_packets.proofs.HistoryLemmas.{cut_enters, history_is, next_on, next_word-is, run_enters, words_on}
+use Rattle.x7_packets.proofs.HistoryLemmas.{cut_enters, history_is, next_on, next_word_is, run_enters, words_on}
 use Rattle.x7_packets.proofs.laws.words_enter.Goals as goal
 
 pub returns-clause-words : goal.returns-clause-words
@@ -15,10 +15,10 @@ pub returns-clause-run : goal.returns-clause-run
 returns-clause-run c = λ run old new a. run_enters run old.sessions new.sessions old.place new.place a
 
 pub returns-clause-place : goal.returns-clause-place
-returns-clause-place c = next_word-is
+returns-clause-place c = next_word_is
 
 pub returns-clause-cut : goal.returns-clause-cut
-returns-clause-cut c = λ bytes more r run h. cut_enters h.old h.new bytes more r.sessions r.place run (next_in r) h.reads h.went (next_word-is bytes r.sessions r.place h.reads.reading)
+returns-clause-cut c = λ bytes more r run h. cut_enters h.old h.new bytes more r.sessions r.place run (next_in r) h.reads h.went (next_word_is bytes r.sessions r.place h.reads.reading)
 
 pub returns-clause-one : goal.returns-clause-one
 returns-clause-one c = history_is

@@ -6,7 +6,7 @@ use Rattle.std.proofs.lemmas.Bool.{false≢true}
 use Rattle.x7_part.specs.PartKey.{top}
 use Rattle.x7_part.specs.declared.fault.PartFault.TheVariants.{Key}
 use Rattle.x7_part.specs.declared.fault.PartKey.TheVariants as key
-use Rattle.x7_part.proofs.PassLemmas.{Whole, typed, passed, types_told, others_told, settings_told, rows_told, few_rows, last_told, whole, handed_on, handed_from, toml_is, toml_fault}
+use Rattle.x7_part.proofs.PassLemmas.{Whole, typed, passed, types_reported, others_reported, settings_reported, rows_reported, few_rows, last_reported, whole, handed_on, handed_from, toml_is, toml_fault}
 use Rattle.x7_part.proofs.BlankLemmas.{unnamed, handed_same, not_given}
 use Rattle.x7_part.proofs.parse.part_of.Goals as goal
 use Rattle.x7_part.proofs.parse.part_of.Goals.{In_ok-check_rows}
@@ -33,7 +33,7 @@ pub returns-in_err-values-clause-fault : goal.returns-in_err-values-clause-fault
 returns-in_err-values-clause-fault c =
     let t = table_view c.in_ok-table_in.field-0 in
     handed_from c.from_residual-in_err-values.result c.args.text.now c.in_err-values.field-0.0 c.from_residual-in_err-values.ensures
-    (types_told c.args.text.now t c.in_err-values.field-0.0 (toml_is c.args.text.now t c.in_ok-table_in.ensures.table) c.in_err-values.ensures.fault)
+    (types_reported c.args.text.now t c.in_err-values.field-0.0 (toml_is c.args.text.now t c.in_ok-table_in.ensures.table) c.in_err-values.ensures.fault)
 
 pub returns-in_err-check_known-clause-fault : goal.returns-in_err-check_known-clause-fault
 returns-in_err-check_known-clause-fault c =
@@ -42,7 +42,7 @@ returns-in_err-check_known-clause-fault c =
     let v = c.in_ok-values.values in
     let types = typed text t v c.in_ok-table_in.ensures.table c.in_ok-values.ensures.value c.in_ok-values.ensures.fault in
     handed_on c.from_residual-in_err-check_known.result text c.in_err-check_known.field-0.0 c.from_residual-in_err-check_known.ensures
-    (others_told text t v c.in_err-check_known.field-0.0 types c.in_err-check_known.ensures)
+    (others_reported text t v c.in_err-check_known.field-0.0 types c.in_err-check_known.ensures)
 
 pub returns-in_err-settings-clause-fault : goal.returns-in_err-settings-clause-fault
 returns-in_err-settings-clause-fault c =
@@ -51,7 +51,7 @@ returns-in_err-settings-clause-fault c =
     let v = c.in_ok-values.values in
     let types = typed text t v c.in_ok-table_in.ensures.table c.in_ok-values.ensures.value c.in_ok-values.ensures.fault in
     handed_on c.from_residual-in_err-settings.result text c.in_err-settings.field-0.0 c.from_residual-in_err-settings.ensures
-    (settings_told text t v c.in_err-settings.field-0.0 types c.in_ok-check_known.ensures c.in_err-settings.ensures.fault)
+    (settings_reported text t v c.in_err-settings.field-0.0 types c.in_ok-check_known.ensures c.in_err-settings.ensures.fault)
 
 pub returns-in_err-rows-clause-fault : goal.returns-in_err-rows-clause-fault
 returns-in_err-rows-clause-fault c =
@@ -61,7 +61,7 @@ returns-in_err-rows-clause-fault c =
     let types = typed text t v c.in_ok-table_in.ensures.table c.in_ok-values.ensures.value c.in_ok-values.ensures.fault in
     let values : c.deref.result.now ≡ v.rows = c.deref.ensures.value ∙ ap (λ x. x.rows) c.values.view_is in
     handed_from c.from_residual-in_err-rows.result text c.in_err-rows.field-0.0 c.from_residual-in_err-rows.ensures
-    (rows_told text t v c.in_err-rows.field-0.0 types c.in_ok-check_known.ensures c.in_ok-settings.ensures.fault (rw (← values) c.in_err-rows.ensures.fault))
+    (rows_reported text t v c.in_err-rows.field-0.0 types c.in_ok-check_known.ensures c.in_ok-settings.ensures.fault (rw (← values) c.in_err-rows.ensures.fault))
 
 pub check_rows-requires-clause-rows : goal.check_rows-requires-clause-rows
 check_rows-requires-clause-rows c =
@@ -88,7 +88,7 @@ returns-in_err-check_rows-clause-fault c =
     let pass = passed text t v s rows c.deref.result.now types c.in_ok-check_known.ensures c.in_ok-settings.ensures.fault values c.in_ok-rows.ensures.fault
     c.in_ok-settings.ensures.value c.in_ok-rows.ensures.value in
     handed_on c.from_residual-in_err-check_rows.result text c.in_err-check_rows.field-0.0 c.from_residual-in_err-check_rows.ensures
-    (last_told text t v s rows c.in_err-check_rows.field-0.0 pass
+    (last_reported text t v s rows c.in_err-check_rows.field-0.0 pass
     (rw (← c.deref-2.ensures.value) (c.in_err-check_rows.ensures (part_data v.name s c.deref-2.result.now) (sym c.from.ensures) refl)))
 
 pub of-requires-clause-rows : goal.of-requires-clause-rows

@@ -2,18 +2,18 @@ use Rattle.std.proofs.Common.{◌≤◌, ◌∙◌, length, sym, subst, arith}
 use Rattle.std.proofs.lemmas.Bool.{false≢true}
 use Rattle.std.proofs.lemmas.List.{take_all}
 use Rattle.x7_memory.specs.Planned.{AreAddressed, PlanRow}
-use Rattle.x7_planner.proofs.AddressLemmas.{foreign-at, addressed-more}
+use Rattle.x7_planner.proofs.AddressLemmas.{foreign_at, addressed_more}
 use Rattle.x7_planner.proofs.address.first_foreign.Goals as goal
 
 pub returns-then-not-is_address-clause-found : goal.returns-then-not-is_address-clause-found
 returns-then-not-is_address-clause-found c =
     let row : PlanRow = record { far = c.in-Some.far; words = c.in-Some.field-0-1.now } in
-    foreign-at c.args.part.now c.args.plan.now.rows c.loop-i.i row c.in-Some.ensures.found.0 (c.in-Some.ensures.found.1 row) c.loop-i.invariant (λ has. false≢true (sym c.if-not-is_address.true ∙ c.is_address.ensures.listed.1 has))
+    foreign_at c.args.part.now c.args.plan.now.rows c.loop-i.i row c.in-Some.ensures.found.0 (c.in-Some.ensures.found.1 row) c.loop-i.invariant (λ has. false≢true (sym c.if-not-is_address.true ∙ c.is_address.ensures.listed.1 has))
 
 pub loop-i-preserved : goal.loop-i-preserved
 loop-i-preserved c =
     let row : PlanRow = record { far = c.in-Some.far; words = c.in-Some.field-0-1.now } in
-    addressed-more c.args.part.now c.args.plan.now.rows c.loop-i.i row c.in-Some.ensures.found.0 (c.in-Some.ensures.found.1 row) c.loop-i.invariant (c.is_address.ensures.listed.0 c.if-not-is_address.false)
+    addressed_more c.args.part.now c.args.plan.now.rows c.loop-i.i row c.in-Some.ensures.found.0 (c.in-Some.ensures.found.1 row) c.loop-i.invariant (c.is_address.ensures.listed.0 c.if-not-is_address.false)
 
 pub returns-clause-none : goal.returns-clause-none
 returns-clause-none c =

@@ -9,7 +9,7 @@ use Rattle.x7_regs.specs.declared.register.Reg.TheVariants.{Cor0, Ctl0, Far, Idc
 use Rattle.x7_packets.specs.PacketWords.{command, frame_data, no_op, write_one}
 use Rattle.x7_planner.specs.Settings.{control, control_mask, startup_options}
 use Rattle.x7_planner.specs.Stream.{bytes_of_words}
-use Rattle.x7_planner.proofs.SlotLemmas.{and-packet, last-packet, packets-written, written-on}
+use Rattle.x7_planner.proofs.SlotLemmas.{and_packet, last_packet, packets_written, written_on}
 use Rattle.x7_planner.proofs.full_stream.put_settings.Goals as goal
 
 pub returns-clause-items : goal.returns-clause-items
@@ -22,15 +22,15 @@ returns-clause-items c =
     let settings : List (List ℕ) =
     write_one Idcode part.idcode ∷ write_one Cor0 startup_options ∷ write_one Mask control_mask ∷ write_one Ctl0 control ∷ command Wcfg ∷ write_one Far (get_or (addresses_in part) 0 0) ∷ frame_data (frame_words part * length (slots_in part)) ∷ [] in
     let named : _ ≡ settings =
-    and-packet (c.write_one.ensures ∙ ap (λ (i : ℕ). write_one Idcode i) c.idcode.ensures.value)
-    (and-packet c.write_one-2.ensures
-    (and-packet c.write_one-3.ensures
-    (and-packet c.write_one-4.ensures
-    (and-packet c.command-3.ensures
-    (and-packet (c.write_one-5.ensures ∙ ap (λ (a : ℕ). write_one Far a) c.first_address.ensures.first)
-    (last-packet (c.frame_data.ensures ∙ ap₂ (λ (w n : ℕ). frame_data (w * n)) c.words.ensures.value c.slot_count.ensures.count))))))) in
+    and_packet (c.write_one.ensures ∙ ap (λ (i : ℕ). write_one Idcode i) c.idcode.ensures.value)
+    (and_packet c.write_one-2.ensures
+    (and_packet c.write_one-3.ensures
+    (and_packet c.write_one-4.ensures
+    (and_packet c.command-3.ensures
+    (and_packet (c.write_one-5.ensures ∙ ap (λ (a : ℕ). write_one Far a) c.first_address.ensures.first)
+    (last_packet (c.frame_data.ensures ∙ ap₂ (λ (w n : ℕ). frame_data (w * n)) c.words.ensures.value c.slot_count.ensures.count))))))) in
     let begun : waited ≡ old ++ bytes_of_words ((command Shutdown ++ command Rcrc) ++ no_op ∷ []) =
-    written-on old cleared waited (command Shutdown ++ command Rcrc) (no_op ∷ []) (packets-written old cleared (and-packet c.command.ensures (last-packet c.command-2.ensures)) c.in_ok-put_packets.ensures.items) c.in_ok-put_words.ensures.items in
+    written_on old cleared waited (command Shutdown ++ command Rcrc) (no_op ∷ []) (packets_written old cleared (and_packet c.command.ensures (last_packet c.command-2.ensures)) c.in_ok-put_packets.ensures.items) c.in_ok-put_words.ensures.items in
     on_ok_weaker c.put_packets-2.result
-    (λ e. written-on old waited new ((command Shutdown ++ command Rcrc) ++ no_op ∷ []) (flat_map (λ packet. packet) settings) begun (packets-written waited new named e))
+    (λ e. written_on old waited new ((command Shutdown ++ command Rcrc) ++ no_op ∷ []) (flat_map (λ packet. packet) settings) begun (packets_written waited new named e))
     c.put_packets-2.ensures.items

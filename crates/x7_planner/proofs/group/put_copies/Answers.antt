@@ -1,6 +1,6 @@
 use Rattle.std.proofs.Common.{arith}
 use Rattle.x7_planner.proofs.GroupLemmas.{copies_begin, copies_end, copies_more}
-use Rattle.x7_planner.proofs.SlotLemmas.{and-packet, last-packet, packets-written}
+use Rattle.x7_planner.proofs.SlotLemmas.{and_packet, last_packet, packets_written}
 use Rattle.x7_planner.proofs.group.put_copies.Goals as goal
 
 pub loop-k-init : goal.loop-k-init
@@ -15,5 +15,5 @@ pub loop-k-preserved : goal.loop-k-preserved
 loop-k-preserved c = (
   (let h = c.loop-k.invariant.0 in omega (arith, h)),
   copies_more c.args.contents.now c.args._words.now c.args.firsts.now c.args.writer.now c.loop-k.writer c.packets.new.self c.args.start c.loop-k.k _ _ c.requires.firsts c.requires.first c.loop-k-test.true c.if-firsts-k.false c.loop-k.invariant.1
-      (packets-written c.loop-k.writer c.packets.new.self (and-packet c.write_one.ensures (last-packet c.write_one-in-loop-k.ensures)) c.in_ok-packets.ensures),
+      (packets_written c.loop-k.writer c.packets.new.self (and_packet c.write_one.ensures (last_packet c.write_one-in-loop-k.ensures)) c.in_ok-packets.ensures),
 )

@@ -4,7 +4,7 @@ use Rattle.x7_planner.specs.Contents.{content_rows}
 use Rattle.x7_planner.specs.PartialStream.{with_content}
 use Rattle.x7_planner.specs.Stream.{bytes_of_words}
 use Rattle.x7_planner.proofs.GroupLemmas.{first_far, group_written}
-use Rattle.x7_planner.proofs.SlotLemmas.{and-packet, last-packet, packets-written}
+use Rattle.x7_planner.proofs.SlotLemmas.{and_packet, last_packet, packets_written}
 use Rattle.x7_planner.proofs.group.put_group.Goals as goal
 
 pub returns : goal.returns
@@ -12,5 +12,5 @@ returns c =
     group_written c.args.part.now c.args.writer.now c.packets.new.self c.words-2.new.self c.words-3.new.self c.put_copies.new.writer c.args.words.now
     (planned_addresses (with_content c.args.words.now (content_rows c.args.contents.now))) _ c.words.result c.words.ensures.value
     (first_far c.args.contents.now c.args.words.now c.args.start _ c.requires.together c.requires.first)
-    (packets-written c.args.writer.now c.packets.new.self (and-packet c.command.ensures (and-packet c.write_one.ensures (last-packet c.frame_data.ensures))) c.in_ok-packets.ensures) c.in_ok-words.ensures
+    (packets_written c.args.writer.now c.packets.new.self (and_packet c.command.ensures (and_packet c.write_one.ensures (last_packet c.frame_data.ensures))) c.in_ok-packets.ensures) c.in_ok-words.ensures
     (c.in_ok-words-2.ensures ∙ ap (λ t. c.words-2.new.self ++ bytes_of_words t) c.command-2.ensures) c.in_ok-put_copies.ensures

@@ -2,14 +2,14 @@ use Rattle.std.proofs.Common.{◌≡◌, ◌++◌, codes, take, ap, ◌∙◌, a
 use Rattle.std.proofs.lemmas.List.{take_all, take_more}
 use Rattle.x7_text.specs.Row.{close, in_line_after, open_text, spaced}
 use Rattle.x7_text.proofs.LineLemmas.{data_closed}
-use Rattle.x7_text.proofs.ToldLemmas.{told_one_more}
+use Rattle.x7_text.proofs.OpenLineLemmas.{written_one_more}
 use Rattle.x7_report.proofs.reads.put_data.Goals as goal
 
 pub loop-word-preserved : goal.loop-word-preserved
 loop-word-preserved c =
     let v = c.loop-word.invariant in
     rw (take_more c.args.words.now c.loop-word.word-index 0 c.loop-word-test.true)
-    (told_one_more 8 (codes "data") spaced 0 c.args.text.now.items (take c.loop-word.word-index c.args.words.now) c.make_room.new.text.items c.put_word-in_line.new.text.items c.loop-word.in_line c.put_word-in_line.result _
+    (written_one_more 8 (codes "data") spaced 0 c.args.text.now.items (take c.loop-word.word-index c.args.words.now) c.make_room.new.text.items c.put_word-in_line.new.text.items c.loop-word.in_line c.put_word-in_line.result _
     (record { text_is = c.in_ok-make_room.ensures.items ∙ v.text_is; count_is = v.count_is; is_open = v.is_open }) c.put_word-in_line.ensures.appends.items c.put_word-in_line.ensures.count c.put_word-in_line.ensures.open)
 
 pub returns : goal.returns

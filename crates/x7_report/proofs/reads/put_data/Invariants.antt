@@ -1,6 +1,6 @@
 use Rattle.std.proofs.Common.{take, codes}
 use Rattle.x7_text.specs.Row.{spaced}
-use Rattle.x7_text.proofs.ToldLemmas.{Told}
+use Rattle.x7_text.proofs.OpenLineLemmas.{Told}
 use Rattle.x7_report.proofs.reads.put_data.Given as goal
 
 abbrev pub invariant-loop-word : goal.invariant-loop-word

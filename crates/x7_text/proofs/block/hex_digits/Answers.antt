@@ -1,8 +1,8 @@
-use Rattle.x7_text.proofs.BlockLemmas.{look-up-fits, looked-up}
+use Rattle.x7_text.proofs.BlockLemmas.{look_up_fits, looked_up}
 use Rattle.x7_text.proofs.block.hex_digits.Goals as goal
 
 pub swizzle : goal.swizzle
-swizzle c = look-up-fits c.args.numbers c.requires.lanes c.requires.below
+swizzle c = look_up_fits c.args.numbers c.requires.lanes c.requires.below
 
 pub returns : goal.returns
-returns c = looked-up c.args.numbers c.requires.lanes c.requires.below
+returns c = looked_up c.args.numbers c.requires.lanes c.requires.below

@@ -1,11 +1,11 @@
-use Rattle.x7_text.proofs.SplitLemmas.{joined-split, split-ended, split-free}
+use Rattle.x7_text.proofs.SplitLemmas.{joined_split, split_ended, split_free}
 use Rattle.x7_text.proofs.laws.lines_lead_back.Goals as goal
 
 pub returns-clause-joined : goal.returns-clause-joined
-returns-clause-joined c = joined-split
+returns-clause-joined c = joined_split
 
 pub returns-clause-free : goal.returns-clause-free
-returns-clause-free c = split-free
+returns-clause-free c = split_free
 
 pub returns-clause-ended : goal.returns-clause-ended
-returns-clause-ended c = split-ended
+returns-clause-ended c = split_ended

@@ -1,7 +1,7 @@
 use Rattle.std.proofs.Common.{ap, ◌∙◌}
 use Rattle.x7_text.specs.DigitValue.{pairs_value}
-use Rattle.x7_text.proofs.DigitLemmas.{pairs-digits}
+use Rattle.x7_text.proofs.DigitLemmas.{pairs_digits}
 use Rattle.x7_text.proofs.reading.bytes_of_eight.Goals as goal
 
 pub returns-clause-value : goal.returns-clause-value
-returns-clause-value c = c.bytes_of_four_pairs.ensures ∙ ap pairs_value c.numbers_of_eight.ensures ∙ pairs-digits c.args.digits.now
+returns-clause-value c = c.bytes_of_four_pairs.ensures ∙ ap pairs_value c.numbers_of_eight.ensures ∙ pairs_digits c.args.digits.now

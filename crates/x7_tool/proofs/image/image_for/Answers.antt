@@ -8,7 +8,7 @@ use Rattle.x7_forms.specs.Stop.{limited}
 use Rattle.x7_forms.specs.Step.{seen}
 use Rattle.x7_forms.proofs.ReadLemmas.{answers_end, answers_go, answers_stop, first_of, part_steady}
 use Rattle.x7_forms.proofs.ResultLemmas.{err_weaker}
-use Rattle.x7_forms.proofs.StandLemmas.{stops_behind, no_part_about}
+use Rattle.x7_forms.proofs.StandLemmas.{stops_after, no_part_about}
 use Rattle.x7_tool.specs.Outcome.{ImageStreams, image_by, image_streams}
 use Rattle.x7_tool.specs.Ready.{whole_of}
 use Rattle.x7_tool.specs.Streamed.{streams_of}
@@ -69,7 +69,7 @@ returns g c =
           (part_steady part) c.read_part.ensures.inputs (λ n h. inr h) c.in-Ok.ensures.due
           (answers_stop ImageStreams Answer (golden ∷ update ∷ []) (golden ∷ update ∷ []) mid new (λ t. image_streams t golden update) (λ t. image_by update c.in-Ok.part.start_unit) event (λ n h. h) c.in-Err-read_streams.ensures.due);
       stops = among_stops (ImagingFor part golden update) old new event
-          (stops_behind (limited part_limit part) (limited stream_limit golden ∷ limited stream_limit update ∷ []) old mid new event c.read_part.ensures.once c.in-Err-read_streams.ensures.stops);
+          (stops_after (limited part_limit part) (limited stream_limit golden ∷ limited stream_limit update ∷ []) old mid new event c.read_part.ensures.once c.in-Err-read_streams.ensures.stops);
       asks = asks;
       stays = stays_on _ _ _ c.read_part.ensures.inputs c.read_streams.ensures.inputs;
     }

@@ -17,13 +17,13 @@ use Rattle.x7_tool.specs.Ahead.{StaysNear}
 use Rattle.x7_tool.specs.Run.{ListsSoFar}
 use Rattle.x7_tool.specs.Turns.{Lists, ListsStream}
 use Rattle.x7_forms.specs.Turn.{FollowsUnlessLast, longest_beginning, turn_bytes}
-use Rattle.x7_tool.proofs.AheadLemmas.{front_given, front_near, longer_front, longer_twice, same_now, stays_near, turn_given, turn_near, unfronted_near, unopened_near, unread_near, unwritten_near, why_weaker}
+use Rattle.x7_tool.proofs.AheadLemmas.{prefix_given, prefix_near, longer_prefix, longer_twice, same_now, stays_near, turn_given, turn_near, unfronted_near, unopened_near, unread_near, unwritten_near, why_weaker}
 use Rattle.x7_tool.proofs.Causes.{Ended, PutsListed, both_err, ends_same, list_ends, list_seen, listed_whole, nothing_put, nothing_taken, out_of_memory, unfronted, unopened}
 use Rattle.x7_forms.proofs.ReadLemmas.{asked_on, at_on, turn_unread}
 use Rattle.x7_forms.proofs.ResultLemmas.{err_weaker}
-use Rattle.x7_tool.proofs.TurnLemmas.{end_failed, front_failed, front_so_far, goes_on, line_front, line_then, stream_so_far, stream_whole, taken_more, unread_end, write_failed}
+use Rattle.x7_tool.proofs.TurnLemmas.{end_failed, prefix_failed, prefix_so_far, goes_on, line_prefix, line_then, stream_so_far, stream_whole, taken_more, unread_end, write_failed}
 use Rattle.x7_forms.proofs.StandLemmas.{few_read, stands_opened, stands_read, stands_turn, unfronted_about, unopened_about, unread_about}
-use Rattle.x7_tool.proofs.StopLemmas.{front_stops, put_stops, written_stops, first_stops}
+use Rattle.x7_tool.proofs.StopLemmas.{prefix_stops, put_stops, written_stops, first_stops}
 use Rattle.x7_forms.specs.Stop.{limited}
 use Rattle.x7_tool.proofs.list.list.Goals as goal
 
@@ -91,17 +91,17 @@ returns-in-Err-put_beginning g c = λ before after.
     let on : (left : List ℕ) → stream_listing (taken ++ left) ≡ Ok (line ++ listing_of (sent ++ left)) = λ left. goes left (λ l. let never : false ≡ true = sym c.if-beginning.false ∙ l in absurd cc) in
     let end : (r ≡ no_memory) ⊎ ((r ≡ write_fault) × SinkFails (o.state c.args.out.now) (o.state c.put_beginning.new.out)) → Ended (with_inputs contents flash) C stream Full old now (Err r)
     = elim [
-      | inl h ↦ ends_same (with_inputs contents flash) C stream Full old now r no_memory h (out_of_memory contents flash C stream taken rest Full old now sel (front_so_far taken line sent old now c.put_beginning.ensures.fits on c.in-Err-put_beginning.ensures.err))
-      | inr h ↦ ends_same (with_inputs contents flash) C stream Full old now r write_fault h.0 (front_failed contents flash C stream taken line sent rest last Full old now sel f.end h.1 c.put_beginning.ensures.fits goes c.in-Err-put_beginning.ensures.err)
+      | inl h ↦ ends_same (with_inputs contents flash) C stream Full old now r no_memory h (out_of_memory contents flash C stream taken rest Full old now sel (prefix_so_far taken line sent old now c.put_beginning.ensures.fits on c.in-Err-put_beginning.ensures.err))
+      | inr h ↦ ends_same (with_inputs contents flash) C stream Full old now r write_fault h.0 (prefix_failed contents flash C stream taken line sent rest last Full old now sel f.end h.1 c.put_beginning.ensures.fits goes c.in-Err-put_beginning.ensures.err)
     ] in
     let put = c.in-Err-put_beginning.ensures.err [] (subst AreBytes (sym (append-nil _)) c.put_beginning.ensures.fits) in
-    let longer = longer_front old now _ put in
+    let longer = longer_prefix old now _ put in
     let few : given ≤ longest_beginning = omega (arith, c.open.ensures.asks.given, c.read_beginning.ensures.short) in
-    let near = unwritten_near contents stream rest old now _ given r (front_given contents stream given old now few longer) (front_near contents stream taken rest old now sel f.few longer) c.in-Err-put_beginning.ensures.why in
+    let near = unwritten_near contents stream rest old now _ given r (prefix_given contents stream given old now few longer) (prefix_near contents stream taken rest old now sel f.few longer) c.in-Err-put_beginning.ensures.why in
     let asks = few_read (i.state c.args.inputs.now) (i.state c.open.new.inputs) (i.state c.read_beginning.new.inputs) stream_limit c.open.ensures.once c.read_beginning.ensures.few in
     record {
       ends = list_ends stream (record before { inputs = i.state c.args.inputs.now; out = o.state c.args.out.now }) (record after { inputs = i.state c.read_beginning.new.inputs; out = o.state c.put_beginning.new.out }) (Err r) (end c.in-Err-put_beginning.ensures.why) (stays_near r stream (record before { inputs = i.state c.args.inputs.now; out = o.state c.args.out.now }) (record after { inputs = i.state c.read_beginning.new.inputs; out = o.state c.put_beginning.new.out }) near);
-      stops = front_stops (Listing c.args.stream.now) (g.I.Inputs.state c.args.inputs.now) (g.I.Inputs.state c.read_beginning.new.inputs) (event_of c.in-Err-put_beginning.refusal) c.in-Err-put_beginning.ensures.why;
+      stops = prefix_stops (Listing c.args.stream.now) (g.I.Inputs.state c.args.inputs.now) (g.I.Inputs.state c.read_beginning.new.inputs) (event_of c.in-Err-put_beginning.refusal) c.in-Err-put_beginning.ensures.why;
       judges = tt;
       asks = asks;
       stays = stays_on _ _ _ c.open.ensures.inputs c.read_beginning.ensures.inputs;
@@ -151,9 +151,9 @@ returns-then-beginning g c = λ before after.
     c.put_short.ensures.err c.put_short.ensures.why in
     let near = both_err c.put_short.result (λ r. PutsPrefix old text now) Why (λ r. StaysNear (status_of (event_of r)) (Some (Listing stream)) first later)
     (λ r p w.
-    let longer = longer_front old now text p in
+    let longer = longer_prefix old now text p in
     let few : given ≤ longest_beginning = omega (arith, c.open.ensures.asks.given, c.read_beginning.ensures.short) in
-    stays_near (event_of r) stream first later (unwritten_near contents stream rest old now _ given (event_of r) (front_given contents stream given old now few longer) (front_near contents stream taken rest old now sel f.few longer) (why_weaker w)))
+    stays_near (event_of r) stream first later (unwritten_near contents stream rest old now _ given (event_of r) (prefix_given contents stream given old now few longer) (prefix_near contents stream taken rest old now sel f.few longer) (why_weaker w)))
     c.put_short.ensures.err c.put_short.ensures.why in
     let asks = few_read (i.state c.args.inputs.now) (i.state c.open.new.inputs) (i.state c.read_beginning.new.inputs) stream_limit c.open.ensures.once c.read_beginning.ensures.few in
     record {
@@ -264,7 +264,7 @@ returns-then-turn g c = λ before after.
     (λ r. ((event_of r ≡ no_memory) × (now ≡ mid)) ⊎ ((event_of r ≡ write_fault) × SinkFails (o.state c.put_turn.new.out) (o.state c.put_end.new.out)))
     (λ r. Ended (with_inputs contents flash) C stream Full old now (Err (event_of r)))
     (λ r p w.
-    let front : PutsListed (taken ++ piece) old now = (text, (same, line_front old now t.line (listing_of (t.sent ++ piece)) (p (appended old t.line) (t.sent ++ piece) lists))) in
+    let front : PutsListed (taken ++ piece) old now = (text, (same, line_prefix old now t.line (listing_of (t.sent ++ piece)) (p (appended old t.line) (t.sent ++ piece) lists))) in
     let end : ((event_of r ≡ no_memory) × (now ≡ mid)) ⊎ ((event_of r ≡ write_fault) × SinkFails (o.state c.put_turn.new.out) (o.state c.put_end.new.out)) → Ended (with_inputs contents flash) C stream Full old now (Err (event_of r))
     = elim [
       | inl h ↦

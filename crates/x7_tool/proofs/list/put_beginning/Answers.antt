@@ -2,7 +2,7 @@ use Rattle.std.proofs.Common.{[], sym, ◌∙◌}
 use Rattle.std.proofs.lemmas.Result.{on_ok_weaker}
 use Rattle.x7_words.specs.Sink.{appended}
 use Rattle.x7_forms.proofs.ResultLemmas.{err_weaker, from_ok}
-use Rattle.x7_tool.proofs.TurnLemmas.{begins_behind, line_front, line_part}
+use Rattle.x7_tool.proofs.TurnLemmas.{begins_after, line_prefix, line_part}
 use Rattle.x7_tool.proofs.list.put_beginning.Goals as goal
 
 pub returns-then-is_err-clause-err : goal.returns-then-is_err-clause-err
@@ -13,11 +13,11 @@ returns-clause-ok g c =
     let old = (g.O.Sink.state c.args.out.now).written in
     let mid = (g.O.Sink.state c.write_all.new.sink).written in
     let put = from_ok c.write_all.result (sym c.is_err.ensures.value ∙ c.if-is_err.false) c.write_all.ensures.ok in
-    on_ok_weaker c.put_turn.result (λ h. h (appended old c.args.line.now) [] (begins_behind c.args.lister.now old mid c.args.line.now c.requires.new c.requires.clear put)) c.put_turn.ensures.ok
+    on_ok_weaker c.put_turn.result (λ h. h (appended old c.args.line.now) [] (begins_after c.args.lister.now old mid c.args.line.now c.requires.new c.requires.clear put)) c.put_turn.ensures.ok
 
 pub returns-clause-err : goal.returns-clause-err
 returns-clause-err g c =
     let old = (g.O.Sink.state c.args.out.now).written in
     let mid = (g.O.Sink.state c.write_all.new.sink).written in
     let put = from_ok c.write_all.result (sym c.is_err.ensures.value ∙ c.if-is_err.false) c.write_all.ensures.ok in
-    err_weaker c.put_turn.result (λ r p rest fits. line_front old (g.O.Sink.state c.put_turn.new.out).written c.args.line.now _ (p (appended old c.args.line.now) [] rest (begins_behind c.args.lister.now old mid c.args.line.now c.requires.new c.requires.clear put) fits)) c.put_turn.ensures.err
+    err_weaker c.put_turn.result (λ r p rest fits. line_prefix old (g.O.Sink.state c.put_turn.new.out).written c.args.line.now _ (p (appended old c.args.line.now) [] rest (begins_after c.args.lister.now old mid c.args.line.now c.requires.new c.requires.clear put) fits)) c.put_turn.ensures.err

@@ -1,5 +1,5 @@
 use Rattle.std.proofs.Common.{sym, ◌∙◌}
-use Rattle.x7_tool.proofs.AheadLemmas.{longer_front, same_now}
+use Rattle.x7_tool.proofs.AheadLemmas.{longer_prefix, same_now}
 use Rattle.x7_tool.proofs.TurnLemmas.{end_part, end_put, lists_here}
 use Rattle.x7_forms.proofs.ResultLemmas.{from_ok}
 use Rattle.x7_tool.proofs.list.put_end.Goals as goal
@@ -22,7 +22,7 @@ pub returns-then-is_err-clause-longer : goal.returns-then-is_err-clause-longer
 returns-then-is_err-clause-longer g c = same_now (g.O.Sink.state c.args.out.now)
 
 pub returns-in-Ok-clause-longer : goal.returns-in-Ok-clause-longer
-returns-in-Ok-clause-longer g c = longer_front (g.O.Sink.state c.args.out.now).written (g.O.Sink.state c.write_all.new.sink).written _ c.write_all.ensures.prefix
+returns-in-Ok-clause-longer g c = longer_prefix (g.O.Sink.state c.args.out.now).written (g.O.Sink.state c.write_all.new.sink).written _ c.write_all.ensures.prefix
 
 pub returns-in-Err-clause-longer : goal.returns-in-Err-clause-longer
-returns-in-Err-clause-longer g c = longer_front (g.O.Sink.state c.args.out.now).written (g.O.Sink.state c.write_all.new.sink).written _ c.write_all.ensures.prefix
+returns-in-Err-clause-longer g c = longer_prefix (g.O.Sink.state c.args.out.now).written (g.O.Sink.state c.write_all.new.sink).written _ c.write_all.ensures.prefix

@@ -1,12 +1,12 @@
 use Rattle.std.proofs.Common.{sym, ◌∙◌}
-use Rattle.x7_tool.proofs.AheadLemmas.{longer_front, same_now}
+use Rattle.x7_tool.proofs.AheadLemmas.{longer_prefix, same_now}
 use Rattle.x7_forms.proofs.ResultLemmas.{from_ok}
-use Rattle.x7_tool.proofs.TurnLemmas.{lists_front, lists_more, lists_part}
+use Rattle.x7_tool.proofs.TurnLemmas.{lists_prefix, lists_more, lists_part}
 use Rattle.x7_tool.proofs.list.put_turn.Goals as goal
 
 pub returns-then-is_err-clause-err : goal.returns-then-is_err-clause-err
 returns-then-is_err-clause-err g c = λ first bytes rest lists fits.
-    lists_front c.args.lister.now first (g.O.Sink.state c.args.out.now).written bytes _ lists fits
+    lists_prefix c.args.lister.now first (g.O.Sink.state c.args.out.now).written bytes _ lists fits
 
 pub returns-then-is_err-2-clause-err : goal.returns-then-is_err-2-clause-err
 returns-then-is_err-2-clause-err g c = λ first bytes rest lists fits.
@@ -23,7 +23,7 @@ pub returns-then-is_err-clause-longer : goal.returns-then-is_err-clause-longer
 returns-then-is_err-clause-longer g c = same_now (g.O.Sink.state c.args.out.now)
 
 pub returns-then-is_err-2-clause-longer : goal.returns-then-is_err-2-clause-longer
-returns-then-is_err-2-clause-longer g c = longer_front (g.O.Sink.state c.args.out.now).written (g.O.Sink.state c.write_all.new.sink).written _ c.write_all.ensures.prefix
+returns-then-is_err-2-clause-longer g c = longer_prefix (g.O.Sink.state c.args.out.now).written (g.O.Sink.state c.write_all.new.sink).written _ c.write_all.ensures.prefix
 
 pub returns-clause-longer : goal.returns-clause-longer
-returns-clause-longer g c = longer_front (g.O.Sink.state c.args.out.now).written (g.O.Sink.state c.write_all.new.sink).written _ c.write_all.ensures.prefix
+returns-clause-longer g c = longer_prefix (g.O.Sink.state c.args.out.now).written (g.O.Sink.state c.write_all.new.sink).written _ c.write_all.ensures.prefix

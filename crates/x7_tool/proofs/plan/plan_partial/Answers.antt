@@ -8,7 +8,7 @@ use Rattle.x7_forms.specs.Form.{PlanningPartial}
 use Rattle.x7_forms.specs.Known.{part_limit}
 use Rattle.x7_words.proofs.InputLemmas.{stays_on}
 use Rattle.x7_tool.proofs.StopLemmas.{both_asked, first_asked, result_stops, among_stops, first_stops, second_stops}
-use Rattle.x7_forms.proofs.StandLemmas.{no_part_about, stops_behind}
+use Rattle.x7_forms.proofs.StandLemmas.{no_part_about, stops_after}
 use Rattle.x7_forms.proofs.ResultLemmas.{err_weaker}
 use Rattle.x7_forms.specs.Stop.{limited}
 use Rattle.x7_tool.proofs.plan.plan_partial.Goals as goal
@@ -30,7 +30,7 @@ returns-in-Err-read_plan g c =
       due = plan_refused c.args.part.now c.args.frames.now (i.state c.args.inputs.now) (i.state c.read_part.new.inputs) (i.state c.read_plan.new.inputs) (PlannedPartial c.args.frames.now) (λ x. refl) c.in-Ok.known (event_of c.in-Err-read_plan.refusal)
           c.read_part.ensures.inputs c.in-Ok.ensures.due (λ text h. inl h) c.in-Err-read_plan.ensures.due;
       stops = among_stops (PlanningPartial c.args.part.now c.args.frames.now) (g.I.Inputs.state c.args.inputs.now) (g.I.Inputs.state c.read_plan.new.inputs) (event_of c.in-Err-read_plan.refusal)
-          (stops_behind (limited part_limit c.args.part.now) (limited text_limit c.args.frames.now ∷ []) (g.I.Inputs.state c.args.inputs.now) (g.I.Inputs.state c.read_part.new.inputs) (g.I.Inputs.state c.read_plan.new.inputs) (event_of c.in-Err-read_plan.refusal) c.read_part.ensures.once c.in-Err-read_plan.ensures.stops);
+          (stops_after (limited part_limit c.args.part.now) (limited text_limit c.args.frames.now ∷ []) (g.I.Inputs.state c.args.inputs.now) (g.I.Inputs.state c.read_part.new.inputs) (g.I.Inputs.state c.read_plan.new.inputs) (event_of c.in-Err-read_plan.refusal) c.read_part.ensures.once c.in-Err-read_plan.ensures.stops);
       asks = both_asked (g.I.Inputs.state c.args.inputs.now) (g.I.Inputs.state c.read_part.new.inputs) (g.I.Inputs.state c.read_plan.new.inputs) c.read_part.ensures.once c.read_plan.ensures.asks;
       stays = stays_on _ _ _ c.read_part.ensures.inputs c.read_plan.ensures.inputs;
     }

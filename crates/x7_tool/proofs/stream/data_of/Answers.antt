@@ -1,7 +1,7 @@
 use Rattle.std.proofs.Common.{◌≡◌, ◌+◌, ◌-◌, ℕ, List, take, drop, ap, sym, ◌∙◌, length-drop, arith}
 use Rattle.std.proofs.lemmas.List.{take_all}
 use Rattle.std.specs.List.{copy_within}
-use Rattle.x7_jtag.proofs.SourceLemmas.{kept-more}
+use Rattle.x7_jtag.proofs.SourceLemmas.{kept_more}
 use Rattle.x7_tool.proofs.stream.data_of.Goals as goal
 
 pub returns-then-start-eq0 : goal.returns-then-start-eq0
@@ -18,5 +18,5 @@ returns c =
     c.truncate.ensures.items
     ∙ ap (take n) (c.copy_within.ensures.items ∙ ap (λ (k : ℕ). copy_within xs at k 0) all)
     ∙ ap (λ (m : ℕ). take m (copy_within xs at (at + n) 0)) size
-    ∙ kept-more xs 0 at n (omega arith) (omega (arith, all, c.len-end.ensures))
+    ∙ kept_more xs 0 at n (omega arith) (omega (arith, all, c.len-end.ensures))
     ∙ take_all n (drop at xs) (omega (arith, c.len-end.ensures, length-drop at xs))

@@ -7,7 +7,7 @@ use Rattle.x7_jtag.specs.Play.{clocks_played}
 use Rattle.x7_jtag.specs.PlayLine.{play_text}
 use Rattle.x7_jtag.specs.Shown.{bytes_taken}
 use Rattle.x7_jtag.specs.Tap.{TapStandsFor}
-use Rattle.x7_jtag.proofs.LawLemmas.{device-is}
+use Rattle.x7_jtag.proofs.LawLemmas.{device_is}
 use Rattle.x7_tool.proofs.SvfLemmas.{played_to, svf_is}
 use Rattle.x7_tool.proofs.svf.played.Goals as goal
 
@@ -19,7 +19,7 @@ returns c =
     let new : TapStandsFor part c.new-tap.result c.in_ok-device.device [] = c.new-tap.ensures part c.in_ok-device.device c.in_ok-device.ensures.stands in
     let stands : TapStandsFor part c.play_svf-differ.new.tap c.play_svf-differ.new.device (clocks_played statements differ) = c.play_svf-differ.ensures.clocks part new in
     let taken : List ℕ = bytes_taken part (played_to part statements differ) in
-    let device : DeviceStandsFor part on_the_bench false c.play_svf-differ.new.device taken = device-is part c.play_svf-differ.new.tap c.play_svf-differ.new.device (clocks_played statements differ) stands in
+    let device : DeviceStandsFor part on_the_bench false c.play_svf-differ.new.device taken = device_is part c.play_svf-differ.new.tap c.play_svf-differ.new.device (clocks_played statements differ) stands in
     svf_is part statements c.play_svf-differ.new.tap c.play_svf-differ.new.device differ c.fault.result c.either-stopped.result c.play_line.new.out.items c.in_ok-report.report c.in_ok-text.text
     stands (c.play_svf-differ.ensures.differs part new) (c.fault.ensures part on_the_bench false taken device)
     (c.either-stopped.ensures ∙ ap (λ (b : Bool). b || c.is_some-2.result) c.is_some.ensures ∙ ap (λ (b : Bool). is_some differ || b) c.is_some-2.ensures)

@@ -1,32 +1,32 @@
 use Rattle.std.proofs.Common.{◌≡◌, ℕ, ◌+◌, ◌<◌, length, get_or, slice_range, zero-add, ap, subst, ◌∙◌, arith}
-use Rattle.x7_words.proofs.FlashLemmas.{get_or-slice_range}
+use Rattle.x7_words.proofs.FlashLemmas.{get_or_slice_range}
 use Rattle.x7_update.specs.Refused.{NoLayoutAt}
 use Rattle.x7_update.specs.Slots.{Finds}
-use Rattle.x7_update.proofs.ToldLemmas.{told_at, told_all}
+use Rattle.x7_update.proofs.KnownLemmas.{known_at, known_all}
 use Rattle.x7_update.proofs.TransferLemmas.{finds_same, no_layout_same}
 use Rattle.x7_update.proofs.slots.find_slots.Goals as goal
 
 pub returns-in-Ok-slots_of-clause-finds : goal.returns-in-Ok-slots_of-clause-finds
 returns-in-Ok-slots_of-clause-finds g c =
     let s = g.F.Flash.state c.args.flash.now in
-    told_all s.bytes (λ all. Finds (length all) all c.in-Ok-slots_of.slots)
+    known_all s.bytes (λ all. Finds (length all) all c.in-Ok-slots_of.slots)
     (λ all e.
     let read : c.read_at.new.buf ≡ slice_range all 0 (0 + length c.args.buffer.now) =
-    told_at s.bytes (λ all. c.read_at.new.buf ≡ slice_range all 0 (0 + length c.args.buffer.now)) c.in-Ok.ensures.read all e in
+    known_at s.bytes (λ all. c.read_at.new.buf ≡ slice_range all 0 (0 + length c.args.buffer.now)) c.in-Ok.ensures.read all e in
     let same : (i : ℕ) → i < 65536 → get_or c.read_at.new.buf i 0 ≡ get_or all i 0 =
-    λ i h. ap (λ b. get_or b i 0) read ∙ get_or-slice_range all 0 (length c.args.buffer.now) i (omega (arith, h, c.requires.buffer)) ∙ ap (λ n. get_or all n 0) (zero-add i) in
-    let size : c.size-size.result ≡ length all = c.size-size.ensures.extent ∙ told_at s.bytes (λ all. s.extent ≡ length all) (g.met.F.Flash.counted c.args.flash.now) all e in
+    λ i h. ap (λ b. get_or b i 0) read ∙ get_or_slice_range all 0 (length c.args.buffer.now) i (omega (arith, h, c.requires.buffer)) ∙ ap (λ n. get_or all n 0) (zero-add i) in
+    let size : c.size-size.result ≡ length all = c.size-size.ensures.extent ∙ known_at s.bytes (λ all. s.extent ≡ length all) (g.met.F.Flash.counted c.args.flash.now) all e in
     subst (λ n. Finds n all c.in-Ok-slots_of.slots) size (finds_same c.read_at.new.buf all same c.size-size.result c.in-Ok-slots_of.slots c.in-Ok-slots_of.ensures.found))
 
 pub returns-in-Err-slots_of-clause-fault : goal.returns-in-Err-slots_of-clause-fault
 returns-in-Err-slots_of-clause-fault g c =
     let s = g.F.Flash.state c.args.flash.now in
     λ stream.
-    told_all s.bytes (λ all. NoLayoutAt (length all) all c.in-Err-slots_of.place)
+    known_all s.bytes (λ all. NoLayoutAt (length all) all c.in-Err-slots_of.place)
     (λ all e.
     let read : c.read_at.new.buf ≡ slice_range all 0 (0 + length c.args.buffer.now) =
-    told_at s.bytes (λ all. c.read_at.new.buf ≡ slice_range all 0 (0 + length c.args.buffer.now)) c.in-Ok.ensures.read all e in
+    known_at s.bytes (λ all. c.read_at.new.buf ≡ slice_range all 0 (0 + length c.args.buffer.now)) c.in-Ok.ensures.read all e in
     let same : (i : ℕ) → i < 65536 → get_or c.read_at.new.buf i 0 ≡ get_or all i 0 =
-    λ i h. ap (λ b. get_or b i 0) read ∙ get_or-slice_range all 0 (length c.args.buffer.now) i (omega (arith, h, c.requires.buffer)) ∙ ap (λ n. get_or all n 0) (zero-add i) in
-    let size : c.size-size.result ≡ length all = c.size-size.ensures.extent ∙ told_at s.bytes (λ all. s.extent ≡ length all) (g.met.F.Flash.counted c.args.flash.now) all e in
+    λ i h. ap (λ b. get_or b i 0) read ∙ get_or_slice_range all 0 (length c.args.buffer.now) i (omega (arith, h, c.requires.buffer)) ∙ ap (λ n. get_or all n 0) (zero-add i) in
+    let size : c.size-size.result ≡ length all = c.size-size.ensures.extent ∙ known_at s.bytes (λ all. s.extent ≡ length all) (g.met.F.Flash.counted c.args.flash.now) all e in
     subst (λ n. NoLayoutAt n all c.in-Err-slots_of.place) size (no_layout_same c.read_at.new.buf all same c.size-size.result c.in-Err-slots_of.place c.in-Err-slots_of.ensures.fault))

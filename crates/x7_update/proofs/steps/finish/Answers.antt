@@ -5,7 +5,7 @@ use Rattle.x7_update.specs.ReadBack.{WasReady}
 use Rattle.x7_update.specs.Writing.{Opening}
 use Rattle.x7_update.proofs.BackLemmas.{fails_since, was_unknown}
 use Rattle.x7_update.proofs.ReadyLemmas.{was_ready}
-use Rattle.x7_update.proofs.ToldLemmas.{moments_read, moments_weaker, on_ok, only_read, read_moments}
+use Rattle.x7_update.proofs.KnownLemmas.{moments_read, moments_weaker, on_ok, only_read, read_moments}
 use Rattle.x7_update.proofs.steps.finish.Goals as goal
 
 pub returns-clause-fault : goal.returns-clause-fault

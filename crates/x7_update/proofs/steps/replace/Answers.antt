@@ -3,7 +3,7 @@ use Rattle.x7_update.specs.After.{ClosesTo}
 use Rattle.x7_update.specs.Slots.{Finds}
 use Rattle.x7_update.specs.Writing.{Becomes, KeepsBelow, Replaced, Replacing, Stands}
 use Rattle.x7_update.proofs.CaseLemmas.{writing_replaces}
-use Rattle.x7_update.proofs.ToldLemmas.{becomes_leaves, becomes_on, moments_on, on_ok_map, told_at}
+use Rattle.x7_update.proofs.KnownLemmas.{becomes_leaves, becomes_on, moments_on, on_ok_map, known_at}
 use Rattle.x7_update.proofs.steps.replace.Goals as goal
 
 pub returns-clause-replaced : goal.returns-clause-replaced
@@ -24,5 +24,5 @@ returns-clause-any_moment g c =
     let last = g.F.Flash.state c.write_stream.new.flash in
     moments_on first mid last _ _ _ ClosesTo (KeepsBelow c.args.slots.update) Replacing
     (λ all closed found e closes keeps.
-    writing_replaces all c.args.slots (told_at first.bytes (λ all. Finds (length all) all c.args.slots) c.requires.finds all e) closed found closes keeps)
+    writing_replaces all c.args.slots (known_at first.bytes (λ all. Finds (length all) all c.args.slots) c.requires.finds all e) closed found closes keeps)
     c.close_opened.ensures.any_moment (becomes_leaves first mid ClosesTo c.in_ok-close_opened.ensures.closed) c.write_stream.ensures.any_moment

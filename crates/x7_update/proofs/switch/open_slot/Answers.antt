@@ -1,12 +1,12 @@
 use Rattle.std.proofs.Common.{◌≡◌, ◌*◌, ◌+◌, ◌≤◌, ℕ, List, Some, length, arith}
 use Rattle.x7_words.specs.Flash.{IsTorn, cleared}
-use Rattle.x7_words.proofs.FlashLemmas.{bytes-cleared, length-cleared}
+use Rattle.x7_words.proofs.FlashLemmas.{bytes_cleared, length_cleared}
 use Rattle.x7_words.specs.Word.{AreBytes}
 use Rattle.x7_update.specs.Layout.{open_switch}
 use Rattle.x7_update.specs.Writing.{Opening}
 use Rattle.x7_update.proofs.ByteLemmas.{bytes_write}
 use Rattle.x7_update.proofs.SwitchLemmas.{opening}
-use Rattle.x7_update.proofs.ToldLemmas.{moments_weaker, told_at, write_moments}
+use Rattle.x7_update.proofs.KnownLemmas.{moments_weaker, known_at, write_moments}
 use Rattle.x7_update.proofs.switch.open_slot.Goals as goal
 
 pub returns-clause-any_moment : goal.returns-clause-any_moment
@@ -15,10 +15,10 @@ returns-clause-any_moment g c =
     let n = g.F.Flash.state c.program.new.self in
     let place = 32 * c.args.slot in
     let inside : (all : List ℕ) → s.bytes ≡ Some all → place + 4 ≤ length all =
-    λ all e. omega (arith, told_at s.bytes (λ all. s.extent ≡ length all) (g.met.F.Flash.counted c.args.flash.now) all e, c.requires.within) in
+    λ all e. omega (arith, known_at s.bytes (λ all. s.extent ≡ length all) (g.met.F.Flash.counted c.args.flash.now) all e, c.requires.within) in
     moments_weaker s n _ _ (λ all found. IsTorn place (cleared place open_switch all) all found) (Opening c.args.slot)
-    (λ all found e torn. opening c.args.slot (cleared place open_switch all) all found (length-cleared place open_switch all (inside all e)) (inside all e) torn)
-    (write_moments place (cleared place open_switch) s n _ _ c.program.result (λ all e. omega (arith, inside all e, length-cleared place open_switch all (inside all e)))
+    (λ all found e torn. opening c.args.slot (cleared place open_switch all) all found (length_cleared place open_switch all (inside all e)) (inside all e) torn)
+    (write_moments place (cleared place open_switch) s n _ _ c.program.result (λ all e. omega (arith, inside all e, length_cleared place open_switch all (inside all e)))
     c.program.ensures.programmed c.program.ensures.torn c.program.ensures.passes)
 
 pub returns-clause-bytes : goal.returns-clause-bytes
@@ -28,6 +28,6 @@ returns-clause-bytes g c =
     let place = 32 * c.args.slot in
     let fits : AreBytes open_switch = (omega arith, (omega arith, (omega arith, (omega arith, tt)))) in
     let inside : (all : List ℕ) → s.bytes ≡ Some all → place + 4 ≤ length all =
-    λ all e. omega (arith, told_at s.bytes (λ all. s.extent ≡ length all) (g.met.F.Flash.counted c.args.flash.now) all e, c.requires.within) in
-    bytes_write place (cleared place open_switch) s n _ _ c.program.result (λ all. bytes-cleared place open_switch all fits) (λ all e. omega (arith, inside all e, length-cleared place open_switch all (inside all e)))
+    λ all e. omega (arith, known_at s.bytes (λ all. s.extent ≡ length all) (g.met.F.Flash.counted c.args.flash.now) all e, c.requires.within) in
+    bytes_write place (cleared place open_switch) s n _ _ c.program.result (λ all. bytes_cleared place open_switch all fits) (λ all e. omega (arith, inside all e, length_cleared place open_switch all (inside all e)))
     c.program.ensures.programmed c.program.ensures.torn c.program.ensures.passes

@@ -1,10 +1,10 @@
 use Rattle.std.proofs.Common.{◌≡◌, ◌*◌, ◌+◌, ◌≤◌, ℕ, List, Some, length, refl, subst, sym, arith}
 use Rattle.x7_words.specs.Flash.{IsTorn, erased, erased_sector}
-use Rattle.x7_words.proofs.FlashLemmas.{bytes-erased_sector, length-erased_sector}
+use Rattle.x7_words.proofs.FlashLemmas.{bytes_erased_sector, length_erased_sector}
 use Rattle.x7_update.specs.Writing.{ErasedTo, KeepsBelow}
 use Rattle.x7_update.proofs.ByteLemmas.{bytes_on, bytes_write}
 use Rattle.x7_update.proofs.StreamLemmas.{erased_all, erased_keeps, erased_more, torn_keeps}
-use Rattle.x7_update.proofs.ToldLemmas.{becomes_leaves, becomes_map, becomes_of, becomes_on, moments_on, told_at, write_moments, writes_on}
+use Rattle.x7_update.proofs.KnownLemmas.{becomes_leaves, becomes_map, becomes_of, becomes_on, moments_on, known_at, write_moments, writes_on}
 use Rattle.x7_update.proofs.write.erase_from.Goals as goal
 
 pub loop-sector-preserved : goal.loop-sector-preserved
@@ -17,9 +17,9 @@ loop-sector-preserved g c =
     let inv = c.loop-sector.invariant in
     let from : place ≤ sector * 65536 = omega arith in
     let inside : (all : List ℕ) → mid.bytes ≡ Some all → sector * 65536 + 65536 ≤ length all =
-    λ all e. omega (arith, told_at mid.bytes (λ all. mid.extent ≡ length all) (g.met.F.Flash.counted c.loop-sector.flash) all e, inv.only.extent, c.size-sector-end.ensures.extent) in
+    λ all e. omega (arith, known_at mid.bytes (λ all. mid.extent ≡ length all) (g.met.F.Flash.counted c.loop-sector.flash) all e, inv.only.extent, c.size-sector-end.ensures.extent) in
     let within : (all : List ℕ) → first.bytes ≡ Some all → sector * 65536 + 65536 ≤ length all =
-    λ all e. omega (arith, told_at first.bytes (λ all. first.extent ≡ length all) (g.met.F.Flash.counted c.args.flash.now) all e, c.size-sector-end.ensures.extent) in
+    λ all e. omega (arith, known_at first.bytes (λ all. first.extent ≡ length all) (g.met.F.Flash.counted c.args.flash.now) all e, c.size-sector-end.ensures.extent) in
     let next : sector * 65536 + 65536 ≡ (sector + 1) * 65536 = omega arith in
     record {
       only = writes_on first mid last inv.only c.erase.ensures.only;
@@ -30,9 +30,9 @@ loop-sector-preserved g c =
       any_moment = moments_on first mid last _ _ _ (ErasedTo place (sector * 65536)) (IsTorn (sector * 65536) erased_sector) (KeepsBelow place)
           (λ all mid found e so torn. torn_keeps place (sector * 65536) erased_sector all mid found from (erased_keeps place (sector * 65536) all mid so) torn)
           inv.any_moment (becomes_leaves first mid (ErasedTo place (sector * 65536)) inv.erased)
-          (write_moments (sector * 65536) (λ _. erased_sector) mid last _ _ c.erase.result (λ all e. omega (arith, length-erased_sector, inside all e)) c.erase.ensures.erased c.erase.ensures.torn c.erase.ensures.passes);
+          (write_moments (sector * 65536) (λ _. erased_sector) mid last _ _ c.erase.result (λ all e. omega (arith, length_erased_sector, inside all e)) c.erase.ensures.erased c.erase.ensures.torn c.erase.ensures.passes);
       bytes = bytes_on first mid last _ _ _ inv.bytes
-          (bytes_write (sector * 65536) (λ _. erased_sector) mid last _ _ c.erase.result (λ _. bytes-erased_sector) (λ all e. omega (arith, length-erased_sector, inside all e)) c.erase.ensures.erased c.erase.ensures.torn c.erase.ensures.passes);
+          (bytes_write (sector * 65536) (λ _. erased_sector) mid last _ _ c.erase.result (λ _. bytes_erased_sector) (λ all e. omega (arith, length_erased_sector, inside all e)) c.erase.ensures.erased c.erase.ensures.torn c.erase.ensures.passes);
     }
 
 pub returns-in_err-erase-clause-any_moment : goal.returns-in_err-erase-clause-any_moment
@@ -45,11 +45,11 @@ returns-in_err-erase-clause-any_moment g c =
     let inv = c.loop-sector.invariant in
     let from : place ≤ sector * 65536 = omega arith in
     let inside : (all : List ℕ) → mid.bytes ≡ Some all → sector * 65536 + 65536 ≤ length all =
-    λ all e. omega (arith, told_at mid.bytes (λ all. mid.extent ≡ length all) (g.met.F.Flash.counted c.loop-sector.flash) all e, inv.only.extent, c.size-sector-end.ensures.extent) in
+    λ all e. omega (arith, known_at mid.bytes (λ all. mid.extent ≡ length all) (g.met.F.Flash.counted c.loop-sector.flash) all e, inv.only.extent, c.size-sector-end.ensures.extent) in
     moments_on first mid last _ _ _ (ErasedTo place (sector * 65536)) (IsTorn (sector * 65536) erased_sector) (KeepsBelow place)
     (λ all mid found e so torn. torn_keeps place (sector * 65536) erased_sector all mid found from (erased_keeps place (sector * 65536) all mid so) torn)
     inv.any_moment (becomes_leaves first mid (ErasedTo place (sector * 65536)) inv.erased)
-    (write_moments (sector * 65536) (λ _. erased_sector) mid last _ _ c.erase.result (λ all e. omega (arith, length-erased_sector, inside all e)) c.erase.ensures.erased c.erase.ensures.torn c.erase.ensures.passes)
+    (write_moments (sector * 65536) (λ _. erased_sector) mid last _ _ c.erase.result (λ all e. omega (arith, length_erased_sector, inside all e)) c.erase.ensures.erased c.erase.ensures.torn c.erase.ensures.passes)
 
 pub returns-in_err-erase-clause-bytes : goal.returns-in_err-erase-clause-bytes
 returns-in_err-erase-clause-bytes g c =
@@ -59,9 +59,9 @@ returns-in_err-erase-clause-bytes g c =
     let sector = c.loop-sector.sector in
     let inv = c.loop-sector.invariant in
     let inside : (all : List ℕ) → mid.bytes ≡ Some all → sector * 65536 + 65536 ≤ length all =
-    λ all e. omega (arith, told_at mid.bytes (λ all. mid.extent ≡ length all) (g.met.F.Flash.counted c.loop-sector.flash) all e, inv.only.extent, c.size-sector-end.ensures.extent) in
+    λ all e. omega (arith, known_at mid.bytes (λ all. mid.extent ≡ length all) (g.met.F.Flash.counted c.loop-sector.flash) all e, inv.only.extent, c.size-sector-end.ensures.extent) in
     bytes_on first mid last _ _ _ inv.bytes
-    (bytes_write (sector * 65536) (λ _. erased_sector) mid last _ _ c.erase.result (λ _. bytes-erased_sector) (λ all e. omega (arith, length-erased_sector, inside all e)) c.erase.ensures.erased c.erase.ensures.torn c.erase.ensures.passes)
+    (bytes_write (sector * 65536) (λ _. erased_sector) mid last _ _ c.erase.result (λ _. bytes_erased_sector) (λ all e. omega (arith, length_erased_sector, inside all e)) c.erase.ensures.erased c.erase.ensures.torn c.erase.ensures.passes)
 
 pub returns-clause-erased : goal.returns-clause-erased
 returns-clause-erased g c =

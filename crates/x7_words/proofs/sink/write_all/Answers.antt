@@ -1,10 +1,10 @@
 use Rattle.std.proofs.Common.{arith, ◌∙◌}
 use Rattle.std.proofs.lemmas.Grind.{common_steps}
-use Rattle.x7_words.proofs.SinkLemmas.{counts_on, written_more, puts_front}
+use Rattle.x7_words.proofs.SinkLemmas.{counts_on, written_more, puts_prefix}
 use Rattle.x7_words.proofs.sink.write_all.Goals as goal
 
 pub returns-in_err-at-clause-prefix : goal.returns-in_err-at-clause-prefix
-returns-in_err-at-clause-prefix g c = puts_front _ _ _ c.loop-at.at (c.in_err-at.ensures.err ∙ c.loop-at.invariant.written)
+returns-in_err-at-clause-prefix g c = puts_prefix _ _ _ c.loop-at.at (c.in_err-at.ensures.err ∙ c.loop-at.invariant.written)
 
 pub loop-at-preserved : goal.loop-at-preserved
 loop-at-preserved g c =

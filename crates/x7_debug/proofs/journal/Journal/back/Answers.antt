@@ -1,7 +1,7 @@
 use Rattle.std.proofs.Common.{◌≡◌, ◌-◌, ◌+◌, ◌≤◌, ◌∷◌, ◌++◌, [], ℕ, suc, List, length, take, drop, ap, sym, subst, ◌∙◌, arith, false, length-append}
 use Rattle.std.specs.List.{AllByRecursion}
 use Rattle.circular_buffer.specs.Buffer.{Buffer}
-use Rattle.x7_words.proofs.ListLemmas.{all-append}
+use Rattle.x7_words.proofs.ListLemmas.{all_append}
 use Rattle.x7_engine.specs.Kept.{on_the_bench}
 use Rattle.x7_engine.specs.Undo.{IsUndoOf, UndoState}
 use Rattle.x7_debug.specs.Journal.{IsOn, JournalState, LeadBack, oldest_by, records_of}
@@ -56,7 +56,7 @@ all_fit c =
     let P : UndoState → Type 0 = IsUndoOf c.args.device.now.part in
     let before : AllByRecursion P c.self.inside.records.items = subst (λ (j : JournalState). AllByRecursion P j.all) (sym c.self.view_is) c.requires.records in
     let parts : AllByRecursion P (c.in-Some.undo ∷ drop 1 c.self.inside.records.items) = subst (AllByRecursion P) (first_is c) before in
-    subst (AllByRecursion P) (sym (all_is c)) (all-append P (drop 1 c.self.inside.records.items) (c.in-Some.undo ∷ []) parts.1 (parts.0, tt))
+    subst (AllByRecursion P) (sym (all_is c)) (all_append P (drop 1 c.self.inside.records.items) (c.in-Some.undo ∷ []) parts.1 (parts.0, tt))
 
 went : (c : goal.After-self-1) (stream : List ℕ) → IsOn c.args.device.now.part stream c.args.device.now c.args.self.now
     → IsOn c.undo.new.self.part stream c.undo.new.self (after c) × (c.undo.new.self.taken ≡ c.in-Some.undo.taken) × (c.in-Some.undo.taken ≤ c.args.device.now.taken) × (c.args.device.now.taken ≤ c.in-Some.undo.taken + 4)

@@ -2,10 +2,10 @@ use Rattle.std.proofs.Common.{◌≡◌, ◌-◌, ◌<◌, ◌∷◌, List, leng
 use Rattle.std.specs.List.{AllByRecursion}
 use Rattle.circular_buffer.specs.Buffer.{Buffer}
 use Rattle.x7_words.specs.Word.{AreBytes}
-use Rattle.x7_words.proofs.ListLemmas.{all-append, all_from_places}
+use Rattle.x7_words.proofs.ListLemmas.{all_append, all_from_places}
 use Rattle.x7_engine.specs.Undo.{IsUndoOf, UndoState, dropping}
 use Rattle.x7_debug.specs.Journal.{JournalState, records_of}
-use Rattle.x7_debug.proofs.FeedLemmas.{fed-none-due, fed-stands}
+use Rattle.x7_debug.proofs.FeedLemmas.{fed_none_due, fed_stands}
 use Rattle.x7_debug.proofs.JournalLemmas.{get_all, records_more}
 use Rattle.x7_debug.proofs.journal.Journal.feed.Goals as goal
 
@@ -31,8 +31,8 @@ pub returns-clause-stands : goal.returns-clause-stands
 returns-clause-stands c = λ part kept wrapped bytes s.
     let piece = c.args.piece.now in
     let fits : AreBytes piece = all_from_places (λ b. b < 256) piece (λ k h. omega (arith, c.type_inv.piece k)) in
-    fed-stands part kept wrapped bytes piece c.feed_word.new.self dropping c.feed_word.result (all-append (λ b. b < 256) bytes piece s.fits fits) refl (c.feed_word.ensures.stands part kept wrapped bytes s) (c.feed_word.ensures.answer part kept wrapped bytes s)
+    fed_stands part kept wrapped bytes piece c.feed_word.new.self dropping c.feed_word.result (all_append (λ b. b < 256) bytes piece s.fits fits) refl (c.feed_word.ensures.stands part kept wrapped bytes s) (c.feed_word.ensures.answer part kept wrapped bytes s)
 
 pub returns-clause-none_due : goal.returns-clause-none_due
 returns-clause-none_due c = λ part kept wrapped bytes s.
-    fed-none-due part kept wrapped bytes c.args.piece.now c.feed_word.new.self dropping c.feed_word.result refl (c.feed_word.ensures.answer part kept wrapped bytes s)
+    fed_none_due part kept wrapped bytes c.args.piece.now c.feed_word.new.self dropping c.feed_word.result refl (c.feed_word.ensures.answer part kept wrapped bytes s)

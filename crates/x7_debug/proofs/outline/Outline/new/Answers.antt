@@ -3,7 +3,7 @@ use Rattle.x7_words.specs.Word.{AreBytes}
 use Rattle.x7_words.proofs.ListLemmas.{all_from_places}
 use Rattle.x7_engine.specs.Kept.{on_the_bench}
 use Rattle.x7_debug.specs.Session.{StandsAtPosition}
-use Rattle.x7_debug.proofs.PositionLemmas.{last-within, moved, stands-first-bytes}
+use Rattle.x7_debug.proofs.PositionLemmas.{last_within, moved, stands_first_bytes}
 use Rattle.x7_debug.proofs.outline.Outline.new.Goals as goal
 
 pub take-requires : goal.take-requires
@@ -24,7 +24,7 @@ returns-clause-last c =
     let stands = fed.stands part on_the_bench false [] c.in_ok-device.ensures.stands in
     let there = moved part stream (take (length stream - from) (drop from stream)) c.take.new.device from (length stream) fits fed.within (omega arith) refl
     (c.take.ensures.stands part on_the_bench false (take from stream) stands) (c.take.ensures.none_due part on_the_bench false (take from stream) stands) in
-    omega (arith, c.taken.ensures.now, there.taken, last-within part stream fits)
+    omega (arith, c.taken.ensures.now, there.taken, last_within part stream fits)
 
 pub returns-clause-begins : goal.returns-clause-begins
 returns-clause-begins c =
@@ -32,5 +32,5 @@ returns-clause-begins c =
     let new = c.in_ok-device.ensures.stands in
     let fits : AreBytes c.args.stream.now = all_from_places (λ b. b < 256) c.args.stream.now (λ k h. omega (arith, c.type_inv.stream k)) in
     let there : StandsAtPosition c.args.part.now c.args.stream.now c.feed_until_begun-begins.new.self c.feed_until_begun-begins.result =
-    stands-first-bytes c.args.part.now c.args.stream.now c.feed_until_begun-begins.new.self c.feed_until_begun-begins.result fits fed.within (fed.stands c.args.part.now on_the_bench false [] new) (fed.none_due c.args.part.now on_the_bench false [] new) in
+    stands_first_bytes c.args.part.now c.args.stream.now c.feed_until_begun-begins.new.self c.feed_until_begun-begins.result fits fed.within (fed.stands c.args.part.now on_the_bench false [] new) (fed.none_due c.args.part.now on_the_bench false [] new) in
     record { within = there.within; zero = fed.first c.args.part.now on_the_bench false [] new }

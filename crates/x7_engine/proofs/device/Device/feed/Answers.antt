@@ -7,7 +7,7 @@ use Rattle.x7_engine.specs.ReadBuffer.{with_words}
 use Rattle.x7_engine.specs.Past.{Answers, past_of}
 use Rattle.x7_engine.specs.Standing.{DeviceStandsFor, DeviceState, NoWordDue, fed_by, taken_in, reads_given}
 use Rattle.x7_engine.specs.Stops.{stopped_at}
-use Rattle.x7_engine.proofs.FeedLemmas.{answers_stop, now_told, read_here, stands_on, taken_by_stop, words_none}
+use Rattle.x7_engine.proofs.FeedLemmas.{answers_stop, now_given, read_here, stands_on, taken_by_stop, words_none}
 use Rattle.x7_engine.proofs.UntilReadLemmas.{room_read_on}
 use Rattle.x7_engine.proofs.device.Device.feed.Goals as goal
 
@@ -58,7 +58,7 @@ returns-then-not-give-clause-stands c = λ part kept wrapped bytes s.
 pub returns-then-not-give-clause-reads : goal.returns-then-not-give-clause-reads
 returns-then-not-give-clause-reads c = λ part kept wrapped bytes s.
     let taken : List ℕ = bytes ++ take c.runs.at c.args.piece.now in
-    now_told part kept wrapped c.runs.self c.give.new.self c.args.read.now c.runs.read c.give.new.read taken (reads_given part kept c.args.self.now bytes)
+    now_given part kept wrapped c.runs.self c.give.new.self c.args.read.now c.runs.read c.give.new.read taken (reads_given part kept c.args.self.now bytes)
     (c.give.ensures.given part kept wrapped taken (c.runs.invariant.stands part kept wrapped bytes s)) (c.runs.invariant.reads part kept wrapped bytes s)
 
 pub returns-then-turn-clause-first : goal.returns-then-turn-clause-first
@@ -69,7 +69,7 @@ returns-then-turn-clause-first c = λ part kept wrapped bytes s.
     let due : NoWordDue c.give.new.self = c.give.ensures.none_left.0 c.if-not-give.false in
     room_read_on part kept wrapped c.give.new.self c.turn.new.self c.args.read.now c.give.new.read bytes c.args.piece.now (reads_given part kept c.args.self.now bytes) c.runs.at c.turn.new.at c.turn.ensures.turned.forward c.turn.ensures.turned.within
     c.give.ensures.going due gives.stands (c.turn.ensures.turned.turn.stands part kept wrapped taken gives.stands) (c.turn.ensures.turned.turn.commands part kept wrapped taken gives.stands) c.give.ensures.few
-    (now_told part kept wrapped c.runs.self c.give.new.self c.args.read.now c.runs.read c.give.new.read taken (reads_given part kept c.args.self.now bytes) gives (c.runs.invariant.reads part kept wrapped bytes s))
+    (now_given part kept wrapped c.runs.self c.give.new.self c.args.read.now c.runs.read c.give.new.read taken (reads_given part kept c.args.self.now bytes) gives (c.runs.invariant.reads part kept wrapped bytes s))
     (c.runs.invariant.first part kept wrapped bytes s))
 
 pub returns-then-turn-clause-stands : goal.returns-then-turn-clause-stands
@@ -118,7 +118,7 @@ runs-preserved c =
           let due : NoWordDue c.give.new.self = c.give.ensures.none_left.0 c.if-not-give.false in
           room_read_on part kept wrapped c.give.new.self c.turn.new.self c.args.read.now c.give.new.read bytes c.args.piece.now (reads_given part kept c.args.self.now bytes) c.runs.at c.turn.new.at c.turn.ensures.turned.forward c.turn.ensures.turned.within
           c.give.ensures.going due gives.stands (c.turn.ensures.turned.turn.stands part kept wrapped taken gives.stands) (c.turn.ensures.turned.turn.commands part kept wrapped taken gives.stands) c.give.ensures.few
-          (now_told part kept wrapped c.runs.self c.give.new.self c.args.read.now c.runs.read c.give.new.read taken (reads_given part kept c.args.self.now bytes) gives (c.runs.invariant.reads part kept wrapped bytes s))
+          (now_given part kept wrapped c.runs.self c.give.new.self c.args.read.now c.runs.read c.give.new.read taken (reads_given part kept c.args.self.now bytes) gives (c.runs.invariant.reads part kept wrapped bytes s))
           (c.runs.invariant.first part kept wrapped bytes s));
       few = c.give.ensures.few;
       stopped = λ e. absurd (let none : true ≡ false = sym e ∙ ap (λ (d : DeviceState). is_some d.registers.stop) (sym (c.runs.invariant.stopped e).0) ∙ sym (ap (λ (o : Option Stop). is_some o) c.in_default.ensures) in cc);

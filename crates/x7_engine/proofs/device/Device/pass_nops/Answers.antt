@@ -9,8 +9,8 @@ use Rattle.x7_engine.specs.declared.kept.Kept.{Kept}
 use Rattle.x7_engine.specs.Standing.{DeviceStandsFor, DeviceState, due_count, registers_in}
 use Rattle.x7_engine.specs.Past.{GivesNone, HasSomePast, OfPast, TakesJust}
 use Rattle.x7_engine.specs.State.{reads_of}
-use Rattle.x7_engine.proofs.DeviceLemmas.{between_front, length_between}
-use Rattle.x7_engine.proofs.PassLemmas.{passed, told_same}
+use Rattle.x7_engine.proofs.DeviceLemmas.{between_prefix, length_between}
+use Rattle.x7_engine.proofs.PassLemmas.{passed, given_same}
 use Rattle.x7_engine.proofs.PastLemmas.{past_later}
 use Rattle.x7_engine.proofs.UntilLemmas.{quiet_commands}
 use Rattle.x7_engine.proofs.device.Device.pass_nops.Goals as goal
@@ -47,7 +47,7 @@ passed_here c kept wrapped bytes s =
     let taken : length more ≡ count - left = length_between piece from (from + (count - left)) (omega arith) (omega (arith, within)) ∙ omega arith in
     let place : from + count - left ≡ from + (count - left) = omega (arith, few) in
     let rest : List ℕ = drop (from + count - left - from) cut in
-    let split : cut ≡ more ++ rest = between_front piece from (from + count) left (omega (arith, few)) ∙ ap (λ (k : ℕ). between piece from k ++ rest) place in
+    let split : cut ≡ more ++ rest = between_prefix piece from (from + count) left (omega (arith, few)) ∙ ap (λ (k : ℕ). between piece from k ++ rest) place in
     let same : count ≡ from + count - from = omega arith in
     let prefix : take count (take (length piece - from) (drop from piece)) ≡ cut = ap (take count) (take_rest piece from) ∙ ap (λ (k : ℕ). take k (drop from piece)) same in
     let inside : DeviceStandsFor c.self.inside.part kept wrapped (device_before c) bytes = subst (λ (d : DeviceState). DeviceStandsFor c.self.inside.part kept wrapped d bytes) (sym c.self.view_is) s in
@@ -70,7 +70,7 @@ silent_after : (c : goal.After-self-2-1) → GivesNone c.args.self.now (device_a
 silent_after c = λ part kept wrapped bytes s.
     let here : c.self.inside.part ≡ part = ap (λ (d : DeviceState). d.part) c.self.view_is ∙ s.part_is in
     let more : List ℕ = between c.args.piece.now c.args.at.now (c.args.at.now + ((4 * c.nop_count-count.result) - c.tick-left.result)) in
-    told_same part kept c.args.self.now (device_after c) bytes (bytes ++ more) c.requires.none_due
+    given_same part kept c.args.self.now (device_after c) bytes (bytes ++ more) c.requires.none_due
     (ap due_count c.tick-left.ensures.due ∙ ap (λ (d : DeviceState). due_count d.registers.due) c.self.view_is ∙ c.requires.none_due)
     (subst (λ (p : PartData). reads_of p kept (bytes ++ more) ≡ reads_of p kept bytes) here
     (passed_here c kept wrapped bytes (subst (λ (p : PartData). DeviceStandsFor p kept wrapped c.args.self.now bytes) (sym here) s)).1)

@@ -6,10 +6,10 @@ use Rattle.x7_engine.specs.Past.{HasSomePast}
 use Rattle.x7_engine.specs.Standing.{DeviceStandsFor, DeviceState, IsCutterOf, registers_in, words_left}
 use Rattle.x7_engine.specs.State.{history_taken, reads_of}
 use Rattle.x7_engine.specs.Turns.{TakesTurn}
-use Rattle.x7_engine.proofs.DeviceLemmas.{between_front, holds_run, length_between, told_by, turned}
+use Rattle.x7_engine.proofs.DeviceLemmas.{between_prefix, holds_run, length_between, given_by, turned}
 use Rattle.x7_engine.proofs.FrameLemmas.{none_due}
 use Rattle.x7_engine.proofs.PastLemmas.{past_later}
-use Rattle.x7_engine.proofs.UntilLemmas.{front_commands, run_commands}
+use Rattle.x7_engine.proofs.UntilLemmas.{prefix_commands, run_commands}
 use Rattle.x7_engine.proofs.device.Device.take_run.Goals as goal
 
 pub run-left-requires-clause-holds : goal.run-left-requires-clause-holds
@@ -52,7 +52,7 @@ turned_here c kept wrapped bytes s =
     turned c.self.inside.part kept wrapped (device_before c) (device_after c) bytes cut more (drop (at - left - from) cut) c.cut-run.result (at - from) left (length piece - from) inside
     (ap (λ (d : DeviceState). d.registers.stop) c.self.view_is ∙ c.requires.going)
     (c.cut-run.ensures.adds bytes) (c.run-left.ensures.stands kept) (c.run-left.ensures.reads kept)
-    (sym all) (between_front piece from at left forward) (length-drop (at - left - from) cut ∙ omega (arith, all, some)) c.cut-run.ensures.run c.cut-run.ensures.lent
+    (sym all) (between_prefix piece from at left forward) (length-drop (at - left - from) cut ∙ omega (arith, all, some)) c.cut-run.ensures.run c.cut-run.ensures.lent
     c.run-left.ensures.left.goes_on c.run-left.ensures.at_rest refl refl (omega (arith, taken))
 
 turn_taken : (c : goal.After-is_done) → TakesTurn c.args.self.now (device_after c) (between c.args.piece.now c.args.at.now (c.cut-run.new.at - c.run-left.result))
@@ -69,8 +69,8 @@ turn_taken c = record {
       let reads : reads_of part kept (bytes ++ more) ≡ reads_of part kept bytes ++ words_left part (history_taken part kept (bytes ++ more)) c.run-left.new.self.due =
       subst (λ (p : PartData). reads_of p kept (bytes ++ more) ≡ reads_of p kept bytes ++ words_left p (history_taken p kept (bytes ++ more)) c.run-left.new.self.due) here
       (turned_here c kept wrapped bytes (subst (λ (p : PartData). DeviceStandsFor p kept wrapped c.args.self.now bytes) (sym here) s)).1 in
-      told_by part kept (device_after c) (bytes ++ more) (reads_of part kept bytes) (history_taken part kept (bytes ++ more)) reads
-      ∙ sym (told_by part kept c.args.self.now bytes (reads_of part kept bytes) [] (none_due (reads_of part kept bytes) part [] c.args.self.now.registers.due c.requires.none_due)));
+      given_by part kept (device_after c) (bytes ++ more) (reads_of part kept bytes) (history_taken part kept (bytes ++ more)) reads
+      ∙ sym (given_by part kept c.args.self.now bytes (reads_of part kept bytes) [] (none_due (reads_of part kept bytes) part [] c.args.self.now.registers.due c.requires.none_due)));
   commands = λ part kept wrapped bytes s. (
       let piece : List ℕ = c.args.piece.now in
       let from : ℕ = c.args.at.now in
@@ -80,7 +80,7 @@ turn_taken c = record {
       let cutter : IsCutterOf c.self.inside.cutter bytes = inside.cutter_is (ap (λ (d : DeviceState). d.registers.stop) c.self.view_is ∙ c.requires.going) in
       let some : left ≤ at - from = c.run-left.ensures.left.within in
       let onward : from ≤ at = c.cut-run.ensures.forward in
-      front_commands bytes (between piece from at) (between piece from (at - left)) (drop (at - left - from) (between piece from at)) (between_front piece from at left (omega (arith, some, onward)))
+      prefix_commands bytes (between piece from at) (between piece from (at - left)) (drop (at - left - from) (between piece from at)) (between_prefix piece from at left (omega (arith, some, onward)))
       (run_commands c.self.inside.cutter c.cut-run.new.self bytes (between piece from at) cutter.sessions cutter.place c.cut-run.result (length piece - from) cutter.stands
       (c.cut-run.ensures.adds bytes cutter.sessions cutter.place cutter.stands) c.cut-run.ensures.run c.cut-run.ensures.lent));
 }

@@ -7,7 +7,7 @@ use Rattle.x7_engine.specs.Standing.{DeviceStandsFor, DeviceState, due_count, re
 use Rattle.x7_engine.specs.State.{reads_of}
 use Rattle.x7_engine.specs.Turns.{TakesTurn}
 use Rattle.x7_engine.specs.UntilStarted.{CommandsLast}
-use Rattle.x7_engine.proofs.PassLemmas.{told_same}
+use Rattle.x7_engine.proofs.PassLemmas.{given_same}
 use Rattle.x7_engine.proofs.PastLemmas.{past_later}
 use Rattle.x7_engine.proofs.WriteLemmas.{write_at}
 use Rattle.x7_engine.proofs.device.Device.take_write.Goals as goal
@@ -49,7 +49,7 @@ turn_taken c = record {
   part = ap (λ (d : DeviceState). d.part) c.self.view_is;
   stands = λ part kept wrapped bytes s. (written_here c part kept wrapped bytes s).0;
   silent = λ part kept wrapped bytes s.
-      told_same part kept c.args.self.now (device_after c) bytes (bytes ++ between c.args.piece.now c.args.at.now (c.args.at.now + 8)) c.requires.none_due (none_due c) (written_here c part kept wrapped bytes s).1;
+      given_same part kept c.args.self.now (device_after c) bytes (bytes ++ between c.args.piece.now c.args.at.now (c.args.at.now + 8)) c.requires.none_due (none_due c) (written_here c part kept wrapped bytes s).1;
   commands = λ part kept wrapped bytes s. (written_here c part kept wrapped bytes s).2;
 }
 

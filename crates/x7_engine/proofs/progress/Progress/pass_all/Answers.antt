@@ -3,7 +3,7 @@ use Rattle.x7_words.specs.Word.{words_of_bytes}
 use Rattle.x7_packets.specs.History.{History}
 use Rattle.x7_crc.specs.RunningCheck.{check_after, writes_to}
 use Rattle.x7_engine.proofs.PlainLemmas.{AreFlags, IsQuiet, clears_none, flags_stay, quiet_is}
-use Rattle.x7_engine.proofs.RunningLemmas.{check-all_folded}
+use Rattle.x7_engine.proofs.RunningLemmas.{check_all_folded}
 use Rattle.x7_engine.proofs.progress.Progress.pass_all.Goals as goal
 
 pub returns : goal.returns
@@ -14,7 +14,7 @@ returns c = λ idcode h n s.
     flags_stay idcode c.args.self.now.matched c.args.self.now.pending c.args.self.now.ghigh c.args.self.now.iprog c.args.register n ws h p (record { matched_is = s.matched; pending_is = s.pending; ghigh_is = s.ghigh; iprog_is = s.iprog }) in
     record {
       check = c.fold_slice-self.ensures.value ∙ ap (λ (k : ℕ). check_after k (writes_to c.args.register ws)) s.check
-          ∙ sym (check-all_folded c.args.register n ws h p.lout (λ (h : History) (w : ℕ). clears_none h c.args.register w p));
+          ∙ sym (check_all_folded c.args.register n ws h p.lout (λ (h : History) (w : ℕ). clears_none h c.args.register w p));
       matched = flags.matched_is;
       pending = flags.pending_is;
       ghigh = flags.ghigh_is;

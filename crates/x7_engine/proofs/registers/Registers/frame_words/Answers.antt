@@ -18,7 +18,7 @@ use Rattle.x7_engine.proofs.BodyLemmas.{length_of_words}
 use Rattle.x7_engine.proofs.DataLemmas.{data_none, data_quiet, given}
 use Rattle.x7_engine.proofs.FiringLemmas.{firing_less, ticks_quiet}
 use Rattle.x7_engine.proofs.FrameLemmas.{frames_none, standing_frames, none_among}
-use Rattle.x7_engine.proofs.PlainLemmas.{Clocked, IsQuiet, clocked_all, controls_stay, words_front}
+use Rattle.x7_engine.proofs.PlainLemmas.{Clocked, IsQuiet, clocked_all, controls_stay, words_prefix}
 use Rattle.x7_engine.proofs.TurnLemmas.{newest_within, ticked}
 use Rattle.x7_engine.proofs.registers.Registers.frame_words.Goals as goal
 
@@ -37,7 +37,7 @@ returns-clause-stands c = λ kept h n s.
     let clock : ClockState = clock_in c.bytes.new.self in
     let inner : length (take (b * 4) bytes) ≡ b * 4 = length-take-le (b * 4) bytes (omega (arith, c.before_firing.ensures.within)) in
     let few : k ≤ b = omega (arith, inner, c.taken_of-taken.ensures.within, c.write_words-count.ensures.within) in
-    let same : take k looked ≡ prefix = ap (take k) (words_front b bytes) ∙ take-take k b (words_of_bytes bytes) few ∙ sym (words_front k bytes) in
+    let same : take k looked ≡ prefix = ap (take k) (words_prefix b bytes) ∙ take-take k b (words_of_bytes bytes) few ∙ sym (words_prefix k bytes) in
     let size : length prefix ≡ k = length_of_words (take (k * 4) bytes) ∙ omega (arith, length-take-le (k * 4) bytes (omega (arith, few, c.before_firing.ensures.within))) in
     let newest : newest_place h ≤ n = newest_within n h s.places in
     let none : first_firing part kept h n (k * 4) ≡ None = firing_less part kept h n (k * 4) c.before_firing.result (omega (arith, few)) (c.before_firing.ensures.none kept h n newest s.clock) in

@@ -6,7 +6,7 @@ use Rattle.x7_engine.specs.declared.fault.Fault.TheVariants as fault
 use Rattle.x7_engine.specs.declared.stop.Stop.TheVariants as stop
 use Rattle.x7_engine.specs.Standing.{registers_in}
 use Rattle.x7_engine.specs.Stops.{stop_of, stopped_at}
-use Rattle.x7_engine.proofs.ClockLemmas.{stop_of-access}
+use Rattle.x7_engine.proofs.ClockLemmas.{stop_of_access}
 use Rattle.x7_engine.proofs.FrameLemmas.{frames_none_at, standing_frames, none_among}
 use Rattle.x7_engine.proofs.PlainLemmas.{clock_other}
 use Rattle.x7_engine.proofs.registers.Registers.head.Goals as goal
@@ -27,7 +27,7 @@ returns-in-Bad-clause-stands c = λ kept h place next s.
       kind = s.kind;
       before = s.before;
       clock = clock_other c.args.part.now kept (registers_in c.args.self.now).clock h (Bad c.in-Bad.word) place refl refl s.clock;
-      stop = stop_of-access c.args.part.now kept h (Bad c.in-Bad.word) place going;
+      stop = stop_of_access c.args.part.now kept h (Bad c.in-Bad.word) place going;
       frames = frames_none_at c.args.part.now c.args.self.now.frames (Some (stop.Fault (fault.Packet c.in-Bad.word))) (entry (Bad c.in-Bad.word) place ∷ h) c.args.self.now.due refl c.requires.ready.none_due
           (other_access c.args.part.now c.args.self.now.frames h (entry (Bad c.in-Bad.word) place) refl (standing_frames c.args.part.now c.args.self.now.frames c.args.self.now.stop h c.args.self.now.due c.requires.ready.going c.requires.ready.none_due s.frames));
       due_kind = none_among c.args.self.now.due (entry (Bad c.in-Bad.word) place ∷ h) c.requires.ready.none_due;

@@ -3,7 +3,7 @@ use Rattle.x7_packets.specs.History.{Write, entry}
 use Rattle.x7_flow.proofs.TakenLemmas.{other_access}
 use Rattle.x7_engine.specs.Standing.{registers_in}
 use Rattle.x7_engine.specs.Stops.{stop_of, stopped_at}
-use Rattle.x7_engine.proofs.ClockLemmas.{stop_of-access}
+use Rattle.x7_engine.proofs.ClockLemmas.{stop_of_access}
 use Rattle.x7_engine.proofs.FrameLemmas.{frames_none, standing_frames, none_among}
 use Rattle.x7_engine.proofs.PlainLemmas.{IsPlain, clock_plain, why_none, plain_asks, plain_is}
 use Rattle.x7_engine.proofs.registers.Registers.pass.Goals as goal
@@ -21,7 +21,7 @@ returns-clause-stands c = λ part kept h place next s.
       kind = s.kind;
       before = s.before;
       clock = clock_plain part kept (registers_in c.args.self.now).clock h c.args.register c.args.word place q s.clock;
-      stop = stop_of-access part kept h (Write c.args.register c.args.word) place going ∙ ap (stopped_at place) (sym (why_none part kept h c.args.register c.args.word p)) ∙ sym (ap (stopped_at place) c.requires.going);
+      stop = stop_of_access part kept h (Write c.args.register c.args.word) place going ∙ ap (stopped_at place) (sym (why_none part kept h c.args.register c.args.word p)) ∙ sym (ap (stopped_at place) c.requires.going);
       frames = frames_none part c.args.self.now.frames c.args.self.now.stop (entry (Write c.args.register c.args.word) place ∷ h) c.args.self.now.due c.requires.going c.requires.none_due
           (other_access part c.args.self.now.frames h (entry (Write c.args.register c.args.word) place) (plain_asks part.idcode h c.args.register c.args.word p) (standing_frames part c.args.self.now.frames c.args.self.now.stop h c.args.self.now.due c.requires.going c.requires.none_due s.frames));
       due_kind = none_among c.args.self.now.due (entry (Write c.args.register c.args.word) place ∷ h) c.requires.none_due;

@@ -9,7 +9,7 @@ use Rattle.x7_engine.specs.declared.kept.Kept.{Kept}
 use Rattle.x7_engine.specs.Standing.{AreLastWords, IsProgress, RegistersStandFor, RegistersState, controls_in, counted_in, due_count, progress_in, registers_in}
 use Rattle.x7_engine.proofs.BodyLemmas.{length_of_words}
 use Rattle.x7_engine.proofs.FrameLemmas.{plain_are, ticks_on, none_among}
-use Rattle.x7_engine.proofs.PlainLemmas.{Clocked, IsPlain, clocked_all, controls_stay, counted_behind, front_all, plain_is, plain_none, words_front}
+use Rattle.x7_engine.proofs.PlainLemmas.{Clocked, IsPlain, clocked_all, controls_stay, counted_after, prefix_all, plain_is, plain_none, words_prefix}
 use Rattle.x7_engine.proofs.registers.Registers.pass_all.Goals as goal
 
 until_stands : (part : PartData) (kept : Kept) (d : RegistersState) (all prefix : History) (m : ℕ) → all ≡ prefix → RegistersStandFor part kept d prefix m → RegistersStandFor part kept d all m
@@ -30,13 +30,13 @@ returns-clause-stands c = λ kept h n four s.
     let few : k ≤ length ws = omega (arith, words, within) in
     let prefix : List ℕ = take k ws in
     let size : length prefix ≡ k = length-take-le k ws few in
-    let same : words_of_bytes (take (k * 4) bytes) ≡ prefix = words_front k bytes in
-    let here : counted_in c.tick-left.new.self.stop m ≡ n + c.counted.result = counted_behind c.tick-left.new.self.stop n (length bytes) left c.tick-left.ensures.fired ∙ sym (ap (λ (x : ℕ). n + x) c.counted.ensures.value) in
+    let same : words_of_bytes (take (k * 4) bytes) ≡ prefix = words_prefix k bytes in
+    let here : counted_in c.tick-left.new.self.stop m ≡ n + c.counted.result = counted_after c.tick-left.new.self.stop n (length bytes) left c.tick-left.ensures.fired ∙ sym (ap (λ (x : ℕ). n + x) c.counted.ensures.value) in
     let start : Clocked part kept (registers_in c.tick-left.new.self).clock c.tick-left.new.self.stop h n m = record { places = s.places; clock = t.clock; stop = t.stop } in
     let clocked : Clocked part kept (registers_in c.tick-left.new.self).clock c.tick-left.new.self.stop (entered_all n (payload_steps c.args.register prefix) h) (n + 4 * length prefix) m =
     clocked_all part kept (registers_in c.tick-left.new.self).clock c.tick-left.new.self.stop c.args.register n m prefix h p.quiet (plain_none part kept c.args.register n prefix h p) (omega (arith, size, within)) start in
     let all : until (counted_in c.tick-left.new.self.stop m) (entered_all n (payload_steps c.args.register ws) h) ≡ entered_all n (payload_steps c.args.register prefix) h =
-    front_all n k (counted_in c.tick-left.new.self.stop m) c.args.register ws h few (omega (arith, here)) (omega (arith, here))
+    prefix_all n k (counted_in c.tick-left.new.self.stop m) c.args.register ws h few (omega (arith, here)) (omega (arith, here))
     (subst (λ (x : ℕ). Placed (n + 4 * x) (entered_all n (payload_steps c.args.register prefix) h)) size clocked.places) in
     until_stands part kept _ (until (counted_in c.tick-left.new.self.stop m) (entered_all n (payload_steps c.args.register ws) h)) (entered_all n (payload_steps c.args.register prefix) h) m all record {
       places = placed_within (n + 4 * length prefix) m (entered_all n (payload_steps c.args.register prefix) h) (omega (arith, size, within)) clocked.places;

@@ -13,7 +13,7 @@ use Rattle.x7_engine.specs.declared.stop.Stop.{Stop}
 use Rattle.x7_engine.specs.Standing.{FramesAre, frames_due, registers_in}
 use Rattle.x7_engine.specs.Stops.{why_by_frames, why_at, stop_by, stop_of, stopped_at}
 use Rattle.x7_engine.specs.Values.{answer_of, read_value, words_answered}
-use Rattle.x7_engine.proofs.ClockLemmas.{stop_of-access}
+use Rattle.x7_engine.proofs.ClockLemmas.{stop_of_access}
 use Rattle.x7_engine.proofs.FrameLemmas.{frames_at, goes_on, none_among, none_frames, none_left, refused, standing_frames}
 use Rattle.x7_engine.proofs.PlainLemmas.{clock_other}
 use Rattle.x7_engine.proofs.registers.Registers.read.Goals as goal
@@ -39,7 +39,7 @@ returns-then-not-reads_frames-clause-stands c = λ kept h place next s.
       kind = s.kind;
       before = s.before;
       clock = clock_other part kept (registers_in c.args.self.now).clock h (Read c.args.register c.args.count) place refl refl s.clock;
-      stop = stop_of-access part kept h (Read c.args.register c.args.count) place going ∙ ap (stopped_at place) (read_why part kept h c.args.register c.args.count None read.0) ∙ sym (ap (stopped_at place) c.requires.ready.going);
+      stop = stop_of_access part kept h (Read c.args.register c.args.count) place going ∙ ap (stopped_at place) (read_why part kept h c.args.register c.args.count None read.0) ∙ sym (ap (stopped_at place) c.requires.ready.going);
       frames = frames_at part c.args.self.now.frames c.args.self.now.stop (entry (Read c.args.register c.args.count) place ∷ h) 0 (goes_on c.args.self.now.stop c.requires.ready.going) read.1;
       due_kind = sym (ap (λ (b : Bool). if b then c.args.count else 0) other);
     }
@@ -70,7 +70,7 @@ returns-in-Some-clause-stands c = λ kept h place next s.
       kind = s.kind;
       before = s.before;
       clock = clock_other part kept (registers_in c.args.self.now).clock h (Read c.args.register c.args.count) place refl refl s.clock;
-      stop = stop_of-access part kept h (Read c.args.register c.args.count) place going ∙ ap (stopped_at place) (read_why part kept h c.args.register c.args.count (Some c.in-Some.fault) refusal ∙ ap Some (sym why));
+      stop = stop_of_access part kept h (Read c.args.register c.args.count) place going ∙ ap (stopped_at place) (read_why part kept h c.args.register c.args.count (Some c.in-Some.fault) refusal ∙ ap Some (sym why));
       frames = subst (λ (l : Stop). FramesAre part c.args.self.now.frames (Some l) (entry (Read c.args.register c.args.count) place ∷ h) (frames_due c.args.self.now.due)) (sym why)
           (subst (λ (n : ℕ). FramesAre part c.args.self.now.frames (Some (stop_by c.in-Some.fault)) (entry (Read c.args.register c.args.count) place ∷ h) n) (sym (none_frames c.args.self.now.due c.requires.ready.none_due))
           (refused part c.args.self.now.frames h (entry (Read c.args.register c.args.count) place) c.in-Some.fault refusal are));
@@ -101,7 +101,7 @@ returns-in-None-clause-stands c = λ kept h place next s.
       kind = s.kind;
       before = s.before;
       clock = clock_other part kept (registers_in c.args.self.now).clock h (Read c.args.register c.args.count) place refl refl s.clock;
-      stop = stop_of-access part kept h (Read c.args.register c.args.count) place going ∙ ap (stopped_at place) (read_why part kept h c.args.register c.args.count None read.0) ∙ sym (ap (stopped_at place) c.requires.ready.going);
+      stop = stop_of_access part kept h (Read c.args.register c.args.count) place going ∙ ap (stopped_at place) (read_why part kept h c.args.register c.args.count None read.0) ∙ sym (ap (stopped_at place) c.requires.ready.going);
       frames = frames_at part c.args.self.now.frames c.args.self.now.stop (entry (Read c.args.register c.args.count) place ∷ h) c.args.count (goes_on c.args.self.now.stop c.requires.ready.going) read.1;
       due_kind = sym (ap (λ (b : Bool). if b then c.args.count else 0) frames);
     }

@@ -6,7 +6,7 @@ use Rattle.x7_part.specs.Part.{PartData}
 use Rattle.x7_flow.specs.Standing.{FramesStandFor}
 use Rattle.x7_engine.specs.Standing.{AreLastWords, FramesAre, IsProgress, progress_in}
 use Rattle.x7_engine.specs.Stops.{stop_of, stopped_at}
-use Rattle.x7_engine.proofs.ClockLemmas.{stop_of-access}
+use Rattle.x7_engine.proofs.ClockLemmas.{stop_of_access}
 use Rattle.x7_engine.proofs.FrameLemmas.{access_frames, why_is, none_frames, standing_frames, none_among}
 use Rattle.x7_engine.proofs.registers.Registers.write.Goals as goal
 
@@ -32,7 +32,7 @@ returns-clause-stands c = λ kept h place next s.
       kind = s.kind;
       before = s.before;
       clock = c.write-3.ensures place part kept h (record { executed_is = command; taken_is = taken; cor0_is = cor0 }) s.clock;
-      stop = stop_of-access part kept h access place going ∙ ap (stopped_at place) (sym (why_is part kept h access c.why_of_write-why.result c.first_of-self.result c.write-refused.result refused why c.first_of-self.ensures.value));
+      stop = stop_of_access part kept h access place going ∙ ap (stopped_at place) (sym (why_is part kept h access c.why_of_write-why.result c.first_of-self.result c.write-refused.result refused why c.first_of-self.ensures.value));
       frames = subst (λ (n : ℕ). FramesAre part c.write-refused.new.self c.first_of-self.result (entry access place ∷ h) n) (sym (none_frames c.args.self.now.due c.requires.ready.none_due))
           (access_frames part kept c.args.self.now.frames c.write-refused.new.self h (entry access place) c.why_of_write-why.result c.first_of-self.result c.write-refused.result are after refused why c.first_of-self.ensures.value);
       due_kind = none_among c.args.self.now.due (entry access place ∷ h) c.requires.ready.none_due;

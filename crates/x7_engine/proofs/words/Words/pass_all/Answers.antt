@@ -4,7 +4,7 @@ use Rattle.x7_packets.specs.History.{entered_all}
 use Rattle.x7_packets.specs.Packet.{payload_steps}
 use Rattle.x7_words.proofs.WordLemmas.{words_by_chunks}
 use Rattle.x7_engine.specs.Registers.{word_held}
-use Rattle.x7_engine.proofs.PlainLemmas.{word_held-all, words_last}
+use Rattle.x7_engine.proofs.PlainLemmas.{word_held_all, words_last}
 use Rattle.x7_engine.proofs.words.Words.pass_all.Goals as goal
 
 pub returns-in-Some : goal.returns-in-Some
@@ -15,5 +15,5 @@ returns-in-Some c = λ kept h n s.
     record {
       each = λ r l.
           (c.write.ensures kept h (n + 4) s).each r l
-          ∙ sym (ap (λ (t : List ℕ). word_held kept r (entered_all n (payload_steps c.args.register t) h)) ws ∙ word_held-all kept r c.args.register n c.word_of.result prefix h);
+          ∙ sym (ap (λ (t : List ℕ). word_held kept r (entered_all n (payload_steps c.args.register t) h)) ws ∙ word_held_all kept r c.args.register n c.word_of.result prefix h);
     }

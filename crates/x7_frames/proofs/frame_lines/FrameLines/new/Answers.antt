@@ -1,7 +1,7 @@
 use Rattle.std.proofs.Common.{[], refl, subst, sym}
 use Rattle.x7_frames.specs.FramesText.{AreGood}
-use Rattle.x7_frames.proofs.GoodLemmas.{no-rows-good}
+use Rattle.x7_frames.proofs.GoodLemmas.{no_rows_good}
 use Rattle.x7_frames.proofs.frame_lines.FrameLines.new.Goals as goal
 
 pub returns-in-Ok-clause-begun : goal.returns-in-Ok-clause-begun
-returns-in-Ok-clause-begun c = (refl, subst (λ rows. AreGood c.args.part.now [] rows) (sym c.in-Ok.ensures.rows) (no-rows-good c.args.part.now))
+returns-in-Ok-clause-begun c = (refl, subst (λ rows. AreGood c.args.part.now [] rows) (sym c.in-Ok.ensures.rows) (no_rows_good c.args.part.now))

@@ -8,9 +8,9 @@ use Rattle.x7_frames.specs.FramesText.{IsFrameLine}
 use Rattle.x7_frames.specs.Steps.{IsGoodLine}
 use Rattle.x7_frames.specs.declared.fault.FramesFault.{FramesFault}
 use Rattle.x7_frames.specs.declared.fault.FramesFault.TheVariants as fault
-use Rattle.x7_frames.proofs.LineLemmas.{frame-long}
-use Rattle.x7_frames.proofs.GoodLemmas.{marks-more}
-use Rattle.x7_frames.proofs.FrameLinesLemmas.{all-err}
+use Rattle.x7_frames.proofs.LineLemmas.{frame_long}
+use Rattle.x7_frames.proofs.GoodLemmas.{marks_more}
+use Rattle.x7_frames.proofs.FrameLinesLemmas.{all_err}
 use Rattle.x7_frames.proofs.reading.Reading.take.Goals as goal
 
 pub returns-in_default-clause-fault : goal.returns-in_default-clause-fault
@@ -42,7 +42,7 @@ returns-then-index-clause-fault c =
 
 pub push-requires : goal.push-requires
 push-requires c = record {
-  width = ap length c.deref.ensures.value ∙ frame-long c.words.result c.args.line.now record { far = c.in-Some.far; words = c.read_frame.new.frame.items } c.in-Some.ensures.value
+  width = ap length c.deref.ensures.value ∙ frame_long c.words.result c.args.line.now record { far = c.in-Some.far; words = c.read_frame.new.frame.items } c.in-Some.ensures.value
       ∙ c.words.ensures.value ∙ sym c.requires.width;
 }
 
@@ -65,7 +65,7 @@ pub returns-clause-marks : goal.returns-clause-marks
 returns-clause-marks c =
     let r = c.in-Some-rank.rank in
     let at = c.in-Some-rank.ensures.found in
-    marks-more c.args.part.now c.args.self.now.draft.rows c.push.new.self.rows c.args.self.now.marks.items r record { far = c.in-Some.far; words = c.deref.result.now } c.requires.marks at.0 at.1 c.in_ok-push.ensures.added
+    marks_more c.args.part.now c.args.self.now.draft.rows c.push.new.self.rows c.args.self.now.marks.items r record { far = c.in-Some.far; words = c.deref.result.now } c.requires.marks at.0 at.1 c.in_ok-push.ensures.added
 
 pub returns-in_err-push-clause-memory : goal.returns-in_err-push-clause-memory
 returns-in_err-push-clause-memory c =
@@ -74,7 +74,7 @@ returns-in_err-push-clause-memory c =
     let at = c.in-Some-rank.ensures.found in
     let long = c.requires.marks.long in
     let row : PlanRow = record { far = c.in-Some.far; words = c.read_frame.new.frame.items } in
-    all-err c.from_residual.result (λ (f : FramesFault). f ≡ fault.NoMemory → IsGoodLine c.args.part.now rows c.args.line.now) (λ f e. (
+    all_err c.from_residual.result (λ (f : FramesFault). f ≡ fault.NoMemory → IsGoodLine c.args.part.now rows c.args.line.now) (λ f e. (
       rows ++ row ∷ [],
       inr record {
         row = row;

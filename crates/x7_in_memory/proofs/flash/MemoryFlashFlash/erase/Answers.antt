@@ -4,14 +4,14 @@ use Rattle.std.proofs.lemmas.List.{with_items_is}
 use Rattle.x7_words.specs.Flash.{erased_sector, replaced}
 use Rattle.x7_in_memory.specs.Memory.{FlashInMemory, after_write_of, write_refused, begun, left_by, recorded}
 use Rattle.x7_in_memory.specs.Tearing.{tear_of}
-use Rattle.x7_words.proofs.FlashLemmas.{length-erased_sector}
+use Rattle.x7_words.proofs.FlashLemmas.{length_erased_sector}
 use Rattle.x7_in_memory.proofs.MemoryFlashLemmas.{refused_after, ended}
 use Rattle.x7_in_memory.proofs.TornLemmas.{filled}
 use Rattle.x7_in_memory.proofs.flash.MemoryFlashFlash.erase.Goals as goal
 
 pub returns-in_err-begin_write-clause-after : goal.returns-in_err-begin_write-clause-after
 returns-in_err-begin_write-clause-after c =
-    refused_after c.args.self.now c.begin_write.new.self (c.args.sector * 65536) 65536 erased_sector length-erased_sector (sym c.begin_write.ensures.answer ∙ ap is_err c.in_err-begin_write.was) c.in_err-begin_write.ensures.err
+    refused_after c.args.self.now c.begin_write.new.self (c.args.sector * 65536) 65536 erased_sector length_erased_sector (sym c.begin_write.ensures.answer ∙ ap is_err c.in_err-begin_write.was) c.in_err-begin_write.ensures.err
 
 pub returns-clause-after : goal.returns-clause-after
 returns-clause-after c =
@@ -22,7 +22,7 @@ returns-clause-after c =
     let t = c.deref.result.now in
     let is : t ≡ erased_sector = c.deref.ensures.value ∙ filled _ _ _ _ _ (ap is_ok c.in-Ok.is) c.clear.ensures.items c.clear.ensures.len c.resize.ensures.items in
     let allowed : write_refused c.args.self.now (length t) ≡ false =
-    ap (write_refused c.args.self.now) (ap length is ∙ length-erased_sector) ∙ (sym c.begin_write.ensures.answer ∙ ap is_err c.in_ok-begin_write.was) in
+    ap (write_refused c.args.self.now) (ap length is ∙ length_erased_sector) ∙ (sym c.begin_write.ensures.answer ∙ ap is_err c.in_ok-begin_write.was) in
     let put : (with_items f.bytes c.write_target.new.bytes).items ≡ c.write_target.new.bytes = with_items_is f.bytes c.write_target.new.bytes (c.write_target.auto.bytes ∙ c.deref_mut.ensures.len) in
     let is_put : (with_items f.bytes c.write_target.new.bytes).items ≡ replaced place (left_by c.torn-torn.result (slice_range f.bytes.items place (place + length t)) t) f.bytes.items =
     put ∙ c.write_target.ensures.bytes ∙ ap (λ x. replaced place (left_by c.torn-torn.result (slice_range x place (place + length t)) t) x) c.deref_mut.ensures.value in

@@ -7,11 +7,11 @@ use Rattle.x7_engine.specs.Standing.{taken_in}
 use Rattle.x7_engine.specs.UntilRead.{RoomBefore}
 use Rattle.x7_jtag.specs.Queue.{queue_of}
 use Rattle.x7_jtag.specs.Tap.{QueueState, words_taken}
-use Rattle.x7_jtag.proofs.GiveLemmas.{gives, given-within, none-got}
+use Rattle.x7_jtag.proofs.GiveLemmas.{gives, given_within, none_got}
 use Rattle.x7_jtag.proofs.queue.Queue.give.Goals as goal
 
 pub returns-clause-within : goal.returns-clause-within
-returns-clause-within c = omega (arith, c.given_of-count.ensures, given-within c.feed-fed.result _ c.feed-fed.ensures.within)
+returns-clause-within c = omega (arith, c.given_of-count.ensures, given_within c.feed-fed.result _ c.feed-fed.ensures.within)
 
 pub returns-clause-stands : goal.returns-clause-stands
 returns-clause-stands c = λ part q s.
@@ -20,7 +20,7 @@ returns-clause-stands c = λ part q s.
     let bytes = s.holds.bytes in
     let device = s.holds.device in
     let read = c.feed-fed.ensures.reads part on_the_bench false bytes device in
-    let none : read.0 ≡ [] = none-got read.0 c.feed-fed.new.read (read.1 ∙ ap (λ (b : ReadBufState). with_words b read.0) c.full.ensures) c.feed-fed.ensures.few in
+    let none : read.0 ≡ [] = none_got read.0 c.feed-fed.new.read (read.1 ∙ ap (λ (b : ReadBufState). with_words b read.0) c.full.ensures) c.feed-fed.ensures.few in
     let silent : words_taken part c.feed-fed.new.self (bytes ++ take (taken_in (length piece) c.feed-fed.result) piece) ≡ words_taken part c.args.device.now bytes =
     read.2 ∙ ap (λ (words : List ℕ). words_taken part c.args.device.now bytes ++ words) none ∙ append-nil (words_taken part c.args.device.now bytes) in
     gives part c.args.self.now c.feed.new.self c.args.device.now c.feed-fed.new.self c.feed.new.device q piece c.feed-fed.new.read c.feed-fed.result c.given_of-count.result s

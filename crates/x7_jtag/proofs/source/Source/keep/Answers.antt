@@ -1,6 +1,6 @@
 use Rattle.std.proofs.Common.{◌+◌, ◌≤◌, ◌++◌, ℕ, List, length, length-drop, ap, arith, ◌∙◌, take, drop}
 use Rattle.x7_jtag.specs.Source.{SourceState}
-use Rattle.x7_jtag.proofs.SourceLemmas.{kept-more, rest-same}
+use Rattle.x7_jtag.proofs.SourceLemmas.{kept_more, rest_same}
 use Rattle.x7_jtag.proofs.source.Source.keep.Goals as goal
 
 pub returns : goal.returns
@@ -12,7 +12,7 @@ returns c =
     let order : k ≤ at = c.self.invariant.0 in
     let within : at + n ≤ length xs = omega (arith, c.requires, ap (λ (s : SourceState). length s.rest) c.self.view_is, c.self.invariant.1, length-drop at xs) in
     λ i. record {
-      kept = (ap (take (k + n)) c.copy_within.ensures.items ∙ kept-more xs k at n order within ∙ ap (λ (s : SourceState). s.kept ++ take n s.rest) c.self.view_is) i;
+      kept = (ap (take (k + n)) c.copy_within.ensures.items ∙ kept_more xs k at n order within ∙ ap (λ (s : SourceState). s.kept ++ take n s.rest) c.self.view_is) i;
       line = (ap (λ (s : SourceState). s.line) c.self.view_is) i;
-      rest = (ap (drop (at + n)) c.copy_within.ensures.items ∙ rest-same xs k at n order within ∙ ap (λ (s : SourceState). drop n s.rest) c.self.view_is) i;
+      rest = (ap (drop (at + n)) c.copy_within.ensures.items ∙ rest_same xs k at n order within ∙ ap (λ (s : SourceState). drop n s.rest) c.self.view_is) i;
     }

@@ -1,39 +1,39 @@
 use Rattle.std.proofs.Common.{sym}
 use Rattle.x7_listing.specs.Line.{Nop}
-use Rattle.x7_listing.proofs.LineLemmas.{data-line, bytes-line, word-line, cmd-line, write-line, read-line, write2-line, read2-line, is-comment, is-none, only-plain, plain-line}
+use Rattle.x7_listing.proofs.LineLemmas.{data_line, bytes_line, word_line, cmd_line, write_line, read_line, write2_line, read2_line, is_comment, is_none, only_plain, plain_line}
 use Rattle.x7_listing.proofs.asm.reading.put_line.Goals as goal
 
 pub returns-in-Some-clause-reads : goal.returns-in-Some-clause-reads
-returns-in-Some-clause-reads c = data-line c.args.check c.put_word_row.result c.args.line.now c.in-Some.words.now c.args.out.now.items c.put_word_row.new.out.items c.in-Some.ensures c.put_word_row.ensures.reads
+returns-in-Some-clause-reads c = data_line c.args.check c.put_word_row.result c.args.line.now c.in-Some.words.now c.args.out.now.items c.put_word_row.new.out.items c.in-Some.ensures c.put_word_row.ensures.reads
 
 pub returns-in-Some-after-3-clause-reads : goal.returns-in-Some-after-3-clause-reads
-returns-in-Some-after-3-clause-reads c = bytes-line c.args.check c.put_byte_row.result c.args.line.now c.in-Some-after-3.digits.now c.args.out.now.items c.put_byte_row.new.out.items c.in-Some-after-3.ensures c.put_byte_row.ensures.reads
+returns-in-Some-after-3-clause-reads c = bytes_line c.args.check c.put_byte_row.result c.args.line.now c.in-Some-after-3.digits.now c.args.out.now.items c.put_byte_row.new.out.items c.in-Some-after-3.ensures c.put_byte_row.ensures.reads
 
 pub returns-in-Some-after-4-clause-reads : goal.returns-in-Some-after-4-clause-reads
-returns-in-Some-after-4-clause-reads c = word-line c.args.check c.put_digits.result c.args.line.now c.in-Some-after-4.digits.now c.args.out.now.items c.put_digits.new.out.items c.in-Some-after-4.ensures c.put_digits.ensures.reads
+returns-in-Some-after-4-clause-reads c = word_line c.args.check c.put_digits.result c.args.line.now c.in-Some-after-4.digits.now c.args.out.now.items c.put_digits.new.out.items c.in-Some-after-4.ensures c.put_digits.ensures.reads
 
 pub returns-in-Some-after-2-clause-reads : goal.returns-in-Some-after-2-clause-reads
-returns-in-Some-after-2-clause-reads c = cmd-line c.args.check c.put_command.result c.args.line.now c.in-Some-after-2.name.now c.args.out.now.items c.put_command.new.out.items c.in-Some-after-2.ensures c.put_command.ensures.reads
+returns-in-Some-after-2-clause-reads c = cmd_line c.args.check c.put_command.result c.args.line.now c.in-Some-after-2.name.now c.args.out.now.items c.put_command.new.out.items c.in-Some-after-2.ensures c.put_command.ensures.reads
 
 pub returns-in-Some-after-clause-reads : goal.returns-in-Some-after-clause-reads
-returns-in-Some-after-clause-reads c = write-line c.args.check c.put_write.result c.args.line.now c.in-Some-after.access.now c.args.out.now.items c.put_write.new.out.items c.in-Some-after.ensures c.put_write.ensures.reads
+returns-in-Some-after-clause-reads c = write_line c.args.check c.put_write.result c.args.line.now c.in-Some-after.access.now c.args.out.now.items c.put_write.new.out.items c.in-Some-after.ensures c.put_write.ensures.reads
 
 pub returns-in-Some-after-5-clause-reads : goal.returns-in-Some-after-5-clause-reads
-returns-in-Some-after-5-clause-reads c = read-line c.args.check c.put_read.result c.args.line.now c.in-Some-after-5.access.now c.args.out.now.items c.put_read.new.out.items c.in-Some-after-5.ensures c.put_read.ensures.reads
+returns-in-Some-after-5-clause-reads c = read_line c.args.check c.put_read.result c.args.line.now c.in-Some-after-5.access.now c.args.out.now.items c.put_read.new.out.items c.in-Some-after-5.ensures c.put_read.ensures.reads
 
 pub returns-in-Some-after-6-clause-reads : goal.returns-in-Some-after-6-clause-reads
-returns-in-Some-after-6-clause-reads c = write2-line c.args.check c.put_write2.result c.args.line.now c.in-Some-after-6.count.now c.args.out.now.items c.put_write2.new.out.items c.in-Some-after-6.ensures c.put_write2.ensures.reads
+returns-in-Some-after-6-clause-reads c = write2_line c.args.check c.put_write2.result c.args.line.now c.in-Some-after-6.count.now c.args.out.now.items c.put_write2.new.out.items c.in-Some-after-6.ensures c.put_write2.ensures.reads
 
 pub returns-in-Some-after-7-clause-reads : goal.returns-in-Some-after-7-clause-reads
-returns-in-Some-after-7-clause-reads c = read2-line c.args.check c.put_read2.result c.args.line.now c.in-Some-after-7.count.now c.args.out.now.items c.put_read2.new.out.items c.in-Some-after-7.ensures c.put_read2.ensures.reads
+returns-in-Some-after-7-clause-reads c = read2_line c.args.check c.put_read2.result c.args.line.now c.in-Some-after-7.count.now c.args.out.now.items c.put_read2.new.out.items c.in-Some-after-7.ensures c.put_read2.ensures.reads
 
 pub returns-then-is_some-clause-reads : goal.returns-then-is_some-clause-reads
-returns-then-is_some-clause-reads c = is-comment c.after-9.result c.args.check c.args.line.now c.args.out.now.items (sym c.if-is_some.ensures) c.after-9.ensures
+returns-then-is_some-clause-reads c = is_comment c.after-9.result c.args.check c.args.line.now c.args.out.now.items (sym c.if-is_some.ensures) c.after-9.ensures
 
 pub returns-clause-reads : goal.returns-clause-reads
-returns-clause-reads c = plain-line c.args.check c.put_plain.result c.args.line.now c.args.out.now.items c.put_plain.new.out.items
-    (only-plain c.args.line.now c.in_default.ensures c.in_default-after-3.ensures c.in_default-after-4.ensures c.in_default-after-2.ensures c.in_default-after.ensures c.in_default-after-5.ensures c.in_default-after-6.ensures c.in_default-after-7.ensures
-    (is-none c.after-9.result _ _ (sym c.if-is_some.ensures) c.after-9.ensures))
+returns-clause-reads c = plain_line c.args.check c.put_plain.result c.args.line.now c.args.out.now.items c.put_plain.new.out.items
+    (only_plain c.args.line.now c.in_default.ensures c.in_default-after-3.ensures c.in_default-after-4.ensures c.in_default-after-2.ensures c.in_default-after.ensures c.in_default-after-5.ensures c.in_default-after-6.ensures c.in_default-after-7.ensures
+    (is_none c.after-9.result _ _ (sym c.if-is_some.ensures) c.after-9.ensures))
     c.put_plain.ensures.reads
 
 pub returns-then-is_same-clause-reads : goal.returns-then-is_same-clause-reads

@@ -3,7 +3,7 @@ use Rattle.std.specs.declared.alloc.Global.{Global}
 use Rattle.x7_packets.specs.Cutting.{calls_left, CutterState, run_bytes}
 use Rattle.x7_listing.specs.Telling.{HasListedJust, lister_of}
 use Rattle.x7_listing.proofs.list.fast.AtOnceLemmas.{rest_length, seam}
-use Rattle.x7_listing.proofs.list.ListerLemmas.{goes_less, goes_out, one_due, run_length, told_as, took, took_all}
+use Rattle.x7_listing.proofs.list.ListerLemmas.{goes_less, goes_out, one_due, run_length, listed_as, took, took_all}
 use Rattle.x7_listing.proofs.list.lister.take_all.Goals as goal
 
 pub loop-taken-init : goal.loop-taken-init
@@ -18,7 +18,7 @@ returns-in-Need c = record {
   rests = λ given before bytes s.
       let used = goes_out _ _ _ _ c.in-Need.is c.cut-run.ensures.goes in
       took_all _ _ _ _ _ _ _ _ _ given before bytes c.args.piece.now
-      (told_as c.loop-taken.cutter c.take_short.new.cutter c.loop-taken.text c.take_short.new.text _ _ _ given before _ (c.in_default.ensures.none) (c.in_default.ensures.same) (c.loop-taken.invariant.tells given before bytes s)) c.cut-run.ensures.forward (omega (arith, used)) c.in-Need.is c.cut-run.ensures.adds;
+      (listed_as c.loop-taken.cutter c.take_short.new.cutter c.loop-taken.text c.take_short.new.text _ _ _ given before _ (c.in_default.ensures.none) (c.in_default.ensures.same) (c.loop-taken.invariant.tells given before bytes s)) c.cut-run.ensures.forward (omega (arith, used)) c.in-Need.is c.cut-run.ensures.adds;
 }
 
 pub put_run-now-requires : goal.put_run-now-requires
@@ -43,7 +43,7 @@ loop-taken-preserved c =
       room = omega (arith, long, less, calls, ap (λ (k : CutterState). length k.kept) same, ap (λ (t : Vec ℕ Global). vec_len t) text, ap (λ (t : Vec ℕ Global). vec_capacity t) text, c.cut-run.ensures.within, c.cut-run.ensures.forward, c.loop-taken.invariant.room, c.put_run-now.ensures.len, c.put_run-now.ensures.room);
       tells = λ given before bytes s.
           took _ _ _ _ _ _ _ _ _ _ _ _ _ given before bytes c.args.piece.now
-          (told_as c.loop-taken.cutter c.take_short.new.cutter c.loop-taken.text c.take_short.new.text _ _ _ given before _ (c.in_default.ensures.none) (c.in_default.ensures.same) (c.loop-taken.invariant.tells given before bytes s)) c.cut-run.ensures.forward c.cut-run.ensures.adds c.cut-run.ensures.run (c.put_run-now.ensures.listed given);
+          (listed_as c.loop-taken.cutter c.take_short.new.cutter c.loop-taken.text c.take_short.new.text _ _ _ given before _ (c.in_default.ensures.none) (c.in_default.ensures.same) (c.loop-taken.invariant.tells given before bytes s)) c.cut-run.ensures.forward c.cut-run.ensures.adds c.cut-run.ensures.run (c.put_run-now.ensures.listed given);
     }
 
 pub loop-taken-preserved-in-Some : goal.loop-taken-preserved-in-Some

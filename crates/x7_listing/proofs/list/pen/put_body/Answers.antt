@@ -4,7 +4,7 @@ use Rattle.x7_words.specs.Word.{words_of_bytes}
 use Rattle.x7_packets.specs.Packet.{payload_steps}
 use Rattle.x7_listing.specs.Telling.{open_words}
 use Rattle.x7_listing.proofs.GapLemmas.{body_word}
-use Rattle.x7_listing.proofs.SessionLemmas.{data_place, data_told, is_data}
+use Rattle.x7_listing.proofs.SessionLemmas.{data_place, data_listed, is_data}
 use Rattle.x7_listing.proofs.list.pen.put_body.Goals as goal
 
 pub returns-then-register-number-clause-appends : goal.returns-then-register-number-clause-appends
@@ -17,4 +17,4 @@ returns-clause-count c = c.put_words.ensures.count ∙ sym (data_place c.args.re
 
 pub returns-clause-appends : goal.returns-clause-appends
 returns-clause-appends c =
-    appends_as _ _ _ _ _ _ c.put_words.ensures.appends (sym (data_told c.args.register c.args.in_line (words_of_bytes c.args.body.now) (is_data c.args.register (λ e. c.if-register-number.false (e ∙ sym c.number.ensures.value))))) (omega arith)
+    appends_as _ _ _ _ _ _ c.put_words.ensures.appends (sym (data_listed c.args.register c.args.in_line (words_of_bytes c.args.body.now) (is_data c.args.register (λ e. c.if-register-number.false (e ∙ sym c.number.ensures.value))))) (omega arith)

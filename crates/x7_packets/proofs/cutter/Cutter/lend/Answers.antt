@@ -1,7 +1,7 @@
 use Rattle.std.proofs.Common.{◌≡◌, ◌<◌, [], ◌++◌, ℕ, arith, sym, subst, ap, ◌∙◌, ◌/◌, take, length, if◌then◌else◌, Bool, map, flat_map}
 use Rattle.x7_words.specs.Word.{bytes_of_word, words_of_bytes}
 use Rattle.x7_words.proofs.ListLemmas.{all_from_places}
-use Rattle.x7_words.proofs.WordLemmas.{bytes-words}
+use Rattle.x7_words.proofs.WordLemmas.{bytes_words}
 use Rattle.x7_packets.specs.declared.cutter.Cut.TheVariants.{Body}
 use Rattle.x7_packets.specs.Mode.{Mode, mode_of}
 use Rattle.x7_packets.specs.declared.header.Step.{Step}
@@ -26,7 +26,7 @@ returns-clause-adds c = λ bytes sessions place s.
     let synced : mode_of c.self.inside.stage ≡ Mode.Synced = ap (λ (o : CutterState). o.mode) c.self.view_is ∙ c.requires.synced in
     let fits = all_from_places (λ b. b < 256) c.args.body.now (λ k h. omega (arith, c.type_inv.body k)) in
     let word : flat_map bytes_of_word (map (λ (x : ℕ × Step). x.0) (payload_steps c.self.inside.machine.register (words_of_bytes c.args.body.now))) ≡ take c.self.inside.count c.self.inside.kept ++ c.args.body.now =
-    ap (flat_map bytes_of_word) (words_of_payload c.self.inside.machine.register (words_of_bytes c.args.body.now)) ∙ bytes-words c.args.body.now (length c.args.body.now / 4) fits c.requires.whole ∙ ap (λ t. t ++ c.args.body.now) (sym none) in
+    ap (flat_map bytes_of_word) (words_of_payload c.self.inside.machine.register (words_of_bytes c.args.body.now)) ∙ bytes_words c.args.body.now (length c.args.body.now / 4) fits c.requires.whole ∙ ap (λ t. t ++ c.args.body.now) (sym none) in
     let turned = c.after_word-self-inside.ensures ∙ ap (λ (b : Bool). if b then Mode.Searching else Mode.Synced) c.pass-ended.ensures.ends in
     let went : AfterRun old new (bytes ++ c.args.body.now) sessions place (Body c.self.inside.machine.register c.args.body) =
     body_more old new bytes c.args.body.now sessions place c.self.inside.machine.register c.args.body (subst (λ (o : CutterState). CutterStandsFor o bytes sessions place) (sym c.self.view_is) s) synced c.pass-ended.ensures.grows fits word none turned (λ _. c.new-self-inside.ensures) in

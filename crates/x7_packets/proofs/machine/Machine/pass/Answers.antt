@@ -1,7 +1,7 @@
 use Rattle.std.proofs.Common.{◌≡◌, ◌-◌, ◌/◌, ◌<◌, inl, inr, arith, sym, subst, refl, ap, ◌∙◌, length}
 use Rattle.x7_words.specs.Word.{words_of_bytes}
 use Rattle.x7_words.proofs.ListLemmas.{all_from_places}
-use Rattle.x7_words.proofs.WordLemmas.{length-words, words-fit}
+use Rattle.x7_words.proofs.WordLemmas.{length_words, words_fit}
 use Rattle.x7_packets.specs.Packet.{payload_steps}
 use Rattle.x7_packets.specs.Taking.{Grows, MachineStandsFor, MachineState}
 use Rattle.x7_packets.proofs.TakeLemmas.{calm_words, payload_goes_on}
@@ -18,8 +18,8 @@ returns-clause-grows c = λ ps s.
     let n : MachineState = record { due = c.self.inside.due - length c.args.body.now / 4; register = c.self.inside.register; latest = c.self.inside.latest } in
     let ws = words_of_bytes c.args.body.now in
     let due : c.self.inside.due ≡ c.args.self.now.due = ap (λ (m : MachineState). m.due) c.self.view_is in
-    let count : length (words_of_bytes c.args.body.now) ≡ length c.args.body.now / 4 = length-words c.args.body.now (length c.args.body.now / 4) c.requires.whole in
-    let fits = words-fit c.args.body.now (all_from_places (λ b. b < 256) c.args.body.now (λ k h. omega (arith, c.type_inv.body k))) in
+    let count : length (words_of_bytes c.args.body.now) ≡ length c.args.body.now / 4 = length_words c.args.body.now (length c.args.body.now / 4) c.requires.whole in
+    let fits = words_fit c.args.body.now (all_from_places (λ b. b < 256) c.args.body.now (λ k h. omega (arith, c.type_inv.body k))) in
     elim (subst (λ m. MachineStandsFor m ps) (sym c.self.view_is) s) [
       | inl a ↦ absurd (let z : c.self.inside.due ≡ 0 = a.due in omega (arith, c.requires.due, c.requires.some, c.requires.whole))
       | inr a ↦ subst (λ (m : MachineState). Grows ps (payload_steps m.register (words_of_bytes c.args.body.now)) n) c.self.view_is

@@ -1,6 +1,6 @@
 use Rattle.std.proofs.Common.{◌≡◌, Bool, true, false, [], ◌++◌, length, ap, sym, subst, ◌∙◌, ◌<◌, ◌+◌, arith}
 use Rattle.x7_words.specs.Input.{preceded}
-use Rattle.x7_words.proofs.InputLemmas.{preceded-nil, preceded-preceded, stays_at, stays_on}
+use Rattle.x7_words.proofs.InputLemmas.{preceded_nil, preceded_preceded, stays_at, stays_on}
 use Rattle.x7_packets.specs.PacketsState.{PacketsState}
 use Rattle.x7_packets.specs.Running.{ReadsOn, Steps}
 use Rattle.x7_packets.proofs.RunningLemmas.{gives_again, gives_end, gives_up, reads_none, reads_on, room_on, run_is_not_last, tells_run, turns_most}
@@ -22,7 +22,7 @@ loop-self-init g c =
       inputs = stays_at _;
       good = good;
       on = sym (ap (λ (p : PacketsState). p.done) c.self.view_is) ∙ c.if-self-2.false;
-      reads = ([], sym (preceded-nil (g.I.Inputs.state c.args.inputs.now).rest), reads_none c.args.self.now);
+      reads = ([], sym (preceded_nil (g.I.Inputs.state c.args.inputs.now).rest), reads_none c.args.self.now);
       room = omega (arith, turns_most c.args.self.now.cutter.kept c.args.self.now.left);
     }
 
@@ -65,7 +65,7 @@ loop-self-preserved g c =
       on = ap (λ (p : PacketsState). p.done) f.is ∙ s.done ∙ i.on;
       reads = (
         i.reads.0 ++ f.piece,
-        i.reads.1 ∙ ap (preceded i.reads.0) f.taken ∙ preceded-preceded i.reads.0 f.piece (g.I.Inputs.state c.fill.new.inputs).rest,
+        i.reads.1 ∙ ap (preceded i.reads.0) f.taken ∙ preceded_preceded i.reads.0 f.piece (g.I.Inputs.state c.fill.new.inputs).rest,
         subst (λ (p : PacketsState). ReadsOn c.args.self.now p (i.reads.0 ++ f.piece)) (sym f.is) (reads_on c.args.self.now c.loop-self.self c.step.new.self i.reads.0 f.piece s i.on i.reads.2),
       );
       room = room_on c.loop-self.self c.step.new.self c.fill.new.self s f.piece (c.args.self.now.taken + 589824) f.is some f.most i.room;

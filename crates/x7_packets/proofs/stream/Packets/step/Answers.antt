@@ -1,6 +1,6 @@
 use Rattle.std.proofs.Common.{refl, subst, ◌+◌, ◌≤◌}
 use Rattle.x7_packets.specs.Cutting.{Cuts, between}
-use Rattle.x7_packets.proofs.RunningLemmas.{cuts_whole, left_behind, taken_of, within_piece}
+use Rattle.x7_packets.proofs.RunningLemmas.{cuts_whole, left_after, taken_of, within_piece}
 use Rattle.x7_packets.proofs.stream.Packets.step.Goals as goal
 
 pub returns-in-Some : goal.returns-in-Some
@@ -14,7 +14,7 @@ returns-in-Some c =
       count = c.cut.new.at;
       cuts = subst (λ t. Cuts i.cutter c.cut.new.self (between t i.at i.end) c.cut.new.at c.cut.result) c.deref.ensures.value (cuts_whole i.cutter c.cut.new.self piece c.cut.new.at c.cut.result e.goes e.need e.joined e.run e.lent e.skips e.adds);
       kept = c.keeps_the_tail.ensures;
-      left = left_behind i.buffer.items i.at i.end c.cut.new.at within;
+      left = left_after i.buffer.items i.at i.end c.cut.new.at within;
       bytes = taken_of i.buffer.items i.at i.end c.cut.new.at within;
       is = c.in-Some.ensures.some;
       done = refl;
@@ -33,7 +33,7 @@ returns-in-None c =
       count = c.cut.new.at;
       cuts = subst (λ t. Cuts i.cutter c.cut.new.self (between t i.at i.end) c.cut.new.at c.cut.result) c.deref.ensures.value (cuts_whole i.cutter c.cut.new.self piece c.cut.new.at c.cut.result e.goes e.need e.joined e.run e.lent e.skips e.adds);
       kept = c.keeps_the_tail.ensures;
-      left = left_behind i.buffer.items i.at i.end c.cut.new.at within;
+      left = left_after i.buffer.items i.at i.end c.cut.new.at within;
       bytes = taken_of i.buffer.items i.at i.end c.cut.new.at within;
       is = c.in-None.ensures.none;
       done = refl;

@@ -2,7 +2,7 @@ use Rattle.std.proofs.Common.{ℕ, List, ◌++◌, ◌-◌, ◌<◌, length, tak
 use Rattle.std.proofs.lemmas.Bool.{false≢true}
 use Rattle.x7_crc.specs.Checking.{HasTaken}
 use Rattle.x7_planner.specs.Telling.{FullStreamState, HasGiven, WritesPiece, puts_left}
-use Rattle.x7_planner.proofs.TellingLemmas.{told_more}
+use Rattle.x7_planner.proofs.TellingLemmas.{given_more}
 use Rattle.x7_planner.proofs.full_stream.FullStream.put_next.Goals as goal
 
 pub returns : goal.returns
@@ -12,7 +12,7 @@ returns c =
     let wrote : WritesPiece s c.args.out.now.items c.put.new.out.items c.in-Ok.next = subst (λ x. WritesPiece x c.args.out.now.items c.put.new.out.items c.in-Ok.next) (sym c.self.view_is) c.in-Ok.ensures.writes in
     let less : puts_left t < puts_left s = wrote.fewer c.in_default.not-Nothing in
     record {
-      more = λ given h _. told_more s t given c.args.out.now.items c.put.new.out.items c.len-start.result refl refl (omega (arith, c.len-start.ensures, c.args.out.now.ok.0)) wrote
+      more = λ given h _. given_more s t given c.args.out.now.items c.put.new.out.items c.len-start.result refl refl (omega (arith, c.len-start.ensures, c.args.out.now.ok.0)) wrote
           (λ bytes k. subst (λ (x : List ℕ). HasTaken c.take.new.self (bytes ++ take (length x - c.len-start.result) (drop c.len-start.result x))) c.deref.ensures.value (c.take.ensures bytes k)) (subst (λ x. HasGiven x given) (sym c.self.view_is) h);
       fewer = λ _. subst (λ x. puts_left t < puts_left x) c.self.view_is less;
       end = λ given h e. absurd (false≢true (sym e));

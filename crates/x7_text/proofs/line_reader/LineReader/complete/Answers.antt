@@ -1,8 +1,8 @@
 use Rattle.std.proofs.Common.{◌≡◌, ◌∷◌, ◌++◌, ◌+◌, [], ◌∙◌, length-append, arith, ap, sym, subst, refl}
 use Rattle.x7_text.specs.Lines.{split}
 use Rattle.x7_text.specs.LineReading.{ReaderState, StandsFor}
-use Rattle.x7_text.proofs.LineReadingLemmas.{few-lines, held-on, line-ends, line-fails}
-use Rattle.x7_text.proofs.PieceLemmas.{at-none, at-some, only-line}
+use Rattle.x7_text.proofs.LineReadingLemmas.{few_lines, held_on, line_ends, line_fails}
+use Rattle.x7_text.proofs.PieceLemmas.{at_none, at_some, only_line}
 use Rattle.x7_text.proofs.line_reader.LineReader.complete.Goals as goal
 
 pub returns-in_default-more : goal.returns-in_default-more
@@ -12,8 +12,8 @@ returns-in_default-more g c = λ first text fits now.
     let line = c.first_line.result.0.now in
     let r : ReaderState g.row.T.Denot = record { taker = c.self.inside.taker; held = c.self.inside.held.items; count = c.self.inside.count } in
     let s : StandsFor taken r text = subst (λ x. StandsFor taken x text) (sym c.self.view_is) now in
-    let p = only-line piece line (at-none piece line c.first_line.result.1 c.in_default-more.is c.first_line.ensures) in
-    held-on taken r _ text piece refl refl (c.in-Ok.ensures.items ∙ ap (λ t. r.held ++ t) (sym p.0)) p.1 s
+    let p = only_line piece line (at_none piece line c.first_line.result.1 c.in_default-more.is c.first_line.ensures) in
+    held_on taken r _ text piece refl refl (c.in-Ok.ensures.items ∙ ap (λ t. r.held ++ t) (sym p.0)) p.1 s
 
 pub returns-in-Err : goal.returns-in-Err
 returns-in-Err g c = λ first text fits now.
@@ -24,11 +24,11 @@ returns-in-Err g c = λ first text fits now.
     let rest = c.in-Some.rest.now in
     let r : ReaderState g.row.T.Denot = record { taker = c.self.inside.taker; held = c.self.inside.held.items; count = c.self.inside.count } in
     let s : StandsFor taken r text = subst (λ x. StandsFor taken x text) (sym c.self.view_is) now in
-    let e : split piece ≡ line ∷ split rest = (at-some piece line c.first_line.result.1 c.in-Some.rest c.in-Some.is c.first_line.ensures).0 in
+    let e : split piece ≡ line ∷ split rest = (at_some piece line c.first_line.result.1 c.in-Some.rest c.in-Some.is c.first_line.ensures).0 in
     let is : c.deref.result.now ≡ r.held ++ line = c.deref.ensures.value ∙ c.in-Ok.ensures.items in
-    line-fails taken fails r text piece line rest s e
+    line_fails taken fails r text piece line rest s e
     (λ more. subst (λ t. fails (s.lines ++ t ∷ split more)) is
-    (c.in-Err.ensures.read first s.lines (omega (arith, c.saturating_add-self-inside.ensures, few-lines taken r text s, s.count, fits, length-append text piece)) s.took more))
+    (c.in-Err.ensures.read first s.lines (omega (arith, c.saturating_add-self-inside.ensures, few_lines taken r text s, s.count, fits, length-append text piece)) s.took more))
 
 pub returns : goal.returns
 returns g c = λ first text fits now.
@@ -38,8 +38,8 @@ returns g c = λ first text fits now.
     let rest = c.in-Some.rest.now in
     let r : ReaderState g.row.T.Denot = record { taker = c.self.inside.taker; held = c.self.inside.held.items; count = c.self.inside.count } in
     let s : StandsFor taken r text = subst (λ x. StandsFor taken x text) (sym c.self.view_is) now in
-    let e : split piece ≡ line ∷ split rest = (at-some piece line c.first_line.result.1 c.in-Some.rest c.in-Some.is c.first_line.ensures).0 in
+    let e : split piece ≡ line ∷ split rest = (at_some piece line c.first_line.result.1 c.in-Some.rest c.in-Some.is c.first_line.ensures).0 in
     let is : c.deref.result.now ≡ r.held ++ line = c.deref.ensures.value ∙ c.in-Ok.ensures.items in
-    let n : c.saturating_add-self-inside.result ≡ r.count + 1 = omega (arith, c.saturating_add-self-inside.ensures, few-lines taken r text s, fits, length-append text piece) in
-    line-ends taken r _ text piece line rest s e c.clear.ensures.items n
+    let n : c.saturating_add-self-inside.result ≡ r.count + 1 = omega (arith, c.saturating_add-self-inside.ensures, few_lines taken r text s, fits, length-append text piece) in
+    line_ends taken r _ text piece line rest s e c.clear.ensures.items n
     (subst (λ t. taken c.put_line.new.self (s.lines ++ t ∷ [])) is (c.in-Ok-put_line.ensures.read first s.lines (omega (arith, n, s.count)) s.took))

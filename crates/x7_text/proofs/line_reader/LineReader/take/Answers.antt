@@ -1,12 +1,12 @@
 use Rattle.std.proofs.Common.{◌≡◌, ◌^◌, ◌<◌, [], ◌++◌, ◌∙◌, MatchOption, MatchResult, append_assoc, length, arith, ap, sym, subst}
 use Rattle.x7_text.specs.LineReading.{FailsFrom, StandsFor, TakesPrefix}
-use Rattle.x7_text.proofs.LineReadingLemmas.{none-left}
+use Rattle.x7_text.proofs.LineReadingLemmas.{none_left}
 use Rattle.x7_text.proofs.line_reader.LineReader.take.Goals as goal
 
 pub returns-then-is_empty-clause-read : goal.returns-then-is_empty-clause-read
 returns-then-is_empty-clause-read g c = λ first text fits s.
     let left : length c.self.inside.held.items ≡ 0 = grind (arith, c.is_empty.ensures, c.if-is_empty.true) in
-    c.take_lines.ensures.read first text fits (sym (ap (λ x. x.held) c.self.view_is) ∙ none-left c.self.inside.held.items left) s
+    c.take_lines.ensures.read first text fits (sym (ap (λ x. x.held) c.self.view_is) ∙ none_left c.self.inside.held.items left) s
 
 pub returns-in-Err-clause-memory : goal.returns-in-Err-clause-memory
 returns-in-Err-clause-memory g c = λ first text fits clear.

@@ -1,7 +1,7 @@
 use Rattle.std.proofs.Common.{◌≡◌, ◌∷◌, ◌++◌, ◌+◌, arith}
 use Rattle.x7_text.specs.Lines.{split}
-use Rattle.x7_text.proofs.LineReadingLemmas.{HasTaken, at-fault, few-taken, one-taken, wants-here}
-use Rattle.x7_text.proofs.PieceLemmas.{at-some}
+use Rattle.x7_text.proofs.LineReadingLemmas.{HasTaken, at_fault, few_taken, one_taken, wants_here}
+use Rattle.x7_text.proofs.PieceLemmas.{at_some}
 use Rattle.x7_text.proofs.line_reader.TakesLines.put_lines.Goals as goal
 
 pub loop-after-preserved : goal.loop-after-preserved
@@ -11,9 +11,9 @@ loop-after-preserved g c = λ first lines same few t.
     let rest = c.loop-after.rest.now in
     let line = c.first_line.result.0.now in
     let h : HasTaken taken lines text rest c.loop-after.self c.loop-after.count = c.loop-after.invariant first lines same few t in
-    let e : split rest ≡ line ∷ split c.in-Some.after.now = (at-some rest line c.first_line.result.1 c.in-Some.after c.in-Some.is c.first_line.ensures).0 in
-    let n : c.saturating_add-count.result ≡ c.loop-after.count + 1 = omega (arith, c.saturating_add-count.ensures, few-taken taken lines text rest c.loop-after.self c.loop-after.count c.args.n same h, few) in
-    one-taken taken lines text rest line c.in-Some.after.now c.loop-after.self c.put_line.new.self c.loop-after.count c.saturating_add-count.result e h n
+    let e : split rest ≡ line ∷ split c.in-Some.after.now = (at_some rest line c.first_line.result.1 c.in-Some.after c.in-Some.is c.first_line.ensures).0 in
+    let n : c.saturating_add-count.result ≡ c.loop-after.count + 1 = omega (arith, c.saturating_add-count.ensures, few_taken taken lines text rest c.loop-after.self c.loop-after.count c.args.n same h, few) in
+    one_taken taken lines text rest line c.in-Some.after.now c.loop-after.self c.put_line.new.self c.loop-after.count c.saturating_add-count.result e h n
     (c.in-Ok.ensures.read first (lines ++ h.more) (omega (arith, n, h.counts)) h.took)
 
 pub returns-in-Err-clause-read : goal.returns-in-Err-clause-read
@@ -23,9 +23,9 @@ returns-in-Err-clause-read g c = λ first lines same few t.
     let rest = c.loop-after.rest.now in
     let line = c.first_line.result.0.now in
     let h : HasTaken taken lines text rest c.loop-after.self c.loop-after.count = c.loop-after.invariant first lines same few t in
-    let e : split rest ≡ line ∷ split c.in-Some.after.now = (at-some rest line c.first_line.result.1 c.in-Some.after c.in-Some.is c.first_line.ensures).0 in
-    let n : c.saturating_add-count.result ≡ c.loop-after.count + 1 = omega (arith, c.saturating_add-count.ensures, few-taken taken lines text rest c.loop-after.self c.loop-after.count c.args.n same h, few) in
-    at-fault taken lines text rest (g.Self.TakesLines.fails first c.in-Err.fault) line c.in-Some.after.now c.loop-after.self c.loop-after.count e h
+    let e : split rest ≡ line ∷ split c.in-Some.after.now = (at_some rest line c.first_line.result.1 c.in-Some.after c.in-Some.is c.first_line.ensures).0 in
+    let n : c.saturating_add-count.result ≡ c.loop-after.count + 1 = omega (arith, c.saturating_add-count.ensures, few_taken taken lines text rest c.loop-after.self c.loop-after.count c.args.n same h, few) in
+    at_fault taken lines text rest (g.Self.TakesLines.fails first c.in-Err.fault) line c.in-Some.after.now c.loop-after.self c.loop-after.count e h
     (c.in-Err.ensures.read first (lines ++ h.more) (omega (arith, n, h.counts)) h.took)
 
 pub returns-in-Err-clause-memory : goal.returns-in-Err-clause-memory
@@ -35,7 +35,7 @@ returns-in-Err-clause-memory g c = λ first lines same few t want.
     let rest = c.loop-after.rest.now in
     let line = c.first_line.result.0.now in
     let h : HasTaken taken lines text rest c.loop-after.self c.loop-after.count = c.loop-after.invariant first lines same few t in
-    let e : split rest ≡ line ∷ split c.in-Some.after.now = (at-some rest line c.first_line.result.1 c.in-Some.after c.in-Some.is c.first_line.ensures).0 in
-    let n : c.saturating_add-count.result ≡ c.loop-after.count + 1 = omega (arith, c.saturating_add-count.ensures, few-taken taken lines text rest c.loop-after.self c.loop-after.count c.args.n same h, few) in
-    wants-here (g.Self.TakesLines.wants first) lines h.more text rest line c.in-Some.after.now h.texts e
+    let e : split rest ≡ line ∷ split c.in-Some.after.now = (at_some rest line c.first_line.result.1 c.in-Some.after c.in-Some.is c.first_line.ensures).0 in
+    let n : c.saturating_add-count.result ≡ c.loop-after.count + 1 = omega (arith, c.saturating_add-count.ensures, few_taken taken lines text rest c.loop-after.self c.loop-after.count c.args.n same h, few) in
+    wants_here (g.Self.TakesLines.wants first) lines h.more text rest line c.in-Some.after.now h.texts e
     (c.in-Err.ensures.memory first (lines ++ h.more) (omega (arith, n, h.counts)) h.took want)

@@ -1,5 +1,5 @@
 use Rattle.std.proofs.Common.{refl, length, arith}
-use Rattle.x7_words.proofs.FilesLemmas.{opened-asks, opened-ok, opened-refused, opened-err, failed_read, read_ok, read_err, read_gives, read_absences, read_lost, read_more, read_selects, untold_read, within_buffer}
+use Rattle.x7_words.proofs.FilesLemmas.{opened_asks, opened_ok, opened_refused, opened_err, failed_read, read_ok, read_err, read_gives, read_absences, read_lost, read_more, read_selects, untold_read, within_buffer}
 use Rattle.x7_words.proofs.files.FileInputsInputs.TheImpl.Goals as goal
 
 pub select-tells : goal.select-tells
@@ -7,10 +7,10 @@ select-tells g c =
     let old = c.args.self.now in
     let new = c.new.self.now in
     record {
-      ok = opened-ok old new new.rest new.refusal c.args.name.now c.result c.ensures.after;
-      refused = opened-refused old new new.rest new.refusal c.args.name.now c.result c.ensures.after;
-      err = opened-err old new new.rest new.refusal c.result c.ensures.after;
-      asks = opened-asks old new new.rest new.refusal c.args.name.now c.result c.ensures.after;
+      ok = opened_ok old new new.rest new.refusal c.args.name.now c.result c.ensures.after;
+      refused = opened_refused old new new.rest new.refusal c.args.name.now c.result c.ensures.after;
+      err = opened_err old new new.rest new.refusal c.result c.ensures.after;
+      asks = opened_asks old new new.rest new.refusal c.args.name.now c.result c.ensures.after;
       once = record { selects = c.ensures.once; ends = omega (arith, c.ensures.ends) };
       stays = record { map = refl; faults = c.ensures.faults; absences = c.ensures.absences };
       fits = (c.ensures.last_fault, c.ensures.last_absence);

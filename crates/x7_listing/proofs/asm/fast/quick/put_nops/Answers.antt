@@ -1,12 +1,12 @@
 use Rattle.std.proofs.Common.{[], ◌∷◌, refl, arith, ap, sym, ◌∙◌, drop, ◌++◌}
 use Rattle.std.proofs.lemmas.List.{take-append-drop}
 use Rattle.x7_listing.specs.Line.{Nop}
-use Rattle.x7_listing.proofs.asm.fast.WritePairsLemmas.{same-by-mask}
+use Rattle.x7_listing.proofs.asm.fast.WritePairsLemmas.{same_by_mask}
 use Rattle.x7_listing.proofs.asm.fast.quick.put_nops.Goals as goal
 
 pub returns-clause-takes : goal.returns-clause-takes
 returns-clause-takes c =
-    let same = same-by-mask 32 c.differences.result c.args.text.now _ (omega arith) refl (omega arith) c.differences.ensures (omega arith) in
+    let same = same_by_mask 32 c.differences.result c.args.text.now _ (omega arith) refl (omega arith) c.differences.ensures (omega arith) in
     record {
       some = omega arith;
       within = omega arith;

@@ -1,10 +1,10 @@
 use Rattle.std.proofs.Common.{◌≡◌, ◌∷◌, ◌++◌, ◌+◌, ◌-◌, length, take, drop, arith}
 use Rattle.x7_text.specs.Lines.{split}
-use Rattle.x7_text.proofs.LineReadingLemmas.{HasTaken, all-taken, at-fault, few-taken, one-taken, wants-here}
-use Rattle.x7_text.proofs.PieceLemmas.{at-none, at-some}
+use Rattle.x7_text.proofs.LineReadingLemmas.{HasTaken, all_taken, at_fault, few_taken, one_taken, wants_here}
+use Rattle.x7_text.proofs.PieceLemmas.{at_none, at_some}
 use Rattle.x7_listing.specs.Assembling.{AreReadWithRoom, HasAsmFault, IsFirstOrGood}
-use Rattle.x7_listing.proofs.asm.AsmLinesLemmas.{at-once-taken}
-use Rattle.x7_listing.proofs.asm.fast.QuickLemmas.{left-from}
+use Rattle.x7_listing.proofs.asm.AsmLinesLemmas.{at_once_taken}
+use Rattle.x7_listing.proofs.asm.fast.QuickLemmas.{left_from}
 use Rattle.x7_listing.proofs.asm.lines.AsmLinesTakesLines.put_lines.Goals as goal
 
 pub loop-after-preserved : goal.loop-after-preserved
@@ -18,14 +18,14 @@ loop-after-preserved c = λ lines same few t.
     let left = take (length rest - quick.size) (drop quick.size rest) in
     let line = c.next_line.result.0.now in
     let h : HasTaken AreReadWithRoom lines text rest b c.loop-after.count = c.loop-after.invariant lines same few t in
-    let room = few-taken AreReadWithRoom lines text rest b c.loop-after.count c.args.n same h in
+    let room = few_taken AreReadWithRoom lines text rest b c.loop-after.count c.args.n same h in
     let up : c.saturating_add-count.result ≡ c.loop-after.count + quick.count = omega (arith, c.saturating_add-count.ensures, room, few, e.within, e.few) in
     let mid : HasTaken AreReadWithRoom lines text left now c.saturating_add-count.result =
-    at-once-taken b now text rest left quick.count c.loop-after.count c.saturating_add-count.result quick.size lines (left-from quick.size rest e.within) e.takes e.start e.checker e.none e.limit e.room up h in
+    at_once_taken b now text rest left quick.count c.loop-after.count c.saturating_add-count.result quick.size lines (left_from quick.size rest e.within) e.takes e.start e.checker e.none e.limit e.room up h in
     let after = c.in-Some.after.now in
-    let cut : split left ≡ line ∷ split after = (at-some left line c.next_line.result.1 c.in-Some.after c.in-Some.is c.next_line.ensures).0 in
-    let n : c.saturating_add-count-in-loop-after.result ≡ c.saturating_add-count.result + 1 = omega (arith, c.saturating_add-count-in-loop-after.ensures, few-taken AreReadWithRoom lines text left now c.saturating_add-count.result c.args.n same mid, few) in
-    one-taken AreReadWithRoom lines text left line after now c.put_next.new.self c.saturating_add-count.result c.saturating_add-count-in-loop-after.result cut mid n
+    let cut : split left ≡ line ∷ split after = (at_some left line c.next_line.result.1 c.in-Some.after c.in-Some.is c.next_line.ensures).0 in
+    let n : c.saturating_add-count-in-loop-after.result ≡ c.saturating_add-count.result + 1 = omega (arith, c.saturating_add-count-in-loop-after.ensures, few_taken AreReadWithRoom lines text left now c.saturating_add-count.result c.args.n same mid, few) in
+    one_taken AreReadWithRoom lines text left line after now c.put_next.new.self c.saturating_add-count.result c.saturating_add-count-in-loop-after.result cut mid n
     (c.in-Ok.ensures.goes (lines ++ mid.more) (omega (arith, n, mid.counts)) mid.took)
 
 pub returns-in_default-clause-read : goal.returns-in_default-clause-read
@@ -39,11 +39,11 @@ returns-in_default-clause-read c = λ first lines same few t.
     let left = take (length rest - quick.size) (drop quick.size rest) in
     let line = c.next_line.result.0.now in
     let h : HasTaken AreReadWithRoom lines text rest b c.loop-after.count = c.loop-after.invariant lines same few t in
-    let room = few-taken AreReadWithRoom lines text rest b c.loop-after.count c.args.n same h in
+    let room = few_taken AreReadWithRoom lines text rest b c.loop-after.count c.args.n same h in
     let up : c.saturating_add-count.result ≡ c.loop-after.count + quick.count = omega (arith, c.saturating_add-count.ensures, room, few, e.within, e.few) in
     let mid : HasTaken AreReadWithRoom lines text left now c.saturating_add-count.result =
-    at-once-taken b now text rest left quick.count c.loop-after.count c.saturating_add-count.result quick.size lines (left-from quick.size rest e.within) e.takes e.start e.checker e.none e.limit e.room up h in
-    all-taken AreReadWithRoom lines text left now line c.saturating_add-count.result (at-none left line c.next_line.result.1 c.in_default.is c.next_line.ensures) mid
+    at_once_taken b now text rest left quick.count c.loop-after.count c.saturating_add-count.result quick.size lines (left_from quick.size rest e.within) e.takes e.start e.checker e.none e.limit e.room up h in
+    all_taken AreReadWithRoom lines text left now line c.saturating_add-count.result (at_none left line c.next_line.result.1 c.in_default.is c.next_line.ensures) mid
 
 pub returns-in-Err-clause-read : goal.returns-in-Err-clause-read
 returns-in-Err-clause-read c = λ first lines same few t.
@@ -56,14 +56,14 @@ returns-in-Err-clause-read c = λ first lines same few t.
     let left = take (length rest - quick.size) (drop quick.size rest) in
     let line = c.next_line.result.0.now in
     let h : HasTaken AreReadWithRoom lines text rest b c.loop-after.count = c.loop-after.invariant lines same few t in
-    let room = few-taken AreReadWithRoom lines text rest b c.loop-after.count c.args.n same h in
+    let room = few_taken AreReadWithRoom lines text rest b c.loop-after.count c.args.n same h in
     let up : c.saturating_add-count.result ≡ c.loop-after.count + quick.count = omega (arith, c.saturating_add-count.ensures, room, few, e.within, e.few) in
     let mid : HasTaken AreReadWithRoom lines text left now c.saturating_add-count.result =
-    at-once-taken b now text rest left quick.count c.loop-after.count c.saturating_add-count.result quick.size lines (left-from quick.size rest e.within) e.takes e.start e.checker e.none e.limit e.room up h in
+    at_once_taken b now text rest left quick.count c.loop-after.count c.saturating_add-count.result quick.size lines (left_from quick.size rest e.within) e.takes e.start e.checker e.none e.limit e.room up h in
     let after = c.in-Some.after.now in
-    let cut : split left ≡ line ∷ split after = (at-some left line c.next_line.result.1 c.in-Some.after c.in-Some.is c.next_line.ensures).0 in
-    let n : c.saturating_add-count-in-loop-after.result ≡ c.saturating_add-count.result + 1 = omega (arith, c.saturating_add-count-in-loop-after.ensures, few-taken AreReadWithRoom lines text left now c.saturating_add-count.result c.args.n same mid, few) in
-    at-fault AreReadWithRoom lines text left (HasAsmFault c.in-Err.fault) line after now c.saturating_add-count.result cut mid (λ more. c.in-Err.ensures.goes (lines ++ mid.more) (omega (arith, n, mid.counts)) mid.took (split more))
+    let cut : split left ≡ line ∷ split after = (at_some left line c.next_line.result.1 c.in-Some.after c.in-Some.is c.next_line.ensures).0 in
+    let n : c.saturating_add-count-in-loop-after.result ≡ c.saturating_add-count.result + 1 = omega (arith, c.saturating_add-count-in-loop-after.ensures, few_taken AreReadWithRoom lines text left now c.saturating_add-count.result c.args.n same mid, few) in
+    at_fault AreReadWithRoom lines text left (HasAsmFault c.in-Err.fault) line after now c.saturating_add-count.result cut mid (λ more. c.in-Err.ensures.goes (lines ++ mid.more) (omega (arith, n, mid.counts)) mid.took (split more))
 
 pub returns-in-Err-clause-memory : goal.returns-in-Err-clause-memory
 returns-in-Err-clause-memory c = λ first lines same few t want.
@@ -76,11 +76,11 @@ returns-in-Err-clause-memory c = λ first lines same few t want.
     let left = take (length rest - quick.size) (drop quick.size rest) in
     let line = c.next_line.result.0.now in
     let h : HasTaken AreReadWithRoom lines text rest b c.loop-after.count = c.loop-after.invariant lines same few t in
-    let room = few-taken AreReadWithRoom lines text rest b c.loop-after.count c.args.n same h in
+    let room = few_taken AreReadWithRoom lines text rest b c.loop-after.count c.args.n same h in
     let up : c.saturating_add-count.result ≡ c.loop-after.count + quick.count = omega (arith, c.saturating_add-count.ensures, room, few, e.within, e.few) in
     let mid : HasTaken AreReadWithRoom lines text left now c.saturating_add-count.result =
-    at-once-taken b now text rest left quick.count c.loop-after.count c.saturating_add-count.result quick.size lines (left-from quick.size rest e.within) e.takes e.start e.checker e.none e.limit e.room up h in
+    at_once_taken b now text rest left quick.count c.loop-after.count c.saturating_add-count.result quick.size lines (left_from quick.size rest e.within) e.takes e.start e.checker e.none e.limit e.room up h in
     let after = c.in-Some.after.now in
-    let cut : split left ≡ line ∷ split after = (at-some left line c.next_line.result.1 c.in-Some.after c.in-Some.is c.next_line.ensures).0 in
-    let n : c.saturating_add-count-in-loop-after.result ≡ c.saturating_add-count.result + 1 = omega (arith, c.saturating_add-count-in-loop-after.ensures, few-taken AreReadWithRoom lines text left now c.saturating_add-count.result c.args.n same mid, few) in
-    wants-here IsFirstOrGood lines mid.more text left line after mid.texts cut (c.in-Err.ensures.memory (lines ++ mid.more) (omega (arith, n, mid.counts)) mid.took want)
+    let cut : split left ≡ line ∷ split after = (at_some left line c.next_line.result.1 c.in-Some.after c.in-Some.is c.next_line.ensures).0 in
+    let n : c.saturating_add-count-in-loop-after.result ≡ c.saturating_add-count.result + 1 = omega (arith, c.saturating_add-count-in-loop-after.ensures, few_taken AreReadWithRoom lines text left now c.saturating_add-count.result c.args.n same mid, few) in
+    wants_here IsFirstOrGood lines mid.more text left line after mid.texts cut (c.in-Err.ensures.memory (lines ++ mid.more) (omega (arith, n, mid.counts)) mid.took want)

@@ -4,16 +4,16 @@ use Rattle.x7_packets.specs.PacketWords.{type1_write}
 use Rattle.x7_packets.specs.declared.header.Step.TheVariants.{Open}
 use Rattle.x7_text.specs.Row.{close}
 use Rattle.x7_listing.specs.HeadLine.{text_of_head}
-use Rattle.x7_listing.proofs.list.fast.AtOnceLemmas.{front_of_front, short_told, short_written}
-use Rattle.x7_listing.proofs.list.fast.OnSheetLemmas.{behind_text}
-use Rattle.x7_listing.proofs.SessionLemmas.{data_place, data_told, is_data}
+use Rattle.x7_listing.proofs.list.fast.AtOnceLemmas.{prefix_of_prefix, short_listed, short_written}
+use Rattle.x7_listing.proofs.list.fast.OnSheetLemmas.{after_text}
+use Rattle.x7_listing.proofs.SessionLemmas.{data_place, data_listed, is_data}
 use Rattle.x7_listing.proofs.list.fast.short_runs.put_short_write.Goals as goal
 
 pub returns-clause-listed : goal.returns-clause-listed
 returns-clause-listed c = λ old new x text given before bytes s.
-    let prefix : take (4 * c.args.count) c.first_64.result.now ≡ take (4 * c.args.count) (drop 4 c.args.rest.now) = front_of_front _ c.args.count (drop 4 c.args.rest.now) c.first_64.result.now (omega (arith, c.requires.few)) (omega (arith, c.requires.long)) c.first_64.ensures in
-    short_told old new c.args.pen.synced _ c.args.pen.line _ c.session_line.result c.args.register c.args.count _ _ (text ++ take c.args.len c.args.sheet.now) _ given before bytes c.args.rest.now (words_of_bytes (take (4 * c.args.count) c.first_64.result.now)) c.args.rest x (ap words_of_bytes prefix) c.session_line.ensures.line c.in_session.ensures.synced
+    let prefix : take (4 * c.args.count) c.first_64.result.now ≡ take (4 * c.args.count) (drop 4 c.args.rest.now) = prefix_of_prefix _ c.args.count (drop 4 c.args.rest.now) c.first_64.result.now (omega (arith, c.requires.few)) (omega (arith, c.requires.long)) c.first_64.ensures in
+    short_listed old new c.args.pen.synced _ c.args.pen.line _ c.session_line.result c.args.register c.args.count _ _ (text ++ take c.args.len c.args.sheet.now) _ given before bytes c.args.rest.now (words_of_bytes (take (4 * c.args.count) c.first_64.result.now)) c.args.rest x (ap words_of_bytes prefix) c.session_line.ensures.line c.in_session.ensures.synced
     (c.in_session.ensures.line ∙ c.put_words-end.ensures.count ∙ sym (data_place c.args.register 0 (words_of_bytes (take (4 * c.args.count) c.first_64.result.now)) (is_data c.args.register x.other)))
     (short_written (text ++ take c.args.len c.args.sheet.now) (text ++ take c.put_head-start.result c.put_head-start.new.sheet) _ (close c.session_line.result ++ text_of_head (Open c.args.register c.args.count) (type1_write c.args.register c.args.count)) _ _
-    (behind_text text (take c.args.len c.args.sheet.now) _ _ c.put_head-start.ensures.text) (behind_text text (take c.put_head-start.result c.put_head-start.new.sheet) _ _ c.put_words-end.ensures.text)
-    (sym (data_told c.args.register 0 (words_of_bytes (take (4 * c.args.count) c.first_64.result.now)) (is_data c.args.register x.other)))) s
+    (after_text text (take c.args.len c.args.sheet.now) _ _ c.put_head-start.ensures.text) (after_text text (take c.put_head-start.result c.put_head-start.new.sheet) _ _ c.put_words-end.ensures.text)
+    (sym (data_listed c.args.register 0 (words_of_bytes (take (4 * c.args.count) c.first_64.result.now)) (is_data c.args.register x.other)))) s

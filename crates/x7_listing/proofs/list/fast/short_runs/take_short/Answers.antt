@@ -1,6 +1,6 @@
 use Rattle.std.proofs.Common.{◌≡◌, ◌∙◌, ◌-◌, ◌++◌, Bool, true, false, not, append-nil, arith, drop, length, refl, subst, take}
 use Rattle.x7_listing.specs.Telling.{HasListedJust, lister_of}
-use Rattle.x7_listing.proofs.list.fast.AtOnceLemmas.{in_line_told, rest_length, seam}
+use Rattle.x7_listing.proofs.list.fast.AtOnceLemmas.{in_line_listed, rest_length, seam}
 use Rattle.x7_listing.proofs.list.fast.short_runs.take_short.Goals as goal
 
 is-true : (b : Bool) → not b ≡ false → b ≡ true
@@ -16,7 +16,7 @@ loop-len-init c = record {
   few = omega arith;
   tells = λ given before bytes s.
       rw (append-nil bytes, append-nil c.args.text.now.items)
-      (in_line_told c.args.cutter.now c.args.pen.synced c.in_session-now.result.synced c.args.pen.line c.in_session-now.result.line _ _ c.args.text.now.items given before bytes (is-true c.args.pen.synced c.if-not-pen.false) c.in_session-now.ensures.synced (c.in_session-now.ensures.line ∙ c.session_line.ensures.line (is-true c.args.pen.synced c.if-not-pen.false)) s);
+      (in_line_listed c.args.cutter.now c.args.pen.synced c.in_session-now.result.synced c.args.pen.line c.in_session-now.result.line _ _ c.args.text.now.items given before bytes (is-true c.args.pen.synced c.if-not-pen.false) c.in_session-now.ensures.synced (c.in_session-now.ensures.line ∙ c.session_line.ensures.line (is-true c.args.pen.synced c.if-not-pen.false)) s);
 }
 
 pub loop-len-preserved : goal.loop-len-preserved

@@ -1,5 +1,5 @@
 use Rattle.std.proofs.Common.{None, inl, refl, arith}
-use Rattle.x7_words.proofs.FileFlashLemmas.{attached-ok, attached-refused, attached-err, attach_write_faults, failed_read_at, failed_write, on_ok, only_reads, only_writes, quiet_read_at, untold_passes, untold_read_at, untold_torn, untold_unwritten, untold_written}
+use Rattle.x7_words.proofs.FileFlashLemmas.{attached_ok, attached_refused, attached_err, attach_write_faults, failed_read_at, failed_write, on_ok, only_reads, only_writes, quiet_read_at, untold_passes, untold_read_at, untold_torn, untold_unwritten, untold_written}
 use Rattle.x7_words.proofs.files.flash.FileFlashFlash.TheImpl.Goals as goal
 
 pub attach-tells : goal.attach-tells
@@ -7,9 +7,9 @@ attach-tells g c =
     let old = c.args.self.now in
     let new = c.new.self.now in
     record {
-      ok = attached-ok _ new.extent new.file c.result c.ensures.extent;
-      refused = attached-refused old new c.result c.ensures.after;
-      err = attached-err old new c.result c.ensures.after;
+      ok = attached_ok _ new.extent new.file c.result c.ensures.extent;
+      refused = attached_refused old new c.result c.ensures.after;
+      err = attached_err old new c.result c.ensures.after;
       asks = record { asked = refl; no_other = λ other had. inl refl };
       stays = record {
         bytes = refl;

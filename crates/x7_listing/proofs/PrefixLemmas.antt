@@ -5,7 +5,7 @@ use Rattle.std.proofs.lemmas.List.Sums.{fold-append}
 use Rattle.std.proofs.Math.Seq.{take-append_seam}
 use Rattle.std.specs.Prelude.{nat_lt}
 use Rattle.x7_words.specs.Word.{AreBytes, word_of_bytes}
-use Rattle.x7_words.proofs.ListLemmas.{all_back, all_front, flat_map-last, map-append}
+use Rattle.x7_words.proofs.ListLemmas.{all_back, all_prefix, flat_map_last, map_append}
 use Rattle.x7_packets.specs.ByHand.{before_last_four, header_packet, is_sync, last_four, Reading, reading_of, with_byte, with_byte_at, with_payload_word, with_session_byte, packets_with_word, with_word_after}
 use Rattle.x7_packets.specs.Packet.{Packet, count_of, EachPacket, ended, latest_after, meaning, named_by, payload_steps, stepped}
 use Rattle.x7_packets.specs.Reading.{Place, Searching, Synced, Session, IsReading, IsSession}
@@ -15,27 +15,27 @@ use Rattle.x7_packets.specs.Mode.{Mode}
 use Rattle.x7_packets.proofs.ByHandLemmas.{reading_is, reading_is_found}
 use Rattle.x7_text.specs.Digits.{hex_byte}
 use Rattle.x7_text.specs.Row.{bytes_text, close, in_line_after, open_text}
-use Rattle.x7_text.proofs.LineLemmas.{bytes_closed, open_text-append}
+use Rattle.x7_text.proofs.LineLemmas.{bytes_closed, open_text_append}
 use Rattle.x7_listing.specs.Listing.{listing_of, packet_text, packets_text, place_text, session_text}
 use Rattle.x7_listing.specs.Telling.{GapListed, ListerStandsFor, ListerState, HasListedAt, words_place, open_words, written_of}
-use Rattle.x7_listing.proofs.SessionLemmas.{session_closed, open_words-append}
+use Rattle.x7_listing.proofs.SessionLemmas.{session_closed, open_words_append}
 
 -- the text of bytes in `bytes` lines, the last of which stays open unless it is full
 abbrev B : ℕ → List ℕ → List ℕ
 B i xs = open_text 32 (codes "bytes ") hex_byte i xs
 
 -- the second list begins with the first
-abbrev pub Front : List ℕ → List ℕ → Type 0
-Front xs ys = (more : List ℕ) × (ys ≡ xs ++ more)
+abbrev pub IsPrefixOf : List ℕ → List ℕ → Type 0
+IsPrefixOf xs ys = (more : List ℕ) × (ys ≡ xs ++ more)
 
-front_self : (xs : List ℕ) → Front xs xs
-front_self xs = ([], sym (append-nil xs))
+prefix_self : (xs : List ℕ) → IsPrefixOf xs xs
+prefix_self xs = ([], sym (append-nil xs))
 
-front_then : (xs ys zs : List ℕ) → Front xs ys → Front ys zs → Front xs zs
-front_then xs ys zs f g = (f.0 ++ g.0, g.1 ∙ ap (λ t. t ++ g.0) f.1 ∙ append_assoc xs f.0 g.0)
+prefix_then : (xs ys zs : List ℕ) → IsPrefixOf xs ys → IsPrefixOf ys zs → IsPrefixOf xs zs
+prefix_then xs ys zs f g = (f.0 ++ g.0, g.1 ∙ ap (λ t. t ++ g.0) f.1 ∙ append_assoc xs f.0 g.0)
 
-front_behind : (start xs ys : List ℕ) → Front xs ys → Front (start ++ xs) (start ++ ys)
-front_behind start xs ys f = (f.0, ap (λ t. start ++ t) f.1 ∙ sym (append_assoc start xs f.0))
+prefix_after : (start xs ys : List ℕ) → IsPrefixOf xs ys → IsPrefixOf (start ++ xs) (start ++ ys)
+prefix_after start xs ys f = (f.0, ap (λ t. start ++ t) f.1 ∙ sym (append_assoc start xs f.0))
 
 -- the words of packets listed one by one, the last line being open
 abbrev W : List Packet → List ℕ
@@ -55,14 +55,14 @@ abbrev pub sure_of : Reading → List ℕ
 sure_of r = flat_map session_text r.sessions ++ sure_place r.place
 
 -- a gap of more bytes begins with the text of its first ones
-gap_goes_on : (xs ys : List ℕ) → Front (B 0 xs) (B 0 (xs ++ ys))
-gap_goes_on xs ys = (B (in_line_after 32 0 xs) ys, open_text-append 32 (codes "bytes ") hex_byte 0 xs ys)
+gap_goes_on : (xs ys : List ℕ) → IsPrefixOf (B 0 xs) (B 0 (xs ++ ys))
+gap_goes_on xs ys = (B (in_line_after 32 0 xs) ys, open_text_append 32 (codes "bytes ") hex_byte 0 xs ys)
 
-gap_over : (xs : List ℕ) → Front (B 0 xs) (bytes_text xs)
+gap_over : (xs : List ℕ) → IsPrefixOf (B 0 xs) (bytes_text xs)
 gap_over xs = (close (in_line_after 32 0 xs), sym (bytes_closed xs))
 
 -- the bytes before the last four, with a byte more after them
-before_more : (gap : List ℕ) (byte : ℕ) → Front (before_last_four gap) (before_last_four (gap ++ byte ∷ []))
+before_more : (gap : List ℕ) (byte : ℕ) → IsPrefixOf (before_last_four gap) (before_last_four (gap ++ byte ∷ []))
 before_more gap byte =
     let all : List ℕ = gap ++ byte ∷ [] in
     let k : ℕ = length gap - 4 in
@@ -71,17 +71,17 @@ before_more gap byte =
     let same : take k all ≡ take k gap = take-append-le k gap (byte ∷ []) (omega arith) in
     (take more (drop k all), ap (λ n. take n all) sum ∙ take-add k more all ∙ ap (λ t. t ++ take more (drop k all)) same)
 
-gap_text_more : (gap : List ℕ) (byte : ℕ) → Front (B 0 (before_last_four gap)) (B 0 (before_last_four (gap ++ byte ∷ [])))
+gap_text_more : (gap : List ℕ) (byte : ℕ) → IsPrefixOf (B 0 (before_last_four gap)) (B 0 (before_last_four (gap ++ byte ∷ [])))
 gap_text_more gap byte =
-    let f : Front (before_last_four gap) (before_last_four (gap ++ byte ∷ [])) = before_more gap byte in
-    subst (λ t. Front (B 0 (before_last_four gap)) (B 0 t)) (sym f.1) (gap_goes_on (before_last_four gap) f.0)
+    let f : IsPrefixOf (before_last_four gap) (before_last_four (gap ++ byte ∷ [])) = before_more gap byte in
+    subst (λ t. IsPrefixOf (B 0 (before_last_four gap)) (B 0 t)) (sym f.1) (gap_goes_on (before_last_four gap) f.0)
 
 -- a gap with a byte more, by whether it ends with the sync word
-searched_more : (gap : List ℕ) (byte : ℕ) (b : Bool) → Front (sure_place (Searching gap)) (sure_place (if b then Synced (before_last_four (gap ++ byte ∷ [])) [] [] else Searching (gap ++ byte ∷ [])))
+searched_more : (gap : List ℕ) (byte : ℕ) (b : Bool) → IsPrefixOf (sure_place (Searching gap)) (sure_place (if b then Synced (before_last_four (gap ++ byte ∷ [])) [] [] else Searching (gap ++ byte ∷ [])))
 searched_more gap byte true =
     let now : List ℕ = before_last_four (gap ++ byte ∷ []) in
-    front_then (B 0 (before_last_four gap)) (B 0 now) (bytes_text now ++ codes "sync\n" ++ []) (gap_text_more gap byte)
-    (front_then (B 0 now) (bytes_text now) (bytes_text now ++ codes "sync\n" ++ []) (gap_over now) (codes "sync\n", append-nil (bytes_text now ++ codes "sync\n")))
+    prefix_then (B 0 (before_last_four gap)) (B 0 now) (bytes_text now ++ codes "sync\n" ++ []) (gap_text_more gap byte)
+    (prefix_then (B 0 now) (bytes_text now) (bytes_text now ++ codes "sync\n" ++ []) (gap_over now) (codes "sync\n", append-nil (bytes_text now ++ codes "sync\n")))
 searched_more gap byte false = gap_text_more gap byte
 
 -- a word more is one word with its step more
@@ -95,7 +95,7 @@ last_stepped latest p w true =
     let old : List (ℕ × Step) = payload_steps (named_by p.step) p.payload in (
       step,
       append-nil (head ∷ payload_steps (named_by p.step) (p.payload ++ w ∷ []))
-          ∙ ap (λ t. head ∷ t) (map-append (λ x. (x, Payload (named_by p.step) x)) p.payload (w ∷ []))
+          ∙ ap (λ t. head ∷ t) (map_append (λ x. (x, Payload (named_by p.step) x)) p.payload (w ∷ []))
           ∙ sym (ap (λ t. t ++ (w, step) ∷ []) (append-nil (head ∷ old))),
     )
 last_stepped latest p w false =
@@ -110,59 +110,59 @@ stepped_more latest (p ∷ q ∷ ps) w =
     (m.0, ap (λ t. stepped p ++ t) m.1 ∙ sym (append_assoc (stepped p) (flat_map stepped (q ∷ ps)) ((w, m.0) ∷ [])))
 
 -- the words listed of packets, with one word more
-words_more : (packets : List Packet) (w : ℕ) → Front (W packets) (W (packets_with_word packets w))
+words_more : (packets : List Packet) (w : ℕ) → IsPrefixOf (W packets) (W (packets_with_word packets w))
 words_more packets w =
     let ss : List (ℕ × Step) = flat_map stepped packets in
     let m : SteppedMore (packets_with_word packets w) packets w = stepped_more None packets w in
-    (open_words (words_place 0 ss) ((w, m.0) ∷ []), ap (open_words 0) m.1 ∙ open_words-append 0 ss ((w, m.0) ∷ []))
+    (open_words (words_place 0 ss) ((w, m.0) ∷ []), ap (open_words 0) m.1 ∙ open_words_append 0 ss ((w, m.0) ∷ []))
 
 -- the lines of packets begin with their words listed
-words_over : (packets : List Packet) → EachPacket None packets → Front (W packets) (flat_map packet_text packets)
+words_over : (packets : List Packet) → EachPacket None packets → IsPrefixOf (W packets) (flat_map packet_text packets)
 words_over packets each = (close (words_place 0 (flat_map stepped packets)), sym (session_closed None 0 packets each))
 
 -- a session's words listed are a prefix of its lines
-pub session_over : (gap : List ℕ) (packets : List Packet) → EachPacket None packets → Front (sure_session gap packets) (packets_text gap packets)
-session_over gap packets each = front_behind (bytes_text gap ++ codes "sync\n") (W packets) (flat_map packet_text packets) (words_over packets each)
+pub session_over : (gap : List ℕ) (packets : List Packet) → EachPacket None packets → IsPrefixOf (sure_session gap packets) (packets_text gap packets)
+session_over gap packets each = prefix_after (bytes_text gap ++ codes "sync\n") (W packets) (flat_map packet_text packets) (words_over packets each)
 
 -- the text of a session whose packets' words go on
-session_longer : (gap : List ℕ) (packets all : List Packet) → Front (W packets) (W all) → Front (sure_session gap packets) (sure_session gap all)
-session_longer gap packets all f = front_behind (bytes_text gap ++ codes "sync\n") (W packets) (W all) f
+session_longer : (gap : List ℕ) (packets all : List Packet) → IsPrefixOf (W packets) (W all) → IsPrefixOf (sure_session gap packets) (sure_session gap all)
+session_longer gap packets all f = prefix_after (bytes_text gap ++ codes "sync\n") (W packets) (W all) f
 
 -- a session with a word more, by whether the word ends it
-word_goes_on : (sessions : List Session) (bytes gap : List ℕ) (packets all : List Packet) (b : Bool) → Front (W packets) (W all)
+word_goes_on : (sessions : List Session) (bytes gap : List ℕ) (packets all : List Packet) (b : Bool) → IsPrefixOf (W packets) (W all)
     → (let r : Reading = if b then record { sessions = sessions ++ record { gap = gap; packets = all } ∷ []; place = Searching [] } else record { sessions = sessions; place = Synced gap all [] } in
-    IsReading bytes r.sessions r.place → Front (flat_map session_text sessions ++ sure_session gap packets) (sure_of r))
+    IsReading bytes r.sessions r.place → IsPrefixOf (flat_map session_text sessions ++ sure_session gap packets) (sure_of r))
 word_goes_on sessions bytes gap packets all true f is =
     let start : List ℕ = flat_map session_text sessions in
     let session : Session = record { gap = gap; packets = all } in
     let last : IsSession session = (all_back IsSession sessions (session ∷ []) is.each).0 in
     let old : List ℕ = sure_session gap packets in
     let lines : List ℕ = packets_text gap all in
-    let over : Front old lines = front_then old (sure_session gap all) lines (session_longer gap packets all f) (session_over gap all last.packets) in
+    let over : IsPrefixOf old lines = prefix_then old (sure_session gap all) lines (session_longer gap packets all f) (session_over gap all last.packets) in
     let next : List Session = sessions ++ session ∷ [] in
-    let same : start ++ lines ≡ flat_map session_text next ++ [] = sym (flat_map-last session_text sessions session) ∙ sym (append-nil (flat_map session_text next)) in
-    subst (λ t. Front (start ++ old) t) same (front_behind start old lines over)
+    let same : start ++ lines ≡ flat_map session_text next ++ [] = sym (flat_map_last session_text sessions session) ∙ sym (append-nil (flat_map session_text next)) in
+    subst (λ t. IsPrefixOf (start ++ old) t) same (prefix_after start old lines over)
 word_goes_on sessions bytes gap packets all false f is =
-    front_behind (flat_map session_text sessions) (sure_session gap packets) (sure_session gap all) (session_longer gap packets all f)
+    prefix_after (flat_map session_text sessions) (sure_session gap packets) (sure_session gap all) (session_longer gap packets all f)
 
 -- a session with a byte more
 session_goes_on : (sessions : List Session) (bytes gap tail : List ℕ) (packets : List Packet) (byte : ℕ)
     → IsReading bytes (with_session_byte sessions gap packets tail byte).sessions (with_session_byte sessions gap packets tail byte).place
-    → Front (flat_map session_text sessions ++ sure_session gap packets) (sure_of (with_session_byte sessions gap packets tail byte))
-session_goes_on sessions bytes gap [] packets byte is = front_self (flat_map session_text sessions ++ sure_session gap packets)
-session_goes_on sessions bytes gap (x ∷ []) packets byte is = front_self (flat_map session_text sessions ++ sure_session gap packets)
-session_goes_on sessions bytes gap (x ∷ y ∷ []) packets byte is = front_self (flat_map session_text sessions ++ sure_session gap packets)
+    → IsPrefixOf (flat_map session_text sessions ++ sure_session gap packets) (sure_of (with_session_byte sessions gap packets tail byte))
+session_goes_on sessions bytes gap [] packets byte is = prefix_self (flat_map session_text sessions ++ sure_session gap packets)
+session_goes_on sessions bytes gap (x ∷ []) packets byte is = prefix_self (flat_map session_text sessions ++ sure_session gap packets)
+session_goes_on sessions bytes gap (x ∷ y ∷ []) packets byte is = prefix_self (flat_map session_text sessions ++ sure_session gap packets)
 session_goes_on sessions bytes gap (x ∷ y ∷ z ∷ []) packets byte is =
     let w : ℕ = word_of_bytes (x ∷ y ∷ z ∷ byte ∷ []) in
     word_goes_on sessions bytes gap packets (packets_with_word packets w) (ended (packets_with_word packets w)) (words_more packets w) is
-session_goes_on sessions bytes gap (x ∷ y ∷ z ∷ u ∷ tail) packets byte is = front_self (flat_map session_text sessions ++ sure_session gap packets)
+session_goes_on sessions bytes gap (x ∷ y ∷ z ∷ u ∷ tail) packets byte is = prefix_self (flat_map session_text sessions ++ sure_session gap packets)
 
 -- ended sessions and a place with a byte more
 byte_goes_on : (sessions : List Session) (place : Place) (bytes : List ℕ) (byte : ℕ) → IsReading bytes (with_byte_at sessions place byte).sessions (with_byte_at sessions place byte).place
-    → Front (flat_map session_text sessions ++ sure_place place) (sure_of (with_byte_at sessions place byte))
+    → IsPrefixOf (flat_map session_text sessions ++ sure_place place) (sure_of (with_byte_at sessions place byte))
 byte_goes_on sessions (Searching gap) bytes byte is =
     let b : Bool = is_sync (last_four (gap ++ byte ∷ [])) in
-    front_behind (flat_map session_text sessions) (sure_place (Searching gap)) (sure_place (if b then Synced (before_last_four (gap ++ byte ∷ [])) [] [] else Searching (gap ++ byte ∷ []))) (searched_more gap byte b)
+    prefix_after (flat_map session_text sessions) (sure_place (Searching gap)) (sure_place (if b then Synced (before_last_four (gap ++ byte ∷ [])) [] [] else Searching (gap ++ byte ∷ []))) (searched_more gap byte b)
 byte_goes_on sessions (Synced gap packets tail) bytes byte is = session_goes_on sessions bytes gap tail packets byte is
 
 -- the sure text of bytes
@@ -173,42 +173,42 @@ sure_text bytes = sure_of (reading_of bytes)
 reading_more : (bytes : List ℕ) (byte : ℕ) → reading_of (bytes ++ byte ∷ []) ≡ with_byte (reading_of bytes) byte
 reading_more bytes byte = fold-append with_byte (record { sessions = []; place = Searching [] }) bytes (byte ∷ [])
 
-one_goes_on : (bytes : List ℕ) (byte : ℕ) → AreBytes (bytes ++ byte ∷ []) → Front (sure_text bytes) (sure_text (bytes ++ byte ∷ []))
+one_goes_on : (bytes : List ℕ) (byte : ℕ) → AreBytes (bytes ++ byte ∷ []) → IsPrefixOf (sure_text bytes) (sure_text (bytes ++ byte ∷ []))
 one_goes_on bytes byte f =
     let r : Reading = reading_of bytes in
     let is : IsReading (bytes ++ byte ∷ []) (with_byte r byte).sessions (with_byte r byte).place =
     subst (λ (x : Reading). IsReading (bytes ++ byte ∷ []) x.sessions x.place) (reading_more bytes byte) (reading_is_found (bytes ++ byte ∷ []) f) in
-    subst (λ (x : Reading). Front (sure_of r) (sure_of x)) (sym (reading_more bytes byte)) (byte_goes_on r.sessions r.place (bytes ++ byte ∷ []) byte is)
+    subst (λ (x : Reading). IsPrefixOf (sure_of r) (sure_of x)) (sym (reading_more bytes byte)) (byte_goes_on r.sessions r.place (bytes ++ byte ∷ []) byte is)
 
 -- the sure text of bytes is a prefix of that of those bytes with any further ones
-pub sure_goes_on : (bytes rest : List ℕ) → AreBytes (bytes ++ rest) → Front (sure_text bytes) (sure_text (bytes ++ rest))
-sure_goes_on bytes [] f = subst (λ t. Front (sure_text bytes) (sure_text t)) (sym (append-nil bytes)) (front_self (sure_text bytes))
+pub sure_goes_on : (bytes rest : List ℕ) → AreBytes (bytes ++ rest) → IsPrefixOf (sure_text bytes) (sure_text (bytes ++ rest))
+sure_goes_on bytes [] f = subst (λ t. IsPrefixOf (sure_text bytes) (sure_text t)) (sym (append-nil bytes)) (prefix_self (sure_text bytes))
 sure_goes_on bytes (byte ∷ rest) f =
     let all : bytes ++ byte ∷ rest ≡ (bytes ++ byte ∷ []) ++ rest = sym (append_assoc bytes (byte ∷ []) rest) in
     let fits : AreBytes ((bytes ++ byte ∷ []) ++ rest) = subst AreBytes all f in
-    let one : Front (sure_text bytes) (sure_text (bytes ++ byte ∷ [])) = one_goes_on bytes byte (all_front (λ x. x < 256) (bytes ++ byte ∷ []) rest fits) in
-    let more : Front (sure_text (bytes ++ byte ∷ [])) (sure_text ((bytes ++ byte ∷ []) ++ rest)) = sure_goes_on (bytes ++ byte ∷ []) rest fits in
-    subst (λ t. Front (sure_text bytes) (sure_text t)) (sym all)
-    (front_then (sure_text bytes) (sure_text (bytes ++ byte ∷ [])) (sure_text ((bytes ++ byte ∷ []) ++ rest)) one more)
+    let one : IsPrefixOf (sure_text bytes) (sure_text (bytes ++ byte ∷ [])) = one_goes_on bytes byte (all_prefix (λ x. x < 256) (bytes ++ byte ∷ []) rest fits) in
+    let more : IsPrefixOf (sure_text (bytes ++ byte ∷ [])) (sure_text ((bytes ++ byte ∷ []) ++ rest)) = sure_goes_on (bytes ++ byte ∷ []) rest fits in
+    subst (λ t. IsPrefixOf (sure_text bytes) (sure_text t)) (sym all)
+    (prefix_then (sure_text bytes) (sure_text (bytes ++ byte ∷ [])) (sure_text ((bytes ++ byte ∷ []) ++ rest)) one more)
 
 -- the sure text at a place is a prefix of the place's lines
-place_over : (bytes : List ℕ) (sessions : List Session) (place : Place) → IsReading bytes sessions place → Front (sure_place place) (place_text place)
+place_over : (bytes : List ℕ) (sessions : List Session) (place : Place) → IsReading bytes sessions place → IsPrefixOf (sure_place place) (place_text place)
 place_over bytes sessions (Searching gap) is =
     let k : ℕ = length gap - 4 in
-    let grown : Front (B 0 (take k gap)) (B 0 gap) = subst (λ t. Front (B 0 (take k gap)) (B 0 t)) (take-append-drop k gap) (gap_goes_on (take k gap) (drop k gap)) in
-    front_then (B 0 (take k gap)) (B 0 gap) (bytes_text gap) grown (gap_over gap)
+    let grown : IsPrefixOf (B 0 (take k gap)) (B 0 gap) = subst (λ t. IsPrefixOf (B 0 (take k gap)) (B 0 t)) (take-append-drop k gap) (gap_goes_on (take k gap) (drop k gap)) in
+    prefix_then (B 0 (take k gap)) (B 0 gap) (bytes_text gap) grown (gap_over gap)
 place_over bytes sessions (Synced gap packets tail) is =
-    front_then (sure_session gap packets) (packets_text gap packets) (packets_text gap packets ++ bytes_text tail) (session_over gap packets is.ends.1) (bytes_text tail, refl)
+    prefix_then (sure_session gap packets) (packets_text gap packets) (packets_text gap packets ++ bytes_text tail) (session_over gap packets is.ends.1) (bytes_text tail, refl)
 
 -- the sure text of bytes is a prefix of their listing
-pub sure_over : (bytes : List ℕ) → AreBytes bytes → Front (sure_text bytes) (listing_of bytes)
+pub sure_over : (bytes : List ℕ) → AreBytes bytes → IsPrefixOf (sure_text bytes) (listing_of bytes)
 sure_over bytes f =
     let r : Reading = reading_of bytes in
-    front_behind (flat_map session_text r.sessions) (sure_place r.place) (place_text r.place) (place_over bytes r.sessions r.place (reading_is_found bytes f))
+    prefix_after (flat_map session_text r.sessions) (sure_place r.place) (place_text r.place) (place_over bytes r.sessions r.place (reading_is_found bytes f))
 
 -- the bytes of a gap that are listed are those before the last four
-told_before : (prefix held gap : List ℕ) → gap ≡ prefix ++ held → length held ≡ 4 → before_last_four gap ≡ prefix
-told_before prefix held gap e four =
+listed_before : (prefix held gap : List ℕ) → gap ≡ prefix ++ held → length held ≡ 4 → before_last_four gap ≡ prefix
+listed_before prefix held gap e four =
     let n : length gap - 4 ≡ length prefix = omega (arith, ap length e, length-append prefix held) in
     ap (λ k. take k gap) n ∙ ap (λ t. take (length prefix) t) e ∙ take-append_seam prefix held
 
@@ -218,7 +218,7 @@ none_before gap few = let n : length gap - 4 ≡ 0 = omega arith in ap (λ k. ta
 gap_sure : (all start : List ℕ) (line : ℕ) (held gap : List ℕ) → GapListed all start line held gap → all ≡ start ++ B 0 (before_last_four gap)
 gap_sure all start line held gap g =
     let same : before_last_four gap ≡ g.prefix = elim g.full [
-      | inl four ↦ told_before g.prefix held gap g.split four
+      | inl four ↦ listed_before g.prefix held gap g.split four
       | inr none ↦
           let is : gap ≡ held = g.split ∙ ap (λ t. t ++ held) none in
           let few : length gap ≤ 4 = omega (arith, ap length is, g.few) in
@@ -236,34 +236,34 @@ place_sure true line held all start (Synced gap packets tail) m d t =
     t.1.listed ∙ ap (λ x. x ++ ws) (append_assoc start (bytes_text gap) (codes "sync\n")) ∙ append_assoc start (bytes_text gap ++ codes "sync\n") ws
 
 -- what a lister has listed of bytes is their sure text
-pub told_sure : (l : ListerState) (given bytes : List ℕ) → ListerStandsFor l given [] bytes → given ++ l.text ≡ sure_text bytes
-told_sure l given bytes s =
+pub listed_sure : (l : ListerState) (given bytes : List ℕ) → ListerStandsFor l given [] bytes → given ++ l.text ≡ sure_text bytes
+listed_sure l given bytes s =
     let t = s.tells in
     let e : (t.sessions ≡ (reading_of bytes).sessions) × (t.at ≡ (reading_of bytes).place) = reading_is bytes t.sessions t.at t.cut.reading in
     place_sure l.synced l.line l.held (given ++ l.text) (flat_map session_text t.sessions) t.at l.cutter.mode s.ready t.listed
     ∙ ap (λ x. flat_map session_text x ++ sure_place t.at) e.0 ∙ ap (λ x. flat_map session_text (reading_of bytes).sessions ++ sure_place x) e.1
 
 -- what a lister has listed of bytes is a prefix of the listing of those bytes with any further ones
-pub told_front : (l : ListerState) (given bytes rest : List ℕ) → ListerStandsFor l given [] bytes → AreBytes (bytes ++ rest) → (more : List ℕ) × (listing_of (bytes ++ rest) ≡ (given ++ l.text) ++ more)
-told_front l given bytes rest s f =
+pub listed_prefix : (l : ListerState) (given bytes rest : List ℕ) → ListerStandsFor l given [] bytes → AreBytes (bytes ++ rest) → (more : List ℕ) × (listing_of (bytes ++ rest) ≡ (given ++ l.text) ++ more)
+listed_prefix l given bytes rest s f =
     let sure : List ℕ = sure_text bytes in
-    let all : Front sure (listing_of (bytes ++ rest)) = front_then sure (sure_text (bytes ++ rest)) (listing_of (bytes ++ rest)) (sure_goes_on bytes rest f) (sure_over (bytes ++ rest) f) in
-    subst (λ t. Front t (listing_of (bytes ++ rest))) (sym (told_sure l given bytes s)) all
+    let all : IsPrefixOf sure (listing_of (bytes ++ rest)) = prefix_then sure (sure_text (bytes ++ rest)) (listing_of (bytes ++ rest)) (sure_goes_on bytes rest f) (sure_over (bytes ++ rest) f) in
+    subst (λ t. IsPrefixOf t (listing_of (bytes ++ rest))) (sym (listed_sure l given bytes s)) all
 
 -- what a lister has listed after other listings is the sure text of its bytes
-pub told_behind : (l : ListerState) (given before bytes : List ℕ) (s : ListerStandsFor l given before bytes) → given ++ l.text ≡ (before ++ flat_map session_text s.tells.sessions) ++ sure_place s.tells.at
-told_behind l given before bytes s = place_sure l.synced l.line l.held (given ++ l.text) (before ++ flat_map session_text s.tells.sessions) s.tells.at l.cutter.mode s.ready s.tells.listed
+pub listed_after : (l : ListerState) (given before bytes : List ℕ) (s : ListerStandsFor l given before bytes) → given ++ l.text ≡ (before ++ flat_map session_text s.tells.sessions) ++ sure_place s.tells.at
+listed_after l given before bytes s = place_sure l.synced l.line l.held (given ++ l.text) (before ++ flat_map session_text s.tells.sessions) s.tells.at l.cutter.mode s.ready s.tells.listed
 
-pub sure_behind : (l : ListerState) (given before bytes : List ℕ) → ListerStandsFor l given before bytes → given ++ l.text ≡ before ++ sure_text bytes
-sure_behind l given before bytes s =
+pub sure_after : (l : ListerState) (given before bytes : List ℕ) → ListerStandsFor l given before bytes → given ++ l.text ≡ before ++ sure_text bytes
+sure_after l given before bytes s =
     let t = s.tells in
     let e : (t.sessions ≡ (reading_of bytes).sessions) × (t.at ≡ (reading_of bytes).place) = reading_is bytes t.sessions t.at t.cut.reading in
-    told_behind l given before bytes s ∙ append_assoc before (flat_map session_text t.sessions) (sure_place t.at)
+    listed_after l given before bytes s ∙ append_assoc before (flat_map session_text t.sessions) (sure_place t.at)
     ∙ ap (λ x. before ++ (flat_map session_text x ++ sure_place t.at)) e.0 ∙ ap (λ x. before ++ (flat_map session_text (reading_of bytes).sessions ++ sure_place x)) e.1
 
 -- the listings before and what is listed of bytes are a prefix of those and the listing of the bytes with any further ones
-pub front_behind_others : (l : ListerState) (given before bytes rest : List ℕ) → ListerStandsFor l given before bytes → AreBytes (bytes ++ rest) → (more : List ℕ) × (before ++ listing_of (bytes ++ rest) ≡ (given ++ l.text) ++ more)
-front_behind_others l given before bytes rest s f =
+pub prefix_after_others : (l : ListerState) (given before bytes rest : List ℕ) → ListerStandsFor l given before bytes → AreBytes (bytes ++ rest) → (more : List ℕ) × (before ++ listing_of (bytes ++ rest) ≡ (given ++ l.text) ++ more)
+prefix_after_others l given before bytes rest s f =
     let sure : List ℕ = sure_text bytes in
-    let all : Front sure (listing_of (bytes ++ rest)) = front_then sure (sure_text (bytes ++ rest)) (listing_of (bytes ++ rest)) (sure_goes_on bytes rest f) (sure_over (bytes ++ rest) f) in
-    (all.0, ap (λ t. before ++ t) all.1 ∙ sym (append_assoc before sure all.0) ∙ ap (λ t. t ++ all.0) (sym (sure_behind l given before bytes s)))
+    let all : IsPrefixOf sure (listing_of (bytes ++ rest)) = prefix_then sure (sure_text (bytes ++ rest)) (listing_of (bytes ++ rest)) (sure_goes_on bytes rest f) (sure_over (bytes ++ rest) f) in
+    (all.0, ap (λ t. before ++ t) all.1 ∙ sym (append_assoc before sure all.0) ∙ ap (λ t. t ++ all.0) (sym (sure_after l given before bytes s)))

@@ -4,16 +4,16 @@ use Rattle.x7_words.specs.Flash.{Elapses, FlashState, IsTorn, OnlyWrites, TornFr
 use Rattle.x7_words.proofs.FlashLemmas.{elapses_none, elapses_on, elapses_unwritten, elapses_weaker, target_is_torn}
 use Rattle.x7_update.specs.Writing.{AtAnyMoment, Becomes, BecomesBytes, Leaves}
 
-pub told_at : (told : Option (List ℕ)) (P : List ℕ → Type 0) → IfKnown told P → (all : List ℕ) → told ≡ Some all → P all
-told_at told P t all e = let Q : Option (List ℕ) → Type 0 = λ o. IfKnown o P in let at : IfKnown (Some all) P = subst Q e t in at
+pub known_at : (told : Option (List ℕ)) (P : List ℕ → Type 0) → IfKnown told P → (all : List ℕ) → told ≡ Some all → P all
+known_at told P t all e = let Q : Option (List ℕ) → Type 0 = λ o. IfKnown o P in let at : IfKnown (Some all) P = subst Q e t in at
 
-pub told_all : (told : Option (List ℕ)) (P : List ℕ → Type 0) → ((all : List ℕ) → told ≡ Some all → P all) → IfKnown told P
-told_all None P f = tt
-told_all (Some all) P f = f all refl
+pub known_all : (told : Option (List ℕ)) (P : List ℕ → Type 0) → ((all : List ℕ) → told ≡ Some all → P all) → IfKnown told P
+known_all None P f = tt
+known_all (Some all) P f = f all refl
 
-pub told_map : (told : Option (List ℕ)) (P Q : List ℕ → Type 0) → ((all : List ℕ) → told ≡ Some all → P all → Q all) → IfKnown told P → IfKnown told Q
-told_map None P Q f t = tt
-told_map (Some all) P Q f t = f all refl t
+pub known_map : (told : Option (List ℕ)) (P Q : List ℕ → Type 0) → ((all : List ℕ) → told ≡ Some all → P all → Q all) → IfKnown told P → IfKnown told Q
+known_map None P Q f t = tt
+known_map (Some all) P Q f t = f all refl t
 
 -- what holds whatever the answer is
 pub on_ok : {E : Type 0} (P : Type 0) (answer : Result (Unit {0}) E) → P → OnOk answer P
@@ -28,7 +28,7 @@ on_ok_map P Q (Err _) p f = tt
 
 -- bytes that are told still, where a relation of them is known
 pub leaves_map : (old new : FlashState) (P Q : List ℕ → List ℕ → Type 0) → ((all now : List ℕ) → old.bytes ≡ Some all → P all now → Q all now) → Leaves old new P → Leaves old new Q
-leaves_map old new P Q f l = told_map old.bytes (λ all. (now : List ℕ) × (new.bytes ≡ Some now) × P all now) (λ all. (now : List ℕ) × (new.bytes ≡ Some now) × Q all now) (λ all e p. (p.0, p.1, f all p.0 e p.2)) l
+leaves_map old new P Q f l = known_map old.bytes (λ all. (now : List ℕ) × (new.bytes ≡ Some now) × P all now) (λ all. (now : List ℕ) × (new.bytes ≡ Some now) × Q all now) (λ all e p. (p.0, p.1, f all p.0 e p.2)) l
 
 -- an equation of bytes that may be told
 pub becomes_of : (old new : FlashState) (f : List ℕ → List ℕ) (P : List ℕ → List ℕ → Type 0) → new.bytes ≡ option_map f old.bytes → ((all : List ℕ) → old.bytes ≡ Some all → P all (f all)) → Becomes old new P
@@ -84,15 +84,15 @@ becomes_then a b P Q f p = go a.bytes f p
 
 -- what is left after one call and another
 pub leaves_on : (a b c : FlashState) (P Q R : List ℕ → List ℕ → Type 0) → ((all mid now : List ℕ) → a.bytes ≡ Some all → P all mid → Q mid now → R all now) → Leaves a b P → Leaves b c Q → Leaves a c R
-leaves_on a b c P Q R f l m = told_map a.bytes (λ all. (now : List ℕ) × (b.bytes ≡ Some now) × P all now) (λ all. (now : List ℕ) × (c.bytes ≡ Some now) × R all now)
-    (λ all e p. let q = told_at b.bytes (λ mid. (now : List ℕ) × (c.bytes ≡ Some now) × Q mid now) m p.0 p.1 in (q.0, q.1, f all p.0 q.0 e p.2 q.2)) l
+leaves_on a b c P Q R f l m = known_map a.bytes (λ all. (now : List ℕ) × (b.bytes ≡ Some now) × P all now) (λ all. (now : List ℕ) × (c.bytes ≡ Some now) × R all now)
+    (λ all e p. let q = known_at b.bytes (λ mid. (now : List ℕ) × (c.bytes ≡ Some now) × Q mid now) m p.0 p.1 in (q.0, q.1, f all p.0 q.0 e p.2 q.2)) l
 
 -- ---- at any moment
 
 -- no call yet
 pub moments_none : (s : FlashState) (since : ℕ → List ℕ → Type 0) (P : List ℕ → List ℕ → Type 0) → ((all : List ℕ) → s.bytes ≡ Some all → P all all) → AtAnyMoment s s since since P
 moments_none s since P h = record {
-  leaves = told_all s.bytes (λ all. (now : List ℕ) × (s.bytes ≡ Some now) × P all now) (λ all e. (all, e, h all e));
+  leaves = known_all s.bytes (λ all. (now : List ℕ) × (s.bytes ≡ Some now) × P all now) (λ all e. (all, e, h all e));
   elapses = elapses_none s.moments since (λ found. IfKnown s.bytes (λ all. P all found));
 }
 
@@ -101,7 +101,7 @@ pub moments_weaker : (a b : FlashState) (past since : ℕ → List ℕ → Type 
 moments_weaker a b past since P Q f m = record {
   leaves = leaves_map a b P Q (λ all now e p. f all now e p) m.leaves;
   elapses = elapses_weaker a.moments b.moments past since (λ found. IfKnown a.bytes (λ all. P all found)) (λ found. IfKnown a.bytes (λ all. Q all found)) m.elapses
-      (λ found w. told_map a.bytes (λ all. P all found) (λ all. Q all found) (λ all e p. f all found e p) w);
+      (λ found w. known_map a.bytes (λ all. P all found) (λ all. Q all found) (λ all e p. f all found e p) w);
 }
 
 -- a call more: what it found of the bytes that the calls before it left
@@ -110,13 +110,13 @@ pub moments_on : (a b c : FlashState) (past mids since : ℕ → List ℕ → Ty
 moments_on a b c past mids since P Q R f m l n = record {
   leaves = leaves_on a b c P Q R f l n.leaves;
   elapses = elapses_on a.moments b.moments c.moments past mids since (λ found. IfKnown a.bytes (λ all. R all found)) (λ found. IfKnown b.bytes (λ mid. Q mid found)) m.elapses n.elapses
-      (λ found w. told_map a.bytes (λ all. (mid : List ℕ) × (b.bytes ≡ Some mid) × P all mid) (λ all. R all found) (λ all e p. f all p.0 found e p.2 (told_at b.bytes (λ mid. Q mid found) w p.0 p.1)) l);
+      (λ found w. known_map a.bytes (λ all. (mid : List ℕ) × (b.bytes ≡ Some mid) × P all mid) (λ all. R all found) (λ all e p. f all p.0 found e p.2 (known_at b.bytes (λ mid. Q mid found) w p.0 p.1)) l);
 }
 
 -- an attach or a read after them, which leaves the bytes and writes nothing
 pub moments_read : (a b c : FlashState) (past mids since : ℕ → List ℕ → Type 0) (P : List ℕ → List ℕ → Type 0) → AtAnyMoment a b past mids P → c.bytes ≡ b.bytes → Unwritten b c mids since → AtAnyMoment a c past since P
 moments_read a b c past mids since P m same u = record {
-  leaves = told_map a.bytes (λ all. (now : List ℕ) × (b.bytes ≡ Some now) × P all now) (λ all. (now : List ℕ) × (c.bytes ≡ Some now) × P all now) (λ all e p. (p.0, same ∙ p.1, p.2)) m.leaves;
+  leaves = known_map a.bytes (λ all. (now : List ℕ) × (b.bytes ≡ Some now) × P all now) (λ all. (now : List ℕ) × (c.bytes ≡ Some now) × P all now) (λ all e p. (p.0, same ∙ p.1, p.2)) m.leaves;
   elapses = elapses_unwritten a.moments b c past mids since (λ found. IfKnown a.bytes (λ all. P all found)) m.elapses u;
 }
 
@@ -125,7 +125,7 @@ pub read_moments : (a b c : FlashState) (past mids since : ℕ → List ℕ → 
 read_moments a b c past mids since P h kept u n =
     moments_on a b c past mids since (λ all mid. mid ≡ all) P P (λ all mid found e same p. subst (λ x. P x found) same p)
     (moments_read a a b past past mids P (moments_none a past P h) kept u)
-    (told_all a.bytes (λ all. (mid : List ℕ) × (b.bytes ≡ Some mid) × (mid ≡ all)) (λ all e. (all, kept ∙ e, refl))) n
+    (known_all a.bytes (λ all. (mid : List ℕ) × (b.bytes ≡ Some mid) × (mid ≡ all)) (λ all e. (all, kept ∙ e, refl))) n
 
 -- only these
 pub only_read : (a b : FlashState) (past since : ℕ → List ℕ → Type 0) (P : List ℕ → List ℕ → Type 0) → ((all : List ℕ) → a.bytes ≡ Some all → P all all) → b.bytes ≡ a.bytes → Unwritten a b past since → AtAnyMoment a b past since P
@@ -141,7 +141,7 @@ write_moments place target old new past since answer within done torn passes = r
     left : {E : Type 0} (answer : Result (Unit {0}) E) → OnOk answer (new.bytes ≡ option_map (λ all. replaced place (target all) all) old.bytes) → OnErr answer (TornFrom place target old.bytes new.bytes) → Leaves old new (λ all now. IsTorn place (target all) all now)
     left (Ok _) done torn = becomes_leaves old new (λ all now. IsTorn place (target all) all now) (becomes_of old new (λ all. replaced place (target all) all) (λ all now. IsTorn place (target all) all now) done (λ all e. target_is_torn place (target all) all (within all e)))
     left (Err _) done torn =
-        told_all old.bytes (λ all. (now : List ℕ) × (new.bytes ≡ Some now) × IsTorn place (target all) all now)
+        known_all old.bytes (λ all. (now : List ℕ) × (new.bytes ≡ Some now) × IsTorn place (target all) all now)
         (λ all e. let Q : Option (List ℕ) → Type 0 = λ o. TornFrom place target o new.bytes in let at : TornFrom place target (Some all) new.bytes = subst Q e torn in at)
 
 -- ---- what stays

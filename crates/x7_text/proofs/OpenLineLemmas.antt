@@ -5,20 +5,20 @@ use Rattle.std.proofs.lemmas.List.{length-map, length-take-le}
 use Rattle.x7_words.specs.Word.{word_of_bytes}
 use Rattle.x7_text.specs.Digits.{hex_byte}
 use Rattle.x7_text.specs.Row.{element_text, in_line_after, next_in_line, open_text, spaced}
-use Rattle.x7_text.proofs.LineLemmas.{open_text-append, in_line_after-append}
+use Rattle.x7_text.proofs.LineLemmas.{open_text_append, in_line_after_append}
 
 -- after the elements xs, which were given after `start` of an open line, to a text that was `old`
-pub record Told (n : ℕ) (word : List ℕ) (text : ℕ → List ℕ) (start : ℕ) (old xs items : List ℕ) (count : ℕ) : Type 0 where
+pub record WrittenSoFar (n : ℕ) (word : List ℕ) (text : ℕ → List ℕ) (start : ℕ) (old xs items : List ℕ) (count : ℕ) : Type 0 where
   pub text_is : items ≡ old ++ open_text n word text start xs
   pub count_is : count ≡ in_line_after n start xs
   pub is_open : count < n
 
-pub told_one_more : (n : ℕ) (word : List ℕ) (text : ℕ → List ℕ) (start : ℕ) (old xs items items' : List ℕ) (count count' x : ℕ) → Told n word text start old xs items count
-    → items' ≡ items ++ open_text n word text count (x ∷ []) → count' ≡ in_line_after n count (x ∷ []) → count' < n → Told n word text start old (xs ++ x ∷ []) items' count'
-told_one_more n word text start old xs items items' count count' x t e f h = record {
+pub written_one_more : (n : ℕ) (word : List ℕ) (text : ℕ → List ℕ) (start : ℕ) (old xs items items' : List ℕ) (count count' x : ℕ) → WrittenSoFar n word text start old xs items count
+    → items' ≡ items ++ open_text n word text count (x ∷ []) → count' ≡ in_line_after n count (x ∷ []) → count' < n → WrittenSoFar n word text start old (xs ++ x ∷ []) items' count'
+written_one_more n word text start old xs items items' count count' x t e f h = record {
   text_is = e ∙ ap (λ k. items ++ open_text n word text k (x ∷ [])) t.count_is ∙ ap (λ s. s ++ open_text n word text (in_line_after n start xs) (x ∷ [])) t.text_is
-      ∙ append_assoc old (open_text n word text start xs) (open_text n word text (in_line_after n start xs) (x ∷ [])) ∙ ap (λ s. old ++ s) (sym (open_text-append n word text start xs (x ∷ [])));
-  count_is = f ∙ ap (λ k. in_line_after n k (x ∷ [])) t.count_is ∙ sym (in_line_after-append n start xs (x ∷ []));
+      ∙ append_assoc old (open_text n word text start xs) (open_text n word text (in_line_after n start xs) (x ∷ [])) ∙ ap (λ s. old ++ s) (sym (open_text_append n word text start xs (x ∷ [])));
+  count_is = f ∙ ap (λ k. in_line_after n k (x ∷ [])) t.count_is ∙ sym (in_line_after_append n start xs (x ∷ []));
   is_open = h;
 }
 
@@ -51,12 +51,12 @@ pub bytes_at_most : (i : ℕ) (bs : List ℕ) → i < 32 → length (open_text 3
 bytes_at_most i bs less = let h = bytes_length i bs in grind (arith, common_steps)
 
 -- the length of the text in the loops
-pub told_words_length : (start : ℕ) (old items : List ℕ) (groups : List (List ℕ)) (i count : ℕ) → i ≤ length groups
-    → Told 8 (codes "data") spaced start old (map word_of_bytes (take i groups)) items count → length items ≤ length old + (12 * i + 1)
-told_words_length start old items groups i count h t =
+pub written_words_length : (start : ℕ) (old items : List ℕ) (groups : List (List ℕ)) (i count : ℕ) → i ≤ length groups
+    → WrittenSoFar 8 (codes "data") spaced start old (map word_of_bytes (take i groups)) items count → length items ≤ length old + (12 * i + 1)
+written_words_length start old items groups i count h t =
     omega (arith, ap length t.text_is, length-append old (open_text 8 (codes "data") spaced start (map word_of_bytes (take i groups))), words_at_most start (map word_of_bytes (take i groups)), length-map (take i groups) word_of_bytes, length-take-le i groups h)
 
-pub told_bytes_length : (start : ℕ) (old items bs : List ℕ) (i count : ℕ) → start < 32 → i ≤ length bs
-    → Told 32 (codes "bytes ") hex_byte start old (take i bs) items count → length items ≤ length old + (3 * i + 5)
-told_bytes_length start old items bs i count less h t =
+pub written_bytes_length : (start : ℕ) (old items bs : List ℕ) (i count : ℕ) → start < 32 → i ≤ length bs
+    → WrittenSoFar 32 (codes "bytes ") hex_byte start old (take i bs) items count → length items ≤ length old + (3 * i + 5)
+written_bytes_length start old items bs i count less h t =
     omega (arith, ap length t.text_is, length-append old (open_text 32 (codes "bytes ") hex_byte start (take i bs)), bytes_at_most start (take i bs) less, length-take-le i bs h)
