@@ -14,8 +14,9 @@ use std::alloc::Global;
 use std::io::{self, ErrorKind};
 use std::process::ExitCode;
 use std::{env, fs};
+use x7_files::{FileFlash, FileInputs, StdSink};
 use x7_tool::{Status, run};
-use x7_words::{FileFlash, FileInputs, Flash, Inputs, Sink, StdSink, write_all};
+use x7_words::{Flash, Inputs, Sink, write_all};
 
 /// The program's end where the system gives no list of words, as where one of them isn't UTF-8.
 const NO_WORDS: u8 = 12;

@@ -5,7 +5,8 @@ use std::io::{ErrorKind, Read, Seek, SeekFrom, Write};
 use std::rt::Files;
 use std::test::Fail;
 use std::{env, fs, io, process};
-use x7_words::{FileFlash, Flash, SECTOR};
+use x7_files::FileFlash;
+use x7_words::{Flash, SECTOR};
 
 /// What fails.
 #[derive(Clone, Copy, PartialEq, Eq)]

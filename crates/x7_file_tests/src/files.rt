@@ -3,10 +3,9 @@ use std::io::{ErrorKind, Write};
 use std::rt::Files;
 use std::test::Fail;
 use std::{env, fs, io, process};
+use x7_files::{FileFlash, FileInputs, KnownSink, StdSink};
 use x7_in_memory::MemoryInputs;
-use x7_words::{
-    Failed, FileFlash, FileInputs, Flash, Inputs, KnownSink, SelectFault, Sink, StdSink, write_all,
-};
+use x7_words::{Failed, Flash, Inputs, SelectFault, Sink, write_all};
 
 /// Selects, and reads three times into four bytes of the buffer each.
 fn three_reads<I: Inputs>(

@@ -4,10 +4,11 @@ use std::alloc::{AllocError, Global};
 use std::os::unix::fs::symlink;
 use std::path::{Path, PathBuf};
 use std::{env, fs, process};
+use x7_files::FileFlash;
 use x7_in_memory::{MemoryFlash, MemoryInputs, MemorySink};
 use x7_tool::run;
 use x7_update::{UpdateFault, update};
-use x7_words::{FileFlash, Flash};
+use x7_words::Flash;
 
 const OPEN: [u8; 4] = [0xAA, 0x99, 0x55, 0x66];
 

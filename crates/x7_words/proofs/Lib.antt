@@ -1,6 +1,4 @@
 pub mod CountLemmas
-pub mod FileFlashLemmas
-pub mod FilesLemmas
 pub mod FlashLemmas
 pub mod InputLemmas
 pub mod ListLemmas

@@ -3,4 +3,3 @@ pub mod Count
 pub mod Input
 pub mod Sink
 pub mod Flash
-pub mod Files

@@ -3,7 +3,6 @@
 
 mod bytes;
 mod count;
-mod files;
 mod flash;
 mod input;
 mod sink;
@@ -11,7 +10,6 @@ mod word;
 
 pub use bytes::is_same;
 pub use count::{count_end, next_count};
-pub use files::{FileFlash, FileInputs, KnownSink, StdSink};
 pub use flash::{FLASH_LIMIT, Flash, SECTOR};
 pub use input::{Failed, Inputs, NoMemory, SelectFault};
 pub use sink::{Sink, write_all, write_pieces};

@@ -1,8 +1,8 @@
 use Rattle.std.proofs.Common.{replicate, subst, sym}
-use Rattle.x7_words.specs.Files.{WritesAt, file_tells}
-use Rattle.x7_words.proofs.FileFlashLemmas.{on_ok}
+use Rattle.x7_files.specs.Files.{WritesAt, file_tells}
+use Rattle.x7_files.proofs.FileFlashLemmas.{on_ok}
 use Rattle.x7_words.proofs.FlashLemmas.{sector_size_is}
-use Rattle.x7_words.proofs.files.flash.erase_from.Goals as goal
+use Rattle.x7_files.proofs.files.flash.erase_from.Goals as goal
 
 pub returns : goal.returns
 returns g c =

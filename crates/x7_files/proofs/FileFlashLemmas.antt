@@ -6,7 +6,7 @@ use Rattle.std.specs.List.{concat}
 use Rattle.x7_words.specs.Count.{HasRisen, raised}
 use Rattle.x7_words.specs.Flash.{Elapses, OnlyReads, OnlyWrites, Unattached, Unwritten}
 use Rattle.x7_words.proofs.CountLemmas.{raised_risen}
-use Rattle.x7_words.specs.Files.{Clears, ClearsAt, ClearsPieces, IsExtent, RealFlash, KnowsOfFile, after_opening, known_flash}
+use Rattle.x7_files.specs.Files.{Clears, ClearsAt, ClearsPieces, IsExtent, RealFlash, KnowsOfFile, after_opening, known_flash}
 use Rattle.x7_words.specs.declared.input.Failed.{Failed as FailedCall}
 use Rattle.x7_words.specs.declared.input.SelectFault.{SelectFault}
 use Rattle.x7_words.specs.declared.input.SelectFault.TheVariants.{Missing, Failed}

@@ -6,7 +6,7 @@ use Rattle.std.specs.declared.io.ErrorKind.{ErrorKind}
 use Rattle.x7_words.specs.Count.{added, ends_counted, raised}
 use Rattle.x7_words.specs.Input.{Asks, Fails, Opens, Refuses, Takes}
 use Rattle.x7_words.proofs.CountLemmas.{raised_risen}
-use Rattle.x7_words.specs.Files.{RealInputs, after_open, known_inputs}
+use Rattle.x7_files.specs.Files.{RealInputs, after_open, known_inputs}
 use Rattle.x7_words.specs.declared.input.Failed.{Failed as FailedRead}
 use Rattle.x7_words.specs.declared.input.SelectFault.{SelectFault}
 use Rattle.x7_words.specs.declared.input.SelectFault.TheVariants.{Missing, Failed}

@@ -1,6 +1,6 @@
 use Rattle.std.proofs.Common.{refl, length, arith}
-use Rattle.x7_words.proofs.FilesLemmas.{opened_asks, opened_ok, opened_refused, opened_err, failed_read, read_ok, read_err, read_gives, read_absences, read_lost, read_more, read_selects, untold_read, within_buffer}
-use Rattle.x7_words.proofs.files.FileInputsInputs.TheImpl.Goals as goal
+use Rattle.x7_files.proofs.FilesLemmas.{opened_asks, opened_ok, opened_refused, opened_err, failed_read, read_ok, read_err, read_gives, read_absences, read_lost, read_more, read_selects, untold_read, within_buffer}
+use Rattle.x7_files.proofs.files.FileInputsInputs.TheImpl.Goals as goal
 
 pub select-tells : goal.select-tells
 select-tells g c =

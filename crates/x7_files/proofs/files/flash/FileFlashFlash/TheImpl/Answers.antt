@@ -1,6 +1,6 @@
 use Rattle.std.proofs.Common.{None, inl, refl, arith}
-use Rattle.x7_words.proofs.FileFlashLemmas.{attached_ok, attached_refused, attached_err, attach_write_faults, failed_read_at, failed_write, on_ok, only_reads, only_writes, quiet_read_at, untold_passes, untold_read_at, untold_torn, untold_unwritten, untold_written}
-use Rattle.x7_words.proofs.files.flash.FileFlashFlash.TheImpl.Goals as goal
+use Rattle.x7_files.proofs.FileFlashLemmas.{attached_ok, attached_refused, attached_err, attach_write_faults, failed_read_at, failed_write, on_ok, only_reads, only_writes, quiet_read_at, untold_passes, untold_read_at, untold_torn, untold_unwritten, untold_written}
+use Rattle.x7_files.proofs.files.flash.FileFlashFlash.TheImpl.Goals as goal
 
 pub attach-tells : goal.attach-tells
 attach-tells g c =

@@ -1,8 +1,8 @@
 use Rattle.std.proofs.Common.{◌≡◌, ◌+◌, ◌-◌, ◌++◌, length, take, drop, ap, length-take-le, ◌∙◌, arith}
 use Rattle.std.proofs.Math.Seq.{take-add}
-use Rattle.x7_words.specs.Files.{file_tells}
-use Rattle.x7_words.proofs.FileFlashLemmas.{clears_more}
-use Rattle.x7_words.proofs.files.flash.program_from.Goals as goal
+use Rattle.x7_files.specs.Files.{file_tells}
+use Rattle.x7_files.proofs.FileFlashLemmas.{clears_more}
+use Rattle.x7_files.proofs.files.flash.program_from.Goals as goal
 
 pub loop-done-preserved : goal.loop-done-preserved
 loop-done-preserved g c =

@@ -1,8 +1,8 @@
 use Rattle.std.proofs.Common.{ℕ, length, length-take-le, replicate, arith, subst, ◌∙◌}
 use Rattle.std.proofs.lemmas.List.{length-replicate}
 use Rattle.std.proofs.lemmas.Result.{on_ok_weaker}
-use Rattle.x7_words.specs.Files.{WritesAt, file_tells}
-use Rattle.x7_words.proofs.files.flash.clear_piece.Goals as goal
+use Rattle.x7_files.specs.Files.{WritesAt, file_tells}
+use Rattle.x7_files.proofs.files.flash.clear_piece.Goals as goal
 
 pub returns : goal.returns
 returns g c =

@@ -1,6 +1,6 @@
 use Rattle.std.proofs.Common.{ap, arith, bit_and, get_or}
 use Rattle.x7_words.proofs.ZipLemmas.{next_in_place, more_in_place, all_in_place}
-use Rattle.x7_words.proofs.files.flash.clear_bits.Goals as goal
+use Rattle.x7_files.proofs.files.flash.clear_bits.Goals as goal
 
 pub loop-i-preserved : goal.loop-i-preserved
 loop-i-preserved c =

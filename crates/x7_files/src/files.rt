@@ -2,18 +2,16 @@
 ghost use Rattle.std.specs.Prelude.{◌≡◌, ◌<◌, ◌≤◌, ◌+◌, ◌^◌, length, None, Some, true, false, is_some, IfErr, IfOk, OnOk, OnErr};
 ghost use Rattle.std.specs.Io.KnownBytes.{ReadConsumes, WriteAppends};
 ghost use Rattle.x7_words.specs.Count.{added, ends_counted, raised};
-ghost use Rattle.x7_words.specs.Files.{after_open, known_inputs, faults_after, missing_after, ReadGives, RefusedFor};
+ghost use Rattle.x7_files.specs.Files.{after_open, known_inputs, faults_after, missing_after, ReadGives, RefusedFor};
 
 mod flash;
 
-use crate::count::{count_end, next_count};
-use crate::input::{Failed, Inputs, SelectFault};
-use crate::sink::Sink;
 pub use flash::FileFlash;
 use std::fs;
 use std::io::{ErrorKind, Read, Write};
 use std::marker::Model;
 use std::rt::Files;
+use x7_words::{Failed, Inputs, SelectFault, Sink, count_end, next_count};
 
 /// Why a file was not opened, by the error's kind. Only a file that isn't there is missing.
 fn refused(kind: ErrorKind) -> SelectFault
@@ -68,7 +66,7 @@ pub struct FileInputs<'r, R: Files> {
 
 impl<'r, R: Files> Model for FileInputs<'r, R> {
     ghost use Rattle.std.specs.Prelude.{◌<◌, ◌^◌, is_some};
-    ghost use Rattle.x7_words.specs.Files.{RealInputs, rest_of};
+    ghost use Rattle.x7_files.specs.Files.{RealInputs, rest_of};
 
     ghost Value = { RealInputs };
 
@@ -176,7 +174,7 @@ pub struct StdSink<W: Write + Drop> {
 
 impl<W: Write + Drop> Model for StdSink<W> {
     ghost use Rattle.std.specs.Prelude.{◌<◌, ◌^◌};
-    ghost use Rattle.x7_words.specs.Files.{RealSink};
+    ghost use Rattle.x7_files.specs.Files.{RealSink};
 
     ghost Value = { RealSink };
 
@@ -225,7 +223,7 @@ pub struct KnownSink<W: Write + Drop> {
 
 impl<W: Write + Drop> Model for KnownSink<W> {
     ghost use Rattle.std.specs.Prelude.{◌≡◌, true, is_some};
-    ghost use Rattle.x7_words.specs.Files.{RealSink};
+    ghost use Rattle.x7_files.specs.Files.{RealSink};
 
     ghost Value = { RealSink };
 

@@ -3,17 +3,15 @@ ghost use Rattle.std.specs.Prelude.{◌≡◌, ◌+◌, ◌*◌, ◌<◌, ◌≤
 ghost use Rattle.std.specs.Io.KnownBytes.{Consumes};
 ghost use Rattle.std.specs.Io.Seek.{MovesTo};
 ghost use Rattle.x7_words.specs.Count.{raised};
-ghost use Rattle.x7_words.specs.Files.{after_opening, file_tells, known_flash, Clears, ClearsAt, EndsAt, IsExtent, ReadsAt, RefusedFor, WhileOpen, WritesAt};
+ghost use Rattle.x7_files.specs.Files.{after_opening, file_tells, known_flash, Clears, ClearsAt, EndsAt, IsExtent, ReadsAt, RefusedFor, WhileOpen, WritesAt};
 ghost use Rattle.x7_words.specs.Flash.{erased_sector, zip_with};
 
 use super::count_refusal;
-use crate::count::next_count;
-use crate::flash::{Flash, SECTOR};
-use crate::input::{Failed, SelectFault};
 use std::fs::{self, OpenFile, OpenOptions};
 use std::io::{self, ErrorKind, Read, Seek, SeekFrom, Write};
 use std::marker::Model;
 use std::rt::Files;
+use x7_words::{Failed, Flash, SECTOR, SelectFault, next_count};
 
 /// The number of a file's bytes: where its end is. A folder is no file.
 fn extent_of<F: OpenFile + Seek>(file: &mut F) -> io::Result<u64>
@@ -150,7 +148,7 @@ pub struct FileFlash<'r, R: Files> {
 
 impl<'r, R: Files> Model for FileFlash<'r, R> {
     ghost use Rattle.std.specs.Prelude.{◌<◌, ◌^◌};
-    ghost use Rattle.x7_words.specs.Files.{RealFlash};
+    ghost use Rattle.x7_files.specs.Files.{RealFlash};
 
     ghost Value = { RealFlash R.File };
 

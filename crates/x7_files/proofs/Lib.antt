@@ -1,0 +1,2 @@
+pub mod FileFlashLemmas
+pub mod FilesLemmas
