@@ -23,7 +23,6 @@ use Rattle.x7_forms.specs.Known.{Absent, Broken, Failing, Found, Held, Known, La
 use Rattle.x7_forms.specs.Turn.{Breaks, IsAt, Reads, Unopened, Unread, UnreadRest, longest_header}
 use Rattle.x7_forms.proofs.HeadLemmas.{data_more}
 use Rattle.x7_forms.specs.Step.{Among, AnswersAs, AnswersBy, CameIn, DueBy, FailsAmong, IsCaused, IsCausedBy, IsDecided, IsDue, IsFromOutside, IsNoPart, IsOneUnplayed, IsPossible, IsUnplayed, IsUnread, LacksAmong, step_over}
-use Rattle.x7_forms.specs.Play.{part_event}
 use Rattle.x7_part.specs.declared.fault.PartFault.{PartFault}
 use Rattle.x7_part.specs.declared.fault.PartFault.TheVariants as part
 use Rattle.std.proofs.Math.Seq.{take-append-add}
@@ -623,15 +622,6 @@ refused_by name bytes (Err (header.Field place)) event e = (place, cc)
 
 pub header_refused : (name bytes : List ℕ) (event : Event) → Err event ≡ data_in name bytes → IsUnplayed name event
 header_refused name bytes event e = inr (refused_by name bytes (header_at bytes) event e)
-
--- a part file that gives no part
-pub no_part : (name : List ℕ) (fault : PartFault) (event : Event) → event ≡ part_event name fault → IsNoPart name event
-no_part name part.NoMemory event e = inl (inl e)
-no_part name part.Toml event e = inr (part.Toml, e)
-no_part name (part.Key which) event e = inr (part.Key which, e)
-no_part name (part.Range which) event e = inr (part.Range which, e)
-no_part name (part.SameRow row) event e = inr (part.SameRow row, e)
-no_part name (part.TooMany frames) event e = inr (part.TooMany frames, e)
 
 -- a stream of several
 pub one_unplayed : {X : Type 0} (f : X → List ℕ) (ss : List X) (k : ℕ) (s : X) (name : List ℕ) (event : Event) → k < length ss → s ≡ get_or ss k s → name ≡ f s → IsUnplayed name event → IsOneUnplayed (map f ss) event

@@ -6,9 +6,10 @@ use Rattle.x7_header.specs.Reading.{header_at}
 use Rattle.x7_header.specs.declared.fault.HeaderFault.{HeaderFault}
 use Rattle.x7_header.specs.declared.fault.HeaderFault.TheVariants as header
 use Rattle.x7_part.specs.declared.fault.PartFault.{PartFault}
+use Rattle.x7_part.specs.declared.fault.PartFault.TheVariants as part
 use Rattle.x7_part.specs.Part.{PartData}
 use Rattle.x7_forms.specs.declared.bad_input.InputFault.TheVariants as input
-use Rattle.x7_forms.specs.Event.{Event, bad_input, bad_part, missing, read_fault, too_large}
+use Rattle.x7_forms.specs.Event.{Event, bad_input, bad_part, missing, no_memory, read_fault, too_large}
 use Rattle.x7_part.specs.PartFile.{part_in}
 
 -- what is found under a name: bytes, nothing, or the first bytes and then a fault
@@ -71,6 +72,11 @@ whole_in known limit name = taken_whole name limit (known.inputs name)
 -- the most bytes of a part file
 abbrev pub part_limit : ℕ
 part_limit = 1048576
+
+-- the event of a part file that gave no part
+abbrev pub part_event : List ℕ → PartFault → Event
+part_event name part.NoMemory = no_memory
+part_event name fault = bad_part name fault
 
 -- the part of a part file of this name, or the event of a file that has none
 abbrev pub part_by : List ℕ → Result PartData PartFault → Result PartData Event

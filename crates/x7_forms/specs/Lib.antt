@@ -2,7 +2,6 @@ pub mod Event
 pub mod Form
 pub mod Known
 pub mod Message
-pub mod Play
 pub mod Step
 pub mod Stop
 pub mod Turn

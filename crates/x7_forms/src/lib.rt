@@ -1,13 +1,12 @@
-//! What the forms of the command `x7` stand on: their words, how inputs are read, the play of streams, and the line that is
-//! said where there is no whole text.
+//! What the forms of the command `x7` stand on: their words, how inputs are read, the part of a part file, and the line that
+//! is said where there is no whole text.
 #![tactic(auto)]
 
 mod bad_input;
 mod bad_part;
 mod beginning;
 mod form;
-mod player;
-mod playing;
+mod part;
 mod read;
 mod refusal;
 mod status;
@@ -15,8 +14,7 @@ mod status;
 pub use bad_input::InputFault;
 pub use beginning::{Beginning, read_beginning};
 pub use form::{Form, words_of};
-pub use player::Player;
-pub use playing::{play_streams, read_part};
-pub use read::{STREAM_LIMIT, TEXT_LIMIT, TURN, Turn, data_start, next_turn, open, read_whole};
+pub use part::read_part;
+pub use read::{STREAM_LIMIT, TEXT_LIMIT, TURN, Turn, data_start, next_turn, open, read_whole, skip_rest};
 pub use refusal::{Refusal, Why};
 pub use status::Status;

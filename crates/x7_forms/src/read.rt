@@ -197,7 +197,7 @@ pub fn read_whole<'w, I: Inputs>(
 
 /// Reads the rest of the open input to its end, of which `limit` bytes are within the limit; after the last turn there is
 /// no rest.
-pub(crate) fn skip_rest<'w, I: Inputs>(
+pub fn skip_rest<'w, I: Inputs>(
     inputs: &mut I,
     name: &'w str,
     limit: usize,

@@ -34,8 +34,8 @@ use Rattle.x7_effects.specs.Played.{PlaysFull, resting_after}
 use Rattle.x7_effects.proofs.LawLemmas.{new_law}
 use Rattle.x7_tool.specs.Generated.{count_line, counted, gen_text, generated, head_line, next_number, planned_summary, played_summary, row_by, rows_after, sum_line, summary_text, words_sum}
 use Rattle.x7_forms.specs.Known.{reads_limit}
-use Rattle.x7_forms.specs.Play.{HasPlayed, HasPlayedBy, PlayState, Plays, PlaysOn}
-use Rattle.x7_forms.specs.declared.player.Player.{Player}
+use Rattle.x7_playing.specs.Play.{HasPlayed, HasPlayedBy, PlayState, Plays, PlaysOn}
+use Rattle.x7_playing.specs.declared.player.Player.{Player}
 
 -- ---- frames that count up
 

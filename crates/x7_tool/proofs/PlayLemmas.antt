@@ -13,9 +13,9 @@ use Rattle.x7_report.specs.Report.{PlayTextState, report_text}
 use Rattle.x7_forms.specs.Event.{Event, no_memory, too_many_reads}
 use Rattle.x7_forms.specs.Known.{Answer, reads_limit}
 use Rattle.x7_forms.specs.Message.{event_of}
-use Rattle.x7_forms.specs.Play.{HasPlayed, IsPlayed}
+use Rattle.x7_playing.specs.Play.{HasPlayed, IsPlayed}
 use Rattle.x7_forms.specs.Step.{IsDecided, IsPossible, seen}
-use Rattle.x7_forms.specs.declared.player.Player.{Player}
+use Rattle.x7_playing.specs.declared.player.Player.{Player}
 use Rattle.x7_forms.specs.declared.refusal.Refusal.{Refusal}
 use Rattle.x7_tool.specs.Play.{report_of, reported, text_of_play}
 

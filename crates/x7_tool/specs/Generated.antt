@@ -10,8 +10,8 @@ use Rattle.x7_planner.specs.FullStream.{full_stream}
 use Rattle.x7_engine.specs.Kept.{on_the_bench}
 use Rattle.x7_engine.specs.State.{memory_in, reads_of, state_of}
 use Rattle.x7_forms.specs.Known.{reads_limit}
-use Rattle.x7_forms.specs.Play.{HasPlayed}
-use Rattle.x7_forms.specs.declared.player.Player.{Player}
+use Rattle.x7_playing.specs.Play.{HasPlayed}
+use Rattle.x7_playing.specs.declared.player.Player.{Player}
 
 -- the number after a number
 abbrev pub next_number : ℕ → ℕ

@@ -14,16 +14,17 @@ ghost use Rattle.x7_forms.specs.Message.{event_of};
 ghost use Rattle.x7_tool.specs.Outcome.{gen_answer};
 ghost use Rattle.x7_tool.specs.Run.{MakesReady};
 ghost use Rattle.x7_forms.specs.Form.{Generating};
-ghost use Rattle.x7_forms.specs.Play.{HasPlayed};
+ghost use Rattle.x7_playing.specs.Play.{HasPlayed};
 ghost use Rattle.x7_tool.specs.Ready.{whole_of};
 ghost use Rattle.x7_forms.specs.Step.{seen};
 
 use crate::text::Text;
 use std::alloc::Global;
-use x7_forms::{Player, Refusal, Why, read_part};
+use x7_forms::{Refusal, Why, read_part};
 use x7_memory::{Draft, Memory, Plan};
 use x7_part::Part;
 use x7_planner::FullStream;
+use x7_playing::Player;
 use x7_text::{hex_of_word, put_number, put_text};
 use x7_words::{Inputs, NoMemory};
 

@@ -3,14 +3,15 @@ ghost use Rattle.std.specs.Prelude.{◌≡◌, ◌⊎◌, ℕ, List, map, string
 ghost use Rattle.x7_part.specs.Part.{PartData};
 ghost use Rattle.x7_forms.specs.Event.{no_memory, too_many_reads};
 ghost use Rattle.x7_forms.specs.Message.{event_of};
-ghost use Rattle.x7_forms.specs.Play.{HasPlayed};
+ghost use Rattle.x7_playing.specs.Play.{HasPlayed};
 ghost use Rattle.x7_forms.specs.Form.{Playing};
 ghost use Rattle.x7_forms.specs.Step.{seen};
 ghost use Rattle.x7_tool.specs.Play.{reported, text_of_play};
 ghost use Rattle.x7_tool.specs.Run.{MakesReady};
 
 use std::alloc::Global;
-use x7_forms::{Player, Refusal, Why, play_streams, read_part};
+use x7_forms::{Refusal, Why, read_part};
+use x7_playing::play_streams;
 use x7_report::PlayText;
 use x7_words::Inputs;
 

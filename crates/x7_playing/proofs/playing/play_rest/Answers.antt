@@ -1,12 +1,12 @@
 use Rattle.std.proofs.Common.{◌≡◌, [], ◌++◌, ◌-◌, length, take, length-append, length-take-le, arith, inr, sym, ◌∙◌, false, true}
 use Rattle.x7_words.proofs.InputLemmas.{stays_at, stays_on}
 use Rattle.x7_forms.specs.Message.{event_of}
-use Rattle.x7_forms.specs.Play.{PlaysOn}
-use Rattle.x7_forms.proofs.PlayerLemmas.{may_less, may_on, on_none, on_on}
+use Rattle.x7_playing.specs.Play.{PlaysOn}
+use Rattle.x7_playing.proofs.PlayerLemmas.{may_less, may_on, on_none, on_on}
 use Rattle.x7_forms.proofs.ReadLemmas.{reads_none, reads_on, rest_unread}
 use Rattle.x7_forms.proofs.ResultLemmas.{from_ok}
 use Rattle.x7_forms.proofs.StandLemmas.{gives_on}
-use Rattle.x7_forms.proofs.playing.play_rest.Goals as goal
+use Rattle.x7_playing.proofs.playing.play_rest.Goals as goal
 
 pub returns-in-Err-clause-err : goal.returns-in-Err-clause-err
 returns-in-Err-clause-err g c =

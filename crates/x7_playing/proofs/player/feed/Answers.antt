@@ -4,10 +4,10 @@ use Rattle.x7_words.specs.Word.{AreBytes}
 use Rattle.x7_words.proofs.ListLemmas.{all_from_places}
 use Rattle.x7_engine.specs.Kept.{on_the_bench}
 use Rattle.x7_engine.specs.Standing.{taken_in}
-use Rattle.x7_forms.specs.Play.{Plays, reads_room}
-use Rattle.x7_forms.proofs.PlayLemmas.{emptied_again, full_words, is_end, most_is, words_are}
-use Rattle.x7_forms.proofs.PlayerLemmas.{may_feed, turn_end, turn_full, turn_over}
-use Rattle.x7_forms.proofs.player.feed.Goals as goal
+use Rattle.x7_playing.specs.Play.{Plays, reads_room}
+use Rattle.x7_playing.proofs.PlayLemmas.{emptied_again, full_words, is_end, most_is, words_are}
+use Rattle.x7_playing.proofs.PlayerLemmas.{may_feed, turn_end, turn_full, turn_over}
+use Rattle.x7_playing.proofs.player.feed.Goals as goal
 
 pub feed-fed-requires : goal.feed-fed-requires
 feed-fed-requires c =

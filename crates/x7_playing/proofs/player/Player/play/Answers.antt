@@ -1,9 +1,9 @@
 use Rattle.std.proofs.Common.{◌<◌, arith}
 use Rattle.x7_words.specs.Word.{AreBytes}
 use Rattle.x7_words.proofs.ListLemmas.{all_from_places}
-use Rattle.x7_forms.specs.Play.{play_state}
-use Rattle.x7_forms.proofs.PlayerLemmas.{not_over, over_stays}
-use Rattle.x7_forms.proofs.player.Player.play.Goals as goal
+use Rattle.x7_playing.specs.Play.{play_state}
+use Rattle.x7_playing.proofs.PlayerLemmas.{not_over, over_stays}
+use Rattle.x7_playing.proofs.player.Player.play.Goals as goal
 
 pub returns-then-self-clause-ok : goal.returns-then-self-clause-ok
 returns-then-self-clause-ok c = λ part bytes h.

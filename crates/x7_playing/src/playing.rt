@@ -1,63 +1,23 @@
-//! Reading a part file, and playing the data of streams while they are read.
+//! Playing the data of streams while they are read.
 ghost use Rattle.std.specs.Prelude.{◌≡◌, ℕ, List, [], ◌∷◌, ◌+◌, ◌<◌, ◌≤◌, ◌⊎◌, true, length, map, string_bytes, Ok, Err, IfErr, IfOk};
 ghost use Rattle.x7_words.specs.Input.{AsksFew, AtEnd, Stays};
 ghost use Rattle.x7_forms.specs.Message.{event_of};
 ghost use Rattle.x7_forms.specs.Event.{no_memory};
-ghost use Rattle.x7_forms.specs.Known.{part_limit, part_of as part_due, stream_limit};
-ghost use Rattle.x7_forms.specs.Play.{HasPlayed, MayPlay, PlaysOn, part_event, PlaysStream};
+ghost use Rattle.x7_forms.specs.Known.{stream_limit};
+ghost use Rattle.x7_playing.specs.Play.{HasPlayed, MayPlay, PlaysOn, PlaysStream};
 ghost use Rattle.x7_forms.specs.Turn.{GivesFew, ReadsRest, StandsAt, UnreadRest, play_turn_bytes};
 ghost use Rattle.x7_forms.specs.Stop.{StopsAmong, limited_together};
-ghost use Rattle.x7_forms.specs.Step.{AnswersAs, IsNoPart, IsOneUnplayed, IsUnplayed, seen, ReadsStream, ReadsStreams, step_over};
+ghost use Rattle.x7_forms.specs.Step.{IsOneUnplayed, IsUnplayed, ReadsStream, ReadsStreams};
 
 use crate::player::Player;
-use crate::read::{STREAM_LIMIT, data_start, next_turn, open, read_whole, skip_rest};
-use crate::refusal::{Refusal, Why};
 use std::alloc::Global;
-use x7_part::{Part, PartFault, part_of};
+use x7_forms::{Refusal, STREAM_LIMIT, Why, data_start, next_turn, open, skip_rest};
+use x7_part::Part;
 use x7_words::Inputs;
-
-/// The most bytes of a part file.
-const PART_LIMIT: usize = 1_048_576;
 
 /// How many bytes one turn of a stream that is played reads: no fewer than the longest header has, so that the first turn
 /// judges it.
 const PLAY_TURN: usize = 266_240;
-
-/// Why there is no part of the part file of this name.
-fn refusal_of<'w>(name: &'w str, fault: PartFault) -> Refusal<'w>
-    ensures { event_of result ≡ part_event name.now fault }
-{
-    match fault {
-        PartFault::NoMemory => Refusal::unnamed(Why::NoMemory),
-        _ => Refusal {
-            reason: Why::BadPart(fault),
-            name,
-        },
-    }
-}
-
-/// The part of a part file.
-pub fn read_part<'w, I: Inputs>(
-    alloc: Global,
-    inputs: &mut I,
-    name: &'w str,
-) -> Result<Part, Refusal<'w>>
-    ensures due { AnswersAs (step_over (name.now ∷ []) (I.state inputs.old) (I.state inputs.new))
-        (λ known. part_due known name.now) (seen (λ part. part) result) }
-    ensures named { IfErr result (λ r. IsNoPart name.now (event_of r)) }
-    ensures stands { StandsAt name.now part_limit (I.state inputs.new) }
-    ensures once { AsksFew (I.state inputs.old) 1 (I.state inputs.new) }
-    ensures inputs { Stays (I.state inputs.old) (I.state inputs.new) }
-{
-    let text = match read_whole(alloc, inputs, name, PART_LIMIT) {
-        Ok(text) => text,
-        Err(refusal) => return Err(refusal),
-    };
-    match part_of(alloc, &text) {
-        Ok(part) => Ok(part),
-        Err(fault) => Err(refusal_of(name, fault)),
-    }
-}
 
 /// Plays the rest of the open stream, of which `limit` bytes are within the limit; after the last turn there is no rest.
 /// The answer is how many bytes of the limit are left.

@@ -1,12 +1,11 @@
 use Rattle.std.proofs.Common.{ℕ, List, [], ◌∷◌, Ok, Err, ap, inl}
 use Rattle.x7_forms.specs.Message.{event_of}
-use Rattle.x7_forms.specs.Known.{part_by, part_limit, part_of, whole_in, with_inputs}
+use Rattle.x7_forms.specs.Known.{part_by, part_event, part_limit, part_of, whole_in, with_inputs}
 use Rattle.x7_part.specs.PartFile.{part_in}
-use Rattle.x7_forms.specs.Play.{part_event}
 use Rattle.x7_forms.specs.Step.{CameIn, step_over}
-use Rattle.x7_forms.proofs.PlayLemmas.{refused}
-use Rattle.x7_forms.proofs.ReadLemmas.{after_text, caused_event, no_part, stops, works}
-use Rattle.x7_forms.proofs.playing.read_part.Goals as goal
+use Rattle.x7_forms.proofs.PartLemmas.{no_part, refused}
+use Rattle.x7_forms.proofs.ReadLemmas.{after_text, caused_event, stops, works}
+use Rattle.x7_forms.proofs.part.read_part.Goals as goal
 
 pub returns-in-Ok-part_of-clause-due : goal.returns-in-Ok-part_of-clause-due
 returns-in-Ok-part_of-clause-due g c = λ flash.

@@ -6,11 +6,9 @@ use Rattle.x7_engine.specs.Kept.{on_the_bench}
 use Rattle.x7_engine.specs.ReadBuffer.{ReadBufState}
 use Rattle.x7_engine.specs.Standing.{DeviceState, DeviceStandsFor, NoWordDue, reads_given}
 use Rattle.x7_engine.specs.State.{memory_in, reads_of, state_of, stop_in}
-use Rattle.x7_part.specs.declared.fault.PartFault.{PartFault}
 use Rattle.x7_forms.specs.Known.{reads_limit, StreamRead}
-use Rattle.x7_forms.specs.Event.{Event, bad_part, no_memory}
-use Rattle.x7_forms.specs.declared.player.Player.{Player}
-use Rattle.x7_part.specs.declared.fault.PartFault.TheVariants as part
+use Rattle.x7_forms.specs.Event.{Event}
+use Rattle.x7_playing.specs.declared.player.Player.{Player}
 
 -- A device was given these bytes, and took all of them, or those up to its stop; `reads` are the words read out, without those still due, within their limit.
 pub record Plays (part : PartData) (bytes : List ℕ) (d : DeviceState) (reads : List ℕ) : Type 0 where
@@ -100,8 +98,3 @@ pub record IsPlayed (part : PartData) (bytes : List ℕ) (d : DeviceState) (read
   pub none_due : NoWordDue d
   pub reads_are : reads ≡ reads_of part on_the_bench bytes
   pub few : length reads ≤ reads_limit
-
--- the event of a part file that gave no part
-abbrev pub part_event : List ℕ → PartFault → Event
-part_event name part.NoMemory = no_memory
-part_event name fault = bad_part name fault

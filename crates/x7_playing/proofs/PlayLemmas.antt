@@ -1,7 +1,6 @@
 -- What is known where a play ends.
 use Rattle.std.proofs.Common.{◌≡◌, ℕ, ◌+◌, ◌≤◌, ◌<◌, List, [], ◌++◌, length, length-append, false, Option, Some, Err, refl, ap, subst, sym, ◌∙◌, arith, inl, inr, ◌⊎◌}
 use Rattle.x7_words.specs.Word.{AreBytes}
-use Rattle.x7_part.specs.declared.fault.PartFault.{PartFault}
 use Rattle.x7_part.specs.Part.{PartData}
 use Rattle.x7_engine.specs.declared.fed.Fed.{Fed}
 use Rattle.x7_engine.specs.Kept.{on_the_bench}
@@ -10,25 +9,11 @@ use Rattle.x7_engine.proofs.FeedLemmas.{given_all, given_within}
 use Rattle.x7_engine.specs.Standing.{NoWordDue, DeviceState, DeviceStandsFor, reads_given}
 use Rattle.x7_engine.specs.State.{memory_in, reads_of, state_of, stop_in}
 use Rattle.x7_engine.specs.Stops.{Stopped}
-use Rattle.x7_forms.specs.Known.{Known, part_by, reads_limit, Mishap}
-use Rattle.x7_part.specs.PartFile.{part_in}
-use Rattle.x7_forms.specs.Play.{IsPlayed, emptied, part_event, reads_room}
-use Rattle.x7_forms.specs.Step.{IsCaused}
-use Rattle.x7_forms.proofs.ReadLemmas.{works}
+use Rattle.x7_forms.specs.Known.{reads_limit}
+use Rattle.x7_playing.specs.Play.{IsPlayed, emptied, reads_room}
 use Rattle.x7_engine.proofs.ReadsLemmas.{reads_grow}
 use Rattle.x7_engine.proofs.StateLemmas.{stop_is_final_memory, stop_is_final_reads, stop_is_final_state, stop_is_final_stop}
-use Rattle.x7_part.specs.declared.fault.PartFault.TheVariants as part
 use Rattle.x7_engine.specs.declared.fed.Fed.TheVariants as fed
-
--- a part file that gave no part
-pub refused : (known : Option Known) (C : Mishap → Type 0) (name text : List ℕ) (fault : PartFault) → (fault ≡ part.NoMemory) ⊎ (part_in text ≡ Err fault) → IsCaused known C (λ t. part_by name (part_in text)) (Err (part_event name fault))
-refused known C name text part.NoMemory h = inl (inl refl)
-refused known C name text fault (inl e) = absurd (cc)
-refused known C name text part.Toml (inr h) = works known C (part_by name (part_in text)) (Err (part_event name part.Toml)) tt tt (ap (part_by name) h)
-refused known C name text (part.Key which) (inr h) = works known C (part_by name (part_in text)) (Err (part_event name (part.Key which))) tt tt (ap (part_by name) h)
-refused known C name text (part.Range which) (inr h) = works known C (part_by name (part_in text)) (Err (part_event name (part.Range which))) tt tt (ap (part_by name) h)
-refused known C name text (part.SameRow n) (inr h) = works known C (part_by name (part_in text)) (Err (part_event name (part.SameRow n))) tt tt (ap (part_by name) h)
-refused known C name text (part.TooMany n) (inr h) = works known C (part_by name (part_in text)) (Err (part_event name (part.TooMany n))) tt tt (ap (part_by name) h)
 
 -- ---- one turn of a play
 

@@ -5,14 +5,14 @@ use Rattle.x7_words.specs.Word.{AreBytes}
 use Rattle.x7_forms.specs.Turn.{longest_header}
 use Rattle.x7_forms.specs.Message.{event_of}
 use Rattle.x7_forms.specs.Known.{read_of, with_inputs}
-use Rattle.x7_forms.specs.Play.{PlaysOn}
+use Rattle.x7_playing.specs.Play.{PlaysOn}
 use Rattle.x7_forms.specs.Step.{CameIn, IsCaused, step_over}
 use Rattle.x7_forms.proofs.ResultLemmas.{err_weaker, ok_weaker, from_ok}
-use Rattle.x7_forms.proofs.PlayerLemmas.{may_less, may_on, on_on}
+use Rattle.x7_playing.proofs.PlayerLemmas.{may_less, may_on, on_on}
 use Rattle.x7_forms.proofs.ReadLemmas.{header_refused, reads_first, slice_of, stream_read, stream_refused, stream_unopened, stream_unread, turn_unread, unopened_unread, want_or_rest, want_unread}
 use Rattle.x7_words.proofs.InputLemmas.{few_once, stays_on}
 use Rattle.x7_forms.proofs.StandLemmas.{few_after, few_read, stands_rest, stands_opened, stands_read}
-use Rattle.x7_forms.proofs.playing.play_stream.Goals as goal
+use Rattle.x7_playing.proofs.playing.play_stream.Goals as goal
 
 pub play-requires : goal.play-requires
 play-requires g c =

@@ -1,5 +1,5 @@
-use Rattle.x7_forms.proofs.PlayerLemmas.{new_plays}
-use Rattle.x7_forms.proofs.player.Player.new.Goals as goal
+use Rattle.x7_playing.proofs.PlayerLemmas.{new_plays}
+use Rattle.x7_playing.proofs.player.Player.new.Goals as goal
 
 pub returns : goal.returns
 returns c =

@@ -1,0 +1,52 @@
+//! The part of a part file.
+ghost use Rattle.std.specs.Prelude.{◌≡◌, [], ◌∷◌, IfErr};
+ghost use Rattle.x7_words.specs.Input.{AsksFew, Stays};
+ghost use Rattle.x7_forms.specs.Message.{event_of};
+ghost use Rattle.x7_forms.specs.Known.{part_event, part_limit, part_of as part_due};
+ghost use Rattle.x7_forms.specs.Turn.{StandsAt};
+ghost use Rattle.x7_forms.specs.Step.{AnswersAs, IsNoPart, seen, step_over};
+
+use crate::read::read_whole;
+use crate::refusal::{Refusal, Why};
+use std::alloc::Global;
+use x7_part::{Part, PartFault, part_of};
+use x7_words::Inputs;
+
+/// The most bytes of a part file.
+const PART_LIMIT: usize = 1_048_576;
+
+/// Why there is no part of the part file of this name.
+fn refusal_of<'w>(name: &'w str, fault: PartFault) -> Refusal<'w>
+    ensures { event_of result ≡ part_event name.now fault }
+{
+    match fault {
+        PartFault::NoMemory => Refusal::unnamed(Why::NoMemory),
+        _ => Refusal {
+            reason: Why::BadPart(fault),
+            name,
+        },
+    }
+}
+
+/// The part of a part file.
+pub fn read_part<'w, I: Inputs>(
+    alloc: Global,
+    inputs: &mut I,
+    name: &'w str,
+) -> Result<Part, Refusal<'w>>
+    ensures due { AnswersAs (step_over (name.now ∷ []) (I.state inputs.old) (I.state inputs.new))
+        (λ known. part_due known name.now) (seen (λ part. part) result) }
+    ensures named { IfErr result (λ r. IsNoPart name.now (event_of r)) }
+    ensures stands { StandsAt name.now part_limit (I.state inputs.new) }
+    ensures once { AsksFew (I.state inputs.old) 1 (I.state inputs.new) }
+    ensures inputs { Stays (I.state inputs.old) (I.state inputs.new) }
+{
+    let text = match read_whole(alloc, inputs, name, PART_LIMIT) {
+        Ok(text) => text,
+        Err(refusal) => return Err(refusal),
+    };
+    match part_of(alloc, &text) {
+        Ok(part) => Ok(part),
+        Err(fault) => Err(refusal_of(name, fault)),
+    }
+}
