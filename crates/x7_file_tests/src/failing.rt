@@ -1,10 +1,11 @@
 //! A flash over files of the system of which one kind of call fails.
+use crate::paths::path_of;
 use std::alloc::Allocator;
 use std::fs::{Metadata, OpenFile, OpenOptions};
 use std::io::{ErrorKind, Read, Seek, SeekFrom, Write};
 use std::rt::Files;
 use std::test::Fail;
-use std::{env, fs, io, process};
+use std::{fs, io};
 use x7_files::FileFlash;
 use x7_words::{Flash, SECTOR};
 
@@ -179,9 +180,7 @@ fn a_write_of_a_file_fails_where_a_call_fails(rt: HostRuntime) -> Result<(), Fai
     let alloc = rt.alloc();
     let mut bytes = Vec::new(alloc);
     bytes.resize(SECTOR as usize, 0x3C)?;
-    let folder = env::temp_dir(&rt)?;
-    let name = format!(in alloc; "x7-words-failing-{}", process::id(rt.process()))?;
-    let path = folder.join(alloc, name.as_str())?;
+    let path = path_of(&rt, "failing")?;
     for (failing, erased, programmed, read) in cases {
         fs::write(&rt, path.as_path(), bytes.as_slice())?;
         let files = FailingFiles { rt: &rt, failing };

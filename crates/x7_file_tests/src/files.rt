@@ -1,8 +1,9 @@
 //! Real files and writers, and inputs that are put while one is read.
+use crate::paths::path_of;
 use std::io::{ErrorKind, Write};
 use std::rt::Files;
 use std::test::Fail;
-use std::{env, fs, io, process};
+use std::{env, fs, io};
 use x7_files::{FileFlash, FileInputs, KnownSink, StdSink};
 use x7_in_memory::MemoryInputs;
 use x7_words::{Failed, Flash, Inputs, SelectFault, Sink, write_all};
@@ -88,8 +89,7 @@ fn size_and_bytes<F: Flash>(
 #[test]
 fn a_file_is_a_flash(rt: HostRuntime) -> Result<(), Fail> {
     let folder = env::temp_dir(&rt)?;
-    let name = format!(in rt.alloc(); "x7-words-flash-{}", process::id(rt.process()))?;
-    let path = folder.join(rt.alloc(), name.as_str())?;
+    let path = path_of(&rt, "flash")?;
     fs::write(&rt, path.as_path(), b"hello")?;
     let mut flash = FileFlash::new(&rt);
     let late = size_and_bytes(&mut flash, path.as_path().as_str(), 2);
@@ -107,8 +107,7 @@ fn a_file_is_a_flash(rt: HostRuntime) -> Result<(), Fail> {
 #[test]
 fn files_are_read_by_their_paths(rt: HostRuntime) -> Result<(), Fail> {
     let folder = env::temp_dir(&rt)?;
-    let name = format!(in rt.alloc(); "x7-words-{}", process::id(rt.process()))?;
-    let path = folder.join(rt.alloc(), name.as_str())?;
+    let path = path_of(&rt, "inputs")?;
     fs::write(&rt, path.as_path(), b"hello")?;
     let mut buf = [0; 12];
     let mut inputs = FileInputs::new(&rt);
@@ -125,9 +124,7 @@ fn files_are_read_by_their_paths(rt: HostRuntime) -> Result<(), Fail> {
 
 #[test]
 fn a_path_below_a_file_is_a_fault(rt: HostRuntime) -> Result<(), Fail> {
-    let folder = env::temp_dir(&rt)?;
-    let name = format!(in rt.alloc(); "x7-words-below-{}", process::id(rt.process()))?;
-    let path = folder.join(rt.alloc(), name.as_str())?;
+    let path = path_of(&rt, "below")?;
     let below = path.join(rt.alloc(), "one")?;
     fs::write(&rt, path.as_path(), b"hello")?;
     let mut inputs = FileInputs::new(&rt);
@@ -165,9 +162,7 @@ fn reads_of_a_cut_file<R: Files>(rt: &R, name: &str) -> Result<[Option<[u8; 3]>;
 
 #[test]
 fn a_file_that_shrank_is_a_fault(rt: HostRuntime) -> Result<(), Fail> {
-    let folder = env::temp_dir(&rt)?;
-    let name = format!(in rt.alloc(); "x7-words-shrunk-{}", process::id(rt.process()))?;
-    let path = folder.join(rt.alloc(), name.as_str())?;
+    let path = path_of(&rt, "shrunk")?;
     let reads = reads_of_a_cut_file(&rt, path.as_path().as_str())?;
     assert!(rt; reads == [Some(*b"llo"), None, Some(*b"hel")]);
     Ok(())
@@ -175,10 +170,8 @@ fn a_file_that_shrank_is_a_fault(rt: HostRuntime) -> Result<(), Fail> {
 
 #[test]
 fn a_name_is_opened_as_it_is(rt: HostRuntime) -> Result<(), Fail> {
-    let folder = env::temp_dir(&rt)?;
-    let name = format!(in rt.alloc(); "x7-words-name-{} ", process::id(rt.process()))?;
-    let path = folder.join(rt.alloc(), name.as_str())?;
-    let trimmed = folder.join(rt.alloc(), name.as_str().trim_end())?;
+    let path = path_of(&rt, "name ")?;
+    let trimmed = path_of(&rt, "name")?;
     fs::write(&rt, path.as_path(), b"hello")?;
     let mut inputs = FileInputs::new(&rt);
     let mut flash = FileFlash::new(&rt);
@@ -223,9 +216,7 @@ fn a_file_is_written_as_a_flash(rt: HostRuntime) -> Result<(), Fail> {
     let alloc = rt.alloc();
     let mut bytes = Vec::new(alloc);
     bytes.resize(131072, 0x3C)?;
-    let folder = env::temp_dir(&rt)?;
-    let name = format!(in alloc; "x7-words-written-{}", process::id(rt.process()))?;
-    let path = folder.join(alloc, name.as_str())?;
+    let path = path_of(&rt, "written")?;
     fs::write(&rt, path.as_path(), bytes.as_slice())?;
     let mut flash = FileFlash::new(&rt);
     let found = written_bytes(&mut flash, path.as_path().as_str());

@@ -5,3 +5,5 @@
 mod failing;
 #[cfg(test)]
 mod files;
+#[cfg(test)]
+mod paths;
