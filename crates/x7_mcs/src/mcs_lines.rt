@@ -19,7 +19,7 @@ use std::alloc::Global;
 use x7_text::{TakesLines, first_line};
 
 /// The last address at which a row ends within its block.
-const LAST_ROW: u32 = 65_520;
+const LAST_ROW: u16 = 65_520;
 
 /// The image that the lines of a flash text gave so far, and what stands for the lines that come.
 #[derive(Drop)]
@@ -45,12 +45,11 @@ impl McsLines {
     /// Takes line `n`, that of a row as it is written here.
     #[inline(always)]
     fn put_row(&mut self, n: u64, row: &Row) -> Result<(), McsFault>
-        requires address { row.now.address ≤ last_row }
-        requires content { length row.now.content ≡ row_size }
+        requires { length row.now.content ≡ row_size }
         ensures { (xs : List DataRecord) → HoldsIn self.old.image xs
             → ReachesIn result (after_data n (flash_reading_at self.old.context xs) row.now.address row.now.content) self.new }
     {
-        match put_data(&mut self.image, n, self.context, row.address, &row.content) {
+        match put_data(&mut self.image, n, self.context, u32::from(row.address), &row.content) {
             Ok(context) => {
                 self.context = context;
                 Ok(())
