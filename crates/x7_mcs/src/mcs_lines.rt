@@ -49,26 +49,17 @@ impl McsLines {
         ensures { (xs : List DataRecord) → HoldsIn self.old.image xs
             → ReachesIn result (after_data n (flash_reading_at self.old.context xs) row.now.address row.now.content) self.new }
     {
-        match put_data(&mut self.image, n, self.context, u32::from(row.address), &row.content) {
-            Ok(context) => {
-                self.context = context;
-                Ok(())
-            }
-            Err(fault) => Err(fault),
-        }
+        let address = u32::from(row.address);
+        self.context = put_data(&mut self.image, n, self.context, address, &row.content)?;
+        Ok(())
     }
 
     /// Takes line `n`, which has no end here.
     fn put_one(&mut self, n: u64, line: &[u8]) -> Result<(), McsFault>
         ensures { (xs : List DataRecord) → HoldsIn self.old.image xs → ReachesIn result (after_line n (flash_reading_at self.old.context xs) line.now) self.new }
     {
-        match put_line(&mut self.image, n, self.context, line) {
-            Ok(context) => {
-                self.context = context;
-                Ok(())
-            }
-            Err(fault) => Err(fault),
-        }
+        self.context = put_line(&mut self.image, n, self.context, line)?;
+        Ok(())
     }
 
     /// Takes the first line of a text, line `n`, if it has its end. Answers the text after it.

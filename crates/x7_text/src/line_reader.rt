@@ -77,10 +77,8 @@ pub fn read_lines<T: TakesLines>(taker: T, text: &[u8]) -> Result<T::Out, T::Fau
     ensures memory { T.took taker taker [] → IfErr result (λ fault. T.is_want fault → WantsAt (T.wants taker) [] text.now) }
 {
     let mut last = taker;
-    match last.put_lines(0, text) {
-        Ok(left) => last.put_last(left.1.saturating_add(1), left.0),
-        Err(fault) => Err(fault),
-    }
+    let (line, count) = last.put_lines(0, text)?;
+    last.put_last(count.saturating_add(1), line)
 }
 
 /// Reads a text that comes in pieces, line by line.
