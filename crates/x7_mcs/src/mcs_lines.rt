@@ -76,19 +76,15 @@ impl McsLines {
             && let Some((row, rest)) = first_row(text)
             && row.address <= LAST_ROW
         {
-            match self.put_row(n, &row) {
-                Ok(()) => return Ok(Some(rest)),
-                Err(fault) => return Err(fault),
-            }
+            self.put_row(n, &row)?;
+            return Ok(Some(rest));
         }
         let (line, more) = first_line(text);
         let Some(rest) = more else {
             return Ok(None);
         };
-        match self.put_one(n, without_return(line)) {
-            Ok(()) => Ok(Some(rest)),
-            Err(fault) => Err(fault),
-        }
+        self.put_one(n, without_return(line))?;
+        Ok(Some(rest))
     }
 }
 
@@ -122,11 +118,7 @@ impl TakesLines for McsLines {
         let mut count = n;
         loop {
             let next = count.saturating_add(1);
-            let found = match self.take_line(next, rest) {
-                Ok(found) => found,
-                Err(fault) => return Err(fault),
-            };
-            let Some(after) = found else {
+            let Some(after) = self.take_line(next, rest)? else {
                 return Ok((rest, count));
             };
             rest = after;
@@ -136,10 +128,7 @@ impl TakesLines for McsLines {
 
     fn put_last(self, n: u64, line: &[u8]) -> Result<Vec<u8>, McsFault> {
         let mut last = self;
-        match last.put_one(n, line) {
-            Ok(()) => (),
-            Err(fault) => return Err(fault),
-        }
+        last.put_one(n, line)?;
         if !last.context.ended {
             return Err(McsFault::NoEnd);
         }

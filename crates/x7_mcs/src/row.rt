@@ -152,6 +152,7 @@ fn guess_row(line: &[u8; 44]) -> Row {
 
 /// Whether a line is that of a data record of sixteen bytes at an address. It is compared piece by piece.
 #[inline(always)]
+#[tactic(auto, using(crate::proofs::RowLemmas::are_bytes))]
 fn is_row_line(line: &[u8; 44], address: u16, content: &[u8; 16]) -> bool
     ensures line { IsTrue result → line.now ≡ data_line address content.now }
     ensures bytes { AreBytes content.now }
