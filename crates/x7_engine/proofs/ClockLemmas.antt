@@ -6,7 +6,7 @@ use Rattle.x7_packets.specs.History.{Access, Bad, History, Read, Write, command_
 use Rattle.x7_part.specs.Part.{PartData}
 use Rattle.x7_startup.specs.Calls.{Begun, Call, IsPhaseOf, NotBegun, StartupProgress, StandsFor, Stored, progress_of}
 use Rattle.x7_startup.specs.Calls as call
-use Rattle.x7_startup.specs.Count.{Fires, Reload, Watch, WatchCall, Watched, WatchesFor, bytes_alike, count_of, is_on, timer_after, timer_value_of}
+use Rattle.x7_startup.specs.Count.{Fires, Reload, Watch, WatchCall, Watched, WatchesFor, bytes_alike, watched_count, is_on, timer_after, timer_value_of}
 use Rattle.x7_startup.proofs.CallLemmas.{idle_stands, one_phase_after, phase_never_falls}
 use Rattle.x7_startup.proofs.CountLemmas.{idle_fires, idle_watches, timer_load, timer_reload, timer_watched}
 use Rattle.x7_engine.specs.Course.{course_at}
@@ -176,16 +176,16 @@ fires_by part kept h n l f =
     let eos : Bool = has_ended part h (n + 1) in
     let timer : timer_after kept.timer (watch_calls part h n) ≡ timer_held kept h = timer_is part kept h n in
     let on : IsTrue (is_on off (timer_held kept h) eos) = subst (λ (t : ℕ). IsTrue (is_on off t eos)) timer f.0 in
-    let count : count_of off kept.timer (watch_calls part h (n + 1)) ≡ timer_value_of (timer_held kept h) * 4 = ap (count_of off kept.timer) (one_watched part h n l) ∙ f.1 ∙ ap (λ (t : ℕ). timer_value_of t * 4) timer in
-    full_is (is_on off (timer_held kept h) eos) (count_of off kept.timer (watch_calls part h (n + 1))) (timer_value_of (timer_held kept h) * 4) on count
+    let count : watched_count off kept.timer (watch_calls part h (n + 1)) ≡ timer_value_of (timer_held kept h) * 4 = ap (watched_count off kept.timer) (one_watched part h n l) ∙ f.1 ∙ ap (λ (t : ℕ). timer_value_of t * 4) timer in
+    full_is (is_on off (timer_held kept h) eos) (watched_count off kept.timer (watch_calls part h (n + 1))) (timer_value_of (timer_held kept h) * 4) on count
 
 pub fires_not : (part : PartData) (kept : Kept) (h : History) (n : ℕ) → newest_place h ≤ n → ¬ Fires (is_fallback kept.kind) kept.timer (watch_calls part h n) (has_ended part h (n + 1)) → fires part kept h (n + 1) ≡ false
 fires_not part kept h n l f =
     let off : Bool = is_fallback kept.kind in
     let eos : Bool = has_ended part h (n + 1) in
     let timer : timer_after kept.timer (watch_calls part h n) ≡ timer_held kept h = timer_is part kept h n in
-    full_not (is_on off (timer_held kept h) eos) (count_of off kept.timer (watch_calls part h (n + 1))) (timer_value_of (timer_held kept h) * 4)
-    (λ g. f (subst (λ (t : ℕ). IsTrue (is_on off t eos)) (sym timer) g.0, sym (ap (count_of off kept.timer) (one_watched part h n l)) ∙ g.1 ∙ sym (ap (λ (t : ℕ). timer_value_of t * 4) timer)))
+    full_not (is_on off (timer_held kept h) eos) (watched_count off kept.timer (watch_calls part h (n + 1))) (timer_value_of (timer_held kept h) * 4)
+    (λ g. f (subst (λ (t : ℕ). IsTrue (is_on off t eos)) (sym timer) g.0, sym (ap (watched_count off kept.timer) (one_watched part h n l)) ∙ g.1 ∙ sym (ap (λ (t : ℕ). timer_value_of t * 4) timer)))
 
 -- ---- bytes that are alike
 

@@ -13,7 +13,7 @@ use Rattle.x7_packets.proofs.HistoryLemmas.{kept_all}
 use Rattle.x7_part.specs.Part.{PartData}
 use Rattle.x7_startup.specs.Calls.{StandsFor, progress_of}
 use Rattle.x7_startup.specs.Calls as call
-use Rattle.x7_startup.specs.Count.{Watched, WatchesFor, count_of, is_on, timer_value_of}
+use Rattle.x7_startup.specs.Count.{Watched, WatchesFor, watched_count, is_on, timer_value_of}
 use Rattle.x7_flow.specs.Asked.{Asked, Other}
 use Rattle.x7_flow.specs.Flow.{asks, fault_by, flow_of, frame_fault}
 use Rattle.x7_engine.specs.declared.fault.Fault.TheVariants as fault
@@ -219,9 +219,9 @@ plain_watch part h register w place m p l k =
 plain_fires : (part : PartData) (kept : Kept) (h : History) (register w place m : ℕ) → IsQuiet register → newest_place h ≤ place → place ≤ m → fires part kept (entry (Write register w) place ∷ h) m ≡ fires part kept h m
 plain_fires part kept h register w place m p l k =
     let timer : timer_held kept (entry (Write register w) place ∷ h) ≡ timer_held kept h = rw p.timer refl in
-    ap (λ (t : ℕ). is_on (is_fallback kept.kind) t (has_ended part (entry (Write register w) place ∷ h) m) && count_of (is_fallback kept.kind) kept.timer (watch_calls part (entry (Write register w) place ∷ h) m) == timer_value_of t * 4) timer
-    ∙ ap (λ (b : Bool). is_on (is_fallback kept.kind) (timer_held kept h) b && count_of (is_fallback kept.kind) kept.timer (watch_calls part (entry (Write register w) place ∷ h) m) == timer_value_of (timer_held kept h) * 4) (plain_ended part h register w place m p l k)
-    ∙ ap (λ t. is_on (is_fallback kept.kind) (timer_held kept h) (has_ended part h m) && count_of (is_fallback kept.kind) kept.timer t == timer_value_of (timer_held kept h) * 4) (plain_watch part h register w place m p l k)
+    ap (λ (t : ℕ). is_on (is_fallback kept.kind) t (has_ended part (entry (Write register w) place ∷ h) m) && watched_count (is_fallback kept.kind) kept.timer (watch_calls part (entry (Write register w) place ∷ h) m) == timer_value_of t * 4) timer
+    ∙ ap (λ (b : Bool). is_on (is_fallback kept.kind) (timer_held kept h) b && watched_count (is_fallback kept.kind) kept.timer (watch_calls part (entry (Write register w) place ∷ h) m) == timer_value_of (timer_held kept h) * 4) (plain_ended part h register w place m p l k)
+    ∙ ap (λ t. is_on (is_fallback kept.kind) (timer_held kept h) (has_ended part h m) && watched_count (is_fallback kept.kind) kept.timer t == timer_value_of (timer_held kept h) * 4) (plain_watch part h register w place m p l k)
 
 plain_firing : (part : PartData) (kept : Kept) (h : History) (register w place count : ℕ) → IsQuiet register → newest_place h ≤ place → first_firing part kept (entry (Write register w) place ∷ h) place count ≡ first_firing part kept h place count
 plain_firing part kept h register w place zero p l = refl

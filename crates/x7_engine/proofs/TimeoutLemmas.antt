@@ -4,7 +4,7 @@ use Rattle.x7_words.specs.Word.{AreBytes}
 use Rattle.x7_packets.specs.History.{Access, Bad, History, Placed, Read, Write, executes, history_of}
 use Rattle.x7_packets.proofs.GrowthLemmas.{OneMore}
 use Rattle.x7_part.specs.Part.{PartData}
-use Rattle.x7_startup.specs.Count.{Load, Reload, WatchCall, count_of, is_on, timer_value_of}
+use Rattle.x7_startup.specs.Count.{Load, Reload, WatchCall, watched_count, is_on, timer_value_of}
 use Rattle.x7_startup.proofs.CountLemmas.{count_loaded, count_watched}
 use Rattle.x7_engine.specs.declared.kept.Kept.{Kept}
 use Rattle.x7_engine.specs.Kept.{is_fallback}
@@ -28,34 +28,34 @@ load_within n (e ∷ h) p = by (loads h e.access) (load_within (e.place - 1) h p
 -- ---- a byte and an access more
 
 count_byte : (part : PartData) (kept : Kept) (h : History) (n : ℕ) → Placed n h
-    → count_of (is_fallback kept.kind) kept.timer (watch_calls part h (n + 1)) ≡ count_of (is_fallback kept.kind) kept.timer (watch_calls part h n) + (if is_on (is_fallback kept.kind) (timer_held kept h) (has_ended part h (n + 1)) then 1 else 0)
+    → watched_count (is_fallback kept.kind) kept.timer (watch_calls part h (n + 1)) ≡ watched_count (is_fallback kept.kind) kept.timer (watch_calls part h n) + (if is_on (is_fallback kept.kind) (timer_held kept h) (has_ended part h (n + 1)) then 1 else 0)
 count_byte part kept h n p =
     let off : Bool = is_fallback kept.kind in
     let eos : Bool = has_ended part h (n + 1) in
     let calls : List WatchCall = watch_calls part h n in
-    ap (count_of off kept.timer) (one_watched part h n (newest_within n h p))
+    ap (watched_count off kept.timer) (one_watched part h n (newest_within n h p))
     ∙ count_watched off kept.timer calls eos
-    ∙ ap (λ (t : ℕ). count_of off kept.timer calls + (if is_on off t eos then 1 else 0)) (timer_is part kept h n)
+    ∙ ap (λ (t : ℕ). watched_count off kept.timer calls + (if is_on off t eos then 1 else 0)) (timer_is part kept h n)
 
-count_call : (off : Bool) (t : ℕ) (h : History) (calls : List WatchCall) (access : Access) → count_of off t (calls ++ watch_call h access) ≡ (if loads h access then 0 else count_of off t calls)
-count_call off t h calls (Read register n) = ap (count_of off t) (append-nil calls)
-count_call off t h calls (Bad w) = ap (count_of off t) (append-nil calls)
+count_call : (off : Bool) (t : ℕ) (h : History) (calls : List WatchCall) (access : Access) → watched_count off t (calls ++ watch_call h access) ≡ (if loads h access then 0 else watched_count off t calls)
+count_call off t h calls (Read register n) = ap (watched_count off t) (append-nil calls)
+count_call off t h calls (Bad w) = ap (watched_count off t) (append-nil calls)
 count_call off t h calls (Write register w) = by (executes 17 h (Write register w)) (register == 17)
   where
-    by : (x b : Bool) → count_of off t (calls ++ (if x then Reload ∷ [] else (if b then Load w ∷ [] else []))) ≡ (if b || x then 0 else count_of off t calls)
+    by : (x b : Bool) → watched_count off t (calls ++ (if x then Reload ∷ [] else (if b then Load w ∷ [] else []))) ≡ (if b || x then 0 else watched_count off t calls)
     by true true = count_loaded off t calls Reload refl
     by true false = count_loaded off t calls Reload refl
     by false true = count_loaded off t calls (Load w) refl
-    by false false = ap (count_of off t) (append-nil calls)
+    by false false = ap (watched_count off t) (append-nil calls)
 
 -- ---- the count of bytes
 
 abbrev Counts : PartData → Kept → List ℕ → ℕ → Type 0
-Counts part kept bytes n = count_of (is_fallback kept.kind) kept.timer (watch_calls part (history_of (take n bytes)) n) ≡ on_after part kept bytes (last_load (history_of (take n bytes))) (n - last_load (history_of (take n bytes)))
+Counts part kept bytes n = watched_count (is_fallback kept.kind) kept.timer (watch_calls part (history_of (take n bytes)) n) ≡ on_after part kept bytes (last_load (history_of (take n bytes))) (n - last_load (history_of (take n bytes)))
 
 -- up to a byte itself, before its access
 counted_here : (part : PartData) (kept : Kept) (bytes : List ℕ) (n : ℕ) → Placed n (history_of (take n bytes)) → Counts part kept bytes n
-    → count_of (is_fallback kept.kind) kept.timer (watch_calls part (history_of (take n bytes)) (n + 1)) ≡ on_after part kept bytes (last_load (history_of (take n bytes))) (suc n - last_load (history_of (take n bytes)))
+    → watched_count (is_fallback kept.kind) kept.timer (watch_calls part (history_of (take n bytes)) (n + 1)) ≡ on_after part kept bytes (last_load (history_of (take n bytes))) (suc n - last_load (history_of (take n bytes)))
 counted_here part kept bytes n p e =
     let h : History = history_of (take n bytes) in
     let from : ℕ = last_load h in
@@ -73,8 +73,8 @@ counted_next : (part : PartData) (kept : Kept) (bytes : List ℕ) (n : ℕ) → 
 counted_next part kept bytes n p (inl same) e =
     let h : History = history_of (take n bytes) in
     let next : suc n ≡ n + 1 = omega arith in
-    ap (λ (g : History). count_of (is_fallback kept.kind) kept.timer (watch_calls part g (suc n))) same
-    ∙ ap (λ (m : ℕ). count_of (is_fallback kept.kind) kept.timer (watch_calls part h m)) next
+    ap (λ (g : History). watched_count (is_fallback kept.kind) kept.timer (watch_calls part g (suc n))) same
+    ∙ ap (λ (m : ℕ). watched_count (is_fallback kept.kind) kept.timer (watch_calls part h m)) next
     ∙ counted_here part kept bytes n p e
     ∙ ap (λ (g : History). on_after part kept bytes (last_load g) (suc n - last_load g)) (sym same)
 counted_next part kept bytes n p (inr more) e =
@@ -82,14 +82,14 @@ counted_next part kept bytes n p (inr more) e =
     let access : Access = more.0 in
     let next : suc n ≡ n + 1 = omega arith in
     let off : Bool = is_fallback kept.kind in
-    ap (λ (g : History). count_of off kept.timer (watch_calls part g (suc n))) more.1
-    ∙ ap (count_of off kept.timer) (watch_entered part h access (suc n))
+    ap (λ (g : History). watched_count off kept.timer (watch_calls part g (suc n))) more.1
+    ∙ ap (watched_count off kept.timer) (watch_entered part h access (suc n))
     ∙ count_call off kept.timer h (watch_calls part h (suc n)) access
-    ∙ by (loads h access) (ap (λ (m : ℕ). count_of off kept.timer (watch_calls part h m)) next ∙ counted_here part kept bytes n p e)
+    ∙ by (loads h access) (ap (λ (m : ℕ). watched_count off kept.timer (watch_calls part h m)) next ∙ counted_here part kept bytes n p e)
     ∙ ap (λ (g : History). on_after part kept bytes (last_load g) (suc n - last_load g)) (sym more.1)
   where
-    by : (b : Bool) → count_of (is_fallback kept.kind) kept.timer (watch_calls part (history_of (take n bytes)) (suc n)) ≡ on_after part kept bytes (last_load (history_of (take n bytes))) (suc n - last_load (history_of (take n bytes)))
-        → (if b then 0 else count_of (is_fallback kept.kind) kept.timer (watch_calls part (history_of (take n bytes)) (suc n)))
+    by : (b : Bool) → watched_count (is_fallback kept.kind) kept.timer (watch_calls part (history_of (take n bytes)) (suc n)) ≡ on_after part kept bytes (last_load (history_of (take n bytes))) (suc n - last_load (history_of (take n bytes)))
+        → (if b then 0 else watched_count (is_fallback kept.kind) kept.timer (watch_calls part (history_of (take n bytes)) (suc n)))
         ≡ on_after part kept bytes (if b then suc n else last_load (history_of (take n bytes))) (suc n - (if b then suc n else last_load (history_of (take n bytes))))
     by true f = let none : 0 ≡ suc n - suc n = omega arith in ap (on_after part kept bytes (suc n)) none
     by false f = f
@@ -108,8 +108,8 @@ fires_by_bytes part kept bytes n f some few =
     let next : n ≡ m + 1 = omega (arith, some) in
     let up : suc m ≡ n = omega (arith, some) in
     let more = one_more bytes m f (omega (arith, some, few)) in
-    let count : count_of (is_fallback kept.kind) kept.timer (watch_calls part h n) ≡ counted_at part kept bytes n =
-    ap (λ (k : ℕ). count_of (is_fallback kept.kind) kept.timer (watch_calls part h k)) next
+    let count : watched_count (is_fallback kept.kind) kept.timer (watch_calls part h n) ≡ counted_at part kept bytes n =
+    ap (λ (k : ℕ). watched_count (is_fallback kept.kind) kept.timer (watch_calls part h k)) next
     ∙ counted_here part kept bytes m more.0 (counted_all part kept bytes m f (omega (arith, few)))
     ∙ ap (λ (k : ℕ). on_after part kept bytes (last_load h) (k - last_load h)) up in
     ap (λ (c : ℕ). is_on (is_fallback kept.kind) (timer_held kept h) (has_ended part h n) && c == timer_value_of (timer_held kept h) * 4) count

@@ -6,7 +6,7 @@ use Rattle.x7_regs.specs.declared.command.Command.TheVariants.{Ltimer}
 use Rattle.x7_regs.specs.declared.register.Reg.TheVariants.{Timer}
 use Rattle.x7_regs.specs.Command.{code_of}
 use Rattle.x7_regs.specs.Register.{number_of}
-use Rattle.x7_startup.specs.Count.{WatchCall, Load, Reload, Watched, cfg_mon_of, count_of, is_on, timer_value_of}
+use Rattle.x7_startup.specs.Count.{WatchCall, Load, Reload, Watched, cfg_mon_of, watched_count, is_on, timer_value_of}
 use Rattle.x7_engine.specs.declared.kept.Kept.{Kept}
 use Rattle.x7_engine.specs.Kept.{is_fallback}
 use Rattle.x7_engine.specs.Registers.{word_held}
@@ -44,7 +44,7 @@ timer_held kept h = word_held kept (number_of Timer) h
 abbrev pub fires : PartData → Kept → History → ℕ → Bool
 fires part kept h n =
     is_on (is_fallback kept.kind) (timer_held kept h) (has_ended part h n)
-    && count_of (is_fallback kept.kind) kept.timer (watch_calls part h n) == timer_value_of (timer_held kept h) * 4
+    && watched_count (is_fallback kept.kind) kept.timer (watch_calls part h n) == timer_value_of (timer_held kept h) * 4
 
 -- the place where the watchdog fired already, or place n where it fires there
 abbrev pub fired_or : Option ℕ → Bool → ℕ → Option ℕ

@@ -75,11 +75,6 @@ pub read_lost : (old new : RealInputs) (answer : Result ℕ FailedRead) → OnEr
 read_lost old new (Ok _) e = tt
 read_lost old new (Err _) e = let same : new.ends ≡ old.ends = ap (λ f. f.ends) e in omega arith
 
--- a read never lowers the count of absences
-pub read_absences : (old new : RealInputs) (answer : Result ℕ FailedRead) → IfOk answer (λ n. new ≡ record old { rest = new.rest; ends = ends_counted n old.ends; given = added old.given n }) → OnErr answer (new ≡ record old { selected = false; rest = None; faults = raised old.faults }) → old.absences ≤ new.absences
-read_absences old new (Ok _) o e = let same : new.absences ≡ old.absences = ap (λ f. f.absences) o in omega arith
-read_absences old new (Err _) o e = let same : new.absences ≡ old.absences = ap (λ f. f.absences) e in omega arith
-
 -- of a read into a buffer nothing is known but its count
 pub untold_read : (answer : Result ℕ FailedRead) (length : ℕ) → IfOk answer (λ n. n ≡ 0 → 0 < length → Unit {0})
 untold_read (Ok n) length = λ _ _. tt

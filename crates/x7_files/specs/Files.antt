@@ -1,12 +1,13 @@
 -- What is known of the real inputs and sinks (this project's choice).
-use Rattle.std.specs.Prelude.{◌≡◌, ◌↔◌, ◌+◌, ◌<◌, ℕ, Bool, true, false, List, [], ◌∷◌, length, take, bit_and, Option, None, Some, IfSome, is_some, Result, Ok, Err}
+use Rattle.std.specs.Prelude.{◌≡◌, ◌↔◌, ◌+◌, ◌<◌, ℕ, Bool, true, false, List, [], ◌∷◌, length, take, bit_and, Option, None, Some, IfSome, is_some, Result, Ok, Err, OnOk, OnErr}
 use Rattle.std.specs.Io.KnownBytes.{Appends, Consumes, IsAtEnd, Keeps}
 use Rattle.std.specs.List.{concat}
 use Rattle.std.specs.declared.io.ErrorKind.{ErrorKind}
 use Rattle.std.specs.declared.io.ErrorKind.TheVariants.{NotFound}
-use Rattle.x7_words.specs.Count.{raised}
+use Rattle.x7_words.specs.Count.{IsLaterCount, raised}
 use Rattle.x7_words.specs.Flash.{FlashState, zip_with}
 use Rattle.x7_words.specs.Input.{InputsState}
+use Rattle.x7_words.specs.declared.input.Failed.{Failed as FailedCall}
 use Rattle.x7_words.specs.declared.input.SelectFault.{SelectFault}
 use Rattle.x7_words.specs.declared.input.SelectFault.TheVariants.{Missing, Failed}
 
@@ -43,6 +44,11 @@ pub record RealInputs : Type 0 where
   pub faults : ℕ
   -- the absences counted; the last u64 stays
   pub absences : ℕ
+
+-- no count of faults or absences fell, and both fit a u64
+pub record CountsFaults (old new : RealInputs) : Type 0 where
+  pub faults : IsLaterCount old.faults new.faults
+  pub absences : IsLaterCount old.absences new.absences
 
 -- what is known of files as inputs: nothing of what they hold
 abbrev pub known_inputs : RealInputs → InputsState
@@ -179,6 +185,15 @@ after_opening old (Err fault) new =
       faults = faults_after fault old.faults;
       absences = missing_after fault old.absences;
     }
+
+-- A write of the attached file was tried, and left it open: where the answer is Ok what was asked of the file was done, else a
+-- fault of writes is counted.
+pub record TriesWrite {F : Type 0} (asked : F → F → Type 0) (old : RealFlash F) (answer : Result (Unit {0}) FailedCall) (new : RealFlash F) : Type 0 where
+  pub written : OnOk answer (WhileOpen asked old.file new.file)
+  pub is_open : is_some new.file ≡ true
+  pub ok : OnOk answer (new ≡ record old { file = new.file })
+  pub err : OnErr answer (new ≡ record old { file = new.file; write_faults = raised old.write_faults })
+  pub write_faults : IsLaterCount old.write_faults new.write_faults
 
 -- a writer as a sink
 pub record RealSink : Type 0 where

@@ -1,8 +1,8 @@
 //! The real outside: files as inputs and as a flash, and a writer such as standard output as a sink.
 ghost use Rattle.std.specs.Prelude.{◌≡◌, ◌<◌, ◌≤◌, ◌+◌, ◌^◌, length, None, Some, true, false, is_some, IfErr, IfOk, OnOk, OnErr};
 ghost use Rattle.std.specs.Io.KnownBytes.{ReadConsumes, WriteAppends};
-ghost use Rattle.x7_words.specs.Count.{added, ends_counted, raised};
-ghost use Rattle.x7_files.specs.Files.{after_open, known_inputs, faults_after, missing_after, ReadGives, RefusedFor};
+ghost use Rattle.x7_words.specs.Count.{IsLaterCount, added, ends_counted, raised};
+ghost use Rattle.x7_files.specs.Files.{after_open, known_inputs, faults_after, missing_after, CountsFaults, ReadGives, RefusedFor};
 
 mod flash;
 
@@ -110,10 +110,7 @@ impl<'r, R: Files> Inputs for FileInputs<'r, R> {
         ensures refused { IfErr result (RefusedFor self.new.refusal) }
         ensures once { self.new.selects ≤ self.old.selects + 1 }
         ensures ends { self.new.ends ≡ self.old.ends }
-        ensures faults { self.old.faults ≤ self.new.faults }
-        ensures absences { self.old.absences ≤ self.new.absences }
-        ensures last_fault { self.new.faults < 2 ^ 64 }
-        ensures last_absence { self.new.absences < 2 ^ 64 }
+        ensures counts { CountsFaults self.old self.new }
     {
         self.file = None;
         self.refusal = None;
@@ -142,9 +139,7 @@ impl<'r, R: Files> Inputs for FileInputs<'r, R> {
         ensures err { OnErr result (self.new ≡
             record self.old { selected = false; rest = None; faults = raised self.old.faults }) }
         ensures once { self.new.ends ≤ self.old.ends + 1 }
-        ensures faults { self.old.faults ≤ self.new.faults }
-        ensures last_fault { self.new.faults < 2 ^ 64 }
-        ensures last_absence { self.new.absences < 2 ^ 64 }
+        ensures counts { CountsFaults self.old self.new }
     {
         let Some(file) = &mut self.file else {
             unreachable!()
@@ -201,8 +196,7 @@ impl<W: Write + Drop> Sink for StdSink<W> {
         ensures through { WriteAppends self.old.contents self.new.contents result piece.now }
         ensures ok { OnOk result (self.new.faults ≡ self.old.faults) }
         ensures err { OnErr result (self.new.faults ≡ raised self.old.faults) }
-        ensures faults { self.old.faults ≤ self.new.faults }
-        ensures last_fault { self.new.faults < 2 ^ 64 }
+        ensures faults { IsLaterCount self.old.faults self.new.faults }
     {
         match self.writer.write(piece) {
             Ok(count) if count > 0 || piece.is_empty() => Ok(count),

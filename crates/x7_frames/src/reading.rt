@@ -48,7 +48,7 @@ impl Reading {
         })
     }
 
-    /// TakesLine line `n`.
+    /// Takes line `n`.
     pub(crate) fn take(&mut self, part: &Part, n: u64, line: &[u8]) -> Result<(), FramesFault>
         requires width { self.old.draft.width ≡ frame_words part.now }
         requires marks { HasMarks part.now self.old.draft.rows self.old.marks.items }

@@ -38,8 +38,22 @@ fn put_number(out: &mut Vec<u8>, letter: u8, number: u32) -> Result<(), NoMemory
     put(out, &bytes_of(number))
 }
 
+/// The header's bytes, field by field.
+fn bytes_of_header(alloc: Global, head: &Head<'_>) -> Result<Vec<u8>, NoMemory>
+    requires { HaveHeader (contents_of head.now) }
+    ensures { IfOk result (λ out. out.items ≡ header_bytes (contents_of head.now)) }
+{
+    let mut out = Vec::new(alloc);
+    put(&mut out, &FIXED_BYTES)?;
+    put_text(&mut out, b'a', head.a)?;
+    put_text(&mut out, b'b', head.b)?;
+    put_text(&mut out, b'c', head.c)?;
+    put_text(&mut out, b'd', head.d)?;
+    put_number(&mut out, b'e', head.length)?;
+    Ok(out)
+}
+
 /// The header's bytes. The size is not looked at.
-#[tactic(auto, using(crate::proofs::HeaderLemmas::header_same))]
 pub fn write_header(alloc: Global, head: &Head<'_>) -> Result<Vec<u8>, NoMemory>
     requires { HaveHeader (contents_of head.now) }
     ensures bytes { IfOk result (λ out. out.items ≡ header_bytes (contents_of head.now)) }
@@ -50,12 +64,5 @@ pub fn write_header(alloc: Global, head: &Head<'_>) -> Result<Vec<u8>, NoMemory>
     ensures alone { (x : Contents) → HaveHeader x →
         header_bytes x ≡ header_bytes (contents_of head.now) → x ≡ contents_of head.now }
 {
-    let mut out = Vec::new(alloc);
-    put(&mut out, &FIXED_BYTES)?;
-    put_text(&mut out, b'a', head.a)?;
-    put_text(&mut out, b'b', head.b)?;
-    put_text(&mut out, b'c', head.c)?;
-    put_text(&mut out, b'd', head.d)?;
-    put_number(&mut out, b'e', head.length)?;
-    Ok(out)
+    bytes_of_header(alloc, head)
 }

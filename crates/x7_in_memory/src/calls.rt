@@ -8,7 +8,7 @@ use x7_words::{Failed, NoMemory, next_count};
 
 /// The calls of an object: the number of the last one, and those that are to fail.
 #[derive(Drop)]
-pub struct Calls {
+pub(crate) struct Calls {
     last: u64,
     failing: Vec<u64>,
 }
@@ -23,7 +23,7 @@ impl Model for Calls {
 
 impl Calls {
     /// No call yet, and none that is to fail.
-    pub fn new(alloc: Global) -> Calls
+    pub(crate) fn new(alloc: Global) -> Calls
         ensures { result ≡ no_calls }
     {
         Calls {
@@ -33,14 +33,14 @@ impl Calls {
     }
 
     /// The number of the last call, 0 before the first. After the last u64 it stays.
-    pub fn last(&self) -> u64
+    pub(crate) fn last(&self) -> u64
         ensures { result ≡ self.now.last }
     {
         self.last
     }
 
     /// The call of this number is to fail.
-    pub fn fail_at(&mut self, call: u64) -> Result<(), NoMemory>
+    pub(crate) fn fail_at(&mut self, call: u64) -> Result<(), NoMemory>
         ensures ok { OnOk result (self.new ≡ planned self.old call) }
         ensures err { OnErr result (self.new ≡ self.old) }
     {
@@ -49,7 +49,7 @@ impl Calls {
     }
 
     /// Takes the next number, which may be that of a call that is to fail. The object of the calls counts the fault.
-    pub fn next(&mut self) -> Result<(), Failed>
+    pub(crate) fn next(&mut self) -> Result<(), Failed>
         ensures answer { is_err result ≡ next_fails self.old }
         ensures after { self.new ≡ numbered self.old }
     {

@@ -1,5 +1,6 @@
 //! A flash in memory.
 ghost use Rattle.std.specs.Prelude.{◌≡◌, ◌+◌, ◌*◌, ◌<◌, ◌≤◌, ◌^◌, length, slice_range, IsTrue, Option, Some, None, true, false, is_some, OnOk, OnErr, IfOk, is_err, bit_and, vec_capacity};
+ghost use Rattle.x7_words.specs.Count.{IsLaterCount};
 ghost use Rattle.x7_words.specs.Word.{AreBytes};
 ghost use Rattle.x7_words.specs.Flash.{zip_with, cleared, erased_sector, replaced};
 ghost use Rattle.x7_in_memory.specs.Memory.{new_flash, planned, flash_fails, numbered, with_room, has_room, recorded, left_by, torn_byte, attach_answer, after_attach, after_read_at, write_refused, write_fails_in, begun, after_refusal, after_write_of, latest_tear, after_tear};
@@ -257,10 +258,8 @@ impl Flash for MemoryFlash {
         ensures answer { result ≡ attach_answer self.old name.now }
         ensures after { self.new ≡ after_attach self.old name.now }
         ensures bytes { AreBytes self.new.bytes }
-        ensures faults { self.old.read_faults ≤ self.new.read_faults }
-        ensures absences { self.old.absences ≤ self.new.absences }
-        ensures last_fault { self.new.read_faults < 2 ^ 64 }
-        ensures last_absence { self.new.absences < 2 ^ 64 }
+        ensures faults { IsLaterCount self.old.read_faults self.new.read_faults }
+        ensures absences { IsLaterCount self.old.absences self.new.absences }
     {
         are_bytes(&self.bytes);
         self.attached = false;
@@ -295,8 +294,7 @@ impl Flash for MemoryFlash {
         ensures err { OnErr result (buf.new ≡ buf.old) }
         ensures length { length buf.new ≡ length buf.old }
         ensures after { self.new ≡ after_read_at self.old place (length buf.old) }
-        ensures faults { self.old.read_faults ≤ self.new.read_faults }
-        ensures last_fault { self.new.read_faults < 2 ^ 64 }
+        ensures faults { IsLaterCount self.old.read_faults self.new.read_faults }
     {
         let Ok(()) = self.next_call() else {
             self.read_faults = next_count(self.read_faults);
@@ -315,8 +313,7 @@ impl Flash for MemoryFlash {
         requires within { sector * 65536 + 65536 ≤ length self.old.bytes }
         ensures answer { is_err result ≡ write_fails_in self.old 65536 }
         ensures after { self.new ≡ after_write_of self.old (sector * 65536) erased_sector }
-        ensures write_faults { self.old.write_faults ≤ self.new.write_faults }
-        ensures last_write_fault { self.new.write_faults < 2 ^ 64 }
+        ensures write_faults { IsLaterCount self.old.write_faults self.new.write_faults }
     {
         self.begin_write(SECTOR as usize)?;
         self.target.clear();
@@ -339,8 +336,7 @@ impl Flash for MemoryFlash {
         requires within { place + length given.now ≤ length self.old.bytes }
         ensures answer { is_err result ≡ write_fails_in self.old (length given.now) }
         ensures after { self.new ≡ after_write_of self.old place (cleared place given.now self.old.bytes) }
-        ensures write_faults { self.old.write_faults ≤ self.new.write_faults }
-        ensures last_write_fault { self.new.write_faults < 2 ^ 64 }
+        ensures write_faults { IsLaterCount self.old.write_faults self.new.write_faults }
     {
         self.begin_write(given.len())?;
         let place = place as usize;

@@ -1,5 +1,6 @@
 //! Inputs in memory.
 ghost use Rattle.std.specs.Prelude.{◌≡◌, [], ◌<◌, ◌≤◌, ◌+◌, ◌^◌, take, drop, length, Some, None, true, is_some, is_err, OnOk, OnErr, IfOk};
+ghost use Rattle.x7_words.specs.Count.{IsLaterCount};
 ghost use Rattle.x7_words.specs.Input.{preceded, AtEnd};
 ghost use Rattle.x7_in_memory.specs.Memory.{next_fails, planned, no_calls, after_put, select_answer, after_select, read_count, after_read, known_inputs};
 
@@ -116,8 +117,7 @@ impl Inputs for MemoryInputs {
         ensures after { self.new ≡ after_select self.old name.now }
         ensures once { self.new.selects ≤ self.old.selects + 1 }
         ensures ends { self.new.ends ≤ self.old.ends }
-        ensures faults { self.old.faults ≤ self.new.faults }
-        ensures last_fault { self.new.faults < 2 ^ 64 }
+        ensures faults { IsLaterCount self.old.faults self.new.faults }
     {
         self.selected = None;
         self.place = 0;
@@ -147,8 +147,7 @@ impl Inputs for MemoryInputs {
         ensures end_once { self.new.ends ≤ self.old.ends + 1 }
         ensures more { IfOk result (λ n. 0 < n → self.new.ends ≤ self.old.ends) }
         ensures lost { OnErr result (self.new.ends ≤ self.old.ends) }
-        ensures faults { self.old.faults ≤ self.new.faults }
-        ensures last_fault { self.new.faults < 2 ^ 64 }
+        ensures faults { IsLaterCount self.old.faults self.new.faults }
     {
         let Some(which) = self.selected else {
             unreachable!()

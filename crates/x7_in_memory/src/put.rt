@@ -7,9 +7,9 @@ ghost use Rattle.x7_in_memory.specs.Put.{entry_of, left_of, name_of};
 
 /// A name and what was put under it.
 #[derive(Drop)]
-pub struct Put {
-    pub name: String,
-    pub bytes: Vec<u8>,
+pub(crate) struct Put {
+    pub(crate) name: String,
+    pub(crate) bytes: Vec<u8>,
 }
 
 /// The place of the first one of this name.
@@ -20,7 +20,7 @@ fn first_place(puts: &[Put], name: &str) -> Option<usize>
 }
 
 /// The place of what stands under the name, if anything does.
-pub fn place_of(puts: &[Put], name: &str) -> Option<usize>
+pub(crate) fn place_of(puts: &[Put], name: &str) -> Option<usize>
     ensures within { IfSome result (λ which. which < length puts.now) }
     ensures found { is_none result ≡ is_none (bytes_under (map entry_of puts.now) name.now) }
     ensures bytes { left_of puts.now 0 result ≡ bytes_under (map entry_of puts.now) name.now }
@@ -30,7 +30,7 @@ pub fn place_of(puts: &[Put], name: &str) -> Option<usize>
 }
 
 /// A place in the puts once one more stands before them.
-pub fn next_place(place: Option<usize>) -> Option<usize>
+pub(crate) fn next_place(place: Option<usize>) -> Option<usize>
     requires { ForSome place (λ which. which + 1 < usize.MAX) }
     ensures { result ≡ option_map (λ which. which + 1) place }
 {
@@ -48,7 +48,7 @@ fn bytes_from(bytes: &[u8], place: usize) -> &[u8]
 }
 
 /// What is left of the bytes at one place of the puts, from a place among the bytes on.
-pub fn left_at(puts: &[Put], which: usize, place: usize) -> &[u8]
+pub(crate) fn left_at(puts: &[Put], which: usize, place: usize) -> &[u8]
     requires { which < length puts.now }
     ensures { left_of puts.now place (Some which) ≡ Some result.now }
 {

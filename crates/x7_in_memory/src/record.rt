@@ -8,15 +8,15 @@ use x7_words::NoMemory;
 
 /// The range of a write: its place, and how many bytes it has.
 #[derive(Clone, Copy, Drop)]
-pub struct Span {
-    pub place: usize,
-    pub count: usize,
+pub(crate) struct Span {
+    pub(crate) place: usize,
+    pub(crate) count: usize,
 }
 
 /// The ranges of all writes so far, and of all their bytes those before the write and those that it was to bring.
 /// The room for further ones is made ahead.
 #[derive(Drop)]
-pub struct Record {
+pub(crate) struct Record {
     spans: Vec<Span>,
     before: Vec<u8>,
     target: Vec<u8>,
@@ -27,7 +27,7 @@ pub struct Record {
 impl Model for Record {
     ghost use Rattle.std.specs.Prelude.{◌≡◌, ◌+◌, ◌≤◌, length, vec_len, vec_capacity};
     ghost use Rattle.x7_in_memory.specs.Memory.{WriteRecord};
-    ghost use Rattle.x7_in_memory.specs.Spans.{writes_of, count_of};
+    ghost use Rattle.x7_in_memory.specs.Spans.{writes_of, span_bytes};
 
     ghost Value = { WriteRecord };
 
@@ -38,8 +38,8 @@ impl Model for Record {
     } };
 
     ghost invariant = { λ r.
-        (length r.before.items ≡ count_of r.spans.items)
-        × (length r.target.items ≡ count_of r.spans.items)
+        (length r.before.items ≡ span_bytes r.spans.items)
+        × (length r.target.items ≡ span_bytes r.spans.items)
         × (vec_len r.spans + r.writes_left ≤ vec_capacity r.spans)
         × (vec_len r.before + r.bytes_left ≤ vec_capacity r.before)
         × (vec_len r.target + r.bytes_left ≤ vec_capacity r.target) };
@@ -47,7 +47,7 @@ impl Model for Record {
 
 impl Record {
     /// No write, and no room for one.
-    pub fn new(alloc: Global) -> Record
+    pub(crate) fn new(alloc: Global) -> Record
         ensures { result ≡ no_writes }
     {
         Record {
@@ -60,7 +60,7 @@ impl Record {
     }
 
     /// Makes room for `writes` writes more, with ranges of `bytes` bytes in all.
-    pub fn make_room(&mut self, writes: u64, bytes: u64) -> Result<(), NoMemory>
+    pub(crate) fn make_room(&mut self, writes: u64, bytes: u64) -> Result<(), NoMemory>
         ensures ok { OnOk result (self.new ≡ with_room self.old writes bytes) }
         ensures err { OnErr result (self.new ≡ self.old) }
     {
@@ -77,21 +77,21 @@ impl Record {
     }
 
     /// How many bytes the ranges of further writes may have in all.
-    pub fn bytes_left(&self) -> u64
+    pub(crate) fn bytes_left(&self) -> u64
         ensures { result ≡ self.now.bytes_left }
     {
         self.bytes_left as u64
     }
 
     /// Whether a write of `count` bytes can be recorded.
-    pub fn has_room(&self, count: usize) -> bool
+    pub(crate) fn has_room(&self, count: usize) -> bool
         ensures { result ≡ has_room self.now count }
     {
         0 < self.writes_left && count <= self.bytes_left
     }
 
     /// Records a write at the place, by the bytes of its range before it and those that it is to bring.
-    pub fn push(&mut self, place: usize, before: &[u8], target: &[u8])
+    pub(crate) fn push(&mut self, place: usize, before: &[u8], target: &[u8])
         requires room { IsTrue (has_room self.old (length target.now)) }
         requires lengths { length before.now ≡ length target.now }
         ensures { self.new ≡ recorded self.old place before.now target.now }

@@ -1,5 +1,6 @@
 //! A sink in memory.
 ghost use Rattle.std.specs.Prelude.{◌≡◌, [], ◌<◌, ◌≤◌, ◌^◌, length, Some, OnOk, OnErr, IfOk, is_err};
+ghost use Rattle.x7_words.specs.Count.{IsLaterCount};
 ghost use Rattle.x7_in_memory.specs.Memory.{no_calls, planned, write_fails, write_count, after_write};
 
 use crate::calls::Calls;
@@ -86,8 +87,7 @@ impl Sink for MemorySink {
         ensures count { IfOk result (λ n. n ≡ write_count self.old piece.now) }
         ensures some { IfOk result (λ n. 0 < length piece.now → 0 < n) }
         ensures after { self.new ≡ after_write self.old piece.now }
-        ensures faults { self.old.faults ≤ self.new.faults }
-        ensures last_fault { self.new.faults < 2 ^ 64 }
+        ensures faults { IsLaterCount self.old.faults self.new.faults }
     {
         let is_planned = self.calls.next().is_err();
         let free = self.room - self.bytes.len();

@@ -58,6 +58,11 @@ sixteen_marked marks place h e p = elim (cases_eq (p / 16) (place / 16)) [
       (omega (arith, e, same)) (omega (arith, e, same))
 ]
 
+-- places marked from one on to another, and then on to a next one, are marked from the first to the last
+pub marked_on : (new old first : Bool) (place at next p : ℕ) → place ≤ at → at ≤ next → new ≡ (if nat_le at p && nat_lt p next then true else old) → old ≡ (if nat_le place p && nat_lt p at then true else first)
+    → new ≡ (if nat_le place p && nat_lt p next then true else first)
+marked_on new old first place at next p h l e f = e ∙ ap (λ (b : Bool). if nat_le at p && nat_lt p next then true else b) f ∙ grind (arith, common_steps)
+
 -- ---- overlap
 
 pub overlap_at : (xs : List DataRecord) (p n q : ℕ) → p ≤ q → q < p + n → covered xs q ≡ true → ((k : ℕ) → p ≤ k → k < q → covered xs k ≡ false) → overlap xs p n ≡ Some q

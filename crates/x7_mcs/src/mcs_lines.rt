@@ -19,7 +19,7 @@ use std::alloc::Global;
 use x7_text::{TakesLines, first_line};
 
 /// The last address at which a row ends within its block.
-const LAST_ROW: u32 = 65_520;
+const LAST_ROW: u16 = 65_520;
 
 /// The image that the lines of a flash text gave so far, and what stands for the lines that come.
 #[derive(Drop)]
@@ -45,31 +45,21 @@ impl McsLines {
     /// Takes line `n`, that of a row as it is written here.
     #[inline(always)]
     fn put_row(&mut self, n: u64, row: &Row) -> Result<(), McsFault>
-        requires address { row.now.address ≤ last_row }
-        requires content { length row.now.content ≡ row_size }
+        requires { length row.now.content ≡ row_size }
         ensures { (xs : List DataRecord) → HoldsIn self.old.image xs
             → ReachesIn result (after_data n (flash_reading_at self.old.context xs) row.now.address row.now.content) self.new }
     {
-        match put_data(&mut self.image, n, self.context, row.address, &row.content) {
-            Ok(context) => {
-                self.context = context;
-                Ok(())
-            }
-            Err(fault) => Err(fault),
-        }
+        let address = u32::from(row.address);
+        self.context = put_data(&mut self.image, n, self.context, address, &row.content)?;
+        Ok(())
     }
 
     /// Takes line `n`, which has no end here.
     fn put_one(&mut self, n: u64, line: &[u8]) -> Result<(), McsFault>
         ensures { (xs : List DataRecord) → HoldsIn self.old.image xs → ReachesIn result (after_line n (flash_reading_at self.old.context xs) line.now) self.new }
     {
-        match put_line(&mut self.image, n, self.context, line) {
-            Ok(context) => {
-                self.context = context;
-                Ok(())
-            }
-            Err(fault) => Err(fault),
-        }
+        self.context = put_line(&mut self.image, n, self.context, line)?;
+        Ok(())
     }
 
     /// Takes the first line of a text, line `n`, if it has its end. Answers the text after it.
@@ -86,19 +76,15 @@ impl McsLines {
             && let Some((row, rest)) = first_row(text)
             && row.address <= LAST_ROW
         {
-            match self.put_row(n, &row) {
-                Ok(()) => return Ok(Some(rest)),
-                Err(fault) => return Err(fault),
-            }
+            self.put_row(n, &row)?;
+            return Ok(Some(rest));
         }
         let (line, more) = first_line(text);
         let Some(rest) = more else {
             return Ok(None);
         };
-        match self.put_one(n, without_return(line)) {
-            Ok(()) => Ok(Some(rest)),
-            Err(fault) => Err(fault),
-        }
+        self.put_one(n, without_return(line))?;
+        Ok(Some(rest))
     }
 }
 
@@ -132,11 +118,7 @@ impl TakesLines for McsLines {
         let mut count = n;
         loop {
             let next = count.saturating_add(1);
-            let found = match self.take_line(next, rest) {
-                Ok(found) => found,
-                Err(fault) => return Err(fault),
-            };
-            let Some(after) = found else {
+            let Some(after) = self.take_line(next, rest)? else {
                 return Ok((rest, count));
             };
             rest = after;
@@ -146,10 +128,7 @@ impl TakesLines for McsLines {
 
     fn put_last(self, n: u64, line: &[u8]) -> Result<Vec<u8>, McsFault> {
         let mut last = self;
-        match last.put_one(n, line) {
-            Ok(()) => (),
-            Err(fault) => return Err(fault),
-        }
+        last.put_one(n, line)?;
         if !last.context.ended {
             return Err(McsFault::NoEnd);
         }

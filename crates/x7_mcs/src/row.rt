@@ -50,8 +50,7 @@ fn sum_of_content(content: &[u8; 16]) -> u8
 
 /// The sum byte of a data record of sixteen bytes.
 #[inline(always)]
-fn sum_byte_of_row(address: u32, content: &[u8; 16]) -> u8
-    requires { address < 2 ^ 16 }
+fn sum_byte_of_row(address: u16, content: &[u8; 16]) -> u8
     ensures { result ≡ sum_byte (16 ∷ address / 256 ∷ address % 256 ∷ 0 ∷ content.now) }
 {
     let fields = [16, (address / 256) as u8, (address % 256) as u8, 0];
@@ -60,8 +59,7 @@ fn sum_byte_of_row(address: u32, content: &[u8; 16]) -> u8
 
 /// The digits of the fields of a data record of sixteen bytes.
 #[inline(always)]
-fn hex_of_fields(address: u32) -> [u8; 8]
-    requires { address < 2 ^ 16 }
+fn hex_of_fields(address: u16) -> [u8; 8]
     ensures { result ≡ flat_map hex_byte (16 ∷ address / 256 ∷ address % 256 ∷ 0 ∷ []) }
 {
     let [a, b] = hex_of_byte((address / 256) as u8);
@@ -71,8 +69,7 @@ fn hex_of_fields(address: u32) -> [u8; 8]
 
 /// The line of a data record of sixteen bytes at an address.
 #[inline(always)]
-pub(crate) fn row_line(address: u32, content: &[u8; 16]) -> [u8; 44]
-    requires { address < 2 ^ 16 }
+pub(crate) fn row_line(address: u16, content: &[u8; 16]) -> [u8; 44]
     ensures line { result ≡ data_line address content.now }
     ensures bytes { AreBytes content.now }
 {
@@ -106,7 +103,7 @@ fn sixteen_in(line: &[u8; 44], at: usize) -> [u8; 16]
 /// A data record of sixteen bytes.
 #[derive(Clone, Copy)]
 pub(crate) struct Row {
-    pub(crate) address: u32,
+    pub(crate) address: u16,
     pub(crate) content: [u8; 16],
 }
 
@@ -134,17 +131,15 @@ fn guess_bytes(first: [u8; 16], second: [u8; 16]) -> [u8; 16] {
 
 /// The number that a digit in upper case would show.
 #[inline(always)]
-fn guess_number(digit: u8) -> u32
+fn guess_number(digit: u8) -> u16
     ensures { result < 16 }
 {
-    u32::from((digit & 15) + (digit >> 6) * 9) % 16
+    u16::from((digit & 15) + (digit >> 6) * 9) % 16
 }
 
 /// The row that a line would show.
 #[inline(always)]
-fn guess_row(line: &[u8; 44]) -> Row
-    ensures { result.address < 2 ^ 16 }
-{
+fn guess_row(line: &[u8; 44]) -> Row {
     let address = 4096 * guess_number(line[3])
         + 256 * guess_number(line[4])
         + 16 * guess_number(line[5])
@@ -157,8 +152,8 @@ fn guess_row(line: &[u8; 44]) -> Row
 
 /// Whether a line is that of a data record of sixteen bytes at an address. It is compared piece by piece.
 #[inline(always)]
-fn is_row_line(line: &[u8; 44], address: u32, content: &[u8; 16]) -> bool
-    requires { address < 2 ^ 16 }
+#[tactic(auto, using(crate::proofs::RowLemmas::are_bytes))]
+fn is_row_line(line: &[u8; 44], address: u16, content: &[u8; 16]) -> bool
     ensures line { IsTrue result → line.now ≡ data_line address content.now }
     ensures bytes { AreBytes content.now }
 {
@@ -182,7 +177,6 @@ fn is_row_line(line: &[u8; 44], address: u32, content: &[u8; 16]) -> bool
 #[inline(always)]
 pub(crate) fn first_row(text: &[u8]) -> Option<(Row, &[u8])>
     ensures line { MatchOption result (Unit {0}) (λ r. text.now ≡ data_line r.0.address r.0.content ++ r.1.now) }
-    ensures address { MatchOption result (Unit {0}) (λ r. r.0.address < 2 ^ 16) }
     ensures content { MatchOption result (Unit {0}) (λ r. length r.0.content ≡ 16) }
     ensures bytes { MatchOption result (Unit {0}) (λ r. AreBytes r.0.content) }
     ensures shorter { MatchOption result (Unit {0}) (λ r. length r.1.now < length text.now) }

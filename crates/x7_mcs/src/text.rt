@@ -1,6 +1,7 @@
 //! The text of a flash's bytes.
 ghost use Rattle.std.specs.Prelude.{◌≡◌, ◌≤◌, ◌<◌, ◌+◌, ◌*◌, ◌/◌, ◌%◌, ◌^◌, [], ◌++◌, length, vec_len, vec_capacity, IfOk, Ok};
 ghost use Rattle.std.specs.List.{flat_map};
+ghost use Rattle.x7_text.specs.Appends.{Appends};
 ghost use Rattle.x7_text.specs.Digits.{hex_byte};
 ghost use Rattle.x7_text.specs.Row.{rows};
 ghost use Rattle.x7_words.specs.Word.{AreBytes};
@@ -21,9 +22,7 @@ pub(crate) const END_LINE: &[u8] = b":00000001FF\n";
 /// Appends the digits of bytes.
 fn put_digits(out: &mut Vec<u8>, bytes: &[u8])
     requires { vec_len out.old + 2 * length bytes.now ≤ vec_capacity out.old }
-    ensures items { out.new.items ≡ out.old.items ++ flat_map hex_byte bytes.now }
-    ensures length { vec_len out.new ≡ vec_len out.old + 2 * length bytes.now }
-    ensures room { vec_capacity out.old ≤ vec_capacity out.new }
+    ensures { Appends out.old out.new (flat_map hex_byte bytes.now) (2 * length bytes.now) }
 {
     for b in bytes {
         put(out, &hex_of_byte(*b));
@@ -33,9 +32,7 @@ fn put_digits(out: &mut Vec<u8>, bytes: &[u8])
 /// Appends the line of a record's bytes, those of its fields and its data.
 fn put_record(out: &mut Vec<u8>, fields: &[u8], content: &[u8])
     requires { vec_len out.old + (2 * length fields.now + 2 * length content.now + 4) ≤ vec_capacity out.old }
-    ensures items { out.new.items ≡ out.old.items ++ record_line (fields.now ++ content.now) }
-    ensures length { vec_len out.new ≡ vec_len out.old + (2 * length fields.now + 2 * length content.now + 4) }
-    ensures room { vec_capacity out.old ≤ vec_capacity out.new }
+    ensures { Appends out.old out.new (record_line (fields.now ++ content.now)) (2 * length fields.now + 2 * length content.now + 4) }
 {
     put(out, b":");
     put_digits(out, fields);
@@ -49,9 +46,7 @@ fn put_record(out: &mut Vec<u8>, fields: &[u8], content: &[u8])
 fn put_block_start(out: &mut Vec<u8>, place: u32)
     requires room { vec_len out.old + 16 ≤ vec_capacity out.old }
     requires within { place < flash_limit }
-    ensures items { out.new.items ≡ out.old.items ++ block_start place }
-    ensures length { vec_len out.new ≤ vec_len out.old + 16 }
-    ensures room { vec_capacity out.old ≤ vec_capacity out.new }
+    ensures { Appends out.old out.new (block_start place) 16 }
 {
     if place % BLOCK_SIZE == 0 {
         let block = place / BLOCK_SIZE;
@@ -65,13 +60,10 @@ fn put_block_start(out: &mut Vec<u8>, place: u32)
 
 /// Appends the data record of a row.
 #[inline(always)]
-fn put_data(out: &mut Vec<u8>, address: u32, row: &[u8])
+fn put_data(out: &mut Vec<u8>, address: u16, row: &[u8])
     requires room { vec_len out.old + 44 ≤ vec_capacity out.old }
     requires row { length row.now ≤ 16 }
-    requires address { address < 2 ^ 16 }
-    ensures items { out.new.items ≡ out.old.items ++ data_line address row.now }
-    ensures length { vec_len out.new ≤ vec_len out.old + 44 }
-    ensures room { vec_capacity out.old ≤ vec_capacity out.new }
+    ensures { Appends out.old out.new (data_line address row.now) 44 }
 {
     let Some(whole) = row.first_chunk::<16>() else {
         let fields = [
@@ -92,12 +84,10 @@ fn put_row(out: &mut Vec<u8>, place: u32, row: &[u8])
     requires room { vec_len out.old + 60 ≤ vec_capacity out.old }
     requires within { place < flash_limit }
     requires row { length row.now ≤ 16 }
-    ensures items { out.new.items ≡ out.old.items ++ (block_start place ++ data_line (place % block_size) row.now) }
-    ensures length { vec_len out.new ≤ vec_len out.old + 60 }
-    ensures room { vec_capacity out.old ≤ vec_capacity out.new }
+    ensures { Appends out.old out.new (block_start place ++ data_line (place % block_size) row.now) 60 }
 {
     put_block_start(out, place);
-    put_data(out, place % BLOCK_SIZE, row);
+    put_data(out, (place % BLOCK_SIZE) as u16, row);
 }
 
 /// Appends the lines of rows of 16 bytes, the first of which stands at a place where a row begins. It takes no memory.

@@ -2,7 +2,7 @@
 use Rattle.std.proofs.Common.{◌≡◌, ◌==◌, ℕ, zero, suc, ◌+◌, ◌-◌, ◌*◌, ◌^◌, ◌<◌, ◌≤◌, min, Bool, true, false, not, List, [], ◌∷◌, ◌++◌, if◌then◌else◌, refl, sym, ap, ◌∙◌, arith, add_assoc, IsTrue, ◌↔◌, ◌&&◌, inl, inr, eq-eqb}
 use Rattle.std.proofs.lemmas.Bool.Decides.{eqb_tells}
 use Rattle.std.proofs.Math.Nat.{suc-mul}
-use Rattle.x7_startup.specs.Count.{WatchCall, Load, Reload, Watched, cfg_mon_of, timer_value_of, is_on, timer_after, has_load, since_load, bytes_on, count_of, full_count, Watch, WatchesFor, Fires, bytes_alike}
+use Rattle.x7_startup.specs.Count.{WatchCall, Load, Reload, Watched, cfg_mon_of, timer_value_of, is_on, timer_after, has_load, since_load, bytes_on, watched_count, full_count, Watch, WatchesFor, Fires, bytes_alike}
 
 pub timer_watched : (t : ℕ) (calls : List WatchCall) (e : Bool) → timer_after t (calls ++ Watched e ∷ []) ≡ timer_after t calls
 timer_watched t [] e = refl
@@ -57,13 +57,13 @@ on_watched off t (Reload ∷ calls) e = on_watched off t calls e
 on_watched off t (Watched x ∷ calls) e = rw (on_watched off t calls e) (sym (add_assoc _ (bytes_on off t calls) _))
 
 pub count_watched : (off : Bool) (t : ℕ) (calls : List WatchCall) (e : Bool) →
-    count_of off t (calls ++ Watched e ∷ []) ≡ count_of off t calls + tick (is_on off (timer_after t calls) e)
+    watched_count off t (calls ++ Watched e ∷ []) ≡ watched_count off t calls + tick (is_on off (timer_after t calls) e)
 count_watched off t calls e =
     ap (λ (u : ℕ). bytes_on off u (since_load (calls ++ Watched e ∷ []))) (timer_watched t calls e)
     ∙ ap (bytes_on off (timer_after t calls)) (since_watched calls e)
     ∙ on_watched off (timer_after t calls) (since_load calls) e
 
-pub count_loaded : (off : Bool) (t : ℕ) (calls : List WatchCall) (c : WatchCall) → has_load (c ∷ []) ≡ true → count_of off t (calls ++ c ∷ []) ≡ 0
+pub count_loaded : (off : Bool) (t : ℕ) (calls : List WatchCall) (c : WatchCall) → has_load (c ∷ []) ≡ true → watched_count off t (calls ++ c ∷ []) ≡ 0
 count_loaded off t calls c h = ap (bytes_on off (timer_after t (calls ++ c ∷ []))) (since_loaded calls c h)
 
 both : (a b : Bool) → IsTrue (a && b) → IsTrue a × IsTrue b
@@ -147,25 +147,25 @@ timer_alike t zero calls e = rw (append_none calls) refl
 timer_alike t (suc n) calls e = rw (push_replicate calls n e) (timer_watched t (calls ++ bytes_alike n e) e ∙ timer_alike t n calls e)
 
 pub count_alike : (off : Bool) (t n : ℕ) (calls : List WatchCall) (e : Bool) →
-    count_of off t (calls ++ bytes_alike n e) ≡ count_of off t calls + n * tick (is_on off (timer_after t calls) e)
+    watched_count off t (calls ++ bytes_alike n e) ≡ watched_count off t calls + n * tick (is_on off (timer_after t calls) e)
 count_alike off t zero calls e = rw (append_none calls) (omega arith)
 count_alike off t (suc n) calls e =
     let b = tick (is_on off (timer_after t calls) e) in
-    let ih : count_of off t (calls ++ bytes_alike n e) ≡ count_of off t calls + n * b = count_alike off t n calls e in
+    let ih : watched_count off t (calls ++ bytes_alike n e) ≡ watched_count off t calls + n * b = count_alike off t n calls e in
     let s : suc n * b ≡ n * b + b = suc-mul n b in
-    let one : count_of off t ((calls ++ bytes_alike n e) ++ Watched e ∷ []) ≡ count_of off t (calls ++ bytes_alike n e) + tick (is_on off (timer_after t (calls ++ bytes_alike n e)) e) =
+    let one : watched_count off t ((calls ++ bytes_alike n e) ++ Watched e ∷ []) ≡ watched_count off t (calls ++ bytes_alike n e) + tick (is_on off (timer_after t (calls ++ bytes_alike n e)) e) =
     count_watched off t (calls ++ bytes_alike n e) e in
     let same : tick (is_on off (timer_after t (calls ++ bytes_alike n e)) e) ≡ b = ap (λ (u : ℕ). tick (is_on off u e)) (timer_alike t n calls e) in
-    ap (count_of off t) (push_replicate calls n e) ∙ omega arith
+    ap (watched_count off t) (push_replicate calls n e) ∙ omega arith
 
 pub alike_watches : (off : Bool) (first : ℕ) (w : Watch) (calls : List WatchCall) (e on : Bool) (n count : ℕ) → WatchesFor off first w calls →
     on ≡ (not (w.limit == 0) && not e) → count ≡ min (w.count + n * tick on) (2 ^ 32 - 1) →
     WatchesFor off first (record w { count = count }) (calls ++ bytes_alike n e)
 alike_watches off first w calls e on n count k o h =
     let same : tick (is_on off (timer_after first calls) e) ≡ tick on = ap tick (sym (on_kept off first w calls e on k o)) in
-    let all : count_of off first (calls ++ bytes_alike n e) ≡ count_of off first calls + n * tick on =
-    count_alike off first n calls e ∙ ap (λ x. count_of off first calls + n * x) same in
-    let old : w.count ≡ min (count_of off first calls) (2 ^ 32 - 1) = k.count_is in
+    let all : watched_count off first (calls ++ bytes_alike n e) ≡ watched_count off first calls + n * tick on =
+    count_alike off first n calls e ∙ ap (λ x. watched_count off first calls + n * x) same in
+    let old : w.count ≡ min (watched_count off first calls) (2 ^ 32 - 1) = k.count_is in
     record {
       off_is = k.off_is;
       limit_is = k.limit_is ∙ ap (full_count off) (sym (timer_alike first n calls e));
@@ -180,11 +180,11 @@ alike_fires off first w calls e on n k o t full =
     let now : IsTrue (is_on off timer e) = sym (on_kept off first w calls e on k o) ∙ t in
     let same : timer_after first (calls ++ bytes_alike n e) ≡ timer = timer_alike first n calls e in
     let one : tick (is_on off timer e) ≡ 1 = ap tick now in
-    let all : count_of off first (calls ++ bytes_alike (suc n) e) ≡ count_of off first calls + suc n * 1 =
-    count_alike off first (suc n) calls e ∙ ap (λ x. count_of off first calls + suc n * x) one in
-    let push : count_of off first ((calls ++ bytes_alike n e) ++ Watched e ∷ []) ≡ count_of off first (calls ++ bytes_alike (suc n) e) =
-    ap (count_of off first) (sym (push_replicate calls n e)) in
-    let old : w.count ≡ min (count_of off first calls) (2 ^ 32 - 1) = k.count_is in
+    let all : watched_count off first (calls ++ bytes_alike (suc n) e) ≡ watched_count off first calls + suc n * 1 =
+    count_alike off first (suc n) calls e ∙ ap (λ x. watched_count off first calls + suc n * x) one in
+    let push : watched_count off first ((calls ++ bytes_alike n e) ++ Watched e ∷ []) ≡ watched_count off first (calls ++ bytes_alike (suc n) e) =
+    ap (watched_count off first) (sym (push_replicate calls n e)) in
+    let old : w.count ≡ min (watched_count off first calls) (2 ^ 32 - 1) = k.count_is in
     let limit : w.limit ≡ timer_value_of timer * 4 = k.limit_is ∙ full_on off timer e now in
     let small : timer_value_of timer < 2 ^ 30 = value_small timer in
     rw same (now, omega arith)
@@ -195,13 +195,13 @@ alike_quiet off first w calls e on n k o not' (now', full') =
     let timer = timer_after first calls in
     let same : timer_after first (calls ++ bytes_alike n e) ≡ timer = timer_alike first n calls e in
     let now : IsTrue (is_on off timer e) = rw same at now' in
-    let full : count_of off first ((calls ++ bytes_alike n e) ++ Watched e ∷ []) ≡ timer_value_of timer * 4 = rw same at full' in
+    let full : watched_count off first ((calls ++ bytes_alike n e) ++ Watched e ∷ []) ≡ timer_value_of timer * 4 = rw same at full' in
     let one : tick (is_on off timer e) ≡ 1 = ap tick now in
-    let all : count_of off first (calls ++ bytes_alike (suc n) e) ≡ count_of off first calls + suc n * 1 =
-    count_alike off first (suc n) calls e ∙ ap (λ x. count_of off first calls + suc n * x) one in
-    let push : count_of off first ((calls ++ bytes_alike n e) ++ Watched e ∷ []) ≡ count_of off first (calls ++ bytes_alike (suc n) e) =
-    ap (count_of off first) (sym (push_replicate calls n e)) in
-    let old : w.count ≡ min (count_of off first calls) (2 ^ 32 - 1) = k.count_is in
+    let all : watched_count off first (calls ++ bytes_alike (suc n) e) ≡ watched_count off first calls + suc n * 1 =
+    count_alike off first (suc n) calls e ∙ ap (λ x. watched_count off first calls + suc n * x) one in
+    let push : watched_count off first ((calls ++ bytes_alike n e) ++ Watched e ∷ []) ≡ watched_count off first (calls ++ bytes_alike (suc n) e) =
+    ap (watched_count off first) (sym (push_replicate calls n e)) in
+    let old : w.count ≡ min (watched_count off first calls) (2 ^ 32 - 1) = k.count_is in
     let limit : w.limit ≡ timer_value_of timer * 4 = k.limit_is ∙ full_on off timer e now in
     let small : timer_value_of timer < 2 ^ 30 = value_small timer in
     not' (on_kept off first w calls e on k o ∙ now) (omega arith)
@@ -231,7 +231,7 @@ pub idle_watches : (off : Bool) (first : ℕ) (w : Watch) (calls : List WatchCal
     on ≡ (not (w.limit == 0) && not e) → on ≡ false → WatchesFor off first w (calls ++ Watched e ∷ [])
 idle_watches off first w calls e on k o f =
     let none : tick on ≡ 0 = ap tick f in
-    let old : w.count ≡ min (count_of off first calls) (2 ^ 32 - 1) = k.count_is in
+    let old : w.count ≡ min (watched_count off first calls) (2 ^ 32 - 1) = k.count_is in
     alike_watches off first w calls e on 1 w.count k o (rw none (omega arith))
 
 pub idle_fires : (off : Bool) (first : ℕ) (w : Watch) (calls : List WatchCall) (e on : Bool) → WatchesFor off first w calls →
@@ -256,11 +256,11 @@ byte_fires off first w calls e on count result k o t c r =
     let timer = timer_after first calls in
     let now : IsTrue (is_on off timer e) = sym (on_kept off first w calls e on k o) ∙ t in
     let limit : w.limit ≡ timer_value_of timer * 4 = k.limit_is ∙ full_on off timer e now in
-    let reached : count ≡ min (count_of off first (calls ++ Watched e ∷ [])) (2 ^ 32 - 1) = after.count_is in
+    let reached : count ≡ min (watched_count off first (calls ++ Watched e ∷ [])) (2 ^ 32 - 1) = after.count_is in
     let small : timer_value_of timer < 2 ^ 30 = value_small timer in
     rw r (
       (λ t'. let q : count ≡ w.limit = equal count w.limit t' in (now, omega arith)),
-      (λ f. let g : count_of off first (calls ++ Watched e ∷ []) ≡ timer_value_of timer * 4 = f.1 in
+      (λ f. let g : watched_count off first (calls ++ Watched e ∷ []) ≡ timer_value_of timer * 4 = f.1 in
           let q : count ≡ w.limit = omega arith in
           rw (eq-eqb count w.limit q) refl),
     )

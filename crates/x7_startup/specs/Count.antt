@@ -44,14 +44,14 @@ bytes_on off timer (Watched eos ∷ calls) = (if is_on off timer eos then 1 else
 bytes_on off timer (_ ∷ calls) = bytes_on off timer calls
 
 -- the count: the bytes since the last load that had it on
-abbrev pub count_of : Bool → ℕ → List WatchCall → ℕ
-count_of off first calls = bytes_on off (timer_after first calls) (since_load calls)
+abbrev pub watched_count : Bool → ℕ → List WatchCall → ℕ
+watched_count off first calls = bytes_on off (timer_after first calls) (since_load calls)
 
 -- whether one byte more, after the calls, fires: it has the watchdog on, and brings the count to four times the value
 abbrev pub Fires : Bool → ℕ → List WatchCall → Bool → Type 0
 Fires off first calls eos =
     IsTrue (is_on off (timer_after first calls) eos)
-    × (count_of off first (calls ++ Watched eos ∷ []) ≡ timer_value_of (timer_after first calls) * 4)
+    × (watched_count off first (calls ++ Watched eos ∷ []) ≡ timer_value_of (timer_after first calls) * 4)
 
 -- `count` bytes, all in phase 7 or none
 abbrev pub bytes_alike : ℕ → Bool → List WatchCall
@@ -79,7 +79,7 @@ pub record Watch : Type 0 where
 pub record WatchesFor (off : Bool) (first : ℕ) (w : Watch) (calls : List WatchCall) : Type 0 where
   pub off_is : w.off ≡ off
   pub limit_is : w.limit ≡ full_count off (timer_after first calls)
-  pub count_is : w.count ≡ min (count_of off first calls) (2 ^ 32 - 1)
+  pub count_is : w.count ≡ min (watched_count off first calls) (2 ^ 32 - 1)
 
 -- `Fact` holds of every making and every list of calls that the watchdog stands for
 abbrev pub OfCalls : Watch → (Bool → ℕ → List WatchCall → Type 0) → Type 0

@@ -43,7 +43,7 @@ fn is_up(rise: Option<u8>, phase: u8) -> bool
 }
 
 /// The lines in a phase of a startup that began with this COR0.
-pub fn lines_in(cor0: u32, phase: u8) -> Lines
+pub(crate) fn lines_in(cor0: u32, phase: u8) -> Lines
     ensures done { result.done ≡ done_line (Some cor0) phase }
     ensures gts { result.gts ≡ gts_line (Some cor0) phase }
     ensures gwe { result.gwe ≡ gwe_line (Some cor0) phase }

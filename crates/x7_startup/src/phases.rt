@@ -5,9 +5,9 @@ ghost use Rattle.x7_startup.specs.Ticks.{PassesTicks};
 
 /// A phase of at most 7, and the ticks since startup began, at most 65,535.
 #[derive(Clone, Copy)]
-pub struct Reached {
-    pub ticks: u16,
-    pub phase: u8,
+pub(crate) struct Reached {
+    pub(crate) ticks: u16,
+    pub(crate) phase: u8,
 }
 
 /// The ticks that must have passed before the phase is left.
@@ -28,7 +28,7 @@ fn wait_in(cor0: u32, phase: u8, lock: u16, matched: u16) -> u16
 }
 
 /// The phase and the ticks that are reached one tick later.
-pub fn tick(cor0: u32, start: Reached, lock: u16, matched: u16) -> Reached
+pub(crate) fn tick(cor0: u32, start: Reached, lock: u16, matched: u16) -> Reached
     requires phase { start.phase ≤ 7 }
     ensures last { result.phase ≤ 7 }
     ensures runs { PassesTicks (wait_of lock matched cor0) start 1 result }
@@ -49,7 +49,7 @@ pub fn tick(cor0: u32, start: Reached, lock: u16, matched: u16) -> Reached
 
 /// The phase and the ticks that are reached `count` ticks later, by a loop of at most fifteen turns.
 #[tactic(auto, using(crate::proofs::RunLemmas::ran_none, crate::proofs::RunLemmas::ran_stays, crate::proofs::RunLemmas::ran_moves, crate::proofs::RunLemmas::ran_all))]
-pub fn pass_ticks(cor0: u32, start: Reached, count: u64, lock: u16, matched: u16) -> Reached
+pub(crate) fn pass_ticks(cor0: u32, start: Reached, count: u64, lock: u16, matched: u16) -> Reached
     requires phase { start.phase ≤ 7 }
     ensures last { result.phase ≤ 7 }
     ensures runs { PassesTicks (wait_of lock matched cor0) start count result }

@@ -1,7 +1,9 @@
 -- Rows of words or bytes, and the lines that show them (this project's choice).
-use Rattle.std.specs.Prelude.{ℕ, ◌+◌, ◌==◌, ◌≡◌, ◌<◌, ◌≤◌, if◌then◌else◌, List, [], ◌∷◌, ◌++◌, length, codes}
+use Rattle.std.specs.Prelude.{ℕ, ◌+◌, ◌==◌, ◌≡◌, ◌<◌, ◌≤◌, if◌then◌else◌, List, [], ◌∷◌, ◌++◌, length, codes, Vec}
 use Rattle.std.specs.List.{flat_map}
+use Rattle.std.specs.declared.alloc.Global.{Global}
 use Rattle.x7_words.specs.Word.{AreBytes, AreWords}
+use Rattle.x7_text.specs.Appends.{Appends}
 use Rattle.x7_text.specs.Digits.{hex_byte, hex_word}
 
 -- a row that has elements, and nothing for an empty one
@@ -67,6 +69,18 @@ open_text n word text i (x ∷ xs) = element_text n word text i x ++ open_text n
 abbrev pub in_line_after : ℕ → ℕ → List ℕ → ℕ
 in_line_after n i [] = i
 in_line_after n i (x ∷ xs) = in_line_after n (next_in_line n i) xs
+
+-- bytes were put to `bytes` lines, as text of at most this size: the open line had `in_line` bytes, and now has `next` of them
+pub record PutsBytes (in_line : ℕ) (bytes : List ℕ) (old new : Vec ℕ Global) (most next : ℕ) : Type 0 where
+  pub count : next ≡ in_line_after 32 in_line bytes
+  pub below : next < 32
+  pub appends : Appends old new (open_text 32 (codes "bytes ") hex_byte in_line bytes) most
+
+-- words were put to `data` lines, as text of at most this size: the open line had `in_line` words, and now has `next` of them
+pub record PutsWords (in_line : ℕ) (words : List ℕ) (old new : Vec ℕ Global) (most next : ℕ) : Type 0 where
+  pub count : next ≡ in_line_after 8 in_line words
+  pub below : next < 8
+  pub appends : Appends old new (open_text 8 (codes "data") spaced in_line words) most
 
 -- the end of an open line, and nothing where none is open
 abbrev pub close : ℕ → List ℕ

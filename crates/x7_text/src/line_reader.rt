@@ -58,10 +58,8 @@ pub trait TakesLines: Drop {
                 return Ok((line, count));
             };
             count = count.saturating_add(1);
-            match self.put_line(count, line) {
-                Ok(()) => rest = after,
-                Err(fault) => return Err(fault),
-            }
+            self.put_line(count, line)?;
+            rest = after;
         }
     }
 
@@ -79,10 +77,8 @@ pub fn read_lines<T: TakesLines>(taker: T, text: &[u8]) -> Result<T::Out, T::Fau
     ensures memory { T.took taker taker [] → IfErr result (λ fault. T.is_want fault → WantsAt (T.wants taker) [] text.now) }
 {
     let mut last = taker;
-    match last.put_lines(0, text) {
-        Ok(left) => last.put_last(left.1.saturating_add(1), left.0),
-        Err(fault) => Err(fault),
-    }
+    let (line, count) = last.put_lines(0, text)?;
+    last.put_last(count.saturating_add(1), line)
 }
 
 /// Reads a text that comes in pieces, line by line.
@@ -127,10 +123,7 @@ impl<T: TakesLines> LineReader<T> {
             return Ok(None);
         };
         self.count = self.count.saturating_add(1);
-        match self.taker.put_line(self.count, &self.held) {
-            Ok(()) => (),
-            Err(fault) => return Err(fault),
-        }
+        self.taker.put_line(self.count, &self.held)?;
         self.held.clear();
         Ok(Some(rest))
     }
@@ -142,10 +135,7 @@ impl<T: TakesLines> LineReader<T> {
         ensures memory { (first : T) (text : List ℕ) → length (text ++ piece.now) < 2 ^ 63 → self.old.held ≡ [] → (s : StandsFor (T.took first) self.old text)
             → IfErr result (λ fault. T.is_want fault → WantsIn (T.took first) (T.wants first) s.lines piece.now) }
     {
-        let (rest, count) = match self.taker.put_lines(self.count, piece) {
-            Ok(left) => left,
-            Err(fault) => return Err(fault),
-        };
+        let (rest, count) = self.taker.put_lines(self.count, piece)?;
         self.count = count;
         if rest.is_empty() {
             return Ok(());
@@ -166,11 +156,7 @@ impl<T: TakesLines> LineReader<T> {
         if self.held.is_empty() {
             return self.take_lines(piece);
         }
-        let found = match self.complete(piece) {
-            Ok(found) => found,
-            Err(fault) => return Err(fault),
-        };
-        match found {
+        match self.complete(piece)? {
             Some(rest) => self.take_lines(rest),
             None => Ok(()),
         }
@@ -186,10 +172,8 @@ impl<T: TakesLines> LineReader<T> {
             → IfErr result (λ fault. T.is_want fault → WantsIn (T.took first) (T.wants first) s.lines piece.now) }
     {
         let mut reader = self;
-        match reader.take(piece) {
-            Ok(()) => Ok(reader),
-            Err(fault) => Err(fault),
-        }
+        reader.take(piece)?;
+        Ok(reader)
     }
 
     /// Ends the text: what it gives, or its fault. Memory is wanting only at its last line.

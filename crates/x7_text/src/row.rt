@@ -3,7 +3,7 @@ ghost use Rattle.std.specs.Prelude.{◌≡◌, [], ◌∷◌, ◌<◌, ◌≤◌
 ghost use Rattle.std.specs.List.{flat_map};
 ghost use Rattle.x7_text.specs.Appends.{Appends};
 ghost use Rattle.x7_text.specs.Digits.{hex_byte};
-ghost use Rattle.x7_text.specs.Row.{line, line_start, line_end, next_in_line, open_text, in_line_after, spaced, close};
+ghost use Rattle.x7_text.specs.Row.{line, line_start, line_end, next_in_line, open_text, in_line_after, spaced, close, PutsBytes, PutsWords};
 ghost use Rattle.x7_words.specs.Word.{words_of_bytes};
 
 use crate::block::{bytes_line, data_line, hex_of_few};
@@ -54,9 +54,7 @@ pub fn put_word(text: &mut Vec<u8>, in_line: usize, w: u32) -> usize
 fn put_byte(text: &mut Vec<u8>, in_line: usize, byte: u8) -> usize
     requires open { in_line < 32 }
     requires room { vec_len text.old + 9 ≤ vec_capacity text.old }
-    ensures count { result ≡ in_line_after 32 in_line (byte ∷ []) }
-    ensures open { result < 32 }
-    ensures appends { Appends text.old text.new (open_text 32 (codes "bytes ") hex_byte in_line (byte ∷ [])) 9 }
+    ensures { PutsBytes in_line (byte ∷ []) text.old text.new 9 result }
 {
     put_line_start(text, b"bytes ", in_line);
     put(text, &hex_of_byte(byte));
@@ -98,9 +96,7 @@ fn put_each_word(text: &mut Vec<u8>, in_line: usize, bytes: &[u8]) -> usize
     requires open { in_line < 8 }
     requires whole { length bytes.now % 4 ≡ 0 }
     requires room { vec_len text.old + (3 * length bytes.now + 4) ≤ vec_capacity text.old }
-    ensures count { result ≡ in_line_after 8 in_line (words_of_bytes bytes.now) }
-    ensures open { result < 8 }
-    ensures appends { Appends text.old text.new (open_text 8 (codes "data") spaced in_line (words_of_bytes bytes.now)) (3 * length bytes.now + 1) }
+    ensures { PutsWords in_line (words_of_bytes bytes.now) text.old text.new (3 * length bytes.now + 1) result }
 {
     let (words, _) = bytes.as_chunks::<4>();
     let mut count = in_line;
@@ -114,9 +110,7 @@ fn put_each_word(text: &mut Vec<u8>, in_line: usize, bytes: &[u8]) -> usize
 fn put_each_byte(text: &mut Vec<u8>, in_line: usize, bytes: &[u8]) -> usize
     requires open { in_line < 32 }
     requires room { vec_len text.old + (3 * length bytes.now + 11) ≤ vec_capacity text.old }
-    ensures count { result ≡ in_line_after 32 in_line bytes.now }
-    ensures open { result < 32 }
-    ensures appends { Appends text.old text.new (open_text 32 (codes "bytes ") hex_byte in_line bytes.now) (3 * length bytes.now + 5) }
+    ensures { PutsBytes in_line bytes.now text.old text.new (3 * length bytes.now + 5) result }
 {
     let mut count = in_line;
     for byte in bytes {
@@ -129,9 +123,7 @@ fn put_each_byte(text: &mut Vec<u8>, in_line: usize, bytes: &[u8]) -> usize
 fn put_few_bytes(text: &mut Vec<u8>, in_line: usize, bytes: &[u8]) -> usize
     requires open { in_line + length bytes.now < 32 }
     requires room { vec_len text.old + (2 * length bytes.now + 6) ≤ vec_capacity text.old }
-    ensures count { result ≡ in_line_after 32 in_line bytes.now }
-    ensures open { result < 32 }
-    ensures appends { Appends text.old text.new (open_text 32 (codes "bytes ") hex_byte in_line bytes.now) (2 * length bytes.now + 6) }
+    ensures { PutsBytes in_line bytes.now text.old text.new (2 * length bytes.now + 6) result }
 {
     if bytes.is_empty() {
         return in_line;
@@ -145,9 +137,7 @@ fn put_few_bytes(text: &mut Vec<u8>, in_line: usize, bytes: &[u8]) -> usize
 fn put_new_words(text: &mut Vec<u8>, bytes: &[u8]) -> usize
     requires whole { length bytes.now % 4 ≡ 0 }
     requires room { vec_len text.old + (3 * length bytes.now + 4) ≤ vec_capacity text.old }
-    ensures count { result ≡ in_line_after 8 0 (words_of_bytes bytes.now) }
-    ensures open { result < 8 }
-    ensures appends { Appends text.old text.new (open_text 8 (codes "data") spaced 0 (words_of_bytes bytes.now)) (3 * length bytes.now + 1) }
+    ensures { PutsWords 0 (words_of_bytes bytes.now) text.old text.new (3 * length bytes.now + 1) result }
 {
     let (lines, rest) = bytes.as_chunks::<32>();
     put_data_lines(text, lines);
@@ -157,9 +147,7 @@ fn put_new_words(text: &mut Vec<u8>, bytes: &[u8]) -> usize
 /// Appends bytes to new `bytes` lines. Gives how many stand in the open line then.
 fn put_new_bytes(text: &mut Vec<u8>, bytes: &[u8]) -> usize
     requires { vec_len text.old + (3 * length bytes.now + 6) ≤ vec_capacity text.old }
-    ensures count { result ≡ in_line_after 32 0 bytes.now }
-    ensures open { result < 32 }
-    ensures appends { Appends text.old text.new (open_text 32 (codes "bytes ") hex_byte 0 bytes.now) (3 * length bytes.now + 6) }
+    ensures { PutsBytes 0 bytes.now text.old text.new (3 * length bytes.now + 6) result }
 {
     let (lines, rest) = bytes.as_chunks::<32>();
     put_bytes_lines(text, lines);

@@ -1,9 +1,14 @@
 -- Counts of 64 bits that only rise (this project's choice).
-use Rattle.std.specs.Prelude.{◌≡◌, ℕ, ◌<◌, ◌⊎◌, ◌^◌, ◌+◌, ◌-◌, min, if◌then◌else◌, ◌==◌}
+use Rattle.std.specs.Prelude.{◌≡◌, ℕ, ◌<◌, ◌≤◌, ◌⊎◌, ◌^◌, ◌+◌, ◌-◌, min, if◌then◌else◌, ◌==◌}
 
 -- the count rose, or it is the last u64, at which it stays
 abbrev pub HasRisen : ℕ → ℕ → Type 0
 HasRisen old new = (old < new) ⊎ (new + 1 ≡ 2 ^ 64)
+
+-- the second is a later value of a count of 64 bits: it did not fall
+pub record IsLaterCount (old new : ℕ) : Type 0 where
+  pub rises : old ≤ new
+  pub fits : new < 2 ^ 64
 
 -- the next count; after the last u64 it stays
 abbrev pub raised : ℕ → ℕ

@@ -2,8 +2,8 @@
 ghost use Rattle.std.specs.Prelude.{◌≡◌, ◌+◌, ◌*◌, ◌<◌, ◌≤◌, ◌^◌, length, bit_and, is_some, None, Some, true, IfErr, IfOk, OnOk, OnErr};
 ghost use Rattle.std.specs.Io.KnownBytes.{Consumes};
 ghost use Rattle.std.specs.Io.Seek.{MovesTo};
-ghost use Rattle.x7_words.specs.Count.{raised};
-ghost use Rattle.x7_files.specs.Files.{after_opening, file_tells, known_flash, Clears, ClearsAt, EndsAt, IsExtent, ReadsAt, RefusedFor, WhileOpen, WritesAt};
+ghost use Rattle.x7_words.specs.Count.{IsLaterCount, raised};
+ghost use Rattle.x7_files.specs.Files.{after_opening, file_tells, known_flash, Clears, ClearsAt, EndsAt, IsExtent, ReadsAt, RefusedFor, TriesWrite, WhileOpen, WritesAt};
 ghost use Rattle.x7_words.specs.Flash.{erased_sector, zip_with};
 
 use super::count_refusal;
@@ -197,10 +197,8 @@ impl<'r, R: Files> Flash for FileFlash<'r, R> {
         ensures extent { OnOk result
             (IsExtent (file_tells R.File.stream_position R.File.stream_bytes) self.new.extent self.new.file) }
         ensures refused { IfErr result (RefusedFor self.new.refusal) }
-        ensures faults { self.old.faults ≤ self.new.faults }
-        ensures absences { self.old.absences ≤ self.new.absences }
-        ensures last_fault { self.new.faults < 2 ^ 64 }
-        ensures last_absence { self.new.absences < 2 ^ 64 }
+        ensures faults { IsLaterCount self.old.faults self.new.faults }
+        ensures absences { IsLaterCount self.old.absences self.new.absences }
     {
         self.file = None;
         self.refusal = None;
@@ -235,8 +233,7 @@ impl<'r, R: Files> Flash for FileFlash<'r, R> {
         ensures ok { OnOk result (self.new ≡ record self.old { file = self.new.file }) }
         ensures err { OnErr result (self.new ≡
             record self.old { file = self.new.file; faults = raised self.old.faults }) }
-        ensures faults { self.old.faults ≤ self.new.faults }
-        ensures last_fault { self.new.faults < 2 ^ 64 }
+        ensures faults { IsLaterCount self.old.faults self.new.faults }
     {
         let Some(file) = &mut self.file else {
             unreachable!()
@@ -251,14 +248,8 @@ impl<'r, R: Files> Flash for FileFlash<'r, R> {
     fn erase(&mut self, sector: u64) -> Result<(), Failed>
         requires attached { is_some self.old.file ≡ true }
         requires within { sector * 65536 + 65536 ≤ self.old.extent }
-        ensures written { OnOk result (WhileOpen
-            (WritesAt (file_tells R.File.stream_position R.File.contents) (sector * 65536) erased_sector) self.old.file self.new.file) }
-        ensures open { is_some self.new.file ≡ true }
-        ensures ok { OnOk result (self.new ≡ record self.old { file = self.new.file }) }
-        ensures err { OnErr result (self.new ≡
-            record self.old { file = self.new.file; write_faults = raised self.old.write_faults }) }
-        ensures write_faults { self.old.write_faults ≤ self.new.write_faults }
-        ensures last_write_fault { self.new.write_faults < 2 ^ 64 }
+        ensures { TriesWrite (WritesAt (file_tells R.File.stream_position R.File.contents) (sector * 65536) erased_sector)
+            self.old result self.new }
     {
         let Some(file) = &mut self.file else {
             unreachable!()
@@ -273,15 +264,8 @@ impl<'r, R: Files> Flash for FileFlash<'r, R> {
     fn program(&mut self, place: u64, given: &[u8]) -> Result<(), Failed>
         requires attached { is_some self.old.file ≡ true }
         requires within { place + length given.now ≤ self.old.extent }
-        ensures written { OnOk result (WhileOpen
-            (Clears (file_tells R.File.stream_position R.File.remaining) (file_tells R.File.stream_position R.File.contents) place given.now)
-            self.old.file self.new.file) }
-        ensures open { is_some self.new.file ≡ true }
-        ensures ok { OnOk result (self.new ≡ record self.old { file = self.new.file }) }
-        ensures err { OnErr result (self.new ≡
-            record self.old { file = self.new.file; write_faults = raised self.old.write_faults }) }
-        ensures write_faults { self.old.write_faults ≤ self.new.write_faults }
-        ensures last_write_fault { self.new.write_faults < 2 ^ 64 }
+        ensures { TriesWrite (Clears (file_tells R.File.stream_position R.File.remaining)
+            (file_tells R.File.stream_position R.File.contents) place given.now) self.old result self.new }
     {
         let Some(file) = &mut self.file else {
             unreachable!()

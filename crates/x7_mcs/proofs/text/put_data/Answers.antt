@@ -1,9 +1,14 @@
-use Rattle.std.proofs.Common.{◌++◌, ap, ◌∙◌, List, ℕ}
+use Rattle.std.proofs.Common.{arith, ◌++◌, ap, ◌∙◌, List, ℕ}
 use Rattle.x7_mcs.specs.Text.{data_line}
 use Rattle.x7_mcs.proofs.RowLemmas.{whole_row}
 use Rattle.x7_mcs.proofs.text.put_data.Goals as goal
 
-pub returns-clause-items : goal.returns-clause-items
-returns-clause-items c =
-    c.put.ensures.appends.items
-    ∙ ap (λ (t : List ℕ). c.args.out.now.items ++ t) (c.row_line.ensures.line ∙ ap (data_line c.args.address) (whole_row c.args.row.now c.in-Some.whole.now c.in-Some.ensures.cases.same c.requires.row))
+pub returns : goal.returns
+returns c =
+    record {
+      items =
+          c.put.ensures.appends.items
+          ∙ ap (λ (t : List ℕ). c.args.out.now.items ++ t) (c.row_line.ensures.line ∙ ap (data_line c.args.address) (whole_row c.args.row.now c.in-Some.whole.now c.in-Some.ensures.cases.same c.requires.row));
+      within = omega arith;
+      room = omega arith;
+    }

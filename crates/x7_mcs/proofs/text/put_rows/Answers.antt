@@ -11,6 +11,6 @@ loop-rest-preserved c = record {
       row_more _ c.loop-rest.text.items c.put_row.new.out.items c.loop-rest.at c.min.result c.loop-rest.rest.now c.split_at.result.0.now c.split_at.result.1.now
       c.loop-rest.invariant.lines (omega arith) c.min.ensures c.split_at.ensures.front c.split_at.ensures.back c.put_row.ensures.items;
   left = omega arith;
-  room = room_more (length c.loop-rest.rest.now) c.min.result (length c.split_at.result.1.now) _ _ _ _ c.min.ensures (omega arith) (omega arith) c.loop-rest.invariant.room c.put_row.ensures.length c.put_row.ensures.room;
+  room = room_more (length c.loop-rest.rest.now) c.min.result (length c.split_at.result.1.now) _ _ _ _ c.min.ensures (omega arith) (omega arith) c.loop-rest.invariant.room c.put_row.ensures.within c.put_row.ensures.room;
   capacity = omega (arith, c.put_row.ensures.room, c.loop-rest.invariant.capacity);
 }

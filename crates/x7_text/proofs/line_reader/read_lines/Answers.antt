@@ -2,29 +2,34 @@ use Rattle.std.proofs.Common.{[], MatchResult, append-nil, arith, refl, subst, s
 use Rattle.x7_text.specs.LineReading.{TakesWhole}
 use Rattle.x7_text.specs.Lines.{split}
 use Rattle.x7_text.proofs.LineReadingLemmas.{cut_long, wants_last}
+use Rattle.std.proofs.lemmas.Result.{err_from_is_err_and}
 use Rattle.x7_text.proofs.line_reader.read_lines.Goals as goal
 
-pub returns-in-Ok-clause-read : goal.returns-in-Ok-clause-read
-returns-in-Ok-clause-read g c = λ begun.
+pub returns-clause-read : goal.returns-clause-read
+returns-clause-read g c = λ begun.
     let first = c.args.taker in
     let text = c.args.text.now in
-    let left = c.in-Ok.left in
-    let w : TakesWhole (g.T.TakesLines.took first) [] text c.put_lines.new.self left.0.now left.1 = c.in-Ok.ensures.read first [] refl (omega arith) begun in
+    let rest = c.in_ok-line.line.now in
+    let w : TakesWhole (g.T.TakesLines.took first) [] text c.put_lines.new.self rest c.in_ok-line.count = c.in_ok-line.ensures.read first [] refl (omega arith) begun in
     subst (λ ls. MatchResult c.put_last.result (λ out. g.T.TakesLines.gives first out ls) (λ fault. g.T.TakesLines.fails first fault ls)) (sym w.cut)
-    (c.put_last.ensures.read first w.more (omega (arith, c.saturating_add.ensures, w.count, cut_long text left.0.now w.more w.cut)) w.took)
+    (c.put_last.ensures.read first w.more (omega (arith, c.saturating_add.ensures, w.count, cut_long text rest w.more w.cut)) w.took)
 
-pub returns-in-Err-clause-read : goal.returns-in-Err-clause-read
-returns-in-Err-clause-read g c = λ begun.
-    subst (λ t. g.T.TakesLines.fails c.args.taker c.in-Err.fault (split t)) (append-nil c.args.text.now) (c.in-Err.ensures.read c.args.taker [] refl (omega arith) begun [])
+pub returns-in_err-line-clause-read : goal.returns-in_err-line-clause-read
+returns-in_err-line-clause-read g c =
+    let p = err_from_is_err_and c.from_residual.result c.from_residual.ensures.1 in
+    rw (p.1, p.2) (λ begun.
+    subst (λ t. g.T.TakesLines.fails c.args.taker c.in_err-line.field-0.0 (split t)) (append-nil c.args.text.now) (c.in_err-line.ensures.read c.args.taker [] refl (omega arith) begun []))
 
-pub returns-in-Ok-clause-memory : goal.returns-in-Ok-clause-memory
-returns-in-Ok-clause-memory g c = λ begun.
+pub returns-clause-memory : goal.returns-clause-memory
+returns-clause-memory g c = λ begun.
     let first = c.args.taker in
     let text = c.args.text.now in
-    let left = c.in-Ok.left in
-    let w : TakesWhole (g.T.TakesLines.took first) [] text c.put_lines.new.self left.0.now left.1 = c.in-Ok.ensures.read first [] refl (omega arith) begun in
-    wants_last (g.T.TakesLines.wants first) [] c.put_last.result g.T.TakesLines.is_want w.more text left.0.now w.cut
-    (c.put_last.ensures.memory first w.more (omega (arith, c.saturating_add.ensures, w.count, cut_long text left.0.now w.more w.cut)) w.took)
+    let rest = c.in_ok-line.line.now in
+    let w : TakesWhole (g.T.TakesLines.took first) [] text c.put_lines.new.self rest c.in_ok-line.count = c.in_ok-line.ensures.read first [] refl (omega arith) begun in
+    wants_last (g.T.TakesLines.wants first) [] c.put_last.result g.T.TakesLines.is_want w.more text rest w.cut
+    (c.put_last.ensures.memory first w.more (omega (arith, c.saturating_add.ensures, w.count, cut_long text rest w.more w.cut)) w.took)
 
-pub returns-in-Err-clause-memory : goal.returns-in-Err-clause-memory
-returns-in-Err-clause-memory g c = λ begun. c.in-Err.ensures.memory c.args.taker [] refl (omega arith) begun
+pub returns-in_err-line-clause-memory : goal.returns-in_err-line-clause-memory
+returns-in_err-line-clause-memory g c =
+    let p = err_from_is_err_and c.from_residual.result c.from_residual.ensures.1 in
+    rw (p.1, p.2) (λ begun. c.in_err-line.ensures.memory c.args.taker [] refl (omega arith) begun)

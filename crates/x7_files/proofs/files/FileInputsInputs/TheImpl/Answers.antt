@@ -1,5 +1,5 @@
 use Rattle.std.proofs.Common.{refl, length, arith}
-use Rattle.x7_files.proofs.FilesLemmas.{opened_asks, opened_ok, opened_refused, opened_err, failed_read, read_ok, read_err, read_gives, read_absences, read_lost, read_more, read_selects, untold_read, within_buffer}
+use Rattle.x7_files.proofs.FilesLemmas.{opened_asks, opened_ok, opened_refused, opened_err, failed_read, read_ok, read_err, read_gives, read_lost, read_more, read_selects, untold_read, within_buffer}
 use Rattle.x7_files.proofs.files.FileInputsInputs.TheImpl.Goals as goal
 
 pub select-tells : goal.select-tells
@@ -12,8 +12,8 @@ select-tells g c =
       err = opened_err old new new.rest new.refusal c.result c.ensures.after;
       asks = opened_asks old new new.rest new.refusal c.args.name.now c.result c.ensures.after;
       once = record { selects = c.ensures.once; ends = omega (arith, c.ensures.ends) };
-      stays = record { map = refl; faults = c.ensures.faults; absences = c.ensures.absences };
-      fits = (c.ensures.last_fault, c.ensures.last_absence);
+      stays = record { map = refl; faults = c.ensures.counts.faults.rises; absences = c.ensures.counts.absences.rises };
+      fits = (c.ensures.counts.faults.fits, c.ensures.counts.absences.fits);
     }
 
 pub read-tells : goal.read-tells
@@ -33,6 +33,6 @@ read-tells g c =
       more = read_more old new c.result c.ensures.ok;
       lost = read_lost old new c.result c.ensures.err;
       once = c.ensures.once;
-      stays = record { map = refl; faults = c.ensures.faults; absences = read_absences old new c.result c.ensures.ok c.ensures.err };
-      fits = (c.ensures.last_fault, c.ensures.last_absence);
+      stays = record { map = refl; faults = c.ensures.counts.faults.rises; absences = c.ensures.counts.absences.rises };
+      fits = (c.ensures.counts.faults.fits, c.ensures.counts.absences.fits);
     }

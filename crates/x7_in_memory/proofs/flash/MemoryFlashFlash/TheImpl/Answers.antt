@@ -22,10 +22,10 @@ erase-tells c =
         names = p.names;
         faults = p.faults;
         absences = p.absences;
-        write_faults = c.ensures.write_faults;
+        write_faults = c.ensures.write_faults.rises;
       };
       sized = refl;
-      fits = c.ensures.last_write_fault;
+      fits = c.ensures.write_faults.fits;
     }
 
 pub program-tells : goal.program-tells
@@ -45,10 +45,10 @@ program-tells c =
         names = p.names;
         faults = p.faults;
         absences = p.absences;
-        write_faults = c.ensures.write_faults;
+        write_faults = c.ensures.write_faults.rises;
       };
       sized = refl;
-      fits = c.ensures.last_write_fault;
+      fits = c.ensures.write_faults.fits;
     }
 
 pub attach-tells : goal.attach-tells
@@ -60,10 +60,10 @@ attach-tells c =
       refused = search rules;
       err = search rules;
       asks = attach_asks old new c.args.name.now c.ensures.after;
-      stays = attach_stays old new c.args.name.now c.ensures.after c.ensures.faults c.ensures.absences;
+      stays = attach_stays old new c.args.name.now c.ensures.after c.ensures.faults.rises c.ensures.absences.rises;
       sized = refl;
       bytes = c.ensures.bytes;
-      fits = (c.ensures.last_fault, c.ensures.last_absence);
+      fits = (c.ensures.faults.fits, c.ensures.absences.fits);
     }
 
 pub read_at-tells : goal.read_at-tells
@@ -76,7 +76,7 @@ read_at-tells c =
       seen = read_sees old new c.args.place (length c.args.buf.now) c.ensures.after c.new.buf.now c.result c.ensures.length c.ensures.answer c.ensures.read;
       quiet = search rules;
       failed = search rules;
-      only = read_stays old new c.args.place (length c.args.buf.now) c.ensures.after c.ensures.faults;
+      only = read_stays old new c.args.place (length c.args.buf.now) c.ensures.after c.ensures.faults.rises;
       sized = refl;
-      fits = c.ensures.last_fault;
+      fits = c.ensures.faults.fits;
     }

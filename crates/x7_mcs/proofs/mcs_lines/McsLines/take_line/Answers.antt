@@ -5,10 +5,11 @@ use Rattle.x7_mcs.specs.Flash.{after_line}
 use Rattle.x7_mcs.specs.McsLines.{AreGoodWith, HasMcsFault, mcs_lines_state}
 use Rattle.x7_mcs.specs.State.{FailsAsReading, TookRecords, at_base}
 use Rattle.x7_mcs.proofs.McsLinesLemmas.{line_fails, line_read, line_wants, row_cut, row_is, row_line}
+use Rattle.std.proofs.lemmas.Result.{err_from_is_err_and}
 use Rattle.x7_mcs.proofs.mcs_lines.McsLines.take_line.Goals as goal
 
-pub returns-in-Ok-clause-goes : goal.returns-in-Ok-clause-goes
-returns-in-Ok-clause-goes c = λ lines m t.
+pub returns-clause-goes : goal.returns-clause-goes
+returns-clause-goes c = λ lines m t.
     let b = mcs_lines_state c.args.self.now in
     let d = mcs_lines_state c.put_row.new.self in
     let row = c.in-Some.row in
@@ -16,19 +17,21 @@ returns-in-Ok-clause-goes c = λ lines m t.
     record {
       line = row_line row.address row.content;
       cut = row_cut c.args.text.now c.in-Some.rest.now row.address row.content c.in-Some.ensures.line;
-      read = line_read b lines c.args.n m t d (row_line row.address row.content) (subst (λ r. TookRecords r d.base d.ended d.bytes d.marks) is (c.in-Ok.ensures t.records t.holds));
+      read = line_read b lines c.args.n m t d (row_line row.address row.content) (subst (λ r. TookRecords r d.base d.ended d.bytes d.marks) is (c.in_ok-put_row.ensures t.records t.holds));
     }
 
-pub returns-in-Err-clause-goes : goal.returns-in-Err-clause-goes
-returns-in-Err-clause-goes c = λ lines m t more.
+pub returns-in_err-put_row-clause-goes : goal.returns-in_err-put_row-clause-goes
+returns-in_err-put_row-clause-goes c =
+    let p = err_from_is_err_and c.from_residual.result c.from_residual.ensures.1 in
+    rw (p.1, p.2) (λ lines m t more.
     let b = mcs_lines_state c.args.self.now in
     let row = c.in-Some.row in
     let line = row_line row.address row.content in
     let rest = c.in-Some.rest.now in
     let is = row_is c.args.n b.base row.address b.ended t.records row.content c.if-not-self.true c.in-Some.ensures.bytes c.in-Some.ensures.content (omega (arith, c.if-row-le-LAST_ROW.true)) in
     let cut = row_cut c.args.text.now rest row.address row.content c.in-Some.ensures.line in
-    subst (λ ls. HasMcsFault c.in-Err.fault (lines ++ ls)) (sym (prefix_on c.args.text.now rest (line ∷ []) cut more))
-    (line_fails b lines c.args.n m t c.in-Err.fault line (rest ++ more) (subst (λ r. FailsAsReading r c.in-Err.fault) is (c.in-Err.ensures t.records t.holds)))
+    subst (λ ls. HasMcsFault c.in_err-put_row.field-0.0 (lines ++ ls)) (sym (prefix_on c.args.text.now rest (line ∷ []) cut more))
+    (line_fails b lines c.args.n m t c.in_err-put_row.field-0.0 line (rest ++ more) (subst (λ r. FailsAsReading r c.in_err-put_row.field-0.0) is (c.in_err-put_row.ensures t.records t.holds))))
 
 pub returns-in_default-clause-left : goal.returns-in_default-clause-left
 returns-in_default-clause-left c =
@@ -36,8 +39,8 @@ returns-in_default-clause-left c =
     let alone = at_none c.args.text.now line c.first_line.result.1 c.in_default.is c.first_line.ensures in
     alone ∙ ap (λ t. t ∷ []) (sym (only_line c.args.text.now line alone).0)
 
-pub returns-in-Ok-put_one-clause-goes : goal.returns-in-Ok-put_one-clause-goes
-returns-in-Ok-put_one-clause-goes c = λ lines m t.
+pub returns-2-clause-goes : goal.returns-2-clause-goes
+returns-2-clause-goes c = λ lines m t.
     let b = mcs_lines_state c.args.self.now in
     let d = mcs_lines_state c.put_one.new.self in
     let line = c.first_line.result.0.now in
@@ -45,21 +48,25 @@ returns-in-Ok-put_one-clause-goes c = λ lines m t.
       line = line;
       cut = (at_some c.args.text.now line c.first_line.result.1 c.in-Some-more.rest c.in-Some-more.is c.first_line.ensures).0;
       read = line_read b lines c.args.n m t d line
-          (subst (λ l. TookRecords (after_line c.args.n (at_base b.base b.ended t.records) l) d.base d.ended d.bytes d.marks) c.without_return.ensures (c.in-Ok-put_one.ensures t.records t.holds));
+          (subst (λ l. TookRecords (after_line c.args.n (at_base b.base b.ended t.records) l) d.base d.ended d.bytes d.marks) c.without_return.ensures (c.in_ok-put_one.ensures t.records t.holds));
     }
 
-pub returns-in-Err-put_one-clause-goes : goal.returns-in-Err-put_one-clause-goes
-returns-in-Err-put_one-clause-goes c = λ lines m t more.
+pub returns-in_err-put_one-clause-goes : goal.returns-in_err-put_one-clause-goes
+returns-in_err-put_one-clause-goes c =
+    let p = err_from_is_err_and c.from_residual-in_err-put_one.result c.from_residual-in_err-put_one.ensures.1 in
+    rw (p.1, p.2) (λ lines m t more.
     let b = mcs_lines_state c.args.self.now in
     let line = c.first_line.result.0.now in
     let rest = c.in-Some-more.rest.now in
     let cut = (at_some c.args.text.now line c.first_line.result.1 c.in-Some-more.rest c.in-Some-more.is c.first_line.ensures).0 in
-    subst (λ ls. HasMcsFault c.in-Err-put_one.fault (lines ++ ls)) (sym (prefix_on c.args.text.now rest (line ∷ []) cut more))
-    (line_fails b lines c.args.n m t c.in-Err-put_one.fault line (rest ++ more)
-    (subst (λ l. FailsAsReading (after_line c.args.n (at_base b.base b.ended t.records) l) c.in-Err-put_one.fault) c.without_return.ensures (c.in-Err-put_one.ensures t.records t.holds)))
+    subst (λ ls. HasMcsFault c.in_err-put_one.field-0.0 (lines ++ ls)) (sym (prefix_on c.args.text.now rest (line ∷ []) cut more))
+    (line_fails b lines c.args.n m t c.in_err-put_one.field-0.0 line (rest ++ more)
+    (subst (λ l. FailsAsReading (after_line c.args.n (at_base b.base b.ended t.records) l) c.in_err-put_one.field-0.0) c.without_return.ensures (c.in_err-put_one.ensures t.records t.holds))))
 
-pub returns-in-Err-clause-memory : goal.returns-in-Err-clause-memory
-returns-in-Err-clause-memory c = λ lines m t want.
+pub returns-in_err-put_row-clause-memory : goal.returns-in_err-put_row-clause-memory
+returns-in_err-put_row-clause-memory c =
+    let p = err_from_is_err_and c.from_residual.result c.from_residual.ensures.1 in
+    rw (p.1, p.2) (λ lines m t want.
     let b = mcs_lines_state c.args.self.now in
     let row = c.in-Some.row in
     let line = row_line row.address row.content in
@@ -68,15 +75,17 @@ returns-in-Err-clause-memory c = λ lines m t want.
     let cut = row_cut c.args.text.now rest row.address row.content c.in-Some.ensures.line in
     wants_here AreGoodWith lines [] c.args.text.now c.args.text.now line rest refl cut
     (subst (λ ls. AreGoodWith ls line) (sym (append-nil lines))
-    (line_wants b lines c.args.n m t c.in-Err.fault line (subst (λ r. FailsAsReading r c.in-Err.fault) is (c.in-Err.ensures t.records t.holds)) want))
+    (line_wants b lines c.args.n m t c.in_err-put_row.field-0.0 line (subst (λ r. FailsAsReading r c.in_err-put_row.field-0.0) is (c.in_err-put_row.ensures t.records t.holds)) want)))
 
-pub returns-in-Err-put_one-clause-memory : goal.returns-in-Err-put_one-clause-memory
-returns-in-Err-put_one-clause-memory c = λ lines m t want.
+pub returns-in_err-put_one-clause-memory : goal.returns-in_err-put_one-clause-memory
+returns-in_err-put_one-clause-memory c =
+    let p = err_from_is_err_and c.from_residual-in_err-put_one.result c.from_residual-in_err-put_one.ensures.1 in
+    rw (p.1, p.2) (λ lines m t want.
     let b = mcs_lines_state c.args.self.now in
     let line = c.first_line.result.0.now in
     let rest = c.in-Some-more.rest.now in
     let cut = (at_some c.args.text.now line c.first_line.result.1 c.in-Some-more.rest c.in-Some-more.is c.first_line.ensures).0 in
     wants_here AreGoodWith lines [] c.args.text.now c.args.text.now line rest refl cut
     (subst (λ ls. AreGoodWith ls line) (sym (append-nil lines))
-    (line_wants b lines c.args.n m t c.in-Err-put_one.fault line
-    (subst (λ l. FailsAsReading (after_line c.args.n (at_base b.base b.ended t.records) l) c.in-Err-put_one.fault) c.without_return.ensures (c.in-Err-put_one.ensures t.records t.holds)) want))
+    (line_wants b lines c.args.n m t c.in_err-put_one.field-0.0 line
+    (subst (λ l. FailsAsReading (after_line c.args.n (at_base b.base b.ended t.records) l) c.in_err-put_one.field-0.0) c.without_return.ensures (c.in_err-put_one.ensures t.records t.holds)) want)))

@@ -3,9 +3,9 @@ use Rattle.x7_text.proofs.LineReadingLemmas.{HasTaken}
 use Rattle.x7_mcs.specs.McsLines.{HasReadRecords, mcs_lines_state}
 use Rattle.x7_mcs.proofs.mcs_lines.McsLinesTakesLines.put_lines.Given as goal
 
-abbrev pub invariant-loop-found : goal.invariant-loop-found
-invariant-loop-found l =
+abbrev pub invariant-loop-after : goal.invariant-loop-after
+invariant-loop-after l =
     (lines : List (List ℕ)) → l.fn.n ≡ length lines → l.fn.n + length l.text < 2 ^ 63 → HasReadRecords (mcs_lines_state l.fn.self) lines → HasTaken (λ b. HasReadRecords (mcs_lines_state b)) lines l.text l.rest l.self l.count
 
-abbrev pub decreases-loop-found : goal.decreases-loop-found
-decreases-loop-found l = length l.rest
+abbrev pub decreases-loop-after : goal.decreases-loop-after
+decreases-loop-after l = length l.rest

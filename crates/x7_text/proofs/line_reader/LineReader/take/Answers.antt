@@ -1,6 +1,7 @@
 use Rattle.std.proofs.Common.{◌≡◌, ◌^◌, ◌<◌, [], ◌++◌, ◌∙◌, MatchOption, MatchResult, append_assoc, length, arith, ap, sym, subst}
 use Rattle.x7_text.specs.LineReading.{FailsFrom, StandsFor, TakesPrefix}
 use Rattle.x7_text.proofs.LineReadingLemmas.{none_left}
+use Rattle.std.proofs.lemmas.Result.{err_from_is_err_and}
 use Rattle.x7_text.proofs.line_reader.LineReader.take.Goals as goal
 
 pub returns-then-is_empty-clause-read : goal.returns-then-is_empty-clause-read
@@ -8,10 +9,12 @@ returns-then-is_empty-clause-read g c = λ first text fits s.
     let left : length c.self.inside.held.items ≡ 0 = grind (arith, c.is_empty.ensures, c.if-is_empty.true) in
     c.take_lines.ensures.read first text fits (sym (ap (λ x. x.held) c.self.view_is) ∙ none_left c.self.inside.held.items left) s
 
-pub returns-in-Err-clause-memory : goal.returns-in-Err-clause-memory
-returns-in-Err-clause-memory g c = λ first text fits clear.
+pub returns-in_err-rest-clause-memory : goal.returns-in_err-rest-clause-memory
+returns-in_err-rest-clause-memory g c =
+    let p = err_from_is_err_and c.from_residual.result c.from_residual.ensures.1 in
+    rw (p.1, p.2) (λ first text fits clear.
     let none : c.self.inside.held.items ≡ [] = ap (λ x. x.held) c.self.view_is ∙ clear in
-    absurd (grind (arith, ap length none, c.is_empty.ensures, c.if-is_empty.false))
+    absurd (grind (arith, ap length none, c.is_empty.ensures, c.if-is_empty.false)))
 
 pub returns-in-Some-clause-read : goal.returns-in-Some-clause-read
 returns-in-Some-clause-read g c = λ first text fits s.
@@ -19,7 +22,7 @@ returns-in-Some-clause-read g c = λ first text fits s.
     let piece = c.args.piece.now in
     let rest = c.in-Some.rest.now in
     let f : TakesPrefix taken c.complete.new.self text piece rest =
-    subst (λ found. MatchOption found (StandsFor taken c.complete.new.self (text ++ piece)) (λ left. TakesPrefix taken c.complete.new.self text piece left.now)) c.in-Some.is (c.in-Ok.ensures first text fits s) in
+    subst (λ found. MatchOption found (StandsFor taken c.complete.new.self (text ++ piece)) (λ left. TakesPrefix taken c.complete.new.self text piece left.now)) c.in-Some.is (c.in_ok-rest.ensures first text fits s) in
     let whole : (text ++ f.prefix) ++ rest ≡ text ++ piece = append_assoc text f.prefix rest ∙ ap (λ t. text ++ t) (sym f.is) in
     subst (λ t. MatchResult c.take_lines-in-Some.result (λ _. StandsFor taken c.take_lines-in-Some.new.self t) (λ fault. FailsFrom (g.T.TakesLines.fails first fault) t)) whole
     (c.take_lines-in-Some.ensures.read first (text ++ f.prefix) (subst (λ t. length t < 2 ^ 63) (sym whole) fits) f.clear f.stands)

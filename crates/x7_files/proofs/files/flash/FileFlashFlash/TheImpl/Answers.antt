@@ -13,13 +13,13 @@ attach-tells g c =
       asks = record { asked = refl; no_other = λ other had. inl refl };
       stays = record {
         bytes = refl;
-        faults = c.ensures.faults;
-        absences = c.ensures.absences;
+        faults = c.ensures.faults.rises;
+        absences = c.ensures.absences.rises;
         unwritten = untold_unwritten old new (attach_write_faults old new c.result c.ensures.after);
       };
       sized = tt;
       bytes = tt;
-      fits = (c.ensures.last_fault, c.ensures.last_absence);
+      fits = (c.ensures.faults.fits, c.ensures.absences.fits);
     }
 
 pub read_at-tells : goal.read_at-tells
@@ -32,9 +32,9 @@ read_at-tells g c =
       seen = on_ok c.result (λ i h. refl);
       quiet = quiet_read_at old new new.file c.result c.ensures.ok;
       failed = failed_read_at old new new.file c.result c.ensures.err;
-      only = only_reads old new c.result c.requires.attached c.ensures.open c.ensures.ok c.ensures.err c.ensures.faults;
+      only = only_reads old new c.result c.requires.attached c.ensures.open c.ensures.ok c.ensures.err c.ensures.faults.rises;
       sized = tt;
-      fits = c.ensures.last_fault;
+      fits = c.ensures.faults.fits;
     }
 
 pub erase-tells : goal.erase-tells
@@ -47,9 +47,9 @@ erase-tells g c =
       passes = untold_passes;
       moment = omega arith;
       failed = failed_write old new new.file c.result c.ensures.err;
-      only = only_writes old new c.result c.requires.attached c.ensures.open c.ensures.ok c.ensures.err c.ensures.write_faults;
+      only = only_writes old new c.result c.requires.attached c.ensures.is_open c.ensures.ok c.ensures.err c.ensures.write_faults.rises;
       sized = tt;
-      fits = c.ensures.last_write_fault;
+      fits = c.ensures.write_faults.fits;
     }
 
 pub program-tells : goal.program-tells
@@ -62,7 +62,7 @@ program-tells g c =
       passes = untold_passes;
       moment = omega arith;
       failed = failed_write old new new.file c.result c.ensures.err;
-      only = only_writes old new c.result c.requires.attached c.ensures.open c.ensures.ok c.ensures.err c.ensures.write_faults;
+      only = only_writes old new c.result c.requires.attached c.ensures.is_open c.ensures.ok c.ensures.err c.ensures.write_faults.rises;
       sized = tt;
-      fits = c.ensures.last_write_fault;
+      fits = c.ensures.write_faults.fits;
     }
