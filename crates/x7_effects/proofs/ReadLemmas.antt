@@ -5,7 +5,7 @@ use Rattle.x7_part.specs.Part.{PartData, frame_words}
 use Rattle.x7_part.specs.declared.slot.Slot.{Slot}
 use Rattle.x7_part.specs.declared.slot.Slot.TheVariants.{Frame, Pad, End}
 use Rattle.x7_memory.specs.FrameMap.{FrameMap}
-use Rattle.x7_pipeline.specs.Readback.{read_at, word_at, word_of}
+use Rattle.x7_pipeline.specs.Readback.{readback_at, word_at, word_of}
 use Rattle.x7_pipeline.specs.Runs.{slots_from}
 use Rattle.x7_pipeline.proofs.LawLemmas.{read_frames, read_pad_frame}
 use Rattle.x7_flow.specs.Standing.{words_from}
@@ -17,9 +17,9 @@ abbrev listed : (ℕ → ℕ) → ℕ → ℕ → List ℕ
 listed f i zero = []
 listed f i (suc c) = f i ∷ listed f (i + 1) c
 
-words_are : (part : PartData) (base : ℕ) (m : FrameMap) (place count : ℕ) → words_from part base m place count ≡ listed (read_at part base m) place count
+words_are : (part : PartData) (base : ℕ) (m : FrameMap) (place count : ℕ) → words_from part base m place count ≡ listed (readback_at part base m) place count
 words_are part base m place zero = refl
-words_are part base m place (suc count) = ap (λ t. read_at part base m place ∷ t) (words_are part base m (place + 1) count)
+words_are part base m place (suc count) = ap (λ t. readback_at part base m place ∷ t) (words_are part base m (place + 1) count)
 
 listed_same : (f g : ℕ → ℕ) (p q c : ℕ) → ((i : ℕ) → i < c → f (p + i) ≡ g (q + i)) → listed f p c ≡ listed g q c
 listed_same f g p q zero e = refl
@@ -82,7 +82,7 @@ slots_listed part m f (s ∷ places) j (suc n) is l e =
 pub words_read : (part : PartData) (base : ℕ) (m : FrameMap) (n : ℕ) → HasFrames part m → n ≤ length (slots_from part base) → words_from part base m 0 (frame_words part * (n + 1)) ≡ words_along part m base n
 words_read part base m n is l =
     let w : ℕ = frame_words part in
-    let f : ℕ → ℕ = read_at part base m in
+    let f : ℕ → ℕ = readback_at part base m in
     let count : w * (n + 1) ≡ w + w * n = grind arith in
     let start : 0 + w ≡ w * (1 + 0) = omega arith in
     let pad : listed f 0 w ≡ replicate w 0 = listed_same f (λ i. 0) 0 0 w (λ i low. ap f (let at : 0 + i ≡ i = omega arith in at) ∙ read_pad_frame part base m i low) ∙ listed_zeros 0 w in

@@ -15,7 +15,7 @@ use Rattle.x7_startup.specs.Calls.{Call, NotBegun, StartupProgress, is_armed, pr
 use Rattle.x7_startup.specs.Calls as call
 use Rattle.x7_startup.proofs.CallLemmas.{first_place, further, is_armed_arm, is_armed_bytes, is_armed_desync, is_armed_drop, progress_arm, progress_bytes, progress_desync, progress_drop}
 use Rattle.x7_flow.specs.Controls.{ctl0_held, is_matched, mask_held, masked_word, names_part}
-use Rattle.x7_flow.specs.Flow.{Flow, asked, asks, fault_by, flow_by, flow_of, frame_fault}
+use Rattle.x7_flow.specs.Flow.{Flow, asked_under, asks, fault_by, flow_by, flow_of, frame_fault}
 use Rattle.x7_flow.specs.FrameMemory.{memory_of, puts}
 use Rattle.x7_flow.specs.Settings.{Settings, settings_of}
 use Rattle.x7_engine.specs.Registers.{clears_by, clears_check, is_pending, pending_after, takes_shutdown}
@@ -95,16 +95,16 @@ module _ (part : PartData) (low : ℕ) (g h : History) (s : IsSame part low g h)
       ∙ ap (λ (w : ℕ). if executes 5 h a then call.Arm ∷ [] else if takes_shutdown h a then call.DropBack ∷ [] else if executes 13 h a then call.Desync w ∷ [] else []) (s.words 9 0 refl)
 
   pub faults : (a : Access) → frame_fault part g a ≡ frame_fault part h a
-  faults a = ap (λ (x : Settings). fault_by part (asked x a) (flow_of part g)) settings ∙ ap (fault_by part (asks part.idcode h a)) s.flow
+  faults a = ap (λ (x : Settings). fault_by part (asked_under x a) (flow_of part g)) settings ∙ ap (fault_by part (asks part.idcode h a)) s.flow
 
   flows : (e : Entry) → flow_of part (e ∷ g) ≡ flow_of part (e ∷ h)
   unfolding flow_of
-  flows e = ap (λ (x : Settings). flow_by part (asked x e.access) (flow_of part g)) settings ∙ ap (flow_by part (asks part.idcode h e.access)) s.flow
+  flows e = ap (λ (x : Settings). flow_by part (asked_under x e.access) (flow_of part g)) settings ∙ ap (flow_by part (asks part.idcode h e.access)) s.flow
 
   memories : (e : Entry) → memory_of part (e ∷ g) ≡ memory_of part (e ∷ h)
   unfolding memory_of
   memories e =
-      ap (λ (x : Settings). put_over (puts part (asked x e.access) (flow_of part g)) (memory_of part g)) settings
+      ap (λ (x : Settings). put_over (puts part (asked_under x e.access) (flow_of part g)) (memory_of part g)) settings
       ∙ ap (λ (f : Flow). put_over (puts part (asks part.idcode h e.access) f) (memory_of part g)) s.flow
       ∙ ap (put_over (puts part (asks part.idcode h e.access) (flow_of part h))) s.memory
 

@@ -36,14 +36,14 @@ fn give_frames(frames: &mut Frames, part: &Part, count: u32, read: &mut ReadBuf)
     ensures frames { FramesFit part.now frames.new }
 {
     if read.drops() {
-        frames.pass(count, part);
+        frames.drop_words(count, part);
         return 0;
     }
     for i in 0..count {
         if read.is_full() {
             return count - i;
         }
-        read.push(frames.next(part));
+        read.push(frames.read_word(part));
     }
     0
 }
@@ -67,7 +67,7 @@ impl Registers {
             self.due = Due::Same(self.read_value(part, register), count);
             return;
         }
-        match self.frames.begin_read(count, part) {
+        match self.frames.fault_of_read(part) {
             Some(fault) => self.stop = Some(stop_of_refused(fault)),
             None => self.due = Due::Frames(count),
         }

@@ -357,7 +357,7 @@ impl Registers {
         let before = self.clock.before_firing(part, bytes.len()) / 4 * 4;
         let (count, refused) = self
             .frames
-            .write_words(settings, reg, &bytes[..before], part);
+            .write_bytes(settings, reg, &bytes[..before], part);
         let taken = taken_of(count, refused) * 4;
         let prefix = &bytes[..taken];
         let _ = self.clock.bytes(part, taken);

@@ -8,7 +8,7 @@ use Rattle.x7_pipeline.specs.FarAsRead.{loaded_base}
 use Rattle.x7_regs.specs.Command.{command_with}
 use Rattle.x7_flow.specs.Asked.{Asked}
 use Rattle.x7_flow.specs.Settings.{Settings, held_after, settings_from}
-use Rattle.x7_flow.specs.Flow.{Flow, asked, flow_by, write_asked}
+use Rattle.x7_flow.specs.Flow.{Flow, asked_under, flow_by, write_asked}
 use Rattle.x7_flow.specs.FrameMemory.{puts}
 use Rattle.x7_flow.specs.Later.{flow_from, flow_loaded, pairs_from, pairs_loaded}
 use Rattle.x7_flow.specs.Alike.{AreSameButForMask, MasksFirst, sets_mask}
@@ -52,12 +52,12 @@ settings_alike idcode s t (e ∷ later) a m =
 
 -- ---- what is asked, the flow and the pairs
 
-asked_alike : (s t : Settings) (access : Access) → AreSameButForMask s t → asked s access ≡ asked t access
+asked_alike : (s t : Settings) (access : Access) → AreSameButForMask s t → asked_under s access ≡ asked_under t access
 asked_alike s t (Write r w) a =
     let by : Bool → ℕ → ℕ → Asked = λ b c d. write_asked (record { matched = b; mask = 0; ctl0 = c; held = d }) r w in
     ap (λ (b : Bool). by b s.ctl0 s.held) a.matched_same ∙ ap (λ (c : ℕ). by t.matched c s.held) a.ctl0_same ∙ ap (λ (d : ℕ). by t.matched t.ctl0 d) a.held_same
 asked_alike s t (Read r count) a =
-    let by : ℕ → ℕ → Asked = λ c d. asked (record { matched = false; mask = 0; ctl0 = c; held = d }) (Read r count) in
+    let by : ℕ → ℕ → Asked = λ c d. asked_under (record { matched = false; mask = 0; ctl0 = c; held = d }) (Read r count) in
     ap (λ (c : ℕ). by c s.held) a.ctl0_same ∙ ap (λ (d : ℕ). by t.ctl0 d) a.held_same
 asked_alike s t (Bad w) a = refl
 
@@ -68,7 +68,7 @@ flow_alike part s t f (e ∷ later) a m =
     let x : Settings = settings_from part.idcode s later in
     let y : Settings = settings_from part.idcode t later in
     ap (λ (q : Asked). flow_by part q (flow_from part s f later)) (asked_alike x y e.access (settings_alike part.idcode s t later a m.1).0)
-    ∙ ap (flow_by part (asked y e.access)) (flow_alike part s t f later a m.1)
+    ∙ ap (flow_by part (asked_under y e.access)) (flow_alike part s t f later a m.1)
 
 pub pairs_alike : (part : PartData) (s t : Settings) (f : Flow) (later : History) → AreSameButForMask s t → MasksFirst later → pairs_from part s f later ≡ pairs_from part t f later
 unfolding pairs_from
@@ -77,8 +77,8 @@ pairs_alike part s t f (e ∷ later) a m =
     let x : Settings = settings_from part.idcode s later in
     let y : Settings = settings_from part.idcode t later in
     ap (λ (q : Asked). puts part q (flow_from part s f later) ++ pairs_from part s f later) (asked_alike x y e.access (settings_alike part.idcode s t later a m.1).0)
-    ∙ ap (λ (g : Flow). puts part (asked y e.access) g ++ pairs_from part s f later) (flow_alike part s t f later a m.1)
-    ∙ ap (λ (ps : List PlanRow). puts part (asked y e.access) (flow_from part t f later) ++ ps) (pairs_alike part s t f later a m.1)
+    ∙ ap (λ (g : Flow). puts part (asked_under y e.access) g ++ pairs_from part s f later) (flow_alike part s t f later a m.1)
+    ∙ ap (λ (ps : List PlanRow). puts part (asked_under y e.access) (flow_from part t f later) ++ ps) (pairs_alike part s t f later a m.1)
 
 pub loaded_alike : (part : PartData) (s t : Settings) (source : Option (List ℕ)) (w : ℕ) (later : History) → AreSameButForMask s t → MasksFirst later → pairs_loaded part s source w later ≡ pairs_loaded part t source w later
 loaded_alike part s t source w later a m =

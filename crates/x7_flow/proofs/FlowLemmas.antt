@@ -15,7 +15,7 @@ use Rattle.x7_pipeline.proofs.LawLemmas.{put_twice, no_source}
 use Rattle.x7_pipeline.proofs.RunLemmas.{frames_completes, frames_goes_on}
 use Rattle.x7_flow.specs.Asked.{Asked, Load, Order, Word, Copies, Reads, Other}
 use Rattle.x7_flow.specs.Settings.{Settings, settings_of, settings_after, settings_from}
-use Rattle.x7_flow.specs.Flow.{Flow, asked, asks, flow_by, flow_of, source_of}
+use Rattle.x7_flow.specs.Flow.{Flow, asked_under, asks, flow_by, flow_of, source_of}
 use Rattle.x7_flow.specs.FrameMemory.{written_frames_more, memory_of, newest_put, puts}
 use Rattle.x7_flow.specs.Sound.{IsSound}
 use Rattle.x7_flow.specs.Later.{flow_from, pairs_from, flow_loaded, pairs_loaded}
@@ -84,11 +84,11 @@ unfolding flow_of flow_from
 flow_joined part [] earlier = refl
 flow_joined part (e ∷ later) earlier =
     let s : Settings = settings_from part.idcode (settings_of part.idcode earlier) later in
-    ap (λ (x : Settings). flow_by part (asked x e.access) (flow_of part (later ++ earlier))) (settings_joined part.idcode later earlier)
-    ∙ ap (flow_by part (asked s e.access)) (flow_joined part later earlier)
+    ap (λ (x : Settings). flow_by part (asked_under x e.access) (flow_of part (later ++ earlier))) (settings_joined part.idcode later earlier)
+    ∙ ap (flow_by part (asked_under s e.access)) (flow_joined part later earlier)
 
-pairs_same : (part : PartData) (access : Access) (s t : Settings) (f g : Flow) → s ≡ t → f ≡ g → puts part (asked s access) f ≡ puts part (asked t access) g
-pairs_same part access s t f g e d = ap (λ (x : Settings). puts part (asked x access) f) e ∙ ap (puts part (asked t access)) d
+pairs_same : (part : PartData) (access : Access) (s t : Settings) (f g : Flow) → s ≡ t → f ≡ g → puts part (asked_under s access) f ≡ puts part (asked_under t access) g
+pairs_same part access s t f g e d = ap (λ (x : Settings). puts part (asked_under x access) f) e ∙ ap (puts part (asked_under t access)) d
 
 pub memory_joined : (part : PartData) (later earlier : History) →
     AreSame (memory_of part (later ++ earlier)) (put_over (pairs_from part (settings_of part.idcode earlier) (flow_of part earlier) later) (memory_of part earlier))
@@ -97,7 +97,7 @@ memory_joined part [] earlier = λ far. refl
 memory_joined part (e ∷ later) earlier =
     let s : Settings = settings_of part.idcode earlier in
     let f : Flow = flow_of part earlier in
-    let second : List PlanRow = puts part (asked (settings_from part.idcode s later) e.access) (flow_from part s f later) in
+    let second : List PlanRow = puts part (asked_under (settings_from part.idcode s later) e.access) (flow_from part s f later) in
     let same : puts part (asks part.idcode (later ++ earlier) e.access) (flow_of part (later ++ earlier)) ≡ second =
     pairs_same part e.access _ _ _ _ (settings_joined part.idcode later earlier) (flow_joined part later earlier) in
     put_twice (pairs_from part s f later) second (memory_of part earlier) (memory_of part (later ++ earlier)) (memory_of part (e ∷ later ++ earlier))

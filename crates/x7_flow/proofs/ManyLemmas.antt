@@ -11,7 +11,7 @@ use Rattle.x7_pipeline.proofs.LawLemmas.{landed_empty, lands_more, lands_none}
 use Rattle.x7_regs.specs.Command.{command_with}
 use Rattle.x7_flow.specs.Asked.{Asked, Word, Other}
 use Rattle.x7_flow.specs.Settings.{Settings, settings_of, settings_after, settings_from, takes_frames}
-use Rattle.x7_flow.specs.Flow.{Flow, asked, base_of, flow_by, flow_of, run_of}
+use Rattle.x7_flow.specs.Flow.{Flow, asked_under, base_of, flow_by, flow_of, run_of}
 use Rattle.x7_flow.specs.FrameMemory.{written_frames_more, memory_of, puts}
 use Rattle.x7_flow.specs.Later.{flow_from, pairs_from, pairs_loaded}
 use Rattle.x7_flow.proofs.FlowLemmas.{flow_more, flow_sound, landed_grows, memory_after_load, memory_more}
@@ -22,7 +22,7 @@ pub words_settings : (idcode n : ℕ) (ws : List ℕ) (h : History) → settings
 words_settings idcode n [] h = refl
 words_settings idcode n (w ∷ ws) h = words_settings idcode (n + 4) ws (entry (Write 2 w) (n + 4) ∷ h)
 
-pub word_asked : (s : Settings) (w : ℕ) → takes_frames s ≡ true → asked s (Write 2 w) ≡ Word w
+pub word_asked : (s : Settings) (w : ℕ) → takes_frames s ≡ true → asked_under s (Write 2 w) ≡ Word w
 word_asked s w t = ap (λ (b : Bool). if b then Word w else Other) t
 
 pub word_flow : (part : PartData) (w place : ℕ) (h : History) → takes_frames (settings_of part.idcode h) ≡ true → flow_of part (entry (Write 2 w) place ∷ h) ≡ record (flow_of part h) { run = w ∷ run_of part h }
@@ -61,11 +61,11 @@ unfolding settings_from
 settings_twice idcode s [] middle = refl
 settings_twice idcode s (e ∷ later) middle = ap (settings_after idcode e.access) (settings_twice idcode s later middle)
 
-step_same : (part : PartData) (access : Access) (s t : Settings) (f g : Flow) → s ≡ t → f ≡ g → flow_by part (asked s access) f ≡ flow_by part (asked t access) g
-step_same part access s t f g e d = ap (λ (x : Settings). flow_by part (asked x access) f) e ∙ ap (flow_by part (asked t access)) d
+step_same : (part : PartData) (access : Access) (s t : Settings) (f g : Flow) → s ≡ t → f ≡ g → flow_by part (asked_under s access) f ≡ flow_by part (asked_under t access) g
+step_same part access s t f g e d = ap (λ (x : Settings). flow_by part (asked_under x access) f) e ∙ ap (flow_by part (asked_under t access)) d
 
-puts_same : (part : PartData) (access : Access) (s t : Settings) (f g : Flow) → s ≡ t → f ≡ g → puts part (asked s access) f ≡ puts part (asked t access) g
-puts_same part access s t f g e d = ap (λ (x : Settings). puts part (asked x access) f) e ∙ ap (puts part (asked t access)) d
+puts_same : (part : PartData) (access : Access) (s t : Settings) (f g : Flow) → s ≡ t → f ≡ g → puts part (asked_under s access) f ≡ puts part (asked_under t access) g
+puts_same part access s t f g e d = ap (λ (x : Settings). puts part (asked_under x access) f) e ∙ ap (puts part (asked_under t access)) d
 
 pub flow_twice : (part : PartData) (s : Settings) (f : Flow) (later middle : History) →
     flow_from part s f (later ++ middle) ≡ flow_from part (settings_from part.idcode s middle) (flow_from part s f middle) later
@@ -80,8 +80,8 @@ pairs_twice part s f [] middle = refl
 pairs_twice part s f (e ∷ later) middle =
     let t : Settings = settings_from part.idcode s middle in
     let g : Flow = flow_from part s f middle in
-    let first : List PlanRow = puts part (asked (settings_from part.idcode t later) e.access) (flow_from part t g later) in
-    let same : puts part (asked (settings_from part.idcode s (later ++ middle)) e.access) (flow_from part s f (later ++ middle)) ≡ first =
+    let first : List PlanRow = puts part (asked_under (settings_from part.idcode t later) e.access) (flow_from part t g later) in
+    let same : puts part (asked_under (settings_from part.idcode s (later ++ middle)) e.access) (flow_from part s f (later ++ middle)) ≡ first =
     puts_same part e.access _ _ _ _ (settings_twice part.idcode s later middle) (flow_twice part s f later middle) in
     ap (λ (ps : List PlanRow). ps ++ pairs_from part s f (later ++ middle)) same
     ∙ ap (λ (ps : List PlanRow). first ++ ps) (pairs_twice part s f later middle)

@@ -6,7 +6,7 @@ use Rattle.x7_flow.specs.Controls.{ctl0_held, is_matched, mask_held}
 use Rattle.x7_regs.specs.Command.{command_by, command_with}
 use Rattle.x7_flow.specs.Asked.{Asked, Load, Order, Word, Copies, Reads, Other}
 use Rattle.x7_flow.specs.Settings.{Settings, settings_of, settings_after, settings_from, held_after, takes_frames, takes_copies, gives_frames}
-use Rattle.x7_flow.specs.Flow.{asked}
+use Rattle.x7_flow.specs.Flow.{asked_under}
 
 held_more : (access : Access) (old : ℕ) → written 4 access old % 2 ^ 5 ≡ held_after access (old % 2 ^ 5)
 held_more (Write register w) old = by (register == 4)
@@ -44,7 +44,7 @@ far_no_cmd r t = grind (arith, nat_tests)
 held_wcfg : (r held : ℕ) (m f : Bool) → (r == 2 && (m && (held == 1 && f))) ≡ true → held ≡ 1
 held_wcfg r held m f t = grind (arith, nat_tests)
 
-pub asked_means : (s : Settings) (access : Access) → Means s (asked s access) (held_after access s.held)
+pub asked_means : (s : Settings) (access : Access) → Means s (asked_under s access) (held_after access s.held)
 asked_means s (Write r w) = by (r == 1) (r == 4) (r == 2 && takes_frames s) (r == 10 && takes_copies s) (far_no_cmd r) (held_wcfg r s.held s.matched _)
   where
     by : (far cmd fdri mfwr : Bool) → (far ≡ true → cmd ≡ false) → (fdri ≡ true → s.held ≡ 1) →

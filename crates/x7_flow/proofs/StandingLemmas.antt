@@ -1,5 +1,5 @@
 -- A pipeline and a memory that stand for a history, and one access more.
-use Rattle.std.proofs.Common.{◌≡◌, ℕ, zero, suc, ◌+◌, ◌-◌, ◌%◌, ◌==◌, ◌&&◌, Bool, true, false, if◌then◌else◌, List, [], ◌∷◌, Option, None, Some, is_some, IfNone, OnSome, not, refl, sym, ap, subst, ◌∙◌, arith, ne_eqb}
+use Rattle.std.proofs.Common.{◌≡◌, ℕ, zero, suc, ◌+◌, ◌-◌, ◌%◌, ◌==◌, ◌&&◌, Bool, true, false, if◌then◌else◌, List, [], ◌∷◌, Option, None, Some, is_some, IfNone, OnSome, not, refl, sym, ap, subst, ◌∙◌, arith}
 use Rattle.std.proofs.lemmas.Bool.Decides.{nat_tests}
 use Rattle.std.proofs.lemmas.Option.{none-some}
 use Rattle.std.proofs.lemmas.List.{append_cancel_right}
@@ -21,12 +21,12 @@ use Rattle.x7_pipeline.specs.declared.fault.RunFault.TheVariants.{Address, Multi
 use Rattle.x7_pipeline.specs.Runs.{written_frames, put_over, Lands}
 use Rattle.x7_pipeline.specs.FarAsRead.{has_frame_at, loaded_base}
 use Rattle.x7_pipeline.specs.Copies.{copied, is_mfw}
-use Rattle.x7_pipeline.specs.Faults.{address_fault, copy_fault, drop_fault, read_fault}
+use Rattle.x7_pipeline.specs.Faults.{address_fault, copy_fault, drop_fault, readback_fault}
 use Rattle.x7_pipeline.specs.Flow.{FlowGoesOn, HoldsFlow, LandsAt, OfFlow, after_reads, after_words, begun_at, begun_by, copied_by, fault_of_copy}
 use Rattle.x7_pipeline.specs.Pipeline.{AreOf, PipelineData}
-use Rattle.x7_pipeline.specs.Readback.{read_at, read_slot, word_at, word_of}
+use Rattle.x7_pipeline.specs.Readback.{readback_at, read_slot, word_at, word_of}
 use Rattle.x7_flow.specs.Asked.{Asked, Load, Order, Word, Copies, Reads, Other}
-use Rattle.x7_flow.specs.Flow.{Flow, asked, asks, base_of, fault_by, first_flow, flow_by, flow_of, frame_fault, count_given}
+use Rattle.x7_flow.specs.Flow.{Flow, asked_under, asks, base_of, fault_by, first_flow, flow_by, flow_of, frame_fault, count_given}
 use Rattle.x7_flow.specs.FrameMemory.{copy_pairs, written_frames_more, memory_of, puts}
 use Rattle.x7_flow.specs.FrameAccess.{reads_frame_data}
 use Rattle.x7_flow.specs.Standing.{AfterAccess, AfterRead, AreFramesAfter, FramesFit, FramesStandFor, FramesState, Did, FramesDid, HasFlow, frames_state, less, word_to, words_from, words_due, frames_read}
@@ -87,8 +87,8 @@ did_copy part p q old new same put allowed = record {
 }
 
 -- a read is refused at its first word, where the base is no address
-read_is : (part : PartData) (base given : ℕ) → (has_frame_at part base ≡ false → given ≡ 0) → read_fault part base given ≡ address_fault part base
-unfolding read_fault address_fault
+read_is : (part : PartData) (base given : ℕ) → (has_frame_at part base ≡ false → given ≡ 0) → readback_fault part base given ≡ address_fault part base
+unfolding readback_fault address_fault
 read_is part base given nowhere = by (given == 0) (has_frame_at part base) (λ e. ap (λ (n : ℕ). n == 0) (nowhere e))
   where
     by : (z b : Bool) → (b ≡ false → z ≡ true) → (if z then (if b then None else Some (Address base)) else None) ≡ (if b then None else Some (Address base))
@@ -125,15 +125,15 @@ no_word part memory other same (Frame far) i = ap (λ (o : Option (List ℕ)). w
 no_word part memory other same Pad i = refl
 no_word part memory other same End i = refl
 
-read_same : (part : PartData) (base place : ℕ) (memory other : FrameMap) → AreSame memory other → read_at part base memory place ≡ read_at part base other place
-unfolding read_at
+read_same : (part : PartData) (base place : ℕ) (memory other : FrameMap) → AreSame memory other → readback_at part base memory place ≡ readback_at part base other place
+unfolding readback_at
 read_same part base place memory other same = no_word part memory other same (read_slot part base place) (place % frame_words part)
 
 words_same : (part : PartData) (base place count : ℕ) (memory other : FrameMap) → AreSame memory other → words_from part base memory place count ≡ words_from part base other place count
 words_same part base place zero memory other same = refl
 words_same part base place (suc count) memory other same =
     ap (λ (w : ℕ). w ∷ words_from part base memory (place + 1) count) (read_same part base place memory other same)
-    ∙ ap (λ ws. read_at part base other place ∷ ws) (words_same part base (place + 1) count memory other same)
+    ∙ ap (λ ws. readback_at part base other place ∷ ws) (words_same part base (place + 1) count memory other same)
 
 -- a read that begins, whose words are all due
 read_flow : (part : PartData) (f : Flow) (count : ℕ) → has_frame_at part f.base ≡ true → flow_by part (Reads count) f ≡ record f { given = f.given + count }
@@ -163,7 +163,7 @@ read_begins part p frames e h count a t are =
 
 -- the next of the words due
 pub read_next : (part : PartData) (p q : PipelineData) (frames : List (List ℕ)) (h : History) (due word : ℕ) → AreFramesAfter part p frames h (due + 1) →
-    OfFlow part p (λ f. word ≡ read_at part f.base (frame_at part frames) f.given) →
+    OfFlow part p (λ f. word ≡ readback_at part f.base (frame_at part frames) f.given) →
     FlowGoesOn part p q (after_reads 1) →
     AreFramesAfter part q frames h due × (words_due part h (suc due) ≡ word ∷ words_due part h due)
 read_next part p q frames h due word are is stands =
@@ -181,7 +181,7 @@ read_next part p q frames h due word are is stands =
       },
       ap (λ (w : ℕ). w ∷ words_from part f.base (memory_of part h) (f.given - suc due + 1) due)
           (sym (is (less (due + 1) f) has.stands ∙ read_same part f.base (f.given - (due + 1)) (frame_at part frames) (memory_of part h) are.memory
-          ∙ ap (read_at part f.base (memory_of part h)) first))
+          ∙ ap (readback_at part f.base (memory_of part h)) first))
           ∙ ap (λ (n : ℕ). word ∷ words_from part f.base (memory_of part h) n due) after,
     )
 
@@ -189,11 +189,11 @@ no_both : {b : Bool} → b ≡ true → b ≡ false → ⊥
 no_both t f = cc
 
 -- words are due at an address alone
-pub due_somewhere : (part : PartData) (p : PipelineData) (frames : List (List ℕ)) (h : History) (due : ℕ) → AreFramesAfter part p frames h (due + 1) → None ≡ read_fault part (base_of part h) (count_given part h - (due + 1))
+pub due_somewhere : (part : PartData) (p : PipelineData) (frames : List (List ℕ)) (h : History) (due : ℕ) → AreFramesAfter part p frames h (due + 1) → None ≡ readback_fault part (base_of part h) (count_given part h - (due + 1))
 unfolding address_fault
 due_somewhere part p frames h due are = by (has_frame_at part (base_of part h)) refl
   where
-    by : (b : Bool) → has_frame_at part (base_of part h) ≡ b → None ≡ read_fault part (base_of part h) (count_given part h - (due + 1))
+    by : (b : Bool) → has_frame_at part (base_of part h) ≡ b → None ≡ readback_fault part (base_of part h) (count_given part h - (due + 1))
     by true t = sym (read_is part (base_of part h) (count_given part h - (due + 1)) (λ f. absurd (no_both t f)) ∙ rw t refl)
     by false f = let none = (flow_sound part h).nowhere f in let some = are.due_given in absurd (omega arith)
 
@@ -218,7 +218,7 @@ read_past part p q frames h due count are stands =
 -- where words are due, passing over them isn't refused
 pub all_due : (part : PartData) (p : PipelineData) (frames : List (List ℕ)) (h : History) (due count : ℕ) → AreFramesAfter part p frames h (due + count) →
     None ≡ drop_fault part (base_of part h) (count_given part h - (due + count)) count
-unfolding drop_fault read_fault address_fault
+unfolding drop_fault readback_fault address_fault
 all_due part p frames h due count are = by (has_frame_at part (base_of part h)) refl
   where
     free : (z g : Bool) → None ≡ (if z then None else if g then (if true then None else Some (Address (base_of part h))) else None)
@@ -234,12 +234,12 @@ all_due part p frames h due count are = by (has_frame_at part (base_of part h)) 
         let zero_count : count ≡ 0 = omega arith in
         rw zero_count refl
 
-pub refused_read : (part : PartData) (p : PipelineData) (f : Flow) (count : ℕ) → HasFlow part p f → (count ≡ 0 → ⊥) → read_fault part f.base f.given ≡ fault_by part (Reads count) f
-refused_read part p f count h n = read_is part f.base f.given h.nowhere ∙ sym (ap (λ (b : Bool). if b then None else address_fault part f.base) (ne_eqb count 0 n))
+pub refused_read : (part : PartData) (p : PipelineData) (f : Flow) (count : ℕ) → HasFlow part p f → (count == 0) ≡ false → readback_fault part f.base f.given ≡ fault_by part (Reads count) f
+refused_read part p f count h n = read_is part f.base f.given h.nowhere ∙ sym (ap (λ (b : Bool). if b then None else address_fault part f.base) n)
 
 -- ---- a read
 
-read_asked : (s : Settings) (r count : ℕ) (b : Bool) → (r == 3 && (not (count == 0) && gives_frames s)) ≡ b → asked s (Read r count) ≡ (if b then Reads count else Other)
+read_asked : (s : Settings) (r count : ℕ) (b : Bool) → (r == 3 && (not (count == 0) && gives_frames s)) ≡ b → asked_under s (Read r count) ≡ (if b then Reads count else Other)
 read_asked s r count b e = ap (λ (x : Bool). if x then Reads count else Other) e
 
 -- a read of other words is none of the pipeline's
@@ -253,7 +253,7 @@ other_read part p frames h r count place b are =
       refl,
     )
 
-some_read : (r count : ℕ) (x : Bool) → (r == 3 && (not (count == 0) && x)) ≡ true → (count == 0) ≡ false
+pub some_read : (r count : ℕ) (x : Bool) → (r == 3 && (not (count == 0) && x)) ≡ true → (count == 0) ≡ false
 some_read r count x t = grind (arith, nat_tests)
 
 from_address : (part : PartData) (base count : ℕ) → (count == 0) ≡ false → None ≡ (if count == 0 then None else address_fault part base) → has_frame_at part base ≡ true

@@ -18,7 +18,7 @@ use Rattle.x7_pipeline.proofs.LawLemmas.{landed_empty, landed_in_order, reverse_
 use Rattle.x7_pipeline.proofs.RunLemmas.{frames_completes, frames_goes_on, rest_completes, rest_goes_on}
 use Rattle.x7_flow.specs.Asked.{Asked, Copies, Other}
 use Rattle.x7_flow.specs.Settings.{Settings, settings_of, takes_copies, takes_frames}
-use Rattle.x7_flow.specs.Flow.{Flow, asked, base_of, flow_by, flow_of, run_of, source_of}
+use Rattle.x7_flow.specs.Flow.{Flow, asked_under, base_of, flow_by, flow_of, run_of, source_of}
 use Rattle.x7_flow.specs.FrameMemory.{copy_pairs, memory_of, puts}
 use Rattle.x7_flow.proofs.FlowLemmas.{flow_more, flow_sound, memory_more, put_none}
 use Rattle.x7_flow.proofs.ManyLemmas.{words_land}
@@ -127,7 +127,7 @@ pub record IsCopied (part : PartData) (f : Flow) (s : Settings) (memory : FrameM
   pub settings_are : settings_of part.idcode h ≡ s
   pub memory_is : AreSame (memory_of part h) (put_over pairs memory)
 
-pub copy_asked : (s : Settings) (w : ℕ) → takes_copies s ≡ true → asked s (Write 10 w) ≡ Copies
+pub copy_asked : (s : Settings) (w : ℕ) → takes_copies s ≡ true → asked_under s (Write 10 w) ≡ Copies
 copy_asked s w t = ap (λ (b : Bool). if b then Copies else Other) t
 
 copy_memory : (part : PartData) (h : History) (w place : ℕ) → takes_copies (settings_of part.idcode h) ≡ true → AreSame (memory_of part (entry (Write 10 w) place ∷ h)) (put_over (copy_pairs part (flow_of part h)) (memory_of part h))

@@ -16,14 +16,14 @@ use Rattle.x7_regs.specs.declared.command.Command.{Command}
 use Rattle.x7_regs.specs.declared.command.Command.TheVariants as command
 use Rattle.x7_flow.specs.Asked.{Asked, Load, Order, Word, Copies, Reads, Other}
 use Rattle.x7_flow.specs.Settings.{Settings, settings_of, takes_frames, takes_copies, gives_frames}
-use Rattle.x7_flow.specs.Flow.{Flow, asked, asks, begins, is_copy, flow_by, flow_of}
+use Rattle.x7_flow.specs.Flow.{Flow, asked_under, asks, begins, is_copy, flow_by, flow_of}
 use Rattle.x7_flow.specs.FrameMemory.{copy_pairs, written_frames_more, memory_of, puts}
 use Rattle.x7_flow.specs.Stretches.{is_boundary, copies_of, ends_of, overridden, stretch_pairs}
 use Rattle.x7_flow.proofs.FlowLemmas.{flow_sound, landed_grows, put_none}
 
 -- ---- boundaries and copies, by what is asked
 
-pub asked_boundary : (s : Settings) (access : Access) → is_boundary access ≡ begins (asked s access)
+pub asked_boundary : (s : Settings) (access : Access) → is_boundary access ≡ begins (asked_under s access)
 asked_boundary s (Write r w) = by (r == 1) (r == 4) (r == 2 && takes_frames s) (r == 10 && takes_copies s)
   where
     by : (far cmd fdri mfwr : Bool) → (cmd || far) ≡ begins (if far then Load w else if cmd then Order (command_by w) else if fdri then Word w else if mfwr then Copies else Other)

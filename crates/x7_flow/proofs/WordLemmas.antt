@@ -12,7 +12,7 @@ use Rattle.x7_pipeline.specs.Copies.{is_mfw, is_wcfg, newest_of, source_after}
 use Rattle.x7_flow.specs.FrameAccess.{reads_frame_data, writes_frame_data}
 use Rattle.x7_flow.specs.Asked.{Load, Order, Word, Copies, Reads, Other}
 use Rattle.x7_flow.specs.Settings.{Settings, held_after, settings_of, takes_frames, takes_copies, gives_frames}
-use Rattle.x7_flow.specs.Flow.{Flow, asked, asks, is_read, is_word, far_in, far_read, flow_by, flow_of, base_of, run_of, source_of, count_given}
+use Rattle.x7_flow.specs.Flow.{Flow, asked_under, asks, is_read, is_word, far_in, far_read, flow_by, flow_of, base_of, run_of, source_of, count_given}
 use Rattle.x7_flow.specs.Stretches.{is_boundary}
 use Rattle.x7_flow.specs.InWords.{base_after, count_asked, frame_taken, run_with_word, words_given, words_written}
 use Rattle.x7_flow.proofs.SettingsLemmas.{settings_more}
@@ -60,8 +60,8 @@ asked_read idcode h (Bad w) = refl
 
 -- ---- the run
 
-run_step : (part : PartData) (s : Settings) (access : Access) (f : Flow) (fdri : Bool) → fdri ≡ is_word (asked s access) →
-    (flow_by part (asked s access) f).run ≡ (if is_boundary access then [] else if fdri then run_with_word access f.run else f.run)
+run_step : (part : PartData) (s : Settings) (access : Access) (f : Flow) (fdri : Bool) → fdri ≡ is_word (asked_under s access) →
+    (flow_by part (asked_under s access) f).run ≡ (if is_boundary access then [] else if fdri then run_with_word access f.run else f.run)
 run_step part s (Write r w) f fdri e = rw e (by (r == 1) (r == 4) (r == 2 && takes_frames s) (r == 10 && takes_copies s))
   where
     by : (far cmd word mfwr : Bool) → (flow_by part (if far then Load w else if cmd then Order (command_by w) else if word then Word w else if mfwr then Copies else Other) f).run
@@ -91,7 +91,7 @@ run_is part (e ∷ h) =
 far_no_cmd : (r : ℕ) → (r == 1) ≡ true → (r == 4) ≡ false
 far_no_cmd r t = grind (arith, nat_tests)
 
-base_step : (part : PartData) (s : Settings) (access : Access) (f : Flow) → (flow_by part (asked s access) f).base ≡ base_after part access (far_in part f) f.base
+base_step : (part : PartData) (s : Settings) (access : Access) (f : Flow) → (flow_by part (asked_under s access) f).base ≡ base_after part access (far_in part f) f.base
 base_step part s (Write r w) f = by (r == 1) (r == 4) (r == 2 && takes_frames s) (r == 10 && takes_copies s) (far_no_cmd r)
   where
     by : (far cmd word mfwr : Bool) → (far ≡ true → cmd ≡ false) →
@@ -180,7 +180,7 @@ mfw_with n = elim (true_or_false (n == 2)) [
 ]
 
 source_step : (part : PartData) (s : Settings) (access : Access) (f : Flow) → f.command ≡ command_with s.held →
-    (flow_by part (asked s access) f).source ≡ (if writes 4 access then (if held_after access s.held == 2 && s.held == 1 then newest_of (frames_of (frame_words part) f.run) else None) else f.source)
+    (flow_by part (asked_under s access) f).source ≡ (if writes 4 access then (if held_after access s.held == 2 && s.held == 1 then newest_of (frames_of (frame_words part) f.run) else None) else f.source)
 unfolding source_after
 source_step part s (Write r w) f c = by (r == 1) (r == 4) (r == 2 && takes_frames s) (r == 10 && takes_copies s) (far_no_cmd r) ordered
   where

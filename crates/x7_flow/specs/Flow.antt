@@ -24,50 +24,35 @@ write_asked s register w =
     if register == number_of reg.Mfwr && takes_copies s then Copies else Other
 
 -- what an access asks, under these settings
-abbrev pub asked : Settings → Access → Asked
-asked s (Write register w) = write_asked s register w
-asked s (Read register count) = if register == number_of reg.Fdro && (not (count == 0) && gives_frames s) then Reads count else Other
-asked s (Bad w) = Other
+abbrev pub asked_under : Settings → Access → Asked
+asked_under s (Write register w) = write_asked s register w
+asked_under s (Read register count) = if register == number_of reg.Fdro && (not (count == 0) && gives_frames s) then Reads count else Other
+asked_under s (Bad w) = Other
 
 -- what an access asks after a history
 abbrev pub asks : ℕ → History → Access → Asked
-asks idcode h access = asked (settings_of idcode h) access
+asks idcode h access = asked_under (settings_of idcode h) access
 
 -- what is asked begins a stretch, which is what follows a write to CMD or FAR
 abbrev pub begins : Asked → Bool
 begins (Load w) = true
 begins (Order c) = true
-begins (Word w) = false
-begins Copies = false
-begins (Reads count) = false
-begins Other = false
+begins _ = false
 
 -- a word of frame data is written
 abbrev pub is_word : Asked → Bool
 is_word (Word w) = true
-is_word (Load w) = false
-is_word (Order c) = false
-is_word Copies = false
-is_word (Reads count) = false
-is_word Other = false
+is_word _ = false
 
 -- a copy is asked
 abbrev pub is_copy : Asked → Bool
 is_copy Copies = true
-is_copy (Load w) = false
-is_copy (Order c) = false
-is_copy (Word w) = false
-is_copy (Reads count) = false
-is_copy Other = false
+is_copy _ = false
 
 -- frame data is read
 abbrev pub is_read : Asked → Bool
 is_read (Reads count) = true
-is_read (Load w) = false
-is_read (Order c) = false
-is_read (Word w) = false
-is_read Copies = false
-is_read Other = false
+is_read _ = false
 
 -- ---- the flow
 
@@ -84,9 +69,8 @@ abbrev pub flow_by : PartData → Asked → Flow → Flow
 flow_by part (Load w) f = loaded part w f
 flow_by part (Order c) f = record { command = c; base = far_in part f; run = []; source = source_after part f.command c f.run; given = 0 }
 flow_by part (Word w) f = record f { run = w ∷ f.run }
-flow_by part Copies f = f
 flow_by part (Reads count) f = record f { given = if has_frame_at part f.base then f.given + count else f.given }
-flow_by part Other f = f
+flow_by part _ f = f
 
 -- the flow of a history
 unfoldable pub flow_of : PartData → History → Flow
@@ -121,12 +105,10 @@ far_read part h = far_in part (flow_of part h)
 
 -- the fault by which what is asked is refused, where it is; a read of no words never is
 abbrev pub fault_by : PartData → Asked → Flow → Option RunFault
-fault_by part (Load w) f = None
-fault_by part (Order c) f = None
 fault_by part (Word w) f = write_fault part f.base f.run
 fault_by part Copies f = copy_fault part f.command f.base f.source
 fault_by part (Reads count) f = if count == 0 then None else address_fault part f.base
-fault_by part Other f = None
+fault_by part _ f = None
 
 -- the fault of an access after a history
 abbrev pub frame_fault : PartData → History → Access → Option RunFault

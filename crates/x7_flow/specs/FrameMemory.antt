@@ -10,7 +10,7 @@ use Rattle.x7_pipeline.specs.Runs.{at_slot, frames_of, put_over, slots_from}
 use Rattle.x7_pipeline.specs.FarAsRead.{has_frame_at}
 use Rattle.x7_pipeline.specs.Copies.{copied, is_mfw}
 use Rattle.x7_pipeline.specs.Faults.{completes}
-use Rattle.x7_flow.specs.Asked.{Asked, Load, Order, Word, Copies, Reads, Other}
+use Rattle.x7_flow.specs.Asked.{Asked, Word, Copies}
 use Rattle.x7_flow.specs.Flow.{Flow, asks, flow_of}
 
 -- the newest of frames at its slot
@@ -28,12 +28,9 @@ copy_pairs part f = if is_mfw f.command && has_frame_at part f.base then copied 
 
 -- what the memory gets by what is asked
 abbrev pub puts : PartData → Asked → Flow → List PlanRow
-puts part (Load w) f = []
-puts part (Order c) f = []
 puts part (Word w) f = written_frames_more part f.base f.run
 puts part Copies f = copy_pairs part f
-puts part (Reads count) f = []
-puts part Other f = []
+puts part _ f = []
 
 -- the memory of a history
 unfoldable pub memory_of : PartData → History → FrameMap

@@ -1,6 +1,6 @@
 -- The flow of a history in other words: each of its values by a recursion of its own (this project's choice).
 use Rattle.std.specs.Prelude.{ℕ, ◌+◌, ◌==◌, ◌&&◌, if◌then◌else◌, List, [], ◌∷◌, Option, None}
-use Rattle.x7_packets.specs.History.{Access, Write, Read, Bad, History, command_held, writes}
+use Rattle.x7_packets.specs.History.{Access, Write, Read, History, command_held, writes}
 use Rattle.x7_part.specs.Part.{PartData, frame_words}
 use Rattle.x7_regs.specs.declared.command.Command.TheVariants as command
 use Rattle.x7_regs.specs.declared.register.Reg.TheVariants as reg
@@ -16,14 +16,12 @@ use Rattle.x7_flow.specs.Flow.{base_of}
 -- a run with the word of a write, and as it was after another access
 abbrev pub run_with_word : Access → List ℕ → List ℕ
 run_with_word (Write register w) run = w ∷ run
-run_with_word (Read register count) run = run
-run_with_word (Bad w) run = run
+run_with_word _ run = run
 
 -- how many words a read asks for, and 0 for another access
 abbrev pub count_asked : Access → ℕ
-count_asked (Write register w) = 0
 count_asked (Read register count) = count
-count_asked (Bad w) = 0
+count_asked _ = 0
 
 -- the words of frame data that were written in the last stretch, which is what follows the latest write to CMD or FAR
 unfoldable pub words_written : ℕ → History → List ℕ
@@ -35,8 +33,7 @@ words_written idcode (e ∷ h) =
 -- where the last stretch began: at the address of a FAR load, or at FAR as read before a command
 abbrev pub base_after : PartData → Access → ℕ → ℕ → ℕ
 base_after part (Write register w) far old = if register == number_of reg.Cmd then far else if register == number_of reg.Far then loaded_base part w else old
-base_after part (Read register count) far old = old
-base_after part (Bad w) far old = old
+base_after part _ far old = old
 
 -- the sum of the counts of the last stretch's reads of frame data
 unfoldable pub words_given : PartData → History → ℕ

@@ -5,7 +5,7 @@ use Rattle.x7_part.specs.Part.{PartData}
 use Rattle.x7_pipeline.specs.Copies.{is_mfw}
 use Rattle.x7_pipeline.specs.FarAsRead.{has_frame_at}
 use Rattle.x7_pipeline.specs.InWords.{Overruns}
-use Rattle.x7_flow.specs.Asked.{Asked, Load, Order, Word, Copies, Reads, Other}
+use Rattle.x7_flow.specs.Asked.{Asked, Word, Copies, Reads}
 use Rattle.x7_flow.specs.Flow.{Flow, asks, base_of, flow_of, is_copy, run_of}
 
 -- a run has no word
@@ -15,12 +15,10 @@ is_empty (w ∷ run) = false
 
 -- what is asked needs an address: the first word of a run, a copy for which there is a source, or a read of some words
 abbrev pub needs_address : Asked → Flow → Bool
-needs_address (Load w) f = false
-needs_address (Order c) f = false
 needs_address (Word w) f = is_empty f.run
 needs_address Copies f = is_mfw f.command && is_some f.source
 needs_address (Reads count) f = not (count == 0)
-needs_address Other f = false
+needs_address _ f = false
 
 -- an access after a history needs an address, and the base, `far`, is none
 abbrev pub LacksAddress : PartData → History → Access → ℕ → Type 0

@@ -1,14 +1,13 @@
 -- What decides whether an access concerns frames: whether the device is matched, MASK, CTL0 and CMD (UG470, configuration registers).
 use Rattle.std.specs.Prelude.{◌≡◌, ℕ, ◌%◌, ◌^◌, ◌==◌, ◌||◌, ◌&&◌, not, Bool, true, if◌then◌else◌, [], ◌∷◌}
 use Rattle.x7_part.specs.Part.{PartData}
-use Rattle.x7_packets.specs.History.{Access, Write, Read, Bad, History, command_held, written}
+use Rattle.x7_packets.specs.History.{Access, Write, History, command_held, written}
 use Rattle.x7_regs.specs.declared.command.Command.TheVariants as command
 use Rattle.x7_regs.specs.declared.register.Reg.TheVariants as reg
 use Rattle.x7_regs.specs.Command.{code_of}
 use Rattle.x7_regs.specs.Register.{number_of}
 use Rattle.x7_flow.specs.declared.settings.FrameSettings.{FrameSettings}
-use Rattle.x7_flow.specs.Controls.{ctl0_held, is_matched, mask_held, masked_word, names_part}
-use Rattle.x7_flow.specs.Controls.{forbids_reading, forbids_writing}
+use Rattle.x7_flow.specs.Controls.{ctl0_held, forbids_reading, forbids_writing, is_matched, mask_held, masked_word, names_part}
 
 -- a matched device or not, the words of MASK and CTL0, and the code of the command that CMD holds
 pub record Settings : Type 0 where
@@ -30,8 +29,7 @@ pub record AreSettingsAfter (idcode : ℕ) (s : FrameSettings) (h : History) : T
 -- the command that CMD holds after an access
 abbrev pub held_after : Access → ℕ → ℕ
 held_after (Write register w) old = if register == number_of reg.Cmd then w % 2 ^ 5 else old
-held_after (Read register count) old = old
-held_after (Bad w) old = old
+held_after _ old = old
 
 -- the settings after one access more
 abbrev pub settings_after : ℕ → Access → Settings → Settings

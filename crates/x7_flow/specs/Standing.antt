@@ -10,7 +10,7 @@ use Rattle.x7_memory.specs.Frames.{frame_at}
 use Rattle.x7_pipeline.specs.FarAsRead.{has_frame_at}
 use Rattle.x7_pipeline.specs.Flow.{HoldsFlow}
 use Rattle.x7_pipeline.specs.Pipeline.{AreOf, PipelineData}
-use Rattle.x7_pipeline.specs.Readback.{read_at}
+use Rattle.x7_pipeline.specs.Readback.{readback_at}
 use Rattle.x7_pipeline.specs.Runs.{put_over}
 use Rattle.x7_flow.specs.Asked.{Asked, Reads}
 use Rattle.x7_flow.specs.declared.settings.FrameSettings.{FrameSettings}
@@ -52,7 +52,7 @@ pub record Did (part : PartData) (a : Asked) (old new : FramesState) : Type 0 wh
 -- `count` words of a readback from a place on
 abbrev pub words_from : PartData → ℕ → FrameMap → ℕ → ℕ → List ℕ
 words_from part base memory place zero = []
-words_from part base memory place (suc count) = read_at part base memory place ∷ words_from part base memory (place + 1) count
+words_from part base memory place (suc count) = readback_at part base memory place ∷ words_from part base memory (place + 1) count
 
 -- the words that a read of frame data after a history gives, from an address
 abbrev pub frames_read : PartData → History → ℕ → List ℕ

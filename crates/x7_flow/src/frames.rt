@@ -12,7 +12,7 @@ mod saved;
 
 use crate::asking::{takes_copies, takes_frames};
 use crate::settings::FrameSettings;
-use crate::taking::{next_word, pass_words, refuses_read, take, take_copies, take_words};
+use crate::taking::{take, take_copies};
 use std::alloc::Global;
 use std::marker::Model;
 use x7_memory::Memory;
@@ -89,7 +89,7 @@ impl Frames {
 
     /// Takes words written to FDRI or MFWR on a matched device, four bytes each, up to the first that is refused. The answer is
     /// the number of words looked at, a refused one included, and the fault.
-    pub fn write_words(
+    pub fn write_bytes(
         &mut self,
         settings: FrameSettings,
         register: Reg,
@@ -109,7 +109,7 @@ impl Frames {
         }
     }
 
-    /// Takes words written to FDRI, as `write_words` does.
+    /// Takes words written to FDRI, as `write_bytes` does.
     fn write_frame_data(
         &mut self,
         settings: FrameSettings,
@@ -123,12 +123,12 @@ impl Frames {
         ensures part { FramesFit part.now self.new }
     {
         if takes_frames(settings) {
-            return take_words(bytes, part, &mut self.pipeline, &mut self.memory);
+            return self.pipeline.write_bytes(bytes, part, &mut self.memory);
         }
         (bytes.len() / 4, None)
     }
 
-    /// Takes words written to MFWR, as `write_words` does.
+    /// Takes words written to MFWR, as `write_bytes` does.
     fn write_copies(
         &mut self,
         settings: FrameSettings,
@@ -147,34 +147,39 @@ impl Frames {
         (bytes.len() / 4, None)
     }
 
-    /// A read of `count` words of frame data begins: from now on the words are due, and `next` gives them. Or the read is refused,
-    /// and the answer says why.
-    pub fn begin_read(&self, count: u32, part: &Part) -> Option<RunFault>
-        ensures { (h : History) (register place : ℕ) → ReadsData h register count → FramesStandFor part.now self.now h 0 →
+    /// The fault of a read of frame data, before a word of it is given. Where there is none, its words are due from now on, and
+    /// `read_word` gives them.
+    pub fn fault_of_read(&self, part: &Part) -> Option<RunFault>
+        ensures { (h : History) (register count place : ℕ) → ReadsData h register count → FramesStandFor part.now self.now h 0 →
             AfterRead part.now self.now h (read_entry register count place) result }
     {
-        refuses_read(count, part, &self.pipeline)
+        self.pipeline.fault_of_read(part)
     }
 
     /// The next of the words of frame data that are due, of which there is one.
-    pub fn next(&mut self, part: &Part) -> u32
+    pub fn read_word(&mut self, part: &Part) -> u32
         requires part { FramesFit part.now self.old }
         requires due { HaveWordsDue part.now self.old 1 }
         ensures stands { (h : History) (due : ℕ) → FramesStandFor part.now self.old h (due + 1) → FramesStandFor part.now self.new h due }
         ensures word { (h : History) (due : ℕ) → FramesStandFor part.now self.old h (due + 1) → words_due part.now h (suc due) ≡ result ∷ words_due part.now h due }
         ensures part { FramesFit part.now self.new }
     {
-        next_word(part, &mut self.pipeline, &self.memory)
+        let Ok(word) = self.pipeline.read_word(part, &self.memory) else {
+            unreachable!()
+        };
+        word
     }
 
     /// Passes over `count` of the words of frame data that are due.
-    pub fn pass(&mut self, count: u32, part: &Part)
+    pub fn drop_words(&mut self, count: u32, part: &Part)
         requires part { FramesFit part.now self.old }
         requires due { HaveWordsDue part.now self.old count }
         ensures stands { (h : History) (due : ℕ) → FramesStandFor part.now self.old h (due + count) → FramesStandFor part.now self.new h due }
         ensures part { FramesFit part.now self.new }
     {
-        pass_words(count, part, &mut self.pipeline);
+        let Ok(()) = self.pipeline.drop_words(count, part) else {
+            unreachable!()
+        };
     }
 
     /// The frame address register as it is read, while words of the last read may still be due.

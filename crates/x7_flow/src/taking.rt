@@ -1,13 +1,12 @@
 //! A pipeline and a memory do what an access asks (UG470, frame address register and frame data registers).
-ghost use Rattle.std.specs.Prelude.{◌≡◌, ◌+◌, ◌/◌, ◌%◌, ◌≤◌, ◌∷◌, suc, ℕ, List, length, IfNone, OnSome};
+ghost use Rattle.std.specs.Prelude.{◌≡◌, ◌/◌, ◌%◌, ◌≤◌, ℕ, length, IfNone, OnSome};
 ghost use Rattle.x7_regs.specs.declared.register.Reg.TheVariants as reg;
-ghost use Rattle.x7_flow.specs.Asked.{Reads};
-ghost use Rattle.x7_flow.specs.Settings.{AreSettingsAfter, takes_copies as takes_copies_by, takes_frames as takes_frames_by};
+ghost use Rattle.x7_flow.specs.Settings.{AreSettingsAfter, takes_copies as takes_copies_by};
 ghost use Rattle.x7_flow.specs.Words.{OfTaking, WordsTaken, words_to};
 ghost use Rattle.x7_packets.specs.History.{History};
-ghost use Rattle.x7_pipeline.specs.Pipeline.{AreOf, IsPipelineOf};
+ghost use Rattle.x7_pipeline.specs.Pipeline.{AreOf};
 ghost use Rattle.x7_flow.specs.Flow.{Flow, asks, fault_by};
-ghost use Rattle.x7_flow.specs.Standing.{AreFramesAfter, Did, HasFlow, HaveWordsDue, frames_state, word_to, words_due};
+ghost use Rattle.x7_flow.specs.Standing.{Did, HasFlow, frames_state, word_to};
 
 use crate::asking::{takes_copies, takes_frames};
 use crate::settings::FrameSettings;
@@ -69,47 +68,6 @@ pub(crate) fn take(
     }
 }
 
-/// Whether a read of frame data is refused, before a word of it is given.
-pub(crate) fn refuses_read(count: u32, part: &Part, pipeline: &Pipeline) -> Option<RunFault>
-    ensures { (f : Flow) → HasFlow part.now pipeline.now f → result ≡ fault_by part.now (Reads count) f }
-{
-    if count == 0 {
-        return None;
-    }
-    pipeline.fault_of_read(part)
-}
-
-/// The next of the words of frame data that are due, of which there is one.
-pub(crate) fn next_word(part: &Part, pipeline: &mut Pipeline, memory: &Memory) -> u32
-    requires part { AreOf part.now pipeline.old memory.now }
-    requires due { HaveWordsDue part.now (frames_state pipeline.old memory.now) 1 }
-    ensures stands { (h : History) (due : ℕ) → AreFramesAfter part.now pipeline.old memory.now h (due + 1) → AreFramesAfter part.now pipeline.new memory.now h due }
-    ensures word { (h : History) (due : ℕ) → AreFramesAfter part.now pipeline.old memory.now h (due + 1) → words_due part.now h (suc due) ≡ result ∷ words_due part.now h due }
-    ensures pipeline { IsPipelineOf part.now pipeline.new }
-{
-    let Ok(word) = pipeline.read_word(part, memory) else {
-        unreachable!()
-    };
-    word
-}
-
-/// Takes words of frame data at once, four bytes each, up to the first that is refused. The answer is the number of words
-/// looked at, a refused one included, and the fault.
-pub(crate) fn take_words(
-    bytes: &[u8],
-    part: &Part,
-    pipeline: &mut Pipeline,
-    memory: &mut Memory,
-) -> (usize, Option<RunFault>)
-    requires whole { length bytes.now % 4 ≡ 0 }
-    requires part { AreOf part.now pipeline.old memory.old }
-    ensures taken { (n : ℕ) → OfTaking part.now takes_frames_by pipeline.old memory.old (λ h. WordsTaken part.now (frames_state pipeline.new memory.new) h (words_to reg.Fdri n bytes.now) result) }
-    ensures within { result.0 ≤ length bytes.now / 4 }
-    ensures part { AreOf part.now pipeline.new memory.new }
-{
-    pipeline.write_bytes(bytes, part, memory)
-}
-
 /// Takes words written to MFWR at once, four bytes each: the first puts the source, and each later one would put it there again.
 /// The answer is the number of words looked at, a refused one included, and the fault.
 pub(crate) fn take_copies(
@@ -131,16 +89,4 @@ pub(crate) fn take_copies(
         Ok(()) => (bytes.len() / 4, None),
         Err(fault) => (1, Some(fault)),
     }
-}
-
-/// Passes over `count` of the words of frame data that are due.
-pub(crate) fn pass_words(count: u32, part: &Part, pipeline: &mut Pipeline)
-    requires pipeline { IsPipelineOf part.now pipeline.old }
-    requires due { (frames : List (List ℕ)) × HaveWordsDue part.now (frames_state pipeline.old frames) count }
-    ensures stands { (frames : List (List ℕ)) (h : History) (due : ℕ) → AreFramesAfter part.now pipeline.old frames h (due + count) → AreFramesAfter part.now pipeline.new frames h due }
-    ensures pipeline { IsPipelineOf part.now pipeline.new }
-{
-    let Ok(()) = pipeline.drop_words(count, part) else {
-        unreachable!()
-    };
 }

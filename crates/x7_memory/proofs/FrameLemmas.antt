@@ -1,5 +1,5 @@
 -- Frames by their addresses.
-use Rattle.std.proofs.Common.{◌≡◌, ℕ, zero, suc, ◌+◌, ◌-◌, ◌<◌, ◌≤◌, inl, inr, List, [], ◌∷◌, length, get_or, set, eq-eqb, ne_eqb, Some, None, refl, sym, ◌∙◌, ◌==◌, if◌then◌else◌, arith}
+use Rattle.std.proofs.Common.{◌≡◌, ℕ, zero, suc, ◌+◌, ◌<◌, inl, inr, List, [], ◌∷◌, length, get_or, set, eq-eqb, ne_eqb, Some, None, refl, sym, ◌∙◌, ◌==◌, if◌then◌else◌, arith}
 use Rattle.std.specs.Prelude.{Contains}
 use Rattle.std.proofs.lemmas.Bool.Decides.{eqb_tells}
 use Rattle.x7_part.proofs.RowLemmas.{later_larger}

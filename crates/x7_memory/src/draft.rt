@@ -40,10 +40,9 @@ impl Draft {
         ensures width { IfOk result (λ draft. draft.width ≡ words) }
         ensures empty { IfOk result (λ draft. draft.rows ≡ []) }
     {
-        match Rows::with_room(alloc, words, frames) {
-            Ok(rows) => Ok(Draft { rows }),
-            Err(_) => Err(NoMemory),
-        }
+        Ok(Draft {
+            rows: Rows::with_room(alloc, words, frames)?,
+        })
     }
 
     /// Adds a frame after the others.
@@ -53,10 +52,7 @@ impl Draft {
         ensures width { self.new.width ≡ self.old.width }
         ensures failed { OnErr result (self.new ≡ self.old) }
     {
-        match self.rows.push(far, words) {
-            Ok(()) => Ok(()),
-            Err(_) => Err(NoMemory),
-        }
+        Ok(self.rows.push(far, words)?)
     }
 
     /// The plan of the frames, no two of which may have one address. No memory is taken.

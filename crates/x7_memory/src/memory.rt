@@ -161,11 +161,9 @@ fn zeros_with_room(alloc: Global, count: usize, room: usize) -> Result<Vec<u32>,
     ensures items { IfOk result (λ words. words.items ≡ replicate count 0) }
     ensures room { IfOk result (λ words. room ≤ vec_capacity words) }
 {
-    let mut words = room_for(alloc, room)?;
-    match words.resize(count, 0) {
-        Ok(()) => Ok(words),
-        Err(_) => Err(NoMemory),
-    }
+    let mut words = Vec::with_capacity(alloc, room)?;
+    words.resize(count, 0)?;
+    Ok(words)
 }
 
 /// A copy of the words, with room for `room` words in all.
@@ -173,22 +171,9 @@ fn copy_with_room(alloc: Global, words: &[u32], room: usize) -> Result<Vec<u32>,
     ensures items { IfOk result (λ copy. copy.items ≡ words.now) }
     ensures room { IfOk result (λ copy. room ≤ vec_capacity copy) }
 {
-    let mut copy = room_for(alloc, room)?;
-    match copy.extend_from_slice(words) {
-        Ok(()) => Ok(copy),
-        Err(_) => Err(NoMemory),
-    }
-}
-
-/// A vector of no words, with room for `room` of them.
-fn room_for(alloc: Global, room: usize) -> Result<Vec<u32>, NoMemory>
-    ensures items { IfOk result (λ words. words.items ≡ []) }
-    ensures room { IfOk result (λ words. room ≤ vec_capacity words) }
-{
-    match Vec::with_capacity(alloc, room) {
-        Ok(words) => Ok(words),
-        Err(_) => Err(NoMemory),
-    }
+    let mut copy = Vec::with_capacity(alloc, room)?;
+    copy.extend_from_slice(words)?;
+    Ok(copy)
 }
 
 /// Makes all words 0.

@@ -5,7 +5,7 @@ ghost use Rattle.x7_memory.specs.Planned.{PlanRow, PlanData, IsPlan, HasMore, pl
 ghost use Rattle.x7_memory.specs.Places.{IsRowPlace, IsGap};
 
 use crate::rows::Rows;
-use std::alloc::{AllocError, Global};
+use std::alloc::Global;
 use std::marker::Model;
 use x7_words::NoMemory;
 
@@ -55,10 +55,10 @@ impl Plan {
     {
         match self.search(far) {
             Ok(_) => Ok(false),
-            Err(place) => match self.insert_at(place, far, words) {
-                Ok(()) => Ok(true),
-                Err(_) => Err(NoMemory),
-            },
+            Err(place) => {
+                self.insert_at(place, far, words)?;
+                Ok(true)
+            }
         }
     }
 
@@ -71,7 +71,7 @@ impl Plan {
     }
 
     /// Adds a row where its address goes.
-    fn insert_at(&mut self, place: usize, far: u32, words: &[u32]) -> Result<(), AllocError>
+    fn insert_at(&mut self, place: usize, far: u32, words: &[u32]) -> Result<(), NoMemory>
         requires gap { IsGap self.old.rows far place }
         requires width { length words.now ≡ self.old.width }
         ensures added { OnOk result (self.new.rows ≡ insert self.old.rows place record { far = far; words = words.now }) }

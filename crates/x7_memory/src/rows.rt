@@ -5,8 +5,9 @@ ghost use Rattle.std.specs.List.Sorted.{IsNonDecreasingBy};
 ghost use Rattle.x7_memory.specs.Planned.{PlanRow, AreInOrder};
 ghost use Rattle.x7_memory.specs.Places.{IsRowPlace, IsGap};
 
-use std::alloc::{AllocError, Global};
+use std::alloc::Global;
 use std::marker::Model;
+use x7_words::NoMemory;
 
 /// The address of a frame, and where its words begin.
 #[derive(Clone, Copy)]
@@ -50,7 +51,7 @@ impl Rows {
     }
 
     /// No row, of frames of `width` words, with room for `count` rows.
-    pub(crate) fn with_room(alloc: Global, width: u32, count: usize) -> Result<Rows, AllocError>
+    pub(crate) fn with_room(alloc: Global, width: u32, count: usize) -> Result<Rows, NoMemory>
         ensures width { IfOk result (λ rows. rows.width ≡ width) }
         ensures empty { IfOk result (λ rows. rows.rows ≡ []) }
     {
@@ -63,7 +64,7 @@ impl Rows {
     }
 
     /// Adds a row after the others.
-    pub(crate) fn push(&mut self, far: u32, words: &[u32]) -> Result<(), AllocError>
+    pub(crate) fn push(&mut self, far: u32, words: &[u32]) -> Result<(), NoMemory>
         requires width { length words.now ≡ self.old.width }
         ensures added { OnOk result (self.new.rows ≡ self.old.rows ++ record { far = far; words = words.now } ∷ []) }
         ensures width { self.new.width ≡ self.old.width }
@@ -73,7 +74,7 @@ impl Rows {
     }
 
     /// Adds a row at a place, and moves those from there on after it.
-    pub(crate) fn insert(&mut self, place: usize, far: u32, words: &[u32]) -> Result<(), AllocError>
+    pub(crate) fn insert(&mut self, place: usize, far: u32, words: &[u32]) -> Result<(), NoMemory>
         requires place { place ≤ length self.old.rows }
         requires width { length words.now ≡ self.old.width }
         ensures added { OnOk result (self.new.rows ≡ insert self.old.rows place record { far = far; words = words.now }) }

@@ -10,7 +10,7 @@ use Rattle.x7_part.specs.declared.fault.PartFault.{PartFault}
 use Rattle.x7_part.specs.declared.fault.PartFault.TheVariants.{Toml}
 use Rattle.x7_part.specs.FrameAddress.{AreRows, AreWidths, IsRow, row, row_address, row_low}
 use Rattle.x7_part.specs.Part.{FieldWidths, PartData, RowData}
-use Rattle.x7_part.specs.PartFile.{fault_of, part_from, part_in, part_of_table, part_unless}
+use Rattle.x7_part.specs.PartFile.{first_fault, part_from, part_in, part_of_table, part_unless}
 use Rattle.x7_part.specs.PartRange.{IsPart}
 use Rattle.x7_part.specs.PartRows.{IsBefore, RowsRise}
 use Rattle.x7_part.specs.PartValues.{top_values, settings_by_values, rows_in_file}
@@ -47,16 +47,16 @@ same_part part other r e f = cc
 
 -- a text that gives a part has a table in which no check finds a fault
 GivesPart : List ℕ → PartData → Type 0
-GivesPart text part = (table : Members) × (parse_document text ≡ Some table) × (fault_of table ≡ None) × (part_from table ≡ part)
+GivesPart text part = (table : Members) × (parse_document text ≡ Some table) × (first_fault table ≡ None) × (part_from table ≡ part)
 
-by_fault : (text : List ℕ) (part : PartData) (table : Members) (o : Option PartFault) → parse_document text ≡ Some table → fault_of table ≡ o → part_unless table o ≡ Ok part → GivesPart text part
+by_fault : (text : List ℕ) (part : PartData) (table : Members) (o : Option PartFault) → parse_document text ≡ Some table → first_fault table ≡ o → part_unless table o ≡ Ok part → GivesPart text part
 unfolding GivesPart
 by_fault text part table None p f e = (table, p, f, same_part (part_from table) part (Ok (part_from table)) refl e)
 by_fault text part table (Some fault) p f e = absurd (ok_not_err part fault (sym e))
 
 by_table : (text : List ℕ) (part : PartData) (o : Option Members) → parse_document text ≡ o → part_of_table o ≡ Ok part → GivesPart text part
 by_table text part None p e = absurd (ok_not_err part Toml (sym e))
-by_table text part (Some table) p e = by_fault text part table (fault_of table) p refl e
+by_table text part (Some table) p e = by_fault text part table (first_fault table) p refl e
 
 by_utf8 : (text : List ℕ) (part : PartData) (b : Bool) → (if b then part_of_table (parse_document text) else Err Toml) ≡ Ok part → GivesPart text part
 by_utf8 text part true e = by_table text part (parse_document text) refl e

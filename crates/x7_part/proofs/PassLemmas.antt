@@ -21,7 +21,7 @@ use Rattle.x7_part.specs.AddressOrder.{addresses}
 use Rattle.x7_part.specs.PartValues.{RowValues, TopValues, top_values, settings_by_values, row_by_values, rows_in_file, part_data, part_with}
 use Rattle.x7_part.specs.PartChecks.{fault_of_call, unless, first_of, rows_fault, is_in, is_long, is_name, is_odd, is_unit, are_widths_or_none, row_range_fault, type_fault, other_fault, number_range_fault, top_range_fault, range_fault}
 use Rattle.x7_part.specs.PartRows.{same_row_fault, has_few_frames, frames_fault, in_order}
-use Rattle.x7_part.specs.PartFile.{fault_of, part_in, part_of_table, part_unless, part_from}
+use Rattle.x7_part.specs.PartFile.{first_fault, part_in, part_of_table, part_unless, part_from}
 use Rattle.x7_part.proofs.OrderLemmas.{unless_none, ordered, frames_sum, frames_permutation}
 use Rattle.x7_part.proofs.SortLemmas.{ordered_same, ordered_sorted}
 use Rattle.x7_part.proofs.RangeLemmas.{nones, in_range, name_in, long_in, printed, odd_in, unit_in, far_is, rows_are}
@@ -87,8 +87,8 @@ made t types others ranges apart frames =
     }
 
 -- where no check finds a fault, the part is one
-pub made_is : (t : Members) → fault_of t ≡ None → IsPart (part_from t)
-unfolding fault_of
+pub made_is : (t : Members) → first_fault t ≡ None → IsPart (part_from t)
+unfolding first_fault
 made_is t e =
     let v = top_values t in
     let h = nones (type_fault t ∷ other_fault v ∷ range_fault v ∷ same_row_fault [] (rows_in_file t) ∷ frames_fault (part_with v (rows_in_file t)) ∷ []) e in
@@ -136,12 +136,12 @@ handed_from (Err e) text fault h is = rw h.1 is
 
 -- ---- the faults of a text
 
-reported_is : (text : List ℕ) (t : Members) (fault : PartFault) → part_in text ≡ part_of_table (Some t) → fault_of t ≡ Some fault → part_in text ≡ Err fault
+reported_is : (text : List ℕ) (t : Members) (fault : PartFault) → part_in text ≡ part_of_table (Some t) → first_fault t ≡ Some fault → part_in text ≡ Err fault
 reported_is text t fault is e = is ∙ ap (part_unless t) e
 
 pub types_reported : (text : List ℕ) (t : Members) (fault : PartFault) → part_in text ≡ part_of_table (Some t) → (fault ≡ NoMemory) ⊎ (type_fault t ≡ Some fault) →
     (fault ≡ NoMemory) ⊎ (part_in text ≡ Err fault)
-unfolding fault_of
+unfolding first_fault
 types_reported text t fault is (inl e) = inl e
 types_reported text t fault is (inr e) = inr (reported_is text t fault is (rw e refl))
 
@@ -155,11 +155,11 @@ pub typed : (text : List ℕ) (t : Members) (v : TopValues) → IsUtf8 text × (
 typed text t v is values types = record { is = toml_is text t is; values = values; types = types }
 
 pub others_reported : (text : List ℕ) (t : Members) (v : TopValues) (fault : PartFault) → Typed text t v → Some fault ≡ other_fault v → part_in text ≡ Err fault
-unfolding fault_of
+unfolding first_fault
 others_reported text t v fault h e = reported_is text t fault h.is (rw (h.types, ap other_fault (sym h.values) ∙ sym e) refl)
 
 range_reported : (text : List ℕ) (t : Members) (v : TopValues) (fault : PartFault) → Typed text t v → None ≡ other_fault v → range_fault v ≡ Some fault → part_in text ≡ Err fault
-unfolding fault_of
+unfolding first_fault
 range_reported text t v fault h others e =
     reported_is text t fault h.is (rw (h.types, ap other_fault (sym h.values) ∙ sym others, ap range_fault (sym h.values) ∙ e) refl)
 
@@ -202,8 +202,8 @@ few_rows text t v s rows h =
 
 -- what the checks of rows find is the first fault of the table
 rest_is : (text : List ℕ) (t : Members) (v : TopValues) (s : Settings) (rows : List RowData) → Passed text t v s rows →
-    fault_of t ≡ first_of (same_row_fault [] rows ∷ frames_fault (part_data v.name s rows) ∷ [])
-unfolding fault_of
+    first_fault t ≡ first_of (same_row_fault [] rows ∷ frames_fault (part_data v.name s rows) ∷ [])
+unfolding first_fault
 rest_is text t v s rows h =
     let values = sym h.typed.values in
     let found : first_of (same_row_fault [] (map row_by_values v.rows) ∷ frames_fault (part_with v (map row_by_values v.rows)) ∷ [])
@@ -227,7 +227,7 @@ pub whole : (text : List ℕ) (t : Members) (v : TopValues) (s : Settings) (rows
 unfolding part_from
 whole text t v s rows name named h e =
     let last = nones (same_row_fault [] rows ∷ frames_fault (part_data v.name s rows) ∷ []) (sym e) in
-    let none : fault_of t ≡ None = rest_is text t v s rows h ∙ sym e in
+    let none : first_fault t ≡ None = rest_is text t v s rows h ∙ sym e in
     let ordered : part_with v (in_order (settings_by_values v).far (map row_by_values v.rows)) ≡ part_data name s (in_order s.far rows) = rw (h.settings, h.made, named) refl in
     let same : part_from t ≡ part_data name s (in_order s.far rows) =
     ap (λ x. part_with x (in_order (settings_by_values x).far (map row_by_values x.rows))) (sym h.typed.values) ∙ ordered in

@@ -12,8 +12,8 @@ use Rattle.x7_part.specs.PartChecks.{first_of, type_fault, other_fault, range_fa
 use Rattle.x7_part.specs.PartRows.{same_row_fault, frames_fault, in_order}
 
 -- the first fault of a part file's table: types, unknown keys, ranges, the same row twice, too many frames
-unfoldable pub fault_of : Members → Option PartFault
-fault_of t =
+unfoldable pub first_fault : Members → Option PartFault
+first_fault t =
     let v = top_values t in
     first_of (type_fault t ∷ other_fault v ∷ range_fault v ∷ same_row_fault [] (rows_in_file t) ∷ frames_fault (part_with v (rows_in_file t)) ∷ [])
 
@@ -29,7 +29,7 @@ part_unless table (Some fault) = Err fault
 -- the part of a text's table, or the first fault; a text without a table is no TOML
 abbrev pub part_of_table : Option Members → Result PartData PartFault
 part_of_table None = Err Toml
-part_of_table (Some table) = part_unless table (fault_of table)
+part_of_table (Some table) = part_unless table (first_fault table)
 
 -- a text of white space and comments alone
 abbrev pub HasNoKey : List ℕ → Type 0

@@ -1,6 +1,6 @@
 //! The keys of a part file, and why a part file is refused.
 ghost use Rattle.std.specs.Prelude.{◌≡◌};
-ghost use Rattle.x7_part.specs.PartKey.{name_of, top, in_row};
+ghost use Rattle.x7_part.specs.PartKey.{name_of};
 ghost use Rattle.x7_part.specs.declared.fault.PartFault.TheVariants.{NoMemory};
 
 use std::alloc::{AllocError, AllocFailed};
@@ -57,24 +57,28 @@ pub struct Which {
     pub key: PartKey,
 }
 
-impl Which {
-    /// A key of the top table.
-    pub(crate) fn top(key: PartKey) -> Which
-        ensures { result ≡ top key }
-    {
-        Which { row: None, key }
-    }
-
-    /// A key of a row.
-    pub(crate) fn in_row(row: u32, key: PartKey) -> Which
-        ensures { result ≡ in_row row key }
-    {
+/// A key of the top table.
+macro_rules! top {
+    ($key:ident) => {
         Which {
-            row: Some(row),
-            key,
+            row: None,
+            key: PartKey::$key,
         }
-    }
+    };
 }
+
+/// A key of a row.
+macro_rules! in_row {
+    ($row:expr, $key:ident) => {
+        Which {
+            row: Some($row),
+            key: PartKey::$key,
+        }
+    };
+}
+
+pub(crate) use in_row;
+pub(crate) use top;
 
 impl fmt::Display for Which {
     fn fmt<W: fmt::Write>(&self, f: &mut fmt::Formatter<W>) -> fmt::Result {

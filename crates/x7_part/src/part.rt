@@ -64,16 +64,6 @@ impl Part {
     pub fn copy(&self, alloc: Global) -> Result<Part, NoMemory>
         ensures { IfOk result (λ part. part ≡ self.now) }
     {
-        match self.copied(alloc) {
-            Ok(part) => Ok(part),
-            Err(_) => Err(NoMemory),
-        }
-    }
-
-    /// An equal part, as `copy` gives it, with the allocator's error.
-    fn copied(&self, alloc: Global) -> Result<Part, AllocError>
-        ensures { IfOk result (λ part. part ≡ self.now) }
-    {
         Ok(Part {
             name: String::from_str(alloc, self.name.as_str())?,
             settings: self.settings,

@@ -8,7 +8,7 @@ ghost use Rattle.x7_part.specs.PartValues.{row_by_values};
 ghost use Rattle.x7_part.specs.Part.{RowData};
 
 use crate::address::Fields;
-use crate::fault::{PartFault, PartKey, Which};
+use crate::fault::{PartFault, PartKey, Which, in_row};
 use crate::ranges::{minors, require, within};
 use crate::values::RowValues;
 use std::alloc::{AllocError, Global};
@@ -79,14 +79,10 @@ fn row_in(alloc: Global, number: u32, values: &RowValues) -> Result<Row, PartFau
     ensures value { IfOk result (λ row. row ≡ row_by_values values.now) }
 {
     Ok(Row {
-        block: within(values.block, 0, 2, Which::in_row(number, PartKey::Block))? as u8,
-        half: within(values.half, 0, 1, Which::in_row(number, PartKey::Half))? as u8,
-        row: within(values.row, 0, 31, Which::in_row(number, PartKey::Row))? as u8,
-        minors: minors(
-            alloc,
-            &values.minors,
-            Which::in_row(number, PartKey::Minors),
-        )?,
+        block: within(values.block, 0, 2, in_row!(number, Block))? as u8,
+        half: within(values.half, 0, 1, in_row!(number, Half))? as u8,
+        row: within(values.row, 0, 31, in_row!(number, Row))? as u8,
+        minors: minors(alloc, &values.minors, in_row!(number, Minors))?,
     })
 }
 

@@ -5,7 +5,7 @@ ghost use Rattle.x7_part.specs.PartChecks.{fault_of_call, unless, are_widths_or_
 ghost use Rattle.x7_part.specs.declared.fault.PartFault.TheVariants.{Range};
 
 use crate::address::Fields;
-use crate::fault::{PartFault, PartKey, Which};
+use crate::fault::{PartFault, PartKey, Which, top};
 use crate::ranges::{is_long, is_name, odd, require, unit, widths, within};
 use crate::values::Values;
 
@@ -41,14 +41,14 @@ fn numbers_in(values: &Values) -> Result<Settings, PartFault>
     ensures value { IfOk result (λ settings. settings ≡ settings_by_values values.now) }
 {
     Ok(Settings {
-        idcode: odd(values.idcode, Which::top(PartKey::Idcode))?,
-        mode: within(values.mode, 0, 7, Which::top(PartKey::Mode))? as u8,
-        bus_width: within(values.bus_width, 0, 3, Which::top(PartKey::BusWidth))? as u8,
-        lock: within(values.lock, 0, 65_535, Which::top(PartKey::Lock))? as u16,
-        matched: within(values.matched, 0, 65_535, Which::top(PartKey::Match))? as u16,
-        words: within(values.words, 2, 255, Which::top(PartKey::FrameWords))? as u8,
-        far: fields_in(&values.far, Which::top(PartKey::Far))?,
-        start_unit: unit(values.start_unit, Which::top(PartKey::StartUnit))?,
+        idcode: odd(values.idcode, top!(Idcode))?,
+        mode: within(values.mode, 0, 7, top!(Mode))? as u8,
+        bus_width: within(values.bus_width, 0, 3, top!(BusWidth))? as u8,
+        lock: within(values.lock, 0, 65_535, top!(Lock))? as u16,
+        matched: within(values.matched, 0, 65_535, top!(Match))? as u16,
+        words: within(values.words, 2, 255, top!(FrameWords))? as u8,
+        far: fields_in(&values.far, top!(Far))?,
+        start_unit: unit(values.start_unit, top!(StartUnit))?,
     })
 }
 
@@ -58,10 +58,10 @@ pub(crate) fn settings_in(values: &Values) -> Result<Settings, PartFault>
     ensures fault { fault_of_call result ≡ top_range_fault values.now }
     ensures value { IfOk result (λ settings. settings ≡ settings_by_values values.now) }
 {
-    let name = PartFault::Range(Which::top(PartKey::Name));
+    let name = PartFault::Range(top!(Name));
     require(is_name(&values.name), name)?;
     let settings = numbers_in(values)?;
-    let rows = PartFault::Range(Which::top(PartKey::Row));
+    let rows = PartFault::Range(top!(Row));
     require(is_long(values.rows.len(), 1, 192), rows)?;
     Ok(settings)
 }

@@ -7,7 +7,7 @@ ghost use Rattle.x7_part.specs.declared.fault.PartFault.TheVariants.{Key};
 ghost use Rattle.x7_part.specs.declared.fault.PartKey.TheVariants as key;
 ghost use Rattle.x7_part.specs.PartKey.{top};
 
-use crate::fault::{PartFault, PartKey, Which};
+use crate::fault::{PartFault, PartKey, Which, top};
 use std::alloc::{AllocError, Global};
 use toml::{Table, Value};
 
@@ -117,7 +117,7 @@ pub(crate) fn rows<'t>(alloc: Global, table: &'t Table) -> Result<Vec<&'t Table>
     ensures fault { AnswersDue (unless (has is_list_of_tables (under key.Row (table_view table.now))) (Key (top key.Row))) result }
     ensures value { IfOk result (λ rows. map (λ t. table_view t.now) rows.items ≡ row_tables (table_view table.now)) }
 {
-    let fault = PartFault::Key(Which::top(PartKey::Row));
+    let fault = PartFault::Key(top!(Row));
     let Some(value) = value_under(table, PartKey::Row) else {
         return Err(fault);
     };

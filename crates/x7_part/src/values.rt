@@ -7,7 +7,7 @@ ghost use Rattle.x7_part.specs.PartKey.{top};
 ghost use Rattle.x7_part.specs.declared.fault.PartFault.TheVariants.{Key};
 ghost use Rattle.x7_part.specs.declared.fault.PartKey.TheVariants as key;
 
-use crate::fault::{PartFault, PartKey, Which};
+use crate::fault::{PartFault, PartKey, Which, in_row, top};
 use crate::keys::{ROW_KEYS, TOP_KEYS, has_only};
 use crate::ranges::require;
 use crate::types::{number, number_or, numbers, rows, text};
@@ -61,11 +61,11 @@ fn row_values(alloc: Global, number_of_row: u32, row: &Table) -> Result<RowValue
     ensures fault { AnswersDue (row_type_fault number_of_row (table_view row.now)) result }
     ensures value { IfOk result (λ values. values ≡ row_values (table_view row.now)) }
 {
-    let minors = Which::in_row(number_of_row, PartKey::Minors);
+    let minors = in_row!(number_of_row, Minors);
     Ok(RowValues {
-        block: number(row, Which::in_row(number_of_row, PartKey::Block))?,
-        half: number(row, Which::in_row(number_of_row, PartKey::Half))?,
-        row: number(row, Which::in_row(number_of_row, PartKey::Row))?,
+        block: number(row, in_row!(number_of_row, Block))?,
+        half: number(row, in_row!(number_of_row, Half))?,
+        row: number(row, in_row!(number_of_row, Row))?,
         minors: match numbers(alloc, row, minors)? {
             Some(numbers) => numbers,
             None => return Err(PartFault::Key(minors)),
@@ -96,15 +96,15 @@ pub(crate) fn values_of(alloc: Global, table: &Table) -> Result<Values, PartFaul
     ensures value { IfOk result (λ values. values ≡ top_values (table_view table.now)) }
 {
     Ok(Values {
-        name: text(alloc, table, Which::top(PartKey::Name))?,
-        idcode: number(table, Which::top(PartKey::Idcode))?,
-        mode: number_or(0, table, Which::top(PartKey::Mode))?,
-        bus_width: number_or(0, table, Which::top(PartKey::BusWidth))?,
-        lock: number_or(0, table, Which::top(PartKey::Lock))?,
-        matched: number_or(0, table, Which::top(PartKey::Match))?,
-        words: number_or(USUAL_WORDS, table, Which::top(PartKey::FrameWords))?,
-        far: numbers(alloc, table, Which::top(PartKey::Far))?,
-        start_unit: number_or(1, table, Which::top(PartKey::StartUnit))?,
+        name: text(alloc, table, top!(Name))?,
+        idcode: number(table, top!(Idcode))?,
+        mode: number_or(0, table, top!(Mode))?,
+        bus_width: number_or(0, table, top!(BusWidth))?,
+        lock: number_or(0, table, top!(Lock))?,
+        matched: number_or(0, table, top!(Match))?,
+        words: number_or(USUAL_WORDS, table, top!(FrameWords))?,
+        far: numbers(alloc, table, top!(Far))?,
+        start_unit: number_or(1, table, top!(StartUnit))?,
         rows: rows_values(alloc, &rows(alloc, table)?)?,
         known: has_only(&TOP_KEYS, table),
     })
@@ -115,7 +115,7 @@ pub(crate) fn values_of(alloc: Global, table: &Table) -> Result<Values, PartFaul
 pub(crate) fn check_known(values: &Values) -> Result<(), PartFault>
     ensures { fault_of_call result ≡ other_fault values.now }
 {
-    require(values.known, PartFault::Key(Which::top(PartKey::Other)))?;
+    require(values.known, PartFault::Key(top!(Other)))?;
     check_known_rows(&values.rows)
 }
 
@@ -125,7 +125,7 @@ fn check_known_rows(rows: &[RowValues]) -> Result<(), PartFault>
 {
     let mut number = 1u32;
     for row in rows {
-        let other = Which::in_row(number, PartKey::Other);
+        let other = in_row!(number, Other);
         require(row.known, PartFault::Key(other))?;
         number = number.saturating_add(1);
     }

@@ -25,8 +25,8 @@ use Rattle.x7_pipeline.specs.InWords.{AreCutFrom, FarStandsAt, pair_of, place_in
 use Rattle.x7_pipeline.specs.FarAsRead.{has_frame_at, first_address, last_address, far_at, far_of}
 use Rattle.x7_regs.specs.declared.command.Command.TheVariants.{Wcfg, Mfw}
 use Rattle.x7_pipeline.specs.Copies.{is_wcfg, is_mfw, newest_of, source_after}
-use Rattle.x7_pipeline.specs.Readback.{word_at, read_at, read_limit, given_stored}
-use Rattle.x7_pipeline.specs.Faults.{address_fault, completes, has_filled, write_fault, copy_fault, read_fault}
+use Rattle.x7_pipeline.specs.Readback.{word_at, readback_at, read_limit, given_stored}
+use Rattle.x7_pipeline.specs.Faults.{address_fault, completes, has_filled, write_fault, copy_fault, readback_fault}
 use Rattle.x7_pipeline.specs.Pipeline.{PipelineData}
 use Rattle.x7_pipeline.specs.Flow.{Flow, HoldsFlow}
 use Rattle.x7_pipeline.proofs.RunLemmas.{rest_goes_on, rest_completes, frames_completes, length_run}
@@ -216,8 +216,8 @@ far_last part base run given some t h =
 
 -- ---- readback
 
-pub read_pad_frame : (part : PartData) (base : ℕ) (memory : FrameMap) (i : ℕ) → i < frame_words part → read_at part base memory i ≡ 0
-unfolding read_at
+pub read_pad_frame : (part : PartData) (base : ℕ) (memory : FrameMap) (i : ℕ) → i < frame_words part → readback_at part base memory i ≡ 0
+unfolding readback_at
 read_pad_frame part base memory i h = ap (λ slot. word_at slot memory (i % frame_words part)) (read_slot_pad part base i h)
 
 divided : (w n i : ℕ) → i < w → ((w * (1 + n) + i) / w ≡ 1 + n) × ((w * (1 + n) + i) % w ≡ i)
@@ -226,8 +226,8 @@ divided w n i h =
     (ap (λ x. x / w) e ∙ div-mul-add (1 + n) w i h, ap (λ x. x % w) e ∙ mod-mul-add (1 + n) w i h)
 
 pub read_frames : (part : PartData) (base : ℕ) (memory : FrameMap) (n i : ℕ) → i < frame_words part →
-    read_at part base memory (frame_words part * (1 + n) + i) ≡ word_at (get_or (slots_from part base) n End) memory i
-unfolding read_at
+    readback_at part base memory (frame_words part * (1 + n) + i) ≡ word_at (get_or (slots_from part base) n End) memory i
+unfolding readback_at
 read_frames part base memory n i h =
     let d = divided (frame_words part) n i h in
     let place : (frame_words part * (1 + n) + i) / frame_words part - 1 ≡ n = omega (arith, d.0) in
@@ -393,8 +393,8 @@ copy_no_overrun part command base source e = by (is_mfw command && is_some sourc
     by true e = let f = (no_address part base Overrun e).1 in cc
     by false e = let f = same_Some _ _ e in cc
 
-pub read_address : (part : PartData) (base given : ℕ) (fault : RunFault) → read_fault part base given ≡ Some fault → fault ≡ Address base
-unfolding read_fault
+pub read_address : (part : PartData) (base given : ℕ) (fault : RunFault) → readback_fault part base given ≡ Some fault → fault ≡ Address base
+unfolding readback_fault
 read_address part base given fault e = by (given == 0) e
   where
     by : (b : Bool) → (if b then address_fault part base else None) ≡ Some fault → fault ≡ Address base

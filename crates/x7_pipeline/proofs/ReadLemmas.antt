@@ -11,7 +11,7 @@ use Rattle.x7_part.specs.declared.slot.Slot.{Slot}
 use Rattle.x7_part.specs.declared.slot.Slot.TheVariants.{Frame, Pad, End}
 use Rattle.x7_memory.specs.FrameMap.{FrameMap}
 use Rattle.x7_pipeline.specs.Runs.{slots_from}
-use Rattle.x7_pipeline.specs.Readback.{word_at, read_slot, read_at, read_limit, given_stored}
+use Rattle.x7_pipeline.specs.Readback.{word_at, read_slot, readback_at, read_limit, given_stored}
 
 -- ---- a slot among those of a readback
 
@@ -97,17 +97,17 @@ at_end part base place some e =
     ]
 
 -- zeros from the limit on
-pub zeros_from : (part : PartData) (base : ℕ) (memory : FrameMap) (place : ℕ) → 0 < frame_words part → read_limit part base ≤ place → read_at part base memory place ≡ 0
-unfolding read_at
+pub zeros_from : (part : PartData) (base : ℕ) (memory : FrameMap) (place : ℕ) → 0 < frame_words part → read_limit part base ≤ place → readback_at part base memory place ≡ 0
+unfolding readback_at
 zeros_from part base memory place some high = ap (λ slot. word_at slot memory (place % frame_words part)) (past_limit part base place some high)
 
 -- the stored count gives the word of the count
-pub read_stored : (part : PartData) (base : ℕ) (memory : FrameMap) (given : ℕ) → 0 < frame_words part → read_at part base memory (given_stored part base given) ≡ read_at part base memory given
+pub read_stored : (part : PartData) (base : ℕ) (memory : FrameMap) (given : ℕ) → 0 < frame_words part → readback_at part base memory (given_stored part base given) ≡ readback_at part base memory given
 read_stored part base memory given some =
     elim (cases_lt given (read_limit part base)) [
       | inl low ↦ let e : given_stored part base given ≡ given = omega arith in rw e refl
       | inr high ↦ let e : given_stored part base given ≡ read_limit part base = omega arith in
-          ap (read_at part base memory) e ∙ zeros_from part base memory (read_limit part base) some (omega arith) ∙ sym (zeros_from part base memory given some high)
+          ap (readback_at part base memory) e ∙ zeros_from part base memory (read_limit part base) some (omega arith) ∙ sym (zeros_from part base memory given some high)
     ]
 
 -- ---- words that are passed over

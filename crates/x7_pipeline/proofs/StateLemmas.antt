@@ -16,8 +16,8 @@ use Rattle.x7_pipeline.specs.declared.fault.RunFault.TheVariants.{Address, Overr
 use Rattle.x7_pipeline.specs.Runs.{rest_of, frames_of, slots_from, at_slot, in_slots, but_newest, written_frames, put_over, Lands}
 use Rattle.x7_pipeline.specs.FarAsRead.{has_frame_at, far_at, far_of}
 use Rattle.x7_pipeline.specs.Copies.{is_mfw, newest_of, source_with, source_after, copied}
-use Rattle.x7_pipeline.specs.Readback.{word_at, read_slot, read_at, read_limit, given_stored}
-use Rattle.x7_pipeline.specs.Faults.{address_fault, completes, has_filled, write_fault, copy_fault, read_fault, drop_fault}
+use Rattle.x7_pipeline.specs.Readback.{word_at, read_slot, readback_at, read_limit, given_stored}
+use Rattle.x7_pipeline.specs.Faults.{address_fault, completes, has_filled, write_fault, copy_fault, readback_fault, drop_fault}
 use Rattle.x7_pipeline.specs.Pipeline.{PipelineData}
 use Rattle.x7_pipeline.proofs.FlowLemmas.{StandsFor}
 use Rattle.x7_pipeline.proofs.RunLemmas.{rest_goes_on, frames_goes_on, rest_completes, frames_completes, some_words}
@@ -280,21 +280,21 @@ wide : (part : PartData) (p : PipelineData) (command : Command) (base : ℕ) (ru
 wide part p command base run source given s = rw s.width_is at s.some_words
 
 pub read_refused : (part : PartData) (p : PipelineData) (command : Command) (base : ℕ) (run : List ℕ) (source : Option (List ℕ)) (given : ℕ) → StandsFor part p command base run source given →
-    p.given ≡ 0 → has_frame_at part p.base ≡ false → Some (Address p.base) ≡ read_fault part base given
-unfolding read_fault
+    p.given ≡ 0 → has_frame_at part p.base ≡ false → Some (Address p.base) ≡ readback_fault part base given
+unfolding readback_fault
 read_refused part p command base run source given s first f =
     rw (s.base_is, eq-eqb given 0 (none_given part base given (wide part p command base run source given s) (sym s.given_is ∙ first))) (address_refused part base (rw s.base_is at f))
 
 pub read_allowed : (part : PartData) (p : PipelineData) (command : Command) (base : ℕ) (run : List ℕ) (source : Option (List ℕ)) (given : ℕ) → StandsFor part p command base run source given →
-    (p.given ≡ 0 → has_frame_at part p.base ≡ true) → None ≡ read_fault part base given
-unfolding read_fault
+    (p.given ≡ 0 → has_frame_at part p.base ≡ true) → None ≡ readback_fault part base given
+unfolding readback_fault
 read_allowed part p command base run source given s first =
     elim (cases_eq given 0) [
       | inl z ↦ rw (eq-eqb given 0 z) (address_allowed part base (rw (← s.base_is) (first (s.given_is ∙ ap (λ n. min n (read_limit part base)) z ∙ omega arith))))
       | inr n ↦ rw (ne_eqb given 0 n) refl
     ]
 
-pub drop_some : (part : PartData) (base given count : ℕ) → (count ≡ 0 → ⊥) → read_fault part base given ≡ drop_fault part base given count
+pub drop_some : (part : PartData) (base given count : ℕ) → (count ≡ 0 → ⊥) → readback_fault part base given ≡ drop_fault part base given count
 unfolding drop_fault
 drop_some part base given count n = rw (ne_eqb count 0 n) refl
 
@@ -364,8 +364,8 @@ same_given part p n command base run source given z s = let e : given + n ≡ gi
 
 -- the word that was read is that of the count
 pub read_so : (part : PartData) (p : PipelineData) (memory : FrameMap) (command : Command) (base : ℕ) (run : List ℕ) (source : Option (List ℕ)) (given : ℕ) → StandsFor part p command base run source given →
-    word_at p.slot memory (p.given % p.width) ≡ read_at part base memory given
-unfolding read_at
+    word_at p.slot memory (p.given % p.width) ≡ readback_at part base memory given
+unfolding readback_at
 read_so part p memory command base run source given s = rw (s.slot_is, s.given_is, s.width_is) (read_stored part base memory given (wide part p command base run source given s))
 
 -- ---- an equal pipeline

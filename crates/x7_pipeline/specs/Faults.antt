@@ -33,9 +33,9 @@ copy_fault part command base source =
     if is_mfw command && is_some source then address_fault part base else Some Multi
 
 -- the fault of a read of one word or more: Address at a readback's first word where the base is no address
-unfoldable pub read_fault : PartData → ℕ → ℕ → Option RunFault
-read_fault part base given = if given == 0 then address_fault part base else None
+unfoldable pub readback_fault : PartData → ℕ → ℕ → Option RunFault
+readback_fault part base given = if given == 0 then address_fault part base else None
 
 -- the fault of `count` words of a readback passed over at once, none where `count` is 0
 unfoldable pub drop_fault : PartData → ℕ → ℕ → ℕ → Option RunFault
-drop_fault part base given count = if count == 0 then None else read_fault part base given
+drop_fault part base given count = if count == 0 then None else readback_fault part base given

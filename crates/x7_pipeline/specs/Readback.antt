@@ -23,8 +23,8 @@ unfoldable pub read_slot : PartData → ℕ → ℕ → Slot
 read_slot part base place = slice_index_or (Pad ∷ slots_from part base) (place / frame_words part) End
 
 -- the word at a place of the endless list
-unfoldable pub read_at : PartData → ℕ → FrameMap → ℕ → ℕ
-read_at part base memory place = word_at (read_slot part base place) memory (place % frame_words part)
+unfoldable pub readback_at : PartData → ℕ → FrameMap → ℕ → ℕ
+readback_at part base memory place = word_at (read_slot part base place) memory (place % frame_words part)
 
 -- the place from which on the list has zeros alone
 unfoldable pub read_limit : PartData → ℕ → ℕ

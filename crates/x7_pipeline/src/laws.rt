@@ -12,8 +12,8 @@ ghost use Rattle.x7_pipeline.specs.Runs.{rest_of, frames_of, but_newest, written
 ghost use Rattle.x7_pipeline.specs.InWords.{AreCutFrom, FarStandsAt, HasRun, Overruns, all_written, place_in, placed_from};
 ghost use Rattle.x7_pipeline.specs.FarAsRead.{IsBase, has_frame_at, far_of, last_address};
 ghost use Rattle.x7_pipeline.specs.Copies.{is_wcfg, is_mfw, newest_of, source_after};
-ghost use Rattle.x7_pipeline.specs.Readback.{word_at, read_at, read_limit, given_stored};
-ghost use Rattle.x7_pipeline.specs.Faults.{write_fault, copy_fault, read_fault};
+ghost use Rattle.x7_pipeline.specs.Readback.{word_at, readback_at, read_limit, given_stored};
+ghost use Rattle.x7_pipeline.specs.Faults.{write_fault, copy_fault, readback_fault};
 ghost use Rattle.x7_pipeline.specs.Words.{written, Refused};
 ghost use Rattle.x7_pipeline.specs.Pipeline.{PipelineData};
 ghost use Rattle.x7_pipeline.specs.Saving.{ChangesNext, HaveChangedAt, pair_at};
@@ -68,10 +68,10 @@ pub fn far_laws()
 
 /// A readback gives a frame of zeros, then the frames at the slots, then zeros.
 pub fn read_laws()
-    ensures pad { (part : PartData) (base : ℕ) (memory : FrameMap) (i : ℕ) → i < frame_words part → read_at part base memory i ≡ 0 }
+    ensures pad { (part : PartData) (base : ℕ) (memory : FrameMap) (i : ℕ) → i < frame_words part → readback_at part base memory i ≡ 0 }
     ensures frames { (part : PartData) (base : ℕ) (memory : FrameMap) (n i : ℕ) → i < frame_words part →
-        read_at part base memory (place_in part n i) ≡ word_at (slot_after part base n) memory i }
-    ensures zeros { (part : PartData) (base : ℕ) (memory : FrameMap) (place : ℕ) → 0 < frame_words part → read_limit part base ≤ place → read_at part base memory place ≡ 0 }
+        readback_at part base memory (place_in part n i) ≡ word_at (slot_after part base n) memory i }
+    ensures zeros { (part : PartData) (base : ℕ) (memory : FrameMap) (place : ℕ) → 0 < frame_words part → read_limit part base ≤ place → readback_at part base memory place ≡ 0 }
     ensures stored { (part : PartData) (base given n : ℕ) → given_stored part base (given + n) ≡ min (given_stored part base given + n) (read_limit part base) }
 {}
 
@@ -85,7 +85,7 @@ pub fn fault_laws()
         far_of part base (word ∷ run) given ≡ far_of part base run given }
     ensures written { (part : PartData) (base : ℕ) (run : List ℕ) → write_fault part base run ≢ Some RunFault.Multi }
     ensures copied { (part : PartData) (command : Command) (base : ℕ) (source : Option (List ℕ)) → copy_fault part command base source ≢ Some RunFault.Overrun }
-    ensures read { (part : PartData) (base given : ℕ) (fault : RunFault) → read_fault part base given ≡ Some fault → fault ≡ RunFault.Address base }
+    ensures read { (part : PartData) (base given : ℕ) (fault : RunFault) → readback_fault part base given ≡ Some fault → fault ≡ RunFault.Address base }
 {}
 
 /// Two pipelines that stand for the same are equal.

@@ -10,8 +10,8 @@ ghost use Rattle.x7_regs.specs.declared.command.Command.{Command};
 ghost use Rattle.x7_pipeline.specs.Runs.{Lands, put_over, slots_from};
 ghost use Rattle.x7_pipeline.specs.FarAsRead.{far_of, loaded_base, has_frame_at};
 ghost use Rattle.x7_pipeline.specs.Copies.{is_wcfg, is_mfw, source_with};
-ghost use Rattle.x7_pipeline.specs.Readback.{read_at, word_at};
-ghost use Rattle.x7_pipeline.specs.Faults.{write_fault, read_fault, drop_fault};
+ghost use Rattle.x7_pipeline.specs.Readback.{readback_at, word_at};
+ghost use Rattle.x7_pipeline.specs.Faults.{write_fault, readback_fault, drop_fault};
 ghost use Rattle.x7_pipeline.specs.Places.{StartsAt};
 ghost use Rattle.x7_pipeline.specs.Pipeline.{AreOf, PipelineData, IsPipelineOf, passed};
 ghost use Rattle.x7_pipeline.specs.Flow.{copied_by, fault_of_copy, FlowGoesOn, HoldsFlow, LandsAt, OfFlow, PutsNewest, after_reads, after_words, begun_at, begun_by, first_flow, with_run, flow_written};
@@ -79,10 +79,10 @@ impl Pipeline {
             far_width: part.far_width(),
             command: Command::Null,
             base: 0,
-            rest: room_for(alloc, width)?,
-            held: room_for(alloc, width)?,
+            rest: Vec::with_capacity(alloc, width as usize)?,
+            held: Vec::with_capacity(alloc, width as usize)?,
             frame_count: 0,
-            source: room_for(alloc, width)?,
+            source: Vec::with_capacity(alloc, width as usize)?,
             has_source: false,
             given: 0,
             slot: Slot::Pad,
@@ -362,9 +362,9 @@ impl Pipeline {
     /// The next word of a readback under RCFG.
     pub fn read_word(&mut self, part: &Part, memory: &Memory) -> Result<u32, RunFault>
         requires part { AreOf part.now self.old memory.now }
-        ensures word { IfOk result (λ word. OfFlow part.now self.old (λ f. word ≡ read_at part.now f.base (frame_at part.now memory.now) f.given)) }
+        ensures word { IfOk result (λ word. OfFlow part.now self.old (λ f. word ≡ readback_at part.now f.base (frame_at part.now memory.now) f.given)) }
         ensures stands { OnOk result (FlowGoesOn part.now self.old self.new (after_reads 1)) }
-        ensures fault { OfFlow part.now self.old (λ f. result_err result ≡ read_fault part.now f.base f.given) }
+        ensures fault { OfFlow part.now self.old (λ f. result_err result ≡ readback_fault part.now f.base f.given) }
 
         // Whatever the answer.
         ensures part { IsPipelineOf part.now self.new }
@@ -382,7 +382,7 @@ impl Pipeline {
 
     /// The fault that the next word of a readback would have.
     pub fn fault_of_read(&self, part: &Part) -> Option<RunFault>
-        ensures { OfFlow part.now self.now (λ f. result ≡ read_fault part.now f.base f.given) }
+        ensures { OfFlow part.now self.now (λ f. result ≡ readback_fault part.now f.base f.given) }
     {
         if self.reads_nowhere(part) {
             return Some(RunFault::Address(self.base));
@@ -482,17 +482,6 @@ fn begins_copies(old: Command, new: Command) -> bool
     match (old, new) {
         (Command::Wcfg, Command::Mfw) => true,
         _ => false,
-    }
-}
-
-/// Room for the words of a frame.
-fn room_for(alloc: Global, width: u32) -> Result<Vec<u32>, NoMemory>
-    ensures empty { IfOk result (λ words. words.items ≡ []) }
-    ensures room { IfOk result (λ words. width ≤ vec_capacity words) }
-{
-    match Vec::with_capacity(alloc, width as usize) {
-        Ok(words) => Ok(words),
-        Err(_) => Err(NoMemory),
     }
 }
 

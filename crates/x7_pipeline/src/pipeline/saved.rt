@@ -9,7 +9,7 @@ ghost use Rattle.x7_pipeline.specs.Pipeline.{AreOf, IsPipelineOf};
 ghost use Rattle.x7_pipeline.specs.Runs.{put_over};
 ghost use Rattle.x7_pipeline.specs.Saving.{IsPairOf, IsSavedOf, address_at_slot, next_put, pair_at, put_by_copy, put_by_word};
 
-use super::{Pipeline, room_for};
+use super::Pipeline;
 use crate::place::{is_base, slot_at};
 use std::alloc::Global;
 use std::marker::Model;
@@ -84,7 +84,7 @@ impl Saved {
         ensures part { IfOk result (IsSavedOf part.now) }
     {
         let pipeline = Pipeline::new(alloc, part)?;
-        let frame = room_for(alloc, part.words())?;
+        let frame = Vec::with_capacity(alloc, part.words() as usize)?;
         Ok(Saved {
             pipeline,
             has_frame: false,

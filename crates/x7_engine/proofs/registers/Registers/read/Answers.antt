@@ -60,7 +60,7 @@ returns-in-Some-clause-stands c = λ kept h place next s.
     let going : stop_of part kept h place ≡ None = s.stop ∙ ap (stopped_at place) c.requires.ready.going in
     let frames : reads_frame_data h (Read c.args.register c.args.count) ≡ true = sym (c.reads_frames.ensures part.idcode h (c.settings.ensures.after part kept h place s)) ∙ c.if-not-reads_frames.false in
     let are : FramesStandFor part c.args.self.now.frames h 0 = standing_frames part c.args.self.now.frames c.args.self.now.stop h c.args.self.now.due c.requires.ready.going c.requires.ready.none_due s.frames in
-    let refusal : frame_fault part h (Read c.args.register c.args.count) ≡ Some c.in-Some.fault = c.in-Some.ensures h c.args.register place frames are in
+    let refusal : frame_fault part h (Read c.args.register c.args.count) ≡ Some c.in-Some.fault = c.in-Some.ensures h c.args.register c.args.count place frames are in
     let why : c.stop_of_refused.result ≡ stop_by c.in-Some.fault = c.stop_of_refused.ensures.value in
     record {
       places = (next.0, omega arith, next.1);
@@ -82,7 +82,7 @@ returns-in-Some-clause-reads c = λ kept h place s.
     let part : PartData = c.args.part.now in
     let frames : reads_frame_data h (Read c.args.register c.args.count) ≡ true = sym (c.reads_frames.ensures part.idcode h (c.settings.ensures.after part kept h place s)) ∙ c.if-not-reads_frames.false in
     let are : FramesStandFor part c.args.self.now.frames h 0 = standing_frames part c.args.self.now.frames c.args.self.now.stop h c.args.self.now.due c.requires.ready.going c.requires.ready.none_due s.frames in
-    let refusal : frame_fault part h (Read c.args.register c.args.count) ≡ Some c.in-Some.fault = c.in-Some.ensures h c.args.register place frames are in
+    let refusal : frame_fault part h (Read c.args.register c.args.count) ≡ Some c.in-Some.fault = c.in-Some.ensures h c.args.register c.args.count place frames are in
     answered part kept h c.args.register c.args.count place (Some (stop_by c.in-Some.fault)) (read_why part kept h c.args.register c.args.count (Some c.in-Some.fault) refusal)
     ∙ sym (none_left part (entry (Read c.args.register c.args.count) place ∷ h) c.args.self.now.due c.requires.ready.none_due)
 
@@ -92,7 +92,7 @@ returns-in-None-clause-stands c = λ kept h place next s.
     let going : stop_of part kept h place ≡ None = s.stop ∙ ap (stopped_at place) c.requires.ready.going in
     let frames : reads_frame_data h (Read c.args.register c.args.count) ≡ true = sym (c.reads_frames.ensures part.idcode h (c.settings.ensures.after part kept h place s)) ∙ c.if-not-reads_frames.false in
     let are : FramesStandFor part c.args.self.now.frames h 0 = standing_frames part c.args.self.now.frames c.args.self.now.stop h c.args.self.now.due c.requires.ready.going c.requires.ready.none_due s.frames in
-    let read = c.in-None.ensures h c.args.register place frames are in
+    let read = c.in-None.ensures h c.args.register c.args.count place frames are in
     record {
       places = (next.0, omega arith, next.1);
       words = record { each = s.words.each };
@@ -111,7 +111,7 @@ returns-in-None-clause-reads c = λ kept h place s.
     let part : PartData = c.args.part.now in
     let frames : reads_frame_data h (Read c.args.register c.args.count) ≡ true = sym (c.reads_frames.ensures part.idcode h (c.settings.ensures.after part kept h place s)) ∙ c.if-not-reads_frames.false in
     let are : FramesStandFor part c.args.self.now.frames h 0 = standing_frames part c.args.self.now.frames c.args.self.now.stop h c.args.self.now.due c.requires.ready.going c.requires.ready.none_due s.frames in
-    let read = c.in-None.ensures h c.args.register place frames are in
+    let read = c.in-None.ensures h c.args.register c.args.count place frames are in
     answered part kept h c.args.register c.args.count place None (read_why part kept h c.args.register c.args.count None read.0)
     ∙ ap (λ b. if b then frames_read part h c.args.count else replicate c.args.count (read_value (course_at part kept h place) c.args.register)) frames
     ∙ sym read.2
