@@ -1,5 +1,5 @@
 -- Packets over an input: what a reader of packets stands for, and what each run that it lends says (this project's choice).
-use Rattle.std.specs.Prelude.{◌≡◌, ℕ, ◌+◌, ◌<◌, ◌↔◌, List, [], ◌++◌, length, take, drop, Bool, true, false, if◌then◌else◌, Option, Result, Ok, Err}
+use Rattle.std.specs.Prelude.{◌≡◌, ℕ, ◌+◌, ◌<◌, ◌≤◌, ◌↔◌, List, [], ◌++◌, length, take, drop, Bool, true, false, if◌then◌else◌, Option, Result, Ok, Err}
 use Rattle.std.specs.Borrow.{Bor, Fml, MutBor}
 use Rattle.std.specs.Io.BufRead.{Rests}
 use Rattle.x7_words.specs.Input.{AtEnd, preceded}
@@ -13,7 +13,7 @@ use Rattle.x7_packets.specs.FoundRun.{FoundRun}
 use Rattle.x7_packets.specs.declared.stream.Run.{Run}
 use Rattle.x7_packets.specs.declared.stream.Run.TheVariants as run
 use Rattle.x7_packets.specs.contracts.stream.Packets.{the_row}
-use Rattle.x7_packets.specs.PacketsState.{PacketsState}
+use Rattle.x7_packets.specs.PacketsState.{PacketsState, piece_size}
 use Rattle.x7_packets.specs.Run.{IsNext, cut_of, is_last, bytes_of_run}
 
 -- the place with these bytes of no whole word
@@ -87,7 +87,7 @@ pub record Fills (old new : PacketsState) (rest rest_now : Option (List ℕ)) (a
   pub piece : List ℕ
   pub taken : rest ≡ preceded piece rest_now
   pub is : new ≡ filled old piece
-  pub most : length piece < 65537
+  pub most : length piece ≤ piece_size
   pub some : any ≡ true → 0 < length piece
   pub end : any ≡ false → (piece ≡ []) × AtEnd rest_now
 
