@@ -1,8 +1,8 @@
 -- Packets over an input: what a reader of packets stands for, and what each run that it lends says (this project's choice).
-use Rattle.std.specs.Prelude.{◌≡◌, ℕ, ◌+◌, ◌<◌, ◌≤◌, ◌↔◌, List, [], ◌++◌, length, take, drop, Bool, true, false, if◌then◌else◌, Option, Result, Ok, Err}
+use Rattle.std.specs.Prelude.{◌≡◌, ℕ, ◌+◌, ◌^◌, ◌<◌, ◌≤◌, ◌↔◌, List, [], ◌++◌, length, take, drop, Bool, true, false, if◌then◌else◌, Option, Result, Ok, Err}
 use Rattle.std.specs.Borrow.{Bor, Fml, MutBor}
 use Rattle.std.specs.Io.BufRead.{Rests}
-use Rattle.x7_words.specs.Input.{AtEnd, preceded}
+use Rattle.x7_words.specs.Input.{AtEnd, InputsState, preceded}
 use Rattle.x7_words.specs.declared.input.Failed.{Failed}
 use Rattle.x7_packets.specs.Reading.{Place, Searching, Synced, Session, IsReading, tail_of}
 use Rattle.x7_packets.specs.Cutting.{CutterStandsFor, Cuts, IsLent, IsNeed, SkipsAll}
@@ -124,6 +124,12 @@ pub record GivesRun (old new : PacketsState) (rest rest_now : Option (List ℕ))
   pub taken : rest ≡ preceded more rest_now
   pub tells : ReadsAndGives old new more r
   pub end : is_last r ≡ true → AtEnd rest_now
+
+-- a call may come: the input is selected unless an earlier call failed, it is at its end once the tail or the end was given, and the count of bytes taken can still grow
+pub record MayCall (p : PacketsState) (input : InputsState) : Type 0 where
+  pub selected : p.failed ≡ false → input.selected ≡ true
+  pub end : p.done ≡ true → AtEnd input.rest
+  pub count : p.taken ≤ 2 ^ 63
 
 -- the call failed: what it took before that still counts
 pub record GivesUp (old new : PacketsState) : Type 0 where

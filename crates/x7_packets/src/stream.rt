@@ -5,7 +5,7 @@ ghost use Rattle.x7_packets.specs.Cutting.{IsNeed};
 ghost use Rattle.x7_packets.specs.Mode.{Mode};
 ghost use Rattle.x7_packets.specs.FoundRun.{FoundRun, found_of};
 ghost use Rattle.x7_packets.specs.PacketsState.{PacketsState, piece_size};
-ghost use Rattle.x7_packets.specs.Running.{Fills, GivesRun, GivesUp, IsFound, IsLastFound, PacketsStandFor, Steps};
+ghost use Rattle.x7_packets.specs.Running.{Fills, GivesRun, GivesUp, IsFound, IsLastFound, MayCall, PacketsStandFor, Steps};
 
 use crate::cutter::{Cut, Cutter};
 use crate::header::Step;
@@ -155,9 +155,7 @@ impl Packets {
 
     /// Finds the next run.
     fn advance<I: Inputs>(&mut self, inputs: &mut I) -> Result<(), Failed>
-        requires selected { self.old.failed ≡ false → (I.state inputs.old).selected ≡ true }
-        requires end { self.old.done ≡ true → AtEnd (I.state inputs.old).rest }
-        requires count { self.old.taken ≤ 2 ^ 63 }
+        requires { MayCall self.old (I.state inputs.old) }
         ensures ok { OnOk result ((r : Run) → IsLastFound self.new r → GivesRun self.old self.new (I.state inputs.old).rest (I.state inputs.new).rest r) }
         ensures err { OnErr result (GivesUp self.old self.new) }
         ensures failed { OnErr result ((self.old.failed ≡ true) ⊎ Fails (I.state inputs.old) (I.state inputs.new)) }
