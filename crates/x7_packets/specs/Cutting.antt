@@ -156,6 +156,12 @@ abbrev pub syncs_due : Mode → ℕ
 syncs_due Mode.Due = 1
 syncs_due _ = 0
 
+-- the run ended with a whole word of a session: no sync word is due after it, and no byte is kept
+pub record EndsWithWord (new : CutterState) (cut : Cut) : Type 0 where
+  pub given : syncs_due new.mode ≡ 0
+  pub none_kept : new.kept ≡ []
+  pub run : IsRun cut
+
 -- how many calls there are at most until a piece is used up, of which this many bytes are left
 abbrev pub calls_left : CutterState → ℕ → ℕ
 calls_left c left = 2 * left + syncs_due c.mode

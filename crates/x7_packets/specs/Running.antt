@@ -1,8 +1,8 @@
 -- Packets over an input: what a reader of packets stands for, and what each run that it lends says (this project's choice).
-use Rattle.std.specs.Prelude.{◌≡◌, ℕ, ◌+◌, ◌^◌, ◌<◌, ◌≤◌, ◌↔◌, List, [], ◌++◌, length, take, drop, Bool, true, false, if◌then◌else◌, Option, Result, Ok, Err}
+use Rattle.std.specs.Prelude.{◌≡◌, ℕ, ◌+◌, ◌^◌, ◌<◌, ◌≤◌, ◌↔◌, List, [], ◌++◌, length, take, drop, Bool, true, false, if◌then◌else◌, Option, Result, Ok, Err, OnErr, OnOk, ◌⊎◌}
 use Rattle.std.specs.Borrow.{Bor, Fml, MutBor}
 use Rattle.std.specs.Io.BufRead.{Rests}
-use Rattle.x7_words.specs.Input.{AtEnd, InputsState, preceded}
+use Rattle.x7_words.specs.Input.{AtEnd, Fails, InputsState, Stays, preceded}
 use Rattle.x7_words.specs.declared.input.Failed.{Failed}
 use Rattle.x7_packets.specs.Reading.{Place, Searching, Synced, Session, IsReading, tail_of}
 use Rattle.x7_packets.specs.Cutting.{CutterStandsFor, Cuts, IsLent, IsNeed, SkipsAll}
@@ -130,6 +130,13 @@ pub record MayCall (p : PacketsState) (input : InputsState) : Type 0 where
   pub selected : p.failed ≡ false → input.selected ≡ true
   pub end : p.done ≡ true → AtEnd input.rest
   pub count : p.taken ≤ 2 ^ 63
+
+-- what a call makes of the input, and of an earlier failure: the input stays one and is selected after a run; the call fails where a read failed in it or an earlier call failed, and then always
+pub record CallsOn {T : Type 0} (p : PacketsState) (old new : InputsState) (result : Result T Failed) : Type 0 where
+  pub failed : OnErr result ((p.failed ≡ true) ⊎ Fails old new)
+  pub selected : OnOk result (new.selected ≡ true)
+  pub stays : p.failed ≡ true → OnOk result ⊥
+  pub inputs : Stays old new
 
 -- the call failed: what it took before that still counts
 pub record GivesUp (old new : PacketsState) : Type 0 where

@@ -4,7 +4,7 @@ ghost use Rattle.x7_words.specs.Word.{bytes_of_word};
 ghost use Rattle.x7_regs.specs.Register.{number_of};
 ghost use Rattle.x7_regs.specs.declared.register.Reg.TheVariants.{Cmd};
 ghost use Rattle.x7_packets.specs.AtOnce.{BeginsWrite, EndsGap, WritesFew, WritesOne};
-ghost use Rattle.x7_packets.specs.Cutting.{between, calls_left, CompletesNone, CutterStandsFor, ComesNearer, IsBody, IsLent, IsNeed, IsOneWord, IsRun, MovesPast, run_bytes, SkipsAll, syncs_due, TakesAsOneRun};
+ghost use Rattle.x7_packets.specs.Cutting.{between, calls_left, CompletesNone, CutterStandsFor, ComesNearer, EndsWithWord, IsBody, IsLent, IsNeed, IsOneWord, IsRun, MovesPast, run_bytes, SkipsAll, TakesAsOneRun};
 ghost use Rattle.x7_packets.specs.Matching.{IsClear};
 ghost use Rattle.x7_packets.specs.Nops.{Idles, nop_bytes};
 ghost use Rattle.x7_packets.specs.PacketWords.{no_op};
@@ -378,10 +378,8 @@ impl Cutter {
         requires synced { self.old.mode ≡ Mode.Synced }
         requires whole { length self.old.kept + length missing.now ≡ 4 }
         ensures word { IsOneWord self.old.machine.due result }
-        ensures given { syncs_due self.new.mode ≡ 0 }
-        ensures none_kept { self.new.kept ≡ [] }
+        ensures ends { EndsWithWord self.new result }
         ensures joined { self.old.kept ++ missing.now ≡ run_bytes result }
-        ensures run { IsRun result }
         ensures adds { TakesAsOneRun self.old self.new missing.now result }
     {
         let w = whole(&self.kept, self.count, missing);
@@ -405,9 +403,7 @@ impl Cutter {
         requires due { length body.now / 4 ≤ self.old.machine.due }
         requires one { self.old.machine.register ≡ number_of Cmd → length body.now ≡ 4 }
         ensures body { IsBody self.old.machine.register body.now result }
-        ensures given { syncs_due self.new.mode ≡ 0 }
-        ensures none_kept { self.new.kept ≡ [] }
-        ensures run { IsRun result }
+        ensures ends { EndsWithWord self.new result }
         ensures adds { TakesAsOneRun self.old self.new body.now result }
     {
         let register = self.machine.register();

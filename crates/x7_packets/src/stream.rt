@@ -5,7 +5,7 @@ ghost use Rattle.x7_packets.specs.Cutting.{IsNeed};
 ghost use Rattle.x7_packets.specs.Mode.{Mode};
 ghost use Rattle.x7_packets.specs.FoundRun.{FoundRun, found_of};
 ghost use Rattle.x7_packets.specs.PacketsState.{PacketsState, piece_size};
-ghost use Rattle.x7_packets.specs.Running.{Fills, GivesRun, GivesUp, IsFound, IsLastFound, MayCall, PacketsStandFor, Steps};
+ghost use Rattle.x7_packets.specs.Running.{CallsOn, Fills, GivesRun, GivesUp, IsFound, IsLastFound, MayCall, PacketsStandFor, Steps};
 
 use crate::cutter::{Cut, Cutter};
 use crate::header::Step;
@@ -158,11 +158,8 @@ impl Packets {
         requires { MayCall self.old (I.state inputs.old) }
         ensures ok { OnOk result ((r : Run) → IsLastFound self.new r → GivesRun self.old self.new (I.state inputs.old).rest (I.state inputs.new).rest r) }
         ensures err { OnErr result (GivesUp self.old self.new) }
-        ensures failed { OnErr result ((self.old.failed ≡ true) ⊎ Fails (I.state inputs.old) (I.state inputs.new)) }
-        ensures selected { OnOk result ((I.state inputs.new).selected ≡ true) }
-        ensures stays { self.old.failed ≡ true → OnOk result ⊥ }
+        ensures call { CallsOn self.old (I.state inputs.old) (I.state inputs.new) result }
         ensures ended { self.old.done ≡ true → inputs.new ≡ inputs.old }
-        ensures inputs { Stays (I.state inputs.old) (I.state inputs.new) }
     {
         if self.failed {
             return Err(Failed);
