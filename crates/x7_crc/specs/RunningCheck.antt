@@ -16,6 +16,10 @@ low_bits (suc n) v = (v % 2 == 1) ∷ low_bits n (v / 2)
 unfoldable pub bits_of_write : ℕ → ℕ → List Bool
 bits_of_write register word = low_bits 32 word ++ low_bits 5 register
 
+-- how many bits a write has: the word's 32, and the register number's five
+abbrev pub bits_a_write : ℕ
+bits_a_write = 37
+
 -- the bits of writes, each the register's number and the word, in order
 abbrev pub bits_of_writes : List (ℕ × ℕ) → List Bool
 bits_of_writes [] = []
@@ -35,9 +39,9 @@ check_after before writes =
 abbrev pub IsCheckAfter : ℕ → List (ℕ × ℕ) → ℕ → Type 0
 IsCheckAfter before writes check = IsRemainder (dividend before (bits_of_writes writes)) generator 32 (mirrored 32 check)
 
--- a check after one write more
-abbrev pub folded : ℕ → ℕ → ℕ → ℕ
-folded check register word = check_after check ((register, word) ∷ [])
+-- the check after one write more than `check` is of
+abbrev pub check_after_one : ℕ → ℕ → ℕ → ℕ
+check_after_one check register word = check_after check ((register, word) ∷ [])
 
 -- the check of writes
 abbrev pub check_of : List (ℕ × ℕ) → ℕ

@@ -3,9 +3,13 @@
 use Rattle.std.specs.Prelude.{ℕ, zero, suc, ◌*◌, ◌/◌, ◌%◌, Bool, List, [], ◌∷◌, bit_xor}
 use Rattle.x7_crc.specs.Polynomial.{digit}
 
--- the register after one more bit; 82F63B78 is the polynomial with its coefficients in the other order
+-- the polynomial of the check with its coefficients in the other order, that of x^31 the lowest bit
+abbrev pub mirrored_generator : ℕ
+mirrored_generator = 0x82F63B78
+
+-- the register after one more bit
 abbrev pub shifted_one : ℕ → Bool → ℕ
-shifted_one v b = bit_xor (v / 2) (bit_xor (v % 2) (digit b) * 0x82F63B78)
+shifted_one v b = bit_xor (v / 2) (bit_xor (v % 2) (digit b) * mirrored_generator)
 
 -- the register after a list of bits, the first taken first
 abbrev pub shifted_all : ℕ → List Bool → ℕ
@@ -15,4 +19,4 @@ shifted_all v (b ∷ bs) = shifted_all (shifted_one v b) bs
 -- the register after `n` bits of 0
 unfoldable pub advanced : ℕ → ℕ → ℕ
 advanced zero v = v
-advanced (suc n) v = advanced n (bit_xor (v / 2) (v % 2 * 0x82F63B78))
+advanced (suc n) v = advanced n (bit_xor (v / 2) (v % 2 * mirrored_generator))

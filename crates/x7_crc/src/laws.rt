@@ -6,7 +6,7 @@ ghost use Rattle.x7_packets.specs.History.{Bad, entry, History, Read, Write};
 ghost use Rattle.x7_packets.specs.RunningCheck.{clears};
 ghost use Rattle.x7_crc.specs.OpenWrites.{Folds, running_check};
 ghost use Rattle.x7_crc.specs.Polynomial.{from_highest, IsRemainder, mirrored};
-ghost use Rattle.x7_crc.specs.RunningCheck.{bits_of_writes, check_after, check_of, folded, generator, IsCheckAfter};
+ghost use Rattle.x7_crc.specs.RunningCheck.{bits_of_writes, check_after, check_of, check_after_one, generator, IsCheckAfter};
 
 /// The check of writes is the remainder, by the polynomial of CRC-32C, of their bits times x^32; so it is after any check
 /// before them, whose polynomial is added above; and nothing else is.
@@ -25,7 +25,7 @@ pub fn checks_continue()
 
 /// The check of one write after any check is that from 0 of the word with the check added.
 pub fn checks_are_linear()
-    ensures { (before register word : ℕ) → before < 2 ^ 32 → register < 2 ^ 5 → word < 2 ^ 32 → folded before register word ≡ folded 0 register (bit_xor word before) }
+    ensures { (before register word : ℕ) → before < 2 ^ 32 → register < 2 ^ 5 → word < 2 ^ 32 → check_after_one before register word ≡ check_after_one 0 register (bit_xor word before) }
 {}
 
 /// The running check of a history begins at 0, is 0 after an access that clears it, goes on by each other write but that of
@@ -33,7 +33,7 @@ pub fn checks_are_linear()
 pub fn checks_of_histories()
     ensures begins { running_check [] ≡ 0 }
     ensures cleared { (h : History) (register word place : ℕ) → clears h (Write register word) ≡ true → running_check (entry (Write register word) place ∷ h) ≡ 0 }
-    ensures written { (h : History) (register word place : ℕ) → Folds h register word → running_check (entry (Write register word) place ∷ h) ≡ folded (running_check h) register word }
+    ensures written { (h : History) (register word place : ℕ) → Folds h register word → running_check (entry (Write register word) place ∷ h) ≡ check_after_one (running_check h) register word }
     ensures left_out { (h : History) (word place : ℕ) → clears h (Write (number_of Lout) word) ≡ false → running_check (entry (Write (number_of Lout) word) place ∷ h) ≡ running_check h }
     ensures read { (h : History) (register count place : ℕ) → running_check (entry (Read register count) place ∷ h) ≡ running_check h }
     ensures bad { (h : History) (word place : ℕ) → running_check (entry (Bad word) place ∷ h) ≡ running_check h }

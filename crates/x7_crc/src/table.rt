@@ -1,7 +1,7 @@
 //! The running check by tables: a word at once, and four words at once.
 ghost use Rattle.std.specs.Prelude.{◌≡◌, ◌<◌, ◌+◌, ◌*◌, IsTrue, [], ◌∷◌, ℕ};
 ghost use Rattle.x7_crc.specs.CheckTable.{advance_all, advances};
-ghost use Rattle.x7_crc.specs.RunningCheck.{check_after, writes_to};
+ghost use Rattle.x7_crc.specs.RunningCheck.{bits_a_write, check_after, writes_to};
 ghost use Rattle.x7_crc.specs.ShiftRegister.{advanced};
 
 use crate::block_table::{FIRST, LAST, SECOND, THIRD};
@@ -42,7 +42,7 @@ pub(crate) fn fold_four(
 /// The check after the bits of four writes, all 0.
 #[tactic(auto, unfolding(crate::specs::ShiftRegister::advanced))]
 fn advance_first(check: u32) -> u32
-    ensures { result ≡ advanced 148 check }
+    ensures { result ≡ advanced (4 * bits_a_write) check }
 {
     word_entries(&FIRST, 124, check)
 }
@@ -50,7 +50,7 @@ fn advance_first(check: u32) -> u32
 /// The check after the bits of three writes, all 0.
 #[tactic(auto, unfolding(crate::specs::ShiftRegister::advanced))]
 fn advance_second(check: u32) -> u32
-    ensures { result ≡ advanced 111 check }
+    ensures { result ≡ advanced (3 * bits_a_write) check }
 {
     word_entries(&SECOND, 87, check)
 }
@@ -58,7 +58,7 @@ fn advance_second(check: u32) -> u32
 /// The check after the bits of two writes, all 0.
 #[tactic(auto, unfolding(crate::specs::ShiftRegister::advanced))]
 fn advance_third(check: u32) -> u32
-    ensures { result ≡ advanced 74 check }
+    ensures { result ≡ advanced (2 * bits_a_write) check }
 {
     word_entries(&THIRD, 50, check)
 }
@@ -66,7 +66,7 @@ fn advance_third(check: u32) -> u32
 /// The check after the bits of a write, all 0.
 #[tactic(auto, unfolding(crate::specs::ShiftRegister::advanced))]
 fn advance_last(check: u32) -> u32
-    ensures { result ≡ advanced 37 check }
+    ensures { result ≡ advanced bits_a_write check }
 {
     word_entries(&LAST, 13, check)
 }

@@ -12,8 +12,8 @@ use Rattle.x7_packets.specs.declared.header.Step.{Step}
 use Rattle.x7_packets.specs.declared.header.Step.TheVariants.{Nop, Open, Payload}
 use Rattle.x7_packets.specs.declared.cutter.Cut.TheVariants.{Body, Head, Skip}
 use Rattle.x7_packets.specs.Mode.{Mode}
-use Rattle.x7_packets.specs.AtOnce.{BeginsWrite, EndsGap, in_write, TakesAsOneRun, WritesFew, WritesOne}
-use Rattle.x7_packets.specs.Cutting.{AtPlace, CutterState, CutterStandsFor, LongerSession, AfterRun}
+use Rattle.x7_packets.specs.AtOnce.{BeginsWrite, EndsGap, in_write, longest_short_gap, longest_short_write, most_short_words, short_gap_room, WritesFew, WritesOne}
+use Rattle.x7_packets.specs.Cutting.{AtPlace, CutterState, CutterStandsFor, LongerSession, AfterRun, TakesAsOneRun}
 use Rattle.x7_packets.specs.PacketWords.{dummy_word, no_op, sync_word, type1_write, type1_write_kind}
 use Rattle.x7_packets.specs.Packet.{Packet, ends_session, meaning, payload_steps, register_of}
 use Rattle.x7_packets.specs.Reading.{Place, Searching, Session, Synced, packet_bytes, session_bytes}
@@ -147,8 +147,8 @@ takes_words c n register count run is to none none2 fits long some other machine
     let calm : ends_by (payload_steps register (words_of_bytes run.now)) ≡ false = calm_words register (words_of_bytes run.now) other in
     body_more c n bytes run.now sessions place register run s is all fits word none2 (to ∙ ap (λ (b : Bool). if b then Mode.Searching else Mode.Synced) (sym calm)) (λ e. absurd (let f : true ≡ false = sym e ∙ calm in cc))
 
-pub writes_few : (old new : CutterState) (bs : List ℕ) (head register count : ℕ) → old.mode ≡ Mode.Synced → new.mode ≡ Mode.Synced → old.kept ≡ [] → new.kept ≡ [] → 68 ≤ length bs → AreBytes bs
-    → bytes_of_word head ≡ get_or bs 0 0 ∷ get_or bs 1 0 ∷ get_or bs 2 0 ∷ get_or bs 3 0 ∷ [] → head ≡ type1_write register count → register < 32 → (register ≡ 4 → ⊥) → 0 < count → count ≤ 16
+pub writes_few : (old new : CutterState) (bs : List ℕ) (head register count : ℕ) → old.mode ≡ Mode.Synced → new.mode ≡ Mode.Synced → old.kept ≡ [] → new.kept ≡ [] → longest_short_write ≤ length bs → AreBytes bs
+    → bytes_of_word head ≡ get_or bs 0 0 ∷ get_or bs 1 0 ∷ get_or bs 2 0 ∷ get_or bs 3 0 ∷ [] → head ≡ type1_write register count → register < 32 → (register ≡ 4 → ⊥) → 0 < count → count ≤ most_short_words
     → ((ps : List Packet) (n : ℕ) → 0 < n → n < 2 ^ 11 → MachineStandsFor old.machine ps → Grows ps ((type1_write register n, Open register n) ∷ []) (in_write register n))
     → ((ps : List Packet) (ws : List ℕ) → AreWords ws → 0 < length ws → MachineStandsFor (in_write register (length ws)) ps → Grows ps (payload_steps register ws) new.machine)
     → WritesFew old new bs register count
@@ -169,10 +169,14 @@ writes_few old new bs head register count is to none none2 long fits e g range o
       none_kept = none2;
     }
 
+-- a register of which it is known that it isn't CMD
+pub other_register : (register : ℕ) (b : Bool) → b ≡ (register == 4) → b ≡ false → register ≡ 4 → ⊥
+other_register register b e f g = absurd (let h : true ≡ false = ap (λ r. r == 4) (sym g) ∙ sym e ∙ f in cc)
+
 -- ---- a gap
 
 pub ends_gap : (old new : CutterState) (bs : List ℕ) (count : ℕ) → old.mode ≡ Mode.Searching → new.mode ≡ Mode.Synced → new.machine ≡ old.machine → new.kept ≡ [] → IsClear old.matcher
-    → 36 ≤ length bs → AreBytes bs → count + 4 ≤ 32 → IsFirstSync bs count → EndsGap old new bs count
+    → short_gap_room ≤ length bs → AreBytes bs → count + 4 ≤ longest_short_gap → IsFirstSync bs count → EndsGap old new bs count
 ends_gap old new bs count is to same none2 clear long fits near i =
     let middle : CutterState = record { mode = Mode.Due; matcher = old.matcher; machine = old.machine; kept = [] } in
     record {

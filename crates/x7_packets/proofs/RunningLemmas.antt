@@ -8,7 +8,7 @@ use Rattle.x7_words.specs.Word.{words_of_bytes}
 use Rattle.x7_packets.specs.SyncWord.{sync_bytes}
 use Rattle.x7_packets.specs.Packet.{Packet, ended, payload_steps}
 use Rattle.x7_packets.specs.Reading.{Place, Searching, Synced, Session, IsPlace, IsReading, tail_of}
-use Rattle.x7_packets.specs.Cutting.{Adds, AtPlace, CompletesNone, CutterState, CutterStandsFor, Cuts, ComesNearer, IsLent, IsNeed, IsRun, SkipsAll, LongerSession, Turns, AfterRun, between, calls_left, run_bytes}
+use Rattle.x7_packets.specs.Cutting.{Adds, AtPlace, CompletesNone, CutterState, CutterStandsFor, Cuts, ComesNearer, IsLent, IsNeed, IsRun, SkipsAll, LongerSession, Turns, AfterRun, TakesAsOneRun, between, calls_left, run_bytes}
 use Rattle.x7_packets.specs.declared.header.Step.{Step}
 use Rattle.x7_packets.specs.declared.cutter.Cut.{Cut}
 use Rattle.x7_packets.specs.declared.cutter.Cut.TheVariants as cut
@@ -16,7 +16,7 @@ use Rattle.x7_packets.specs.Mode.{Mode}
 use Rattle.x7_packets.specs.FoundRun.{FoundRun}
 use Rattle.x7_packets.specs.declared.stream.Run.{Run}
 use Rattle.x7_packets.specs.declared.stream.Run.TheVariants as run
-use Rattle.x7_packets.specs.PacketsState.{PacketsState}
+use Rattle.x7_packets.specs.PacketsState.{PacketsState, piece_size}
 use Rattle.x7_packets.specs.Run.{FitsRun, IsNext, RunAdds, cut_of, is_last, bytes_of_run}
 use Rattle.x7_packets.specs.Running.{GivesRun, GivesUp, IsFound, IsLastFound, IsRunOf, PacketsStandFor, ReadsOn, SameDue, Steps, ReadsAndGives, filled, not_given, with_tail}
 
@@ -159,8 +159,7 @@ found_needs_none FoundRun.End c i n = i
 -- a call of the cutter on all bytes that are left
 pub cuts_whole : (c n : CutterState) (rest : List ℕ) (count : ℕ) (r : Cut) → ComesNearer r (length rest - count) (calls_left c (length rest - 0)) (calls_left n (length rest - count))
     → (IsNeed r ↔ CompletesNone c c.mode (length rest - 0)) → c.kept ++ between rest 0 count ≡ run_bytes r ++ n.kept → IsRun r → IsLent c (length rest - 0) r → SkipsAll n (length rest - 0) r
-    → ((bytes : List ℕ) (sessions : List Session) (place : Place) → CutterStandsFor c bytes sessions place → AfterRun c n (bytes ++ between rest 0 count) sessions place r)
-    → Cuts c n rest count r
+    → TakesAsOneRun c n (between rest 0 count) r → Cuts c n rest count r
 cuts_whole c n rest count r g nd j i l k a =
     let all : length rest - 0 ≡ length rest = omega arith in
     let from : count - 0 ≡ count = omega arith in
@@ -637,7 +636,7 @@ gives_up first old now new more s on reads e = rw e (record {
 })
 
 -- how many reads are left after one more
-pub room_on : (old now new : PacketsState) (s : Steps old now false) (piece : List ℕ) (limit : ℕ) → new ≡ filled now piece → 0 < length piece → length piece < 65537
+pub room_on : (old now new : PacketsState) (s : Steps old now false) (piece : List ℕ) (limit : ℕ) → new ≡ filled now piece → 0 < length piece → length piece ≤ piece_size
     → old.taken + 65536 * turns_left old.cutter.kept old.left ≤ limit → new.taken + 65536 * turns_left new.cutter.kept new.left ≤ limit
 room_on old now new s piece limit e some most room = rw e (omega (arith, s.taken, most, room, turns_go old now s piece some))
 

@@ -4,18 +4,29 @@ use Rattle.std.specs.Borrow.{Bor}
 use Rattle.x7_words.specs.Word.{bytes_of_word}
 use Rattle.x7_regs.specs.Register.{number_of}
 use Rattle.x7_regs.specs.declared.register.Reg.TheVariants.{Cmd}
-use Rattle.x7_packets.specs.Cutting.{CutterState, CutterStandsFor, AfterRun}
+pub use Rattle.x7_packets.specs.Cutting.{TakesAsOneRun}
+use Rattle.x7_packets.specs.Cutting.{CutterState}
 use Rattle.x7_packets.specs.PacketWords.{type1_write}
 use Rattle.x7_packets.specs.Taking.{MachineState}
-use Rattle.x7_packets.specs.Reading.{Place, Session}
-use Rattle.x7_packets.specs.declared.cutter.Cut.{Cut}
 use Rattle.x7_packets.specs.SyncWord.{sync_bytes}
 use Rattle.x7_packets.specs.declared.cutter.Cut.TheVariants.{Body, Head, Skip, Sync, Word}
 use Rattle.x7_packets.specs.declared.header.Step.TheVariants.{Open}
 
--- the bytes `taken`, taken as one run, turn the old cutter into the new one, whatever bytes came before
-abbrev pub TakesAsOneRun : CutterState → CutterState → List ℕ → Cut → Type 0
-TakesAsOneRun old new taken run = (bytes : List ℕ) (sessions : List Session) (place : Place) → CutterStandsFor old bytes sessions place → AfterRun old new (bytes ++ taken) sessions place run
+-- how many words a short write has at most
+abbrev pub most_short_words : ℕ
+most_short_words = 16
+
+-- how many bytes the longest short write has: its header's and those of its words
+abbrev pub longest_short_write : ℕ
+longest_short_write = 68
+
+-- how many bytes a short gap and the sync word after it have at most
+abbrev pub longest_short_gap : ℕ
+longest_short_gap = 32
+
+-- how many bytes must be left of a piece for a short gap to be taken at once
+abbrev pub short_gap_room : ℕ
+short_gap_room = 36
 
 -- the bytes begin with a write of one word, its header's reserved bits 0
 pub record BeginsWrite (bytes : List ℕ) (register w : ℕ) : Type 0 where
@@ -38,15 +49,15 @@ pub record WritesOne (old new : CutterState) (rest : List ℕ) (register w : ℕ
   pub word : TakesAsOneRun between new (bytes_of_word w) (Word register w)
   pub none_kept : new.kept ≡ []
 
--- the bytes begin with a write of one to sixteen words to a register other than CMD; taken, the write is its header and
+-- the bytes begin with a short write to a register other than CMD, of one word at least; taken, the write is its header and
 -- then its words
 pub record WritesFew (old new : CutterState) (rest : List ℕ) (register count : ℕ) : Type 0 where
   pub between : CutterState
   pub range : register < 32
   pub other : register ≡ number_of Cmd → ⊥
   pub some : 0 < count
-  pub few : count ≤ 16
-  pub long : 68 ≤ length rest
+  pub few : count ≤ most_short_words
+  pub long : longest_short_write ≤ length rest
   pub bytes : take 4 rest ≡ bytes_of_word (type1_write register count)
   pub head : TakesAsOneRun old between (bytes_of_word (type1_write register count)) (Head (type1_write register count) (Open register count))
   pub words : (run : Bor (List ℕ)) → run.now ≡ take (4 * count) (drop 4 rest) → TakesAsOneRun between new run.now (Body register run)
@@ -56,8 +67,8 @@ pub record WritesFew (old new : CutterState) (rest : List ℕ) (register count :
 -- given
 pub record EndsGap (old new : CutterState) (rest : List ℕ) (count : ℕ) : Type 0 where
   pub between : CutterState
-  pub near : count + 4 ≤ 32
-  pub long : 36 ≤ length rest
+  pub near : count + 4 ≤ longest_short_gap
+  pub long : short_gap_room ≤ length rest
   pub found : take (count + 4) rest ≡ take count rest ++ sync_bytes
   pub gap : (run : Bor (List ℕ)) → run.now ≡ take (count + 4) rest → TakesAsOneRun old between run.now (Skip run)
   pub sync : TakesAsOneRun between new [] Sync

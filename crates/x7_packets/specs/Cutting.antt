@@ -1,6 +1,6 @@
 -- What a cutter stands for: the reading of the bytes that it took, and what each run adds to the reading (this project's
 -- choice).
-use Rattle.std.specs.Prelude.{◌≡◌, ℕ, ◌+◌, ◌*◌, ◌-◌, ◌/◌, ◌<◌, ◌==◌, List, [], ◌∷◌, ◌++◌, length, min, true, false, ◌⊎◌, take, drop, ◌↔◌, if◌then◌else◌}
+use Rattle.std.specs.Prelude.{◌≡◌, ℕ, ◌+◌, ◌*◌, ◌-◌, ◌/◌, ◌<◌, ◌≤◌, ◌==◌, List, [], ◌∷◌, ◌++◌, length, min, true, false, ◌⊎◌, take, drop, ◌↔◌, if◌then◌else◌}
 use Rattle.std.specs.List.{flat_map}
 use Rattle.x7_words.specs.Word.{bytes_of_word, words_of_bytes}
 use Rattle.x7_regs.specs.Register.{number_of}
@@ -37,10 +37,6 @@ AtPlace c Mode.Synced (Searching gap) = ⊥
 pub record CutterStandsFor (c : CutterState) (bytes : List ℕ) (sessions : List Session) (place : Place) : Type 0 where
   pub reading : IsReading bytes sessions place
   pub at : AtPlace c c.mode place
-
--- the cutter took these bytes, and their reading, as one value, is `r`
-abbrev pub CutterReads : CutterState → List ℕ → Reading → Type 0
-CutterReads c bytes r = CutterStandsFor c bytes r.sessions r.place
 
 -- the bytes of a piece from one place to another
 abbrev pub between : List ℕ → ℕ → ℕ → List ℕ
@@ -94,15 +90,19 @@ Adds (Word register w) sessions (Synced gap packets tail) new_sessions new = Lon
 Adds (Body register bytes) sessions (Searching gap) new_sessions new = ⊥
 Adds (Body register bytes) sessions (Synced gap packets tail) new_sessions new = LongerSession gap packets (run_steps (Body register bytes)) sessions new_sessions new
 
+-- no sync word is due to be given
+abbrev pub IsNotDue : Mode → Type 0
+IsNotDue mode = mode ≡ Mode.Due → ⊥
+
 -- how a run goes with what the cutter is at before and after it: the sync word is due just after it came, and given at once
 abbrev pub Turns : Cut → Mode → Mode → Place → Type 0
-Turns Need old new place = (old ≡ Mode.Due → ⊥) × (new ≡ Mode.Due → ⊥)
+Turns Need old new place = IsNotDue old × IsNotDue new
 Turns (Skip bytes) old new (Searching gap) = Unit {0}
 Turns (Skip bytes) old new (Synced gap packets tail) = new ≡ Mode.Due
-Turns Sync old new place = (old ≡ Mode.Due) × (new ≡ Mode.Due → ⊥)
-Turns (Head w step) old new place = (old ≡ Mode.Due → ⊥) × (new ≡ Mode.Due → ⊥)
-Turns (Word register w) old new place = (old ≡ Mode.Due → ⊥) × (new ≡ Mode.Due → ⊥)
-Turns (Body register bytes) old new place = (old ≡ Mode.Due → ⊥) × (new ≡ Mode.Due → ⊥)
+Turns Sync old new place = (old ≡ Mode.Due) × IsNotDue new
+Turns (Head w step) old new place = IsNotDue old × IsNotDue new
+Turns (Word register w) old new place = IsNotDue old × IsNotDue new
+Turns (Body register bytes) old new place = IsNotDue old × IsNotDue new
 
 -- what a run is apart from the reading: a header's step is no payload, a register has a number below 32, and a lent slice has whole words, one where the register is CMD
 abbrev pub IsRun : Cut → Type 0
@@ -156,6 +156,12 @@ abbrev pub syncs_due : Mode → ℕ
 syncs_due Mode.Due = 1
 syncs_due _ = 0
 
+-- the run ended with a whole word of a session: no sync word is due after it, and no byte is kept
+pub record EndsWithWord (new : CutterState) (cut : Cut) : Type 0 where
+  pub given : syncs_due new.mode ≡ 0
+  pub none_kept : new.kept ≡ []
+  pub run : IsRun cut
+
 -- how many calls there are at most until a piece is used up, of which this many bytes are left
 abbrev pub calls_left : CutterState → ℕ → ℕ
 calls_left c left = 2 * left + syncs_due c.mode
@@ -173,16 +179,16 @@ pub record AfterRun (old new : CutterState) (bytes : List ℕ) (sessions : List 
   pub adds : Adds run sessions place new_sessions new_place
   pub turns : Turns run old.mode new.mode new_place
 
--- the cutter after a call that gave this run, from a reading as one value
-abbrev pub WentFrom : CutterState → CutterState → List ℕ → Reading → Cut → Type 0
-WentFrom old new bytes r run = AfterRun old new bytes r.sessions r.place run
+-- the bytes `taken`, taken as one run, turn the old cutter into the new one, whatever bytes came before
+abbrev pub TakesAsOneRun : CutterState → CutterState → List ℕ → Cut → Type 0
+TakesAsOneRun old new taken run = (bytes : List ℕ) (sessions : List Session) (place : Place) → CutterStandsFor old bytes sessions place → AfterRun old new (bytes ++ taken) sessions place run
 
 -- some cutter that stood for bytes with this reading took more in a call, as this run
 pub record HasCut (bytes more : List ℕ) (r : Reading) (run : Cut) : Type 0 where
   pub old : CutterState
   pub new : CutterState
-  pub reads : CutterReads old bytes r
-  pub went : WentFrom old new (bytes ++ more) r run
+  pub reads : CutterStandsFor old bytes r.sessions r.place
+  pub went : AfterRun old new (bytes ++ more) r.sessions r.place run
 
 -- one call of a cutter on the bytes that are left of a piece, of which it took a number
 pub record Cuts (old new : CutterState) (rest : List ℕ) (taken : ℕ) (cut : Cut) : Type 0 where
@@ -192,4 +198,10 @@ pub record Cuts (old new : CutterState) (rest : List ℕ) (taken : ℕ) (cut : C
   pub run : IsRun cut
   pub lent : IsLent old (length rest) cut
   pub skips : SkipsAll new (length rest) cut
-  pub adds : (bytes : List ℕ) (sessions : List Session) (place : Place) → CutterStandsFor old bytes sessions place → AfterRun old new (bytes ++ take taken rest) sessions place cut
+  pub adds : TakesAsOneRun old new (take taken rest) cut
+
+-- one call of a cutter on the bytes that are left of a piece, which moved a place past those that it took
+pub record MovesPast (old new : CutterState) (rest : List ℕ) (at at_now : ℕ) (cut : Cut) : Type 0 where
+  pub forward : at ≤ at_now
+  pub within : at_now ≤ at + length rest
+  pub cuts : Cuts old new rest (at_now - at) cut

@@ -19,20 +19,28 @@ type_and_opcode_of word = word / 2 ^ 27
 abbrev pub register_of : ℕ → ℕ
 register_of = field_of 13 5
 
+-- word count 10:0 of a type 1 header
+abbrev pub type1_count_of : ℕ → ℕ
+type1_count_of word = word % 2 ^ 11
+
+-- word count 26:0 of a type 2 header
+abbrev pub type2_count_of : ℕ → ℕ
+type2_count_of word = word % 2 ^ 27
+
 -- what a word in a header's place means as a type 2 header, where the nearest type 1 read or write named this register
 abbrev pub long_meaning : Option ℕ → ℕ → Step
 long_meaning None w = Bad w
 long_meaning (Some register) w =
-    if type_and_opcode_of w == type2_write_kind then Open register (w % 2 ^ 27) else
-    if type_and_opcode_of w == type2_read_kind then Read register (w % 2 ^ 27) else Bad w
+    if type_and_opcode_of w == type2_write_kind then Open register (type2_count_of w) else
+    if type_and_opcode_of w == type2_read_kind then Read register (type2_count_of w) else Bad w
 
 -- what a word in a header's place means, where the nearest type 1 read or write named this register
 abbrev pub meaning : Option ℕ → ℕ → Step
 meaning latest w =
     if w == sync_word || w == dummy_word || w / 2 ^ 29 == 0 then Filler else
     if type_and_opcode_of w == no_op_kind then Nop else
-    if type_and_opcode_of w == type1_write_kind then Open (register_of w) (w % 2 ^ 11) else
-    if type_and_opcode_of w == type1_read_kind then Read (register_of w) (w % 2 ^ 11) else
+    if type_and_opcode_of w == type1_write_kind then Open (register_of w) (type1_count_of w) else
+    if type_and_opcode_of w == type1_read_kind then Read (register_of w) (type1_count_of w) else
     long_meaning latest w
 
 -- a header word with its meaning, and the words of its payload

@@ -1,8 +1,8 @@
 -- Packets over an input: what a reader of packets stands for, and what each run that it lends says (this project's choice).
-use Rattle.std.specs.Prelude.{◌≡◌, ℕ, ◌+◌, ◌<◌, ◌↔◌, List, [], ◌++◌, length, take, drop, Bool, true, false, if◌then◌else◌, Option, Result, Ok, Err}
+use Rattle.std.specs.Prelude.{◌≡◌, ℕ, ◌+◌, ◌^◌, ◌<◌, ◌≤◌, ◌↔◌, List, [], ◌++◌, length, take, drop, Bool, true, false, if◌then◌else◌, Option, Result, Ok, Err, OnErr, OnOk, ◌⊎◌}
 use Rattle.std.specs.Borrow.{Bor, Fml, MutBor}
 use Rattle.std.specs.Io.BufRead.{Rests}
-use Rattle.x7_words.specs.Input.{AtEnd, preceded}
+use Rattle.x7_words.specs.Input.{AtEnd, Fails, InputsState, Stays, preceded}
 use Rattle.x7_words.specs.declared.input.Failed.{Failed}
 use Rattle.x7_packets.specs.Reading.{Place, Searching, Synced, Session, IsReading, tail_of}
 use Rattle.x7_packets.specs.Cutting.{CutterStandsFor, Cuts, IsLent, IsNeed, SkipsAll}
@@ -13,7 +13,7 @@ use Rattle.x7_packets.specs.FoundRun.{FoundRun}
 use Rattle.x7_packets.specs.declared.stream.Run.{Run}
 use Rattle.x7_packets.specs.declared.stream.Run.TheVariants as run
 use Rattle.x7_packets.specs.contracts.stream.Packets.{the_row}
-use Rattle.x7_packets.specs.PacketsState.{PacketsState}
+use Rattle.x7_packets.specs.PacketsState.{PacketsState, piece_size}
 use Rattle.x7_packets.specs.Run.{IsNext, cut_of, is_last, bytes_of_run}
 
 -- the place with these bytes of no whole word
@@ -87,7 +87,7 @@ pub record Fills (old new : PacketsState) (rest rest_now : Option (List ℕ)) (a
   pub piece : List ℕ
   pub taken : rest ≡ preceded piece rest_now
   pub is : new ≡ filled old piece
-  pub most : length piece < 65537
+  pub most : length piece ≤ piece_size
   pub some : any ≡ true → 0 < length piece
   pub end : any ≡ false → (piece ≡ []) × AtEnd rest_now
 
@@ -124,6 +124,19 @@ pub record GivesRun (old new : PacketsState) (rest rest_now : Option (List ℕ))
   pub taken : rest ≡ preceded more rest_now
   pub tells : ReadsAndGives old new more r
   pub end : is_last r ≡ true → AtEnd rest_now
+
+-- a call may come: the input is selected unless an earlier call failed, it is at its end once the tail or the end was given, and the count of bytes taken can still grow
+pub record MayCall (p : PacketsState) (input : InputsState) : Type 0 where
+  pub selected : p.failed ≡ false → input.selected ≡ true
+  pub end : p.done ≡ true → AtEnd input.rest
+  pub count : p.taken ≤ 2 ^ 63
+
+-- what a call makes of the input, and of an earlier failure: the input stays one and is selected after a run; the call fails where a read failed in it or an earlier call failed, and then always
+pub record CallsOn {T : Type 0} (p : PacketsState) (old new : InputsState) (result : Result T Failed) : Type 0 where
+  pub failed : OnErr result ((p.failed ≡ true) ⊎ Fails old new)
+  pub selected : OnOk result (new.selected ≡ true)
+  pub stays : p.failed ≡ true → OnOk result ⊥
+  pub inputs : Stays old new
 
 -- the call failed: what it took before that still counts
 pub record GivesUp (old new : PacketsState) : Type 0 where

@@ -3,8 +3,8 @@ ghost use Rattle.std.specs.Prelude.{◌≡◌, ℕ, List, [], ◌++◌, ◌≤�
 ghost use Rattle.x7_words.specs.Word.{bytes_of_word};
 ghost use Rattle.x7_regs.specs.Register.{number_of};
 ghost use Rattle.x7_regs.specs.declared.register.Reg.TheVariants.{Cmd};
-ghost use Rattle.x7_packets.specs.AtOnce.{BeginsWrite, EndsGap, TakesAsOneRun, WritesFew, WritesOne};
-ghost use Rattle.x7_packets.specs.Cutting.{between, calls_left, CompletesNone, Cuts, CutterStandsFor, ComesNearer, IsBody, IsLent, IsNeed, IsOneWord, IsRun, run_bytes, SkipsAll, syncs_due, AfterRun};
+ghost use Rattle.x7_packets.specs.AtOnce.{BeginsWrite, EndsGap, WritesFew, WritesOne};
+ghost use Rattle.x7_packets.specs.Cutting.{between, calls_left, CompletesNone, CutterStandsFor, ComesNearer, EndsWithWord, IsBody, IsLent, IsNeed, IsOneWord, IsRun, MovesPast, run_bytes, SkipsAll, TakesAsOneRun};
 ghost use Rattle.x7_packets.specs.Matching.{IsClear};
 ghost use Rattle.x7_packets.specs.Nops.{Idles, nop_bytes};
 ghost use Rattle.x7_packets.specs.PacketWords.{no_op};
@@ -13,13 +13,12 @@ ghost use Rattle.x7_packets.specs.Mode.{Mode, mode_of};
 
 mod copied;
 
-use crate::header::Step;
+use crate::header::{Step, is_cmd};
 use crate::machine::Machine;
 use crate::nops::count_equal;
 use crate::sync::{Matcher, near_sync};
-use crate::words::{NO_OP, type1_write};
+use crate::words::{NO_OP, register_in, type1_count_in, type1_write};
 use std::marker::Model;
-use x7_regs::Reg;
 use x7_words::word_of;
 
 /// What a cutter is at.
@@ -75,11 +74,14 @@ fn whole(kept: &[u8; 3], count: usize, missing: &[u8]) -> u32
     word_of(bytes)
 }
 
-/// How many bytes must be left of a piece for a short write to be taken at once: the longest one, a header and sixteen words.
-const LONGEST_WRITE: usize = 68;
+/// How many words a short write has at most.
+const MOST_SHORT_WORDS: u32 = 16;
+
+/// How many bytes must be left of a piece for a short write to be taken at once: those of the longest one and its header.
+const LONGEST_SHORT_WRITE: usize = 68;
 
 /// How many bytes must be left of a piece for a short gap to be taken at once.
-const LONGEST_GAP: usize = 36;
+const SHORT_GAP_ROOM: usize = 36;
 
 /// The register and the word of the write of one word that begins these bytes, its header's reserved bits 0.
 #[inline(always)]
@@ -93,7 +95,7 @@ fn first_write(bytes: &[u8]) -> Option<(u8, u32)>
         return None;
     };
     let head = word_of(*head);
-    let register = (head >> 13 & 31) as u8;
+    let register = register_in(head);
     if head != type1_write(register, 1) {
         return None;
     }
@@ -203,7 +205,7 @@ impl Cutter {
         let Some((register, w)) = first_write(rest) else {
             return None;
         };
-        if register != Reg::Cmd.number() {
+        if !is_cmd(register) {
             self.machine.pass_words(register);
             return Some((register, w));
         }
@@ -222,22 +224,19 @@ impl Cutter {
         if !self.is_at_header() {
             return None;
         }
-        if rest.len() < LONGEST_WRITE {
+        if rest.len() < LONGEST_SHORT_WRITE {
             return None;
         }
         let head = word_of([rest[0], rest[1], rest[2], rest[3]]);
-        let register = (head >> 13 & 31) as u8;
-        let count = head & 31;
+        let register = register_in(head);
+        let count = type1_count_in(head);
         if head != type1_write(register, count) {
             return None;
         }
-        if register == Reg::Cmd.number() {
+        if is_cmd(register) {
             return None;
         }
-        if count == 0 {
-            return None;
-        }
-        if count > 16 {
+        if count == 0 || count > MOST_SHORT_WORDS {
             return None;
         }
         self.machine.pass_words(register);
@@ -254,7 +253,7 @@ impl Cutter {
         if !self.is_in_clear_gap() {
             return None;
         }
-        if rest.len() < LONGEST_GAP {
+        if rest.len() < SHORT_GAP_ROOM {
             return None;
         }
         let Some(count) = near_sync(rest) else {
@@ -322,9 +321,7 @@ impl Cutter {
     fn skip<'p>(&mut self, rest: &'p [u8], at: &mut usize) -> Cut<'p>
         requires searching { self.old.mode ≡ Mode.Searching }
         requires fits { at.old + length rest.now < 2 ^ 64 }
-        ensures forward { at.old ≤ at.new }
-        ensures within { at.new ≤ at.old + length rest.now }
-        ensures cuts { Cuts self.old self.new rest.now (at.new - at.old) result }
+        ensures { MovesPast self.old self.new rest.now at.old at.new result }
     {
         if rest.is_empty() {
             return Cut::Need;
@@ -345,9 +342,7 @@ impl Cutter {
     fn take<'p>(&mut self, rest: &'p [u8], at: &mut usize) -> Cut<'p>
         requires synced { self.old.mode ≡ Mode.Synced }
         requires fits { at.old + length rest.now < 2 ^ 64 }
-        ensures forward { at.old ≤ at.new }
-        ensures within { at.new ≤ at.old + length rest.now }
-        ensures cuts { Cuts self.old self.new rest.now (at.new - at.old) result }
+        ensures { MovesPast self.old self.new rest.now at.old at.new result }
     {
         if self.count == 0 {
             let words = self.machine.payload_words(rest.len() / 4);
@@ -372,8 +367,7 @@ impl Cutter {
         requires synced { self.old.mode ≡ Mode.Synced }
         requires few { length self.old.kept + length rest.now < 4 }
         ensures same { self.new ≡ record self.old { kept = self.old.kept ++ rest.now } }
-        ensures adds { (bytes : List ℕ) (sessions : List Session) (place : Place) → CutterStandsFor self.old bytes sessions place
-            → AfterRun self.old self.new (bytes ++ rest.now) sessions place Cut.Need }
+        ensures adds { TakesAsOneRun self.old self.new rest.now Cut.Need }
     {
         self.count = keep(&mut self.kept, self.count, rest);
     }
@@ -384,12 +378,9 @@ impl Cutter {
         requires synced { self.old.mode ≡ Mode.Synced }
         requires whole { length self.old.kept + length missing.now ≡ 4 }
         ensures word { IsOneWord self.old.machine.due result }
-        ensures given { syncs_due self.new.mode ≡ 0 }
-        ensures none_kept { self.new.kept ≡ [] }
+        ensures ends { EndsWithWord self.new result }
         ensures joined { self.old.kept ++ missing.now ≡ run_bytes result }
-        ensures run { IsRun result }
-        ensures adds { (bytes : List ℕ) (sessions : List Session) (place : Place) → CutterStandsFor self.old bytes sessions place
-            → AfterRun self.old self.new (bytes ++ missing.now) sessions place result }
+        ensures adds { TakesAsOneRun self.old self.new missing.now result }
     {
         let w = whole(&self.kept, self.count, missing);
         let step = self.machine.take(w);
@@ -412,11 +403,8 @@ impl Cutter {
         requires due { length body.now / 4 ≤ self.old.machine.due }
         requires one { self.old.machine.register ≡ number_of Cmd → length body.now ≡ 4 }
         ensures body { IsBody self.old.machine.register body.now result }
-        ensures given { syncs_due self.new.mode ≡ 0 }
-        ensures none_kept { self.new.kept ≡ [] }
-        ensures run { IsRun result }
-        ensures adds { (bytes : List ℕ) (sessions : List Session) (place : Place) → CutterStandsFor self.old bytes sessions place
-            → AfterRun self.old self.new (bytes ++ body.now) sessions place result }
+        ensures ends { EndsWithWord self.new result }
+        ensures adds { TakesAsOneRun self.old self.new body.now result }
     {
         let register = self.machine.register();
         let ended = self.machine.pass(body);

@@ -1,11 +1,13 @@
 //! Header words (UG470, packet types).
-ghost use Rattle.std.specs.Prelude.{◌≡◌, ◌<◌};
+ghost use Rattle.std.specs.Prelude.{◌≡◌, ◌<◌, ◌==◌};
+ghost use Rattle.x7_regs.specs.Register.{number_of};
+ghost use Rattle.x7_regs.specs.declared.register.Reg.TheVariants.{Cmd};
 ghost use Rattle.x7_packets.specs.Packet.{ends_session, meaning};
 ghost use Rattle.x7_packets.specs.Taking.{is_end};
 
 use crate::words::{
     DUMMY_WORD, NO_OP_KIND, SYNC_WORD, TYPE1_READ_KIND, TYPE1_WRITE_KIND, TYPE2_READ_KIND,
-    TYPE2_WRITE_KIND,
+    TYPE2_WRITE_KIND, kind_in, register_in, type1_count_in, type2_count_in,
 };
 use x7_regs::{Command, Reg};
 
@@ -33,26 +35,34 @@ pub(crate) fn header(latest: Option<u8>, w: u32) -> Step
     if w == SYNC_WORD || w == DUMMY_WORD || w >> 29 == 0 {
         return Step::Filler;
     }
-    match w >> 27 {
+    match kind_in(w) {
         NO_OP_KIND => Step::Nop,
-        TYPE1_WRITE_KIND => Step::Open((w >> 13 & 31) as u8, w & 0x7FF),
-        TYPE1_READ_KIND => Step::Read((w >> 13 & 31) as u8, w & 0x7FF),
+        TYPE1_WRITE_KIND => Step::Open(register_in(w), type1_count_in(w)),
+        TYPE1_READ_KIND => Step::Read(register_in(w), type1_count_in(w)),
         kind => match latest {
             None => Step::Bad(w),
             Some(register) => match kind {
-                TYPE2_WRITE_KIND => Step::Open(register, w & 0x7FF_FFFF),
-                TYPE2_READ_KIND => Step::Read(register, w & 0x7FF_FFFF),
+                TYPE2_WRITE_KIND => Step::Open(register, type2_count_in(w)),
+                TYPE2_READ_KIND => Step::Read(register, type2_count_in(w)),
                 _ => Step::Bad(w),
             },
         },
     }
 }
 
+/// Whether the number is that of CMD.
+#[inline(always)]
+pub fn is_cmd(register: u8) -> bool
+    ensures { result ≡ (register == number_of Cmd) }
+{
+    register == Reg::Cmd.number()
+}
+
 /// Whether a word written to the register ends the session: DESYNC written to CMD.
 pub(crate) fn is_desync(register: u8, w: u32) -> bool
     ensures { result ≡ ends_session register w }
 {
-    register == Reg::Cmd.number() && w & 31 == Command::Desync.code()
+    is_cmd(register) && w & 31 == Command::Desync.code()
 }
 
 impl Step {

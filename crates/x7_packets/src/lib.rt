@@ -19,7 +19,7 @@ pub use cutter::{Cut, Cutter};
 pub use examples::{
     examples_of_ends, examples_of_headers, examples_of_the_history, examples_of_the_search,
 };
-pub use header::Step;
+pub use header::{Step, is_cmd};
 pub use laws::{
     accesses_fit, four_bytes_enter_one, histories_grow, nothing_enters, one_list_of_packets,
     one_reading, packets_are_found, reading_is_found, searching_after_desync, words_after,
@@ -32,5 +32,6 @@ pub use sync::Matcher;
 pub use words::{
     BUS_WIDTH_DETECT, BUS_WIDTH_SYNC, DUMMY_WORD, NO_OP, NO_OP_KIND, SYNC_BYTES, SYNC_WORD,
     TYPE1_READ_KIND, TYPE1_WRITE_KIND, TYPE2_READ_KIND, TYPE2_WRITE_KIND, command, frame_data,
-    frame_read, type1_read, type1_write, type2_read, type2_write, write_one,
+    frame_read, kind_in, register_in, type1_count_in, type1_read, type1_write, type2_count_in,
+    type2_read, type2_write, write_one,
 };

@@ -8,9 +8,8 @@ ghost use Rattle.x7_packets.specs.PacketWords.{type1_write};
 ghost use Rattle.x7_packets.specs.Packet.{Packet, ends_session, payload_steps};
 ghost use Rattle.x7_packets.specs.Taking.{ends_by, Grows, MachineStandsFor};
 
-use crate::header::{Step, header, is_desync};
+use crate::header::{Step, header, is_cmd, is_desync};
 use std::marker::Model;
-use x7_regs::Reg;
 use x7_words::word_of;
 
 /// Takes the words of a session, and says what each word is.
@@ -89,11 +88,7 @@ impl Machine {
         ensures { result ≡ min (min self.now.due most) (if self.now.register == number_of Cmd then 1 else most) }
     {
         let words = (self.due as usize).min(most);
-        words.min(if self.register == Reg::Cmd.number() {
-            1
-        } else {
-            most
-        })
+        words.min(if is_cmd(self.register) { 1 } else { most })
     }
 
     /// Takes payload words of the open packet at once, and says whether the last one ends the session.
@@ -107,7 +102,7 @@ impl Machine {
         ensures register { self.old.register < 32 }
         ensures grows { (ps : List Packet) → MachineStandsFor self.old ps → Grows ps (payload_steps self.old.register (words_of_bytes body.now)) self.new }
     {
-        if self.register == Reg::Cmd.number() {
+        if is_cmd(self.register) {
             return self
                 .take(word_of([body[0], body[1], body[2], body[3]]))
                 .is_end();

@@ -4,8 +4,8 @@ ghost use Rattle.x7_words.specs.Input.{AtEnd, Fails, Stays};
 ghost use Rattle.x7_packets.specs.Cutting.{IsNeed};
 ghost use Rattle.x7_packets.specs.Mode.{Mode};
 ghost use Rattle.x7_packets.specs.FoundRun.{FoundRun, found_of};
-ghost use Rattle.x7_packets.specs.PacketsState.{PacketsState};
-ghost use Rattle.x7_packets.specs.Running.{Fills, GivesRun, GivesUp, IsFound, IsLastFound, PacketsStandFor, Steps};
+ghost use Rattle.x7_packets.specs.PacketsState.{PacketsState, piece_size};
+ghost use Rattle.x7_packets.specs.Running.{CallsOn, Fills, GivesRun, GivesUp, IsFound, IsLastFound, MayCall, PacketsStandFor, Steps};
 
 use crate::cutter::{Cut, Cutter};
 use crate::header::Step;
@@ -65,7 +65,7 @@ fn last_of(cut: Cut) -> Option<Last>
 
 /// A buffer that begins with these bytes.
 fn buffer_of(alloc: Global, first: &[u8]) -> Result<Vec<u8>, NoMemory>
-    requires { length first.now ≤ 65536 }
+    requires { length first.now ≤ piece_size }
     ensures items { IfOk result (λ buffer. take (length first.now) buffer.items ≡ first.now) }
     ensures len { IfOk result (λ buffer. vec_len buffer ≡ 65536) }
 {
@@ -93,13 +93,13 @@ impl Model for Packets {
     ghost use Rattle.std.specs.Prelude.{◌≡◌, ◌≤◌, vec_len};
     ghost use Rattle.x7_packets.specs.Cutting.{between};
     ghost use Rattle.x7_packets.specs.FoundRun.{found_of};
-    ghost use Rattle.x7_packets.specs.PacketsState.{PacketsState};
+    ghost use Rattle.x7_packets.specs.PacketsState.{PacketsState, piece_size};
 
     ghost Value = { PacketsState };
 
     ghost view = { λ p. record { cutter = p.cutter; left = between p.buffer.items p.at p.end; found = found_of p.found; bytes = between p.buffer.items p.start p.at; done = p.done; failed = p.failed; taken = p.taken } };
 
-    ghost invariant = { λ p. (p.start ≤ p.at) × (p.at ≤ p.end) × (p.end ≤ vec_len p.buffer) × (vec_len p.buffer ≡ 65536) };
+    ghost invariant = { λ p. (p.start ≤ p.at) × (p.at ≤ p.end) × (p.end ≤ vec_len p.buffer) × (vec_len p.buffer ≡ piece_size) };
 }
 
 impl Packets {
@@ -108,7 +108,7 @@ impl Packets {
 
     /// The packets of these bytes and then of what an input gives.
     pub fn new(alloc: Global, first: &[u8]) -> Result<Packets, NoMemory>
-        requires { length first.now ≤ 65536 }
+        requires { length first.now ≤ piece_size }
         ensures ok { IfOk result (λ p. PacketsStandFor p first.now []) }
         ensures fresh { IfOk result (λ p. (p.done ≡ false) × (p.failed ≡ false) × (p.cutter.mode ≡ Mode.Searching)) }
     {
@@ -155,16 +155,11 @@ impl Packets {
 
     /// Finds the next run.
     fn advance<I: Inputs>(&mut self, inputs: &mut I) -> Result<(), Failed>
-        requires selected { self.old.failed ≡ false → (I.state inputs.old).selected ≡ true }
-        requires end { self.old.done ≡ true → AtEnd (I.state inputs.old).rest }
-        requires count { self.old.taken ≤ 2 ^ 63 }
+        requires { MayCall self.old (I.state inputs.old) }
         ensures ok { OnOk result ((r : Run) → IsLastFound self.new r → GivesRun self.old self.new (I.state inputs.old).rest (I.state inputs.new).rest r) }
         ensures err { OnErr result (GivesUp self.old self.new) }
-        ensures failed { OnErr result ((self.old.failed ≡ true) ⊎ Fails (I.state inputs.old) (I.state inputs.new)) }
-        ensures selected { OnOk result ((I.state inputs.new).selected ≡ true) }
-        ensures stays { self.old.failed ≡ true → OnOk result ⊥ }
+        ensures call { CallsOn self.old (I.state inputs.old) (I.state inputs.new) result }
         ensures ended { self.old.done ≡ true → inputs.new ≡ inputs.old }
-        ensures inputs { Stays (I.state inputs.old) (I.state inputs.new) }
     {
         if self.failed {
             return Err(Failed);
@@ -226,7 +221,7 @@ impl Packets {
     fn fill<I: Inputs>(&mut self, inputs: &mut I) -> Result<bool, Failed>
         requires selected { (I.state inputs.old).selected ≡ true }
         requires none { self.old.left ≡ [] }
-        requires count { self.old.taken + 65536 < 2 ^ 64 }
+        requires count { self.old.taken + piece_size < 2 ^ 64 }
         ensures ok { IfOk result (λ any. Fills self.old self.new (I.state inputs.old).rest (I.state inputs.new).rest any) }
         ensures err { OnErr result (self.new ≡ record self.old { bytes = []; failed = true }) }
         ensures failed { OnErr result (Fails (I.state inputs.old) (I.state inputs.new)) }

@@ -1,5 +1,6 @@
 //! The words of packets, and those that stand between packets (UG470, packet types; configuration sequence).
 ghost use Rattle.std.specs.Prelude.{◌≡◌, ◌<◌, ◌^◌};
+ghost use Rattle.x7_packets.specs.Packet.{register_of, type1_count_of, type2_count_of, type_and_opcode_of};
 ghost use Rattle.x7_packets.specs.PacketWords.{command, frame_data, frame_read, type1_read, type1_write, type2_read, type2_write, write_one};
 
 use x7_regs::{Command, Reg};
@@ -37,6 +38,47 @@ pub const TYPE2_READ_KIND: u32 = 9;
 /// The packet type and the opcode of a type 2 write as one number, bits 31:27 of its header.
 pub const TYPE2_WRITE_KIND: u32 = 10;
 
+/// How many bits of a header stand below its packet type and its opcode.
+const BELOW_KIND: u32 = 27;
+
+/// How many bits of a type 1 header stand below its register.
+const BELOW_REGISTER: u32 = 13;
+
+/// The packet type and the opcode of a header as one number, bits 31:27.
+#[inline(always)]
+pub fn kind_in(header: u32) -> u32
+    ensures { result ≡ type_and_opcode_of header }
+{
+    header >> BELOW_KIND
+}
+
+/// The register that a type 1 header names, bits 17:13.
+#[inline(always)]
+pub fn register_in(header: u32) -> u8
+    ensures value { result ≡ register_of header }
+    ensures range { result < 32 }
+{
+    (header >> BELOW_REGISTER & 31) as u8
+}
+
+/// The word count of a type 1 header, bits 10:0.
+#[inline(always)]
+pub fn type1_count_in(header: u32) -> u32
+    ensures value { result ≡ type1_count_of header }
+    ensures range { result < 2 ^ 11 }
+{
+    header & 0x7FF
+}
+
+/// The word count of a type 2 header, bits 26:0.
+#[inline(always)]
+pub fn type2_count_in(header: u32) -> u32
+    ensures value { result ≡ type2_count_of header }
+    ensures range { result < 2 ^ 27 }
+{
+    header & 0x7FF_FFFF
+}
+
 /// The header of a type 1 read of `count` words, by the register's number. The reserved bits are 0.
 #[inline(always)]
 pub fn type1_read(register: u8, count: u32) -> u32
@@ -44,7 +86,7 @@ pub fn type1_read(register: u8, count: u32) -> u32
     requires count { count < 2 ^ 11 }
     ensures { result ≡ type1_read register count }
 {
-    0x2800_0000 + 8192 * u32::from(register) + count
+    (TYPE1_READ_KIND << BELOW_KIND) + (u32::from(register) << BELOW_REGISTER) + count
 }
 
 /// The header of a type 1 write of `count` words, by the register's number. The reserved bits are 0.
@@ -54,7 +96,7 @@ pub fn type1_write(register: u8, count: u32) -> u32
     requires count { count < 2 ^ 11 }
     ensures { result ≡ type1_write register count }
 {
-    0x3000_0000 + 8192 * u32::from(register) + count
+    (TYPE1_WRITE_KIND << BELOW_KIND) + (u32::from(register) << BELOW_REGISTER) + count
 }
 
 /// The header of a type 2 read of `count` words.
@@ -63,7 +105,7 @@ pub fn type2_read(count: u32) -> u32
     requires { count < 2 ^ 27 }
     ensures { result ≡ type2_read count }
 {
-    0x4800_0000 + count
+    (TYPE2_READ_KIND << BELOW_KIND) + count
 }
 
 /// The header of a type 2 write of `count` words.
@@ -72,7 +114,7 @@ pub fn type2_write(count: u32) -> u32
     requires { count < 2 ^ 27 }
     ensures { result ≡ type2_write count }
 {
-    0x5000_0000 + count
+    (TYPE2_WRITE_KIND << BELOW_KIND) + count
 }
 
 /// One word written to a register: a header and the word.

@@ -51,7 +51,20 @@ pub record AreStarts (rows grouped : List PlanRow) (starts : List ℕ) : Type 0 
   pub count : length starts ≡ length rows
   pub each : (i : ℕ) (d : PlanRow) → i < length rows → IsFirst grouped (slice_index_or rows i d).words (slice_index_or starts i 0)
 
--- the longest run at the start of rows has so many: each follows the one before it, and the next one doesn't
+-- a plan's rows by content: equal contents stand together, and where each begins is known by its places and by the plan's rows
+pub record AreByContent (rows : List PlanRow) (grouped : List Content) (places row_places : List ℕ) : Type 0 where
+  pub contents : AreGrouped rows grouped
+  pub firsts : AreFirsts (content_rows grouped) places
+  pub starts : AreStarts rows (content_rows grouped) row_places
+
+-- among contents of which equal ones stand together and each one's first place is known, these words begin at `start`
+pub record BeginsAt (contents : List Content) (places : List ℕ) (words : List ℕ) (start : ℕ) : Type 0 where
+  pub together : AreTogether (content_rows contents)
+  pub firsts : AreFirsts (content_rows contents) places
+  pub first : IsFirst (content_rows contents) words start
+  pub inside : start < length contents
+
+-- the longest run at the start of rows has this many: each follows the one before it, and the next one doesn't
 pub record IsRunLength (part : PartData) (rows : List PlanRow) (count : ℕ) : Type 0 where
   pub some : 0 < count
   pub inside : count ≤ length rows

@@ -6,3 +6,4 @@ pub mod Settings
 pub mod PartialStream
 pub mod Contents
 pub mod Telling
+pub mod Grouping

@@ -29,9 +29,17 @@ abbrev pub with_content : List ℕ → List PlanRow → List PlanRow
 with_content words [] = []
 with_content words (r ∷ rows) = if same_words r.words words then r ∷ with_content words rows else with_content words rows
 
+-- how many addresses a content has at least that is written once and copied
+abbrev pub group_least : ℕ
+group_least = 3
+
+-- these words are the content of three addresses or more
+abbrev pub are_shared : List PlanRow → List ℕ → Bool
+are_shared all words = nat_le group_least (length (with_content words all))
+
 -- a row's content stands at three addresses or more
 abbrev pub is_shared : List PlanRow → PlanRow → Bool
-is_shared all r = nat_le 3 (length (with_content r.words all))
+is_shared all r = are_shared all r.words
 
 -- a row's content stands at three addresses or more, and the row is the first of them
 abbrev pub leads_group : List PlanRow → PlanRow → Bool

@@ -1,5 +1,7 @@
 -- A full stream that is written piece by piece: what was written of it, and what is next (this project's choice).
-use Rattle.std.specs.Prelude.{◌≡◌, ◌≢◌, ℕ, ◌+◌, ◌-◌, ◌<◌, ◌≤◌, List, [], ◌∷◌, ◌++◌, length, take}
+use Rattle.std.specs.Prelude.{◌≡◌, ◌≢◌, ℕ, ◌+◌, ◌-◌, ◌*◌, ◌<◌, ◌≤◌, List, [], ◌∷◌, ◌++◌, length, take, vec_capacity, OnErr, OnOk, Result, Vec}
+use Rattle.std.specs.declared.alloc.Global.{Global}
+use Rattle.x7_words.specs.declared.input.NoMemory.{NoMemory}
 use Rattle.x7_crc.specs.Checking.{HasTaken, PieceCheckerState}
 use Rattle.x7_part.specs.Part.{PartData, frame_words}
 use Rattle.x7_part.specs.Slots.{slots_in}
@@ -65,9 +67,28 @@ pub record HasGiven (s : FullStreamState) (given : List ℕ) : Type 0 where
   pub left : List ℕ
   pub whole : given ++ left ≡ full_stream s.part s.plan
 
--- the bytes of a piece at most: 160 frames of 255 words
+-- how many bytes a frame has at most: those of 255 words
+abbrev pub most_frame_bytes : ℕ
+most_frame_bytes = 1020
+
+-- how many bytes a piece has at most: those of 160 frames
 abbrev pub piece_limit : ℕ
-piece_limit = 163200
+piece_limit = 160 * most_frame_bytes
+
+-- how many bytes the settings of startup have
+abbrev pub settings_size : ℕ
+settings_size = 76
+
+-- how many bytes stand before the frame data
+abbrev pub opening_size : ℕ
+opening_size = 116
+
+-- at most this many bytes were appended; or there was no room for so many, and the old bytes still stand first
+pub record AppendsWithin {T : Type 0} (old new : Vec ℕ Global) (result : Result T NoMemory) (most : ℕ) : Type 0 where
+  pub few : OnOk result (length new.items ≤ length old.items + most)
+  pub failed : OnErr result (take (length old.items) new.items ≡ old.items)
+  pub room : vec_capacity old ≤ vec_capacity new
+  pub full : OnErr result (vec_capacity old < length old.items + most)
 
 -- a piece more was appended to bytes, and counts as written
 pub record TellsMore (s : FullStreamState) (given old new : List ℕ) : Type 0 where

@@ -8,7 +8,7 @@ ghost use Rattle.x7_part.specs.Slots.{slots_in};
 ghost use Rattle.x7_planner.specs.FullStream.{frame_at_slot, full_opening, full_settings, full_stream, words_of_slots};
 ghost use Rattle.x7_planner.specs.Refusals.{IsFullFault};
 ghost use Rattle.x7_planner.specs.Stream.{bytes_of_words};
-ghost use Rattle.x7_planner.specs.Telling.{HasGiven, TellsMore, WritesPiece, puts_left, piece_limit};
+ghost use Rattle.x7_planner.specs.Telling.{AppendsWithin, HasGiven, TellsMore, WritesPiece, most_frame_bytes, opening_size, piece_limit, puts_left, settings_size};
 ghost use Rattle.x7_planner.specs.declared.fault.PlanFault.{PlanFault};
 ghost use Rattle.x7_planner.specs.declared.full_stream.NextPiece.{NextPiece};
 
@@ -60,10 +60,7 @@ fn slot_count(part: &Part) -> u64
 /// Writes the settings of startup, and where the frame data begins.
 fn put_settings(out: &mut Vec<u8>, part: &Part) -> Result<(), NoMemory>
     ensures items { OnOk result (out.new.items ≡ out.old.items ++ bytes_of_words (full_settings part.now)) }
-    ensures long { OnOk result (length out.new.items ≡ length out.old.items + 76) }
-    ensures failed { OnErr result (take (length out.old.items) out.new.items ≡ out.old.items) }
-    ensures room { vec_capacity out.old ≤ vec_capacity out.new }
-    ensures full { OnErr result (vec_capacity out.old < length out.old.items + 76) }
+    ensures appends { AppendsWithin out.old out.new result settings_size }
 {
     let words = part.words() * slot_count(part) as u32;
     put_packets(out, &[command(Command::Shutdown), command(Command::Rcrc)])?;
@@ -85,10 +82,7 @@ fn put_settings(out: &mut Vec<u8>, part: &Part) -> Result<(), NoMemory>
 /// Writes what stands before the frame data.
 fn put_opening(out: &mut Vec<u8>, part: &Part) -> Result<(), NoMemory>
     ensures items { OnOk result (out.new.items ≡ out.old.items ++ bytes_of_words (full_opening part.now)) }
-    ensures long { OnOk result (length out.new.items ≡ length out.old.items + 116) }
-    ensures failed { OnErr result (take (length out.old.items) out.new.items ≡ out.old.items) }
-    ensures room { vec_capacity out.old ≤ vec_capacity out.new }
-    ensures full { OnErr result (vec_capacity out.old < length out.old.items + 116) }
+    ensures appends { AppendsWithin out.old out.new result opening_size }
 {
     put_words(out, &HEAD)?;
     put_settings(out, part)?;
@@ -140,10 +134,7 @@ fn put_slots(
     requires order { from ≤ to }
     requires within { to ≤ length (slots_in part.now) }
     ensures items { OnOk result (out.new.items ≡ out.old.items ++ bytes_of_words (words_of_slots part.now plan.now (drop from (take to (slots_in part.now))))) }
-    ensures few { OnOk result (length out.new.items ≤ length out.old.items + 1020 * (to - from)) }
-    ensures failed { OnErr result (take (length out.old.items) out.new.items ≡ out.old.items) }
-    ensures room { vec_capacity out.old ≤ vec_capacity out.new }
-    ensures full { OnErr result (vec_capacity out.old < length out.old.items + 1020 * (to - from)) }
+    ensures appends { AppendsWithin out.old out.new result (most_frame_bytes * (to - from)) }
 {
     let first = first_address(part);
     for n in from..to {
@@ -244,10 +235,7 @@ impl<'p> FullStream<'p> {
     /// Appends what is next, and tells what is written after it.
     fn put(&self, out: &mut Vec<u8>) -> Result<NextPiece, NoMemory>
         ensures writes { IfOk result (WritesPiece self.now out.old.items out.new.items) }
-        ensures few { OnOk result (length out.new.items ≤ length out.old.items + piece_limit) }
-        ensures failed { OnErr result (take (length out.old.items) out.new.items ≡ out.old.items) }
-        ensures room { vec_capacity out.old ≤ vec_capacity out.new }
-        ensures full { OnErr result (vec_capacity out.old < length out.old.items + piece_limit) }
+        ensures appends { AppendsWithin out.old out.new result piece_limit }
     {
         match self.next {
             NextPiece::Opening => {
@@ -280,10 +268,7 @@ impl<'p> FullStream<'p> {
     fn put_frames(&self, out: &mut Vec<u8>, n: u64) -> Result<NextPiece, NoMemory>
         requires { self.now.next ≡ NextPiece.Slot n }
         ensures writes { IfOk result (WritesPiece self.now out.old.items out.new.items) }
-        ensures few { OnOk result (length out.new.items ≤ length out.old.items + piece_limit) }
-        ensures failed { OnErr result (take (length out.old.items) out.new.items ≡ out.old.items) }
-        ensures room { vec_capacity out.old ≤ vec_capacity out.new }
-        ensures full { OnErr result (vec_capacity out.old < length out.old.items + piece_limit) }
+        ensures appends { AppendsWithin out.old out.new result piece_limit }
     {
         let count = slot_count(self.part);
         let end = count.min(n + PIECE_SLOTS);

@@ -1,9 +1,9 @@
 //! Contents at three addresses or more, which are written once and copied.
-ghost use Rattle.std.specs.Prelude.{◌≡◌, ◌==◌, ◌&&◌, ◌<◌, ◌++◌, nat_le, if◌then◌else◌, [], ◌∷◌, length, slice_index, IfOk, OnOk};
+ghost use Rattle.std.specs.Prelude.{◌≡◌, ◌==◌, ◌&&◌, ◌<◌, ◌++◌, if◌then◌else◌, [], ◌∷◌, slice_index, IfOk, OnOk};
 ghost use Rattle.std.specs.List.{flat_map};
 ghost use Rattle.x7_memory.specs.Planned.{planned_addresses};
-ghost use Rattle.x7_planner.specs.Contents.{AreFirsts, AreGrouped, AreStarts, AreTogether, IsFirst, content_rows};
-ghost use Rattle.x7_planner.specs.PartialStream.{copy_words, groups_led, others, stretch_words, with_content, Copies};
+ghost use Rattle.x7_planner.specs.Contents.{AreByContent, BeginsAt, content_rows};
+ghost use Rattle.x7_planner.specs.PartialStream.{are_shared, copy_words, groups_led, others, stretch_words, with_content, Copies};
 ghost use Rattle.x7_planner.specs.Stream.{with_piece, Words};
 
 use crate::content::Content;
@@ -15,15 +15,15 @@ use x7_part::Part;
 use x7_regs::{Command, Reg};
 use x7_words::NoMemory;
 
+/// How many addresses a content has at least that is written once and copied.
+const GROUP_LEAST: usize = 3;
+
 /// Whether a content, whose first place is known, stands at three addresses or more.
 fn is_group(contents: &[Content], firsts: &[usize], start: usize, _words: &[u32]) -> bool
-    requires together { AreTogether (content_rows contents.now) }
-    requires firsts { AreFirsts (content_rows contents.now) firsts.now }
-    requires first { IsFirst (content_rows contents.now) _words.now start }
-    requires inside { start < length contents.now }
-    ensures { result ≡ nat_le 3 (length (with_content _words.now (content_rows contents.now))) }
+    requires { BeginsAt contents.now firsts.now _words.now start }
+    ensures { result ≡ are_shared (content_rows contents.now) _words.now }
 {
-    if contents.len() - start < 3 {
+    if contents.len() - start < GROUP_LEAST {
         return false;
     }
     firsts[start + 2] == start
@@ -31,11 +31,8 @@ fn is_group(contents: &[Content], firsts: &[usize], start: usize, _words: &[u32]
 
 /// Whether the row at an address is the first of three or more with its content.
 fn leads(contents: &[Content], firsts: &[usize], start: usize, far: u32, words: &[u32]) -> bool
-    requires together { AreTogether (content_rows contents.now) }
-    requires firsts { AreFirsts (content_rows contents.now) firsts.now }
-    requires first { IsFirst (content_rows contents.now) words.now start }
-    requires inside { start < length contents.now }
-    ensures { result ≡ (nat_le 3 (length (with_content words.now (content_rows contents.now))) && (slice_index (planned_addresses (with_content words.now (content_rows contents.now))) 0 == far)) }
+    requires { BeginsAt contents.now firsts.now words.now start }
+    ensures { result ≡ (are_shared (content_rows contents.now) words.now && (slice_index (planned_addresses (with_content words.now (content_rows contents.now))) 0 == far)) }
 {
     if !is_group(contents, firsts, start, words) {
         return false;
@@ -51,9 +48,7 @@ fn put_copies(
     start: usize,
     _words: &[u32],
 ) -> Result<(), NoMemory>
-    requires together { AreTogether (content_rows contents.now) }
-    requires firsts { AreFirsts (content_rows contents.now) firsts.now }
-    requires first { IsFirst (content_rows contents.now) _words.now start }
+    requires { BeginsAt contents.now firsts.now _words.now start }
     ensures { OnOk result (writer.new ≡ with_piece writer.old (Words (flat_map copy_words (planned_addresses (with_content _words.now (content_rows contents.now)))))) }
 {
     for k in start..contents.len() {
@@ -77,10 +72,7 @@ fn put_group(
     start: usize,
     words: &[u32],
 ) -> Result<(), NoMemory>
-    requires together { AreTogether (content_rows contents.now) }
-    requires firsts { AreFirsts (content_rows contents.now) firsts.now }
-    requires first { IsFirst (content_rows contents.now) words.now start }
-    requires inside { start < length contents.now }
+    requires { BeginsAt contents.now firsts.now words.now start }
     ensures { OnOk result (writer.new ≡ with_piece writer.old (Words (stretch_words part.now (Copies words.now (planned_addresses (with_content words.now (content_rows contents.now))))))) }
 {
     let far = contents[start].far;
@@ -105,10 +97,7 @@ fn put_led(
     far: u32,
     words: &[u32],
 ) -> Result<(), NoMemory>
-    requires together { AreTogether (content_rows contents.now) }
-    requires firsts { AreFirsts (content_rows contents.now) firsts.now }
-    requires first { IsFirst (content_rows contents.now) words.now start }
-    requires inside { start < length contents.now }
+    requires { BeginsAt contents.now firsts.now words.now start }
     ensures { OnOk result (writer.new ≡ with_piece writer.old (Words (flat_map (stretch_words part.now) (groups_led (content_rows contents.now) (record { far = far; words = words.now } ∷ []))))) }
 {
     if !leads(contents, firsts, start, far, words) {
@@ -127,9 +116,7 @@ pub(crate) fn put_groups(
     firsts: &[usize],
     starts: &[usize],
 ) -> Result<(), NoMemory>
-    requires contents { AreGrouped plan.now.rows contents.now }
-    requires firsts { AreFirsts (content_rows contents.now) firsts.now }
-    requires starts { AreStarts plan.now.rows (content_rows contents.now) starts.now }
+    requires { AreByContent plan.now.rows contents.now firsts.now starts.now }
     ensures { OnOk result (writer.new ≡ with_piece writer.old (Words (flat_map (stretch_words part.now) (groups_led plan.now.rows plan.now.rows)))) }
 {
     for i in 0..plan.len() {
@@ -163,9 +150,7 @@ pub(crate) fn others_of<'p>(
     firsts: &[usize],
     starts: &[usize],
 ) -> Result<Vec<Content<'p>>, AllocError>
-    requires contents { AreGrouped plan.now.rows contents.now }
-    requires firsts { AreFirsts (content_rows contents.now) firsts.now }
-    requires starts { AreStarts plan.now.rows (content_rows contents.now) starts.now }
+    requires { AreByContent plan.now.rows contents.now firsts.now starts.now }
     ensures { IfOk result (λ alone. content_rows alone.items ≡ others plan.now.rows plan.now.rows) }
 {
     let mut alone = Vec::with_capacity(alloc, plan.len())?;

@@ -3,8 +3,8 @@ ghost use Rattle.std.specs.Prelude.{◌≡◌, ◌⊎◌, ◌<◌, length, IfOk,
 ghost use Rattle.std.specs.List.{flat_map};
 ghost use Rattle.x7_memory.specs.Planned.{AreAddressed};
 ghost use Rattle.x7_part.specs.Part.{frame_words};
-ghost use Rattle.x7_planner.specs.Contents.{AreFirsts, AreGrouped, AreStarts, content_rows};
-ghost use Rattle.x7_planner.specs.PartialStream.{others, partial_opening, partial_stream, stretch_words, stretches_of};
+ghost use Rattle.x7_planner.specs.Grouping.{IsGrouping};
+ghost use Rattle.x7_planner.specs.PartialStream.{partial_opening, partial_stream, stretch_words, stretches_of};
 ghost use Rattle.x7_planner.specs.Refusals.{IsPartialFault};
 ghost use Rattle.x7_planner.specs.Stream.{with_piece, Words};
 ghost use Rattle.x7_planner.specs.declared.fault.PlanFault.{PlanFault};
@@ -34,12 +34,9 @@ struct Grouping<'p> {
     alone: Vec<Content<'p>>,
 }
 
-/// A plan's frames by content.
+/// The frames of a plan, equal ones together, and those that no group has.
 fn grouping_of(alloc: Global, plan: &Plan) -> Result<Grouping<'_>, AllocError>
-    ensures contents { IfOk result (λ g. AreGrouped plan.now.rows g.contents.items) }
-    ensures firsts { IfOk result (λ g. AreFirsts (content_rows g.contents.items) g.firsts.items) }
-    ensures starts { IfOk result (λ g. AreStarts plan.now.rows (content_rows g.contents.items) g.starts.items) }
-    ensures alone { IfOk result (λ g. content_rows g.alone.items ≡ others plan.now.rows plan.now.rows) }
+    ensures { IfOk result (λ grouping. IsGrouping plan.now.rows grouping) }
 {
     let contents = grouped(alloc, plan)?;
     let firsts = firsts_of(alloc, &contents)?;
@@ -71,10 +68,7 @@ fn put_stretches(
     plan: &Plan,
     grouping: &Grouping,
 ) -> Result<(), NoMemory>
-    requires contents { AreGrouped plan.now.rows grouping.now.contents.items }
-    requires firsts { AreFirsts (content_rows grouping.now.contents.items) grouping.now.firsts.items }
-    requires starts { AreStarts plan.now.rows (content_rows grouping.now.contents.items) grouping.now.starts.items }
-    requires alone { content_rows grouping.now.alone.items ≡ others plan.now.rows plan.now.rows }
+    requires grouping { IsGrouping plan.now.rows grouping.now }
     requires addresses { AreAddressed part.now plan.now.rows }
     ensures { OnOk result (writer.new ≡ with_piece writer.old (Words (flat_map (stretch_words part.now) (stretches_of part.now plan.now.rows)))) }
 {

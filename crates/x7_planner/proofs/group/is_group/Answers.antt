@@ -2,9 +2,9 @@ use Rattle.std.proofs.Common.{arith}
 use Rattle.x7_planner.proofs.GroupLemmas.{group_by, short_group}
 use Rattle.x7_planner.proofs.group.is_group.Goals as goal
 
-pub returns-then-contents-start-lt3 : goal.returns-then-contents-start-lt3
-returns-then-contents-start-lt3 c = short_group c.args.contents.now c.args._words.now c.args.start c.requires.together c.requires.first (omega (arith, c.if-contents-start-lt3.true))
+pub returns-then-contents-start-lt-GROUP_LEAST : goal.returns-then-contents-start-lt-GROUP_LEAST
+returns-then-contents-start-lt-GROUP_LEAST c = short_group c.args.contents.now c.args._words.now c.args.start c.requires.together c.requires.first (omega (arith, c.if-contents-start-lt-GROUP_LEAST.true))
 
 pub returns : goal.returns
 returns c =
-    group_by c.args.contents.now c.args._words.now c.args.firsts.now c.args.start _ c.requires.together c.requires.firsts c.requires.first (omega (arith, c.if-contents-start-lt3.false, c.requires.inside))
+    group_by c.args.contents.now c.args._words.now c.args.firsts.now c.args.start _ c.requires.together c.requires.firsts c.requires.first (omega (arith, c.if-contents-start-lt-GROUP_LEAST.false, c.requires.inside))

@@ -4,15 +4,11 @@ use Rattle.x7_planner.specs.declared.content.Content.{Content}
 use Rattle.x7_planner.proofs.GroupLemmas.{first_at, inside_at, other_more}
 use Rattle.x7_planner.proofs.group.others_of.Goals as goal
 
-pub is_group-shared-requires-clause-first : goal.is_group-shared-requires-clause-first
-is_group-shared-requires-clause-first c =
+pub is_group-shared-requires : goal.is_group-shared-requires
+is_group-shared-requires c =
     let row : PlanRow = record { far = c.in-Some.far; words = c.in-Some.words.now } in
-    first_at c.args.plan.now.rows c.args.contents.now c.args.starts.now c.loop-row.row row _ row c.requires.starts c.in-Some.ensures.found.0 (c.in-Some.ensures.found.1 row)
-
-pub is_group-shared-requires-clause-inside : goal.is_group-shared-requires-clause-inside
-is_group-shared-requires-clause-inside c =
-    let row : PlanRow = record { far = c.in-Some.far; words = c.in-Some.words.now } in
-    inside_at c.args.contents.now c.in-Some.words.now _ (first_at c.args.plan.now.rows c.args.contents.now c.args.starts.now c.loop-row.row row _ row c.requires.starts c.in-Some.ensures.found.0 (c.in-Some.ensures.found.1 row))
+    let first = first_at c.args.plan.now.rows c.args.contents.now c.args.starts.now c.loop-row.row row 0 row c.requires.starts c.in-Some.ensures.found.0 (c.in-Some.ensures.found.1 row) in
+    record { together = c.requires.contents.together; firsts = c.requires.firsts; first = first; inside = inside_at c.args.contents.now c.in-Some.words.now _ first }
 
 pub loop-row-preserved : goal.loop-row-preserved
 loop-row-preserved c =

@@ -3,15 +3,11 @@ use Rattle.x7_memory.specs.Planned.{PlanRow}
 use Rattle.x7_planner.proofs.GroupLemmas.{first_at, inside_at, group_more}
 use Rattle.x7_planner.proofs.group.put_groups.Goals as goal
 
-pub put_led-requires-clause-first : goal.put_led-requires-clause-first
-put_led-requires-clause-first c =
+pub put_led-requires : goal.put_led-requires
+put_led-requires c =
     let row : PlanRow = record { far = c.in-Some.far; words = c.in-Some.words.now } in
-    first_at c.args.plan.now.rows c.args.contents.now c.args.starts.now c.loop-i.i row _ row c.requires.starts c.in-Some.ensures.found.0 (c.in-Some.ensures.found.1 row)
-
-pub put_led-requires-clause-inside : goal.put_led-requires-clause-inside
-put_led-requires-clause-inside c =
-    let row : PlanRow = record { far = c.in-Some.far; words = c.in-Some.words.now } in
-    inside_at c.args.contents.now c.in-Some.words.now _ (first_at c.args.plan.now.rows c.args.contents.now c.args.starts.now c.loop-i.i row _ row c.requires.starts c.in-Some.ensures.found.0 (c.in-Some.ensures.found.1 row))
+    let first = first_at c.args.plan.now.rows c.args.contents.now c.args.starts.now c.loop-i.i row 0 row c.requires.starts c.in-Some.ensures.found.0 (c.in-Some.ensures.found.1 row) in
+    record { together = c.requires.contents.together; firsts = c.requires.firsts; first = first; inside = inside_at c.args.contents.now c.in-Some.words.now _ first }
 
 pub loop-i-preserved : goal.loop-i-preserved
 loop-i-preserved c =

@@ -4,12 +4,12 @@ use Rattle.x7_planner.proofs.RunLemmas.{alone_addressed, alone_few, stretches_wr
 use Rattle.x7_planner.proofs.partial_stream.put_stretches.Goals as goal
 
 pub put_runs-requires-clause-addresses : goal.put_runs-requires-clause-addresses
-put_runs-requires-clause-addresses c = alone_addressed c.args.part.now c.args.plan.now.rows c.deref-4.result.now c.requires.addresses (ap content_rows c.deref-4.ensures.value ∙ c.requires.alone)
+put_runs-requires-clause-addresses c = alone_addressed c.args.part.now c.args.plan.now.rows c.deref-4.result.now c.requires.addresses (ap content_rows c.deref-4.ensures.value ∙ c.requires.grouping.alone)
 
 pub put_runs-requires-clause-few : goal.put_runs-requires-clause-few
 put_runs-requires-clause-few c =
-    alone_few c.args.part.now c.args.plan.now.rows c.deref-4.result.now c.frames-frames.ensures.part c.len-rows.ensures.plan.order c.requires.addresses (ap content_rows c.deref-4.ensures.value ∙ c.requires.alone)
+    alone_few c.args.part.now c.args.plan.now.rows c.deref-4.result.now c.frames-frames.ensures.part c.len-rows.ensures.plan.order c.requires.addresses (ap content_rows c.deref-4.ensures.value ∙ c.requires.grouping.alone)
 
 pub returns : goal.returns
 returns c =
-    stretches_written c.args.part.now c.args.plan.now.rows c.deref-4.result.now c.args.writer.now c.put_groups.new.writer c.put_runs.new.writer (ap content_rows c.deref-4.ensures.value ∙ c.requires.alone) c.in_ok-put_groups.ensures c.in_ok-put_runs.ensures
+    stretches_written c.args.part.now c.args.plan.now.rows c.deref-4.result.now c.args.writer.now c.put_groups.new.writer c.put_runs.new.writer (ap content_rows c.deref-4.ensures.value ∙ c.requires.grouping.alone) c.in_ok-put_groups.ensures c.in_ok-put_runs.ensures

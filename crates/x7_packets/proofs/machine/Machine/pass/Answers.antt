@@ -5,12 +5,13 @@ use Rattle.x7_words.proofs.WordLemmas.{length_words, words_fit}
 use Rattle.x7_packets.specs.Packet.{payload_steps}
 use Rattle.x7_packets.specs.Taking.{Grows, MachineStandsFor, MachineState}
 use Rattle.x7_packets.proofs.TakeLemmas.{calm_words, payload_goes_on}
+use Rattle.x7_packets.proofs.AtOnceLemmas.{other_register}
 use Rattle.x7_packets.proofs.machine.Machine.pass.Goals as goal
 
 pub returns-clause-ends : goal.returns-clause-ends
 returns-clause-ends c =
     let same : c.self.inside.register ≡ c.args.self.now.register = ap (λ (m : MachineState). m.register) c.self.view_is in
-    sym (calm_words c.args.self.now.register (words_of_bytes c.args.body.now) (λ e. c.if-self-number.false (same ∙ e ∙ sym c.number.ensures.value)))
+    sym (calm_words c.args.self.now.register (words_of_bytes c.args.body.now) (λ e. other_register c.self.inside.register _ c.is_cmd.ensures c.if-is_cmd.false (same ∙ e)))
 
 pub returns-clause-grows : goal.returns-clause-grows
 returns-clause-grows c = λ ps s.
@@ -23,5 +24,5 @@ returns-clause-grows c = λ ps s.
     elim (subst (λ m. MachineStandsFor m ps) (sym c.self.view_is) s) [
       | inl a ↦ absurd (let z : c.self.inside.due ≡ 0 = a.due in omega (arith, c.requires.due, c.requires.some, c.requires.whole))
       | inr a ↦ subst (λ (m : MachineState). Grows ps (payload_steps m.register (words_of_bytes c.args.body.now)) n) c.self.view_is
-          (payload_goes_on v n ps (words_of_bytes c.args.body.now) fits a (λ e. c.if-self-number.false (e ∙ sym c.number.ensures.value)) (omega (arith, count, c.requires.some, c.requires.whole)) refl refl (omega (arith, count, due, c.requires.due)))
+          (payload_goes_on v n ps (words_of_bytes c.args.body.now) fits a (other_register c.self.inside.register _ c.is_cmd.ensures c.if-is_cmd.false) (omega (arith, count, c.requires.some, c.requires.whole)) refl refl (omega (arith, count, due, c.requires.due)))
     ]

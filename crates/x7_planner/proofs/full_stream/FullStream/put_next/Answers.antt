@@ -20,9 +20,9 @@ returns c =
       ended = λ e. absurd (false≢true (sym e));
       part = ap (λ x. x.part) c.self.view_is;
       plan = ap (λ x. x.plan) c.self.view_is;
-      few = omega (arith, c.in-Ok.ensures.few);
+      few = omega (arith, c.in-Ok.ensures.appends.few);
       failed = tt;
       kept = tt;
-      room = omega (arith, c.put.ensures.room);
+      room = omega (arith, c.put.ensures.appends.room);
       full = tt;
     }
