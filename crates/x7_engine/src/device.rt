@@ -10,9 +10,9 @@ ghost use Rattle.x7_engine.specs.Readout.{Gives};
 ghost use Rattle.x7_engine.specs.ReadBuffer.{HoldsWithinMost, IsFull};
 ghost use Rattle.x7_engine.specs.Standing.{DeviceStandsFor, MayWrap, NoWordDue, due_count, fed_by, fed_more, fed_of, frames_due, taken_in, with_wrap};
 ghost use Rattle.x7_engine.specs.State.{attempt_in, end_by, kept_after, why_of, memory_in, state_owing};
-ghost use Rattle.x7_engine.specs.Stops.{fault_of};
+ghost use Rattle.x7_engine.specs.Stops.{stop_fault};
 ghost use Rattle.x7_engine.specs.Turns.{HasFewerCalls, IsUsedUp, MayTake, Turned};
-ghost use Rattle.x7_engine.specs.Values.{cause_of};
+ghost use Rattle.x7_engine.specs.Values.{failure_of};
 ghost use Rattle.x7_engine.specs.declared.fault.Fault.{Fault as FaultData};
 ghost use Rattle.x7_engine.specs.Past.{AnswersFor, HasSomePast, OfPast, TakesJust, GivesWordsNext, part_taken, state_at, stop_at, reads_given_at};
 
@@ -107,7 +107,7 @@ fn is_done(used_up: bool, stop: Option<Stop>) -> bool
 
 /// What an attempt failed by, where the flash has ended or not, by what it failed by before that.
 fn cause_with(cause: Option<Cause>, wrapped: bool) -> Option<Cause>
-    ensures { (fault : Option FaultData) → cause ≡ cause_of fault false → result ≡ cause_of fault wrapped }
+    ensures { (fault : Option FaultData) → cause ≡ failure_of fault false → result ≡ failure_of fault wrapped }
 {
     match cause {
         Some(cause) => Some(cause),
@@ -399,7 +399,7 @@ impl Device {
 
     /// The fault that stopped the device.
     pub fn fault(&self) -> Option<Fault>
-        ensures { OfPast self.now (λ p. result ≡ fault_of (why_of (stop_at p))) }
+        ensures { OfPast self.now (λ p. result ≡ stop_fault (why_of (stop_at p))) }
     {
         match self.registers.stop() {
             Some(Stop::Fault(fault)) => Some(fault),
