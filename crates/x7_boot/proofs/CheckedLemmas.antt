@@ -7,7 +7,7 @@ use Rattle.x7_packets.specs.History.{Write}
 use Rattle.x7_part.specs.Part.{PartData}
 use Rattle.x7_engine.specs.Kept.{is_fallback}
 use Rattle.x7_engine.specs.State.{why_of, state_of, stop_in, taken_of}
-use Rattle.x7_engine.specs.Values.{cause_of}
+use Rattle.x7_engine.specs.Values.{failure_of}
 use Rattle.x7_engine.specs.declared.kept.Kept.{Kept}
 use Rattle.x7_engine.specs.declared.stop.Stop.{Stop}
 use Rattle.x7_engine.specs.declared.stop.Stop.TheVariants as stop
@@ -31,7 +31,7 @@ no_cause_starts (Some c) e = absurd (cc)
 no_stop_starts : (o : Option Stop) → ending_by o ≡ Some ending.Started → ⊥
 no_stop_starts None e = absurd (cc)
 no_stop_starts (Some stop.Iprog) e = absurd (cc)
-no_stop_starts (Some (stop.Fault f)) e = no_cause_starts (cause_of (Some f) false) e
+no_stop_starts (Some (stop.Fault f)) e = no_cause_starts (failure_of (Some f) false) e
 
 starts_by : (b : Bool) (o : Option Stop) → (if b then Some ending.Started else ending_by o) ≡ Some ending.Started → b ≡ true
 starts_by true o e = refl

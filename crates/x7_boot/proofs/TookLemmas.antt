@@ -10,13 +10,13 @@ use Rattle.x7_engine.specs.declared.stop.Stop.TheVariants as stop
 use Rattle.x7_engine.specs.declared.until_started.UntilStarted.{UntilStarted}
 use Rattle.x7_engine.specs.declared.until_started.UntilStarted.TheVariants as until
 use Rattle.x7_regs.specs.declared.boot_status.Cause.{Cause}
-use Rattle.x7_engine.specs.Values.{cause_of}
+use Rattle.x7_engine.specs.Values.{failure_of}
 use Rattle.x7_engine.specs.ReadBuffer.{IsFullBy, ReadBufState}
 use Rattle.x7_engine.specs.Past.{Answers, AnswersUntil}
 use Rattle.x7_engine.specs.Standing.{DeviceState, DeviceStandsFor, NoWordDue, taken_in}
 use Rattle.x7_engine.specs.State.{history_by, why_of, state_of, stop_in, taken_by}
 use Rattle.x7_engine.specs.Startup.{phase_by, startup_progress}
-use Rattle.x7_engine.specs.Stops.{Stopped, fault_of}
+use Rattle.x7_engine.specs.Stops.{Stopped, stop_fault}
 use Rattle.x7_engine.specs.UntilStarted.{NoneStarted, has_started, says_started, taken_until}
 use Rattle.x7_engine.proofs.UntilLemmas.{going_before}
 use Rattle.x7_boot.specs.Attempt.{ending_at, ending_by, failed_by, IsReady, step_by, StepsTo, Took, past_in_flash}
@@ -65,19 +65,19 @@ none_due part kept d bytes read (fed.Stopped n) dropping a = a.2
 none_due part kept d bytes read (fed.Iprog n) dropping a = a.1
 none_due part kept d bytes read (fed.ReadFull n) dropping a = absurd (subst (λ (m : Option ℕ). IsFullBy m (length read.words)) dropping a.2)
 
-failed_at : (f : Fault) (cause : Option Cause) → cause ≡ cause_of (Some f) false → ending_by (Some (stop.Fault f)) ≡ failed_by cause
+failed_at : (f : Fault) (cause : Option Cause) → cause ≡ failure_of (Some f) false → ending_by (Some (stop.Fault f)) ≡ failed_by cause
 failed_at f cause e = ap failed_by (sym e)
 
 -- what it does to an attempt in which startup hasn't ended by then
 steps_to : (part : PartData) (kept : Kept) (d : DeviceState) (bytes : List ℕ) (read : ReadBufState) (answer : Fed) (cause : Option Cause) → read.most ≡ None
-    → Answers (past_in_flash part kept bytes) d read answer → has_started part kept bytes ≡ false → cause ≡ cause_of (fault_of (why_of (stop_in part kept bytes))) false
+    → Answers (past_in_flash part kept bytes) d read answer → has_started part kept bytes ≡ false → cause ≡ failure_of (stop_fault (why_of (stop_in part kept bytes))) false
     → StepsTo part kept bytes (step_by answer cause)
 steps_to part kept d bytes read fed.All cause dropping a e f = (a.0, ends_by_stop part kept bytes e ∙ ap (λ (o : Option Stopped). ending_by (why_of o)) a.0)
 steps_to part kept d bytes read (fed.Iprog n) cause dropping a e f = ends_by_stop part kept bytes e ∙ ap (λ (o : Option Stopped). ending_by (why_of o)) a.0
 steps_to part kept d bytes read (fed.ReadFull n) cause dropping a e f = absurd (subst (λ (m : Option ℕ). IsFullBy m (length read.words)) dropping a.2)
-steps_to part kept d bytes read (fed.Stopped n) (Some cause) dropping a e f = ends_by_stop part kept bytes e ∙ ap (λ (o : Option Stopped). ending_by (why_of o)) a.1 ∙ failed_at a.0 (Some cause) (f ∙ ap (λ (o : Option Stopped). cause_of (fault_of (why_of o)) false) a.1)
+steps_to part kept d bytes read (fed.Stopped n) (Some cause) dropping a e f = ends_by_stop part kept bytes e ∙ ap (λ (o : Option Stopped). ending_by (why_of o)) a.1 ∙ failed_at a.0 (Some cause) (f ∙ ap (λ (o : Option Stopped). failure_of (stop_fault (why_of o)) false) a.1)
 steps_to part kept d bytes read (fed.Stopped n) None dropping a e f =
-    (subst (λ (o : Option Stopped). IsSome o) (sym a.1) refl, ends_by_stop part kept bytes e ∙ ap (λ (o : Option Stopped). ending_by (why_of o)) a.1 ∙ failed_at a.0 None (f ∙ ap (λ (o : Option Stopped). cause_of (fault_of (why_of o)) false) a.1))
+    (subst (λ (o : Option Stopped). IsSome o) (sym a.1) refl, ends_by_stop part kept bytes e ∙ ap (λ (o : Option Stopped). ending_by (why_of o)) a.1 ∙ failed_at a.0 None (f ∙ ap (λ (o : Option Stopped). failure_of (stop_fault (why_of o)) false) a.1))
 
 -- an attempt goes on only where all was taken
 goes_all : (part : PartData) (kept : Kept) (d : DeviceState) (bytes : List ℕ) (read : ReadBufState) (answer : Fed) (cause : Option Cause) (length : ℕ) → read.most ≡ None → Answers (past_in_flash part kept bytes) d read answer → step_by answer cause ≡ Goes
@@ -100,7 +100,7 @@ due_until part kept d bytes read (until.Started n) dropping a = a
 due_until part kept d bytes read (until.Fed answer) dropping a = none_due part kept d bytes read answer dropping a
 
 steps_until : (part : PartData) (kept : Kept) (d : DeviceState) (bytes : List ℕ) (read : ReadBufState) (answer : UntilStarted) (cause : Option Cause) → read.most ≡ None → AnswersUntil (past_in_flash part kept bytes) d read answer
-    → says_started answer ≡ has_started part kept bytes → cause ≡ cause_of (fault_of (why_of (stop_in part kept bytes))) false → StepsTo part kept bytes (step_until answer cause)
+    → says_started answer ≡ has_started part kept bytes → cause ≡ failure_of (stop_fault (why_of (stop_in part kept bytes))) false → StepsTo part kept bytes (step_until answer cause)
 steps_until part kept d bytes read (until.Started n) cause dropping a e f = ends_started part kept bytes (sym e)
 steps_until part kept d bytes read (until.Fed answer) cause dropping a e f = steps_to part kept d bytes read answer cause dropping a (sym e) f
 
@@ -113,7 +113,7 @@ all_until part kept d bytes read (until.Fed answer) cause length dropping a e = 
 pub page_took : (part : PartData) (kept : Kept) (d : DeviceState) (bytes page : List ℕ) (read : ReadBufState) (answer : UntilStarted) (cause : Option Cause)
     → (let n : ℕ = taken_until (length page) answer in let all : List ℕ = bytes ++ take n page in
     n ≤ length page → DeviceStandsFor part kept false d all → NoneStarted part kept bytes page n → read.most ≡ None → AnswersUntil (past_in_flash part kept all) d read answer
-    → (NoWordDue d → says_started answer ≡ has_started part kept all) → cause ≡ cause_of (fault_of (why_of (stop_in part kept all))) false → Took (past_in_flash part kept bytes) d page (step_until answer cause))
+    → (NoWordDue d → says_started answer ≡ has_started part kept all) → cause ≡ failure_of (stop_fault (why_of (stop_in part kept all))) false → Took (past_in_flash part kept bytes) d page (step_until answer cause))
 page_took part kept d bytes page read answer cause within s first dropping a started f =
     let n : ℕ = taken_until (length page) answer in
     let due : NoWordDue d = due_until part kept d (bytes ++ take n page) read answer dropping a in

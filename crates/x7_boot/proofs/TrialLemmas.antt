@@ -15,8 +15,8 @@ use Rattle.x7_engine.specs.declared.stop.Stop.{Stop}
 use Rattle.x7_engine.specs.declared.stop.Stop.TheVariants as stop
 use Rattle.x7_engine.specs.Standing.{DeviceState, DeviceStandsFor, MayWrap, NoWordDue}
 use Rattle.x7_engine.specs.State.{why_of, state_of, stop_in, taken_of, taken_by}
-use Rattle.x7_engine.specs.Stops.{Stopped, fault_of, stopped_at}
-use Rattle.x7_engine.specs.Values.{cause_of}
+use Rattle.x7_engine.specs.Stops.{Stopped, stop_fault, stopped_at}
+use Rattle.x7_engine.specs.Values.{failure_of}
 use Rattle.x7_engine.proofs.BootLemmas.{may_wrap, none_due_at_first}
 use Rattle.x7_engine.proofs.StateLemmas.{stop_is_final_state, stop_is_final_stop}
 use Rattle.x7_boot.specs.Attempt.{Feeds, IsReady, NoneBefore, StepsTo, Took, Trial, Tries, attempt_at, ending_at, ending_by, failed_by, past_in_flash}
@@ -41,10 +41,10 @@ no_ending : (part : PartData) (kept : Kept) (bytes : List ℕ) → ending_at par
 no_ending part kept bytes none = sym (ends_by_stop part kept bytes (not_started part kept bytes none)) ∙ none
 
 -- what ends no attempt is no cause of a failure
-pub no_cause : (o : Option Stop) → ending_by o ≡ None → cause_of (fault_of o) false ≡ None
+pub no_cause : (o : Option Stop) → ending_by o ≡ None → failure_of (stop_fault o) false ≡ None
 no_cause None e = refl
 no_cause (Some stop.Iprog) e = refl
-no_cause (Some (stop.Fault f)) e = by (cause_of (Some f) false) e
+no_cause (Some (stop.Fault f)) e = by (failure_of (Some f) false) e
   where
     by : (c : Option _) → failed_by c ≡ None → c ≡ None
     by None e = refl

@@ -8,8 +8,8 @@ use Rattle.x7_regs.specs.declared.boot_status.Cause.TheVariants.{Wrap}
 use Rattle.x7_engine.specs.Past.{HasPast, Past, later}
 use Rattle.x7_engine.specs.Standing.{DeviceState, DeviceStandsFor, NoWordDue}
 use Rattle.x7_engine.specs.State.{why_of, state_of, stop_in, taken_of}
-use Rattle.x7_engine.specs.Stops.{fault_of}
-use Rattle.x7_engine.specs.Values.{cause_of}
+use Rattle.x7_engine.specs.Stops.{stop_fault}
+use Rattle.x7_engine.specs.Values.{failure_of}
 use Rattle.x7_engine.specs.declared.fed.Fed.{Fed}
 use Rattle.x7_engine.specs.declared.fed.Fed.TheVariants as fed
 use Rattle.x7_engine.specs.declared.kept.Kept.{Kept}
@@ -28,7 +28,7 @@ failed_by (Some cause) = Some (Failed cause)
 -- what a stop ends an attempt by: an obeyed IPROG, or a fault Id, Crc or Watchdog; another fault doesn't end it
 abbrev pub ending_by : Option Stop → Option Ending
 ending_by (Some stop.Iprog) = Some Iprog
-ending_by why = failed_by (cause_of (fault_of why) false)
+ending_by why = failed_by (failure_of (stop_fault why) false)
 
 -- what ends an attempt at these bytes, if anything does; phase 7 comes first
 abbrev pub ending_at : PartData → Kept → List ℕ → Option Ending

@@ -1,6 +1,6 @@
 //! One attempt of a boot.
 ghost use Rattle.std.specs.Prelude.{◌≡◌, false, length, Option, None, Some};
-ghost use Rattle.x7_engine.specs.Values.{cause_of};
+ghost use Rattle.x7_engine.specs.Values.{failure_of};
 ghost use Rattle.x7_boot.specs.Attempt.{IsReady, step_by, TakesPage};
 
 use x7_engine::{Device, Fault, Fed, ReadBuf, UntilStarted};
@@ -30,7 +30,7 @@ pub(crate) enum Step {
 
 /// The cause by which a device's fault ends an attempt, none for a fault that doesn't end it.
 fn cause_in(fault: Option<Fault>) -> Option<Cause>
-    ensures { result ≡ cause_of fault false }
+    ensures { result ≡ failure_of fault false }
 {
     match fault {
         Some(Fault::Watchdog) => Some(Cause::Watchdog),

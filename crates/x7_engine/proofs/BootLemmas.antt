@@ -11,13 +11,13 @@ use Rattle.x7_engine.specs.declared.due.Due.TheVariants as due
 use Rattle.x7_engine.specs.Standing.{DeviceState, DeviceStandsFor, MayWrap, NoWordDue, due_count, words_left}
 use Rattle.x7_engine.specs.Startup.{phase_of}
 use Rattle.x7_engine.specs.State.{history_taken, why_of, state_of, stop_in}
-use Rattle.x7_engine.specs.Stops.{fault_of}
-use Rattle.x7_engine.specs.Values.{cause_of}
+use Rattle.x7_engine.specs.Stops.{stop_fault}
+use Rattle.x7_engine.specs.Values.{failure_of}
 use Rattle.x7_engine.proofs.ClockLemmas.{phase_by_clock}
 use Rattle.x7_engine.proofs.StateLemmas.{why_is, taken_is}
 
 pub may_wrap : (part : PartData) (kept : Kept) (wrapped : Bool) (d : DeviceState) (bytes : List ℕ) → DeviceStandsFor part kept wrapped d bytes → (kept.kind ≡ Bench → ⊥)
-    → ((state_of part kept wrapped bytes).phase == 7) ≡ false → cause_of (fault_of (why_of (stop_in part kept bytes))) false ≡ None
+    → ((state_of part kept wrapped bytes).phase == 7) ≡ false → failure_of (stop_fault (why_of (stop_in part kept bytes))) false ≡ None
     → (why_of (stop_in part kept bytes) ≡ Some stop.Iprog → ⊥) → NoWordDue d → MayWrap d
 may_wrap part kept wrapped d bytes s boots not_started not_failed not_left none =
     let h : History = history_taken part kept bytes in
@@ -27,7 +27,7 @@ may_wrap part kept wrapped d bytes s boots not_started not_failed not_left none 
     record {
       boots = λ e. boots (sym s.registers_are.kind ∙ e);
       not_started = ap (λ (p : ℕ). p == 7) (phase ∙ all) ∙ not_started;
-      not_failed = ap (λ (o : Option Stop). cause_of (fault_of o) false) (sym why) ∙ not_failed;
+      not_failed = ap (λ (o : Option Stop). failure_of (stop_fault o) false) (sym why) ∙ not_failed;
       not_left = λ e. not_left (why ∙ e);
       none_due = none;
     }

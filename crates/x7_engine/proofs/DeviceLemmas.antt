@@ -9,7 +9,7 @@ use Rattle.x7_packets.specs.declared.cutter.Cut.TheVariants.{Body, Head, Need, S
 use Rattle.x7_packets.specs.Mode.{Mode}
 use Rattle.x7_packets.specs.declared.header.Step.{Step}
 use Rattle.x7_packets.specs.declared.header.Step.TheVariants as step
-use Rattle.x7_packets.specs.Cutting.{AtPlace, between, CutterState, CutterStandsFor, IsLent, IsRun, LongerSession, AfterRun, run_bytes, run_steps}
+use Rattle.x7_packets.specs.Cutting.{AtPlace, between, CutterState, CutterStandsFor, IsLent, IsRun, LongerSession, AfterRun, run_bytes, run_steps, syncs_due}
 use Rattle.x7_packets.specs.History.{History, Placed, entered_all, history_of, next_word, until}
 use Rattle.x7_packets.specs.Packet.{Packet, payload_steps}
 use Rattle.x7_packets.specs.Reading.{IsReading, Place, Searching, Session, Synced, tail_of}
@@ -25,6 +25,12 @@ use Rattle.x7_engine.specs.Values.{read_out}
 use Rattle.x7_engine.proofs.BodyLemmas.{length_of_words}
 use Rattle.x7_engine.proofs.FrameLemmas.{length_left}
 use Rattle.x7_engine.proofs.TurnLemmas.{history_until, no_rest, stop_until}
+
+-- at most one sync word is still to be given
+pub one_sync : (mode : Mode) → syncs_due mode ≤ 1
+one_sync Mode.Searching = omega arith
+one_sync Mode.Due = omega arith
+one_sync Mode.Synced = omega arith
 
 -- the words told, where all that is read out are these and some more that are due
 prefix_given : (told rest : List ℕ) (due : ℕ) → length rest ≡ due → take (length (told ++ rest) - due) (told ++ rest) ≡ told

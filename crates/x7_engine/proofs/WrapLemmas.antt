@@ -13,10 +13,10 @@ use Rattle.x7_engine.specs.declared.kept.Kept.{Kept}
 use Rattle.x7_engine.specs.Kept.{is_fallback}
 use Rattle.x7_engine.specs.Registers.{wrote_iprog}
 use Rattle.x7_engine.specs.State.{history_taken, why_of, state_of, stop_in}
-use Rattle.x7_engine.specs.Stops.{fault_of}
-use Rattle.x7_engine.specs.Values.{cause_of}
+use Rattle.x7_engine.specs.Stops.{stop_fault}
+use Rattle.x7_engine.specs.Values.{failure_of}
 
-cause_is : (f : Option Fault) → cause_of f false ≡ None → cause_of f true ≡ Some cause.Wrap
+cause_is : (f : Option Fault) → failure_of f false ≡ None → failure_of f true ≡ Some cause.Wrap
 cause_is None e = refl
 cause_is (Some (fault.Packet w)) e = refl
 cause_is (Some (fault.Id want got)) e = absurd (cc e)
@@ -36,8 +36,8 @@ one_bit Fallback ignored before boots = omega arith
 abbrev attempt_with : Kind → Option Cause → Bool → Attempt
 attempt_with kind cause ignored = record { kind = kind; cause = cause; ignored = ignored }
 
-shows : (kind : Kind) (f : Option Fault) (ignored : Bool) (before : Option Attempt) → (kind ≡ Bench → ⊥) → cause_of f false ≡ None
-    → boot_status_of (attempt_with kind (cause_of f true) ignored) before ≡ boot_status_of (attempt_with kind (cause_of f false) ignored) before + 2 ^ 6
+shows : (kind : Kind) (f : Option Fault) (ignored : Bool) (before : Option Attempt) → (kind ≡ Bench → ⊥) → failure_of f false ≡ None
+    → boot_status_of (attempt_with kind (failure_of f true) ignored) before ≡ boot_status_of (attempt_with kind (failure_of f false) ignored) before + 2 ^ 6
 unfolding boot_status_of
 shows kind f ignored before boots e =
     ap (λ (c : Option Cause). word_by kind (attempt_bits_by kind c ignored) (before_bits_of before)) (cause_is f e)
@@ -47,6 +47,6 @@ shows kind f ignored before boots e =
 pub wrap_alone : (part : PartData) (kept : Kept) (bytes : List ℕ) → state_of part kept true bytes ≡ record (state_of part kept false bytes) { bootsts = (state_of part kept true bytes).bootsts }
 wrap_alone part kept bytes = refl
 
-pub wrap_bit : (part : PartData) (kept : Kept) (bytes : List ℕ) → (kept.kind ≡ Bench → ⊥) → cause_of (fault_of (why_of (stop_in part kept bytes))) false ≡ None
+pub wrap_bit : (part : PartData) (kept : Kept) (bytes : List ℕ) → (kept.kind ≡ Bench → ⊥) → failure_of (stop_fault (why_of (stop_in part kept bytes))) false ≡ None
     → (state_of part kept true bytes).bootsts ≡ (state_of part kept false bytes).bootsts + 2 ^ 6
-wrap_bit part kept bytes boots e = shows kept.kind (fault_of (why_of (stop_in part kept bytes))) (is_fallback kept.kind && wrote_iprog (history_taken part kept bytes)) kept.before boots e
+wrap_bit part kept bytes boots e = shows kept.kind (stop_fault (why_of (stop_in part kept bytes))) (is_fallback kept.kind && wrote_iprog (history_taken part kept bytes)) kept.before boots e

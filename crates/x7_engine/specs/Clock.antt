@@ -1,6 +1,6 @@
 -- What the clock of a device stands for: startup and the watchdog after a history with a number of bytes taken (this
 -- project's choice).
-use Rattle.std.specs.Prelude.{◌≡◌, ℕ, ◌+◌, ◌<◌, ◌≤◌, Bool, true, if◌then◌else◌, List, [], ◌∷◌, Option, None, Some}
+use Rattle.std.specs.Prelude.{◌≡◌, ℕ, ◌+◌, ◌<◌, ◌≤◌, Bool, true, if◌then◌else◌, List, [], ◌∷◌, Option, None, Some, IfSome}
 use Rattle.x7_packets.specs.History.{Access, Entry, History, is_command}
 use Rattle.x7_part.specs.Part.{PartData}
 use Rattle.x7_regs.specs.declared.command.Command.TheVariants.{Desync, Ltimer, Start}
@@ -40,9 +40,11 @@ abbrev pub Ticks : Course → ClockState → ℕ → Option ℕ → Type 0
 Ticks c clock count None = IsClock c.part c.kept clock c.history (c.taken + count) × (first_firing c.part c.kept c.history c.taken count ≡ None)
 Ticks c clock count (Some k) = (0 < k) × (k ≤ count) × IsClock c.part c.kept clock c.history (c.taken + k) × (first_firing c.part c.kept c.history c.taken count ≡ Some (c.taken + k))
 
--- a part's clock takes `count` bytes more, whatever course it is the clock of
-abbrev pub TicksOn : PartData → ClockState → ClockState → ℕ → Option ℕ → Type 0
-TicksOn part old new count result = (kept : Kept) (h : History) (n : ℕ) → newest_place h ≤ n → IsClock part kept old h n → Ticks (course_at part kept h n) new count result
+-- A part's clock takes `count` bytes more, whatever course it is the clock of: all of them, or those up to byte k, at which the
+-- watchdog fires.
+pub record TicksOn (part : PartData) (old new : ClockState) (count : ℕ) (result : Option ℕ) : Type 0 where
+  pub within : IfSome result (λ k. (0 < k) × (k ≤ count))
+  pub ticks : (kept : Kept) (h : History) (n : ℕ) → newest_place h ≤ n → IsClock part kept old h n → Ticks (course_at part kept h n) new count result
 
 -- at each of `count` bytes more startup has ended, or at none, and `clock` is the clock before them
 pub record AreEndedAlike (c : Course) (clock : ClockState) (count : ℕ) (ended : Bool) : Type 0 where

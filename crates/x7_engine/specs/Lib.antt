@@ -18,6 +18,8 @@ pub mod Standing
 pub mod Startup
 pub mod State
 pub mod Stops
+pub mod Taken
+pub mod Targets
 pub mod Timeout
 pub mod Turns
 pub mod Values

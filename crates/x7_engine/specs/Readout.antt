@@ -1,9 +1,13 @@
 -- Words that are due, given to a buffer (this project's choice).
-use Rattle.std.specs.Prelude.{◌≡◌, ℕ, ◌++◌, List}
-use Rattle.x7_engine.specs.Course.{Course}
+use Rattle.std.specs.Prelude.{◌≡◌, ◌<◌, ℕ, ◌++◌, List, None}
+use Rattle.x7_flow.specs.Standing.{FramesFit}
+use Rattle.x7_part.specs.Part.{PartData}
+use Rattle.x7_engine.specs.Course.{Course, course_at}
+use Rattle.x7_engine.specs.declared.registers.Registers.{Registers}
+use Rattle.x7_engine.specs.Entering.{Change, HaveHistory, OfHistory}
 use Rattle.x7_engine.specs.Past.{HasPast, Past, reads_given_at}
-use Rattle.x7_engine.specs.ReadBuffer.{ReadBufState, with_words}
-use Rattle.x7_engine.specs.Standing.{DeviceState, RegistersStandFor, RegistersState, words_left}
+use Rattle.x7_engine.specs.ReadBuffer.{IsFull, ReadBufState, with_words}
+use Rattle.x7_engine.specs.Standing.{DeviceState, RegistersStandFor, RegistersState, due_count, registers_in, words_left}
 
 -- of `words` the buffer got the first ones, all but `rest`
 pub record GotAllBut (rest words : List ℕ) (old new : ReadBufState) : Type 0 where
@@ -17,6 +21,20 @@ pub record Gave (c : Course) (d e : RegistersState) (old new : ReadBufState) : T
   pub read_is : new ≡ with_words old more
   pub words_are : words_left c.part c.history d.due ≡ more ++ words_left c.part c.history e.due
   pub stands : RegistersStandFor c.part c.kept e c.history c.taken
+
+-- registers that can give the words due: nothing stopped them, their frames are those of a device of the part, and they stand
+-- for a history
+pub record MayGive (part : PartData) (d : Registers) : Type 0 where
+  pub going : d.stop ≡ None
+  pub frames : FramesFit part d.frames
+  pub history : HaveHistory part (registers_in d)
+
+-- registers gave a buffer the words due, all of them or as many as it has room for
+pub record GaveDue (x : Change) (old new : ReadBufState) : Type 0 where
+  pub full : 0 < due_count x.new.due → IsFull new
+  pub going : x.new.stop ≡ None
+  pub frames : FramesFit x.part x.new.frames
+  pub given : OfHistory x.part x.old (λ kept h n. Gave (course_at x.part kept h n) x.old x.new old new)
 
 -- of the words due the buffer got the first ones, and the device stands for the same bytes as before
 pub record Gives (p : Past) (d e : DeviceState) (old new : ReadBufState) : Type 0 where

@@ -1,9 +1,10 @@
 -- What calls that take words ask of a device's registers, and what such calls leave of them (this project's choice).
-use Rattle.std.specs.Prelude.{◌≡◌, ℕ, ◌<◌, ◌≤◌, None, Some}
+use Rattle.std.specs.Prelude.{◌≡◌, ℕ, ◌<◌, ◌≤◌, Option, None, Some}
 use Rattle.x7_part.specs.Part.{PartData}
 use Rattle.x7_flow.specs.Standing.{FramesFit}
 use Rattle.x7_engine.specs.declared.registers.Registers.{Registers}
 use Rattle.x7_engine.specs.declared.stop.Stop.{Stop}
+use Rattle.x7_engine.specs.Entering.{Change}
 use Rattle.x7_engine.specs.Standing.{due_count}
 
 -- registers that can take a word: nothing stopped them, no word is due, and their frames are those of a device of the part
@@ -13,21 +14,22 @@ pub record AreReady (part : PartData) (d : Registers) : Type 0 where
   pub frames : FramesFit part d.frames
 
 -- a call leaves the words due as they were, and the frames are still those of a device of the part
-pub record LeavesDue (part : PartData) (old new : Registers) : Type 0 where
-  pub due : new.due ≡ old.due
-  pub frames : FramesFit part new.frames
+pub record LeavesDue (x : Change) : Type 0 where
+  pub due : x.new.due ≡ x.old.due
+  pub frames : FramesFit x.part x.new.frames
 
 -- of `count` bytes the registers took `taken`: all of them unless a stop came, and at least one where there is one
-pub record TakesUpTo (count taken : ℕ) (d : Registers) : Type 0 where
+pub record TakesUpTo (count taken : ℕ) (stop : Option Stop) : Type 0 where
   pub within : taken ≤ count
   pub some : 0 < count → 0 < taken
-  pub goes_on : d.stop ≡ None → taken ≡ count
+  pub goes_on : stop ≡ None → taken ≡ count
 
 -- of `count` bytes the registers left `left`: none of them unless a stop came
 pub record LeavesBytes (count left : ℕ) (d : Registers) : Type 0 where
   pub within : left ≤ count
   pub goes_on : d.stop ≡ None → left ≡ 0
 
--- registers that a stop has stopped have no word due
-abbrev pub RestsAtStop : Registers → Type 0
-RestsAtStop d = (why : Stop) → d.stop ≡ Some why → due_count d.due ≡ 0
+-- registers that a stop has stopped have no word due, and the frames are still those of a device of the part
+pub record RestsAtStop (part : PartData) (d : Registers) : Type 0 where
+  pub at_rest : (why : Stop) → d.stop ≡ Some why → due_count d.due ≡ 0
+  pub frames : FramesFit part d.frames

@@ -36,8 +36,8 @@ use Rattle.x7_flow.specs.Controls.{is_matched, masked}
 use Rattle.x7_flow.specs.FrameAccess.{reads_frame_data}
 use Rattle.x7_engine.specs.Registers.{has_ghigh, is_pending, word_held, wrote_iprog}
 use Rattle.x7_engine.specs.State.{reads_of, history_taken, last_counted, stop_in}
-use Rattle.x7_engine.specs.Stops.{fault_of, stop_of, stopped_at}
-use Rattle.x7_engine.specs.Values.{cause_of}
+use Rattle.x7_engine.specs.Stops.{stop_fault, stop_of, stopped_at}
+use Rattle.x7_engine.specs.Values.{failure_of}
 
 -- the stored registers under MASK: CTL0 and CTL1
 pub record ControlsState : Type 0 where
@@ -237,7 +237,7 @@ with_wrap d = record d { wrapped = true }
 pub record MayWrapWith (d : RegistersState) : Type 0 where
   pub boots : d.kind ≡ Bench → ⊥
   pub not_started : (d.clock.startup.phase == 7) ≡ false
-  pub not_failed : cause_of (fault_of d.stop) false ≡ None
+  pub not_failed : failure_of (stop_fault d.stop) false ≡ None
   pub not_left : d.stop ≡ Some stop.Iprog → ⊥
   pub none_due : due_count d.due ≡ 0
 

@@ -22,7 +22,7 @@ use Rattle.x7_engine.specs.declared.stop.Stop.{Stop}
 use Rattle.x7_engine.specs.declared.stop.Stop.TheVariants as stop
 use Rattle.x7_engine.specs.Registers.{word_held}
 use Rattle.x7_engine.specs.Startup.{phase_by, startup_progress}
-use Rattle.x7_engine.specs.Stops.{Stopped, fault_of, stop_of}
+use Rattle.x7_engine.specs.Stops.{Stopped, stop_fault, stop_of}
 use Rattle.x7_engine.specs.Values.{attempt_of, lines_by, read_out, register_value}
 
 -- the first stop in the bytes, where there is one
@@ -62,21 +62,21 @@ state_by c wrapped why synced = record {
   end = end_by why synced (word_held c.kept (number_of Wbstar) c.history);
   phase = phase_by c.part (startup_progress c.history c.taken);
   lines = lines_by c.part (startup_progress c.history c.taken);
-  crc = register_value c wrapped (fault_of why) Crc;
-  far = register_value c wrapped (fault_of why) Far;
-  cmd = register_value c wrapped (fault_of why) Cmd;
-  ctl0 = register_value c wrapped (fault_of why) Ctl0;
-  mask = register_value c wrapped (fault_of why) Mask;
-  stat = register_value c wrapped (fault_of why) Stat;
-  cor0 = register_value c wrapped (fault_of why) Cor0;
-  idcode = register_value c wrapped (fault_of why) Idcode;
-  axss = register_value c wrapped (fault_of why) Axss;
-  cor1 = register_value c wrapped (fault_of why) Cor1;
-  wbstar = register_value c wrapped (fault_of why) Wbstar;
-  timer = register_value c wrapped (fault_of why) Timer;
-  bootsts = register_value c wrapped (fault_of why) Bootsts;
-  ctl1 = register_value c wrapped (fault_of why) Ctl1;
-  bspi = register_value c wrapped (fault_of why) Bspi;
+  crc = register_value c wrapped (stop_fault why) Crc;
+  far = register_value c wrapped (stop_fault why) Far;
+  cmd = register_value c wrapped (stop_fault why) Cmd;
+  ctl0 = register_value c wrapped (stop_fault why) Ctl0;
+  mask = register_value c wrapped (stop_fault why) Mask;
+  stat = register_value c wrapped (stop_fault why) Stat;
+  cor0 = register_value c wrapped (stop_fault why) Cor0;
+  idcode = register_value c wrapped (stop_fault why) Idcode;
+  axss = register_value c wrapped (stop_fault why) Axss;
+  cor1 = register_value c wrapped (stop_fault why) Cor1;
+  wbstar = register_value c wrapped (stop_fault why) Wbstar;
+  timer = register_value c wrapped (stop_fault why) Timer;
+  bootsts = register_value c wrapped (stop_fault why) Bootsts;
+  ctl1 = register_value c wrapped (stop_fault why) Ctl1;
+  bspi = register_value c wrapped (stop_fault why) Bspi;
 }
 
 -- how many of the bytes are taken
@@ -102,7 +102,7 @@ bootsts_in part kept wrapped bytes = (state_of part kept wrapped bytes).bootsts
 
 -- the present boot attempt, with what it failed by
 abbrev pub attempt_in : PartData → Kept → Bool → List ℕ → Attempt
-attempt_in part kept wrapped bytes = attempt_of kept wrapped (fault_of (why_of (stop_in part kept bytes))) (history_taken part kept bytes)
+attempt_in part kept wrapped bytes = attempt_of kept wrapped (stop_fault (why_of (stop_in part kept bytes))) (history_taken part kept bytes)
 
 -- what a next attempt of this kind keeps: WBSTAR, TIMER and BSPI as they are, and this attempt as the one before
 abbrev pub kept_after : PartData → Kept → Bool → List ℕ → Kind → Kept

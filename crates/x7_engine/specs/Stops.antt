@@ -74,9 +74,9 @@ fault_in (stop.Fault f) = Some f
 fault_in stop.Iprog = None
 
 -- the fault of a stop, where there is one
-abbrev pub fault_of : Option Stop → Option Fault
-fault_of None = None
-fault_of (Some why) = fault_in why
+abbrev pub stop_fault : Option Stop → Option Fault
+stop_fault None = None
+stop_fault (Some why) = fault_in why
 
 -- the number of bytes taken at a stop, and why it came
 pub record Stopped : Type 0 where

@@ -1,5 +1,5 @@
 -- What one turn of a device does over bytes of a piece (this project's choice).
-use Rattle.std.specs.Prelude.{◌≡◌, ℕ, ◌+◌, ◌-◌, ◌^◌, ◌<◌, ◌≤◌, List, length, None}
+use Rattle.std.specs.Prelude.{◌≡◌, ℕ, ◌+◌, ◌-◌, ◌^◌, ◌<◌, ◌≤◌, Bool, false, IsTrue, List, length, None}
 use Rattle.x7_packets.specs.Cutting.{between, calls_left}
 use Rattle.x7_engine.specs.Past.{GivesNone, OfPast, TakesJust}
 use Rattle.x7_engine.specs.Standing.{DeviceState, NoWordDue, fed_more, fed_of}
@@ -34,6 +34,13 @@ pub record IsUsedUp (d : DeviceState) (piece : List ℕ) (at : ℕ) : Type 0 whe
   pub going : d.registers.stop ≡ None
   pub none_due : NoWordDue d
 
--- where nothing stopped the device, fewer calls of its cutter are left in the piece than before
+-- where nothing stopped a device, fewer calls of its cutter are left in the piece than before
 abbrev pub HasFewerCalls : DeviceState → DeviceState → List ℕ → ℕ → ℕ → Type 0
 HasFewerCalls old new piece from to = new.registers.stop ≡ None → calls_left new.cutter (length piece - to) < calls_left old.cutter (length piece - from)
+
+-- a device took a turn over the bytes of a piece between two places, and used up the piece, where it says so, or else has
+-- fewer calls of its cutter left in it
+pub record TookTurn (old new : DeviceState) (piece : List ℕ) (from to : ℕ) (says_so : Bool) : Type 0 where
+  pub turned : Turned old new piece from to
+  pub used_up : IsTrue says_so → IsUsedUp new piece to
+  pub goes : says_so ≡ false → HasFewerCalls old new piece from to

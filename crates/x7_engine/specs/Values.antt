@@ -74,15 +74,15 @@ abbrev pub wrap_cause : Bool → Option Cause
 wrap_cause wrapped = if wrapped then Some cause.Wrap else None
 
 -- what an attempt failed by: a fault Id, Crc or Watchdog, or else the end of the flash
-abbrev pub cause_of : Option Fault → Bool → Option Cause
-cause_of (Some (fault.Id want got)) wrapped = Some cause.Id
-cause_of (Some (fault.Crc want got)) wrapped = Some cause.Crc
-cause_of (Some fault.Watchdog) wrapped = Some cause.Watchdog
-cause_of _ wrapped = wrap_cause wrapped
+abbrev pub failure_of : Option Fault → Bool → Option Cause
+failure_of (Some (fault.Id want got)) wrapped = Some cause.Id
+failure_of (Some (fault.Crc want got)) wrapped = Some cause.Crc
+failure_of (Some fault.Watchdog) wrapped = Some cause.Watchdog
+failure_of _ wrapped = wrap_cause wrapped
 
 -- the present boot attempt; a fallback ignores IPROG, and says so
 abbrev pub attempt_of : Kept → Bool → Option Fault → History → Attempt
-attempt_of kept wrapped fault h = record { kind = kept.kind; cause = cause_of fault wrapped; ignored = is_fallback kept.kind && wrote_iprog h }
+attempt_of kept wrapped fault h = record { kind = kept.kind; cause = failure_of fault wrapped; ignored = is_fallback kept.kind && wrote_iprog h }
 
 -- the value of a register in the course of a device, and 0 for one that is only written
 abbrev pub register_value : Course → Bool → Option Fault → Reg → ℕ

@@ -135,8 +135,7 @@ impl Clock {
 
     /// Takes bytes one by one, up to the end of startup or the one at which the watchdog fires: the number of that byte, from 1.
     fn each(&mut self, part: &Part, count: usize) -> Option<usize>
-        ensures within { IfSome result (λ k. (0 < k) × (k ≤ count)) }
-        ensures ticks { TicksOn part.now (clock_in self.old) (clock_in self.new) count result }
+        ensures { TicksOn part.now (clock_in self.old) (clock_in self.new) count result }
     {
         for i in 0..count {
             if self.byte(part) {
@@ -201,8 +200,7 @@ impl Clock {
     /// Takes bytes before the word that they complete, up to the one at which the watchdog fires: the number of that byte, from 1.
     #[inline(always)]
     pub(crate) fn bytes(&mut self, part: &Part, count: usize) -> Option<usize>
-        ensures within { IfSome result (λ k. (0 < k) × (k ≤ count)) }
-        ensures ticks { TicksOn part.now (clock_in self.old) (clock_in self.new) count result }
+        ensures { TicksOn part.now (clock_in self.old) (clock_in self.new) count result }
     {
         if self.is_idle() {
             return None;
@@ -227,8 +225,7 @@ impl Clock {
     /// byte, from 1.
     #[inline(never)]
     fn move_on(&mut self, part: &Part, count: usize) -> Option<usize>
-        ensures within { IfSome result (λ k. (0 < k) × (k ≤ count)) }
-        ensures ticks { TicksOn part.now (clock_in self.old) (clock_in self.new) count result }
+        ensures { TicksOn part.now (clock_in self.old) (clock_in self.new) count result }
     {
         let eos = self.has_ended();
         if are_same(eos, self.ends_within(part, count)) {

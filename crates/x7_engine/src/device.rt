@@ -10,9 +10,9 @@ ghost use Rattle.x7_engine.specs.Readout.{Gives};
 ghost use Rattle.x7_engine.specs.ReadBuffer.{HoldsWithinMost, IsFull};
 ghost use Rattle.x7_engine.specs.Standing.{DeviceStandsFor, MayWrap, NoWordDue, due_count, fed_by, fed_more, fed_of, frames_due, taken_in, with_wrap};
 ghost use Rattle.x7_engine.specs.State.{attempt_in, end_by, kept_after, why_of, memory_in, state_owing};
-ghost use Rattle.x7_engine.specs.Stops.{fault_of};
-ghost use Rattle.x7_engine.specs.Turns.{HasFewerCalls, IsUsedUp, MayTake, Turned};
-ghost use Rattle.x7_engine.specs.Values.{cause_of};
+ghost use Rattle.x7_engine.specs.Stops.{stop_fault};
+ghost use Rattle.x7_engine.specs.Turns.{MayTake, TookTurn, Turned};
+ghost use Rattle.x7_engine.specs.Values.{failure_of};
 ghost use Rattle.x7_engine.specs.declared.fault.Fault.{Fault as FaultData};
 ghost use Rattle.x7_engine.specs.Past.{AnswersFor, HasSomePast, OfPast, TakesJust, GivesWordsNext, part_taken, state_at, stop_at, reads_given_at};
 
@@ -27,6 +27,7 @@ use crate::read_buffer::ReadBuf;
 use crate::registers::Registers;
 use crate::regs::{End, Regs};
 use crate::stop::Stop;
+use crate::target::Target;
 pub use boot::flash_may_end;
 use std::alloc::Global;
 use std::marker::Model;
@@ -107,7 +108,7 @@ fn is_done(used_up: bool, stop: Option<Stop>) -> bool
 
 /// What an attempt failed by, where the flash has ended or not, by what it failed by before that.
 fn cause_with(cause: Option<Cause>, wrapped: bool) -> Option<Cause>
-    ensures { (fault : Option FaultData) → cause ≡ cause_of fault false → result ≡ cause_of fault wrapped }
+    ensures { (fault : Option FaultData) → cause ≡ failure_of fault false → result ≡ failure_of fault wrapped }
 {
     match cause {
         Some(cause) => Some(cause),
@@ -241,9 +242,7 @@ impl Device {
     /// used up.
     fn take_run(&mut self, piece: &[u8], at: &mut usize) -> bool
         requires { MayTake self.old piece.now at.old }
-        ensures turned { Turned self.old self.new piece.now at.old at.new }
-        ensures used_up { IsTrue result → IsUsedUp self.new piece.now at.new }
-        ensures goes { result ≡ false → HasFewerCalls self.old self.new piece.now at.old at.new }
+        ensures { TookTurn self.old self.new piece.now at.old at.new result }
     {
         let from = *at;
         let run = self.cutter.cut(piece, at);
@@ -271,7 +270,8 @@ impl Device {
         let Some((register, word)) = self.cutter.take_write(&piece[*at..]) else {
             return false;
         };
-        self.registers.write_to(&self.part, register, word);
+        self.registers
+            .write_to(&self.part, Target::numbered(register), word);
         *at += 8;
         self.taken += 8;
         self.fed = self.fed.saturating_add(8);
@@ -283,9 +283,7 @@ impl Device {
     #[inline(always)]
     fn turn(&mut self, piece: &[u8], at: &mut usize) -> bool
         requires { MayTake self.old piece.now at.old }
-        ensures turned { Turned self.old self.new piece.now at.old at.new }
-        ensures used_up { IsTrue result → IsUsedUp self.new piece.now at.new }
-        ensures goes { result ≡ false → HasFewerCalls self.old self.new piece.now at.old at.new }
+        ensures { TookTurn self.old self.new piece.now at.old at.new result }
     {
         if self.take_write(piece, at) {
             return false;
@@ -298,9 +296,7 @@ impl Device {
     #[inline(never)]
     fn take_next(&mut self, piece: &[u8], at: &mut usize) -> bool
         requires { MayTake self.old piece.now at.old }
-        ensures turned { Turned self.old self.new piece.now at.old at.new }
-        ensures used_up { IsTrue result → IsUsedUp self.new piece.now at.new }
-        ensures goes { result ≡ false → HasFewerCalls self.old self.new piece.now at.old at.new }
+        ensures { TookTurn self.old self.new piece.now at.old at.new result }
     {
         self.pass_nops(piece, at);
         if self.has_stopped() {
@@ -399,7 +395,7 @@ impl Device {
 
     /// The fault that stopped the device.
     pub fn fault(&self) -> Option<Fault>
-        ensures { OfPast self.now (λ p. result ≡ fault_of (why_of (stop_at p))) }
+        ensures { OfPast self.now (λ p. result ≡ stop_fault (why_of (stop_at p))) }
     {
         match self.registers.stop() {
             Some(Stop::Fault(fault)) => Some(fault),

@@ -16,6 +16,7 @@ mod registers;
 mod regs;
 mod saved;
 mod stop;
+mod target;
 mod until_started;
 mod value;
 mod words;

@@ -6,8 +6,9 @@ ghost use Rattle.x7_regs.specs.Command.{code_of};
 ghost use Rattle.x7_flow.specs.Controls.{names_part, same_idcode};
 ghost use Rattle.x7_flow.specs.Standing.{word_to, written_to};
 ghost use Rattle.x7_engine.specs.Entering.{words_entered};
-ghost use Rattle.x7_engine.specs.Registers.{clears_by, ghigh_after, has_effect, is_controlling, pending_after, takes_shutdown, writes_check, writes_command};
+ghost use Rattle.x7_engine.specs.Registers.{clears_by, ghigh_after, is_controlling, pending_after, takes_shutdown, writes_check, writes_command};
 
+use crate::target::PlainNumber;
 use x7_crc::{check_after_write, fold, fold_slice, is};
 use x7_regs::{Command, Reg};
 
@@ -102,13 +103,11 @@ impl Progress {
         }
     }
 
-    /// Takes a word written to a register that has no effect beside the check.
-    pub(crate) fn pass(&mut self, register: u8, word: u32)
-        requires register { register < 32 }
-        requires plain { has_effect register ≡ false }
-        ensures { (idcode : ℕ) (h : History) (place : ℕ) → IsProgress idcode (progress_in self.old) h → IsProgress idcode (progress_in self.new) (entry (Write register word) place ∷ h) }
+    /// Takes a word written to a register in which it stays, and is folded.
+    pub(crate) fn pass(&mut self, plain: PlainNumber, word: u32)
+        ensures { (idcode : ℕ) (h : History) (place : ℕ) → IsProgress idcode (progress_in self.old) h → IsProgress idcode (progress_in self.new) (entry (Write plain.register word) place ∷ h) }
     {
-        self.check = fold(self.check, register, word);
+        self.check = fold(self.check, plain.register, word);
     }
 
     /// Takes a written word that executes a command, or none, and says whether it takes a pending shutdown.

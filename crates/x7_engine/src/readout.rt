@@ -2,11 +2,11 @@
 ghost use Rattle.std.specs.Prelude.{◌≡◌, ◌≤◌, ◌<◌, ℕ, IsTrue, ◌↔◌, None, Some};
 ghost use Rattle.x7_packets.specs.History.{History};
 ghost use Rattle.x7_flow.specs.Standing.{FramesFit, FramesStandFor, HaveDue, read_entry, words_due};
-ghost use Rattle.x7_engine.specs.Readout.{GotAllBut};
+ghost use Rattle.x7_engine.specs.Readout.{GaveDue, GotAllBut, MayGive};
 ghost use Rattle.x7_engine.specs.ReadBuffer.{HoldsWithinMost, IsFull};
 ghost use Rattle.x7_engine.specs.Ready.{AreReady, RestsAtStop};
 ghost use Rattle.x7_engine.specs.Standing.{due_count};
-ghost use Rattle.x7_engine.specs.Entering.{AreAnswer, EntersAt, HaveHistory, OfHistory, change_of, read_entered};
+ghost use Rattle.x7_engine.specs.Entering.{AreAnswer, EntersAt, OfHistory, change_of, read_entered};
 
 use crate::due::Due;
 use crate::read_buffer::ReadBuf;
@@ -50,16 +50,13 @@ fn give_frames(frames: &mut Frames, part: &Part, count: u32, read: &mut ReadBuf)
 
 impl Registers {
     ghost use Rattle.x7_engine.specs.Standing.{counted_in, registers_in};
-    ghost use Rattle.x7_engine.specs.Course.{course_at};
-    ghost use Rattle.x7_engine.specs.Readout.{Gave};
 
     /// A read of `count` words of a register, which are due from now on.
     pub(crate) fn read(&mut self, part: &Part, register: u8, count: u32)
         requires ready { AreReady part.now self.old }
         requires some { 0 < count }
-        ensures at_rest { RestsAtStop self.new }
+        ensures rests { RestsAtStop part.now self.new }
         ensures counts { (n : ℕ) → counted_in self.new.stop n ≡ n }
-        ensures frames { self.new.frames ≡ self.old.frames }
         ensures stands { EntersAt (change_of part.now self.old self.new) (read_entered register count) }
         ensures reads { OfHistory part.now (registers_in self.old) (λ kept h place. AreAnswer part.now kept h (read_entry register count place) self.new.due) }
     {
@@ -75,13 +72,8 @@ impl Registers {
 
     /// Gives the words due to a buffer, as many as it has room for.
     fn give_due(&mut self, part: &Part, read: &mut ReadBuf)
-        requires going { self.old.stop ≡ None }
-        requires frames { FramesFit part.now self.old.frames }
-        requires history { HaveHistory part.now (registers_in self.old) }
-        ensures full { 0 < due_count self.new.due → IsFull read.new }
-        ensures going { self.new.stop ≡ None }
-        ensures frames { FramesFit part.now self.new.frames }
-        ensures given { OfHistory part.now (registers_in self.old) (λ kept h n. Gave (course_at part.now kept h n) (registers_in self.old) (registers_in self.new) read.old read.new) }
+        requires { MayGive part.now self.old }
+        ensures { GaveDue (change_of part.now self.old self.new) read.old read.new }
     {
         match self.due {
             Due::Nothing => (),
@@ -98,15 +90,10 @@ impl Registers {
 
     /// Gives the words due to a buffer, as many as it has room for, and says whether none is left.
     pub(crate) fn give(&mut self, part: &Part, read: &mut ReadBuf) -> bool
-        requires going { self.old.stop ≡ None }
-        requires frames { FramesFit part.now self.old.frames }
-        requires history { HaveHistory part.now (registers_in self.old) }
+        requires { MayGive part.now self.old }
         ensures none_left { IsTrue result ↔ (due_count self.new.due ≡ 0) }
-        ensures full { 0 < due_count self.new.due → IsFull read.new }
         ensures few { HoldsWithinMost read.new.most read.new.words }
-        ensures going { self.new.stop ≡ None }
-        ensures frames { FramesFit part.now self.new.frames }
-        ensures given { OfHistory part.now (registers_in self.old) (λ kept h n. Gave (course_at part.now kept h n) (registers_in self.old) (registers_in self.new) read.old read.new) }
+        ensures gave { GaveDue (change_of part.now self.old self.new) read.old read.new }
     {
         self.give_due(part, read);
         read.holds_few();

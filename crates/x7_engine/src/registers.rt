@@ -1,7 +1,7 @@
 //! The registers of a device, and what an access does to them.
-ghost use Rattle.std.specs.Prelude.{◌≡◌, ◌≤◌, ◌<◌, ◌+◌, ◌*◌, ◌/◌, ◌%◌, ◌&&◌, ℕ, ◌∷◌, [], true, false, Option, None, Some, IfSome, IfNone, ◌-◌, length, take};
+ghost use Rattle.std.specs.Prelude.{◌≡◌, ◌≤◌, ◌<◌, ◌+◌, ◌*◌, ◌/◌, ◌%◌, ◌&&◌, ℕ, [], true, Option, None, Some, ◌-◌, length};
 ghost use Rattle.x7_packets.specs.Cutting.{IsRun};
-ghost use Rattle.x7_packets.specs.History.{command_held, entered, entry, History, Write};
+ghost use Rattle.x7_packets.specs.History.{command_held, entered, History};
 ghost use Rattle.x7_part.specs.Part.{PartData};
 ghost use Rattle.x7_regs.specs.Register.{number_of};
 ghost use Rattle.x7_flow.specs.Settings.{AreSettingsAfter};
@@ -9,13 +9,14 @@ ghost use Rattle.x7_flow.specs.Standing.{FramesFit, FramesStandFor, word_to};
 ghost use Rattle.x7_flow.specs.Words.{TakesWords, words_before};
 ghost use Rattle.x7_engine.specs.Kept.{is_fallback};
 ghost use Rattle.x7_crc.specs.OpenWrites.{executed_after};
-ghost use Rattle.x7_engine.specs.Ready.{AreReady, LeavesBytes, LeavesDue, RestsAtStop, TakesUpTo};
-ghost use Rattle.x7_engine.specs.Registers.{has_effect};
+ghost use Rattle.x7_engine.specs.Ready.{AreReady, LeavesBytes, LeavesDue, RestsAtStop};
 ghost use Rattle.x7_engine.specs.Standing.{counted_in, due_count};
 ghost use Rattle.x7_engine.specs.State.{last_counted};
 ghost use Rattle.x7_engine.specs.Stops.{why_by_access, why_by_frames, or_else, stop_by};
 ghost use Rattle.x7_engine.specs.declared.kept.Kept.{Kept as KeptData};
-ghost use Rattle.x7_engine.specs.Entering.{AreRead, change_of, Enters, EntersAt, EntersIf, OfHistory, ReadsIf, RunEnters, RunReads, step_entered, up_to_stop, word_entered, words_entered};
+ghost use Rattle.x7_engine.specs.Taken.{TookFirst, TookWords, TookWrite};
+ghost use Rattle.x7_engine.specs.Targets.{target_number};
+ghost use Rattle.x7_engine.specs.Entering.{AreRead, change_of, Enters, EntersAt, EntersIf, OfHistory, ReadsIf, RunEnters, RunReads, step_entered, up_to_stop, word_entered};
 
 use crate::clock::Clock;
 use crate::controls::{Controls, is_dec, masked};
@@ -24,45 +25,15 @@ use crate::fault::Fault;
 use crate::kept::Kept;
 use crate::progress::{Progress, is_same_idcode};
 use crate::stop::Stop;
+use crate::target::{PlainNumber, Target};
 use crate::words::Words;
 use x7_crc::{executed, is};
 use x7_flow::{FrameSettings, Frames};
 use x7_packets::{Cut, Step};
 use x7_part::Part;
 use x7_pipeline::RunFault;
-use x7_regs::{Attempt, Command, Kind, Reg, reg_of};
+use x7_regs::{Attempt, Command, Kind, Reg};
 use x7_words::word_of;
-
-/// Whether a word written to the register does more than stay and be folded.
-fn has_effect(reg: Reg) -> bool
-    ensures { result ≡ has_effect (number_of reg) }
-{
-    match reg {
-        Reg::Crc
-        | Reg::Far
-        | Reg::Fdri
-        | Reg::Cmd
-        | Reg::Ctl0
-        | Reg::Lout
-        | Reg::Mfwr
-        | Reg::Cbc
-        | Reg::Idcode
-        | Reg::Timer
-        | Reg::Ctl1 => true,
-        _ => false,
-    }
-}
-
-/// The register with this number, where a word written to it does more than stay and be folded.
-fn effective(register: u8) -> Option<Reg>
-    ensures some { IfSome result (λ reg. number_of reg ≡ register) }
-    ensures none { IfNone result (has_effect register ≡ false) }
-{
-    match reg_of(register) {
-        Some(reg) if has_effect(reg) => Some(reg),
-        _ => None,
-    }
-}
 
 /// How many of the bytes taken end words that count, after a stop or none.
 fn counted(stop: Option<Stop>, taken: usize) -> usize
@@ -237,9 +208,7 @@ impl Registers {
     /// Takes a written word: it is folded, then stored, and then come its faults and effects.
     fn write(&mut self, part: &Part, reg: Reg, word: u32)
         requires ready { AreReady part.now self.old }
-        ensures stands { EntersAt (change_of part.now self.old self.new) (λ place h. entry (Write (number_of reg) word) place ∷ h) }
-        ensures counts { (n : ℕ) → counted_in self.new.stop n ≡ n }
-        ensures leaves { LeavesDue part.now self.old self.new }
+        ensures { TookWrite (change_of part.now self.old self.new) (number_of reg) word }
     {
         let idcode = part.idcode();
         let settings = self.settings();
@@ -255,34 +224,23 @@ impl Registers {
         self.stop = first_of(why, refused);
     }
 
-    /// Takes a word written to a register without an effect beside the check.
-    fn pass(&mut self, register: u8, word: u32)
-        requires register { register < 32 }
-        requires plain { has_effect register ≡ false }
-        requires going { self.old.stop ≡ None }
-        requires none_due { due_count self.old.due ≡ 0 }
-        ensures stands { (part : PartData) → EntersAt (change_of part self.old self.new) (λ place h. entry (Write register word) place ∷ h) }
-        ensures stop { self.new.stop ≡ self.old.stop }
-        ensures due { self.new.due ≡ self.old.due }
-        ensures frames { self.new.frames ≡ self.old.frames }
+    /// Takes a word written to a register in which it stays, and is folded.
+    fn pass(&mut self, plain: PlainNumber, word: u32)
+        ensures { (part : PartData) → AreReady part self.old → TookWrite (change_of part self.old self.new) plain.register word }
     {
-        self.progress.pass(register, word);
-        self.words.write(register, word);
+        self.progress.pass(plain, word);
+        self.words.write(plain.register, word);
     }
 
-    /// Takes a word written to a register by its number.
-    pub(crate) fn write_to(&mut self, part: &Part, register: u8, word: u32)
-        requires register { register < 32 }
+    /// Takes a written word.
+    pub(crate) fn write_to(&mut self, part: &Part, target: Target, word: u32)
         requires ready { AreReady part.now self.old }
-        ensures stands { EntersAt (change_of part.now self.old self.new) (λ place h. entry (Write register word) place ∷ h) }
-        ensures counts { (n : ℕ) → counted_in self.new.stop n ≡ n }
-        ensures leaves { LeavesDue part.now self.old self.new }
+        ensures { TookWrite (change_of part.now self.old self.new) (target_number target) word }
     {
-        let Some(reg) = effective(register) else {
-            self.pass(register, word);
-            return;
-        };
-        self.write(part, reg, word);
+        match target {
+            Target::Effective(reg) => self.write(part, reg, word),
+            Target::Plain(plain) => self.pass(plain, word),
+        }
     }
 
     /// Takes bytes before the word that they complete, up to the one at which the watchdog fires. Says how many are left.
@@ -304,40 +262,35 @@ impl Registers {
     }
 
     /// Takes the last bytes of a payload word, and then the word. Says how many bytes are left.
-    fn word(&mut self, part: &Part, register: u8, word: u32, count: usize) -> usize
-        requires register { register < 32 }
+    fn word(&mut self, part: &Part, target: Target, word: u32, count: usize) -> usize
         requires ready { AreReady part.now self.old }
         ensures left { LeavesBytes count result self.new }
         ensures some { 0 < count → result < count }
-        ensures leaves { LeavesDue part.now self.old self.new }
+        ensures leaves { LeavesDue (change_of part.now self.old self.new) }
         ensures stands { EntersIf (0 < count) (change_of part.now self.old self.new)
-            (up_to_stop (registers_in self.new) (word_entered register word count) (count - result)) (count - result) }
+            (up_to_stop (registers_in self.new) (word_entered (target_number target) word count) (count - result)) (count - result) }
     {
         let left = self.tick(part, count);
         if self.stop.is_some() {
             return left;
         }
-        self.write_to(part, register, word);
+        self.write_to(part, target, word);
         0
     }
 
-    /// Takes words written to a register without an effect beside the check, up to a byte at which the watchdog fires, and
-    /// says how many bytes these are.
-    fn pass_all(&mut self, part: &Part, register: u8, bytes: &[u8]) -> usize
+    /// Takes words written to a register in which they stay, and are folded, up to a byte at which the watchdog fires. Says
+    /// how many bytes these are.
+    fn pass_all(&mut self, part: &Part, plain: PlainNumber, bytes: &[u8]) -> usize
         requires ready { AreReady part.now self.old }
-        requires register { register < 32 }
-        requires plain { has_effect register ≡ false }
-        ensures takes { TakesUpTo (length bytes.now) result self.new }
-        ensures leaves { LeavesDue part.now self.old self.new }
-        ensures stands { EntersIf (length bytes.now % 4 ≡ 0) (change_of part.now self.old self.new)
-            (up_to_stop (registers_in self.new) (words_entered register bytes.now) result) result }
+        requires whole { length bytes.now % 4 ≡ 0 }
+        ensures { TookWords (change_of part.now self.old self.new) plain.register bytes.now result }
     {
         let left = self.tick(part, bytes.len());
         let taken = bytes.len() - left;
         let whole = counted(self.stop, taken) / 4 * 4;
         let prefix = &bytes[..whole];
-        self.progress.pass_all(register, prefix);
-        self.words.pass_all(register, prefix);
+        self.progress.pass_all(plain.register, prefix);
+        self.words.pass_all(plain.register, prefix);
         taken
     }
 
@@ -347,11 +300,7 @@ impl Registers {
         requires ready { AreReady part.now self.old }
         requires register { TakesWords reg }
         requires matched { self.old.progress.matched ≡ true }
-        ensures within { result ≤ length bytes.now }
-        ensures whole { result % 4 ≡ 0 }
-        ensures going { self.new.stop ≡ None }
-        ensures leaves { LeavesDue part.now self.old self.new }
-        ensures stands { Enters (change_of part.now self.old self.new) (words_entered (number_of reg) (take result bytes.now)) result }
+        ensures { TookFirst (change_of part.now self.old self.new) (number_of reg) bytes.now result }
     {
         let settings = self.settings();
         let before = self.clock.before_firing(part, bytes.len()) / 4 * 4;
@@ -369,11 +318,7 @@ impl Registers {
     /// Takes those of a payload's words that can be taken at once, and says how many bytes these are.
     fn at_once(&mut self, part: &Part, reg: Reg, bytes: &[u8]) -> usize
         requires ready { AreReady part.now self.old }
-        ensures within { result ≤ length bytes.now }
-        ensures whole { result % 4 ≡ 0 }
-        ensures going { self.new.stop ≡ None }
-        ensures leaves { LeavesDue part.now self.old self.new }
-        ensures stands { Enters (change_of part.now self.old self.new) (words_entered (number_of reg) (take result bytes.now)) result }
+        ensures { TookFirst (change_of part.now self.old self.new) (number_of reg) bytes.now result }
     {
         match reg {
             Reg::Fdri | Reg::Mfwr if self.progress.matched => self.frame_words(part, reg, bytes),
@@ -382,18 +327,15 @@ impl Registers {
     }
 
     /// Takes payload words one by one up to a byte that stops the device, and says how many bytes these are.
-    fn each(&mut self, part: &Part, register: u8, bytes: &[u8]) -> usize
+    fn each(&mut self, part: &Part, reg: Reg, bytes: &[u8]) -> usize
         requires ready { AreReady part.now self.old }
-        requires register { register < 32 }
         requires whole { length bytes.now % 4 ≡ 0 }
-        ensures takes { TakesUpTo (length bytes.now) result self.new }
-        ensures leaves { LeavesDue part.now self.old self.new }
-        ensures stands { Enters (change_of part.now self.old self.new) (up_to_stop (registers_in self.new) (words_entered register bytes.now) result) result }
+        ensures { TookWords (change_of part.now self.old self.new) (number_of reg) bytes.now result }
     {
         let (words, _) = bytes.as_chunks::<4>();
         let mut taken = 0;
         for word in words {
-            let left = self.word(part, register, word_of(*word), 4);
+            let left = self.word(part, Target::Effective(reg), word_of(*word), 4);
             taken += 4 - left;
             if self.stop.is_some() {
                 return taken;
@@ -404,28 +346,26 @@ impl Registers {
 
     /// Takes the payload words of a packet up to a byte that stops the device, and says how many bytes these are.
     #[inline(always)]
-    fn body(&mut self, part: &Part, register: u8, bytes: &[u8]) -> usize
+    fn body(&mut self, part: &Part, target: Target, bytes: &[u8]) -> usize
         requires ready { AreReady part.now self.old }
-        requires register { register < 32 }
         requires whole { length bytes.now % 4 ≡ 0 }
-        ensures takes { TakesUpTo (length bytes.now) result self.new }
-        ensures leaves { LeavesDue part.now self.old self.new }
-        ensures stands { Enters (change_of part.now self.old self.new) (up_to_stop (registers_in self.new) (words_entered register bytes.now) result) result }
+        ensures { TookWords (change_of part.now self.old self.new) (target_number target) bytes.now result }
     {
-        let Some(reg) = effective(register) else {
-            return self.pass_all(part, register, bytes);
-        };
-        let taken = self.at_once(part, reg, bytes);
-        taken + self.each(part, register, &bytes[taken..])
+        match target {
+            Target::Effective(reg) => {
+                let taken = self.at_once(part, reg, bytes);
+                taken + self.each(part, reg, &bytes[taken..])
+            }
+            Target::Plain(plain) => self.pass_all(part, plain, bytes),
+        }
     }
 
     /// Takes a word in a header's place.
     fn head(&mut self, part: &Part, step: Step)
         requires ready { AreReady part.now self.old }
         requires header { IsHeaderStep step }
-        ensures at_rest { RestsAtStop self.new }
+        ensures rests { RestsAtStop part.now self.new }
         ensures counts { (n : ℕ) → counted_in self.new.stop n ≡ n }
-        ensures frames { FramesFit part.now self.new.frames }
         ensures stands { EntersAt (change_of part.now self.old self.new) (λ place h. entered place step h) }
         ensures reads { OfHistory part.now (registers_in self.old) (λ kept h place. AreRead part.now kept h (entered place step h) self.new.due) }
     {
@@ -442,8 +382,7 @@ impl Registers {
         requires ready { AreReady part.now self.old }
         requires header { IsHeaderStep step }
         ensures left { LeavesBytes count result self.new }
-        ensures at_rest { RestsAtStop self.new }
-        ensures frames { FramesFit part.now self.new.frames }
+        ensures rests { RestsAtStop part.now self.new }
         ensures stands { EntersIf (0 < count) (change_of part.now self.old self.new)
             (up_to_stop (registers_in self.new) (step_entered step count) (count - result)) (count - result) }
         ensures reads { ReadsIf (0 < count) (change_of part.now self.old self.new) (up_to_stop (registers_in self.new) (step_entered step count) (count - result)) }
@@ -465,8 +404,7 @@ impl Registers {
         requires holds { HoldsRun run count }
         ensures left { LeavesBytes count result self.new }
         ensures quiet { TellsNothing run.entry → due_count self.new.due ≡ 0 }
-        ensures at_rest { RestsAtStop self.new }
-        ensures frames { FramesFit part.now self.new.frames }
+        ensures rests { RestsAtStop part.now self.new }
         ensures stands { RunEnters run.entry count (change_of part.now self.old self.new) (count - result) }
         ensures reads { RunReads run.entry count (change_of part.now self.old self.new) (count - result) }
     {
@@ -475,8 +413,9 @@ impl Registers {
             Cut::Skip(_) => self.tick(part, count),
             Cut::Sync => self.tick(part, count),
             Cut::Head(_, step) => self.header(part, step, count),
-            Cut::Word(register, word) => self.word(part, register, word, count),
-            Cut::Body(register, bytes) => bytes.len() - self.body(part, register, bytes),
+            Cut::Word(register, word) => self.word(part, Target::numbered(register), word, count),
+            Cut::Body(register, bytes) => bytes.len()
+                - self.body(part, Target::numbered(register), bytes),
         }
     }
 }

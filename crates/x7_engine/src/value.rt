@@ -10,8 +10,8 @@ ghost use Rattle.x7_engine.specs.Kept.{is_fallback};
 ghost use Rattle.x7_engine.specs.Registers.{has_ghigh};
 ghost use Rattle.x7_engine.specs.Standing.{due_count, frames_due};
 ghost use Rattle.x7_engine.specs.Startup.{startup_progress};
-ghost use Rattle.x7_engine.specs.Stops.{fault_of};
-ghost use Rattle.x7_engine.specs.Values.{attempt_of, cause_of, check_shown, is_crc_fault, is_id_fault, read_value, stat_parts, value_owing};
+ghost use Rattle.x7_engine.specs.Stops.{stop_fault};
+ghost use Rattle.x7_engine.specs.Values.{attempt_of, failure_of, check_shown, is_crc_fault, is_id_fault, read_value, stat_parts, value_owing};
 ghost use Rattle.x7_engine.specs.declared.kept.Kept.{Kept};
 
 use crate::fault::Fault;
@@ -22,7 +22,7 @@ use x7_regs::{Attempt, Cause, Kind, Reg, StatParts, boot_word, reg_of, stat_word
 
 /// Whether the stop is the fault `Crc`.
 fn is_crc(stop: Option<Stop>) -> bool
-    ensures { result ≡ is_crc_fault (fault_of stop) }
+    ensures { result ≡ is_crc_fault (stop_fault stop) }
 {
     match stop {
         Some(Stop::Fault(Fault::Crc { .. })) => true,
@@ -32,7 +32,7 @@ fn is_crc(stop: Option<Stop>) -> bool
 
 /// Whether the stop is the fault `Id`.
 fn is_id(stop: Option<Stop>) -> bool
-    ensures { result ≡ is_id_fault (fault_of stop) }
+    ensures { result ≡ is_id_fault (stop_fault stop) }
 {
     match stop {
         Some(Stop::Fault(Fault::Id { .. })) => true,
@@ -42,7 +42,7 @@ fn is_id(stop: Option<Stop>) -> bool
 
 /// What an attempt with this stop failed by, if it did.
 fn cause_in(stop: Option<Stop>) -> Option<Cause>
-    ensures { result ≡ cause_of (fault_of stop) false }
+    ensures { result ≡ failure_of (stop_fault stop) false }
 {
     match stop {
         Some(Stop::Fault(Fault::Id { .. })) => Some(Cause::Id),
@@ -68,7 +68,7 @@ impl Registers {
 
     /// The running check; at a fault `Crc` the one that was wanted.
     fn check(&self) -> u32
-        ensures { (part : PartData) (kept : Kept) (h : History) (n : ℕ) → RegistersStandFor part kept (registers_in self.now) h n → result ≡ check_shown (fault_of self.now.stop) h }
+        ensures { (part : PartData) (kept : Kept) (h : History) (n : ℕ) → RegistersStandFor part kept (registers_in self.now) h n → result ≡ check_shown (stop_fault self.now.stop) h }
     {
         match self.stop {
             Some(Stop::Fault(Fault::Crc { want, .. })) => want,
@@ -78,7 +78,7 @@ impl Registers {
 
     /// The word of STAT.
     fn stat(&self, part: &Part) -> u32
-        ensures { OfHistory part.now (registers_in self.now) (λ kept h n. result ≡ status_of (stat_parts part.now (fault_of self.now.stop) (startup_progress h n) (has_ghigh h))) }
+        ensures { OfHistory part.now (registers_in self.now) (λ kept h n. result ≡ status_of (stat_parts part.now (stop_fault self.now.stop) (startup_progress h n) (has_ghigh h))) }
     {
         let crc_error = is_crc(self.stop);
         let lines = self.clock.lines();
@@ -101,7 +101,7 @@ impl Registers {
 
     /// The present boot attempt, as long as the flash goes on.
     pub(crate) fn attempt(&self) -> Attempt
-        ensures { (part : PartData) (kept : Kept) (h : History) (n : ℕ) → RegistersStandFor part kept (registers_in self.now) h n → result ≡ attempt_of kept false (fault_of self.now.stop) h }
+        ensures { (part : PartData) (kept : Kept) (h : History) (n : ℕ) → RegistersStandFor part kept (registers_in self.now) h n → result ≡ attempt_of kept false (stop_fault self.now.stop) h }
     {
         Attempt {
             kind: self.kind,
@@ -120,7 +120,7 @@ impl Registers {
     /// The value of a register as it is read, and 0 for one that is only written and for frame data.
     #[rattlefmt::skip]
     pub(crate) fn value(&self, part: &Part, reg: Reg) -> u32
-        ensures { OfHistory part.now (registers_in self.now) (λ kept h n. result ≡ value_owing (course_at part.now kept h n) (fault_of self.now.stop) (frames_due self.now.due) reg) }
+        ensures { OfHistory part.now (registers_in self.now) (λ kept h n. result ≡ value_owing (course_at part.now kept h n) (stop_fault self.now.stop) (frames_due self.now.due) reg) }
     {
         match reg {
             Reg::Crc     => self.check(),

@@ -17,7 +17,7 @@ use Rattle.x7_engine.specs.State.{state_of, stop_in, why_of}
 use Rattle.x7_engine.specs.declared.kept.Kept.{Kept}
 use Rattle.x7_engine.specs.declared.stop.Stop.{Stop}
 use Rattle.x7_engine.specs.declared.stop.Stop.TheVariants as stop
-use Rattle.x7_engine.specs.Values.{cause_of}
+use Rattle.x7_engine.specs.Values.{failure_of}
 use Rattle.x7_regs.specs.declared.boot_status.Cause.{Cause}
 use Rattle.x7_effects.specs.Played.{PlaysFull, resting_after}
 use Rattle.x7_effects.proofs.Items.{writes_entered}
@@ -66,9 +66,9 @@ fails_not None e = absurd (cc)
 fails_not (Some c) e = absurd (cc)
 
 stops_not : (o : Option Stop) → ending_by o ≡ Some ending.Started → ⊥
-stops_not None e = fails_not (cause_of None false) e
+stops_not None e = fails_not (failure_of None false) e
 stops_not (Some stop.Iprog) e = absurd (cc)
-stops_not (Some (stop.Fault f)) e = fails_not (cause_of (Some f) false) e
+stops_not (Some (stop.Fault f)) e = fails_not (failure_of (Some f) false) e
 
 seven : (b : Bool) (o : Option Stop) → (if b then Some ending.Started else ending_by o) ≡ Some ending.Started → b ≡ true
 seven true o e = refl

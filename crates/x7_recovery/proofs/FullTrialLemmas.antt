@@ -23,7 +23,7 @@ use Rattle.x7_engine.specs.Kept.{is_fallback}
 use Rattle.x7_engine.specs.Registers.{wrote_iprog}
 use Rattle.x7_engine.specs.Rest.{AtRest}
 use Rattle.x7_engine.specs.State.{history_by, memory_in, state_of, stop_in, why_of}
-use Rattle.x7_engine.specs.Stops.{Stopped, fault_of}
+use Rattle.x7_engine.specs.Stops.{Stopped, stop_fault}
 use Rattle.x7_engine.specs.Values.{attempt_of}
 use Rattle.x7_engine.specs.declared.kept.Kept.{Kept}
 use Rattle.x7_effects.specs.Played.{PlaysFull, resting_after}
@@ -113,7 +113,7 @@ pub record StartsWith (part : PartData) (kept : Kept) (address : ℕ) (flash : L
 pub bootsts_is : (part : PartData) (kept : Kept) (bytes : List ℕ) (ignored : Bool) → stop_in part kept bytes ≡ None → (is_fallback kept.kind && wrote_iprog (history_of bytes)) ≡ ignored
     → (state_of part kept false bytes).bootsts ≡ boot_status_of (record { kind = kept.kind; cause = None; ignored = ignored }) kept.before
 bootsts_is part kept bytes ignored none e =
-    ap (λ (o : Option Stopped). boot_status_of (attempt_of kept false (fault_of (why_of o)) (history_by o (history_of bytes))) kept.before) none
+    ap (λ (o : Option Stopped). boot_status_of (attempt_of kept false (stop_fault (why_of o)) (history_by o (history_of bytes))) kept.before) none
     ∙ ap (λ (b : Bool). boot_status_of (record { kind = kept.kind; cause = None; ignored = b }) kept.before) e
 
 pub full_starts : (part : PartData) (kept : Kept) (bytes : List ℕ) (plan : PlanData) (address : ℕ) (flash more : List ℕ) (ignored : Bool) → AreBytes bytes → AtRest part kept bytes → NeverStarts (history_of bytes)

@@ -22,8 +22,8 @@ use Rattle.x7_engine.specs.Kept.{is_fallback}
 use Rattle.x7_engine.specs.Registers.{wrote_iprog}
 use Rattle.x7_engine.specs.Rest.{AtRest, LastGapGoesOn}
 use Rattle.x7_engine.specs.State.{history_by, kept_after, why_of, stop_in}
-use Rattle.x7_engine.specs.Stops.{Stopped, fault_of, why_at, stop_of, stopped_at}
-use Rattle.x7_engine.specs.Values.{cause_of}
+use Rattle.x7_engine.specs.Stops.{Stopped, stop_fault, why_at, stop_of, stopped_at}
+use Rattle.x7_engine.specs.Values.{failure_of}
 use Rattle.x7_engine.specs.declared.kept.Kept.{Kept}
 use Rattle.x7_engine.specs.declared.stop.Stop.TheVariants as stop
 use Rattle.x7_engine.proofs.ClockLemmas.{stop_of_access}
@@ -175,7 +175,7 @@ module _ (flash : List ℕ) (number start : ℕ) (o : HasOpen flash number start
         timer = last_word 17 0 (history_by s (history_of taken));
         bspi = last_word 31 0 (history_by s (history_of taken));
         kind = Iprog;
-        before = Some (record { kind = Power; cause = cause_of (fault_of (why_of s)) false; ignored = false });
+        before = Some (record { kind = Power; cause = failure_of (stop_fault (why_of s)) false; ignored = false });
       }) (taken_stop part)
       ∙ ap (λ (h : History). record {
         wbstar = last_word 16 0 (until (32 * number + 24) h);

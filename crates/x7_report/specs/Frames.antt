@@ -1,12 +1,16 @@
 -- The lines of frames, and which frames a report shows (this project's choice).
-use Rattle.std.specs.Prelude.{ℕ, ◌==◌, ◌&&◌, not, Bool, true, false, if◌then◌else◌, Option, None, Some, List, [], ◌∷◌, ◌++◌, codes, decimal, length}
+use Rattle.std.specs.Prelude.{ℕ, ◌*◌, ◌==◌, ◌&&◌, not, Bool, true, false, if◌then◌else◌, Option, None, Some, List, [], ◌∷◌, ◌++◌, codes, decimal, length}
 use Rattle.std.specs.List.{flat_map}
 use Rattle.x7_memory.specs.FrameMap.{FrameMap}
 use Rattle.x7_text.specs.Digits.{hex_word}
 
--- the most bytes that the lines of a group of frames take, which are written at once: 128 lines of a frame address and 255 words
+-- the most bytes that the line of a frame takes: one of an address and 255 words
+abbrev pub frame_line_room : ℕ
+frame_line_room = 2056
+
+-- the most bytes that the lines of a group of 128 frames take, which are written at once
 abbrev pub group_room : ℕ
-group_room = 263168
+group_room = 128 * frame_line_room
 
 -- the line of a frame: its address and the digits of its words
 unfoldable pub frame_text : ℕ → List ℕ → List ℕ

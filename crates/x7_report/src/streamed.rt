@@ -5,7 +5,7 @@ ghost use Rattle.x7_text.specs.Appends.{Appends};
 ghost use Rattle.x7_memory.specs.Frames.{AreFramesOf, frame_at};
 ghost use Rattle.x7_engine.specs.Past.{OfPast, memory_at, state_at};
 ghost use Rattle.x7_engine.specs.Standing.{NoWordDue};
-ghost use Rattle.x7_report.specs.Frames.{group_room, frame_text_if, lines_text};
+ghost use Rattle.x7_report.specs.Frames.{frame_line_room, frame_text_if, group_room, lines_text};
 ghost use Rattle.x7_report.specs.Report.{report_text, state_reported};
 
 use crate::frames::{put_frame, shown_frames};
@@ -20,14 +20,17 @@ use x7_words::{Failed, NoMemory, Sink, write_all};
 /// How many frames' lines are written at once.
 const GROUP: usize = 128;
 
+/// The most bytes that the line of a frame takes: one of an address and 255 words.
+const FRAME_LINE_ROOM: usize = 2_056;
+
 /// The most bytes that the lines of a group take.
-const GROUP_ROOM: usize = 2_056 * GROUP;
+const GROUP_ROOM: usize = GROUP * FRAME_LINE_ROOM;
 
 /// Appends the line of the frame at an address. A frame has at most 255 words.
 fn put_frame_at(text: &mut Vec<u8>, part: &Part, memory: &Memory, far: u32)
     requires memory { AreFramesOf part.now memory.now }
-    requires room { vec_len text.old + 2056 ≤ vec_capacity text.old }
-    ensures appends { Appends text.old text.new (frame_text_if far (frame_at part.now memory.now far)) 2056 }
+    requires room { vec_len text.old + frame_line_room ≤ vec_capacity text.old }
+    ensures appends { Appends text.old text.new (frame_text_if far (frame_at part.now memory.now far)) frame_line_room }
 {
     let _words = part.words();
     match memory.frame(part, far) {
@@ -39,8 +42,8 @@ fn put_frame_at(text: &mut Vec<u8>, part: &Part, memory: &Memory, far: u32)
 /// Appends the lines of the frames at these addresses.
 fn put_lines(text: &mut Vec<u8>, part: &Part, memory: &Memory, fars: &[u32])
     requires memory { AreFramesOf part.now memory.now }
-    requires room { vec_len text.old + 2056 * length fars.now ≤ vec_capacity text.old }
-    ensures appends { Appends text.old text.new (lines_text (frame_at part.now memory.now) fars.now) (2056 * length fars.now) }
+    requires room { vec_len text.old + frame_line_room * length fars.now ≤ vec_capacity text.old }
+    ensures appends { Appends text.old text.new (lines_text (frame_at part.now memory.now) fars.now) (frame_line_room * length fars.now) }
 {
     for far in fars {
         put_frame_at(text, part, memory, *far);

@@ -4,7 +4,7 @@ ghost use Rattle.x7_packets.specs.Cutting.{between};
 ghost use Rattle.x7_engine.specs.UntilRead.{RoomBefore};
 ghost use Rattle.x7_engine.specs.Phases.{soonest};
 ghost use Rattle.x7_engine.specs.Standing.{HasBegun, HasStopped, NoWordDue, fed_more, fed_of};
-ghost use Rattle.x7_engine.specs.Turns.{HasFewerCalls, IsUsedUp, MayTake, Turned};
+ghost use Rattle.x7_engine.specs.Turns.{MayTake, TookTurn};
 ghost use Rattle.x7_engine.specs.UntilStarted.{HasNotBegun, NoneStarted, says_started, taken_until};
 ghost use Rattle.x7_engine.specs.declared.until_started.UntilStarted.TheVariants as until;
 ghost use Rattle.x7_engine.specs.Past.{AnswersUntilFor, OfPast, TakesJust, GivesWordsNext, later, part_until, StaysAtZero, started_at, state_at, stop_at, reads_given_at};
@@ -51,9 +51,7 @@ impl Device {
     /// Takes the next turn of a piece, up to a byte at which startup may end, and says whether the piece is used up.
     fn turn_until_started(&mut self, piece: &[u8], at: &mut usize) -> bool
         requires { MayTake self.old piece.now at.old }
-        ensures turned { Turned self.old self.new piece.now at.old at.new }
-        ensures used_up { IsTrue result → IsUsedUp self.new piece.now at.new }
-        ensures goes { result ≡ false → HasFewerCalls self.old self.new piece.now at.old at.new }
+        ensures took { TookTurn self.old self.new piece.now at.old at.new result }
         ensures first { OfPast self.old (λ p. started_at p ≡ false → NoneStarted p.part p.kept p.bytes (between piece.now at.old at.new) (at.new - at.old)) }
     {
         let end = self.turn_end(*at, piece.len());

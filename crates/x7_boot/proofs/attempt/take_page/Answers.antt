@@ -2,9 +2,9 @@ use Rattle.std.proofs.Common.{◌++◌, List, ℕ, false, Option, length, take, 
 use Rattle.x7_regs.specs.declared.boot_status.Cause.{Cause}
 use Rattle.x7_engine.specs.ReadBuffer.{ReadBufState}
 use Rattle.x7_engine.specs.State.{why_of, stop_in}
-use Rattle.x7_engine.specs.Stops.{fault_of}
+use Rattle.x7_engine.specs.Stops.{stop_fault}
 use Rattle.x7_engine.specs.UntilStarted.{taken_until}
-use Rattle.x7_engine.specs.Values.{cause_of}
+use Rattle.x7_engine.specs.Values.{failure_of}
 use Rattle.x7_engine.specs.declared.fault.Fault.{Fault}
 use Rattle.x7_engine.specs.declared.until_started.UntilStarted.{UntilStarted}
 use Rattle.x7_boot.specs.Attempt.{Took, past_in_flash}
@@ -19,7 +19,7 @@ pub returns-in-Started : goal.returns-in-Started
 returns-in-Started c = λ part kept bytes s going none.
     let fed = c.feed_until_started.ensures in
     let all : List ℕ = bytes ++ take (taken_until (length c.args.page.now) c.feed_until_started.result) c.args.page.now in
-    let cause : Option Cause = cause_of (fault_of (why_of (stop_in part kept all))) false in
+    let cause : Option Cause = failure_of (stop_fault (why_of (stop_in part kept all))) false in
     let dropping = ap (λ (r : ReadBufState). r.most) (fed.reads part kept false bytes s).1 ∙ ap (λ (r : ReadBufState). r.most) c.dropping-read.ensures in
     subst (λ (r : UntilStarted). Took (past_in_flash part kept bytes) c.feed_until_started.new.self c.args.page.now (step_until r cause)) c.in-Started.is
     (page_took part kept c.feed_until_started.new.self bytes c.args.page.now c.feed_until_started.new.read c.feed_until_started.result cause fed.within
@@ -30,7 +30,7 @@ returns c = λ part kept bytes s going none.
     let fed = c.feed_until_started.ensures in
     let all : List ℕ = bytes ++ take (taken_until (length c.args.page.now) c.feed_until_started.result) c.args.page.now in
     let stands = fed.stands part kept false bytes s in
-    let cause = c.cause_in.ensures ∙ ap (λ (f : Option Fault). cause_of f false) (c.fault.ensures part kept false all stands) in
+    let cause = c.cause_in.ensures ∙ ap (λ (f : Option Fault). failure_of f false) (c.fault.ensures part kept false all stands) in
     let dropping = ap (λ (r : ReadBufState). r.most) (fed.reads part kept false bytes s).1 ∙ ap (λ (r : ReadBufState). r.most) c.dropping-read.ensures in
     subst (λ (x : Step). Took (past_in_flash part kept bytes) c.feed_until_started.new.self c.args.page.now x) (sym c.step_of.ensures)
     (subst (λ (r : UntilStarted). Took (past_in_flash part kept bytes) c.feed_until_started.new.self c.args.page.now (step_until r c.cause_in.result)) c.in-Fed.is

@@ -1,4 +1,4 @@
-use Rattle.std.proofs.Common.{◌≡◌, ◌++◌, ◌+◌, ◌*◌, ◌/◌, ◌%◌, ◌∙◌, ap, sym, List, ℕ, arith, append_assoc, length}
+use Rattle.std.proofs.Common.{◌++◌, ◌/◌, ◌∙◌, ap, sym, List, ℕ, arith, append_assoc, length}
 use Rattle.std.specs.List.{flat_map}
 use Rattle.std.specs.Simd.{first_chunks}
 use Rattle.x7_text.specs.Digits.{hex_word}

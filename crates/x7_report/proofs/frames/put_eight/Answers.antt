@@ -1,4 +1,4 @@
-use Rattle.std.proofs.Common.{◌≡◌, ◌++◌, ◌<◌, ◌^◌, ◌∙◌, ap, List, ℕ, rules}
+use Rattle.std.proofs.Common.{◌++◌, ◌<◌, ◌^◌, ◌∙◌, ap, List, ℕ, rules}
 use Rattle.std.specs.List.{flat_map}
 use Rattle.x7_text.specs.Digits.{hex_byte}
 use Rattle.x7_words.proofs.ListLemmas.{all_from_places}

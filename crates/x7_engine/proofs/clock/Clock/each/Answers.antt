@@ -9,17 +9,20 @@ loop-i-init c = record {
   clock = λ kept h n l s. let none : n + 0 ≡ n = omega arith in (subst (λ (k : ℕ). IsClock c.args.part.now kept (clock_in c.args.self.now) h k) (sym none) s, refl);
 }
 
-pub returns-then-byte-clause-ticks : goal.returns-then-byte-clause-ticks
-returns-then-byte-clause-ticks c = λ kept h n l s.
-    let before = c.loop-i.invariant.clock kept h n l s in
-    let sum : n + c.loop-i.i + 1 ≡ n + (c.loop-i.i + 1) = omega arith in
-    let within : newest_place h ≤ n + c.loop-i.i = omega (arith, l) in
-    let few : c.loop-i.i < c.args.count = c.loop-i-test.true in (
-      omega arith,
-      omega (arith, few),
-      subst (λ (k : ℕ). IsClock c.args.part.now kept (clock_in c.byte.new.self) h k) sum (c.byte.ensures.stands kept h (n + c.loop-i.i) within before.0),
-      first_is c.args.part.now kept h n c.loop-i.i c.args.count few before.1 (sym (c.byte.ensures.fires kept h (n + c.loop-i.i) within before.0) ∙ c.if-byte.true),
-    )
+pub returns-then-byte : goal.returns-then-byte
+returns-then-byte c = record {
+  within = let few : c.loop-i.i < c.args.count = c.loop-i-test.true in (omega arith, omega (arith, few));
+  ticks = λ kept h n l s. (
+      let before = c.loop-i.invariant.clock kept h n l s in
+      let sum : n + c.loop-i.i + 1 ≡ n + (c.loop-i.i + 1) = omega arith in
+      let within : newest_place h ≤ n + c.loop-i.i = omega (arith, l) in
+      let few : c.loop-i.i < c.args.count = c.loop-i-test.true in (
+        omega arith,
+        omega (arith, few),
+        subst (λ (k : ℕ). IsClock c.args.part.now kept (clock_in c.byte.new.self) h k) sum (c.byte.ensures.stands kept h (n + c.loop-i.i) within before.0),
+        first_is c.args.part.now kept h n c.loop-i.i c.args.count few before.1 (sym (c.byte.ensures.fires kept h (n + c.loop-i.i) within before.0) ∙ c.if-byte.true),
+      ));
+}
 
 pub loop-i-preserved : goal.loop-i-preserved
 loop-i-preserved c = record {
@@ -33,11 +36,14 @@ loop-i-preserved c = record {
       );
 }
 
-pub returns-then-has_ended-clause-ticks : goal.returns-then-has_ended-clause-ticks
-returns-then-has_ended-clause-ticks c = λ kept h n l s.
-    let before = c.loop-i.invariant.clock kept h n l s in
-    let sum : n + c.loop-i.i + 1 ≡ n + (c.loop-i.i + 1) = omega arith in
-    let within : newest_place h ≤ n + c.loop-i.i = omega (arith, l) in
-    let clock = subst (λ (k : ℕ). IsClock c.args.part.now kept (clock_in c.byte.new.self) h k) sum (c.byte.ensures.stands kept h (n + c.loop-i.i) within before.0) in
-    let none = none_more c.args.part.now kept h n c.loop-i.i before.1 (sym (c.byte.ensures.fires kept h (n + c.loop-i.i) within before.0) ∙ c.if-byte.false) in
-    c.go_on.ensures.ticks kept h n (record { newest = l; quiet = none; ended = sym (c.has_ended.ensures.value c.args.part.now h (n + (c.loop-i.i + 1)) clock.startup) ∙ c.if-has_ended.true; stands = clock })
+pub returns-then-has_ended : goal.returns-then-has_ended
+returns-then-has_ended c = record {
+  within = c.go_on.ensures.within;
+  ticks = λ kept h n l s. (
+      let before = c.loop-i.invariant.clock kept h n l s in
+      let sum : n + c.loop-i.i + 1 ≡ n + (c.loop-i.i + 1) = omega arith in
+      let within : newest_place h ≤ n + c.loop-i.i = omega (arith, l) in
+      let clock = subst (λ (k : ℕ). IsClock c.args.part.now kept (clock_in c.byte.new.self) h k) sum (c.byte.ensures.stands kept h (n + c.loop-i.i) within before.0) in
+      let none = none_more c.args.part.now kept h n c.loop-i.i before.1 (sym (c.byte.ensures.fires kept h (n + c.loop-i.i) within before.0) ∙ c.if-byte.false) in
+      c.go_on.ensures.ticks kept h n (record { newest = l; quiet = none; ended = sym (c.has_ended.ensures.value c.args.part.now h (n + (c.loop-i.i + 1)) clock.startup) ∙ c.if-has_ended.true; stands = clock }));
+}

@@ -101,34 +101,34 @@ pub returns-then-turn_until_started-clause-stands : goal.returns-then-turn_until
 returns-then-turn_until_started-clause-stands c = λ part kept wrapped bytes s.
     let piece : List ℕ = c.args.piece.now in
     let at : ℕ = c.turn_until_started.new.at in
-    let used = c.turn_until_started.ensures.used_up c.if-turn_until_started.true in
+    let used = c.turn_until_started.ensures.took.used_up c.if-turn_until_started.true in
     let count : taken_until (length piece) c.answer-then-turn_until_started.result ≡ at = count_is c.answer-then-turn_until_started.result c.started-then-turn_until_started.result fed.All (length piece) at c.answer-then-turn_until_started.ensures (sym used.all) in
     subst (λ (k : ℕ). DeviceStandsFor part kept wrapped c.turn_until_started.new.self (bytes ++ take k piece)) (sym count)
-    (stands_on part kept wrapped c.give.new.self c.turn_until_started.new.self bytes piece c.runs.at at c.turn_until_started.ensures.turned.forward (c.turn_until_started.ensures.turned.turn.stands part kept wrapped)
+    (stands_on part kept wrapped c.give.new.self c.turn_until_started.new.self bytes piece c.runs.at at c.turn_until_started.ensures.took.turned.forward (c.turn_until_started.ensures.took.turned.turn.stands part kept wrapped)
     (c.give.ensures.given part kept wrapped (bytes ++ take c.runs.at piece) (c.runs.invariant.stands part kept wrapped bytes s)).stands)
 
 pub returns-then-turn_until_started-clause-first : goal.returns-then-turn_until_started-clause-first
 returns-then-turn_until_started-clause-first c = λ part kept wrapped bytes s.
     let piece : List ℕ = c.args.piece.now in
     let at : ℕ = c.turn_until_started.new.at in
-    let used = c.turn_until_started.ensures.used_up c.if-turn_until_started.true in
+    let used = c.turn_until_started.ensures.took.used_up c.if-turn_until_started.true in
     let count : taken_until (length piece) c.answer-then-turn_until_started.result ≡ at = count_is c.answer-then-turn_until_started.result c.started-then-turn_until_started.result fed.All (length piece) at c.answer-then-turn_until_started.ensures (sym used.all) in
     let taken : List ℕ = bytes ++ take c.runs.at piece in
     let given = c.give.ensures.given part kept wrapped taken (c.runs.invariant.stands part kept wrapped bytes s) in
     let not : has_started part kept taken ≡ false = sym (c.started-in-runs.ensures part kept wrapped taken given.stands) ∙ c.if-started.false in
     subst (NoneStarted part kept bytes piece) (sym count)
-    (none_on part kept bytes piece c.runs.at at c.turn_until_started.ensures.turned.forward (c.runs.invariant.first part kept wrapped bytes s) (c.turn_until_started.ensures.first part kept wrapped taken given.stands not))
+    (none_on part kept bytes piece c.runs.at at c.turn_until_started.ensures.took.turned.forward (c.runs.invariant.first part kept wrapped bytes s) (c.turn_until_started.ensures.first part kept wrapped taken given.stands not))
 
 pub returns-then-turn_until_started-clause-started : goal.returns-then-turn_until_started-clause-started
 returns-then-turn_until_started-clause-started c = λ part kept wrapped bytes s due.
     let piece : List ℕ = c.args.piece.now in
     let at : ℕ = c.turn_until_started.new.at in
-    let used = c.turn_until_started.ensures.used_up c.if-turn_until_started.true in
+    let used = c.turn_until_started.ensures.took.used_up c.if-turn_until_started.true in
     let count : taken_until (length piece) c.answer-then-turn_until_started.result ≡ at = count_is c.answer-then-turn_until_started.result c.started-then-turn_until_started.result fed.All (length piece) at c.answer-then-turn_until_started.ensures (sym used.all) in
     let taken : List ℕ = bytes ++ take c.runs.at piece in
     let given = c.give.ensures.given part kept wrapped taken (c.runs.invariant.stands part kept wrapped bytes s) in
     let here : DeviceStandsFor part kept wrapped c.turn_until_started.new.self (bytes ++ take at piece) =
-    stands_on part kept wrapped c.give.new.self c.turn_until_started.new.self bytes piece c.runs.at at c.turn_until_started.ensures.turned.forward (c.turn_until_started.ensures.turned.turn.stands part kept wrapped) given.stands in
+    stands_on part kept wrapped c.give.new.self c.turn_until_started.new.self bytes piece c.runs.at at c.turn_until_started.ensures.took.turned.forward (c.turn_until_started.ensures.took.turned.turn.stands part kept wrapped) given.stands in
     ap says_started c.answer-then-turn_until_started.ensures ∙ says_answer c.started-then-turn_until_started.result fed.All at
     ∙ c.started-then-turn_until_started.ensures part kept wrapped (bytes ++ take at piece) here
     ∙ ap (λ (k : ℕ). has_started part kept (bytes ++ take k piece)) (sym count)
@@ -138,12 +138,12 @@ returns-then-turn_until_started-clause-answer c = λ part kept wrapped bytes s.
     let piece : List ℕ = c.args.piece.now in
     let at : ℕ = c.turn_until_started.new.at in
     let all : List ℕ = bytes ++ take at piece in
-    let used = c.turn_until_started.ensures.used_up c.if-turn_until_started.true in
+    let used = c.turn_until_started.ensures.took.used_up c.if-turn_until_started.true in
     let count : taken_until (length piece) c.answer-then-turn_until_started.result ≡ at = count_is c.answer-then-turn_until_started.result c.started-then-turn_until_started.result fed.All (length piece) at c.answer-then-turn_until_started.ensures (sym used.all) in
     let taken : List ℕ = bytes ++ take c.runs.at piece in
     let given = c.give.ensures.given part kept wrapped taken (c.runs.invariant.stands part kept wrapped bytes s) in
     let here : DeviceStandsFor part kept wrapped c.turn_until_started.new.self all =
-    stands_on part kept wrapped c.give.new.self c.turn_until_started.new.self bytes piece c.runs.at at c.turn_until_started.ensures.turned.forward (c.turn_until_started.ensures.turned.turn.stands part kept wrapped) given.stands in
+    stands_on part kept wrapped c.give.new.self c.turn_until_started.new.self bytes piece c.runs.at at c.turn_until_started.ensures.took.turned.forward (c.turn_until_started.ensures.took.turned.turn.stands part kept wrapped) given.stands in
     subst (λ (k : ℕ). AnswersUntil (past_of part kept wrapped (bytes ++ take k piece)) c.turn_until_started.new.self c.give.new.read c.answer-then-turn_until_started.result) (sym count)
     (subst (AnswersUntil (past_of part kept wrapped all) c.turn_until_started.new.self c.give.new.read) (sym c.answer-then-turn_until_started.ensures)
     (answers_until (past_of part kept wrapped all) c.turn_until_started.new.self c.give.new.read c.started-then-turn_until_started.result fed.All at used.none_due (here.stop_is ∙ ap (stopped_at (length all)) used.going, used.none_due)))
@@ -152,24 +152,24 @@ pub returns-then-turn_until_started-clause-reads : goal.returns-then-turn_until_
 returns-then-turn_until_started-clause-reads c = λ part kept wrapped bytes s.
     let piece : List ℕ = c.args.piece.now in
     let at : ℕ = c.turn_until_started.new.at in
-    let used = c.turn_until_started.ensures.used_up c.if-turn_until_started.true in
+    let used = c.turn_until_started.ensures.took.used_up c.if-turn_until_started.true in
     let count : taken_until (length piece) c.answer-then-turn_until_started.result ≡ at = count_is c.answer-then-turn_until_started.result c.started-then-turn_until_started.result fed.All (length piece) at c.answer-then-turn_until_started.ensures (sym used.all) in
     let told : (more : List ℕ) × (c.give.new.read ≡ with_words c.args.read.now more) × (reads_given part kept c.turn_until_started.new.self (bytes ++ take at piece) ≡ reads_given part kept c.args.self.now bytes ++ more) =
     read_here part kept wrapped c.runs.self c.give.new.self c.turn_until_started.new.self c.args.read.now c.runs.read c.give.new.read bytes piece (reads_given part kept c.args.self.now bytes) c.runs.at at
-    (c.give.ensures.given part kept wrapped (bytes ++ take c.runs.at piece) (c.runs.invariant.stands part kept wrapped bytes s)) c.turn_until_started.ensures.turned.forward (c.turn_until_started.ensures.turned.turn.silent part kept wrapped) (c.runs.invariant.reads part kept wrapped bytes s) in
+    (c.give.ensures.given part kept wrapped (bytes ++ take c.runs.at piece) (c.runs.invariant.stands part kept wrapped bytes s)) c.turn_until_started.ensures.took.turned.forward (c.turn_until_started.ensures.took.turned.turn.silent part kept wrapped) (c.runs.invariant.reads part kept wrapped bytes s) in
     (told.0, told.1, ap (λ (k : ℕ). reads_given part kept c.turn_until_started.new.self (bytes ++ take k piece)) count ∙ told.2)
 
 pub returns-then-turn_until_started-clause-room : goal.returns-then-turn_until_started-clause-room
 returns-then-turn_until_started-clause-room c = λ part kept wrapped bytes s.
     let piece : List ℕ = c.args.piece.now in
-    let used = c.turn_until_started.ensures.used_up c.if-turn_until_started.true in
+    let used = c.turn_until_started.ensures.took.used_up c.if-turn_until_started.true in
     let count : taken_until (length piece) c.answer-then-turn_until_started.result ≡ c.turn_until_started.new.at = count_is c.answer-then-turn_until_started.result c.started-then-turn_until_started.result fed.All (length piece) c.turn_until_started.new.at c.answer-then-turn_until_started.ensures (sym used.all) in
     subst (λ (k : ℕ). RoomBefore (record { part = part; kept = kept; wrapped = wrapped; bytes = bytes }) piece k (reads_given part kept c.args.self.now bytes) c.args.read.now) (sym count) (
     let taken : List ℕ = bytes ++ take c.runs.at c.args.piece.now in
     let gives = c.give.ensures.given part kept wrapped taken (c.runs.invariant.stands part kept wrapped bytes s) in
     let due : NoWordDue c.give.new.self = c.give.ensures.none_left.0 c.if-not-give.false in
-    room_read_on part kept wrapped c.give.new.self c.turn_until_started.new.self c.args.read.now c.give.new.read bytes c.args.piece.now (reads_given part kept c.args.self.now bytes) c.runs.at c.turn_until_started.new.at c.turn_until_started.ensures.turned.forward c.turn_until_started.ensures.turned.within
-    c.give.ensures.going due gives.stands (c.turn_until_started.ensures.turned.turn.stands part kept wrapped taken gives.stands) (c.turn_until_started.ensures.turned.turn.commands part kept wrapped taken gives.stands) c.give.ensures.few
+    room_read_on part kept wrapped c.give.new.self c.turn_until_started.new.self c.args.read.now c.give.new.read bytes c.args.piece.now (reads_given part kept c.args.self.now bytes) c.runs.at c.turn_until_started.new.at c.turn_until_started.ensures.took.turned.forward c.turn_until_started.ensures.took.turned.within
+    c.give.ensures.going due gives.stands (c.turn_until_started.ensures.took.turned.turn.stands part kept wrapped taken gives.stands) (c.turn_until_started.ensures.took.turned.turn.commands part kept wrapped taken gives.stands) c.give.ensures.few
     (now_given part kept wrapped c.runs.self c.give.new.self c.args.read.now c.runs.read c.give.new.read taken (reads_given part kept c.args.self.now bytes) gives (c.runs.invariant.reads part kept wrapped bytes s))
     (c.runs.invariant.room part kept wrapped bytes s))
 
@@ -181,28 +181,28 @@ runs-preserved c =
     let at : ℕ = c.turn_until_started.new.at in
     let same : c.give.new.self.taken ≡ c.runs.self.taken = c.give.ensures.taken in
     record {
-      within = c.turn_until_started.ensures.turned.within;
-      part = c.turn_until_started.ensures.turned.turn.part ∙ c.give.ensures.part ∙ c.runs.invariant.part;
-      taken = omega (arith, same, c.turn_until_started.ensures.turned.taken, c.turn_until_started.ensures.turned.forward, c.runs.invariant.taken);
-      fed = omega (arith, c.turn_until_started.ensures.turned.fed, c.give.ensures.fed, c.runs.invariant.fed, c.turn_until_started.ensures.turned.forward);
-      fits = omega (arith, same, c.turn_until_started.ensures.turned.taken, c.turn_until_started.ensures.turned.forward, c.turn_until_started.ensures.turned.within, c.runs.invariant.fits);
+      within = c.turn_until_started.ensures.took.turned.within;
+      part = c.turn_until_started.ensures.took.turned.turn.part ∙ c.give.ensures.part ∙ c.runs.invariant.part;
+      taken = omega (arith, same, c.turn_until_started.ensures.took.turned.taken, c.turn_until_started.ensures.took.turned.forward, c.runs.invariant.taken);
+      fed = omega (arith, c.turn_until_started.ensures.took.turned.fed, c.give.ensures.fed, c.runs.invariant.fed, c.turn_until_started.ensures.took.turned.forward);
+      fits = omega (arith, same, c.turn_until_started.ensures.took.turned.taken, c.turn_until_started.ensures.took.turned.forward, c.turn_until_started.ensures.took.turned.within, c.runs.invariant.fits);
       stands = λ part kept wrapped bytes s.
-          stands_on part kept wrapped c.give.new.self c.turn_until_started.new.self bytes piece c.runs.at at c.turn_until_started.ensures.turned.forward (c.turn_until_started.ensures.turned.turn.stands part kept wrapped)
+          stands_on part kept wrapped c.give.new.self c.turn_until_started.new.self bytes piece c.runs.at at c.turn_until_started.ensures.took.turned.forward (c.turn_until_started.ensures.took.turned.turn.stands part kept wrapped)
           (c.give.ensures.given part kept wrapped (bytes ++ take c.runs.at piece) (c.runs.invariant.stands part kept wrapped bytes s)).stands;
       first = λ part kept wrapped bytes s.
           let taken : List ℕ = bytes ++ take c.runs.at piece in
           let given = c.give.ensures.given part kept wrapped taken (c.runs.invariant.stands part kept wrapped bytes s) in
           let not : has_started part kept taken ≡ false = sym (c.started-in-runs.ensures part kept wrapped taken given.stands) ∙ c.if-started.false in
-          none_on part kept bytes piece c.runs.at at c.turn_until_started.ensures.turned.forward (c.runs.invariant.first part kept wrapped bytes s) (c.turn_until_started.ensures.first part kept wrapped taken given.stands not);
+          none_on part kept bytes piece c.runs.at at c.turn_until_started.ensures.took.turned.forward (c.runs.invariant.first part kept wrapped bytes s) (c.turn_until_started.ensures.first part kept wrapped taken given.stands not);
       reads = λ part kept wrapped bytes s.
           read_here part kept wrapped c.runs.self c.give.new.self c.turn_until_started.new.self c.args.read.now c.runs.read c.give.new.read bytes piece (reads_given part kept c.args.self.now bytes) c.runs.at at
-          (c.give.ensures.given part kept wrapped (bytes ++ take c.runs.at piece) (c.runs.invariant.stands part kept wrapped bytes s)) c.turn_until_started.ensures.turned.forward (c.turn_until_started.ensures.turned.turn.silent part kept wrapped) (c.runs.invariant.reads part kept wrapped bytes s);
+          (c.give.ensures.given part kept wrapped (bytes ++ take c.runs.at piece) (c.runs.invariant.stands part kept wrapped bytes s)) c.turn_until_started.ensures.took.turned.forward (c.turn_until_started.ensures.took.turned.turn.silent part kept wrapped) (c.runs.invariant.reads part kept wrapped bytes s);
       room = λ part kept wrapped bytes s. (
           let taken : List ℕ = bytes ++ take c.runs.at c.args.piece.now in
           let gives = c.give.ensures.given part kept wrapped taken (c.runs.invariant.stands part kept wrapped bytes s) in
           let due : NoWordDue c.give.new.self = c.give.ensures.none_left.0 c.if-not-give.false in
-          room_read_on part kept wrapped c.give.new.self c.turn_until_started.new.self c.args.read.now c.give.new.read bytes c.args.piece.now (reads_given part kept c.args.self.now bytes) c.runs.at c.turn_until_started.new.at c.turn_until_started.ensures.turned.forward c.turn_until_started.ensures.turned.within
-          c.give.ensures.going due gives.stands (c.turn_until_started.ensures.turned.turn.stands part kept wrapped taken gives.stands) (c.turn_until_started.ensures.turned.turn.commands part kept wrapped taken gives.stands) c.give.ensures.few
+          room_read_on part kept wrapped c.give.new.self c.turn_until_started.new.self c.args.read.now c.give.new.read bytes c.args.piece.now (reads_given part kept c.args.self.now bytes) c.runs.at c.turn_until_started.new.at c.turn_until_started.ensures.took.turned.forward c.turn_until_started.ensures.took.turned.within
+          c.give.ensures.going due gives.stands (c.turn_until_started.ensures.took.turned.turn.stands part kept wrapped taken gives.stands) (c.turn_until_started.ensures.took.turned.turn.commands part kept wrapped taken gives.stands) c.give.ensures.few
           (now_given part kept wrapped c.runs.self c.give.new.self c.args.read.now c.runs.read c.give.new.read taken (reads_given part kept c.args.self.now bytes) gives (c.runs.invariant.reads part kept wrapped bytes s))
           (c.runs.invariant.room part kept wrapped bytes s));
       stopped = λ e. absurd (let none : true ≡ false = sym e ∙ ap (λ (d : DeviceState). is_some d.registers.stop) (sym (c.runs.invariant.stopped e).0) ∙ sym (ap (λ (o : Option Stop). is_some o) c.in_default.ensures) in cc);

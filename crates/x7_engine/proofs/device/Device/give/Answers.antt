@@ -21,7 +21,7 @@ returns-clause-given c = λ wanted kept wrapped bytes s.
     let going : c.self.inside.registers.stop ≡ None = ap (λ (d : DeviceState). d.registers.stop) c.self.view_is ∙ c.requires.going in
     subst (λ (d : DeviceState). Gives (record { part = wanted; kept = kept; wrapped = wrapped; bytes = bytes }) d after c.args.read.now c.give.new.read) c.self.view_is
     (subst (λ (p : PartData). Gives (record { part = p; kept = kept; wrapped = wrapped; bytes = bytes }) fields after c.args.read.now c.give.new.read) here
-    (given part kept wrapped fields (registers_in c.give.new.self) bytes c.args.read.now c.give.new.read going c.give.ensures.going stands (c.give.ensures.given kept h (length bytes) stands.registers_are)))
+    (given part kept wrapped fields (registers_in c.give.new.self) bytes c.args.read.now c.give.new.read going c.give.ensures.gave.going stands (c.give.ensures.gave.given kept h (length bytes) stands.registers_are)))
 
 pub invariant_of-self : goal.invariant_of-self
 invariant_of-self c =
@@ -32,5 +32,5 @@ invariant_of-self c =
     let h : History = history_taken part p.kept p.bytes in
     let going : c.self.inside.registers.stop ≡ None = ap (λ (d : DeviceState). d.registers.stop) c.self.view_is ∙ c.requires.going in
     let gives : Gives (past_of part p.kept p.wrapped p.bytes) fields (record fields { registers = registers_in c.give.new.self }) c.args.read.now c.give.new.read =
-    given part p.kept p.wrapped fields (registers_in c.give.new.self) p.bytes c.args.read.now c.give.new.read going c.give.ensures.going stands (c.give.ensures.given p.kept h (length p.bytes) stands.registers_are) in
-    record { frames = c.give.ensures.frames; past = record { past = past_of part p.kept p.wrapped p.bytes; has = gives.stands } }
+    given part p.kept p.wrapped fields (registers_in c.give.new.self) p.bytes c.args.read.now c.give.new.read going c.give.ensures.gave.going stands (c.give.ensures.gave.given p.kept h (length p.bytes) stands.registers_are) in
+    record { frames = c.give.ensures.gave.frames; past = record { past = past_of part p.kept p.wrapped p.bytes; has = gives.stands } }

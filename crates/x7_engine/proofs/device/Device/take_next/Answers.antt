@@ -1,5 +1,7 @@
-use Rattle.std.proofs.Common.{◌≡◌, ◌++◌, ℕ, List, sym, ap, subst, ◌∙◌, append_assoc, rules}
-use Rattle.x7_packets.specs.Cutting.{between}
+use Rattle.std.proofs.Common.{◌≡◌, ◌-◌, ◌++◌, ℕ, true, false, List, length, Option, sym, ap, subst, ◌∙◌, append_assoc, arith, rules}
+use Rattle.std.specs.Option.{is_some}
+use Rattle.x7_packets.specs.Cutting.{CutterState, between, calls_left}
+use Rattle.x7_engine.specs.declared.stop.Stop.{Stop}
 use Rattle.x7_engine.specs.Standing.{DeviceStandsFor, reads_given}
 use Rattle.x7_engine.specs.Turns.{TakesTurn}
 use Rattle.x7_engine.specs.UntilStarted.{CommandsLast}
@@ -32,11 +34,26 @@ turn_taken c =
           (then_commands bytes nops run stands.fits (c.pass_nops.ensures.quiet part kept wrapped bytes s) (c.take_run.ensures.turned.turn.commands part kept wrapped (bytes ++ nops) stands)));
     }
 
-pub returns-clause-turned : goal.returns-clause-turned
-returns-clause-turned c = record {
-  forward = search rules;
-  within = search rules;
-  taken = search rules;
-  fed = search rules;
-  turn = turn_taken c;
+pub returns-then-has_stopped : goal.returns-then-has_stopped
+returns-then-has_stopped c = record {
+  turned = c.pass_nops.ensures.turned;
+  used_up = λ e. absurd cc;
+  goes = λ e f. absurd (let both : true ≡ false = sym c.if-has_stopped.true ∙ c.has_stopped.ensures ∙ ap (λ (o : Option Stop). is_some o) f in cc);
+}
+
+pub returns : goal.returns
+returns c = record {
+  turned = record {
+    forward = search rules;
+    within = search rules;
+    taken = search rules;
+    fed = search rules;
+    turn = turn_taken c;
+  };
+  used_up = c.take_run.ensures.used_up;
+  goes = λ e f. (
+      let piece : ℕ = length c.args.piece.now in
+      let nearer = c.take_run.ensures.goes e f in
+      let same = ap (λ (k : CutterState). calls_left k (piece - c.pass_nops.new.at)) c.pass_nops.ensures.cutter in
+      omega (arith, nearer, same, c.pass_nops.ensures.turned.forward));
 }

@@ -1,9 +1,11 @@
-use Rattle.std.proofs.Common.{◌≡◌, ◌+◌, ◌-◌, ◌≤◌, ◌++◌, ℕ, List, [], length, drop, refl, sym, ap, subst, ◌∙◌, arith, length-drop, Bool, rules}
-use Rattle.x7_packets.specs.Cutting.{between}
+use Rattle.std.proofs.Common.{◌≡◌, ◌+◌, ◌-◌, ◌<◌, ◌≤◌, ◌++◌, ℕ, true, false, List, [], length, drop, None, refl, sym, ap, subst, ◌∙◌, arith, length-drop, Bool, rules}
+use Rattle.x7_packets.specs.Cutting.{ComesNearer, IsNeed, between, calls_left}
+use Rattle.x7_packets.specs.declared.cutter.Cut.{Cut}
+use Rattle.x7_packets.specs.declared.cutter.Cut.TheVariants.{Body, Head, Need, Skip, Sync, Word}
 use Rattle.x7_part.specs.Part.{PartData}
 use Rattle.x7_engine.specs.declared.kept.Kept.{Kept}
 use Rattle.x7_engine.specs.Past.{HasSomePast}
-use Rattle.x7_engine.specs.Standing.{DeviceStandsFor, DeviceState, IsCutterOf, registers_in, words_left}
+use Rattle.x7_engine.specs.Standing.{DeviceStandsFor, DeviceState, IsCutterOf, TellsNothing, registers_in, words_left}
 use Rattle.x7_engine.specs.State.{history_taken, reads_of}
 use Rattle.x7_engine.specs.Turns.{TakesTurn}
 use Rattle.x7_engine.proofs.DeviceLemmas.{between_prefix, holds_run, length_between, given_by, turned}
@@ -53,7 +55,7 @@ turned_here c kept wrapped bytes s =
     (ap (λ (d : DeviceState). d.registers.stop) c.self.view_is ∙ c.requires.going)
     (c.cut-run.ensures.adds bytes) (c.run-left.ensures.stands kept) (c.run-left.ensures.reads kept)
     (sym all) (between_prefix piece from at left forward) (length-drop (at - left - from) cut ∙ omega (arith, all, some)) c.cut-run.ensures.run c.cut-run.ensures.lent
-    c.run-left.ensures.left.goes_on c.run-left.ensures.at_rest refl refl (omega (arith, taken))
+    c.run-left.ensures.left.goes_on c.run-left.ensures.rests.at_rest refl refl (omega (arith, taken))
 
 turn_taken : (c : goal.After-is_done) → TakesTurn c.args.self.now (device_after c) (between c.args.piece.now c.args.at.now (c.cut-run.new.at - c.run-left.result))
 turn_taken c = record {
@@ -87,15 +89,59 @@ turn_taken c = record {
 
 pub invariant_of-self : goal.invariant_of-self
 invariant_of-self c = record {
-  frames = c.run-left.ensures.frames;
+  frames = c.run-left.ensures.rests.frames;
   past = past_later c.args.self.now (device_after c) (between c.args.piece.now c.args.at.now (c.cut-run.new.at - c.run-left.result)) (turn_taken c).stands (subst HasSomePast c.self.view_is c.self.invariant.past);
 }
 
-pub returns-clause-turned : goal.returns-clause-turned
-returns-clause-turned c = record {
-  forward = search rules;
-  within = search rules;
-  taken = search rules;
-  fed = search rules;
-  turn = turn_taken c;
+-- a run that says that the piece is used up leaves nothing of it, and tells of no word; any other comes nearer to that
+all_used : (run : Cut) (left before after : ℕ) → IsNeed run → ComesNearer run left before after → left ≡ 0
+all_used Need left before after n g = g
+all_used (Skip bytes) left before after n g = absurd n
+all_used Sync left before after n g = absurd n
+all_used (Head w step) left before after n g = absurd n
+all_used (Word register w) left before after n g = absurd n
+all_used (Body register bytes) left before after n g = absurd n
+
+tells_nothing : (run : Cut) → IsNeed run → TellsNothing run
+tells_nothing Need n = tt
+tells_nothing (Skip bytes) n = tt
+tells_nothing Sync n = tt
+tells_nothing (Head w step) n = absurd n
+tells_nothing (Word register w) n = absurd n
+tells_nothing (Body register bytes) n = absurd n
+
+comes_nearer : (run : Cut) (left before after : ℕ) → (IsNeed run → ⊥) → ComesNearer run left before after → after < before
+comes_nearer Need left before after n g = absurd (n tt)
+comes_nearer (Skip bytes) left before after n g = g
+comes_nearer Sync left before after n g = g
+comes_nearer (Head w step) left before after n g = g
+comes_nearer (Word register w) left before after n g = g
+comes_nearer (Body register bytes) left before after n g = g
+
+pub returns : goal.returns
+returns c = record {
+  turned = record {
+    forward = search rules;
+    within = search rules;
+    taken = search rules;
+    fed = search rules;
+    turn = turn_taken c;
+  };
+  used_up = λ e. (
+      let done = c.is_done.ensures.yes e in
+      let going : c.run-left.new.self.stop ≡ None = sym c.stop.ensures ∙ done.1 in
+      let need : IsNeed c.cut-run.result = c.is_need-used_up.ensures.0 done.0 in
+      let all : length c.args.piece.now - c.cut-run.new.at ≡ 0 = all_used c.cut-run.result _ _ _ need c.cut-run.ensures.goes in
+      record {
+        all = omega (arith, all, c.cut-run.ensures.within, c.run-left.ensures.left.goes_on going);
+        going = going;
+        none_due = c.run-left.ensures.quiet (tells_nothing c.cut-run.result need);
+      });
+  goes = λ e f. (
+      let unused : c.is_need-used_up.result ≡ false = c.is_done.ensures.no e (c.stop.ensures ∙ f) in
+      let piece : ℕ = length c.args.piece.now in
+      let nearer : calls_left c.cut-run.new.self (piece - c.cut-run.new.at) < calls_left c.self.inside.cutter (piece - c.args.at.now) =
+      comes_nearer c.cut-run.result _ _ _ (λ n. absurd (let both : true ≡ false = sym (c.is_need-used_up.ensures.1 n) ∙ unused in cc)) c.cut-run.ensures.goes in
+      let same : calls_left c.self.inside.cutter (piece - c.args.at.now) ≡ calls_left c.args.self.now.cutter (piece - c.args.at.now) = ap (λ (d : DeviceState). calls_left d.cutter (piece - c.args.at.now)) c.self.view_is in
+      omega (arith, nearer, same, c.run-left.ensures.left.goes_on f));
 }

@@ -1,7 +1,9 @@
-use Rattle.std.proofs.Common.{◌≡◌, ◌+◌, ◌++◌, ℕ, Bool, List, refl, sym, ap, subst, ◌∙◌, rules}
+use Rattle.std.proofs.Common.{◌≡◌, ◌+◌, ◌∷◌, ◌++◌, ℕ, Bool, List, refl, sym, ap, subst, ◌∙◌, rules}
 use Rattle.x7_packets.specs.Cutting.{between}
+use Rattle.x7_packets.specs.History.{Write, entry}
 use Rattle.x7_part.specs.Part.{PartData}
 use Rattle.x7_engine.specs.declared.kept.Kept.{Kept}
+use Rattle.x7_engine.specs.Entering.{Change, EntersAt}
 use Rattle.x7_engine.specs.Past.{HasSomePast}
 use Rattle.x7_engine.specs.Standing.{DeviceStandsFor, DeviceState, due_count, registers_in}
 use Rattle.x7_engine.specs.State.{reads_of}
@@ -29,6 +31,10 @@ device_after c = record {
 none_due : (c : goal.After-self-2-1) → due_count c.write_to.new.self.due ≡ 0
 none_due c = ap due_count c.write_to.ensures.leaves.due ∙ ap (λ (d : DeviceState). due_count d.registers.due) c.self.view_is ∙ c.requires.none_due
 
+-- the registers before the write, and after it
+abbrev wrote : goal.After-self-2-1 → Change
+wrote c = record { part = c.self.inside.part; old = registers_in c.self.inside.registers; new = registers_in c.write_to.new.self }
+
 written_here : (c : goal.After-self-2-1) (part : PartData) (kept : Kept) (wrapped : Bool) (bytes : List ℕ) → DeviceStandsFor part kept wrapped c.args.self.now bytes
     → (let more : List ℕ = between c.args.piece.now c.args.at.now (c.args.at.now + 8) in
     DeviceStandsFor part kept wrapped (device_after c) (bytes ++ more) × (reads_of part kept (bytes ++ more) ≡ reads_of part kept bytes) × CommandsLast bytes more)
@@ -42,7 +48,7 @@ written_here c given kept wrapped bytes s =
     (write_at part kept wrapped (device_before c) (device_after c) bytes c.args.piece.now c.args.at.now c.in-Some.register c.in-Some.word inside
     (ap (λ (d : DeviceState). d.registers.stop) c.self.view_is ∙ c.requires.going)
     (c.is_idle.ensures.begun c.if-not-is_idle.false) (c.is_idle.ensures.limit c.if-not-is_idle.false)
-    c.in-Some.ensures.some (c.write_to.ensures.stands kept) c.write_to.ensures.counts (none_due c) refl refl refl)
+    c.in-Some.ensures.some (subst (λ (r : ℕ). EntersAt (wrote c) (λ place h. entry (Write r c.in-Some.word) place ∷ h)) c.numbered.ensures c.write_to.ensures.stands kept) c.write_to.ensures.counts (none_due c) refl refl refl)
 
 turn_taken : (c : goal.After-self-2-1) → TakesTurn c.args.self.now (device_after c) (between c.args.piece.now c.args.at.now (c.args.at.now + 8))
 turn_taken c = record {

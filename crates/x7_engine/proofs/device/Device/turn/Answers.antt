@@ -1,14 +1,21 @@
-use Rattle.std.proofs.Common.{ℕ, subst}
+use Rattle.std.proofs.Common.{ℕ, subst, arith}
+use Rattle.x7_engine.proofs.DeviceLemmas.{one_sync}
 use Rattle.x7_engine.specs.Standing.{DeviceState}
-use Rattle.x7_engine.specs.Turns.{Turned}
+use Rattle.x7_engine.specs.Turns.{TookTurn}
 use Rattle.x7_engine.proofs.device.Device.turn.Goals as goal
 
-pub returns-then-take_write-clause-turned : goal.returns-then-take_write-clause-turned
-returns-then-take_write-clause-turned c = c.take_write.ensures.turned c.if-take_write.true
+pub returns-then-take_write : goal.returns-then-take_write
+returns-then-take_write c = record {
+  turned = c.take_write.ensures.turned c.if-take_write.true;
+  used_up = λ e. absurd cc;
+  goes = λ e f. (
+      let turned = c.take_write.ensures.turned c.if-take_write.true in
+      omega (arith, c.take_write.ensures.one c.if-take_write.true, turned.within, one_sync c.take_write.new.self.cutter.mode));
+}
 
 -- where there is no write, the next run is taken of the device as it was
-pub returns-clause-turned : goal.returns-clause-turned
-returns-clause-turned c =
+pub returns : goal.returns
+returns c =
     let same = c.take_write.ensures.none c.if-take_write.false in
-    subst (λ (at : ℕ). Turned c.args.self.now c.take_next.new.self c.args.piece.now at c.take_next.new.at) same.1
-    (subst (λ (d : DeviceState). Turned d c.take_next.new.self c.args.piece.now c.take_write.new.at c.take_next.new.at) same.0 c.take_next.ensures.turned)
+    subst (λ (at : ℕ). TookTurn c.args.self.now c.take_next.new.self c.args.piece.now at c.take_next.new.at c.take_next.result) same.1
+    (subst (λ (d : DeviceState). TookTurn d c.take_next.new.self c.args.piece.now c.take_write.new.at c.take_next.new.at c.take_next.result) same.0 c.take_next.ensures)

@@ -22,45 +22,54 @@ use Rattle.x7_engine.proofs.PlainLemmas.{Clocked, IsQuiet, clocked_all, controls
 use Rattle.x7_engine.proofs.TurnLemmas.{newest_within, ticked}
 use Rattle.x7_engine.proofs.registers.Registers.frame_words.Goals as goal
 
-pub returns-clause-stands : goal.returns-clause-stands
-returns-clause-stands c = λ kept h n s.
-    let part : PartData = c.args.part.now in
-    let bytes : List ℕ = c.args.bytes.now in
-    let r : Reg = c.args.reg in
-    let register : ℕ = number_of r in
-    let b : ℕ = c.before_firing.result / 4 in
-    let k : ℕ = c.taken_of-taken.result in
-    let m : ℕ = n + k * 4 in
-    let looked : List ℕ = words_of_bytes (take (b * 4) bytes) in
-    let prefix : List ℕ = words_of_bytes (take (k * 4) bytes) in
-    let all : History = entered_all n (payload_steps register prefix) h in
-    let clock : ClockState = clock_in c.bytes.new.self in
-    let inner : length (take (b * 4) bytes) ≡ b * 4 = length-take-le (b * 4) bytes (omega (arith, c.before_firing.ensures.within)) in
-    let few : k ≤ b = omega (arith, inner, c.taken_of-taken.ensures.within, c.write_bytes-count.ensures.within) in
-    let same : take k looked ≡ prefix = ap (take k) (words_prefix b bytes) ∙ take-take k b (words_of_bytes bytes) few ∙ sym (words_prefix k bytes) in
-    let size : length prefix ≡ k = length_of_words (take (k * 4) bytes) ∙ omega (arith, length-take-le (k * 4) bytes (omega (arith, few, c.before_firing.ensures.within))) in
-    let newest : newest_place h ≤ n = newest_within n h s.places in
-    let none : first_firing part kept h n (k * 4) ≡ None = firing_less part kept h n (k * 4) c.before_firing.result (omega (arith, few)) (c.before_firing.ensures.none kept h n newest s.clock) in
-    let ticks : Ticks (course_at part kept h n) clock (k * 4) None = ticks_quiet part kept clock h n (k * 4) c.bytes.result none (c.bytes.ensures.ticks kept h n newest s.clock) in
-    let after = ticked part kept (registers_in c.args.self.now) clock h n (k * 4) m refl c.requires.ready.going s ticks in
-    let are : FramesStandFor part c.args.self.now.frames h 0 = standing_frames part c.args.self.now.frames c.args.self.now.stop h c.args.self.now.due c.requires.ready.going c.requires.ready.none_due s.frames in
-    let words = given part c.write_bytes-count.new.self h (words_to r n (take (b * 4) bytes)) c.write_bytes-count.result (c.write_bytes-count.ensures.taken n h (c.settings-settings.ensures.after part kept h n s) are) in
-    let before : take _ looked ≡ prefix = ap (λ (j : ℕ). take j looked) (sym c.taken_of-taken.ensures.value) ∙ same in
-    let unrefused : NoneRefused part r n prefix h = subst (λ (x : List ℕ). NoneRefused part r n x h) before words.0 in
-    let frames : FramesStandFor part c.write_bytes-count.new.self all 0 = subst (λ (x : List ℕ). FramesStandFor part c.write_bytes-count.new.self (with_words_to r n x h) 0) before words.1 in
-    let quiet : IsQuiet register = data_quiet r c.requires.register in
-    let matched : is_matched part.idcode h ≡ true = sym s.progress.matched ∙ c.requires.matched in
-    let start : Clocked part kept clock c.args.self.now.stop h n m = record { places = s.places; clock = after.clock; stop = after.stop } in
-    let clocked : Clocked part kept clock c.args.self.now.stop all (n + 4 * length prefix) m = clocked_all part kept clock c.args.self.now.stop register n m prefix h quiet (data_none part kept r n prefix h c.requires.register matched unrefused) (omega (arith, size)) start in
-    record {
-      places = placed_within (n + 4 * length prefix) m all (omega (arith, size)) clocked.places;
-      words = subst (λ (x : ℕ). AreLastWords kept c.pass_all-2.new.self.last (entered_all n (payload_steps x prefix) h)) c.number-2.ensures.value (c.pass_all-2.ensures kept h n s.words);
-      controls = controls_stay (controls_in c.args.self.now.controls) register n prefix h quiet s.controls;
-      progress = subst (λ (x : ℕ). IsProgress part.idcode (progress_in c.pass_all.new.self) (entered_all n (payload_steps x prefix) h)) c.number.ensures.value (c.pass_all.ensures part.idcode h n s.progress);
-      kind = s.kind;
-      before = s.before;
-      clock = clocked.clock;
-      stop = clocked.stop;
-      frames = frames_none part c.write_bytes-count.new.self c.args.self.now.stop all c.args.self.now.due c.requires.ready.going c.requires.ready.none_due frames;
-      due_kind = none_among c.args.self.now.due all c.requires.ready.none_due;
-    }
+pub returns : goal.returns
+returns c = record {
+  within = (
+      let b : ℕ = c.before_firing.result / 4 in
+      let inner : length (take (b * 4) c.args.bytes.now) ≡ b * 4 = length-take-le (b * 4) c.args.bytes.now (omega (arith, c.before_firing.ensures.within)) in
+      omega (arith, inner, c.taken_of-taken.ensures.within, c.write_bytes-count.ensures.within, c.before_firing.ensures.within));
+  whole = omega arith;
+  going = c.requires.ready.going;
+  leaves = record { due = refl; frames = c.write_bytes-count.ensures.part };
+  stands = λ kept h n s. (
+      let part : PartData = c.args.part.now in
+      let bytes : List ℕ = c.args.bytes.now in
+      let r : Reg = c.args.reg in
+      let register : ℕ = number_of r in
+      let b : ℕ = c.before_firing.result / 4 in
+      let k : ℕ = c.taken_of-taken.result in
+      let m : ℕ = n + k * 4 in
+      let looked : List ℕ = words_of_bytes (take (b * 4) bytes) in
+      let prefix : List ℕ = words_of_bytes (take (k * 4) bytes) in
+      let all : History = entered_all n (payload_steps register prefix) h in
+      let clock : ClockState = clock_in c.bytes.new.self in
+      let inner : length (take (b * 4) bytes) ≡ b * 4 = length-take-le (b * 4) bytes (omega (arith, c.before_firing.ensures.within)) in
+      let few : k ≤ b = omega (arith, inner, c.taken_of-taken.ensures.within, c.write_bytes-count.ensures.within) in
+      let same : take k looked ≡ prefix = ap (take k) (words_prefix b bytes) ∙ take-take k b (words_of_bytes bytes) few ∙ sym (words_prefix k bytes) in
+      let size : length prefix ≡ k = length_of_words (take (k * 4) bytes) ∙ omega (arith, length-take-le (k * 4) bytes (omega (arith, few, c.before_firing.ensures.within))) in
+      let newest : newest_place h ≤ n = newest_within n h s.places in
+      let none : first_firing part kept h n (k * 4) ≡ None = firing_less part kept h n (k * 4) c.before_firing.result (omega (arith, few)) (c.before_firing.ensures.none kept h n newest s.clock) in
+      let ticks : Ticks (course_at part kept h n) clock (k * 4) None = ticks_quiet part kept clock h n (k * 4) c.bytes.result none (c.bytes.ensures.ticks kept h n newest s.clock) in
+      let after = ticked part kept (registers_in c.args.self.now) clock h n (k * 4) m refl c.requires.ready.going s ticks in
+      let are : FramesStandFor part c.args.self.now.frames h 0 = standing_frames part c.args.self.now.frames c.args.self.now.stop h c.args.self.now.due c.requires.ready.going c.requires.ready.none_due s.frames in
+      let words = given part c.write_bytes-count.new.self h (words_to r n (take (b * 4) bytes)) c.write_bytes-count.result (c.write_bytes-count.ensures.taken n h (c.settings-settings.ensures.after part kept h n s) are) in
+      let before : take _ looked ≡ prefix = ap (λ (j : ℕ). take j looked) (sym c.taken_of-taken.ensures.value) ∙ same in
+      let unrefused : NoneRefused part r n prefix h = subst (λ (x : List ℕ). NoneRefused part r n x h) before words.0 in
+      let frames : FramesStandFor part c.write_bytes-count.new.self all 0 = subst (λ (x : List ℕ). FramesStandFor part c.write_bytes-count.new.self (with_words_to r n x h) 0) before words.1 in
+      let quiet : IsQuiet register = data_quiet r c.requires.register in
+      let matched : is_matched part.idcode h ≡ true = sym s.progress.matched ∙ c.requires.matched in
+      let start : Clocked part kept clock c.args.self.now.stop h n m = record { places = s.places; clock = after.clock; stop = after.stop } in
+      let clocked : Clocked part kept clock c.args.self.now.stop all (n + 4 * length prefix) m = clocked_all part kept clock c.args.self.now.stop register n m prefix h quiet (data_none part kept r n prefix h c.requires.register matched unrefused) (omega (arith, size)) start in
+      record {
+        places = placed_within (n + 4 * length prefix) m all (omega (arith, size)) clocked.places;
+        words = subst (λ (x : ℕ). AreLastWords kept c.pass_all-2.new.self.last (entered_all n (payload_steps x prefix) h)) c.number-2.ensures.value (c.pass_all-2.ensures kept h n s.words);
+        controls = controls_stay (controls_in c.args.self.now.controls) register n prefix h quiet s.controls;
+        progress = subst (λ (x : ℕ). IsProgress part.idcode (progress_in c.pass_all.new.self) (entered_all n (payload_steps x prefix) h)) c.number.ensures.value (c.pass_all.ensures part.idcode h n s.progress);
+        kind = s.kind;
+        before = s.before;
+        clock = clocked.clock;
+        stop = clocked.stop;
+        frames = frames_none part c.write_bytes-count.new.self c.args.self.now.stop all c.args.self.now.due c.requires.ready.going c.requires.ready.none_due frames;
+        due_kind = none_among c.args.self.now.due all c.requires.ready.none_due;
+      });
+}

@@ -10,7 +10,12 @@ give_frames-left-requires-clause-due c =
     let h : History = frames_history c.args.self.now.stop c.requires.history.history in
     record { history = h; stands = subst (λ (k : ℕ). FramesStandFor c.args.part.now c.args.self.now.frames h k) (ap frames_due c.in-Frames.is) c.requires.history.stands.frames.stands }
 
-pub returns-in-Frames-clause-given : goal.returns-in-Frames-clause-given
-returns-in-Frames-clause-given c = λ kept h n s.
-    gave_frames c.args.part.now kept (registers_in c.args.self.now) c.give_frames-left.new.frames h n c.in-Frames.count c.give_frames-left.result c.args.read.now c.give_frames-left.new.read c.requires.going c.in-Frames.is c.give_frames-left.ensures.fewer
-    (c.give_frames-left.ensures.given h) (c.give_frames-left.ensures.stands h) s
+pub returns-in-Frames : goal.returns-in-Frames
+returns-in-Frames c = record {
+  full = c.give_frames-left.ensures.full;
+  going = c.requires.going;
+  frames = c.give_frames-left.ensures.frames;
+  given = λ kept h n s.
+      gave_frames c.args.part.now kept (registers_in c.args.self.now) c.give_frames-left.new.frames h n c.in-Frames.count c.give_frames-left.result c.args.read.now c.give_frames-left.new.read c.requires.going c.in-Frames.is c.give_frames-left.ensures.fewer
+      (c.give_frames-left.ensures.given h) (c.give_frames-left.ensures.stands h) s;
+}

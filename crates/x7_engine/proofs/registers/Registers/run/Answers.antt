@@ -1,9 +1,9 @@
-use Rattle.std.proofs.Common.{◌≡◌, ◌+◌, ◌-◌, ◌<◌, ℕ, List, length, sym, ap, subst, ◌∙◌, arith}
+use Rattle.std.proofs.Common.{◌≡◌, ◌+◌, ◌-◌, ◌<◌, ◌∷◌, ℕ, List, length, sym, ap, subst, ◌∙◌, arith}
 use Rattle.x7_words.specs.Word.{words_of_bytes}
 use Rattle.x7_packets.specs.Cutting.{IsRun}
 use Rattle.x7_packets.specs.declared.cutter.Cut.{Cut}
 use Rattle.x7_packets.specs.declared.cutter.Cut.TheVariants.{Body, Word}
-use Rattle.x7_packets.specs.History.{History, entered_all, until}
+use Rattle.x7_packets.specs.History.{History, Write, entered_all, entry, until}
 use Rattle.x7_packets.specs.Packet.{payload_steps}
 use Rattle.x7_engine.specs.Standing.{EndsWords, RegistersStandFor, counted_in, due_count, registers_in}
 use Rattle.x7_engine.specs.Values.{read_out}
@@ -41,6 +41,15 @@ returns-in-Sync-clause-reads c = λ kept h from n e s.
     rw c.in-Sync.is (ap (read_out c.args.part.now kept) (quiet_until c.tick-in-Sync.new.self.stop n c.args.count c.tick-in-Sync.result h c.tick-in-Sync.ensures.fired s.places)
     ∙ none_due (read_out c.args.part.now kept h) c.args.part.now _ c.tick-in-Sync.new.self.due (ap due_count c.tick-in-Sync.ensures.due ∙ c.requires.ready.none_due))
 
+pub returns-in-Word-clause-stands : goal.returns-in-Word-clause-stands
+returns-in-Word-clause-stands c = λ kept h from n e s.
+    let w : EndsWords (Word c.in-Word.register c.in-Word.word) from n c.args.count = subst (λ (r : Cut). EndsWords r from n c.args.count) c.in-Word.is e in
+    let m : ℕ = n + (c.args.count - c.word.result) in
+    let some : 0 < c.args.count = omega (arith, w.0, w.1) in
+    rw c.in-Word.is (subst (λ (p : ℕ). RegistersStandFor c.args.part.now kept (registers_in c.word.new.self) (until (counted_in c.word.new.self.stop m) (entry (Write c.in-Word.register c.in-Word.word) p ∷ h)) m) (sym w.1)
+    (subst (λ (r : ℕ). RegistersStandFor c.args.part.now kept (registers_in c.word.new.self) (until (counted_in c.word.new.self.stop m) (entry (Write r c.in-Word.word) (n + c.args.count) ∷ h)) m) c.numbered.ensures
+    (c.word.ensures.stands kept h n some s)))
+
 pub returns-in-Word-clause-reads : goal.returns-in-Word-clause-reads
 returns-in-Word-clause-reads c = λ kept h from n e s.
     let w : EndsWords (Word c.in-Word.register c.in-Word.word) from n c.args.count = subst (λ (r : Cut). EndsWords r from n c.args.count) c.in-Word.is e in
@@ -56,7 +65,8 @@ returns-in-Body-clause-stands c = λ kept h from n e s.
     let here : n + c.body.result ≡ n + (c.args.count - (length c.in-Body.bytes.now - c.body.result)) = omega (arith, w.1, c.body.ensures.takes.within) in
     rw c.in-Body.is (subst (λ (p : ℕ). RegistersStandFor c.args.part.now kept (registers_in c.body.new.self) (until (counted_in c.body.new.self.stop (n + (c.args.count - (length c.in-Body.bytes.now - c.body.result)))) (entered_all p (payload_steps c.in-Body.register ws) h)) (n + (c.args.count - (length c.in-Body.bytes.now - c.body.result)))) (sym w.0)
     (subst (λ (m : ℕ). RegistersStandFor c.args.part.now kept (registers_in c.body.new.self) (until (counted_in c.body.new.self.stop m) (entered_all n (payload_steps c.in-Body.register ws) h)) m) here
-    (c.body.ensures.stands kept h n s)))
+    (subst (λ (r : ℕ). RegistersStandFor c.args.part.now kept (registers_in c.body.new.self) (until (counted_in c.body.new.self.stop (n + c.body.result)) (entered_all n (payload_steps r ws) h)) (n + c.body.result)) c.numbered-in-Body.ensures
+    (c.body.ensures.stands kept h n s))))
 
 pub returns-in-Body-clause-reads : goal.returns-in-Body-clause-reads
 returns-in-Body-clause-reads c = λ kept h from n e s.

@@ -1,7 +1,9 @@
 use Rattle.std.proofs.Common.{◌≡◌, ◌+◌, ◌-◌, ℕ, ◌∷◌, sym, subst, ◌∙◌, arith}
 use Rattle.x7_packets.specs.History.{History, Write, entry, until}
 use Rattle.x7_packets.specs.declared.header.Step.TheVariants.{Payload}
+use Rattle.x7_flow.specs.Standing.{FramesFit}
 use Rattle.x7_engine.specs.Standing.{RegistersStandFor, counted_in, registers_in}
+use Rattle.x7_engine.specs.Targets.{target_number}
 use Rattle.x7_engine.proofs.TurnLemmas.{all_counted, fired_until, next_at, none_there}
 use Rattle.x7_engine.proofs.registers.Registers.word.Goals as goal
 
@@ -10,7 +12,7 @@ returns-then-is_some-clause-stands c = λ kept h n some s.
     let left : ℕ = c.tick-left.result in
     let m : ℕ = n + (c.args.count - left) in
     subst (λ (t : History). RegistersStandFor c.args.part.now kept (registers_in c.tick-left.new.self) t m)
-    (sym (fired_until c.tick-left.new.self.stop n c.args.count left (Payload c.args.register c.args.word) h (sym c.is_some.ensures ∙ c.if-is_some.true) c.tick-left.ensures.fired s.places))
+    (sym (fired_until c.tick-left.new.self.stop n c.args.count left (Payload (target_number c.args.target) c.args.word) h (sym c.is_some.ensures ∙ c.if-is_some.true) c.tick-left.ensures.fired s.places))
     (c.tick-left.ensures.stands kept h n s)
 
 pub returns-clause-left : goal.returns-clause-left
@@ -23,6 +25,12 @@ returns-clause-stands c = λ kept h n some s.
     let same : n + c.args.count ≡ n + (c.args.count - 0) = omega arith in
     let before : RegistersStandFor c.args.part.now kept (registers_in c.tick-left.new.self) h (n + c.args.count) =
     subst (λ (m : ℕ). RegistersStandFor c.args.part.now kept (registers_in c.tick-left.new.self) h m) all (c.tick-left.ensures.stands kept h n s) in
-    subst (λ (m : ℕ). RegistersStandFor c.args.part.now kept (registers_in c.write_to.new.self) (until (counted_in c.write_to.new.self.stop m) (entry (Write c.args.register c.args.word) (n + c.args.count) ∷ h)) m) same
-    (all_counted c.args.part.now kept (registers_in c.write_to.new.self) (entry (Write c.args.register c.args.word) (n + c.args.count) ∷ h) (n + c.args.count) (c.write_to.ensures.counts (n + c.args.count))
+    subst (λ (m : ℕ). RegistersStandFor c.args.part.now kept (registers_in c.write_to.new.self) (until (counted_in c.write_to.new.self.stop m) (entry (Write (target_number c.args.target) c.args.word) (n + c.args.count) ∷ h)) m) same
+    (all_counted c.args.part.now kept (registers_in c.write_to.new.self) (entry (Write (target_number c.args.target) c.args.word) (n + c.args.count) ∷ h) (n + c.args.count) (c.write_to.ensures.counts (n + c.args.count))
     (c.write_to.ensures.stands kept h (n + c.args.count) (next_at n c.args.count h some s.places) before))
+
+pub returns-then-is_some-clause-leaves : goal.returns-then-is_some-clause-leaves
+returns-then-is_some-clause-leaves c = record { due = c.tick-left.ensures.due; frames = subst (FramesFit c.args.part.now) (sym c.tick-left.ensures.frames) c.requires.ready.frames }
+
+pub returns-clause-leaves : goal.returns-clause-leaves
+returns-clause-leaves c = record { due = c.write_to.ensures.leaves.due ∙ c.tick-left.ensures.due; frames = c.write_to.ensures.leaves.frames }

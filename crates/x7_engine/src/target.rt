@@ -1,0 +1,69 @@
+//! The register that words are written to.
+ghost use Rattle.std.specs.Prelude.{◌≡◌, ◌<◌, false, IfSome, IfNone};
+ghost use Rattle.x7_regs.specs.Register.{number_of};
+ghost use Rattle.x7_engine.specs.Registers.{has_effect};
+
+use x7_regs::{Reg, reg_of};
+
+/// The number of a register in which a written word stays, and is folded into the check, and does nothing else.
+#[derive(Clone, Copy)]
+pub(crate) struct PlainNumber {
+    pub(crate) register: u8,
+    ghost in_range: { register < 32 },
+    ghost plain: { has_effect register ≡ false },
+}
+
+/// The register that words are written to, by what a word does there.
+#[derive(Clone, Copy)]
+pub(crate) enum Target {
+    /// A word does more than stay and be folded.
+    Effective(Reg),
+    /// A word stays and is folded.
+    Plain(PlainNumber),
+}
+
+/// Whether a word written to the register does more than stay and be folded.
+fn has_effect(reg: Reg) -> bool
+    ensures { result ≡ has_effect (number_of reg) }
+{
+    match reg {
+        Reg::Crc
+        | Reg::Far
+        | Reg::Fdri
+        | Reg::Cmd
+        | Reg::Ctl0
+        | Reg::Lout
+        | Reg::Mfwr
+        | Reg::Cbc
+        | Reg::Idcode
+        | Reg::Timer
+        | Reg::Ctl1 => true,
+        _ => false,
+    }
+}
+
+/// The register with this number, where a word written to it does more than stay and be folded.
+fn effective(register: u8) -> Option<Reg>
+    ensures some { IfSome result (λ reg. number_of reg ≡ register) }
+    ensures none { IfNone result (has_effect register ≡ false) }
+{
+    match reg_of(register) {
+        Some(reg) if has_effect(reg) => Some(reg),
+        _ => None,
+    }
+}
+
+impl Target {
+    ghost use Rattle.x7_engine.specs.Targets.{target_number};
+
+    /// The register with this number.
+    pub(crate) fn numbered(register: u8) -> Target
+        requires { register < 32 }
+        ensures { target_number result ≡ register }
+    {
+        match effective(register) {
+            Some(reg) => Target::Effective(reg),
+            None => Target::Plain(PlainNumber { register }),
+        }
+    }
+}
