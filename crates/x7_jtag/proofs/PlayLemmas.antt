@@ -9,15 +9,15 @@ use Rattle.x7_engine.specs.Standing.{DeviceState}
 use Rattle.x7_jtag.specs.declared.play.Differ.{Differ}
 use Rattle.x7_jtag.specs.declared.state.State.{State}
 use Rattle.x7_jtag.specs.declared.state.State.TheVariants as state
-use Rattle.x7_jtag.specs.declared.statement.Statement.{Statement}
-use Rattle.x7_jtag.specs.declared.statement.Statement.TheVariants as statement
+use Rattle.x7_svf.specs.declared.statement.Statement.{Statement}
+use Rattle.x7_svf.specs.declared.statement.Statement.TheVariants as statement
 use Rattle.x7_jtag.specs.Clocks.{clock, clocks, clocks_of, from_exit, from_reset, inner_clocks, shift_clocks, to_shift}
-use Rattle.x7_jtag.specs.Bits.{bytes_bits}
+use Rattle.x7_svf.specs.Bits.{bytes_bits}
 use Rattle.x7_jtag.specs.Play.{Ready, after_clocks, bit_at, difference, difference_from, differs_at, first_by, first_from, found_more, is_apart, least, scan_bits, walk_clocks}
 use Rattle.x7_jtag.specs.Port.{Port, clocked, new_port, port_after, tdo_of}
 use Rattle.x7_jtag.specs.States.{Clock, moved_by, state_after, test_logic_reset}
 use Rattle.x7_jtag.specs.Tap.{TapStandsFor, TapState}
-use Rattle.x7_jtag.proofs.ByteLemmas.{inner_append}
+use Rattle.x7_jtag.proofs.ShiftLemmas.{inner_append}
 use Rattle.x7_jtag.proofs.ShortLemmas.{held_short, taken_short}
 
 -- ---- one clock

@@ -3,8 +3,8 @@ use Rattle.std.specs.Prelude.{Bool, true, false, List, [], ◌∷◌, ◌++◌, 
 use Rattle.x7_jtag.specs.declared.state.State.{State}
 use Rattle.x7_jtag.specs.declared.state.State.TheVariants as state
 use Rattle.x7_jtag.specs.States.{Clock, state_after}
-use Rattle.x7_jtag.specs.declared.statement.Statement.{Statement}
-use Rattle.x7_jtag.specs.declared.statement.Statement.TheVariants as statement
+use Rattle.x7_svf.specs.declared.statement.Statement.{Statement}
+use Rattle.x7_svf.specs.declared.statement.Statement.TheVariants as statement
 
 -- a clock with these values of TMS and TDI
 abbrev pub clock : Bool → Bool → Clock

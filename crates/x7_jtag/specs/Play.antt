@@ -3,8 +3,8 @@ use Rattle.std.specs.Prelude.{ℕ, zero, suc, ◌+◌, ◌-◌, ◌&&◌, not, B
 use Rattle.std.specs.List.{slice_get}
 use Rattle.x7_part.specs.Part.{PartData}
 use Rattle.x7_jtag.specs.declared.play.Differ.{Differ}
-use Rattle.x7_jtag.specs.declared.statement.Statement.{Statement}
-use Rattle.x7_jtag.specs.declared.statement.Statement.TheVariants as statement
+use Rattle.x7_svf.specs.declared.statement.Statement.{Statement}
+use Rattle.x7_svf.specs.declared.statement.Statement.TheVariants as statement
 use Rattle.x7_jtag.specs.Clocks.{clock, clocks, clocks_of, from_reset, shift_clocks, to_shift}
 use Rattle.x7_jtag.specs.Port.{Port, clocked, new_port, port_after, tdo_of}
 use Rattle.x7_engine.specs.Standing.{DeviceState}

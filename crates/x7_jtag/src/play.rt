@@ -7,14 +7,12 @@ ghost use Rattle.x7_jtag.specs.Play.{AreNew, FindsSought, HavingMade, MakesClock
 ghost use Rattle.x7_jtag.specs.Port.{port_after};
 ghost use Rattle.x7_jtag.specs.Tap.{TapStandsFor};
 ghost use Rattle.x7_jtag.specs.declared.state.State.{State as StateData};
-ghost use Rattle.x7_jtag.specs.declared.statement.Statement.{Statement as StatementData};
+ghost use Rattle.x7_svf.specs.declared.statement.Statement.{Statement as StatementData};
 
-use crate::bits::Bits;
 use crate::state::State;
-use crate::statement::Statement;
-use crate::svf::Svf;
 use crate::tap::Tap;
 use x7_engine::Device;
+use x7_svf::{Bits, Statement, Svf};
 
 /// The first scan whose TDO differs from the wanted bits.
 #[derive(Clone, Copy, Debug, PartialEq, Eq)]
@@ -137,7 +135,7 @@ fn shift_bytes(tap: &mut Tap, device: &mut Device, tdi: &Bits<'_>, tdo: &Option<
     let mut at = 0;
     while tdi.len() - at > 8 {
         let piece = tdi.bytes_from(at);
-        let bytes = piece.bytes();
+        let bytes = piece.as_slice();
         tap.shift_bytes(bytes, device);
         at += 8 * bytes.len() as u32;
     }

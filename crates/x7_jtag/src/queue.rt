@@ -7,7 +7,7 @@ ghost use Rattle.x7_jtag.specs.Port.{words_read_out};
 ghost use Rattle.x7_jtag.specs.Queue.{Queue as QueueData, bit_shown, dropped, empty, in_turn, offered, give_held as give_held_by, shifted_out, with_given, queue_with_room};
 ghost use Rattle.x7_jtag.specs.Tap.{QueueHolds, QueueStandsFor, given_by, with_word_taken};
 
-use crate::buffer::Buffer;
+use arrayvec::ArrayVec;
 use std::marker::Model;
 use std::mem;
 use x7_engine::{Device, Fed, ON_THE_BENCH, ReadBuf};
@@ -15,7 +15,7 @@ use x7_engine::{Device, Fed, ON_THE_BENCH, ReadBuf};
 /// The bytes held back while a word waits, and the bits of the latest word that are still to go out.
 #[derive(Drop)]
 pub(crate) struct Queue {
-    held: Buffer<64>,
+    held: ArrayVec<u8, 64>,
     word: u32,
     left: u32,
 }
@@ -26,7 +26,7 @@ impl Model for Queue {
 
     ghost Value = { QueueState };
 
-    ghost view = { λ q. record { held = q.held; word = q.word; left = q.left } };
+    ghost view = { λ q. record { held = q.held.items; word = q.word; left = q.left } };
 
     ghost invariant = { λ q. q.left ≤ 32 };
 }
@@ -47,7 +47,7 @@ impl Queue {
         ensures { result ≡ record { held = []; word = 0; left = 0 } }
     {
         Queue {
-            held: Buffer::new(),
+            held: ArrayVec::new(),
             word: 0,
             left: 0,
         }
@@ -103,7 +103,7 @@ impl Queue {
         ensures stands { (part : PartData) (q : QueueData) → QueueStandsFor part self.old device.old q → QueueStandsFor part self.new device.new (dropped (words_read_out part) q) }
     {
         let mut read = ReadBuf::dropping();
-        device.feed(self.held.bytes(), &mut read);
+        device.feed(self.held.as_slice(), &mut read);
         self.held.clear();
         self.left = 0;
     }
@@ -191,8 +191,8 @@ impl Queue {
         requires fits { device.old.taken + 64 ≤ 2 ^ 63 }
         ensures stands { (part : PartData) (q : QueueData) → QueueStandsFor part self.old device.old q → QueueStandsFor part self.new device.new (give_held_by (words_read_out part) q) }
     {
-        let held = mem::replace(&mut self.held, Buffer::new());
-        let mut rest = held.bytes();
+        let held = mem::replace(&mut self.held, ArrayVec::new());
+        let mut rest = held.as_slice();
         while !rest.is_empty() {
             self.take(rest[0], device);
             rest = &rest[1..];

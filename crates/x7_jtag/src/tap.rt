@@ -7,7 +7,7 @@ ghost use Rattle.x7_jtag.specs.Port.{Port, acted, captured, data_shifted, data_s
 ghost use Rattle.x7_jtag.specs.States.{Clock};
 ghost use Rattle.x7_jtag.specs.declared.instruction.Instruction.TheVariants.{CfgIn};
 ghost use Rattle.x7_jtag.specs.Tap.{StandsForPort, TakesBytes, TapStandsFor, TookOfGiven, last_or};
-ghost use Rattle.x7_jtag.specs.Bits.{bytes_bits};
+ghost use Rattle.x7_svf.specs.Bits.{bytes_bits};
 ghost use Rattle.x7_jtag.specs.Clocks.{inner_clocks};
 
 use crate::instruction::{Instruction, instruction_of};

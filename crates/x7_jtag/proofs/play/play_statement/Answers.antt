@@ -1,5 +1,5 @@
 use Rattle.std.proofs.Common.{◌^◌, arith, ◌++◌, ap, ◌∙◌, sym}
-use Rattle.x7_jtag.specs.declared.statement.Statement.TheVariants as statement
+use Rattle.x7_svf.specs.declared.statement.Statement.TheVariants as statement
 use Rattle.x7_jtag.specs.Clocks.{from_reset}
 use Rattle.x7_jtag.specs.Play.{difference}
 use Rattle.x7_jtag.specs.Port.{port_after}

@@ -1,0 +1,11 @@
+pub mod BitLemmas
+pub mod ByteLemmas
+pub mod DigitLemmas
+pub mod NextLemmas
+pub mod OutcomeLemmas
+pub mod PieceLemmas
+pub mod SourceLemmas
+pub mod SpanLemmas
+pub mod SvfLemmas
+pub mod ValueLemmas
+pub mod WordsLemmas
