@@ -1,9 +1,11 @@
 pub mod BitLemmas
 pub mod ByteLemmas
 pub mod DigitLemmas
+pub mod FieldLemmas
 pub mod NextLemmas
 pub mod OutcomeLemmas
 pub mod PieceLemmas
+pub mod ReadingLemmas
 pub mod SourceLemmas
 pub mod SpanLemmas
 pub mod SvfLemmas

@@ -1,8 +1,9 @@
 -- The words of a statement, one by one; no statement has more than four.
 use Rattle.std.proofs.Common.{◌≡◌, ℕ, ◌||◌, ◌≤◌, Bool, true, false, if◌then◌else◌, List, [], ◌∷◌, ◌++◌, length, take, Option, Some, None, codes, refl, ap, sym, ◌∙◌, append_assoc, append-nil, arith}
+use Rattle.std.specs.List.{list_all}
 use Rattle.x7_svf.specs.Pieces.{Mark, TextPiece, mark_of}
 use Rattle.x7_svf.specs.Source.{SourceState, left_after}
-use Rattle.x7_svf.specs.Words.{is_key, statement_if_words, statement_of_words, word_before, words_of}
+use Rattle.x7_svf.specs.Words.{is_free_mark, is_key, statement_if_words, statement_of_words, word_before, words_of}
 use Rattle.x7_svf.specs.Svf.{marks_before}
 use Rattle.x7_svf.specs.declared.token.Token.{Token}
 use Rattle.x7_svf.specs.declared.token.Token.TheVariants as token
@@ -55,3 +56,7 @@ module _ (ms : Option (List (List ℕ))) (ws : List (List ℕ)) (marks : List Ma
 -- all words
 pub all_said : (key : List ℕ) (ms : Option (List (List ℕ))) (ws : List (List ℕ)) (marks : List Mark) → ms ≡ after_words ws (words_of marks) → marks ≡ [] → statement_if_words key ms ≡ statement_of_words key ws
 all_said key ms ws marks same e = ap (statement_if_words key) (same ∙ ap (λ (xs : List Mark). after_words ws (words_of xs)) e) ∙ ap (statement_of_words key) (append-nil ws)
+
+-- a mark that may stand among any words
+pub free_on : (m : Mark) (ms : List Mark) → is_free_mark m ≡ true → list_all is_free_mark (m ∷ ms) ≡ list_all is_free_mark ms
+free_on m ms e = rw e refl

@@ -8,3 +8,4 @@ pub mod Spans
 pub mod Stored
 pub mod Statements
 pub mod Svf
+pub mod Reading

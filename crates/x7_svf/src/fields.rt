@@ -2,9 +2,10 @@
 ghost use Rattle.std.specs.Prelude.{◌≡◌, ◌≤◌, ℕ, List, drop, length, IfSome, Option, Some, None};
 ghost use Rattle.x7_svf.specs.Pieces.{mark_of, token_size};
 ghost use Rattle.x7_svf.specs.Fields.{are_hex, Between, closed_field, field_by_name, is_hex, no_fields, put_field, scan_from, scan_step};
+ghost use Rattle.x7_svf.specs.Reading.{ReadsOn, StepsOver};
 ghost use Rattle.x7_svf.specs.Source.{pieces_left};
-ghost use Rattle.x7_svf.specs.Spans.{AreWithin, StaysKept, IsWithin, at_of, bytes_in, span_end, fields_of, given_as, scanning_of};
-ghost use Rattle.x7_svf.specs.Svf.{marks_before, pieces_after};
+ghost use Rattle.x7_svf.specs.Spans.{AreWithin, IsWithin, at_of, bytes_in, span_end, fields_of, given_as, scanning_of};
+ghost use Rattle.x7_svf.specs.Svf.{marks_before};
 
 use crate::source::Source;
 use crate::span::Span;
@@ -130,9 +131,7 @@ fn step(source: &mut Source, scanner: Scanner, token: Token) -> Option<Scanner>
     requires within { IsWithin (length source.old.kept) scanner }
     ensures is { scanning_of source.new.kept result ≡ scan_step (at_of source.old.kept scanner.place) (fields_of source.old.kept scanner.given) (mark_of token source.old.rest) }
     ensures within { IfSome result (IsWithin (length source.new.kept)) }
-    ensures prefix { StaysKept source.old.kept source.new.kept }
-    ensures line { source.new.line ≡ source.old.line }
-    ensures rest { IfSome result (λ s. source.new.rest ≡ drop (token_size token) source.old.rest) }
+    ensures steps { IfSome result (λ s. StepsOver (token_size token) source.old source.new) }
 {
     let given = scanner.given;
     match (scanner.place, token) {
@@ -174,9 +173,7 @@ fn step(source: &mut Source, scanner: Scanner, token: Token) -> Option<Scanner>
 pub(crate) fn fields(source: &mut Source) -> Option<Given>
     ensures is { given_as source.new.kept result ≡ scan_from Between no_fields (marks_before (pieces_left source.old)) }
     ensures within { IfSome result (AreWithin (length source.new.kept)) }
-    ensures prefix { StaysKept source.old.kept source.new.kept }
-    ensures after { IfSome result (λ g. pieces_after (pieces_left source.old) ≡ pieces_after (pieces_left source.new)) }
-    ensures passed { IfSome result (λ g. length source.new.rest ≤ length source.old.rest) }
+    ensures reads { IfSome result (λ g. ReadsOn source.old source.new) }
 {
     let mut scanner = Scanner {
         place: Place::Between,

@@ -1,8 +1,9 @@
 //! One statement of a text.
-ghost use Rattle.std.specs.Prelude.{◌≡◌, ◌<◌, ◌≤◌, ◌+◌, ◌*◌, Bool, true, false, length, drop, take, IfSome, IsTrue, Option, Some, None};
+ghost use Rattle.std.specs.Prelude.{◌≡◌, ◌<◌, ◌≤◌, ◌+◌, ◌*◌, Bool, true, false, length, take, IfSome, IsTrue, Option, Some, None};
 ghost use Rattle.std.specs.List.{list_all};
 ghost use Rattle.x7_svf.specs.Fields.{all_fit, digit_width, fits, scan_by, scan_if, scan_of, width};
 ghost use Rattle.x7_svf.specs.Pieces.{mark_of, token_size};
+ghost use Rattle.x7_svf.specs.Reading.{ReadsOn, StepsOver};
 ghost use Rattle.x7_svf.specs.Source.{pieces_left};
 ghost use Rattle.x7_svf.specs.Spans.{AreWithin, StaysKept, bytes_in, digits_if, span_end_if, span_end, fields_of};
 ghost use Rattle.x7_svf.specs.Statements.{statement_by, statement_of};
@@ -36,9 +37,7 @@ fn is_free_token(token: Token, text: &[u8]) -> bool
 /// Whether what comes next of a statement may stand among any words; it is passed.
 fn are_free(source: &mut Source) -> bool
     ensures is { result ≡ list_all is_free_mark (marks_before (pieces_left source.old)) }
-    ensures after { IsTrue result → pieces_after (pieces_left source.old) ≡ pieces_after (pieces_left source.new) }
-    ensures kept { source.new.kept ≡ source.old.kept }
-    ensures passed { length source.new.rest ≤ length source.old.rest }
+    ensures reads { IsTrue result → ReadsOn source.old source.new }
 {
     while let Some(token) = next_within(source) {
         if !is_free_token(token, source.rest()) {
@@ -52,9 +51,7 @@ fn are_free(source: &mut Source) -> bool
 /// The statement of any words that come next, which are passed.
 fn free_statement(source: &mut Source) -> Option<Stored>
     ensures is { IsStored source.new.kept result (some_if (list_all is_free_mark (marks_before (pieces_left source.old))) StatementData.Nothing) }
-    ensures after { IfSome result (λ s. pieces_after (pieces_left source.old) ≡ pieces_after (pieces_left source.new)) }
-    ensures kept { source.new.kept ≡ source.old.kept }
-    ensures passed { length source.new.rest ≤ length source.old.rest }
+    ensures reads { IfSome result (λ s. ReadsOn source.old source.new) }
 {
     if are_free(source) {
         Some(Stored::Nothing)
@@ -68,9 +65,7 @@ fn keep_word(source: &mut Source, size: usize) -> Span
     requires { size ≤ length source.old.rest }
     ensures word { bytes_in source.new.kept result ≡ take size source.old.rest }
     ensures within { span_end result ≤ length source.new.kept }
-    ensures prefix { StaysKept source.old.kept source.new.kept }
-    ensures line { source.new.line ≡ source.old.line }
-    ensures rest { source.new.rest ≡ drop size source.old.rest }
+    ensures steps { StepsOver size source.old source.new }
 {
     let from = source.kept().len();
     source.keep(size);
@@ -81,9 +76,7 @@ fn keep_word(source: &mut Source, size: usize) -> Span
 fn words_statement(source: &mut Source, key: Span) -> Option<Stored>
     requires key { span_end key ≤ length source.old.kept }
     ensures is { IsStored source.new.kept result (if_words (bytes_in source.old.kept key) (words_of (marks_before (pieces_left source.old)))) }
-    ensures prefix { StaysKept source.old.kept source.new.kept }
-    ensures after { IfSome result (λ s. pieces_after (pieces_left source.old) ≡ pieces_after (pieces_left source.new)) }
-    ensures passed { IfSome result (λ s. length source.new.rest ≤ length source.old.rest) }
+    ensures reads { IfSome result (λ s. ReadsOn source.old source.new) }
 {
     let mut words = Words::None;
     while let Some(token) = next_within(source) {
@@ -182,9 +175,7 @@ fn scan_of_fields(kept: &[u8], ir: bool, count: u32, given: Given) -> Option<Sto
 /// How many bits the scan has whose keyword was passed.
 fn scan_count(source: &mut Source) -> Option<u32>
     ensures is { (ir : Bool) → scan_of ir (marks_before (pieces_left source.old)) ≡ scan_if ir result (marks_before (pieces_left source.new)) }
-    ensures after { IfSome result (λ n. pieces_after (pieces_left source.old) ≡ pieces_after (pieces_left source.new)) }
-    ensures kept { source.new.kept ≡ source.old.kept }
-    ensures passed { length source.new.rest ≤ length source.old.rest }
+    ensures reads { IfSome result (λ n. ReadsOn source.old source.new) }
 {
     let Token::Word(length) = next_within(source)? else {
         return None;
@@ -200,9 +191,7 @@ fn scan_count(source: &mut Source) -> Option<u32>
 /// The scan whose keyword was passed. Its digits are kept.
 fn scan(source: &mut Source, ir: bool) -> Option<Stored>
     ensures is { IsStored source.new.kept result (scan_of ir (marks_before (pieces_left source.old))) }
-    ensures prefix { StaysKept source.old.kept source.new.kept }
-    ensures after { IfSome result (λ s. pieces_after (pieces_left source.old) ≡ pieces_after (pieces_left source.new)) }
-    ensures passed { IfSome result (λ s. length source.new.rest ≤ length source.old.rest) }
+    ensures reads { IfSome result (λ s. ReadsOn source.old source.new) }
 {
     let count = scan_count(source)?;
     let given = fields(source)?;
@@ -213,9 +202,7 @@ fn scan(source: &mut Source, ir: bool) -> Option<Stored>
 fn said_by(source: &mut Source, key: Span) -> Option<Stored>
     requires key { span_end key ≤ length source.old.kept }
     ensures is { IsStored source.new.kept result (statement_by (bytes_in source.old.kept key) (marks_before (pieces_left source.old))) }
-    ensures prefix { StaysKept source.old.kept source.new.kept }
-    ensures after { IfSome result (λ s. pieces_after (pieces_left source.old) ≡ pieces_after (pieces_left source.new)) }
-    ensures passed { IfSome result (λ s. length source.new.rest ≤ length source.old.rest) }
+    ensures reads { IfSome result (λ s. ReadsOn source.old source.new) }
 {
     let word = key.of(source.kept());
     if is_keyword(word, b"SIR") {
@@ -233,8 +220,7 @@ fn said_by(source: &mut Source, key: Span) -> Option<Stored>
 /// The statement that comes next, up to its `;`. Its keyword, and the digits of a scan or the words of another, are kept.
 fn statement(source: &mut Source) -> Option<Stored>
     ensures is { IsStored source.new.kept result (statement_of (marks_before (pieces_left source.old))) }
-    ensures prefix { IfSome result (λ s. StaysKept source.old.kept source.new.kept) }
-    ensures after { IfSome result (λ s. pieces_after (pieces_left source.old) ≡ pieces_after (pieces_left source.new)) }
+    ensures reads { IfSome result (λ s. ReadsOn source.old source.new) }
     ensures passed { IfSome result (λ s. length source.new.rest < length source.old.rest) }
 {
     let Token::Word(size) = next_within(source)? else {

@@ -1,6 +1,7 @@
 //! The next word, bracket or end of a text without comments.
-ghost use Rattle.std.specs.Prelude.{◌≡◌, ◌+◌, ◌<◌, ◌≤◌, ◌∷◌, [], ℕ, List, true, false, length, MatchOption, IfSome, IfNone, Some, None, slice_index, drop, take};
+ghost use Rattle.std.specs.Prelude.{◌≡◌, ◌+◌, ◌<◌, ◌≤◌, ◌∷◌, [], ℕ, List, true, false, length, MatchOption, IfSome, Some, None, slice_index, drop, take};
 ghost use Rattle.x7_svf.specs.Pieces.{byte_mark, is_blank_byte, is_word_byte, mark_of, pieces, token_size, Word};
+ghost use Rattle.x7_svf.specs.Reading.{ComesNext, PassesBlanks};
 ghost use Rattle.x7_svf.specs.Source.{left_after, left_from, pieces_left};
 ghost use Rattle.x7_svf.specs.Svf.{marks_before, pieces_after};
 
@@ -87,9 +88,7 @@ fn first(text: &[u8]) -> Token
 
 /// Passes the blanks that come next.
 fn skip_blanks(source: &mut Source)
-    ensures same { pieces_left source.old ≡ pieces_left source.new }
-    ensures kept { source.new.kept ≡ source.old.kept }
-    ensures within { length source.new.rest ≤ length source.old.rest }
+    ensures blanks { PassesBlanks source.old source.new }
     ensures stop { 0 < length source.new.rest → is_blank_byte (slice_index source.new.rest 0) ≡ false }
 {
     while !source.rest().is_empty() && is_between(source.rest()[0]) {
@@ -101,11 +100,8 @@ fn skip_blanks(source: &mut Source)
 pub(crate) fn next(source: &mut Source) -> Option<Token>
     ensures is { MatchOption result (pieces_left source.old ≡ [])
         (λ t. pieces_left source.old ≡ left_from source.new t) }
-    ensures same { pieces_left source.old ≡ pieces_left source.new }
-    ensures some { IfSome result (λ t. 0 < token_size t) }
-    ensures within { IfSome result (λ t. token_size t ≤ length source.new.rest) }
-    ensures kept { source.new.kept ≡ source.old.kept }
-    ensures passed { length source.new.rest ≤ length source.old.rest }
+    ensures next { IfSome result (ComesNext source.new) }
+    ensures blanks { PassesBlanks source.old source.new }
 {
     skip_blanks(source);
     let rest = source.rest();
@@ -120,12 +116,9 @@ pub(crate) fn next(source: &mut Source) -> Option<Token>
 pub(crate) fn next_within(source: &mut Source) -> Option<Token>
     ensures is { MatchOption result (marks_before (pieces_left source.old) ≡ [])
         (λ t. marks_before (pieces_left source.old) ≡ mark_of t source.new.rest ∷ marks_before (left_after source.new t)) }
-    ensures ends { IfNone result (pieces_after (pieces_left source.old) ≡ pieces_after (pieces_left source.new)) }
     ensures goes_on { IfSome result (λ t. pieces_after (pieces_left source.old) ≡ pieces_after (left_after source.new t)) }
-    ensures some { IfSome result (λ t. 0 < token_size t) }
-    ensures within { IfSome result (λ t. token_size t ≤ length source.new.rest) }
-    ensures kept { source.new.kept ≡ source.old.kept }
-    ensures passed { length source.new.rest ≤ length source.old.rest }
+    ensures next { IfSome result (ComesNext source.new) }
+    ensures blanks { PassesBlanks source.old source.new }
 {
     let token = next(source)?;
     match token {

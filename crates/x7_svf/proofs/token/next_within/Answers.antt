@@ -25,10 +25,7 @@ returns-in_default c =
     let t = c.in_ok-token.token in
     record {
       is = marks_there (pieces_left old) new.line t new.rest (left_after new t) c.in_ok-token.ensures.is c.in_default.not-End;
-      ends = tt;
       goes_on = after_there (pieces_left old) new.line t new.rest (left_after new t) c.in_ok-token.ensures.is c.in_default.not-End;
-      some = c.in_ok-token.ensures.some;
-      within = c.in_ok-token.ensures.within;
-      kept = c.in_ok-token.ensures.kept;
-      passed = c.in_ok-token.ensures.passed;
+      next = c.in_ok-token.ensures.next;
+      blanks = c.in_ok-token.ensures.blanks;
     }
