@@ -11,7 +11,7 @@ use Rattle.x7_jtag.specs.declared.instruction.Instruction.TheVariants as instruc
 use Rattle.x7_jtag.specs.declared.state.State.{State}
 use Rattle.x7_jtag.specs.declared.state.State.TheVariants as state
 use Rattle.x7_jtag.specs.Instructions.{instruction_of}
-use Rattle.x7_jtag.specs.Port.{Port, acted, clocked, data_shifted, idled, new_port, port_after, queue_at_update, words_read_out, status, ir_status, updated, with_bit}
+use Rattle.x7_jtag.specs.Port.{Port, acted, captured, clocked, data_shifted, idled, new_port, port_after, queue_at_update, words_read_out, status, ir_status, updated, with_bit}
 use Rattle.x7_jtag.specs.Queue.{Queue, empty, offered}
 use Rattle.x7_jtag.specs.States.{Clock, next_of}
 use Rattle.x7_jtag.specs.Tap.{QueueStandsFor, QueueState, StandsForPort, TapState, TapStandsFor, TookOfGiven}
@@ -88,10 +88,59 @@ captures part k n d p r s is with = record {
   queue_is = subst (λ (q : QueueState). QueueStandsFor part q d p.queue) (sym (ap (λ (x : TapState). x.queue) with)) s.queue_is;
 }
 
+-- no action changes the state: that is the clock's
+idled_state : (part : PartData) (i : Instruction) (p : Port) → (idled part i p).state ≡ p.state
+idled_state part instruction.Jstart p = refl
+idled_state part instruction.CfgOut p = refl
+idled_state part instruction.CfgIn p = refl
+idled_state part instruction.Usercode p = refl
+idled_state part instruction.Idcode p = refl
+idled_state part instruction.Jprogram p = refl
+idled_state part instruction.Jshutdown p = refl
+idled_state part instruction.Bypass p = refl
+
+captured_state : (part : PartData) (i : Instruction) (p : Port) → (captured part i p).state ≡ p.state
+captured_state part instruction.Jstart p = refl
+captured_state part instruction.CfgOut p = refl
+captured_state part instruction.CfgIn p = refl
+captured_state part instruction.Usercode p = refl
+captured_state part instruction.Idcode p = refl
+captured_state part instruction.Jprogram p = refl
+captured_state part instruction.Jshutdown p = refl
+captured_state part instruction.Bypass p = refl
+
+shifted_state : (part : PartData) (i : Instruction) (p : Port) (tdi : Bool) → (data_shifted part i p tdi).state ≡ p.state
+shifted_state part instruction.Jstart p tdi = refl
+shifted_state part instruction.CfgOut p tdi = refl
+shifted_state part instruction.CfgIn p tdi = refl
+shifted_state part instruction.Usercode p tdi = refl
+shifted_state part instruction.Idcode p tdi = refl
+shifted_state part instruction.Jprogram p tdi = refl
+shifted_state part instruction.Jshutdown p tdi = refl
+shifted_state part instruction.Bypass p tdi = refl
+
+acted_state : (part : PartData) (s : State) (p : Port) (tdi : Bool) → (acted part s p tdi).state ≡ p.state
+acted_state part state.TestLogicReset p tdi = refl
+acted_state part state.RunTestIdle p tdi = idled_state part p.instruction p
+acted_state part state.SelectDr p tdi = refl
+acted_state part state.CaptureDr p tdi = captured_state part p.instruction p
+acted_state part state.ShiftDr p tdi = shifted_state part p.instruction p tdi
+acted_state part state.Exit1Dr p tdi = refl
+acted_state part state.PauseDr p tdi = refl
+acted_state part state.Exit2Dr p tdi = refl
+acted_state part state.UpdateDr p tdi = refl
+acted_state part state.SelectIr p tdi = refl
+acted_state part state.CaptureIr p tdi = refl
+acted_state part state.ShiftIr p tdi = refl
+acted_state part state.Exit1Ir p tdi = refl
+acted_state part state.PauseIr p tdi = refl
+acted_state part state.Exit2Ir p tdi = refl
+acted_state part state.UpdateIr p tdi = refl
+
 -- a clock
-moves : (part : PartData) (m n : TapState) (e : DeviceState) (p : Port) (tms tdi : Bool) → StandsForPort part m e (acted part p.state p tdi) → m.state ≡ p.state → n ≡ record m { state = next_of m.state tms } → StandsForPort part n e (clocked part p (record { tms = tms; tdi = tdi }))
-moves part m n e p tms tdi s is with = record {
-  state_is = ap (λ (x : TapState). x.state) with ∙ ap (λ (x : State). next_of x tms) is;
+moves : (part : PartData) (m n : TapState) (e : DeviceState) (p : Port) (tms tdi : Bool) → StandsForPort part m e (acted part p.state p tdi) → n ≡ record m { state = next_of m.state tms } → StandsForPort part n e (clocked part p (record { tms = tms; tdi = tdi }))
+moves part m n e p tms tdi s with = record {
+  state_is = ap (λ (x : TapState). x.state) with ∙ ap (λ (x : State). next_of x tms) (s.state_is ∙ acted_state part p.state p tdi);
   instruction_is = ap (λ (x : TapState). x.instruction) with ∙ s.instruction_is;
   register_is = ap (λ (x : TapState). x.register) with ∙ s.register_is;
   count_is = ap (λ (x : TapState). x.count) with ∙ s.count_is;
@@ -99,7 +148,7 @@ moves part m n e p tms tdi s is with = record {
 }
 
 pub clocks_on : (part : PartData) (k m n : TapState) (d e : DeviceState) (cs : List Clock) (tms tdi : Bool) → TapStandsFor part k d cs → (StandsForPort part k d (port_after part cs) → StandsForPort part m e (acted part (port_after part cs).state (port_after part cs) tdi))
-    → m.state ≡ k.state → n ≡ record m { state = next_of m.state tms } → TapStandsFor part n e (cs ++ record { tms = tms; tdi = tdi } ∷ [])
-clocks_on part k m n d e cs tms tdi s act is with =
+    → n ≡ record m { state = next_of m.state tms } → TapStandsFor part n e (cs ++ record { tms = tms; tdi = tdi } ∷ [])
+clocks_on part k m n d e cs tms tdi s act with =
     let c : Clock = record { tms = tms; tdi = tdi } in
-    subst (StandsForPort part n e) (sym (fold-append (clocked part) new_port cs (c ∷ []))) (moves part m n e (port_after part cs) tms tdi (act s) (is ∙ s.state_is) with)
+    subst (StandsForPort part n e) (sym (fold-append (clocked part) new_port cs (c ∷ []))) (moves part m n e (port_after part cs) tms tdi (act s) with)

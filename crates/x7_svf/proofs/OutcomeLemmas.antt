@@ -1,9 +1,9 @@
 -- What pieces come to, statement by statement.
 use Rattle.std.specs.Prelude.{Result, Ok, Err}
-use Rattle.std.proofs.Common.{◌≡◌, ℕ, zero, suc, ◌≤◌, List, [], ◌∷◌, ◌++◌, length, Option, Some, None, refl, sym, ap, ◌∙◌, append_assoc, arith}
+use Rattle.std.proofs.Common.{◌≡◌, ℕ, zero, suc, ◌≤◌, List, [], ◌∷◌, ◌++◌, length, Option, Some, refl, sym, ap, ◌∙◌, append_assoc, arith}
 use Rattle.x7_svf.specs.Pieces.{Mark, Word, Open, Close, End, TextPiece}
 use Rattle.x7_svf.specs.declared.statement.Statement.{Statement}
-use Rattle.x7_svf.specs.Svf.{pieces_left_after, first_statement, if_ended, outcome, outcome_by, pieces_after, with_first}
+use Rattle.x7_svf.specs.Svf.{pieces_left_after, first_statement, outcome, outcome_by, pieces_after, with_first}
 use Rattle.x7_svf.specs.declared.fault.SvfFault.{SvfFault}
 
 fewer_by : (line : ℕ) (m : Mark) (ps : List TextPiece) → length (pieces_left_after (pieces_after ps)) ≤ length ps → length (pieces_left_after (pieces_after (record { line = line; mark = m } ∷ ps))) ≤ length ps
@@ -37,10 +37,6 @@ after_all ss (Err f) = Err f
 one_more : (line : ℕ) (ss : List Statement) (s : Statement) (r : Result (List Statement) SvfFault) → after_all ss (with_first line (Some s) r) ≡ after_all (ss ++ s ∷ []) r
 one_more line ss s (Ok more) = ap (λ (x : List Statement). Ok x) (sym (append_assoc ss (s ∷ []) more))
 one_more line ss s (Err f) = refl
-
-pub none_ended : (r : Option (List TextPiece)) → None ≡ if_ended r None
-none_ended None = refl
-none_ended (Some rest) = refl
 
 -- pieces after statements, of which the first is this
 module _ (ps before : List TextPiece) (ss : List Statement) (p : TextPiece) (left : List TextPiece) (h : outcome ps ≡ after_all ss (outcome before)) (e : before ≡ p ∷ left) where

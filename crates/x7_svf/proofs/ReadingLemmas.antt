@@ -23,13 +23,6 @@ reads_both a b c f g = record {
   passed = omega (arith, f.passed, g.passed);
 }
 
-pub reads_blanks : (a b : SourceState) → PassesBlanks a b → ReadsOn a b
-reads_blanks a b f = record {
-  prefix = all_stays a.kept b.kept f.kept;
-  after = ap pieces_after f.same;
-  passed = f.passed;
-}
-
 -- the pieces after a token over which a reader stepped
 pub left_stepped : (b c : SourceState) (t : Token) → StepsOver (token_size t) b c → left_after b t ≡ pieces_left c
 left_stepped b c t g = sym (λ i. pieces (g.line i) (g.rest i))

@@ -55,7 +55,7 @@ module _ (a b : List ℕ) (f : StaysKept a b) where
   statement_stays stored.Idle w = refl
   statement_stays (stored.Run n) w = refl
   statement_stays stored.Nothing w = refl
-  statement_stays (stored.Scan s) w = λ i. statement.Scan s.ir (bits_of s.count (bytes_stay s.tdi w.0 i)) (bits_option s.count (option_stays s.tdo w.1 i)) (bits_option s.count (option_stays s.mask w.2 i))
+  statement_stays (stored.Scan s) w = λ i. statement.Scan (record { register = s.register; tdi = bits_of s.count (bytes_stay s.tdi w.0 i); tdo = bits_option s.count (option_stays s.tdo w.1 i); mask = bits_option s.count (option_stays s.mask w.2 i) })
 
   pub statements_stay : (ss : List Stored) → AreStoredWithin (length a) ss → statements_in b ss ≡ statements_in a ss
   statements_stay [] w = refl
@@ -83,8 +83,3 @@ words_more n m (words.Four p q r s) l w = (omega (arith, l, w.0), omega (arith, 
 pub stored_anywhere : (kept : List ℕ) (o : Option Stored) (s : Option Statement) → stored_if [] o ≡ s → IfSome o (IsStoredWithin 0) → IsStored kept o s
 stored_anywhere kept None s e w = (e, w)
 stored_anywhere kept (Some x) s e w = (ap Some (statement_stays [] kept refl x w) ∙ e, stored_more 0 (length kept) x (omega arith) w)
-
--- what holds anyway holds of each result
-pub of_each : {A : Type 0} {P : Type 0} → (o : Option A) → P → IfSome o (λ _. P)
-of_each None p = tt
-of_each (Some x) p = p

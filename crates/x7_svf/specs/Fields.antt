@@ -4,6 +4,7 @@ use Rattle.std.specs.List.{list_all}
 use Rattle.x7_svf.specs.Pieces.{Mark, Word, Open, Close, End}
 use Rattle.x7_svf.specs.Bits.{bits_of, digit_number}
 use Rattle.x7_svf.specs.Words.{is_digit, is_key, number_within}
+use Rattle.x7_svf.specs.declared.statement.ScannedRegister.{ScannedRegister}
 use Rattle.x7_svf.specs.declared.statement.Statement.{Statement}
 use Rattle.x7_svf.specs.declared.statement.Statement.TheVariants as statement
 use Rattle.x7_svf.specs.declared.fields.Field.{Field}
@@ -127,14 +128,14 @@ bits_option n None = None
 bits_option n (Some ds) = Some (bits_of n ds)
 
 -- the scan of fields by the digits of TDI
-abbrev pub with_tdi : Bool → ℕ → Fields → Option (List ℕ) → Option Statement
-with_tdi ir n f None = None
-with_tdi ir n f (Some ds) = Some (statement.Scan ir (bits_of n ds) (bits_option n f.tdo) (bits_option n f.mask))
+abbrev pub with_tdi : ScannedRegister → ℕ → Fields → Option (List ℕ) → Option Statement
+with_tdi register n f None = None
+with_tdi register n f (Some ds) = Some (statement.Scan (record { register = register; tdi = bits_of n ds; tdo = bits_option n f.tdo; mask = bits_option n f.mask }))
 
 -- the scan of fields: TDI is required
-abbrev pub scan_by : Bool → ℕ → Option Fields → Option Statement
-scan_by ir n None = None
-scan_by ir n (Some f) = if all_fit n f then with_tdi ir n f f.tdi else None
+abbrev pub scan_by : ScannedRegister → ℕ → Option Fields → Option Statement
+scan_by register n None = None
+scan_by register n (Some f) = if all_fit n f then with_tdi register n f f.tdi else None
 
 -- the most bits of a scan
 abbrev pub most_bits : ℕ
@@ -146,14 +147,14 @@ some_bits None = None
 some_bits (Some n) = if n == 0 then None else Some n
 
 -- the scan of this many bits, where that is a number of bits, by the marks after it
-abbrev pub scan_if : Bool → Option ℕ → List Mark → Option Statement
-scan_if ir None ms = None
-scan_if ir (Some n) ms = scan_by ir n (scan_from Between no_fields ms)
+abbrev pub scan_if : ScannedRegister → Option ℕ → List Mark → Option Statement
+scan_if register None ms = None
+scan_if register (Some n) ms = scan_by register n (scan_from Between no_fields ms)
 
 -- after SIR or SDR
-abbrev pub scan_of : Bool → List Mark → Option Statement
-scan_of ir [] = None
-scan_of ir (Word n ∷ ms) = scan_if ir (some_bits (number_within most_bits n)) ms
-scan_of ir (Open ∷ ms) = None
-scan_of ir (Close ∷ ms) = None
-scan_of ir (End ∷ ms) = None
+abbrev pub scan_of : ScannedRegister → List Mark → Option Statement
+scan_of register [] = None
+scan_of register (Word n ∷ ms) = scan_if register (some_bits (number_within most_bits n)) ms
+scan_of register (Open ∷ ms) = None
+scan_of register (Close ∷ ms) = None
+scan_of register (End ∷ ms) = None

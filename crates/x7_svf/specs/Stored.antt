@@ -12,7 +12,7 @@ use Rattle.x7_svf.specs.declared.stored.Stored.TheVariants as stored
 
 -- the scan whose digits are kept, each field as this many bits
 abbrev pub scan_in : List ℕ → StoredScan → Statement
-scan_in kept s = statement.Scan s.ir (bits_of s.count (bytes_in kept s.tdi)) (bits_option s.count (digits_if kept s.tdo)) (bits_option s.count (digits_if kept s.mask))
+scan_in kept s = statement.Scan (record { register = s.register; tdi = bits_of s.count (bytes_in kept s.tdi); tdo = bits_option s.count (digits_if kept s.tdo); mask = bits_option s.count (digits_if kept s.mask) })
 
 -- a statement, the digits of whose scan are kept
 abbrev pub statement_in : List ℕ → Stored → Statement

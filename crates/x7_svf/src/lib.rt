@@ -18,5 +18,5 @@ mod words;
 pub use bits::Bits;
 pub use fault::SvfFault;
 pub use laws::{bits_are_those_of_the_value, values_fit_their_width};
-pub use statement::Statement;
+pub use statement::{Scan, ScannedRegister, Statement};
 pub use svf::{Svf, svf_from, svf_of};

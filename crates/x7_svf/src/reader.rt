@@ -1,5 +1,5 @@
 //! One statement of a text.
-ghost use Rattle.std.specs.Prelude.{◌≡◌, ◌<◌, ◌≤◌, ◌+◌, ◌*◌, Bool, true, false, length, take, IfSome, IsTrue, Option, Some, None};
+ghost use Rattle.std.specs.Prelude.{◌≡◌, ◌<◌, ◌≤◌, ◌+◌, ◌*◌, true, false, length, take, IfSome, IsTrue, Option, Some, None};
 ghost use Rattle.std.specs.List.{list_all};
 ghost use Rattle.x7_svf.specs.Fields.{all_fit, digit_width, fits, scan_by, scan_if, scan_of, width};
 ghost use Rattle.x7_svf.specs.Pieces.{mark_of, token_size};
@@ -10,12 +10,14 @@ ghost use Rattle.x7_svf.specs.Statements.{statement_by, statement_of};
 ghost use Rattle.x7_svf.specs.Stored.{IsStored};
 ghost use Rattle.x7_svf.specs.Svf.{first_statement, marks_before, pieces_after};
 ghost use Rattle.x7_svf.specs.Words.{is_free_mark, some_if, statement_if_words as if_words, words_of};
+ghost use Rattle.x7_svf.specs.declared.statement.ScannedRegister.{ScannedRegister as Register};
 ghost use Rattle.x7_svf.specs.declared.statement.Statement.{Statement as StatementData};
 
 use crate::bits::digit_number;
 use crate::fields::{Given, fields};
 use crate::source::Source;
 use crate::span::Span;
+use crate::statement::ScannedRegister;
 use crate::stored::{Stored, StoredScan};
 use crate::token::{Token, next_within, pass_end};
 use crate::words::{Words, is_any_word, is_keyword, number, statement_said, with_one};
@@ -155,16 +157,21 @@ fn do_all_fit(kept: &[u8], count: u32, given: Given) -> bool
 }
 
 /// The scan of this many bits with these fields, whose digits are kept.
-fn scan_of_fields(kept: &[u8], ir: bool, count: u32, given: Given) -> Option<Stored>
+fn scan_of_fields(
+    kept: &[u8],
+    register: ScannedRegister,
+    count: u32,
+    given: Given,
+) -> Option<Stored>
     requires { AreWithin (length kept.now) given }
-    ensures { IsStored kept.now result (scan_by ir count (Some (fields_of kept.now given))) }
+    ensures { IsStored kept.now result (scan_by register count (Some (fields_of kept.now given))) }
 {
     if !do_all_fit(kept, count, given) {
         return None;
     }
     let tdi = given.tdi?;
     Some(Stored::Scan(StoredScan {
-        ir,
+        register,
         count,
         tdi,
         tdo: given.tdo,
@@ -174,7 +181,7 @@ fn scan_of_fields(kept: &[u8], ir: bool, count: u32, given: Given) -> Option<Sto
 
 /// How many bits the scan has whose keyword was passed.
 fn scan_count(source: &mut Source) -> Option<u32>
-    ensures is { (ir : Bool) → scan_of ir (marks_before (pieces_left source.old)) ≡ scan_if ir result (marks_before (pieces_left source.new)) }
+    ensures is { (register : Register) → scan_of register (marks_before (pieces_left source.old)) ≡ scan_if register result (marks_before (pieces_left source.new)) }
     ensures reads { IfSome result (λ n. ReadsOn source.old source.new) }
 {
     let Token::Word(length) = next_within(source)? else {
@@ -189,13 +196,13 @@ fn scan_count(source: &mut Source) -> Option<u32>
 }
 
 /// The scan whose keyword was passed. Its digits are kept.
-fn scan(source: &mut Source, ir: bool) -> Option<Stored>
-    ensures is { IsStored source.new.kept result (scan_of ir (marks_before (pieces_left source.old))) }
+fn scan(source: &mut Source, register: ScannedRegister) -> Option<Stored>
+    ensures is { IsStored source.new.kept result (scan_of register (marks_before (pieces_left source.old))) }
     ensures reads { IfSome result (λ s. ReadsOn source.old source.new) }
 {
     let count = scan_count(source)?;
     let given = fields(source)?;
-    scan_of_fields(source.kept(), ir, count, given)
+    scan_of_fields(source.kept(), register, count, given)
 }
 
 /// What a keyword, which is kept, and what comes after it say.
@@ -206,10 +213,10 @@ fn said_by(source: &mut Source, key: Span) -> Option<Stored>
 {
     let word = key.of(source.kept());
     if is_keyword(word, b"SIR") {
-        return scan(source, true);
+        return scan(source, ScannedRegister::Instruction);
     }
     if is_keyword(word, b"SDR") {
-        return scan(source, false);
+        return scan(source, ScannedRegister::Data);
     }
     if is_keyword(word, b"FREQUENCY") {
         return free_statement(source);

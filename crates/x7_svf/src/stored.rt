@@ -6,7 +6,7 @@ ghost use Rattle.x7_svf.specs.Stored.{IsStoredWithin, statement_in};
 
 use crate::bits::Bits;
 use crate::span::Span;
-use crate::statement::Statement;
+use crate::statement::{Scan, ScannedRegister, Statement};
 
 /// A statement, small: of 2^29 bytes there may be many. The digits of a scan are kept apart.
 #[derive(Clone, Copy, Debug)]
@@ -21,7 +21,7 @@ pub(crate) enum Stored {
 /// A scan of this many bits.
 #[derive(Clone, Copy, Debug)]
 pub(crate) struct StoredScan {
-    pub ir: bool,
+    pub register: ScannedRegister,
     pub count: u32,
     pub tdi: Span,
     pub tdo: Option<Span>,
@@ -48,12 +48,12 @@ pub(crate) fn statement_of<'t>(stored: &Stored, kept: &'t [u8]) -> Statement<'t>
         Stored::Reset => Statement::Reset,
         Stored::Idle => Statement::Idle,
         Stored::Run(count) => Statement::Run(*count),
-        Stored::Scan(scan) => Statement::Scan {
-            ir: scan.ir,
+        Stored::Scan(scan) => Statement::Scan(Scan {
+            register: scan.register,
             tdi: Bits::new(scan.count, scan.tdi.of(kept)),
             tdo: bits_option(kept, scan.count, scan.tdo),
             mask: bits_option(kept, scan.count, scan.mask),
-        },
+        }),
         Stored::Nothing => Statement::Nothing,
     }
 }

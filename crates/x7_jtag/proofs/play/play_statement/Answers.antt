@@ -17,10 +17,10 @@ returns-in-Run-clause-stands c = λ part cs s.
 
 pub returns-in-Scan-clause-stands : goal.returns-in-Scan-clause-stands
 returns-in-Scan-clause-stands c = λ part cs s.
-    of_statement part c.scan.new.tap c.scan.new.device cs (port_after part cs).state (statement.Scan c.in-Scan.ir c.in-Scan.tdi c.in-Scan.tdo c.in-Scan.mask) c.args.statement.now c.in-Scan.is (c.scan.ensures.stands part cs s)
+    of_statement part c.play_scan.new.tap c.play_scan.new.device cs (port_after part cs).state (statement.Scan c.in-Scan.scan) c.args.statement.now c.in-Scan.is (c.play_scan.ensures.stands part cs s)
 
 pub returns-in-Scan-clause-found : goal.returns-in-Scan-clause-found
-returns-in-Scan-clause-found c = λ part cs s. c.scan.ensures.found part cs s ∙ ap (difference part (port_after part cs)) (sym c.in-Scan.is)
+returns-in-Scan-clause-found c = λ part cs s. c.play_scan.ensures.found part cs s ∙ ap (difference part (port_after part cs)) (sym c.in-Scan.is)
 
 pub returns-in-Scan-clause-short : goal.returns-in-Scan-clause-short
-returns-in-Scan-clause-short c = λ s. short_scan s c.in-Scan.ir c.in-Scan.tdi c.in-Scan.tdo c.in-Scan.mask c.args.statement.now c.in-Scan.is c.scan.ensures.few
+returns-in-Scan-clause-short c = λ s. short_scan s c.in-Scan.scan c.args.statement.now c.in-Scan.is c.play_scan.ensures.few
