@@ -1,4 +1,4 @@
--- The clocks that statements make (Serial Vector Format; IEEE 1149.1, the controller's states).
+-- The clocks that statements make (this project's profile of SVF; IEEE 1149.1, the controller's states).
 use Rattle.std.specs.Prelude.{Bool, true, false, List, [], ◌∷◌, ◌++◌, map, replicate}
 use Rattle.x7_jtag.specs.declared.state.State.{State}
 use Rattle.x7_jtag.specs.declared.state.State.TheVariants as state

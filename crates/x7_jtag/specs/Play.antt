@@ -1,4 +1,4 @@
--- Playing statements: their clocks, up to the first scan whose TDO differs from the wanted bits (Serial Vector Format).
+-- Playing statements: their clocks, up to the first scan whose TDO differs from the wanted bits (this project's profile of SVF).
 use Rattle.std.specs.Prelude.{ℕ, zero, suc, ◌+◌, ◌-◌, ◌&&◌, not, Bool, true, false, if◌then◌else◌, List, [], ◌∷◌, ◌++◌, length, take, map, fold, Option, Some, None, ◌≡◌, ◌≤◌, ◌^◌}
 use Rattle.std.specs.List.{slice_get}
 use Rattle.x7_part.specs.Part.{PartData}

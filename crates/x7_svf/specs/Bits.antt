@@ -1,4 +1,4 @@
--- The bits of hexadecimal digits, lowest first (Serial Vector Format).
+-- The bits of hexadecimal digits, lowest first (this project's profile of SVF).
 use Rattle.std.specs.Prelude.{ℕ, zero, suc, ◌+◌, ◌-◌, ◌/◌, ◌%◌, ◌^◌, ◌*◌, ◌==◌, nat_le, nat_lt, Bool, false, if◌then◌else◌, List, [], ◌∷◌, length, slice_index}
 use Rattle.std.specs.List.{flat_map}
 

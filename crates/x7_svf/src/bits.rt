@@ -109,7 +109,7 @@ impl<'t> Bits<'t> {
         Bits { count, digits }
     }
 
-    /// How many there are.
+    /// How many bits there are.
     pub fn len(&self) -> u32
         ensures { result ≡ length self.now }
     {
