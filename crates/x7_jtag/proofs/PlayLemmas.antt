@@ -9,15 +9,18 @@ use Rattle.x7_engine.specs.Standing.{DeviceState}
 use Rattle.x7_jtag.specs.declared.play.Differ.{Differ}
 use Rattle.x7_jtag.specs.declared.state.State.{State}
 use Rattle.x7_jtag.specs.declared.state.State.TheVariants as state
-use Rattle.x7_jtag.specs.declared.statement.Statement.{Statement}
-use Rattle.x7_jtag.specs.declared.statement.Statement.TheVariants as statement
+use Rattle.x7_svf.specs.declared.statement.Scan.{Scan}
+use Rattle.x7_svf.specs.declared.statement.ScannedRegister.{ScannedRegister}
+use Rattle.x7_svf.specs.declared.statement.ScannedRegister.TheVariants as scanned
+use Rattle.x7_svf.specs.declared.statement.Statement.{Statement}
+use Rattle.x7_svf.specs.declared.statement.Statement.TheVariants as statement
 use Rattle.x7_jtag.specs.Clocks.{clock, clocks, clocks_of, from_exit, from_reset, inner_clocks, shift_clocks, to_shift}
-use Rattle.x7_jtag.specs.Bits.{bytes_bits}
-use Rattle.x7_jtag.specs.Play.{Ready, after_clocks, bit_at, difference, difference_from, differs_at, first_by, first_from, found_more, is_apart, least, scan_bits, walk_clocks}
+use Rattle.x7_svf.specs.Bits.{bytes_bits}
+use Rattle.x7_jtag.specs.Play.{Ready, after_clocks, bit_at, difference, difference_from, differs_at, first_by, first_from, found_more, is_apart, least, tdo_at, walk_clocks}
 use Rattle.x7_jtag.specs.Port.{Port, clocked, new_port, port_after, tdo_of}
 use Rattle.x7_jtag.specs.States.{Clock, moved_by, state_after, test_logic_reset}
 use Rattle.x7_jtag.specs.Tap.{TapStandsFor, TapState}
-use Rattle.x7_jtag.proofs.ByteLemmas.{inner_append}
+use Rattle.x7_jtag.proofs.ShiftLemmas.{inner_append}
 use Rattle.x7_jtag.proofs.ShortLemmas.{held_short, taken_short}
 
 -- ---- one clock
@@ -161,13 +164,12 @@ least_none holds f from zero = refl
 least_none holds f from (suc n) = ap (λ (b : Bool). if b then Some from else least holds (from + 1) n) (f from) ∙ least_none holds f (from + 1) n
 
 -- a scan of which no bit is wanted differs nowhere
-pub found_first : (part : PartData) (p : Port) (tdi : List Bool) (tdo mask : Option (List Bool)) (first : ℕ) → (0 < first → tdo ≡ None) → first ≤ length tdi
-    → difference_from part p (scan_bits tdi tdo mask) 0 ≡ difference_from part p (scan_bits tdi tdo mask) first
-found_first part p tdi tdo mask zero none l = refl
-found_first part p tdi tdo mask (suc n) none l =
-    let e : tdo ≡ None = none (omega arith) in
-    let f : (i : ℕ) → differs_at part p (scan_bits tdi tdo mask) i ≡ false = λ i. ap (λ (o : Option (List Bool)). differs_at part p (scan_bits tdi o mask) i) e in
-    least_none (differs_at part p (scan_bits tdi tdo mask)) f 0 (length tdi - 0) ∙ sym (least_none (differs_at part p (scan_bits tdi tdo mask)) f (suc n) (length tdi - suc n))
+pub found_first : (part : PartData) (p : Port) (s : Scan) (first : ℕ) → (0 < first → s.tdo ≡ None) → first ≤ length s.tdi → difference_from part p s 0 ≡ difference_from part p s first
+found_first part p s zero none l = refl
+found_first part p s (suc n) none l =
+    let e : s.tdo ≡ None = none (omega arith) in
+    let f : (i : ℕ) → differs_at part p s i ≡ false = λ i. ap (λ (o : Option (List Bool)). is_apart o s.mask i (tdo_at part p s.tdi i)) e in
+    least_none (differs_at part p s) f 0 (length s.tdi - 0) ∙ sym (least_none (differs_at part p s) f (suc n) (length s.tdi - suc n))
 
 -- the first place found, or a later one
 abbrev pub found_or : Option ℕ → Option ℕ → Option ℕ
@@ -197,8 +199,8 @@ found_ends holds found n i all l e =
     sym (e ∙ ap (λ k. found_or found (least holds i k)) count ∙ found_none found)
 
 -- what TDO shows at a shift clock
-pub shown_is : (part : PartData) (cs : List Clock) (bs : List Bool) (tdo mask : Option (List Bool)) (i : ℕ) (shown b : Bool) → shown ≡ tdo_of part (port_after part (cs ++ take i (shift_clocks bs))) → b ≡ is_apart tdo mask i shown → b ≡ differs_at part (port_after part cs) (scan_bits bs tdo mask) i
-shown_is part cs bs tdo mask i shown b e f = f ∙ ap (is_apart tdo mask i) (e ∙ ap (tdo_of part) (after part cs (take i (shift_clocks bs))))
+pub shown_is : (part : PartData) (cs : List Clock) (s : Scan) (i : ℕ) (shown b : Bool) → shown ≡ tdo_of part (port_after part (cs ++ take i (shift_clocks s.tdi))) → b ≡ is_apart s.tdo s.mask i shown → b ≡ differs_at part (port_after part cs) s i
+shown_is part cs s i shown b e f = f ∙ ap (is_apart s.tdo s.mask i) (e ∙ ap (tdo_of part) (after part cs (take i (shift_clocks s.tdi))))
 
 -- ---- lengths of walks
 
@@ -220,17 +222,17 @@ leave_length state.PauseIr = omega arith
 leave_length state.Exit2Ir = omega arith
 leave_length state.UpdateIr = omega arith
 
-pub to_shift_length : (ir : Bool) → length (to_shift ir) ≤ 4
-to_shift_length true = omega arith
-to_shift_length false = omega arith
+pub to_shift_length : (r : ScannedRegister) → length (to_shift r) ≤ 4
+to_shift_length scanned.Instruction = omega arith
+to_shift_length scanned.Data = omega arith
 
 pub ready_left : (t u : TapState) (d e : DeviceState) (more later : ℕ) → Ready t d more → ((part : PartData) (cs : List Clock) → TapStandsFor part t d cs → TapStandsFor part u e (cs ++ from_reset (port_after part cs).state)) → 1 + later ≤ more → Ready u e later
 ready_left t u d e more later r s l =
     let c : State = (port_after r.part r.before).state in
     ready_on t u d e more later r (from_reset c) (s r.part r.before r.stands) (omega (arith, l, leave_length c))
 
-pub ready_in_shift : (t u : TapState) (d e : DeviceState) (more later : ℕ) (ir : Bool) → Ready t d more → ((part : PartData) (cs : List Clock) → TapStandsFor part t d cs → TapStandsFor part u e (cs ++ to_shift ir)) → 4 + later ≤ more → Ready u e later
-ready_in_shift t u d e more later ir r s l = ready_on t u d e more later r (to_shift ir) (s r.part r.before r.stands) (omega (arith, l, to_shift_length ir))
+pub ready_in_shift : (t u : TapState) (d e : DeviceState) (more later : ℕ) (register : ScannedRegister) → Ready t d more → ((part : PartData) (cs : List Clock) → TapStandsFor part t d cs → TapStandsFor part u e (cs ++ to_shift register)) → 4 + later ≤ more → Ready u e later
+ready_in_shift t u d e more later register r s l = ready_on t u d e more later r (to_shift register) (s r.part r.before r.stands) (omega (arith, l, to_shift_length register))
 
 pub ready_shifted : (t u : TapState) (d e : DeviceState) (more later : ℕ) (bs : List Bool) → Ready t d more → ((part : PartData) (cs : List Clock) → TapStandsFor part t d cs → TapStandsFor part u e (cs ++ shift_clocks bs)) → length bs + later ≤ more → Ready u e later
 ready_shifted t u d e more later bs r s l = ready_on t u d e more later r (shift_clocks bs) (s r.part r.before r.stands) (omega (arith, l, shift_length bs))
@@ -254,15 +256,16 @@ ready_played t u d e more later x r s short l =
 four_walks : (cs a b c d : List Clock) → (((cs ++ a) ++ b) ++ c) ++ d ≡ cs ++ (((a ++ b) ++ c) ++ d)
 four_walks cs a b c d = ap (λ t. t ++ d) (ap (λ t. t ++ c) (append_assoc cs a b) ∙ append_assoc cs (a ++ b) c) ∙ append_assoc cs ((a ++ b) ++ c) d
 
-pub scan_ends : (part : PartData) (u : TapState) (e : DeviceState) (cs : List Clock) (s : State) (ir : Bool) (bs : List Bool) → TapStandsFor part u e ((((cs ++ from_reset s) ++ to_shift ir) ++ shift_clocks bs) ++ from_exit)
-    → TapStandsFor part u e (cs ++ (from_reset s ++ to_shift ir ++ shift_clocks bs ++ from_exit))
-scan_ends part u e cs s ir bs t = stands_at part u e ((((cs ++ from_reset s) ++ to_shift ir) ++ shift_clocks bs) ++ from_exit) (cs ++ (from_reset s ++ to_shift ir ++ shift_clocks bs ++ from_exit)) (four_walks cs (from_reset s) (to_shift ir) (shift_clocks bs) from_exit) t
+pub scan_ends : (part : PartData) (u : TapState) (e : DeviceState) (cs : List Clock) (s : State) (x : Scan) → TapStandsFor part u e ((((cs ++ from_reset s) ++ to_shift x.register) ++ shift_clocks x.tdi) ++ from_exit)
+    → TapStandsFor part u e (cs ++ clocks_of s (statement.Scan x))
+scan_ends part u e cs s x t =
+    stands_at part u e ((((cs ++ from_reset s) ++ to_shift x.register) ++ shift_clocks x.tdi) ++ from_exit) (cs ++ clocks_of s (statement.Scan x)) (four_walks cs (from_reset s) (to_shift x.register) (shift_clocks x.tdi) from_exit) t
 
-pub scan_finds : (part : PartData) (cs : List Clock) (ir : Bool) (bs : List Bool) (tdo mask : Option (List Bool)) (found : Option ℕ) → found ≡ difference_from part (port_after part ((cs ++ from_reset (port_after part cs).state) ++ to_shift ir)) (scan_bits bs tdo mask) 0
-    → found ≡ difference_from part (after_clocks part (port_after part cs) (from_reset (port_after part cs).state ++ to_shift ir)) (scan_bits bs tdo mask) 0
-scan_finds part cs ir bs tdo mask found e =
+pub scan_finds : (part : PartData) (cs : List Clock) (x : Scan) (found : Option ℕ) → found ≡ difference_from part (port_after part ((cs ++ from_reset (port_after part cs).state) ++ to_shift x.register)) x 0
+    → found ≡ difference part (port_after part cs) (statement.Scan x)
+scan_finds part cs x found e =
     let s : State = (port_after part cs).state in
-    e ∙ ap (λ (p : Port). difference_from part p (scan_bits bs tdo mask) 0) (ap (port_after part) (append_assoc cs (from_reset s) (to_shift ir)) ∙ after part cs (from_reset s ++ to_shift ir))
+    e ∙ ap (λ (p : Port). difference_from part p x 0) (ap (port_after part) (append_assoc cs (from_reset s) (to_shift x.register)) ∙ after part cs (from_reset s ++ to_shift x.register))
 
 -- ---- a statement
 
@@ -272,9 +275,9 @@ run_ends part u e cs s count t = stands_at part u e ((cs ++ from_reset s) ++ rep
 pub of_statement : (part : PartData) (u : TapState) (e : DeviceState) (cs : List Clock) (s : State) (x y : Statement) → y ≡ x → TapStandsFor part u e (cs ++ clocks_of s x) → TapStandsFor part u e (cs ++ clocks_of s y)
 of_statement part u e cs s x y is t = subst (λ (z : Statement). TapStandsFor part u e (cs ++ clocks_of s z)) (sym is) t
 
-pub short_scan : (s : State) (ir : Bool) (bs : List Bool) (tdo mask : Option (List Bool)) (y : Statement) → y ≡ statement.Scan ir bs tdo mask → length bs < 2 ^ 32 → length (clocks_of s y) ≤ 2 ^ 33
-short_scan s ir bs tdo mask y is few =
-    omega (arith, ap (λ (z : Statement). length (clocks_of s z)) is, few, length-append (from_reset s) (to_shift ir), leave_length s, length-append (from_reset s ++ to_shift ir) (shift_clocks bs), to_shift_length ir, length-append (from_reset s ++ to_shift ir ++ shift_clocks bs) from_exit, shift_length bs)
+pub short_scan : (s : State) (x : Scan) (y : Statement) → y ≡ statement.Scan x → length x.tdi < 2 ^ 32 → length (clocks_of s y) ≤ 2 ^ 33
+short_scan s x y is few =
+    omega (arith, ap (λ (z : Statement). length (clocks_of s z)) is, few, length-append (from_reset s) (to_shift x.register), leave_length s, length-append (from_reset s ++ to_shift x.register) (shift_clocks x.tdi), to_shift_length x.register, length-append (from_reset s ++ to_shift x.register ++ shift_clocks x.tdi) from_exit, shift_length x.tdi)
 
 -- ---- statements
 

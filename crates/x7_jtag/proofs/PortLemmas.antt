@@ -11,8 +11,8 @@ use Rattle.x7_jtag.specs.declared.instruction.Instruction.TheVariants as instruc
 use Rattle.x7_jtag.specs.declared.state.State.{State}
 use Rattle.x7_jtag.specs.declared.state.State.TheVariants as state
 use Rattle.x7_jtag.specs.Instructions.{instruction_of}
-use Rattle.x7_jtag.specs.Port.{Port, acted, clocked, data_shifted, idled, new_port, port_after, queue_at_update, words_read_out, status, ir_status, updated, with_bit}
-use Rattle.x7_jtag.specs.Queue.{Queue, empty, offered}
+use Rattle.x7_jtag.specs.Port.{Port, acted, captured, clocked, data_shifted, idled, new_port, port_after, queue_at_update, words_read_out, status, ir_status, data_shown, register_shifted, shown_in, tdo_of, updated, with_bit}
+use Rattle.x7_jtag.specs.Queue.{Queue, empty, offered, shifted_out}
 use Rattle.x7_jtag.specs.States.{Clock, next_of}
 use Rattle.x7_jtag.specs.Tap.{QueueStandsFor, QueueState, StandsForPort, TapState, TapStandsFor, TookOfGiven}
 use Rattle.x7_jtag.proofs.StandingLemmas.{resets}
@@ -79,6 +79,36 @@ programs part k n d e p i s is named with q =
 pub acts : (part : PartData) (k n : TapState) (d e : DeviceState) (p : Port) (tdi : Bool) (s : State) → StandsForPort part k d p → k.state ≡ s → StandsForPort part n e (acted part s p tdi) → StandsForPort part n e (acted part p.state p tdi)
 acts part k n d e p tdi s t is a = subst (λ (x : State). StandsForPort part n e (acted part x p tdi)) (sym is ∙ t.state_is) a
 
+pub shows : (part : PartData) (k : TapState) (d : DeviceState) (p : Port) (s : State) (b : Bool) → StandsForPort part k d p → k.state ≡ s → b ≡ shown_in part s p → b ≡ tdo_of part p
+shows part k d p s b t is e = e ∙ ap (λ (x : State). shown_in part x p) (sym is ∙ t.state_is)
+
+-- Shift-DR under the instruction that the tap has
+pub shifts_under : (part : PartData) (k n : TapState) (d e : DeviceState) (p : Port) (tdi : Bool) (i : Instruction) → StandsForPort part k d p → k.instruction ≡ i → StandsForPort part n e (data_shifted part i p tdi) → StandsForPort part n e (data_shifted part p.instruction p tdi)
+shifts_under part k n d e p tdi i s is a = subst (λ (x : Instruction). StandsForPort part n e (data_shifted part x p tdi)) (sym is ∙ s.instruction_is) a
+
+pub shown_under : (part : PartData) (k : TapState) (d : DeviceState) (p : Port) (i : Instruction) (b : Bool) → StandsForPort part k d p → k.instruction ≡ i → b ≡ data_shown part i p → b ≡ data_shown part p.instruction p
+shown_under part k d p i b s is e = e ∙ ap (λ (x : Instruction). data_shown part x p) (sym is ∙ s.instruction_is)
+
+pub shifts_register : (part : PartData) (k n : TapState) (d : DeviceState) (p : Port) (top : ℕ) (tdi : Bool) → StandsForPort part k d p → n ≡ record k { register = register_shifted top k.register tdi }
+    → StandsForPort part n d (record p { register = register_shifted top p.register tdi })
+shifts_register part k n d p top tdi s with = record {
+  state_is = ap (λ (x : TapState). x.state) with ∙ s.state_is;
+  instruction_is = ap (λ (x : TapState). x.instruction) with ∙ s.instruction_is;
+  register_is = ap (λ (x : TapState). x.register) with ∙ ap (λ (r : ℕ). register_shifted top r tdi) s.register_is;
+  count_is = ap (λ (x : TapState). x.count) with ∙ s.count_is;
+  queue_is = subst (λ (q : QueueState). QueueStandsFor part q d p.queue) (sym (ap (λ (x : TapState). x.queue) with)) s.queue_is;
+}
+
+pub shifts_queue : (part : PartData) (k n : TapState) (d e : DeviceState) (p : Port) → StandsForPort part k d p → n ≡ record k { queue = n.queue } → QueueStandsFor part n.queue e (shifted_out (words_read_out part) p.queue)
+    → StandsForPort part n e (record p { queue = shifted_out (words_read_out part) p.queue })
+shifts_queue part k n d e p s with q = record {
+  state_is = ap (λ (x : TapState). x.state) with ∙ s.state_is;
+  instruction_is = ap (λ (x : TapState). x.instruction) with ∙ s.instruction_is;
+  register_is = ap (λ (x : TapState). x.register) with ∙ s.register_is;
+  count_is = ap (λ (x : TapState). x.count) with ∙ s.count_is;
+  queue_is = q;
+}
+
 pub captures : (part : PartData) (k n : TapState) (d : DeviceState) (p : Port) (r : ℕ) → StandsForPort part k d p → r ≡ ir_status part p.queue.given → n ≡ record k { register = r } → StandsForPort part n d (record p { register = ir_status part p.queue.given })
 captures part k n d p r s is with = record {
   state_is = ap (λ (x : TapState). x.state) with ∙ s.state_is;
@@ -88,10 +118,59 @@ captures part k n d p r s is with = record {
   queue_is = subst (λ (q : QueueState). QueueStandsFor part q d p.queue) (sym (ap (λ (x : TapState). x.queue) with)) s.queue_is;
 }
 
+-- no action changes the state: that is the clock's
+idled_state : (part : PartData) (i : Instruction) (p : Port) → (idled part i p).state ≡ p.state
+idled_state part instruction.Jstart p = refl
+idled_state part instruction.CfgOut p = refl
+idled_state part instruction.CfgIn p = refl
+idled_state part instruction.Usercode p = refl
+idled_state part instruction.Idcode p = refl
+idled_state part instruction.Jprogram p = refl
+idled_state part instruction.Jshutdown p = refl
+idled_state part instruction.Bypass p = refl
+
+captured_state : (part : PartData) (i : Instruction) (p : Port) → (captured part i p).state ≡ p.state
+captured_state part instruction.Jstart p = refl
+captured_state part instruction.CfgOut p = refl
+captured_state part instruction.CfgIn p = refl
+captured_state part instruction.Usercode p = refl
+captured_state part instruction.Idcode p = refl
+captured_state part instruction.Jprogram p = refl
+captured_state part instruction.Jshutdown p = refl
+captured_state part instruction.Bypass p = refl
+
+shifted_state : (part : PartData) (i : Instruction) (p : Port) (tdi : Bool) → (data_shifted part i p tdi).state ≡ p.state
+shifted_state part instruction.Jstart p tdi = refl
+shifted_state part instruction.CfgOut p tdi = refl
+shifted_state part instruction.CfgIn p tdi = refl
+shifted_state part instruction.Usercode p tdi = refl
+shifted_state part instruction.Idcode p tdi = refl
+shifted_state part instruction.Jprogram p tdi = refl
+shifted_state part instruction.Jshutdown p tdi = refl
+shifted_state part instruction.Bypass p tdi = refl
+
+acted_state : (part : PartData) (s : State) (p : Port) (tdi : Bool) → (acted part s p tdi).state ≡ p.state
+acted_state part state.TestLogicReset p tdi = refl
+acted_state part state.RunTestIdle p tdi = idled_state part p.instruction p
+acted_state part state.SelectDr p tdi = refl
+acted_state part state.CaptureDr p tdi = captured_state part p.instruction p
+acted_state part state.ShiftDr p tdi = shifted_state part p.instruction p tdi
+acted_state part state.Exit1Dr p tdi = refl
+acted_state part state.PauseDr p tdi = refl
+acted_state part state.Exit2Dr p tdi = refl
+acted_state part state.UpdateDr p tdi = refl
+acted_state part state.SelectIr p tdi = refl
+acted_state part state.CaptureIr p tdi = refl
+acted_state part state.ShiftIr p tdi = refl
+acted_state part state.Exit1Ir p tdi = refl
+acted_state part state.PauseIr p tdi = refl
+acted_state part state.Exit2Ir p tdi = refl
+acted_state part state.UpdateIr p tdi = refl
+
 -- a clock
-moves : (part : PartData) (m n : TapState) (e : DeviceState) (p : Port) (tms tdi : Bool) → StandsForPort part m e (acted part p.state p tdi) → m.state ≡ p.state → n ≡ record m { state = next_of m.state tms } → StandsForPort part n e (clocked part p (record { tms = tms; tdi = tdi }))
-moves part m n e p tms tdi s is with = record {
-  state_is = ap (λ (x : TapState). x.state) with ∙ ap (λ (x : State). next_of x tms) is;
+moves : (part : PartData) (m n : TapState) (e : DeviceState) (p : Port) (tms tdi : Bool) → StandsForPort part m e (acted part p.state p tdi) → n ≡ record m { state = next_of m.state tms } → StandsForPort part n e (clocked part p (record { tms = tms; tdi = tdi }))
+moves part m n e p tms tdi s with = record {
+  state_is = ap (λ (x : TapState). x.state) with ∙ ap (λ (x : State). next_of x tms) (s.state_is ∙ acted_state part p.state p tdi);
   instruction_is = ap (λ (x : TapState). x.instruction) with ∙ s.instruction_is;
   register_is = ap (λ (x : TapState). x.register) with ∙ s.register_is;
   count_is = ap (λ (x : TapState). x.count) with ∙ s.count_is;
@@ -99,7 +178,7 @@ moves part m n e p tms tdi s is with = record {
 }
 
 pub clocks_on : (part : PartData) (k m n : TapState) (d e : DeviceState) (cs : List Clock) (tms tdi : Bool) → TapStandsFor part k d cs → (StandsForPort part k d (port_after part cs) → StandsForPort part m e (acted part (port_after part cs).state (port_after part cs) tdi))
-    → m.state ≡ k.state → n ≡ record m { state = next_of m.state tms } → TapStandsFor part n e (cs ++ record { tms = tms; tdi = tdi } ∷ [])
-clocks_on part k m n d e cs tms tdi s act is with =
+    → n ≡ record m { state = next_of m.state tms } → TapStandsFor part n e (cs ++ record { tms = tms; tdi = tdi } ∷ [])
+clocks_on part k m n d e cs tms tdi s act with =
     let c : Clock = record { tms = tms; tdi = tdi } in
-    subst (StandsForPort part n e) (sym (fold-append (clocked part) new_port cs (c ∷ []))) (moves part m n e (port_after part cs) tms tdi (act s) (is ∙ s.state_is) with)
+    subst (StandsForPort part n e) (sym (fold-append (clocked part) new_port cs (c ∷ []))) (moves part m n e (port_after part cs) tms tdi (act s) with)

@@ -1,10 +1,12 @@
--- The clocks that statements make (Serial Vector Format; IEEE 1149.1, the controller's states).
+-- The clocks that statements make (this project's profile of SVF; IEEE 1149.1, the controller's states).
 use Rattle.std.specs.Prelude.{Bool, true, false, List, [], ◌∷◌, ◌++◌, map, replicate}
 use Rattle.x7_jtag.specs.declared.state.State.{State}
 use Rattle.x7_jtag.specs.declared.state.State.TheVariants as state
 use Rattle.x7_jtag.specs.States.{Clock, state_after}
-use Rattle.x7_jtag.specs.declared.statement.Statement.{Statement}
-use Rattle.x7_jtag.specs.declared.statement.Statement.TheVariants as statement
+use Rattle.x7_svf.specs.declared.statement.ScannedRegister.{ScannedRegister}
+use Rattle.x7_svf.specs.declared.statement.ScannedRegister.TheVariants as scanned
+use Rattle.x7_svf.specs.declared.statement.Statement.{Statement}
+use Rattle.x7_svf.specs.declared.statement.Statement.TheVariants as statement
 
 -- a clock with these values of TMS and TDI
 abbrev pub clock : Bool → Bool → Clock
@@ -25,10 +27,10 @@ shift_clocks (b ∷ c ∷ bs) = clock false b ∷ shift_clocks (c ∷ bs)
 abbrev pub inner_clocks : List Bool → List Clock
 inner_clocks bits = map (clock false) bits
 
--- to Shift-IR or Shift-DR, and from Exit1 to Run-Test/Idle
-abbrev pub to_shift : Bool → List Clock
-to_shift true = clock true false ∷ clock true false ∷ clock false false ∷ clock false false ∷ []
-to_shift false = clock true false ∷ clock false false ∷ clock false false ∷ []
+-- from Run-Test/Idle to Shift-IR or Shift-DR
+abbrev pub to_shift : ScannedRegister → List Clock
+to_shift scanned.Instruction = clock true false ∷ clock true false ∷ clock false false ∷ clock false false ∷ []
+to_shift scanned.Data = clock true false ∷ clock false false ∷ clock false false ∷ []
 
 -- from Exit1 to Run-Test/Idle
 abbrev pub from_exit : List Clock
@@ -39,7 +41,7 @@ abbrev pub clocks_of : State → Statement → List Clock
 clocks_of s statement.Reset = replicate 5 (clock true false)
 clocks_of s statement.Idle = from_reset s
 clocks_of s (statement.Run n) = from_reset s ++ replicate n (clock false false)
-clocks_of s (statement.Scan ir tdi tdo mask) = from_reset s ++ to_shift ir ++ shift_clocks tdi ++ from_exit
+clocks_of s (statement.Scan scan) = from_reset s ++ to_shift scan.register ++ shift_clocks scan.tdi ++ from_exit
 clocks_of s statement.Nothing = []
 
 -- the clocks of statements

@@ -1,10 +1,11 @@
--- Playing statements: their clocks, up to the first scan whose TDO differs from the wanted bits (Serial Vector Format).
+-- Playing statements: their clocks, up to the first scan whose TDO differs from the wanted bits (this project's profile of SVF).
 use Rattle.std.specs.Prelude.{ℕ, zero, suc, ◌+◌, ◌-◌, ◌&&◌, not, Bool, true, false, if◌then◌else◌, List, [], ◌∷◌, ◌++◌, length, take, map, fold, Option, Some, None, ◌≡◌, ◌≤◌, ◌^◌}
 use Rattle.std.specs.List.{slice_get}
 use Rattle.x7_part.specs.Part.{PartData}
 use Rattle.x7_jtag.specs.declared.play.Differ.{Differ}
-use Rattle.x7_jtag.specs.declared.statement.Statement.{Statement}
-use Rattle.x7_jtag.specs.declared.statement.Statement.TheVariants as statement
+use Rattle.x7_svf.specs.declared.statement.Scan.{Scan}
+use Rattle.x7_svf.specs.declared.statement.Statement.{Statement}
+use Rattle.x7_svf.specs.declared.statement.Statement.TheVariants as statement
 use Rattle.x7_jtag.specs.Clocks.{clock, clocks, clocks_of, from_reset, shift_clocks, to_shift}
 use Rattle.x7_jtag.specs.Port.{Port, clocked, new_port, port_after, tdo_of}
 use Rattle.x7_engine.specs.Standing.{DeviceState}
@@ -53,27 +54,17 @@ abbrev pub least : (ℕ → Bool) → ℕ → ℕ → Option ℕ
 least holds from zero = None
 least holds from (suc n) = if holds from then Some from else least holds (from + 1) n
 
--- the bits of a scan: those for TDI, those wanted on TDO, and which of these count
-pub record ScanBits : Type 0 where
-  pub tdi : List Bool
-  pub tdo : Option (List Bool)
-  pub mask : Option (List Bool)
-
--- a scan of these bits
-abbrev pub scan_bits : List Bool → Option (List Bool) → Option (List Bool) → ScanBits
-scan_bits tdi tdo mask = record { tdi = tdi; tdo = tdo; mask = mask }
-
 -- whether TDO differs at shift clock i from what is wanted
-abbrev pub differs_at : PartData → Port → ScanBits → ℕ → Bool
+abbrev pub differs_at : PartData → Port → Scan → ℕ → Bool
 differs_at part p s i = is_apart s.tdo s.mask i (tdo_at part p s.tdi i)
 
 -- the least bit from `first` on at which a scan differs
-abbrev pub difference_from : PartData → Port → ScanBits → ℕ → Option ℕ
+abbrev pub difference_from : PartData → Port → Scan → ℕ → Option ℕ
 difference_from part p s first = least (differs_at part p s) first (length s.tdi - first)
 
 -- the least differing bit of a statement, by the port before it
 abbrev pub difference : PartData → Port → Statement → Option ℕ
-difference part p (statement.Scan ir tdi tdo mask) = difference_from part (after_clocks part p (from_reset p.state ++ to_shift ir)) (scan_bits tdi tdo mask) 0
+difference part p (statement.Scan s) = difference_from part (after_clocks part p (from_reset p.state ++ to_shift s.register)) s 0
 difference part p _ = None
 
 -- statement n with its bit, where it differs, and else what a later one comes to
@@ -127,7 +118,7 @@ HavingMade t d made Fact = (part : PartData) (cs : List Clock) → TapStandsFor 
 abbrev pub AreNew : TapState → DeviceState → Type 0
 AreNew t d = (part : PartData) × TapStandsFor part t d []
 
--- So many clocks more may come of a tap and a device that were new before others: a device takes at most a byte a clock.
+-- This many clocks more may come of a tap and a device that were new before others: a device takes at most a byte a clock.
 pub record Ready (t : TapState) (d : DeviceState) (more : ℕ) : Type 0 where
   pub part : PartData
   pub before : List Clock

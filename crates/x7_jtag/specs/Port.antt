@@ -50,15 +50,23 @@ ir_status part given = status (state_of part on_the_bench false given).lines.don
 
 -- ---- the actions of the states
 
+-- the byte that eight clocks of startup offer
+abbrev pub startup_byte : ℕ
+startup_byte = 255
+
+-- the user code, which no stream sets here: FFFFFFFF
+abbrev pub user_code : ℕ
+user_code = 4294967295
+
 -- Run-Test/Idle: under JSTART each eighth clock offers a byte FF
 abbrev pub idled : PartData → Instruction → Port → Port
-idled part instruction.Jstart p = record p { count = (p.count + 1) % 8; queue = if p.count == 7 then offered (words_read_out part) p.queue 255 else p.queue }
+idled part instruction.Jstart p = record p { count = (p.count + 1) % 8; queue = if p.count == 7 then offered (words_read_out part) p.queue startup_byte else p.queue }
 idled part _ p = p
 
 -- Capture-DR: the idcode, the user code FFFFFFFF, the first bit of a byte, or a 0
 abbrev pub captured : PartData → Instruction → Port → Port
 captured part instruction.Idcode p = record p { register = part.idcode }
-captured part instruction.Usercode p = record p { register = 4294967295 }
+captured part instruction.Usercode p = record p { register = user_code }
 captured part instruction.CfgIn p = record p { register = 0; count = 0 }
 captured part _ p = record p { register = 0 }
 

@@ -68,6 +68,10 @@ pub record QueueStandsFor (part : PartData) (k : QueueState) (d : DeviceState) (
   pub holds : QueueHolds part k d q
   pub none_due : k.left ≡ 0 → NoWordDue d
 
+-- a step on a queue and its device does this to the queue of a port that they stand for
+abbrev pub QueueBecomes : QueueState → DeviceState → QueueState → DeviceState → (PartData → Queue → Queue) → Type 0
+QueueBecomes k d n e after = (part : PartData) (q : Queue) → QueueStandsFor part k d q → QueueStandsFor part n e (after part q)
+
 -- a tap and its device stand for a port
 pub record StandsForPort (part : PartData) (t : TapState) (d : DeviceState) (p : Port) : Type 0 where
   pub state_is : t.state ≡ p.state
@@ -75,6 +79,10 @@ pub record StandsForPort (part : PartData) (t : TapState) (d : DeviceState) (p :
   pub register_is : t.register ≡ p.register
   pub count_is : t.count ≡ p.count
   pub queue_is : QueueStandsFor part t.queue d p.queue
+
+-- an action of a tap on its device does this to the port that they stand for
+abbrev pub PortBecomes : TapState → DeviceState → TapState → DeviceState → (PartData → Port → Port) → Type 0
+PortBecomes t d u e after = (part : PartData) (p : Port) → StandsForPort part t d p → StandsForPort part u e (after part p)
 
 -- a tap and its device were new before these clocks
 abbrev pub TapStandsFor : PartData → TapState → DeviceState → List Clock → Type 0

@@ -1,10 +1,8 @@
 //! Laws of the definitions.
-ghost use Rattle.std.specs.Prelude.{◌≡◌, ◌≤◌, ◌<◌, ◌/◌, ◌%◌, ◌^◌, ◌==◌, ℕ, Bool, false, true, List, [], ◌∷◌};
+ghost use Rattle.std.specs.Prelude.{◌≡◌, Bool, false, List, [], ◌∷◌};
 ghost use Rattle.x7_part.specs.Part.{PartData};
 ghost use Rattle.x7_engine.specs.Kept.{on_the_bench};
 ghost use Rattle.x7_engine.specs.Standing.{DeviceStandsFor, due_count, frames_due};
-ghost use Rattle.x7_jtag.specs.Bits.{bit_of};
-ghost use Rattle.x7_jtag.specs.Fields.{are_hex, hex_value, width};
 ghost use Rattle.x7_jtag.specs.Events.{events_of};
 ghost use Rattle.x7_jtag.specs.Port.{new_port, port_after, words_read_out};
 ghost use Rattle.x7_jtag.specs.Queue.{Sound, queue_after};
@@ -35,15 +33,4 @@ pub fn queues_are_sound()
 /// The queue of a port is that of the events of its clocks: bytes offered, bits shifted out, and resets of the device.
 pub fn queues_are_those_of_events()
     ensures { (part : PartData) (cs : List Clock) → (port_after part cs).queue ≡ queue_after (words_read_out part) (events_of part new_port cs) }
-{}
-
-/// The value of hexadecimal digits fits n bits just where their width is at most n.
-pub fn values_fit_their_width()
-    ensures fits { (ds : List ℕ) (n : ℕ) → are_hex ds ≡ true → width ds ≤ n → hex_value ds < 2 ^ n }
-    ensures only { (ds : List ℕ) (n : ℕ) → are_hex ds ≡ true → hex_value ds < 2 ^ n → width ds ≤ n }
-{}
-
-/// Bit i of hexadecimal digits is bit i of their value.
-pub fn bits_are_those_of_the_value()
-    ensures { (ds : List ℕ) (i : ℕ) → are_hex ds ≡ true → bit_of ds i ≡ (hex_value ds / 2 ^ i % 2 == 1) }
 {}

@@ -3,18 +3,16 @@ ghost use Rattle.std.specs.Prelude.{◌≡◌, ◌≤◌, ◌<◌, ◌+◌, ◌-
 ghost use Rattle.std.specs.List.{slice_get};
 ghost use Rattle.x7_part.specs.Part.{PartData};
 ghost use Rattle.x7_jtag.specs.Clocks.{clock as clock_of, clocks_of, from_reset, shift_clocks, to_shift as to_shift_clocks};
-ghost use Rattle.x7_jtag.specs.Play.{AreNew, FindsSought, HavingMade, MakesClocks, Ready, are_apart as apart, bit_at, clocks_played, counts as counts_at, difference, difference_from, first_difference, found_more, is_apart, scan_bits, walk_clocks};
+ghost use Rattle.x7_jtag.specs.Play.{AreNew, FindsSought, HavingMade, MakesClocks, Ready, are_apart as apart, bit_at, clocks_played, counts as counts_at, difference, difference_from, first_difference, found_more, is_apart, walk_clocks};
 ghost use Rattle.x7_jtag.specs.Port.{port_after};
 ghost use Rattle.x7_jtag.specs.Tap.{TapStandsFor};
 ghost use Rattle.x7_jtag.specs.declared.state.State.{State as StateData};
-ghost use Rattle.x7_jtag.specs.declared.statement.Statement.{Statement as StatementData};
+ghost use Rattle.x7_svf.specs.declared.statement.Statement.{Statement as StatementData};
 
-use crate::bits::Bits;
 use crate::state::State;
-use crate::statement::Statement;
-use crate::svf::Svf;
 use crate::tap::Tap;
 use x7_engine::Device;
+use x7_svf::{Bits, Scan, ScannedRegister, Statement, Svf};
 
 /// The first scan whose TDO differs from the wanted bits.
 #[derive(Clone, Copy, Debug, PartialEq, Eq)]
@@ -37,7 +35,7 @@ fn walk(tap: &mut Tap, device: &mut Device, path: &[bool])
     }
 }
 
-/// So many clocks of TMS 0 and TDI 0.
+/// This many clocks of TMS 0 and TDI 0.
 fn run(tap: &mut Tap, device: &mut Device, count: u32)
     requires { Ready tap.old device.old (2 ^ 32) }
     ensures few { count < 2 ^ 32 }
@@ -60,14 +58,13 @@ fn leave_reset(tap: &mut Tap, device: &mut Device)
 }
 
 /// From Run-Test/Idle to Shift-IR or Shift-DR.
-fn to_shift(tap: &mut Tap, device: &mut Device, ir: bool)
+fn to_shift(tap: &mut Tap, device: &mut Device, register: ScannedRegister)
     requires { Ready tap.old device.old 4 }
-    ensures { MakesClocks tap.old device.old tap.new device.new (λ p. to_shift_clocks ir) }
+    ensures { MakesClocks tap.old device.old tap.new device.new (λ p. to_shift_clocks register) }
 {
-    if ir {
-        walk(tap, device, &[true, true, false, false]);
-    } else {
-        walk(tap, device, &[true, false, false]);
+    match register {
+        ScannedRegister::Instruction => walk(tap, device, &[true, true, false, false]),
+        ScannedRegister::Data => walk(tap, device, &[true, false, false]),
     }
 }
 
@@ -99,11 +96,11 @@ fn are_apart(wanted: bool, shown: bool) -> bool
 }
 
 /// Whether TDO differs at bit i from what is wanted.
-fn differs(tdo: &Option<Bits<'_>>, mask: &Option<Bits<'_>>, i: u32, shown: bool) -> bool
-    ensures { result ≡ is_apart tdo.now mask.now i shown }
+fn differs(scan: &Scan<'_>, i: u32, shown: bool) -> bool
+    ensures { result ≡ is_apart scan.now.tdo scan.now.mask i shown }
 {
-    match tdo {
-        Some(tdo) => counts(mask, i) && are_apart(bit_of(tdo, i), shown),
+    match &scan.tdo {
+        Some(tdo) => counts(&scan.mask, i) && are_apart(bit_of(tdo, i), shown),
         None => false,
     }
 }
@@ -121,23 +118,24 @@ fn first_of(found: Option<u32>, differs: bool, i: u32) -> Option<u32>
 
 /// The clocks of the first bits of a scan, byte by byte, as many whole bytes as come before the last bit, where the device
 /// takes them and no bit is wanted. Says how many bits.
-fn shift_bytes(tap: &mut Tap, device: &mut Device, tdi: &Bits<'_>, tdo: &Option<Bits<'_>>) -> u32
+fn shift_bytes(tap: &mut Tap, device: &mut Device, scan: &Scan<'_>) -> u32
     requires { Ready tap.old device.old (2 ^ 32) }
-    ensures within { result ≤ length tdi.now }
-    ensures stands { MakesClocks tap.old device.old tap.new device.new (λ p. take result (shift_clocks tdi.now)) }
-    ensures none_wanted { 0 < result → tdo.now ≡ None }
+    ensures within { result ≤ length scan.now.tdi }
+    ensures stands { MakesClocks tap.old device.old tap.new device.new (λ p. take result (shift_clocks scan.now.tdi)) }
+    ensures none_wanted { 0 < result → scan.now.tdo ≡ None }
     ensures ready { Ready tap.new device.new (2 ^ 32 - result) }
 {
-    if tdo.is_some() {
+    if scan.tdo.is_some() {
         return 0;
     }
     if !tap.takes_bytes() {
         return 0;
     }
+    let tdi = &scan.tdi;
     let mut at = 0;
     while tdi.len() - at > 8 {
         let piece = tdi.bytes_from(at);
-        let bytes = piece.bytes();
+        let bytes = piece.as_slice();
         tap.shift_bytes(bytes, device);
         at += 8 * bytes.len() as u32;
     }
@@ -146,64 +144,44 @@ fn shift_bytes(tap: &mut Tap, device: &mut Device, tdi: &Bits<'_>, tdo: &Option<
 
 /// Shifts the bits of a scan from this one on, with TMS 1 at the last, and finds the least of them at which TDO differs from
 /// what is wanted.
-fn shift_from(
-    tap: &mut Tap,
-    device: &mut Device,
-    tdi: &Bits<'_>,
-    tdo: &Option<Bits<'_>>,
-    mask: &Option<Bits<'_>>,
-    first: u32,
-) -> Option<u32>
+fn shift_from(tap: &mut Tap, device: &mut Device, scan: &Scan<'_>, first: u32) -> Option<u32>
     requires ready { Ready tap.old device.old (2 ^ 32 - first) }
-    requires within { first ≤ length tdi.now }
-    ensures stands { HavingMade tap.old device.old (take first (shift_clocks tdi.now)) (λ part cs. TapStandsFor part tap.new device.new (cs ++ shift_clocks tdi.now)) }
-    ensures few { length tdi.now < 2 ^ 32 }
-    ensures found { HavingMade tap.old device.old (take first (shift_clocks tdi.now)) (λ part cs.
-        result ≡ difference_from part (port_after part cs) (scan_bits tdi.now tdo.now mask.now) first) }
+    requires within { first ≤ length scan.now.tdi }
+    ensures stands { HavingMade tap.old device.old (take first (shift_clocks scan.now.tdi)) (λ part cs. TapStandsFor part tap.new device.new (cs ++ shift_clocks scan.now.tdi)) }
+    ensures few { length scan.now.tdi < 2 ^ 32 }
+    ensures found { HavingMade tap.old device.old (take first (shift_clocks scan.now.tdi)) (λ part cs. result ≡ difference_from part (port_after part cs) scan.now first) }
 {
+    let tdi = &scan.tdi;
     let mut found = None;
     let count = tdi.len();
     for i in first..count {
         let shown = tap.clock(i == count - 1, bit_of(tdi, i), device);
-        found = first_of(found, differs(tdo, mask, i, shown), i);
+        found = first_of(found, differs(scan, i, shown), i);
     }
     found
 }
 
 /// Shifts the bits of a scan, with TMS 1 at the last, and finds the least bit at which TDO differs from what is wanted.
-fn shift(
-    tap: &mut Tap,
-    device: &mut Device,
-    tdi: &Bits<'_>,
-    tdo: &Option<Bits<'_>>,
-    mask: &Option<Bits<'_>>,
-) -> Option<u32>
+fn shift(tap: &mut Tap, device: &mut Device, scan: &Scan<'_>) -> Option<u32>
     requires { Ready tap.old device.old (2 ^ 32) }
-    ensures stands { MakesClocks tap.old device.old tap.new device.new (λ p. shift_clocks tdi.now) }
-    ensures few { length tdi.now < 2 ^ 32 }
-    ensures found { FindsSought tap.old device.old (λ part p. difference_from part p (scan_bits tdi.now tdo.now mask.now) 0) result }
+    ensures stands { MakesClocks tap.old device.old tap.new device.new (λ p. shift_clocks scan.now.tdi) }
+    ensures few { length scan.now.tdi < 2 ^ 32 }
+    ensures found { FindsSought tap.old device.old (λ part p. difference_from part p scan.now 0) result }
 {
-    let first = shift_bytes(tap, device, tdi, tdo);
-    shift_from(tap, device, tdi, tdo, mask, first)
+    let first = shift_bytes(tap, device, scan);
+    shift_from(tap, device, scan, first)
 }
 
 /// A scan of a register, and the least bit at which TDO differs from what is wanted.
-fn scan(
-    tap: &mut Tap,
-    device: &mut Device,
-    ir: bool,
-    tdi: &Bits<'_>,
-    tdo: &Option<Bits<'_>>,
-    mask: &Option<Bits<'_>>,
-) -> Option<u32>
+fn play_scan(tap: &mut Tap, device: &mut Device, scan: &Scan<'_>) -> Option<u32>
     requires { Ready tap.old device.old (2 ^ 33) }
-    ensures stands { MakesClocks tap.old device.old tap.new device.new (λ p. clocks_of p.state (StatementData.Scan ir tdi.now tdo.now mask.now)) }
-    ensures few { length tdi.now < 2 ^ 32 }
-    ensures found { FindsSought tap.old device.old (λ part p. difference part p (StatementData.Scan ir tdi.now tdo.now mask.now)) result }
+    ensures stands { MakesClocks tap.old device.old tap.new device.new (λ p. clocks_of p.state (StatementData.Scan scan.now)) }
+    ensures few { length scan.now.tdi < 2 ^ 32 }
+    ensures found { FindsSought tap.old device.old (λ part p. difference part p (StatementData.Scan scan.now)) result }
 {
     leave_reset(tap, device);
-    to_shift(tap, device, ir);
-    let found = shift(tap, device, tdi, tdo, mask);
+    to_shift(tap, device, scan.register);
+    let found = shift(tap, device, scan);
     walk(tap, device, &[true, false]);
     found
 }
@@ -229,7 +207,7 @@ fn play_statement(statement: &Statement<'_>, tap: &mut Tap, device: &mut Device)
             run(tap, device, *count);
             None
         }
-        Statement::Scan { ir, tdi, tdo, mask } => scan(tap, device, *ir, tdi, tdo, mask),
+        Statement::Scan(scan) => play_scan(tap, device, scan),
         Statement::Nothing => None,
     }
 }

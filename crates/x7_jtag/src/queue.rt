@@ -5,9 +5,9 @@ ghost use Rattle.x7_part.specs.Part.{PartData};
 ghost use Rattle.x7_engine.specs.Standing.{NoWordDue};
 ghost use Rattle.x7_jtag.specs.Port.{words_read_out};
 ghost use Rattle.x7_jtag.specs.Queue.{Queue as QueueData, bit_shown, dropped, empty, in_turn, offered, give_held as give_held_by, shifted_out, with_given, queue_with_room};
-ghost use Rattle.x7_jtag.specs.Tap.{QueueHolds, QueueStandsFor, given_by, with_word_taken};
+ghost use Rattle.x7_jtag.specs.Tap.{QueueBecomes, QueueHolds, QueueStandsFor, given_by, with_word_taken};
 
-use crate::buffer::Buffer;
+use arrayvec::ArrayVec;
 use std::marker::Model;
 use std::mem;
 use x7_engine::{Device, Fed, ON_THE_BENCH, ReadBuf};
@@ -15,7 +15,7 @@ use x7_engine::{Device, Fed, ON_THE_BENCH, ReadBuf};
 /// The bytes held back while a word waits, and the bits of the latest word that are still to go out.
 #[derive(Drop)]
 pub(crate) struct Queue {
-    held: Buffer<64>,
+    held: ArrayVec<u8, 64>,
     word: u32,
     left: u32,
 }
@@ -26,7 +26,7 @@ impl Model for Queue {
 
     ghost Value = { QueueState };
 
-    ghost view = { λ q. record { held = q.held; word = q.word; left = q.left } };
+    ghost view = { λ q. record { held = q.held.items; word = q.word; left = q.left } };
 
     ghost invariant = { λ q. q.left ≤ 32 };
 }
@@ -47,7 +47,7 @@ impl Queue {
         ensures { result ≡ record { held = []; word = 0; left = 0 } }
     {
         Queue {
-            held: Buffer::new(),
+            held: ArrayVec::new(),
             word: 0,
             left: 0,
         }
@@ -85,7 +85,7 @@ impl Queue {
         ensures taken { device.new.taken ≤ device.old.taken + 1 }
         ensures held { length self.new.held ≤ length self.old.held + 1 }
         ensures all { device.new.taken + length self.new.held ≤ device.old.taken + length self.old.held + 1 }
-        ensures stands { (part : PartData) (q : QueueData) → QueueStandsFor part self.old device.old q → QueueStandsFor part self.new device.new (in_turn (words_read_out part) q byte) }
+        ensures stands { QueueBecomes self.old device.old self.new device.new (λ part q. in_turn (words_read_out part) q byte) }
     {
         if self.left > 0 {
             self.held.push(byte);
@@ -100,10 +100,10 @@ impl Queue {
         ensures taken { device.new.taken ≤ device.old.taken + length self.old.held }
         ensures held { self.new.held ≡ [] }
         ensures none_waits { self.new.left ≡ 0 }
-        ensures stands { (part : PartData) (q : QueueData) → QueueStandsFor part self.old device.old q → QueueStandsFor part self.new device.new (dropped (words_read_out part) q) }
+        ensures stands { QueueBecomes self.old device.old self.new device.new (λ part q. dropped (words_read_out part) q) }
     {
         let mut read = ReadBuf::dropping();
-        device.feed(self.held.bytes(), &mut read);
+        device.feed(self.held.as_slice(), &mut read);
         self.held.clear();
         self.left = 0;
     }
@@ -122,7 +122,7 @@ impl Queue {
         ensures all { device.new.taken + length self.new.held ≤ device.old.taken + length self.old.held }
         ensures taken { device.new.taken ≤ device.old.taken + 64 }
         ensures room { 0 < self.new.left → length self.new.held < 64 }
-        ensures stands { (part : PartData) (q : QueueData) → QueueStandsFor part self.old device.old q → QueueStandsFor part self.new device.new (queue_with_room (words_read_out part) q) }
+        ensures stands { QueueBecomes self.old device.old self.new device.new (λ part q. queue_with_room (words_read_out part) q) }
     {
         if self.overflows() {
             self.drop_all(device);
@@ -133,7 +133,7 @@ impl Queue {
     pub(crate) fn offer(&mut self, byte: u8, device: &mut Device)
         requires fits { device.old.taken + 65 ≤ 2 ^ 63 }
         ensures all { device.new.taken + length self.new.held ≤ device.old.taken + length self.old.held + 1 }
-        ensures stands { (part : PartData) (q : QueueData) → QueueStandsFor part self.old device.old q → QueueStandsFor part self.new device.new (offered (words_read_out part) q byte) }
+        ensures stands { QueueBecomes self.old device.old self.new device.new (λ part q. offered (words_read_out part) q byte) }
     {
         self.make_room(device);
         self.take(byte, device);
@@ -144,8 +144,7 @@ impl Queue {
         requires fits { device.old.taken + length bytes.now ≤ 2 ^ 63 }
         ensures within { result ≤ length bytes.now }
         ensures all { device.new.taken + length self.new.held ≤ device.old.taken + length self.old.held + result }
-        ensures stands { (part : PartData) (q : QueueData) → QueueStandsFor part self.old device.old q
-            → QueueStandsFor part self.new device.new (fold (offered (words_read_out part)) q (take result bytes.now)) }
+        ensures stands { QueueBecomes self.old device.old self.new device.new (λ part q. fold (offered (words_read_out part)) q (take result bytes.now)) }
     {
         if self.left > 0 {
             return 0;
@@ -163,8 +162,7 @@ impl Queue {
         ensures some { 0 < result }
         ensures within { result ≤ length bytes.now }
         ensures all { device.new.taken + length self.new.held ≤ device.old.taken + length self.old.held + result }
-        ensures stands { (part : PartData) (q : QueueData) → QueueStandsFor part self.old device.old q
-            → QueueStandsFor part self.new device.new (fold (offered (words_read_out part)) q (take result bytes.now)) }
+        ensures stands { QueueBecomes self.old device.old self.new device.new (λ part q. fold (offered (words_read_out part)) q (take result bytes.now)) }
     {
         let count = self.give(bytes, device);
         if count > 0 {
@@ -177,7 +175,7 @@ impl Queue {
     /// Takes bytes that are offered, one after another.
     pub(crate) fn offer_all(&mut self, bytes: &[u8], device: &mut Device)
         requires fits { device.old.taken + length self.old.held + length bytes.now + 65 ≤ 2 ^ 63 }
-        ensures stands { (part : PartData) (q : QueueData) → QueueStandsFor part self.old device.old q → QueueStandsFor part self.new device.new (fold (offered (words_read_out part)) q bytes.now) }
+        ensures stands { QueueBecomes self.old device.old self.new device.new (λ part q. fold (offered (words_read_out part)) q bytes.now) }
     {
         let mut rest = bytes;
         while !rest.is_empty() {
@@ -189,10 +187,10 @@ impl Queue {
     /// Gives held bytes in order until a word waits.
     fn give_held(&mut self, device: &mut Device)
         requires fits { device.old.taken + 64 ≤ 2 ^ 63 }
-        ensures stands { (part : PartData) (q : QueueData) → QueueStandsFor part self.old device.old q → QueueStandsFor part self.new device.new (give_held_by (words_read_out part) q) }
+        ensures stands { QueueBecomes self.old device.old self.new device.new (λ part q. give_held_by (words_read_out part) q) }
     {
-        let held = mem::replace(&mut self.held, Buffer::new());
-        let mut rest = held.bytes();
+        let held = mem::replace(&mut self.held, ArrayVec::new());
+        let mut rest = held.as_slice();
         while !rest.is_empty() {
             self.take(rest[0], device);
             rest = &rest[1..];
@@ -223,7 +221,7 @@ impl Queue {
     /// Shifts a bit out; 0 where none waits.
     pub(crate) fn shift(&mut self, device: &mut Device) -> bool
         requires fits { device.old.taken + 64 ≤ 2 ^ 63 }
-        ensures stands { (part : PartData) (q : QueueData) → QueueStandsFor part self.old device.old q → QueueStandsFor part self.new device.new (shifted_out (words_read_out part) q) }
+        ensures stands { QueueBecomes self.old device.old self.new device.new (λ part q. shifted_out (words_read_out part) q) }
         ensures bit { (part : PartData) (q : QueueData) → QueueStandsFor part self.old device.old q → result ≡ bit_shown (words_read_out part) q }
     {
         if self.left == 0 {
@@ -238,7 +236,7 @@ impl Queue {
 
     /// Resets the device and forgets all.
     pub(crate) fn program(&mut self, device: &mut Device)
-        ensures { (part : PartData) (q : QueueData) → QueueStandsFor part self.old device.old q → QueueStandsFor part self.new device.new empty }
+        ensures { QueueBecomes self.old device.old self.new device.new (λ part q. empty) }
     {
         device.reset(ON_THE_BENCH);
         self.held.clear();

@@ -6,8 +6,8 @@ ghost use Rattle.x7_engine.specs.Standing.{DeviceStandsFor, DeviceState};
 ghost use Rattle.x7_jtag.specs.Port.{Port, acted, captured, data_shifted, data_shown, idled, lowest, number_of_bit, port_after, register_shifted as shifted_in, status as status_by, ir_status, tdo_of, updated, with_bit as with_bit_in};
 ghost use Rattle.x7_jtag.specs.States.{Clock};
 ghost use Rattle.x7_jtag.specs.declared.instruction.Instruction.TheVariants.{CfgIn};
-ghost use Rattle.x7_jtag.specs.Tap.{StandsForPort, TakesBytes, TapStandsFor, TookOfGiven, last_or};
-ghost use Rattle.x7_jtag.specs.Bits.{bytes_bits};
+ghost use Rattle.x7_jtag.specs.Tap.{PortBecomes, StandsForPort, TakesBytes, TapStandsFor, TookOfGiven, last_or};
+ghost use Rattle.x7_svf.specs.Bits.{bytes_bits};
 ghost use Rattle.x7_jtag.specs.Clocks.{inner_clocks};
 
 use crate::instruction::{Instruction, instruction_of};
@@ -15,6 +15,11 @@ use crate::queue::Queue;
 use crate::state::State;
 use std::marker::Model;
 use x7_engine::Device;
+
+/// The byte that eight clocks of startup offer.
+const STARTUP_BYTE: u8 = 0xFF;
+/// The user code, which no stream sets here.
+const USER_CODE: u32 = 0xFFFF_FFFF;
 
 /// A test access port (IEEE 1149.1), clock by clock. It takes no memory.
 #[derive(Drop)]
@@ -136,13 +141,12 @@ impl Tap {
     /// Run-Test/Idle: under JSTART each eighth clock offers a byte FF.
     fn idle(&mut self, device: &mut Device)
         requires { device.old.taken + 65 ≤ 2 ^ 63 }
-        ensures state { self.new.state ≡ self.old.state }
-        ensures stands { (part : PartData) (p : Port) → StandsForPort part self.old device.old p → StandsForPort part self.new device.new (idled part p.instruction p) }
+        ensures stands { PortBecomes self.old device.old self.new device.new (λ part p. idled part p.instruction p) }
     {
         match self.instruction {
             Instruction::Jstart => {
                 if self.count_to_eight() {
-                    self.queue.offer(0xFF, device);
+                    self.queue.offer(STARTUP_BYTE, device);
                 }
             }
             _ => (),
@@ -151,12 +155,11 @@ impl Tap {
 
     /// Capture-DR.
     fn capture(&mut self, device: &Device)
-        ensures state { self.new.state ≡ self.old.state }
-        ensures stands { (part : PartData) (p : Port) → StandsForPort part self.old device.now p → StandsForPort part self.new device.now (captured part p.instruction p) }
+        ensures stands { PortBecomes self.old device.now self.new device.now (λ part p. captured part p.instruction p) }
     {
         match self.instruction {
             Instruction::Idcode => self.register = device.part().idcode(),
-            Instruction::Usercode => self.register = 0xFFFF_FFFF,
+            Instruction::Usercode => self.register = USER_CODE,
             Instruction::CfgIn => {
                 self.register = 0;
                 self.count = 0;
@@ -168,8 +171,7 @@ impl Tap {
     /// Shift-DR under CFG_IN: each eighth bit completes a byte, which is offered.
     fn shift_byte(&mut self, tdi: bool, device: &mut Device)
         requires { device.old.taken + 65 ≤ 2 ^ 63 }
-        ensures state { self.new.state ≡ self.old.state }
-        ensures stands { (part : PartData) (p : Port) → StandsForPort part self.old device.old p → StandsForPort part self.new device.new (data_shifted part CfgIn p tdi) }
+        ensures stands { PortBecomes self.old device.old self.new device.new (λ part p. data_shifted part CfgIn p tdi) }
     {
         let byte = with_bit(self.register, tdi);
         self.register = u32::from(byte);
@@ -213,8 +215,7 @@ impl Tap {
     /// Shift-DR.
     fn shift(&mut self, tdi: bool, device: &mut Device) -> bool
         requires { device.old.taken + 65 ≤ 2 ^ 63 }
-        ensures state { self.new.state ≡ self.old.state }
-        ensures stands { (part : PartData) (p : Port) → StandsForPort part self.old device.old p → StandsForPort part self.new device.new (data_shifted part p.instruction p tdi) }
+        ensures stands { PortBecomes self.old device.old self.new device.new (λ part p. data_shifted part p.instruction p tdi) }
         ensures tdo { (part : PartData) (p : Port) → StandsForPort part self.old device.old p → result ≡ data_shown part p.instruction p }
     {
         match self.instruction {
@@ -231,8 +232,7 @@ impl Tap {
 
     /// Update-IR: the register becomes the instruction, and JPROGRAM resets the device.
     fn update(&mut self, device: &mut Device)
-        ensures state { self.new.state ≡ self.old.state }
-        ensures stands { (part : PartData) (p : Port) → StandsForPort part self.old device.old p → StandsForPort part self.new device.new (updated p) }
+        ensures stands { PortBecomes self.old device.old self.new device.new (λ part p. updated p) }
     {
         self.instruction = instruction_of(self.register);
         self.count = 0;
@@ -245,8 +245,7 @@ impl Tap {
     /// Does the action of the present state, and gives TDO.
     fn act(&mut self, tdi: bool, device: &mut Device) -> bool
         requires { device.old.taken + 65 ≤ 2 ^ 63 }
-        ensures state { self.new.state ≡ self.old.state }
-        ensures stands { (part : PartData) (p : Port) → StandsForPort part self.old device.old p → StandsForPort part self.new device.new (acted part p.state p tdi) }
+        ensures stands { PortBecomes self.old device.old self.new device.new (λ part p. acted part p.state p tdi) }
         ensures tdo { (part : PartData) (p : Port) → StandsForPort part self.old device.old p → result ≡ tdo_of part p }
     {
         match self.state {

@@ -1,6 +1,7 @@
 //! What no case of SVF texts shows of the test access port: a text that is read at once, and a new port.
 use std::alloc::Global;
-use x7_jtag::{Instruction, State, SvfFault, Tap, svf_of};
+use x7_jtag::{Instruction, State, Tap};
+use x7_svf::{SvfFault, svf_of};
 
 /// The line of the first statement that is none; 0 of a text of statements, and none without memory.
 fn line_of(alloc: Global, text: &[u8]) -> Option<u64> {

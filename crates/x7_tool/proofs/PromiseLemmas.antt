@@ -22,7 +22,7 @@ use Rattle.x7_recovery.specs.OpenBoot.{HasStreams}
 use Rattle.x7_recovery.specs.OpenSlot.{Opened}
 use Rattle.x7_boot.proofs.CheckedLemmas.{attempt_checked, checked, last_checked}
 use Rattle.x7_recovery.proofs.AnyBootLemmas.{boots_open, image_boots}
-use Rattle.x7_jtag.specs.declared.statement.Statement.{Statement}
+use Rattle.x7_svf.specs.declared.statement.Statement.{Statement}
 use Rattle.x7_jtag.specs.Play.{clocks_played, first_difference, port_played}
 use Rattle.x7_jtag.specs.Port.{Port, words_read_out}
 use Rattle.x7_jtag.specs.Queue.{Sound}

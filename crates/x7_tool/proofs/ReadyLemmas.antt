@@ -4,9 +4,9 @@ use Rattle.x7_part.specs.Part.{PartData}
 use Rattle.x7_debug.specs.Script.{IsScriptOf}
 use Rattle.x7_debug.specs.declared.fault.ScriptFault.{ScriptFault}
 use Rattle.x7_debug.specs.declared.fault.ScriptFault.TheVariants as script
-use Rattle.x7_jtag.specs.Svf.{IsSvfOf}
-use Rattle.x7_jtag.specs.declared.fault.SvfFault.{SvfFault}
-use Rattle.x7_jtag.specs.declared.fault.SvfFault.TheVariants as svf
+use Rattle.x7_svf.specs.Svf.{IsSvfOf}
+use Rattle.x7_svf.specs.declared.fault.SvfFault.{SvfFault}
+use Rattle.x7_svf.specs.declared.fault.SvfFault.TheVariants as svf
 use Rattle.x7_planner.specs.Refusals.{IsReadFault}
 use Rattle.x7_planner.specs.declared.fault.PlanFault.{PlanFault}
 use Rattle.x7_planner.specs.declared.fault.PlanFault.TheVariants as planner

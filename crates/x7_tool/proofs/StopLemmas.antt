@@ -28,8 +28,8 @@ use Rattle.x7_mcs.specs.declared.fault.McsFault.{McsFault}
 use Rattle.x7_mcs.specs.declared.fault.McsFault.TheVariants as mcs
 use Rattle.x7_debug.specs.declared.fault.ScriptFault.{ScriptFault}
 use Rattle.x7_debug.specs.declared.fault.ScriptFault.TheVariants as script
-use Rattle.x7_jtag.specs.declared.fault.SvfFault.{SvfFault}
-use Rattle.x7_jtag.specs.declared.fault.SvfFault.TheVariants as svf
+use Rattle.x7_svf.specs.declared.fault.SvfFault.{SvfFault}
+use Rattle.x7_svf.specs.declared.fault.SvfFault.TheVariants as svf
 use Rattle.x7_tool.specs.Outcome.{DebugInputs, DebuggedAs, PlanTexts, PlayedSvf, asm_event, frames_event, mcs_event, planner_event, script_event, svf_event, update_event}
 use Rattle.x7_update.specs.declared.fault.UpdateFault.{UpdateFault}
 use Rattle.x7_update.specs.declared.fault.UpdateFault.TheVariants as update

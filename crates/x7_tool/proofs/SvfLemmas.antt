@@ -9,7 +9,7 @@ use Rattle.x7_engine.specs.Standing.{DeviceState, frames_due}
 use Rattle.x7_engine.specs.State.{memory_in, state_owing}
 use Rattle.x7_report.specs.Report.{PlayTextState, report_text}
 use Rattle.x7_jtag.specs.declared.play.Differ.{Differ}
-use Rattle.x7_jtag.specs.declared.statement.Statement.{Statement}
+use Rattle.x7_svf.specs.declared.statement.Statement.{Statement}
 use Rattle.x7_jtag.specs.Play.{clocks_played, first_difference}
 use Rattle.x7_jtag.specs.PlayLine.{play_text}
 use Rattle.x7_jtag.specs.Port.{Port, port_after}

@@ -1,14 +1,14 @@
 -- What a command comes to, over known inputs and a known flash: the first event in the order of the work decides (this project's choice).
 use Rattle.std.specs.Prelude.{◌≡◌, ℕ, List, [], ◌∷◌, ◌++◌, ◌||◌, Option, None, Some, is_some, Result, Ok, Err, Bool, false, if◌then◌else◌, length, nat_lt, take, ◌⊎◌, ◌<◌, ◌≤◌, map, reverse, true}
-use Rattle.x7_jtag.specs.declared.fault.SvfFault.{SvfFault}
-use Rattle.x7_jtag.specs.declared.fault.SvfFault.TheVariants as svf
+use Rattle.x7_svf.specs.declared.fault.SvfFault.{SvfFault}
+use Rattle.x7_svf.specs.declared.fault.SvfFault.TheVariants as svf
 use Rattle.x7_jtag.specs.declared.play.Differ.{Differ}
-use Rattle.x7_jtag.specs.declared.statement.Statement.{Statement}
+use Rattle.x7_svf.specs.declared.statement.Statement.{Statement}
 use Rattle.x7_jtag.specs.Play.{first_difference, port_played}
 use Rattle.x7_jtag.specs.PlayLine.{play_text}
 use Rattle.x7_jtag.specs.Port.{Port}
 use Rattle.x7_jtag.specs.Shown.{fault_shown, memory_shown, state_shown}
-use Rattle.x7_jtag.specs.Svf.{IsSvfOf}
+use Rattle.x7_svf.specs.Svf.{IsSvfOf}
 use Rattle.x7_report.specs.Report.{report_text}
 use Rattle.x7_listing.specs.Assembly.{IsAsm}
 use Rattle.x7_listing.specs.StreamListing.{stream_listing}

@@ -15,10 +15,10 @@ use Rattle.x7_boot.specs.Checked.{HasChecked}
 use Rattle.x7_boot.specs.Course.{course_along}
 use Rattle.x7_recovery.specs.OpenBoot.{BootsOpen, HasStreams}
 use Rattle.x7_recovery.specs.OpenSlot.{IsOpened, Opened}
-use Rattle.x7_jtag.specs.declared.statement.Statement.{Statement}
+use Rattle.x7_svf.specs.declared.statement.Statement.{Statement}
 use Rattle.x7_jtag.specs.Play.{port_played}
 use Rattle.x7_jtag.specs.Shown.{bytes_taken, state_shown}
-use Rattle.x7_jtag.specs.Svf.{IsSvfOf}
+use Rattle.x7_svf.specs.Svf.{IsSvfOf}
 use Rattle.x7_effects.specs.Played.{PlaysFull, PlaysPartial, PlaysRead, resting_after}
 use Rattle.x7_forms.specs.Event.{Event}
 use Rattle.x7_tool.specs.Generated.{generated, planned_summary}

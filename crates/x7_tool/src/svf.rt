@@ -7,8 +7,8 @@ ghost use Rattle.x7_forms.specs.Event.{no_memory};
 ghost use Rattle.x7_forms.specs.Step.{AnswersAs, seen, step_over};
 ghost use Rattle.x7_forms.specs.Form.{PlayingSvf};
 ghost use Rattle.x7_tool.specs.Run.{MakesReady};
-ghost use Rattle.x7_jtag.specs.Svf.{IsSvfOf};
-ghost use Rattle.x7_jtag.specs.declared.fault.SvfFault.{SvfFault as FaultData};
+ghost use Rattle.x7_svf.specs.Svf.{IsSvfOf};
+ghost use Rattle.x7_svf.specs.declared.fault.SvfFault.{SvfFault as FaultData};
 ghost use Rattle.x7_tool.specs.Outcome.{PlayedSvf, plan_texts, svf_answer, svf_event, text_limit};
 ghost use Rattle.x7_forms.specs.Known.{part_limit};
 ghost use Rattle.x7_forms.specs.Turn.{StandsAt};
@@ -18,9 +18,10 @@ ghost use Rattle.x7_tool.specs.Svf.{svf_texts};
 use std::alloc::Global;
 use x7_engine::Device;
 use x7_forms::{InputFault, Refusal, TEXT_LIMIT, Why, read_part, read_whole};
-use x7_jtag::{Svf, SvfFault, Tap, play_line, play_svf, svf_from};
+use x7_jtag::{Tap, play_line, play_svf};
 use x7_part::Part;
 use x7_report::PlayText;
+use x7_svf::{Svf, SvfFault, svf_from};
 use x7_words::{Inputs, NoMemory};
 
 /// What playing an SVF text reads: a part, and the text.

@@ -1,9 +1,10 @@
-use Rattle.std.proofs.Common.{◌^◌, arith, ◌++◌, ap, ◌∙◌, sym}
-use Rattle.x7_jtag.specs.declared.statement.Statement.TheVariants as statement
-use Rattle.x7_jtag.specs.Clocks.{from_reset}
+use Rattle.std.proofs.Common.{◌^◌, [], arith, ◌++◌, append-nil, ap, length, ◌∙◌, sym}
+use Rattle.x7_svf.specs.declared.statement.Statement.{Statement}
+use Rattle.x7_svf.specs.declared.statement.Statement.TheVariants as statement
+use Rattle.x7_jtag.specs.Clocks.{clocks_of, from_reset}
 use Rattle.x7_jtag.specs.Play.{difference}
 use Rattle.x7_jtag.specs.Port.{port_after}
-use Rattle.x7_jtag.proofs.PlayLemmas.{of_statement, ready_left, run_ends, short_scan}
+use Rattle.x7_jtag.proofs.PlayLemmas.{leave_length, of_statement, ready_left, run_ends, short_scan, stands_at}
 use Rattle.x7_jtag.proofs.play.play_statement.Goals as goal
 
 pub run-requires : goal.run-requires
@@ -17,10 +18,32 @@ returns-in-Run-clause-stands c = λ part cs s.
 
 pub returns-in-Scan-clause-stands : goal.returns-in-Scan-clause-stands
 returns-in-Scan-clause-stands c = λ part cs s.
-    of_statement part c.scan.new.tap c.scan.new.device cs (port_after part cs).state (statement.Scan c.in-Scan.ir c.in-Scan.tdi c.in-Scan.tdo c.in-Scan.mask) c.args.statement.now c.in-Scan.is (c.scan.ensures.stands part cs s)
+    of_statement part c.play_scan.new.tap c.play_scan.new.device cs (port_after part cs).state (statement.Scan c.in-Scan.scan) c.args.statement.now c.in-Scan.is (c.play_scan.ensures.stands part cs s)
 
 pub returns-in-Scan-clause-found : goal.returns-in-Scan-clause-found
-returns-in-Scan-clause-found c = λ part cs s. c.scan.ensures.found part cs s ∙ ap (difference part (port_after part cs)) (sym c.in-Scan.is)
+returns-in-Scan-clause-found c = λ part cs s. c.play_scan.ensures.found part cs s ∙ ap (difference part (port_after part cs)) (sym c.in-Scan.is)
 
 pub returns-in-Scan-clause-short : goal.returns-in-Scan-clause-short
-returns-in-Scan-clause-short c = λ s. short_scan s c.in-Scan.ir c.in-Scan.tdi c.in-Scan.tdo c.in-Scan.mask c.args.statement.now c.in-Scan.is c.scan.ensures.few
+returns-in-Scan-clause-short c = λ s. short_scan s c.in-Scan.scan c.args.statement.now c.in-Scan.is c.play_scan.ensures.few
+
+pub returns-in-Reset : goal.returns-in-Reset
+returns-in-Reset c = record {
+  stands = λ part cs s. of_statement part c.walk.new.tap c.walk.new.device cs (port_after part cs).state statement.Reset c.args.statement.now c.in-Reset.is (c.walk.ensures part cs s);
+  short = λ s. omega (arith, ap (λ (x : Statement). length (clocks_of s x)) c.in-Reset.is);
+  found = λ part cs s. ap (difference part (port_after part cs)) (sym c.in-Reset.is);
+}
+
+pub returns-in-Idle : goal.returns-in-Idle
+returns-in-Idle c = record {
+  stands = λ part cs s. of_statement part c.leave_reset.new.tap c.leave_reset.new.device cs (port_after part cs).state statement.Idle c.args.statement.now c.in-Idle.is (c.leave_reset.ensures part cs s);
+  short = λ s. omega (arith, ap (λ (x : Statement). length (clocks_of s x)) c.in-Idle.is, leave_length s);
+  found = λ part cs s. ap (difference part (port_after part cs)) (sym c.in-Idle.is);
+}
+
+pub returns-in-Nothing : goal.returns-in-Nothing
+returns-in-Nothing c = record {
+  stands = λ part cs s.
+      of_statement part c.args.tap.now c.args.device.now cs (port_after part cs).state statement.Nothing c.args.statement.now c.in-Nothing.is (stands_at part c.args.tap.now c.args.device.now cs (cs ++ []) (sym (append-nil cs)) s);
+  short = λ s. omega (arith, ap (λ (x : Statement). length (clocks_of s x)) c.in-Nothing.is);
+  found = λ part cs s. ap (difference part (port_after part cs)) (sym c.in-Nothing.is);
+}

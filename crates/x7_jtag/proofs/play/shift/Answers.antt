@@ -9,4 +9,4 @@ returns-clause-stands c = λ part cs s. c.shift_from.ensures.stands part cs (c.s
 pub returns-clause-found : goal.returns-clause-found
 returns-clause-found c = λ part cs s.
     c.shift_from.ensures.found part cs (c.shift_bytes-first.ensures.stands part cs s)
-    ∙ sym (found_first part (port_after part cs) c.args.tdi.now c.args.tdo.now c.args.mask.now c.shift_bytes-first.result c.shift_bytes-first.ensures.none_wanted c.shift_bytes-first.ensures.within)
+    ∙ sym (found_first part (port_after part cs) c.args.scan.now c.shift_bytes-first.result c.shift_bytes-first.ensures.none_wanted c.shift_bytes-first.ensures.within)

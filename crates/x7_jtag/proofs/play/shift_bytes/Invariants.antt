@@ -8,12 +8,12 @@ use Rattle.x7_jtag.proofs.play.shift_bytes.Given as goal
 
 abbrev pub invariant-loop-at : goal.invariant-loop-at
 invariant-loop-at l = record {
-  stands : (part : PartData) (cs : List Clock) → TapStandsFor part l.initial.tap l.initial.device cs → TapStandsFor part l.tap l.device (cs ++ take l.at (shift_clocks l.tdi));
+  stands : (part : PartData) (cs : List Clock) → TapStandsFor part l.initial.tap l.initial.device cs → TapStandsFor part l.tap l.device (cs ++ take l.at (shift_clocks l.scan.tdi));
   takes : TakesBytes l.tap;
   whole : l.at % 8 ≡ 0;
-  within : l.at ≤ length l.tdi;
+  within : l.at ≤ length l.scan.tdi;
   ready : Ready l.tap l.device (2 ^ 32 - l.at);
 }
 
 abbrev pub decreases-loop-at : goal.decreases-loop-at
-decreases-loop-at l = length l.tdi - l.at
+decreases-loop-at l = length l.scan.tdi - l.at

@@ -1,6 +1,6 @@
 use Rattle.std.proofs.Common.{◌<◌, ◌==◌, ◌+◌, ◌-◌, ◌^◌, ◌++◌, ℕ, take, length, arith, ap}
 use Rattle.x7_jtag.specs.Clocks.{clock, shift_clocks}
-use Rattle.x7_jtag.specs.Play.{differs_at, scan_bits}
+use Rattle.x7_jtag.specs.Play.{differs_at}
 use Rattle.x7_jtag.specs.Port.{port_after}
 use Rattle.x7_jtag.proofs.PlayLemmas.{found_ends, found_on, ready_clocked, ready_fits, shift_ends, shift_on, shown_is}
 use Rattle.x7_jtag.proofs.play.shift_from.Goals as goal
@@ -10,20 +10,20 @@ clock-shown-requires c = ready_fits c.loop-i.tap c.loop-i.device (2 ^ 32 - c.loo
 
 pub loop-i-preserved : goal.loop-i-preserved
 loop-i-preserved c =
-    let inside : c.loop-i.i < length c.args.tdi.now = omega (arith, c.loop-i-test.true, c.len-count.ensures) in
+    let inside : c.loop-i.i < length c.args.scan.now.tdi = omega (arith, c.loop-i-test.true, c.len-count.ensures) in
     record {
       stands = λ part cs s.
-          shift_on part c.loop-i.tap c.clock-shown.new.self c.loop-i.device c.clock-shown.new.device cs c.args.tdi.now c.loop-i.i (c.loop-i.i + 1) _ c.bit_of.result (c.loop-i.invariant.stands part cs s) inside (omega arith) (ap (λ (n : ℕ). c.loop-i.i == n - 1) c.len-count.ensures) c.bit_of.ensures
-          (c.clock-shown.ensures.stands part (cs ++ take c.loop-i.i (shift_clocks c.args.tdi.now)) (c.loop-i.invariant.stands part cs s));
+          shift_on part c.loop-i.tap c.clock-shown.new.self c.loop-i.device c.clock-shown.new.device cs c.args.scan.now.tdi c.loop-i.i (c.loop-i.i + 1) _ c.bit_of.result (c.loop-i.invariant.stands part cs s) inside (omega arith) (ap (λ (n : ℕ). c.loop-i.i == n - 1) c.len-count.ensures) c.bit_of.ensures
+          (c.clock-shown.ensures.stands part (cs ++ take c.loop-i.i (shift_clocks c.args.scan.now.tdi)) (c.loop-i.invariant.stands part cs s));
       found = λ part cs s.
-          found_on (differs_at part (port_after part cs) (scan_bits c.args.tdi.now c.args.tdo.now c.args.mask.now)) c.loop-i.found c.first_of-found.result (length c.args.tdi.now) c.loop-i.i (c.loop-i.i + 1) c.differs.result _ inside (omega arith) (c.loop-i.invariant.found part cs s)
-          (shown_is part cs c.args.tdi.now c.args.tdo.now c.args.mask.now c.loop-i.i c.clock-shown.result c.differs.result (c.clock-shown.ensures.tdo part (cs ++ take c.loop-i.i (shift_clocks c.args.tdi.now)) (c.loop-i.invariant.stands part cs s)) c.differs.ensures) c.first_of-found.ensures;
+          found_on (differs_at part (port_after part cs) c.args.scan.now) c.loop-i.found c.first_of-found.result (length c.args.scan.now.tdi) c.loop-i.i (c.loop-i.i + 1) c.differs.result _ inside (omega arith) (c.loop-i.invariant.found part cs s)
+          (shown_is part cs c.args.scan.now c.loop-i.i c.clock-shown.result c.differs.result (c.clock-shown.ensures.tdo part (cs ++ take c.loop-i.i (shift_clocks c.args.scan.now.tdi)) (c.loop-i.invariant.stands part cs s)) c.differs.ensures) c.first_of-found.ensures;
       ready = ready_clocked c.loop-i.tap c.clock-shown.new.self c.loop-i.device c.clock-shown.new.device (2 ^ 32 - c.loop-i.i) (2 ^ 32 - (c.loop-i.i + 1)) (clock _ c.bit_of.result) c.loop-i.invariant.ready c.clock-shown.ensures.stands (omega (arith, c.loop-i-test.true, c.len-count.type_inv));
     }
 
 pub returns-clause-stands : goal.returns-clause-stands
-returns-clause-stands c = λ part cs s. shift_ends part c.loop-i.tap c.loop-i.device cs c.args.tdi.now c.loop-i.i (omega (arith, c.loop-i-test.false, c.len-count.ensures)) (c.loop-i.invariant.stands part cs s)
+returns-clause-stands c = λ part cs s. shift_ends part c.loop-i.tap c.loop-i.device cs c.args.scan.now.tdi c.loop-i.i (omega (arith, c.loop-i-test.false, c.len-count.ensures)) (c.loop-i.invariant.stands part cs s)
 
 pub returns-clause-found : goal.returns-clause-found
 returns-clause-found c = λ part cs s.
-    found_ends (differs_at part (port_after part cs) (scan_bits c.args.tdi.now c.args.tdo.now c.args.mask.now)) c.loop-i.found (length c.args.tdi.now) c.loop-i.i _ (omega (arith, c.loop-i-test.false, c.len-count.ensures)) (c.loop-i.invariant.found part cs s)
+    found_ends (differs_at part (port_after part cs) c.args.scan.now) c.loop-i.found (length c.args.scan.now.tdi) c.loop-i.i _ (omega (arith, c.loop-i-test.false, c.len-count.ensures)) (c.loop-i.invariant.found part cs s)

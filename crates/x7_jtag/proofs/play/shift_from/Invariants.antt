@@ -1,7 +1,7 @@
 use Rattle.std.proofs.Common.{◌≡◌, ◌-◌, ◌++◌, ◌^◌, List, length, take}
 use Rattle.x7_part.specs.Part.{PartData}
 use Rattle.x7_jtag.specs.Clocks.{shift_clocks}
-use Rattle.x7_jtag.specs.Play.{Ready, differs_at, least, scan_bits}
+use Rattle.x7_jtag.specs.Play.{Ready, differs_at, least}
 use Rattle.x7_jtag.specs.Port.{port_after}
 use Rattle.x7_jtag.specs.States.{Clock}
 use Rattle.x7_jtag.specs.Tap.{TapStandsFor}
@@ -10,8 +10,8 @@ use Rattle.x7_jtag.proofs.play.shift_from.Given as goal
 
 abbrev pub invariant-loop-i : goal.invariant-loop-i
 invariant-loop-i l = record {
-  stands : (part : PartData) (cs : List Clock) → TapStandsFor part l.initial.tap l.initial.device (cs ++ take l.first (shift_clocks l.tdi)) → TapStandsFor part l.tap l.device (cs ++ take l.i (shift_clocks l.tdi));
-  found : (part : PartData) (cs : List Clock) → TapStandsFor part l.initial.tap l.initial.device (cs ++ take l.first (shift_clocks l.tdi))
-      → least (differs_at part (port_after part cs) (scan_bits l.tdi l.tdo l.mask)) l.first (length l.tdi - l.first) ≡ found_or l.found (least (differs_at part (port_after part cs) (scan_bits l.tdi l.tdo l.mask)) l.i (length l.tdi - l.i));
+  stands : (part : PartData) (cs : List Clock) → TapStandsFor part l.initial.tap l.initial.device (cs ++ take l.first (shift_clocks l.scan.tdi)) → TapStandsFor part l.tap l.device (cs ++ take l.i (shift_clocks l.scan.tdi));
+  found : (part : PartData) (cs : List Clock) → TapStandsFor part l.initial.tap l.initial.device (cs ++ take l.first (shift_clocks l.scan.tdi))
+      → least (differs_at part (port_after part cs) l.scan) l.first (length l.scan.tdi - l.first) ≡ found_or l.found (least (differs_at part (port_after part cs) l.scan) l.i (length l.scan.tdi - l.i));
   ready : Ready l.tap l.device (2 ^ 32 - l.i);
 }

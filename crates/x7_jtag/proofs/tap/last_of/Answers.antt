@@ -1,5 +1,5 @@
 use Rattle.std.proofs.Common.{arith, ◌∙◌}
-use Rattle.x7_jtag.proofs.ByteLemmas.{last_is}
+use Rattle.x7_jtag.proofs.ShiftLemmas.{last_is}
 use Rattle.x7_jtag.proofs.tap.last_of.Goals as goal
 
 pub returns : goal.returns

@@ -1,7 +1,7 @@
 use Rattle.std.proofs.Common.{◌≡◌, ◌+◌, ◌-◌, ℕ, List, take, drop, ap, sym, ◌∙◌, length-drop, arith}
 use Rattle.std.proofs.lemmas.List.{take_all}
 use Rattle.std.specs.List.{copy_within}
-use Rattle.x7_jtag.proofs.SourceLemmas.{kept_more}
+use Rattle.x7_svf.proofs.SourceLemmas.{kept_more}
 use Rattle.x7_tool.proofs.stream.data_of.Goals as goal
 
 pub returns-then-start-eq0 : goal.returns-then-start-eq0

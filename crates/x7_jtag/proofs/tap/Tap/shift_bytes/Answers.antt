@@ -3,7 +3,7 @@ use Rattle.x7_words.specs.Word.{AreBytes}
 use Rattle.x7_words.proofs.ListLemmas.{all_from_places}
 use Rattle.x7_jtag.specs.Port.{port_after}
 use Rattle.x7_jtag.specs.Tap.{QueueStandsFor, TapState, last_or}
-use Rattle.x7_jtag.proofs.ByteLemmas.{shifts_bytes}
+use Rattle.x7_jtag.proofs.ShiftLemmas.{shifts_bytes}
 use Rattle.x7_jtag.proofs.tap.Tap.shift_bytes.Goals as goal
 
 pub returns-clause-stands : goal.returns-clause-stands

@@ -1,5 +1,0 @@
-use Rattle.x7_jtag.proofs.DigitLemmas.{value_bit}
-use Rattle.x7_jtag.proofs.laws.bits_are_those_of_the_value.Goals as goal
-
-pub returns : goal.returns
-returns c = value_bit

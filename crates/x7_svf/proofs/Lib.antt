@@ -1,0 +1,13 @@
+pub mod BitLemmas
+pub mod ByteLemmas
+pub mod DigitLemmas
+pub mod FieldLemmas
+pub mod NextLemmas
+pub mod OutcomeLemmas
+pub mod PieceLemmas
+pub mod ReadingLemmas
+pub mod SourceLemmas
+pub mod SpanLemmas
+pub mod SvfLemmas
+pub mod ValueLemmas
+pub mod WordsLemmas

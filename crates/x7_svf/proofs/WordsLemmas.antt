@@ -1,0 +1,62 @@
+-- The words of a statement, one by one; no statement has more than four.
+use Rattle.std.proofs.Common.{◌≡◌, ℕ, ◌||◌, ◌≤◌, Bool, true, false, if◌then◌else◌, List, [], ◌∷◌, ◌++◌, length, take, Option, Some, None, codes, refl, ap, sym, ◌∙◌, append_assoc, append-nil, arith}
+use Rattle.std.specs.List.{list_all}
+use Rattle.x7_svf.specs.Pieces.{Mark, TextPiece, mark_of}
+use Rattle.x7_svf.specs.Source.{SourceState, left_after}
+use Rattle.x7_svf.specs.Words.{is_free_mark, is_key, statement_if_words, statement_of_words, word_before, words_of}
+use Rattle.x7_svf.specs.Svf.{marks_before}
+use Rattle.x7_svf.specs.declared.token.Token.{Token}
+use Rattle.x7_svf.specs.declared.token.Token.TheVariants as token
+use Rattle.x7_svf.specs.declared.statement.Statement.{Statement}
+
+-- words after words
+abbrev pub after_words : List (List ℕ) → Option (List (List ℕ)) → Option (List (List ℕ))
+after_words ws None = None
+after_words ws (Some vs) = Some (ws ++ vs)
+
+none_if : (b : Bool) (x : Option Statement) → x ≡ None → (if b then None else x) ≡ None
+none_if true x e = refl
+none_if false x e = e
+
+five : (k a b c d e : List ℕ) (ws : List (List ℕ)) → statement_of_words k (a ∷ b ∷ c ∷ d ∷ e ∷ ws) ≡ None
+five k a b c d e ws =
+    none_if (is_key k (codes "STATE")) _ (none_if (is_key k (codes "RUNTEST")) _ (none_if (is_key k (codes "ENDIR") || is_key k (codes "ENDDR")) _
+    (none_if (is_key k (codes "HIR") || is_key k (codes "HDR") || is_key k (codes "TIR") || is_key k (codes "TDR")) _ (none_if (is_key k (codes "TRST")) None refl))))
+
+more_words : (k : List ℕ) (ws : List (List ℕ)) (w : List ℕ) (vs : List (List ℕ)) → 4 ≤ length ws → statement_of_words k (ws ++ w ∷ vs) ≡ None
+more_words k [] w vs l = absurd (omega (arith, l))
+more_words k (a ∷ []) w vs l = absurd (omega (arith, l))
+more_words k (a ∷ b ∷ []) w vs l = absurd (omega (arith, l))
+more_words k (a ∷ b ∷ c ∷ []) w vs l = absurd (omega (arith, l))
+more_words k (a ∷ b ∷ c ∷ d ∷ []) w vs l = five k a b c d w vs
+more_words k (a ∷ b ∷ c ∷ d ∷ e ∷ ws) w vs l = five k a b c d e (ws ++ w ∷ vs)
+
+too_many : (k : List ℕ) (ws : List (List ℕ)) (w : List ℕ) (o : Option (List (List ℕ))) → 4 ≤ length ws → statement_if_words k (after_words ws (word_before w o)) ≡ None
+too_many k ws w None l = refl
+too_many k ws w (Some vs) l = more_words k ws w vs l
+
+one_more : (ws : List (List ℕ)) (w : List ℕ) (o : Option (List (List ℕ))) → after_words ws (word_before w o) ≡ after_words (ws ++ w ∷ []) o
+one_more ws w None = refl
+one_more ws w (Some vs) = ap Some (sym (append_assoc ws (w ∷ []) vs))
+
+-- the words so far, and the marks of the rest, which begin with a word
+module _ (ms : Option (List (List ℕ))) (ws : List (List ℕ)) (marks : List Mark) (here : SourceState) (t : Token) (n : ℕ) (same : ms ≡ after_words ws (words_of marks))
+    (e : marks ≡ mark_of t here.rest ∷ marks_before (left_after here t)) (is : t ≡ token.Word n) where
+  word_next : ms ≡ after_words ws (word_before (take n here.rest) (words_of (marks_before (left_after here (token.Word n)))))
+  word_next = same ∙ ap (λ (xs : List Mark). after_words ws (words_of xs)) (e ∙ ap (λ (u : Token). mark_of u here.rest ∷ marks_before (left_after here u)) is)
+
+  pub fifth : (key : List ℕ) → length ws ≡ 4 → None ≡ statement_if_words key ms
+  fifth key four = sym (ap (statement_if_words key) word_next ∙ too_many key ws (take n here.rest) (words_of (marks_before (left_after here (token.Word n)))) (omega (arith, four)))
+
+  pub words_on : (more : List (List ℕ)) (word : List ℕ) (left : List TextPiece) → more ≡ ws ++ word ∷ [] → word ≡ take n here.rest → left ≡ left_after here (token.Word n) → ms ≡ after_words more (words_of (marks_before left))
+  words_on more word left g w l =
+      let grown : more ≡ ws ++ take n here.rest ∷ [] = g ∙ ap (λ (x : List ℕ). ws ++ x ∷ []) w in
+      word_next ∙ one_more ws (take n here.rest) (words_of (marks_before (left_after here (token.Word n)))) ∙ sym (λ i. after_words (grown i) (words_of (marks_before (l i))))
+
+-- all words
+pub all_said : (key : List ℕ) (ms : Option (List (List ℕ))) (ws : List (List ℕ)) (marks : List Mark) → ms ≡ after_words ws (words_of marks) → marks ≡ [] → statement_if_words key ms ≡ statement_of_words key ws
+all_said key ms ws marks same e = ap (statement_if_words key) (same ∙ ap (λ (xs : List Mark). after_words ws (words_of xs)) e) ∙ ap (statement_of_words key) (append-nil ws)
+
+-- a mark that may stand among any words
+pub free_on : (m : Mark) (ms : List Mark) → is_free_mark m ≡ true → list_all is_free_mark (m ∷ ms) ≡ list_all is_free_mark ms
+free_on m ms e = rw e refl

@@ -1,0 +1,27 @@
+use Rattle.std.proofs.Common.{◌≡◌, ◌∷◌, ℕ, List, Option, ap, sym, ◌∙◌}
+use Rattle.x7_svf.specs.Fields.{Between, Fields, no_fields, scan_from}
+use Rattle.x7_svf.specs.Pieces.{TextPiece, mark_of}
+use Rattle.x7_svf.specs.Source.{pieces_left}
+use Rattle.x7_svf.specs.Spans.{at_of, fields_of}
+use Rattle.x7_svf.specs.Svf.{marks_before}
+use Rattle.x7_svf.proofs.FieldLemmas.{scan_on}
+use Rattle.x7_svf.proofs.ReadingLemmas.{left_stepped, reads_both, reads_token}
+use Rattle.x7_svf.proofs.fields.fields.Goals as goal
+
+pub loop-token-preserved : goal.loop-token-preserved
+loop-token-preserved c =
+    let at = c.loop-token.source in
+    let here = c.next_within.new.source in
+    let after = c.step.new.source in
+    let t = c.in-Some.token in
+    let s = c.loop-token.scanner in
+    let all : Option Fields = scan_from Between no_fields (marks_before (pieces_left c.args.source.now)) in
+    let before : all ≡ scan_from (at_of here.kept s.place) (fields_of here.kept s.given) (marks_before (pieces_left at)) =
+    c.loop-token.invariant.same ∙ ap (λ (k : List ℕ). scan_from (at_of k s.place) (fields_of k s.given) (marks_before (pieces_left at))) (sym c.in-Some.ensures.blanks.kept) in
+    let left : marks_before (pieces_left at) ≡ mark_of t here.rest ∷ marks_before (pieces_left after) =
+    c.in-Some.ensures.is ∙ ap (λ (ps : List TextPiece). mark_of t here.rest ∷ marks_before ps) (left_stepped here after t c.in-Some-step.ensures.steps) in
+    record {
+      same = scan_on here.kept after.kept s c.in-Some-step.next (marks_before (pieces_left at)) (marks_before (pieces_left after)) (mark_of t here.rest) all before left c.in-Some-step.ensures.is;
+      within = c.in-Some-step.ensures.within;
+      reads = reads_both c.args.source.now at after c.loop-token.invariant.reads (reads_token at here after t c.in-Some.ensures.blanks c.in-Some.ensures.goes_on c.in-Some-step.ensures.steps);
+    }

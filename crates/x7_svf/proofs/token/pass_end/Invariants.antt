@@ -1,0 +1,14 @@
+use Rattle.std.proofs.Common.{◌≡◌, ◌≤◌, length}
+use Rattle.x7_svf.specs.Source.{pieces_left}
+use Rattle.x7_svf.specs.Svf.{pieces_after}
+use Rattle.x7_svf.proofs.token.pass_end.Given as goal
+
+abbrev pub invariant-loop-token : goal.invariant-loop-token
+invariant-loop-token l = record {
+  same : pieces_after (pieces_left l.fn.source) ≡ pieces_after (pieces_left l.source);
+  kept : l.source.kept ≡ l.fn.source.kept;
+  within : length l.source.rest ≤ length l.fn.source.rest;
+}
+
+abbrev pub decreases-loop-token : goal.decreases-loop-token
+decreases-loop-token l = length l.source.rest

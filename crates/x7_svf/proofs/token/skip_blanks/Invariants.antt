@@ -1,0 +1,13 @@
+use Rattle.std.proofs.Common.{◌≡◌, ◌≤◌, length}
+use Rattle.x7_svf.specs.Source.{pieces_left}
+use Rattle.x7_svf.proofs.token.skip_blanks.Given as goal
+
+abbrev pub invariant-loop-source : goal.invariant-loop-source
+invariant-loop-source l = record {
+  same : pieces_left l.fn.source ≡ pieces_left l.source;
+  kept : l.source.kept ≡ l.fn.source.kept;
+  within : length l.source.rest ≤ length l.fn.source.rest;
+}
+
+abbrev pub decreases-loop-source : goal.decreases-loop-source
+decreases-loop-source l = length l.source.rest

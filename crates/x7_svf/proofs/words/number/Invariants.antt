@@ -1,0 +1,12 @@
+use Rattle.std.proofs.Common.{◌≡◌, ◌≤◌, length}
+use Rattle.x7_svf.specs.Words.{number_from}
+use Rattle.x7_svf.proofs.words.number.Given as goal
+
+abbrev pub invariant-loop-rest : goal.invariant-loop-rest
+invariant-loop-rest l = record {
+  same : number_from l.limit 0 l.word ≡ number_from l.limit l.value l.rest;
+  within : l.value ≤ l.limit;
+}
+
+abbrev pub decreases-loop-rest : goal.decreases-loop-rest
+decreases-loop-rest l = length l.rest

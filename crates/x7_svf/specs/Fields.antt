@@ -1,0 +1,160 @@
+-- The fields of a scan, and what it says (this project's profile of SVF).
+use Rattle.std.specs.Prelude.{ℕ, ◌+◌, ◌*◌, ◌^◌, ◌==◌, ◌||◌, ◌&&◌, nat_le, nat_lt, Bool, true, false, if◌then◌else◌, List, [], ◌∷◌, ◌++◌, Option, Some, None, codes, length}
+use Rattle.std.specs.List.{list_all}
+use Rattle.x7_svf.specs.Pieces.{Mark, Word, Open, Close, End}
+use Rattle.x7_svf.specs.Bits.{bits_of, digit_number}
+use Rattle.x7_svf.specs.Words.{is_digit, is_key, number_within}
+use Rattle.x7_svf.specs.declared.statement.ScannedRegister.{ScannedRegister}
+use Rattle.x7_svf.specs.declared.statement.Statement.{Statement}
+use Rattle.x7_svf.specs.declared.statement.Statement.TheVariants as statement
+use Rattle.x7_svf.specs.declared.fields.Field.{Field}
+use Rattle.x7_svf.specs.declared.fields.Field.TheVariants as field
+
+-- a field's name
+abbrev pub field_by_name : List ℕ → Option Field
+field_by_name w =
+    if is_key w (codes "TDI") then Some field.Tdi
+    else (if is_key w (codes "TDO") then Some field.Tdo
+    else (if is_key w (codes "MASK") then Some field.Mask
+    else (if is_key w (codes "SMASK") then Some field.Smask else None)))
+
+-- a hexadecimal digit of either case
+abbrev pub is_hex : ℕ → Bool
+is_hex c = is_digit c || (nat_le 65 c && nat_le c 70) || (nat_le 97 c && nat_le c 102)
+
+-- a word of hexadecimal digits alone
+abbrev pub are_hex : List ℕ → Bool
+are_hex w = list_all is_hex w
+
+-- between fields, after a field's name, or inside its brackets after these digits
+pub data At : Type 0 where
+  Between : At
+  Named : (field : Field) → At
+  Inside : (field : Field) (digits : List ℕ) → At
+
+-- the digits of the fields so far
+pub record Fields : Type 0 where
+  pub tdi : Option (List ℕ)
+  pub tdo : Option (List ℕ)
+  pub mask : Option (List ℕ)
+  pub smask : Option (List ℕ)
+
+-- where a reader of a scan stands, and the fields so far
+pub record Scanning : Type 0 where
+  pub at : At
+  pub fields : Fields
+
+-- there are no digits
+abbrev pub is_none : Option (List ℕ) → Bool
+is_none None = true
+is_none (Some ds) = false
+
+-- a field more, each at most once
+abbrev pub put_field : Fields → Field → List ℕ → Option Fields
+put_field f field.Tdi ds = if is_none f.tdi then Some (record f { tdi = Some ds }) else None
+put_field f field.Tdo ds = if is_none f.tdo then Some (record f { tdo = Some ds }) else None
+put_field f field.Mask ds = if is_none f.mask then Some (record f { mask = Some ds }) else None
+put_field f field.Smask ds = if is_none f.smask then Some (record f { smask = Some ds }) else None
+
+-- after a field's name its brackets come next
+abbrev pub after_name : Fields → Option Field → Option Scanning
+after_name f None = None
+after_name f (Some k) = Some (record { at = Named k; fields = f })
+
+-- a field more, which has at least one digit
+abbrev pub closed_field : Fields → Field → List ℕ → Option Fields
+closed_field f k ds = if nat_lt 0 (length ds) then put_field f k ds else None
+
+-- after the brackets of a field another field may come
+abbrev pub closed_by : Option Fields → Option Scanning
+closed_by None = None
+closed_by (Some f) = Some (record { at = Between; fields = f })
+
+-- what a mark more comes to
+abbrev pub scan_step : At → Fields → Mark → Option Scanning
+scan_step Between f (Word w) = after_name f (field_by_name w)
+scan_step (Named k) f Open = Some (record { at = Inside k []; fields = f })
+scan_step (Inside k ds) f (Word w) = if are_hex w then Some (record { at = Inside k (ds ++ w); fields = f }) else None
+scan_step (Inside k ds) f Close = closed_by (closed_field f k ds)
+scan_step _ f _ = None
+
+-- the fields, where the marks end between two of them
+abbrev pub done : At → Fields → Option Fields
+done Between f = Some f
+done (Named k) f = None
+done (Inside k ds) f = None
+
+-- the fields that a reader of a scan comes to who goes on from where it stands
+abbrev pub fields_after_step : Option Scanning → (At → Fields → Option Fields) → Option Fields
+fields_after_step None next = None
+fields_after_step (Some s) next = next s.at s.fields
+
+-- the fields of marks, by where they begin and the fields before them
+abbrev pub scan_from : At → Fields → List Mark → Option Fields
+scan_from at f [] = done at f
+scan_from at f (m ∷ ms) = fields_after_step (scan_step at f m) (λ a g. scan_from a g ms)
+
+-- no field as yet
+abbrev pub no_fields : Fields
+no_fields = record { tdi = None; tdo = None; mask = None; smask = None }
+
+-- the value of digits, the first the highest
+abbrev pub hex_value : List ℕ → ℕ
+hex_value [] = 0
+hex_value (c ∷ cs) = digit_number c * 2 ^ (4 * length cs) + hex_value cs
+
+-- how many bits the value of a digit has
+abbrev pub digit_width : ℕ → ℕ
+digit_width c =
+    if nat_lt (digit_number c) 1 then 0 else (if nat_lt (digit_number c) 2 then 1 else (if nat_lt (digit_number c) 4 then 2 else (if nat_lt (digit_number c) 8 then 3 else 4)))
+
+-- how many bits the value of digits has
+abbrev pub width : List ℕ → ℕ
+width [] = 0
+width (c ∷ cs) = if digit_width c == 0 then width cs else 4 * length cs + digit_width c
+
+-- the value of a field's digits, if it has any, fits n bits
+abbrev pub fits : ℕ → Option (List ℕ) → Bool
+fits n None = true
+fits n (Some ds) = nat_le (width ds) n
+
+-- the values of all fields fit n bits
+abbrev pub all_fit : ℕ → Fields → Bool
+all_fit n f = fits n f.tdi && fits n f.tdo && fits n f.mask && fits n f.smask
+
+-- the bits of a field that may be left out
+abbrev pub bits_option : ℕ → Option (List ℕ) → Option (List Bool)
+bits_option n None = None
+bits_option n (Some ds) = Some (bits_of n ds)
+
+-- the scan of fields by the digits of TDI
+abbrev pub with_tdi : ScannedRegister → ℕ → Fields → Option (List ℕ) → Option Statement
+with_tdi register n f None = None
+with_tdi register n f (Some ds) = Some (statement.Scan (record { register = register; tdi = bits_of n ds; tdo = bits_option n f.tdo; mask = bits_option n f.mask }))
+
+-- the scan of fields: TDI is required
+abbrev pub scan_by : ScannedRegister → ℕ → Option Fields → Option Statement
+scan_by register n None = None
+scan_by register n (Some f) = if all_fit n f then with_tdi register n f f.tdi else None
+
+-- the most bits of a scan
+abbrev pub most_bits : ℕ
+most_bits = 536870912
+
+-- how many bits a scan has
+abbrev pub some_bits : Option ℕ → Option ℕ
+some_bits None = None
+some_bits (Some n) = if n == 0 then None else Some n
+
+-- the scan of this many bits, where that is a number of bits, by the marks after it
+abbrev pub scan_if : ScannedRegister → Option ℕ → List Mark → Option Statement
+scan_if register None ms = None
+scan_if register (Some n) ms = scan_by register n (scan_from Between no_fields ms)
+
+-- after SIR or SDR
+abbrev pub scan_of : ScannedRegister → List Mark → Option Statement
+scan_of register [] = None
+scan_of register (Word n ∷ ms) = scan_if register (some_bits (number_within most_bits n)) ms
+scan_of register (Open ∷ ms) = None
+scan_of register (Close ∷ ms) = None
+scan_of register (End ∷ ms) = None

@@ -1,0 +1,11 @@
+pub mod Bits
+pub mod Comments
+pub mod Pieces
+pub mod Words
+pub mod Fields
+pub mod Source
+pub mod Spans
+pub mod Stored
+pub mod Statements
+pub mod Svf
+pub mod Reading

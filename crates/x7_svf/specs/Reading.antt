@@ -1,0 +1,30 @@
+-- What a step of a reader leaves of a text on its way (this project's choice).
+use Rattle.std.specs.Prelude.{◌≡◌, ◌<◌, ◌≤◌, ℕ, length, drop}
+use Rattle.x7_svf.specs.Pieces.{token_size}
+use Rattle.x7_svf.specs.Source.{SourceState, pieces_left}
+use Rattle.x7_svf.specs.Spans.{StaysKept}
+use Rattle.x7_svf.specs.Svf.{pieces_after}
+use Rattle.x7_svf.specs.declared.token.Token.{Token}
+
+-- blanks were passed, or nothing was
+pub record PassesBlanks (old new : SourceState) : Type 0 where
+  pub same : pieces_left old ≡ pieces_left new
+  pub kept : new.kept ≡ old.kept
+  pub passed : length new.rest ≤ length old.rest
+
+-- the rest of the text begins with a token's bytes, of which there is one at least
+pub record ComesNext (s : SourceState) (t : Token) : Type 0 where
+  pub some : 0 < token_size t
+  pub within : token_size t ≤ length s.rest
+
+-- this many bytes were passed, none of them a line end, and some of them may be kept
+pub record StepsOver (count : ℕ) (old new : SourceState) : Type 0 where
+  pub prefix : StaysKept old.kept new.kept
+  pub line : new.line ≡ old.line
+  pub rest : new.rest ≡ drop count old.rest
+
+-- words and brackets of the statement that comes next were passed, or nothing was, and some of their bytes may be kept
+pub record ReadsOn (old new : SourceState) : Type 0 where
+  pub prefix : StaysKept old.kept new.kept
+  pub after : pieces_after (pieces_left old) ≡ pieces_after (pieces_left new)
+  pub passed : length new.rest ≤ length old.rest

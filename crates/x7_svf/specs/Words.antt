@@ -1,0 +1,124 @@
+-- What a statement of words alone says (this project's profile of SVF).
+use Rattle.std.specs.Prelude.{ℕ, ◌+◌, ◌-◌, ◌*◌, ◌==◌, ◌||◌, ◌&&◌, not, nat_le, nat_lt, Bool, true, if◌then◌else◌, List, [], ◌∷◌, Option, Some, None, codes, map, length}
+use Rattle.std.specs.List.{list_all}
+use Rattle.std.specs.Borrow.{Bor}
+use Rattle.std.specs.Str.{str_eq_ignore_ascii_case}
+use Rattle.x7_svf.specs.Pieces.{Mark, Word, Open, Close, End}
+use Rattle.x7_svf.specs.declared.statement.Statement.{Statement}
+use Rattle.x7_svf.specs.declared.statement.Statement.TheVariants as statement
+
+-- keywords are in either case
+abbrev pub is_key : List ℕ → List ℕ → Bool
+is_key word key = str_eq_ignore_ascii_case word key
+
+-- a decimal digit
+abbrev pub is_digit : ℕ → Bool
+is_digit c = nat_le 48 c && nat_le c 57
+
+-- the number of decimal digits, leading zeros allowed, where it is within a limit; the first so many are read as `so_far`
+abbrev pub number_from : ℕ → ℕ → List ℕ → Option ℕ
+number_from limit so_far [] = Some so_far
+number_from limit so_far (c ∷ cs) =
+    if is_digit c && nat_le (so_far * 10 + (c - 48)) limit then number_from limit (so_far * 10 + (c - 48)) cs else None
+
+-- the number of a word of decimal digits, within a limit
+abbrev pub number_within : ℕ → List ℕ → Option ℕ
+number_within limit [] = None
+number_within limit (c ∷ cs) = number_from limit 0 (c ∷ cs)
+
+-- the most clocks of a run
+abbrev pub most_clocks : ℕ
+most_clocks = 16777216
+
+-- a time is digits, `.`, `E`, `+` and `-`
+abbrev pub is_time_byte : ℕ → Bool
+is_time_byte c = is_digit c || c == 46 || c == 69 || c == 43 || c == 45
+
+-- a word of a time, one byte at least
+abbrev pub is_time : List ℕ → Bool
+is_time w = nat_lt 0 (length w) && list_all is_time_byte w
+
+-- a word that may hold any byte but 0D
+abbrev pub is_free_byte : ℕ → Bool
+is_free_byte c = not (c == 13)
+
+-- a word without 0D
+abbrev pub is_free : List ℕ → Bool
+is_free w = list_all is_free_byte w
+
+-- a word before others, if these are words
+abbrev pub word_before : List ℕ → Option (List (List ℕ)) → Option (List (List ℕ))
+word_before w None = None
+word_before w (Some ws) = Some (w ∷ ws)
+
+-- the words of marks without brackets
+abbrev pub words_of : List Mark → Option (List (List ℕ))
+words_of [] = Some []
+words_of (Word w ∷ ms) = word_before w (words_of ms)
+words_of (Open ∷ ms) = None
+words_of (Close ∷ ms) = None
+words_of (End ∷ ms) = None
+
+-- a statement, where the test holds
+abbrev pub some_if : Bool → Statement → Option Statement
+some_if b s = if b then Some s else None
+
+-- a run of this number of clocks, if there is a number
+abbrev pub run_by : Option ℕ → Option Statement
+run_by None = None
+run_by (Some n) = Some (statement.Run n)
+
+-- a run of as many clocks as the digits say, where the test holds
+abbrev pub run_if : Bool → List ℕ → Option Statement
+run_if b n = if b then run_by (number_within most_clocks n) else None
+
+-- after STATE
+abbrev pub state_words : List (List ℕ) → Option Statement
+state_words (w ∷ []) = if is_key w (codes "RESET") then Some statement.Reset else some_if (is_key w (codes "IDLE")) statement.Idle
+state_words _ = None
+
+-- after RUNTEST
+abbrev pub run_words : List (List ℕ) → Option Statement
+run_words (n ∷ t ∷ []) =
+    if is_key t (codes "TCK") then run_by (number_within most_clocks n) else some_if (is_key t (codes "SEC") && is_time n) statement.Nothing
+run_words (i ∷ n ∷ t ∷ []) = run_if (is_key i (codes "IDLE") && is_key t (codes "TCK")) n
+run_words (n ∷ t ∷ x ∷ s ∷ []) = run_if (is_key t (codes "TCK") && is_time x && is_key s (codes "SEC")) n
+run_words _ = None
+
+-- after ENDIR and ENDDR
+abbrev pub end_words : List (List ℕ) → Option Statement
+end_words (w ∷ []) = some_if (is_key w (codes "IDLE")) statement.Nothing
+end_words _ = None
+
+-- after HIR, HDR, TIR and TDR: no other device stands in the chain
+abbrev pub zero_words : List (List ℕ) → Option Statement
+zero_words (w ∷ []) = some_if (is_key w (codes "0")) statement.Nothing
+zero_words _ = None
+
+-- after TRST
+abbrev pub reset_words : List (List ℕ) → Option Statement
+reset_words (w ∷ []) = some_if (is_free w) statement.Nothing
+reset_words _ = None
+
+-- the statement of a keyword and the words after it
+abbrev pub statement_of_words : List ℕ → List (List ℕ) → Option Statement
+statement_of_words k ws =
+    if is_key k (codes "STATE") then state_words ws
+    else (if is_key k (codes "RUNTEST") then run_words ws
+    else (if is_key k (codes "ENDIR") || is_key k (codes "ENDDR") then end_words ws
+    else (if is_key k (codes "HIR") || is_key k (codes "HDR") || is_key k (codes "TIR") || is_key k (codes "TDR") then zero_words ws
+    else (if is_key k (codes "TRST") then reset_words ws else None))))
+
+-- the statement of a keyword and the marks after it, where these are words
+abbrev pub statement_if_words : List ℕ → Option (List (List ℕ)) → Option Statement
+statement_if_words k None = None
+statement_if_words k (Some ws) = statement_of_words k ws
+
+-- marks that are brackets, or words without 0D
+abbrev pub is_free_mark : Mark → Bool
+is_free_mark (Word w) = is_free w
+is_free_mark _ = true
+
+-- words as lists
+abbrev pub word_list : List (Bor (List ℕ)) → List (List ℕ)
+word_list ws = map (λ w. w.now) ws

@@ -1,0 +1,139 @@
+//! The bits of a scan.
+ghost use Rattle.std.specs.Prelude.{◌≡◌, ◌<◌, ◌+◌, ◌*◌, ◌/◌, ◌%◌, ◌^◌, ◌==◌, ℕ, length, take, drop};
+ghost use Rattle.std.specs.List.{slice_get};
+ghost use Rattle.x7_svf.specs.Bits.{bit_of, bits_from, bits_of, byte_bits, bytes_bits, digit_number, mirrored_digit};
+
+use arrayvec::ArrayVec;
+use std::marker::Model;
+
+/// The most bytes that a scan gives at once.
+const PIECE: usize = 1024;
+
+/// A number of bits, lowest first. They are lent as the hexadecimal digits that were given.
+#[derive(Debug, Drop)]
+pub struct Bits<'t> {
+    count: u32,
+    digits: &'t [u8],
+}
+
+impl<'t> Model for Bits<'t> {
+    ghost use Rattle.std.specs.Prelude.{List, Bool};
+    ghost use Rattle.x7_svf.specs.Bits.{bits_of};
+
+    ghost Value = { List Bool };
+
+    ghost view = { λ b. bits_of b.count b.digits.now };
+}
+
+/// The number of a hexadecimal digit.
+pub(crate) fn digit_number(digit: u8) -> u8
+    ensures { result ≡ digit_number digit }
+{
+    // all three before the choice, which then needs no jump
+    let decimal = digit.saturating_sub(b'0');
+    let upper = digit.saturating_sub(55);
+    let lower = digit.saturating_sub(87);
+    if digit <= b'9' {
+        decimal
+    } else if digit <= b'F' {
+        upper
+    } else {
+        lower
+    }
+}
+
+/// Bit i of digits, whose last is the lowest.
+fn bit_in(digits: &[u8], i: u32) -> bool
+    ensures { result ≡ bit_of digits.now i }
+{
+    let place = (i / 4) as usize;
+    if place >= digits.len() {
+        return false;
+    }
+    (digit_number(digits[digits.len() - 1 - place]) >> (i % 4)) % 2 == 1
+}
+
+/// The four bits of the digit at this place from the last, and 0 past the first digit.
+fn four_bits(digits: &[u8], place: usize) -> u8
+    ensures bits { (k : ℕ) → k < 4 → (result / 2 ^ k % 2 == 1) ≡ bit_of digits.now (4 * place + k) }
+    ensures small { result < 16 }
+{
+    if place >= digits.len() {
+        return 0;
+    }
+    digit_number(digits[digits.len() - 1 - place]) % 16
+}
+
+/// Four bits, the lowest of which becomes the highest.
+fn mirror(bits: u8) -> u8
+    ensures value { result ≡ mirrored_digit bits }
+    ensures small { result < 16 }
+{
+    bits % 2 * 8 + bits / 2 % 2 * 4 + bits / 4 % 2 * 2 + bits / 8 % 2
+}
+
+/// The byte of the eight bits from this one on, a multiple of four, the first of which is the highest.
+fn byte_from(digits: &[u8], at: u32) -> u8
+    requires whole { at % 4 ≡ 0 }
+    ensures { byte_bits result ≡ bits_from digits.now at 8 }
+{
+    let place = (at / 4) as usize;
+    let first = four_bits(digits, place);
+    let second = four_bits(digits, place + 1);
+    mirror(first) * 16 + mirror(second)
+}
+
+/// The bytes of the bits of digits from this one on, a multiple of eight: those that end before the last of this many bits, and
+/// at most a piece.
+fn bytes_of(digits: &[u8], count: u32, from: u32) -> ArrayVec<u8, PIECE>
+    requires whole { from % 8 ≡ 0 }
+    requires some { from + 8 < count }
+    ensures some { 0 < length result.items }
+    ensures inside { from + 8 * length result.items < count }
+    ensures bits { bytes_bits result.items ≡ bits_from digits.now from (8 * length result.items) }
+{
+    let mut piece: ArrayVec<u8, PIECE> = ArrayVec::new();
+    let mut at = from;
+    while !piece.is_full() && count - at > 8 {
+        piece.push(byte_from(digits, at));
+        at += 8;
+    }
+    piece
+}
+
+impl<'t> Bits<'t> {
+    /// The first `count` bits of digits.
+    pub(crate) fn new(count: u32, digits: &'t [u8]) -> Bits<'t>
+        ensures { result ≡ bits_of count digits.now }
+    {
+        Bits { count, digits }
+    }
+
+    /// How many bits there are.
+    pub fn len(&self) -> u32
+        ensures { result ≡ length self.now }
+    {
+        self.count
+    }
+
+    /// Bit i, from 0, and none exactly past the last.
+    pub fn bit(&self, i: u32) -> Option<bool>
+        ensures { result ≡ slice_get self.now i }
+    {
+        if i >= self.count {
+            return None;
+        }
+        Some(bit_in(self.digits, i))
+    }
+
+    /// The bytes of the bits from this one on, a multiple of eight: those that end before the last bit, and at most a piece.
+    pub fn bytes_from(&self, from: u32) -> ArrayVec<u8, PIECE>
+        requires whole { from % 8 ≡ 0 }
+        requires some { from + 8 < length self.now }
+        ensures some { 0 < length result.items }
+        ensures inside { from + 8 * length result.items < length self.now }
+        ensures bits { bytes_bits result.items ≡ take (8 * length result.items) (drop from self.now) }
+    {
+        bytes_of(self.digits, self.count, from)
+    }
+}

@@ -1,0 +1,57 @@
+//! Blanks in place of comments.
+ghost use Rattle.std.specs.Prelude.{◌≡◌, ◌+◌, false, length};
+ghost use Rattle.x7_svf.specs.Comments.{begins_comment, clean_text, begins_with, is_inside, stand_in};
+
+/// Whether a text begins with a byte.
+fn begins_with(text: &[u8], byte: u8) -> bool
+    ensures { result ≡ begins_with byte text.now }
+{
+    match text {
+        [first, ..] => *first == byte,
+        [] => false,
+    }
+}
+
+/// Whether a comment begins at a byte, by the bytes after it.
+fn comment_begins(byte: u8, after: &[u8]) -> bool
+    ensures { result ≡ begins_comment byte after.now }
+{
+    byte == b'!' || byte == b'/' && begins_with(after, b'/')
+}
+
+/// Whether a text is inside a comment after a byte.
+fn comment_after(inside: bool, byte: u8, after: &[u8]) -> bool
+    ensures { result ≡ is_inside inside byte after.now }
+{
+    if inside {
+        byte != b'\n'
+    } else {
+        comment_begins(byte, after)
+    }
+}
+
+/// The byte that stands in the place of one: a blank for a byte of a comment, and for 0D before 0A.
+fn stand_in(inside: bool, byte: u8, after: &[u8]) -> u8
+    ensures { result ≡ stand_in inside byte after.now }
+{
+    if inside || byte == b'\r' && begins_with(after, b'\n') {
+        b' '
+    } else {
+        byte
+    }
+}
+
+/// Puts blanks in the place of comments, byte for byte.
+pub(crate) fn clean(text: &mut Vec<u8>)
+    ensures is { text.new.items ≡ clean_text false text.old.items }
+    ensures long { length text.new.items ≡ length text.old.items }
+{
+    let mut inside = false;
+    for at in 0..text.len() {
+        let byte = text[at];
+        let after = &text[at + 1..];
+        inside = comment_after(inside, byte, after);
+        let shown = stand_in(inside, byte, after);
+        text[at] = shown;
+    }
+}

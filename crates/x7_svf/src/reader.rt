@@ -1,0 +1,249 @@
+//! One statement of a text.
+ghost use Rattle.std.specs.Prelude.{◌≡◌, ◌<◌, ◌≤◌, ◌+◌, ◌*◌, true, false, length, take, IfSome, IsTrue, Option, Some, None};
+ghost use Rattle.std.specs.List.{list_all};
+ghost use Rattle.x7_svf.specs.Fields.{all_fit, digit_width, fits, scan_by, scan_if, scan_of, width};
+ghost use Rattle.x7_svf.specs.Pieces.{mark_of, token_size};
+ghost use Rattle.x7_svf.specs.Reading.{ReadsOn, StepsOver};
+ghost use Rattle.x7_svf.specs.Source.{pieces_left};
+ghost use Rattle.x7_svf.specs.Spans.{AreWithin, StaysKept, bytes_in, digits_if, span_end_if, span_end, fields_of};
+ghost use Rattle.x7_svf.specs.Statements.{statement_by, statement_of};
+ghost use Rattle.x7_svf.specs.Stored.{IsStored};
+ghost use Rattle.x7_svf.specs.Svf.{first_statement, marks_before, pieces_after};
+ghost use Rattle.x7_svf.specs.Words.{is_free_mark, some_if, statement_if_words as if_words, words_of};
+ghost use Rattle.x7_svf.specs.declared.statement.ScannedRegister.{ScannedRegister as Register};
+ghost use Rattle.x7_svf.specs.declared.statement.Statement.{Statement as StatementData};
+
+use crate::bits::digit_number;
+use crate::fields::{Given, fields};
+use crate::source::Source;
+use crate::span::Span;
+use crate::statement::ScannedRegister;
+use crate::stored::{Stored, StoredScan};
+use crate::token::{Token, next_within, pass_end};
+use crate::words::{Words, is_any_word, is_keyword, number, statement_said, with_one};
+
+/// The most bits of a scan.
+const MOST_BITS: u32 = 536_870_912;
+
+/// Whether a token that a text begins with may stand among any words.
+fn is_free_token(token: Token, text: &[u8]) -> bool
+    requires { token_size token ≤ length text.now }
+    ensures { result ≡ is_free_mark (mark_of token text.now) }
+{
+    match token {
+        Token::Word(length) => is_any_word(&text[..length]),
+        _ => true,
+    }
+}
+
+/// Whether what comes next of a statement may stand among any words; it is passed.
+fn are_free(source: &mut Source) -> bool
+    ensures is { result ≡ list_all is_free_mark (marks_before (pieces_left source.old)) }
+    ensures reads { IsTrue result → ReadsOn source.old source.new }
+{
+    while let Some(token) = next_within(source) {
+        if !is_free_token(token, source.rest()) {
+            return false;
+        }
+        source.skip(token.size());
+    }
+    true
+}
+
+/// The statement of any words that come next, which are passed.
+fn free_statement(source: &mut Source) -> Option<Stored>
+    ensures is { IsStored source.new.kept result (some_if (list_all is_free_mark (marks_before (pieces_left source.old))) StatementData.Nothing) }
+    ensures reads { IfSome result (λ s. ReadsOn source.old source.new) }
+{
+    if are_free(source) {
+        Some(Stored::Nothing)
+    } else {
+        None
+    }
+}
+
+/// Keeps the word of this many bytes that comes next, and says where.
+fn keep_word(source: &mut Source, size: usize) -> Span
+    requires { size ≤ length source.old.rest }
+    ensures word { bytes_in source.new.kept result ≡ take size source.old.rest }
+    ensures within { span_end result ≤ length source.new.kept }
+    ensures steps { StepsOver size source.old source.new }
+{
+    let from = source.kept().len();
+    source.keep(size);
+    Span::new(from, source.kept().len())
+}
+
+/// What a keyword, which is kept, and the words that come next say. The words are kept too.
+fn words_statement(source: &mut Source, key: Span) -> Option<Stored>
+    requires key { span_end key ≤ length source.old.kept }
+    ensures is { IsStored source.new.kept result (if_words (bytes_in source.old.kept key) (words_of (marks_before (pieces_left source.old)))) }
+    ensures reads { IfSome result (λ s. ReadsOn source.old source.new) }
+{
+    let mut words = Words::None;
+    while let Some(token) = next_within(source) {
+        let Token::Word(size) = token else {
+            return None;
+        };
+        let word = keep_word(source, size);
+        match with_one(words, word) {
+            Some(more) => words = more,
+            None => return None,
+        }
+    }
+    statement_said(source.kept(), key, words)
+}
+
+/// How many bits a digit's number has.
+fn digit_bits(digit: u8) -> u64
+    ensures { result ≡ digit_width digit }
+{
+    let value = digit_number(digit);
+    if value < 1 {
+        0
+    } else if value < 2 {
+        1
+    } else if value < 4 {
+        2
+    } else if value < 8 {
+        3
+    } else {
+        4
+    }
+}
+
+/// How many bits a number has whose first digit has `bits` of them, with `after` digits after it.
+fn width_with(after: usize, bits: u64) -> u128
+    ensures { result ≡ 4 * after + bits }
+{
+    4 * after as u128 + u128::from(bits)
+}
+
+/// How many bits the number of digits has.
+fn width_of(digits: &[u8]) -> u128
+    ensures { result ≡ width digits.now }
+{
+    let mut rest = digits;
+    while let [digit, after @ ..] = rest {
+        let value = digit_bits(*digit);
+        if value > 0 {
+            return width_with(after.len(), value);
+        }
+        rest = after;
+    }
+    0
+}
+
+/// Whether the value of digits, if there are any, fits `count` bits.
+fn does_fit(kept: &[u8], count: u32, digits: Option<Span>) -> bool
+    requires { span_end_if digits ≤ length kept.now }
+    ensures { result ≡ fits count (digits_if kept.now digits) }
+{
+    match digits {
+        Some(digits) => width_of(digits.of(kept)) <= u128::from(count),
+        None => true,
+    }
+}
+
+/// Whether the values of all fields fit `count` bits.
+fn do_all_fit(kept: &[u8], count: u32, given: Given) -> bool
+    requires { AreWithin (length kept.now) given }
+    ensures { result ≡ all_fit count (fields_of kept.now given) }
+{
+    does_fit(kept, count, given.tdi)
+        && does_fit(kept, count, given.tdo)
+        && does_fit(kept, count, given.mask)
+        && does_fit(kept, count, given.smask)
+}
+
+/// The scan of this many bits with these fields, whose digits are kept.
+fn scan_of_fields(
+    kept: &[u8],
+    register: ScannedRegister,
+    count: u32,
+    given: Given,
+) -> Option<Stored>
+    requires { AreWithin (length kept.now) given }
+    ensures { IsStored kept.now result (scan_by register count (Some (fields_of kept.now given))) }
+{
+    if !do_all_fit(kept, count, given) {
+        return None;
+    }
+    let tdi = given.tdi?;
+    Some(Stored::Scan(StoredScan {
+        register,
+        count,
+        tdi,
+        tdo: given.tdo,
+        mask: given.mask,
+    }))
+}
+
+/// How many bits the scan has whose keyword was passed.
+fn scan_count(source: &mut Source) -> Option<u32>
+    ensures is { (register : Register) → scan_of register (marks_before (pieces_left source.old)) ≡ scan_if register result (marks_before (pieces_left source.new)) }
+    ensures reads { IfSome result (λ n. ReadsOn source.old source.new) }
+{
+    let Token::Word(length) = next_within(source)? else {
+        return None;
+    };
+    let count = number(&source.rest()[..length], MOST_BITS)?;
+    source.skip(length);
+    if count == 0 {
+        return None;
+    }
+    Some(count)
+}
+
+/// The scan whose keyword was passed. Its digits are kept.
+fn scan(source: &mut Source, register: ScannedRegister) -> Option<Stored>
+    ensures is { IsStored source.new.kept result (scan_of register (marks_before (pieces_left source.old))) }
+    ensures reads { IfSome result (λ s. ReadsOn source.old source.new) }
+{
+    let count = scan_count(source)?;
+    let given = fields(source)?;
+    scan_of_fields(source.kept(), register, count, given)
+}
+
+/// What a keyword, which is kept, and what comes after it say.
+fn said_by(source: &mut Source, key: Span) -> Option<Stored>
+    requires key { span_end key ≤ length source.old.kept }
+    ensures is { IsStored source.new.kept result (statement_by (bytes_in source.old.kept key) (marks_before (pieces_left source.old))) }
+    ensures reads { IfSome result (λ s. ReadsOn source.old source.new) }
+{
+    let word = key.of(source.kept());
+    if is_keyword(word, b"SIR") {
+        return scan(source, ScannedRegister::Instruction);
+    }
+    if is_keyword(word, b"SDR") {
+        return scan(source, ScannedRegister::Data);
+    }
+    if is_keyword(word, b"FREQUENCY") {
+        return free_statement(source);
+    }
+    words_statement(source, key)
+}
+
+/// The statement that comes next, up to its `;`. Its keyword, and the digits of a scan or the words of another, are kept.
+fn statement(source: &mut Source) -> Option<Stored>
+    ensures is { IsStored source.new.kept result (statement_of (marks_before (pieces_left source.old))) }
+    ensures reads { IfSome result (λ s. ReadsOn source.old source.new) }
+    ensures passed { IfSome result (λ s. length source.new.rest < length source.old.rest) }
+{
+    let Token::Word(size) = next_within(source)? else {
+        return None;
+    };
+    let key = keep_word(source, size);
+    said_by(source, key)
+}
+
+/// The statement that comes next, with its `;`.
+pub(crate) fn ended_statement(source: &mut Source) -> Option<Stored>
+    ensures is { IsStored source.new.kept result (first_statement (pieces_left source.old)) }
+    ensures prefix { IfSome result (λ s. StaysKept source.old.kept source.new.kept) }
+    ensures after { IfSome result (λ s. pieces_after (pieces_left source.old) ≡ Some (pieces_left source.new)) }
+    ensures passed { IfSome result (λ s. length source.new.rest + 2 ≤ length source.old.rest) }
+{
+    let one = statement(source)?;
+    if pass_end(source) { Some(one) } else { None }
+}

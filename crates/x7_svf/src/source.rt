@@ -1,0 +1,115 @@
+//! A text that is read from its front, and the bytes that are kept of it.
+ghost use Rattle.std.specs.Prelude.{◌≡◌, ◌≤◌, ◌<◌, ◌^◌, ◌++◌, [], length, drop, take, slice_index, vec_len};
+ghost use Rattle.x7_svf.specs.Pieces.{line_after};
+
+use std::marker::Model;
+
+/// A text on its way. The bytes that are kept stand at its front, in the place of bytes that were read.
+#[derive(Drop)]
+pub(crate) struct Source {
+    text: Vec<u8>,
+    // how many bytes are kept
+    kept: usize,
+    // where the rest begins, and on which line
+    at: usize,
+    line: u64,
+}
+
+impl Model for Source {
+    ghost use Rattle.std.specs.Prelude.{◌≤◌, ◌+◌, ◌^◌, length, drop, take};
+    ghost use Rattle.x7_svf.specs.Source.{SourceState};
+
+    ghost Value = { SourceState };
+
+    ghost view = { λ s. record { kept = take s.kept s.text.items; line = s.line; rest = drop s.at s.text.items } };
+
+    ghost invariant = { λ s. (s.kept ≤ s.at) × (s.at ≤ length s.text.items) × (length s.text.items ≤ 2 ^ 29) × (s.line ≤ s.at + 1) };
+}
+
+/// The line after a byte that stands on this one.
+fn next_line(byte: u8, line: u64) -> u64
+    requires { line < 2 ^ 63 }
+    ensures { result ≡ line_after byte line }
+{
+    if byte == b'\n' { line + 1 } else { line }
+}
+
+impl Source {
+    /// A text of at most 2^29 bytes of which nothing is read or kept.
+    pub(crate) fn new(text: Vec<u8>) -> Source
+        requires { vec_len text ≤ 2 ^ 29 }
+        ensures { result ≡ record { kept = []; line = 1; rest = text.items } }
+    {
+        Source {
+            text,
+            kept: 0,
+            at: 0,
+            line: 1,
+        }
+    }
+
+    /// What is still to be read.
+    pub(crate) fn rest(&self) -> &[u8]
+        ensures { result.now ≡ self.now.rest }
+    {
+        &self.text[self.at..]
+    }
+
+    /// The line on which the rest begins.
+    pub(crate) fn line(&self) -> u64
+        ensures { result ≡ self.now.line }
+    {
+        self.line
+    }
+
+    /// The bytes that are kept.
+    pub(crate) fn kept(&self) -> &[u8]
+        ensures now { result.now ≡ self.now.kept }
+        ensures few { length result.now ≤ 2 ^ 29 }
+    {
+        &self.text[..self.kept]
+    }
+
+    /// Passes the next byte, which may be a line end.
+    pub(crate) fn pass(&mut self)
+        requires { 0 < length self.old.rest }
+        ensures { self.new ≡ record { kept = self.old.kept; line = line_after (slice_index self.old.rest 0) self.old.line; rest = drop 1 self.old.rest } }
+    {
+        self.line = next_line(self.text[self.at], self.line);
+        self.at += 1;
+    }
+
+    /// Passes this many bytes, none of which is a line end.
+    pub(crate) fn skip(&mut self, count: usize)
+        requires { count ≤ length self.old.rest }
+        ensures { self.new ≡ record { kept = self.old.kept; line = self.old.line; rest = drop count self.old.rest } }
+    {
+        self.at += count;
+    }
+
+    /// Keeps this many bytes that come next, none of which is a line end.
+    pub(crate) fn keep(&mut self, count: usize)
+        requires { count ≤ length self.old.rest }
+        ensures { self.new ≡ record { kept = self.old.kept ++ take count self.old.rest; line = self.old.line; rest = drop count self.old.rest } }
+    {
+        let end = self.at + count;
+        self.text.copy_within(self.at..end, self.kept);
+        self.kept += count;
+        self.at = end;
+    }
+
+    /// The bytes that are kept, alone.
+    pub(crate) fn into_kept(self) -> Vec<u8>
+        ensures { result.items ≡ self.kept }
+    {
+        let Source {
+            text,
+            kept,
+            at: _,
+            line: _,
+        } = self;
+        let mut text = text;
+        text.truncate(kept);
+        text
+    }
+}

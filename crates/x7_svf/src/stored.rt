@@ -1,0 +1,59 @@
+//! Statements whose digits are kept apart.
+ghost use Rattle.std.specs.Prelude.{◌≡◌, ◌≤◌, length};
+ghost use Rattle.x7_svf.specs.Fields.{bits_option as bits_if};
+ghost use Rattle.x7_svf.specs.Spans.{digits_if, span_end_if};
+ghost use Rattle.x7_svf.specs.Stored.{IsStoredWithin, statement_in};
+
+use crate::bits::Bits;
+use crate::span::Span;
+use crate::statement::{Scan, ScannedRegister, Statement};
+
+/// A statement, small: of 2^29 bytes there may be many. The digits of a scan are kept apart.
+#[derive(Clone, Copy, Debug)]
+pub(crate) enum Stored {
+    Reset,
+    Idle,
+    Run(u32),
+    Scan(StoredScan),
+    Nothing,
+}
+
+/// A scan of this many bits.
+#[derive(Clone, Copy, Debug)]
+pub(crate) struct StoredScan {
+    pub register: ScannedRegister,
+    pub count: u32,
+    pub tdi: Span,
+    pub tdo: Option<Span>,
+    pub mask: Option<Span>,
+}
+
+/// The bits of a field that may be left out.
+fn bits_option(kept: &[u8], count: u32, digits: Option<Span>) -> Option<Bits<'_>>
+    requires { span_end_if digits ≤ length kept.now }
+    ensures { result ≡ bits_if count (digits_if kept.now digits) }
+{
+    match digits {
+        Some(digits) => Some(Bits::new(count, digits.of(kept))),
+        None => None,
+    }
+}
+
+/// A statement with its digits, which are among those kept.
+pub(crate) fn statement_of<'t>(stored: &Stored, kept: &'t [u8]) -> Statement<'t>
+    requires { IsStoredWithin (length kept.now) stored.now }
+    ensures { result ≡ statement_in kept.now stored.now }
+{
+    match stored {
+        Stored::Reset => Statement::Reset,
+        Stored::Idle => Statement::Idle,
+        Stored::Run(count) => Statement::Run(*count),
+        Stored::Scan(scan) => Statement::Scan(Scan {
+            register: scan.register,
+            tdi: Bits::new(scan.count, scan.tdi.of(kept)),
+            tdo: bits_option(kept, scan.count, scan.tdo),
+            mask: bits_option(kept, scan.count, scan.mask),
+        }),
+        Stored::Nothing => Statement::Nothing,
+    }
+}

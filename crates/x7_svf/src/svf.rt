@@ -1,0 +1,111 @@
+//! The statements of a text.
+ghost use Rattle.std.specs.Prelude.{◌≡◌, ◌<◌, ◌≤◌, ◌*◌, ◌^◌, [], List, length, MatchResult, Some, None, IfOk, IfErr, Ok, Err, ◌⊎◌, vec_len};
+ghost use Rattle.std.specs.List.{slice_get};
+ghost use Rattle.x7_svf.specs.Source.{pieces_left};
+ghost use Rattle.x7_svf.specs.Stored.{AreStoredWithin, statements_in};
+ghost use Rattle.x7_svf.specs.Svf.{BeginWithOne, IsSvfOf, outcome, pieces_of};
+ghost use Rattle.x7_svf.specs.declared.fault.SvfFault.{SvfFault as FaultData};
+
+use crate::comment::clean;
+use crate::fault::SvfFault;
+use crate::reader::ended_statement;
+use crate::source::Source;
+use crate::statement::Statement;
+use crate::stored::{Stored, statement_of};
+use crate::token::next;
+use std::alloc::Global;
+use std::marker::Model;
+
+/// The statements of a text, fewer than 2^29.
+#[derive(Debug, Drop)]
+pub struct Svf {
+    statements: Vec<Stored>,
+    // the digits of their scans, among keywords and the words of other statements
+    digits: Vec<u8>,
+}
+
+impl Model for Svf {
+    ghost use Rattle.std.specs.Prelude.{◌<◌, ◌^◌, List, length};
+    ghost use Rattle.x7_svf.specs.Stored.{AreStoredWithin, statements_in};
+    ghost use Rattle.x7_svf.specs.declared.statement.Statement.{Statement};
+
+    ghost Value = { List Statement };
+
+    ghost view = { λ s. statements_in s.digits.items s.statements.items };
+
+    ghost invariant = { λ s. (length s.statements.items < 2 ^ 29) × AreStoredWithin (length s.digits.items) s.statements.items };
+}
+
+impl Svf {
+    /// How many statements there are.
+    pub fn len(&self) -> usize
+        ensures len { result ≡ length self.now }
+        ensures few { result < 2 ^ 29 }
+    {
+        self.statements.len()
+    }
+
+    /// Statement i, from 0, and none exactly past the last.
+    pub fn statement(&self, i: usize) -> Option<Statement<'_>>
+        ensures { result ≡ slice_get self.now i }
+    {
+        match self.statements.get(i) {
+            Some(stored) => Some(statement_of(stored, &self.digits)),
+            None => None,
+        }
+    }
+}
+
+/// The statements of a text without comments. The digits of their scans are kept.
+fn statements(alloc: Global, source: &mut Source) -> Result<Vec<Stored>, SvfFault>
+    requires none_kept { source.old.kept ≡ [] }
+    requires few { length source.old.rest ≤ 2 ^ 29 }
+    ensures says { MatchResult result (λ s. outcome (pieces_left source.old) ≡ Ok (statements_in source.new.kept s.items))
+        (λ fault. (fault ≡ FaultData.NoMemory) ⊎ (outcome (pieces_left source.old) ≡ Err fault)) }
+    ensures memory { IfErr result (λ fault. fault ≡ FaultData.NoMemory → BeginWithOne (pieces_left source.old)) }
+    ensures few { IfOk result (λ s. 2 * length s.items ≤ length source.old.rest) }
+    ensures within { IfOk result (λ s. AreStoredWithin (length source.new.kept) s.items) }
+{
+    let mut out = Vec::new(alloc);
+    while let Some(_) = next(source) {
+        let line = source.line();
+        let Some(one) = ended_statement(source) else {
+            return Err(SvfFault::Line(line));
+        };
+        if out.push(one).is_err() {
+            return Err(SvfFault::NoMemory);
+        }
+    }
+    Ok(out)
+}
+
+/// The statements of a text that is given up for them, or the line on which the first begins that is none. The digits of the
+/// scans stay in the text's bytes, at most 2^29. Memory is wanting only for a text that begins with a statement.
+pub fn svf_from(alloc: Global, text: Vec<u8>) -> Result<Svf, SvfFault>
+    requires { vec_len text ≤ 2 ^ 29 }
+    ensures statements { IfOk result (λ svf. IsSvfOf text.items (Ok svf)) }
+    ensures fault { IfErr result (λ fault. (fault ≡ FaultData.NoMemory) ⊎ IsSvfOf text.items (Err fault)) }
+    ensures memory { IfErr result (λ fault. fault ≡ FaultData.NoMemory → BeginWithOne (pieces_of text.items)) }
+{
+    let mut text = text;
+    clean(&mut text);
+    let mut source = Source::new(text);
+    let statements = statements(alloc, &mut source)?;
+    Ok(Svf {
+        statements,
+        digits: source.into_kept(),
+    })
+}
+
+/// The statements of a text, or the line on which the first begins that is none. A text has at most 2^29 bytes.
+pub fn svf_of(alloc: Global, text: &[u8]) -> Result<Svf, SvfFault>
+    requires { length text.now ≤ 2 ^ 29 }
+    ensures statements { IfOk result (λ svf. IsSvfOf text.now (Ok svf)) }
+    ensures fault { IfErr result (λ fault. (fault ≡ FaultData.NoMemory) ⊎ IsSvfOf text.now (Err fault)) }
+{
+    let mut copy = Vec::new(alloc);
+    if copy.extend_from_slice(text).is_err() {
+        return Err(SvfFault::NoMemory);
+    }
+    svf_from(alloc, copy)
+}

@@ -1,0 +1,258 @@
+//! Statements of words alone.
+ghost use Rattle.std.specs.Prelude.{◌≡◌, ◌<◌, ◌&&◌, ◌≤◌, ◌∷◌, ◌++◌, ℕ, [], List, length, codes, IfSome, IfNone, Option, Some, None};
+ghost use Rattle.x7_svf.specs.Words.{end_words, is_digit, is_free, is_free_byte, is_key, is_time, is_time_byte, most_clocks, number_within, reset_words, run_by, run_if as run_clocks, run_words, some_if, state_words, statement_of_words as of_words, word_list, zero_words};
+ghost use Rattle.x7_svf.specs.Spans.{AreWordsWithin, bytes_in, span_end, words_kept};
+ghost use Rattle.x7_svf.specs.Stored.{IsStored};
+ghost use Rattle.x7_svf.specs.declared.statement.Statement.{Statement as StatementData};
+ghost use Rattle.std.specs.List.{list_all};
+
+use crate::span::Span;
+use crate::stored::Stored;
+
+/// The most clocks of a run.
+const MOST_CLOCKS: u32 = 16_777_216;
+
+/// Whether a word is a keyword, in either case.
+pub(crate) fn is_keyword(word: &[u8], key: &[u8]) -> bool
+    ensures { result ≡ is_key word.now key.now }
+{
+    word.eq_ignore_ascii_case(key)
+}
+
+/// Whether a byte is a decimal digit.
+fn is_decimal(byte: u8) -> bool
+    ensures { result ≡ is_digit byte }
+{
+    b'0' <= byte && byte <= b'9'
+}
+
+/// Whether a byte may stand in a time.
+fn is_of_time(byte: u8) -> bool
+    ensures { result ≡ is_time_byte byte }
+{
+    is_decimal(byte) || byte == b'.' || byte == b'E' || byte == b'+' || byte == b'-'
+}
+
+/// The number of decimal digits, where it is within the limit.
+pub(crate) fn number(word: &[u8], limit: u32) -> Option<u32>
+    ensures { result ≡ number_within limit word.now }
+{
+    if word.is_empty() {
+        return None;
+    }
+    let mut value: u32 = 0;
+    let mut rest = word;
+    while !rest.is_empty() {
+        let byte = rest[0];
+        if !is_decimal(byte) {
+            return None;
+        }
+        let more = u64::from(value) * 10 + u64::from(byte - b'0');
+        if more > u64::from(limit) {
+            return None;
+        }
+        value = more as u32;
+        rest = &rest[1..];
+    }
+    Some(value)
+}
+
+/// Whether all bytes of a word may stand in a time.
+fn all_of_time(word: &[u8]) -> bool
+    ensures { result ≡ list_all is_time_byte word.now }
+{
+    word.iter().all(
+        |byte|
+            ensures { result ≡ is_time_byte byte.now }
+        { is_of_time(*byte) },
+    )
+}
+
+/// Whether a word is a time.
+fn is_any_time(word: &[u8]) -> bool
+    ensures { result ≡ is_time word.now }
+{
+    !word.is_empty() && all_of_time(word)
+}
+
+/// Whether a word has no byte 0D.
+pub(crate) fn is_any_word(word: &[u8]) -> bool
+    ensures { result ≡ is_free word.now }
+{
+    word.iter().all(
+        |byte|
+            ensures { result ≡ is_free_byte byte.now }
+        { *byte != b'\r' },
+    )
+}
+
+/// The run of as many clocks as the digits say.
+fn run(digits: &[u8]) -> Option<Stored>
+    ensures { IsStored [] result (run_by (number_within most_clocks digits.now)) }
+{
+    let count = number(digits, MOST_CLOCKS)?;
+    Some(Stored::Run(count))
+}
+
+/// The run of as many clocks as the digits say, where the test holds.
+fn run_if(test: bool, digits: &[u8]) -> Option<Stored>
+    ensures { IsStored [] result (run_clocks test digits.now) }
+{
+    if test { run(digits) } else { None }
+}
+
+/// A statement that asks for nothing, where the test holds.
+fn nothing_if(test: bool) -> Option<Stored>
+    ensures { IsStored [] result (some_if test StatementData.Nothing) }
+{
+    if test { Some(Stored::Nothing) } else { None }
+}
+
+/// The statement of the words after STATE.
+fn state(words: &[&[u8]]) -> Option<Stored>
+    ensures { IsStored [] result (state_words (word_list words.now)) }
+{
+    match words {
+        [word] => {
+            if is_keyword(word, b"RESET") {
+                Some(Stored::Reset)
+            } else if is_keyword(word, b"IDLE") {
+                Some(Stored::Idle)
+            } else {
+                None
+            }
+        }
+        _ => None,
+    }
+}
+
+/// Whether two words are IDLE and TCK.
+fn are_idle_clocks(state: &[u8], unit: &[u8]) -> bool
+    ensures { result ≡ (is_key state.now (codes "IDLE") && is_key unit.now (codes "TCK")) }
+{
+    is_keyword(state, b"IDLE") && is_keyword(unit, b"TCK")
+}
+
+/// Whether three words are TCK, a time, and SEC.
+fn are_timed_clocks(unit: &[u8], time: &[u8], second: &[u8]) -> bool
+    ensures { result ≡ (is_key unit.now (codes "TCK") && is_time time.now && is_key second.now (codes "SEC")) }
+{
+    is_keyword(unit, b"TCK") && is_any_time(time) && is_keyword(second, b"SEC")
+}
+
+/// The statement of the words after RUNTEST.
+fn run_of(words: &[&[u8]]) -> Option<Stored>
+    ensures { IsStored [] result (run_words (word_list words.now)) }
+{
+    match words {
+        [count, unit] => {
+            if is_keyword(unit, b"TCK") {
+                run(count)
+            } else {
+                nothing_if(is_keyword(unit, b"SEC") && is_any_time(count))
+            }
+        }
+        [state, count, unit] => { run_if(are_idle_clocks(state, unit), count) }
+        [count, unit, time, second] => { run_if(are_timed_clocks(unit, time, second), count) }
+        _ => None,
+    }
+}
+
+/// The statement of the words after ENDIR and ENDDR.
+fn end(words: &[&[u8]]) -> Option<Stored>
+    ensures { IsStored [] result (end_words (word_list words.now)) }
+{
+    match words {
+        [word] => nothing_if(is_keyword(word, b"IDLE")),
+        _ => None,
+    }
+}
+
+/// The statement of the words after HIR, HDR, TIR and TDR.
+fn no_others(words: &[&[u8]]) -> Option<Stored>
+    ensures { IsStored [] result (zero_words (word_list words.now)) }
+{
+    match words {
+        [word] => nothing_if(is_keyword(word, b"0")),
+        _ => None,
+    }
+}
+
+/// The statement of the words after TRST.
+fn reset_line(words: &[&[u8]]) -> Option<Stored>
+    ensures { IsStored [] result (reset_words (word_list words.now)) }
+{
+    match words {
+        [word] => nothing_if(is_any_word(word)),
+        _ => None,
+    }
+}
+
+/// The statement of a keyword and the words after it.
+fn statement_of_words(key: &[u8], words: &[&[u8]]) -> Option<Stored>
+    ensures { IsStored [] result (of_words key.now (word_list words.now)) }
+{
+    if is_keyword(key, b"STATE") {
+        return state(words);
+    }
+    if is_keyword(key, b"RUNTEST") {
+        return run_of(words);
+    }
+    if is_keyword(key, b"ENDIR") || is_keyword(key, b"ENDDR") {
+        return end(words);
+    }
+    if is_keyword(key, b"HIR")
+        || is_keyword(key, b"HDR")
+        || is_keyword(key, b"TIR")
+        || is_keyword(key, b"TDR")
+    {
+        return no_others(words);
+    }
+    if is_keyword(key, b"TRST") {
+        return reset_line(words);
+    }
+    None
+}
+
+/// The words after a keyword by where they are kept. No statement has more than four.
+#[derive(Clone, Copy)]
+pub(crate) enum Words {
+    None,
+    One(Span),
+    Two(Span, Span),
+    Three(Span, Span, Span),
+    Four(Span, Span, Span, Span),
+}
+
+/// One word more, where there are fewer than four.
+pub(crate) fn with_one(words: Words, word: Span) -> Option<Words>
+    ensures more { (kept : List ℕ) → IfSome result (λ r. words_kept kept r ≡ words_kept kept words ++ bytes_in kept word ∷ []) }
+    ensures four { (kept : List ℕ) → IfNone result (length (words_kept kept words) ≡ 4) }
+    ensures within { (n : ℕ) → AreWordsWithin n words → span_end word ≤ n → IfSome result (AreWordsWithin n) }
+{
+    match words {
+        Words::None => Some(Words::One(word)),
+        Words::One(first) => Some(Words::Two(first, word)),
+        Words::Two(first, second) => Some(Words::Three(first, second, word)),
+        Words::Three(first, second, third) => Some(Words::Four(first, second, third, word)),
+        Words::Four(_, _, _, _) => None,
+    }
+}
+
+/// The statement of a keyword and the words after it, which are kept.
+pub(crate) fn statement_said(kept: &[u8], key: Span, words: Words) -> Option<Stored>
+    requires key { span_end key ≤ length kept.now }
+    requires words { AreWordsWithin (length kept.now) words }
+    ensures { IsStored [] result (of_words (bytes_in kept.now key) (words_kept kept.now words)) }
+{
+    let key = key.of(kept);
+    match words {
+        Words::None => None,
+        Words::One(a) => statement_of_words(key, &[a.of(kept)]),
+        Words::Two(a, b) => statement_of_words(key, &[a.of(kept), b.of(kept)]),
+        Words::Three(a, b, c) => statement_of_words(key, &[a.of(kept), b.of(kept), c.of(kept)]),
+        Words::Four(a, b, c, d) => {
+            statement_of_words(key, &[a.of(kept), b.of(kept), c.of(kept), d.of(kept)])
+        }
+    }
+}
