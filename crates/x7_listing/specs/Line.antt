@@ -50,11 +50,10 @@ IsAccess a = (a.0 < 32) × (a.1 < 2 ^ 11)
 abbrev pub access_text : ℕ × ℕ → List ℕ
 access_text a = reg_name a.0 ++ 32 ∷ decimal a.1
 
--- a line that is one word, or empty
+-- a line that is empty, `sync` or `crc`
 abbrev pub IsPlain : Line → Type 0
 IsPlain Empty = Unit {0}
 IsPlain Sync = Unit {0}
-IsPlain Nop = Unit {0}
 IsPlain Check = Unit {0}
 IsPlain _ = ⊥
 
