@@ -1,5 +1,5 @@
 //! A lister of streams that come in pieces.
-ghost use Rattle.std.specs.Prelude.{◌≡◌, ℕ, ◌+◌, ◌*◌, ◌≤◌, List, [], ◌++◌, OnOk, OnErr, length, take, vec_len, vec_capacity};
+ghost use Rattle.std.specs.Prelude.{◌≡◌, ℕ, ◌+◌, ◌*◌, ◌≤◌, List, [], ◌++◌, OnOk, OnErr, length, vec_len, vec_capacity};
 ghost use Rattle.x7_packets.specs.Mode.{Mode};
 ghost use Rattle.x7_listing.specs.Telling.{TakerStandsFor, Finished, ListerStandsFor};
 ghost use Rattle.x7_listing.specs.Pens.{RestsOn, lister_with};
@@ -24,7 +24,7 @@ fn take_all(text: &mut Vec<u8>, cutter: &mut Cutter, pen: Pen, piece: &[u8]) -> 
     loop {
         let rest = &piece[at..];
         if let Some(taken) = take_short(text, &mut sheet, cutter, now, rest) {
-            now = taken.pen;
+            now = Pen::Session(taken.in_line);
             at += taken.size;
             continue;
         }
@@ -47,12 +47,12 @@ pub struct Lister {
 }
 
 impl Model for Lister {
-    ghost use Rattle.std.specs.Prelude.{take};
+    ghost use Rattle.x7_listing.specs.Pens.{lister_with};
     ghost use Rattle.x7_listing.specs.Telling.{ListerState};
 
     ghost Value = { ListerState };
 
-    ghost view = { λ l. record { cutter = l.cutter; synced = l.pen.synced; line = l.pen.line; held = take l.pen.count l.pen.held; text = l.text.items } };
+    ghost view = { λ l. lister_with l.cutter l.pen l.text.items };
 }
 
 impl Lister {
@@ -64,7 +64,7 @@ impl Lister {
     {
         Lister {
             cutter: Cutter::new(),
-            pen: new_pen(),
+            pen: Pen::Gap(new_pen()),
             text: Vec::new(alloc),
         }
     }
@@ -109,7 +109,7 @@ impl Lister {
         self.text.reserve(64)?;
         put_end(&mut self.text, self.pen, self.cutter.kept());
         self.cutter = Cutter::new();
-        self.pen = new_pen();
+        self.pen = Pen::Gap(new_pen());
         Ok(())
     }
 }

@@ -4,7 +4,6 @@ use Rattle.x7_listing.proofs.list.pen.hold_each.Goals as goal
 
 pub loop-byte-preserved : goal.loop-byte-preserved
 loop-byte-preserved c = record {
-  gap = c.hold-now.ensures.gap;
   len = omega arith;
   room = omega arith;
   listed = λ given start gap g. gap_step _ start _ _ gap c.args.bytes.now _ c.loop-byte-test.true (c.hold-now.ensures.listed given start _ (c.loop-byte.invariant.listed given start gap g));
