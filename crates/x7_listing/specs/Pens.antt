@@ -39,12 +39,12 @@ abbrev pub TakesHead : CutterState → ℕ → Step → Type 0
 TakesHead c w step = TakesAsOneRun c c (bytes_of_word w) (Head w step)
 
 -- the lister has listed these bytes too
-abbrev pub TellsOn : ListerState → ListerState → List ℕ → Type 0
-TellsOn old new more = (given before bytes : List ℕ) → HasListedJust old given before bytes → HasListedJust new given before (bytes ++ more)
+abbrev pub ListsMore : ListerState → ListerState → List ℕ → Type 0
+ListsMore old new more = (given before bytes : List ℕ) → HasListedJust old given before bytes → HasListedJust new given before (bytes ++ more)
 
 -- the lister has listed these bytes too, and no sync word is still to be listed
-abbrev pub RestsOn : ListerState → ListerState → List ℕ → Type 0
-RestsOn old new more = (given before bytes : List ℕ) → HasListedJust old given before bytes → ListerStandsFor new given before (bytes ++ more)
+abbrev pub ListsMoreAndRests : ListerState → ListerState → List ℕ → Type 0
+ListsMoreAndRests old new more = (given before bytes : List ℕ) → HasListedJust old given before bytes → ListerStandsFor new given before (bytes ++ more)
 
 -- what is written with this pen
 abbrev pub written_with : Pen → List ℕ → WrittenSoFar

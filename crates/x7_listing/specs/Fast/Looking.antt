@@ -1,14 +1,10 @@
 -- Looks at a text: what begins it is read at once (this project's choice).
-use Rattle.std.specs.Prelude.{◌≡◌, ℕ, ◌+◌, ◌≤◌, List, Option, MatchOption, Vec, drop, length, vec_len, vec_capacity}
+use Rattle.std.specs.Prelude.{◌≡◌, ℕ, ◌≤◌, List, Option, MatchOption, Vec, drop, length, vec_len}
 use Rattle.std.specs.declared.alloc.Global.{Global}
 use Rattle.x7_text.specs.Reads.{StaysWithin}
-use Rattle.x7_listing.specs.Assembling.{TakesFirst, TakesLines}
+use Rattle.x7_listing.specs.Assembling.{HasRoomForLine, TakesFirst, TakesLines}
 use Rattle.x7_listing.specs.Assembly.{asm_limit}
 use Rattle.x7_listing.specs.declared.asm.fast.quick.WholeLines.{WholeLines}
-
--- there is room for the bytes of a line, 32 at most
-abbrev pub HasRoomForLine : Vec ℕ Global → Type 0
-HasRoomForLine out = vec_len out + 32 ≤ vec_capacity out
 
 -- a look at the first bytes of a text found whole lines and appended their bytes, 32 at most; or it found none and appended nothing
 pub record Looks (text : List ℕ) (old new : Vec ℕ Global) (found : Option WholeLines) : Type 0 where

@@ -3,7 +3,7 @@ use Rattle.std.specs.Prelude.{◌≡◌, ℕ, List, ◌++◌, codes, take}
 use Rattle.x7_words.specs.Word.{words_of_bytes}
 use Rattle.x7_packets.specs.Cutting.{CutterState}
 use Rattle.x7_text.specs.Row.{in_line_after, open_text, spaced}
-use Rattle.x7_listing.specs.Pens.{TellsOn, lister_with}
+use Rattle.x7_listing.specs.Pens.{ListsMore, lister_with}
 use Rattle.x7_listing.specs.Telling.{ListerState}
 use Rattle.x7_listing.specs.declared.list.pen.state.OpenWords.{OpenWords}
 use Rattle.x7_listing.specs.declared.list.pen.state.Pen.TheVariants.{Session}
@@ -18,5 +18,5 @@ abbrev pub on_sheet : CutterState → OpenWords → List ℕ → ℕ → List �
 on_sheet cutter in_line sheet len text = lister_with cutter (Session in_line) (text ++ take len sheet)
 
 -- the lister has listed these bytes too, whatever text stands before
-abbrev pub TellsAfter : (List ℕ → ListerState) → (List ℕ → ListerState) → List ℕ → Type 0
-TellsAfter old new more = (text : List ℕ) → TellsOn (old text) (new text) more
+abbrev pub ListsMoreAfter : (List ℕ → ListerState) → (List ℕ → ListerState) → List ℕ → Type 0
+ListsMoreAfter old new more = (text : List ℕ) → ListsMore (old text) (new text) more

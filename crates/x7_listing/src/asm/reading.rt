@@ -1,5 +1,5 @@
 //! Reading one line: the bytes that it stands for.
-ghost use Rattle.std.specs.Prelude.{◌≡◌, ◌≢◌, ℕ, List, ◌<◌, ◌≤◌, ◌+◌, ◌*◌, ◌^◌, ◌∷◌, ◌++◌, length, slice_index, decimal, IfSome, MatchOption, vec_len, vec_capacity};
+ghost use Rattle.std.specs.Prelude.{◌≡◌, ◌≢◌, ℕ, List, ◌<◌, ◌≤◌, ◌+◌, ◌*◌, ◌^◌, ◌∷◌, ◌++◌, length, slice_index, decimal, IfSome, MatchOption};
 ghost use Rattle.x7_words.specs.Word.{bytes_of_word};
 ghost use Rattle.x7_regs.specs.Command.{code_of, command_name_of};
 ghost use Rattle.x7_regs.specs.Register.{reg_name};
@@ -7,6 +7,7 @@ ghost use Rattle.x7_regs.specs.declared.command.Command.{Command};
 ghost use Rattle.x7_packets.specs.PacketWords.{type1_read, type1_write, type2_read, type2_write};
 ghost use Rattle.x7_text.specs.Appends.{Appends};
 ghost use Rattle.x7_text.specs.Digits.{hex_word};
+ghost use Rattle.x7_listing.specs.Assembling.{HasRoomForLine};
 ghost use Rattle.x7_listing.specs.Line.{access_text, line_bytes, FitsLine, IsAccess, IsPlain, text_of};
 ghost use Rattle.x7_listing.specs.BitLine.{IsFirstSpace};
 ghost use Rattle.x7_listing.specs.OneWord.{IsWordOf, PutsWord};
@@ -71,7 +72,7 @@ pub(crate) fn access_at(text: &[u8], space: usize) -> Option<(u8, u32)>
 
 /// Appends the bytes of a word.
 pub(crate) fn put_word(out: &mut Vec<u8>, w: u32)
-    requires { vec_len out.old + 32 ≤ vec_capacity out.old }
+    requires { HasRoomForLine out.old }
     ensures appends { Appends out.old out.new (bytes_of_word w) 32 }
 {
     put(out, &bytes_of(w));
@@ -79,7 +80,7 @@ pub(crate) fn put_word(out: &mut Vec<u8>, w: u32)
 
 /// Appends the bytes of a word, where there is one.
 fn put_found(out: &mut Vec<u8>, word: Option<u32>) -> bool
-    requires { vec_len out.old + 32 ≤ vec_capacity out.old }
+    requires { HasRoomForLine out.old }
     ensures puts { PutsWord word result out.old.items out.new.items }
     ensures room { StaysWithin out.old out.new 32 }
 {
@@ -177,7 +178,7 @@ fn read_of(text: &[u8]) -> Option<u32>
 
 /// Appends the bytes of a line that is empty, `sync` or `crc`.
 fn put_plain(out: &mut Vec<u8>, check: u32, line: &[u8]) -> bool
-    requires { vec_len out.old + 32 ≤ vec_capacity out.old }
+    requires { HasRoomForLine out.old }
     ensures reads { Reads IsPlain text_of (line_bytes check) result line.now out.old.items out.new.items }
     ensures room { StaysWithin out.old out.new 32 }
 {
@@ -198,7 +199,7 @@ fn put_plain(out: &mut Vec<u8>, check: u32, line: &[u8]) -> bool
 
 /// Appends the bytes of a line, where the bytes of the lines before have this check. `false`: the text is that of no line.
 pub(crate) fn put_line(out: &mut Vec<u8>, check: u32, line: &[u8]) -> bool
-    requires { vec_len out.old + 32 ≤ vec_capacity out.old }
+    requires { HasRoomForLine out.old }
     ensures reads { Reads FitsLine text_of (line_bytes check) result line.now out.old.items out.new.items }
     ensures room { StaysWithin out.old out.new 32 }
 {

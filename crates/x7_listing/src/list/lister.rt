@@ -2,7 +2,7 @@
 ghost use Rattle.std.specs.Prelude.{◌≡◌, ℕ, ◌+◌, ◌*◌, ◌≤◌, List, [], ◌++◌, OnOk, OnErr, length, vec_len, vec_capacity};
 ghost use Rattle.x7_packets.specs.Mode.{Mode};
 ghost use Rattle.x7_listing.specs.Telling.{TakerStandsFor, Finished, ListerStandsFor};
-ghost use Rattle.x7_listing.specs.Pens.{RestsOn, lister_with};
+ghost use Rattle.x7_listing.specs.Pens.{ListsMoreAndRests, lister_with};
 
 mod runs;
 
@@ -16,7 +16,7 @@ use x7_words::NoMemory;
 /// Takes a whole piece, and writes what it tells.
 fn take_all(text: &mut Vec<u8>, cutter: &mut Cutter, pen: Pen, piece: &[u8]) -> Pen
     requires { vec_len text.old + (131 * length piece.now + (3 * length cutter.old.kept + 128)) ≤ vec_capacity text.old }
-    ensures rests { RestsOn (lister_with cutter.old pen text.old.items) (lister_with cutter.new result text.new.items) piece.now }
+    ensures rests { ListsMoreAndRests (lister_with cutter.old pen text.old.items) (lister_with cutter.new result text.new.items) piece.now }
 {
     let mut sheet = [0; SHEET];
     let mut now = pen;

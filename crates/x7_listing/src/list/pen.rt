@@ -7,6 +7,7 @@ ghost use Rattle.x7_regs.specs.Register.{number_of};
 ghost use Rattle.x7_regs.specs.declared.register.Reg.TheVariants.{Cmd};
 ghost use Rattle.x7_text.specs.Appends.{Appends};
 ghost use Rattle.x7_text.specs.Digits.{hex_byte};
+ghost use Rattle.x7_text.specs.Reads.{StaysWithin};
 ghost use Rattle.x7_text.specs.Row.{close, in_line_after, open_text};
 ghost use Rattle.x7_listing.specs.Pens.{EndsWith, GapGoesOn, gap_written, held_by, is_in_session, line_of, written_with};
 ghost use Rattle.x7_listing.specs.Telling.{words_place, open_words, WritesRun};
@@ -58,8 +59,7 @@ pub(crate) fn open_in(pen: Pen) -> OpenWords
 /// Takes a byte of a gap: where four are held, the first of them is listed.
 fn hold(text: &mut Vec<u8>, pen: GapPen, byte: u8) -> GapPen
     requires room { vec_len text.old + 19 ≤ vec_capacity text.old }
-    ensures len { vec_len text.new ≤ vec_len text.old + 19 }
-    ensures room { vec_capacity text.old ≤ vec_capacity text.new }
+    ensures room { StaysWithin text.old text.new 19 }
     ensures listed { GapGoesOn (gap_written pen text.old.items) (gap_written result text.new.items) (byte ∷ []) }
 {
     if pen.count < 4 {
@@ -83,8 +83,7 @@ fn hold(text: &mut Vec<u8>, pen: GapPen, byte: u8) -> GapPen
 fn hold_each(text: &mut Vec<u8>, pen: GapPen, bytes: &[u8]) -> GapPen
     requires few { length bytes.now < 4 }
     requires room { vec_len text.old + 64 ≤ vec_capacity text.old }
-    ensures len { vec_len text.new ≤ vec_len text.old + 64 }
-    ensures room { vec_capacity text.old ≤ vec_capacity text.new }
+    ensures room { StaysWithin text.old text.new 64 }
     ensures listed { GapGoesOn (gap_written pen text.old.items) (gap_written result text.new.items) bytes.now }
 {
     let mut now = pen;
@@ -97,8 +96,7 @@ fn hold_each(text: &mut Vec<u8>, pen: GapPen, bytes: &[u8]) -> GapPen
 /// Takes bytes of a gap: all but the last four are listed.
 fn hold_all(text: &mut Vec<u8>, pen: GapPen, bytes: &[u8]) -> GapPen
     requires room { vec_len text.old + (64 + 3 * length bytes.now) ≤ vec_capacity text.old }
-    ensures len { vec_len text.new ≤ vec_len text.old + (64 + 3 * length bytes.now) }
-    ensures room { vec_capacity text.old ≤ vec_capacity text.new }
+    ensures room { StaysWithin text.old text.new (64 + 3 * length bytes.now) }
     ensures listed { GapGoesOn (gap_written pen text.old.items) (gap_written result text.new.items) bytes.now }
 {
     if bytes.len() < 4 {
@@ -159,8 +157,7 @@ fn put_body(text: &mut Vec<u8>, in_line: OpenWords, register: u8, body: &[u8]) -
 pub(crate) fn put_run(text: &mut Vec<u8>, pen: Pen, run: Cut) -> Pen
     requires run { IsRun run }
     requires room { vec_len text.old + (64 + 3 * length (run_bytes run)) ≤ vec_capacity text.old }
-    ensures len { vec_len text.new ≤ vec_len text.old + (64 + 3 * length (run_bytes run.entry)) }
-    ensures room { vec_capacity text.old ≤ vec_capacity text.new }
+    ensures room { StaysWithin text.old text.new (64 + 3 * length (run_bytes run.entry)) }
     ensures listed { (given : List ℕ) → WritesRun run.entry (written_with pen (given ++ text.old.items)) (written_with result (given ++ text.new.items)) }
     ensures held { (IsNeed run.entry → ⊥) → is_in_session result ≡ true → held_by result ≡ [] }
 {

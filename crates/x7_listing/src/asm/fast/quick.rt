@@ -3,7 +3,8 @@ ghost use Rattle.std.specs.Prelude.{◌≡◌, ℕ, List, ◌<◌, ◌≤◌, �
 ghost use Rattle.std.specs.List.{flat_map};
 ghost use Rattle.std.specs.Simd.Lanes.{chunk};
 ghost use Rattle.x7_listing.specs.Fast.AtOnce.{words_in_row};
-ghost use Rattle.x7_listing.specs.Fast.Looking.{HasRoomForLine, Looks, ReadsAtOnce};
+ghost use Rattle.x7_listing.specs.Assembling.{HasRoomForLine};
+ghost use Rattle.x7_listing.specs.Fast.Looking.{Looks, ReadsAtOnce};
 
 use super::write_pairs::{differences, put_pair};
 use crate::asm::reading::{access_at, put_word};

@@ -4,7 +4,8 @@ ghost use Rattle.std.specs.Simd.Lanes.{chunk, mask_l, zip2};
 ghost use Rattle.x7_words.specs.Word.{bytes_of_word};
 ghost use Rattle.x7_text.specs.Appends.{Appends};
 ghost use Rattle.x7_listing.specs.Fast.AtOnce.{bytes_differ, row_text};
-ghost use Rattle.x7_listing.specs.Fast.Looking.{HasRoomForLine, Looks};
+ghost use Rattle.x7_listing.specs.Assembling.{HasRoomForLine};
+ghost use Rattle.x7_listing.specs.Fast.Looking.{Looks};
 
 use super::quick::{LOOK, WholeLines};
 use crate::line::{command_row, write_row};

@@ -9,10 +9,10 @@ ghost use Rattle.x7_packets.specs.PacketWords.{no_op, type1_write};
 ghost use Rattle.x7_packets.specs.Packet.{payload_steps};
 ghost use Rattle.x7_text.specs.Row.{bytes_text, close};
 ghost use Rattle.x7_listing.specs.Fast.AtOnce.{command_lines};
-ghost use Rattle.x7_listing.specs.Fast.OnSheet.{ShowsWords, TellsAfter, on_sheet};
+ghost use Rattle.x7_listing.specs.Fast.OnSheet.{ShowsWords, ListsMoreAfter, on_sheet};
 ghost use Rattle.x7_listing.specs.Fast.TakingAtOnce.{TakesAtOnce, TakesOnSheet};
 ghost use Rattle.x7_listing.specs.HeadLine.{text_of_head};
-ghost use Rattle.x7_listing.specs.Pens.{TakesHead, TellsOn, lister_with};
+ghost use Rattle.x7_listing.specs.Pens.{TakesHead, ListsMore, lister_with};
 ghost use Rattle.x7_listing.specs.declared.list.pen.state.Pen.{Pen};
 ghost use Rattle.x7_listing.specs.Telling.{words_place, open_words};
 
@@ -105,24 +105,26 @@ fn put_count(sheet: &mut [u8; SHEET], len: usize, count: usize) -> usize
     put_whole(sheet, len, &[b'1', b'0' + (count - 10) as u8, b'\n'])
 }
 
-/// Puts the line of the header of a write of a few words, after an open line of `in_line` words.
-#[inline(always)]
-fn put_head(
-    sheet: &mut [u8; SHEET],
-    len: usize,
-    in_line: usize,
+/// A write of one to sixteen words: the register's number, and the word count.
+#[derive(Clone, Copy)]
+struct ShortWrite {
     register: u8,
     count: usize,
-) -> usize
-    requires range { register < 32 }
-    requires few { count ≤ 16 }
+    ghost range: { register < 32 },
+    ghost some: { 0 < count },
+    ghost few: { count ≤ 16 },
+}
+
+/// Puts the line of the header of a short write, after an open line of `in_line` words.
+#[inline(always)]
+fn put_head(sheet: &mut [u8; SHEET], len: usize, in_line: usize, write: ShortWrite) -> usize
     requires room { len + 36 ≤ 2048 }
     ensures len { result ≤ len + 36 }
-    ensures text { take result sheet.new ≡ take len sheet.old ++ (close in_line ++ text_of_head (Step.Open register count) (type1_write register count)) }
+    ensures text { take result sheet.new ≡ take len sheet.old ++ (close in_line ++ text_of_head (Step.Open write.register write.count) (type1_write write.register write.count)) }
 {
     let begin = put_close(sheet, len, in_line);
-    let start = put_row(sheet, begin, name_row(register));
-    put_count(sheet, start, count)
+    let start = put_row(sheet, begin, name_row(write.register));
+    put_count(sheet, start, write.count)
 }
 
 /// Puts the first of eight words, one or more, in a new `data` line.
@@ -196,7 +198,7 @@ fn put_write(sheet: &mut [u8; SHEET], len: usize, in_line: OpenWords, register: 
     ensures size { result.size ≡ 8 }
     ensures len { result.len ≤ len + 42 }
     ensures listed { (c d : CutterState) (rest : List ℕ) → WritesOne c d rest register w
-        → TellsAfter (on_sheet c in_line sheet.old len) (on_sheet d result.in_line sheet.new result.len) (take 8 rest) }
+        → ListsMoreAfter (on_sheet c in_line sheet.old len) (on_sheet d result.in_line sheet.new result.len) (take 8 rest) }
 {
     let end = put_one_word(sheet, len, in_line.count, register, w);
     Next {
@@ -226,32 +228,28 @@ fn first_64(bytes: &[u8]) -> &[u8; 64]
     &blocks[0]
 }
 
-/// Puts what a write of a few words adds, whose packet begins these bytes.
+/// Puts what a short write adds, whose packet begins these bytes.
 #[inline(always)]
 fn put_short_write(
     sheet: &mut [u8; SHEET],
     len: usize,
     in_line: OpenWords,
-    register: u8,
-    count: usize,
+    write: ShortWrite,
     rest: &[u8],
 ) -> Next
-    requires range { register < 32 }
-    requires some { 0 < count }
-    requires few { count ≤ 16 }
     requires long { 68 ≤ length rest.now }
     requires room { len + 190 ≤ 2048 }
-    ensures size { result.size ≡ 4 + 4 * count }
+    ensures size { result.size ≡ 4 + 4 * write.count }
     ensures len { result.len ≤ len + 190 }
-    ensures listed { (c d : CutterState) → WritesFew c d rest.now register count
-        → TellsAfter (on_sheet c in_line sheet.old len) (on_sheet d result.in_line sheet.new result.len) (take (4 + 4 * count) rest.now) }
+    ensures listed { (c d : CutterState) → WritesFew c d rest.now write.register write.count
+        → ListsMoreAfter (on_sheet c in_line sheet.old len) (on_sheet d result.in_line sheet.new result.len) (take (4 + 4 * write.count) rest.now) }
 {
-    let start = put_head(sheet, len, in_line.count, register, count);
-    let end = put_words(sheet, start, first_64(&rest[4..]), count);
+    let start = put_head(sheet, len, in_line.count, write);
+    let end = put_words(sheet, start, first_64(&rest[4..]), write.count);
     Next {
         in_line: end.in_line,
         len: end.len,
-        size: 4 + 4 * count,
+        size: 4 + 4 * write.count,
     }
 }
 
@@ -264,7 +262,7 @@ fn put_few_nops(sheet: &mut [u8; SHEET], len: usize, in_line: OpenWords, count: 
     ensures size { result.size ≡ 4 * count }
     ensures len { result.len ≤ len + (4 * count + 1) }
     ensures listed { (c : CutterState) → TakesHead c no_op Step.Nop
-        → TellsAfter (on_sheet c in_line sheet.old len) (on_sheet c result.in_line sheet.new result.len) (nop_bytes count) }
+        → ListsMoreAfter (on_sheet c in_line sheet.old len) (on_sheet c result.in_line sheet.new result.len) (nop_bytes count) }
 {
     let start = put_close(sheet, len, in_line.count);
     Next {
@@ -283,7 +281,7 @@ fn put_gap(sheet: &mut [u8; SHEET], len: usize, in_line: OpenWords, count: usize
     ensures size { result.size ≡ count + 4 }
     ensures len { result.len ≤ len + 77 }
     ensures listed { (c d : CutterState) → EndsGap c d rest.now count
-        → TellsAfter (on_sheet c in_line sheet.old len) (on_sheet d result.in_line sheet.new result.len) (take (count + 4) rest.now) }
+        → ListsMoreAfter (on_sheet c in_line sheet.old len) (on_sheet d result.in_line sheet.new result.len) (take (count + 4) rest.now) }
 {
     Next {
         in_line: OpenWords { count: 0 },
@@ -303,14 +301,15 @@ fn take_next(
 ) -> Option<Next>
     requires room { len + 256 ≤ 2048 }
     ensures some { IfSome result (λ n. TakesOnSheet cutter.old cutter.new rest.now n.size len n.len) }
-    ensures listed { IfSome result (λ n. TellsAfter (on_sheet cutter.old in_line sheet.old len) (on_sheet cutter.new n.in_line sheet.new n.len) (take n.size rest.now)) }
+    ensures listed { IfSome result (λ n. ListsMoreAfter (on_sheet cutter.old in_line sheet.old len) (on_sheet cutter.new n.in_line sheet.new n.len) (take n.size rest.now)) }
     ensures none { IfNone result ((cutter.new ≡ cutter.old) × (sheet.new ≡ sheet.old)) }
 {
     if let Some((register, w)) = cutter.take_write(rest) {
         return Some(put_write(sheet, len, in_line, register, w));
     }
     if let Some((register, count)) = cutter.take_short_write(rest) {
-        return Some(put_short_write(sheet, len, in_line, register, count, rest));
+        let write = ShortWrite { register, count };
+        return Some(put_short_write(sheet, len, in_line, write, rest));
     }
     let nops = cutter.nop_count(&rest[..rest.len().min(4 * FEW)]);
     if nops > 0 {
@@ -323,10 +322,10 @@ fn take_next(
 }
 
 /// The first byte of a write's header whose reserved bits are 0.
-const WRITE: u8 = 0x30;
+const WRITE_BYTE: u8 = 0x30;
 
 /// The first byte of the no-op.
-const NO_OP: u8 = 0x20;
+const NO_OP_BYTE: u8 = 0x20;
 
 /// Whether the next word may be a write or a no-op.
 #[inline(always)]
@@ -334,7 +333,7 @@ fn may_come(rest: &[u8]) -> bool {
     let [first, ..] = rest else {
         return false;
     };
-    *first == WRITE || *first == NO_OP
+    *first == WRITE_BYTE || *first == NO_OP_BYTE
 }
 
 /// What was taken at once: the words of the open line after it, and how many bytes it has.
@@ -355,7 +354,7 @@ pub(crate) fn take_short(
 ) -> Option<Taken>
     requires { vec_len text.old + 131 * length rest.now ≤ vec_capacity text.old }
     ensures some { IfSome result (λ t. TakesAtOnce cutter.old cutter.new rest.now t.size (vec_len text.old) (vec_len text.new)) }
-    ensures listed { IfSome result (λ t. TellsOn (lister_with cutter.old pen text.old.items) (lister_with cutter.new (Pen.Session t.in_line) text.new.items) (take t.size rest.now)) }
+    ensures listed { IfSome result (λ t. ListsMore (lister_with cutter.old pen text.old.items) (lister_with cutter.new (Pen.Session t.in_line) text.new.items) (take t.size rest.now)) }
     ensures none { IfNone result (cutter.new ≡ cutter.old) }
     ensures same { IfNone result (text.new ≡ text.old) }
     ensures room { vec_capacity text.old ≤ vec_capacity text.new }

@@ -25,7 +25,7 @@ fn cut_of<'b>(run: Run<'b>) -> Cut<'b>
 }
 
 /// How many bytes a run tells.
-fn told_len(run: Run) -> usize
+fn run_len(run: Run) -> usize
     ensures { result ≡ length (bytes_of_run run.entry) }
 {
     match run {
@@ -96,7 +96,7 @@ impl Lister {
         ensures ok { OnOk result (TakesNext run.now self.old self.new) }
         ensures err { OnErr result (self.new ≡ self.old) }
     {
-        let Some(room) = told_len(*run).checked_mul(3) else {
+        let Some(room) = run_len(*run).checked_mul(3) else {
             return Err(NoMemory);
         };
         let Some(room) = room.checked_add(64) else {
