@@ -1,6 +1,8 @@
 -- The lines that AsmLines takes: the first, one more, many at once, and the last.
 use Rattle.std.proofs.Common.{◌≡◌, inl, inr, ℕ, ◌+◌, ◌-◌, ◌≤◌, true, List, [], ◌∷◌, ◌++◌, Option, Some, IfSome, Result, Ok, Err, IfErr, OnOk, MatchResult, length, map, take, drop, refl, ap, sym, subst, ◌∙◌, arith, append_assoc, append-nil, length-append, take_all}
 use Rattle.std.proofs.lemmas.List.{drop-append-le, length-map}
+use Rattle.std.proofs.lemmas.Result.{err_from_is_err_and}
+use Rattle.std.specs.Result.{IsErrAnd}
 use Rattle.std.proofs.Math.ListN.{drop_of_length-le}
 use Rattle.std.proofs.Math.Seq.{drop-nil}
 use Rattle.std.specs.List.{flat_map}
@@ -61,6 +63,13 @@ goes_plain all left held out start n checker none u =
 pub err_weaker : {A E : Type 0} → {P Q : E → Type 0} → (r : Result A E) → ((e : E) → P e → Q e) → IfErr r P → IfErr r Q
 err_weaker (Ok a) f h = tt
 err_weaker (Err e) f h = f e h
+
+-- the fault that `?` hands on
+pub handed : {A E : Type 0} (P : A → Type 0) (Q : E → Type 0) (r : Result A E) (e : E) → IsErrAnd r (λ f. f ≡ e) → Q e → MatchResult r P Q
+handed P Q r e h q = let p = err_from_is_err_and r h in subst (λ s. MatchResult s P Q) (sym (p.1 ∙ ap Err p.2)) q
+
+pub handed_on : {A E : Type 0} (Q : E → Type 0) (r : Result A E) (e : E) → IsErrAnd r (λ f. f ≡ e) → Q e → IfErr r Q
+handed_on Q r e h q = let p = err_from_is_err_and r h in subst (λ s. IfErr s Q) (sym (p.1 ∙ ap Err p.2)) q
 
 pub if_some : {X : Type 0} → (P : X → Type 0) (o : Option X) (x : X) → o ≡ Some x → IfSome o P → P x
 if_some P o x e h = subst (λ p. IfSome p P) e h

@@ -166,18 +166,14 @@ impl TakesLines for AsmLines {
                 return Ok((line, count));
             };
             count = count.saturating_add(1);
-            match self.put_next(count, line) {
-                Ok(()) => rest = after,
-                Err(fault) => return Err(fault),
-            }
+            self.put_next(count, line)?;
+            rest = after;
         }
     }
 
     fn put_last(self, n: u64, line: &[u8]) -> Result<Vec<u8>, AsmFault> {
         let mut last = self;
-        match last.put_next(n, line) {
-            Ok(()) => Ok(last.out),
-            Err(fault) => Err(fault),
-        }
+        last.put_next(n, line)?;
+        Ok(last.out)
     }
 }
