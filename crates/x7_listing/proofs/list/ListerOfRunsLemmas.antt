@@ -107,7 +107,7 @@ listed_tail synced line l2 held all before bytes sessions ns (Searching gap) new
 listed_tail false line l2 held all before bytes sessions ns (Synced gap packets tail) new old next same t a d e = absurd (d t.0)
 listed_tail true line l2 held all before bytes sessions ns (Synced gap packets tail) new old next same t a d e = (
   subst (λ p. HasListedAt (written_of true l2 bytes.now all) (before ++ flat_map session_text ns) p next) (sym a.2)
-  (e, subst (λ (l : ℕ). SessionListed all (before ++ flat_map session_text ns) l gap packets) (sym (same refl)) (subst (λ (s : List Session). SessionListed all (before ++ flat_map session_text s) line gap packets) (sym a.0) t.1)),
+      (e, subst (λ (l : ℕ). SessionListed all (before ++ flat_map session_text ns) l gap packets) (sym (same refl)) (subst (λ (s : List Session). SessionListed all (before ++ flat_map session_text s) line gap packets) (sym a.0) t.1)),
   ap tail_of a.2,
 )
 

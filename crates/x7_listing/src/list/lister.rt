@@ -13,9 +13,16 @@ use std::marker::Model;
 use x7_packets::{Cut, Cutter};
 use x7_words::NoMemory;
 
-/// Takes a whole piece, and writes what it tells.
+/// How much room a byte of a piece asks for: 64 bytes of a call that takes it, 3 of its own, and 64 of a call for the sync
+/// word that it may end.
+pub(crate) const BYTE_ROOM: usize = 131;
+
+/// How much room is asked for besides: 64 bytes of a call for a sync word that is due, and 64 that are left over.
+const SPARE_ROOM: usize = 128;
+
+/// Takes a whole piece, and writes the lines of its runs.
 fn take_all(text: &mut Vec<u8>, cutter: &mut Cutter, pen: Pen, piece: &[u8]) -> Pen
-    requires { vec_len text.old + (131 * length piece.now + (3 * length cutter.old.kept + 128)) ≤ vec_capacity text.old }
+    requires { vec_len text.old + (BYTE_ROOM * length piece.now + (3 * length cutter.old.kept + SPARE_ROOM)) ≤ vec_capacity text.old }
     ensures rests { ListsMoreAndRests (lister_with cutter.old pen text.old.items) (lister_with cutter.new result text.new.items) piece.now }
 {
     let mut sheet = [0; SHEET];
@@ -90,10 +97,10 @@ impl Lister {
         ensures ok { OnOk result ((given before bytes : List ℕ) → ListerStandsFor self.old given before bytes → ListerStandsFor self.new given before (bytes ++ piece.now)) }
         ensures err { OnErr result (self.new ≡ self.old) }
     {
-        let Some(room) = piece.len().checked_mul(131) else {
+        let Some(room) = piece.len().checked_mul(BYTE_ROOM) else {
             return Err(NoMemory);
         };
-        let Some(room) = room.checked_add(3 * self.cutter.kept().len() + 128) else {
+        let Some(room) = room.checked_add(3 * self.cutter.kept().len() + SPARE_ROOM) else {
             return Err(NoMemory);
         };
         self.text.reserve(room)?;

@@ -13,9 +13,7 @@ use Rattle.x7_packets.specs.PacketWords.{no_op, sync_word, type1_write}
 use Rattle.x7_packets.specs.SyncWord.{sync_bytes}
 use Rattle.x7_packets.specs.Cutting.{CutterState, IsRun, AfterRun}
 use Rattle.x7_packets.specs.Nops.{equal_bytes}
-use Rattle.x7_packets.specs.Mode.{Mode}
 use Rattle.x7_packets.specs.Packet.{payload_steps, register_of}
-use Rattle.x7_packets.specs.Reading.{Place, Searching, Synced}
 use Rattle.x7_packets.specs.declared.cutter.Cut.{Cut}
 use Rattle.x7_packets.specs.declared.cutter.Cut.TheVariants.{Body, Head, Skip, Sync, Word}
 use Rattle.x7_packets.specs.declared.header.Step.{Step}
@@ -27,8 +25,7 @@ use Rattle.x7_regs.specs.Register.{reg_name}
 use Rattle.x7_listing.specs.declared.line.head_line.HeadLine.TheVariants.{Write}
 use Rattle.x7_listing.specs.Fast.AtOnce.{command_lines, equal_lines, write_line, write_name, write_start}
 use Rattle.x7_listing.specs.HeadLine.{best_line, command_line, text_of_head, line_text}
-use Rattle.x7_listing.specs.Listing.{session_text}
-use Rattle.x7_listing.specs.Telling.{GapListed, HasListedAt, HasListedJust, words_place, open_words, WritesRun, lister_of, written_of}
+use Rattle.x7_listing.specs.Telling.{GapListed, HasListedJust, words_place, open_words, WritesRun, lister_of, written_of}
 use Rattle.x7_listing.proofs.GapLemmas.{listed_more}
 use Rattle.x7_listing.proofs.RunLemmas.{by_body, by_head, by_skip, by_sync, by_word}
 use Rattle.x7_listing.proofs.SessionLemmas.{data_listed, is_data}

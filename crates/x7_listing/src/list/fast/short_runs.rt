@@ -18,6 +18,7 @@ ghost use Rattle.x7_listing.specs.Telling.{words_place, open_words};
 
 use super::sheet::{SHEET, put_prefix, put_row, put_whole};
 use crate::line::{command_row, name_row, write_row};
+use crate::list::lister::BYTE_ROOM;
 use crate::list::pen::{OpenWords, Pen};
 use x7_packets::{Cutter, Step};
 use x7_regs::Reg;
@@ -274,7 +275,13 @@ fn put_few_nops(sheet: &mut [u8; SHEET], len: usize, in_line: OpenWords, count: 
 
 /// Puts what a gap after a session adds, and the sync word after it, which begin these bytes.
 #[inline(always)]
-fn put_gap(sheet: &mut [u8; SHEET], len: usize, in_line: OpenWords, count: usize, rest: &[u8]) -> Next
+fn put_gap(
+    sheet: &mut [u8; SHEET],
+    len: usize,
+    in_line: OpenWords,
+    count: usize,
+    rest: &[u8],
+) -> Next
     requires near { count + 4 ≤ 32 }
     requires long { 36 ≤ length rest.now }
     requires room { len + 77 ≤ 2048 }
@@ -352,7 +359,7 @@ pub(crate) fn take_short(
     pen: Pen,
     rest: &[u8],
 ) -> Option<Taken>
-    requires { vec_len text.old + 131 * length rest.now ≤ vec_capacity text.old }
+    requires { vec_len text.old + BYTE_ROOM * length rest.now ≤ vec_capacity text.old }
     ensures some { IfSome result (λ t. TakesAtOnce cutter.old cutter.new rest.now t.size (vec_len text.old) (vec_len text.new)) }
     ensures listed { IfSome result (λ t. ListsMore (lister_with cutter.old pen text.old.items) (lister_with cutter.new (Pen.Session t.in_line) text.new.items) (take t.size rest.now)) }
     ensures none { IfNone result (cutter.new ≡ cutter.old) }
@@ -380,5 +387,8 @@ pub(crate) fn take_short(
         return None;
     }
     put(text, &sheet[..len]);
-    Some(Taken { in_line: now, size: at })
+    Some(Taken {
+        in_line: now,
+        size: at,
+    })
 }

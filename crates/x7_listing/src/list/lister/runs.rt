@@ -24,7 +24,7 @@ fn cut_of<'b>(run: Run<'b>) -> Cut<'b>
     }
 }
 
-/// How many bytes a run tells.
+/// How many bytes of a stream a run is.
 fn run_len(run: Run) -> usize
     ensures { result ≡ length (bytes_of_run run.entry) }
 {

@@ -1,4 +1,4 @@
-use Rattle.std.proofs.Common.{[], Bool, true, false, ◌≡◌, refl, ℕ, sym, if◌then◌else◌}
+use Rattle.std.proofs.Common.{[], true, false, refl}
 use Rattle.x7_listing.specs.Pens.{held_by, is_in_session, line_of}
 use Rattle.x7_listing.proofs.RunLemmas.{by_body, by_head, by_skip, by_sync, by_word}
 use Rattle.x7_listing.proofs.list.pen.put_run.Goals as goal

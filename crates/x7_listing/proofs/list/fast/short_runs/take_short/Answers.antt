@@ -1,4 +1,4 @@
-use Rattle.std.proofs.Common.{◌≡◌, ◌∙◌, ◌-◌, ◌++◌, append-nil, arith, drop, length, refl, subst, take}
+use Rattle.std.proofs.Common.{◌≡◌, ◌-◌, ◌++◌, append-nil, arith, drop, length, refl, subst, take}
 use Rattle.x7_listing.specs.Pens.{lister_with}
 use Rattle.x7_listing.specs.Telling.{HasListedJust}
 use Rattle.x7_listing.specs.declared.list.pen.state.Pen.{Pen}
