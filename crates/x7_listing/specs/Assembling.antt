@@ -5,8 +5,7 @@ use Rattle.std.specs.List.{AllByRecursion, flat_map}
 use Rattle.x7_crc.specs.Checking.{CheckerState, Keeps}
 use Rattle.x7_header.specs.Header.{Contents, header_bytes, longest_header}
 use Rattle.x7_listing.specs.BitLine.{bit_text, IsHeld}
-use Rattle.x7_listing.specs.Line.{Line, line_bytes, FitsLine, IsListed}
-use Rattle.x7_listing.specs.Listed.{ended_texts}
+use Rattle.x7_listing.specs.Line.{Line, line_bytes, FitsLine, IsListed, ended_texts}
 use Rattle.x7_listing.specs.Assembly.{AreHeadedAsm, asm_limit, assembled, BeginsWithLines, HasNoHeaderLine}
 use Rattle.x7_listing.specs.declared.assembler.AsmFault.{AsmFault}
 use Rattle.x7_listing.specs.declared.assembler.AsmFault.TheVariants as fault

@@ -15,9 +15,8 @@ use Rattle.x7_text.specs.Reads.{StaysWithin}
 use Rattle.x7_text.proofs.SplitLemmas.{split_line}
 use Rattle.x7_listing.specs.Assembly.{assembled, with_line}
 use Rattle.x7_listing.specs.Assembling.{asm_state, TextsAreRead, OpensText, TakesFirst, TakesLines}
-use Rattle.x7_listing.specs.Line.{Line, line_bytes, FitsLine, IsListed, text_of}
-use Rattle.x7_listing.specs.Listed.{ended_text, ended_texts}
-use Rattle.x7_listing.proofs.RoundLemmas.{line_free, same_bytes}
+use Rattle.x7_listing.specs.Line.{Line, line_bytes, FitsLine, IsListed, text_of, ended_text, ended_texts}
+use Rattle.x7_listing.proofs.line.LineTextLemmas.{line_free, same_bytes}
 
 texts_ahead : (ls : List Line) (rest : List ℕ) → AllByRecursion FitsLine ls → AllByRecursion IsListed ls → split (ended_texts ls ++ rest) ≡ map text_of ls ++ split rest
 texts_ahead [] rest f i = refl
