@@ -11,6 +11,7 @@ use Rattle.x7_text.specs.Digits.{hex_byte, hex_word}
 use Rattle.x7_text.specs.Row.{spaced}
 use Rattle.x7_packets.specs.PacketWords.{type1_read, type1_write, type2_read, type2_write}
 use Rattle.x7_listing.specs.Line.{Line, Empty, Comment, Bytes, Sync, Nop, Write, Read, Write2, Read2, Word, Data, Cmd, Check, access_text, line_bytes, FitsLine, IsAccess, IsLine, IsPlain, text_of}
+use Rattle.x7_listing.specs.OneWord.{IsWordOf, PutsWord}
 use Rattle.x7_text.specs.Row.{IsByteRow, IsWordRow}
 use Rattle.x7_text.specs.Reads.{Reads}
 use Rattle.x7_text.specs.DigitValue.{bytes_value, word_value}
@@ -28,6 +29,13 @@ lift fits text bytes check word line false t rest old new e into from texts byte
   r.1,
 )
 
+-- a text read as a word, whose bytes were appended
+found_read : {A : Type 0} (fits : A → Type 0) (text : A → List ℕ) (word : A → ℕ) (found : Option ℕ) (b : Bool) (t old new : List ℕ) → IsWordOf fits text word t found → PutsWord found b old new → Reads fits text (λ x. bytes_of_word (word x)) b t old new
+found_read fits text word None true t old new i p = absurd (let e : true ≡ false = p.0 in cc)
+found_read fits text word None false t old new i p = (i, p.1)
+found_read fits text word (Some w) true t old new i p = (i.0, i.1, i.2, p.1 ∙ ap (λ (v : ℕ). old ++ bytes_of_word v) i.3)
+found_read fits text word (Some w) false t old new i p = absurd (let e : false ≡ true = p.0 in cc)
+
 module _ (check : ℕ) (b : Bool) (t rest old new : List ℕ) where
   pub data_line : t ≡ codes "data" ++ rest → Reads IsWordRow (flat_map spaced) (flat_map bytes_of_word) b rest old new → Reads FitsLine text_of (line_bytes check) b t old new
   data_line e r = lift IsWordRow (flat_map spaced) (flat_map bytes_of_word) check (codes "data") Data b t rest old new e (λ x h. h) (λ x h. h) (λ x. refl) (λ x. refl) (λ l i. (words_value rest, line_is _ l i)) r
@@ -35,51 +43,53 @@ module _ (check : ℕ) (b : Bool) (t rest old new : List ℕ) where
   pub bytes_line : t ≡ codes "bytes " ++ rest → Reads IsByteRow (flat_map hex_byte) (λ (bs : List ℕ). bs) b rest old new → Reads FitsLine text_of (line_bytes check) b t old new
   bytes_line e r = lift IsByteRow (flat_map hex_byte) (λ (bs : List ℕ). bs) check (codes "bytes ") Bytes b t rest old new e (λ x h. h) (λ x h. h) (λ x. refl) (λ x. refl) (λ l i. (bytes_value rest, line_is _ l i)) r
 
-  pub word_line : t ≡ codes "word " ++ rest → Reads (λ w. w < 2 ^ 32) hex_word bytes_of_word b rest old new → Reads FitsLine text_of (line_bytes check) b t old new
-  word_line e r = lift (λ w. w < 2 ^ 32) hex_word bytes_of_word check (codes "word ") Word b t rest old new e (λ x h. h) (λ x h. h) (λ x. refl) (λ x. refl) (λ l i. (word_value rest, line_is _ l i)) r
+  -- a word after a line's first word
+  module _ (found : Option ℕ) (put : PutsWord found b old new) where
+    pub word_line : t ≡ codes "word " ++ rest → IsWordOf (λ w. w < 2 ^ 32) hex_word (λ w. w) rest found → Reads FitsLine text_of (line_bytes check) b t old new
+    word_line e i = lift (λ w. w < 2 ^ 32) hex_word bytes_of_word check (codes "word ") Word b t rest old new e (λ x h. h) (λ x h. h) (λ x. refl) (λ x. refl) (λ l i. (word_value rest, line_is _ l i)) (found_read (λ w. w < 2 ^ 32) hex_word (λ w. w) found b rest old new i put)
 
-  pub cmd_line : t ≡ codes "cmd " ++ rest → Reads (λ (c : Command). Unit {0}) command_name_of (λ c. bytes_of_word (code_of c)) b rest old new → Reads FitsLine text_of (line_bytes check) b t old new
-  cmd_line e r = lift (λ (c : Command). Unit {0}) command_name_of (λ c. bytes_of_word (code_of c)) check (codes "cmd ") Cmd b t rest old new e (λ x h. h) (λ x h. h) (λ x. refl) (λ x. refl) (λ l i. (command_with (place_in command_names rest), line_is _ l i)) r
+    pub cmd_line : t ≡ codes "cmd " ++ rest → IsWordOf (λ (c : Command). Unit {0}) command_name_of code_of rest found → Reads FitsLine text_of (line_bytes check) b t old new
+    cmd_line e i = lift (λ (c : Command). Unit {0}) command_name_of (λ c. bytes_of_word (code_of c)) check (codes "cmd ") Cmd b t rest old new e (λ x h. h) (λ x h. h) (λ x. refl) (λ x. refl) (λ l i. (command_with (place_in command_names rest), line_is _ l i)) (found_read (λ (c : Command). Unit {0}) command_name_of code_of found b rest old new i put)
 
-  pub write_line : t ≡ codes "write " ++ rest → Reads IsAccess access_text (λ (a : ℕ × ℕ). bytes_of_word (type1_write a.0 a.1)) b rest old new → Reads FitsLine text_of (line_bytes check) b t old new
-  write_line e r = lift IsAccess access_text (λ (a : ℕ × ℕ). bytes_of_word (type1_write a.0 a.1)) check (codes "write ") (λ (a : ℕ × ℕ). Write a.0 a.1) b t rest old new e (λ x h. h) (λ x h. h) (λ x. refl) (λ x. refl) (λ l i. ((register_in rest, count_in rest), line_is _ l i)) r
+    pub write_line : t ≡ codes "write " ++ rest → IsWordOf IsAccess access_text (λ (a : ℕ × ℕ). type1_write a.0 a.1) rest found → Reads FitsLine text_of (line_bytes check) b t old new
+    write_line e i = lift IsAccess access_text (λ (a : ℕ × ℕ). bytes_of_word (type1_write a.0 a.1)) check (codes "write ") (λ (a : ℕ × ℕ). Write a.0 a.1) b t rest old new e (λ x h. h) (λ x h. h) (λ x. refl) (λ x. refl) (λ l i. ((register_in rest, count_in rest), line_is _ l i)) (found_read IsAccess access_text (λ (a : ℕ × ℕ). type1_write a.0 a.1) found b rest old new i put)
 
-  pub read_line : t ≡ codes "read " ++ rest → Reads IsAccess access_text (λ (a : ℕ × ℕ). bytes_of_word (type1_read a.0 a.1)) b rest old new → Reads FitsLine text_of (line_bytes check) b t old new
-  read_line e r = lift IsAccess access_text (λ (a : ℕ × ℕ). bytes_of_word (type1_read a.0 a.1)) check (codes "read ") (λ (a : ℕ × ℕ). Read a.0 a.1) b t rest old new e (λ x h. h) (λ x h. h) (λ x. refl) (λ x. refl) (λ l i. ((register_in rest, count_in rest), line_is _ l i)) r
+    pub read_line : t ≡ codes "read " ++ rest → IsWordOf IsAccess access_text (λ (a : ℕ × ℕ). type1_read a.0 a.1) rest found → Reads FitsLine text_of (line_bytes check) b t old new
+    read_line e i = lift IsAccess access_text (λ (a : ℕ × ℕ). bytes_of_word (type1_read a.0 a.1)) check (codes "read ") (λ (a : ℕ × ℕ). Read a.0 a.1) b t rest old new e (λ x h. h) (λ x h. h) (λ x. refl) (λ x. refl) (λ l i. ((register_in rest, count_in rest), line_is _ l i)) (found_read IsAccess access_text (λ (a : ℕ × ℕ). type1_read a.0 a.1) found b rest old new i put)
 
-  pub write2_line : t ≡ codes "write2 " ++ rest → Reads (λ n. n < 2 ^ 27) decimal (λ n. bytes_of_word (type2_write n)) b rest old new → Reads FitsLine text_of (line_bytes check) b t old new
-  write2_line e r = lift (λ n. n < 2 ^ 27) decimal (λ n. bytes_of_word (type2_write n)) check (codes "write2 ") Write2 b t rest old new e (λ x h. h) (λ x h. h) (λ x. refl) (λ x. refl) (λ l i. (decimal_after 0 rest, line_is _ l i)) r
+    pub write2_line : t ≡ codes "write2 " ++ rest → IsWordOf (λ n. n < 2 ^ 27) decimal type2_write rest found → Reads FitsLine text_of (line_bytes check) b t old new
+    write2_line e i = lift (λ n. n < 2 ^ 27) decimal (λ n. bytes_of_word (type2_write n)) check (codes "write2 ") Write2 b t rest old new e (λ x h. h) (λ x h. h) (λ x. refl) (λ x. refl) (λ l i. (decimal_after 0 rest, line_is _ l i)) (found_read (λ n. n < 2 ^ 27) decimal type2_write found b rest old new i put)
 
-  pub read2_line : t ≡ codes "read2 " ++ rest → Reads (λ n. n < 2 ^ 27) decimal (λ n. bytes_of_word (type2_read n)) b rest old new → Reads FitsLine text_of (line_bytes check) b t old new
-  read2_line e r = lift (λ n. n < 2 ^ 27) decimal (λ n. bytes_of_word (type2_read n)) check (codes "read2 ") Read2 b t rest old new e (λ x h. h) (λ x h. h) (λ x. refl) (λ x. refl) (λ l i. (decimal_after 0 rest, line_is _ l i)) r
+    pub read2_line : t ≡ codes "read2 " ++ rest → IsWordOf (λ n. n < 2 ^ 27) decimal type2_read rest found → Reads FitsLine text_of (line_bytes check) b t old new
+    read2_line e i = lift (λ n. n < 2 ^ 27) decimal (λ n. bytes_of_word (type2_read n)) check (codes "read2 ") Read2 b t rest old new e (λ x h. h) (λ x h. h) (λ x. refl) (λ x. refl) (λ l i. (decimal_after 0 rest, line_is _ l i)) (found_read (λ n. n < 2 ^ 27) decimal type2_read found b rest old new i put)
 
 -- the text begins with this word
 abbrev pub NotAfter : List ℕ → List ℕ → Type 0
 NotAfter word t = (rest : List ℕ) → t ≢ word ++ rest
 
--- a text that begins with none of the words is that of a plain line, if of any
+-- a text that begins with none of the words, and isn't `nop`, is that of a plain line, if of any
 pub only_plain : (t : List ℕ) → NotAfter (codes "data") t → NotAfter (codes "bytes ") t → NotAfter (codes "word ") t → NotAfter (codes "cmd ") t → NotAfter (codes "write ") t → NotAfter (codes "read ") t
-    → NotAfter (codes "write2 ") t → NotAfter (codes "read2 ") t → NotAfter (codes "#") t → (l : Line) → FitsLine l → t ≡ text_of l → IsPlain l
-only_plain t d b w c wr re w2 r2 co Empty h e = tt
-only_plain t d b w c wr re w2 r2 co (Comment text) h e = absurd (co text e)
-only_plain t d b w c wr re w2 r2 co (Bytes bs) h e = absurd (b (flat_map hex_byte bs) e)
-only_plain t d b w c wr re w2 r2 co Sync h e = tt
-only_plain t d b w c wr re w2 r2 co Nop h e = tt
-only_plain t d b w c wr re w2 r2 co (Write n k) h e = absurd (wr (access_text (n, k)) e)
-only_plain t d b w c wr re w2 r2 co (Read n k) h e = absurd (re (access_text (n, k)) e)
-only_plain t d b w c wr re w2 r2 co (Write2 k) h e = absurd (w2 (decimal k) e)
-only_plain t d b w c wr re w2 r2 co (Read2 k) h e = absurd (r2 (decimal k) e)
-only_plain t d b w c wr re w2 r2 co (Word x) h e = absurd (w (hex_word x) e)
-only_plain t d b w c wr re w2 r2 co (Data ws) h e = absurd (d (flat_map spaced ws) e)
-only_plain t d b w c wr re w2 r2 co (Cmd x) h e = absurd (c (command_name_of x) e)
-only_plain t d b w c wr re w2 r2 co Check h e = tt
+    → NotAfter (codes "write2 ") t → NotAfter (codes "read2 ") t → NotAfter (codes "#") t → t ≢ codes "nop" → (l : Line) → FitsLine l → t ≡ text_of l → IsPlain l
+only_plain t d b w c wr re w2 r2 co np Empty h e = tt
+only_plain t d b w c wr re w2 r2 co np (Comment text) h e = absurd (co text e)
+only_plain t d b w c wr re w2 r2 co np (Bytes bs) h e = absurd (b (flat_map hex_byte bs) e)
+only_plain t d b w c wr re w2 r2 co np Sync h e = tt
+only_plain t d b w c wr re w2 r2 co np Nop h e = absurd (np e)
+only_plain t d b w c wr re w2 r2 co np (Write n k) h e = absurd (wr (access_text (n, k)) e)
+only_plain t d b w c wr re w2 r2 co np (Read n k) h e = absurd (re (access_text (n, k)) e)
+only_plain t d b w c wr re w2 r2 co np (Write2 k) h e = absurd (w2 (decimal k) e)
+only_plain t d b w c wr re w2 r2 co np (Read2 k) h e = absurd (r2 (decimal k) e)
+only_plain t d b w c wr re w2 r2 co np (Word x) h e = absurd (w (hex_word x) e)
+only_plain t d b w c wr re w2 r2 co np (Data ws) h e = absurd (d (flat_map spaced ws) e)
+only_plain t d b w c wr re w2 r2 co np (Cmd x) h e = absurd (c (command_name_of x) e)
+only_plain t d b w c wr re w2 r2 co np Check h e = tt
 
 plain_fits : (l : Line) → IsPlain l → FitsLine l
 plain_fits Empty h = tt
 plain_fits (Comment text) h = tt
 plain_fits (Bytes bs) h = absurd h
 plain_fits Sync h = tt
-plain_fits Nop h = tt
+plain_fits Nop h = absurd h
 plain_fits (Write n k) h = absurd h
 plain_fits (Read n k) h = absurd h
 plain_fits (Write2 k) h = absurd h

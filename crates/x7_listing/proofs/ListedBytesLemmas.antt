@@ -1,10 +1,9 @@
 -- The lines of a listing stand for the bytes that it is of.
 use Rattle.std.proofs.Common.{◌≡◌, ℕ, ◌/◌, ◌%◌, ◌^◌, ◌<◌, ◌==◌, if◌then◌else◌, Bool, true, false, List, [], ◌∷◌, ◌++◌, None, map, refl, ap, ap₂, sym, subst, ◌∙◌, arith, append_assoc}
-use Rattle.std.proofs.lemmas.Grind.{common_steps, flat_map-append}
+use Rattle.std.proofs.lemmas.Grind.{flat_map-append}
 use Rattle.std.specs.List.{AllByRecursion, flat_map}
 use Rattle.x7_words.specs.Word.{AreBytes, AreWords, bytes_of_word}
 use Rattle.x7_words.proofs.ListLemmas.{all_append, all_back, all_prefix}
-use Rattle.x7_regs.specs.Command.{code_of, command_by}
 use Rattle.x7_packets.specs.Packet.{named_by, Packet, register_of, type_and_opcode_of, words}
 use Rattle.x7_packets.specs.PacketWords.{no_op, sync_word, type1_read, type1_write, type2_read_kind, type2_write_kind}
 use Rattle.x7_packets.specs.Reading.{IsPlace, IsReading, IsSession, packet_bytes, Place, place_bytes, Searching, Session, session_bytes, Synced}
@@ -19,11 +18,9 @@ use Rattle.x7_text.proofs.RowLemmas.{rows_full, rows_joined}
 use Rattle.x7_listing.specs.HeadLine.{best_line, line_of_head, line_word}
 use Rattle.x7_listing.specs.declared.line.head_line.HeadLine.{HeadLine}
 use Rattle.x7_listing.specs.declared.line.head_line.HeadLine.TheVariants as head
-use Rattle.x7_listing.specs.Line.{Line, Bytes, Sync, Data, Cmd, line_bytes, FitsLine, IsListed}
-use Rattle.x7_listing.specs.Listed.{cmd_line, gap_lines, line_as, listing_lines, packet_lines, packets_lines, payload_lines, place_lines, session_lines}
-
-abbrev pub Listed : Line → Type 0
-Listed l = FitsLine l × IsListed l
+use Rattle.x7_listing.specs.Line.{Line, Bytes, Sync, Data, line_bytes, cmd_line}
+use Rattle.x7_listing.specs.Listed.{gap_lines, line_as, listing_lines, packet_lines, packets_lines, payload_lines, place_lines, session_lines}
+use Rattle.x7_listing.proofs.line.LineTextLemmas.{Listed, IsLineOf, cmd_stands, is_eq}
 
 -- each is a line of a listing, and these are their bytes
 pub record Stands (lines : List Line) (bytes : List ℕ) : Type 0 where
@@ -66,20 +63,6 @@ data_stands : (ws : List ℕ) → AreWords ws → Stands (map Data (rows 8 ws)) 
 data_stands ws a =
     let same : joined (rows 8 ws) ≡ ws = rows_joined 8 [] ws in
     stands_for (map Data (rows 8 ws)) (flat_map bytes_of_word (joined (rows 8 ws))) (flat_map bytes_of_word ws) (ap (flat_map bytes_of_word) same) (word_rows (rows 8 ws) (rows_full 8 [] ws (omega arith)) (subst (λ t. AreWords t) (sym same) a))
-
-pub is_eq : (a b : ℕ) → (a == b) ≡ true → a ≡ b
-is_eq a b e = grind (arith, common_steps)
-
--- the line of a word in a header's place stands for the word
-abbrev pub IsLineOf : ℕ → Line → Type 0
-IsLineOf w l = (line_bytes 0 l ≡ bytes_of_word w) × Listed l
-
-cmd_by : (b : Bool) (w : ℕ) → w < 2 ^ 32 → (b ≡ true → code_of (command_by w) ≡ w) → IsLineOf w (if b then Cmd (command_by w) else Data (w ∷ []))
-cmd_by true w h e = (ap bytes_of_word (e refl), (tt, tt))
-cmd_by false w h e = (refl, (((h, tt), omega arith, omega arith), tt))
-
-pub cmd_stands : (w : ℕ) → w < 2 ^ 32 → IsLineOf w (cmd_line w)
-cmd_stands w h = cmd_by (code_of (command_by w) == w) w h (is_eq (code_of (command_by w)) w)
 
 cmds_stand : (ws : List ℕ) → AreWords ws → Stands (map cmd_line ws) (flat_map bytes_of_word ws)
 cmds_stand [] a = none_stand

@@ -6,15 +6,14 @@ use Rattle.std.specs.List.{flat_map}
 use Rattle.x7_packets.specs.Packet.{Packet, named_by}
 use Rattle.x7_packets.specs.Reading.{Place, Searching, Synced, Session}
 use Rattle.x7_packets.specs.ByHand.{reading_of}
-use Rattle.x7_regs.specs.Command.{code_of, command_by, command_name_of}
-use Rattle.x7_text.specs.Digits.{hex_word}
 use Rattle.x7_text.specs.Row.{bytes_text, data_text, rows}
 use Rattle.x7_listing.specs.HeadLine.{command_line, line_of_head, line_text}
 use Rattle.x7_listing.specs.Listing.{listing_of, packet_text, packets_text, place_text, session_text}
 use Rattle.x7_listing.specs.declared.line.head_line.HeadLine.{HeadLine}
 use Rattle.x7_listing.specs.declared.line.head_line.HeadLine.TheVariants as head
-use Rattle.x7_listing.specs.Line.{Line, Bytes, Cmd, Data, Sync}
-use Rattle.x7_listing.specs.Listed.{cmd_line, ended_text, gap_lines, line_as, listing_lines, packet_lines, packets_lines, place_lines, session_lines, ended_texts}
+use Rattle.x7_listing.specs.Line.{Line, Bytes, Data, Sync, cmd_line, ended_text, ended_texts}
+use Rattle.x7_listing.specs.Listed.{gap_lines, line_as, listing_lines, packet_lines, packets_lines, place_lines, session_lines}
+use Rattle.x7_listing.proofs.line.LineTextLemmas.{cmd_text}
 
 head_text : (h : HeadLine) → ended_text (line_as h) ≡ line_text h
 head_text head.Nop = refl
@@ -30,13 +29,6 @@ gap_text bs = flat_map-map ended_text Bytes (rows 32 bs)
 
 data_text_is : (ws : List ℕ) → ended_texts (map Data (rows 8 ws)) ≡ data_text ws
 data_text_is ws = flat_map-map ended_text Data (rows 8 ws)
-
-cmd_by : (b : Bool) (w : ℕ) → ended_text (if b then Cmd (command_by w) else Data (w ∷ [])) ≡ (if b then codes "cmd " ++ command_name_of (command_by w) ++ 10 ∷ [] else codes "data " ++ hex_word w ++ 10 ∷ [])
-cmd_by true w = refl
-cmd_by false w = refl
-
-pub cmd_text : (w : ℕ) → ended_text (cmd_line w) ≡ command_line w
-cmd_text w = cmd_by (code_of (command_by w) == w) w
 
 flat_map_same : {X : Type 0} (f g : X → List ℕ) → ((x : X) → f x ≡ g x) → (xs : List X) → flat_map f xs ≡ flat_map g xs
 flat_map_same f g e [] = refl

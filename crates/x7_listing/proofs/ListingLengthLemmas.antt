@@ -29,13 +29,14 @@ use Rattle.x7_listing.specs.BitLine.{bit_text, field_text}
 use Rattle.x7_listing.specs.HeadLine.{line_of_head}
 use Rattle.x7_listing.specs.declared.line.head_line.HeadLine.{HeadLine}
 use Rattle.x7_listing.specs.declared.line.head_line.HeadLine.TheVariants as head
-use Rattle.x7_listing.specs.Line.{Line, Bytes, Cmd, Comment, Check, Data, Empty, Nop, Read, Read2, Sync, Word, Write, Write2, line_bytes, FitsLine}
-use Rattle.x7_listing.specs.Listed.{cmd_line, ended_text, gap_lines, line_as, packet_lines, packets_lines, place_lines, session_lines, ended_texts}
+use Rattle.x7_listing.specs.Line.{Line, Bytes, Cmd, Comment, Check, Data, Empty, Nop, Read, Read2, Sync, Word, Write, Write2, line_bytes, FitsLine, cmd_line, ended_text, ended_texts}
+use Rattle.x7_listing.specs.Listed.{gap_lines, line_as, packet_lines, packets_lines, place_lines, session_lines}
 use Rattle.x7_listing.specs.Listing.{listing_of}
 use Rattle.x7_listing.specs.StreamListing.{listing_by, stream_listing}
 use Rattle.x7_listing.proofs.GuessLemmas.{each_holds, each_name}
 use Rattle.x7_listing.proofs.ListedLemmas.{listing_text_is}
-use Rattle.x7_listing.proofs.ListedBytesLemmas.{Listed, listing_stands}
+use Rattle.x7_listing.proofs.ListedBytesLemmas.{listing_stands}
+use Rattle.x7_listing.proofs.line.LineTextLemmas.{Listed}
 
 -- names are short
 few : List ℕ → ℕ → Bool

@@ -25,11 +25,13 @@ synced_pen run synced s2 line l2 l3 held h2 all all2 e f w = subst (λ s. Writes
 longer : (given old new more : List ℕ) → new ≡ old ++ more → given ++ new ≡ given ++ old ++ more
 longer given old new more e = ap (λ x. given ++ x) e ∙ sym (append_assoc given old more)
 
-pub by_sync : (run : Cut) (synced s2 : Bool) (line l2 : ℕ) (held h2 given old new : List ℕ) → run ≡ Sync → s2 ≡ true → l2 ≡ 0 → new ≡ old ++ (close line ++ codes "sync\n") → WritesRun run (written_of synced line held (given ++ old)) (written_of s2 l2 h2 (given ++ new))
-by_sync run synced s2 line l2 held h2 given old new is e f t =
-    let all2 : given ++ new ≡ given ++ old ++ close line ++ codes "sync\n" = ap (λ x. given ++ x) (t ∙ sym (append_assoc old (close line) (codes "sync\n"))) ∙ sym (append_assoc given (old ++ close line) (codes "sync\n")) ∙ ap (λ x. x ++ codes "sync\n") (sym (append_assoc given old (close line))) in
+pub by_sync : (run : Cut) (synced s2 : Bool) (line l2 from : ℕ) (held h2 given old new : List ℕ) → run ≡ Sync → (synced ≡ false → from ≡ line) → s2 ≡ true → l2 ≡ 0 → new ≡ old ++ (close from ++ codes "sync\n")
+    → WritesRun run (written_of synced line held (given ++ old)) (written_of s2 l2 h2 (given ++ new))
+by_sync run synced s2 line l2 from held h2 given old new is same e f t =
+    let all2 : given ++ new ≡ given ++ old ++ close from ++ codes "sync\n" = ap (λ x. given ++ x) (t ∙ sym (append_assoc old (close from) (codes "sync\n"))) ∙ sym (append_assoc given (old ++ close from) (codes "sync\n")) ∙ ap (λ x. x ++ codes "sync\n") (sym (append_assoc given old (close from))) in
     as_run run Sync synced s2 line l2 held h2 (given ++ old) (given ++ new) is (synced_pen Sync synced s2 line l2 0 held h2 (given ++ old) (given ++ new) e f
-    (λ before bytes sessions new_sessions spot np o n listed adds turns is_run reading. sync_listed synced line held h2 (given ++ old) (given ++ new) before sessions new_sessions spot np o n listed adds turns all2))
+    (λ before bytes sessions new_sessions spot np o n listed adds turns is_run reading. sync_listed synced line held h2 (given ++ old) (given ++ new) before sessions new_sessions spot np o n listed adds turns
+    (λ s. all2 ∙ ap (λ (k : ℕ). given ++ old ++ close k ++ codes "sync\n") (same s))))
 
 not_payload : (w : ℕ) (s : Step) → IsRun (Head w s) → (r x : ℕ) → s ≡ Payload r x → ⊥
 not_payload w (Payload a b) h r x e = h

@@ -6,8 +6,6 @@ use Rattle.x7_packets.specs.Packet.{Packet, EachPacket, IsPacket, latest_after, 
 use Rattle.x7_packets.specs.declared.header.Step.{Step}
 use Rattle.x7_packets.specs.declared.header.Step.TheVariants.{Filler, Nop, Open, Payload, Read, Bad}
 use Rattle.x7_packets.proofs.PacketLemmas.{no_payload}
-use Rattle.x7_regs.specs.Command.{code_of, command_by}
-use Rattle.x7_text.specs.Digits.{hex_word}
 use Rattle.x7_text.specs.Row.{close, element_text, in_line_after, next_in_line, open_text, spaced}
 use Rattle.x7_text.proofs.LineLemmas.{data_closed}
 use Rattle.x7_listing.specs.HeadLine.{command_line, text_of_head}
@@ -89,13 +87,6 @@ session_closed l i (p ∷ ps) e =
     ∙ ap (λ k. open_words i (stepped p) ++ open_words (words_place i (stepped p)) rest ++ close k) (words_place_append i (stepped p) rest)
     ∙ session_glue (open_words i (stepped p)) (open_words (words_place i (stepped p)) rest) (close (words_place (words_place i (stepped p)) rest)) (close (words_place i (stepped p))) (flat_map packet_text ps) (close i) (packet_text p)
     (session_closed (latest_after l p.step) (words_place i (stepped p)) ps s.1) (packet_closed l i p s.0)
-
-tests_false : (a b : ℕ) → (a ≡ b → ⊥) → (a == b) ≡ false
-tests_false a b c = grind (arith, nat_tests)
-
--- a payload word of CMD that is no command's code
-pub word_line : (w : ℕ) → (code_of (command_by w) ≡ w → ⊥) → command_line w ≡ codes "data " ++ hex_word w ++ 10 ∷ []
-word_line w c = rw (tests_false (code_of (command_by w)) w c) refl
 
 -- a register other than CMD
 pub is_data : (register : ℕ) → (register ≡ 4 → ⊥) → (register == 4) ≡ false

@@ -18,7 +18,8 @@ use Rattle.x7_listing.specs.Line.{Line, FitsLine, text_of}
 use Rattle.x7_listing.specs.Listing.{listing_of}
 use Rattle.x7_listing.specs.StreamListing.{listing_by, stream_listing}
 use Rattle.x7_listing.proofs.BitLemmas.{no_line}
-use Rattle.x7_listing.proofs.RoundLemmas.{decimal_free, round_trip}
+use Rattle.x7_listing.proofs.RoundLemmas.{round_trip}
+use Rattle.x7_listing.proofs.line.LineTextLemmas.{decimal_free}
 
 -- a header's line holds no line end
 field_free : (bs : List ℕ) → has_no_end (field_text bs) ≡ true

@@ -61,13 +61,13 @@ found_gap all start line held gap g =
     gap_closed all start line g.prefix g.listed g.count ∙ ap (λ t. start ++ bytes_text t) (sym same)
 
 pub sync_listed : (synced : Bool) (line : ℕ) (held held2 all all2 before : List ℕ) (sessions new_sessions : List Session) (at np : Place) (old new : Mode)
-    → HasListed (written_of synced line held all) before sessions at old → Adds Sync sessions at new_sessions np → Turns Sync old new np → all2 ≡ all ++ close line ++ codes "sync\n" → HasListed (written_of true 0 held2 all2) before new_sessions np new
+    → HasListed (written_of synced line held all) before sessions at old → Adds Sync sessions at new_sessions np → Turns Sync old new np → (synced ≡ false → all2 ≡ all ++ close line ++ codes "sync\n") → HasListed (written_of true 0 held2 all2) before new_sessions np new
 sync_listed synced line held held2 all all2 before sessions new_sessions (Searching gap) np old new t a m e = absurd a
 sync_listed true line held held2 all all2 before sessions new_sessions (Synced gap packets tail) np old new t a m e = absurd (t.0 m.0)
 sync_listed false line held held2 all all2 before sessions new_sessions (Synced gap packets tail) np old new t a m e =
     let start : List ℕ = before ++ flat_map session_text sessions in
     let session : SessionListed all2 start 0 gap [] = record {
-      listed = e ∙ ap (λ t. t ++ codes "sync\n") (found_gap all start line held gap t.3) ∙ sym (append-nil (start ++ bytes_text gap ++ codes "sync\n"));
+      listed = e refl ∙ ap (λ t. t ++ codes "sync\n") (found_gap all start line held gap t.3) ∙ sym (append-nil (start ++ bytes_text gap ++ codes "sync\n"));
       count = refl;
     } in
     same_sessions true 0 held2 all2 before sessions new_sessions np new a.2 (subst (λ p. HasListedAt (written_of true 0 held2 all2) start p new) (sym a.3) (m.1, session))

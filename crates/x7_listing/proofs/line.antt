@@ -1,1 +1,2 @@
+pub mod LineTextLemmas
 pub mod TablesLemmas

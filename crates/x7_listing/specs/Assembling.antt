@@ -1,11 +1,11 @@
 -- A text that is assembled line by line: what its lines gave so far (this project's choice).
-use Rattle.std.specs.Prelude.{◌≡◌, ◌⊎◌, ℕ, ◌+◌, ◌-◌, ◌<◌, ◌≤◌, Bool, true, false, List, [], ◌∷◌, ◌++◌, drop, take, length, Ok, Err}
+use Rattle.std.specs.Prelude.{◌≡◌, ◌⊎◌, ℕ, ◌+◌, ◌-◌, ◌<◌, ◌≤◌, Bool, true, false, List, [], ◌∷◌, ◌++◌, drop, take, length, Ok, Err, Vec, vec_len, vec_capacity}
+use Rattle.std.specs.declared.alloc.Global.{Global}
 use Rattle.std.specs.List.{AllByRecursion, flat_map}
 use Rattle.x7_crc.specs.Checking.{CheckerState, Keeps}
 use Rattle.x7_header.specs.Header.{Contents, header_bytes, longest_header}
 use Rattle.x7_listing.specs.BitLine.{bit_text, IsHeld}
-use Rattle.x7_listing.specs.Line.{Line, line_bytes, FitsLine, IsListed}
-use Rattle.x7_listing.specs.Listed.{ended_texts}
+use Rattle.x7_listing.specs.Line.{Line, line_bytes, FitsLine, IsListed, ended_texts}
 use Rattle.x7_listing.specs.Assembly.{AreHeadedAsm, asm_limit, assembled, BeginsWithLines, HasNoHeaderLine}
 use Rattle.x7_listing.specs.declared.assembler.AsmFault.{AsmFault}
 use Rattle.x7_listing.specs.declared.assembler.AsmFault.TheVariants as fault
@@ -53,6 +53,10 @@ pub record Output : Type 0 where
   pub start : ℕ
   pub checker : CheckerState
   pub room : ℕ
+
+-- there is room in a vector for the bytes of a line, 32 at most
+abbrev pub HasRoomForLine : Vec ℕ Global → Type 0
+HasRoomForLine out = vec_len out + 32 ≤ vec_capacity out
 
 -- there is room for the bytes of one line more, 32 at most
 abbrev pub HasLineRoom : Output → Type 0

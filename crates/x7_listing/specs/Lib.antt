@@ -7,6 +7,7 @@ pub mod Line
 pub mod Listed
 pub mod ListerOfRuns
 pub mod Listing
+pub mod OneWord
 pub mod Pens
 pub mod StreamListing
 pub mod Telling

@@ -1,9 +1,9 @@
 -- The lines of an assembly text, the text of each and the bytes that it stands for (this project's choice).
-use Rattle.std.specs.Prelude.{◌≡◌, ℕ, ◌^◌, ◌<◌, List, [], ◌∷◌, ◌++◌, codes, decimal}
+use Rattle.std.specs.Prelude.{◌≡◌, ℕ, ◌==◌, ◌^◌, ◌<◌, if◌then◌else◌, List, [], ◌∷◌, ◌++◌, codes, decimal}
 use Rattle.std.specs.List.{flat_map}
 use Rattle.x7_words.specs.Word.{bytes_of_word}
 use Rattle.x7_regs.specs.Register.{number_of, reg_name}
-use Rattle.x7_regs.specs.Command.{code_of, command_name_of}
+use Rattle.x7_regs.specs.Command.{code_of, command_by, command_name_of}
 use Rattle.x7_regs.specs.declared.command.Command.{Command}
 use Rattle.x7_regs.specs.declared.register.Reg.TheVariants.{Crc}
 use Rattle.x7_packets.specs.PacketWords.{no_op, sync_word, type1_read, type1_write, type2_read, type2_write}
@@ -50,11 +50,10 @@ IsAccess a = (a.0 < 32) × (a.1 < 2 ^ 11)
 abbrev pub access_text : ℕ × ℕ → List ℕ
 access_text a = reg_name a.0 ++ 32 ∷ decimal a.1
 
--- a line that is one word, or empty
+-- a line that is empty, `sync` or `crc`
 abbrev pub IsPlain : Line → Type 0
 IsPlain Empty = Unit {0}
 IsPlain Sync = Unit {0}
-IsPlain Nop = Unit {0}
 IsPlain Check = Unit {0}
 IsPlain _ = ⊥
 
@@ -95,3 +94,15 @@ abbrev pub IsListed : Line → Type 0
 IsListed (Comment text) = ⊥
 IsListed Check = ⊥
 IsListed _ = Unit {0}
+
+-- the line of a payload word of CMD
+abbrev pub cmd_line : ℕ → Line
+cmd_line w = if code_of (command_by w) == w then Cmd (command_by w) else Data (w ∷ [])
+
+-- the text of a line with its end
+abbrev pub ended_text : Line → List ℕ
+ended_text l = text_of l ++ 10 ∷ []
+
+-- the texts of lines, each with its end
+abbrev pub ended_texts : List Line → List ℕ
+ended_texts ls = flat_map ended_text ls

@@ -1,25 +1,16 @@
 -- The lines of a listing (this project's choice).
-use Rattle.std.specs.Prelude.{ℕ, ◌==◌, if◌then◌else◌, List, [], ◌∷◌, ◌++◌, map}
+use Rattle.std.specs.Prelude.{ℕ, ◌==◌, if◌then◌else◌, List, ◌∷◌, ◌++◌, map}
 use Rattle.std.specs.List.{flat_map}
 use Rattle.x7_packets.specs.Packet.{Packet, named_by}
 use Rattle.x7_packets.specs.Reading.{Place, Searching, Synced, Session}
 use Rattle.x7_packets.specs.ByHand.{reading_of}
-use Rattle.x7_regs.specs.Command.{code_of, command_by}
 use Rattle.x7_regs.specs.Register.{number_of}
 use Rattle.x7_regs.specs.declared.register.Reg.TheVariants.{Cmd}
 use Rattle.x7_text.specs.Row.{rows}
 use Rattle.x7_listing.specs.HeadLine.{line_of_head}
 use Rattle.x7_listing.specs.declared.line.head_line.HeadLine.{HeadLine}
 use Rattle.x7_listing.specs.declared.line.head_line.HeadLine.TheVariants as head
-use Rattle.x7_listing.specs.Line.{Line, Bytes, Sync, Nop, Write, Read, Write2, Read2, Word, Data, Cmd, text_of}
-
--- the text of a line with its end
-abbrev pub ended_text : Line → List ℕ
-ended_text l = text_of l ++ 10 ∷ []
-
--- the texts of lines, each with its end
-abbrev pub ended_texts : List Line → List ℕ
-ended_texts ls = flat_map ended_text ls
+use Rattle.x7_listing.specs.Line.{Line, Bytes, Sync, Nop, Write, Read, Write2, Read2, Word, Data, cmd_line}
 
 -- a word's line in a header's place
 abbrev pub line_as : HeadLine → Line
@@ -30,10 +21,6 @@ line_as (head.Read register count) = Read register count
 line_as (head.Write2 count) = Write2 count
 line_as (head.Read2 count) = Read2 count
 line_as (head.Word w) = Word w
-
--- the line of a payload word of CMD
-abbrev pub cmd_line : ℕ → Line
-cmd_line w = if code_of (command_by w) == w then Cmd (command_by w) else Data (w ∷ [])
 
 -- the lines of a payload: one a word where the register is CMD, else one for each eight words
 abbrev pub payload_lines : ℕ → List ℕ → List Line

@@ -6,7 +6,7 @@ use Rattle.x7_packets.specs.declared.stream.Run.{Run}
 use Rattle.x7_packets.specs.declared.stream.Run.TheVariants as run
 use Rattle.x7_listing.specs.Telling.{Finished, ListerState, TakerStandsFor}
 
--- what a lister told of runs: the texts given before its own, the listings before, the bytes of the runs, and what is due after them
+-- what a lister of runs has listed: the texts given before its own, the listings before, the bytes of the runs, and what is due after them
 pub record RunsListed : Type 0 where
   pub given : List ℕ
   pub before : List ℕ
@@ -17,10 +17,10 @@ pub record RunsListed : Type 0 where
 abbrev pub runs_listed : List ℕ → List ℕ → List ℕ → Mode → RunsListed
 runs_listed given before bytes due = record { given = given; before = before; bytes = bytes; due = due }
 
--- a run was taken, with which the bytes told are listed; the end ends the listing
+-- a run was taken, with which these bytes are listed; the end ends the listing
 abbrev pub TakesRun : Run → ListerState → RunsListed → Type 0
-TakesRun run.End l told = Finished l told.given told.before told.bytes
-TakesRun r l told = TakerStandsFor l told.given told.before told.bytes told.due
+TakesRun run.End l listed = Finished l listed.given listed.before listed.bytes
+TakesRun r l listed = TakerStandsFor l listed.given listed.before listed.bytes listed.due
 
 -- the next run of a stream is taken
 abbrev pub TakesNext : Run → ListerState → ListerState → Type 0

@@ -1,5 +1,5 @@
 -- What a lister lists with its pen (this project's choice).
-use Rattle.std.specs.Prelude.{◌≡◌, List, ℕ, ◌++◌, take, true}
+use Rattle.std.specs.Prelude.{◌≡◌, Bool, List, [], ℕ, ◌++◌, take, false, true}
 use Rattle.x7_words.specs.Word.{bytes_of_word}
 use Rattle.x7_packets.specs.AtOnce.{TakesAsOneRun}
 use Rattle.x7_packets.specs.Cutting.{CutterState}
@@ -8,27 +8,51 @@ use Rattle.x7_packets.specs.declared.header.Step.{Step}
 use Rattle.x7_packets.specs.Reading.{Place, Session, tail_of}
 use Rattle.x7_listing.specs.Listing.{reading_text}
 use Rattle.x7_listing.specs.Telling.{GapListed, HasListedAll, ListerState, ListerStandsFor, HasListedJust, WrittenSoFar, lister_of, written_of}
+use Rattle.x7_listing.specs.declared.list.pen.state.GapPen.{GapPen}
 use Rattle.x7_listing.specs.declared.list.pen.state.Pen.{Pen}
+use Rattle.x7_listing.specs.declared.list.pen.state.Pen.TheVariants as pen
+
+-- whether the last bytes that a pen listed are a session's
+abbrev pub is_in_session : Pen → Bool
+is_in_session (pen.Gap gap) = false
+is_in_session (pen.Session in_line) = true
+is_in_session (pen.Tail in_line tail) = true
+
+-- how many elements stand in a pen's open line
+abbrev pub line_of : Pen → ℕ
+line_of (pen.Gap gap) = gap.line
+line_of (pen.Session in_line) = in_line.count
+line_of (pen.Tail in_line tail) = in_line.count
+
+-- the bytes that a pen holds: of a gap, or of no whole word at the end of a stream
+abbrev pub held_by : Pen → List ℕ
+held_by (pen.Gap gap) = take gap.count gap.held
+held_by (pen.Session in_line) = []
+held_by (pen.Tail in_line tail) = take tail.count tail.bytes
 
 -- a lister with this pen
 abbrev pub lister_with : CutterState → Pen → List ℕ → ListerState
-lister_with cutter pen text = lister_of cutter pen.synced pen.line (take pen.count pen.held) text
+lister_with cutter p text = lister_of cutter (is_in_session p) (line_of p) (held_by p) text
 
 -- a cutter takes this word in a header's place, and is as it was
 abbrev pub TakesHead : CutterState → ℕ → Step → Type 0
 TakesHead c w step = TakesAsOneRun c c (bytes_of_word w) (Head w step)
 
 -- the lister has listed these bytes too
-abbrev pub TellsOn : ListerState → ListerState → List ℕ → Type 0
-TellsOn old new more = (given before bytes : List ℕ) → HasListedJust old given before bytes → HasListedJust new given before (bytes ++ more)
+abbrev pub ListsMore : ListerState → ListerState → List ℕ → Type 0
+ListsMore old new more = (given before bytes : List ℕ) → HasListedJust old given before bytes → HasListedJust new given before (bytes ++ more)
 
 -- the lister has listed these bytes too, and no sync word is still to be listed
-abbrev pub RestsOn : ListerState → ListerState → List ℕ → Type 0
-RestsOn old new more = (given before bytes : List ℕ) → HasListedJust old given before bytes → ListerStandsFor new given before (bytes ++ more)
+abbrev pub ListsMoreAndRests : ListerState → ListerState → List ℕ → Type 0
+ListsMoreAndRests old new more = (given before bytes : List ℕ) → HasListedJust old given before bytes → ListerStandsFor new given before (bytes ++ more)
 
 -- what is written with this pen
 abbrev pub written_with : Pen → List ℕ → WrittenSoFar
-written_with pen text = written_of pen.synced pen.line (take pen.count pen.held) text
+written_with p text = written_of (is_in_session p) (line_of p) (held_by p) text
+
+-- what is written with this pen in a gap
+abbrev pub gap_written : GapPen → List ℕ → WrittenSoFar
+gap_written gap text = written_of false gap.line (take gap.count gap.held) text
 
 -- more bytes of a gap are listed but for those that are held, whatever texts were given
 abbrev pub GapGoesOn : WrittenSoFar → WrittenSoFar → List ℕ → Type 0
@@ -44,15 +68,3 @@ abbrev pub EndsHeld : WrittenSoFar → List ℕ → Type 0
 EndsHeld w text = (given before : List ℕ) (sessions : List Session) (place : Place)
     → HasListedAll (written_of w.synced w.line w.held (given ++ w.text)) before sessions place → (w.synced ≡ true → w.held ≡ tail_of place)
     → given ++ text ≡ before ++ reading_text sessions place
-
--- a lister with this pen, whose text is any text and then this one
-abbrev pub lister_after : CutterState → Pen → List ℕ → List ℕ → ListerState
-lister_after cutter pen shown text = lister_with cutter pen (text ++ shown)
-
--- a lister with this pen, whose text is any text and then the first bytes of a sheet
-abbrev pub on_sheet : CutterState → Pen → List ℕ → ℕ → List ℕ → ListerState
-on_sheet cutter pen sheet len = lister_after cutter pen (take len sheet)
-
--- the lister has listed these bytes too, whatever text stands before
-abbrev pub TellsAfter : (List ℕ → ListerState) → (List ℕ → ListerState) → List ℕ → Type 0
-TellsAfter old new more = (text : List ℕ) → TellsOn (old text) (new text) more

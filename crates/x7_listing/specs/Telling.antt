@@ -85,7 +85,7 @@ HasListedAt w start place m = HasListedBy w.synced w start place m
 abbrev pub HasListed : WrittenSoFar → List ℕ → List Session → Place → Mode → Type 0
 HasListed w before sessions place m = HasListedAt w (before ++ flat_map session_text sessions) place m
 
--- all of a reading was listed but what an end tells: no sync word is still to be listed
+-- all of a reading was listed but what is left for its end: no sync word is still to be listed
 pub record HasListedAll (w : WrittenSoFar) (before : List ℕ) (sessions : List Session) (place : Place) : Type 0 where
   pub bytes : List ℕ
   pub reading : IsReading bytes sessions place

@@ -1,6 +1,8 @@
 -- The lines that AsmLines takes: the first, one more, many at once, and the last.
-use Rattle.std.proofs.Common.{◌≡◌, inl, inr, ℕ, ◌+◌, ◌-◌, ◌≤◌, true, List, [], ◌∷◌, ◌++◌, Option, Some, IfSome, Result, Ok, Err, IfErr, OnOk, MatchResult, length, map, take, drop, refl, ap, sym, subst, ◌∙◌, arith, append_assoc, append-nil, length-append, take_all}
+use Rattle.std.proofs.Common.{◌≡◌, inl, inr, ℕ, ◌+◌, ◌-◌, ◌≤◌, true, List, [], ◌∷◌, ◌++◌, Option, Some, IfSome, Result, Ok, Err, IfErr, OnOk, MatchResult, length, map, take, drop, refl, ap, sym, subst, ◌∙◌, arith, append_assoc, append-nil, length-append, take_all, Bool, false, codes}
 use Rattle.std.proofs.lemmas.List.{drop-append-le, length-map}
+use Rattle.std.proofs.lemmas.Result.{err_from_is_err_and}
+use Rattle.std.specs.Result.{IsErrAnd}
 use Rattle.std.proofs.Math.ListN.{drop_of_length-le}
 use Rattle.std.proofs.Math.Seq.{drop-nil}
 use Rattle.std.specs.List.{flat_map}
@@ -12,7 +14,8 @@ use Rattle.x7_text.proofs.LineReadingLemmas.{HasTaken, each_fault}
 use Rattle.x7_listing.specs.Assembly.{AreHeadedAsm}
 use Rattle.x7_listing.specs.Assembling.{AreReadWithRoom, AsmState, FailsFirst, FailsNext, TextsAreRead, HasAsmFault, HasLineRoom, IsOutputOf, IsFirstOrGood, IsSoundOutput, Output, ReadsFirst, ReadsNext, TakesLines, Unbegun, Waits, LinesAreRead, state_after, asm_state, has_any}
 use Rattle.x7_listing.specs.BitLine.{bit_text, IsHeaderOf, IsHeld}
-use Rattle.x7_listing.specs.Line.{Line, line_bytes, text_of}
+use Rattle.x7_text.specs.Reads.{Reads}
+use Rattle.x7_listing.specs.Line.{Line, Empty, Comment, Bytes, Sync, Nop, Write, Read, Write2, Read2, Word, Data, Cmd, Check, line_bytes, FitsLine, text_of}
 use Rattle.x7_listing.specs.declared.assembler.AsmFault.{AsmFault}
 use Rattle.x7_listing.specs.declared.assembler.AsmFault.TheVariants as fault
 use Rattle.x7_listing.proofs.AssemblingLemmas.{goes_whole, went_nothing}
@@ -62,10 +65,48 @@ pub err_weaker : {A E : Type 0} → {P Q : E → Type 0} → (r : Result A E) �
 err_weaker (Ok a) f h = tt
 err_weaker (Err e) f h = f e h
 
+-- the fault that `?` hands on
+pub handed : {A E : Type 0} (P : A → Type 0) (Q : E → Type 0) (r : Result A E) (e : E) → IsErrAnd r (λ f. f ≡ e) → Q e → MatchResult r P Q
+handed P Q r e h q = let p = err_from_is_err_and r h in subst (λ s. MatchResult s P Q) (sym (p.1 ∙ ap Err p.2)) q
+
+pub handed_on : {A E : Type 0} (Q : E → Type 0) (r : Result A E) (e : E) → IsErrAnd r (λ f. f ≡ e) → Q e → IfErr r Q
+handed_on Q r e h q = let p = err_from_is_err_and r h in subst (λ s. IfErr s Q) (sym (p.1 ∙ ap Err p.2)) q
+
 pub if_some : {X : Type 0} → (P : X → Type 0) (o : Option X) (x : X) → o ≡ Some x → IfSome o P → P x
 if_some P o x e h = subst (λ p. IfSome p P) e h
 
 -- ---- one line more
+
+-- the bytes of a line other than `crc` are those under any check
+any_check : (check : ℕ) (l : Line) → (text_of l ≡ codes "crc" → ⊥) → line_bytes 0 l ≡ line_bytes check l
+any_check check Empty n = refl
+any_check check (Comment text) n = refl
+any_check check (Bytes bytes) n = refl
+any_check check Sync n = refl
+any_check check Nop n = refl
+any_check check (Write register count) n = refl
+any_check check (Read register count) n = refl
+any_check check (Write2 count) n = refl
+any_check check (Read2 count) n = refl
+any_check check (Word word) n = refl
+any_check check (Data words) n = refl
+any_check check (Cmd command) n = refl
+any_check check Check n = absurd (n refl)
+
+pub reads_any : (check : ℕ) (b : Bool) (t old new : List ℕ) → (t ≡ codes "crc" → ⊥) → Reads FitsLine text_of (line_bytes 0) b t old new → Reads FitsLine text_of (line_bytes check) b t old new
+reads_any check true t old new n r = (r.0, r.1, r.2, r.3 ∙ ap (λ (bs : List ℕ). old ++ bs) (any_check check r.0 (λ e. n (r.2 ∙ e))))
+reads_any check false t old new n r = r
+
+-- a line only appends
+grown : (check : ℕ) (b : Bool) (t old new : List ℕ) → Reads FitsLine text_of (line_bytes check) b t old new → (more : List ℕ) × (new ≡ old ++ more)
+grown check true t old new r = (line_bytes check r.0, r.3)
+grown check false t old new r = ([], r.1 ∙ sym (append-nil old))
+
+pub still_begun : (check : ℕ) (b : Bool) (t old new : List ℕ) (start : ℕ) → Reads FitsLine text_of (line_bytes check) b t old new → start ≤ length old → start ≤ length new
+still_begun check b t old new start r h = let g = grown check b t old new r in omega (arith, h, ap length g.1, length-append old g.0)
+
+pub keeps_begun : (check : ℕ) (b : Bool) (t old new : List ℕ) (start : ℕ) (checker : CheckerState) → Reads FitsLine text_of (line_bytes check) b t old new → start ≤ length old → Keeps checker (drop start old) → Keeps checker (drop start new)
+keeps_begun check b t old new start checker r h k = let g = grown check b t old new r in still_keeps checker (drop start old) g.0 (drop start new) (ap (drop start) g.1 ∙ drop-append-le start old g.0 h) k
 
 pub first_read : {A : Type 0} (r : Result A AsmFault) (old new : Output) (line : List ℕ) (lines : List (List ℕ)) → length lines ≡ 0 → OnOk r (ReadsFirst old new line) → OnOk r (HasLineRoom new) → IfErr r (FailsFirst old line) → AreReadWithRoom old lines
     → MatchResult r (λ _. AreReadWithRoom new (lines ++ line ∷ [])) (λ f. (left : List (List ℕ)) → HasAsmFault f (lines ++ line ∷ left))

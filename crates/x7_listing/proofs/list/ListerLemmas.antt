@@ -9,6 +9,10 @@ use Rattle.x7_packets.specs.declared.cutter.Cut.TheVariants.{Need, Skip, Sync, H
 use Rattle.x7_text.specs.Digits.{hex_byte}
 use Rattle.x7_text.specs.Row.{close, in_line_after, open_text}
 use Rattle.x7_listing.specs.Listing.{IsListing, reading_text}
+use Rattle.x7_listing.specs.Pens.{is_in_session}
+use Rattle.x7_listing.specs.declared.list.pen.state.GapPen.{GapPen}
+use Rattle.x7_listing.specs.declared.list.pen.state.Pen.{Pen}
+use Rattle.x7_listing.specs.declared.list.pen.state.Pen.TheVariants as pen
 use Rattle.x7_listing.specs.Telling.{HasListed, ListerStandsFor, HasListedJust, WritesRun, lister_of, written_of}
 use Rattle.x7_listing.proofs.GapLemmas.{fresh_gap}
 use Rattle.x7_listing.proofs.TellingLemmas.{gap_ended, session_over}
@@ -56,6 +60,12 @@ took_all c d run synced line at to held text given before bytes piece s h full i
       listed = need_adds synced line held (given ++ text) before s.sessions w.new_sessions s.at w.new_place c.mode d.mode s.listed w.adds w.turns;
     } in
     record { tells = subst (λ t. HasListedJust (lister_of d synced line held text) given before t) e all; ready = w.turns.1 }
+
+-- a pen that is in no gap is in a session
+pub not_gap : (p : Pen) → ((gap : GapPen) → p ≡ pen.Gap gap → ⊥) → is_in_session p ≡ true
+not_gap (pen.Gap gap) n = absurd (n gap refl)
+not_gap (pen.Session words) n = refl
+not_gap (pen.Tail words tail) n = refl
 
 pub ended_gap : (synced : Bool) (line : ℕ) (held given old new before bytes : List ℕ) (sessions : List Session) (spot : Place) (m : Mode) → synced ≡ false → HasListed (written_of synced line held (given ++ old)) before sessions spot m → (m ≡ Mode.Due → ⊥)
     → new ≡ old ++ open_text 32 (codes "bytes ") hex_byte line held ++ close (in_line_after 32 line held) → given ++ new ≡ before ++ reading_text sessions spot

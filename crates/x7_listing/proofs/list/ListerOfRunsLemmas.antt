@@ -1,6 +1,5 @@
 -- Lemmas on specs/ListerOfRuns.
-use Rattle.std.proofs.Common.{◌≡◌, ℕ, zero, suc, ◌<◌, Bool, true, false, List, [], ◌++◌, length, take, min, Bor, if◌then◌else◌, refl, ap, sym, subst, ◌∙◌, append-nil, arith}
-use Rattle.std.proofs.lemmas.List.{take-take, take_all}
+use Rattle.std.proofs.Common.{◌≡◌, ℕ, Bool, true, false, List, [], ◌++◌, Bor, if◌then◌else◌, refl, ap, sym, subst, ◌∙◌, append-nil}
 use Rattle.std.specs.List.{flat_map}
 use Rattle.x7_packets.specs.Reading.{Place, Searching, Synced, Session, IsReading, tail_of}
 use Rattle.x7_packets.specs.Cutting.{Adds, CutterStandsFor, IsNeed, IsRun}
@@ -101,26 +100,27 @@ takes_cut l n r k given before bytes due next no_tail no_end same e writes none 
 
 -- ---- the tail
 
-listed_tail : (synced : Bool) (line : ℕ) (held all before : List ℕ) (bytes : Bor (List ℕ)) (sessions new_sessions : List Session) (place new : Place) (old next : Mode)
+listed_tail : (synced : Bool) (line l2 : ℕ) (held all before : List ℕ) (bytes : Bor (List ℕ)) (sessions new_sessions : List Session) (place new : Place) (old next : Mode) → (synced ≡ true → l2 ≡ line)
     → HasListed (written_of synced line held all) before sessions place old → RunAdds (run.Tail bytes) sessions place new_sessions new → (old ≡ Mode.Due → ⊥) → (next ≡ Mode.Due → ⊥)
-    → HasListed (written_of synced line bytes.now all) before new_sessions new next × (tail_of new ≡ bytes.now)
-listed_tail synced line held all before bytes sessions ns (Searching gap) new old next t a d e = absurd a
-listed_tail false line held all before bytes sessions ns (Synced gap packets tail) new old next t a d e = absurd (d t.0)
-listed_tail true line held all before bytes sessions ns (Synced gap packets tail) new old next t a d e = (
-  subst (λ p. HasListedAt (written_of true line bytes.now all) (before ++ flat_map session_text ns) p next) (sym a.2) (e, subst (λ (s : List Session). SessionListed all (before ++ flat_map session_text s) line gap packets) (sym a.0) t.1),
+    → HasListed (written_of true l2 bytes.now all) before new_sessions new next × (tail_of new ≡ bytes.now)
+listed_tail synced line l2 held all before bytes sessions ns (Searching gap) new old next same t a d e = absurd a
+listed_tail false line l2 held all before bytes sessions ns (Synced gap packets tail) new old next same t a d e = absurd (d t.0)
+listed_tail true line l2 held all before bytes sessions ns (Synced gap packets tail) new old next same t a d e = (
+  subst (λ p. HasListedAt (written_of true l2 bytes.now all) (before ++ flat_map session_text ns) p next) (sym a.2)
+      (e, subst (λ (l : ℕ). SessionListed all (before ++ flat_map session_text ns) l gap packets) (sym (same refl)) (subst (λ (s : List Session). SessionListed all (before ++ flat_map session_text s) line gap packets) (sym a.0) t.1)),
   ap tail_of a.2,
 )
 
-pub takes_tail : (l n : ListerState) (tail : Bor (List ℕ)) (given before bytes : List ℕ) (due next : Mode) → n.cutter ≡ l.cutter → n.synced ≡ l.synced → n.line ≡ l.line → n.held ≡ tail.now → n.text ≡ l.text
+pub takes_tail : (l n : ListerState) (tail : Bor (List ℕ)) (given before bytes : List ℕ) (due next : Mode) → n.cutter ≡ l.cutter → n.synced ≡ true → (l.synced ≡ true → n.line ≡ l.line) → n.held ≡ tail.now → n.text ≡ l.text
     → TakerStandsFor l given before bytes due → IsNext bytes due (run.Tail tail) next → TakerStandsFor n given before (bytes ++ tail.now) next
 takes_tail l n tail given before bytes due next c s i h e t x =
     let listed = (listed_by l given before bytes due t x.sessions x.place x.before).0 in
-    let now = listed_tail l.synced l.line l.held (given ++ l.text) before tail x.sessions x.new_sessions x.place x.new_place due next listed x.adds x.turns.0 x.turns.1 in
+    let now = listed_tail l.synced l.line n.line l.held (given ++ l.text) before tail x.sessions x.new_sessions x.place x.new_place due next i listed x.adds x.turns.0 x.turns.1 in
     record {
       sessions = x.new_sessions;
       at = x.new_place;
       reading = x.after;
-      listed = rw (s, i, h, e) now.0;
+      listed = rw (s, h, e) now.0;
       tail = λ _. h ∙ sym now.1;
       cutter = rw c t.cutter;
     }
@@ -155,17 +155,8 @@ takes_end l n given before bytes due next c s i h writes t x =
     }
 
 -- the bytes that a pen holds at the end are the tail
-few_taken : (held tail : List ℕ) (count : ℕ) → take count held ≡ tail → length tail < 4 → take (min count 3) held ≡ tail
-few_taken held tail zero e few = e
-few_taken held tail (suc zero) e few = e
-few_taken held tail (suc (suc zero)) e few = e
-few_taken held tail (suc (suc (suc n))) e few =
-    let three : min (suc (suc (suc n))) 3 ≡ 3 = omega arith in
-    ap (λ (k : ℕ). take k held) three ∙ sym (take-take 3 (suc (suc (suc n))) held (omega arith)) ∙ ap (take 3) e ∙ take_all 3 tail (omega (arith, few))
-
-pub last_kept : (synced : Bool) (line count : ℕ) (held all before bytes : List ℕ) (sessions : List Session) (place : Place) (m : Mode) → HasListed (written_of synced line (take count held) all) before sessions place m
-    → (m ≡ Mode.Due → ⊥) → IsReading bytes sessions place → (synced ≡ true → take count held ≡ tail_of place) → take (if synced then min count 3 else 0) held ≡ tail_of place
-last_kept true line count held all before bytes sessions (Searching gap) m t d r k = few_taken held [] count (k refl) (omega arith)
-last_kept true line count held all before bytes sessions (Synced gap packets tail) m t d r k = few_taken held tail count (k refl) r.ends.3
-last_kept false line count held all before bytes sessions (Searching gap) m t d r k = refl
-last_kept false line count held all before bytes sessions (Synced gap packets tail) m t d r k = absurd (d t.0)
+pub last_kept : (synced : Bool) (line : ℕ) (held all before : List ℕ) (sessions : List Session) (place : Place) (m : Mode) → HasListed (written_of synced line held all) before sessions place m
+    → (m ≡ Mode.Due → ⊥) → (synced ≡ true → held ≡ tail_of place) → (if synced then held else []) ≡ tail_of place
+last_kept true line held all before sessions place m t d k = k refl
+last_kept false line held all before sessions (Searching gap) m t d k = refl
+last_kept false line held all before sessions (Synced gap packets tail) m t d k = absurd (d t.0)

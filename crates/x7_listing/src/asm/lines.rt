@@ -3,7 +3,7 @@ ghost use Rattle.std.specs.Prelude.{◌≡◌, ℕ, List, [], ◌∷◌, ◌++�
 ghost use Rattle.x7_text.specs.Reads.{Reads};
 ghost use Rattle.x7_crc.specs.Checking.{check_of_bytes, Keeps};
 ghost use Rattle.x7_listing.specs.Assembly.{AreHeadedAsm};
-ghost use Rattle.x7_listing.specs.Assembling.{AreReadWithRoom, FailsFirst, FailsNext, HasAsmFault, HasLineRoom, IsFirstOrGood, Output, ReadsFirst, ReadsNext, TakesLines};
+ghost use Rattle.x7_listing.specs.Assembling.{AreReadWithRoom, FailsFirst, FailsNext, HasAsmFault, HasLineRoom, HasRoomForLine, IsFirstOrGood, Output, ReadsFirst, ReadsNext, TakesLines};
 ghost use Rattle.x7_listing.specs.Line.{line_bytes, FitsLine, text_of};
 ghost use Rattle.x7_listing.specs.declared.assembler.AsmFault.{AsmFault};
 
@@ -20,7 +20,7 @@ use x7_words::is_same;
 /// Appends the bytes of a line to those of the lines before, which stand from `start` on and whose check the checker keeps.
 /// `false`: the text is that of no line.
 fn put_checked(out: &mut Vec<u8>, start: usize, checker: &mut Checker, line: &[u8]) -> bool
-    requires room { vec_len out.old + 32 ≤ vec_capacity out.old }
+    requires room { HasRoomForLine out.old }
     requires start { start ≤ length out.old.items }
     requires keeps { Keeps checker.old (drop start out.old.items) }
     ensures reads { Reads FitsLine text_of (line_bytes (check_of_bytes (drop start out.old.items))) result line.now out.old.items out.new.items }
@@ -166,18 +166,14 @@ impl TakesLines for AsmLines {
                 return Ok((line, count));
             };
             count = count.saturating_add(1);
-            match self.put_next(count, line) {
-                Ok(()) => rest = after,
-                Err(fault) => return Err(fault),
-            }
+            self.put_next(count, line)?;
+            rest = after;
         }
     }
 
     fn put_last(self, n: u64, line: &[u8]) -> Result<Vec<u8>, AsmFault> {
         let mut last = self;
-        match last.put_next(n, line) {
-            Ok(()) => Ok(last.out),
-            Err(fault) => Err(fault),
-        }
+        last.put_next(n, line)?;
+        Ok(last.out)
     }
 }

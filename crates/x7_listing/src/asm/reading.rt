@@ -1,5 +1,5 @@
 //! Reading one line: the bytes that it stands for.
-ghost use Rattle.std.specs.Prelude.{◌≡◌, ◌≢◌, ℕ, List, ◌<◌, ◌≤◌, ◌+◌, ◌*◌, ◌^◌, ◌∷◌, ◌++◌, length, slice_index, decimal, IfSome, MatchOption, vec_len, vec_capacity};
+ghost use Rattle.std.specs.Prelude.{◌≡◌, ◌≢◌, ℕ, List, ◌<◌, ◌≤◌, ◌+◌, ◌*◌, ◌^◌, ◌∷◌, ◌++◌, length, slice_index, decimal, IfSome, MatchOption};
 ghost use Rattle.x7_words.specs.Word.{bytes_of_word};
 ghost use Rattle.x7_regs.specs.Command.{code_of, command_name_of};
 ghost use Rattle.x7_regs.specs.Register.{reg_name};
@@ -7,8 +7,10 @@ ghost use Rattle.x7_regs.specs.declared.command.Command.{Command};
 ghost use Rattle.x7_packets.specs.PacketWords.{type1_read, type1_write, type2_read, type2_write};
 ghost use Rattle.x7_text.specs.Appends.{Appends};
 ghost use Rattle.x7_text.specs.Digits.{hex_word};
+ghost use Rattle.x7_listing.specs.Assembling.{HasRoomForLine};
 ghost use Rattle.x7_listing.specs.Line.{access_text, line_bytes, FitsLine, IsAccess, IsPlain, text_of};
 ghost use Rattle.x7_listing.specs.BitLine.{IsFirstSpace};
+ghost use Rattle.x7_listing.specs.OneWord.{IsWordOf, PutsWord};
 ghost use Rattle.x7_text.specs.Reads.{Reads, StaysWithin};
 
 use x7_packets::{NO_OP, SYNC_WORD, type1_read, type1_write, type2_read, type2_write};
@@ -70,19 +72,19 @@ pub(crate) fn access_at(text: &[u8], space: usize) -> Option<(u8, u32)>
 
 /// Appends the bytes of a word.
 pub(crate) fn put_word(out: &mut Vec<u8>, w: u32)
-    requires { vec_len out.old + 32 ≤ vec_capacity out.old }
+    requires { HasRoomForLine out.old }
     ensures appends { Appends out.old out.new (bytes_of_word w) 32 }
 {
     put(out, &bytes_of(w));
 }
 
-/// Appends the word of eight digits.
-fn put_digits(out: &mut Vec<u8>, digits: &[u8]) -> bool
-    requires { vec_len out.old + 32 ≤ vec_capacity out.old }
-    ensures reads { Reads (λ w. w < 2 ^ 32) hex_word bytes_of_word result digits.now out.old.items out.new.items }
+/// Appends the bytes of a word, where there is one.
+fn put_found(out: &mut Vec<u8>, word: Option<u32>) -> bool
+    requires { HasRoomForLine out.old }
+    ensures puts { PutsWord word result out.old.items out.new.items }
     ensures room { StaysWithin out.old out.new 32 }
 {
-    match word_of_hex(digits) {
+    match word {
         Some(w) => {
             put_word(out, w);
             true
@@ -91,19 +93,24 @@ fn put_digits(out: &mut Vec<u8>, digits: &[u8]) -> bool
     }
 }
 
-/// Appends the code of a command.
-fn put_command(out: &mut Vec<u8>, name: &[u8]) -> bool
-    requires { vec_len out.old + 32 ≤ vec_capacity out.old }
-    ensures reads { Reads (λ (c : Command). Unit {0}) command_name_of (λ c. bytes_of_word (code_of c)) result name.now out.old.items out.new.items }
-    ensures room { StaysWithin out.old out.new 32 }
+/// The word of eight digits.
+fn word_in(digits: &[u8]) -> Option<u32>
+    ensures { IsWordOf (λ w. w < 2 ^ 32) hex_word (λ w. w) digits.now result }
 {
-    match command_named(name) {
-        Some(code) => {
-            put_word(out, u32::from(code));
-            true
-        }
-        None => false,
-    }
+    let Some(w) = word_of_hex(digits) else {
+        return None;
+    };
+    Some(w)
+}
+
+/// The code of the command with this name.
+fn command_word(name: &[u8]) -> Option<u32>
+    ensures { IsWordOf (λ (c : Command). Unit {0}) command_name_of code_of name.now result }
+{
+    let Some(code) = command_named(name) else {
+        return None;
+    };
+    Some(u32::from(code))
 }
 
 /// The number below the limit that these are the digits of.
@@ -116,34 +123,24 @@ fn count_of(digits: &[u8], limit: u32) -> Option<u32>
     Some(count as u32)
 }
 
-/// Appends the header of a type 2 write of this many words.
-fn put_write2(out: &mut Vec<u8>, digits: &[u8]) -> bool
-    requires { vec_len out.old + 32 ≤ vec_capacity out.old }
-    ensures reads { Reads (λ n. n < 2 ^ 27) decimal (λ n. bytes_of_word (type2_write n)) result digits.now out.old.items out.new.items }
-    ensures room { StaysWithin out.old out.new 32 }
+/// The header of a type 2 write of as many words as these are the digits of.
+fn write2_of(digits: &[u8]) -> Option<u32>
+    ensures { IsWordOf (λ n. n < 2 ^ 27) decimal type2_write digits.now result }
 {
-    match count_of(digits, 1 << 27) {
-        Some(count) => {
-            put_word(out, type2_write(count));
-            true
-        }
-        None => false,
-    }
+    let Some(count) = count_of(digits, 1 << 27) else {
+        return None;
+    };
+    Some(type2_write(count))
 }
 
-/// Appends the header of a type 2 read of this many words.
-fn put_read2(out: &mut Vec<u8>, digits: &[u8]) -> bool
-    requires { vec_len out.old + 32 ≤ vec_capacity out.old }
-    ensures reads { Reads (λ n. n < 2 ^ 27) decimal (λ n. bytes_of_word (type2_read n)) result digits.now out.old.items out.new.items }
-    ensures room { StaysWithin out.old out.new 32 }
+/// The header of a type 2 read of as many words as these are the digits of.
+fn read2_of(digits: &[u8]) -> Option<u32>
+    ensures { IsWordOf (λ n. n < 2 ^ 27) decimal type2_read digits.now result }
 {
-    match count_of(digits, 1 << 27) {
-        Some(count) => {
-            put_word(out, type2_read(count));
-            true
-        }
-        None => false,
-    }
+    let Some(count) = count_of(digits, 1 << 27) else {
+        return None;
+    };
+    Some(type2_read(count))
 }
 
 /// A register's number and a word count.
@@ -159,47 +156,33 @@ fn access_of(text: &[u8]) -> Option<(u8, u32)>
     Some((register, count))
 }
 
-/// Appends the header of a type 1 write.
-fn put_write(out: &mut Vec<u8>, text: &[u8]) -> bool
-    requires { vec_len out.old + 32 ≤ vec_capacity out.old }
-    ensures reads { Reads IsAccess access_text (λ (a : ℕ × ℕ). bytes_of_word (type1_write a.0 a.1)) result text.now out.old.items out.new.items }
-    ensures room { StaysWithin out.old out.new 32 }
+/// The header of a type 1 write of a register, by its name and a word count.
+fn write_of(text: &[u8]) -> Option<u32>
+    ensures { IsWordOf IsAccess access_text (λ (a : ℕ × ℕ). type1_write a.0 a.1) text.now result }
 {
-    match access_of(text) {
-        Some((register, count)) => {
-            put_word(out, type1_write(register, count));
-            true
-        }
-        None => false,
-    }
+    let Some((register, count)) = access_of(text) else {
+        return None;
+    };
+    Some(type1_write(register, count))
 }
 
-/// Appends the header of a type 1 read.
-fn put_read(out: &mut Vec<u8>, text: &[u8]) -> bool
-    requires { vec_len out.old + 32 ≤ vec_capacity out.old }
-    ensures reads { Reads IsAccess access_text (λ (a : ℕ × ℕ). bytes_of_word (type1_read a.0 a.1)) result text.now out.old.items out.new.items }
-    ensures room { StaysWithin out.old out.new 32 }
+/// The header of a type 1 read of a register, by its name and a word count.
+fn read_of(text: &[u8]) -> Option<u32>
+    ensures { IsWordOf IsAccess access_text (λ (a : ℕ × ℕ). type1_read a.0 a.1) text.now result }
 {
-    match access_of(text) {
-        Some((register, count)) => {
-            put_word(out, type1_read(register, count));
-            true
-        }
-        None => false,
-    }
+    let Some((register, count)) = access_of(text) else {
+        return None;
+    };
+    Some(type1_read(register, count))
 }
 
-/// Appends the bytes of a line that is one word, or empty.
+/// Appends the bytes of a line that is empty, `sync` or `crc`.
 fn put_plain(out: &mut Vec<u8>, check: u32, line: &[u8]) -> bool
-    requires { vec_len out.old + 32 ≤ vec_capacity out.old }
+    requires { HasRoomForLine out.old }
     ensures reads { Reads IsPlain text_of (line_bytes check) result line.now out.old.items out.new.items }
     ensures room { StaysWithin out.old out.new 32 }
 {
     if is_same(line, b"") {
-        return true;
-    }
-    if is_same(line, b"nop") {
-        put_word(out, NO_OP);
         return true;
     }
     if is_same(line, b"sync") {
@@ -216,7 +199,7 @@ fn put_plain(out: &mut Vec<u8>, check: u32, line: &[u8]) -> bool
 
 /// Appends the bytes of a line, where the bytes of the lines before have this check. `false`: the text is that of no line.
 pub(crate) fn put_line(out: &mut Vec<u8>, check: u32, line: &[u8]) -> bool
-    requires { vec_len out.old + 32 ≤ vec_capacity out.old }
+    requires { HasRoomForLine out.old }
     ensures reads { Reads FitsLine text_of (line_bytes check) result line.now out.old.items out.new.items }
     ensures room { StaysWithin out.old out.new 32 }
 {
@@ -228,25 +211,25 @@ pub(crate) fn put_line(out: &mut Vec<u8>, check: u32, line: &[u8]) -> bool
         return put_word_row(out, words);
     }
     if let Some(access) = after(line, b"write ") {
-        return put_write(out, access);
+        return put_found(out, write_of(access));
     }
     if let Some(name) = after(line, b"cmd ") {
-        return put_command(out, name);
+        return put_found(out, command_word(name));
     }
     if let Some(digits) = after(line, b"bytes ") {
         return put_byte_row(out, digits);
     }
     if let Some(digits) = after(line, b"word ") {
-        return put_digits(out, digits);
+        return put_found(out, word_in(digits));
     }
     if let Some(access) = after(line, b"read ") {
-        return put_read(out, access);
+        return put_found(out, read_of(access));
     }
-    if let Some(count) = after(line, b"write2 ") {
-        return put_write2(out, count);
+    if let Some(digits) = after(line, b"write2 ") {
+        return put_found(out, write2_of(digits));
     }
-    if let Some(count) = after(line, b"read2 ") {
-        return put_read2(out, count);
+    if let Some(digits) = after(line, b"read2 ") {
+        return put_found(out, read2_of(digits));
     }
     if after(line, b"#").is_some() {
         return true;

@@ -1,4 +1,4 @@
-//! Short runs of a session, several at a time, put on a sheet first. The lister without this module tells the same, by the
+//! Short runs of a session, several at a time, put on a sheet first. The lister without this module lists the same, by the
 //! same contract.
 mod sheet;
 mod short_runs;

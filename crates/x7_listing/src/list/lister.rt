@@ -1,8 +1,8 @@
 //! A lister of streams that come in pieces.
-ghost use Rattle.std.specs.Prelude.{◌≡◌, ℕ, ◌+◌, ◌*◌, ◌≤◌, List, [], ◌++◌, OnOk, OnErr, length, take, vec_len, vec_capacity};
+ghost use Rattle.std.specs.Prelude.{◌≡◌, ℕ, ◌+◌, ◌*◌, ◌≤◌, List, [], ◌++◌, OnOk, OnErr, length, vec_len, vec_capacity};
 ghost use Rattle.x7_packets.specs.Mode.{Mode};
 ghost use Rattle.x7_listing.specs.Telling.{TakerStandsFor, Finished, ListerStandsFor};
-ghost use Rattle.x7_listing.specs.Pens.{RestsOn, lister_with};
+ghost use Rattle.x7_listing.specs.Pens.{ListsMoreAndRests, lister_with};
 
 mod runs;
 
@@ -13,10 +13,17 @@ use std::marker::Model;
 use x7_packets::{Cut, Cutter};
 use x7_words::NoMemory;
 
-/// Takes a whole piece, and writes what it tells.
+/// How much room a byte of a piece asks for: 64 bytes of a call that takes it, 3 of its own, and 64 of a call for the sync
+/// word that it may end.
+pub(crate) const BYTE_ROOM: usize = 131;
+
+/// How much room is asked for besides: 64 bytes of a call for a sync word that is due, and 64 that are left over.
+const SPARE_ROOM: usize = 128;
+
+/// Takes a whole piece, and writes the lines of its runs.
 fn take_all(text: &mut Vec<u8>, cutter: &mut Cutter, pen: Pen, piece: &[u8]) -> Pen
-    requires { vec_len text.old + (131 * length piece.now + (3 * length cutter.old.kept + 128)) ≤ vec_capacity text.old }
-    ensures rests { RestsOn (lister_with cutter.old pen text.old.items) (lister_with cutter.new result text.new.items) piece.now }
+    requires { vec_len text.old + (BYTE_ROOM * length piece.now + (3 * length cutter.old.kept + SPARE_ROOM)) ≤ vec_capacity text.old }
+    ensures rests { ListsMoreAndRests (lister_with cutter.old pen text.old.items) (lister_with cutter.new result text.new.items) piece.now }
 {
     let mut sheet = [0; SHEET];
     let mut now = pen;
@@ -24,7 +31,7 @@ fn take_all(text: &mut Vec<u8>, cutter: &mut Cutter, pen: Pen, piece: &[u8]) -> 
     loop {
         let rest = &piece[at..];
         if let Some(taken) = take_short(text, &mut sheet, cutter, now, rest) {
-            now = taken.pen;
+            now = Pen::Session(taken.in_line);
             at += taken.size;
             continue;
         }
@@ -47,12 +54,12 @@ pub struct Lister {
 }
 
 impl Model for Lister {
-    ghost use Rattle.std.specs.Prelude.{take};
+    ghost use Rattle.x7_listing.specs.Pens.{lister_with};
     ghost use Rattle.x7_listing.specs.Telling.{ListerState};
 
     ghost Value = { ListerState };
 
-    ghost view = { λ l. record { cutter = l.cutter; synced = l.pen.synced; line = l.pen.line; held = take l.pen.count l.pen.held; text = l.text.items } };
+    ghost view = { λ l. lister_with l.cutter l.pen l.text.items };
 }
 
 impl Lister {
@@ -64,7 +71,7 @@ impl Lister {
     {
         Lister {
             cutter: Cutter::new(),
-            pen: new_pen(),
+            pen: Pen::Gap(new_pen()),
             text: Vec::new(alloc),
         }
     }
@@ -90,10 +97,10 @@ impl Lister {
         ensures ok { OnOk result ((given before bytes : List ℕ) → ListerStandsFor self.old given before bytes → ListerStandsFor self.new given before (bytes ++ piece.now)) }
         ensures err { OnErr result (self.new ≡ self.old) }
     {
-        let Some(room) = piece.len().checked_mul(131) else {
+        let Some(room) = piece.len().checked_mul(BYTE_ROOM) else {
             return Err(NoMemory);
         };
-        let Some(room) = room.checked_add(3 * self.cutter.kept().len() + 128) else {
+        let Some(room) = room.checked_add(3 * self.cutter.kept().len() + SPARE_ROOM) else {
             return Err(NoMemory);
         };
         self.text.reserve(room)?;
@@ -109,7 +116,7 @@ impl Lister {
         self.text.reserve(64)?;
         put_end(&mut self.text, self.pen, self.cutter.kept());
         self.cutter = Cutter::new();
-        self.pen = new_pen();
+        self.pen = Pen::Gap(new_pen());
         Ok(())
     }
 }

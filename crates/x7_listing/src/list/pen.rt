@@ -7,87 +7,72 @@ ghost use Rattle.x7_regs.specs.Register.{number_of};
 ghost use Rattle.x7_regs.specs.declared.register.Reg.TheVariants.{Cmd};
 ghost use Rattle.x7_text.specs.Appends.{Appends};
 ghost use Rattle.x7_text.specs.Digits.{hex_byte};
+ghost use Rattle.x7_text.specs.Reads.{StaysWithin};
 ghost use Rattle.x7_text.specs.Row.{close, in_line_after, open_text};
-ghost use Rattle.x7_listing.specs.Pens.{EndsWith, GapGoesOn, written_with};
+ghost use Rattle.x7_listing.specs.Pens.{EndsWith, GapGoesOn, gap_written, held_by, is_in_session, line_of, written_with};
 ghost use Rattle.x7_listing.specs.Telling.{words_place, open_words, WritesRun};
 
 mod state;
 
 use crate::line::{put_command, put_head, put_sync};
-pub(crate) use state::Pen;
+pub(crate) use state::{GapPen, OpenWords, Pen, TailBytes};
 use x7_packets::Cut;
 use x7_regs::Reg;
 use x7_text::{put_bytes, put_close, put_word, put_words};
 use x7_words::word_of;
 
 /// A pen at the start of a listing.
-pub(crate) fn new_pen() -> Pen
-    ensures gap { result.synced ≡ false }
+pub(crate) fn new_pen() -> GapPen
     ensures line { result.line ≡ 0 }
     ensures held { take result.count result.held ≡ [] }
 {
-    Pen {
-        synced: false,
+    GapPen {
         line: 0,
         held: [0; 4],
         count: 0,
     }
 }
 
-/// A pen in a gap: the same one, or a new one after a session.
-fn in_gap(pen: Pen) -> Pen
-    ensures gap { result.synced ≡ false }
-    ensures line { result.line ≡ (if pen.synced then 0 else pen.line) }
-    ensures held { take result.count result.held ≡ (if pen.synced then [] else take pen.count pen.held) }
+/// A pen in a gap: the one given, or a new one after a session.
+fn in_gap(pen: Pen) -> GapPen
+    ensures line { result.line ≡ (if is_in_session pen then 0 else line_of pen) }
+    ensures held { take result.count result.held ≡ (if is_in_session pen then [] else held_by pen) }
 {
-    if pen.synced { new_pen() } else { pen }
-}
-
-/// A pen in a session, with this many words in the open line.
-pub(crate) fn in_session(line: usize) -> Pen
-    requires { line < 8 }
-    ensures synced { result.synced ≡ true }
-    ensures line { result.line ≡ line }
-    ensures held { take result.count result.held ≡ [] }
-{
-    Pen {
-        synced: true,
-        line,
-        held: [0; 4],
-        count: 0,
+    match pen {
+        Pen::Gap(gap) => gap,
+        Pen::Session(_) => new_pen(),
+        Pen::Tail(_, _) => new_pen(),
     }
 }
 
-/// How many words stand in the open line of a session.
-pub(crate) fn session_line(pen: Pen) -> usize
-    ensures within { result < 8 }
-    ensures line { pen.synced ≡ true → result ≡ pen.line }
+/// The words of a session's open line: none in a gap.
+pub(crate) fn open_in(pen: Pen) -> OpenWords
+    ensures { is_in_session pen ≡ true → result.count ≡ line_of pen }
 {
-    if pen.synced { pen.line } else { 0 }
+    match pen {
+        Pen::Gap(_) => OpenWords { count: 0 },
+        Pen::Session(in_line) => in_line,
+        Pen::Tail(in_line, _) => in_line,
+    }
 }
 
 /// Takes a byte of a gap: where four are held, the first of them is listed.
-fn hold(text: &mut Vec<u8>, pen: Pen, byte: u8) -> Pen
-    requires gap { pen.synced ≡ false }
+fn hold(text: &mut Vec<u8>, pen: GapPen, byte: u8) -> GapPen
     requires room { vec_len text.old + 19 ≤ vec_capacity text.old }
-    ensures gap { result.synced ≡ false }
-    ensures len { vec_len text.new ≤ vec_len text.old + 19 }
-    ensures room { vec_capacity text.old ≤ vec_capacity text.new }
-    ensures listed { GapGoesOn (written_with pen text.old.items) (written_with result text.new.items) (byte ∷ []) }
+    ensures room { StaysWithin text.old text.new 19 }
+    ensures listed { GapGoesOn (gap_written pen text.old.items) (gap_written result text.new.items) (byte ∷ []) }
 {
     if pen.count < 4 {
         let mut held = pen.held;
         held[pen.count] = byte;
-        return Pen {
-            synced: false,
+        return GapPen {
             line: pen.line,
             held,
             count: pen.count + 1,
         };
     }
     let line = put_bytes(text, pen.line, &pen.held[..1]);
-    Pen {
-        synced: false,
+    GapPen {
         line,
         held: [pen.held[1], pen.held[2], pen.held[3], byte],
         count: 4,
@@ -95,14 +80,11 @@ fn hold(text: &mut Vec<u8>, pen: Pen, byte: u8) -> Pen
 }
 
 /// Takes fewer than four bytes of a gap, one by one.
-fn hold_each(text: &mut Vec<u8>, pen: Pen, bytes: &[u8]) -> Pen
-    requires gap { pen.synced ≡ false }
+fn hold_each(text: &mut Vec<u8>, pen: GapPen, bytes: &[u8]) -> GapPen
     requires few { length bytes.now < 4 }
     requires room { vec_len text.old + 64 ≤ vec_capacity text.old }
-    ensures gap { result.synced ≡ false }
-    ensures len { vec_len text.new ≤ vec_len text.old + 64 }
-    ensures room { vec_capacity text.old ≤ vec_capacity text.new }
-    ensures listed { GapGoesOn (written_with pen text.old.items) (written_with result text.new.items) bytes.now }
+    ensures room { StaysWithin text.old text.new 64 }
+    ensures listed { GapGoesOn (gap_written pen text.old.items) (gap_written result text.new.items) bytes.now }
 {
     let mut now = pen;
     for byte in bytes {
@@ -112,13 +94,10 @@ fn hold_each(text: &mut Vec<u8>, pen: Pen, bytes: &[u8]) -> Pen
 }
 
 /// Takes bytes of a gap: all but the last four are listed.
-fn hold_all(text: &mut Vec<u8>, pen: Pen, bytes: &[u8]) -> Pen
-    requires gap { pen.synced ≡ false }
+fn hold_all(text: &mut Vec<u8>, pen: GapPen, bytes: &[u8]) -> GapPen
     requires room { vec_len text.old + (64 + 3 * length bytes.now) ≤ vec_capacity text.old }
-    ensures gap { result.synced ≡ false }
-    ensures len { vec_len text.new ≤ vec_len text.old + (64 + 3 * length bytes.now) }
-    ensures room { vec_capacity text.old ≤ vec_capacity text.new }
-    ensures listed { GapGoesOn (written_with pen text.old.items) (written_with result text.new.items) bytes.now }
+    ensures room { StaysWithin text.old text.new (64 + 3 * length bytes.now) }
+    ensures listed { GapGoesOn (gap_written pen text.old.items) (gap_written result text.new.items) bytes.now }
 {
     if bytes.len() < 4 {
         return hold_each(text, pen, bytes);
@@ -126,8 +105,7 @@ fn hold_all(text: &mut Vec<u8>, pen: Pen, bytes: &[u8]) -> Pen
     let first = bytes.len() - 4;
     let after = put_bytes(text, pen.line, &pen.held[..pen.count]);
     let line = put_bytes(text, after, &bytes[..first]);
-    Pen {
-        synced: false,
+    GapPen {
         line,
         held: [
             bytes[first],
@@ -139,30 +117,28 @@ fn hold_all(text: &mut Vec<u8>, pen: Pen, bytes: &[u8]) -> Pen
     }
 }
 
-/// Appends a payload word after an open line of `in_line` words. Gives that count afterwards.
-fn put_payload(text: &mut Vec<u8>, in_line: usize, register: u8, w: u32) -> usize
-    requires within { in_line < 8 }
+/// Appends a payload word after an open line. Gives the line afterwards.
+fn put_payload(text: &mut Vec<u8>, in_line: OpenWords, register: u8, w: u32) -> OpenWords
     requires room { vec_len text.old + 48 ≤ vec_capacity text.old }
-    ensures within { result < 8 }
-    ensures count { result ≡ words_place in_line (payload_steps register (w ∷ [])) }
-    ensures appends { Appends text.old text.new (open_words in_line (payload_steps register (w ∷ []))) 48 }
+    ensures count { result.count ≡ words_place in_line.count (payload_steps register (w ∷ [])) }
+    ensures appends { Appends text.old text.new (open_words in_line.count (payload_steps register (w ∷ []))) 48 }
 {
     if register == Reg::Cmd.number() {
-        put_command(text, in_line, w);
-        return 0;
+        put_command(text, in_line.count, w);
+        return OpenWords { count: 0 };
     }
-    put_word(text, in_line, w)
+    OpenWords {
+        count: put_word(text, in_line.count, w),
+    }
 }
 
-/// Appends payload words of one packet, one of CMD, after an open line of `in_line` words. Gives that count afterwards.
-fn put_body(text: &mut Vec<u8>, in_line: usize, register: u8, body: &[u8]) -> usize
-    requires within { in_line < 8 }
+/// Appends payload words of one packet, one of CMD, after an open line. Gives the line afterwards.
+fn put_body(text: &mut Vec<u8>, in_line: OpenWords, register: u8, body: &[u8]) -> OpenWords
     requires whole { length body.now ≡ 4 * (length body.now / 4) }
     requires one { register ≡ number_of Cmd → length body.now ≡ 4 }
     requires room { vec_len text.old + (64 + 3 * length body.now) ≤ vec_capacity text.old }
-    ensures within { result < 8 }
-    ensures count { result ≡ words_place in_line (payload_steps register (words_of_bytes body.now)) }
-    ensures appends { Appends text.old text.new (open_words in_line (payload_steps register (words_of_bytes body.now))) (64 + 3 * length body.now) }
+    ensures count { result.count ≡ words_place in_line.count (payload_steps register (words_of_bytes body.now)) }
+    ensures appends { Appends text.old text.new (open_words in_line.count (payload_steps register (words_of_bytes body.now))) (64 + 3 * length body.now) }
 {
     if register == Reg::Cmd.number() {
         return put_payload(
@@ -172,37 +148,37 @@ fn put_body(text: &mut Vec<u8>, in_line: usize, register: u8, body: &[u8]) -> us
             word_of([body[0], body[1], body[2], body[3]]),
         );
     }
-    put_words(text, in_line, body)
+    OpenWords {
+        count: put_words(text, in_line.count, body),
+    }
 }
 
 /// Appends what a run adds.
 pub(crate) fn put_run(text: &mut Vec<u8>, pen: Pen, run: Cut) -> Pen
     requires run { IsRun run }
     requires room { vec_len text.old + (64 + 3 * length (run_bytes run)) ≤ vec_capacity text.old }
-    ensures len { vec_len text.new ≤ vec_len text.old + (64 + 3 * length (run_bytes run.entry)) }
-    ensures room { vec_capacity text.old ≤ vec_capacity text.new }
+    ensures room { StaysWithin text.old text.new (64 + 3 * length (run_bytes run.entry)) }
     ensures listed { (given : List ℕ) → WritesRun run.entry (written_with pen (given ++ text.old.items)) (written_with result (given ++ text.new.items)) }
-    ensures held { (IsNeed run.entry → ⊥) → result.synced ≡ true → take result.count result.held ≡ [] }
+    ensures held { (IsNeed run.entry → ⊥) → is_in_session result ≡ true → held_by result ≡ [] }
 {
     match run {
         Cut::Need => pen,
-        Cut::Skip(bytes) => hold_all(text, in_gap(pen), bytes),
+        Cut::Skip(bytes) => Pen::Gap(hold_all(text, in_gap(pen), bytes)),
         Cut::Sync => {
-            put_sync(text, pen.line);
-            in_session(0)
+            put_sync(text, in_gap(pen).line);
+            Pen::Session(OpenWords { count: 0 })
         }
         Cut::Head(w, step) => {
-            put_head(text, session_line(pen), step, w);
-            in_session(0)
+            put_head(text, open_in(pen).count, step, w);
+            Pen::Session(OpenWords { count: 0 })
         }
-        Cut::Word(register, w) => in_session(put_payload(text, session_line(pen), register, w)),
-        Cut::Body(register, body) => in_session(put_body(text, session_line(pen), register, body)),
+        Cut::Word(register, w) => Pen::Session(put_payload(text, open_in(pen), register, w)),
+        Cut::Body(register, body) => Pen::Session(put_body(text, open_in(pen), register, body)),
     }
 }
 
 /// Appends what is left of a gap.
-fn end_gap(text: &mut Vec<u8>, pen: Pen)
-    requires gap { pen.synced ≡ false }
+fn end_gap(text: &mut Vec<u8>, pen: GapPen)
     requires room { vec_len text.old + 64 ≤ vec_capacity text.old }
     ensures items { text.new.items ≡ text.old.items ++ open_text 32 (codes "bytes ") hex_byte pen.line (take pen.count pen.held) ++ close (in_line_after 32 pen.line (take pen.count pen.held)) }
 {
@@ -227,9 +203,8 @@ pub(crate) fn put_end(text: &mut Vec<u8>, pen: Pen, kept: &[u8])
     requires room { vec_len text.old + 64 ≤ vec_capacity text.old }
     ensures listed { EndsWith (written_with pen text.old.items) kept.now text.new.items }
 {
-    if pen.synced {
-        end_session(text, pen.line, kept);
-    } else {
-        end_gap(text, pen);
+    match pen {
+        Pen::Gap(gap) => end_gap(text, gap),
+        _ => end_session(text, open_in(pen).count, kept),
     }
 }

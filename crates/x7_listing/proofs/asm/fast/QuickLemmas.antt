@@ -1,6 +1,6 @@
 -- Lemmas on `TakesLines` of specs/Assembling: lines that are read at once, and the texts after them.
 use Rattle.std.proofs.Math.Seq.{drop-nil}
-use Rattle.std.proofs.Common.{◌≡◌, ℕ, zero, suc, ◌+◌, ◌-◌, ◌<◌, ◌≤◌, List, [], ◌∷◌, ◌++◌, length, map, fold, take, drop, get_or, refl, ap, sym, subst, ◌∙◌, arith, append_assoc, append-nil, length-append, length-drop, take_all}
+use Rattle.std.proofs.Common.{◌≡◌, ℕ, zero, suc, ◌+◌, ◌-◌, ◌<◌, ◌≤◌, List, [], ◌∷◌, ◌++◌, length, map, fold, take, drop, get_or, refl, ap, sym, subst, ◌∙◌, arith, append_assoc, append-nil, length-append, length-drop, length-take, take_all, Vec, vec_len, vec_capacity}
 use Rattle.std.proofs.lemmas.Grind.{flat_map-append}
 use Rattle.std.proofs.lemmas.List.{drop-append-le, drop_more, take-append-drop, take-append-le}
 use Rattle.std.proofs.lemmas.List.Sums.{fold-append}
@@ -8,13 +8,15 @@ use Rattle.std.specs.List.{AllByRecursion, flat_map}
 use Rattle.x7_words.proofs.ListLemmas.{all_append, map_append}
 use Rattle.x7_crc.specs.Checking.{check_of_bytes, CheckerState}
 use Rattle.x7_crc.proofs.CheckerLemmas.{still_keeps}
+use Rattle.std.specs.declared.alloc.Global.{Global}
+use Rattle.x7_text.specs.Appends.{Appends}
 use Rattle.x7_text.specs.Lines.{split}
+use Rattle.x7_text.specs.Reads.{StaysWithin}
 use Rattle.x7_text.proofs.SplitLemmas.{split_line}
 use Rattle.x7_listing.specs.Assembly.{assembled, with_line}
 use Rattle.x7_listing.specs.Assembling.{asm_state, TextsAreRead, OpensText, TakesFirst, TakesLines}
-use Rattle.x7_listing.specs.Line.{Line, line_bytes, FitsLine, IsListed, text_of}
-use Rattle.x7_listing.specs.Listed.{ended_text, ended_texts}
-use Rattle.x7_listing.proofs.RoundLemmas.{line_free, same_bytes}
+use Rattle.x7_listing.specs.Line.{Line, line_bytes, FitsLine, IsListed, text_of, ended_text, ended_texts}
+use Rattle.x7_listing.proofs.line.LineTextLemmas.{line_free, same_bytes}
 
 texts_ahead : (ls : List Line) (rest : List ℕ) → AllByRecursion FitsLine ls → AllByRecursion IsListed ls → split (ended_texts ls ++ rest) ≡ map text_of ls ++ split rest
 texts_ahead [] rest f i = refl
@@ -109,3 +111,30 @@ pub takes_line : (l : Line) (word row text old new : List ℕ) (a b end size : �
     → TakesFirst text old new size 1
 takes_line l word row text old new a b end size f i e w r at whole is h n =
     subst (λ (k : ℕ). TakesFirst text old new k 1) (sym whole) (takes_row l word row text old new a b f i e w r (ap (λ (k : ℕ). get_or text k 0) (sym at) ∙ is) h n)
+
+-- the first bytes of a text are looked at
+pub takes_seen : (text first old new : List ℕ) (n size count : ℕ) → first ≡ take n text → TakesFirst first old new size count → TakesFirst text old new size count
+takes_seen text first old new n size count e t =
+    let s : TakesFirst (take n text) old new size count = subst (λ (f : List ℕ). TakesFirst f old new size count) e t in
+    record {
+      some = s.some;
+      within = omega (arith, s.within, length-take n text);
+      few = s.few;
+      takes = record {
+        lines = s.takes.lines;
+        fit = s.takes.fit;
+        listed = s.takes.listed;
+        text_is = sym (take-append-drop n text) ∙ ap (λ r. r ++ drop n text) s.takes.text_is ∙ append_assoc (ended_texts s.takes.lines) (drop size (take n text)) (drop n text)
+            ∙ ap (λ r. ended_texts s.takes.lines ++ r) (sym (drop-append-le size (take n text) (drop n text) s.within) ∙ ap (drop size) (take-append-drop n text));
+        appended = s.takes.appended;
+        count_is = s.takes.count_is;
+      };
+    }
+
+-- bytes of one line at most were appended
+pub stays : {old new : Vec ℕ Global} {bytes : List ℕ} {most : ℕ} → Appends old new bytes most → most ≤ 32 → StaysWithin old new 32
+stays a h = record { within = omega (arith, a.within, h); room = a.room }
+
+-- bytes of one line at most were appended, and some of them taken away
+pub stays_cut : {old mid new : Vec ℕ Global} {bytes : List ℕ} {most : ℕ} (n : ℕ) → Appends old mid bytes most → most ≤ 32 → vec_len new + (vec_len mid - n) ≡ vec_len mid → vec_capacity new ≡ vec_capacity mid → StaysWithin old new 32
+stays_cut n a h l k = record { within = omega (arith, a.within, h, l); room = omega (arith, a.room, k) }

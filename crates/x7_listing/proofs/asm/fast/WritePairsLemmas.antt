@@ -15,11 +15,9 @@ use Rattle.x7_packets.specs.PacketWords.{type1_write}
 use Rattle.x7_listing.specs.Assembling.{TakesFirst}
 use Rattle.x7_listing.specs.Fast.AtOnce.{command_lines, bytes_differ, write_line, write_start}
 use Rattle.x7_listing.specs.HeadLine.{command_line}
-use Rattle.x7_listing.specs.Line.{Line, Data, Write, line_bytes, text_of}
-use Rattle.x7_listing.specs.Listed.{cmd_line, ended_text}
-use Rattle.x7_listing.proofs.ListedLemmas.{cmd_text}
+use Rattle.x7_listing.specs.Line.{Line, Data, Write, line_bytes, text_of, cmd_line, ended_text}
 use Rattle.x7_listing.proofs.asm.fast.QuickLemmas.{dropped_twice}
-use Rattle.x7_listing.proofs.ListedBytesLemmas.{Listed, cmd_stands, is_eq, IsLineOf}
+use Rattle.x7_listing.proofs.line.LineTextLemmas.{cmd_text, Listed, cmd_stands, is_eq, IsLineOf}
 
 -- ---- as many bytes are the same as come before the first that differs
 

@@ -13,9 +13,7 @@ use Rattle.x7_packets.specs.PacketWords.{no_op, sync_word, type1_write}
 use Rattle.x7_packets.specs.SyncWord.{sync_bytes}
 use Rattle.x7_packets.specs.Cutting.{CutterState, IsRun, AfterRun}
 use Rattle.x7_packets.specs.Nops.{equal_bytes}
-use Rattle.x7_packets.specs.Mode.{Mode}
 use Rattle.x7_packets.specs.Packet.{payload_steps, register_of}
-use Rattle.x7_packets.specs.Reading.{Place, Searching, Synced}
 use Rattle.x7_packets.specs.declared.cutter.Cut.{Cut}
 use Rattle.x7_packets.specs.declared.cutter.Cut.TheVariants.{Body, Head, Skip, Sync, Word}
 use Rattle.x7_packets.specs.declared.header.Step.{Step}
@@ -27,8 +25,7 @@ use Rattle.x7_regs.specs.Register.{reg_name}
 use Rattle.x7_listing.specs.declared.line.head_line.HeadLine.TheVariants.{Write}
 use Rattle.x7_listing.specs.Fast.AtOnce.{command_lines, equal_lines, write_line, write_name, write_start}
 use Rattle.x7_listing.specs.HeadLine.{best_line, command_line, text_of_head, line_text}
-use Rattle.x7_listing.specs.Listing.{session_text}
-use Rattle.x7_listing.specs.Telling.{GapListed, HasListedAt, HasListedJust, words_place, open_words, WritesRun, lister_of, written_of}
+use Rattle.x7_listing.specs.Telling.{GapListed, HasListedJust, words_place, open_words, WritesRun, lister_of, written_of}
 use Rattle.x7_listing.proofs.GapLemmas.{listed_more}
 use Rattle.x7_listing.proofs.RunLemmas.{by_body, by_head, by_skip, by_sync, by_word}
 use Rattle.x7_listing.proofs.SessionLemmas.{data_listed, is_data}
@@ -203,7 +200,7 @@ gap_listed c d true s2 line l2 count held h2 text text2 given before bytes rest 
     (by_skip (Skip run) run true false line 0 (in_line_after 32 0 (take count rest)) held [] sync_bytes given text text1 refl refl refl refl (λ given start gap g. gap_begun given text text1 start gap (take (count + 4) rest) (take count rest) x.found refl g)) in
     let two : HasListedJust (lister_of d s2 l2 h2 text2) given before ((bytes ++ take (count + 4) rest) ++ []) =
     took_run x.between d Sync false s2 (in_line_after 32 0 (take count rest)) l2 sync_bytes h2 text1 text2 given before (bytes ++ take (count + 4) rest) [] one x.sync tt
-    (by_sync Sync false s2 (in_line_after 32 0 (take count rest)) l2 sync_bytes h2 given text1 text2 refl e f
+    (by_sync Sync false s2 (in_line_after 32 0 (take count rest)) l2 (in_line_after 32 0 (take count rest)) sync_bytes h2 given text1 text2 refl (λ k. refl) e f
     (t ∙ ap (λ (k : List ℕ). text ++ (k ++ codes "sync\n")) (sym (bytes_closed (take count rest))) ∙ ap (λ (k : List ℕ). text ++ k) (append_assoc (open_text 32 (codes "bytes ") hex_byte 0 (take count rest)) (close (in_line_after 32 0 (take count rest))) (codes "sync\n"))
     ∙ sym (append_assoc text (open_text 32 (codes "bytes ") hex_byte 0 (take count rest)) (close (in_line_after 32 0 (take count rest)) ++ codes "sync\n")))) in
     subst (HasListedJust (lister_of d s2 l2 h2 text2) given before) (append-nil (bytes ++ take (count + 4) rest)) two
@@ -216,20 +213,3 @@ pub seam : (piece bytes taken : List ℕ) (at k : ℕ) → at ≤ length piece �
 seam piece bytes taken at k h e =
     let rest : take (length piece - at) (drop at piece) ≡ drop at piece = take_all (length piece - at) (drop at piece) (omega (arith, length-drop at piece)) in
     append_assoc bytes (take at piece) taken ∙ ap (λ t. bytes ++ t) (ap (λ t. take at piece ++ t) (sym e ∙ ap (take k) rest) ∙ sym (take-add at k piece))
-
--- in a session it does not matter which bytes of a gap are held
-any_held : (line : ℕ) (held h2 all start : List ℕ) (place : Place) (m : Mode) → HasListedAt (written_of true line held all) start place m → HasListedAt (written_of true line h2 all) start place m
-any_held line held h2 all start (Searching gap) m h = h
-any_held line held h2 all start (Synced gap packets tail) m h = h
-
-pub in_line_listed : (c : CutterState) (synced s2 : Bool) (line l2 : ℕ) (held h2 text given before bytes : List ℕ) → synced ≡ true → s2 ≡ true → l2 ≡ line
-    → HasListedJust (lister_of c synced line held text) given before bytes → HasListedJust (lister_of c s2 l2 h2 text) given before bytes
-in_line_listed c synced s2 line l2 held h2 text given before bytes a b e t =
-    let u : HasListedJust (lister_of c true line held text) given before bytes = subst (λ (k : Bool). HasListedJust (lister_of c k line held text) given before bytes) a t in
-    let one : HasListedJust (lister_of c true line h2 text) given before bytes = record {
-      sessions = u.sessions;
-      at = u.at;
-      cut = u.cut;
-      listed = any_held line held h2 (given ++ text) (before ++ flat_map session_text u.sessions) u.at c.mode u.listed;
-    } in
-    subst (λ (k : Bool). HasListedJust (lister_of c k l2 h2 text) given before bytes) (sym b) (subst (λ (k : ℕ). HasListedJust (lister_of c true k h2 text) given before bytes) (sym e) one)

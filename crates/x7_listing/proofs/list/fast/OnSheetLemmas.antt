@@ -11,7 +11,7 @@ use Rattle.x7_text.specs.Row.{close}
 use Rattle.x7_listing.specs.Fast.AtOnce.{command_lines, nop_lines, write_line, write_name, write_start}
 use Rattle.x7_listing.specs.HeadLine.{command_line, text_of_head}
 use Rattle.x7_listing.proofs.list.fast.AtOnceLemmas.{equal_block, equal_prefix, short_line_is}
-use Rattle.x7_listing.proofs.SessionLemmas.{word_line}
+use Rattle.x7_listing.proofs.line.LineTextLemmas.{no_command_line}
 
 -- a row after the end of an open line
 pub row_after : (shown begin row all new : List ℕ) (line : ℕ) → begin ≡ shown ++ close line → all ≡ begin ++ new → new ≡ row → all ≡ shown ++ (close line ++ row)
@@ -45,7 +45,7 @@ small_code FallEdge = omega arith
 -- the lines of a write to CMD of a word that is no small one
 pub far_command : (shown : List ℕ) (line register w : ℕ) → register ≡ 4 → 32 ≤ w → ((shown ++ (close line ++ write_start register)) ++ hex_word w) ++ 10 ∷ [] ≡ shown ++ (close line ++ command_lines w)
 far_command shown line register w e far =
-    let listed : command_line w ≡ codes "data " ++ hex_word w ++ 10 ∷ [] = word_line w (λ f. absurd (omega (arith, f, far, small_code (command_by w)))) in
+    let listed : command_line w ≡ codes "data " ++ hex_word w ++ 10 ∷ [] = no_command_line w (λ f. absurd (omega (arith, f, far, small_code (command_by w)))) in
     ap (λ (r : ℕ). ((shown ++ (close line ++ write_start r)) ++ hex_word w) ++ 10 ∷ []) e
     ∙ append_assoc (shown ++ (close line ++ write_start 4)) (hex_word w) (10 ∷ []) ∙ append_assoc shown (close line ++ write_start 4) (hex_word w ++ 10 ∷ [])
     ∙ ap (λ t. shown ++ t) (append_assoc (close line) (write_start 4) (hex_word w ++ 10 ∷ []) ∙ ap (λ t. close line ++ t) (append_assoc (write_line 4) (codes "data ") (hex_word w ++ 10 ∷ []) ∙ ap (λ t. write_line 4 ++ t) (sym listed)))

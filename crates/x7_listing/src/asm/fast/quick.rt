@@ -1,10 +1,10 @@
 //! Lines of a listing that are read at once: rows of words, bytes, writes, and no-ops by eight.
-ghost use Rattle.std.specs.Prelude.{◌≡◌, ℕ, List, ◌<◌, ◌≤◌, ◌+◌, ◌*◌, ◌++◌, codes, drop, length, slice_index, take, vec_len, vec_capacity, IsTrue, MatchOption};
+ghost use Rattle.std.specs.Prelude.{◌≡◌, ℕ, List, ◌<◌, ◌≤◌, ◌+◌, ◌*◌, ◌++◌, codes, drop, length, slice_index, take, IsTrue};
 ghost use Rattle.std.specs.List.{flat_map};
 ghost use Rattle.std.specs.Simd.Lanes.{chunk};
 ghost use Rattle.x7_listing.specs.Fast.AtOnce.{words_in_row};
-ghost use Rattle.x7_text.specs.Reads.{StaysWithin};
-ghost use Rattle.x7_listing.specs.Assembling.{TakesFirst, TakesLines};
+ghost use Rattle.x7_listing.specs.Assembling.{HasRoomForLine};
+ghost use Rattle.x7_listing.specs.Fast.Looking.{Looks, ReadsAtOnce};
 
 use super::write_pairs::{differences, put_pair};
 use crate::asm::reading::{access_at, put_word};
@@ -21,6 +21,9 @@ const NOPS: &[u8; 32] = b"nop\nnop\nnop\nnop\nnop\nnop\nnop\nnop\n";
 const NOP_BYTES: &[u8; 32] =
     b"\x20\0\0\0\x20\0\0\0\x20\0\0\0\x20\0\0\0\x20\0\0\0\x20\0\0\0\x20\0\0\0\x20\0\0\0";
 
+/// How many bytes of a text are looked at: as many as the longest line that is read at once has, with its end.
+pub(crate) const LOOK: usize = 77;
+
 /// Some whole lines that were read: how many bytes of the text they are, and how many lines.
 #[derive(Clone, Copy, Drop)]
 pub(crate) struct WholeLines {
@@ -30,11 +33,9 @@ pub(crate) struct WholeLines {
 
 /// Appends the bytes of eight no-ops, if their lines begin the text.
 #[inline(always)]
-fn put_nops(out: &mut Vec<u8>, text: &[u8]) -> Option<WholeLines>
-    requires room { vec_len out.old + 32 ≤ vec_capacity out.old }
-    requires long { 77 ≤ length text.now }
-    ensures takes { MatchOption result (out.new.items ≡ out.old.items) (λ taken. TakesFirst text.now out.old.items out.new.items taken.size taken.count) }
-    ensures room { StaysWithin out.old out.new 32 }
+fn put_nops(out: &mut Vec<u8>, text: &[u8; LOOK]) -> Option<WholeLines>
+    requires room { HasRoomForLine out.old }
+    ensures { Looks text.now out.old out.new result }
 {
     if (differences(text, NOPS).trailing_zeros() as usize) < 32 {
         return None;
@@ -75,8 +76,7 @@ fn both(a: u8x16, b: u8x16) -> u8x32
 
 /// What stands where a full `data` line has its digits.
 #[inline(always)]
-fn row_digits(text: &[u8]) -> [u8; 64]
-    requires { 77 ≤ length text.now }
+fn row_digits(text: &[u8; LOOK]) -> [u8; 64]
     ensures { result ≡ flat_map (λ (word : List ℕ). word) (words_in_row text.now 4 8) }
 {
     let low = both(two_eights(text, 5, 14), two_eights(text, 23, 32));
@@ -94,8 +94,7 @@ fn row_digits(text: &[u8]) -> [u8; 64]
 
 /// Whether spaces stand where a `data` line of this many words has them.
 #[inline(always)]
-fn has_spaces(text: &[u8], count: usize) -> bool
-    requires long { 77 ≤ length text.now }
+fn has_spaces(text: &[u8; LOOK], count: usize) -> bool
     requires few { count ≤ 8 }
     ensures { IsTrue result → (k : ℕ) → k < count → slice_index text.now (4 + 9 * k) ≡ 32 }
 {
@@ -109,8 +108,7 @@ fn has_spaces(text: &[u8], count: usize) -> bool
 
 /// Whether spaces stand so, with the loop of a full row, which is the longest, laid out by the compiler.
 #[inline(always)]
-fn is_spaced(text: &[u8], count: usize) -> bool
-    requires long { 77 ≤ length text.now }
+fn is_spaced(text: &[u8; LOOK], count: usize) -> bool
     requires few { count ≤ 8 }
     ensures { IsTrue result → (k : ℕ) → k < count → slice_index text.now (4 + 9 * k) ≡ 32 }
 {
@@ -122,8 +120,7 @@ fn is_spaced(text: &[u8], count: usize) -> bool
 
 /// Whether a text begins with the word `data`.
 #[inline(always)]
-fn is_data(text: &[u8]) -> bool
-    requires { 77 ≤ length text.now }
+fn is_data(text: &[u8; LOOK]) -> bool
     ensures { IsTrue result → take 4 text.now ≡ codes "data" }
 {
     [text[0], text[1], text[2], text[3]] == *b"data"
@@ -131,11 +128,9 @@ fn is_data(text: &[u8]) -> bool
 
 /// Appends the bytes of a `data` line of one to eight words, if one begins the text.
 #[inline(always)]
-fn put_data_row(out: &mut Vec<u8>, text: &[u8]) -> Option<WholeLines>
-    requires room { vec_len out.old + 32 ≤ vec_capacity out.old }
-    requires long { 77 ≤ length text.now }
-    ensures takes { MatchOption result (out.new.items ≡ out.old.items) (λ taken. TakesFirst text.now out.old.items out.new.items taken.size taken.count) }
-    ensures room { StaysWithin out.old out.new 32 }
+fn put_data_row(out: &mut Vec<u8>, text: &[u8; LOOK]) -> Option<WholeLines>
+    requires room { HasRoomForLine out.old }
+    ensures { Looks text.now out.old out.new result }
 {
     let prefix = prefix_of_hex(&row_digits(text));
     let count = prefix.digits / 8;
@@ -156,8 +151,7 @@ fn put_data_row(out: &mut Vec<u8>, text: &[u8]) -> Option<WholeLines>
 
 /// Whether a text begins with the word of a `bytes` line and the space after it.
 #[inline(always)]
-fn is_bytes(text: &[u8]) -> bool
-    requires { 77 ≤ length text.now }
+fn is_bytes(text: &[u8; LOOK]) -> bool
     ensures { IsTrue result → take 6 text.now ≡ codes "bytes " }
 {
     [text[0], text[1], text[2], text[3], text[4], text[5]] == *b"bytes "
@@ -165,8 +159,7 @@ fn is_bytes(text: &[u8]) -> bool
 
 /// The 64 bytes after the first six.
 #[inline(always)]
-fn after_word(text: &[u8]) -> [u8; 64]
-    requires { 77 ≤ length text.now }
+fn after_word(text: &[u8; LOOK]) -> [u8; 64]
     ensures { result ≡ take 64 (drop 6 text.now) }
 {
     u8x64::from_slice(&text[6..]).to_array()
@@ -174,11 +167,9 @@ fn after_word(text: &[u8]) -> [u8; 64]
 
 /// Appends the bytes of a `bytes` line, if one begins the text.
 #[inline(always)]
-fn put_bytes(out: &mut Vec<u8>, text: &[u8]) -> Option<WholeLines>
-    requires room { vec_len out.old + 32 ≤ vec_capacity out.old }
-    requires long { 77 ≤ length text.now }
-    ensures takes { MatchOption result (out.new.items ≡ out.old.items) (λ taken. TakesFirst text.now out.old.items out.new.items taken.size taken.count) }
-    ensures room { StaysWithin out.old out.new 32 }
+fn put_bytes(out: &mut Vec<u8>, text: &[u8; LOOK]) -> Option<WholeLines>
+    requires room { HasRoomForLine out.old }
+    ensures { Looks text.now out.old out.new result }
 {
     if !is_bytes(text) {
         return None;
@@ -212,11 +203,9 @@ fn place_of(byte: u8, bytes: u8x16) -> usize {
 
 /// Appends the bytes of a `write` line with a count of one digit, if one begins the text.
 #[inline(always)]
-fn put_write(out: &mut Vec<u8>, text: &[u8]) -> Option<WholeLines>
-    requires room { vec_len out.old + 32 ≤ vec_capacity out.old }
-    requires long { 77 ≤ length text.now }
-    ensures takes { MatchOption result (out.new.items ≡ out.old.items) (λ taken. TakesFirst text.now out.old.items out.new.items taken.size taken.count) }
-    ensures room { StaysWithin out.old out.new 32 }
+fn put_write(out: &mut Vec<u8>, text: &[u8; LOOK]) -> Option<WholeLines>
+    requires room { HasRoomForLine out.old }
+    ensures { Looks text.now out.old out.new result }
 {
     let space = place_of(b' ', u8x16::from_slice(&text[6..]));
     if space > 16 || !is_same(&text[..6], b"write ") || text[8 + space] != b'\n' {
@@ -234,11 +223,9 @@ fn put_write(out: &mut Vec<u8>, text: &[u8]) -> Option<WholeLines>
 
 /// Appends the bytes of the two lines of a write of one word, or of a `write` line, if they begin the text.
 #[inline(always)]
-fn put_writes(out: &mut Vec<u8>, text: &[u8]) -> Option<WholeLines>
-    requires room { vec_len out.old + 32 ≤ vec_capacity out.old }
-    requires long { 77 ≤ length text.now }
-    ensures takes { MatchOption result (out.new.items ≡ out.old.items) (λ taken. TakesFirst text.now out.old.items out.new.items taken.size taken.count) }
-    ensures room { StaysWithin out.old out.new 32 }
+fn put_writes(out: &mut Vec<u8>, text: &[u8; LOOK]) -> Option<WholeLines>
+    requires room { HasRoomForLine out.old }
+    ensures { Looks text.now out.old out.new result }
 {
     match put_pair(out, text) {
         Some(taken) => Some(taken),
@@ -248,14 +235,10 @@ fn put_writes(out: &mut Vec<u8>, text: &[u8]) -> Option<WholeLines>
 
 /// Appends the bytes of some first lines of the text, if they are of those that are read at once.
 #[inline(always)]
-fn put_some(out: &mut Vec<u8>, text: &[u8]) -> Option<WholeLines>
-    requires room { vec_len out.old + 32 ≤ vec_capacity out.old }
-    ensures takes { MatchOption result (out.new.items ≡ out.old.items) (λ taken. TakesFirst text.now out.old.items out.new.items taken.size taken.count) }
-    ensures room { StaysWithin out.old out.new 32 }
+fn put_some(out: &mut Vec<u8>, text: &[u8; LOOK]) -> Option<WholeLines>
+    requires room { HasRoomForLine out.old }
+    ensures { Looks text.now out.old out.new result }
 {
-    if text.len() < 77 {
-        return None;
-    }
     match text[0] {
         b'd' => put_data_row(out, text),
         b'w' => put_writes(out, text),
@@ -268,11 +251,7 @@ fn put_some(out: &mut Vec<u8>, text: &[u8]) -> Option<WholeLines>
 /// Appends the bytes of the text's first lines, as far as they are read at once, there is room for them and a further line,
 /// and their bytes are within the limit.
 fn put_quick(out: &mut Vec<u8>, text: &[u8]) -> WholeLines
-    ensures takes { TakesLines text.now (drop result.size text.now) out.old.items out.new.items result.count }
-    ensures within { result.size ≤ length text.now }
-    ensures few { result.count ≤ result.size }
-    ensures limit { vec_len out.old ≤ ASM_LIMIT → vec_len out.new ≤ ASM_LIMIT }
-    ensures room { vec_len out.old + 32 ≤ vec_capacity out.old → vec_len out.new + 32 ≤ vec_capacity out.new }
+    ensures { ReadsAtOnce text.now out.old out.new result }
 {
     let mut all = WholeLines { size: 0, count: 0 };
     loop {
@@ -282,7 +261,10 @@ fn put_quick(out: &mut Vec<u8>, text: &[u8]) -> WholeLines
         if out.len() > ASM_LIMIT - 32 {
             return all;
         }
-        let Some(taken) = put_some(out, &text[all.size..]) else {
+        let Some((first, _)) = text[all.size..].split_first_chunk::<LOOK>() else {
+            return all;
+        };
+        let Some(taken) = put_some(out, first) else {
             return all;
         };
         all = WholeLines {
@@ -296,11 +278,7 @@ fn put_quick(out: &mut Vec<u8>, text: &[u8]) -> WholeLines
 /// may be a header's.
 #[inline(always)]
 pub(crate) fn put_quick_behind(out: &mut Vec<u8>, n: u64, text: &[u8]) -> WholeLines
-    ensures takes { TakesLines text.now (drop result.size text.now) out.old.items out.new.items result.count }
-    ensures within { result.size ≤ length text.now }
-    ensures few { result.count ≤ result.size }
-    ensures limit { vec_len out.old ≤ ASM_LIMIT → vec_len out.new ≤ ASM_LIMIT }
-    ensures room { vec_len out.old + 32 ≤ vec_capacity out.old → vec_len out.new + 32 ≤ vec_capacity out.new }
+    ensures reads { ReadsAtOnce text.now out.old out.new result }
     ensures none { n ≡ 0 → result.count ≡ 0 }
 {
     if n == 0 {

@@ -1,13 +1,13 @@
 //! A write of one word read at once: its two lines are compared with a row of the tables that list writes them from.
-ghost use Rattle.std.specs.Prelude.{◌≡◌, ◌<◌, ◌≤◌, ◌+◌, ◌++◌, length, take, vec_len, vec_capacity, IfSome, MatchOption};
+ghost use Rattle.std.specs.Prelude.{◌≡◌, ◌<◌, ◌≤◌, ◌+◌, ◌++◌, take, IfSome};
 ghost use Rattle.std.specs.Simd.Lanes.{chunk, mask_l, zip2};
 ghost use Rattle.x7_words.specs.Word.{bytes_of_word};
 ghost use Rattle.x7_text.specs.Appends.{Appends};
-ghost use Rattle.x7_text.specs.Reads.{StaysWithin};
 ghost use Rattle.x7_listing.specs.Fast.AtOnce.{bytes_differ, row_text};
-ghost use Rattle.x7_listing.specs.Assembling.{TakesFirst};
+ghost use Rattle.x7_listing.specs.Assembling.{HasRoomForLine};
+ghost use Rattle.x7_listing.specs.Fast.Looking.{Looks};
 
-use super::quick::WholeLines;
+use super::quick::{LOOK, WholeLines};
 use crate::line::{command_row, write_row};
 use std::simd::prelude::*;
 use x7_packets::type1_write;
@@ -39,8 +39,8 @@ static COMMANDS: [u8; 64] = [
 
 /// The number below 32 that a table has for the name from `at` on. Of what is no name it gives any.
 #[inline(always)]
-fn number_at(table: &[u8; 64], text: &[u8], at: usize) -> u8
-    requires { at + 4 ≤ length text.now }
+fn number_at(table: &[u8; 64], text: &[u8; LOOK], at: usize) -> u8
+    requires { at + 4 ≤ 77 }
     ensures { result < 32 }
 {
     let name = u32::from_le_bytes([text[at], text[at + 1], text[at + 2], text[at + 3]]);
@@ -49,8 +49,7 @@ fn number_at(table: &[u8; 64], text: &[u8], at: usize) -> u8
 
 /// A bit for each of the first 32 bytes that differs from that of a row, that of the first byte lowest.
 #[inline(always)]
-pub(crate) fn differences(text: &[u8], row: &[u8; 32]) -> u64
-    requires { 32 ≤ length text.now }
+pub(crate) fn differences(text: &[u8; LOOK], row: &[u8; 32]) -> u64
     ensures { result ≡ mask_l (zip2 bytes_differ (chunk 0 32 text.now) row.now) }
 {
     u8x32::from_slice(text)
@@ -60,8 +59,7 @@ pub(crate) fn differences(text: &[u8], row: &[u8; 32]) -> u64
 
 /// How long the text of a row is, if the text begins with it.
 #[inline(always)]
-fn begun(text: &[u8], row: &[u8; 32]) -> Option<usize>
-    requires { 32 ≤ length text.now }
+fn begun(text: &[u8; LOOK], row: &[u8; 32]) -> Option<usize>
     ensures { IfSome result (λ size. (size ≤ 32) × (take size text.now ≡ row_text row.now)) }
 {
     let size = row[31] as usize;
@@ -74,7 +72,7 @@ fn begun(text: &[u8], row: &[u8; 32]) -> Option<usize>
 /// Appends the bytes of two words.
 #[inline(always)]
 fn put_two(out: &mut Vec<u8>, one: u32, other: u32)
-    requires { vec_len out.old + 32 ≤ vec_capacity out.old }
+    requires { HasRoomForLine out.old }
     ensures appends { Appends out.old out.new (bytes_of_word one ++ bytes_of_word other) 32 }
 {
     put(out, &bytes_of(one));
@@ -83,12 +81,10 @@ fn put_two(out: &mut Vec<u8>, one: u32, other: u32)
 
 /// Appends the bytes of a write of one word to this register, if its two lines begin the text.
 #[inline(always)]
-fn put_word_pair(out: &mut Vec<u8>, text: &[u8], register: u8) -> Option<WholeLines>
+fn put_word_pair(out: &mut Vec<u8>, text: &[u8; LOOK], register: u8) -> Option<WholeLines>
     requires range { register < 32 }
-    requires room { vec_len out.old + 32 ≤ vec_capacity out.old }
-    requires long { 77 ≤ length text.now }
-    ensures takes { MatchOption result (out.new.items ≡ out.old.items) (λ taken. TakesFirst text.now out.old.items out.new.items taken.size taken.count) }
-    ensures room { StaysWithin out.old out.new 32 }
+    requires room { HasRoomForLine out.old }
+    ensures { Looks text.now out.old out.new result }
 {
     let Some(size) = begun(text, write_row(register)) else {
         return None;
@@ -108,12 +104,10 @@ fn put_word_pair(out: &mut Vec<u8>, text: &[u8], register: u8) -> Option<WholeLi
 
 /// Appends the bytes of a write of this code to CMD, if its two lines begin the text.
 #[inline(always)]
-fn put_command_pair(out: &mut Vec<u8>, text: &[u8], code: u32) -> Option<WholeLines>
+fn put_command_pair(out: &mut Vec<u8>, text: &[u8; LOOK], code: u32) -> Option<WholeLines>
     requires range { code < 32 }
-    requires room { vec_len out.old + 32 ≤ vec_capacity out.old }
-    requires long { 77 ≤ length text.now }
-    ensures takes { MatchOption result (out.new.items ≡ out.old.items) (λ taken. TakesFirst text.now out.old.items out.new.items taken.size taken.count) }
-    ensures room { StaysWithin out.old out.new 32 }
+    requires room { HasRoomForLine out.old }
+    ensures { Looks text.now out.old out.new result }
 {
     let Some(size) = begun(text, command_row(code)) else {
         return None;
@@ -124,11 +118,9 @@ fn put_command_pair(out: &mut Vec<u8>, text: &[u8], code: u32) -> Option<WholeLi
 
 /// Appends the bytes of a write of one word, if its two lines begin the text.
 #[inline(always)]
-pub(crate) fn put_pair(out: &mut Vec<u8>, text: &[u8]) -> Option<WholeLines>
-    requires room { vec_len out.old + 32 ≤ vec_capacity out.old }
-    requires long { 77 ≤ length text.now }
-    ensures takes { MatchOption result (out.new.items ≡ out.old.items) (λ taken. TakesFirst text.now out.old.items out.new.items taken.size taken.count) }
-    ensures room { StaysWithin out.old out.new 32 }
+pub(crate) fn put_pair(out: &mut Vec<u8>, text: &[u8; LOOK]) -> Option<WholeLines>
+    requires room { HasRoomForLine out.old }
+    ensures { Looks text.now out.old out.new result }
 {
     let register = number_at(&REGISTERS, text, 6);
     if register == Reg::Cmd.number() {

@@ -7,16 +7,19 @@ ghost use Rattle.x7_packets.specs.Cutting.{CutterState};
 ghost use Rattle.x7_packets.specs.Nops.{nop_bytes};
 ghost use Rattle.x7_packets.specs.PacketWords.{no_op, type1_write};
 ghost use Rattle.x7_packets.specs.Packet.{payload_steps};
-ghost use Rattle.x7_text.specs.Row.{bytes_text, close, in_line_after, open_text, spaced};
-ghost use Rattle.x7_listing.specs.Fast.TakingAtOnce.{TakesAtOnce, TakesOnSheet};
+ghost use Rattle.x7_text.specs.Row.{bytes_text, close};
 ghost use Rattle.x7_listing.specs.Fast.AtOnce.{command_lines};
+ghost use Rattle.x7_listing.specs.Fast.OnSheet.{ShowsWords, ListsMoreAfter, on_sheet};
+ghost use Rattle.x7_listing.specs.Fast.TakingAtOnce.{TakesAtOnce, TakesOnSheet};
 ghost use Rattle.x7_listing.specs.HeadLine.{text_of_head};
-ghost use Rattle.x7_listing.specs.Pens.{TakesHead, TellsAfter, TellsOn, lister_with, on_sheet};
+ghost use Rattle.x7_listing.specs.Pens.{TakesHead, ListsMore, lister_with};
+ghost use Rattle.x7_listing.specs.declared.list.pen.state.Pen.{Pen};
 ghost use Rattle.x7_listing.specs.Telling.{words_place, open_words};
 
 use super::sheet::{SHEET, put_prefix, put_row, put_whole};
 use crate::line::{command_row, name_row, write_row};
-use crate::list::pen::{Pen, in_session, session_line};
+use crate::list::lister::BYTE_ROOM;
+use crate::list::pen::{OpenWords, Pen};
 use x7_packets::{Cutter, Step};
 use x7_regs::Reg;
 use x7_text::{bytes_line, data_line, hex_of_word, put};
@@ -30,11 +33,11 @@ const FEW: usize = 32;
 /// The lines of as many no-ops as are put on a sheet at once.
 static NOPS: [[u8; 4]; FEW] = [*b"nop\n"; FEW];
 
-/// Where the text of a sheet ends, and how many words stand in the open line then.
+/// Where the text of a sheet ends, and the words of the open line then.
 #[derive(Clone, Copy)]
 struct End {
     len: usize,
-    line: usize,
+    in_line: OpenWords,
 }
 
 /// Puts the end of an open line of `in_line` words, and nothing where none is open.
@@ -71,22 +74,21 @@ fn put_command(sheet: &mut [u8; SHEET], len: usize, in_line: usize, w: u32) -> u
 fn put_one_word(sheet: &mut [u8; SHEET], len: usize, in_line: usize, register: u8, w: u32) -> End
     requires range { register < 32 }
     requires room { len + 42 ≤ 2048 }
-    ensures within { result.line < 8 }
-    ensures count { result.line ≡ words_place 0 (payload_steps register (w ∷ [])) }
+    ensures count { result.in_line.count ≡ words_place 0 (payload_steps register (w ∷ [])) }
     ensures len { result.len ≤ len + 42 }
     ensures text { take result.len sheet.new ≡ take len sheet.old ++ (close in_line ++ text_of_head (Step.Open register 1) (type1_write register 1) ++ open_words 0 (payload_steps register (w ∷ []))) }
 {
     if register == Reg::Cmd.number() {
         return End {
             len: put_command(sheet, len, in_line, w),
-            line: 0,
+            in_line: OpenWords { count: 0 },
         };
     }
     let begin = put_close(sheet, len, in_line);
     let start = put_row(sheet, begin, write_row(register));
     End {
         len: put_whole(sheet, start, &hex_of_word(w)),
-        line: 1,
+        in_line: OpenWords { count: 1 },
     }
 }
 
@@ -104,24 +106,26 @@ fn put_count(sheet: &mut [u8; SHEET], len: usize, count: usize) -> usize
     put_whole(sheet, len, &[b'1', b'0' + (count - 10) as u8, b'\n'])
 }
 
-/// Puts the line of the header of a write of a few words, after an open line of `in_line` words.
-#[inline(always)]
-fn put_head(
-    sheet: &mut [u8; SHEET],
-    len: usize,
-    in_line: usize,
+/// A write of one to sixteen words: the register's number, and the word count.
+#[derive(Clone, Copy)]
+struct ShortWrite {
     register: u8,
     count: usize,
-) -> usize
-    requires range { register < 32 }
-    requires few { count ≤ 16 }
+    ghost range: { register < 32 },
+    ghost some: { 0 < count },
+    ghost few: { count ≤ 16 },
+}
+
+/// Puts the line of the header of a short write, after an open line of `in_line` words.
+#[inline(always)]
+fn put_head(sheet: &mut [u8; SHEET], len: usize, in_line: usize, write: ShortWrite) -> usize
     requires room { len + 36 ≤ 2048 }
     ensures len { result ≤ len + 36 }
-    ensures text { take result sheet.new ≡ take len sheet.old ++ (close in_line ++ text_of_head (Step.Open register count) (type1_write register count)) }
+    ensures text { take result sheet.new ≡ take len sheet.old ++ (close in_line ++ text_of_head (Step.Open write.register write.count) (type1_write write.register write.count)) }
 {
     let begin = put_close(sheet, len, in_line);
-    let start = put_row(sheet, begin, name_row(register));
-    put_count(sheet, start, count)
+    let start = put_row(sheet, begin, name_row(write.register));
+    put_count(sheet, start, write.count)
 }
 
 /// Puts the first of eight words, one or more, in a new `data` line.
@@ -130,21 +134,19 @@ fn put_in_row(sheet: &mut [u8; SHEET], len: usize, bytes: &[u8; 32], count: usiz
     requires some { 0 < count }
     requires few { count ≤ 8 }
     requires room { len + 77 ≤ 2048 }
-    ensures within { result.line < 8 }
-    ensures count { result.line ≡ in_line_after 8 0 (words_of_bytes (take (4 * count) bytes.now)) }
     ensures len { result.len ≤ len + 77 }
-    ensures text { take result.len sheet.new ≡ take len sheet.old ++ open_text 8 (codes "data") spaced 0 (words_of_bytes (take (4 * count) bytes.now)) }
+    ensures shows { ShowsWords (take (4 * count) bytes.now) (take len sheet.old) (take result.len sheet.new) result.in_line }
 {
     let line = data_line(bytes);
     if count == 8 {
         return End {
             len: put_whole(sheet, len, &line),
-            line: 0,
+            in_line: OpenWords { count: 0 },
         };
     }
     End {
         len: put_prefix(sheet, len, &line, 4 + 9 * count),
-        line: count,
+        in_line: OpenWords { count },
     }
 }
 
@@ -154,10 +156,8 @@ fn put_words(sheet: &mut [u8; SHEET], len: usize, bytes: &[u8; 64], count: usize
     requires some { 0 < count }
     requires few { count ≤ 16 }
     requires room { len + 154 ≤ 2048 }
-    ensures within { result.line < 8 }
-    ensures count { result.line ≡ in_line_after 8 0 (words_of_bytes (take (4 * count) bytes.now)) }
     ensures len { result.len ≤ len + 154 }
-    ensures text { take result.len sheet.new ≡ take len sheet.old ++ open_text 8 (codes "data") spaced 0 (words_of_bytes (take (4 * count) bytes.now)) }
+    ensures shows { ShowsWords (take (4 * count) bytes.now) (take len sheet.old) (take result.len sheet.new) result.in_line }
 {
     let (rows, _) = bytes.as_chunks::<32>();
     if count <= 8 {
@@ -182,27 +182,28 @@ fn put_bytes_and_sync(sheet: &mut [u8; SHEET], len: usize, bytes: &[u8; 32], cou
     put_whole(sheet, end, b"\nsync\n")
 }
 
-/// What was put on a sheet: the pen after it, how long the sheet's text is then, and how many bytes of the piece it was.
+/// What was put on a sheet: the words of the open line after it, how long the sheet's text is then, and how many bytes of the
+/// piece it was.
 #[derive(Clone, Copy)]
 struct Next {
-    pen: Pen,
+    in_line: OpenWords,
     len: usize,
     size: usize,
 }
 
 /// Puts what a write of one word adds.
 #[inline(always)]
-fn put_write(sheet: &mut [u8; SHEET], len: usize, pen: Pen, register: u8, w: u32) -> Next
+fn put_write(sheet: &mut [u8; SHEET], len: usize, in_line: OpenWords, register: u8, w: u32) -> Next
     requires range { register < 32 }
     requires room { len + 42 ≤ 2048 }
     ensures size { result.size ≡ 8 }
     ensures len { result.len ≤ len + 42 }
     ensures listed { (c d : CutterState) (rest : List ℕ) → WritesOne c d rest register w
-        → TellsAfter (on_sheet c pen sheet.old len) (on_sheet d result.pen sheet.new result.len) (take 8 rest) }
+        → ListsMoreAfter (on_sheet c in_line sheet.old len) (on_sheet d result.in_line sheet.new result.len) (take 8 rest) }
 {
-    let end = put_one_word(sheet, len, session_line(pen), register, w);
+    let end = put_one_word(sheet, len, in_line.count, register, w);
     Next {
-        pen: in_session(end.line),
+        in_line: end.in_line,
         len: end.len,
         size: 8,
     }
@@ -228,49 +229,45 @@ fn first_64(bytes: &[u8]) -> &[u8; 64]
     &blocks[0]
 }
 
-/// Puts what a write of a few words adds, whose packet begins these bytes.
+/// Puts what a short write adds, whose packet begins these bytes.
 #[inline(always)]
 fn put_short_write(
     sheet: &mut [u8; SHEET],
     len: usize,
-    pen: Pen,
-    register: u8,
-    count: usize,
+    in_line: OpenWords,
+    write: ShortWrite,
     rest: &[u8],
 ) -> Next
-    requires range { register < 32 }
-    requires some { 0 < count }
-    requires few { count ≤ 16 }
     requires long { 68 ≤ length rest.now }
     requires room { len + 190 ≤ 2048 }
-    ensures size { result.size ≡ 4 + 4 * count }
+    ensures size { result.size ≡ 4 + 4 * write.count }
     ensures len { result.len ≤ len + 190 }
-    ensures listed { (c d : CutterState) → WritesFew c d rest.now register count
-        → TellsAfter (on_sheet c pen sheet.old len) (on_sheet d result.pen sheet.new result.len) (take (4 + 4 * count) rest.now) }
+    ensures listed { (c d : CutterState) → WritesFew c d rest.now write.register write.count
+        → ListsMoreAfter (on_sheet c in_line sheet.old len) (on_sheet d result.in_line sheet.new result.len) (take (4 + 4 * write.count) rest.now) }
 {
-    let start = put_head(sheet, len, session_line(pen), register, count);
-    let end = put_words(sheet, start, first_64(&rest[4..]), count);
+    let start = put_head(sheet, len, in_line.count, write);
+    let end = put_words(sheet, start, first_64(&rest[4..]), write.count);
     Next {
-        pen: in_session(end.line),
+        in_line: end.in_line,
         len: end.len,
-        size: 4 + 4 * count,
+        size: 4 + 4 * write.count,
     }
 }
 
 /// Puts what a few no-ops in a row add, one or more.
 #[inline(always)]
-fn put_few_nops(sheet: &mut [u8; SHEET], len: usize, pen: Pen, count: usize) -> Next
+fn put_few_nops(sheet: &mut [u8; SHEET], len: usize, in_line: OpenWords, count: usize) -> Next
     requires some { 0 < count }
     requires few { count ≤ 32 }
     requires room { len + 129 ≤ 2048 }
     ensures size { result.size ≡ 4 * count }
     ensures len { result.len ≤ len + (4 * count + 1) }
     ensures listed { (c : CutterState) → TakesHead c no_op Step.Nop
-        → TellsAfter (on_sheet c pen sheet.old len) (on_sheet c result.pen sheet.new result.len) (nop_bytes count) }
+        → ListsMoreAfter (on_sheet c in_line sheet.old len) (on_sheet c result.in_line sheet.new result.len) (nop_bytes count) }
 {
-    let start = put_close(sheet, len, session_line(pen));
+    let start = put_close(sheet, len, in_line.count);
     Next {
-        pen: in_session(0),
+        in_line: OpenWords { count: 0 },
         len: put_prefix(sheet, start, NOPS.as_flattened(), 4 * count),
         size: 4 * count,
     }
@@ -278,18 +275,23 @@ fn put_few_nops(sheet: &mut [u8; SHEET], len: usize, pen: Pen, count: usize) -> 
 
 /// Puts what a gap after a session adds, and the sync word after it, which begin these bytes.
 #[inline(always)]
-fn put_gap(sheet: &mut [u8; SHEET], len: usize, pen: Pen, count: usize, rest: &[u8]) -> Next
-    requires session { pen.synced ≡ true }
+fn put_gap(
+    sheet: &mut [u8; SHEET],
+    len: usize,
+    in_line: OpenWords,
+    count: usize,
+    rest: &[u8],
+) -> Next
     requires near { count + 4 ≤ 32 }
     requires long { 36 ≤ length rest.now }
     requires room { len + 77 ≤ 2048 }
     ensures size { result.size ≡ count + 4 }
     ensures len { result.len ≤ len + 77 }
     ensures listed { (c d : CutterState) → EndsGap c d rest.now count
-        → TellsAfter (on_sheet c pen sheet.old len) (on_sheet d result.pen sheet.new result.len) (take (count + 4) rest.now) }
+        → ListsMoreAfter (on_sheet c in_line sheet.old len) (on_sheet d result.in_line sheet.new result.len) (take (count + 4) rest.now) }
 {
     Next {
-        pen: in_session(0),
+        in_line: OpenWords { count: 0 },
         len: put_bytes_and_sync(sheet, len, first_32(rest), count),
         size: count + 4,
     }
@@ -301,39 +303,36 @@ fn take_next(
     sheet: &mut [u8; SHEET],
     len: usize,
     cutter: &mut Cutter,
-    pen: Pen,
+    in_line: OpenWords,
     rest: &[u8],
 ) -> Option<Next>
     requires room { len + 256 ≤ 2048 }
     ensures some { IfSome result (λ n. TakesOnSheet cutter.old cutter.new rest.now n.size len n.len) }
-    ensures listed { IfSome result (λ n. TellsAfter (on_sheet cutter.old pen sheet.old len) (on_sheet cutter.new n.pen sheet.new n.len) (take n.size rest.now)) }
-    ensures none { IfNone result (cutter.new ≡ cutter.old) }
-    ensures same { IfNone result (sheet.new ≡ sheet.old) }
+    ensures listed { IfSome result (λ n. ListsMoreAfter (on_sheet cutter.old in_line sheet.old len) (on_sheet cutter.new n.in_line sheet.new n.len) (take n.size rest.now)) }
+    ensures none { IfNone result ((cutter.new ≡ cutter.old) × (sheet.new ≡ sheet.old)) }
 {
     if let Some((register, w)) = cutter.take_write(rest) {
-        return Some(put_write(sheet, len, pen, register, w));
+        return Some(put_write(sheet, len, in_line, register, w));
     }
     if let Some((register, count)) = cutter.take_short_write(rest) {
-        return Some(put_short_write(sheet, len, pen, register, count, rest));
+        let write = ShortWrite { register, count };
+        return Some(put_short_write(sheet, len, in_line, write, rest));
     }
     let nops = cutter.nop_count(&rest[..rest.len().min(4 * FEW)]);
     if nops > 0 {
-        return Some(put_few_nops(sheet, len, pen, nops));
-    }
-    if !pen.synced {
-        return None;
+        return Some(put_few_nops(sheet, len, in_line, nops));
     }
     let Some(count) = cutter.take_gap(rest) else {
         return None;
     };
-    Some(put_gap(sheet, len, pen, count, rest))
+    Some(put_gap(sheet, len, in_line, count, rest))
 }
 
 /// The first byte of a write's header whose reserved bits are 0.
-const WRITE: u8 = 0x30;
+const WRITE_BYTE: u8 = 0x30;
 
 /// The first byte of the no-op.
-const NO_OP: u8 = 0x20;
+const NO_OP_BYTE: u8 = 0x20;
 
 /// Whether the next word may be a write or a no-op.
 #[inline(always)]
@@ -341,13 +340,13 @@ fn may_come(rest: &[u8]) -> bool {
     let [first, ..] = rest else {
         return false;
     };
-    *first == WRITE || *first == NO_OP
+    *first == WRITE_BYTE || *first == NO_OP_BYTE
 }
 
-/// What was taken at once: the pen after it, and how many bytes it has.
+/// What was taken at once: the words of the open line after it, and how many bytes it has.
 #[derive(Clone, Copy)]
 pub(crate) struct Taken {
-    pub(crate) pen: Pen,
+    pub(crate) in_line: OpenWords,
     pub(crate) size: usize,
 }
 
@@ -360,24 +359,27 @@ pub(crate) fn take_short(
     pen: Pen,
     rest: &[u8],
 ) -> Option<Taken>
-    requires { vec_len text.old + 131 * length rest.now ≤ vec_capacity text.old }
+    requires { vec_len text.old + BYTE_ROOM * length rest.now ≤ vec_capacity text.old }
     ensures some { IfSome result (λ t. TakesAtOnce cutter.old cutter.new rest.now t.size (vec_len text.old) (vec_len text.new)) }
-    ensures listed { IfSome result (λ t. TellsOn (lister_with cutter.old pen text.old.items) (lister_with cutter.new t.pen text.new.items) (take t.size rest.now)) }
+    ensures listed { IfSome result (λ t. ListsMore (lister_with cutter.old pen text.old.items) (lister_with cutter.new (Pen.Session t.in_line) text.new.items) (take t.size rest.now)) }
     ensures none { IfNone result (cutter.new ≡ cutter.old) }
     ensures same { IfNone result (text.new ≡ text.old) }
     ensures room { vec_capacity text.old ≤ vec_capacity text.new }
 {
-    if !pen.synced || !may_come(rest) {
+    let Pen::Session(in_line) = pen else {
+        return None;
+    };
+    if !may_come(rest) {
         return None;
     }
-    let mut now = in_session(session_line(pen));
+    let mut now = in_line;
     let mut at = 0;
     let mut len = 0;
     while len <= SHEET - FREE {
         let Some(next) = take_next(sheet, len, cutter, now, &rest[at..]) else {
             break;
         };
-        now = next.pen;
+        now = next.in_line;
         len = next.len;
         at += next.size;
     }
@@ -385,5 +387,8 @@ pub(crate) fn take_short(
         return None;
     }
     put(text, &sheet[..len]);
-    Some(Taken { pen: now, size: at })
+    Some(Taken {
+        in_line: now,
+        size: at,
+    })
 }

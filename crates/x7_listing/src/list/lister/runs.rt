@@ -1,12 +1,12 @@
 //! A lister of runs: those of a stream, one after another.
-ghost use Rattle.std.specs.Prelude.{◌≡◌, ◌+◌, ◌*◌, ◌≤◌, ◌<◌, OnOk, OnErr, if◌then◌else◌, length, min, take, vec_len, vec_capacity};
+ghost use Rattle.std.specs.Prelude.{◌≡◌, [], ◌+◌, ◌*◌, ◌≤◌, ◌<◌, OnOk, OnErr, true, if◌then◌else◌, length, vec_len, vec_capacity};
 ghost use Rattle.x7_packets.specs.Cutting.{CutterState};
 ghost use Rattle.x7_packets.specs.Run.{cut_of, FitsRun, bytes_of_run};
-ghost use Rattle.x7_listing.specs.Pens.{EndsHeld, lister_with, written_with};
+ghost use Rattle.x7_listing.specs.Pens.{EndsHeld, held_by, is_in_session, line_of, lister_with, written_with};
 ghost use Rattle.x7_listing.specs.ListerOfRuns.{TakesNext};
 
 use super::Lister;
-use crate::list::pen::{Pen, new_pen, put_end, put_run};
+use crate::list::pen::{Pen, TailBytes, new_pen, open_in, put_end, put_run};
 use x7_packets::{Cut, Run};
 use x7_words::NoMemory;
 
@@ -24,8 +24,8 @@ fn cut_of<'b>(run: Run<'b>) -> Cut<'b>
     }
 }
 
-/// How many bytes a run tells.
-fn told_len(run: Run) -> usize
+/// How many bytes of a stream a run is.
+fn run_len(run: Run) -> usize
     ensures { result ≡ length (bytes_of_run run.entry) }
 {
     match run {
@@ -40,25 +40,29 @@ fn told_len(run: Run) -> usize
 /// A pen that holds the tail of a stream.
 fn with_tail(pen: Pen, tail: &[u8]) -> Pen
     requires { length tail.now < 4 }
-    ensures synced { result.synced ≡ pen.synced }
-    ensures line { result.line ≡ pen.line }
-    ensures held { take result.count result.held ≡ tail.now }
+    ensures synced { is_in_session result ≡ true }
+    ensures line { is_in_session pen ≡ true → line_of result ≡ line_of pen }
+    ensures held { held_by result ≡ tail.now }
 {
-    let mut held = [0; 4];
-    held[..tail.len()].copy_from_slice(tail);
-    Pen {
-        synced: pen.synced,
-        line: pen.line,
-        held,
-        count: tail.len(),
-    }
+    let mut bytes = [0; 3];
+    bytes[..tail.len()].copy_from_slice(tail);
+    Pen::Tail(
+        open_in(pen),
+        TailBytes {
+            bytes,
+            count: tail.len(),
+        },
+    )
 }
 
-/// How many bytes of no whole word a pen holds.
-fn tail_len(pen: Pen) -> usize
-    ensures { result ≡ (if pen.synced then min pen.count 3 else 0) }
+/// The bytes of no whole word that a pen holds.
+fn tail_of(pen: &Pen) -> &[u8]
+    ensures { result.now ≡ (if is_in_session pen.now then held_by pen.now else []) }
 {
-    if pen.synced { pen.count.min(3) } else { 0 }
+    match pen {
+        Pen::Tail(_, tail) => &tail.bytes[..tail.count],
+        _ => &[],
+    }
 }
 
 /// Appends what is left at the end of a stream, whose tail the pen holds.
@@ -66,7 +70,7 @@ fn put_last(text: &mut Vec<u8>, pen: Pen)
     requires room { vec_len text.old + 64 ≤ vec_capacity text.old }
     ensures listed { EndsHeld (written_with pen text.old.items) text.new.items }
 {
-    put_end(text, pen, &pen.held[..tail_len(pen)]);
+    put_end(text, pen, tail_of(&pen));
 }
 
 /// Appends what the next run of a stream adds.
@@ -79,7 +83,7 @@ fn put_next(text: &mut Vec<u8>, pen: Pen, run: Run) -> Pen
         Run::Tail(tail) => with_tail(pen, tail),
         Run::End => {
             put_last(text, pen);
-            new_pen()
+            Pen::Gap(new_pen())
         }
         run => put_run(text, pen, cut_of(run)),
     }
@@ -92,7 +96,7 @@ impl Lister {
         ensures ok { OnOk result (TakesNext run.now self.old self.new) }
         ensures err { OnErr result (self.new ≡ self.old) }
     {
-        let Some(room) = told_len(*run).checked_mul(3) else {
+        let Some(room) = run_len(*run).checked_mul(3) else {
             return Err(NoMemory);
         };
         let Some(room) = room.checked_add(64) else {

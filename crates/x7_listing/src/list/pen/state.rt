@@ -1,14 +1,38 @@
 //! What a pen keeps.
-ghost use Rattle.std.specs.Prelude.{◌<◌, ◌≤◌, if◌then◌else◌};
+ghost use Rattle.std.specs.Prelude.{◌<◌, ◌≤◌};
 
-/// Whether the last bytes listed are a session's, how many elements stand in the open line, and the bytes that are held: the
-/// last four at most.
+/// A pen in a gap: how many bytes stand in the open line, and the bytes that are held, the last four at most.
 #[derive(Clone, Copy)]
-pub(crate) struct Pen {
-    pub(crate) synced: bool,
+pub(crate) struct GapPen {
     pub(crate) line: usize,
     pub(crate) held: [u8; 4],
     pub(crate) count: usize,
-    ghost short: { line < (if synced then 8 else 32) },
+    ghost short: { line < 32 },
     ghost few: { count ≤ 4 },
+}
+
+/// How many words stand in the open line of a session, 0 where none is open.
+#[derive(Clone, Copy)]
+pub(crate) struct OpenWords {
+    pub(crate) count: usize,
+    ghost short: { count < 8 },
+}
+
+/// The bytes of no whole word at the end of a stream.
+#[derive(Clone, Copy)]
+pub(crate) struct TailBytes {
+    pub(crate) bytes: [u8; 3],
+    pub(crate) count: usize,
+    ghost few: { count ≤ 3 },
+}
+
+/// What stands in the open line, and what is held, by where the last bytes listed stand.
+#[derive(Clone, Copy)]
+pub(crate) enum Pen {
+    /// In a gap.
+    Gap(GapPen),
+    /// In a session.
+    Session(OpenWords),
+    /// In a session, with the bytes at the stream's end that are yet to be listed.
+    Tail(OpenWords, TailBytes),
 }

@@ -1,7 +1,9 @@
 use Rattle.std.proofs.Common.{◌≡◌, ◌+◌, ◌-◌, ◌<◌, ◌++◌, ap, append-nil, arith, drop, length, refl, subst, take, Vec, vec_capacity, vec_len, ℕ}
 use Rattle.std.specs.declared.alloc.Global.{Global}
 use Rattle.x7_packets.specs.Cutting.{calls_left, CutterState, run_bytes}
-use Rattle.x7_listing.specs.Telling.{HasListedJust, lister_of}
+use Rattle.x7_listing.specs.Pens.{lister_with}
+use Rattle.x7_listing.specs.Telling.{HasListedJust}
+use Rattle.x7_listing.specs.declared.list.pen.state.Pen.TheVariants.{Session}
 use Rattle.x7_listing.proofs.list.fast.AtOnceLemmas.{rest_length, seam}
 use Rattle.x7_listing.proofs.list.ListerLemmas.{goes_less, goes_out, one_due, run_length, listed_as, took, took_all}
 use Rattle.x7_listing.proofs.list.lister.take_all.Goals as goal
@@ -40,7 +42,7 @@ loop-taken-preserved c =
     let calls : calls_left c.take_short.new.cutter (length c.args.piece.now - c.loop-taken.at) ≡ calls_left c.loop-taken.cutter (length c.args.piece.now - c.loop-taken.at) = ap (λ (k : CutterState). calls_left k (length c.args.piece.now - c.loop-taken.at)) same in
     record {
       within = c.cut-run.ensures.within;
-      room = omega (arith, long, less, calls, ap (λ (k : CutterState). length k.kept) same, ap (λ (t : Vec ℕ Global). vec_len t) text, ap (λ (t : Vec ℕ Global). vec_capacity t) text, c.cut-run.ensures.within, c.cut-run.ensures.forward, c.loop-taken.invariant.room, c.put_run-now.ensures.len, c.put_run-now.ensures.room);
+      room = omega (arith, long, less, calls, ap (λ (k : CutterState). length k.kept) same, ap (λ (t : Vec ℕ Global). vec_len t) text, ap (λ (t : Vec ℕ Global). vec_capacity t) text, c.cut-run.ensures.within, c.cut-run.ensures.forward, c.loop-taken.invariant.room, c.put_run-now.ensures.room.within, c.put_run-now.ensures.room.room);
       tells = λ given before bytes s.
           took _ _ _ _ _ _ _ _ _ _ _ _ _ given before bytes c.args.piece.now
           (listed_as c.loop-taken.cutter c.take_short.new.cutter c.loop-taken.text c.take_short.new.text _ _ _ given before _ (c.in_default.ensures.none) (c.in_default.ensures.same) (c.loop-taken.invariant.tells given before bytes s)) c.cut-run.ensures.forward c.cut-run.ensures.adds c.cut-run.ensures.run (c.put_run-now.ensures.listed given);
@@ -54,7 +56,7 @@ loop-taken-preserved-in-Some c =
       within = omega (arith, left, taken.within, c.loop-taken.invariant.within);
       room = omega (arith, left, taken.within, taken.some, taken.kept, taken.grown, one_due c.take_short.new.cutter.mode, c.loop-taken.invariant.within, c.loop-taken.invariant.room, c.take_short.ensures.room);
       tells = λ given before bytes s.
-          subst (HasListedJust (lister_of c.take_short.new.cutter c.in-Some.taken.pen.synced c.in-Some.taken.pen.line (take c.in-Some.taken.pen.count c.in-Some.taken.pen.held) c.take_short.new.text.items) given before)
+          subst (HasListedJust (lister_with c.take_short.new.cutter (Session c.in-Some.taken.in_line) c.take_short.new.text.items) given before)
           (seam c.args.piece.now bytes _ c.loop-taken.at c.in-Some.taken.size c.loop-taken.invariant.within refl)
           (c.in-Some.ensures.listed given before (bytes ++ take c.loop-taken.at c.args.piece.now) (c.loop-taken.invariant.tells given before bytes s));
     }

@@ -1,6 +1,6 @@
-use Rattle.std.proofs.Common.{codes}
+use Rattle.std.proofs.Common.{arith, codes}
 use Rattle.x7_listing.proofs.asm.fast.WordsAtLemmas.{prefix_four}
 use Rattle.x7_listing.proofs.asm.fast.quick.is_data.Goals as goal
 
 pub returns : goal.returns
-returns c h = prefix_four c.args.text.now (codes "data") c.requires c.eq.result c.eq.ensures h
+returns c h = prefix_four c.args.text.now (codes "data") (omega (arith, c.told-text)) c.eq.result c.eq.ensures h

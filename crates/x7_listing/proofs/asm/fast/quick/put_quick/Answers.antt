@@ -1,11 +1,25 @@
-use Rattle.std.proofs.Common.{arith}
-use Rattle.x7_listing.proofs.asm.fast.QuickLemmas.{takes_more}
+use Rattle.std.proofs.Common.{ap, arith, length, length-drop}
+use Rattle.x7_listing.proofs.asm.fast.QuickLemmas.{left_from, takes_more, takes_seen}
 use Rattle.x7_listing.proofs.asm.fast.quick.put_quick.Goals as goal
+
+pub overflow_add-all : goal.overflow_add-all
+overflow_add-all c =
+    let text = c.args.text.now in
+    let at = c.loop-all.all.size in
+    let t = takes_seen _ _ _ _ 77 c.in-Some-put_some.taken.size c.in-Some-put_some.taken.count c.in-Some.ensures.cases.0 c.in-Some-put_some.ensures.takes in
+    omega (arith, t.within, ap length (left_from at text c.loop-all.invariant.within), length-drop at text, c.loop-all.invariant.within)
+
+pub overflow_add-all-in-loop-all : goal.overflow_add-all-in-loop-all
+overflow_add-all-in-loop-all c =
+    let text = c.args.text.now in
+    let at = c.loop-all.all.size in
+    let t = takes_seen _ _ _ _ 77 c.in-Some-put_some.taken.size c.in-Some-put_some.taken.count c.in-Some.ensures.cases.0 c.in-Some-put_some.ensures.takes in
+    omega (arith, t.within, t.few, ap length (left_from at text c.loop-all.invariant.within), length-drop at text, c.loop-all.invariant.within, c.loop-all.invariant.few)
 
 pub loop-all-preserved : goal.loop-all-preserved
 loop-all-preserved c =
-    let t = c.in-Some.ensures.takes in
-    let p = takes_more c.args.text.now c.args.out.now.items c.reserve.new.self.items c.put_some.new.out.items c.loop-all.all.size c.in-Some.taken.size c.loop-all.all.count c.in-Some.taken.count c.loop-all.invariant.within (rw c.reserve.ensures.items c.loop-all.invariant.takes) t in
+    let t = takes_seen _ _ _ _ 77 c.in-Some-put_some.taken.size c.in-Some-put_some.taken.count c.in-Some.ensures.cases.0 c.in-Some-put_some.ensures.takes in
+    let p = takes_more c.args.text.now c.args.out.now.items c.reserve.new.self.items c.put_some.new.out.items c.loop-all.all.size c.in-Some-put_some.taken.size c.loop-all.all.count c.in-Some-put_some.taken.count c.loop-all.invariant.within (rw c.reserve.ensures.items c.loop-all.invariant.takes) t in
     record {
       within = p.0;
       few = omega (arith, t.few, c.loop-all.invariant.few);

@@ -3,7 +3,7 @@ use Rattle.x7_text.specs.Lines.{split}
 use Rattle.x7_text.proofs.LineReadingLemmas.{HasTaken, all_taken, at_fault, few_taken, one_taken, wants_here}
 use Rattle.x7_text.proofs.PieceLemmas.{at_none, at_some}
 use Rattle.x7_listing.specs.Assembling.{AreReadWithRoom, HasAsmFault, IsFirstOrGood}
-use Rattle.x7_listing.proofs.asm.AsmLinesLemmas.{at_once_taken}
+use Rattle.x7_listing.proofs.asm.AsmLinesLemmas.{at_once_taken, handed, handed_on}
 use Rattle.x7_listing.proofs.asm.fast.QuickLemmas.{left_from}
 use Rattle.x7_listing.proofs.asm.lines.AsmLinesTakesLines.put_lines.Goals as goal
 
@@ -26,7 +26,7 @@ loop-after-preserved c = λ lines same few t.
     let cut : split left ≡ line ∷ split after = (at_some left line c.next_line.result.1 c.in-Some.after c.in-Some.is c.next_line.ensures).0 in
     let n : c.saturating_add-count-in-loop-after.result ≡ c.saturating_add-count.result + 1 = omega (arith, c.saturating_add-count-in-loop-after.ensures, few_taken AreReadWithRoom lines text left now c.saturating_add-count.result c.args.n same mid, few) in
     one_taken AreReadWithRoom lines text left line after now c.put_next.new.self c.saturating_add-count.result c.saturating_add-count-in-loop-after.result cut mid n
-    (c.in-Ok.ensures.goes (lines ++ mid.more) (omega (arith, n, mid.counts)) mid.took)
+    (c.in_ok-put_next.ensures.goes (lines ++ mid.more) (omega (arith, n, mid.counts)) mid.took)
 
 pub returns-in_default-clause-read : goal.returns-in_default-clause-read
 returns-in_default-clause-read c = λ first lines same few t.
@@ -45,8 +45,8 @@ returns-in_default-clause-read c = λ first lines same few t.
     at_once_taken b now text rest left quick.count c.loop-after.count c.saturating_add-count.result quick.size lines (left_from quick.size rest e.within) e.takes e.start e.checker e.none e.limit e.room up h in
     all_taken AreReadWithRoom lines text left now line c.saturating_add-count.result (at_none left line c.next_line.result.1 c.in_default.is c.next_line.ensures) mid
 
-pub returns-in-Err-clause-read : goal.returns-in-Err-clause-read
-returns-in-Err-clause-read c = λ first lines same few t.
+pub returns-in_err-put_next-clause-read : goal.returns-in_err-put_next-clause-read
+returns-in_err-put_next-clause-read c = λ first lines same few t.
     let b = c.loop-after.self in
     let text = c.args.text.now in
     let rest = c.loop-after.rest.now in
@@ -63,10 +63,11 @@ returns-in-Err-clause-read c = λ first lines same few t.
     let after = c.in-Some.after.now in
     let cut : split left ≡ line ∷ split after = (at_some left line c.next_line.result.1 c.in-Some.after c.in-Some.is c.next_line.ensures).0 in
     let n : c.saturating_add-count-in-loop-after.result ≡ c.saturating_add-count.result + 1 = omega (arith, c.saturating_add-count-in-loop-after.ensures, few_taken AreReadWithRoom lines text left now c.saturating_add-count.result c.args.n same mid, few) in
-    at_fault AreReadWithRoom lines text left (HasAsmFault c.in-Err.fault) line after now c.saturating_add-count.result cut mid (λ more. c.in-Err.ensures.goes (lines ++ mid.more) (omega (arith, n, mid.counts)) mid.took (split more))
+    handed _ _ c.from_residual.result c.in_err-put_next.field-0.0 c.from_residual.ensures.1
+    (at_fault AreReadWithRoom lines text left (HasAsmFault c.in_err-put_next.field-0.0) line after now c.saturating_add-count.result cut mid (λ more. c.in_err-put_next.ensures.goes (lines ++ mid.more) (omega (arith, n, mid.counts)) mid.took (split more)))
 
-pub returns-in-Err-clause-memory : goal.returns-in-Err-clause-memory
-returns-in-Err-clause-memory c = λ first lines same few t want.
+pub returns-in_err-put_next-clause-memory : goal.returns-in_err-put_next-clause-memory
+returns-in_err-put_next-clause-memory c = λ first lines same few t.
     let b = c.loop-after.self in
     let text = c.args.text.now in
     let rest = c.loop-after.rest.now in
@@ -83,4 +84,5 @@ returns-in-Err-clause-memory c = λ first lines same few t want.
     let after = c.in-Some.after.now in
     let cut : split left ≡ line ∷ split after = (at_some left line c.next_line.result.1 c.in-Some.after c.in-Some.is c.next_line.ensures).0 in
     let n : c.saturating_add-count-in-loop-after.result ≡ c.saturating_add-count.result + 1 = omega (arith, c.saturating_add-count-in-loop-after.ensures, few_taken AreReadWithRoom lines text left now c.saturating_add-count.result c.args.n same mid, few) in
-    wants_here IsFirstOrGood lines mid.more text left line after mid.texts cut (c.in-Err.ensures.memory (lines ++ mid.more) (omega (arith, n, mid.counts)) mid.took want)
+    handed_on _ c.from_residual.result c.in_err-put_next.field-0.0 c.from_residual.ensures.1
+    (λ want. wants_here IsFirstOrGood lines mid.more text left line after mid.texts cut (c.in_err-put_next.ensures.memory (lines ++ mid.more) (omega (arith, n, mid.counts)) mid.took want))

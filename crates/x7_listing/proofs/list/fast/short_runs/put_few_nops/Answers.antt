@@ -1,4 +1,4 @@
-use Rattle.std.proofs.Common.{◌++◌, ◌∙◌, List, ℕ, ap, take}
+use Rattle.std.proofs.Common.{[], ◌++◌, ◌∙◌, true, List, ℕ, ap, refl, take}
 use Rattle.x7_packets.specs.PacketWords.{no_op}
 use Rattle.x7_packets.specs.declared.header.Step.TheVariants.{Nop}
 use Rattle.x7_listing.proofs.list.fast.AtOnceLemmas.{equal_listed}
@@ -7,6 +7,6 @@ use Rattle.x7_listing.proofs.list.fast.short_runs.put_few_nops.Goals as goal
 
 pub returns-clause-listed : goal.returns-clause-listed
 returns-clause-listed c = λ k takes text given before bytes s.
-    equal_listed c.args.count k no_op Nop c.args.pen.synced _ c.args.pen.line _ c.session_line.result _ _ (text ++ take c.args.len c.args.sheet.now) (text ++ take c.put_close-start.result c.put_close-start.new.sheet) _ given before bytes c.requires.some tt takes c.session_line.ensures.line c.in_session.ensures.synced c.in_session.ensures.line
+    equal_listed c.args.count k no_op Nop true true c.args.in_line.count 0 c.args.in_line.count [] [] (text ++ take c.args.len c.args.sheet.now) (text ++ take c.put_close-start.result c.put_close-start.new.sheet) _ given before bytes c.requires.some tt takes (λ k. refl) refl refl
     (after_text text (take c.args.len c.args.sheet.now) _ _ c.put_close-start.ensures.text)
     (after_text text (take c.put_close-start.result c.put_close-start.new.sheet) _ _ (c.put_prefix.ensures.text ∙ ap (λ (t : List ℕ). take c.put_close-start.result c.put_close-start.new.sheet ++ t) (nops_shown c.args.count _ c.requires.few c.as_flattened.ensures.value))) s

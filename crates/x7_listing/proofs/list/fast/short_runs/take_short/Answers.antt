@@ -1,11 +1,10 @@
-use Rattle.std.proofs.Common.{◌≡◌, ◌∙◌, ◌-◌, ◌++◌, Bool, true, false, not, append-nil, arith, drop, length, refl, subst, take}
-use Rattle.x7_listing.specs.Telling.{HasListedJust, lister_of}
-use Rattle.x7_listing.proofs.list.fast.AtOnceLemmas.{in_line_listed, rest_length, seam}
+use Rattle.std.proofs.Common.{◌≡◌, ◌-◌, ◌++◌, append-nil, arith, drop, length, refl, subst, take}
+use Rattle.x7_listing.specs.Pens.{lister_with}
+use Rattle.x7_listing.specs.Telling.{HasListedJust}
+use Rattle.x7_listing.specs.declared.list.pen.state.Pen.{Pen}
+use Rattle.x7_listing.specs.declared.list.pen.state.Pen.TheVariants.{Session}
+use Rattle.x7_listing.proofs.list.fast.AtOnceLemmas.{rest_length, seam}
 use Rattle.x7_listing.proofs.list.fast.short_runs.take_short.Goals as goal
-
-is-true : (b : Bool) → not b ≡ false → b ≡ true
-is-true true e = refl
-is-true false e = absurd cc
 
 pub loop-len-init : goal.loop-len-init
 loop-len-init c = record {
@@ -16,7 +15,7 @@ loop-len-init c = record {
   few = omega arith;
   tells = λ given before bytes s.
       rw (append-nil bytes, append-nil c.args.text.now.items)
-      (in_line_listed c.args.cutter.now c.args.pen.synced c.in_session-now.result.synced c.args.pen.line c.in_session-now.result.line _ _ c.args.text.now.items given before bytes (is-true c.args.pen.synced c.if-not-pen.false) c.in_session-now.ensures.synced (c.in_session-now.ensures.line ∙ c.session_line.ensures.line (is-true c.args.pen.synced c.if-not-pen.false)) s);
+      (subst (λ (p : Pen). HasListedJust (lister_with c.args.cutter.now p c.args.text.now.items) given before bytes) c.in-Session.is s);
 }
 
 pub loop-len-preserved : goal.loop-len-preserved
@@ -30,7 +29,7 @@ loop-len-preserved c =
       inside = next.inside;
       few = omega (arith, next.grown, c.loop-len.invariant.few);
       tells = λ given before bytes s.
-          subst (HasListedJust (lister_of c.take_next.new.cutter c.in-Some.next.pen.synced c.in-Some.next.pen.line (take c.in-Some.next.pen.count c.in-Some.next.pen.held) (c.args.text.now.items ++ take c.in-Some.next.len c.take_next.new.sheet)) given before)
+          subst (HasListedJust (lister_with c.take_next.new.cutter (Session c.in-Some.next.in_line) (c.args.text.now.items ++ take c.in-Some.next.len c.take_next.new.sheet)) given before)
           (seam c.args.rest.now bytes _ c.loop-len.at c.in-Some.next.size c.loop-len.invariant.within refl)
           (c.in-Some.ensures.listed c.args.text.now.items given before (bytes ++ take c.loop-len.at c.args.rest.now) (c.loop-len.invariant.tells given before bytes s));
     }

@@ -1,5 +1,6 @@
 use Rattle.std.proofs.Common.{◌≡◌, ◌≤◌, ◌*◌, ◌-◌, ◌++◌, length, take}
-use Rattle.x7_listing.specs.Pens.{TellsOn, lister_with}
+use Rattle.x7_listing.specs.Pens.{ListsMore, lister_with}
+use Rattle.x7_listing.specs.declared.list.pen.state.Pen.TheVariants.{Session}
 use Rattle.x7_listing.proofs.list.fast.short_runs.take_short.Given as goal
 
 abbrev pub invariant-loop-len : goal.invariant-loop-len
@@ -9,7 +10,7 @@ invariant-loop-len l = record {
   kept : length l.cutter.kept ≤ length l.fn.cutter.kept;
   inside : l.len ≤ 2048;
   few : l.len ≤ 25 * l.at;
-  tells : TellsOn (lister_with l.fn.cutter l.fn.pen l.fn.text.items) (lister_with l.cutter l.now (l.fn.text.items ++ take l.len l.sheet)) (take l.at l.rest);
+  tells : ListsMore (lister_with l.fn.cutter l.fn.pen l.fn.text.items) (lister_with l.cutter (Session l.now) (l.fn.text.items ++ take l.len l.sheet)) (take l.at l.rest);
 }
 
 abbrev pub decreases-loop-len : goal.decreases-loop-len

@@ -1,11 +1,11 @@
-use Rattle.std.proofs.Common.{List, ℕ, sym, subst, take}
-use Rattle.x7_listing.specs.Telling.{ListerState, ListerStandsFor, HasListedJust, lister_of}
+use Rattle.std.proofs.Common.{List, ℕ, sym, subst}
+use Rattle.x7_listing.specs.Pens.{lister_with}
+use Rattle.x7_listing.specs.Telling.{ListerState, ListerStandsFor, HasListedJust}
 use Rattle.x7_listing.proofs.list.lister.Lister.feed.Goals as goal
 
 pub returns-clause-ok : goal.returns-clause-ok
 returns-clause-ok c = λ given before bytes s.
     let i = c.self.inside in
-    let r : ListerStandsFor (lister_of c.self.inside.cutter c.self.inside.pen.synced c.self.inside.pen.line (take c.self.inside.pen.count c.self.inside.pen.held) c.self.inside.text.items) given before bytes =
-    subst (λ (l : ListerState). ListerStandsFor l given before bytes) (sym c.self.view_is) s in
-    let P : List ℕ → Type 0 = λ x. HasListedJust (lister_of c.self.inside.cutter c.self.inside.pen.synced c.self.inside.pen.line (take c.self.inside.pen.count c.self.inside.pen.held) x) given before bytes in
+    let r : ListerStandsFor (lister_with i.cutter i.pen i.text.items) given before bytes = subst (λ (l : ListerState). ListerStandsFor l given before bytes) (sym c.self.view_is) s in
+    let P : List ℕ → Type 0 = λ x. HasListedJust (lister_with i.cutter i.pen x) given before bytes in
     c.take_all-self-inside.ensures.rests given before bytes (subst P (sym c.reserve.ensures.items) r.tells)

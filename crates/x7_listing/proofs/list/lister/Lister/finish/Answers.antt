@@ -1,15 +1,16 @@
-use Rattle.std.proofs.Common.{◌≡◌, ◌++◌, List, ℕ, refl, sym, subst, take}
+use Rattle.std.proofs.Common.{◌≡◌, ◌++◌, List, ℕ, refl, sym, subst}
 use Rattle.x7_listing.specs.Listing.{reading_text}
-use Rattle.x7_listing.specs.Telling.{ListerState, ListerStandsFor, HasListedJust, lister_of}
+use Rattle.x7_listing.specs.Pens.{lister_with}
+use Rattle.x7_listing.specs.Telling.{ListerState, ListerStandsFor, HasListedJust}
 use Rattle.x7_listing.proofs.list.ListerLemmas.{begins, not_due}
 use Rattle.x7_listing.proofs.list.ListerOfRunsLemmas.{starts}
 use Rattle.x7_listing.proofs.list.lister.Lister.finish.Goals as goal
 
 pub returns-clause-ok : goal.returns-clause-ok
 returns-clause-ok c = λ given before bytes s.
-    let r : ListerStandsFor (lister_of c.self.inside.cutter c.self.inside.pen.synced c.self.inside.pen.line (take c.self.inside.pen.count c.self.inside.pen.held) c.self.inside.text.items) given before bytes =
-    subst (λ (l : ListerState). ListerStandsFor l given before bytes) (sym c.self.view_is) s in
-    let P : List ℕ → Type 0 = λ x. HasListedJust (lister_of c.self.inside.cutter c.self.inside.pen.synced c.self.inside.pen.line (take c.self.inside.pen.count c.self.inside.pen.held) x) given before bytes in
+    let i = c.self.inside in
+    let r : ListerStandsFor (lister_with i.cutter i.pen i.text.items) given before bytes = subst (λ (l : ListerState). ListerStandsFor l given before bytes) (sym c.self.view_is) s in
+    let P : List ℕ → Type 0 = λ x. HasListedJust (lister_with i.cutter i.pen x) given before bytes in
     let t : P c.reserve.new.self.items = subst P (sym c.reserve.ensures.items) r.tells in
     let listing : List ℕ = reading_text t.sessions t.at in
     let listed : given ++ c.put_end.new.text.items ≡ before ++ listing = c.put_end.ensures.listed given before t.sessions t.at (record { bytes = bytes; reading = t.cut.reading; mode = _; listed = t.listed; not_due = r.ready }) (c.kept.ensures.tail bytes t.sessions t.at t.cut) in
@@ -17,6 +18,6 @@ returns-clause-ok c = λ given before bytes s.
       listing = listing;
       is = record { sessions = t.sessions; place = t.at; reading = t.cut.reading; is = refl };
       listed = listed;
-      stands = begins _ _ _ _ _ given (before ++ listing) c.new-self-inside.ensures c.new_pen-self-inside.ensures.gap c.new_pen-self-inside.ensures.line c.new_pen-self-inside.ensures.held listed (not_due _ c.new-self-inside.ensures);
-      takes = starts _ given (before ++ listing) c.new-self-inside.ensures c.new_pen-self-inside.ensures.gap c.new_pen-self-inside.ensures.line c.new_pen-self-inside.ensures.held listed;
+      stands = begins _ _ _ _ _ given (before ++ listing) c.new-self-inside.ensures refl c.new_pen.ensures.line c.new_pen.ensures.held listed (not_due _ c.new-self-inside.ensures);
+      takes = starts _ given (before ++ listing) c.new-self-inside.ensures refl c.new_pen.ensures.line c.new_pen.ensures.held listed;
     }

@@ -1,11 +1,11 @@
-use Rattle.std.proofs.Common.{List, ℕ, sym, subst, take}
-use Rattle.x7_listing.specs.Telling.{ListerState}
-use Rattle.x7_listing.specs.Telling.{TakerStandsFor}
+use Rattle.std.proofs.Common.{List, ℕ, sym, subst}
+use Rattle.x7_listing.specs.Pens.{lister_with}
+use Rattle.x7_listing.specs.Telling.{ListerState, TakerStandsFor}
 use Rattle.x7_listing.proofs.list.lister.Lister.take.Goals as goal
 
 pub returns-clause-ok : goal.returns-clause-ok
 returns-clause-ok c = λ given before bytes due next s x.
     let i = c.self.inside in
-    let P : List ℕ → Type 0 = λ t. TakerStandsFor (record { cutter = i.cutter; synced = i.pen.synced; line = i.pen.line; held = take i.pen.count i.pen.held; text = t }) given before bytes due in
+    let P : List ℕ → Type 0 = λ t. TakerStandsFor (lister_with i.cutter i.pen t) given before bytes due in
     let t : P i.text.items = subst (λ (l : ListerState). TakerStandsFor l given before bytes due) (sym c.self.view_is) s in
     c.put_next-self-inside.ensures.takes i.cutter given before bytes due next (subst P (sym c.reserve.ensures.items) t) x
