@@ -7,7 +7,7 @@ use Rattle.x7_update.specs.Layout.{HasLayout, HasSlots, IsOpen, IsFree, IsNextFr
 use Rattle.x7_update.specs.After.{ClosesTo, already, spends, IsAfter, IsBetween, MayBeLeft, untouched, between, after, switched, with_stream}
 use Rattle.x7_update.specs.Writing.{AtAnyMoment, Closing, HasWanted, KeepsBelow, OnlySwitch, Opening, Replaced, Replacing}
 use Rattle.x7_update.specs.Slots.{Finds}
-use Rattle.x7_update.specs.declared.slots.Slots.{Slots}
+use Rattle.x7_update.specs.declared.slots.Target.{Target}
 use Rattle.x7_update.proofs.StreamLemmas.{length_with_stream, with_stream_below, with_stream_wanted}
 use Rattle.x7_update.proofs.SwitchLemmas.{length_switched, switched_others, switch_switched, switch_other}
 use Rattle.x7_update.proofs.KnownLemmas.{known_map}
@@ -118,7 +118,7 @@ next_free next all closed found has n closes keeps =
 
 -- ---- the steps, by the slots that were found
 
-module _ (all : List ℕ) (slots : Slots) (finds : Finds (length all) all slots) where
+module _ (all : List ℕ) (target : Target) (finds : Finds (length all) all target) where
   layout : HasLayout all
   layout = record { size = finds.sized; slots = finds.has }
 
@@ -128,7 +128,7 @@ module _ (all : List ℕ) (slots : Slots) (finds : Finds (length all) all slots)
   closing_replaces slot found h is (inr only) = inr (between_closing (length all) slot all found finds.has h is only)
 
   -- while the stream is written after closed slots
-  pub writing_replaces : (closed found : List ℕ) → ClosesTo all closed → KeepsBelow slots.update closed found → Replacing all found
+  pub writing_replaces : (closed found : List ℕ) → ClosesTo all closed → KeepsBelow target.place closed found → Replacing all found
   writing_replaces closed found closes keeps =
       inr (between_below (length all) all closed found finds.has (between_closed all closed finds.has closes) (subst (λ u. KeepsBelow u closed found) finds.update keeps))
 
@@ -137,43 +137,43 @@ module _ (all : List ℕ) (slots : Slots) (finds : Finds (length all) all slots)
   replacing_left stream found (inl same) fits = untouched same
   replacing_left stream found (inr b) fits = between layout fits b
 
-  module _ (stream now : List ℕ) (fits : slots.update + length stream ≤ length all) (r : Replaced slots.update stream all now) where
+  module _ (stream now : List ℕ) (fits : target.place + length stream ≤ length all) (r : Replaced target.place stream all now) where
     shut : IsBetween all r.closed
     shut = between_closed all r.closed finds.has r.closes
 
-    inside : slots.update + length stream ≤ length r.closed
+    inside : target.place + length stream ≤ length r.closed
     inside = omega (arith, fits, shut.size)
 
-    keeps : KeepsBelow (update_place all) r.closed (with_stream slots.update stream r.closed)
-    keeps = subst (λ u. KeepsBelow u r.closed (with_stream slots.update stream r.closed)) finds.update (stream_keeps slots.update stream r.closed inside)
+    keeps : KeepsBelow (update_place all) r.closed (with_stream target.place stream r.closed)
+    keeps = subst (λ u. KeepsBelow u r.closed (with_stream target.place stream r.closed)) finds.update (stream_keeps target.place stream r.closed inside)
 
     -- the stream stands as it is wanted
-    pub replaced_wanted : HasWanted slots.update stream now
-    replaced_wanted = subst (HasWanted slots.update stream) (sym r.stands) (with_stream_wanted slots.update stream r.closed inside)
+    pub replaced_wanted : HasWanted target.place stream now
+    replaced_wanted = subst (HasWanted target.place stream) (sym r.stands) (with_stream_wanted target.place stream r.closed inside)
 
     -- the next slot is free still
-    pub replaced_free : IsFree now slots.next
-    replaced_free = subst (λ l. IsFree l slots.next) (sym r.stands) (next_free slots.next all r.closed (with_stream slots.update stream r.closed) finds.has finds.next r.closes keeps)
+    pub replaced_free : IsFree now target.slots.next
+    replaced_free = subst (λ l. IsFree l target.slots.next) (sym r.stands) (next_free target.slots.next all r.closed (with_stream target.place stream r.closed) finds.has finds.next r.closes keeps)
 
     -- no slot is open as yet
     pub replaced_between : IsBetween all now
-    replaced_between = subst (λ l. IsBetween all l) (sym r.stands) (between_below (length all) all r.closed (with_stream slots.update stream r.closed) finds.has shut keeps)
+    replaced_between = subst (λ l. IsBetween all l) (sym r.stands) (between_below (length all) all r.closed (with_stream target.place stream r.closed) finds.has shut keeps)
 
     -- the slot is open: the flash is updated
-    pub opened_after : IsAfter stream all (switched slots.next open_switch now)
+    pub opened_after : IsAfter stream all (switched target.slots.next open_switch now)
     opened_after = record {
       closed = r.closed;
       closes = r.closes;
-      next = slots.next;
+      next = target.slots.next;
       is_next = finds.next;
       fits = omega (arith, fits, finds.update);
-      is = ap (λ l. switched slots.next open_switch l) r.stands ∙ ap (λ u. switched slots.next open_switch (with_stream u stream r.closed)) finds.update;
+      is = ap (λ l. switched target.slots.next open_switch l) r.stands ∙ ap (λ u. switched target.slots.next open_switch (with_stream u stream r.closed)) finds.update;
     }
 
     -- while the next slot is opened
-    pub opening_left : (found : List ℕ) → Opening slots.next now found → AreBytes found → MayBeLeft stream all found
+    pub opening_left : (found : List ℕ) → Opening target.slots.next now found → AreBytes found → MayBeLeft stream all found
     opening_left found (inl is) fits = after layout (subst (IsAfter stream all) (sym is) opened_after)
-    opening_left found (inr only) fits = between layout fits (between_opening slots.next all now found replaced_between finds.next only)
+    opening_left found (inr only) fits = between layout fits (between_opening target.slots.next all now found replaced_between finds.next only)
 
 -- what may be found since a call's start is what was there then, or was found within it
 pub found_left : (stream : List ℕ) (old new : FlashState) (past since : ℕ → List ℕ → Type 0) → ((found : List ℕ) → past old.moments found → IfKnown old.bytes (λ all. found ≡ all)) → AtAnyMoment old new past since (MayBeLeft stream)

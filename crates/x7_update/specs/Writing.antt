@@ -1,8 +1,8 @@
 -- What the steps of an update do to the flash (this project's choice).
-use Rattle.std.specs.Prelude.{◌≡◌, ◌≢◌, ℕ, ◌+◌, ◌-◌, ◌*◌, ◌<◌, ◌≤◌, ◌⊎◌, IsTrue, List, length, get_or, Option, Some, None, nat_lt, if◌then◌else◌, true, false}
-use Rattle.x7_words.specs.Flash.{Elapses, FlashFails, FlashState, IfKnown, WriteFails}
+use Rattle.std.specs.Prelude.{◌≡◌, ◌≢◌, ℕ, ◌+◌, ◌-◌, ◌*◌, ◌%◌, ◌<◌, ◌≤◌, ◌⊎◌, IsTrue, List, length, get_or, Option, Some, None, nat_lt, if◌then◌else◌, true, false}
+use Rattle.x7_words.specs.Flash.{Elapses, FlashFails, FlashState, IfKnown, OnlyWrites, WriteFails}
 use Rattle.x7_words.specs.Word.{AreBytes}
-use Rattle.x7_packets.specs.FlashSlot.{slot_count}
+use Rattle.x7_packets.specs.FlashSlot.{sector_bytes, slot_count}
 use Rattle.x7_update.specs.After.{ClosesTo, IsBetween, switched, with_stream}
 use Rattle.x7_update.specs.Layout.{CanStandAt, HasSize, open_switch, switch_of}
 use Rattle.x7_update.specs.declared.fault.UpdateFault.{UpdateFault}
@@ -38,6 +38,25 @@ pub record OnlyUses (old new : FlashState) : Type 0 where
 -- where there were bytes there are bytes
 abbrev pub StaysBytes : List ℕ → List ℕ → Type 0
 StaysBytes old found = AreBytes old → AreBytes found
+
+-- A step that writes: at any moment the bytes are in this relation to those at its start, and bytes where these were; nothing else changed but the
+-- count of write faults, which doesn't fall.
+pub record Writes (old new : FlashState) (past since : ℕ → List ℕ → Type 0) (Relates : List ℕ → List ℕ → Type 0) : Type 0 where
+  pub any_moment : AtAnyMoment old new past since Relates
+  pub bytes : AtAnyMoment old new past since StaysBytes
+  pub only : OnlyWrites old new
+
+-- the switch word of a slot can be written: the flash is attached, and the slot is one of its first sector
+pub record CanSwitch (state : FlashState) (slot : ℕ) : Type 0 where
+  pub attached : state.attached ≡ true
+  pub among : slot < slot_count
+  pub within : 32 * slot + 4 ≤ state.extent
+
+-- all from a place on can be erased: the flash is attached, and whole sectors are before the place and up to the end
+pub record CanEraseFrom (state : FlashState) (place : ℕ) : Type 0 where
+  pub attached : state.attached ≡ true
+  pub size : state.extent % sector_bytes ≡ 0
+  pub begins : place % sector_bytes ≡ 0
 
 -- nothing below the place has changed
 pub record KeepsBelow (place : ℕ) (old found : List ℕ) : Type 0 where
@@ -85,6 +104,15 @@ wanted_at update stream place = if nat_lt (place - update) (length stream) then 
 -- all from U on is as it is wanted
 abbrev pub HasWanted : ℕ → List ℕ → List ℕ → Type 0
 HasWanted update stream flash = (place : ℕ) → update ≤ place → place < length flash → get_or flash place 0 ≡ wanted_at update stream place
+
+-- an update with a stream can be read back: the flash is attached, the stream stands at its place with FF after it, and the buffer is of a sector's size
+pub record CanReadBack (state : FlashState) (update : ℕ) (stream buffer : List ℕ) : Type 0 where
+  pub attached : state.attached ≡ true
+  pub size : HasSize state.extent
+  pub place : CanStandAt state.extent update
+  pub fits : update + length stream ≤ state.extent
+  pub wanted : IfKnown state.bytes (HasWanted update stream)
+  pub buffer_is : length buffer ≡ sector_bytes
 
 -- from one place up to another each byte was read as it is wanted, and nothing was written since
 abbrev pub SeesWanted : ℕ → List ℕ → ℕ → ℕ → FlashState → Type 0

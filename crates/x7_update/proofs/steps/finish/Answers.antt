@@ -14,8 +14,8 @@ returns-clause-fault g c =
     let mid = g.F.Flash.state c.open_slot.new.flash in
     let last = g.F.Flash.state c.verify_switch.new.flash in
     let read = c.verify_stream.ensures.only in
-    let wrote = c.open_slot.ensures.only in
-    let change = switched c.args.slots.next open_switch in
+    let wrote = c.open_slot.ensures.writes.only in
+    let change = switched c.args.target.slots.next open_switch in
     let is : mid.bytes ≡ option_map change old.bytes = c.in-Ok.ensures.opened ∙ ap (option_map change) read.bytes in
     fails_since c.args.stream.now old mid last c.verify_switch.result (omega (arith, read.faults, wrote.faults)) (omega (arith, read.unwritten.write_faults, wrote.write_faults)) (λ none. was_unknown change old.bytes (sym is ∙ none))
     (c.verify_switch.ensures.fault c.args.stream.now)
@@ -26,8 +26,8 @@ returns-clause-ready g c =
     let last = g.F.Flash.state c.verify_switch.new.flash in
     let read = c.verify_stream.ensures.only in
     let again = c.verify_switch.ensures.only in
-    on_ok (WasReady g.F.Flash.state c.args.slots.update c.args.stream.now last) c.verify_switch.result
-    (was_ready g.F.Flash.state c.args.slots.update c.args.stream.now old last c.verify_stream.new.flash (again.extent ∙ c.open_slot.ensures.only.extent ∙ read.extent) c.in_ok-verify_stream.ensures.seen read.bytes c.requires.closed
+    on_ok (WasReady g.F.Flash.state c.args.target.place c.args.stream.now last) c.verify_switch.result
+    (was_ready g.F.Flash.state c.args.target.place c.args.stream.now old last c.verify_stream.new.flash (again.extent ∙ c.open_slot.ensures.writes.only.extent ∙ read.extent) c.in_ok-verify_stream.ensures.seen read.bytes c.requires.closed
     (omega (arith, c.open_slot.ensures.moment, again.unwritten.moments)))
 
 pub returns-in_err-verify_stream-clause-opens : goal.returns-in_err-verify_stream-clause-opens
@@ -35,7 +35,7 @@ returns-in_err-verify_stream-clause-opens g c =
     let old = g.F.Flash.state c.args.flash.now in
     let ready = g.F.Flash.state c.verify_stream.new.flash in
     let read = c.verify_stream.ensures.only in
-    only_read old ready _ _ (λ all found. (found ≡ all) ⊎ WasReady g.F.Flash.state c.args.slots.update c.args.stream.now ready) (λ all e. inl refl) read.bytes read.unwritten
+    only_read old ready _ _ (λ all found. (found ≡ all) ⊎ WasReady g.F.Flash.state c.args.target.place c.args.stream.now ready) (λ all e. inl refl) read.bytes read.unwritten
 
 pub returns-in-Err-clause-opens : goal.returns-in-Err-clause-opens
 returns-in-Err-clause-opens g c =
@@ -43,10 +43,10 @@ returns-in-Err-clause-opens g c =
     let ready = g.F.Flash.state c.verify_stream.new.flash in
     let mid = g.F.Flash.state c.open_slot.new.flash in
     let read = c.verify_stream.ensures.only in
-    let Was : Type 0 = WasReady g.F.Flash.state c.args.slots.update c.args.stream.now mid in
-    let was : Was = was_ready g.F.Flash.state c.args.slots.update c.args.stream.now old mid c.verify_stream.new.flash (c.open_slot.ensures.only.extent ∙ read.extent) c.in_ok-verify_stream.ensures.seen read.bytes c.requires.closed c.open_slot.ensures.moment in
+    let Was : Type 0 = WasReady g.F.Flash.state c.args.target.place c.args.stream.now mid in
+    let was : Was = was_ready g.F.Flash.state c.args.target.place c.args.stream.now old mid c.verify_stream.new.flash (c.open_slot.ensures.writes.only.extent ∙ read.extent) c.in_ok-verify_stream.ensures.seen read.bytes c.requires.closed c.open_slot.ensures.moment in
     read_moments old ready mid _ _ _ (λ all found. (found ≡ all) ⊎ Was) (λ all e. inl refl) read.bytes read.unwritten
-    (moments_weaker ready mid _ _ (Opening c.args.slots.next) (λ all found. (found ≡ all) ⊎ Was) (λ all found e h. inr was) c.open_slot.ensures.any_moment)
+    (moments_weaker ready mid _ _ (Opening c.args.target.slots.next) (λ all found. (found ≡ all) ⊎ Was) (λ all found e h. inr was) c.open_slot.ensures.writes.any_moment)
 
 pub returns-clause-opens : goal.returns-clause-opens
 returns-clause-opens g c =
@@ -56,11 +56,16 @@ returns-clause-opens g c =
     let last = g.F.Flash.state c.verify_switch.new.flash in
     let read = c.verify_stream.ensures.only in
     let again = c.verify_switch.ensures.only in
-    let Was : Type 0 = WasReady g.F.Flash.state c.args.slots.update c.args.stream.now last in
+    let Was : Type 0 = WasReady g.F.Flash.state c.args.target.place c.args.stream.now last in
     let was : Was =
-    was_ready g.F.Flash.state c.args.slots.update c.args.stream.now old last c.verify_stream.new.flash (again.extent ∙ c.open_slot.ensures.only.extent ∙ read.extent) c.in_ok-verify_stream.ensures.seen read.bytes c.requires.closed
+    was_ready g.F.Flash.state c.args.target.place c.args.stream.now old last c.verify_stream.new.flash (again.extent ∙ c.open_slot.ensures.writes.only.extent ∙ read.extent) c.in_ok-verify_stream.ensures.seen read.bytes c.requires.closed
     (omega (arith, c.open_slot.ensures.moment, again.unwritten.moments)) in
     moments_read old mid last _ _ _ (λ all found. (found ≡ all) ⊎ Was)
     (read_moments old ready mid _ _ _ (λ all found. (found ≡ all) ⊎ Was) (λ all e. inl refl) read.bytes read.unwritten
-    (moments_weaker ready mid _ _ (Opening c.args.slots.next) (λ all found. (found ≡ all) ⊎ Was) (λ all found e h. inr was) c.open_slot.ensures.any_moment))
+    (moments_weaker ready mid _ _ (Opening c.args.target.slots.next) (λ all found. (found ≡ all) ⊎ Was) (λ all found e h. inr was) c.open_slot.ensures.writes.any_moment))
     again.bytes again.unwritten
+
+pub open_slot-requires-clause-slot : goal.open_slot-requires-clause-slot
+open_slot-requires-clause-slot g c =
+    let read = c.verify_stream.ensures.only in
+    record { attached = read.attached ∙ c.requires.written.attached; among = c.requires.next; within = omega (arith, c.requires.next, read.extent, c.requires.written.size.least) }
