@@ -1,5 +1,5 @@
 -- Lemmas on what may be left of a flash: from one case to the next.
-use Rattle.std.proofs.Common.{◌≡◌, ℕ, ◌+◌, ◌*◌, ◌%◌, ◌<◌, ◌≤◌, ◌⊎◌, inl, inr, ⊎_elim, List, length, get_or, Bool, true, false, refl, ap, sym, subst, ◌∙◌, arith}
+use Rattle.std.proofs.Common.{◌≡◌, ℕ, ◌+◌, ◌*◌, ◌%◌, ◌<◌, ◌≤◌, ◌⊎◌, inl, inr, ⊎_elim, List, Option, None, Some, option_map, length, get_or, Bool, true, false, refl, ap, sym, subst, ◌∙◌, arith}
 use Rattle.std.proofs.lemmas.Bool.{cases_eq, cases_lt}
 use Rattle.x7_words.specs.Word.{AreBytes}
 use Rattle.x7_words.specs.Flash.{FlashState, IfKnown}
@@ -103,6 +103,15 @@ between_opening slot all mid found b next only = record {
       | inl same ↦ only.shut (subst (λ n. IsOpen found n) same o)
       | inr n ↦ b.closed other k (sym (only_other slot other mid found n only) ∙ o)
     ]
+
+-- a free slot that nothing has opened as yet
+pub opening_none : (slot : ℕ) (all : List ℕ) → IsFree all slot → Opening slot all all
+opening_none slot all free = inr (record { size = refl; others = λ i h. refl; shut = λ o. open_not_free all slot o free })
+
+-- known bytes whose free slot was opened have an open slot
+pub opened_is_open : (known new : Option (List ℕ)) (slot : ℕ) → new ≡ option_map (switched slot open_switch) known → IfKnown known (λ all. 32 * slot + 4 ≤ length all) → IfKnown new (λ all. IsOpen all slot)
+opened_is_open None new slot is within = subst (λ (o : Option (List ℕ)). IfKnown o (λ all. IsOpen all slot)) (sym is) tt
+opened_is_open (Some all) new slot is within = subst (λ (o : Option (List ℕ)). IfKnown o (λ all. IsOpen all slot)) (sym is) (switch_switched slot 0xAA 0x99 0x55 0x66 all within)
 
 -- the next slot is free still when the stream is written
 pub next_free : (next : ℕ) (all closed found : List ℕ) → HasSlots (length all) all → IsNextFreeSlot all next → ClosesTo all closed → KeepsBelow (update_place all) closed found → IsFree found next

@@ -1,11 +1,12 @@
-use Rattle.std.proofs.Common.{◌≡◌, ◌⊎◌, inl, inr, ap, option_map, refl, sym, ◌∙◌, arith}
+use Rattle.std.proofs.Common.{◌≡◌, ◌+◌, ◌*◌, ◌≤◌, ◌⊎◌, inl, inr, length, ap, option_map, refl, sym, ◌∙◌, arith}
 use Rattle.x7_update.specs.After.{switched}
-use Rattle.x7_update.specs.Layout.{open_switch}
+use Rattle.x7_update.specs.Layout.{IsFree, open_switch}
 use Rattle.x7_update.specs.ReadBack.{WasReady}
-use Rattle.x7_update.specs.Writing.{Opening}
+use Rattle.x7_update.specs.Writing.{Opening, StaysBytes}
 use Rattle.x7_update.proofs.BackLemmas.{fails_since, was_unknown}
+use Rattle.x7_update.proofs.CaseLemmas.{opened_is_open, opening_none}
 use Rattle.x7_update.proofs.ReadyLemmas.{was_ready}
-use Rattle.x7_update.proofs.KnownLemmas.{moments_read, moments_weaker, on_ok, only_read, read_moments}
+use Rattle.x7_update.proofs.KnownLemmas.{known_at, known_map, moments_read, moments_weaker, on_ok, only_read, read_moments}
 use Rattle.x7_update.proofs.steps.finish.Goals as goal
 
 pub returns-clause-fault : goal.returns-clause-fault
@@ -64,6 +65,71 @@ returns-clause-opens g c =
     (read_moments old ready mid _ _ _ (λ all found. (found ≡ all) ⊎ Was) (λ all e. inl refl) read.bytes read.unwritten
     (moments_weaker ready mid _ _ (Opening c.args.target.slots.next) (λ all found. (found ≡ all) ⊎ Was) (λ all found e h. inr was) c.open_slot.ensures.writes.any_moment))
     again.bytes again.unwritten
+
+-- ---- what is found, and what it comes to
+
+pub returns-in_err-verify_stream-clause-any_moment : goal.returns-in_err-verify_stream-clause-any_moment
+returns-in_err-verify_stream-clause-any_moment g c =
+    let old = g.F.Flash.state c.args.flash.now in
+    let read = c.verify_stream.ensures.only in
+    let next = c.args.target.slots.next in
+    only_read old (g.F.Flash.state c.verify_stream.new.flash) _ _ (Opening next) (λ all e. opening_none next all (known_at old.bytes (λ all. IsFree all next) c.requires.free all e)) read.bytes read.unwritten
+
+pub returns-in-Err-clause-any_moment : goal.returns-in-Err-clause-any_moment
+returns-in-Err-clause-any_moment g c =
+    let old = g.F.Flash.state c.args.flash.now in
+    let read = c.verify_stream.ensures.only in
+    let next = c.args.target.slots.next in
+    read_moments old (g.F.Flash.state c.verify_stream.new.flash) (g.F.Flash.state c.open_slot.new.flash) _ _ _ (Opening next)
+    (λ all e. opening_none next all (known_at old.bytes (λ all. IsFree all next) c.requires.free all e)) read.bytes read.unwritten c.open_slot.ensures.writes.any_moment
+
+pub returns-clause-any_moment : goal.returns-clause-any_moment
+returns-clause-any_moment g c =
+    let old = g.F.Flash.state c.args.flash.now in
+    let mid = g.F.Flash.state c.open_slot.new.flash in
+    let read = c.verify_stream.ensures.only in
+    let again = c.verify_switch.ensures.only in
+    let next = c.args.target.slots.next in
+    moments_read old mid (g.F.Flash.state c.verify_switch.new.flash) _ _ _ (Opening next)
+    (read_moments old (g.F.Flash.state c.verify_stream.new.flash) mid _ _ _ (Opening next)
+    (λ all e. opening_none next all (known_at old.bytes (λ all. IsFree all next) c.requires.free all e)) read.bytes read.unwritten c.open_slot.ensures.writes.any_moment)
+    again.bytes again.unwritten
+
+pub returns-in_err-verify_stream-clause-bytes : goal.returns-in_err-verify_stream-clause-bytes
+returns-in_err-verify_stream-clause-bytes g c =
+    let read = c.verify_stream.ensures.only in
+    only_read (g.F.Flash.state c.args.flash.now) (g.F.Flash.state c.verify_stream.new.flash) _ _ StaysBytes (λ all e h. h) read.bytes read.unwritten
+
+pub returns-in-Err-clause-bytes : goal.returns-in-Err-clause-bytes
+returns-in-Err-clause-bytes g c =
+    let read = c.verify_stream.ensures.only in
+    read_moments (g.F.Flash.state c.args.flash.now) (g.F.Flash.state c.verify_stream.new.flash) (g.F.Flash.state c.open_slot.new.flash) _ _ _ StaysBytes (λ all e h. h) read.bytes read.unwritten c.open_slot.ensures.writes.bytes
+
+pub returns-clause-bytes : goal.returns-clause-bytes
+returns-clause-bytes g c =
+    let old = g.F.Flash.state c.args.flash.now in
+    let mid = g.F.Flash.state c.open_slot.new.flash in
+    let read = c.verify_stream.ensures.only in
+    let again = c.verify_switch.ensures.only in
+    moments_read old mid (g.F.Flash.state c.verify_switch.new.flash) _ _ _ StaysBytes
+    (read_moments old (g.F.Flash.state c.verify_stream.new.flash) mid _ _ _ StaysBytes (λ all e h. h) read.bytes read.unwritten c.open_slot.ensures.writes.bytes) again.bytes again.unwritten
+
+pub returns-clause-opened : goal.returns-clause-opened
+returns-clause-opened g c =
+    let old = g.F.Flash.state c.args.flash.now in
+    let last = g.F.Flash.state c.verify_switch.new.flash in
+    let change = switched c.args.target.slots.next open_switch in
+    on_ok (last.bytes ≡ option_map change old.bytes) c.verify_switch.result (c.verify_switch.ensures.only.bytes ∙ c.in-Ok.ensures.opened ∙ ap (option_map change) c.verify_stream.ensures.only.bytes)
+
+-- ---- what the steps ask
+
+pub verify_switch-requires-clause-opened : goal.verify_switch-requires-clause-opened
+verify_switch-requires-clause-opened g c =
+    let ready = g.F.Flash.state c.verify_stream.new.flash in
+    let next = c.args.target.slots.next in
+    opened_is_open ready.bytes (g.F.Flash.state c.open_slot.new.flash).bytes next c.in-Ok.ensures.opened
+    (known_map ready.bytes (λ all. ready.extent ≡ length all) (λ all. 32 * next + 4 ≤ length all)
+    (λ all e long. omega (arith, long, c.requires.next, c.verify_stream.ensures.only.extent, c.requires.written.size.least)) (g.met.F.Flash.counted c.verify_stream.new.flash))
 
 pub open_slot-requires-clause-slot : goal.open_slot-requires-clause-slot
 open_slot-requires-clause-slot g c =

@@ -1,12 +1,13 @@
-use Rattle.std.proofs.Common.{◌≡◌, ◌*◌, ◌+◌, ◌≤◌, ℕ, List, Some, length, arith}
-use Rattle.x7_words.specs.Flash.{IsTorn, cleared}
+use Rattle.std.proofs.Common.{◌≡◌, ◌*◌, ◌+◌, ◌≤◌, ℕ, List, Some, length, option_map, arith}
+use Rattle.x7_words.specs.Flash.{IsTorn, cleared, programmed}
 use Rattle.x7_words.proofs.FlashLemmas.{bytes_cleared, length_cleared}
 use Rattle.x7_words.specs.Word.{AreBytes}
-use Rattle.x7_update.specs.Layout.{open_switch}
+use Rattle.x7_update.specs.After.{switched}
+use Rattle.x7_update.specs.Layout.{IsFree, open_switch}
 use Rattle.x7_update.specs.Writing.{Opening}
 use Rattle.x7_update.proofs.ByteLemmas.{bytes_write}
-use Rattle.x7_update.proofs.SwitchLemmas.{opening}
-use Rattle.x7_update.proofs.KnownLemmas.{moments_weaker, known_at, write_moments}
+use Rattle.x7_update.proofs.SwitchLemmas.{clears_to_open, opening, programs_switch}
+use Rattle.x7_update.proofs.KnownLemmas.{known_all, known_at, moments_weaker, on_ok_map, write_moments}
 use Rattle.x7_update.proofs.switch.open_slot.Goals as goal
 
 pub returns-clause-writes : goal.returns-clause-writes
@@ -25,3 +26,13 @@ returns-clause-writes g c =
       bytes = bytes_write place (cleared place open_switch) s n _ _ c.program.result (λ all. bytes_cleared place open_switch all fits) within c.program.ensures.programmed c.program.ensures.torn c.program.ensures.passes;
       only = c.program.ensures.only;
     }
+
+pub returns-clause-opened : goal.returns-clause-opened
+returns-clause-opened g c =
+    let s = g.F.Flash.state c.args.flash.now in
+    let n = g.F.Flash.state c.program.new.self in
+    let slot = c.args.slot in
+    on_ok_map (n.bytes ≡ option_map (programmed (32 * slot) open_switch) s.bytes) (n.bytes ≡ option_map (switched slot open_switch) s.bytes) c.program.result c.program.ensures.programmed
+    (programs_switch slot open_switch s.bytes n.bytes
+    (known_all s.bytes (λ all. cleared (32 * slot) open_switch all ≡ open_switch)
+    (λ all e. clears_to_open slot all (omega (arith, known_at s.bytes (λ all. s.extent ≡ length all) (g.met.F.Flash.counted c.args.flash.now) all e, c.requires.slot.within)) (known_at s.bytes (λ all. IsFree all slot) c.requires.free all e))))
