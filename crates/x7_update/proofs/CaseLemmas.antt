@@ -5,7 +5,7 @@ use Rattle.x7_words.specs.Word.{AreBytes}
 use Rattle.x7_words.specs.Flash.{FlashState, IfKnown}
 use Rattle.x7_update.specs.Layout.{HasLayout, HasSlots, IsOpen, IsFree, IsNextFreeSlot, switch_of, open_switch, free_switch, spent_switch, update_place}
 use Rattle.x7_update.specs.After.{ClosesTo, already, spends, IsAfter, IsBetween, MayBeLeft, untouched, between, after, switched, with_stream}
-use Rattle.x7_update.specs.Writing.{AtAnyMoment, Closing, HasWanted, KeepsBelow, OnlySwitch, Opening, Replaced, Replacing}
+use Rattle.x7_update.specs.Writing.{AtAnyMoment, ClosingSlot, HasWanted, KeepsBelow, OnlySwitch, OpeningSlot, Replaced, ReplacingUpdate}
 use Rattle.x7_update.specs.Slots.{Finds}
 use Rattle.x7_update.specs.declared.slots.Target.{Target}
 use Rattle.x7_update.proofs.StreamLemmas.{length_with_stream, with_stream_below, with_stream_wanted}
@@ -105,7 +105,7 @@ between_opening slot all mid found b next only = record {
     ]
 
 -- a free slot that nothing has opened as yet
-pub opening_none : (slot : ℕ) (all : List ℕ) → IsFree all slot → Opening slot all all
+pub opening_none : (slot : ℕ) (all : List ℕ) → IsFree all slot → OpeningSlot slot all all
 opening_none slot all free = inr (record { size = refl; others = λ i h. refl; shut = λ o. open_not_free all slot o free })
 
 -- known bytes whose free slot was opened have an open slot
@@ -132,17 +132,17 @@ module _ (all : List ℕ) (target : Target) (finds : Finds (length all) all targ
   layout = record { size = finds.sized; slots = finds.has }
 
   -- while the open slot is closed
-  pub closing_replaces : (slot : ℕ) (found : List ℕ) → slot < 2048 → IsOpen all slot → Closing slot all found → Replacing all found
+  pub closing_replaces : (slot : ℕ) (found : List ℕ) → slot < 2048 → IsOpen all slot → ClosingSlot slot all found → ReplacingUpdate all found
   closing_replaces slot found h is (inl same) = inl same
   closing_replaces slot found h is (inr only) = inr (between_closing (length all) slot all found finds.has h is only)
 
   -- while the stream is written after closed slots
-  pub writing_replaces : (closed found : List ℕ) → ClosesTo all closed → KeepsBelow target.place closed found → Replacing all found
+  pub writing_replaces : (closed found : List ℕ) → ClosesTo all closed → KeepsBelow target.place closed found → ReplacingUpdate all found
   writing_replaces closed found closes keeps =
       inr (between_below (length all) all closed found finds.has (between_closed all closed finds.has closes) (subst (λ u. KeepsBelow u closed found) finds.update keeps))
 
   -- what is found while the update is replaced may be left
-  pub replacing_left : (stream found : List ℕ) → Replacing all found → AreBytes found → MayBeLeft stream all found
+  pub replacing_left : (stream found : List ℕ) → ReplacingUpdate all found → AreBytes found → MayBeLeft stream all found
   replacing_left stream found (inl same) fits = untouched same
   replacing_left stream found (inr b) fits = between layout fits b
 
@@ -180,7 +180,7 @@ module _ (all : List ℕ) (target : Target) (finds : Finds (length all) all targ
     }
 
     -- while the next slot is opened
-    pub opening_left : (found : List ℕ) → Opening target.slots.next now found → AreBytes found → MayBeLeft stream all found
+    pub opening_left : (found : List ℕ) → OpeningSlot target.slots.next now found → AreBytes found → MayBeLeft stream all found
     opening_left found (inl is) fits = after layout (subst (IsAfter stream all) (sym is) opened_after)
     opening_left found (inr only) fits = between layout fits (between_opening target.slots.next all now found replaced_between finds.next only)
 

@@ -1,13 +1,13 @@
 -- Lemmas on refusals: a flash with a layout is refused for none, and what is left is want of memory.
 use Rattle.std.proofs.Common.{◌≡◌, ℕ, inl, inr, true, false, List, None, Some, Result, Ok, Err, IfErr, length, get_or, refl, ap, sym, ◌∙◌, arith}
 use Rattle.x7_words.specs.Flash.{FlashState}
-use Rattle.x7_update.specs.Layout.{HasLayout, Leads}
+use Rattle.x7_update.specs.Layout.{HasLayout, LeadsToUpdate}
 use Rattle.x7_update.specs.Refused.{CanBeUpdated, DiffersAt, HasCause, IsTooLong, NoLayoutAt, bad_first, bad_place, bad_size, bad_slot, last_taken}
 use Rattle.x7_update.specs.declared.fault.UpdateFault.{UpdateFault}
 use Rattle.x7_update.specs.declared.fault.UpdateFault.TheVariants.{Differs, Failed, NoLayout, NoMemory, TooLong}
 use Rattle.x7_update.proofs.KnownLemmas.{known_at}
 
-differs_not : (flash : List ℕ) (slot place : ℕ) → Leads flash slot → DiffersAt flash slot place → ⊥
+differs_not : (flash : List ℕ) (slot place : ℕ) → LeadsToUpdate flash slot → DiffersAt flash slot place → ⊥
 differs_not flash slot place leads d = d.differs (ap (λ p. get_or flash p 0) d.is ∙ leads d.i d.after_switch d.within)
 
 -- a flash with a layout has no place at which it lacks one

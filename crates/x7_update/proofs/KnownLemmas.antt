@@ -2,7 +2,7 @@
 use Rattle.std.proofs.Common.{◌≡◌, ℕ, ◌+◌, ◌≤◌, List, length, Option, None, Some, option_map, Result, Ok, Err, IfErr, OnOk, OnErr, refl, sym, subst, ◌∙◌, arith}
 use Rattle.x7_words.specs.Flash.{Elapses, FlashState, IsTorn, OnlyWrites, TornFrom, Unwritten, IfKnown, WithinWrite, replaced}
 use Rattle.x7_words.proofs.FlashLemmas.{elapses_none, elapses_on, elapses_unwritten, elapses_weaker, target_is_torn}
-use Rattle.x7_update.specs.Writing.{AtAnyMoment, Becomes, BecomesBytes, Leaves}
+use Rattle.x7_update.specs.Writing.{AtAnyMoment, Becomes, BecomesBytes, StaysKnown}
 
 pub known_at : (known : Option (List ℕ)) (P : List ℕ → Type 0) → IfKnown known P → (all : List ℕ) → known ≡ Some all → P all
 known_at known P t all e = let Q : Option (List ℕ) → Type 0 = λ o. IfKnown o P in let at : IfKnown (Some all) P = subst Q e t in at
@@ -32,7 +32,7 @@ if_err_map P Q (Err error) f p = f error p
 -- ---- what calls leave
 
 -- bytes that are known still, where a relation of them is known
-pub leaves_map : (old new : FlashState) (P Q : List ℕ → List ℕ → Type 0) → ((all now : List ℕ) → old.bytes ≡ Some all → P all now → Q all now) → Leaves old new P → Leaves old new Q
+pub leaves_map : (old new : FlashState) (P Q : List ℕ → List ℕ → Type 0) → ((all now : List ℕ) → old.bytes ≡ Some all → P all now → Q all now) → StaysKnown old new P → StaysKnown old new Q
 leaves_map old new P Q f l = known_map old.bytes (λ all. (now : List ℕ) × (new.bytes ≡ Some now) × P all now) (λ all. (now : List ℕ) × (new.bytes ≡ Some now) × Q all now) (λ all e p. (p.0, p.1, f all p.0 e p.2)) l
 
 -- an equation of bytes that may be known
@@ -51,7 +51,7 @@ becomes_same s P h = go s.bytes h
     go None h = refl
     go (Some all) h = (all, refl, h all refl)
 
-pub becomes_leaves : (old new : FlashState) (P : List ℕ → List ℕ → Type 0) → Becomes old new P → Leaves old new P
+pub becomes_leaves : (old new : FlashState) (P : List ℕ → List ℕ → Type 0) → Becomes old new P → StaysKnown old new P
 becomes_leaves old new P b = go old.bytes b
   where
     go : (known : Option (List ℕ)) → BecomesBytes P known new.bytes → IfKnown known (λ all. (now : List ℕ) × (new.bytes ≡ Some now) × P all now)
@@ -88,7 +88,7 @@ becomes_then a b P Q f p = go a.bytes f p
     go (Some all) f p = at b.bytes (Some p.0) p.1 (f all p.0 refl p.2)
 
 -- what is left after one call and another
-pub leaves_on : (a b c : FlashState) (P Q R : List ℕ → List ℕ → Type 0) → ((all mid now : List ℕ) → a.bytes ≡ Some all → P all mid → Q mid now → R all now) → Leaves a b P → Leaves b c Q → Leaves a c R
+pub leaves_on : (a b c : FlashState) (P Q R : List ℕ → List ℕ → Type 0) → ((all mid now : List ℕ) → a.bytes ≡ Some all → P all mid → Q mid now → R all now) → StaysKnown a b P → StaysKnown b c Q → StaysKnown a c R
 leaves_on a b c P Q R f l m = known_map a.bytes (λ all. (now : List ℕ) × (b.bytes ≡ Some now) × P all now) (λ all. (now : List ℕ) × (c.bytes ≡ Some now) × R all now)
     (λ all e p. let q = known_at b.bytes (λ mid. (now : List ℕ) × (c.bytes ≡ Some now) × Q mid now) m p.0 p.1 in (q.0, q.1, f all p.0 q.0 e p.2 q.2)) l
 
@@ -111,7 +111,7 @@ moments_weaker a b past since P Q f m = record {
 
 -- a call more: what it found of the bytes that the calls before it left
 pub moments_on : (a b c : FlashState) (past mids since : ℕ → List ℕ → Type 0) (P Q R : List ℕ → List ℕ → Type 0) → ((all mid found : List ℕ) → a.bytes ≡ Some all → P all mid → Q mid found → R all found)
-    → AtAnyMoment a b past mids R → Leaves a b P → AtAnyMoment b c mids since Q → AtAnyMoment a c past since R
+    → AtAnyMoment a b past mids R → StaysKnown a b P → AtAnyMoment b c mids since Q → AtAnyMoment a c past since R
 moments_on a b c past mids since P Q R f m l n = record {
   leaves = leaves_on a b c P Q R f l n.leaves;
   elapses = elapses_on a.moments b.moments c.moments past mids since (λ found. IfKnown a.bytes (λ all. R all found)) (λ found. IfKnown b.bytes (λ mid. Q mid found)) m.elapses n.elapses
@@ -143,7 +143,7 @@ pub write_moments : {E : Type 0} (place : ℕ) (target : List ℕ → List ℕ) 
     → AtAnyMoment old new past since (λ all found. IsTorn place (target all) all found)
 write_moments place target old new past since answer within done torn passes = record { leaves = left answer done torn; elapses = passes }
   where
-    left : {E : Type 0} (answer : Result (Unit {0}) E) → OnOk answer (new.bytes ≡ option_map (λ all. replaced place (target all) all) old.bytes) → OnErr answer (TornFrom place target old.bytes new.bytes) → Leaves old new (λ all now. IsTorn place (target all) all now)
+    left : {E : Type 0} (answer : Result (Unit {0}) E) → OnOk answer (new.bytes ≡ option_map (λ all. replaced place (target all) all) old.bytes) → OnErr answer (TornFrom place target old.bytes new.bytes) → StaysKnown old new (λ all now. IsTorn place (target all) all now)
     left (Ok _) done torn = becomes_leaves old new (λ all now. IsTorn place (target all) all now) (becomes_of old new (λ all. replaced place (target all) all) (λ all now. IsTorn place (target all) all now) done (λ all e. target_is_torn place (target all) all (within all e)))
     left (Err _) done torn =
         known_all old.bytes (λ all. (now : List ℕ) × (new.bytes ≡ Some now) × IsTorn place (target all) all now)

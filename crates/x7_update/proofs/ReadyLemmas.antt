@@ -6,7 +6,7 @@ use Rattle.x7_update.specs.After.{IsAfter, IsBetween, with_stream}
 use Rattle.x7_update.specs.Layout.{CanStandAt, HasLayout, HasSize, IsClosed, IsNextFreeSlot, IsOpen, open_switch, switch_of, update_place}
 use Rattle.x7_update.specs.ReadBack.{AllReadBack, ReadBack, WasReady}
 use Rattle.x7_update.specs.Slots.{Finds, IsFound, TargetFits}
-use Rattle.x7_update.specs.Writing.{CanReadBack, HasWanted, ReadsWanted, ReadsWantedTo, Replacing, SeesWanted, wanted_at}
+use Rattle.x7_update.specs.Writing.{CanReadBack, HasWanted, ReadsWanted, ReadsWantedTo, ReplacingUpdate, SeesWanted, wanted_at}
 use Rattle.x7_update.proofs.CaseLemmas.{between_below, between_closed, open_not_free, stream_keeps}
 use Rattle.x7_update.proofs.StreamLemmas.{wanted_inside}
 use Rattle.x7_update.proofs.SwitchLemmas.{switch_switched}
@@ -120,6 +120,6 @@ module _ (stream flash found : List ℕ) (l : HasLayout flash) (a : IsAfter stre
   pub after_not_same : found ≡ flash → ⊥
   after_not_same same = open_not_free flash a.next (subst (λ f. IsOpen f a.next) same after_opens) (a.is_next.free a.next (omega arith) a.is_next.within)
 
-  pub after_not_replacing : Replacing flash found → ⊥
+  pub after_not_replacing : ReplacingUpdate flash found → ⊥
   after_not_replacing (inl same) = after_not_same same
   after_not_replacing (inr b) = after_not_between b

@@ -1,7 +1,7 @@
 -- Lemmas on the slots of a first sector.
 use Rattle.std.proofs.Common.{◌≡◌, ℕ, suc, ◌+◌, ◌<◌, ◌≤◌, inl, inr, List, Option, None, Some, refl, sym, subst, arith}
 use Rattle.std.proofs.lemmas.Bool.{cases_eq, cases_order}
-use Rattle.x7_update.specs.Layout.{CanStandAt, HasSize, IsFree, IsOpen, Leads, update_place}
+use Rattle.x7_update.specs.Layout.{CanStandAt, HasSize, IsFree, IsOpen, LeadsToUpdate, update_place}
 use Rattle.x7_update.specs.Refused.{BeginsWell, IsGoodSlot, NoLayoutAt, OpensAgain, last_taken}
 use Rattle.x7_update.specs.Slots.{Finds, OpenAmong, SoFar, TargetFits, WithinSlots}
 use Rattle.x7_update.specs.declared.slots.Slots.{Slots}
@@ -14,7 +14,7 @@ up_to P count before here k h = elim (cases_eq k count) [
   | inr n ↦ before k (omega arith)
 ]
 
-module _ (first : List ℕ) (slot : ℕ) (leads : Leads first slot) where
+module _ (first : List ℕ) (slot : ℕ) (leads : LeadsToUpdate first slot) where
   closed_more : (count : ℕ) (one : Option ℕ) → count ≡ slot → (IsOpen first slot → ⊥) → OpenAmong first slot one → OpenAmong first (slot + 1) one
   closed_more count None e n o = up_to (λ k. IsOpen first k → ⊥) slot o n
   closed_more count (Some k) e n o = (omega (arith, o.0), o.1)
@@ -25,7 +25,7 @@ module _ (first : List ℕ) (slot : ℕ) (leads : Leads first slot) where
   -- the slot is free
   pub so_far_free : (before : Slots) → (IsOpen first slot → ⊥) → IsFree first slot → SoFar first slot before → SoFar first (slot + 1) before
   so_far_free before n is so = record {
-    leads = up_to (λ k. Leads first k) slot so.leads leads;
+    leads = up_to (λ k. LeadsToUpdate first k) slot so.leads leads;
     once = once_more before n so;
     opens = closed_more slot before.opened refl n so.opens;
     within = omega (arith, so.within);
@@ -36,7 +36,7 @@ module _ (first : List ℕ) (slot : ℕ) (leads : Leads first slot) where
   -- the slot is spent
   pub so_far_spent : (before : Slots) → (IsOpen first slot → ⊥) → (IsFree first slot → ⊥) → SoFar first slot before → SoFar first (slot + 1) (record { opened = before.opened; next = slot + 1 })
   so_far_spent before n f so = record {
-    leads = up_to (λ k. Leads first k) slot so.leads leads;
+    leads = up_to (λ k. LeadsToUpdate first k) slot so.leads leads;
     once = once_more before n so;
     opens = closed_more slot before.opened refl n so.opens;
     within = omega arith;

@@ -2,7 +2,7 @@
 use Rattle.std.proofs.Common.{◌≡◌, ℕ, ◌+◌, ◌*◌, ◌<◌, ◌≤◌, inl, inr, List, Option, None, Some, get_or, refl, ap, sym, subst, ◌∙◌, arith}
 use Rattle.x7_words.specs.Word.{word_of_bytes}
 use Rattle.x7_packets.specs.FlashSlot.{flash_slot}
-use Rattle.x7_update.specs.Layout.{CanStandAt, Leads, IsOpen, IsFree, four_at, switch_of, first_slot, update_place, open_switch}
+use Rattle.x7_update.specs.Layout.{CanStandAt, LeadsToUpdate, IsOpen, IsFree, four_at, switch_of, first_slot, update_place, open_switch}
 use Rattle.x7_update.specs.Refused.{BeginsWell, DiffersAt, IsBadSlotAt, IsGoodSlot, NoLayoutAt, OpensAgain, bad_first, bad_place, bad_size, bad_slot, last_taken}
 use Rattle.x7_update.specs.Slots.{OpenAmong, Finds}
 use Rattle.x7_update.specs.declared.slots.Target.{Target}
@@ -20,7 +20,7 @@ module _ (first all : List ℕ) (same : (i : ℕ) → i < 65536 → get_or first
   pub place_same : update_place first ≡ update_place all
   place_same = ap word_of_bytes (four_same 12 (omega arith))
 
-  pub leads_same : (slot : ℕ) → slot < 2048 → Leads first slot → Leads all slot
+  pub leads_same : (slot : ℕ) → slot < 2048 → LeadsToUpdate first slot → LeadsToUpdate all slot
   leads_same slot h leads = λ i k l. sym (same (32 * slot + i) (omega arith)) ∙ leads i k l ∙ ap (λ b. get_or b i 0) first_slot_same
 
   open_same : (slot : ℕ) → slot < 2048 → IsOpen first slot → IsOpen all slot

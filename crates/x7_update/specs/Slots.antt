@@ -2,7 +2,7 @@
 use Rattle.std.specs.Prelude.{◌≡◌, ◌≢◌, ℕ, suc, ◌<◌, ◌≤◌, true, List, length, Option, None, Some}
 use Rattle.x7_words.specs.Flash.{FlashState, IfKnown}
 use Rattle.x7_packets.specs.FlashSlot.{sector_bytes, slot_count}
-use Rattle.x7_update.specs.Layout.{CanStandAt, HasSize, HasSlots, IsFree, IsNextFreeSlot, IsOpen, Leads, first_slot, free_switch, open_switch, switch_of, update_place}
+use Rattle.x7_update.specs.Layout.{CanStandAt, HasSize, HasSlots, IsFree, IsNextFreeSlot, IsOpen, LeadsToUpdate, first_slot, free_switch, open_switch, switch_of, update_place}
 use Rattle.x7_update.specs.Refused.{OpensAgain}
 use Rattle.x7_update.specs.declared.slots.Slots.{Slots}
 use Rattle.x7_update.specs.declared.slots.Target.{Target}
@@ -19,7 +19,7 @@ OpenAmong flash count (Some slot) = (slot < count) × IsOpen flash slot
 
 -- what the first `count` slots say is this: each leads to U, at most one of them is open, and from `next` on all are free
 pub record SoFar (flash : List ℕ) (count : ℕ) (slots : Slots) : Type 0 where
-  pub leads : (slot : ℕ) → slot < count → Leads flash slot
+  pub leads : (slot : ℕ) → slot < count → LeadsToUpdate flash slot
   pub once : (slot : ℕ) → slot < count → OpensAgain flash slot → ⊥
   pub opens : OpenAmong flash count slots.opened
   pub within : slots.next ≤ count

@@ -9,8 +9,8 @@ use Rattle.x7_update.specs.declared.fault.UpdateFault.{UpdateFault}
 use Rattle.x7_update.specs.declared.fault.UpdateFault.TheVariants.{Differs, Failed, NoLayout, NoMemory, TooLong}
 
 -- bytes that were known are still known, and in this relation to what they were
-abbrev pub Leaves : FlashState → FlashState → (List ℕ → List ℕ → Type 0) → Type 0
-Leaves old new Relates = IfKnown old.bytes (λ all. (now : List ℕ) × (new.bytes ≡ Some now) × Relates all now)
+abbrev pub StaysKnown : FlashState → FlashState → (List ℕ → List ℕ → Type 0) → Type 0
+StaysKnown old new Relates = IfKnown old.bytes (λ all. (now : List ℕ) × (new.bytes ≡ Some now) × Relates all now)
 
 -- bytes that were known are still known, and in this relation to what they were; bytes that weren't known still aren't
 abbrev pub BecomesBytes : (List ℕ → List ℕ → Type 0) → Option (List ℕ) → Option (List ℕ) → Type 0
@@ -23,7 +23,7 @@ Becomes old new Relates = BecomesBytes Relates old.bytes new.bytes
 
 -- At any moment from one state to the next, and at the end, the bytes are in this relation to those at the start.
 pub record AtAnyMoment (old new : FlashState) (past since : ℕ → List ℕ → Type 0) (Relates : List ℕ → List ℕ → Type 0) : Type 0 where
-  pub leaves : Leaves old new Relates
+  pub leaves : StaysKnown old new Relates
   pub elapses : Elapses old.moments new.moments past since (λ found. IfKnown old.bytes (λ all. Relates all found))
 
 -- the flash is used: nothing changed but its bytes, the moment and the counts of faults, which don't fall
@@ -76,26 +76,26 @@ pub record OnlySwitch (slot : ℕ) (old found : List ℕ) : Type 0 where
   pub shut : switch_of found slot ≢ open_switch
 
 -- while an open slot is closed nothing has changed, or the slot is shut
-abbrev pub Closing : ℕ → List ℕ → List ℕ → Type 0
-Closing slot old found = (found ≡ old) ⊎ OnlySwitch slot old found
+abbrev pub ClosingSlot : ℕ → List ℕ → List ℕ → Type 0
+ClosingSlot slot old found = (found ≡ old) ⊎ OnlySwitch slot old found
 
 -- while a free slot is opened the slot is shut, or open
-abbrev pub Opening : ℕ → List ℕ → List ℕ → Type 0
-Opening slot old found = (found ≡ switched slot open_switch old) ⊎ OnlySwitch slot old found
+abbrev pub OpeningSlot : ℕ → List ℕ → List ℕ → Type 0
+OpeningSlot slot old found = (found ≡ switched slot open_switch old) ⊎ OnlySwitch slot old found
 
 -- while the update is replaced nothing has changed, or no slot is open
-abbrev pub Replacing : List ℕ → List ℕ → Type 0
-Replacing old found = (found ≡ old) ⊎ IsBetween old found
+abbrev pub ReplacingUpdate : List ℕ → List ℕ → Type 0
+ReplacingUpdate old found = (found ≡ old) ⊎ IsBetween old found
 
 -- the stream stands at its place, with FF after it
-abbrev pub Stands : ℕ → List ℕ → List ℕ → List ℕ → Type 0
-Stands place stream old now = now ≡ with_stream place stream old
+abbrev pub StreamStands : ℕ → List ℕ → List ℕ → List ℕ → Type 0
+StreamStands place stream old now = now ≡ with_stream place stream old
 
 -- the open slot is spent, and the stream stands at its place
 pub record Replaced (place : ℕ) (stream old now : List ℕ) : Type 0 where
   pub closed : List ℕ
   pub closes : ClosesTo old closed
-  pub stands : Stands place stream closed now
+  pub stands : StreamStands place stream closed now
 
 -- the byte that is wanted at a place from U on: the stream's, or FF after it
 abbrev pub wanted_at : ℕ → List ℕ → ℕ → ℕ

@@ -2,7 +2,7 @@
 ghost use Rattle.std.specs.Prelude.{◌≡◌, ◌+◌, ◌<◌, ℕ, List, true, length, IfErr, IfOk, IfNone, IfSome};
 ghost use Rattle.x7_words.specs.Flash.{KnowsBytes, OnlyReads};
 ghost use Rattle.x7_packets.specs.FlashSlot.{sector_bytes, slot_count};
-ghost use Rattle.x7_update.specs.Layout.{HasSize, Leads};
+ghost use Rattle.x7_update.specs.Layout.{HasSize, LeadsToUpdate};
 ghost use Rattle.x7_update.specs.Refused.{DiffersAt, HasCause, IsBadSlotAt, IsGoodSlot, NoLayoutAt};
 ghost use Rattle.x7_update.specs.Slots.{Finds, HasFirstSlot, IsFound, SoFar};
 
@@ -33,7 +33,7 @@ pub(crate) struct Target {
 fn difference(first: &[u8], wanted: &[u8; 32], slot: usize) -> Option<u64>
     requires slot { slot < slot_count }
     requires sector { HasFirstSlot first.now wanted.now }
-    ensures none { IfNone result (Leads first.now slot) }
+    ensures none { IfNone result (LeadsToUpdate first.now slot) }
     ensures some { IfSome result (λ place. DiffersAt first.now slot place) }
 {
     let at = 32 * slot;

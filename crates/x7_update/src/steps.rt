@@ -7,7 +7,7 @@ ghost use Rattle.x7_update.specs.Layout.{HasLayout, IsClosed, IsFree, open_switc
 ghost use Rattle.x7_update.specs.ReadBack.{AllReadBack, OpensReadBack, WasReady};
 ghost use Rattle.x7_update.specs.Refused.{CanBeUpdated, HasCause, IsEarly};
 ghost use Rattle.x7_update.specs.Slots.{IsFound};
-ghost use Rattle.x7_update.specs.Writing.{AtAnyMoment, Becomes, CanReadBack, EndFails, OnlyUses, Opening, Replaced, Replacing, StaysBytes, Writes};
+ghost use Rattle.x7_update.specs.Writing.{AtAnyMoment, Becomes, CanReadBack, EndFails, OnlyUses, OpeningSlot, Replaced, ReplacingUpdate, StaysBytes, Writes};
 ghost use Rattle.x7_update.specs.declared.fault.UpdateFault.TheVariants.{NoMemory};
 
 use crate::fault::UpdateFault;
@@ -23,7 +23,7 @@ fn close_opened<F: Flash>(flash: &mut F, target: Target) -> Result<(), Failed>
     requires { IsFound (F.state flash.old) target }
     ensures closed { OnOk result (Becomes (F.state flash.old) (F.state flash.new) ClosesTo) }
     ensures writes { Writes (F.state flash.old) (F.state flash.new) (F.found_since flash.old) (F.found_since flash.new)
-        Replacing }
+        ReplacingUpdate }
     ensures failed { OnErr result (WriteFails (F.state flash.old) (F.state flash.new)) }
 {
     match target.slots.opened {
@@ -38,7 +38,7 @@ fn replace<F: Flash>(flash: &mut F, target: Target, stream: &[u8]) -> Result<(),
     requires stream { target.place + length stream.now ≤ (F.state flash.old).extent }
     ensures replaced { OnOk result (Becomes (F.state flash.old) (F.state flash.new) (Replaced target.place stream.now)) }
     ensures writes { Writes (F.state flash.old) (F.state flash.new) (F.found_since flash.old) (F.found_since flash.new)
-        Replacing }
+        ReplacingUpdate }
     ensures failed { OnErr result (WriteFails (F.state flash.old) (F.state flash.new)) }
 {
     close_opened(flash, target)?;
@@ -58,7 +58,7 @@ fn finish<F: Flash>(
     requires closed { IfKnown (F.state flash.old).bytes IsClosed }
     ensures opened { OnOk result ((F.state flash.new).bytes ≡ option_map (switched target.slots.next open_switch) (F.state flash.old).bytes) }
     ensures any_moment { AtAnyMoment (F.state flash.old) (F.state flash.new) (F.found_since flash.old) (F.found_since flash.new)
-        (Opening target.slots.next) }
+        (OpeningSlot target.slots.next) }
     ensures bytes { AtAnyMoment (F.state flash.old) (F.state flash.new) (F.found_since flash.old) (F.found_since flash.new)
         StaysBytes }
     ensures ready { OnOk result (WasReady F.state target.place stream.now (F.state flash.new)) }

@@ -3,7 +3,7 @@ ghost use Rattle.std.specs.Prelude.{◌≡◌, ◌+◌, ◌≤◌, OnOk, OnErr, 
 ghost use Rattle.x7_words.specs.Flash.{IfKnown, WriteFails};
 ghost use Rattle.x7_update.specs.After.{switched};
 ghost use Rattle.x7_update.specs.Layout.{IsFree, IsOpen, open_switch, spent_switch};
-ghost use Rattle.x7_update.specs.Writing.{CanSwitch, Closing, Opening, Writes};
+ghost use Rattle.x7_update.specs.Writing.{CanSwitch, ClosingSlot, OpeningSlot, Writes};
 
 use crate::layout::{OPEN, SPENT};
 use x7_words::{Failed, Flash};
@@ -14,7 +14,7 @@ pub(crate) fn close_slot<F: Flash>(flash: &mut F, slot: u64) -> Result<(), Faile
     requires opened { IfKnown (F.state flash.old).bytes (λ all. IsOpen all slot) }
     ensures closed { OnOk result ((F.state flash.new).bytes ≡ option_map (switched slot spent_switch) (F.state flash.old).bytes) }
     ensures writes { Writes (F.state flash.old) (F.state flash.new) (F.found_since flash.old) (F.found_since flash.new)
-        (Closing slot) }
+        (ClosingSlot slot) }
     ensures failed { OnErr result (WriteFails (F.state flash.old) (F.state flash.new)) }
 {
     flash.program(32 * slot, &SPENT)
@@ -26,7 +26,7 @@ pub(crate) fn open_slot<F: Flash>(flash: &mut F, slot: u64) -> Result<(), Failed
     requires free { IfKnown (F.state flash.old).bytes (λ all. IsFree all slot) }
     ensures opened { OnOk result ((F.state flash.new).bytes ≡ option_map (switched slot open_switch) (F.state flash.old).bytes) }
     ensures writes { Writes (F.state flash.old) (F.state flash.new) (F.found_since flash.old) (F.found_since flash.new)
-        (Opening slot) }
+        (OpeningSlot slot) }
     ensures moment { (F.state flash.new).moments ≤ (F.state flash.old).moments + 1 }
     ensures failed { OnErr result (WriteFails (F.state flash.old) (F.state flash.new)) }
 {

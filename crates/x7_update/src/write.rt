@@ -1,7 +1,7 @@
 //! The stream of an update is written: all from its place on is erased, then it is programmed there.
 ghost use Rattle.std.specs.Prelude.{◌+◌, ◌≤◌, length, OnOk, OnErr};
 ghost use Rattle.x7_words.specs.Flash.{WriteFails};
-ghost use Rattle.x7_update.specs.Writing.{Becomes, CanEraseFrom, ErasedTo, KeepsBelow, Stands, Writes};
+ghost use Rattle.x7_update.specs.Writing.{Becomes, CanEraseFrom, ErasedTo, KeepsBelow, StreamStands, Writes};
 
 use x7_words::{Failed, Flash, SECTOR};
 
@@ -23,7 +23,7 @@ fn erase_from<F: Flash>(flash: &mut F, place: u64) -> Result<(), Failed>
 pub(crate) fn write_stream<F: Flash>(flash: &mut F, place: u64, stream: &[u8]) -> Result<(), Failed>
     requires place { CanEraseFrom (F.state flash.old) place }
     requires fits { place + length stream.now ≤ (F.state flash.old).extent }
-    ensures written { OnOk result (Becomes (F.state flash.old) (F.state flash.new) (Stands place stream.now)) }
+    ensures written { OnOk result (Becomes (F.state flash.old) (F.state flash.new) (StreamStands place stream.now)) }
     ensures writes { Writes (F.state flash.old) (F.state flash.new) (F.found_since flash.old) (F.found_since flash.new)
         (KeepsBelow place) }
     ensures failed { OnErr result (WriteFails (F.state flash.old) (F.state flash.new)) }

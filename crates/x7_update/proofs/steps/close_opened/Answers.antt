@@ -2,7 +2,7 @@ use Rattle.std.proofs.Common.{◌≡◌, ℕ, ◌<◌, inl, Option, length, opti
 use Rattle.x7_update.specs.After.{ClosesTo, already, spends, switched}
 use Rattle.x7_update.specs.Layout.{IsOpen, spent_switch}
 use Rattle.x7_update.specs.Slots.{Finds, OpenAmong, WithinSlots}
-use Rattle.x7_update.specs.Writing.{Becomes, Closing, Replacing, StaysBytes}
+use Rattle.x7_update.specs.Writing.{Becomes, ClosingSlot, ReplacingUpdate, StaysBytes}
 use Rattle.x7_update.proofs.CaseLemmas.{closing_replaces}
 use Rattle.x7_update.proofs.KnownLemmas.{becomes_of, becomes_same, known_at, known_map, moments_none, moments_weaker, on_ok_map, writes_none}
 use Rattle.x7_update.proofs.steps.close_opened.Goals as goal
@@ -36,7 +36,7 @@ returns-in-Some-clause-writes g c =
     let slot = c.in-Some.slot in
     let closes = c.close_slot.ensures.writes in
     record {
-      any_moment = moments_weaker first (g.F.Flash.state c.close_slot.new.flash) _ _ (Closing slot) Replacing
+      any_moment = moments_weaker first (g.F.Flash.state c.close_slot.new.flash) _ _ (ClosingSlot slot) ReplacingUpdate
           (λ all found e h.
           let finds = known_at first.bytes (λ all. Finds (length all) all c.args.target) c.requires.finds all e in
           let P : Option ℕ → Type 0 = λ o. OpenAmong all 2048 o in
@@ -50,7 +50,7 @@ returns-in-Some-clause-writes g c =
 pub returns-in-None-clause-writes : goal.returns-in-None-clause-writes
 returns-in-None-clause-writes g c =
     let first = g.F.Flash.state c.args.flash.now in
-    record { any_moment = moments_none first _ Replacing (λ all e. inl refl); bytes = moments_none first _ StaysBytes (λ all e h. h); only = writes_none first }
+    record { any_moment = moments_none first _ ReplacingUpdate (λ all e. inl refl); bytes = moments_none first _ StaysBytes (λ all e h. h); only = writes_none first }
 
 pub close_slot-requires-clause-slot : goal.close_slot-requires-clause-slot
 close_slot-requires-clause-slot g c =

@@ -2,7 +2,7 @@ use Rattle.std.proofs.Common.{◌≡◌, ◌+◌, ◌*◌, ◌≤◌, ◌⊎◌,
 use Rattle.x7_update.specs.After.{switched}
 use Rattle.x7_update.specs.Layout.{IsFree, open_switch}
 use Rattle.x7_update.specs.ReadBack.{WasReady}
-use Rattle.x7_update.specs.Writing.{Opening, StaysBytes}
+use Rattle.x7_update.specs.Writing.{OpeningSlot, StaysBytes}
 use Rattle.x7_update.proofs.BackLemmas.{fails_since, was_unknown}
 use Rattle.x7_update.proofs.CaseLemmas.{opened_is_open, opening_none}
 use Rattle.x7_update.proofs.ReadyLemmas.{was_ready}
@@ -47,7 +47,7 @@ returns-in-Err-clause-opens g c =
     let Was : Type 0 = WasReady g.F.Flash.state c.args.target.place c.args.stream.now mid in
     let was : Was = was_ready g.F.Flash.state c.args.target.place c.args.stream.now old mid c.verify_stream.new.flash (c.open_slot.ensures.writes.only.extent ∙ read.extent) c.in_ok-verify_stream.ensures.seen read.bytes c.requires.closed c.open_slot.ensures.moment in
     read_moments old ready mid _ _ _ (λ all found. (found ≡ all) ⊎ Was) (λ all e. inl refl) read.bytes read.unwritten
-    (moments_weaker ready mid _ _ (Opening c.args.target.slots.next) (λ all found. (found ≡ all) ⊎ Was) (λ all found e h. inr was) c.open_slot.ensures.writes.any_moment)
+    (moments_weaker ready mid _ _ (OpeningSlot c.args.target.slots.next) (λ all found. (found ≡ all) ⊎ Was) (λ all found e h. inr was) c.open_slot.ensures.writes.any_moment)
 
 pub returns-clause-opens : goal.returns-clause-opens
 returns-clause-opens g c =
@@ -63,7 +63,7 @@ returns-clause-opens g c =
     (omega (arith, c.open_slot.ensures.moment, again.unwritten.moments)) in
     moments_read old mid last _ _ _ (λ all found. (found ≡ all) ⊎ Was)
     (read_moments old ready mid _ _ _ (λ all found. (found ≡ all) ⊎ Was) (λ all e. inl refl) read.bytes read.unwritten
-    (moments_weaker ready mid _ _ (Opening c.args.target.slots.next) (λ all found. (found ≡ all) ⊎ Was) (λ all found e h. inr was) c.open_slot.ensures.writes.any_moment))
+    (moments_weaker ready mid _ _ (OpeningSlot c.args.target.slots.next) (λ all found. (found ≡ all) ⊎ Was) (λ all found e h. inr was) c.open_slot.ensures.writes.any_moment))
     again.bytes again.unwritten
 
 -- ---- what is found, and what it comes to
@@ -73,14 +73,14 @@ returns-in_err-verify_stream-clause-any_moment g c =
     let old = g.F.Flash.state c.args.flash.now in
     let read = c.verify_stream.ensures.only in
     let next = c.args.target.slots.next in
-    only_read old (g.F.Flash.state c.verify_stream.new.flash) _ _ (Opening next) (λ all e. opening_none next all (known_at old.bytes (λ all. IsFree all next) c.requires.free all e)) read.bytes read.unwritten
+    only_read old (g.F.Flash.state c.verify_stream.new.flash) _ _ (OpeningSlot next) (λ all e. opening_none next all (known_at old.bytes (λ all. IsFree all next) c.requires.free all e)) read.bytes read.unwritten
 
 pub returns-in-Err-clause-any_moment : goal.returns-in-Err-clause-any_moment
 returns-in-Err-clause-any_moment g c =
     let old = g.F.Flash.state c.args.flash.now in
     let read = c.verify_stream.ensures.only in
     let next = c.args.target.slots.next in
-    read_moments old (g.F.Flash.state c.verify_stream.new.flash) (g.F.Flash.state c.open_slot.new.flash) _ _ _ (Opening next)
+    read_moments old (g.F.Flash.state c.verify_stream.new.flash) (g.F.Flash.state c.open_slot.new.flash) _ _ _ (OpeningSlot next)
     (λ all e. opening_none next all (known_at old.bytes (λ all. IsFree all next) c.requires.free all e)) read.bytes read.unwritten c.open_slot.ensures.writes.any_moment
 
 pub returns-clause-any_moment : goal.returns-clause-any_moment
@@ -90,8 +90,8 @@ returns-clause-any_moment g c =
     let read = c.verify_stream.ensures.only in
     let again = c.verify_switch.ensures.only in
     let next = c.args.target.slots.next in
-    moments_read old mid (g.F.Flash.state c.verify_switch.new.flash) _ _ _ (Opening next)
-    (read_moments old (g.F.Flash.state c.verify_stream.new.flash) mid _ _ _ (Opening next)
+    moments_read old mid (g.F.Flash.state c.verify_switch.new.flash) _ _ _ (OpeningSlot next)
+    (read_moments old (g.F.Flash.state c.verify_stream.new.flash) mid _ _ _ (OpeningSlot next)
     (λ all e. opening_none next all (known_at old.bytes (λ all. IsFree all next) c.requires.free all e)) read.bytes read.unwritten c.open_slot.ensures.writes.any_moment)
     again.bytes again.unwritten
 

@@ -1,7 +1,7 @@
 use Rattle.std.proofs.Common.{length, ◌∙◌, arith}
 use Rattle.x7_update.specs.After.{ClosesTo}
 use Rattle.x7_update.specs.Slots.{Finds}
-use Rattle.x7_update.specs.Writing.{Becomes, KeepsBelow, Replaced, Replacing, Stands}
+use Rattle.x7_update.specs.Writing.{Becomes, KeepsBelow, Replaced, ReplacingUpdate, StreamStands}
 use Rattle.x7_update.proofs.ByteLemmas.{bytes_on}
 use Rattle.x7_update.proofs.CaseLemmas.{writing_replaces}
 use Rattle.x7_update.proofs.KnownLemmas.{becomes_leaves, becomes_on, moments_on, on_ok_map, known_at, writes_on}
@@ -14,8 +14,8 @@ returns-clause-replaced g c =
     let last = g.F.Flash.state c.write_stream.new.flash in
     let place = c.args.target.place in
     let stream = c.args.stream.now in
-    on_ok_map (Becomes mid last (Stands place stream)) (Becomes first last (Replaced place stream)) c.write_stream.result c.write_stream.ensures.written
-    (λ written. becomes_on first mid last ClosesTo (Stands place stream) (Replaced place stream) (λ all closed now e closes stands. record { closed = closed; closes = closes; stands = stands })
+    on_ok_map (Becomes mid last (StreamStands place stream)) (Becomes first last (Replaced place stream)) c.write_stream.result c.write_stream.ensures.written
+    (λ written. becomes_on first mid last ClosesTo (StreamStands place stream) (Replaced place stream) (λ all closed now e closes stands. record { closed = closed; closes = closes; stands = stands })
     c.in_ok-close_opened.ensures.closed written)
 
 pub returns-clause-writes : goal.returns-clause-writes
@@ -26,7 +26,7 @@ returns-clause-writes g c =
     let closes = c.close_opened.ensures.writes in
     let writes = c.write_stream.ensures.writes in
     record {
-      any_moment = moments_on first mid last _ _ _ ClosesTo (KeepsBelow c.args.target.place) Replacing
+      any_moment = moments_on first mid last _ _ _ ClosesTo (KeepsBelow c.args.target.place) ReplacingUpdate
           (λ all closed found e closes keeps.
           writing_replaces all c.args.target (known_at first.bytes (λ all. Finds (length all) all c.args.target) c.requires.found.finds all e) closed found closes keeps)
           closes.any_moment (becomes_leaves first mid ClosesTo c.in_ok-close_opened.ensures.closed) writes.any_moment;

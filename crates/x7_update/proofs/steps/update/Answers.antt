@@ -7,7 +7,7 @@ use Rattle.x7_update.specs.Layout.{CanStandAt, HasLayout, HasSize, IsClosed, IsF
 use Rattle.x7_update.specs.ReadBack.{OpensReadBack, ReadBack, WasReady}
 use Rattle.x7_update.specs.Refused.{CanTake, IsTooLong}
 use Rattle.x7_update.specs.Slots.{Finds, TargetFits}
-use Rattle.x7_update.specs.Writing.{HasWanted, Opening, Replaced, Replacing, StaysBytes}
+use Rattle.x7_update.specs.Writing.{HasWanted, OpeningSlot, Replaced, ReplacingUpdate, StaysBytes}
 use Rattle.x7_update.specs.declared.fault.UpdateFault.TheVariants.{Failed, TooLong}
 use Rattle.x7_update.proofs.BackLemmas.{end_refused, fails_since, none_before}
 use Rattle.x7_update.proofs.ByteLemmas.{bytes_on, moments_both}
@@ -177,7 +177,7 @@ returns-in-Err-clause-any_moment g c =
     (λ all found e both. both.0 (both.1 (known_at first.bytes AreBytes c.find_target.ensures.bytes all e)))
     (moments_both first then _ _ Left StaysBytes
     (read_moments first mid then _ _ _ Left (λ all e f. untouched refl) c.find_target.ensures.only.bytes c.find_target.ensures.only.unwritten
-    (moments_weaker mid then _ _ Replacing Left (λ all found e h. replacing_left all target (known all e) stream found h) c.replace.ensures.writes.any_moment))
+    (moments_weaker mid then _ _ ReplacingUpdate Left (λ all found e h. replacing_left all target (known all e) stream found h) c.replace.ensures.writes.any_moment))
     (read_moments first mid then _ _ _ StaysBytes (λ all e h. h) c.find_target.ensures.only.bytes c.find_target.ensures.only.unwritten c.replace.ensures.writes.bytes))
 
 pub returns-clause-any_moment : goal.returns-clause-any_moment
@@ -195,12 +195,12 @@ returns-clause-any_moment g c =
     (λ all found e both. both.0 (both.1 (known_at first.bytes AreBytes c.find_target.ensures.bytes all e)))
     (moments_both first last _ _ Left StaysBytes
     (read_moments first mid last _ _ _ Left (λ all e f. untouched refl) c.find_target.ensures.only.bytes c.find_target.ensures.only.unwritten
-    (moments_on mid then last _ _ _ (Replaced target.place stream) (Opening target.slots.next) Left
+    (moments_on mid then last _ _ _ (Replaced target.place stream) (OpeningSlot target.slots.next) Left
     (λ all now found e r opening.
     let long : mid.extent ≡ length all = known_at mid.bytes (λ all. mid.extent ≡ length all) (g.met.F.Flash.counted c.find_target.new.flash) all e in
     let fits : target.place + length stream ≤ length all = omega (arith, long, c.find_target.ensures.only.extent, c.size.ensures.extent, c.in_ok-target.ensures.found.fits.place.most, c.if-stream-size.false) in
     opening_left all target (known all e) stream now fits r found opening)
-    (moments_weaker mid then _ _ Replacing Left (λ all found e h. replacing_left all target (known all e) stream found h) c.replace.ensures.writes.any_moment)
+    (moments_weaker mid then _ _ ReplacingUpdate Left (λ all found e h. replacing_left all target (known all e) stream found h) c.replace.ensures.writes.any_moment)
     (becomes_leaves mid then (Replaced target.place stream) c.in-Ok-replace.ensures.replaced) c.finish.ensures.any_moment))
     (read_moments first mid last _ _ _ StaysBytes (λ all e h. h) c.find_target.ensures.only.bytes c.find_target.ensures.only.unwritten (bytes_on mid then last _ _ _ c.replace.ensures.writes.bytes c.finish.ensures.bytes)))
 
@@ -271,7 +271,7 @@ returns-in-Err-clause-opens g c =
     let stream = c.args.stream.now in
     let Opens : List ℕ → List ℕ → Type 0 = OpensReadBack g.F.Flash.state stream first then in
     read_moments first mid then _ _ _ Opens (λ all e l a. absurd (after_not_same stream all all l a refl)) c.find_target.ensures.only.bytes c.find_target.ensures.only.unwritten
-    (moments_weaker mid then _ _ Replacing Opens (λ all found e h l a. absurd (after_not_replacing stream all found l a h)) c.replace.ensures.writes.any_moment)
+    (moments_weaker mid then _ _ ReplacingUpdate Opens (λ all found e h l a. absurd (after_not_replacing stream all found l a h)) c.replace.ensures.writes.any_moment)
 
 pub returns-clause-opens : goal.returns-clause-opens
 returns-clause-opens g c =
@@ -294,5 +294,5 @@ returns-clause-opens g c =
     let long : mid.extent ≡ length all = known_at mid.bytes (λ all. mid.extent ≡ length all) (g.met.F.Flash.counted c.find_target.new.flash) all e in
     let fits : target.place + length stream ≤ length all = omega (arith, long, c.find_target.ensures.only.extent, c.size.ensures.extent, c.in_ok-target.ensures.found.fits.place.most, c.if-stream-size.false) in
     ⊎_elim (λ same. absurd (after_not_between stream all found l a (subst (IsBetween all) (sym same) (replaced_between all target (known all e) stream now fits r)))) back o)
-    (moments_weaker mid then _ _ Replacing Opens (λ all found e h l a. absurd (after_not_replacing stream all found l a h)) c.replace.ensures.writes.any_moment)
+    (moments_weaker mid then _ _ ReplacingUpdate Opens (λ all found e h l a. absurd (after_not_replacing stream all found l a h)) c.replace.ensures.writes.any_moment)
     (becomes_leaves mid then (Replaced target.place stream) c.in-Ok-replace.ensures.replaced) c.finish.ensures.opens)

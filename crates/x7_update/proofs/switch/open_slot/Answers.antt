@@ -4,7 +4,7 @@ use Rattle.x7_words.proofs.FlashLemmas.{bytes_cleared, length_cleared}
 use Rattle.x7_words.specs.Word.{AreBytes}
 use Rattle.x7_update.specs.After.{switched}
 use Rattle.x7_update.specs.Layout.{IsFree, open_switch}
-use Rattle.x7_update.specs.Writing.{Opening}
+use Rattle.x7_update.specs.Writing.{OpeningSlot}
 use Rattle.x7_update.proofs.ByteLemmas.{bytes_write}
 use Rattle.x7_update.proofs.SwitchLemmas.{clears_to_open, opening, programs_switch}
 use Rattle.x7_update.proofs.KnownLemmas.{known_all, known_at, moments_weaker, on_ok_map, write_moments}
@@ -20,7 +20,7 @@ returns-clause-writes g c =
     λ all e. omega (arith, known_at s.bytes (λ all. s.extent ≡ length all) (g.met.F.Flash.counted c.args.flash.now) all e, c.requires.slot.within) in
     let within : (all : List ℕ) → s.bytes ≡ Some all → place + length (cleared place open_switch all) ≤ length all = λ all e. omega (arith, inside all e, length_cleared place open_switch all (inside all e)) in
     record {
-      any_moment = moments_weaker s n _ _ (λ all found. IsTorn place (cleared place open_switch all) all found) (Opening c.args.slot)
+      any_moment = moments_weaker s n _ _ (λ all found. IsTorn place (cleared place open_switch all) all found) (OpeningSlot c.args.slot)
           (λ all found e torn. opening c.args.slot (cleared place open_switch all) all found (length_cleared place open_switch all (inside all e)) (inside all e) torn)
           (write_moments place (cleared place open_switch) s n _ _ c.program.result within c.program.ensures.programmed c.program.ensures.torn c.program.ensures.passes);
       bytes = bytes_write place (cleared place open_switch) s n _ _ c.program.result (λ all. bytes_cleared place open_switch all fits) within c.program.ensures.programmed c.program.ensures.torn c.program.ensures.passes;

@@ -3,7 +3,7 @@ use Rattle.x7_words.specs.Flash.{IsTorn, cleared, programmed}
 use Rattle.x7_words.proofs.FlashLemmas.{bytes_cleared, length_cleared}
 use Rattle.x7_words.proofs.ListLemmas.{all_from_places}
 use Rattle.x7_words.specs.Word.{AreBytes}
-use Rattle.x7_update.specs.Writing.{Becomes, ErasedTo, KeepsBelow, Stands}
+use Rattle.x7_update.specs.Writing.{Becomes, ErasedTo, KeepsBelow, StreamStands}
 use Rattle.x7_update.proofs.ByteLemmas.{bytes_on, bytes_write}
 use Rattle.x7_update.proofs.StreamLemmas.{stream_written, torn_keeps}
 use Rattle.x7_update.proofs.KnownLemmas.{becomes_of, becomes_on, moments_on, on_ok_map, known_at, write_moments, writes_on}
@@ -19,8 +19,8 @@ returns-clause-written g c =
     let fits : (all : List ℕ) → first.bytes ≡ Some all → first.extent ≡ length all =
     λ all e. known_at first.bytes (λ all. first.extent ≡ length all) (g.met.F.Flash.counted c.args.flash.now) all e in
     let bytes : (i : ℕ) → get_or stream i 0 < 256 = λ i. omega (arith, c.type_inv.stream i) in
-    on_ok_map (last.bytes ≡ option_map (programmed place stream) mid.bytes) (Becomes first last (Stands place stream)) c.program.result c.program.ensures.programmed
-    (λ done. becomes_on first mid last (ErasedTo place first.extent) (λ all now. now ≡ programmed place stream all) (Stands place stream)
+    on_ok_map (last.bytes ≡ option_map (programmed place stream) mid.bytes) (Becomes first last (StreamStands place stream)) c.program.result c.program.ensures.programmed
+    (λ done. becomes_on first mid last (ErasedTo place first.extent) (λ all now. now ≡ programmed place stream all) (StreamStands place stream)
     (λ all mid now e so is. is ∙ stream_written place stream all mid (omega (arith, fits all e, c.requires.fits)) bytes (subst (λ n. ErasedTo place n all mid) (fits all e) so))
     c.in_ok-erase_from.ensures.erased (becomes_of mid last (programmed place stream) (λ all now. now ≡ programmed place stream all) done (λ all e. refl)))
 
