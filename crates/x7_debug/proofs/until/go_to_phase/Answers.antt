@@ -1,29 +1,46 @@
-use Rattle.std.proofs.Common.{◌≡◌, ◌≤◌, sym, subst, ◌∙◌, arith}
+use Rattle.std.proofs.Common.{◌≡◌, ◌≤◌, ◌<◌, ap, sym, subst, ◌∙◌, arith}
 use Rattle.x7_part.specs.Part.{PartData}
 use Rattle.x7_debug.specs.declared.order.Stop.TheVariants as stop
-use Rattle.x7_debug.specs.Position.{until_of}
+use Rattle.x7_debug.specs.Position.{last_of, until_of}
 use Rattle.x7_debug.proofs.JournalLemmas.{fed_on}
 use Rattle.x7_debug.proofs.PositionLemmas.{until_begun, until_near}
-use Rattle.x7_debug.proofs.until.forward_to_phase.Goals as goal
+use Rattle.x7_debug.proofs.until.go_to_phase.Goals as goal
 
--- where the device gets to
-led : (c : goal.After-forward_until) → c.forward_until.new.device.taken ≡ until_of c.args.device.now.part c.args.stream.now (stop.Phase c.args.phase) c.leap_near.new.device.taken
-led c = subst (λ (p : PartData). c.forward_until.new.device.taken ≡ until_of p c.args.stream.now (stop.Phase c.args.phase) c.leap_near.new.device.taken) c.leap_near.ensures.comes.part c.forward_until.ensures.comes.taken
+pub forward_until-requires : goal.forward_until-requires
+forward_until-requires c = record { on = c.requires.kept.on; last_is = c.requires.kept.last_is; before = c.requires.before }
+
+pub leap_near-requires : goal.leap_near-requires
+leap_near-requires c = record { on = c.requires.kept.on; within = c.requires.kept.begins_is.within }
+
+pub forward_until-requires-2 : goal.forward_until-requires-2
+forward_until-requires-2 c =
+    let near = c.leap_near.ensures in
+    let kept = c.requires.kept in
+    record {
+      on = near.comes.on;
+      last_is = kept.last_is ∙ ap (λ (p : PartData). last_of p c.args.stream.now) (sym near.comes.part);
+      before = omega (arith, near.near, kept.begins_is.within, c.requires.before, kept.last_is);
+    }
 
 pub returns-clause-comes : goal.returns-clause-comes
-returns-clause-comes c = record {
-  on = c.forward_until.ensures.comes.on;
-  part = c.forward_until.ensures.comes.part ∙ c.leap_near.ensures.comes.part;
-  taken = led c ∙ sym (until_near c.args.device.now.part c.args.stream.now c.args.phase c.args.outline.begins c.requires.begins c.requires.some c.args.device.now.taken c.leap_near.new.device.taken c.leap_near.ensures.forward
-      (omega (arith, c.leap_near.ensures.near, c.requires.begins.within, c.requires.before, c.requires.last)) (λ k h j. omega (arith, c.leap_near.ensures.near, h, j)));
-}
-
-pub returns-clause-oldest : goal.returns-clause-oldest
-returns-clause-oldest c =
-    let past : c.args.outline.begins ≤ until_of c.args.device.now.part c.args.stream.now (stop.Phase c.args.phase) c.leap_near.new.device.taken =
-    until_begun c.args.device.now.part c.args.stream.now c.args.phase c.args.outline.begins c.requires.begins c.requires.some c.leap_near.new.device.taken in
-    omega (arith, c.forward_until.ensures.oldest, c.leap_near.ensures.near, led c, past)
-
-pub returns-clause-fed : goal.returns-clause-fed
-returns-clause-fed c =
-    fed_on c.args.device.now c.leap_near.new.device c.forward_until.new.device c.leap_near.ensures.forward (omega (arith, c.forward_until.ensures.forward)) c.leap_near.ensures.fed c.forward_until.ensures.fed
+returns-clause-comes c =
+    let part = c.args.device.now.part in
+    let stream = c.args.stream.now in
+    let phase = c.args.phase in
+    let begins = c.args.outline.begins in
+    let from = c.args.device.now.taken in
+    let kept = c.requires.kept in
+    let near = c.leap_near.ensures in
+    let there = c.forward_until-2.ensures in
+    let some : 0 < phase = omega (arith, c.if-phase-eq0.false) in
+    let led : c.forward_until-2.new.device.taken ≡ until_of part stream (stop.Phase phase) c.leap_near.new.device.taken =
+    subst (λ (p : PartData). c.forward_until-2.new.device.taken ≡ until_of p stream (stop.Phase phase) c.leap_near.new.device.taken) near.comes.part there.comes.taken in
+    let past : begins ≤ until_of part stream (stop.Phase phase) c.leap_near.new.device.taken = until_begun part stream phase begins kept.begins_is some c.leap_near.new.device.taken in
+    record {
+      on = there.comes.on;
+      part = there.comes.part ∙ near.comes.part;
+      taken = led ∙ sym (until_near part stream phase begins kept.begins_is some from c.leap_near.new.device.taken near.forward
+          (omega (arith, near.near, kept.begins_is.within, c.requires.before, kept.last_is)) (λ k h j. omega (arith, near.near, h, j)));
+      fed = fed_on c.args.device.now c.leap_near.new.device c.forward_until-2.new.device near.forward (omega (arith, there.forward)) near.comes.fed there.comes.fed;
+      oldest = omega (arith, there.comes.oldest, near.near, led, past);
+    }
