@@ -1,4 +1,4 @@
-use Rattle.std.proofs.Common.{◌-◌, ◌∙◌, arith}
+use Rattle.std.proofs.Common.{◌∙◌, arith}
 use Rattle.x7_debug.proofs.JournalLemmas.{fed_on, within_still}
 use Rattle.x7_debug.proofs.moving.go_forward.Goals as goal
 

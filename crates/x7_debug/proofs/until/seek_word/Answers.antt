@@ -1,4 +1,4 @@
-use Rattle.std.proofs.Common.{◌≡◌, ◌+◌, ◌-◌, ℕ, true, false, take, refl, subst, sym, ◌∙◌, arith}
+use Rattle.std.proofs.Common.{◌≡◌, ◌+◌, ◌-◌, ℕ, true, false, take, subst, sym, arith}
 use Rattle.x7_part.specs.Part.{PartData}
 use Rattle.x7_debug.specs.Journal.{HasRecorded, record_room, records_of}
 use Rattle.x7_debug.specs.Position.{holds_at}
