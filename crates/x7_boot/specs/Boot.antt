@@ -35,11 +35,15 @@ start_address unit wbstar = if unit == 256 then 256 * field_of 0 24 wbstar else 
 abbrev pub end_state : PartData → Trial → Regs
 end_state part t = state_of part t.kept t.wrapped t.bytes
 
+-- the most attempts of a boot that end by IPROG
+abbrev pub most_attempts : ℕ
+most_attempts = 16
+
 -- the table: what comes after attempt `number`, by its ending
 abbrev pub next_by : PartData → ℕ → Trial → Ending → Next
 next_by part number t ending.Started = Ends boot_end.Started
 next_by part number t ending.Iprog =
-    if nat_le 16 number then Ends boot_end.Loop else Again (kept_after part t.kept t.wrapped t.bytes Iprog) (start_address part.start_unit (end_state part t).wbstar)
+    if nat_le most_attempts number then Ends boot_end.Loop else Again (kept_after part t.kept t.wrapped t.bytes Iprog) (start_address part.start_unit (end_state part t).wbstar)
 next_by part number t (ending.Failed cause) =
     if is_fallback t.kept.kind || forbids_fallback (end_state part t).ctl0 then Ends boot_end.Stopped else Again (kept_after part t.kept t.wrapped t.bytes Fallback) 0
 

@@ -11,7 +11,7 @@ use lru::LruCache;
 use std::alloc::{AllocError, Global};
 use std::mem;
 use std::num::NonZeroUsize;
-use x7_words::Flash;
+use x7_words::{Flash, NoMemory};
 
 /// The number of pages that are kept.
 const KEPT_PAGES: usize = 64;
@@ -71,7 +71,9 @@ impl PageCache {
         }
         let count = self.absent_pages(number, flash.size());
         read_block(flash, number, count, &mut self.block)?;
-        self.keep_block(number, count)?;
+        let Ok(()) = self.keep_block(number, count) else {
+            return Err(BootFault::NoMemory);
+        };
         Ok(Loaded::Read(count))
     }
 
@@ -94,7 +96,7 @@ impl PageCache {
     }
 
     /// Makes the cache have the pages of a block, the first of them as the one used last.
-    fn keep_block(&mut self, number: u64, count: u64) -> Result<(), BootFault>
+    fn keep_block(&mut self, number: u64, count: u64) -> Result<(), NoMemory>
         requires some { 0 < count }
         requires most { count ≤ block_pages }
         requires number { number ≤ flash_limit / page_size }
@@ -102,8 +104,6 @@ impl PageCache {
         ensures pages { KeepsPages self.old.block.items number count self.old.pages.entries self.new.pages.entries }
         ensures there { OnOk result (IsSome (lookup (nat_eq number) self.new.pages.entries)) }
         ensures block { self.new.block ≡ self.old.block }
-        ensures not_failed { IsErrOf result BootFault.Failed → ⊥ }
-        ensures not_large { IsErrOf result BootFault.TooLarge → ⊥ }
     {
         let mut left = count;
         'pages: while left > 0 {
@@ -114,22 +114,20 @@ impl PageCache {
     }
 
     /// Makes the cache have the page at an index of a block, as the one used last.
-    fn keep_page(&mut self, number: u64, index: u64) -> Result<(), BootFault>
+    fn keep_page(&mut self, number: u64, index: u64) -> Result<(), NoMemory>
         requires number { number ≤ flash_limit / page_size }
         requires index { index < block_pages }
         requires within { index * page_size < length self.old.block.items }
         ensures pages { (count : ℕ) → index < count → KeepsPages self.old.block.items number count self.old.pages.entries self.new.pages.entries }
         ensures there { OnOk result (IsSome (lookup (nat_eq (number + index)) self.new.pages.entries)) }
         ensures block { self.new.block ≡ self.old.block }
-        ensures not_failed { IsErrOf result BootFault.Failed → ⊥ }
-        ensures not_large { IsErrOf result BootFault.TooLarge → ⊥ }
     {
         let start = (index * PAGE) as usize;
         let end = (start + PAGE as usize).min(self.block.len());
         let mut page = mem::replace(&mut self.spare, Vec::new(self.alloc));
         page.clear();
         let Ok(()) = page.extend_from_slice(&self.block[start..end]) else {
-            return Err(BootFault::NoMemory);
+            return Err(NoMemory);
         };
         match self.pages.push(number + index, page) {
             Ok(Some((_, evicted))) => {
@@ -137,7 +135,7 @@ impl PageCache {
                 Ok(())
             }
             Ok(None) => Ok(()),
-            Err(_) => Err(BootFault::NoMemory),
+            Err(_) => Err(NoMemory),
         }
     }
 

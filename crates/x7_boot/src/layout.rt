@@ -18,10 +18,19 @@ fn sector_from(place: u64) -> u64
     (place + (SECTOR - 1)) / SECTOR * SECTOR
 }
 
-/// The update's place and the image's size in bytes, by the lengths of both streams; none where the image would be larger than
-/// a flash may be.
-fn places(golden: u64, update: u64) -> Option<(u64, u64)>
-    ensures found { IfSome result (λ it. (it.0 ≡ place_after_golden golden) × (it.1 ≡ image_size golden update) × (it.1 ≤ flash_limit)) }
+/// What the lengths of an image's streams fix.
+#[derive(Clone, Copy)]
+struct Places {
+    /// The update's place, in bytes.
+    place: u64,
+    /// The image's size, in bytes.
+    size: u64,
+}
+
+/// The update's place and the image's size, by the lengths of both streams; none where the image would be larger than a flash
+/// may be.
+fn places_of(golden: u64, update: u64) -> Option<Places>
+    ensures found { IfSome result (λ it. (it.place ≡ place_after_golden golden) × (it.size ≡ image_size golden update) × (it.size ≤ flash_limit)) }
     ensures none { IfNone result (flash_limit < image_size golden update) }
 {
     if golden > FLASH_LIMIT - SECTOR {
@@ -31,7 +40,10 @@ fn places(golden: u64, update: u64) -> Option<(u64, u64)>
     if update > FLASH_LIMIT - place {
         return None;
     }
-    Some((place, sector_from(place + update)))
+    Some(Places {
+        place,
+        size: sector_from(place + update),
+    })
 }
 
 /// A slot of the first sector, 32 bytes: a device that finds the slot's sync word goes to the start address.
@@ -100,7 +112,7 @@ fn image_by(alloc: Global, unit: u32, golden: &[u8], update: &[u8]) -> Result<Ve
     ensures bytes { IfOk result (λ all. all.items ≡ image_of unit golden.now update.now) }
     ensures too_long { (result ≡ Err ImageFault.TooLong) ↔ (flash_limit < image_size (length golden.now) (length update.now)) }
 {
-    let Some((place, size)) = places(golden.len() as u64, update.len() as u64) else {
+    let Some(Places { place, size }) = places_of(golden.len() as u64, update.len() as u64) else {
         return Err(ImageFault::TooLong);
     };
     let start = place as u32 / unit;

@@ -6,7 +6,7 @@ ghost use Rattle.x7_engine.specs.Kept.{is_fallback};
 ghost use Rattle.x7_engine.specs.State.{kept_after};
 ghost use Rattle.x7_engine.specs.declared.kept.Kept.{Kept as KeptData};
 ghost use Rattle.x7_boot.specs.Attempt.{IsDeviceOf, Trial};
-ghost use Rattle.x7_boot.specs.Boot.{forbids_fallback, next_by, start_address};
+ghost use Rattle.x7_boot.specs.Boot.{forbids_fallback, most_attempts, next_by, start_address};
 ghost use Rattle.x7_boot.specs.declared.next.Next.TheVariants as next;
 
 use crate::attempt::Ending;
@@ -14,7 +14,7 @@ use crate::boots::BootEnd;
 use x7_engine::{Device, Kept};
 use x7_regs::Kind;
 
-/// The attempts of a boot that may end by IPROG.
+/// The most attempts of a boot that end by IPROG.
 const ATTEMPTS: u32 = 16;
 
 /// What comes after an attempt of a boot.
@@ -64,7 +64,7 @@ pub(crate) fn next_of(device: &Device, kind: Kind, number: u32, ending: Ending) 
     ensures table { (part : PartData) (t : Trial) → IsDeviceOf part device.now t → t.kept.kind ≡ kind → result ≡ next_by part number t ending }
     ensures boots { (kept : KeptData) (address : ℕ) → result ≡ next.Again kept address → kept.kind ≡ Bench → ⊥ }
     ensures fallback { (kept : KeptData) (address : ℕ) → result ≡ next.Again kept address → is_fallback kept.kind ≡ true → is_fallback kind ≡ false }
-    ensures few { (kept : KeptData) (address : ℕ) → result ≡ next.Again kept address → is_fallback kept.kind ≡ false → number < 16 }
+    ensures few { (kept : KeptData) (address : ℕ) → result ≡ next.Again kept address → is_fallback kept.kind ≡ false → number < most_attempts }
 {
     match ending {
         Ending::Started => Next::Ends(BootEnd::Started),

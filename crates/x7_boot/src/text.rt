@@ -1,16 +1,17 @@
 //! What a boot came to, as lines of text.
-ghost use Rattle.std.specs.Prelude.{◌≡◌, ◌++◌, length, take, decimal, OnErr, OnOk};
+ghost use Rattle.std.specs.Prelude.{◌≡◌, ◌≤◌, ◌++◌, length, take, OnErr, OnOk};
 ghost use Rattle.x7_boot.specs.BootLines.{attempt_text, attempts_text, boot_end_text, boot_head, cause_text, ending_text, kind_text};
 
 use crate::attempt::Ending;
 use crate::boots::{BootEnd, Tried};
 use x7_regs::{Cause, Kind};
-use x7_text::{hex_of_word, make_room, put_decimal, put_text};
+use x7_text::{hex_of_word, make_room, put, put_decimal, put_text};
 use x7_words::NoMemory;
 
 /// What began an attempt, in a word.
 fn kind_words(kind: Kind) -> &'static [u8]
-    ensures { result.now ≡ kind_text kind }
+    ensures word { result.now ≡ kind_text kind }
+    ensures short { length result.now ≤ 8 }
 {
     match kind {
         Kind::Bench => b"bench",
@@ -22,7 +23,8 @@ fn kind_words(kind: Kind) -> &'static [u8]
 
 /// What an attempt failed by, in a word.
 fn cause_words(cause: Cause) -> &'static [u8]
-    ensures { result.now ≡ cause_text cause }
+    ensures word { result.now ≡ cause_text cause }
+    ensures short { length result.now ≤ 8 }
 {
     match cause {
         Cause::Watchdog => b"watchdog",
@@ -34,7 +36,8 @@ fn cause_words(cause: Cause) -> &'static [u8]
 
 /// How an attempt ended, in a word.
 fn ending_words(ending: Ending) -> &'static [u8]
-    ensures { result.now ≡ ending_text ending }
+    ensures word { result.now ≡ ending_text ending }
+    ensures short { length result.now ≤ 8 }
 {
     match ending {
         Ending::Started => b"started",
@@ -54,31 +57,25 @@ fn end_line(end: BootEnd) -> &'static [u8]
     }
 }
 
-/// Appends a number in decimal. After an error the text is as it was.
-fn put_count(text: &mut Vec<u8>, number: u64) -> Result<(), NoMemory>
-    ensures ok { OnOk result (text.new.items ≡ text.old.items ++ decimal number) }
-    ensures err { OnErr result (text.new.items ≡ text.old.items) }
-{
-    make_room(text, 20)?;
-    put_decimal(text, number);
-    Ok(())
-}
+/// The most bytes of an attempt's line: 20 of its number, eight of each other word, and those between.
+const ATTEMPT_LINE: usize = 56;
 
-/// Appends the line of the attempt of this number. After an error the first words of the line may stand there.
+/// Appends the line of the attempt of this number. After an error the text is as it was.
 #[tactic(auto, unfolding(crate::specs::BootLines::attempt_text))]
 fn put_attempt(text: &mut Vec<u8>, number: u64, tried: &Tried) -> Result<(), NoMemory>
     ensures ok { OnOk result (text.new.items ≡ text.old.items ++ attempt_text number tried.now) }
-    ensures err { OnErr result (take (length text.old.items) text.new.items ≡ text.old.items) }
+    ensures err { OnErr result (text.new.items ≡ text.old.items) }
 {
-    put_text(text, b"attempt ")?;
-    put_count(text, number)?;
-    put_text(text, b" ")?;
-    put_text(text, kind_words(tried.kind))?;
-    put_text(text, b" ")?;
-    put_text(text, &hex_of_word(tried.address))?;
-    put_text(text, b" ")?;
-    put_text(text, ending_words(tried.ending))?;
-    put_text(text, b"\n")?;
+    make_room(text, ATTEMPT_LINE)?;
+    put(text, b"attempt ");
+    put_decimal(text, number);
+    put(text, b" ");
+    put(text, kind_words(tried.kind));
+    put(text, b" ");
+    put(text, &hex_of_word(tried.address));
+    put(text, b" ");
+    put(text, ending_words(tried.ending));
+    put(text, b"\n");
     Ok(())
 }
 

@@ -10,7 +10,10 @@ use Rattle.x7_engine.specs.Kept.{on_the_bench}
 use Rattle.x7_engine.specs.Standing.{DeviceState, DeviceStandsFor, NoWordDue}
 use Rattle.x7_engine.proofs.BootLemmas.{none_due_at_first}
 use Rattle.x7_engine.specs.Undo.{AreEqual, IsUndoOf, KeepsDevice, TookFewSince, UndoState}
-use Rattle.x7_debug.specs.Journal.{IsFedAtMost, GoesWith, IsOn, IsRecord, JournalState, LeadBack, oldest_by, records_of}
+use Rattle.x7_debug.specs.Journal.{ComesToPosition, IsFedAtMost, GoesWith, IsOn, IsRecord, JournalState, LeadBack, oldest_by, records_of}
+use Rattle.x7_debug.specs.Kept.{session_of}
+use Rattle.x7_debug.specs.Moving.{ComesForward, ComesForwardRecorded}
+use Rattle.x7_debug.specs.Position.{last_of}
 use Rattle.x7_debug.specs.Session.{SessionState, StandsAtPosition}
 use Rattle.x7_debug.proofs.PositionLemmas.{by_taken, own}
 use Rattle.std.proofs.lemmas.Option.{none-some}
@@ -285,6 +288,21 @@ goes_forward old new l within oldest fed = record {
   near_fed = λ r m. absurd (omega (arith, l, m));
   far_fed = λ m. absurd (omega (arith, l, m, within));
 }
+
+-- a session whose device came forward
+pub goes_recorded : (stream : List ℕ) (d new : DeviceState) (j k : JournalState) (n : ℕ) → IsOn d.part stream d j → d.taken < new.taken → ComesForwardRecorded stream d new k n → GoesWith (session_of d stream j) (session_of new stream k)
+goes_recorded stream d new j k n o l c = goes_forward (session_of d stream j) (session_of new stream k) l (oldest_within d.part stream d.taken (records_of j) o.leads) c.oldest (c.fed.never_less, c.fed.most)
+
+pub comes_to : (stream : List ℕ) (d new : DeviceState) (k : JournalState) (n : ℕ) → ComesForwardRecorded stream d new k n → ComesToPosition stream d new k n
+comes_to stream d new k n c = record { on = c.on; part = c.part; taken = c.taken }
+
+-- a device comes forward twice
+pub comes_on : (stream : List ℕ) (d e f : DeviceState) (j k : JournalState) (m n : ℕ) → d.taken ≤ e.taken → e.taken ≤ f.taken → ComesForward stream d e j m → ComesForward stream e f k n → ComesForward stream d f k n
+comes_on stream d e f j k m n l h c x = record { on = x.on; part = x.part ∙ c.part; taken = x.taken; fed = fed_on d e f l h c.fed x.fed }
+
+-- a device of the same part, at a position that is not past the last one
+pub within_still : (p q : PartData) (stream : List ℕ) (n m : ℕ) → q ≡ p → n ≤ m → m ≤ last_of p stream → n ≤ last_of q stream
+within_still p q stream n m same l within = subst (λ (x : PartData). n ≤ last_of x stream) (sym same) (omega (arith, l, within))
 
 -- ---- what holds on the way
 

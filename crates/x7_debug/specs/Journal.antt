@@ -1,10 +1,10 @@
 -- The records of a session: devices kept on the way, the newest first, which lead back along the stream (this project's choice).
-use Rattle.std.specs.Prelude.{◌≡◌, ℕ, ◌+◌, ◌-◌, ◌<◌, ◌≤◌, max, List, [], ◌∷◌, length, take}
+use Rattle.std.specs.Prelude.{◌≡◌, ℕ, ◌+◌, ◌-◌, ◌*◌, ◌<◌, ◌≤◌, max, List, [], ◌∷◌, length, take}
 use Rattle.std.specs.List.{AllByRecursion}
 use Rattle.x7_part.specs.Part.{PartData}
 use Rattle.x7_engine.specs.Standing.{DeviceState, fed_of}
 use Rattle.x7_engine.specs.Undo.{IsUndoOf, KeepsDevice, UndoState}
-use Rattle.x7_debug.specs.Session.{SessionState, StandsAtPosition}
+use Rattle.x7_debug.specs.Session.{MovesTo, SessionState, StandsAtPosition}
 
 -- how many records there is room for
 abbrev pub record_room : ℕ
@@ -14,9 +14,9 @@ record_room = 64
 abbrev pub record_bytes : ℕ
 record_bytes = 4
 
--- how many bytes before a position records lead back to: 63 times four bytes, and one byte
+-- how many bytes before a position records lead back to: a record's bytes for each but one, and one byte
 abbrev pub reach : ℕ
-reach = 253
+reach = (record_room - 1) * record_bytes + 1
 
 -- the room for records, of which the first are in use
 pub record JournalState : Type 0 where
@@ -78,5 +78,10 @@ pub record GoesWith (old new : SessionState) : Type 0 where
   pub never_less : old.fed ≤ new.fed
   pub stays_fed : new.at ≡ old.at → new.fed ≡ old.fed
   pub forward_fed : old.at ≤ new.at → new.fed ≤ old.fed + (new.at - old.at)
-  pub near_fed : old.oldest ≤ new.at → new.at < old.at → new.fed ≤ old.fed + 3
+  pub near_fed : old.oldest ≤ new.at → new.at < old.at → new.fed ≤ old.fed + (record_bytes - 1)
   pub far_fed : new.at < old.oldest → new.fed ≤ old.fed + new.at
+
+-- a session moved to position n, with as many bytes fed, and records that lead back as far, as a move allows
+pub record IsMove (old new : SessionState) (n : ℕ) : Type 0 where
+  pub stands : MovesTo old new n
+  pub goes : GoesWith old new

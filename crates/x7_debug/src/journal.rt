@@ -14,7 +14,7 @@ use x7_part::Part;
 use x7_words::NoMemory;
 
 /// How many records there is room for.
-const RECORDS: usize = 64;
+pub(crate) const RECORDS: usize = 64;
 
 /// Records of a device, the newest first.
 #[derive(Drop)]

@@ -1,24 +1,25 @@
 //! A device is brought from one position of a stream to another one, forwards by pieces and backwards by records.
-ghost use Rattle.std.specs.Prelude.{◌≡◌, ◌≤◌, ◌<◌, ◌+◌, ◌-◌, ◌^◌, length, max};
+ghost use Rattle.std.specs.Prelude.{◌≡◌, ◌≤◌, ◌<◌, ◌+◌, ◌-◌, ◌^◌, length};
 ghost use Rattle.x7_engine.specs.Past.{OfPast};
 ghost use Rattle.x7_engine.specs.Standing.{NoWordDue, fed_of};
 ghost use Rattle.x7_debug.specs.Journal.{ComesToPosition, GoesWith, HasRecorded, IsFedAtMost, IsOn, oldest_by, reach, record_bytes, record_room, records_of};
 ghost use Rattle.x7_debug.specs.Kept.{session_of};
+ghost use Rattle.x7_debug.specs.Moving.{ComesForward, ComesForwardRecorded, MayMove, MayMoveBack, MayMoveForward};
 ghost use Rattle.x7_debug.specs.Position.{last_of};
 ghost use Rattle.x7_debug.specs.Session.{StandsAtPosition, TakesPiece};
 
-use crate::journal::Journal;
+use crate::journal::{Journal, RECORDS};
 use x7_engine::{Device, ON_THE_BENCH, ReadBuf};
 
 /// How many bytes a record leads back at most.
 pub(crate) const RECORD_BYTES: u64 = 4;
 
-/// How many bytes before a position records lead back to: 63 times four bytes, and one byte.
-pub(crate) const REACH: u64 = 253;
+/// How many bytes before a position records lead back to: a record's bytes for each but one, and one byte.
+pub(crate) const REACH: u64 = (RECORDS as u64 - 1) * RECORD_BYTES + 1;
 
 /// How many bytes all records lead back over where each has four: a move forward ends with as many, so that a move back by a
 /// multiple of four bytes feeds none.
-const RECORDED: u64 = 256;
+const RECORDED: u64 = RECORDS as u64 * RECORD_BYTES;
 
 /// Feeds a piece to a device, up to what stops it. Words read out are dropped.
 pub(crate) fn take(device: &mut Device, piece: &[u8])
@@ -45,12 +46,9 @@ pub(crate) fn feed_to(device: &mut Device, stream: &[u8], to: u64)
 
 /// Feeds a device up to four bytes of the stream, with a record of it before them.
 pub(crate) fn feed_recorded(device: &mut Device, journal: &mut Journal, stream: &[u8], to: u64)
-    requires on { IsOn device.old.part stream.now device.old journal.old }
-    requires within { to ≤ last_of device.old.part stream.now }
-    requires forward { device.old.taken ≤ to }
+    requires may { MayMoveForward stream.now device.old journal.old to }
     requires few { to ≤ device.old.taken + record_bytes }
-    ensures comes { ComesToPosition stream.now device.old device.new journal.new to }
-    ensures fed { IsFedAtMost device.old device.new (device.new.taken - device.old.taken) }
+    ensures comes { ComesForward stream.now device.old device.new journal.new to }
     ensures more { HasRecorded device.old.taken journal.old journal.new }
 {
     let from = device.taken() as usize;
@@ -59,12 +57,8 @@ pub(crate) fn feed_recorded(device: &mut Device, journal: &mut Journal, stream: 
 
 /// Brings a device forward by pieces of four bytes, the last one shorter, each with a record.
 fn go_by_words(device: &mut Device, journal: &mut Journal, stream: &[u8], to: u64)
-    requires on { IsOn device.old.part stream.now device.old journal.old }
-    requires within { to ≤ last_of device.old.part stream.now }
-    requires forward { device.old.taken ≤ to }
-    ensures comes { ComesToPosition stream.now device.old device.new journal.new to }
-    ensures fed { IsFedAtMost device.old device.new (device.new.taken - device.old.taken) }
-    ensures oldest { oldest_by device.new.taken (records_of journal.new) ≤ max device.old.taken (to - reach) }
+    requires { MayMoveForward stream.now device.old journal.old to }
+    ensures comes { ComesForwardRecorded stream.now device.old device.new journal.new to }
 {
     while to - device.taken() >= RECORD_BYTES {
         let next = device.taken() + RECORD_BYTES;
@@ -77,11 +71,8 @@ fn go_by_words(device: &mut Device, journal: &mut Journal, stream: &[u8], to: u6
 
 /// Brings a device forward by one piece, and forgets the records.
 pub(crate) fn leap(device: &mut Device, journal: &mut Journal, stream: &[u8], to: u64)
-    requires on { IsOn device.old.part stream.now device.old journal.old }
-    requires within { to ≤ last_of device.old.part stream.now }
-    requires forward { device.old.taken ≤ to }
-    ensures comes { ComesToPosition stream.now device.old device.new journal.new to }
-    ensures fed { IsFedAtMost device.old device.new (device.new.taken - device.old.taken) }
+    requires { MayMoveForward stream.now device.old journal.old to }
+    ensures comes { ComesForward stream.now device.old device.new journal.new to }
 {
     feed_to(device, stream, to);
     journal.forget();
@@ -89,12 +80,8 @@ pub(crate) fn leap(device: &mut Device, journal: &mut Journal, stream: &[u8], to
 
 /// Brings a device forward: far away by one piece up to the reach of the records, and the rest by pieces of four bytes.
 fn go_forward(device: &mut Device, journal: &mut Journal, stream: &[u8], to: u64)
-    requires on { IsOn device.old.part stream.now device.old journal.old }
-    requires within { to ≤ last_of device.old.part stream.now }
-    requires forward { device.old.taken ≤ to }
-    ensures comes { ComesToPosition stream.now device.old device.new journal.new to }
-    ensures fed { IsFedAtMost device.old device.new (device.new.taken - device.old.taken) }
-    ensures oldest { oldest_by device.new.taken (records_of journal.new) ≤ max device.old.taken (to - reach) }
+    requires { MayMoveForward stream.now device.old journal.old to }
+    ensures comes { ComesForwardRecorded stream.now device.old device.new journal.new to }
 {
     if to - device.taken() > RECORDED {
         leap(device, journal, stream, to - RECORDED);
@@ -115,8 +102,7 @@ fn begin_again(device: &mut Device, journal: &mut Journal, stream: &[u8])
 
 /// Resets a device and brings it to an earlier position from the first byte on.
 fn replay(device: &mut Device, journal: &mut Journal, stream: &[u8], to: u64)
-    requires on { IsOn device.old.part stream.now device.old journal.old }
-    requires within { to ≤ last_of device.old.part stream.now }
+    requires { MayMove stream.now device.old journal.old to }
     ensures comes { ComesToPosition stream.now device.old device.new journal.new to }
     ensures fed { IsFedAtMost device.old device.new to }
     ensures oldest { oldest_by device.new.taken (records_of journal.new) ≤ to - reach }
@@ -127,9 +113,7 @@ fn replay(device: &mut Device, journal: &mut Journal, stream: &[u8], to: u64)
 
 /// Takes a device back by records to the last position at or before this one where a record was made.
 fn take_back(device: &mut Device, journal: &mut Journal, stream: &[u8], to: u64)
-    requires on { IsOn device.old.part stream.now device.old journal.old }
-    requires before { to < device.old.taken }
-    requires reach { oldest_by device.old.taken (records_of journal.old) ≤ to }
+    requires { MayMoveBack stream.now device.old journal.old to }
     ensures comes { ComesToPosition stream.now device.old device.new journal.new device.new.taken }
     ensures before { device.new.taken ≤ to }
     ensures near { to < device.new.taken + record_bytes }
@@ -144,9 +128,7 @@ fn take_back(device: &mut Device, journal: &mut Journal, stream: &[u8], to: u64)
 
 /// Takes a device back by records, and the few bytes up to the position forward again.
 fn go_back(device: &mut Device, journal: &mut Journal, stream: &[u8], to: u64)
-    requires on { IsOn device.old.part stream.now device.old journal.old }
-    requires before { to < device.old.taken }
-    requires reach { oldest_by device.old.taken (records_of journal.old) ≤ to }
+    requires { MayMoveBack stream.now device.old journal.old to }
     ensures comes { ComesToPosition stream.now device.old device.new journal.new to }
     ensures fed { IsFedAtMost device.old device.new (record_bytes - 1) }
     ensures oldest { oldest_by device.new.taken (records_of journal.new) ≡ oldest_by device.old.taken (records_of journal.old) }
@@ -159,8 +141,7 @@ fn go_back(device: &mut Device, journal: &mut Journal, stream: &[u8], to: u64)
 
 /// Brings a device that stands at a position of the stream to another one.
 pub(crate) fn move_to(device: &mut Device, journal: &mut Journal, stream: &[u8], to: u64)
-    requires on { IsOn device.old.part stream.now device.old journal.old }
-    requires within { to ≤ last_of device.old.part stream.now }
+    requires { MayMove stream.now device.old journal.old to }
     ensures comes { ComesToPosition stream.now device.old device.new journal.new to }
     ensures goes { GoesWith (session_of device.old stream.now journal.old) (session_of device.new stream.now journal.new) }
 {

@@ -1,9 +1,9 @@
 //! A session: forwards and backwards through a stream.
 ghost use Rattle.std.specs.Prelude.{◌≡◌, ◌≤◌, ◌+◌, ◌-◌, IfOk, min};
 ghost use Rattle.x7_engine.specs.Standing.{fed_of};
-ghost use Rattle.x7_debug.specs.Journal.{GoesWith};
+ghost use Rattle.x7_debug.specs.Journal.{IsMove};
 ghost use Rattle.x7_debug.specs.Position.{last_of, until_of};
-ghost use Rattle.x7_debug.specs.Session.{MovesTo, StandsAtPosition};
+ghost use Rattle.x7_debug.specs.Session.{StandsAtPosition};
 
 use crate::journal::Journal;
 use crate::moving::move_to;
@@ -91,16 +91,14 @@ impl Session {
     /// Goes to a position that is not past the last one.
     fn move_to(&mut self, to: u64)
         requires { to ≤ last_of self.old.part self.old.stream }
-        ensures moves { MovesTo self.old self.new to }
-        ensures goes { GoesWith self.old self.new }
+        ensures moves { IsMove self.old self.new to }
     {
         move_to(&mut self.device, &mut self.journal, &self.stream, to);
     }
 
     /// Goes to a position, or to the last one where that is less.
     pub fn go(&mut self, to: u64)
-        ensures moves { MovesTo self.old self.new (min to (last_of self.old.part self.old.stream)) }
-        ensures goes { GoesWith self.old self.new }
+        ensures moves { IsMove self.old self.new (min to (last_of self.old.part self.old.stream)) }
     {
         let last = self.outline.last;
         self.move_to(to.min(last));
@@ -108,8 +106,7 @@ impl Session {
 
     /// Goes `count` bytes forward, or to the last position where there are fewer.
     pub fn step(&mut self, count: u64)
-        ensures moves { MovesTo self.old self.new (min (self.old.at + count) (last_of self.old.part self.old.stream)) }
-        ensures goes { GoesWith self.old self.new }
+        ensures moves { IsMove self.old self.new (min (self.old.at + count) (last_of self.old.part self.old.stream)) }
     {
         let at = self.device.taken();
         let left = self.outline.last - at;
@@ -118,8 +115,7 @@ impl Session {
 
     /// Goes `count` bytes back, or to position 0 where there are fewer.
     pub fn back(&mut self, count: u64)
-        ensures moves { MovesTo self.old self.new (self.old.at - count) }
-        ensures goes { GoesWith self.old self.new }
+        ensures moves { IsMove self.old self.new (self.old.at - count) }
     {
         let at = self.device.taken();
         self.move_to(at.saturating_sub(count));
@@ -127,8 +123,7 @@ impl Session {
 
     /// Goes forward to the least later position where the stop holds, or to the last one where there is none.
     pub fn until(&mut self, stop: Stop)
-        ensures moves { MovesTo self.old self.new (until_of self.old.part self.old.stream stop self.old.at) }
-        ensures goes { GoesWith self.old self.new }
+        ensures moves { IsMove self.old self.new (until_of self.old.part self.old.stream stop self.old.at) }
     {
         go_until(
             &mut self.device,

@@ -100,10 +100,7 @@ pub fn transcript(
     let mut text = Vec::new(alloc);
     for order in script.orders() {
         session.follow(*order);
-        match show(&mut text, session, *order) {
-            Ok(()) => (),
-            Err(NoMemory) => return Err(NoMemory),
-        }
+        show(&mut text, session, *order)?;
     }
     Ok(text)
 }

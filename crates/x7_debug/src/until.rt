@@ -1,9 +1,10 @@
 //! A device is brought forward to the first position where a stop holds.
 ghost use Rattle.std.specs.Prelude.{◌≡◌, ◌≤◌, ◌<◌, ◌+◌, ◌-◌, ◌∷◌, ℕ, List, true, false, max};
 ghost use Rattle.x7_engine.specs.Undo.{UndoState};
-ghost use Rattle.x7_debug.specs.Journal.{ComesToPosition, GoesWith, HasRecorded, IsFedAtMost, IsOn, oldest_by, reach, record_bytes, records_of};
-ghost use Rattle.x7_debug.specs.Kept.{session_of};
-ghost use Rattle.x7_debug.specs.Position.{BeginsAtSoonest, holds_at, holds_in, last_of, until_of};
+ghost use Rattle.x7_debug.specs.Journal.{ComesToPosition, GoesWith, HasRecorded, reach, record_bytes, records_of};
+ghost use Rattle.x7_debug.specs.Kept.{IsKeptSession, session_of};
+ghost use Rattle.x7_debug.specs.Moving.{ComesForward, ComesForwardRecorded, IsBeforeLast, MayMove, MayMoveForward};
+ghost use Rattle.x7_debug.specs.Position.{holds_at, holds_in, until_of};
 ghost use Rattle.x7_debug.specs.declared.order.Stop.TheVariants as to;
 
 use crate::journal::Journal;
@@ -29,12 +30,9 @@ fn holds(stop: Stop, end: End, phase: u8) -> bool
 /// Brings a device forward byte by byte to the first position where the stop holds, or to `end`, which is at most four bytes
 /// after the newest record. Says whether the stop holds there.
 fn seek(device: &mut Device, journal: &Journal, stream: &[u8], end: u64, stop: Stop) -> bool
-    requires on { IsOn device.old.part stream.now device.old journal.now }
-    requires within { end ≤ last_of device.old.part stream.now }
-    requires before { device.old.taken ≤ end }
+    requires may { MayMoveForward stream.now device.old journal.now end }
     requires some { (u : UndoState) × (older : List UndoState) × (records_of journal.now ≡ u ∷ older) × (end ≤ u.taken + record_bytes) }
-    ensures comes { ComesToPosition stream.now device.old device.new journal.now device.new.taken }
-    ensures fed { IsFedAtMost device.old device.new (device.new.taken - device.old.taken) }
+    ensures comes { ComesForward stream.now device.old device.new journal.now device.new.taken }
     ensures forward { device.old.taken ≤ device.new.taken × device.new.taken ≤ end }
     ensures found { result ≡ true → holds_at device.old.part stream.now stop device.new.taken ≡ true }
     ensures end { result ≡ false → device.new.taken ≡ end }
@@ -62,11 +60,8 @@ fn seek_word(
     last: u64,
     stop: Stop,
 ) -> bool
-    requires on { IsOn device.old.part stream.now device.old journal.old }
-    requires last { last ≡ last_of device.old.part stream.now }
-    requires before { device.old.taken < last }
-    ensures comes { ComesToPosition stream.now device.old device.new journal.new device.new.taken }
-    ensures fed { IsFedAtMost device.old device.new (device.new.taken - device.old.taken) }
+    requires { IsBeforeLast stream.now device.old journal.old last }
+    ensures comes { ComesForward stream.now device.old device.new journal.new device.new.taken }
     ensures more { HasRecorded device.old.taken journal.old journal.new }
     ensures forward { device.old.taken < device.new.taken × device.new.taken ≤ last × device.new.taken ≤ device.old.taken + record_bytes }
     ensures whole { result ≡ false → device.new.taken < last → device.new.taken ≡ device.old.taken + record_bytes }
@@ -81,13 +76,9 @@ fn seek_word(
 
 /// Brings a device forward, byte by byte, to the first later position where the stop holds, or else to the last one.
 fn forward_until(device: &mut Device, journal: &mut Journal, stream: &[u8], last: u64, stop: Stop)
-    requires on { IsOn device.old.part stream.now device.old journal.old }
-    requires last { last ≡ last_of device.old.part stream.now }
-    requires before { device.old.taken < last }
-    ensures comes { ComesToPosition stream.now device.old device.new journal.new (until_of device.old.part stream.now stop device.old.taken) }
-    ensures fed { IsFedAtMost device.old device.new (device.new.taken - device.old.taken) }
+    requires { IsBeforeLast stream.now device.old journal.old last }
+    ensures comes { ComesForwardRecorded stream.now device.old device.new journal.new (until_of device.old.part stream.now stop device.old.taken) }
     ensures forward { device.old.taken < device.new.taken }
-    ensures oldest { oldest_by device.new.taken (records_of journal.new) ≤ max device.old.taken (device.new.taken - reach) }
 {
     while device.taken() < last {
         if seek_word(device, journal, stream, last, stop) {
@@ -99,10 +90,8 @@ fn forward_until(device: &mut Device, journal: &mut Journal, stream: &[u8], last
 /// Feeds a device in one piece up to a position from which records reach to `begins`, where startup may begin; a device that is
 /// past it already stays.
 fn leap_near(device: &mut Device, journal: &mut Journal, stream: &[u8], begins: u64)
-    requires on { IsOn device.old.part stream.now device.old journal.old }
-    requires within { begins ≤ last_of device.old.part stream.now }
-    ensures comes { ComesToPosition stream.now device.old device.new journal.new device.new.taken }
-    ensures fed { IsFedAtMost device.old device.new (device.new.taken - device.old.taken) }
+    requires { MayMove stream.now device.old journal.old begins }
+    ensures comes { ComesForward stream.now device.old device.new journal.new device.new.taken }
     ensures forward { device.old.taken ≤ device.new.taken }
     ensures near { device.new.taken ≤ max device.old.taken (begins - (reach + 1)) }
 {
@@ -112,30 +101,8 @@ fn leap_near(device: &mut Device, journal: &mut Journal, stream: &[u8], begins: 
     }
 }
 
-/// Brings a device forward to the first later position in this phase of startup, which isn't 0, or else to the last one.
-/// Positions at which startup hasn't begun are passed over.
-fn forward_to_phase(
-    device: &mut Device,
-    journal: &mut Journal,
-    stream: &[u8],
-    outline: Outline,
-    phase: u8,
-)
-    requires on { IsOn device.old.part stream.now device.old journal.old }
-    requires last { outline.last ≡ last_of device.old.part stream.now }
-    requires begins { BeginsAtSoonest device.old.part stream.now outline.begins }
-    requires before { device.old.taken < outline.last }
-    requires some { 0 < phase }
-    ensures comes { ComesToPosition stream.now device.old device.new journal.new (until_of device.old.part stream.now (to.Phase phase) device.old.taken) }
-    ensures fed { IsFedAtMost device.old device.new (device.new.taken - device.old.taken) }
-    ensures forward { device.old.taken < device.new.taken }
-    ensures oldest { oldest_by device.new.taken (records_of journal.new) ≤ max device.old.taken (device.new.taken - reach) }
-{
-    leap_near(device, journal, stream, outline.begins);
-    forward_until(device, journal, stream, outline.last, Stop::Phase(phase));
-}
-
-/// Brings a device forward to the first later position in this phase of startup, or else to the last one.
+/// Brings a device forward to the first later position in this phase of startup, or else to the last one. Positions at which
+/// startup hasn't begun are passed over, where the phase isn't 0.
 fn go_to_phase(
     device: &mut Device,
     journal: &mut Journal,
@@ -143,19 +110,16 @@ fn go_to_phase(
     outline: Outline,
     phase: u8,
 )
-    requires on { IsOn device.old.part stream.now device.old journal.old }
-    requires last { outline.last ≡ last_of device.old.part stream.now }
-    requires begins { BeginsAtSoonest device.old.part stream.now outline.begins }
+    requires kept { IsKeptSession device.old stream.now outline.last outline.begins journal.old }
     requires before { device.old.taken < outline.last }
-    ensures comes { ComesToPosition stream.now device.old device.new journal.new (until_of device.old.part stream.now (to.Phase phase) device.old.taken) }
-    ensures fed { IsFedAtMost device.old device.new (device.new.taken - device.old.taken) }
+    ensures comes { ComesForwardRecorded stream.now device.old device.new journal.new (until_of device.old.part stream.now (to.Phase phase) device.old.taken) }
     ensures forward { device.old.taken < device.new.taken }
-    ensures oldest { oldest_by device.new.taken (records_of journal.new) ≤ max device.old.taken (device.new.taken - reach) }
 {
     if phase == 0 {
         return forward_until(device, journal, stream, outline.last, Stop::Phase(phase));
     }
-    forward_to_phase(device, journal, stream, outline, phase);
+    leap_near(device, journal, stream, outline.begins);
+    forward_until(device, journal, stream, outline.last, Stop::Phase(phase));
 }
 
 /// Brings a device forward to the first later position where the stop holds, or else to the last one. What stops a device
@@ -167,9 +131,7 @@ pub(crate) fn go_until(
     outline: Outline,
     stop: Stop,
 )
-    requires on { IsOn device.old.part stream.now device.old journal.old }
-    requires last { outline.last ≡ last_of device.old.part stream.now }
-    requires begins { BeginsAtSoonest device.old.part stream.now outline.begins }
+    requires { IsKeptSession device.old stream.now outline.last outline.begins journal.old }
     ensures comes { ComesToPosition stream.now device.old device.new journal.new (until_of device.old.part stream.now stop device.old.taken) }
     ensures goes { GoesWith (session_of device.old stream.now journal.old) (session_of device.new stream.now journal.new) }
 {

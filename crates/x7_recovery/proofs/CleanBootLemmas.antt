@@ -1,5 +1,7 @@
 -- A golden stream that begins clean starts as a fallback after an open slot, where it starts at power after an erased sector.
 use Rattle.std.proofs.Common.{◌≡◌, ◌==◌, ◌+◌, ◌-◌, ◌*◌, ◌^◌, ◌<◌, ◌≤◌, inl, inr, ℕ, true, false, if◌then◌else◌, None, Some, List, ◌++◌, drop, take, length, length-append, length-drop, refl, ap, sym, subst, ◌∙◌, append_assoc, take-append-drop, drop_of_length-le, arith}
+use Rattle.x7_words.specs.Flash.{erased_sector}
+use Rattle.x7_words.proofs.FlashLemmas.{length_erased_sector}
 use Rattle.std.proofs.lemmas.Bool.{cases_lt}
 use Rattle.std.proofs.lemmas.List.{take-append-le}
 use Rattle.std.proofs.Math.Seq.{take-append-add, take-append_seam, take-length}
@@ -33,7 +35,7 @@ use Rattle.x7_boot.proofs.OverLemmas.{ends_alike}
 use Rattle.x7_boot.proofs.StartLemmas.{prefix_goes, prefix_history, prefix_open}
 use Rattle.x7_boot.proofs.TookLemmas.{ends_going}
 use Rattle.x7_recovery.specs.Clean.{StartsClean}
-use Rattle.x7_recovery.specs.Golden.{erased_sector, with_erased}
+use Rattle.x7_recovery.specs.Golden.{with_erased}
 use Rattle.x7_boot.specs.Course.{BootCourse, IsCourse}
 use Rattle.x7_recovery.specs.OpenBoot.{FallsBackClean, UpdateFails}
 use Rattle.x7_recovery.specs.OpenSlot.{HasOpen, IsOpened, Opened}
@@ -43,7 +45,7 @@ use Rattle.x7_recovery.proofs.SlotLemmas.{slot_long}
 use Rattle.x7_recovery.proofs.OpenSlotLemmas.{after_slot, slot_history, slot_place}
 use Rattle.x7_recovery.proofs.CleanStopLemmas.{AreClean, ComesAlike, clean_until, comes, not_empty, slot_near}
 use Rattle.x7_recovery.proofs.FullTrialLemmas.{bootsts_is, iprog_later}
-use Rattle.x7_recovery.proofs.GoldenLemmas.{ended, erased_drop, erased_history, erased_long, erased_take, word_at}
+use Rattle.x7_recovery.proofs.GoldenLemmas.{ended, erased_drop, erased_history, erased_take, word_at}
 use Rattle.x7_recovery.proofs.OpenBootLemmas.{Falls, failed_attempt, falls, kept_then}
 use Rattle.x7_recovery.proofs.OpenLemmas as slots
 use Rattle.x7_recovery.proofs.OpenLemmas.{desync_at, sector, sector_going, sector_history, sector_long, sector_never, sector_rests, sector_wrote}
@@ -175,7 +177,7 @@ module _ (o : Opened) (is : IsOpened o) (t : Trial) (c : StartsClean o.part o.fl
     sk_fits = all_take (λ b. b < 256) k s s_fits
 
     power_long : length (erased_sector ++ sk) ≡ 65536 + length sk
-    power_long = length-append erased_sector sk ∙ ap (λ (n : ℕ). n + length sk) erased_long
+    power_long = length-append erased_sector sk ∙ ap (λ (n : ℕ). n + length sk) length_erased_sector
 
     fall_long : length (front' ++ sk) ≡ 65536 + length sk
     fall_long = length-append front' sk ∙ ap (λ (n : ℕ). n + length sk) front_long
@@ -246,7 +248,7 @@ module _ (o : Opened) (is : IsOpened o) (t : Trial) (c : StartsClean o.part o.fl
           | inr late ↦
               let j : ℕ = k - 65536 in
               let sum : length front' + j ≡ k = omega (arith, late, front_long) in
-              let same : length erased_sector + j ≡ k = omega (arith, late, erased_long) in
+              let same : length erased_sector + j ≡ k = omega (arith, late, length_erased_sector) in
               let whole : k ≤ length (erased_sector ++ s) = omega (arith, within, ap length bytes_are) in
               let taken : take k one ≡ erased_sector ++ take j s =
               ap (take k) one_is ∙ take-append-le k (erased_sector ++ s) x.rest whole ∙ ap (λ (n : ℕ). take n (erased_sector ++ s)) (sym same) ∙ take-append-add erased_sector s j in

@@ -1,5 +1,7 @@
 -- The full stream of a plan begins clean: after an erased first sector it starts, and nothing has stopped the device by then.
 use Rattle.std.proofs.Common.{◌≡◌, ◌==◌, ◌+◌, ◌-◌, ◌*◌, ◌<◌, ◌≤◌, ◌⊎◌, inl, inr, ℕ, Bool, true, false, if◌then◌else◌, Option, None, Some, List, [], ◌∷◌, ◌++◌, drop, take, length, length-append, refl, ap, sym, subst, ◌∙◌, append_assoc, arith}
+use Rattle.x7_words.specs.Flash.{erased_sector}
+use Rattle.x7_words.proofs.FlashLemmas.{length_erased_sector, bytes_erased_sector}
 use Rattle.std.proofs.lemmas.Bool.{cases_lt}
 use Rattle.std.proofs.lemmas.List.{take-append-le}
 use Rattle.std.proofs.Math.Seq.{drop-append_seam, take-append-add, take-append_seam}
@@ -35,11 +37,11 @@ use Rattle.x7_boot.specs.Boot.{at_power}
 use Rattle.x7_boot.specs.declared.attempt.Ending.TheVariants as ending
 use Rattle.x7_boot.proofs.StartLemmas.{prefix_goes}
 use Rattle.x7_recovery.specs.Clean.{BeginsClean, StartsClean, clear, later, nothing, shutdown}
-use Rattle.x7_recovery.specs.Golden.{StartsAsPlanned, erased_sector, with_erased}
+use Rattle.x7_recovery.specs.Golden.{StartsAsPlanned, with_erased}
 use Rattle.x7_recovery.specs.Recovery.{IsPrepared, Updating}
 use Rattle.x7_recovery.proofs.CleanStopLemmas.{not_empty}
 use Rattle.x7_recovery.proofs.FullTrialLemmas.{full_ends, full_stream_fits, seven_whole}
-use Rattle.x7_recovery.proofs.GoldenLemmas.{ended, erased_fits, erased_prefix, erased_history, erased_long, never_erased, rest_erased}
+use Rattle.x7_recovery.proofs.GoldenLemmas.{ended, erased_prefix, erased_history, never_erased, rest_erased}
 
 -- ---- the history of a full stream begins clean
 
@@ -87,10 +89,10 @@ module _ (u : Updating) (p : IsPrepared u) (t : Trial) (s : StartsAsPlanned u t)
   stream_fits = full_stream_fits u.part u.golden p.is_part p.plan
 
   short_fits : AreBytes short
-  short_fits = all_append (λ b. b < 256) erased_sector stream erased_fits stream_fits
+  short_fits = all_append (λ b. b < 256) erased_sector stream bytes_erased_sector stream_fits
 
   short_long : length short ≡ 65536 + length stream
-  short_long = length-append erased_sector stream ∙ ap (λ (n : ℕ). n + length stream) erased_long
+  short_long = length-append erased_sector stream ∙ ap (λ (n : ℕ). n + length stream) length_erased_sector
 
   x : EndsFirst u.part (with_erased u.flash) t
   x = ended u.part (with_erased u.flash) t s.golden.starts
@@ -104,7 +106,7 @@ module _ (u : Updating) (p : IsPrepared u) (t : Trial) (s : StartsAsPlanned u t)
 
   none : stop_in u.part at_power short ≡ None
   none =
-      let plays : PlaysFull (resting_after u.part at_power erased_sector) stream u.golden = full_law u.part at_power erased_sector u.golden erased_fits (rest_erased u.part) p.is_part p.plan.is_plan p.plan.width p.plan.addressed in
+      let plays : PlaysFull (resting_after u.part at_power erased_sector) stream u.golden = full_law u.part at_power erased_sector u.golden bytes_erased_sector (rest_erased u.part) p.is_part p.plan.is_plan p.plan.width p.plan.addressed in
       plays.rests.no_stop
 
   at_seven : ((state_of u.part at_power false (take (length t.bytes) short)).phase == 7) ≡ true
@@ -113,7 +115,7 @@ module _ (u : Updating) (p : IsPrepared u) (t : Trial) (s : StartsAsPlanned u t)
       ap (λ (y : List ℕ). (state_of u.part at_power false y).phase == 7) (sym taken) ∙ ap (λ (k : Kept). (state_of u.part k false t.bytes).phase == 7) (sym s.golden.starts.kept) ∙ here
 
   same_history : history_of (take (length t.bytes) short) ≡ history_of short
-  same_history = seven_whole u.part at_power erased_sector stream (length t.bytes) short_fits (full_ends u.part u.golden erased_sector erased_fits (rest_erased u.part).searching p.is_part p.plan never_erased) at_seven
+  same_history = seven_whole u.part at_power erased_sector stream (length t.bytes) short_fits (full_ends u.part u.golden erased_sector bytes_erased_sector (rest_erased u.part).searching p.is_part p.plan never_erased) at_seven
 
   abbrev part_of : List ℕ
   part_of = take (length t.bytes - length erased_sector) stream
@@ -128,7 +130,7 @@ module _ (u : Updating) (p : IsPrepared u) (t : Trial) (s : StartsAsPlanned u t)
   not_fewer few =
       let l : length t.bytes ≤ length erased_sector = omega (arith, few) in
       let cut : take (length t.bytes) short ≡ take (length t.bytes) erased_sector = take-append-le (length t.bytes) erased_sector stream l in
-      let empty : history_of (take (length t.bytes) short) ≡ [] = ap history_of cut ∙ erased_prefix (length t.bytes) (omega (arith, l, erased_long)) in
+      let empty : history_of (take (length t.bytes) short) ≡ [] = ap history_of cut ∙ erased_prefix (length t.bytes) (omega (arith, l, length_erased_sector)) in
       not_empty (history_of stream) (moved_same 65536 (history_of stream) [] (sym (erased_history stream stream_fits) ∙ sym same_history ∙ empty)) (stream_clean u.part u.golden p.is_part p.plan)
 
   pub full_clean : StartsClean u.part u.flash t
@@ -146,5 +148,5 @@ module _ (u : Updating) (p : IsPrepared u) (t : Trial) (s : StartsAsPlanned u t)
           let part_fits : AreBytes part_of = all_take (λ b. b < 256) (length t.bytes - length erased_sector) stream stream_fits in
           let same : history_of part_of ≡ history_of stream =
           moved_same 65536 (history_of part_of) (history_of stream) (sym (erased_history part_of part_fits) ∙ ap history_of (sym (split l) ∙ taken) ∙ same_history ∙ erased_history stream stream_fits) in
-          let dropped : drop 65536 t.bytes ≡ part_of = ap (drop 65536) (split l) ∙ ap (λ (n : ℕ). drop n (erased_sector ++ part_of)) (sym erased_long) ∙ drop-append_seam erased_sector part_of in
+          let dropped : drop 65536 t.bytes ≡ part_of = ap (drop 65536) (split l) ∙ ap (λ (n : ℕ). drop n (erased_sector ++ part_of)) (sym length_erased_sector) ∙ drop-append_seam erased_sector part_of in
           record { starts = s.golden.starts; going = going; clean = subst BeginsClean (sym (ap history_of dropped ∙ same)) (stream_clean u.part u.golden p.is_part p.plan); fits = fits }

@@ -1,5 +1,7 @@
 -- A golden stream that starts after one first sector that leads nowhere starts after each.
 use Rattle.std.proofs.Common.{◌≡◌, ℕ, ◌+◌, ◌-◌, ◌<◌, ◌≤◌, inl, inr, Bool, false, List, [], ◌∷◌, ◌++◌, length, get_or, take, drop, refl, ap, sym, subst, ◌∙◌, arith, length-append, length-drop, take-append-drop, append_assoc, append-nil, length-take-le}
+use Rattle.x7_words.specs.Flash.{erased_sector}
+use Rattle.x7_words.proofs.FlashLemmas.{length_erased_sector, get_or_erased_sector, bytes_erased_sector}
 use Rattle.std.specs.Prelude.{slice_range}
 use Rattle.std.proofs.lemmas.List.{length-replicate, get_or-take, get_or-drop, get_or_append_left, get_or-append_right, ext_get_or, take-append-le}
 use Rattle.std.proofs.Math.Seq.{take-append_seam, take-length, drop-append_seam}
@@ -33,7 +35,7 @@ use Rattle.x7_boot.proofs.StartLemmas.{NeverStarts}
 use Rattle.x7_update.specs.Layout.{HasLayout, four_at, open_switch, update_place}
 use Rattle.x7_update.specs.After.{IsBetween, MayBeLeft, after, between, untouched}
 use Rattle.x7_update.proofs.LawLemmas.{no_sync}
-use Rattle.x7_recovery.specs.Golden.{BootsAlike, GoldenStarts, HaveSameGolden, IsPreparedAny, IsShut, StartsAlike, StartsAsPlanned, StartsAtPower, UpdatingAny, as_after, as_before, erased_sector, golden, with_erased}
+use Rattle.x7_recovery.specs.Golden.{BootsAlike, GoldenStarts, HaveSameGolden, IsPreparedAny, IsShut, StartsAlike, StartsAsPlanned, StartsAtPower, UpdatingAny, as_after, as_before, golden, with_erased}
 use Rattle.x7_recovery.specs.Recovery.{IsPrepared, Updating}
 use Rattle.x7_recovery.proofs.FullTrialLemmas.{StartsWith, full_starts}
 use Rattle.x7_recovery.proofs.SlotLemmas.{fill_fits}
@@ -168,38 +170,26 @@ same_golden_alike part one other t b s boot = shut_alike part one other t s.shut
 
 -- ---- the first sector erased
 
-pub erased_long : length erased_sector ≡ 65536
-unfolding erased_sector
-erased_long = length-replicate {A = ℕ} 65536 255
-
-pub erased_at : (i : ℕ) → i < 65536 → get_or erased_sector i 0 ≡ 255
-unfolding erased_sector
-erased_at i h = get_or-replicate {A = ℕ} 65536 i 255 0 h
-
-pub erased_fits : AreBytes erased_sector
-unfolding erased_sector
-erased_fits = fill_fits 65536
-
 pub erased_shut : (more : List ℕ) → IsShut (erased_sector ++ more)
 erased_shut more place h e =
-    let byte : get_or (erased_sector ++ more) place 0 ≡ 255 = get_or_append_left erased_sector more 0 place (omega (arith, erased_long, h)) ∙ erased_at place h in
+    let byte : get_or (erased_sector ++ more) place 0 ≡ 255 = get_or_append_left erased_sector more 0 place (omega (arith, length_erased_sector, h)) ∙ get_or_erased_sector place h in
     let first : get_or (erased_sector ++ more) place 0 ≡ 0xAA = ap (λ (w : List ℕ). get_or w 0 0) e in
     absurd (omega (arith, byte, first))
 
 pub erased_take : (more : List ℕ) → take 65536 (erased_sector ++ more) ≡ erased_sector
-erased_take more = ap (λ (n : ℕ). take n (erased_sector ++ more)) (sym erased_long) ∙ take-append_seam erased_sector more
+erased_take more = ap (λ (n : ℕ). take n (erased_sector ++ more)) (sym length_erased_sector) ∙ take-append_seam erased_sector more
 
 pub erased_drop : (more : List ℕ) → drop 65536 (erased_sector ++ more) ≡ more
-erased_drop more = ap (λ (n : ℕ). drop n (erased_sector ++ more)) (sym erased_long) ∙ drop-append_seam erased_sector more
+erased_drop more = ap (λ (n : ℕ). drop n (erased_sector ++ more)) (sym length_erased_sector) ∙ drop-append_seam erased_sector more
 
 erased_none : (more : List ℕ) → NoneBegins erased_sector more
-erased_none more = shut_none (erased_sector ++ more) erased_sector more (erased_shut more) refl (omega (arith, erased_long))
+erased_none more = shut_none (erased_sector ++ more) erased_sector more (erased_shut more) refl (omega (arith, length_erased_sector))
 
 pub erased_history : (more : List ℕ) → AreBytes more → history_of (erased_sector ++ more) ≡ moved 65536 (history_of more)
-erased_history more fits = history_passed erased_sector more (all_append (λ x. x < 256) erased_sector more erased_fits fits) (erased_none more) ∙ ap (λ (n : ℕ). moved n (history_of more)) erased_long
+erased_history more fits = history_passed erased_sector more (all_append (λ x. x < 256) erased_sector more bytes_erased_sector fits) (erased_none more) ∙ ap (λ (n : ℕ). moved n (history_of more)) length_erased_sector
 
 pub erased_prefix : (k : ℕ) → k ≤ 65536 → history_of (take k erased_sector) ≡ []
-erased_prefix k l = (prefix_asks_nothing erased_sector [] k (omega (arith, l, erased_long)) erased_fits (erased_none [])).1
+erased_prefix k l = (prefix_asks_nothing erased_sector [] k (omega (arith, l, length_erased_sector)) bytes_erased_sector (erased_none [])).1
 
 -- ---- what a power loss leaves
 
@@ -226,8 +216,8 @@ golden_stands flash found n l b most = ext_get_or 0 (take (n - 65536) (drop 6553
 
 pub between_alike : (part : PartData) (flash found : List ℕ) (t : Trial) (b : BootedState) → HasLayout flash → IsBetween flash found → GoldenStarts part flash t → AreBytes found → (boot : IsBoot part found b) → StartsAlike part t (course_of b boot.last)
 between_alike part flash found t b l left starts fits boot =
-    shut_alike part (with_erased flash) found t (erased_shut (drop 65536 flash)) (no_sync flash found l left) (subst AreBytes (sym (erased_take (drop 65536 flash))) erased_fits) fits
-    (omega (arith, length-append erased_sector (drop 65536 flash), erased_long)) (omega (arith, left.size, l.size.least)) starts.starts
+    shut_alike part (with_erased flash) found t (erased_shut (drop 65536 flash)) (no_sync flash found l left) (subst AreBytes (sym (erased_take (drop 65536 flash))) bytes_erased_sector) fits
+    (omega (arith, length-append erased_sector (drop 65536 flash), length_erased_sector)) (omega (arith, left.size, l.size.least)) starts.starts
     (golden_stands flash found (length t.bytes) l left starts.ends ∙ ap (take (length t.bytes - 65536)) (sym (erased_drop (drop 65536 flash)))) b boot
 
 pub found_alike : (u : UpdatingAny) (found : List ℕ) (b : BootedState) → IsPreparedAny u → MayBeLeft u.stream u.flash found → IsBoot u.part found b → BootsAlike u found b
@@ -243,22 +233,22 @@ goes = record { gap = []; searching = refl; none = subst HasNoSync (take-length 
 pub rest_erased : (part : PartData) → AtRest part at_power erased_sector
 rest_erased part =
     let new : AtRest part at_power [] = record { no_stop = refl; searching = refl; startup = inl refl; sbits = refl; no_shutdown = refl; no_watchdog = refl } in
-    rest_on part at_power [] erased_sector erased_fits goes new
+    rest_on part at_power [] erased_sector bytes_erased_sector goes new
 
 pub never_erased : NeverStarts (history_of erased_sector)
-never_erased = subst NeverStarts (sym (history_on [] erased_sector erased_fits goes)) tt
+never_erased = subst NeverStarts (sym (history_on [] erased_sector bytes_erased_sector goes)) tt
 
 pub full_golden : (u : Updating) → IsPrepared u → (t : Trial) × StartsAsPlanned u t
 full_golden u p =
     let stream : List ℕ = full_stream u.part u.golden in
     let short : List ℕ = erased_sector ++ stream in
     let s : StartsWith u.part at_power 0 short u.golden false =
-    full_starts u.part at_power erased_sector u.golden 0 short [] false erased_fits (rest_erased u.part) never_erased p.is_part p.plan (sym (append-nil short)) refl in
+    full_starts u.part at_power erased_sector u.golden 0 short [] false bytes_erased_sector (rest_erased u.part) never_erased p.is_part p.plan (sym (append-nil short)) refl in
     let t : Trial = s.trial in
     let x : EndsFirst u.part short t = subst (λ (n : ℕ). EndsFirst u.part (drop n short) t) s.address_is (started_first u.part short t s.is s.ending_is) in
     let most : length t.bytes ≤ length short = omega (arith, ap length x.taken, length-append t.bytes x.rest) in
     let whole : with_erased u.flash ≡ short ++ p.golden.rest = ap (λ (x : List ℕ). erased_sector ++ x) p.golden.stands ∙ sym (append_assoc erased_sector stream p.golden.rest) in
-    let within : length t.bytes ≤ 65536 + length stream = omega (arith, most, length-append erased_sector stream, erased_long) in
+    let within : length t.bytes ≤ 65536 + length stream = omega (arith, most, length-append erased_sector stream, length_erased_sector) in
     let same : take (t.address + length t.bytes) (with_erased u.flash) ≡ take (t.address + length t.bytes) short =
     ap (take (t.address + length t.bytes)) whole ∙ take-append-le (t.address + length t.bytes) short p.golden.rest (omega (arith, most, s.address_is)) in (
       t,

@@ -14,7 +14,7 @@ use Rattle.x7_part.specs.Part.{PartData}
 use Rattle.x7_memory.specs.Planned.{PlanData}
 use Rattle.x7_planner.specs.FullStream.{full_stream}
 use Rattle.x7_recovery.specs.Recovery.{IsPrepared}
-use Rattle.x7_update.specs.Layout.{HasLayout, Leads, IsOpen, four_at, first_slot, free_switch, open_switch, switch_of, update_place}
+use Rattle.x7_update.specs.Layout.{HasLayout, LeadsToUpdate, IsOpen, four_at, first_slot, free_switch, open_switch, switch_of, update_place}
 
 -- the byte of a slot among equal ones
 slot_among : (one rest : List ℕ) (n k i : ℕ) → length one ≡ 32 → k < n → i < 32 → get_or (repeat n one ++ rest) (32 * k + i) 0 ≡ get_or one i 0
@@ -82,7 +82,7 @@ module _ (start : ℕ) (all rest : List ℕ) (begins : all ≡ first_sector star
   pub place_is : start < 2 ^ 32 → update_place all ≡ start
   place_is h = ap word_of_bytes start_is ∙ word_whole start h
 
-  pub leads : (k : ℕ) → k < 2048 → Leads all k
+  pub leads : (k : ℕ) → k < 2048 → LeadsToUpdate all k
   leads zero h = λ i j l.
       let at : 32 * 0 + i ≡ i = omega arith in
       ap (λ m. get_or all m 0) at ∙ open_byte i l ∙ sym (ap (λ s. get_or s i 0) first_is)

@@ -1,5 +1,7 @@
 -- A golden stream that starts does so after updates too.
 use Rattle.std.proofs.Common.{◌≡◌, ◌+◌, ◌-◌, ◌≤◌, inl, inr, ℕ, List, ◌++◌, drop, take, length, refl, ap, sym, ◌∙◌, arith}
+use Rattle.x7_words.specs.Flash.{erased_sector}
+use Rattle.x7_words.proofs.FlashLemmas.{length_erased_sector}
 use Rattle.std.proofs.lemmas.Bool.{cases_lt}
 use Rattle.std.proofs.lemmas.List.{take-append-le}
 use Rattle.std.proofs.Math.Seq.{take-append-add}
@@ -8,10 +10,10 @@ use Rattle.x7_boot.specs.Attempt.{Trial}
 use Rattle.x7_update.specs.After.{IsAfter}
 use Rattle.x7_update.specs.Layout.{HasLayout, update_place}
 use Rattle.x7_recovery.specs.Clean.{StartsClean}
-use Rattle.x7_recovery.specs.Golden.{GoldenStarts, StartsAtPower, erased_sector, with_erased}
+use Rattle.x7_recovery.specs.Golden.{GoldenStarts, StartsAtPower, with_erased}
 use Rattle.x7_recovery.specs.Updated.{AfterUpdates, none, one_more}
 use Rattle.x7_boot.proofs.OverLemmas.{trial_over}
-use Rattle.x7_recovery.proofs.GoldenLemmas.{erased_long, in_flash}
+use Rattle.x7_recovery.proofs.GoldenLemmas.{in_flash}
 use Rattle.x7_recovery.proofs.HasOpenLemmas.{after_golden_same, after_place}
 
 same_prefixes : (e xs ys : List ℕ) (m : ℕ) → take (m - length e) xs ≡ take (m - length e) ys → take m (e ++ xs) ≡ take m (e ++ ys)
@@ -25,7 +27,7 @@ power_moves : (part : PartData) (flash other : List ℕ) (t : Trial) → StartsA
 power_moves part flash other t s same =
     let at : t.address + length t.bytes ≡ length t.bytes = omega (arith, s.address) in
     let fronts : take (length t.bytes) (with_erased other) ≡ take (length t.bytes) (with_erased flash) =
-    same_prefixes erased_sector (drop 65536 other) (drop 65536 flash) (length t.bytes) (ap (λ (n : ℕ). take (length t.bytes - n) (drop 65536 other)) erased_long ∙ same ∙ ap (λ (n : ℕ). take (length t.bytes - n) (drop 65536 flash)) (sym erased_long)) in
+    same_prefixes erased_sector (drop 65536 other) (drop 65536 flash) (length t.bytes) (ap (λ (n : ℕ). take (length t.bytes - n) (drop 65536 other)) length_erased_sector ∙ same ∙ ap (λ (n : ℕ). take (length t.bytes - n) (drop 65536 flash)) (sym length_erased_sector)) in
     record {
       is = trial_over part (with_erased flash) (with_erased other) t s.is (in_flash part (with_erased flash) t s)
           (ap (λ (n : ℕ). take n (with_erased other)) at ∙ fronts ∙ ap (λ (n : ℕ). take n (with_erased flash)) (sym at));

@@ -1,5 +1,6 @@
 -- A golden stream of any kind, as one attempt shows it: a device starts with it where the first sector leads nowhere (UG470, MultiBoot and fallback; the layout is this project's choice).
-use Rattle.std.specs.Prelude.{◌≡◌, ◌≢◌, ℕ, ◌+◌, ◌<◌, ◌≤◌, List, [], ◌∷◌, ◌++◌, drop, false, length, None, replicate, slice_range}
+use Rattle.std.specs.Prelude.{◌≡◌, ◌≢◌, ℕ, ◌+◌, ◌<◌, ◌≤◌, List, [], ◌∷◌, ◌++◌, drop, false, length, None, slice_range}
+use Rattle.x7_words.specs.Flash.{erased_sector}
 use Rattle.x7_words.specs.Word.{AreBytes}
 use Rattle.x7_packets.specs.FlashSlot.{sector_bytes}
 use Rattle.x7_part.specs.Part.{PartData}
@@ -21,10 +22,6 @@ use Rattle.x7_update.specs.Layout.{HasLayout, four_at, open_switch, update_place
 -- no sync word begins in the first sector: none of its slots is open, or it is erased
 abbrev pub IsShut : List ℕ → Type 0
 IsShut flash = (place : ℕ) → place < sector_bytes → four_at flash place ≢ open_switch
-
--- the bytes of an erased sector
-unfoldable pub erased_sector : List ℕ
-erased_sector = replicate sector_bytes 255
 
 -- the flash with its first sector erased
 abbrev pub with_erased : List ℕ → List ℕ

@@ -1,13 +1,13 @@
 -- Lemmas on what may be left of a flash: from one case to the next.
-use Rattle.std.proofs.Common.{◌≡◌, ℕ, ◌+◌, ◌*◌, ◌%◌, ◌<◌, ◌≤◌, ◌⊎◌, inl, inr, ⊎_elim, List, length, get_or, Bool, true, false, refl, ap, sym, subst, ◌∙◌, arith}
+use Rattle.std.proofs.Common.{◌≡◌, ℕ, ◌+◌, ◌*◌, ◌%◌, ◌<◌, ◌≤◌, ◌⊎◌, inl, inr, ⊎_elim, List, Option, None, Some, option_map, length, get_or, Bool, true, false, refl, ap, sym, subst, ◌∙◌, arith}
 use Rattle.std.proofs.lemmas.Bool.{cases_eq, cases_lt}
 use Rattle.x7_words.specs.Word.{AreBytes}
 use Rattle.x7_words.specs.Flash.{FlashState, IfKnown}
 use Rattle.x7_update.specs.Layout.{HasLayout, HasSlots, IsOpen, IsFree, IsNextFreeSlot, switch_of, open_switch, free_switch, spent_switch, update_place}
 use Rattle.x7_update.specs.After.{ClosesTo, already, spends, IsAfter, IsBetween, MayBeLeft, untouched, between, after, switched, with_stream}
-use Rattle.x7_update.specs.Writing.{AtAnyMoment, Closing, HasWanted, KeepsBelow, OnlySwitch, Opening, Replaced, Replacing}
+use Rattle.x7_update.specs.Writing.{AtAnyMoment, ClosingSlot, HasWanted, KeepsBelow, OnlySwitch, OpeningSlot, Replaced, ReplacingUpdate}
 use Rattle.x7_update.specs.Slots.{Finds}
-use Rattle.x7_update.specs.declared.slots.Slots.{Slots}
+use Rattle.x7_update.specs.declared.slots.Target.{Target}
 use Rattle.x7_update.proofs.StreamLemmas.{length_with_stream, with_stream_below, with_stream_wanted}
 use Rattle.x7_update.proofs.SwitchLemmas.{length_switched, switched_others, switch_switched, switch_other}
 use Rattle.x7_update.proofs.KnownLemmas.{known_map}
@@ -104,6 +104,15 @@ between_opening slot all mid found b next only = record {
       | inr n ↦ b.closed other k (sym (only_other slot other mid found n only) ∙ o)
     ]
 
+-- a free slot that nothing has opened as yet
+pub opening_none : (slot : ℕ) (all : List ℕ) → IsFree all slot → OpeningSlot slot all all
+opening_none slot all free = inr (record { size = refl; others = λ i h. refl; shut = λ o. open_not_free all slot o free })
+
+-- known bytes whose free slot was opened have an open slot
+pub opened_is_open : (known new : Option (List ℕ)) (slot : ℕ) → new ≡ option_map (switched slot open_switch) known → IfKnown known (λ all. 32 * slot + 4 ≤ length all) → IfKnown new (λ all. IsOpen all slot)
+opened_is_open None new slot is within = subst (λ (o : Option (List ℕ)). IfKnown o (λ all. IsOpen all slot)) (sym is) tt
+opened_is_open (Some all) new slot is within = subst (λ (o : Option (List ℕ)). IfKnown o (λ all. IsOpen all slot)) (sym is) (switch_switched slot 0xAA 0x99 0x55 0x66 all within)
+
 -- the next slot is free still when the stream is written
 pub next_free : (next : ℕ) (all closed found : List ℕ) → HasSlots (length all) all → IsNextFreeSlot all next → ClosesTo all closed → KeepsBelow (update_place all) closed found → IsFree found next
 next_free next all closed found has n closes keeps =
@@ -118,62 +127,62 @@ next_free next all closed found has n closes keeps =
 
 -- ---- the steps, by the slots that were found
 
-module _ (all : List ℕ) (slots : Slots) (finds : Finds (length all) all slots) where
+module _ (all : List ℕ) (target : Target) (finds : Finds (length all) all target) where
   layout : HasLayout all
   layout = record { size = finds.sized; slots = finds.has }
 
   -- while the open slot is closed
-  pub closing_replaces : (slot : ℕ) (found : List ℕ) → slot < 2048 → IsOpen all slot → Closing slot all found → Replacing all found
+  pub closing_replaces : (slot : ℕ) (found : List ℕ) → slot < 2048 → IsOpen all slot → ClosingSlot slot all found → ReplacingUpdate all found
   closing_replaces slot found h is (inl same) = inl same
   closing_replaces slot found h is (inr only) = inr (between_closing (length all) slot all found finds.has h is only)
 
   -- while the stream is written after closed slots
-  pub writing_replaces : (closed found : List ℕ) → ClosesTo all closed → KeepsBelow slots.update closed found → Replacing all found
+  pub writing_replaces : (closed found : List ℕ) → ClosesTo all closed → KeepsBelow target.place closed found → ReplacingUpdate all found
   writing_replaces closed found closes keeps =
       inr (between_below (length all) all closed found finds.has (between_closed all closed finds.has closes) (subst (λ u. KeepsBelow u closed found) finds.update keeps))
 
   -- what is found while the update is replaced may be left
-  pub replacing_left : (stream found : List ℕ) → Replacing all found → AreBytes found → MayBeLeft stream all found
+  pub replacing_left : (stream found : List ℕ) → ReplacingUpdate all found → AreBytes found → MayBeLeft stream all found
   replacing_left stream found (inl same) fits = untouched same
   replacing_left stream found (inr b) fits = between layout fits b
 
-  module _ (stream now : List ℕ) (fits : slots.update + length stream ≤ length all) (r : Replaced slots.update stream all now) where
+  module _ (stream now : List ℕ) (fits : target.place + length stream ≤ length all) (r : Replaced target.place stream all now) where
     shut : IsBetween all r.closed
     shut = between_closed all r.closed finds.has r.closes
 
-    inside : slots.update + length stream ≤ length r.closed
+    inside : target.place + length stream ≤ length r.closed
     inside = omega (arith, fits, shut.size)
 
-    keeps : KeepsBelow (update_place all) r.closed (with_stream slots.update stream r.closed)
-    keeps = subst (λ u. KeepsBelow u r.closed (with_stream slots.update stream r.closed)) finds.update (stream_keeps slots.update stream r.closed inside)
+    keeps : KeepsBelow (update_place all) r.closed (with_stream target.place stream r.closed)
+    keeps = subst (λ u. KeepsBelow u r.closed (with_stream target.place stream r.closed)) finds.update (stream_keeps target.place stream r.closed inside)
 
     -- the stream stands as it is wanted
-    pub replaced_wanted : HasWanted slots.update stream now
-    replaced_wanted = subst (HasWanted slots.update stream) (sym r.stands) (with_stream_wanted slots.update stream r.closed inside)
+    pub replaced_wanted : HasWanted target.place stream now
+    replaced_wanted = subst (HasWanted target.place stream) (sym r.stands) (with_stream_wanted target.place stream r.closed inside)
 
     -- the next slot is free still
-    pub replaced_free : IsFree now slots.next
-    replaced_free = subst (λ l. IsFree l slots.next) (sym r.stands) (next_free slots.next all r.closed (with_stream slots.update stream r.closed) finds.has finds.next r.closes keeps)
+    pub replaced_free : IsFree now target.slots.next
+    replaced_free = subst (λ l. IsFree l target.slots.next) (sym r.stands) (next_free target.slots.next all r.closed (with_stream target.place stream r.closed) finds.has finds.next r.closes keeps)
 
     -- no slot is open as yet
     pub replaced_between : IsBetween all now
-    replaced_between = subst (λ l. IsBetween all l) (sym r.stands) (between_below (length all) all r.closed (with_stream slots.update stream r.closed) finds.has shut keeps)
+    replaced_between = subst (λ l. IsBetween all l) (sym r.stands) (between_below (length all) all r.closed (with_stream target.place stream r.closed) finds.has shut keeps)
 
     -- the slot is open: the flash is updated
-    pub opened_after : IsAfter stream all (switched slots.next open_switch now)
+    pub opened_after : IsAfter stream all (switched target.slots.next open_switch now)
     opened_after = record {
       closed = r.closed;
       closes = r.closes;
-      next = slots.next;
+      next = target.slots.next;
       is_next = finds.next;
       fits = omega (arith, fits, finds.update);
-      is = ap (λ l. switched slots.next open_switch l) r.stands ∙ ap (λ u. switched slots.next open_switch (with_stream u stream r.closed)) finds.update;
+      is = ap (λ l. switched target.slots.next open_switch l) r.stands ∙ ap (λ u. switched target.slots.next open_switch (with_stream u stream r.closed)) finds.update;
     }
 
     -- while the next slot is opened
-    pub opening_left : (found : List ℕ) → Opening slots.next now found → AreBytes found → MayBeLeft stream all found
+    pub opening_left : (found : List ℕ) → OpeningSlot target.slots.next now found → AreBytes found → MayBeLeft stream all found
     opening_left found (inl is) fits = after layout (subst (IsAfter stream all) (sym is) opened_after)
-    opening_left found (inr only) fits = between layout fits (between_opening slots.next all now found replaced_between finds.next only)
+    opening_left found (inr only) fits = between layout fits (between_opening target.slots.next all now found replaced_between finds.next only)
 
 -- what may be found since a call's start is what was there then, or was found within it
 pub found_left : (stream : List ℕ) (old new : FlashState) (past since : ℕ → List ℕ → Type 0) → ((found : List ℕ) → past old.moments found → IfKnown old.bytes (λ all. found ≡ all)) → AtAnyMoment old new past since (MayBeLeft stream)

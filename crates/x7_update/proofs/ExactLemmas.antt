@@ -1,13 +1,13 @@
 -- Lemmas on refusals: a flash with a layout is refused for none, and what is left is want of memory.
 use Rattle.std.proofs.Common.{◌≡◌, ℕ, inl, inr, true, false, List, None, Some, Result, Ok, Err, IfErr, length, get_or, refl, ap, sym, ◌∙◌, arith}
 use Rattle.x7_words.specs.Flash.{FlashState}
-use Rattle.x7_update.specs.Layout.{HasLayout, Leads}
+use Rattle.x7_update.specs.Layout.{HasLayout, LeadsToUpdate}
 use Rattle.x7_update.specs.Refused.{CanBeUpdated, DiffersAt, HasCause, IsTooLong, NoLayoutAt, bad_first, bad_place, bad_size, bad_slot, last_taken}
 use Rattle.x7_update.specs.declared.fault.UpdateFault.{UpdateFault}
 use Rattle.x7_update.specs.declared.fault.UpdateFault.TheVariants.{Differs, Failed, NoLayout, NoMemory, TooLong}
 use Rattle.x7_update.proofs.KnownLemmas.{known_at}
 
-differs_not : (flash : List ℕ) (slot place : ℕ) → Leads flash slot → DiffersAt flash slot place → ⊥
+differs_not : (flash : List ℕ) (slot place : ℕ) → LeadsToUpdate flash slot → DiffersAt flash slot place → ⊥
 differs_not flash slot place leads d = d.differs (ap (λ p. get_or flash p 0) d.is ∙ leads d.i d.after_switch d.within)
 
 -- a flash with a layout has no place at which it lacks one
@@ -22,7 +22,7 @@ layout_or_not flash place l (bad_slot begins slot h to (inr b)) =
 layout_or_not flash place l (last_taken begins good taken is) = taken l.slots.last_free
 
 -- a flash that can be updated is refused for want of memory alone
-only_memory : (stream : List ℕ) (old new : FlashState) (fault : UpdateFault) → HasCause stream old new fault → CanBeUpdated stream old new → fault ≡ NoMemory
+pub only_memory : (stream : List ℕ) (old new : FlashState) (fault : UpdateFault) → HasCause stream old new fault → CanBeUpdated stream old new → fault ≡ NoMemory
 only_memory stream old new (Failed true) cause can = absurd (can.writes cause.0)
 only_memory stream old new (Failed false) cause can = absurd (can.reads cause.0)
 only_memory stream old new TooLong cause can =
@@ -33,6 +33,6 @@ only_memory stream old new (NoLayout place) cause can =
 only_memory stream old new (Differs at wrote read) cause can = let both : None ≡ Some can.flash = sym cause.1 ∙ can.known in cc
 only_memory stream old new NoMemory cause can = refl
 
-pub if_only_memory : (stream : List ℕ) (old new : FlashState) (answer : Result (Unit {0}) UpdateFault) → IfErr answer (HasCause stream old new) → IfErr answer (λ fault. CanBeUpdated stream old new → fault ≡ NoMemory)
+pub if_only_memory : {A : Type 0} (stream : List ℕ) (old new : FlashState) (answer : Result A UpdateFault) → IfErr answer (HasCause stream old new) → IfErr answer (λ fault. CanBeUpdated stream old new → fault ≡ NoMemory)
 if_only_memory stream old new (Ok _) cause = tt
 if_only_memory stream old new (Err fault) cause = only_memory stream old new fault cause

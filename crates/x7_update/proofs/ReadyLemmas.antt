@@ -3,15 +3,15 @@ use Rattle.std.proofs.Common.{◌≡◌, ℕ, ◌+◌, ◌-◌, ◌*◌, ◌≤�
 use Rattle.std.proofs.lemmas.Bool.{cases_lt}
 use Rattle.x7_words.specs.Flash.{FlashState, IfKnown, Sees}
 use Rattle.x7_update.specs.After.{IsAfter, IsBetween, with_stream}
-use Rattle.x7_update.specs.Layout.{HasLayout, IsClosed, IsNextFreeSlot, IsOpen, open_switch, switch_of, update_place}
+use Rattle.x7_update.specs.Layout.{CanStandAt, HasLayout, HasSize, IsClosed, IsNextFreeSlot, IsOpen, open_switch, switch_of, update_place}
 use Rattle.x7_update.specs.ReadBack.{AllReadBack, ReadBack, WasReady}
-use Rattle.x7_update.specs.Slots.{Finds, SlotsFit}
-use Rattle.x7_update.specs.Writing.{ReadsWanted, ReadsWantedTo, Replacing, SeesWanted, wanted_at}
+use Rattle.x7_update.specs.Slots.{Finds, IsFound, TargetFits}
+use Rattle.x7_update.specs.Writing.{CanReadBack, HasWanted, ReadsWanted, ReadsWantedTo, ReplacingUpdate, SeesWanted, wanted_at}
 use Rattle.x7_update.proofs.CaseLemmas.{between_below, between_closed, open_not_free, stream_keeps}
 use Rattle.x7_update.proofs.StreamLemmas.{wanted_inside}
 use Rattle.x7_update.proofs.SwitchLemmas.{switch_switched}
 use Rattle.x7_update.proofs.KnownLemmas.{known_map}
-use Rattle.x7_update.specs.declared.slots.Slots.{Slots}
+use Rattle.x7_update.specs.declared.slots.Target.{Target}
 
 -- ---- what is seen
 
@@ -46,6 +46,25 @@ sees_open place buffer new (Ok _) long seen wanted = λ i l.
 pub sees_up_to : (update : ℕ) (stream : List ℕ) (from to end : ℕ) (state : FlashState) → end ≤ to → SeesWanted update stream from to state → SeesWanted update stream from end state
 sees_up_to update stream from to end state within had place l h = had place l (omega (arith, within, h))
 
+-- where an update goes is found as well after reads
+pub still_found : (old new : FlashState) (target : Target) → new.attached ≡ old.attached → new.extent ≡ old.extent → new.bytes ≡ old.bytes → IsFound old target → IsFound new target
+still_found old new target attached size bytes found = record {
+  attached = attached ∙ found.attached;
+  fits = subst (λ n. TargetFits n target) (sym size) found.fits;
+  finds = subst (λ (o : Option (List ℕ)). IfKnown o (λ all. Finds (length all) all target)) (sym bytes) found.finds;
+}
+
+-- what can be read back still can, after reads alone
+pub still_read_back : (old new : FlashState) (update : ℕ) (stream buffer after : List ℕ) → new.attached ≡ old.attached → new.extent ≡ old.extent → new.bytes ≡ old.bytes → length after ≡ 65536 → CanReadBack old update stream buffer → CanReadBack new update stream after
+still_read_back old new update stream buffer after attached size bytes long can = record {
+  attached = attached ∙ can.attached;
+  size = subst HasSize (sym size) can.size;
+  place = subst (λ n. CanStandAt n update) (sym size) can.place;
+  fits = omega (arith, size, can.fits);
+  wanted = subst (λ (o : Option (List ℕ)). IfKnown o (HasWanted update stream)) (sym bytes) can.wanted;
+  buffer_is = long;
+}
+
 -- what was seen before a write
 pub was_ready : {F : Type 0} (state : F → FlashState) (update : ℕ) (stream : List ℕ) (old new : FlashState) (ready : F) → new.extent ≡ old.extent → SeesWanted update stream update old.extent (state ready)
     → (state ready).bytes ≡ old.bytes → IfKnown old.bytes IsClosed → new.moments ≤ (state ready).moments + 1 → WasReady state update stream new
@@ -57,23 +76,23 @@ was_ready state update stream old new ready size seen same closed last = record 
 }
 
 -- what was read back of the slots of the flash
-module _ {F : Type 0} (state : F → FlashState) (stream : List ℕ) (old new : FlashState) (slots : Slots) where
-  pub read_back : SlotsFit new.extent slots → IfKnown old.bytes (λ all. Finds (length all) all slots) → WasReady state slots.update stream new → ReadBack state stream old new
+module _ {F : Type 0} (state : F → FlashState) (stream : List ℕ) (old new : FlashState) (target : Target) where
+  pub read_back : TargetFits new.extent target → IfKnown old.bytes (λ all. Finds (length all) all target) → WasReady state target.place stream new → ReadBack state stream old new
   read_back fits finds was = record {
-    update = slots.update;
+    update = target.place;
     stands = fits.place;
-    place = known_map old.bytes (λ all. Finds (length all) all slots) (λ all. slots.update ≡ update_place all) (λ all e f. f.update) finds;
+    place = known_map old.bytes (λ all. Finds (length all) all target) (λ all. target.place ≡ update_place all) (λ all e f. f.update) finds;
     ready = was;
   }
 
-  pub all_back : {E : Type 0} (result : Result (Unit {0}) E) → SlotsFit new.extent slots → IfKnown old.bytes (λ all. Finds (length all) all slots) → OnOk result (WasReady state slots.update stream new)
-      → OnOk result (Sees new (32 * slots.next) open_switch) → OnOk result (AllReadBack state stream old new)
+  pub all_back : {E : Type 0} (result : Result (Unit {0}) E) → TargetFits new.extent target → IfKnown old.bytes (λ all. Finds (length all) all target) → OnOk result (WasReady state target.place stream new)
+      → OnOk result (Sees new (32 * target.slots.next) open_switch) → OnOk result (AllReadBack state stream old new)
   all_back (Err fault) fits finds was seen = tt
   all_back (Ok _) fits finds was seen = record {
     before = read_back fits finds was;
-    slot = slots.next;
+    slot = target.slots.next;
     within = fits.next;
-    next = known_map old.bytes (λ all. Finds (length all) all slots) (λ all. IsNextFreeSlot all slots.next) (λ all e f. f.next) finds;
+    next = known_map old.bytes (λ all. Finds (length all) all target) (λ all. IsNextFreeSlot all target.slots.next) (λ all e f. f.next) finds;
     switch = seen;
   }
 
@@ -101,6 +120,6 @@ module _ (stream flash found : List ℕ) (l : HasLayout flash) (a : IsAfter stre
   pub after_not_same : found ≡ flash → ⊥
   after_not_same same = open_not_free flash a.next (subst (λ f. IsOpen f a.next) same after_opens) (a.is_next.free a.next (omega arith) a.is_next.within)
 
-  pub after_not_replacing : Replacing flash found → ⊥
+  pub after_not_replacing : ReplacingUpdate flash found → ⊥
   after_not_replacing (inl same) = after_not_same same
   after_not_replacing (inr b) = after_not_between b

@@ -1,11 +1,11 @@
 -- Lemmas on the slots of a first sector.
 use Rattle.std.proofs.Common.{◌≡◌, ℕ, suc, ◌+◌, ◌<◌, ◌≤◌, inl, inr, List, Option, None, Some, refl, sym, subst, arith}
 use Rattle.std.proofs.lemmas.Bool.{cases_eq, cases_order}
-use Rattle.x7_update.specs.Layout.{CanStandAt, HasSize, IsFree, IsOpen, Leads, update_place}
+use Rattle.x7_update.specs.Layout.{CanStandAt, HasSize, IsFree, IsOpen, LeadsToUpdate, update_place}
 use Rattle.x7_update.specs.Refused.{BeginsWell, IsGoodSlot, NoLayoutAt, OpensAgain, last_taken}
-use Rattle.x7_update.specs.Slots.{Finds, OpenAmong, SoFar}
-use Rattle.x7_update.specs.declared.slots.Seen.{Seen}
+use Rattle.x7_update.specs.Slots.{Finds, OpenAmong, SoFar, TargetFits, WithinSlots}
 use Rattle.x7_update.specs.declared.slots.Slots.{Slots}
+use Rattle.x7_update.specs.declared.slots.Target.{Target}
 
 -- what holds of the slots before one and of it
 up_to : (P : ℕ → Type 0) (count : ℕ) → ((k : ℕ) → k < count → P k) → P count → (k : ℕ) → k < count + 1 → P k
@@ -14,42 +14,42 @@ up_to P count before here k h = elim (cases_eq k count) [
   | inr n ↦ before k (omega arith)
 ]
 
-module _ (first : List ℕ) (slot : ℕ) (leads : Leads first slot) where
+module _ (first : List ℕ) (slot : ℕ) (leads : LeadsToUpdate first slot) where
   closed_more : (count : ℕ) (one : Option ℕ) → count ≡ slot → (IsOpen first slot → ⊥) → OpenAmong first slot one → OpenAmong first (slot + 1) one
   closed_more count None e n o = up_to (λ k. IsOpen first k → ⊥) slot o n
   closed_more count (Some k) e n o = (omega (arith, o.0), o.1)
 
-  once_more : (seen : Seen) → (IsOpen first slot → ⊥) → SoFar first slot seen → (k : ℕ) → k < slot + 1 → OpensAgain first k → ⊥
-  once_more seen n so = up_to (λ k. OpensAgain first k → ⊥) slot so.once (λ again. n again.second)
+  once_more : (before : Slots) → (IsOpen first slot → ⊥) → SoFar first slot before → (k : ℕ) → k < slot + 1 → OpensAgain first k → ⊥
+  once_more before n so = up_to (λ k. OpensAgain first k → ⊥) slot so.once (λ again. n again.second)
 
   -- the slot is free
-  pub so_far_free : (seen : Seen) → (IsOpen first slot → ⊥) → IsFree first slot → SoFar first slot seen → SoFar first (slot + 1) seen
-  so_far_free seen n is so = record {
-    leads = up_to (λ k. Leads first k) slot so.leads leads;
-    once = once_more seen n so;
-    opens = closed_more slot seen.opened refl n so.opens;
+  pub so_far_free : (before : Slots) → (IsOpen first slot → ⊥) → IsFree first slot → SoFar first slot before → SoFar first (slot + 1) before
+  so_far_free before n is so = record {
+    leads = up_to (λ k. LeadsToUpdate first k) slot so.leads leads;
+    once = once_more before n so;
+    opens = closed_more slot before.opened refl n so.opens;
     within = omega (arith, so.within);
     free = λ k h l. elim (cases_eq k slot) [ inl e ↦ subst (λ m. IsFree first m) (sym e) is | inr d ↦ so.free k h (omega arith) ];
     first = so.first;
   }
 
   -- the slot is spent
-  pub so_far_spent : (seen : Seen) → (IsOpen first slot → ⊥) → (IsFree first slot → ⊥) → SoFar first slot seen → SoFar first (slot + 1) (record { opened = seen.opened; next = slot + 1 })
-  so_far_spent seen n f so = record {
-    leads = up_to (λ k. Leads first k) slot so.leads leads;
-    once = once_more seen n so;
-    opens = closed_more slot seen.opened refl n so.opens;
+  pub so_far_spent : (before : Slots) → (IsOpen first slot → ⊥) → (IsFree first slot → ⊥) → SoFar first slot before → SoFar first (slot + 1) (record { opened = before.opened; next = slot + 1 })
+  so_far_spent before n f so = record {
+    leads = up_to (λ k. LeadsToUpdate first k) slot so.leads leads;
+    once = once_more before n so;
+    opens = closed_more slot before.opened refl n so.opens;
     within = omega arith;
     free = λ k h l. absurd (omega arith);
     first = λ k e is_free. let same : k ≡ slot = omega arith in f (subst (λ m. IsFree first m) same is_free);
   }
 
-pub so_far_good : (first : List ℕ) (count : ℕ) (seen : Seen) → SoFar first count seen → (slot : ℕ) → slot < count → IsGoodSlot first slot
-so_far_good first count seen so slot h = (so.leads slot h, so.once slot h)
+pub so_far_good : (first : List ℕ) (count : ℕ) (slots : Slots) → SoFar first count slots → (slot : ℕ) → slot < count → IsGoodSlot first slot
+so_far_good first count slots so slot h = (so.leads slot h, so.once slot h)
 
 -- all slots are good
-pub all_found : (size : ℕ) (first : List ℕ) (slots : Slots) → HasSize size → CanStandAt size (update_place first) → SoFar first 2048 (record { opened = slots.opened; next = slots.next }) → slots.next < 2048 → slots.update ≡ update_place first → Finds size first slots
-all_found size first slots sized place so some is = record {
+pub all_found : (size : ℕ) (first : List ℕ) (target : Target) → HasSize size → CanStandAt size (update_place first) → SoFar first 2048 target.slots → target.slots.next < 2048 → target.place ≡ update_place first → Finds size first target
+all_found size first target sized place so some is = record {
   sized = sized;
   has = record { place = place; leads = so.leads; one_open = one_open; last_free = so.free 2047 (omega arith) (omega arith) };
   update = is;
@@ -67,7 +67,20 @@ all_found size first slots sized place so some is = record {
     ]
 
 -- all slots are good, but none is free
-pub none_free : (size : ℕ) (first : List ℕ) (seen : Seen) (place : ℕ) → BeginsWell size first → SoFar first 2048 seen → 2048 ≤ seen.next → place ≡ 65504 → NoLayoutAt size first place
-none_free size first seen place begins so all is =
-    let last : suc 2047 ≡ seen.next = omega (arith, so.within) in
-    last_taken begins (so_far_good first 2048 seen so) (so.first 2047 last) is
+pub none_free : (size : ℕ) (first : List ℕ) (slots : Slots) (place : ℕ) → BeginsWell size first → SoFar first 2048 slots → 2048 ≤ slots.next → place ≡ 65504 → NoLayoutAt size first place
+none_free size first slots place begins so all is =
+    let last : suc 2047 ≡ slots.next = omega (arith, so.within) in
+    last_taken begins (so_far_good first 2048 slots so) (so.first 2047 last) is
+
+within_slots : (first : List ℕ) (opened : Option ℕ) → OpenAmong first 2048 opened → WithinSlots opened
+within_slots first None o = tt
+within_slots first (Some slot) o = o.0
+
+-- where an update goes is within the flash
+pub target_fits : (size : ℕ) (first : List ℕ) (target : Target) → Finds size first target → TargetFits size target
+target_fits size first target f = record {
+  sized = f.sized;
+  place = subst (λ u. CanStandAt size u) (sym f.update) f.has.place;
+  next = f.next.within;
+  opens = within_slots first target.slots.opened f.opens;
+}

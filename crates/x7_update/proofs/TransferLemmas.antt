@@ -2,10 +2,10 @@
 use Rattle.std.proofs.Common.{◌≡◌, ℕ, ◌+◌, ◌*◌, ◌<◌, ◌≤◌, inl, inr, List, Option, None, Some, get_or, refl, ap, sym, subst, ◌∙◌, arith}
 use Rattle.x7_words.specs.Word.{word_of_bytes}
 use Rattle.x7_packets.specs.FlashSlot.{flash_slot}
-use Rattle.x7_update.specs.Layout.{CanStandAt, Leads, IsOpen, IsFree, four_at, switch_of, first_slot, update_place, open_switch}
+use Rattle.x7_update.specs.Layout.{CanStandAt, LeadsToUpdate, IsOpen, IsFree, four_at, switch_of, first_slot, update_place, open_switch}
 use Rattle.x7_update.specs.Refused.{BeginsWell, DiffersAt, IsBadSlotAt, IsGoodSlot, NoLayoutAt, OpensAgain, bad_first, bad_place, bad_size, bad_slot, last_taken}
 use Rattle.x7_update.specs.Slots.{OpenAmong, Finds}
-use Rattle.x7_update.specs.declared.slots.Slots.{Slots}
+use Rattle.x7_update.specs.declared.slots.Target.{Target}
 
 module _ (first all : List ℕ) (same : (i : ℕ) → i < 65536 → get_or first i 0 ≡ get_or all i 0) where
   four_same : (place : ℕ) → place + 4 ≤ 65536 → four_at first place ≡ four_at all place
@@ -20,7 +20,7 @@ module _ (first all : List ℕ) (same : (i : ℕ) → i < 65536 → get_or first
   pub place_same : update_place first ≡ update_place all
   place_same = ap word_of_bytes (four_same 12 (omega arith))
 
-  pub leads_same : (slot : ℕ) → slot < 2048 → Leads first slot → Leads all slot
+  pub leads_same : (slot : ℕ) → slot < 2048 → LeadsToUpdate first slot → LeadsToUpdate all slot
   leads_same slot h leads = λ i k l. sym (same (32 * slot + i) (omega arith)) ∙ leads i k l ∙ ap (λ b. get_or b i 0) first_slot_same
 
   open_same : (slot : ℕ) → slot < 2048 → IsOpen first slot → IsOpen all slot
@@ -52,8 +52,8 @@ module _ (first all : List ℕ) (same : (i : ℕ) → i < 65536 → get_or first
   back : (i : ℕ) → i < 65536 → get_or all i 0 ≡ get_or first i 0
   back i h = sym (same i h)
 
-  pub finds_same : (size : ℕ) (slots : Slots) → Finds size first slots → Finds size all slots
-  finds_same size slots f = record {
+  pub finds_same : (size : ℕ) (target : Target) → Finds size first target → Finds size all target
+  finds_same size target f = record {
     sized = f.sized;
     has = record {
       place = stands_same first all same size f.has.place;
@@ -62,7 +62,7 @@ module _ (first all : List ℕ) (same : (i : ℕ) → i < 65536 → get_or first
       last_free = free_same first all same 2047 (omega arith) f.has.last_free;
     };
     update = f.update ∙ place_same first all same;
-    opens = opens_same slots.opened f.opens;
+    opens = opens_same target.slots.opened f.opens;
     next = record {
       within = f.next.within;
       free = λ slot h k. free_same first all same slot k (f.next.free slot h k);

@@ -36,7 +36,7 @@ spent_switch = 0 ∷ 0 ∷ 0 ∷ 0 ∷ []
 abbrev pub update_place : List ℕ → ℕ
 update_place flash = word_of_bytes (four_at flash 12)
 
--- a slot that leads to where the first one leads
+-- the 32 bytes that the first slot has to have, and each other one after its switch word
 abbrev pub first_slot : List ℕ → List ℕ
 first_slot flash = flash_slot open_switch (four_at flash 12)
 
@@ -53,8 +53,8 @@ pub record CanStandAt (size place : ℕ) : Type 0 where
   pub most : place ≤ size
 
 -- the slot leads to U: after its switch word it has the bytes that the first one has to have
-abbrev pub Leads : List ℕ → ℕ → Type 0
-Leads flash slot = (i : ℕ) → 4 ≤ i → i < 32 → get_or flash (32 * slot + i) 0 ≡ get_or (first_slot flash) i 0
+abbrev pub LeadsToUpdate : List ℕ → ℕ → Type 0
+LeadsToUpdate flash slot = (i : ℕ) → 4 ≤ i → i < 32 → get_or flash (32 * slot + i) 0 ≡ get_or (first_slot flash) i 0
 
 -- the slot is open
 abbrev pub IsOpen : List ℕ → ℕ → Type 0
@@ -67,7 +67,7 @@ IsFree flash slot = switch_of flash slot ≡ free_switch
 -- The first sector of a flash of a size is slots that all lead to one U, of which at most one is open and from some on, one at least, all are free.
 pub record HasSlots (size : ℕ) (flash : List ℕ) : Type 0 where
   pub place : CanStandAt size (update_place flash)
-  pub leads : (slot : ℕ) → slot < slot_count → Leads flash slot
+  pub leads : (slot : ℕ) → slot < slot_count → LeadsToUpdate flash slot
   pub one_open : (slot other : ℕ) → slot < slot_count → other < slot_count → IsOpen flash slot → IsOpen flash other → slot ≡ other
   pub last_free : IsFree flash (slot_count - 1)
 

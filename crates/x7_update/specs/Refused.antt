@@ -2,7 +2,7 @@
 use Rattle.std.specs.Prelude.{◌≡◌, ◌≢◌, ℕ, ◌+◌, ◌-◌, ◌*◌, ◌<◌, ◌≤◌, ◌⊎◌, true, false, List, length, get_or, None, Some}
 use Rattle.x7_words.specs.Flash.{FlashFails, FlashState, IfKnown, WriteFails}
 use Rattle.x7_packets.specs.FlashSlot.{slot_count}
-use Rattle.x7_update.specs.Layout.{CanStandAt, HasLayout, HasSize, IsFree, IsOpen, Leads, first_slot, update_place}
+use Rattle.x7_update.specs.Layout.{CanStandAt, HasLayout, HasSize, IsFree, IsOpen, LeadsToUpdate, first_slot, update_place}
 use Rattle.x7_update.specs.Writing.{IsFirstRead, IsReadWrong}
 use Rattle.x7_update.specs.declared.fault.UpdateFault.{UpdateFault}
 use Rattle.x7_update.specs.declared.fault.UpdateFault.TheVariants.{Differs, Failed, NoLayout, NoMemory, TooLong}
@@ -25,16 +25,16 @@ pub record OpensAgain (flash : List ℕ) (slot : ℕ) : Type 0 where
 
 -- a slot leads to U, and isn't open where one before it is
 abbrev pub IsGoodSlot : List ℕ → ℕ → Type 0
-IsGoodSlot flash slot = Leads flash slot × (OpensAgain flash slot → ⊥)
+IsGoodSlot flash slot = LeadsToUpdate flash slot × (OpensAgain flash slot → ⊥)
 
 -- why a slot is none of a layout, and the place that shows it: the slot doesn't lead to U (where it differs), or is open as one before it is (the slot's place)
 abbrev pub IsBadSlotAt : List ℕ → ℕ → ℕ → Type 0
-IsBadSlotAt flash slot place = DiffersAt flash slot place ⊎ (Leads flash slot × OpensAgain flash slot × (place ≡ 32 * slot))
+IsBadSlotAt flash slot place = DiffersAt flash slot place ⊎ (LeadsToUpdate flash slot × OpensAgain flash slot × (place ≡ 32 * slot))
 
 -- the size and the first slot are good
 pub record BeginsWell (size : ℕ) (flash : List ℕ) : Type 0 where
   pub sized : HasSize size
-  pub leads : Leads flash 0
+  pub leads : LeadsToUpdate flash 0
   pub place : CanStandAt size (update_place flash)
 
 -- The place at which a flash of a size has no layout. The first of these lines that holds gives it: the size is bad (the size); the
@@ -43,7 +43,7 @@ pub record BeginsWell (size : ℕ) (flash : List ℕ) : Type 0 where
 pub data NoLayoutAt (size : ℕ) (flash : List ℕ) (place : ℕ) : Type 0 where
   bad_size : (HasSize size → ⊥) → place ≡ size → NoLayoutAt size flash place
   bad_first : HasSize size → DiffersAt flash 0 place → NoLayoutAt size flash place
-  bad_place : HasSize size → Leads flash 0 → (CanStandAt size (update_place flash) → ⊥) → place ≡ 12 → NoLayoutAt size flash place
+  bad_place : HasSize size → LeadsToUpdate flash 0 → (CanStandAt size (update_place flash) → ⊥) → place ≡ 12 → NoLayoutAt size flash place
   bad_slot : BeginsWell size flash → (slot : ℕ) → slot < slot_count → ((earlier : ℕ) → earlier < slot → IsGoodSlot flash earlier)
       → IsBadSlotAt flash slot place → NoLayoutAt size flash place
   last_taken : BeginsWell size flash → ((slot : ℕ) → slot < slot_count → IsGoodSlot flash slot) → (IsFree flash (slot_count - 1) → ⊥) → place ≡ 32 * (slot_count - 1)

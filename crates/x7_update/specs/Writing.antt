@@ -1,16 +1,16 @@
 -- What the steps of an update do to the flash (this project's choice).
-use Rattle.std.specs.Prelude.{◌≡◌, ◌≢◌, ℕ, ◌+◌, ◌-◌, ◌*◌, ◌<◌, ◌≤◌, ◌⊎◌, IsTrue, List, length, get_or, Option, Some, None, nat_lt, if◌then◌else◌, true, false}
-use Rattle.x7_words.specs.Flash.{Elapses, FlashFails, FlashState, IfKnown, WriteFails}
+use Rattle.std.specs.Prelude.{◌≡◌, ◌≢◌, ℕ, ◌+◌, ◌-◌, ◌*◌, ◌%◌, ◌<◌, ◌≤◌, ◌⊎◌, IsTrue, List, length, get_or, Option, Some, None, nat_lt, if◌then◌else◌, true, false}
+use Rattle.x7_words.specs.Flash.{Elapses, FlashFails, FlashState, IfKnown, OnlyWrites, WriteFails}
 use Rattle.x7_words.specs.Word.{AreBytes}
-use Rattle.x7_packets.specs.FlashSlot.{slot_count}
+use Rattle.x7_packets.specs.FlashSlot.{sector_bytes, slot_count}
 use Rattle.x7_update.specs.After.{ClosesTo, IsBetween, switched, with_stream}
 use Rattle.x7_update.specs.Layout.{CanStandAt, HasSize, open_switch, switch_of}
 use Rattle.x7_update.specs.declared.fault.UpdateFault.{UpdateFault}
 use Rattle.x7_update.specs.declared.fault.UpdateFault.TheVariants.{Differs, Failed, NoLayout, NoMemory, TooLong}
 
 -- bytes that were known are still known, and in this relation to what they were
-abbrev pub Leaves : FlashState → FlashState → (List ℕ → List ℕ → Type 0) → Type 0
-Leaves old new Relates = IfKnown old.bytes (λ all. (now : List ℕ) × (new.bytes ≡ Some now) × Relates all now)
+abbrev pub StaysKnown : FlashState → FlashState → (List ℕ → List ℕ → Type 0) → Type 0
+StaysKnown old new Relates = IfKnown old.bytes (λ all. (now : List ℕ) × (new.bytes ≡ Some now) × Relates all now)
 
 -- bytes that were known are still known, and in this relation to what they were; bytes that weren't known still aren't
 abbrev pub BecomesBytes : (List ℕ → List ℕ → Type 0) → Option (List ℕ) → Option (List ℕ) → Type 0
@@ -23,7 +23,7 @@ Becomes old new Relates = BecomesBytes Relates old.bytes new.bytes
 
 -- At any moment from one state to the next, and at the end, the bytes are in this relation to those at the start.
 pub record AtAnyMoment (old new : FlashState) (past since : ℕ → List ℕ → Type 0) (Relates : List ℕ → List ℕ → Type 0) : Type 0 where
-  pub leaves : Leaves old new Relates
+  pub leaves : StaysKnown old new Relates
   pub elapses : Elapses old.moments new.moments past since (λ found. IfKnown old.bytes (λ all. Relates all found))
 
 -- the flash is used: nothing changed but its bytes, the moment and the counts of faults, which don't fall
@@ -38,6 +38,25 @@ pub record OnlyUses (old new : FlashState) : Type 0 where
 -- where there were bytes there are bytes
 abbrev pub StaysBytes : List ℕ → List ℕ → Type 0
 StaysBytes old found = AreBytes old → AreBytes found
+
+-- A step that writes: at any moment the bytes are in this relation to those at its start, and bytes where these were; nothing else changed but the
+-- count of write faults, which doesn't fall.
+pub record Writes (old new : FlashState) (past since : ℕ → List ℕ → Type 0) (Relates : List ℕ → List ℕ → Type 0) : Type 0 where
+  pub any_moment : AtAnyMoment old new past since Relates
+  pub bytes : AtAnyMoment old new past since StaysBytes
+  pub only : OnlyWrites old new
+
+-- the switch word of a slot can be written: the flash is attached, and the slot is one of its first sector
+pub record CanSwitch (state : FlashState) (slot : ℕ) : Type 0 where
+  pub attached : state.attached ≡ true
+  pub among : slot < slot_count
+  pub within : 32 * slot + 4 ≤ state.extent
+
+-- all from a place on can be erased: the flash is attached, and whole sectors are before the place and up to the end
+pub record CanEraseFrom (state : FlashState) (place : ℕ) : Type 0 where
+  pub attached : state.attached ≡ true
+  pub size : state.extent % sector_bytes ≡ 0
+  pub begins : place % sector_bytes ≡ 0
 
 -- nothing below the place has changed
 pub record KeepsBelow (place : ℕ) (old found : List ℕ) : Type 0 where
@@ -57,26 +76,26 @@ pub record OnlySwitch (slot : ℕ) (old found : List ℕ) : Type 0 where
   pub shut : switch_of found slot ≢ open_switch
 
 -- while an open slot is closed nothing has changed, or the slot is shut
-abbrev pub Closing : ℕ → List ℕ → List ℕ → Type 0
-Closing slot old found = (found ≡ old) ⊎ OnlySwitch slot old found
+abbrev pub ClosingSlot : ℕ → List ℕ → List ℕ → Type 0
+ClosingSlot slot old found = (found ≡ old) ⊎ OnlySwitch slot old found
 
 -- while a free slot is opened the slot is shut, or open
-abbrev pub Opening : ℕ → List ℕ → List ℕ → Type 0
-Opening slot old found = (found ≡ switched slot open_switch old) ⊎ OnlySwitch slot old found
+abbrev pub OpeningSlot : ℕ → List ℕ → List ℕ → Type 0
+OpeningSlot slot old found = (found ≡ switched slot open_switch old) ⊎ OnlySwitch slot old found
 
 -- while the update is replaced nothing has changed, or no slot is open
-abbrev pub Replacing : List ℕ → List ℕ → Type 0
-Replacing old found = (found ≡ old) ⊎ IsBetween old found
+abbrev pub ReplacingUpdate : List ℕ → List ℕ → Type 0
+ReplacingUpdate old found = (found ≡ old) ⊎ IsBetween old found
 
 -- the stream stands at its place, with FF after it
-abbrev pub Stands : ℕ → List ℕ → List ℕ → List ℕ → Type 0
-Stands place stream old now = now ≡ with_stream place stream old
+abbrev pub StreamStands : ℕ → List ℕ → List ℕ → List ℕ → Type 0
+StreamStands place stream old now = now ≡ with_stream place stream old
 
 -- the open slot is spent, and the stream stands at its place
 pub record Replaced (place : ℕ) (stream old now : List ℕ) : Type 0 where
   pub closed : List ℕ
   pub closes : ClosesTo old closed
-  pub stands : Stands place stream closed now
+  pub stands : StreamStands place stream closed now
 
 -- the byte that is wanted at a place from U on: the stream's, or FF after it
 abbrev pub wanted_at : ℕ → List ℕ → ℕ → ℕ
@@ -85,6 +104,15 @@ wanted_at update stream place = if nat_lt (place - update) (length stream) then 
 -- all from U on is as it is wanted
 abbrev pub HasWanted : ℕ → List ℕ → List ℕ → Type 0
 HasWanted update stream flash = (place : ℕ) → update ≤ place → place < length flash → get_or flash place 0 ≡ wanted_at update stream place
+
+-- an update with a stream can be read back: the flash is attached, the stream stands at its place with FF after it, and the buffer is of a sector's size
+pub record CanReadBack (state : FlashState) (update : ℕ) (stream buffer : List ℕ) : Type 0 where
+  pub attached : state.attached ≡ true
+  pub size : HasSize state.extent
+  pub place : CanStandAt state.extent update
+  pub fits : update + length stream ≤ state.extent
+  pub wanted : IfKnown state.bytes (HasWanted update stream)
+  pub buffer_is : length buffer ≡ sector_bytes
 
 -- from one place up to another each byte was read as it is wanted, and nothing was written since
 abbrev pub SeesWanted : ℕ → List ℕ → ℕ → ℕ → FlashState → Type 0

@@ -1,19 +1,19 @@
-//! A look at the first sector: where the update stands, which slot is open, and which is the next.
+//! A look at the first sector: where the update goes, which slot is open, and which is the next.
 ghost use Rattle.std.specs.Prelude.{◌≡◌, ◌+◌, ◌<◌, ℕ, List, true, length, IfErr, IfOk, IfNone, IfSome};
-ghost use Rattle.x7_words.specs.Flash.{KnowsBytes, OnlyReads, IfKnown};
+ghost use Rattle.x7_words.specs.Flash.{KnowsBytes, OnlyReads};
 ghost use Rattle.x7_packets.specs.FlashSlot.{sector_bytes, slot_count};
-ghost use Rattle.x7_update.specs.Layout.{HasSize, Leads, first_slot};
+ghost use Rattle.x7_update.specs.Layout.{HasSize, LeadsToUpdate};
 ghost use Rattle.x7_update.specs.Refused.{DiffersAt, HasCause, IsBadSlotAt, IsGoodSlot, NoLayoutAt};
-ghost use Rattle.x7_update.specs.Slots.{Finds, SlotsFit, SoFar};
+ghost use Rattle.x7_update.specs.Slots.{Finds, HasFirstSlot, IsFound, SoFar};
 
 use crate::fault::UpdateFault;
 use crate::layout::{FREE, OPEN, can_stand, first_slot, four_at, has_size};
 use x7_packets::SLOT_COUNT;
 use x7_words::{Flash, is_same, word_of};
 
-/// What the first slots say, by the numbers of slots.
+/// The slots that an update switches, by their numbers.
 #[derive(Clone, Copy, Drop)]
-pub(crate) struct Seen {
+pub(crate) struct Slots {
     /// The number of the open slot.
     pub opened: Option<u64>,
     /// The number of the first slot from which on all are free.
@@ -22,21 +22,18 @@ pub(crate) struct Seen {
 
 /// Where an update goes, and by which slots.
 #[derive(Clone, Copy, Drop)]
-pub(crate) struct Slots {
+pub(crate) struct Target {
     /// The update's place, in bytes.
-    pub update: u64,
-    /// The number of the open slot.
-    pub opened: Option<u64>,
-    /// The number of the first slot from which on all are free.
-    pub next: u64,
+    pub place: u64,
+    /// The open slot and the next one.
+    pub slots: Slots,
 }
 
 /// The first place of a slot, after its switch word, at which the slot differs from what it has to be.
 fn difference(first: &[u8], wanted: &[u8; 32], slot: usize) -> Option<u64>
     requires slot { slot < slot_count }
-    requires first { length first.now ≡ sector_bytes }
-    requires wanted { wanted.now ≡ first_slot first.now }
-    ensures none { IfNone result (Leads first.now slot) }
+    requires sector { HasFirstSlot first.now wanted.now }
+    ensures none { IfNone result (LeadsToUpdate first.now slot) }
     ensures some { IfSome result (λ place. DiffersAt first.now slot place) }
 {
     let at = 32 * slot;
@@ -49,11 +46,10 @@ fn difference(first: &[u8], wanted: &[u8; 32], slot: usize) -> Option<u64>
 }
 
 /// Takes a slot, by what the slots before it say.
-fn take_slot(first: &[u8], wanted: &[u8; 32], slot: u64, seen: Seen) -> Result<Seen, u64>
+fn take_slot(first: &[u8], wanted: &[u8; 32], slot: u64, before: Slots) -> Result<Slots, u64>
     requires slot { slot < slot_count }
-    requires first { length first.now ≡ sector_bytes }
-    requires wanted { wanted.now ≡ first_slot first.now }
-    requires before { SoFar first.now slot seen }
+    requires sector { HasFirstSlot first.now wanted.now }
+    requires before { SoFar first.now slot before }
     ensures ok { IfOk result (SoFar first.now (slot + 1)) }
     ensures err { IfErr result (IsBadSlotAt first.now slot) }
 {
@@ -61,48 +57,44 @@ fn take_slot(first: &[u8], wanted: &[u8; 32], slot: u64, seen: Seen) -> Result<S
         return Err(place);
     }
     let switch = four_at(first, 32 * slot as usize);
-    let Seen { opened, next } = seen;
+    let Slots { opened, next } = before;
     if is_same(&switch, &OPEN) {
         if opened.is_some() {
             return Err(32 * slot);
         }
-        return Ok(Seen {
+        return Ok(Slots {
             opened: Some(slot),
             next: slot + 1,
         });
     }
     if is_same(&switch, &FREE) {
-        return Ok(Seen { opened, next });
+        return Ok(Slots { opened, next });
     }
-    Ok(Seen {
+    Ok(Slots {
         opened,
         next: slot + 1,
     })
 }
 
 /// Takes all slots.
-fn take_slots(first: &[u8], wanted: &[u8; 32]) -> Result<Seen, u64>
-    requires first { length first.now ≡ sector_bytes }
-    requires wanted { wanted.now ≡ first_slot first.now }
+fn take_slots(first: &[u8], wanted: &[u8; 32]) -> Result<Slots, u64>
+    requires { HasFirstSlot first.now wanted.now }
     ensures ok { IfOk result (SoFar first.now slot_count) }
     ensures err { IfErr result (λ place. (slot : ℕ) × (slot < slot_count)
         × ((earlier : ℕ) → earlier < slot → IsGoodSlot first.now earlier) × IsBadSlotAt first.now slot place) }
 {
-    let mut seen = Seen {
+    let mut slots = Slots {
         opened: None,
         next: 0,
     };
     for slot in 0..SLOT_COUNT {
-        match take_slot(first, wanted, slot, seen) {
-            Ok(more) => seen = more,
-            Err(place) => return Err(place),
-        }
+        slots = take_slot(first, wanted, slot, slots)?;
     }
-    Ok(seen)
+    Ok(slots)
 }
 
-/// The slots of a first sector of a flash of a size, or the place at which there is no layout.
-fn slots_of(first: &[u8], size: u64) -> Result<Slots, u64>
+/// Where an update goes in a flash of a size, by its first sector, or the place at which there is no layout.
+fn target_of(first: &[u8], size: u64) -> Result<Target, u64>
     requires first { length first.now ≡ sector_bytes }
     requires size { HasSize size }
     ensures found { IfOk result (Finds size first.now) }
@@ -112,27 +104,22 @@ fn slots_of(first: &[u8], size: u64) -> Result<Slots, u64>
     if let Some(place) = difference(first, &wanted, 0) {
         return Err(place);
     }
-    let update = u64::from(word_of(four_at(first, 12)));
-    if !can_stand(update, size) {
+    let place = u64::from(word_of(four_at(first, 12)));
+    if !can_stand(place, size) {
         return Err(12);
     }
-    match take_slots(first, &wanted) {
-        Ok(seen) if seen.next < SLOT_COUNT => Ok(Slots {
-            update,
-            opened: seen.opened,
-            next: seen.next,
-        }),
-        Ok(_) => Err(32 * (SLOT_COUNT - 1)),
-        Err(place) => Err(place),
+    let slots = take_slots(first, &wanted)?;
+    if slots.next >= SLOT_COUNT {
+        return Err(32 * (SLOT_COUNT - 1));
     }
+    Ok(Target { place, slots })
 }
 
-/// Reads the first sector of a flash into the buffer, and finds its slots.
-pub(crate) fn find_slots<F: Flash>(flash: &mut F, buffer: &mut [u8]) -> Result<Slots, UpdateFault>
+/// Reads the first sector of a flash into the buffer, and finds where an update goes.
+pub(crate) fn find_target<F: Flash>(flash: &mut F, buffer: &mut [u8]) -> Result<Target, UpdateFault>
     requires attached { (F.state flash.old).attached ≡ true }
     requires buffer { length buffer.old ≡ sector_bytes }
-    ensures fits { IfOk result (SlotsFit (F.state flash.old).extent) }
-    ensures finds { IfOk result (λ slots. IfKnown (F.state flash.old).bytes (λ all. Finds (length all) all slots)) }
+    ensures found { IfOk result (IsFound (F.state flash.old)) }
     ensures fault { (stream : List ℕ) → IfErr result (HasCause stream (F.state flash.old) (F.state flash.new)) }
     ensures bytes { KnowsBytes (F.state flash.old) }
     ensures only { OnlyReads (F.state flash.old) (F.state flash.new) (F.found_since flash.old) (F.found_since flash.new) }
@@ -145,8 +132,8 @@ pub(crate) fn find_slots<F: Flash>(flash: &mut F, buffer: &mut [u8]) -> Result<S
         Ok(()) => (),
         Err(_) => return Err(UpdateFault::Failed { writing: false }),
     }
-    match slots_of(buffer, size) {
-        Ok(slots) => Ok(slots),
+    match target_of(buffer, size) {
+        Ok(target) => Ok(target),
         Err(place) => Err(UpdateFault::NoLayout(place)),
     }
 }

@@ -2,8 +2,8 @@
 ghost use Rattle.std.specs.Prelude.{◌≡◌, ◌+◌, ◌*◌, ◌<◌, ◌≤◌, ◌^◌, ℕ, List, true, length, IfErr, OnOk};
 ghost use Rattle.x7_words.specs.Flash.{OnlyReads, IfKnown, Sees};
 ghost use Rattle.x7_packets.specs.FlashSlot.{sector_bytes, slot_count};
-ghost use Rattle.x7_update.specs.Layout.{CanStandAt, HasSize, IsOpen, open_switch};
-ghost use Rattle.x7_update.specs.Writing.{ReadsWanted, EndFails, HasWanted, IsWrong, SeesWanted, wanted_at};
+ghost use Rattle.x7_update.specs.Layout.{HasSize, IsOpen, open_switch};
+ghost use Rattle.x7_update.specs.Writing.{CanReadBack, EndFails, IsWrong, ReadsWanted, SeesWanted, wanted_at};
 
 use crate::fault::UpdateFault;
 use crate::layout::OPEN;
@@ -48,12 +48,7 @@ pub(crate) fn verify_stream<F: Flash>(
     stream: &[u8],
     buffer: &mut [u8],
 ) -> Result<(), UpdateFault>
-    requires attached { (F.state flash.old).attached ≡ true }
-    requires size { HasSize (F.state flash.old).extent }
-    requires place { CanStandAt (F.state flash.old).extent update }
-    requires fits { update + length stream.now ≤ (F.state flash.old).extent }
-    requires buffer { length buffer.old ≡ sector_bytes }
-    requires written { IfKnown (F.state flash.old).bytes (HasWanted update stream.now) }
+    requires { CanReadBack (F.state flash.old) update stream.now buffer.old }
     ensures seen { OnOk result (SeesWanted update stream.now update (F.state flash.old).extent (F.state flash.new)) }
     ensures fault { IfErr result (EndFails stream.now (F.state flash.old) (F.state flash.new)) }
     ensures only { OnlyReads (F.state flash.old) (F.state flash.new) (F.found_since flash.old) (F.found_since flash.new) }
@@ -72,14 +67,9 @@ fn verify_sector<F: Flash>(
     stream: &[u8],
     buffer: &mut [u8],
 ) -> Result<(), UpdateFault>
-    requires attached { (F.state flash.old).attached ≡ true }
-    requires size { HasSize (F.state flash.old).extent }
+    requires written { CanReadBack (F.state flash.old) update stream.now buffer.old }
     requires within { sector * sector_bytes + sector_bytes ≤ (F.state flash.old).extent }
     requires after { update ≤ sector * sector_bytes }
-    requires place { CanStandAt (F.state flash.old).extent update }
-    requires fits { update + length stream.now ≤ (F.state flash.old).extent }
-    requires buffer { length buffer.old ≡ sector_bytes }
-    requires written { IfKnown (F.state flash.old).bytes (HasWanted update stream.now) }
     requires before { SeesWanted update stream.now update (sector * sector_bytes) (F.state flash.old) }
     ensures seen { OnOk result (SeesWanted update stream.now update (sector * sector_bytes + sector_bytes) (F.state flash.new)) }
     ensures fault { IfErr result (EndFails stream.now (F.state flash.old) (F.state flash.new)) }

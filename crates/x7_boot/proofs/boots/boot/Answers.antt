@@ -1,5 +1,9 @@
-use Rattle.std.proofs.Common.{◌∙◌, sym}
+use Rattle.std.proofs.Common.{◌≡◌, ◌∙◌, ℕ, rules, subst, sym}
+use Rattle.std.specs.Prelude.{IsErrOf}
+use Rattle.x7_words.specs.Count.{HasRisen}
+use Rattle.x7_words.specs.Flash.{FlashFails}
 use Rattle.x7_words.proofs.FlashLemmas.{reads_on}
+use Rattle.x7_boot.specs.declared.fault.BootFault.TheVariants.{Failed, NoMemory, TooLarge}
 use Rattle.x7_boot.proofs.BootedLemmas.{attempts_next, boot_ends, led_next}
 use Rattle.x7_boot.proofs.PageLemmas.{pages_of}
 use Rattle.x7_boot.proofs.boots.boot.Goals as goal
@@ -42,3 +46,25 @@ returns-in_err-ending-clause-flash g c = reads_on _ _ _ _ _ _ c.attempts.invaria
 
 pub returns-in_default-push-clause-flash : goal.returns-in_default-push-clause-flash
 returns-in_default-push-clause-flash g c = reads_on _ _ _ _ _ _ c.attempts.invariant.flash c.try_once.ensures.flash
+
+-- ---- an attempt that was not read
+
+pub returns-in_err-ending-clause-failed : goal.returns-in_err-ending-clause-failed
+returns-in_err-ending-clause-failed g c =
+    let f = g.F.Flash in
+    let first = f.state c.args.flash.now in
+    let last = f.state c.try_once.new.flash in
+    let fails : IsErrOf c.try_once.result Failed → FlashFails first last = λ e. subst (λ (n : ℕ). HasRisen n last.faults) c.attempts.invariant.quiet (c.try_once.ensures.failed e) in
+    search rules
+
+pub returns-in_err-ending-clause-no_memory : goal.returns-in_err-ending-clause-no_memory
+returns-in_err-ending-clause-no_memory g c =
+    let f = g.F.Flash in
+    let quiet : IsErrOf c.try_once.result NoMemory → (f.state c.try_once.new.flash).faults ≡ (f.state c.args.flash.now).faults = λ e. c.try_once.ensures.no_memory e ∙ c.attempts.invariant.quiet in
+    search rules
+
+pub returns-in_err-ending-clause-unread : goal.returns-in_err-ending-clause-unread
+returns-in_err-ending-clause-unread g c =
+    let f = g.F.Flash in
+    let never : IsErrOf c.try_once.result TooLarge → f.state c.try_once.new.flash ≡ f.state c.args.flash.now = λ e. absurd (c.try_once.ensures.not_large e) in
+    search rules

@@ -1,8 +1,11 @@
-use Rattle.std.proofs.Common.{◌≡◌, ℕ, subst, ◌+◌, ◌/◌, ◌<◌, length, sym, refl, ◌∙◌, arith}
-use Rattle.x7_words.specs.Flash.{IfKnown}
+use Rattle.std.proofs.Common.{◌≡◌, ℕ, subst, ◌+◌, ◌/◌, ◌<◌, length, sym, refl, rules, ◌∙◌, arith}
+use Rattle.std.specs.Prelude.{IsErrOf}
+use Rattle.x7_words.specs.Count.{HasRisen}
+use Rattle.x7_words.specs.Flash.{FlashFails, IfKnown}
 use Rattle.x7_words.proofs.FlashLemmas.{reads_at, reads_on}
 use Rattle.x7_boot.specs.Attempt.{Feeds, attempt_at}
 use Rattle.x7_boot.specs.Pages.{page_size}
+use Rattle.x7_boot.specs.declared.fault.BootFault.TheVariants.{Failed, NoMemory}
 use Rattle.x7_boot.proofs.PageLemmas.{from_limited, loaded_from, pages_of, reaches}
 use Rattle.x7_boot.proofs.TrialLemmas.{ends_here, feeds_on, feeds_ready, known_ended, known_out, known_stopped, stops_here}
 use Rattle.x7_boot.proofs.trial.try_once.Goals as goal
@@ -115,3 +118,45 @@ bytes_from-bytes-requires-clause-page g c = record {
   within = omega (arith, c.if-at-size.false, c.pages.invariant.size, c.pages.invariant.flash.extent);
   there = c.in_ok-loaded.ensures.there;
 }
+
+-- ---- a page that was not read
+
+pub returns-in_err-loaded-clause-failed : goal.returns-in_err-loaded-clause-failed
+returns-in_err-loaded-clause-failed g c =
+    let f = g.F.Flash in
+    let first = f.state c.args.flash.now in
+    let last = f.state c.load.new.flash in
+    let fails : IsErrOf c.load.result Failed → FlashFails first last = λ e. subst (λ (n : ℕ). HasRisen n last.faults) c.pages.invariant.quiet (c.load.ensures.failed e) in
+    search rules
+
+pub returns-in_err-loaded-clause-no_memory : goal.returns-in_err-loaded-clause-no_memory
+returns-in_err-loaded-clause-no_memory g c =
+    let f = g.F.Flash in
+    let quiet : IsErrOf c.load.result NoMemory → (f.state c.load.new.flash).faults ≡ (f.state c.args.flash.now).faults = λ e. c.load.ensures.no_memory e ∙ c.pages.invariant.quiet in
+    search rules
+
+pub returns-in_err-loaded-clause-pages : goal.returns-in_err-loaded-clause-pages
+returns-in_err-loaded-clause-pages g c =
+    let i = c.pages.invariant in
+    pages_of (g.F.Flash.state c.args.flash.now).bytes (g.F.Flash.state c.pages.flash).bytes (g.F.Flash.state c.args.flash.now).extent (g.F.Flash.state c.pages.flash).extent c.load.new.self.pages.entries i.flash.bytes i.flash.extent c.load.ensures.pages
+
+pub returns-in_err-loaded-clause-flash : goal.returns-in_err-loaded-clause-flash
+returns-in_err-loaded-clause-flash g c = reads_on _ _ _ _ _ _ c.pages.invariant.flash c.load.ensures.flash
+
+-- ---- an attempt that ended
+
+pub returns-in-Ends-clause-pages : goal.returns-in-Ends-clause-pages
+returns-in-Ends-clause-pages g c =
+    let i = c.pages.invariant in
+    pages_of (g.F.Flash.state c.args.flash.now).bytes (g.F.Flash.state c.pages.flash).bytes (g.F.Flash.state c.args.flash.now).extent (g.F.Flash.state c.pages.flash).extent c.load.new.self.pages.entries i.flash.bytes i.flash.extent c.load.ensures.pages
+
+pub returns-in-Ends-clause-flash : goal.returns-in-Ends-clause-flash
+returns-in-Ends-clause-flash g c = reads_on _ _ _ _ _ _ c.pages.invariant.flash c.in_ok-loaded.ensures.flash
+
+pub returns-in-Stops-clause-pages : goal.returns-in-Stops-clause-pages
+returns-in-Stops-clause-pages g c =
+    let i = c.pages.invariant in
+    pages_of (g.F.Flash.state c.args.flash.now).bytes (g.F.Flash.state c.pages.flash).bytes (g.F.Flash.state c.args.flash.now).extent (g.F.Flash.state c.pages.flash).extent c.load.new.self.pages.entries i.flash.bytes i.flash.extent c.load.ensures.pages
+
+pub returns-in-Stops-clause-flash : goal.returns-in-Stops-clause-flash
+returns-in-Stops-clause-flash g c = reads_on _ _ _ _ _ _ c.pages.invariant.flash c.in_ok-loaded.ensures.flash

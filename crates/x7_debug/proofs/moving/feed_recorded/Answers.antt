@@ -10,7 +10,7 @@ use Rattle.x7_debug.proofs.moving.feed_recorded.Goals as goal
 pub slice_bounds-feed-end : goal.slice_bounds-feed-end
 slice_bounds-feed-end c =
     let fits : AreBytes c.args.stream.now = all_from_places (λ b. b < 256) c.args.stream.now (λ k h. omega (arith, c.type_inv.stream k)) in
-    omega (arith, last_within c.args.device.now.part c.args.stream.now fits, c.requires.within)
+    omega (arith, last_within c.args.device.now.part c.args.stream.now fits, c.requires.may.within)
 
 pub returns-clause-comes : goal.returns-clause-comes
 returns-clause-comes c =
@@ -18,16 +18,17 @@ returns-clause-comes c =
     let part = c.args.device.now.part in
     let from = c.args.device.now.taken in
     let fits : AreBytes stream = all_from_places (λ b. b < 256) stream (λ k h. omega (arith, c.type_inv.stream k)) in
-    let few : c.args.to ≤ length stream = omega (arith, last_within part stream fits, c.requires.within) in
-    let stands = c.requires.on.stands.stands in
+    let few : c.args.to ≤ length stream = omega (arith, last_within part stream fits, c.requires.may.within) in
+    let stands = c.requires.may.on.stands.stands in
     let there : StandsAtPosition part stream c.feed.new.device c.args.to =
-    stands_there part stream c.feed.new.device c.args.to c.requires.within
-    (moved part stream (take (c.args.to - c.taken-from.result) (drop c.taken-from.result stream)) c.feed.new.device from c.args.to fits c.requires.forward few
+    stands_there part stream c.feed.new.device c.args.to c.requires.may.within
+    (moved part stream (take (c.args.to - c.taken-from.result) (drop c.taken-from.result stream)) c.feed.new.device from c.args.to fits c.requires.may.forward few
     (ap (λ (k : ℕ). take (c.args.to - k) (drop k stream)) c.taken-from.ensures.now)
     (c.feed.ensures.stands part on_the_bench false (take from stream) stands) (c.feed.ensures.none_due part on_the_bench false (take from stream) stands)) in
     record {
-      on = on_more part stream c.args.device.now c.feed.new.device c.args.journal.now c.feed.new.self c.args.to c.feed.ensures.more.0 c.requires.on there
-          c.requires.forward c.requires.few c.feed.ensures.records c.feed.ensures.more.1 c.feed.ensures.more.2;
+      on = on_more part stream c.args.device.now c.feed.new.device c.args.journal.now c.feed.new.self c.args.to c.feed.ensures.more.0 c.requires.may.on there
+          c.requires.may.forward c.requires.few c.feed.ensures.records c.feed.ensures.more.1 c.feed.ensures.more.2;
       part = there.stands.part_is;
       taken = there.taken;
+      fed = c.feed.ensures.fed;
     }

@@ -1,11 +1,14 @@
 use Rattle.x7_debug.proofs.JournalLemmas.{on_without}
 use Rattle.x7_debug.proofs.moving.leap.Goals as goal
 
-pub returns-clause-comes : goal.returns-clause-comes
-returns-clause-comes c =
+pub returns : goal.returns
+returns c =
     let there = c.feed_to.ensures.stands in
     record {
-      on = on_without c.args.stream.now c.feed_to.new.device c.args.journal.now c.forget.new.self c.args.device.now.part c.args.to there c.requires.on.records c.forget.ensures;
-      part = there.stands.part_is;
-      taken = there.taken;
+      comes = record {
+        on = on_without c.args.stream.now c.feed_to.new.device c.args.journal.now c.forget.new.self c.args.device.now.part c.args.to there c.requires.on.records c.forget.ensures;
+        part = there.stands.part_is;
+        taken = there.taken;
+        fed = c.feed_to.ensures.fed;
+      };
     }

@@ -1,27 +1,29 @@
-use Rattle.std.proofs.Common.{◌≡◌, ℕ, ◌+◌, ◌<◌, ◌++◌, List, length, take, drop, get_or, ap, sym, ◌∙◌, arith}
+use Rattle.std.proofs.Common.{◌≡◌, ℕ, ◌+◌, ◌<◌, ◌++◌, List, length, take, drop, get_or, ap, rules, sym, ◌∙◌, arith}
 use Rattle.std.proofs.lemmas.List.{take-append-drop}
 use Rattle.x7_debug.specs.declared.order.Order.{Order}
 use Rattle.x7_debug.specs.declared.order.Order.TheVariants as order
 use Rattle.x7_debug.specs.Session.{MovesTo}
-use Rattle.x7_debug.specs.Transcript.{final_position, order_shown}
+use Rattle.x7_debug.specs.Transcript.{FollowsSome, final_position, order_shown}
 use Rattle.x7_debug.proofs.TranscriptLemmas.{moves_on, position_more, shows, text_more}
 use Rattle.x7_debug.proofs.showing.transcript.Goals as goal
 
-pub returns-in-Err-clause-err : goal.returns-in-Err-clause-err
-returns-in-Err-clause-err c =
+pub returns-in_err-show-clause-err : goal.returns-in_err-show-clause-err
+returns-in_err-show-clause-err c =
     let old = c.args.session.now in
     let orders : List Order = c.args.script.now in
     let i = c.loop-order.order-index in
     let items : List Order = c.orders-order-items.result.now in
     let o : Order = get_or items i (order.Step 0) in
     let same : items ≡ orders = c.orders-order-items.ensures in
-    let below : i < length orders = omega (arith, ap length same, c.loop-order-test.true) in (
+    let below : i < length orders = omega (arith, ap length same, c.loop-order-test.true) in
+    let some : FollowsSome old c.follow.new.self orders = (
       take (i + 1) orders,
       drop (i + 1) orders,
       sym (take-append-drop (i + 1) orders),
       moves_on old c.loop-order.session c.follow.new.self (final_position old.part old.stream (take i orders)) (final_position old.part old.stream (take (i + 1) orders)) o c.loop-order.invariant.moves c.follow.ensures
           (position_more old.part old.stream orders i o (order.Step 0) below (ap (λ (t : List Order). get_or t i (order.Step 0)) same)),
-    )
+    ) in
+    search rules
 
 pub loop-order-preserved : goal.loop-order-preserved
 loop-order-preserved c =
@@ -39,7 +41,7 @@ loop-order-preserved c =
     record {
       moves = moved;
       text =
-          c.in-Ok.ensures ∙ ap (λ (t : List ℕ). c.loop-order.text.items ++ t) (shows old c.follow.new.self there o moved)
+          c.in_ok-show.ensures ∙ ap (λ (t : List ℕ). c.loop-order.text.items ++ t) (shows old c.follow.new.self there o moved)
           ∙ ap (λ (t : List ℕ). t ++ order_shown old.part old.stream there o) c.loop-order.invariant.text
           ∙ text_more old.part old.stream orders i o (order.Step 0) below is;
     }

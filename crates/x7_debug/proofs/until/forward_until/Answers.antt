@@ -1,7 +1,7 @@
 use Rattle.std.proofs.Common.{◌≡◌, ◌-◌, ◌<◌, ◌≤◌, ◌∷◌, ℕ, true, false, max, take, refl, ap, sym, subst, ◌∙◌, arith}
 use Rattle.x7_part.specs.Part.{PartData}
 use Rattle.x7_debug.specs.Journal.{oldest_by, reach, record_room, records_of}
-use Rattle.x7_debug.specs.Position.{holds_at}
+use Rattle.x7_debug.specs.Position.{holds_at, last_of}
 use Rattle.x7_debug.proofs.JournalLemmas.{Reaches, none_between, none_up_to, reaches_first, reaches_last, reaches_whole, fed_none, fed_on}
 use Rattle.x7_debug.proofs.PositionLemmas.{until_last, until_there}
 use Rattle.x7_debug.proofs.until.forward_until.Goals as goal
@@ -18,6 +18,15 @@ loop-stop-init c = record {
   oldest = λ l. absurd (omega (arith, l));
 }
 
+pub seek_word-requires : goal.seek_word-requires
+seek_word-requires c =
+    let here = c.loop-stop.invariant in
+    record {
+      on = here.on;
+      last_is = c.requires.last_is ∙ ap (λ (p : PartData). last_of p c.args.stream.now) (sym here.part);
+      before = omega (arith, c.loop-stop-test.true, c.taken.ensures.now);
+    }
+
 pub returns-then-seek_word-clause-comes : goal.returns-then-seek_word-clause-comes
 returns-then-seek_word-clause-comes c =
     let part : PartData = c.args.device.now.part in
@@ -25,27 +34,21 @@ returns-then-seek_word-clause-comes c =
     let from : ℕ = c.args.device.now.taken in
     let n : ℕ = c.loop-stop.device.taken in
     let m : ℕ = c.seek_word.new.device.taken in
-    let same = c.loop-stop.invariant.part in
-    let found : holds_at part stream c.args.stop m ≡ true = subst (λ (p : PartData). holds_at p stream c.args.stop m ≡ true) same (c.seek_word.ensures.found c.if-seek_word.true) in
-    let later : (k : ℕ) → n < k → k < m → holds_at part stream c.args.stop k ≡ false = λ k h j. subst (λ (p : PartData). holds_at p stream c.args.stop k ≡ false) same (c.seek_word.ensures.none k h j) in
+    let here = c.loop-stop.invariant in
+    let there = c.seek_word.ensures in
+    let found : holds_at part stream c.args.stop m ≡ true = subst (λ (p : PartData). holds_at p stream c.args.stop m ≡ true) here.part (there.found c.if-seek_word.true) in
+    let later : (k : ℕ) → n < k → k < m → holds_at part stream c.args.stop k ≡ false = λ k h j. subst (λ (p : PartData). holds_at p stream c.args.stop k ≡ false) here.part (there.none k h j) in
+    let some : n < c.args.last = omega (arith, c.loop-stop-test.true, c.taken.ensures.now) in
+    let last : oldest_by m (there.more.0 ∷ take (record_room - 1) (records_of c.loop-stop.journal)) ≤ max from (m - reach) =
+    reaches_last from n m there.more.0 (records_of c.loop-stop.journal) there.more.1 there.forward.0 (here.reaches some) in
     record {
-      on = c.seek_word.ensures.comes.on;
-      part = c.seek_word.ensures.comes.part ∙ same;
-      taken = sym (until_there part stream c.args.stop from m (omega (arith, c.loop-stop.invariant.since, c.seek_word.ensures.forward.0)) (omega (arith, c.seek_word.ensures.forward.1, c.requires.last)) found
-          (none_between (holds_at part stream c.args.stop) from n m c.loop-stop.invariant.none later));
+      on = there.comes.on;
+      part = there.comes.part ∙ here.part;
+      taken = sym (until_there part stream c.args.stop from m (omega (arith, here.since, there.forward.0)) (omega (arith, there.forward.1, c.requires.last_is)) found
+          (none_between (holds_at part stream c.args.stop) from n m here.none later));
+      fed = fed_on c.args.device.now c.loop-stop.device c.seek_word.new.device here.since (omega (arith, there.forward.0)) here.fed there.comes.fed;
+      oldest = omega (arith, ap (oldest_by m) there.more.2, last);
     }
-
-pub returns-then-seek_word-clause-oldest : goal.returns-then-seek_word-clause-oldest
-returns-then-seek_word-clause-oldest c =
-    let m : ℕ = c.seek_word.new.device.taken in
-    let some : c.loop-stop.device.taken < c.args.last = omega (arith, c.loop-stop-test.true, c.taken.ensures.now) in
-    let last : oldest_by m (c.seek_word.ensures.more.0 ∷ take (record_room - 1) (records_of c.loop-stop.journal)) ≤ max c.args.device.now.taken (m - reach) =
-    reaches_last c.args.device.now.taken c.loop-stop.device.taken m c.seek_word.ensures.more.0 (records_of c.loop-stop.journal) c.seek_word.ensures.more.1 c.seek_word.ensures.forward.0 (c.loop-stop.invariant.reaches some) in
-    omega (arith, ap (oldest_by m) c.seek_word.ensures.more.2, last)
-
-pub returns-then-seek_word-clause-fed : goal.returns-then-seek_word-clause-fed
-returns-then-seek_word-clause-fed c =
-    fed_on c.args.device.now c.loop-stop.device c.seek_word.new.device c.loop-stop.invariant.since (omega (arith, c.seek_word.ensures.forward.0)) c.loop-stop.invariant.fed c.seek_word.ensures.fed
 
 pub loop-stop-preserved : goal.loop-stop-preserved
 loop-stop-preserved c =
@@ -63,7 +66,7 @@ loop-stop-preserved c =
     record {
       on = c.seek_word.ensures.comes.on;
       part = c.seek_word.ensures.comes.part ∙ same;
-      fed = fed_on c.args.device.now c.loop-stop.device c.seek_word.new.device c.loop-stop.invariant.since (omega (arith, c.seek_word.ensures.forward.0)) c.loop-stop.invariant.fed c.seek_word.ensures.fed;
+      fed = fed_on c.args.device.now c.loop-stop.device c.seek_word.new.device c.loop-stop.invariant.since (omega (arith, c.seek_word.ensures.forward.0)) c.loop-stop.invariant.fed c.seek_word.ensures.comes.fed;
       since = omega (arith, c.loop-stop.invariant.since, c.seek_word.ensures.forward.0);
       within = c.seek_word.ensures.forward.1;
       none = none_up_to (holds_at part stream c.args.stop) from m (none_between (holds_at part stream c.args.stop) from n m c.loop-stop.invariant.none later) here;
@@ -80,6 +83,8 @@ returns-clause-comes c =
     record {
       on = here.on;
       part = here.part;
-      taken = sym (until_last c.args.device.now.part c.args.stream.now c.args.stop c.args.device.now.taken c.loop-stop.device.taken (omega (arith, c.requires.last, at, c.loop-stop-test.false)) (omega (arith, c.requires.last, here.within))
+      taken = sym (until_last c.args.device.now.part c.args.stream.now c.args.stop c.args.device.now.taken c.loop-stop.device.taken (omega (arith, c.requires.last_is, at, c.loop-stop-test.false)) (omega (arith, c.requires.last_is, here.within))
           here.since here.none);
+      fed = here.fed;
+      oldest = here.oldest (omega (arith, c.requires.before, at, c.loop-stop-test.false));
     }

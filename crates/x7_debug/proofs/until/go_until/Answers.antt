@@ -2,10 +2,11 @@ use Rattle.std.proofs.Common.{◌<◌, ℕ, refl, sym, subst, ◌∙◌, ap, ari
 use Rattle.x7_words.specs.Word.{AreBytes}
 use Rattle.x7_words.proofs.ListLemmas.{all_from_places}
 use Rattle.x7_debug.specs.declared.order.Stop.{Stop}
+use Rattle.x7_debug.specs.declared.order.Stop.TheVariants as to
 use Rattle.x7_debug.specs.Journal.{ComesToPosition, records_of}
 use Rattle.x7_debug.specs.Kept.{session_of}
 use Rattle.x7_debug.specs.Position.{until_of}
-use Rattle.x7_debug.proofs.JournalLemmas.{goes_forward, goes_nowhere, oldest_within}
+use Rattle.x7_debug.proofs.JournalLemmas.{comes_to, goes_nowhere, goes_recorded, oldest_within}
 use Rattle.x7_debug.proofs.LeastLemmas.{until_stopped}
 use Rattle.x7_debug.proofs.PositionLemmas.{until_last}
 use Rattle.x7_debug.proofs.until.go_until.Goals as goal
@@ -24,24 +25,35 @@ returns-in-Stopped-clause-comes c =
     record {
       on = there.on;
       part = there.part;
-      taken = there.taken ∙ c.requires.last ∙ sym (until_stopped part stream from fits c.requires.on.stands.within) ∙ ap (λ (s : Stop). until_of part stream s from) (sym c.in-Stopped.is);
+      taken = there.taken ∙ c.requires.last_is ∙ sym (until_stopped part stream from fits c.requires.on.stands.within) ∙ ap (λ (s : Stop). until_of part stream s from) (sym c.in-Stopped.is);
     }
 
 pub returns-in_default : goal.returns-in_default
-returns-in_default c = record {
-  comes = c.forward_until.ensures.comes;
-  goes = goes_forward (session_of c.args.device.now c.args.stream.now c.args.journal.now) (session_of c.forward_until.new.device c.args.stream.now c.forward_until.new.journal) c.forward_until.ensures.forward
-      (oldest_within c.args.device.now.part c.args.stream.now c.args.device.now.taken (records_of c.args.journal.now) c.requires.on.leads) c.forward_until.ensures.oldest
-      (c.forward_until.ensures.fed.never_less, c.forward_until.ensures.fed.most);
-}
+returns-in_default c =
+    let there = c.forward_until.ensures in
+    let until : ℕ = until_of c.args.device.now.part c.args.stream.now c.args.stop c.args.device.now.taken in
+    record {
+      comes = comes_to c.args.stream.now c.args.device.now c.forward_until.new.device c.forward_until.new.journal until there.comes;
+      goes = goes_recorded c.args.stream.now c.args.device.now c.forward_until.new.device c.args.journal.now c.forward_until.new.journal until c.requires.on there.forward there.comes;
+    }
 
 pub returns-in-Phase : goal.returns-in-Phase
-returns-in-Phase c = record {
-  comes = subst (λ (s : Stop). ComesToPosition c.args.stream.now c.args.device.now c.go_to_phase.new.device c.go_to_phase.new.journal (until_of c.args.device.now.part c.args.stream.now s c.args.device.now.taken)) (sym c.in-Phase.is) c.go_to_phase.ensures.comes;
-  goes = goes_forward (session_of c.args.device.now c.args.stream.now c.args.journal.now) (session_of c.go_to_phase.new.device c.args.stream.now c.go_to_phase.new.journal) c.go_to_phase.ensures.forward
-      (oldest_within c.args.device.now.part c.args.stream.now c.args.device.now.taken (records_of c.args.journal.now) c.requires.on.leads) c.go_to_phase.ensures.oldest
-      (c.go_to_phase.ensures.fed.never_less, c.go_to_phase.ensures.fed.most);
-}
+returns-in-Phase c =
+    let there = c.go_to_phase.ensures in
+    let part = c.args.device.now.part in
+    let from = c.args.device.now.taken in
+    let until : ℕ = until_of part c.args.stream.now (to.Phase c.in-Phase.phase) from in
+    let comes : ComesToPosition c.args.stream.now c.args.device.now c.go_to_phase.new.device c.go_to_phase.new.journal until = comes_to c.args.stream.now c.args.device.now c.go_to_phase.new.device c.go_to_phase.new.journal until there.comes in
+    record {
+      comes = subst (λ (s : Stop). ComesToPosition c.args.stream.now c.args.device.now c.go_to_phase.new.device c.go_to_phase.new.journal (until_of part c.args.stream.now s from)) (sym c.in-Phase.is) comes;
+      goes = goes_recorded c.args.stream.now c.args.device.now c.go_to_phase.new.device c.args.journal.now c.go_to_phase.new.journal until c.requires.on there.forward there.comes;
+    }
+
+pub move_to-requires : goal.move_to-requires
+move_to-requires c = record { on = c.requires.on; within = omega (arith, c.requires.last_is) }
+
+pub forward_until-requires : goal.forward_until-requires
+forward_until-requires c = record { on = c.requires.on; last_is = c.requires.last_is; before = omega (arith, c.if-taken-outline.false, c.taken.ensures.now) }
 
 pub returns-then-taken-outline-clause-comes : goal.returns-then-taken-outline-clause-comes
 returns-then-taken-outline-clause-comes c =
@@ -51,5 +63,5 @@ returns-then-taken-outline-clause-comes c =
     record {
       on = c.requires.on;
       part = refl;
-      taken = sym (until_last part c.args.stream.now c.args.stop from from (omega (arith, c.if-taken-outline.true, c.requires.last, c.taken.ensures.now)) within (omega arith) (λ k h j. absurd (omega (arith, h, j))));
+      taken = sym (until_last part c.args.stream.now c.args.stop from from (omega (arith, c.if-taken-outline.true, c.requires.last_is, c.taken.ensures.now)) within (omega arith) (λ k h j. absurd (omega (arith, h, j))));
     }

@@ -48,7 +48,7 @@ loop-stop-preserved c =
     }
 
 pub returns-then-holds-clause-comes : goal.returns-then-holds-clause-comes
-returns-then-holds-clause-comes c = record { on = c.loop-stop.invariant.on; part = c.loop-stop.invariant.part; taken = refl }
+returns-then-holds-clause-comes c = let here = c.loop-stop.invariant in record { on = here.on; part = here.part; taken = refl; fed = here.fed }
 
 pub returns-then-at-end-clause-comes : goal.returns-then-at-end-clause-comes
-returns-then-at-end-clause-comes c = record { on = c.loop-stop.invariant.on; part = c.loop-stop.invariant.part; taken = refl }
+returns-then-at-end-clause-comes c = let here = c.loop-stop.invariant in record { on = here.on; part = here.part; taken = refl; fed = here.fed }

@@ -1,8 +1,8 @@
-use Rattle.std.proofs.Common.{◌≡◌, ◌-◌, ℕ, true, false, take, refl, subst, sym, ◌∙◌, arith}
+use Rattle.std.proofs.Common.{◌≡◌, ◌+◌, ◌-◌, ℕ, true, false, take, subst, sym, arith}
 use Rattle.x7_part.specs.Part.{PartData}
 use Rattle.x7_debug.specs.Journal.{HasRecorded, record_room, records_of}
 use Rattle.x7_debug.specs.Position.{holds_at}
-use Rattle.x7_debug.proofs.JournalLemmas.{fed_on}
+use Rattle.x7_debug.proofs.JournalLemmas.{comes_on, within_still}
 use Rattle.x7_debug.proofs.until.seek_word.Goals as goal
 
 pub seek-requires-clause-some : goal.seek-requires-clause-some
@@ -10,12 +10,25 @@ seek-requires-clause-some c =
     let more : HasRecorded c.args.device.now.taken c.args.journal.now c.feed_recorded.new.journal = c.feed_recorded.ensures.more in
     (more.0, take (record_room - 1) (records_of c.args.journal.now), more.2, omega (arith, more.1))
 
-pub returns-clause-fed : goal.returns-clause-fed
-returns-clause-fed c =
-    fed_on c.args.device.now c.feed_recorded.new.device c.seek.new.device (omega (arith, c.feed_recorded.ensures.comes.taken, c.taken-from.ensures.now)) (omega (arith, c.seek.ensures.forward)) c.feed_recorded.ensures.fed c.seek.ensures.fed
+pub feed_recorded-requires-clause-may : goal.feed_recorded-requires-clause-may
+feed_recorded-requires-clause-may c =
+    let from = c.taken-from.ensures.now in
+    record { on = c.requires.on; within = omega (arith, from, c.requires.before, c.requires.last_is); forward = omega (arith, from) }
+
+pub seek-requires-clause-may : goal.seek-requires-clause-may
+seek-requires-clause-may c =
+    let first = c.feed_recorded.ensures.comes in
+    record {
+      on = first.on;
+      within = within_still c.args.device.now.part c.feed_recorded.new.device.part c.args.stream.now c.min.result c.args.last first.part (omega (arith, c.min.ensures)) (omega (arith, c.requires.last_is));
+      forward = omega (arith, c.min.ensures, first.taken, c.taken-from.ensures.now, c.requires.before);
+    }
 
 pub returns-clause-comes : goal.returns-clause-comes
-returns-clause-comes c = record { on = c.seek.ensures.comes.on; part = c.seek.ensures.comes.part ∙ c.feed_recorded.ensures.comes.part; taken = refl }
+returns-clause-comes c =
+    let first = c.feed_recorded.ensures.comes in
+    comes_on c.args.stream.now c.args.device.now c.feed_recorded.new.device c.seek.new.device c.feed_recorded.new.journal c.feed_recorded.new.journal (c.taken-from.result + 1) c.seek.new.device.taken
+    (omega (arith, first.taken, c.taken-from.ensures.now)) (omega (arith, c.seek.ensures.forward)) first c.seek.ensures.comes
 
 pub returns-clause-found : goal.returns-clause-found
 returns-clause-found c = λ q.

@@ -1,11 +1,12 @@
-use Rattle.std.proofs.Common.{◌≡◌, ◌⊎◌, inl, inr, ap, option_map, refl, sym, ◌∙◌, arith}
+use Rattle.std.proofs.Common.{◌≡◌, ◌+◌, ◌*◌, ◌≤◌, ◌⊎◌, inl, inr, length, ap, option_map, refl, sym, ◌∙◌, arith}
 use Rattle.x7_update.specs.After.{switched}
-use Rattle.x7_update.specs.Layout.{open_switch}
+use Rattle.x7_update.specs.Layout.{IsFree, open_switch}
 use Rattle.x7_update.specs.ReadBack.{WasReady}
-use Rattle.x7_update.specs.Writing.{Opening}
+use Rattle.x7_update.specs.Writing.{OpeningSlot, StaysBytes}
 use Rattle.x7_update.proofs.BackLemmas.{fails_since, was_unknown}
+use Rattle.x7_update.proofs.CaseLemmas.{opened_is_open, opening_none}
 use Rattle.x7_update.proofs.ReadyLemmas.{was_ready}
-use Rattle.x7_update.proofs.KnownLemmas.{moments_read, moments_weaker, on_ok, only_read, read_moments}
+use Rattle.x7_update.proofs.KnownLemmas.{known_at, known_map, moments_read, moments_weaker, on_ok, only_read, read_moments}
 use Rattle.x7_update.proofs.steps.finish.Goals as goal
 
 pub returns-clause-fault : goal.returns-clause-fault
@@ -14,8 +15,8 @@ returns-clause-fault g c =
     let mid = g.F.Flash.state c.open_slot.new.flash in
     let last = g.F.Flash.state c.verify_switch.new.flash in
     let read = c.verify_stream.ensures.only in
-    let wrote = c.open_slot.ensures.only in
-    let change = switched c.args.slots.next open_switch in
+    let wrote = c.open_slot.ensures.writes.only in
+    let change = switched c.args.target.slots.next open_switch in
     let is : mid.bytes ≡ option_map change old.bytes = c.in-Ok.ensures.opened ∙ ap (option_map change) read.bytes in
     fails_since c.args.stream.now old mid last c.verify_switch.result (omega (arith, read.faults, wrote.faults)) (omega (arith, read.unwritten.write_faults, wrote.write_faults)) (λ none. was_unknown change old.bytes (sym is ∙ none))
     (c.verify_switch.ensures.fault c.args.stream.now)
@@ -26,8 +27,8 @@ returns-clause-ready g c =
     let last = g.F.Flash.state c.verify_switch.new.flash in
     let read = c.verify_stream.ensures.only in
     let again = c.verify_switch.ensures.only in
-    on_ok (WasReady g.F.Flash.state c.args.slots.update c.args.stream.now last) c.verify_switch.result
-    (was_ready g.F.Flash.state c.args.slots.update c.args.stream.now old last c.verify_stream.new.flash (again.extent ∙ c.open_slot.ensures.only.extent ∙ read.extent) c.in_ok-verify_stream.ensures.seen read.bytes c.requires.closed
+    on_ok (WasReady g.F.Flash.state c.args.target.place c.args.stream.now last) c.verify_switch.result
+    (was_ready g.F.Flash.state c.args.target.place c.args.stream.now old last c.verify_stream.new.flash (again.extent ∙ c.open_slot.ensures.writes.only.extent ∙ read.extent) c.in_ok-verify_stream.ensures.seen read.bytes c.requires.closed
     (omega (arith, c.open_slot.ensures.moment, again.unwritten.moments)))
 
 pub returns-in_err-verify_stream-clause-opens : goal.returns-in_err-verify_stream-clause-opens
@@ -35,7 +36,7 @@ returns-in_err-verify_stream-clause-opens g c =
     let old = g.F.Flash.state c.args.flash.now in
     let ready = g.F.Flash.state c.verify_stream.new.flash in
     let read = c.verify_stream.ensures.only in
-    only_read old ready _ _ (λ all found. (found ≡ all) ⊎ WasReady g.F.Flash.state c.args.slots.update c.args.stream.now ready) (λ all e. inl refl) read.bytes read.unwritten
+    only_read old ready _ _ (λ all found. (found ≡ all) ⊎ WasReady g.F.Flash.state c.args.target.place c.args.stream.now ready) (λ all e. inl refl) read.bytes read.unwritten
 
 pub returns-in-Err-clause-opens : goal.returns-in-Err-clause-opens
 returns-in-Err-clause-opens g c =
@@ -43,10 +44,10 @@ returns-in-Err-clause-opens g c =
     let ready = g.F.Flash.state c.verify_stream.new.flash in
     let mid = g.F.Flash.state c.open_slot.new.flash in
     let read = c.verify_stream.ensures.only in
-    let Was : Type 0 = WasReady g.F.Flash.state c.args.slots.update c.args.stream.now mid in
-    let was : Was = was_ready g.F.Flash.state c.args.slots.update c.args.stream.now old mid c.verify_stream.new.flash (c.open_slot.ensures.only.extent ∙ read.extent) c.in_ok-verify_stream.ensures.seen read.bytes c.requires.closed c.open_slot.ensures.moment in
+    let Was : Type 0 = WasReady g.F.Flash.state c.args.target.place c.args.stream.now mid in
+    let was : Was = was_ready g.F.Flash.state c.args.target.place c.args.stream.now old mid c.verify_stream.new.flash (c.open_slot.ensures.writes.only.extent ∙ read.extent) c.in_ok-verify_stream.ensures.seen read.bytes c.requires.closed c.open_slot.ensures.moment in
     read_moments old ready mid _ _ _ (λ all found. (found ≡ all) ⊎ Was) (λ all e. inl refl) read.bytes read.unwritten
-    (moments_weaker ready mid _ _ (Opening c.args.slots.next) (λ all found. (found ≡ all) ⊎ Was) (λ all found e h. inr was) c.open_slot.ensures.any_moment)
+    (moments_weaker ready mid _ _ (OpeningSlot c.args.target.slots.next) (λ all found. (found ≡ all) ⊎ Was) (λ all found e h. inr was) c.open_slot.ensures.writes.any_moment)
 
 pub returns-clause-opens : goal.returns-clause-opens
 returns-clause-opens g c =
@@ -56,11 +57,81 @@ returns-clause-opens g c =
     let last = g.F.Flash.state c.verify_switch.new.flash in
     let read = c.verify_stream.ensures.only in
     let again = c.verify_switch.ensures.only in
-    let Was : Type 0 = WasReady g.F.Flash.state c.args.slots.update c.args.stream.now last in
+    let Was : Type 0 = WasReady g.F.Flash.state c.args.target.place c.args.stream.now last in
     let was : Was =
-    was_ready g.F.Flash.state c.args.slots.update c.args.stream.now old last c.verify_stream.new.flash (again.extent ∙ c.open_slot.ensures.only.extent ∙ read.extent) c.in_ok-verify_stream.ensures.seen read.bytes c.requires.closed
+    was_ready g.F.Flash.state c.args.target.place c.args.stream.now old last c.verify_stream.new.flash (again.extent ∙ c.open_slot.ensures.writes.only.extent ∙ read.extent) c.in_ok-verify_stream.ensures.seen read.bytes c.requires.closed
     (omega (arith, c.open_slot.ensures.moment, again.unwritten.moments)) in
     moments_read old mid last _ _ _ (λ all found. (found ≡ all) ⊎ Was)
     (read_moments old ready mid _ _ _ (λ all found. (found ≡ all) ⊎ Was) (λ all e. inl refl) read.bytes read.unwritten
-    (moments_weaker ready mid _ _ (Opening c.args.slots.next) (λ all found. (found ≡ all) ⊎ Was) (λ all found e h. inr was) c.open_slot.ensures.any_moment))
+    (moments_weaker ready mid _ _ (OpeningSlot c.args.target.slots.next) (λ all found. (found ≡ all) ⊎ Was) (λ all found e h. inr was) c.open_slot.ensures.writes.any_moment))
     again.bytes again.unwritten
+
+-- ---- what is found, and what it comes to
+
+pub returns-in_err-verify_stream-clause-any_moment : goal.returns-in_err-verify_stream-clause-any_moment
+returns-in_err-verify_stream-clause-any_moment g c =
+    let old = g.F.Flash.state c.args.flash.now in
+    let read = c.verify_stream.ensures.only in
+    let next = c.args.target.slots.next in
+    only_read old (g.F.Flash.state c.verify_stream.new.flash) _ _ (OpeningSlot next) (λ all e. opening_none next all (known_at old.bytes (λ all. IsFree all next) c.requires.free all e)) read.bytes read.unwritten
+
+pub returns-in-Err-clause-any_moment : goal.returns-in-Err-clause-any_moment
+returns-in-Err-clause-any_moment g c =
+    let old = g.F.Flash.state c.args.flash.now in
+    let read = c.verify_stream.ensures.only in
+    let next = c.args.target.slots.next in
+    read_moments old (g.F.Flash.state c.verify_stream.new.flash) (g.F.Flash.state c.open_slot.new.flash) _ _ _ (OpeningSlot next)
+    (λ all e. opening_none next all (known_at old.bytes (λ all. IsFree all next) c.requires.free all e)) read.bytes read.unwritten c.open_slot.ensures.writes.any_moment
+
+pub returns-clause-any_moment : goal.returns-clause-any_moment
+returns-clause-any_moment g c =
+    let old = g.F.Flash.state c.args.flash.now in
+    let mid = g.F.Flash.state c.open_slot.new.flash in
+    let read = c.verify_stream.ensures.only in
+    let again = c.verify_switch.ensures.only in
+    let next = c.args.target.slots.next in
+    moments_read old mid (g.F.Flash.state c.verify_switch.new.flash) _ _ _ (OpeningSlot next)
+    (read_moments old (g.F.Flash.state c.verify_stream.new.flash) mid _ _ _ (OpeningSlot next)
+    (λ all e. opening_none next all (known_at old.bytes (λ all. IsFree all next) c.requires.free all e)) read.bytes read.unwritten c.open_slot.ensures.writes.any_moment)
+    again.bytes again.unwritten
+
+pub returns-in_err-verify_stream-clause-bytes : goal.returns-in_err-verify_stream-clause-bytes
+returns-in_err-verify_stream-clause-bytes g c =
+    let read = c.verify_stream.ensures.only in
+    only_read (g.F.Flash.state c.args.flash.now) (g.F.Flash.state c.verify_stream.new.flash) _ _ StaysBytes (λ all e h. h) read.bytes read.unwritten
+
+pub returns-in-Err-clause-bytes : goal.returns-in-Err-clause-bytes
+returns-in-Err-clause-bytes g c =
+    let read = c.verify_stream.ensures.only in
+    read_moments (g.F.Flash.state c.args.flash.now) (g.F.Flash.state c.verify_stream.new.flash) (g.F.Flash.state c.open_slot.new.flash) _ _ _ StaysBytes (λ all e h. h) read.bytes read.unwritten c.open_slot.ensures.writes.bytes
+
+pub returns-clause-bytes : goal.returns-clause-bytes
+returns-clause-bytes g c =
+    let old = g.F.Flash.state c.args.flash.now in
+    let mid = g.F.Flash.state c.open_slot.new.flash in
+    let read = c.verify_stream.ensures.only in
+    let again = c.verify_switch.ensures.only in
+    moments_read old mid (g.F.Flash.state c.verify_switch.new.flash) _ _ _ StaysBytes
+    (read_moments old (g.F.Flash.state c.verify_stream.new.flash) mid _ _ _ StaysBytes (λ all e h. h) read.bytes read.unwritten c.open_slot.ensures.writes.bytes) again.bytes again.unwritten
+
+pub returns-clause-opened : goal.returns-clause-opened
+returns-clause-opened g c =
+    let old = g.F.Flash.state c.args.flash.now in
+    let last = g.F.Flash.state c.verify_switch.new.flash in
+    let change = switched c.args.target.slots.next open_switch in
+    on_ok (last.bytes ≡ option_map change old.bytes) c.verify_switch.result (c.verify_switch.ensures.only.bytes ∙ c.in-Ok.ensures.opened ∙ ap (option_map change) c.verify_stream.ensures.only.bytes)
+
+-- ---- what the steps ask
+
+pub verify_switch-requires-clause-opened : goal.verify_switch-requires-clause-opened
+verify_switch-requires-clause-opened g c =
+    let ready = g.F.Flash.state c.verify_stream.new.flash in
+    let next = c.args.target.slots.next in
+    opened_is_open ready.bytes (g.F.Flash.state c.open_slot.new.flash).bytes next c.in-Ok.ensures.opened
+    (known_map ready.bytes (λ all. ready.extent ≡ length all) (λ all. 32 * next + 4 ≤ length all)
+    (λ all e long. omega (arith, long, c.requires.next, c.verify_stream.ensures.only.extent, c.requires.written.size.least)) (g.met.F.Flash.counted c.verify_stream.new.flash))
+
+pub open_slot-requires-clause-slot : goal.open_slot-requires-clause-slot
+open_slot-requires-clause-slot g c =
+    let read = c.verify_stream.ensures.only in
+    record { attached = read.attached ∙ c.requires.written.attached; among = c.requires.next; within = omega (arith, c.requires.next, read.extent, c.requires.written.size.least) }

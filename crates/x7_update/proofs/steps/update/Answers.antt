@@ -1,12 +1,298 @@
-use Rattle.x7_update.proofs.CaseLemmas.{found_left}
-use Rattle.x7_update.proofs.ExactLemmas.{if_only_memory}
+use Rattle.std.proofs.Common.{◌≡◌, ◌+◌, ◌≤◌, ◌⊎◌, ⊎_elim, ℕ, List, Some, length, refl, rules, subst, sym, true, ◌∙◌, arith}
+use Rattle.x7_words.specs.Count.{HasRisen}
+use Rattle.x7_words.specs.Flash.{IfKnown, WriteFails}
+use Rattle.x7_words.specs.Word.{AreBytes}
+use Rattle.x7_update.specs.After.{IsBetween, MayBeLeft, untouched}
+use Rattle.x7_update.specs.Layout.{CanStandAt, HasLayout, HasSize, IsClosed, IsFree}
+use Rattle.x7_update.specs.ReadBack.{OpensReadBack, ReadBack, WasReady}
+use Rattle.x7_update.specs.Refused.{CanTake, IsTooLong}
+use Rattle.x7_update.specs.Slots.{Finds, TargetFits}
+use Rattle.x7_update.specs.Writing.{HasWanted, OpeningSlot, Replaced, ReplacingUpdate, StaysBytes}
+use Rattle.x7_update.specs.declared.fault.UpdateFault.TheVariants.{Failed, TooLong}
+use Rattle.x7_update.proofs.BackLemmas.{end_refused, fails_since, none_before}
+use Rattle.x7_update.proofs.ByteLemmas.{bytes_on, moments_both}
+use Rattle.x7_update.proofs.CaseLemmas.{found_left, opening_left, replaced_between, replaced_free, replaced_wanted, replacing_left}
+use Rattle.x7_update.proofs.ExactLemmas.{if_only_memory, only_memory}
+use Rattle.x7_update.proofs.ReadyLemmas.{after_not_between, after_not_replacing, after_not_same, all_back, read_back, still_found}
+use Rattle.x7_update.proofs.KnownLemmas.{becomes_leaves, becomes_then, moments_none, moments_on, moments_weaker, on_ok, only_read, read_moments, known_at, known_map}
 use Rattle.x7_update.proofs.steps.update.Goals as goal
+
+-- ---- why an update is refused
+
+pub returns-in_err-target-clause-refused : goal.returns-in_err-target-clause-refused
+returns-in_err-target-clause-refused g c = let cause = c.in_err-target.ensures.fault c.args.stream.now in search rules
+
+pub returns-in_err-target-clause-complete : goal.returns-in_err-target-clause-complete
+returns-in_err-target-clause-complete g c =
+    let stream = c.args.stream.now in
+    let only = if_only_memory stream (g.F.Flash.state c.args.flash.now) (g.F.Flash.state c.find_target.new.flash) c.find_target.result (c.find_target.ensures.fault stream) in
+    search rules
+
+pub returns-then-stream-size-clause-refused : goal.returns-then-stream-size-clause-refused
+returns-then-stream-size-clause-refused g c =
+    let first = g.F.Flash.state c.args.flash.now in
+    let target = c.in_ok-target.target in
+    let stream = c.args.stream.now in
+    let found = c.in_ok-target.ensures.found in
+    let read = c.find_target.ensures.only in
+    known_map first.bytes (λ all. Finds (length all) all target) (IsTooLong stream)
+    (λ all e finds.
+    let long : first.extent ≡ length all = known_at first.bytes (λ all. first.extent ≡ length all) (g.met.F.Flash.counted c.args.flash.now) all e in
+    record { layout = record { size = finds.sized; slots = finds.has }; passes = omega (arith, long, finds.update, read.extent, c.size.ensures.extent, found.fits.place.most, c.if-stream-size.true) })
+    found.finds
+
+pub returns-then-stream-size-clause-complete : goal.returns-then-stream-size-clause-complete
+returns-then-stream-size-clause-complete g c =
+    only_memory c.args.stream.now (g.F.Flash.state c.args.flash.now) (g.F.Flash.state c.find_target.new.flash) TooLong (returns-then-stream-size-clause-refused g c)
+
+pub returns-in-Err-clause-refused : goal.returns-in-Err-clause-refused
+returns-in-Err-clause-refused g c =
+    let first = g.F.Flash.state c.args.flash.now in
+    let then = g.F.Flash.state c.replace.new.flash in
+    let target = c.in_ok-target.target in
+    let stream = c.args.stream.now in
+    let found = c.in_ok-target.ensures.found in
+    let read = c.find_target.ensures.only in
+    let size : then.extent ≡ first.extent = c.replace.ensures.writes.only.extent ∙ read.extent in
+    let can : IfKnown first.bytes (CanTake stream) =
+    known_map first.bytes (λ all. Finds (length all) all target) (CanTake stream)
+    (λ all e finds.
+    let long : first.extent ≡ length all = known_at first.bytes (λ all. first.extent ≡ length all) (g.met.F.Flash.counted c.args.flash.now) all e in
+    record { layout = record { size = finds.sized; slots = finds.has }; fits = omega (arith, long, finds.update, read.extent, c.size.ensures.extent, found.fits.place.most, c.if-stream-size.false) })
+    found.finds in
+    let fails : WriteFails first then = subst (λ n. HasRisen n then.write_faults) read.unwritten.write_faults c.in-Err.ensures.failed in
+    (fails, subst HasSize (sym size) found.fits.sized, can)
+
+pub returns-in-Err-clause-complete : goal.returns-in-Err-clause-complete
+returns-in-Err-clause-complete g c =
+    only_memory c.args.stream.now (g.F.Flash.state c.args.flash.now) (g.F.Flash.state c.replace.new.flash) (Failed true) (returns-in-Err-clause-refused g c)
+
+pub returns-clause-refused : goal.returns-clause-refused
+returns-clause-refused g c =
+    let first = g.F.Flash.state c.args.flash.now in
+    let then = g.F.Flash.state c.replace.new.flash in
+    let last = g.F.Flash.state c.finish.new.flash in
+    let target = c.in_ok-target.target in
+    let stream = c.args.stream.now in
+    let fits = c.in_ok-target.ensures.found.fits in
+    let read = c.find_target.ensures.only in
+    let wrote = c.replace.ensures.writes.only in
+    let size : last.extent ≡ first.extent = c.finish.ensures.only.extent ∙ wrote.extent ∙ read.extent in
+    let can : IfKnown first.bytes (CanTake stream) =
+    known_map first.bytes (λ all. Finds (length all) all target) (CanTake stream)
+    (λ all e finds.
+    let long : first.extent ≡ length all = known_at first.bytes (λ all. first.extent ≡ length all) (g.met.F.Flash.counted c.args.flash.now) all e in
+    record { layout = record { size = finds.sized; slots = finds.has }; fits = omega (arith, long, finds.update, read.extent, c.size.ensures.extent, fits.place.most, c.if-stream-size.false) })
+    c.in_ok-target.ensures.found.finds in
+    end_refused stream first last c.finish.result (subst HasSize (sym size) fits.sized) can
+    (fails_since stream first then last c.finish.result (omega (arith, read.faults, wrote.faults)) (omega (arith, read.unwritten.write_faults, wrote.write_faults))
+    (λ none. sym read.bytes ∙ none_before (Replaced target.place stream) (g.F.Flash.state c.find_target.new.flash).bytes then.bytes c.in-Ok-replace.ensures.replaced none) c.finish.ensures.fault)
+
+pub returns-clause-complete : goal.returns-clause-complete
+returns-clause-complete g c = if_only_memory c.args.stream.now (g.F.Flash.state c.args.flash.now) (g.F.Flash.state c.finish.new.flash) c.finish.result (returns-clause-refused g c)
+
+-- ---- what an update leaves, at any moment
+
+pub returns-clause-layout : goal.returns-clause-layout
+returns-clause-layout g c =
+    let known = (g.F.Flash.state c.args.flash.now).bytes in
+    on_ok (IfKnown known HasLayout) c.finish.result
+    (known_map known (λ all. Finds (length all) all c.in_ok-target.target) HasLayout (λ all e finds. record { size = finds.sized; slots = finds.has }) c.in_ok-target.ensures.found.finds)
+
+pub replace-requires-clause-found : goal.replace-requires-clause-found
+replace-requires-clause-found g c =
+    let read = c.find_target.ensures.only in
+    still_found (g.F.Flash.state c.args.flash.now) (g.F.Flash.state c.find_target.new.flash) c.in_ok-target.target read.attached read.extent read.bytes c.in_ok-target.ensures.found
+
+pub finish-requires-clause-written : goal.finish-requires-clause-written
+finish-requires-clause-written g c =
+    let first = g.F.Flash.state c.args.flash.now in
+    let mid = g.F.Flash.state c.find_target.new.flash in
+    let then = g.F.Flash.state c.replace.new.flash in
+    let target = c.in_ok-target.target in
+    let stream = c.args.stream.now in
+    let found = c.in_ok-target.ensures.found in
+    let read = c.find_target.ensures.only in
+    let wrote = c.replace.ensures.writes.only in
+    let size : then.extent ≡ first.extent = wrote.extent ∙ read.extent in
+    record {
+      attached = wrote.attached ∙ read.attached ∙ c.requires;
+      size = subst HasSize (sym size) found.fits.sized;
+      place = subst (λ n. CanStandAt n target.place) (sym size) found.fits.place;
+      fits = omega (arith, size, read.extent, c.size.ensures.extent, found.fits.place.most, c.if-stream-size.false);
+      wanted = becomes_then mid then (Replaced target.place stream) (HasWanted target.place stream)
+          (λ all now e r.
+          let finds = known_at first.bytes (λ all. Finds (length all) all target) found.finds all (sym read.bytes ∙ e) in
+          let long : mid.extent ≡ length all = known_at mid.bytes (λ all. mid.extent ≡ length all) (g.met.F.Flash.counted c.find_target.new.flash) all e in
+          let fits : target.place + length stream ≤ length all = omega (arith, long, read.extent, c.size.ensures.extent, found.fits.place.most, c.if-stream-size.false) in
+          replaced_wanted all target finds stream now fits r)
+          c.in-Ok-replace.ensures.replaced;
+      buffer_is = search rules;
+    }
+
+pub finish-requires-clause-next : goal.finish-requires-clause-next
+finish-requires-clause-next g c = c.in_ok-target.ensures.found.fits.next
+
+pub finish-requires-clause-free : goal.finish-requires-clause-free
+finish-requires-clause-free g c =
+    let first = g.F.Flash.state c.args.flash.now in
+    let mid = g.F.Flash.state c.find_target.new.flash in
+    let target = c.in_ok-target.target in
+    let stream = c.args.stream.now in
+    becomes_then mid (g.F.Flash.state c.replace.new.flash) (Replaced target.place stream) (λ now. IsFree now target.slots.next)
+    (λ all now e r.
+    let finds = known_at first.bytes (λ all. Finds (length all) all target) c.in_ok-target.ensures.found.finds all (sym c.find_target.ensures.only.bytes ∙ e) in
+    let long : mid.extent ≡ length all = known_at mid.bytes (λ all. mid.extent ≡ length all) (g.met.F.Flash.counted c.find_target.new.flash) all e in
+    let fits : target.place + length stream ≤ length all = omega (arith, long, c.find_target.ensures.only.extent, c.size.ensures.extent, c.in_ok-target.ensures.found.fits.place.most, c.if-stream-size.false) in
+    replaced_free all target finds stream now fits r)
+    c.in-Ok-replace.ensures.replaced
+
+pub finish-requires-clause-closed : goal.finish-requires-clause-closed
+finish-requires-clause-closed g c =
+    let first = g.F.Flash.state c.args.flash.now in
+    let mid = g.F.Flash.state c.find_target.new.flash in
+    let then = g.F.Flash.state c.replace.new.flash in
+    let target = c.in_ok-target.target in
+    let stream = c.args.stream.now in
+    let known : (all : List ℕ) → mid.bytes ≡ Some all → Finds (length all) all target =
+    λ all e. known_at first.bytes (λ all. Finds (length all) all target) c.in_ok-target.ensures.found.finds all (sym c.find_target.ensures.only.bytes ∙ e) in
+    becomes_then mid then (Replaced target.place stream) IsClosed
+    (λ all now e r.
+    let long : mid.extent ≡ length all = known_at mid.bytes (λ all. mid.extent ≡ length all) (g.met.F.Flash.counted c.find_target.new.flash) all e in
+    let fits : target.place + length stream ≤ length all = omega (arith, long, c.find_target.ensures.only.extent, c.size.ensures.extent, c.in_ok-target.ensures.found.fits.place.most, c.if-stream-size.false) in
+    (replaced_between all target (known all e) stream now fits r).closed)
+    c.in-Ok-replace.ensures.replaced
+
+pub returns-in-Err-clause-any_moment : goal.returns-in-Err-clause-any_moment
+returns-in-Err-clause-any_moment g c =
+    let first = g.F.Flash.state c.args.flash.now in
+    let mid = g.F.Flash.state c.find_target.new.flash in
+    let then = g.F.Flash.state c.replace.new.flash in
+    let target = c.in_ok-target.target in
+    let stream = c.args.stream.now in
+    let known : (all : List ℕ) → mid.bytes ≡ Some all → Finds (length all) all target =
+    λ all e. known_at first.bytes (λ all. Finds (length all) all target) c.in_ok-target.ensures.found.finds all (sym c.find_target.ensures.only.bytes ∙ e) in
+    let Left : List ℕ → List ℕ → Type 0 = λ all found. AreBytes found → MayBeLeft stream all found in
+    moments_weaker first then _ _ (λ all found. Left all found × StaysBytes all found) (MayBeLeft stream)
+    (λ all found e both. both.0 (both.1 (known_at first.bytes AreBytes c.find_target.ensures.bytes all e)))
+    (moments_both first then _ _ Left StaysBytes
+    (read_moments first mid then _ _ _ Left (λ all e f. untouched refl) c.find_target.ensures.only.bytes c.find_target.ensures.only.unwritten
+    (moments_weaker mid then _ _ ReplacingUpdate Left (λ all found e h. replacing_left all target (known all e) stream found h) c.replace.ensures.writes.any_moment))
+    (read_moments first mid then _ _ _ StaysBytes (λ all e h. h) c.find_target.ensures.only.bytes c.find_target.ensures.only.unwritten c.replace.ensures.writes.bytes))
+
+pub returns-clause-any_moment : goal.returns-clause-any_moment
+returns-clause-any_moment g c =
+    let first = g.F.Flash.state c.args.flash.now in
+    let mid = g.F.Flash.state c.find_target.new.flash in
+    let then = g.F.Flash.state c.replace.new.flash in
+    let target = c.in_ok-target.target in
+    let stream = c.args.stream.now in
+    let known : (all : List ℕ) → mid.bytes ≡ Some all → Finds (length all) all target =
+    λ all e. known_at first.bytes (λ all. Finds (length all) all target) c.in_ok-target.ensures.found.finds all (sym c.find_target.ensures.only.bytes ∙ e) in
+    let last = g.F.Flash.state c.finish.new.flash in
+    let Left : List ℕ → List ℕ → Type 0 = λ all found. AreBytes found → MayBeLeft stream all found in
+    moments_weaker first last _ _ (λ all found. Left all found × StaysBytes all found) (MayBeLeft stream)
+    (λ all found e both. both.0 (both.1 (known_at first.bytes AreBytes c.find_target.ensures.bytes all e)))
+    (moments_both first last _ _ Left StaysBytes
+    (read_moments first mid last _ _ _ Left (λ all e f. untouched refl) c.find_target.ensures.only.bytes c.find_target.ensures.only.unwritten
+    (moments_on mid then last _ _ _ (Replaced target.place stream) (OpeningSlot target.slots.next) Left
+    (λ all now found e r opening.
+    let long : mid.extent ≡ length all = known_at mid.bytes (λ all. mid.extent ≡ length all) (g.met.F.Flash.counted c.find_target.new.flash) all e in
+    let fits : target.place + length stream ≤ length all = omega (arith, long, c.find_target.ensures.only.extent, c.size.ensures.extent, c.in_ok-target.ensures.found.fits.place.most, c.if-stream-size.false) in
+    opening_left all target (known all e) stream now fits r found opening)
+    (moments_weaker mid then _ _ ReplacingUpdate Left (λ all found e h. replacing_left all target (known all e) stream found h) c.replace.ensures.writes.any_moment)
+    (becomes_leaves mid then (Replaced target.place stream) c.in-Ok-replace.ensures.replaced) c.finish.ensures.any_moment))
+    (read_moments first mid last _ _ _ StaysBytes (λ all e h. h) c.find_target.ensures.only.bytes c.find_target.ensures.only.unwritten (bytes_on mid then last _ _ _ c.replace.ensures.writes.bytes c.finish.ensures.bytes)))
+
+pub returns-in_default-clause-found : goal.returns-in_default-clause-found
+returns-in_default-clause-found g c =
+    let first = g.F.Flash.state c.args.flash.now in
+    let last = g.F.Flash.state c.args.flash.now in
+    found_left c.args.stream.now first last (g.F.Flash.found_since c.args.flash.now) (g.F.Flash.found_since c.args.flash.now) (λ found had. g.met.F.Flash.only_now c.args.flash.now found had)
+    (moments_none first _ (MayBeLeft c.args.stream.now) (λ all e. untouched refl))
+
+pub returns-in_err-target-clause-found : goal.returns-in_err-target-clause-found
+returns-in_err-target-clause-found g c =
+    let first = g.F.Flash.state c.args.flash.now in
+    let last = g.F.Flash.state c.find_target.new.flash in
+    found_left c.args.stream.now first last (g.F.Flash.found_since c.args.flash.now) (g.F.Flash.found_since c.find_target.new.flash) (λ found had. g.met.F.Flash.only_now c.args.flash.now found had)
+    (only_read first last _ _ (MayBeLeft c.args.stream.now) (λ all e. untouched refl) c.find_target.ensures.only.bytes c.find_target.ensures.only.unwritten)
+
+pub returns-then-stream-size-clause-found : goal.returns-then-stream-size-clause-found
+returns-then-stream-size-clause-found g c =
+    let first = g.F.Flash.state c.args.flash.now in
+    let last = g.F.Flash.state c.find_target.new.flash in
+    found_left c.args.stream.now first last (g.F.Flash.found_since c.args.flash.now) (g.F.Flash.found_since c.find_target.new.flash) (λ found had. g.met.F.Flash.only_now c.args.flash.now found had)
+    (only_read first last _ _ (MayBeLeft c.args.stream.now) (λ all e. untouched refl) c.find_target.ensures.only.bytes c.find_target.ensures.only.unwritten)
+
+pub returns-in-Err-clause-found : goal.returns-in-Err-clause-found
+returns-in-Err-clause-found g c =
+    let first = g.F.Flash.state c.args.flash.now in
+    let last = g.F.Flash.state c.replace.new.flash in
+    found_left c.args.stream.now first last (g.F.Flash.found_since c.args.flash.now) (g.F.Flash.found_since c.replace.new.flash) (λ found had. g.met.F.Flash.only_now c.args.flash.now found had)
+    (returns-in-Err-clause-any_moment g c)
 
 pub returns-clause-found : goal.returns-clause-found
 returns-clause-found g c =
     let first = g.F.Flash.state c.args.flash.now in
-    found_left c.args.stream.now first (g.F.Flash.state c.take_steps.new.flash) _ _ (λ found had. g.met.F.Flash.only_now c.args.flash.now found had) c.take_steps.ensures.any_moment
+    let last = g.F.Flash.state c.finish.new.flash in
+    found_left c.args.stream.now first last (g.F.Flash.found_since c.args.flash.now) (g.F.Flash.found_since c.finish.new.flash) (λ found had. g.met.F.Flash.only_now c.args.flash.now found had)
+    (returns-clause-any_moment g c)
 
-pub returns-clause-complete : goal.returns-clause-complete
-returns-clause-complete g c =
-    if_only_memory c.args.stream.now (g.F.Flash.state c.args.flash.now) (g.F.Flash.state c.take_steps.new.flash) c.take_steps.result c.take_steps.ensures.refused
+-- ---- read back
+
+pub returns-clause-read_back : goal.returns-clause-read_back
+returns-clause-read_back g c =
+    let first = g.F.Flash.state c.args.flash.now in
+    let last = g.F.Flash.state c.finish.new.flash in
+    let target = c.in_ok-target.target in
+    let stream = c.args.stream.now in
+    let size : last.extent ≡ first.extent = c.finish.ensures.only.extent ∙ c.replace.ensures.writes.only.extent ∙ c.find_target.ensures.only.extent in
+    all_back g.F.Flash.state stream first last target c.finish.result (subst (λ n. TargetFits n target) (sym size) c.in_ok-target.ensures.found.fits) c.in_ok-target.ensures.found.finds c.finish.ensures.ready c.finish.ensures.switch
+
+pub returns-in_default-clause-opens : goal.returns-in_default-clause-opens
+returns-in_default-clause-opens g c =
+    let first = g.F.Flash.state c.args.flash.now in
+    let stream = c.args.stream.now in
+    moments_none first _ (OpensReadBack g.F.Flash.state stream first first) (λ all e l a. absurd (after_not_same stream all all l a refl))
+
+pub returns-in_err-target-clause-opens : goal.returns-in_err-target-clause-opens
+returns-in_err-target-clause-opens g c =
+    let first = g.F.Flash.state c.args.flash.now in
+    let mid = g.F.Flash.state c.find_target.new.flash in
+    let stream = c.args.stream.now in
+    only_read first mid _ _ (OpensReadBack g.F.Flash.state stream first mid) (λ all e l a. absurd (after_not_same stream all all l a refl)) c.find_target.ensures.only.bytes c.find_target.ensures.only.unwritten
+
+pub returns-in-Err-clause-opens : goal.returns-in-Err-clause-opens
+returns-in-Err-clause-opens g c =
+    let first = g.F.Flash.state c.args.flash.now in
+    let mid = g.F.Flash.state c.find_target.new.flash in
+    let then = g.F.Flash.state c.replace.new.flash in
+    let stream = c.args.stream.now in
+    let Opens : List ℕ → List ℕ → Type 0 = OpensReadBack g.F.Flash.state stream first then in
+    read_moments first mid then _ _ _ Opens (λ all e l a. absurd (after_not_same stream all all l a refl)) c.find_target.ensures.only.bytes c.find_target.ensures.only.unwritten
+    (moments_weaker mid then _ _ ReplacingUpdate Opens (λ all found e h l a. absurd (after_not_replacing stream all found l a h)) c.replace.ensures.writes.any_moment)
+
+pub returns-clause-opens : goal.returns-clause-opens
+returns-clause-opens g c =
+    let first = g.F.Flash.state c.args.flash.now in
+    let mid = g.F.Flash.state c.find_target.new.flash in
+    let then = g.F.Flash.state c.replace.new.flash in
+    let target = c.in_ok-target.target in
+    let stream = c.args.stream.now in
+    let known : (all : List ℕ) → mid.bytes ≡ Some all → Finds (length all) all target =
+    λ all e. known_at first.bytes (λ all. Finds (length all) all target) c.in_ok-target.ensures.found.finds all (sym c.find_target.ensures.only.bytes ∙ e) in
+    let last = g.F.Flash.state c.finish.new.flash in
+    let Opens : List ℕ → List ℕ → Type 0 = OpensReadBack g.F.Flash.state stream first last in
+    let Was : Type 0 = WasReady g.F.Flash.state target.place stream last in
+    let size : last.extent ≡ first.extent = c.finish.ensures.only.extent ∙ c.replace.ensures.writes.only.extent ∙ c.find_target.ensures.only.extent in
+    let back : Was → ReadBack g.F.Flash.state stream first last =
+    λ was. read_back g.F.Flash.state stream first last target (subst (λ n. TargetFits n target) (sym size) c.in_ok-target.ensures.found.fits) c.in_ok-target.ensures.found.finds was in
+    read_moments first mid last _ _ _ Opens (λ all e l a. absurd (after_not_same stream all all l a refl)) c.find_target.ensures.only.bytes c.find_target.ensures.only.unwritten
+    (moments_on mid then last _ _ _ (Replaced target.place stream) (λ all found. (found ≡ all) ⊎ Was) Opens
+    (λ all now found e r o l a.
+    let long : mid.extent ≡ length all = known_at mid.bytes (λ all. mid.extent ≡ length all) (g.met.F.Flash.counted c.find_target.new.flash) all e in
+    let fits : target.place + length stream ≤ length all = omega (arith, long, c.find_target.ensures.only.extent, c.size.ensures.extent, c.in_ok-target.ensures.found.fits.place.most, c.if-stream-size.false) in
+    ⊎_elim (λ same. absurd (after_not_between stream all found l a (subst (IsBetween all) (sym same) (replaced_between all target (known all e) stream now fits r)))) back o)
+    (moments_weaker mid then _ _ ReplacingUpdate Opens (λ all found e h l a. absurd (after_not_replacing stream all found l a h)) c.replace.ensures.writes.any_moment)
+    (becomes_leaves mid then (Replaced target.place stream) c.in-Ok-replace.ensures.replaced) c.finish.ensures.opens)

@@ -12,8 +12,8 @@ returns-clause-fault g c =
     let place = c.args.sector * 65536 in
     let q = c.requires in
     let at : update + (place - update) ≡ place = omega (arith, q.after) in
-    stream_fails update c.args.stream.now place (length c.args.buffer.now) c.read_at.new.buf old new c.compare.result c.in-Ok.ensures.length c.in-Ok.ensures.seen c.in-Ok.ensures.only.extent q.size q.place q.fits q.after
-    (omega (arith, q.within, q.buffer)) (g.met.F.Flash.counted c.args.flash.now) q.written c.in-Ok.ensures.read
+    stream_fails update c.args.stream.now place (length c.args.buffer.now) c.read_at.new.buf old new c.compare.result c.in-Ok.ensures.length c.in-Ok.ensures.seen c.in-Ok.ensures.only.extent q.written.size q.written.place q.written.fits q.after
+    (omega (arith, q.within, q.written.buffer_is)) (g.met.F.Flash.counted c.args.flash.now) q.written.wanted c.in-Ok.ensures.read
     (λ p l h. c.in-Ok.ensures.only.seen p (wanted_at update c.args.stream.now p) (q.before p l h))
     (subst (λ (p : ℕ). IfErr c.compare.result (IsWrong update c.args.stream.now p c.read_at.new.buf)) at c.compare.ensures.wrong)
 
@@ -23,5 +23,5 @@ returns-clause-seen g c =
     let update = c.args.update in
     let place = c.args.sector * 65536 in
     let at : update + (place - update) ≡ place = omega (arith, c.requires.after) in
-    sees_wanted update c.args.stream.now place 65536 (update + (place - update)) c.read_at.new.buf new c.compare.result (c.in-Ok.ensures.length ∙ c.requires.buffer) at c.in-Ok.ensures.seen
+    sees_wanted update c.args.stream.now place 65536 (update + (place - update)) c.read_at.new.buf new c.compare.result (c.in-Ok.ensures.length ∙ c.requires.written.buffer_is) at c.in-Ok.ensures.seen
     (λ p l h. c.in-Ok.ensures.only.seen p (wanted_at update c.args.stream.now p) (c.requires.before p l h)) c.compare.ensures.same

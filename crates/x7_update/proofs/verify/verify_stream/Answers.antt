@@ -2,7 +2,7 @@ use Rattle.std.proofs.Common.{◌≤◌, ◌+◌, ◌*◌, IfErr, sym, ◌∙◌
 use Rattle.x7_words.proofs.FlashLemmas.{reads_on}
 use Rattle.x7_update.specs.Writing.{EndFails}
 use Rattle.x7_update.proofs.BackLemmas.{fails_since}
-use Rattle.x7_update.proofs.ReadyLemmas.{sees_up_to}
+use Rattle.x7_update.proofs.ReadyLemmas.{sees_up_to, still_read_back}
 use Rattle.x7_update.proofs.verify.verify_stream.Goals as goal
 
 pub loop-sector-preserved : goal.loop-sector-preserved
@@ -30,3 +30,8 @@ returns-in_err-verify_sector-clause-fault g c =
     let since : IfErr c.verify_sector.result (EndFails c.args.stream.now first (g.F.Flash.state c.verify_sector.new.flash)) =
     fails_since c.args.stream.now first mid (g.F.Flash.state c.verify_sector.new.flash) c.verify_sector.result only.faults (omega (arith, only.unwritten.write_faults)) (λ none. sym only.bytes ∙ none) c.verify_sector.ensures.fault in
     search rules
+
+pub verify_sector-requires-clause-written : goal.verify_sector-requires-clause-written
+verify_sector-requires-clause-written g c =
+    let i = c.loop-sector.invariant in
+    still_read_back (g.F.Flash.state c.args.flash.now) (g.F.Flash.state c.loop-sector.flash) c.args.update c.args.stream.now c.args.buffer.now c.loop-sector.buffer i.only.attached i.only.extent i.only.bytes i.buffer c.requires

@@ -35,8 +35,8 @@ loop-sector-preserved g c =
           (bytes_write (sector * 65536) (λ _. erased_sector) mid last _ _ c.erase.result (λ _. bytes_erased_sector) (λ all e. omega (arith, length_erased_sector, inside all e)) c.erase.ensures.erased c.erase.ensures.torn c.erase.ensures.passes);
     }
 
-pub returns-in_err-erase-clause-any_moment : goal.returns-in_err-erase-clause-any_moment
-returns-in_err-erase-clause-any_moment g c =
+pub returns-in_err-erase-clause-writes : goal.returns-in_err-erase-clause-writes
+returns-in_err-erase-clause-writes g c =
     let first = g.F.Flash.state c.args.flash.now in
     let mid = g.F.Flash.state c.loop-sector.flash in
     let last = g.F.Flash.state c.erase.new.self in
@@ -44,24 +44,20 @@ returns-in_err-erase-clause-any_moment g c =
     let sector = c.loop-sector.sector in
     let inv = c.loop-sector.invariant in
     let from : place ≤ sector * 65536 = omega arith in
-    let inside : (all : List ℕ) → mid.bytes ≡ Some all → sector * 65536 + 65536 ≤ length all =
-    λ all e. omega (arith, known_at mid.bytes (λ all. mid.extent ≡ length all) (g.met.F.Flash.counted c.loop-sector.flash) all e, inv.only.extent, c.size-sector-end.ensures.extent) in
-    moments_on first mid last _ _ _ (ErasedTo place (sector * 65536)) (IsTorn (sector * 65536) erased_sector) (KeepsBelow place)
-    (λ all mid found e so torn. torn_keeps place (sector * 65536) erased_sector all mid found from (erased_keeps place (sector * 65536) all mid so) torn)
-    inv.any_moment (becomes_leaves first mid (ErasedTo place (sector * 65536)) inv.erased)
-    (write_moments (sector * 65536) (λ _. erased_sector) mid last _ _ c.erase.result (λ all e. omega (arith, length_erased_sector, inside all e)) c.erase.ensures.erased c.erase.ensures.torn c.erase.ensures.passes)
+    let within : (all : List ℕ) → mid.bytes ≡ Some all → sector * 65536 + length erased_sector ≤ length all =
+    λ all e. omega (arith, length_erased_sector, known_at mid.bytes (λ all. mid.extent ≡ length all) (g.met.F.Flash.counted c.loop-sector.flash) all e, inv.only.extent, c.size-sector-end.ensures.extent) in
+    record {
+      any_moment = moments_on first mid last _ _ _ (ErasedTo place (sector * 65536)) (IsTorn (sector * 65536) erased_sector) (KeepsBelow place)
+          (λ all mid found e so torn. torn_keeps place (sector * 65536) erased_sector all mid found from (erased_keeps place (sector * 65536) all mid so) torn)
+          inv.any_moment (becomes_leaves first mid (ErasedTo place (sector * 65536)) inv.erased)
+          (write_moments (sector * 65536) (λ _. erased_sector) mid last _ _ c.erase.result within c.erase.ensures.erased c.erase.ensures.torn c.erase.ensures.passes);
+      bytes = bytes_on first mid last _ _ _ inv.bytes
+          (bytes_write (sector * 65536) (λ _. erased_sector) mid last _ _ c.erase.result (λ _. bytes_erased_sector) within c.erase.ensures.erased c.erase.ensures.torn c.erase.ensures.passes);
+      only = writes_on first mid last inv.only c.erase.ensures.only;
+    }
 
-pub returns-in_err-erase-clause-bytes : goal.returns-in_err-erase-clause-bytes
-returns-in_err-erase-clause-bytes g c =
-    let first = g.F.Flash.state c.args.flash.now in
-    let mid = g.F.Flash.state c.loop-sector.flash in
-    let last = g.F.Flash.state c.erase.new.self in
-    let sector = c.loop-sector.sector in
-    let inv = c.loop-sector.invariant in
-    let inside : (all : List ℕ) → mid.bytes ≡ Some all → sector * 65536 + 65536 ≤ length all =
-    λ all e. omega (arith, known_at mid.bytes (λ all. mid.extent ≡ length all) (g.met.F.Flash.counted c.loop-sector.flash) all e, inv.only.extent, c.size-sector-end.ensures.extent) in
-    bytes_on first mid last _ _ _ inv.bytes
-    (bytes_write (sector * 65536) (λ _. erased_sector) mid last _ _ c.erase.result (λ _. bytes_erased_sector) (λ all e. omega (arith, length_erased_sector, inside all e)) c.erase.ensures.erased c.erase.ensures.torn c.erase.ensures.passes)
+pub returns-clause-writes : goal.returns-clause-writes
+returns-clause-writes g c = let inv = c.loop-sector.invariant in record { any_moment = inv.any_moment; bytes = inv.bytes; only = inv.only }
 
 pub returns-clause-erased : goal.returns-clause-erased
 returns-clause-erased g c =

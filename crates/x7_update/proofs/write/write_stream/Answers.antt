@@ -3,10 +3,10 @@ use Rattle.x7_words.specs.Flash.{IsTorn, cleared, programmed}
 use Rattle.x7_words.proofs.FlashLemmas.{bytes_cleared, length_cleared}
 use Rattle.x7_words.proofs.ListLemmas.{all_from_places}
 use Rattle.x7_words.specs.Word.{AreBytes}
-use Rattle.x7_update.specs.Writing.{Becomes, ErasedTo, KeepsBelow, Stands}
+use Rattle.x7_update.specs.Writing.{Becomes, ErasedTo, KeepsBelow, StreamStands}
 use Rattle.x7_update.proofs.ByteLemmas.{bytes_on, bytes_write}
 use Rattle.x7_update.proofs.StreamLemmas.{stream_written, torn_keeps}
-use Rattle.x7_update.proofs.KnownLemmas.{becomes_of, becomes_on, moments_on, on_ok_map, known_at, write_moments}
+use Rattle.x7_update.proofs.KnownLemmas.{becomes_of, becomes_on, moments_on, on_ok_map, known_at, write_moments, writes_on}
 use Rattle.x7_update.proofs.write.write_stream.Goals as goal
 
 pub returns-clause-written : goal.returns-clause-written
@@ -19,37 +19,29 @@ returns-clause-written g c =
     let fits : (all : List ℕ) → first.bytes ≡ Some all → first.extent ≡ length all =
     λ all e. known_at first.bytes (λ all. first.extent ≡ length all) (g.met.F.Flash.counted c.args.flash.now) all e in
     let bytes : (i : ℕ) → get_or stream i 0 < 256 = λ i. omega (arith, c.type_inv.stream i) in
-    on_ok_map (last.bytes ≡ option_map (programmed place stream) mid.bytes) (Becomes first last (Stands place stream)) c.program.result c.program.ensures.programmed
-    (λ done. becomes_on first mid last (ErasedTo place first.extent) (λ all now. now ≡ programmed place stream all) (Stands place stream)
+    on_ok_map (last.bytes ≡ option_map (programmed place stream) mid.bytes) (Becomes first last (StreamStands place stream)) c.program.result c.program.ensures.programmed
+    (λ done. becomes_on first mid last (ErasedTo place first.extent) (λ all now. now ≡ programmed place stream all) (StreamStands place stream)
     (λ all mid now e so is. is ∙ stream_written place stream all mid (omega (arith, fits all e, c.requires.fits)) bytes (subst (λ n. ErasedTo place n all mid) (fits all e) so))
     c.in_ok-erase_from.ensures.erased (becomes_of mid last (programmed place stream) (λ all now. now ≡ programmed place stream all) done (λ all e. refl)))
 
-pub returns-clause-any_moment : goal.returns-clause-any_moment
-returns-clause-any_moment g c =
+pub returns-clause-writes : goal.returns-clause-writes
+returns-clause-writes g c =
     let first = g.F.Flash.state c.args.flash.now in
     let mid = g.F.Flash.state c.erase_from.new.flash in
     let last = g.F.Flash.state c.program.new.self in
     let place = c.args.place in
     let stream = c.args.stream.now in
     let here : place ≤ place = omega arith in
-    let inside : (all : List ℕ) → mid.bytes ≡ Some all → place + length stream ≤ length all =
-    λ all e. omega (arith, known_at mid.bytes (λ all. mid.extent ≡ length all) (g.met.F.Flash.counted c.erase_from.new.flash) all e, c.erase_from.ensures.only.extent, c.requires.fits) in
-    moments_on first mid last _ _ _ (KeepsBelow place) (λ all found. IsTorn place (cleared place stream all) all found) (KeepsBelow place)
-    (λ all mid found e keeps torn. torn_keeps place place (cleared place stream mid) all mid found here keeps torn)
-    c.erase_from.ensures.any_moment c.erase_from.ensures.any_moment.leaves
-    (write_moments place (cleared place stream) mid last _ _ c.program.result (λ all e. omega (arith, inside all e, length_cleared place stream all (inside all e)))
-    c.program.ensures.programmed c.program.ensures.torn c.program.ensures.passes)
-
-pub returns-clause-bytes : goal.returns-clause-bytes
-returns-clause-bytes g c =
-    let first = g.F.Flash.state c.args.flash.now in
-    let mid = g.F.Flash.state c.erase_from.new.flash in
-    let last = g.F.Flash.state c.program.new.self in
-    let place = c.args.place in
-    let stream = c.args.stream.now in
+    let erases = c.erase_from.ensures.writes in
     let fits : AreBytes stream = all_from_places (λ b. b < 256) stream (λ k h. omega (arith, c.type_inv.stream k)) in
     let inside : (all : List ℕ) → mid.bytes ≡ Some all → place + length stream ≤ length all =
-    λ all e. omega (arith, known_at mid.bytes (λ all. mid.extent ≡ length all) (g.met.F.Flash.counted c.erase_from.new.flash) all e, c.erase_from.ensures.only.extent, c.requires.fits) in
-    bytes_on first mid last _ _ _ c.erase_from.ensures.bytes
-    (bytes_write place (cleared place stream) mid last _ _ c.program.result (λ all. bytes_cleared place stream all fits) (λ all e. omega (arith, inside all e, length_cleared place stream all (inside all e)))
-    c.program.ensures.programmed c.program.ensures.torn c.program.ensures.passes)
+    λ all e. omega (arith, known_at mid.bytes (λ all. mid.extent ≡ length all) (g.met.F.Flash.counted c.erase_from.new.flash) all e, erases.only.extent, c.requires.fits) in
+    let within : (all : List ℕ) → mid.bytes ≡ Some all → place + length (cleared place stream all) ≤ length all = λ all e. omega (arith, inside all e, length_cleared place stream all (inside all e)) in
+    record {
+      any_moment = moments_on first mid last _ _ _ (KeepsBelow place) (λ all found. IsTorn place (cleared place stream all) all found) (KeepsBelow place)
+          (λ all mid found e keeps torn. torn_keeps place place (cleared place stream mid) all mid found here keeps torn) erases.any_moment erases.any_moment.leaves
+          (write_moments place (cleared place stream) mid last _ _ c.program.result within c.program.ensures.programmed c.program.ensures.torn c.program.ensures.passes);
+      bytes = bytes_on first mid last _ _ _ erases.bytes
+          (bytes_write place (cleared place stream) mid last _ _ c.program.result (λ all. bytes_cleared place stream all fits) within c.program.ensures.programmed c.program.ensures.torn c.program.ensures.passes);
+      only = writes_on first mid last erases.only c.program.ensures.only;
+    }

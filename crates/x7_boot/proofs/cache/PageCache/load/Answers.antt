@@ -26,8 +26,8 @@ returns-clause-pages g c =
     c.keep_block.ensures.pages (f.state c.args.flash.now).bytes (f.state c.args.flash.now).extent c.in_ok-read_block.ensures.read
     (pages_on_promote (f.state c.args.flash.now).bytes (f.state c.args.flash.now).extent (nat_eq c.args.number) c.args.self.now.pages c.promote.new.self c.promote.ensures.entries c.requires.pages)
 
-pub returns-in_err-keep_block-clause-pages : goal.returns-in_err-keep_block-clause-pages
-returns-in_err-keep_block-clause-pages g c =
+pub returns-in_default-clause-pages : goal.returns-in_default-clause-pages
+returns-in_default-clause-pages g c =
     let f = g.F.Flash in
     c.keep_block.ensures.pages (f.state c.args.flash.now).bytes (f.state c.args.flash.now).extent c.in_ok-read_block.ensures.read
     (pages_on_promote (f.state c.args.flash.now).bytes (f.state c.args.flash.now).extent (nat_eq c.args.number) c.args.self.now.pages c.promote.new.self c.promote.ensures.entries c.requires.pages)

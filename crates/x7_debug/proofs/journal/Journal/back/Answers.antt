@@ -79,3 +79,13 @@ returns-clause-oldest c = λ stream o.
 
 pub returns-clause-few : goal.returns-clause-few
 returns-clause-few c = λ stream o. omega (arith, ap length (records_are c), o.few)
+
+pub invariant_of-self : goal.invariant_of-self
+invariant_of-self c = (
+  ap length (all_is c) ∙ long c,
+  ap (λ (b : Buffer UndoState). b.capacity) c.push_back.ensures.items ∙ ap (λ (b : Buffer UndoState). b.capacity) c.in-Some.ensures.items ∙ c.self.invariant.1,
+  omega (arith, c.self.invariant.2),
+)
+
+pub returns-clause-count : goal.returns-clause-count
+returns-clause-count c = count_is c ∙ ap (λ (j : JournalState). j.count) c.self.view_is

@@ -1,0 +1,46 @@
+use Rattle.std.proofs.Common.{◌≡◌, ◌≤◌, ◌<◌, ap, sym, subst, ◌∙◌, arith}
+use Rattle.x7_part.specs.Part.{PartData}
+use Rattle.x7_debug.specs.declared.order.Stop.TheVariants as stop
+use Rattle.x7_debug.specs.Position.{last_of, until_of}
+use Rattle.x7_debug.proofs.JournalLemmas.{fed_on}
+use Rattle.x7_debug.proofs.PositionLemmas.{until_begun, until_near}
+use Rattle.x7_debug.proofs.until.go_to_phase.Goals as goal
+
+pub forward_until-requires : goal.forward_until-requires
+forward_until-requires c = record { on = c.requires.kept.on; last_is = c.requires.kept.last_is; before = c.requires.before }
+
+pub leap_near-requires : goal.leap_near-requires
+leap_near-requires c = record { on = c.requires.kept.on; within = c.requires.kept.begins_is.within }
+
+pub forward_until-requires-2 : goal.forward_until-requires-2
+forward_until-requires-2 c =
+    let near = c.leap_near.ensures in
+    let kept = c.requires.kept in
+    record {
+      on = near.comes.on;
+      last_is = kept.last_is ∙ ap (λ (p : PartData). last_of p c.args.stream.now) (sym near.comes.part);
+      before = omega (arith, near.near, kept.begins_is.within, c.requires.before, kept.last_is);
+    }
+
+pub returns-clause-comes : goal.returns-clause-comes
+returns-clause-comes c =
+    let part = c.args.device.now.part in
+    let stream = c.args.stream.now in
+    let phase = c.args.phase in
+    let begins = c.args.outline.begins in
+    let from = c.args.device.now.taken in
+    let kept = c.requires.kept in
+    let near = c.leap_near.ensures in
+    let there = c.forward_until-2.ensures in
+    let some : 0 < phase = omega (arith, c.if-phase-eq0.false) in
+    let led : c.forward_until-2.new.device.taken ≡ until_of part stream (stop.Phase phase) c.leap_near.new.device.taken =
+    subst (λ (p : PartData). c.forward_until-2.new.device.taken ≡ until_of p stream (stop.Phase phase) c.leap_near.new.device.taken) near.comes.part there.comes.taken in
+    let past : begins ≤ until_of part stream (stop.Phase phase) c.leap_near.new.device.taken = until_begun part stream phase begins kept.begins_is some c.leap_near.new.device.taken in
+    record {
+      on = there.comes.on;
+      part = there.comes.part ∙ near.comes.part;
+      taken = led ∙ sym (until_near part stream phase begins kept.begins_is some from c.leap_near.new.device.taken near.forward
+          (omega (arith, near.near, kept.begins_is.within, c.requires.before, kept.last_is)) (λ k h j. omega (arith, near.near, h, j)));
+      fed = fed_on c.args.device.now c.leap_near.new.device c.forward_until-2.new.device near.forward (omega (arith, there.forward)) near.comes.fed there.comes.fed;
+      oldest = omega (arith, there.comes.oldest, near.near, led, past);
+    }
