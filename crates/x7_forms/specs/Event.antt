@@ -88,11 +88,11 @@ row_of why.NoMemory = record { ends_as = status.NoMemory; cause = Want; words = 
 row_of why.TooLarge = record { ends_as = status.TooLarge; cause = Contents; words = codes "too large "; detail = [] }
 row_of (why.Differs place) = record { ends_as = status.Differs; cause = Difference; words = codes "differs "; detail = codes ": byte " ++ decimal place }
 
-abbrev pub cause_of : Event → Cause
-cause_of e = (row_of e.reason).cause
+abbrev pub cause_of_event : Event → Cause
+cause_of_event e = (row_of e.reason).cause
 
-abbrev pub status_of : Event → Status
-status_of e = (row_of e.reason).ends_as
+abbrev pub status_of_event : Event → Status
+status_of_event e = (row_of e.reason).ends_as
 
 -- the line that reports an event, with its end
 abbrev pub line_of : Event → List ℕ
@@ -112,11 +112,11 @@ bad_part name fault = record { reason = why.BadPart fault; concerned = name }
 abbrev pub bad_input : List ℕ → InputFault → Event
 bad_input name fault = record { reason = why.BadInput fault; concerned = name }
 
-abbrev pub read_fault : List ℕ → Event
-read_fault name = record { reason = why.ReadFault; concerned = name }
+abbrev pub reading_failed : List ℕ → Event
+reading_failed name = record { reason = why.ReadFault; concerned = name }
 
-abbrev pub write_fault : Event
-write_fault = record { reason = why.WriteFault; concerned = [] }
+abbrev pub writing_failed : Event
+writing_failed = record { reason = why.WriteFault; concerned = [] }
 
 abbrev pub no_memory : Event
 no_memory = record { reason = why.NoMemory; concerned = [] }

@@ -134,9 +134,9 @@ asked_by (form.Svf part text) = PlayingSvf part.now text.now
 asked_by (form.Boot part flash) = Booting part.now flash.now
 asked_by (form.Update flash stream) = UpdatingFlash flash.now stream.now
 
-abbrev pub asked : Option Form → Option AskedForm
-asked None = None
-asked (Some form) = Some (asked_by form)
+abbrev pub form_asked : Option Form → Option AskedForm
+form_asked None = None
+form_asked (Some form) = Some (asked_by form)
 
 -- the names of the inputs that a form reads
 abbrev pub names_of : Option AskedForm → List (List ℕ)

@@ -8,7 +8,7 @@ use Rattle.x7_header.specs.declared.fault.HeaderFault.TheVariants as header
 use Rattle.x7_part.specs.declared.fault.PartFault.{PartFault}
 use Rattle.x7_part.specs.Part.{PartData}
 use Rattle.x7_forms.specs.declared.bad_input.InputFault.TheVariants as input
-use Rattle.x7_forms.specs.Event.{Event, bad_input, bad_part, missing, read_fault, too_large}
+use Rattle.x7_forms.specs.Event.{Event, bad_input, bad_part, missing, reading_failed, too_large}
 use Rattle.x7_part.specs.PartFile.{part_in}
 
 -- what is found under a name: bytes, nothing, or the first bytes and then a fault
@@ -61,7 +61,7 @@ stream_limit = 67108864
 abbrev pub taken_whole : List ℕ → ℕ → Found → Result (List ℕ) Event
 taken_whole name limit (Held bytes) = within name limit bytes
 taken_whole name limit Absent = Err (missing name)
-taken_whole name limit (Broken bytes) = and_so (within name limit bytes) (λ _. Err (read_fault name))
+taken_whole name limit (Broken bytes) = and_so (within name limit bytes) (λ _. Err (reading_failed name))
 
 abbrev pub whole_in : Known → ℕ → List ℕ → Result (List ℕ) Event
 whole_in known limit name = taken_whole name limit (known.inputs name)
@@ -136,7 +136,7 @@ spoiled_name (Lacking name) = name
 
 -- the event that comes of a mishap
 abbrev pub mishap_event : Mishap → Event
-mishap_event (Failing name given) = read_fault name
+mishap_event (Failing name given) = reading_failed name
 mishap_event (Lacking name) = missing name
 
 -- the first bytes of what is found, and then a fault

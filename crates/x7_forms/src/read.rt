@@ -3,7 +3,7 @@ ghost use Rattle.std.specs.Prelude.{◌≡◌, ◌+◌, ◌-◌, ◌<◌, ◌≤
 ghost use Rattle.x7_words.specs.Input.{Asks, AsksFew, AsksOnce, AtEnd, Opens, Stays, Takes};
 ghost use Rattle.x7_words.specs.Word.{AreBytes};
 ghost use Rattle.x7_forms.specs.Message.{event_of};
-ghost use Rattle.x7_forms.specs.Event.{no_memory, read_fault, too_large};
+ghost use Rattle.x7_forms.specs.Event.{no_memory, reading_failed, too_large};
 ghost use Rattle.x7_forms.specs.Known.{data_in};
 ghost use Rattle.x7_forms.specs.Turn.{Breaks, GivesFew, ReadsRest, StandsAt, Unopened, Unread, UnreadRest};
 ghost use Rattle.x7_forms.specs.Step.{IsUnread, ReadsWhole, seen};
@@ -45,7 +45,7 @@ fn fill<'w, I: Inputs>(inputs: &mut I, name: &'w str, buf: &mut [u8]) -> Result<
     ensures full { IfOk result (λ n. n ≡ length buf.old → (I.state inputs.new).ends ≤ (I.state inputs.old).ends) }
     ensures once { (I.state inputs.new).ends ≤ (I.state inputs.old).ends + 1 }
     ensures length { length buf.new ≡ length buf.old }
-    ensures failed { IfErr result (λ r. (event_of r ≡ read_fault name.now) × Breaks (I.state inputs.old) (length buf.old) (I.state inputs.new)) }
+    ensures failed { IfErr result (λ r. (event_of r ≡ reading_failed name.now) × Breaks (I.state inputs.old) (length buf.old) (I.state inputs.new)) }
     ensures asked { (I.state inputs.new).asked ≡ (I.state inputs.old).asked }
     ensures given { (I.state inputs.new).given ≤ (I.state inputs.old).given + length buf.old }
     ensures selects { (I.state inputs.new).selects ≡ (I.state inputs.old).selects }
@@ -114,7 +114,7 @@ pub fn next_turn<'w, I: Inputs>(
     ensures more { IfOk result (λ turn. turn.last ≡ false → (I.state inputs.new).ends ≤ (I.state inputs.old).ends) }
     ensures length { length buf.new ≡ length buf.old }
     ensures err { IfErr result (λ r. Unread (I.state inputs.old) name.now (I.state inputs.new) left (event_of r)) }
-    ensures soon { IfErr result (λ r. event_of r ≡ read_fault name.now → (I.state inputs.new).given < (I.state inputs.old).given + length buf.old) }
+    ensures soon { IfErr result (λ r. event_of r ≡ reading_failed name.now → (I.state inputs.new).given < (I.state inputs.old).given + length buf.old) }
     ensures over { IfErr result (λ r. event_of r ≡ too_large name.now → left < length buf.old) }
     ensures asked { (I.state inputs.new).asked ≡ (I.state inputs.old).asked }
     ensures few { GivesFew (I.state inputs.old) left (I.state inputs.new) }

@@ -100,7 +100,7 @@ pub struct Refusal<'w> {
 }
 
 impl<'w> Refusal<'w> {
-    ghost use Rattle.x7_forms.specs.Event.{line_of, status_of, row_of};
+    ghost use Rattle.x7_forms.specs.Event.{line_of, status_of_event, row_of};
     ghost use Rattle.x7_forms.specs.Message.{event_of};
 
     /// A reason that concerns no input.
@@ -124,7 +124,7 @@ impl<'w> Refusal<'w> {
 
     /// Writes the refusal's line, and gives its status. No memory is taken.
     pub fn tell<E: Sink>(&self, err: &mut E) -> Status
-        ensures status { result ≡ status_of (event_of self.now) }
+        ensures status { result ≡ status_of_event (event_of self.now) }
         ensures line { Tells (E.state err.old) (line_of (event_of self.now)) (E.state err.new) }
     {
         let _ = self.say(err);

@@ -6,7 +6,7 @@ ghost use Rattle.x7_boot.specs.Boot.{IsBoot};
 ghost use Rattle.x7_engine.specs.Standing.{NoWordDue};
 ghost use Rattle.x7_forms.specs.Form.{Booting};
 ghost use Rattle.x7_boot.specs.Image.{flash_limit};
-ghost use Rattle.x7_forms.specs.Event.{no_memory, read_fault};
+ghost use Rattle.x7_forms.specs.Event.{no_memory, reading_failed};
 ghost use Rattle.x7_forms.specs.Message.{event_of};
 ghost use Rattle.x7_tool.specs.Outcome.{IsBootText, boot_event, has_failed};
 ghost use Rattle.x7_tool.specs.BootText.{OfBoot, boot_text};
@@ -106,7 +106,7 @@ fn boot_from<'w, F: Flash>(
     name: &'w str,
 ) -> Result<PlayText, Refusal<'w>>
     ensures due { FlashComes name.now part.now (F.state flash.old) (F.state flash.new) (seen text_of_play result) }
-    ensures failed { IfErr result (λ r. event_of r ≡ read_fault name.now → (F.state flash.new).attached ≡ true → (F.state flash.new).extent ≤ flash_limit) }
+    ensures failed { IfErr result (λ r. event_of r ≡ reading_failed name.now → (F.state flash.new).attached ≡ true → (F.state flash.new).extent ≤ flash_limit) }
     ensures reads { ReadsFlash name.now (F.state flash.old) (F.state flash.new) }
     ensures unwritten { Unwritten (F.state flash.old) (F.state flash.new) (F.found_since flash.old) (F.found_since flash.new) }
 {

@@ -1,10 +1,10 @@
 use Rattle.std.proofs.Common.{◌≤◌, ◌++◌, ◌-◌, ◌≡◌, ◌∙◌, ap, arith, drop, false, inl, inr, length, length-append, length-drop, length-take-le, refl, subst, take}
-use Rattle.x7_header.specs.Header.{EndsInHeader}
+use Rattle.x7_header.specs.Header.{EndsInHeader, longest_header}
 use Rattle.x7_words.proofs.InputLemmas.{stays_on}
 use Rattle.x7_forms.specs.declared.beginning.Judged.{Judged}
 use Rattle.x7_forms.specs.Message.{event_of}
 use Rattle.x7_forms.specs.Known.{stream_limit}
-use Rattle.x7_forms.specs.Turn.{BeginAt, IsBeginning, longest_header}
+use Rattle.x7_forms.specs.Turn.{BeginAt, IsBeginning}
 use Rattle.std.proofs.lemmas.List.{take-append-le}
 use Rattle.x7_forms.proofs.BeginningLemmas.{found_none, found_some, beginning_read, joined_taken, none_given, piece_of, reads_by, refused_soon, unread_turn}
 use Rattle.x7_forms.proofs.StandLemmas.{gives_on}

@@ -1,8 +1,8 @@
 use Rattle.std.proofs.Common.{◌≡◌, ◌≤◌, ◌<◌, ◌+◌, ◌-◌, length, true}
-use Rattle.x7_header.specs.Header.{EndsInHeader}
+use Rattle.x7_header.specs.Header.{EndsInHeader, longest_header}
 use Rattle.x7_words.specs.Input.{Stays, preceded}
 use Rattle.x7_forms.specs.Known.{stream_limit}
-use Rattle.x7_forms.specs.Turn.{longest_header, turn_bytes}
+use Rattle.x7_forms.specs.Turn.{turn_bytes}
 use Rattle.x7_forms.proofs.beginning.read_beginning.Given as goal
 
 abbrev pub invariant-loop-turn : goal.invariant-loop-turn

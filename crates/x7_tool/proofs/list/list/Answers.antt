@@ -7,7 +7,7 @@ use Rattle.x7_words.proofs.InputLemmas.{few_once, once_on, stays_on}
 use Rattle.x7_words.proofs.CountLemmas.{risen_from}
 use Rattle.x7_listing.specs.Listing.{listing_of}
 use Rattle.x7_listing.specs.StreamListing.{stream_listing}
-use Rattle.x7_forms.specs.Event.{no_memory, status_of, write_fault}
+use Rattle.x7_forms.specs.Event.{no_memory, status_of_event, writing_failed}
 use Rattle.x7_forms.specs.Message.{event_of}
 use Rattle.x7_forms.specs.Known.{stream_limit, with_inputs}
 use Rattle.x7_forms.specs.Step.{CameIn, step_over}
@@ -89,10 +89,10 @@ returns-in-Err-put_beginning g c = λ before after.
     let r = event_of c.in-Err-put_beginning.refusal in
     let flash = before.flash.bytes in
     let on : (left : List ℕ) → stream_listing (taken ++ left) ≡ Ok (line ++ listing_of (sent ++ left)) = λ left. goes left (λ l. let never : false ≡ true = sym c.if-beginning.false ∙ l in absurd cc) in
-    let end : (r ≡ no_memory) ⊎ ((r ≡ write_fault) × SinkFails (o.state c.args.out.now) (o.state c.put_beginning.new.out)) → Ended (with_inputs contents flash) C stream Full old now (Err r)
+    let end : (r ≡ no_memory) ⊎ ((r ≡ writing_failed) × SinkFails (o.state c.args.out.now) (o.state c.put_beginning.new.out)) → Ended (with_inputs contents flash) C stream Full old now (Err r)
     = elim [
       | inl h ↦ ends_same (with_inputs contents flash) C stream Full old now r no_memory h (out_of_memory contents flash C stream taken rest Full old now sel (prefix_so_far taken line sent old now c.put_beginning.ensures.fits on c.in-Err-put_beginning.ensures.err))
-      | inr h ↦ ends_same (with_inputs contents flash) C stream Full old now r write_fault h.0 (prefix_failed contents flash C stream taken line sent rest last Full old now sel f.end h.1 c.put_beginning.ensures.fits goes c.in-Err-put_beginning.ensures.err)
+      | inr h ↦ ends_same (with_inputs contents flash) C stream Full old now r writing_failed h.0 (prefix_failed contents flash C stream taken line sent rest last Full old now sel f.end h.1 c.put_beginning.ensures.fits goes c.in-Err-put_beginning.ensures.err)
     ] in
     let put = c.in-Err-put_beginning.ensures.err [] (subst AreBytes (sym (append-nil _)) c.put_beginning.ensures.fits) in
     let longer = longer_prefix old now _ put in
@@ -136,20 +136,20 @@ returns-then-beginning g c = λ before after.
     let first = record before { inputs = i.state c.args.inputs.now; out = o.state c.args.out.now } in
     let later = record after { inputs = i.state c.read_beginning.new.inputs; out = o.state c.put_short.new.out } in
     let ok = on_ok_weaker c.put_short.result (λ h. (text, listed_whole contents flash C stream taken text rest Full old now sel end same (omega (arith, f.few)) h)) c.put_short.ensures.ok in
-    let Why : Refusal → Type 0 = λ r. ((event_of r ≡ no_memory) × (now ≡ old)) ⊎ ((event_of r ≡ write_fault) × Full) in
+    let Why : Refusal → Type 0 = λ r. ((event_of r ≡ no_memory) × (now ≡ old)) ⊎ ((event_of r ≡ writing_failed) × Full) in
     let err = both_err c.put_short.result (λ r. PutsPrefix old text now) Why (λ r. Ended (with_inputs contents flash) C stream Full old now (Err (event_of r)))
     (λ r p w.
-    let by : ((event_of r ≡ no_memory) × (now ≡ old)) ⊎ ((event_of r ≡ write_fault) × Full) → Ended (with_inputs contents flash) C stream Full old now (Err (event_of r))
+    let by : ((event_of r ≡ no_memory) × (now ≡ old)) ⊎ ((event_of r ≡ writing_failed) × Full) → Ended (with_inputs contents flash) C stream Full old now (Err (event_of r))
     = elim [
       | inl h ↦
           let none : ListsSoFar [] old now = subst (λ (x : Option (List ℕ)). ListsSoFar [] old x) (sym h.1) (nothing_put old) in
           let opened = nothing_taken contents stream (i.state c.open.new.inputs).rest c.in-Ok.ensures.ok.found in
           ends_same (with_inputs contents flash) C stream Full old now (event_of r) no_memory h.0 (out_of_memory contents flash C stream [] (i.state c.open.new.inputs).rest Full old now opened none)
-      | inr h ↦ ends_same (with_inputs contents flash) C stream Full old now (event_of r) write_fault h.0 (end_failed contents flash C stream taken rest Full old now sel end h.1 (text, (same, p)))
+      | inr h ↦ ends_same (with_inputs contents flash) C stream Full old now (event_of r) writing_failed h.0 (end_failed contents flash C stream taken rest Full old now sel end h.1 (text, (same, p)))
     ] in
     by w)
     c.put_short.ensures.err c.put_short.ensures.why in
-    let near = both_err c.put_short.result (λ r. PutsPrefix old text now) Why (λ r. StaysNear (status_of (event_of r)) (Some (Listing stream)) first later)
+    let near = both_err c.put_short.result (λ r. PutsPrefix old text now) Why (λ r. StaysNear (status_of_event (event_of r)) (Some (Listing stream)) first later)
     (λ r p w.
     let longer = longer_prefix old now text p in
     let few : given ≤ longest_beginning = omega (arith, c.open.ensures.asks.given, c.read_beginning.ensures.short) in
@@ -205,7 +205,7 @@ returns-in-Err-put_turn g c = λ before after.
     let Full : Type 0 = SinkFails (o.state c.args.out.now) (o.state c.put_turn.new.out) in
     let r = event_of c.in-Err-put_turn.refusal in
     let flash = before.flash.bytes in
-    let end : ((r ≡ no_memory) × (now ≡ (o.state c.loop-turn.out).written)) ⊎ ((r ≡ write_fault) × SinkFails (o.state c.loop-turn.out) (o.state c.put_turn.new.out)) → Ended (with_inputs contents flash) C stream Full old now (Err r)
+    let end : ((r ≡ no_memory) × (now ≡ (o.state c.loop-turn.out).written)) ⊎ ((r ≡ writing_failed) × SinkFails (o.state c.loop-turn.out) (o.state c.put_turn.new.out)) → Ended (with_inputs contents flash) C stream Full old now (Err r)
     = elim [
       | inl h ↦
           let front2 : ListsSoFar taken old now = subst (λ (w : Option (List ℕ)). ListsSoFar taken old w) (sym h.1) (stream_so_far c.loop-turn.lister old (o.state c.loop-turn.out).written taken t) in
@@ -214,7 +214,7 @@ returns-in-Err-put_turn g c = λ before after.
           let risen = risen_from (o.state c.args.out.now).faults (o.state c.loop-turn.out).faults (o.state c.put_turn.new.out).faults v.written h.1 in
           let err : (left : List ℕ) → AreBytes (t.sent ++ (piece ++ left)) → PutsPrefix (appended old t.line) (listing_of (t.sent ++ (piece ++ left))) now
           = λ left fits. c.in-Err-put_turn.ensures.err (appended old t.line) t.sent left t.lists fits in
-          ends_same (with_inputs contents flash) C stream Full old now r write_fault h.0
+          ends_same (with_inputs contents flash) C stream Full old now r writing_failed h.0
           (write_failed contents flash C stream taken piece piece c.loop-turn.lister (i.state c.next_turn.new.inputs).rest Full old (o.state c.loop-turn.out).written now refl sel risen t c.put_turn.ensures.fits err)
     ] in
     let n = c.in-Ok-next_turn.turn.count in
@@ -261,18 +261,18 @@ returns-then-turn g c = λ before after.
     let mid = (o.state c.put_turn.new.out).written in
     let told : ListsStream c.put_turn.new.lister old mid (taken ++ piece) = record { line = t.line; sent = t.sent ++ piece; lists = lists; goes = goes; close = omega (arith, t.close, length-append taken piece, length-append t.sent piece) } in
     let err = both_err c.put_end.result (λ r. (first : Option (List ℕ)) (bytes : List ℕ) → Lists c.put_turn.new.lister first mid bytes → PutsPrefix first (listing_of bytes) now)
-    (λ r. ((event_of r ≡ no_memory) × (now ≡ mid)) ⊎ ((event_of r ≡ write_fault) × SinkFails (o.state c.put_turn.new.out) (o.state c.put_end.new.out)))
+    (λ r. ((event_of r ≡ no_memory) × (now ≡ mid)) ⊎ ((event_of r ≡ writing_failed) × SinkFails (o.state c.put_turn.new.out) (o.state c.put_end.new.out)))
     (λ r. Ended (with_inputs contents flash) C stream Full old now (Err (event_of r)))
     (λ r p w.
     let front : PutsListed (taken ++ piece) old now = (text, (same, line_prefix old now t.line (listing_of (t.sent ++ piece)) (p (appended old t.line) (t.sent ++ piece) lists))) in
-    let end : ((event_of r ≡ no_memory) × (now ≡ mid)) ⊎ ((event_of r ≡ write_fault) × SinkFails (o.state c.put_turn.new.out) (o.state c.put_end.new.out)) → Ended (with_inputs contents flash) C stream Full old now (Err (event_of r))
+    let end : ((event_of r ≡ no_memory) × (now ≡ mid)) ⊎ ((event_of r ≡ writing_failed) × SinkFails (o.state c.put_turn.new.out) (o.state c.put_end.new.out)) → Ended (with_inputs contents flash) C stream Full old now (Err (event_of r))
     = elim [
       | inl h ↦
           let so_far : ListsSoFar (taken ++ piece) old now = subst (λ (x : Option (List ℕ)). ListsSoFar (taken ++ piece) old x) (sym h.1) (stream_so_far c.put_turn.new.lister old mid (taken ++ piece) told) in
           ends_same (with_inputs contents flash) C stream Full old now (event_of r) no_memory h.0 (out_of_memory contents flash C stream (taken ++ piece) (i.state c.next_turn.new.inputs).rest Full old now sel so_far)
       | inr h ↦
           let risen = risen_from (o.state c.args.out.now).faults (o.state c.put_turn.new.out).faults (o.state c.put_end.new.out).faults (omega (arith, v.written, c.put_turn.ensures.counts.faults)) h.1 in
-          ends_same (with_inputs contents flash) C stream Full old now (event_of r) write_fault h.0 (end_failed contents flash C stream (taken ++ piece) (i.state c.next_turn.new.inputs).rest Full old now sel (c.in-Ok-next_turn.ensures.end c.if-turn.true) risen front)
+          ends_same (with_inputs contents flash) C stream Full old now (event_of r) writing_failed h.0 (end_failed contents flash C stream (taken ++ piece) (i.state c.next_turn.new.inputs).rest Full old now sel (c.in-Ok-next_turn.ensures.end c.if-turn.true) risen front)
     ] in
     end w)
     c.put_end.ensures.err c.put_end.ensures.why in
