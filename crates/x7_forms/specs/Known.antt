@@ -63,6 +63,7 @@ taken_whole name limit (Held bytes) = within name limit bytes
 taken_whole name limit Absent = Err (missing name)
 taken_whole name limit (Broken bytes) = and_so (within name limit bytes) (λ _. Err (reading_failed name))
 
+-- the input of this name, where it is known: its bytes, if it has no more than `limit` of them, or the event of one that isn't read
 abbrev pub whole_in : Known → ℕ → List ℕ → Result (List ℕ) Event
 whole_in known limit name = taken_whole name limit (known.inputs name)
 
@@ -77,6 +78,7 @@ abbrev pub part_by : List ℕ → Result PartData PartFault → Result PartData 
 part_by name (Ok part) = Ok part
 part_by name (Err fault) = Err (bad_part name fault)
 
+-- the part of the part file of this name, where that is known, or the event of one that gives none
 abbrev pub part_of : Known → List ℕ → Result PartData Event
 part_of known name = and_so (whole_in known part_limit name) (λ text. part_by name (part_in text))
 
@@ -118,6 +120,7 @@ flash_found (Some bytes) = Some (Held bytes)
 abbrev pub known_of : (List ℕ → Option (List ℕ)) → Option (List ℕ) → Known
 known_of inputs flash = record { inputs = λ name. found (inputs name); flash = λ name. flash_found flash }
 
+-- what is known where the inputs are, of them and of the flash; nothing where the inputs aren't known
 abbrev pub with_inputs : Option (List ℕ → Option (List ℕ)) → Option (List ℕ) → Option Known
 with_inputs None flash = None
 with_inputs (Some inputs) flash = Some (known_of inputs flash)
@@ -145,6 +148,7 @@ broken_at given (Held bytes) = Broken (take given bytes)
 broken_at given Absent = Broken []
 broken_at given (Broken bytes) = Broken (take given bytes)
 
+-- what is found under a name after a mishap of that name
 abbrev pub spoiled : Mishap → Found → Found
 spoiled (Failing name given) old = broken_at given old
 spoiled (Lacking name) old = Absent

@@ -37,6 +37,7 @@ pub record InputStep : Type 0 where
   pub before : InputsState
   pub after : InputsState
 
+-- the step over inputs that may ask for these names
 abbrev pub step_over : List (List ℕ) → InputsState → InputsState → InputStep
 step_over names before after = record { names = names; before = before; after = after }
 
@@ -73,6 +74,7 @@ DecidedBy Absence = Unit {0}
 DecidedBy Contents = Unit {0}
 DecidedBy _ = ⊥
 
+-- the result is a value, or an event that known contents may decide
 abbrev pub IsDecided : {A : Type 0} → Result A Event → Type 0
 IsDecided (Ok a) = Unit {0}
 IsDecided (Err event) = DecidedBy (cause_of_event event)
@@ -82,6 +84,7 @@ abbrev pub PossibleBy : Cause → Type 0
 PossibleBy Contents = Unit {0}
 PossibleBy _ = ⊥
 
+-- the result is a value, or an event that contents which aren't known may come to
 abbrev pub IsPossible : {A : Type 0} → Result A Event → Type 0
 IsPossible (Ok a) = Unit {0}
 IsPossible (Err event) = PossibleBy (cause_of_event event)

@@ -173,6 +173,7 @@ PlannedRead name far n (Ok part) (Err event) = (fault : PlanFault) × IsReadFaul
 abbrev pub gen_answer : PartData → ℕ → Answer
 gen_answer part seed = record { stopped = false; text = gen_text part seed }
 
+-- `gen PART SEED` over known inputs: the summary, or why there is no part
 abbrev pub gen_made : Known → List ℕ → ℕ → Result Answer Event
 gen_made known part seed = and_so (part_of known part) (λ p. Ok (gen_answer p seed))
 
@@ -194,6 +195,7 @@ pub record DebugInputs : Type 0 where
   pub stream : List ℕ
   pub script : List ℕ
 
+-- the inputs of a debugging are read in the order of its words
 abbrev pub debug_inputs : Known → List ℕ → List ℕ → List ℕ → Result DebugInputs Event
 debug_inputs known part stream script =
     and_so (part_of known part) (λ p. and_so (stream_data known stream) (λ bytes. and_so (whole_in known script_limit script) (λ text. Ok (record { part = p; stream = bytes; script = text }))))
