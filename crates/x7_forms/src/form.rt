@@ -226,14 +226,11 @@ fn plan_read_form(names: &[String]) -> Option<Form<'_>>
     let [part, far, n] = names else {
         return None;
     };
-    match (word_in(far.as_str()), number_in(n.as_str())) {
-        (Some(far), Some(n)) => Some(Form::PlanRead {
-            part: part.as_str(),
-            far,
-            n,
-        }),
-        _ => None,
-    }
+    Some(Form::PlanRead {
+        part: part.as_str(),
+        far: word_in(far.as_str())?,
+        n: number_in(n.as_str())?,
+    })
 }
 
 /// `gen PART SEED`.
@@ -243,13 +240,10 @@ fn gen_form(names: &[String]) -> Option<Form<'_>>
     let [part, seed] = names else {
         return None;
     };
-    match number_in(seed.as_str()) {
-        Some(seed) => Some(Form::Gen {
-            part: part.as_str(),
-            seed,
-        }),
-        None => None,
-    }
+    Some(Form::Gen {
+        part: part.as_str(),
+        seed: number_in(seed.as_str())?,
+    })
 }
 
 /// `plan ..`, by the second word.

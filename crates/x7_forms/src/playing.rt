@@ -49,10 +49,7 @@ pub fn read_part<'w, I: Inputs>(
     ensures once { AsksFew (I.state inputs.old) 1 (I.state inputs.new) }
     ensures inputs { Stays (I.state inputs.old) (I.state inputs.new) }
 {
-    let text = match read_whole(alloc, inputs, name, PART_LIMIT) {
-        Ok(text) => text,
-        Err(refusal) => return Err(refusal),
-    };
+    let text = read_whole(alloc, inputs, name, PART_LIMIT)?;
     match part_of(alloc, &text) {
         Ok(part) => Ok(part),
         Err(fault) => Err(refusal_of(name, fault)),
@@ -85,10 +82,7 @@ fn play_rest<'w, I: Inputs>(
     }
     let mut left = limit;
     loop {
-        let turn = match next_turn(inputs, name, left, piece) {
-            Ok(turn) => turn,
-            Err(refusal) => return Err(refusal),
-        };
+        let turn = next_turn(inputs, name, left, piece)?;
         if player.play(&piece[..turn.count]).is_err() {
             return Err(Refusal::unnamed(Why::NoMemory));
         }
@@ -118,14 +112,8 @@ fn play_stream<'w, I: Inputs>(
     ensures length { length piece.new ≡ length piece.old }
     ensures inputs { Stays (I.state inputs.old) (I.state inputs.new) }
 {
-    match open(inputs, name) {
-        Ok(()) => (),
-        Err(refusal) => return Err(refusal),
-    }
-    let first = match next_turn(inputs, name, limit, piece) {
-        Ok(turn) => turn,
-        Err(refusal) => return Err(refusal),
-    };
+    open(inputs, name)?;
+    let first = next_turn(inputs, name, limit, piece)?;
     let left = limit - first.count;
     match data_start(name, &piece[..first.count]) {
         Ok(start) => {
@@ -134,10 +122,10 @@ fn play_stream<'w, I: Inputs>(
             }
             play_rest(player, inputs, name, left, first.last, piece)
         }
-        Err(refusal) => match skip_rest(inputs, name, left, first.last, piece) {
-            Ok(()) => Err(refusal),
-            Err(earlier) => Err(earlier),
-        },
+        Err(refusal) => {
+            skip_rest(inputs, name, left, first.last, piece)?;
+            Err(refusal)
+        }
     }
 }
 
@@ -165,10 +153,7 @@ pub fn play_streams<'w, I: Inputs>(
     };
     let mut left = STREAM_LIMIT;
     for name in streams {
-        left = match play_stream(&mut player, inputs, name.as_str(), left, &mut piece) {
-            Ok(left) => left,
-            Err(refusal) => return Err(refusal),
-        };
+        left = play_stream(&mut player, inputs, name.as_str(), left, &mut piece)?;
     }
     Ok(player)
 }

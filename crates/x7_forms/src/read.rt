@@ -122,10 +122,7 @@ pub fn next_turn<'w, I: Inputs>(
     ensures inputs { Stays (I.state inputs.old) (I.state inputs.new) }
 {
     let most = turn_len(left, buf.len());
-    let count = match fill(inputs, name, &mut buf[..most]) {
-        Ok(count) => count,
-        Err(refusal) => return Err(refusal),
-    };
+    let count = fill(inputs, name, &mut buf[..most])?;
     if count > left {
         return Err(Refusal {
             reason: Why::TooLarge,
@@ -155,10 +152,7 @@ fn read_rest<'w, I: Inputs>(
     let mut piece = [0u8; TURN];
     let mut left = limit;
     loop {
-        let turn = match next_turn(inputs, name, left, &mut piece) {
-            Ok(turn) => turn,
-            Err(refusal) => return Err(refusal),
-        };
+        let turn = next_turn(inputs, name, left, &mut piece)?;
         match onto.extend_from_slice(&piece[..turn.count]) {
             Ok(()) => (),
             Err(_) => return Err(Refusal::unnamed(Why::NoMemory)),
@@ -184,15 +178,10 @@ pub fn read_whole<'w, I: Inputs>(
     ensures once { AsksFew (I.state inputs.old) 1 (I.state inputs.new) }
     ensures inputs { Stays (I.state inputs.old) (I.state inputs.new) }
 {
-    match open(inputs, name) {
-        Ok(()) => (),
-        Err(refusal) => return Err(refusal),
-    }
+    open(inputs, name)?;
     let mut whole = Vec::new(alloc);
-    match read_rest(inputs, name, limit, &mut whole) {
-        Ok(()) => Ok(whole),
-        Err(refusal) => Err(refusal),
-    }
+    read_rest(inputs, name, limit, &mut whole)?;
+    Ok(whole)
 }
 
 /// Reads the rest of the open input to its end, of which `limit` bytes are within the limit; after the last turn there is
@@ -219,10 +208,7 @@ pub(crate) fn skip_rest<'w, I: Inputs>(
     }
     let mut left = limit;
     loop {
-        let turn = match next_turn(inputs, name, left, buf) {
-            Ok(turn) => turn,
-            Err(refusal) => return Err(refusal),
-        };
+        let turn = next_turn(inputs, name, left, buf)?;
         left -= turn.count;
         if turn.last {
             return Ok(());

@@ -8,7 +8,7 @@ use crate::bad_part::say_bad_part;
 use crate::status::Status;
 use itoa::Buffer;
 use x7_part::PartFault;
-use x7_words::{Failed, Sink, write_pieces};
+use x7_words::{Failed, NoMemory, Sink, write_pieces};
 
 /// Why a command has no whole text. Each reason has one status and one message.
 #[derive(Clone, Copy, Debug, Drop, PartialEq, Eq)]
@@ -129,5 +129,17 @@ impl<'w> Refusal<'w> {
     {
         let _ = self.say(err);
         self.reason.status()
+    }
+}
+
+/// Want of memory concerns no input.
+impl<'w> From<NoMemory> for Refusal<'w> {
+    ghost use Rattle.x7_forms.specs.Event.{no_memory};
+    ghost use Rattle.x7_forms.specs.Message.{event_of};
+
+    ghost from_gives = { λ _ refusal. event_of refusal ≡ no_memory };
+
+    fn from(_: NoMemory) -> Refusal<'w> {
+        Refusal::unnamed(Why::NoMemory)
     }
 }
