@@ -4,7 +4,7 @@ use Rattle.std.specs.Prelude.{IsTrue}
 use Rattle.x7_words.specs.Count.{HasRisen}
 use Rattle.x7_words.specs.Flash.{AsksFor, FlashFails, FlashState, FlashStays, OnlyReads, Unattached, Unwritten}
 use Rattle.x7_words.specs.Input.{InputsState}
-use Rattle.x7_update.proofs.OpenLineLemmas.{moments_none, only_read}
+use Rattle.x7_update.proofs.KnownLemmas.{moments_none, only_read}
 use Rattle.x7_words.specs.declared.input.SelectFault.{SelectFault}
 use Rattle.x7_words.specs.declared.input.SelectFault.TheVariants.{Missing, Failed}
 use Rattle.x7_part.specs.Part.{PartData}

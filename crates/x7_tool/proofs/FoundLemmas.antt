@@ -4,7 +4,7 @@ use Rattle.x7_words.specs.Flash.{FlashState, IfKnown}
 use Rattle.x7_words.specs.Input.{InputsState}
 use Rattle.x7_boot.specs.Boot.{BootedState, IsBoot}
 use Rattle.x7_update.specs.After.{MayBeLeft, untouched}
-use Rattle.x7_update.proofs.OpenLineLemmas.{known_at, known_map}
+use Rattle.x7_update.proofs.KnownLemmas.{known_at, known_map}
 use Rattle.x7_recovery.specs.Golden.{BootsAlike, UpdatingAny}
 use Rattle.x7_recovery.proofs.GoldenLemmas.{found_alike}
 use Rattle.x7_forms.specs.Event.{Event}

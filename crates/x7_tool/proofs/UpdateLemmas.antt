@@ -16,7 +16,7 @@ use Rattle.x7_update.specs.Refused.{CanTake, HasCause, IsEarly, IsTooLong, NoLay
 use Rattle.x7_update.specs.Writing.{AtAnyMoment, Becomes, BecomesBytes, OnlyUses}
 use Rattle.x7_update.specs.declared.fault.UpdateFault.{UpdateFault}
 use Rattle.x7_update.specs.declared.fault.UpdateFault.TheVariants.{Differs, Failed, NoLayout, NoMemory, TooLong}
-use Rattle.x7_update.proofs.OpenLineLemmas.{moments_weaker, only_read, read_moments}
+use Rattle.x7_update.proofs.KnownLemmas.{moments_weaker, only_read, read_moments}
 use Rattle.x7_forms.specs.declared.bad_input.InputFault.TheVariants as input
 use Rattle.x7_forms.specs.declared.refusal.Why.{Why}
 use Rattle.x7_forms.specs.declared.refusal.Why.TheVariants as why
