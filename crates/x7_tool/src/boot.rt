@@ -75,10 +75,7 @@ fn text_of<'w>(alloc: Global, booted: Booted) -> Result<PlayText, Refusal<'w>>
     ensures ok { IfOk result (λ text. (part : PartData) (flash : List ℕ) → IsBoot part flash booted → NoWordDue booted.device → IsBootText part flash (text_of_play text)) }
     ensures err { IfErr result (λ r. event_of r ≡ no_memory) }
 {
-    match ready_text(alloc, booted) {
-        Ok(text) => Ok(text),
-        Err(_) => Err(Refusal::unnamed(Why::NoMemory)),
-    }
+    Ok(ready_text(alloc, booted)?)
 }
 
 /// Why a boot came to no end.
@@ -110,10 +107,7 @@ fn boot_from<'w, F: Flash>(
     ensures reads { ReadsFlash name.now (F.state flash.old) (F.state flash.new) }
     ensures unwritten { Unwritten (F.state flash.old) (F.state flash.new) (F.found_since flash.old) (F.found_since flash.new) }
 {
-    match attach(flash, name) {
-        Ok(()) => (),
-        Err(refusal) => return Err(refusal),
-    }
+    attach(flash, name)?;
     match x7_boot::boot(alloc, part, flash) {
         Ok(booted) => text_of(alloc, booted),
         Err(fault) => Err(refusal_of(name, fault)),
@@ -133,8 +127,6 @@ pub(crate) fn boot<'w, I: Inputs, F: Flash>(
     ensures reads { ReadsFlash name.now (F.state flash.old) (F.state flash.new) }
     ensures unwritten { Unwritten (F.state flash.old) (F.state flash.new) (F.found_since flash.old) (F.found_since flash.new) }
 {
-    match read_part(alloc, inputs, part) {
-        Ok(part) => boot_from(alloc, &part, flash, name),
-        Err(refusal) => Err(refusal),
-    }
+    let part = read_part(alloc, inputs, part)?;
+    boot_from(alloc, &part, flash, name)
 }

@@ -111,36 +111,21 @@ pub(crate) fn list<'w, I: Inputs, O: Sink>(
 ) -> Result<(), Refusal<'w>>
     ensures { AnsweredListing stream.now (transfer (I.state inputs.old) (O.state out.old)) (transfer (I.state inputs.new) (O.state out.new)) (seen (λ _. false) result) }
 {
-    match open(inputs, stream) {
-        Ok(()) => (),
-        Err(refusal) => return Err(refusal),
-    }
-    let beginning = match read_beginning(alloc, inputs, stream) {
-        Ok(beginning) => beginning,
-        Err(refusal) => return Err(refusal),
-    };
+    open(inputs, stream)?;
+    let beginning = read_beginning(alloc, inputs, stream)?;
     let mut lister = Lister::new(alloc);
     let line: &[u8] = &beginning.line;
     let content = &beginning.bytes[beginning.start..];
     if beginning.last {
         return put_short(&mut lister, out, line, content);
     }
-    match put_beginning(&mut lister, out, line, content) {
-        Ok(()) => (),
-        Err(refusal) => return Err(refusal),
-    }
+    put_beginning(&mut lister, out, line, content)?;
     let mut piece = [0u8; TURN];
     let mut left = STREAM_LIMIT - beginning.bytes.len();
     loop {
-        let turn = match next_turn(inputs, stream, left, &mut piece) {
-            Ok(turn) => turn,
-            Err(refusal) => return Err(refusal),
-        };
+        let turn = next_turn(inputs, stream, left, &mut piece)?;
         let bytes = &piece[..turn.count];
-        match put_turn(&mut lister, out, bytes) {
-            Ok(()) => (),
-            Err(refusal) => return Err(refusal),
-        }
+        put_turn(&mut lister, out, bytes)?;
         left -= turn.count;
         if turn.last {
             return put_end(&mut lister, out);
