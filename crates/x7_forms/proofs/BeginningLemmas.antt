@@ -9,7 +9,7 @@ use Rattle.x7_words.specs.Word.{AreBytes}
 use Rattle.x7_words.proofs.CountLemmas.{risen_from}
 use Rattle.x7_words.proofs.InputLemmas.{preceded_preceded}
 use Rattle.x7_words.proofs.ListLemmas.{shorter_prefix}
-use Rattle.x7_header.specs.Header.{Contents, EndsInHeader, contents_in_order, fixed_bytes, HasOtherLetter, HasOtherLetterAt, HaveHeader, fields_bytes, header_bytes, layout}
+use Rattle.x7_header.specs.Header.{Contents, EndsInHeader, contents_in_order, fixed_bytes, HasOtherLetter, HasOtherLetterAt, HaveHeader, fields_bytes, header_bytes, layout, longest_header}
 use Rattle.x7_header.specs.Reading.{HeaderWaits, header_at}
 use Rattle.x7_header.specs.declared.fault.HeaderFault.{HeaderFault}
 use Rattle.x7_header.specs.declared.fault.HeaderFault.TheVariants as header
@@ -19,9 +19,9 @@ use Rattle.x7_listing.specs.BitLine.{bit_text}
 use Rattle.x7_listing.specs.Listing.{listing_of}
 use Rattle.x7_listing.specs.StreamListing.{listing_by, stream_listing}
 use Rattle.x7_listing.proofs.BitLemmas.{header_limit}
-use Rattle.x7_forms.specs.Event.{Event, read_fault, too_large}
+use Rattle.x7_forms.specs.Event.{Event, reading_failed, too_large}
 use Rattle.x7_forms.specs.Known.{stream_limit}
-use Rattle.x7_forms.specs.Turn.{BeginAt, ReadsBeginning, HoldsFew, IsBeginning, IsRefused, NoLetterGiven, Reads, RefusedAt, UnreadBeginning, Unread, longest_header, turn_bytes}
+use Rattle.x7_forms.specs.Turn.{BeginAt, ReadsBeginning, HoldsFew, IsBeginning, IsRefused, NoLetterGiven, Reads, RefusedAt, UnreadBeginning, Unread, turn_bytes}
 use Rattle.x7_forms.proofs.HeadLemmas.{gives_self}
 use Rattle.x7_forms.proofs.ReadLemmas.{reads_as, reads_on}
 
@@ -293,7 +293,7 @@ beginning_read old mid piece bytes line n start last s0 s1 s2 p a b r t q k e mo
     })
 
 -- a turn that was not read, before the header was judged
-pub unread_turn : (old mid new : InputsState) (name bytes : List ℕ) (left : ℕ) (event : Event) → Reads old bytes mid → length bytes + left ≡ stream_limit → new.asked ≡ mid.asked → (event ≡ too_large name → ⊥) → (event ≡ read_fault name → NoLetterGiven old new) → Unread mid name new left event → UnreadBeginning old name new event
+pub unread_turn : (old mid new : InputsState) (name bytes : List ℕ) (left : ℕ) (event : Event) → Reads old bytes mid → length bytes + left ≡ stream_limit → new.asked ≡ mid.asked → (event ≡ too_large name → ⊥) → (event ≡ reading_failed name → NoLetterGiven old new) → Unread mid name new left event → UnreadBeginning old name new event
 unread_turn old mid new name bytes left event r n q small late (inl h) =
     inr (inl (h.0, record { risen = risen_from old.faults mid.faults new.faults r.stays.faults h.1.risen; selected = h.1.selected; given = omega (arith, n, r.takes.given, h.1.given) }, q ∙ r.asked, late h.0))
 unread_turn old mid new name bytes left event r n q small late (inr h) = absurd (small h.0)

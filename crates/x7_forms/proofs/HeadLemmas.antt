@@ -8,13 +8,12 @@ use Rattle.std.proofs.lemmas.List.{drop-append-le, take-append-le}
 use Rattle.std.proofs.lemmas.Slice.Eq.{starts_is}
 use Rattle.x7_words.specs.Word.{AreBytes}
 use Rattle.x7_words.proofs.ListLemmas.{all_append}
-use Rattle.x7_header.specs.Header.{Contents, EndsInHeader, HasOtherLetterAt, fields_bytes, fixed_bytes, header_bytes}
+use Rattle.x7_header.specs.Header.{Contents, EndsInHeader, HasOtherLetterAt, fields_bytes, fixed_bytes, header_bytes, longest_header}
 use Rattle.x7_header.specs.Reading.{ReturnsAs, header_at}
 use Rattle.x7_header.specs.declared.fault.HeaderFault.{HeaderFault}
 use Rattle.x7_header.specs.declared.fault.HeaderFault.TheVariants as header
 use Rattle.x7_header.proofs.CutLemmas.{is_cut}
 use Rattle.x7_header.proofs.HeaderLemmas.{field_at_place, header_again, header_refused, header_takes, is_short, raw_at}
-use Rattle.x7_forms.specs.Turn.{longest_header}
 use Rattle.x7_forms.specs.Event.{Event}
 use Rattle.x7_forms.specs.Known.{and_so, data_by, data_in}
 

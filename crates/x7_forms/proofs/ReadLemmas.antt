@@ -11,16 +11,16 @@ use Rattle.x7_words.specs.Input.{Lacks as MapLacks}
 use Rattle.x7_words.specs.Word.{AreBytes}
 use Rattle.x7_words.proofs.CountLemmas.{risen_from}
 use Rattle.x7_words.proofs.InputLemmas.{preceded_preceded, stays_at, stays_on, takes_none, takes_on}
-use Rattle.x7_header.specs.Header.{Contents}
+use Rattle.x7_header.specs.Header.{Contents, longest_header}
 use Rattle.x7_header.specs.Reading.{header_at}
 use Rattle.x7_header.specs.declared.fault.HeaderFault.{HeaderFault}
 use Rattle.x7_header.specs.declared.fault.HeaderFault.TheVariants as header
 use Rattle.x7_part.specs.Part.{PartData}
 use Rattle.x7_part.specs.PartFile.{part_in}
 use Rattle.x7_forms.specs.declared.bad_input.InputFault.TheVariants as input
-use Rattle.x7_forms.specs.Event.{Event, bad_input, missing, no_memory, read_fault, too_large}
+use Rattle.x7_forms.specs.Event.{Event, bad_input, missing, no_memory, reading_failed, too_large}
 use Rattle.x7_forms.specs.Known.{Absent, Broken, Failing, Found, Held, Known, Lacking, Mishap, StreamRead, and_so, broken_at, data_by, data_in, data_of, found, known_of, mishap_event, part_by, part_limit, part_of, put_before, read_of, spoiled, spoiled_name, taken_whole, whole_in, with_inputs, with_mishap}
-use Rattle.x7_forms.specs.Turn.{Breaks, IsAt, Reads, Unopened, Unread, UnreadRest, longest_header}
+use Rattle.x7_forms.specs.Turn.{Breaks, IsAt, Reads, Unopened, Unread, UnreadRest}
 use Rattle.x7_forms.proofs.HeadLemmas.{data_more}
 use Rattle.x7_forms.specs.Step.{Among, AnswersAs, AnswersBy, CameIn, DueBy, FailsAmong, IsCaused, IsCausedBy, IsDecided, IsDue, IsFromOutside, IsNoPart, IsOneUnplayed, IsPossible, IsUnplayed, IsUnread, LacksAmong, step_over}
 use Rattle.x7_part.specs.declared.fault.PartFault.{PartFault}
@@ -56,19 +56,19 @@ pub name_is : (a : List ℕ) → bytes_eq a a ≡ true
 name_is a = grind (arith, bytes_eq-Decides a a)
 
 -- the first bytes of an input that is within its limit, and then a fault
-broken_within : (name bytes a : List ℕ) (limit given : ℕ) (b : Bool) → nat_lt limit (length bytes) ≡ b → (if b then Err (too_large name) else Ok bytes) ≡ Ok a → taken_whole name limit (Broken (take given bytes)) ≡ Err (read_fault name)
+broken_within : (name bytes a : List ℕ) (limit given : ℕ) (b : Bool) → nat_lt limit (length bytes) ≡ b → (if b then Err (too_large name) else Ok bytes) ≡ Ok a → taken_whole name limit (Broken (take given bytes)) ≡ Err (reading_failed name)
 broken_within name bytes a limit given true e h = absurd (cc)
 broken_within name bytes a limit given false e h =
     let short : nat_lt limit (length (take given bytes)) ≡ false = grind (arith, nat_tests, e, length-take given bytes) in
     rw short refl
 
-never_ok : (name bytes a : List ℕ) (b : Bool) → and_so (if b then Err (too_large name) else Ok bytes) (λ _. Err (read_fault name)) ≡ Ok a → ⊥
+never_ok : (name bytes a : List ℕ) (b : Bool) → and_so (if b then Err (too_large name) else Ok bytes) (λ _. Err (reading_failed name)) ≡ Ok a → ⊥
 never_ok name bytes a true h = absurd (cc)
 never_ok name bytes a false h = absurd (cc)
 
 spoiled_whole : (name a : List ℕ) (limit : ℕ) (m : Mishap) (i : Found) → name ≡ spoiled_name m → taken_whole name limit i ≡ Ok a → taken_whole name limit (spoiled m i) ≡ Err (mishap_event m)
 spoiled_whole name a limit (Lacking other) i e h = ap (λ (n : List ℕ). Err (missing n)) e
-spoiled_whole name a limit (Failing other given) (Held bytes) e h = broken_within name bytes a limit given (nat_lt limit (length bytes)) refl h ∙ ap (λ (n : List ℕ). Err (read_fault n)) e
+spoiled_whole name a limit (Failing other given) (Held bytes) e h = broken_within name bytes a limit given (nat_lt limit (length bytes)) refl h ∙ ap (λ (n : List ℕ). Err (reading_failed n)) e
 spoiled_whole name a limit (Failing other given) Absent e h = absurd (cc)
 spoiled_whole name a limit (Failing other given) (Broken bytes) e h = absurd (never_ok name bytes a (nat_lt limit (length bytes)) h)
 
@@ -425,12 +425,12 @@ stream_read (Some inputs) flash C name first more after mid rest limit left last
 -- ---- what ended the reading of an input
 
 -- an input that failed within its limit
-broken_by : (found : Found) (name : List ℕ) (limit given : ℕ) → given ≤ limit → taken_whole name limit (broken_at given found) ≡ Err (read_fault name)
+broken_by : (found : Found) (name : List ℕ) (limit given : ℕ) → given ≤ limit → taken_whole name limit (broken_at given found) ≡ Err (reading_failed name)
 broken_by (Held bytes) name limit given h = let short : nat_lt limit (length (take given bytes)) ≡ false = grind (arith, nat_tests, h, length-take given bytes) in rw short refl
 broken_by Absent name limit given h = let short : nat_lt limit 0 ≡ false = grind (arith, nat_tests) in rw short refl
 broken_by (Broken bytes) name limit given h = let short : nat_lt limit (length (take given bytes)) ≡ false = grind (arith, nat_tests, h, length-take given bytes) in rw short refl
 
-pub broken_due : (contents : Option (List ℕ → Option (List ℕ))) (flash : Option (List ℕ)) (name : List ℕ) (limit given : ℕ) → given ≤ limit → DueBy {A = List ℕ} (with_inputs contents flash) (Failing name given) (λ t r. whole_in t limit name ≡ r) (read_fault name)
+pub broken_due : (contents : Option (List ℕ → Option (List ℕ))) (flash : Option (List ℕ)) (name : List ℕ) (limit given : ℕ) → given ≤ limit → DueBy {A = List ℕ} (with_inputs contents flash) (Failing name given) (λ t r. whole_in t limit name ≡ r) (reading_failed name)
 broken_due None flash name limit given h = tt
 broken_due (Some inputs) flash name limit given h = let here = name_is name in rw here (broken_by (found (inputs name)) name limit given h)
 
@@ -443,8 +443,8 @@ pub asked_on : (name : List ℕ) (opened now : InputsState) → Asks name opened
 asked_on name opened now a e = subst (λ (k : Option (List ℕ)). IfSome k (λ kept. kept ≡ name)) (sym e) a.asked
 
 -- a fault of an input, or its absence, by its count
-pub fault_from : (A : Type 0) (known : Option Known) (old new : InputsState) (name : List ℕ) (Due : Known → Result A Event → Type 0) → FailsAmong (name ∷ []) old new name → DueBy {A = A} known (Failing name new.given) Due (read_fault name)
-    → IsFromOutside {A = A} known (CameIn (step_over (name ∷ []) old new)) Due (Err (read_fault name))
+pub fault_from : (A : Type 0) (known : Option Known) (old new : InputsState) (name : List ℕ) (Due : Known → Result A Event → Type 0) → FailsAmong (name ∷ []) old new name → DueBy {A = A} known (Failing name new.given) Due (reading_failed name)
+    → IsFromOutside {A = A} known (CameIn (step_over (name ∷ []) old new)) Due (Err (reading_failed name))
 fault_from A known old new name Due f d = inr (record { mishap = Failing name new.given; came = (refl, f); is = refl; due = d })
 
 pub absence_from : (A : Type 0) (known : Option Known) (old new : InputsState) (name : List ℕ) (Due : Known → Result A Event → Type 0) → LacksAmong (name ∷ []) old new name → DueBy {A = A} known (Lacking name) Due (missing name)
@@ -467,7 +467,7 @@ pub open_refused : (old new : InputsState) (flash : Option (List ℕ)) (name : L
 open_refused old new flash name limit event (inl h, s) a =
     caused_event (with_inputs old.contents flash) (CameIn (step_over (name ∷ []) old new)) (λ t. whole_in t limit name) event (missing name) h.0 (unopened_free old new flash name limit a s h.1)
 open_refused old new flash name limit event (inr h, s) a =
-    caused_event (with_inputs old.contents flash) (CameIn (step_over (name ∷ []) old new)) (λ t. whole_in t limit name) event (read_fault name) h.0
+    caused_event (with_inputs old.contents flash) (CameIn (step_over (name ∷ []) old new)) (λ t. whole_in t limit name) event (reading_failed name) h.0
     (inl (fault_from (List ℕ) (with_inputs old.contents flash) old new name (λ t r. whole_in t limit name ≡ r) (record { among = inl refl; over = record { asked = a.asked; selected = s }; risen = h.1 }) (broken_due old.contents flash name limit new.given (omega (arith, a.given)))))
 
 -- an input of which more was taken than its limit
@@ -485,7 +485,7 @@ pub whole_refused : (old opened new : InputsState) (flash : Option (List ℕ)) (
 whole_refused old opened new flash name limit event k s a (inl e) =
     caused_event (with_inputs old.contents flash) (CameIn (step_over (name ∷ []) old new)) (λ t. whole_in t limit name) event no_memory e (inl (inl refl))
 whole_refused old opened new flash name limit event k s a (inr (inl h, q)) =
-    caused_event (with_inputs old.contents flash) (CameIn (step_over (name ∷ []) old new)) (λ t. whole_in t limit name) event (read_fault name) h.0
+    caused_event (with_inputs old.contents flash) (CameIn (step_over (name ∷ []) old new)) (λ t. whole_in t limit name) event (reading_failed name) h.0
     (inl (fault_from (List ℕ) (with_inputs old.contents flash) old new name (λ t r. whole_in t limit name ≡ r)
     (record { among = inl refl; over = record { asked = asked_on name opened new a q; selected = h.1.selected }; risen = risen_from old.faults opened.faults new.faults k.faults h.1.risen })
     (broken_due old.contents flash name limit new.given (omega (arith, a.given, h.1.given)))))
@@ -512,7 +512,7 @@ pub turn_refused : (old mid new : InputsState) (flash : Option (List ℕ)) (name
     → IsCaused (with_inputs old.contents flash) (CameIn (step_over (name ∷ []) old new)) (λ t. whole_in t limit name) (Err event)
 turn_refused old mid new flash name taken limit left event k s a n (inl h) q =
     let f = at_fault old mid new name taken left k a h.1 q in
-    caused_event (with_inputs old.contents flash) (CameIn (step_over (name ∷ []) old new)) (λ t. whole_in t limit name) event (read_fault name) h.0
+    caused_event (with_inputs old.contents flash) (CameIn (step_over (name ∷ []) old new)) (λ t. whole_in t limit name) event (reading_failed name) h.0
     (inl (fault_from (List ℕ) (with_inputs old.contents flash) old new name (λ t r. whole_in t limit name ≡ r) f.0 (broken_due old.contents flash name limit new.given (omega (arith, f.1, n)))))
 turn_refused old mid new flash name taken limit left event k s a n (inr h) q =
     let piece = h.1.0 in

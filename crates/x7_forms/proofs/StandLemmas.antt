@@ -3,7 +3,7 @@ use Rattle.std.proofs.Common.{◌≡◌, ◌<◌, ◌≤◌, ◌+◌, ◌-◌, �
 use Rattle.std.specs.Prelude.{IfSome, nat_lt}
 use Rattle.x7_words.specs.Input.{Asks, AsksFew, AsksOnce, InputsState}
 use Rattle.x7_forms.specs.declared.bad_input.InputFault.TheVariants as input
-use Rattle.x7_forms.specs.Event.{Event, bad_input, bad_part, missing, no_memory, read_fault, too_large}
+use Rattle.x7_forms.specs.Event.{Event, bad_input, bad_part, missing, no_memory, reading_failed, too_large}
 use Rattle.x7_forms.specs.Known.{Absent, Broken, Found, Held, Mishap, StreamRead, and_so, bytes_found, data_in, found, read_of, taken_whole, with_inputs, within}
 use Rattle.x7_forms.specs.Step.{IsCaused, IsNoPart, IsUnplayed, IsUnread}
 use Rattle.x7_forms.specs.Stop.{IsAbout, Limited, StopsAmong, limited, limited_together, size_in, size_of}
@@ -53,7 +53,7 @@ about_by name event is e a = subst (IsAbout name) (sym e) a
 pub unread_about : (name : List ℕ) (event : Event) → IsUnread name event → IsAbout name event
 unread_about name event (inl e) = inl e
 unread_about name event (inr (inl e)) = about_same name event (missing name) e refl
-unread_about name event (inr (inr (inl e))) = about_same name event (read_fault name) e refl
+unread_about name event (inr (inr (inl e))) = about_same name event (reading_failed name) e refl
 unread_about name event (inr (inr (inr e))) = about_same name event (too_large name) e refl
 
 pub no_part_about : (name : List ℕ) (event : Event) → IsNoPart name event → IsAbout name event
@@ -66,11 +66,11 @@ unplayed_about name event (inr h) = about_same name event (bad_input name (input
 
 pub unopened_about : (old new : InputsState) (name : List ℕ) (event : Event) → Unopened old name new event → IsAbout name event
 unopened_about old new name event (inl h, d) = about_same name event (missing name) h.0 refl
-unopened_about old new name event (inr h, d) = about_same name event (read_fault name) h.0 refl
+unopened_about old new name event (inr h, d) = about_same name event (reading_failed name) h.0 refl
 
 pub unfronted_about : (old new : InputsState) (name : List ℕ) (event : Event) → UnreadBeginning old name new event → IsAbout name event
 unfronted_about old new name event (inl e) = inl e
-unfronted_about old new name event (inr (inl h)) = about_same name event (read_fault name) h.0 refl
+unfronted_about old new name event (inr (inl h)) = about_same name event (reading_failed name) h.0 refl
 unfronted_about old new name event (inr (inr h)) = about_same name event (bad_input name (input.Byte h.place)) h.is refl
 
 -- ---- where reading stops
@@ -106,7 +106,7 @@ room_within : (name bytes : List ℕ) (limit : ℕ) (s : StreamRead) (b : Bool)
 room_within name bytes limit s true e = absurd cc
 room_within name bytes limit s false e = room_by limit bytes (data_in name bytes) s e
 
-never_read : (name : List ℕ) (next : List ℕ → Result StreamRead Event) (s : StreamRead) (r : Result (List ℕ) Event) → and_so (and_so r (λ x. Err (read_fault name))) next ≡ Ok s → ⊥
+never_read : (name : List ℕ) (next : List ℕ → Result StreamRead Event) (s : StreamRead) (r : Result (List ℕ) Event) → and_so (and_so r (λ x. Err (reading_failed name))) next ≡ Ok s → ⊥
 never_read name next s (Ok a) e = absurd cc
 never_read name next s (Err event) e = absurd cc
 

@@ -39,6 +39,7 @@ abbrev pub placed_key : List ℕ → Option ℕ → List ℕ
 placed_key name None = name
 placed_key name (Some row) = name ++ codes " in row " ++ decimal row
 
+-- the key that a fault of a part file names, with its row where it is a row's
 abbrev pub which_text : Which → List ℕ
 which_text which = placed_key (name_of which.key) which.row
 
@@ -88,11 +89,13 @@ row_of why.NoMemory = record { ends_as = status.NoMemory; cause = Want; words = 
 row_of why.TooLarge = record { ends_as = status.TooLarge; cause = Contents; words = codes "too large "; detail = [] }
 row_of (why.Differs place) = record { ends_as = status.Differs; cause = Difference; words = codes "differs "; detail = codes ": byte " ++ decimal place }
 
-abbrev pub cause_of : Event → Cause
-cause_of e = (row_of e.reason).cause
+-- what brings an event about
+abbrev pub cause_of_event : Event → Cause
+cause_of_event e = (row_of e.reason).cause
 
-abbrev pub status_of : Event → Status
-status_of e = (row_of e.reason).ends_as
+-- the status of a run that an event ends
+abbrev pub status_of_event : Event → Status
+status_of_event e = (row_of e.reason).ends_as
 
 -- the line that reports an event, with its end
 abbrev pub line_of : Event → List ℕ
@@ -100,30 +103,39 @@ line_of e = codes "x7: " ++ ((row_of e.reason).words ++ (e.concerned ++ ((row_of
 
 -- ---- the events by their reasons
 
+-- the words have no form
 abbrev pub usage : Event
 usage = record { reason = why.Usage; concerned = [] }
 
+-- the input or the flash of this name isn't there
 abbrev pub missing : List ℕ → Event
 missing name = record { reason = why.Missing; concerned = name }
 
+-- the part file of this name is refused
 abbrev pub bad_part : List ℕ → PartFault → Event
 bad_part name fault = record { reason = why.BadPart fault; concerned = name }
 
+-- the input of this name has no reading
 abbrev pub bad_input : List ℕ → InputFault → Event
 bad_input name fault = record { reason = why.BadInput fault; concerned = name }
 
-abbrev pub read_fault : List ℕ → Event
-read_fault name = record { reason = why.ReadFault; concerned = name }
+-- an input or the flash of this name could not be opened or read
+abbrev pub reading_failed : List ℕ → Event
+reading_failed name = record { reason = why.ReadFault; concerned = name }
 
-abbrev pub write_fault : Event
-write_fault = record { reason = why.WriteFault; concerned = [] }
+-- the output failed, or a write of the flash
+abbrev pub writing_failed : Event
+writing_failed = record { reason = why.WriteFault; concerned = [] }
 
+-- memory is wanting
 abbrev pub no_memory : Event
 no_memory = record { reason = why.NoMemory; concerned = [] }
 
+-- the input or the flash of this name is over its limit
 abbrev pub too_large : List ℕ → Event
 too_large name = record { reason = why.TooLarge; concerned = name }
 
+-- a byte of the flash of this name that was read back, at this place, is another than the one written
 abbrev pub differs : List ℕ → ℕ → Event
 differs name place = record { reason = why.Differs place; concerned = name }
 

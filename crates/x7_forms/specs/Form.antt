@@ -51,6 +51,7 @@ abbrev pub read_asked : List ℕ → Option ℕ → Option ℕ → Option AskedF
 read_asked part (Some far) (Some n) = Some (PlanningRead part far n)
 read_asked part _ _ = None
 
+-- `plan read`, by its three names: a part file, an address and a number of slots
 abbrev pub plan_read_form : List (List ℕ) → Option AskedForm
 plan_read_form [] = None
 plan_read_form (part ∷ []) = None
@@ -63,6 +64,7 @@ abbrev pub gen_asked : List ℕ → Option ℕ → Option AskedForm
 gen_asked part (Some seed) = Some (Generating part seed)
 gen_asked part None = None
 
+-- `gen`, by its two names: a part file and a number
 abbrev pub gen_form : List (List ℕ) → Option AskedForm
 gen_form [] = None
 gen_form (part ∷ []) = None
@@ -134,9 +136,10 @@ asked_by (form.Svf part text) = PlayingSvf part.now text.now
 asked_by (form.Boot part flash) = Booting part.now flash.now
 asked_by (form.Update flash stream) = UpdatingFlash flash.now stream.now
 
-abbrev pub asked : Option Form → Option AskedForm
-asked None = None
-asked (Some form) = Some (asked_by form)
+-- what the code's form of the words asks for, where they have one
+abbrev pub form_asked : Option Form → Option AskedForm
+form_asked None = None
+form_asked (Some form) = Some (asked_by form)
 
 -- the names of the inputs that a form reads
 abbrev pub names_of : Option AskedForm → List (List ℕ)
@@ -163,11 +166,13 @@ pub data FlashUse : Type 0 where
   Read : (name : List ℕ) → FlashUse
   Updated : (name : List ℕ) → FlashUse
 
+-- what a form does with its flash: `boot` reads one, `update` updates one, and every other form names none
 abbrev pub flash_use : Option AskedForm → FlashUse
 flash_use (Some (Booting part flash)) = Read flash
 flash_use (Some (UpdatingFlash flash stream)) = Updated flash
 flash_use form = Unused
 
+-- the name of the flash that is used so, where one is
 abbrev pub names_used : FlashUse → List (List ℕ)
 names_used Unused = []
 names_used (Read name) = name ∷ []

@@ -9,7 +9,7 @@ use Rattle.x7_part.specs.declared.fault.PartFault.{PartFault}
 use Rattle.x7_part.specs.declared.fault.PartFault.TheVariants as part
 use Rattle.x7_part.specs.Part.{PartData}
 use Rattle.x7_forms.specs.declared.bad_input.InputFault.TheVariants as input
-use Rattle.x7_forms.specs.Event.{Event, bad_input, bad_part, missing, no_memory, read_fault, too_large}
+use Rattle.x7_forms.specs.Event.{Event, bad_input, bad_part, missing, no_memory, reading_failed, too_large}
 use Rattle.x7_part.specs.PartFile.{part_in}
 
 -- what is found under a name: bytes, nothing, or the first bytes and then a fault
@@ -62,8 +62,9 @@ stream_limit = 67108864
 abbrev pub taken_whole : List ℕ → ℕ → Found → Result (List ℕ) Event
 taken_whole name limit (Held bytes) = within name limit bytes
 taken_whole name limit Absent = Err (missing name)
-taken_whole name limit (Broken bytes) = and_so (within name limit bytes) (λ _. Err (read_fault name))
+taken_whole name limit (Broken bytes) = and_so (within name limit bytes) (λ _. Err (reading_failed name))
 
+-- the input of this name, where it is known: its bytes, if it has no more than `limit` of them, or the event of one that isn't read
 abbrev pub whole_in : Known → ℕ → List ℕ → Result (List ℕ) Event
 whole_in known limit name = taken_whole name limit (known.inputs name)
 
@@ -83,6 +84,7 @@ abbrev pub part_by : List ℕ → Result PartData PartFault → Result PartData 
 part_by name (Ok part) = Ok part
 part_by name (Err fault) = Err (bad_part name fault)
 
+-- the part of the part file of this name, where that is known, or the event of one that gives none
 abbrev pub part_of : Known → List ℕ → Result PartData Event
 part_of known name = and_so (whole_in known part_limit name) (λ text. part_by name (part_in text))
 
@@ -124,6 +126,7 @@ flash_found (Some bytes) = Some (Held bytes)
 abbrev pub known_of : (List ℕ → Option (List ℕ)) → Option (List ℕ) → Known
 known_of inputs flash = record { inputs = λ name. found (inputs name); flash = λ name. flash_found flash }
 
+-- what is known where the inputs are, of them and of the flash; nothing where the inputs aren't known
 abbrev pub with_inputs : Option (List ℕ → Option (List ℕ)) → Option (List ℕ) → Option Known
 with_inputs None flash = None
 with_inputs (Some inputs) flash = Some (known_of inputs flash)
@@ -142,7 +145,7 @@ spoiled_name (Lacking name) = name
 
 -- the event that comes of a mishap
 abbrev pub mishap_event : Mishap → Event
-mishap_event (Failing name given) = read_fault name
+mishap_event (Failing name given) = reading_failed name
 mishap_event (Lacking name) = missing name
 
 -- the first bytes of what is found, and then a fault
@@ -151,6 +154,7 @@ broken_at given (Held bytes) = Broken (take given bytes)
 broken_at given Absent = Broken []
 broken_at given (Broken bytes) = Broken (take given bytes)
 
+-- what is found under a name after a mishap of that name
 abbrev pub spoiled : Mishap → Found → Found
 spoiled (Failing name given) old = broken_at given old
 spoiled (Lacking name) old = Absent

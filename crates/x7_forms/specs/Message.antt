@@ -3,7 +3,7 @@ use Rattle.std.specs.Prelude.{ℕ, Result, Ok, Err, Bool, true, false}
 use Rattle.x7_forms.specs.declared.status.Status.{Status}
 use Rattle.x7_forms.specs.declared.status.Status.TheVariants as status
 use Rattle.x7_forms.specs.declared.refusal.Refusal.{Refusal}
-use Rattle.x7_forms.specs.Event.{Event, status_of}
+use Rattle.x7_forms.specs.Event.{Event, status_of_event}
 use Rattle.x7_forms.specs.Known.{Answer}
 
 -- the number that the program ends with
@@ -28,7 +28,7 @@ text_status false = status.Done
 -- the status of a whole outcome
 abbrev pub final_status : Result Answer Event → Status
 final_status (Ok answer) = text_status answer.stopped
-final_status (Err event) = status_of event
+final_status (Err event) = status_of_event event
 
 -- the event that a refusal reports
 abbrev pub event_of : Refusal → Event

@@ -5,7 +5,7 @@ use Rattle.x7_words.specs.Input.{InputsState}
 use Rattle.x7_forms.specs.declared.refusal.Refusal.{Refusal}
 use Rattle.x7_part.specs.declared.fault.PartFault.{PartFault}
 use Rattle.x7_forms.specs.declared.bad_input.InputFault.TheVariants as input
-use Rattle.x7_forms.specs.Event.{Event, Cause, Absence, Contents, bad_input, bad_part, cause_of, missing, no_memory, read_fault, too_large}
+use Rattle.x7_forms.specs.Event.{Event, Cause, Absence, Contents, bad_input, bad_part, cause_of_event, missing, no_memory, reading_failed, too_large}
 use Rattle.x7_forms.specs.Known.{Failing, Known, Lacking, Mishap, StreamRead, data_of, mishap_event, read_of, stream_limit, whole_in, with_inputs, with_mishap}
 use Rattle.x7_forms.specs.Message.{event_of}
 
@@ -37,6 +37,7 @@ pub record InputStep : Type 0 where
   pub before : InputsState
   pub after : InputsState
 
+-- the step over inputs that may ask for these names
 abbrev pub step_over : List (List ℕ) → InputsState → InputsState → InputStep
 step_over names before after = record { names = names; before = before; after = after }
 
@@ -73,18 +74,20 @@ DecidedBy Absence = Unit {0}
 DecidedBy Contents = Unit {0}
 DecidedBy _ = ⊥
 
+-- the result is a value, or an event that known contents may decide
 abbrev pub IsDecided : {A : Type 0} → Result A Event → Type 0
 IsDecided (Ok a) = Unit {0}
-IsDecided (Err event) = DecidedBy (cause_of event)
+IsDecided (Err event) = DecidedBy (cause_of_event event)
 
 -- what contents that are not known may come to: an event that lies in them; which name it has, and which reason, a step says by a clause of its own
 abbrev pub PossibleBy : Cause → Type 0
 PossibleBy Contents = Unit {0}
 PossibleBy _ = ⊥
 
+-- the result is a value, or an event that contents which aren't known may come to
 abbrev pub IsPossible : {A : Type 0} → Result A Event → Type 0
 IsPossible (Ok a) = Unit {0}
-IsPossible (Err event) = PossibleBy (cause_of event)
+IsPossible (Err event) = PossibleBy (cause_of_event event)
 
 -- the result is one that is due where the contents are known
 abbrev pub IsDue : {A : Type 0} → Option Known → (Known → Result A Event → Type 0) → Result A Event → Type 0
@@ -111,7 +114,7 @@ AnswersAs step due got = AnswersBy step (λ known end. due known ≡ end) got
 
 -- an input of this name isn't read: want of memory, it isn't there, it failed, or it is over its limit
 abbrev pub IsUnread : List ℕ → Event → Type 0
-IsUnread name event = (event ≡ no_memory) ⊎ ((event ≡ missing name) ⊎ ((event ≡ read_fault name) ⊎ (event ≡ too_large name)))
+IsUnread name event = (event ≡ no_memory) ⊎ ((event ≡ missing name) ⊎ ((event ≡ reading_failed name) ⊎ (event ≡ too_large name)))
 
 -- a part file of this name gives no part: the file isn't read, or its text is refused
 abbrev pub IsNoPart : List ℕ → Event → Type 0

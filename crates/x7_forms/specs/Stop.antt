@@ -9,6 +9,7 @@ pub record Limited : Type 0 where
   pub name : List ℕ
   pub limit : ℕ
 
+-- the input of this name, which may have this many bytes
 abbrev pub limited : ℕ → List ℕ → Limited
 limited limit name = record { name = name; limit = limit }
 
@@ -17,6 +18,7 @@ abbrev pub size_of : Option (List ℕ) → ℕ
 size_of None = 0
 size_of (Some bytes) = length bytes
 
+-- how many bytes the input of this name is known to have, 0 where nothing is known of it
 abbrev pub size_in : Option (List ℕ → Option (List ℕ)) → List ℕ → ℕ
 size_in None name = 0
 size_in (Some map) name = size_of (map name)

@@ -1,8 +1,8 @@
 -- Inputs that are read turn by turn (this project's choice). A turn reads as many bytes as a buffer holds, and what it read is used before the next turn.
 use Rattle.std.specs.Prelude.{◌≡◌, ◌≢◌, ◌<◌, ◌≤◌, ◌⊎◌, ◌++◌, ℕ, Bool, true, false, List, [], Some, Ok, Err, IfSome, drop, length, ◌+◌}
 use Rattle.x7_words.specs.Input.{InputsState, AtEnd, Fails, Misses, Stays, Takes, preceded}
-use Rattle.x7_header.specs.Header.{Contents, EndsInHeader, HasOtherLetterAt, HaveHeader, fixed_bytes, header_bytes}
-use Rattle.x7_forms.specs.Event.{Event, bad_input, missing, no_memory, read_fault, too_large}
+use Rattle.x7_header.specs.Header.{Contents, EndsInHeader, HasOtherLetterAt, HaveHeader, fixed_bytes, header_bytes, longest_header}
+use Rattle.x7_forms.specs.Event.{Event, bad_input, missing, no_memory, reading_failed, too_large}
 use Rattle.x7_forms.specs.declared.bad_input.InputFault.TheVariants as input
 use Rattle.x7_forms.specs.Known.{stream_limit}
 use Rattle.x7_listing.specs.Listing.{listing_of}
@@ -12,13 +12,9 @@ use Rattle.x7_listing.specs.StreamListing.{stream_listing}
 abbrev pub turn_bytes : ℕ
 turn_bytes = 65536
 
--- the most bytes of a stream's header: the fixed 13, four fields of a letter, two bytes of a count and up to 65,535 others, and a letter with four bytes
-abbrev pub longest_header : ℕ
-longest_header = 262170
-
 -- the most bytes that are read of a stream until its header is judged: a turn more than a header may have
 abbrev pub longest_beginning : ℕ
-longest_beginning = 327706
+longest_beginning = longest_header + turn_bytes
 
 -- the most bytes that one turn of a stream that is played reads: no fewer than a header may have, so that the first turn judges it
 abbrev pub play_turn_bytes : ℕ
@@ -26,7 +22,7 @@ play_turn_bytes = 266240
 
 -- an input was not opened: its name isn't there, or the inputs failed
 abbrev pub Unopened : InputsState → List ℕ → InputsState → Event → Type 0
-Unopened old name new event = (((event ≡ missing name) × Misses old name new) ⊎ ((event ≡ read_fault name) × Fails old new)) × (new.selected ≡ false)
+Unopened old name new event = (((event ≡ missing name) × Misses old name new) ⊎ ((event ≡ reading_failed name) × Fails old new)) × (new.selected ≡ false)
 
 -- the selected input failed after fewer than `most` bytes more, and no input is selected any more
 pub record Breaks (old : InputsState) (most : ℕ) (new : InputsState) : Type 0 where
@@ -60,7 +56,7 @@ pub record StandsAt (name : List ℕ) (limit : ℕ) (now : InputsState) : Type 0
 -- The open input, of which `left` bytes more are within the limit, was not read to its end: it failed before the limit was passed, or one byte over the limit was taken.
 abbrev pub Unread : InputsState → List ℕ → InputsState → ℕ → Event → Type 0
 Unread old name new left event =
-    ((event ≡ read_fault name) × Breaks old (left + 1) new)
+    ((event ≡ reading_failed name) × Breaks old (left + 1) new)
     ⊎ ((event ≡ too_large name) × ((piece : List ℕ) × ((old.rest ≡ preceded piece new.rest) × (length piece ≡ left + 1))))
 
 -- the rest of the open input, these bytes, was read to its end
@@ -129,7 +125,7 @@ NoLetterGiven old new = (bytes : List ℕ) (place : ℕ) → old.rest ≡ Some b
 
 -- a stream's beginning was not read, since the inputs failed before its header was judged
 abbrev pub BreaksBeginning : InputsState → List ℕ → InputsState → Event → Type 0
-BreaksBeginning old name new event = (event ≡ read_fault name) × Breaks old (stream_limit + 1) new × (new.asked ≡ old.asked) × NoLetterGiven old new
+BreaksBeginning old name new event = (event ≡ reading_failed name) × Breaks old (stream_limit + 1) new × (new.asked ≡ old.asked) × NoLetterGiven old new
 
 -- a stream's beginning was not read: want of memory, the inputs failed, or the header is refused
 abbrev pub UnreadBeginning : InputsState → List ℕ → InputsState → Event → Type 0

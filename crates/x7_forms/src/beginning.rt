@@ -47,13 +47,10 @@ fn judge<'w>(
         ⊎ ((place : ℕ) × (event_of r ≡ bad_input name.now (input.Byte place)) × IsRefused bytes.now last place × RefusedAt bytes.now place)) }
 {
     match header_of(bytes) {
-        Ok(head) => match header_line(alloc, &head) {
-            Ok(line) => Ok(Some(Judged {
-                line,
-                start: head.size,
-            })),
-            Err(_) => Err(Refusal::unnamed(Why::NoMemory)),
-        },
+        Ok(head) => Ok(Some(Judged {
+            line: header_line(alloc, &head)?,
+            start: head.size,
+        })),
         Err(HeaderFault::Raw) => Ok(Some(Judged {
             line: Vec::new(alloc),
             start: 0,
@@ -101,25 +98,18 @@ pub fn read_beginning<'w, I: Inputs>(
     loop {
         let count = wanted(&bytes).min(TURN);
         let left = STREAM_LIMIT - bytes.len();
-        let turn = match next_turn(inputs, stream, left, &mut piece[..count]) {
-            Ok(turn) => turn,
-            Err(refusal) => return Err(refusal),
-        };
+        let turn = next_turn(inputs, stream, left, &mut piece[..count])?;
         match bytes.extend_from_slice(&piece[..turn.count]) {
             Ok(()) => (),
             Err(_) => return Err(Refusal::unnamed(Why::NoMemory)),
         }
-        match judge(alloc, stream, &bytes, turn.last) {
-            Ok(Some(judged)) => {
-                return Ok(Beginning {
-                    bytes,
-                    line: judged.line,
-                    start: judged.start,
-                    last: turn.last,
-                });
-            }
-            Ok(None) => (),
-            Err(refusal) => return Err(refusal),
+        if let Some(judged) = judge(alloc, stream, &bytes, turn.last)? {
+            return Ok(Beginning {
+                bytes,
+                line: judged.line,
+                start: judged.start,
+                last: turn.last,
+            });
         }
     }
 }

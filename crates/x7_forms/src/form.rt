@@ -1,6 +1,6 @@
 //! The forms of the command line.
 ghost use Rattle.std.specs.Prelude.{◌≡◌, map, string_bytes};
-ghost use Rattle.x7_forms.specs.Form.{Assembling, Booting, FromMcs, Listing, PlayingSvf, PlanningFull, ToMcs, debug_form, form_in, gen_form, image_form, number_in, one_name, plan_form, plan_read_form, play_form, two_names, word_in, PlanningPartial, UpdatingFlash, asked};
+ghost use Rattle.x7_forms.specs.Form.{Assembling, Booting, FromMcs, Listing, PlayingSvf, PlanningFull, ToMcs, debug_form, form_in, gen_form, image_form, number_in, one_name, plan_form, plan_read_form, play_form, two_names, word_in, PlanningPartial, UpdatingFlash, form_asked};
 
 use x7_text::{decimal_below, word_of_hex};
 
@@ -114,7 +114,7 @@ pub enum Form<'w> {
 
 /// `list STREAM`.
 fn list_form(names: &[String]) -> Option<Form<'_>>
-    ensures { asked result ≡ one_name Listing (map string_bytes names.now) }
+    ensures { form_asked result ≡ one_name Listing (map string_bytes names.now) }
 {
     match names {
         [stream] => Some(Form::List {
@@ -126,7 +126,7 @@ fn list_form(names: &[String]) -> Option<Form<'_>>
 
 /// `asm TEXT`.
 fn asm_form(names: &[String]) -> Option<Form<'_>>
-    ensures { asked result ≡ one_name Assembling (map string_bytes names.now) }
+    ensures { form_asked result ≡ one_name Assembling (map string_bytes names.now) }
 {
     match names {
         [text] => Some(Form::Asm {
@@ -138,7 +138,7 @@ fn asm_form(names: &[String]) -> Option<Form<'_>>
 
 /// `play PART STREAM..`, one to eight streams.
 fn play_form(names: &[String]) -> Option<Form<'_>>
-    ensures { asked result ≡ play_form (map string_bytes names.now) }
+    ensures { form_asked result ≡ play_form (map string_bytes names.now) }
 {
     match names {
         [part, streams @ ..] if streams.len() >= 1 && streams.len() <= 8 => Some(Form::Play {
@@ -151,7 +151,7 @@ fn play_form(names: &[String]) -> Option<Form<'_>>
 
 /// `mcs IMAGE`.
 fn mcs_form(names: &[String]) -> Option<Form<'_>>
-    ensures { asked result ≡ one_name ToMcs (map string_bytes names.now) }
+    ensures { form_asked result ≡ one_name ToMcs (map string_bytes names.now) }
 {
     match names {
         [image] => Some(Form::Mcs {
@@ -163,7 +163,7 @@ fn mcs_form(names: &[String]) -> Option<Form<'_>>
 
 /// `unmcs TEXT`.
 fn unmcs_form(names: &[String]) -> Option<Form<'_>>
-    ensures { asked result ≡ one_name FromMcs (map string_bytes names.now) }
+    ensures { form_asked result ≡ one_name FromMcs (map string_bytes names.now) }
 {
     match names {
         [text] => Some(Form::Unmcs {
@@ -195,7 +195,7 @@ fn number_in(digits: &str) -> Option<u32>
 
 /// `plan full PART FRAMES`.
 fn plan_full_form(names: &[String]) -> Option<Form<'_>>
-    ensures { asked result ≡ two_names PlanningFull (map string_bytes names.now) }
+    ensures { form_asked result ≡ two_names PlanningFull (map string_bytes names.now) }
 {
     match names {
         [part, frames] => Some(Form::PlanFull {
@@ -208,7 +208,7 @@ fn plan_full_form(names: &[String]) -> Option<Form<'_>>
 
 /// `plan partial PART FRAMES`.
 fn plan_partial_form(names: &[String]) -> Option<Form<'_>>
-    ensures { asked result ≡ two_names PlanningPartial (map string_bytes names.now) }
+    ensures { form_asked result ≡ two_names PlanningPartial (map string_bytes names.now) }
 {
     match names {
         [part, frames] => Some(Form::PlanPartial {
@@ -221,40 +221,34 @@ fn plan_partial_form(names: &[String]) -> Option<Form<'_>>
 
 /// `plan read PART FAR N`.
 fn plan_read_form(names: &[String]) -> Option<Form<'_>>
-    ensures { asked result ≡ plan_read_form (map string_bytes names.now) }
+    ensures { form_asked result ≡ plan_read_form (map string_bytes names.now) }
 {
     let [part, far, n] = names else {
         return None;
     };
-    match (word_in(far.as_str()), number_in(n.as_str())) {
-        (Some(far), Some(n)) => Some(Form::PlanRead {
-            part: part.as_str(),
-            far,
-            n,
-        }),
-        _ => None,
-    }
+    Some(Form::PlanRead {
+        part: part.as_str(),
+        far: word_in(far.as_str())?,
+        n: number_in(n.as_str())?,
+    })
 }
 
 /// `gen PART SEED`.
 fn gen_form(names: &[String]) -> Option<Form<'_>>
-    ensures { asked result ≡ gen_form (map string_bytes names.now) }
+    ensures { form_asked result ≡ gen_form (map string_bytes names.now) }
 {
     let [part, seed] = names else {
         return None;
     };
-    match number_in(seed.as_str()) {
-        Some(seed) => Some(Form::Gen {
-            part: part.as_str(),
-            seed,
-        }),
-        None => None,
-    }
+    Some(Form::Gen {
+        part: part.as_str(),
+        seed: number_in(seed.as_str())?,
+    })
 }
 
 /// `plan ..`, by the second word.
 fn plan_form(names: &[String]) -> Option<Form<'_>>
-    ensures { asked result ≡ plan_form (map string_bytes names.now) }
+    ensures { form_asked result ≡ plan_form (map string_bytes names.now) }
 {
     let Some((kind, names)) = names.split_first() else {
         return None;
@@ -269,7 +263,7 @@ fn plan_form(names: &[String]) -> Option<Form<'_>>
 
 /// `debug PART STREAM SCRIPT`.
 fn debug_form(names: &[String]) -> Option<Form<'_>>
-    ensures { asked result ≡ debug_form (map string_bytes names.now) }
+    ensures { form_asked result ≡ debug_form (map string_bytes names.now) }
 {
     match names {
         [part, stream, script] => Some(Form::Debug {
@@ -283,7 +277,7 @@ fn debug_form(names: &[String]) -> Option<Form<'_>>
 
 /// `svf PART TEXT`.
 fn svf_form(names: &[String]) -> Option<Form<'_>>
-    ensures { asked result ≡ two_names PlayingSvf (map string_bytes names.now) }
+    ensures { form_asked result ≡ two_names PlayingSvf (map string_bytes names.now) }
 {
     match names {
         [part, text] => Some(Form::Svf {
@@ -296,7 +290,7 @@ fn svf_form(names: &[String]) -> Option<Form<'_>>
 
 /// `boot PART FLASH`.
 fn boot_form(names: &[String]) -> Option<Form<'_>>
-    ensures { asked result ≡ two_names Booting (map string_bytes names.now) }
+    ensures { form_asked result ≡ two_names Booting (map string_bytes names.now) }
 {
     match names {
         [part, flash] => Some(Form::Boot {
@@ -309,7 +303,7 @@ fn boot_form(names: &[String]) -> Option<Form<'_>>
 
 /// `update FLASH STREAM`.
 fn update_form(names: &[String]) -> Option<Form<'_>>
-    ensures { asked result ≡ two_names UpdatingFlash (map string_bytes names.now) }
+    ensures { form_asked result ≡ two_names UpdatingFlash (map string_bytes names.now) }
 {
     match names {
         [flash, stream] => Some(Form::Update {
@@ -322,7 +316,7 @@ fn update_form(names: &[String]) -> Option<Form<'_>>
 
 /// `image GOLDEN UPDATE`, or `image PART GOLDEN UPDATE`.
 fn image_form(names: &[String]) -> Option<Form<'_>>
-    ensures { asked result ≡ image_form (map string_bytes names.now) }
+    ensures { form_asked result ≡ image_form (map string_bytes names.now) }
 {
     match names {
         [golden, update] => Some(Form::Image {
@@ -340,7 +334,7 @@ fn image_form(names: &[String]) -> Option<Form<'_>>
 
 /// The form of the words, where they have one.
 pub fn words_of(words: &Vec<String>) -> Option<Form<'_>>
-    ensures { asked result ≡ form_in words.now.items }
+    ensures { form_asked result ≡ form_in words.now.items }
 {
     let Some((command, names)) = words.split_first() else {
         return None;

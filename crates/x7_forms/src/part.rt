@@ -41,10 +41,7 @@ pub fn read_part<'w, I: Inputs>(
     ensures once { AsksFew (I.state inputs.old) 1 (I.state inputs.new) }
     ensures inputs { Stays (I.state inputs.old) (I.state inputs.new) }
 {
-    let text = match read_whole(alloc, inputs, name, PART_LIMIT) {
-        Ok(text) => text,
-        Err(refusal) => return Err(refusal),
-    };
+    let text = read_whole(alloc, inputs, name, PART_LIMIT)?;
     match part_of(alloc, &text) {
         Ok(part) => Ok(part),
         Err(fault) => Err(refusal_of(name, fault)),

@@ -3,7 +3,7 @@ ghost use Rattle.std.specs.Prelude.{◌≡◌, ◌+◌, ◌-◌, ◌<◌, ◌≤
 ghost use Rattle.x7_words.specs.Input.{Asks, AsksFew, AsksOnce, AtEnd, Opens, Stays, Takes};
 ghost use Rattle.x7_words.specs.Word.{AreBytes};
 ghost use Rattle.x7_forms.specs.Message.{event_of};
-ghost use Rattle.x7_forms.specs.Event.{no_memory, read_fault, too_large};
+ghost use Rattle.x7_forms.specs.Event.{no_memory, reading_failed, too_large};
 ghost use Rattle.x7_forms.specs.Known.{data_in};
 ghost use Rattle.x7_forms.specs.Turn.{Breaks, GivesFew, ReadsRest, StandsAt, Unopened, Unread, UnreadRest};
 ghost use Rattle.x7_forms.specs.Step.{IsUnread, ReadsWhole, seen};
@@ -45,7 +45,7 @@ fn fill<'w, I: Inputs>(inputs: &mut I, name: &'w str, buf: &mut [u8]) -> Result<
     ensures full { IfOk result (λ n. n ≡ length buf.old → (I.state inputs.new).ends ≤ (I.state inputs.old).ends) }
     ensures once { (I.state inputs.new).ends ≤ (I.state inputs.old).ends + 1 }
     ensures length { length buf.new ≡ length buf.old }
-    ensures failed { IfErr result (λ r. (event_of r ≡ read_fault name.now) × Breaks (I.state inputs.old) (length buf.old) (I.state inputs.new)) }
+    ensures failed { IfErr result (λ r. (event_of r ≡ reading_failed name.now) × Breaks (I.state inputs.old) (length buf.old) (I.state inputs.new)) }
     ensures asked { (I.state inputs.new).asked ≡ (I.state inputs.old).asked }
     ensures given { (I.state inputs.new).given ≤ (I.state inputs.old).given + length buf.old }
     ensures selects { (I.state inputs.new).selects ≡ (I.state inputs.old).selects }
@@ -114,7 +114,7 @@ pub fn next_turn<'w, I: Inputs>(
     ensures more { IfOk result (λ turn. turn.last ≡ false → (I.state inputs.new).ends ≤ (I.state inputs.old).ends) }
     ensures length { length buf.new ≡ length buf.old }
     ensures err { IfErr result (λ r. Unread (I.state inputs.old) name.now (I.state inputs.new) left (event_of r)) }
-    ensures soon { IfErr result (λ r. event_of r ≡ read_fault name.now → (I.state inputs.new).given < (I.state inputs.old).given + length buf.old) }
+    ensures soon { IfErr result (λ r. event_of r ≡ reading_failed name.now → (I.state inputs.new).given < (I.state inputs.old).given + length buf.old) }
     ensures over { IfErr result (λ r. event_of r ≡ too_large name.now → left < length buf.old) }
     ensures asked { (I.state inputs.new).asked ≡ (I.state inputs.old).asked }
     ensures few { GivesFew (I.state inputs.old) left (I.state inputs.new) }
@@ -122,10 +122,7 @@ pub fn next_turn<'w, I: Inputs>(
     ensures inputs { Stays (I.state inputs.old) (I.state inputs.new) }
 {
     let most = turn_len(left, buf.len());
-    let count = match fill(inputs, name, &mut buf[..most]) {
-        Ok(count) => count,
-        Err(refusal) => return Err(refusal),
-    };
+    let count = fill(inputs, name, &mut buf[..most])?;
     if count > left {
         return Err(Refusal {
             reason: Why::TooLarge,
@@ -155,10 +152,7 @@ fn read_rest<'w, I: Inputs>(
     let mut piece = [0u8; TURN];
     let mut left = limit;
     loop {
-        let turn = match next_turn(inputs, name, left, &mut piece) {
-            Ok(turn) => turn,
-            Err(refusal) => return Err(refusal),
-        };
+        let turn = next_turn(inputs, name, left, &mut piece)?;
         match onto.extend_from_slice(&piece[..turn.count]) {
             Ok(()) => (),
             Err(_) => return Err(Refusal::unnamed(Why::NoMemory)),
@@ -184,15 +178,10 @@ pub fn read_whole<'w, I: Inputs>(
     ensures once { AsksFew (I.state inputs.old) 1 (I.state inputs.new) }
     ensures inputs { Stays (I.state inputs.old) (I.state inputs.new) }
 {
-    match open(inputs, name) {
-        Ok(()) => (),
-        Err(refusal) => return Err(refusal),
-    }
+    open(inputs, name)?;
     let mut whole = Vec::new(alloc);
-    match read_rest(inputs, name, limit, &mut whole) {
-        Ok(()) => Ok(whole),
-        Err(refusal) => Err(refusal),
-    }
+    read_rest(inputs, name, limit, &mut whole)?;
+    Ok(whole)
 }
 
 /// Reads the rest of the open input to its end, of which `limit` bytes are within the limit; after the last turn there is
@@ -219,10 +208,7 @@ pub fn skip_rest<'w, I: Inputs>(
     }
     let mut left = limit;
     loop {
-        let turn = match next_turn(inputs, name, left, buf) {
-            Ok(turn) => turn,
-            Err(refusal) => return Err(refusal),
-        };
+        let turn = next_turn(inputs, name, left, buf)?;
         left -= turn.count;
         if turn.last {
             return Ok(());

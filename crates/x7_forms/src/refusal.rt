@@ -8,7 +8,7 @@ use crate::bad_part::say_bad_part;
 use crate::status::Status;
 use itoa::Buffer;
 use x7_part::PartFault;
-use x7_words::{Failed, Sink, write_pieces};
+use x7_words::{Failed, NoMemory, Sink, write_pieces};
 
 /// Why a command has no whole text. Each reason has one status and one message.
 #[derive(Clone, Copy, Debug, Drop, PartialEq, Eq)]
@@ -100,7 +100,7 @@ pub struct Refusal<'w> {
 }
 
 impl<'w> Refusal<'w> {
-    ghost use Rattle.x7_forms.specs.Event.{line_of, status_of, row_of};
+    ghost use Rattle.x7_forms.specs.Event.{line_of, status_of_event, row_of};
     ghost use Rattle.x7_forms.specs.Message.{event_of};
 
     /// A reason that concerns no input.
@@ -124,10 +124,22 @@ impl<'w> Refusal<'w> {
 
     /// Writes the refusal's line, and gives its status. No memory is taken.
     pub fn tell<E: Sink>(&self, err: &mut E) -> Status
-        ensures status { result ≡ status_of (event_of self.now) }
+        ensures status { result ≡ status_of_event (event_of self.now) }
         ensures line { Tells (E.state err.old) (line_of (event_of self.now)) (E.state err.new) }
     {
         let _ = self.say(err);
         self.reason.status()
+    }
+}
+
+/// Want of memory concerns no input.
+impl<'w> From<NoMemory> for Refusal<'w> {
+    ghost use Rattle.x7_forms.specs.Event.{no_memory};
+    ghost use Rattle.x7_forms.specs.Message.{event_of};
+
+    ghost from_gives = { λ _ refusal. event_of refusal ≡ no_memory };
+
+    fn from(_: NoMemory) -> Refusal<'w> {
+        Refusal::unnamed(Why::NoMemory)
     }
 }

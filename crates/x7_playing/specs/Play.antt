@@ -40,6 +40,7 @@ pub record PlayState : Type 0 where
   pub buffer : ReadBufState
   pub reads : List ℕ
 
+-- the state of a player with this device, this buffer and these words read out
 abbrev pub play_state : DeviceState → ReadBufState → List ℕ → PlayState
 play_state device buffer reads = record { device = device; buffer = buffer; reads = reads }
 
@@ -48,6 +49,7 @@ abbrev pub HasPlayedBy : Bool → PartData → List ℕ → PlayState → Type 0
 HasPlayedBy true part bytes s = ReadsOver part bytes
 HasPlayedBy false part bytes s = Plays part bytes s.device s.reads × NoWordDue s.device × (s.buffer ≡ emptied)
 
+-- a player with a device of this part was given these bytes, whether it is over or not
 abbrev pub HasPlayed : PartData → List ℕ → Player → Type 0
 HasPlayed part bytes p = HasPlayedBy p.over part bytes (play_state p.device p.buffer p.reads.items)
 
@@ -78,6 +80,7 @@ FeedsPrefix old new prefix = (part : PartData) (bytes : List ℕ) → HasPlayedB
 abbrev pub MayPlayBy : Bool → PlayState → ℕ → Type 0
 MayPlayBy over s count = (part : PartData) × ((bytes : List ℕ) × (HasPlayedBy over part bytes s × (length bytes + count ≤ 2 ^ 63)))
 
+-- a player may be given `count` bytes more, which with all before are no more than a device counts
 abbrev pub MayPlay : Player → ℕ → Type 0
 MayPlay p count = MayPlayBy p.over (play_state p.device p.buffer p.reads.items) count
 

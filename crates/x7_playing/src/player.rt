@@ -104,12 +104,7 @@ impl Player {
         if self.over {
             return Ok(());
         }
-        match feed(&mut self.device, &mut self.buffer, &mut self.reads, piece) {
-            Ok(over) => {
-                self.over = over;
-                Ok(())
-            }
-            Err(NoMemory) => Err(NoMemory),
-        }
+        self.over = feed(&mut self.device, &mut self.buffer, &mut self.reads, piece)?;
+        Ok(())
     }
 }

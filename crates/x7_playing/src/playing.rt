@@ -45,10 +45,7 @@ fn play_rest<'w, I: Inputs>(
     }
     let mut left = limit;
     loop {
-        let turn = match next_turn(inputs, name, left, piece) {
-            Ok(turn) => turn,
-            Err(refusal) => return Err(refusal),
-        };
+        let turn = next_turn(inputs, name, left, piece)?;
         if player.play(&piece[..turn.count]).is_err() {
             return Err(Refusal::unnamed(Why::NoMemory));
         }
@@ -78,14 +75,8 @@ fn play_stream<'w, I: Inputs>(
     ensures length { length piece.new ≡ length piece.old }
     ensures inputs { Stays (I.state inputs.old) (I.state inputs.new) }
 {
-    match open(inputs, name) {
-        Ok(()) => (),
-        Err(refusal) => return Err(refusal),
-    }
-    let first = match next_turn(inputs, name, limit, piece) {
-        Ok(turn) => turn,
-        Err(refusal) => return Err(refusal),
-    };
+    open(inputs, name)?;
+    let first = next_turn(inputs, name, limit, piece)?;
     let left = limit - first.count;
     match data_start(name, &piece[..first.count]) {
         Ok(start) => {
@@ -94,10 +85,10 @@ fn play_stream<'w, I: Inputs>(
             }
             play_rest(player, inputs, name, left, first.last, piece)
         }
-        Err(refusal) => match skip_rest(inputs, name, left, first.last, piece) {
-            Ok(()) => Err(refusal),
-            Err(earlier) => Err(earlier),
-        },
+        Err(refusal) => {
+            skip_rest(inputs, name, left, first.last, piece)?;
+            Err(refusal)
+        }
     }
 }
 
@@ -125,10 +116,7 @@ pub fn play_streams<'w, I: Inputs>(
     };
     let mut left = STREAM_LIMIT;
     for name in streams {
-        left = match play_stream(&mut player, inputs, name.as_str(), left, &mut piece) {
-            Ok(left) => left,
-            Err(refusal) => return Err(refusal),
-        };
+        left = play_stream(&mut player, inputs, name.as_str(), left, &mut piece)?;
     }
     Ok(player)
 }

@@ -13,7 +13,7 @@ use Rattle.x7_tool.specs.Ahead.{GivesNear, HasWritten, IsLonger, ReadsNear, Stay
 use Rattle.x7_tool.specs.Outside.{Outside}
 use Rattle.x7_forms.specs.declared.status.Status.{Status}
 use Rattle.x7_forms.specs.declared.status.Status.TheVariants as status
-use Rattle.x7_forms.specs.Event.{Event, status_of, bad_input, missing, no_memory, read_fault, too_large, write_fault}
+use Rattle.x7_forms.specs.Event.{Event, status_of_event, bad_input, missing, no_memory, reading_failed, too_large, writing_failed}
 use Rattle.x7_forms.specs.Form.{Listing}
 use Rattle.x7_forms.specs.Turn.{IsBadBeginning, NoLetterGiven, UnreadBeginning, Unopened, Unread, longest_beginning, turn_bytes}
 use Rattle.x7_tool.specs.Turns.{Lists, ListsStream}
@@ -61,8 +61,8 @@ stays_by status.ReadFault stream old new h = h
 stays_by status.NoMemory stream old new h = h
 stays_by s stream old new h = tt
 
-pub stays_near : (event : Event) (stream : List ℕ) (old new : Outside) → StaysBy (status_of event) old.inputs.contents stream new.inputs.given new.inputs.rest old.out.written new.out.written → StaysNear (status_of event) (Some (Listing stream)) old new
-stays_near event stream old new h = stays_by (status_of event) stream old new h
+pub stays_near : (event : Event) (stream : List ℕ) (old new : Outside) → StaysBy (status_of_event event) old.inputs.contents stream new.inputs.given new.inputs.rest old.out.written new.out.written → StaysNear (status_of_event event) (Some (Listing stream)) old new
+stays_near event stream old new h = stays_by (status_of_event event) stream old new h
 
 -- what has become longer
 
@@ -197,25 +197,25 @@ judged_unjudged contents stream taken rest given s goes inputs bytes place c i f
 -- ---- by the event
 
 module _ (contents : Option (List ℕ → Option (List ℕ))) (stream : List ℕ) (rest old new : Option (List ℕ)) where
-  as_event : (given : ℕ) (event other : Event) → event ≡ other → StaysBy (status_of other) contents stream given rest old new → StaysBy (status_of event) contents stream given rest old new
-  as_event given event other e h = subst (λ (x : Event). StaysBy (status_of x) contents stream given rest old new) (sym e) h
+  as_event : (given : ℕ) (event other : Event) → event ≡ other → StaysBy (status_of_event other) contents stream given rest old new → StaysBy (status_of_event event) contents stream given rest old new
+  as_event given event other e h = subst (λ (x : Event). StaysBy (status_of_event x) contents stream given rest old new) (sym e) h
 
-  pub unopened_near : (s n : InputsState) (name : List ℕ) (event : Event) → Asks name n → Longer old new → Unopened s name n event → StaysBy (status_of event) contents stream n.given rest old new
+  pub unopened_near : (s n : InputsState) (name : List ℕ) (event : Event) → Asks name n → Longer old new → Unopened s name n event → StaysBy (status_of_event event) contents stream n.given rest old new
   unopened_near s n name event a l (inl h, none) = as_event n.given event (missing name) h.0 tt
-  unopened_near s n name event a l (inr h, none) = as_event n.given event (read_fault name) h.0 (λ inputs bytes place c i fits e f. omega (arith, a.given), prefix_given contents stream n.given old new (omega (arith, a.given)) l)
+  unopened_near s n name event a l (inr h, none) = as_event n.given event (reading_failed name) h.0 (λ inputs bytes place c i fits e f. omega (arith, a.given), prefix_given contents stream n.given old new (omega (arith, a.given)) l)
 
   pub unfronted_near : (m n : InputsState) (name : List ℕ) (event : Event) → n.rest ≡ rest → Selects contents stream m.rest → Asks name m → n.given ≤ m.given + longest_beginning → Longer old new → UnreadBeginning m name n event
-      → StaysBy (status_of event) contents stream n.given rest old new
+      → StaysBy (status_of_event event) contents stream n.given rest old new
   unfronted_near m n name event e s a few l (inl h) = as_event n.given event no_memory h (prefix_given contents stream n.given old new (omega (arith, a.given, few)) l)
   unfronted_near m n name event e s a few l (inr (inl h)) =
-      as_event n.given event (read_fault name) h.0 (prefix_unjudged contents stream name m n s a h.3, prefix_given contents stream n.given old new (omega (arith, a.given, few)) l)
+      as_event n.given event (reading_failed name) h.0 (prefix_unjudged contents stream name m n s a h.3, prefix_given contents stream n.given old new (omega (arith, a.given, few)) l)
   unfronted_near m n name event e s a few l (inr (inr h)) =
       as_event n.given event (bad_input name (input.Byte h.place)) h.is (subst (λ (r : Option (List ℕ)). SoonBy contents stream r) e (bad_soon contents stream name m n event s h))
 
   pub unread_near : (s n : InputsState) (name taken : List ℕ) (l : ListerState) (left : ℕ) (event : Event) → n.rest ≡ rest → Selects contents stream (preceded taken s.rest) → (t : ListsStream l old new taken)
-      → n.given ≤ length taken + turn_bytes → (event ≡ too_large name → left < turn_bytes) → Longer new new → Unread s name n left event → StaysBy (status_of event) contents stream n.given rest old new
+      → n.given ≤ length taken + turn_bytes → (event ≡ too_large name → left < turn_bytes) → Longer new new → Unread s name n left event → StaysBy (status_of_event event) contents stream n.given rest old new
   unread_near s n name taken l left event e sel t few over same (inl h) =
-      as_event n.given event (read_fault name) h.0 (
+      as_event n.given event (reading_failed name) h.0 (
         judged_unjudged contents stream taken s.rest n.given sel (λ more. (t.line ++ listing_of (t.sent ++ more), t.goes more)),
         turn_given contents stream taken t.line t.sent n.given l s.rest old new new sel few (stream_whole taken t.line t.sent (t.goes [])) t.lists same,
       )
@@ -225,6 +225,6 @@ module _ (contents : Option (List ℕ → Option (List ℕ))) (stream : List ℕ
       let near = turn_near contents stream taken piece t.line t.sent l n.rest old new new (taken_more contents stream taken piece s.rest n.rest sel h.1.1.0) t.close (omega (arith, some, h.1.1.1)) (stream_whole taken t.line t.sent (t.goes [])) t.lists same in
       as_event n.given event (too_large name) h.0 (subst (λ (r : Option (List ℕ)). NearBy contents stream r old new) e near)
 
-  pub unwritten_near : (Q : Type 0) (given : ℕ) (event : Event) → GivenBy contents stream given old new → NearBy contents stream rest old new → (event ≡ no_memory) ⊎ ((event ≡ write_fault) × Q) → StaysBy (status_of event) contents stream given rest old new
+  pub unwritten_near : (Q : Type 0) (given : ℕ) (event : Event) → GivenBy contents stream given old new → NearBy contents stream rest old new → (event ≡ no_memory) ⊎ ((event ≡ writing_failed) × Q) → StaysBy (status_of_event event) contents stream given rest old new
   unwritten_near Q given event g n (inl h) = as_event given event no_memory h g
-  unwritten_near Q given event g n (inr h) = as_event given event write_fault h.0 n
+  unwritten_near Q given event g n (inr h) = as_event given event writing_failed h.0 n

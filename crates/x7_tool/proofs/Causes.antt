@@ -16,7 +16,7 @@ use Rattle.x7_listing.specs.Listing.{listing_of}
 use Rattle.x7_listing.specs.StreamListing.{stream_listing}
 use Rattle.x7_forms.specs.declared.bad_input.InputFault.TheVariants as input
 use Rattle.x7_forms.specs.Form.{Listing}
-use Rattle.x7_forms.specs.Event.{Event, Cause, Break, bad_input, cause_of, missing, no_memory, read_fault, status_of, too_large, write_fault}
+use Rattle.x7_forms.specs.Event.{Event, Cause, Break, bad_input, cause_of_event, missing, no_memory, reading_failed, status_of_event, too_large, writing_failed}
 use Rattle.x7_forms.specs.Message.{event_of, final_status}
 use Rattle.x7_forms.specs.declared.refusal.Refusal.{Refusal}
 use Rattle.x7_forms.specs.declared.refusal.Why.{Why}
@@ -56,19 +56,19 @@ PutsSomeOf None stream old new = (text : List ℕ) × PutsPrefix old text new
 PutsSomeOf (Some known) stream old new = (bytes : List ℕ) × ((known.inputs stream ≡ Held bytes) × (AreBytes bytes → PutsListed bytes old new))
 
 abbrev pub EndedBy : Cause → Option Known → (Mishap → Type 0) → List ℕ → Type 0 → Option (List ℕ) → Option (List ℕ) → Event → Type 0
-EndedBy Break known C stream Full old new event = (event ≡ write_fault) × Full × PutsSomeOf known stream old new
+EndedBy Break known C stream Full old new event = (event ≡ writing_failed) × Full × PutsSomeOf known stream old new
 EndedBy _ known C stream Full old new event = IsCaused {A = Answer} known C (λ t. listed t stream) (Err event) × LeftAs event.reason known stream old new
 
 abbrev pub Ended : Option Known → (Mishap → Type 0) → List ℕ → Type 0 → Option (List ℕ) → Option (List ℕ) → Result Answer Event → Type 0
 Ended known C stream Full old new (Ok answer) = IsCaused known C (λ t. listed t stream) (Ok answer) × (new ≡ appended old answer.text)
-Ended known C stream Full old new (Err event) = EndedBy (cause_of event) known C stream Full old new event
+Ended known C stream Full old new (Err event) = EndedBy (cause_of_event event) known C stream Full old new event
 
 -- what a listing ended with, over the outside before and after
 abbrev pub EndedIn : List ℕ → Outside → Outside → Result Answer Event → Type 0
 EndedIn stream old new end =
     Ended (known_in old) (CameIn (step_over (stream ∷ []) old.inputs new.inputs)) stream (SinkFails old.out new.out) old.out.written new.out.written end
 
-ended_cause : (cause : Cause) (stream : List ℕ) (old new : Outside) (event : Event) → cause_of event ≡ cause
+ended_cause : (cause : Cause) (stream : List ℕ) (old new : Outside) (event : Event) → cause_of_event event ≡ cause
     → EndedBy cause (known_in old) (CameIn (step_over (stream ∷ []) old.inputs new.inputs)) stream (SinkFails old.out new.out) old.out.written new.out.written event
     → EndIsCaused (Some (Listing stream)) old new (Err event)
 ended_cause Break stream old new event e h = rw e (h.0, inl h.1)
@@ -92,21 +92,21 @@ ended_left cause stream old new event h = left_as event.reason stream old new h.
 
 pub list_ends : (stream : List ℕ) (old new : Outside) (end : Result Answer Event) → EndedIn stream old new end → StaysNear (final_status end) (Some (Listing stream)) old new → Ends (Some (Listing stream)) old new end
 list_ends stream old new (Ok answer) h n = record { cause = has_cause (Listing stream) old new (Ok answer) (answers_over (Listing stream) old new (Ok answer) h.0); wrote = h.1; near = n; measured = λ name a. absurd a; last = tt; updates = tt }
-list_ends stream old new (Err event) h n = record { cause = ended_cause (cause_of event) stream old new event refl h; wrote = ended_left (cause_of event) stream old new event h; near = n; measured = λ name a e. absurd a; last = λ name a e at. absurd a; updates = tt }
+list_ends stream old new (Err event) h n = record { cause = ended_cause (cause_of_event event) stream old new event refl h; wrote = ended_left (cause_of_event event) stream old new event h; near = n; measured = λ name a e. absurd a; last = λ name a e at. absurd a; updates = tt }
 
 -- a listing ends as it should, by the result of the call that ended it
 pub list_seen : {A : Type 0} (stream : List ℕ) (old new : Outside) (r : Result A Refusal) → OnOk r ((text : List ℕ) × EndedIn stream old new (Ok (record { stopped = false; text = text })))
-    → IfErr r (λ x. EndedIn stream old new (Err (event_of x))) → IfErr r (λ x. StaysNear (status_of (event_of x)) (Some (Listing stream)) old new) → EndsAs (Some (Listing stream)) old new (seen (λ _. false) r)
+    → IfErr r (λ x. EndedIn stream old new (Err (event_of x))) → IfErr r (λ x. StaysNear (status_of_event (event_of x)) (Some (Listing stream)) old new) → EndsAs (Some (Listing stream)) old new (seen (λ _. false) r)
 list_seen stream old new (Ok a) ok err near = (ok.0, list_ends stream old new (Ok (record { stopped = false; text = ok.0 })) ok.1 tt)
 list_seen stream old new (Err x) ok err near = list_ends stream old new (Err (event_of x)) err near
 
 -- a stream that fails within its limit, or isn't there
-broken_by : (found : Found) (stream : List ℕ) (given : ℕ) → given ≤ stream_limit → listed_found stream (broken_at given found) ≡ Err (read_fault stream)
+broken_by : (found : Found) (stream : List ℕ) (given : ℕ) → given ≤ stream_limit → listed_found stream (broken_at given found) ≡ Err (reading_failed stream)
 broken_by (Held bytes) stream given h = let short : nat_lt stream_limit (length (take given bytes)) ≡ false = grind (arith, nat_tests, h, length-take given bytes) in rw short refl
 broken_by Absent stream given h = refl
 broken_by (Broken bytes) stream given h = let short : nat_lt stream_limit (length (take given bytes)) ≡ false = grind (arith, nat_tests, h, length-take given bytes) in rw short refl
 
-broken_due : (contents : Option (List ℕ → Option (List ℕ))) (flash : Option (List ℕ)) (stream : List ℕ) (given : ℕ) → given ≤ stream_limit → DueBy {A = Answer} (with_inputs contents flash) (Failing stream given) (λ t r. listed t stream ≡ r) (read_fault stream)
+broken_due : (contents : Option (List ℕ → Option (List ℕ))) (flash : Option (List ℕ)) (stream : List ℕ) (given : ℕ) → given ≤ stream_limit → DueBy {A = Answer} (with_inputs contents flash) (Failing stream given) (λ t r. listed t stream ≡ r) (reading_failed stream)
 broken_due None flash stream given h = tt
 broken_due (Some inputs) flash stream given h = let here = name_is stream in rw here (broken_by (found (inputs stream)) stream given h)
 
@@ -127,7 +127,7 @@ absent old new flash name a s m = by old.contents refl m
 
 -- a fault of the stream
 pub faulted : (old new : InputsState) (flash : Option (List ℕ)) (stream : List ℕ) → FailsAmong (stream ∷ []) old new stream → new.given ≤ stream_limit
-    → IsCaused {A = Answer} (with_inputs old.contents flash) (CameIn (step_over (stream ∷ []) old new)) (λ known. listed known stream) (Err (read_fault stream))
+    → IsCaused {A = Answer} (with_inputs old.contents flash) (CameIn (step_over (stream ∷ []) old new)) (λ known. listed known stream) (Err (reading_failed stream))
 faulted old new flash stream f g = inl (fault_from Answer (with_inputs old.contents flash) old new stream (λ t r. listed t stream ≡ r) f (broken_due old.contents flash stream new.given g))
 
 prefix_none : (contents : Option (List ℕ → Option (List ℕ))) (flash : Option (List ℕ)) (name : List ℕ) → IsPrefixOf (with_inputs contents flash) name []
@@ -155,7 +155,7 @@ prefix_taken (Some inputs) flash name taken (Some rest) s =
 
 -- a stream whose reading failed after these bytes
 pub broken : (contents : Option (List ℕ → Option (List ℕ))) (flash : Option (List ℕ)) (C : Mishap → Type 0) (stream taken : List ℕ) (rest : Option (List ℕ)) (Full : Type 0) (old now : Option (List ℕ))
-    → Selects contents stream (preceded taken rest) → IsCaused {A = Answer} (with_inputs contents flash) C (λ known. listed known stream) (Err (read_fault stream)) → ListsSoFar taken old now → Ended (with_inputs contents flash) C stream Full old now (Err (read_fault stream))
+    → Selects contents stream (preceded taken rest) → IsCaused {A = Answer} (with_inputs contents flash) C (λ known. listed known stream) (Err (reading_failed stream)) → ListsSoFar taken old now → Ended (with_inputs contents flash) C stream Full old now (Err (reading_failed stream))
 broken contents flash C stream taken rest Full old now s c p = (c, (taken, (prefix_taken contents flash stream taken rest s, p)))
 
 -- memory that ended after these bytes
@@ -170,7 +170,7 @@ may_follow last rest left e end = λ l. let none = rw e at (end l) in none
 -- a sink that failed after a front of the listing of these bytes and any that may follow
 pub unwritten : (contents : Option (List ℕ → Option (List ℕ))) (flash : Option (List ℕ)) (C : Mishap → Type 0) (stream taken : List ℕ) (rest : Option (List ℕ)) (last : Bool) (Full : Type 0) (old now : Option (List ℕ))
     → Selects contents stream (preceded taken rest) → (last ≡ true → AtEnd rest) → Full → PutsListed taken old now → ((left : List ℕ) → FollowsUnlessLast last left → AreBytes (taken ++ left) → PutsListed (taken ++ left) old now)
-    → Ended (with_inputs contents flash) C stream Full old now (Err write_fault)
+    → Ended (with_inputs contents flash) C stream Full old now (Err writing_failed)
 unwritten None flash C stream taken rest last Full old now s e f here p = (refl, f, (here.0, here.1.1))
 unwritten (Some inputs) flash C stream taken rest last Full old now s e f here p =
     let all = known_all inputs stream taken rest s in
@@ -228,7 +228,7 @@ pub unopened : (s n : InputsState) (flash : Option (List ℕ)) (stream : List �
 unopened s n flash stream Full old event (inl h, none) a =
     ends_same (with_inputs s.contents flash) (CameIn (step_over (stream ∷ []) s n)) stream Full old old event (missing stream) h.0 (absent s n flash stream a none h.1, refl)
 unopened s n flash stream Full old event (inr h, none) a =
-    ends_same (with_inputs s.contents flash) (CameIn (step_over (stream ∷ []) s n)) stream Full old old event (read_fault stream) h.0
+    ends_same (with_inputs s.contents flash) (CameIn (step_over (stream ∷ []) s n)) stream Full old old event (reading_failed stream) h.0
     (faulted s n flash stream (record { among = inl refl; over = record { asked = a.asked; selected = none }; risen = h.1 }) (omega (arith, a.given)), ([], (prefix_none s.contents flash stream, nothing_put old)))
 
 -- an error by two of its clauses
@@ -250,7 +250,7 @@ unfronted s m n flash stream Full old event f sel a (inl h) =
     (out_of_memory s.contents flash (CameIn (step_over (stream ∷ []) s n)) stream [] m.rest Full old old (nothing_taken s.contents stream m.rest sel) (nothing_put old))
 unfronted s m n flash stream Full old event f sel a (inr (inl h)) =
     let fault = at_fault s m n stream [] stream_limit f (at_open stream m a) h.1 h.2 in
-    ends_same (with_inputs s.contents flash) (CameIn (step_over (stream ∷ []) s n)) stream Full old old event (read_fault stream) h.0
+    ends_same (with_inputs s.contents flash) (CameIn (step_over (stream ∷ []) s n)) stream Full old old event (reading_failed stream) h.0
     (broken s.contents flash (CameIn (step_over (stream ∷ []) s n)) stream [] m.rest Full old old (nothing_taken s.contents stream m.rest sel) (faulted s n flash stream fault.0 (omega (arith, fault.1))) (nothing_put old))
 unfronted s m n flash stream Full old event f sel a (inr (inr h)) =
     ends_same (with_inputs s.contents flash) (CameIn (step_over (stream ∷ []) s n)) stream Full old old event (bad_input stream (input.Byte h.place)) h.is

@@ -11,7 +11,7 @@ use Rattle.x7_part.specs.Part.{PartData}
 use Rattle.x7_part.specs.declared.fault.PartFault.{PartFault}
 use Rattle.x7_forms.specs.declared.bad_input.InputFault.{InputFault}
 use Rattle.x7_forms.specs.declared.refusal.Why.TheVariants as why
-use Rattle.x7_forms.specs.Event.{Event, bad_input, bad_part, missing, no_memory, read_fault, too_large}
+use Rattle.x7_forms.specs.Event.{Event, bad_input, bad_part, missing, no_memory, reading_failed, too_large}
 use Rattle.x7_forms.specs.Form.{AskedForm, Booting, FlashUse, Read, Unused, Updated, flash_use, names_of, updated_by}
 use Rattle.x7_forms.specs.Known.{Absent, Answer, Failing, Found, Known, Lacking, Mishap, flash_found, known_of, mishap_event, part_of, spoiled, spoiled_name, with_inputs, with_mishap}
 use Rattle.x7_tool.specs.Leaving.{MayBeFound, UsesFlash}
@@ -95,7 +95,7 @@ booted_ends old new name part_name part C (Err event) read (inr (inl (inr h))) =
       mishap = Failing name new.inputs.given;
       came = (refl, inr h.1);
       is = refl;
-      due = boot_mishap (known_in old) (Failing name new.inputs.given) name part_name part (read_fault name) refl refl refl (read_due (known_in old) C (λ t. part_of t part_name) part read);
+      due = boot_mishap (known_in old) (Failing name new.inputs.given) name part_name part (reading_failed name) refl refl refl (read_due (known_in old) C (λ t. part_of t part_name) part read);
     })))
 booted_ends old new name part_name part C (Err event) read (inr (inr h)) =
     booted_due (known_in old) old.flash.bytes (Came (Some (Booting part_name name)) old new) name part_name part (Err event) (known_flash old.inputs.contents old.flash.bytes name) (both name part old.flash.bytes (Err event) h.0)
@@ -116,7 +116,7 @@ no_memory_small form new event e = not_large form new event (λ r. let why : why
 missing_small : (form : Option AskedForm) (new : FlashState) (name : List ℕ) (event : Event) → event ≡ missing name → IsMeasured form new (Err event)
 missing_small form new name event e = not_large form new event (λ r. let why : why.Missing ≡ why.TooLarge = sym (ap (λ (x : Event). x.reason) e) ∙ r in absurd (cc))
 
-failed_small : (form : Option AskedForm) (new : FlashState) (name : List ℕ) (event : Event) → event ≡ read_fault name → IsMeasured form new (Err event)
+failed_small : (form : Option AskedForm) (new : FlashState) (name : List ℕ) (event : Event) → event ≡ reading_failed name → IsMeasured form new (Err event)
 failed_small form new name event e = not_large form new event (λ r. let why : why.ReadFault ≡ why.TooLarge = sym (ap (λ (x : Event). x.reason) e) ∙ r in absurd (cc))
 
 pub bad_small : (form : Option AskedForm) (new : FlashState) (name : List ℕ) (fault : InputFault) (event : Event) → event ≡ bad_input name fault → IsMeasured form new (Err event)
@@ -167,9 +167,9 @@ pub detached : (form : AskedForm) (old : InputsState) (new : FlashState) (event 
 detached form old new event d = λ name a e at. let both : true ≡ false = sym at ∙ d in absurd (cc)
 
 -- an input of the form failed
-input_failed : (form : AskedForm) (old : InputsState) (new : FlashState) (name : List ℕ) (event : Event) → Among (names_of (Some form)) name → event ≡ read_fault name → FailsLast (Some form) old new (Err event)
+input_failed : (form : AskedForm) (old : InputsState) (new : FlashState) (name : List ℕ) (event : Event) → Among (names_of (Some form)) name → event ≡ reading_failed name → FailsLast (Some form) old new (Err event)
 input_failed form old new name event a e = λ other f g at.
-    let same : read_fault other ≡ read_fault name = sym g ∙ e in
+    let same : reading_failed other ≡ reading_failed name = sym g ∙ e in
     inr (subst (λ (n : List ℕ). Among (names_of (Some form)) n) (sym (ap (λ (x : Event). x.concerned) same)) a)
 
 pub unread_last : (form : AskedForm) (old : InputsState) (new : FlashState) (name : List ℕ) (event : Event) → Among (names_of (Some form)) name → IsUnread name event → FailsLast (Some form) old new (Err event)
@@ -189,11 +189,11 @@ part_good None C name part_name part h = tt
 part_good (Some inputs) C name part_name part (inl h) = absurd h
 part_good (Some inputs) C name part_name part (inr h) = subst (λ (r : Result PartData Event). BootedAs name r None (Ok no_text)) (sym h.1) tt
 
-pub boot_last : {A : Type 0} (value : A → Answer) (name part_name : List ℕ) (old : InputsState) (new : FlashState) (result : Result A Refusal) → IfErr result (λ r. event_of r ≡ read_fault name → new.attached ≡ true → new.extent ≤ flash_limit)
+pub boot_last : {A : Type 0} (value : A → Answer) (name part_name : List ℕ) (old : InputsState) (new : FlashState) (result : Result A Refusal) → IfErr result (λ r. event_of r ≡ reading_failed name → new.attached ≡ true → new.extent ≤ flash_limit)
     → Agrees (with_inputs old.contents None) (Booting part_name name) (Ok no_text) → FailsLast (Some (Booting part_name name)) old new (seen value result)
 boot_last value name part_name old new (Ok a) h g = tt
 boot_last value name part_name old new (Err r) h g = λ other a e at. elim a [
-  | inl same ↦ inl (h (e ∙ ap read_fault same) at, (no_text, g))
+  | inl same ↦ inl (h (e ∙ ap reading_failed same) at, (no_text, g))
   | inr none ↦ absurd none
 ]
 

@@ -24,8 +24,9 @@ use Rattle.x7_forms.proofs.ReadLemmas.{answers_by, answers_end, answers_go, answ
 use Rattle.x7_tool.specs.Outcome.{IsUnplanned, PlanTexts, PlannedFull, PlannedPartial, frames_event, plan_texts, planner_event, text_limit}
 use Rattle.x7_tool.specs.Planned.{HasNoPlan, ReadsPlan}
 use Rattle.x7_tool.specs.FullText.{PlanFor, full_of}
-use Rattle.x7_tool.specs.Ready.{whole_of}
-use Rattle.x7_tool.specs.declared.text.Text.{Text}
+use Rattle.x7_tool.specs.Ready.{text_of_bytes}
+use Rattle.std.specs.Prelude.{Vec}
+use Rattle.std.specs.declared.alloc.Global.{Global}
 use Rattle.x7_tool.specs.Turns.{LinesGive}
 
 -- all its addresses are the part's
@@ -113,10 +114,10 @@ pub full_ended : (name : List ℕ) (part : PartData) (text : List ℕ) (plan : P
 full_ended name part text plan (Ok t) is same as_planned err = inr (tt, tt, (refl, plan, is, ap (λ p. full_stream p t.plan) same ∙ ap (full_stream part) as_planned))
 full_ended name part text plan (Err x) is same as_planned err = inl (ap Err err)
 
-pub partial_ended : (name : List ℕ) (part : PartData) (text : List ℕ) (plan : PlanData) (r : Result Text Refusal) → IsPlanOf part text (Ok plan)
-    → IfOk r (λ end. (t : List ℕ) → IsPlanOf part t (Ok plan) → PlannedPartial name (Ok (record { part = part; text = t })) (Ok (whole_of end)))
+pub partial_ended : (name : List ℕ) (part : PartData) (text : List ℕ) (plan : PlanData) (r : Result (Vec ℕ Global) Refusal) → IsPlanOf part text (Ok plan)
+    → IfOk r (λ end. (t : List ℕ) → IsPlanOf part t (Ok plan) → PlannedPartial name (Ok (record { part = part; text = t })) (Ok (text_of_bytes end)))
     → IfErr r (λ x. (event_of x ≡ no_memory) ⊎ ((t : List ℕ) → IsPlanOf part t (Ok plan) → PlannedPartial name (Ok (record { part = part; text = t })) (Err (event_of x))))
-    → (seen whole_of r ≡ Err no_memory) ⊎ (IsPossible (seen whole_of r) × IsDecided (seen whole_of r) × PlannedPartial name (Ok (record { part = part; text = text })) (seen whole_of r))
+    → (seen text_of_bytes r ≡ Err no_memory) ⊎ (IsPossible (seen text_of_bytes r) × IsDecided (seen text_of_bytes r) × PlannedPartial name (Ok (record { part = part; text = text })) (seen text_of_bytes r))
 partial_ended name part text plan (Ok end) is ok err = inr (tt, tt, ok text is)
 partial_ended name part text plan (Err x) is ok (inl none) = inl (ap Err none)
 partial_ended name part text plan (Err x) is ok (inr h) = inr (decided (h text is))

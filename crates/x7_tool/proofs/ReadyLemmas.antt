@@ -1,5 +1,7 @@
 -- What the forms' texts come to where all that they read was read, and where memory is wanting.
 use Rattle.std.proofs.Common.{◌≡◌, ℕ, Bool, true, false, if◌then◌else◌, List, Result, Ok, Err, IfErr, IfOk, ap, subst, sym, inl, inr, ◌⊎◌}
+use Rattle.std.specs.Prelude.{IsErr, IsErrAnd, Vec}
+use Rattle.std.specs.declared.alloc.Global.{Global}
 use Rattle.x7_part.specs.Part.{PartData}
 use Rattle.x7_debug.specs.Script.{IsScriptOf}
 use Rattle.x7_debug.specs.declared.fault.ScriptFault.{ScriptFault}
@@ -22,7 +24,7 @@ use Rattle.x7_forms.proofs.ReadLemmas.{Steady, so_steady, work_steady}
 use Rattle.x7_tool.specs.declared.text.Text.{Text}
 use Rattle.x7_tool.specs.Outcome.{DebugInputs, DebuggedAs, ImageStreams, PlanTexts, PlannedRead, PlayedSvf, image_by, image_streams, planner_event, script_event, stream_data, svf_event}
 use Rattle.x7_tool.specs.Play.{text_of_play}
-use Rattle.x7_tool.specs.Ready.{whole_of}
+use Rattle.x7_tool.specs.Ready.{text_of_bytes, whole_of}
 use Rattle.x7_tool.proofs.DebugLemmas.{stream_steady}
 
 -- what a last step comes to, that reads nothing: want of memory, or an end that contents decide, known or not, and that is due
@@ -37,9 +39,14 @@ bad_due Due name fault event e h = inr (subst (λ (x : Event). IsPossible {A = A
 want_due : (Due : Result Answer Event → Type 0) (event : Event) → no_memory ≡ event → EndsDue Due (Err event)
 want_due Due event e = inl (sym (ap (λ (x : Event). Err x) e))
 
+-- want of memory that is handed on
+pub want_seen : {A : Type 0} (view : A → Answer) (r : Result A Refusal) → IsErr r × IsErrAnd r (λ e. event_of e ≡ no_memory) → seen view r ≡ Err no_memory
+want_seen view (Ok a) h = absurd h.1
+want_seen view (Err e) h = ap (λ (event : Event). Err event) h.1
+
 -- ---- a text of a known answer
 
-pub made_due : (answer : Answer) (r : Result Text Refusal) → IfOk r (λ t. whole_of t ≡ answer) → IfErr r (λ x. event_of x ≡ no_memory) → EndsDue (λ got. Ok answer ≡ got) (seen whole_of r)
+pub made_due : (answer : Answer) (r : Result (Vec ℕ Global) Refusal) → IfOk r (λ t. text_of_bytes t ≡ answer) → IfErr r (λ x. event_of x ≡ no_memory) → EndsDue (λ got. Ok answer ≡ got) (seen text_of_bytes r)
 made_due answer (Ok t) ok err = inr (tt, tt, ap (λ (a : Answer). Ok a) (sym ok))
 made_due answer (Err x) ok err = inl (ap (λ (e : Event). Err e) err)
 
@@ -51,8 +58,8 @@ read_fault_due name part far n event (planner.Foreign at) is e = bad_due (Planne
 read_fault_due name part far n event (planner.Range m) is e = bad_due (PlannedRead name far n (Ok part)) name input.Range event e (planner.Range m, is, e)
 read_fault_due name part far n event planner.NoMemory is e = want_due (PlannedRead name far n (Ok part)) event e
 
-pub read_due : (name : List ℕ) (part : PartData) (far n : ℕ) (r : Result Text Refusal) → IfOk r (λ t. PlannedRead name far n (Ok part) (Ok (whole_of t))) → IfErr r (λ x. (event_of x ≡ no_memory) ⊎ PlannedRead name far n (Ok part) (Err (event_of x)))
-    → EndsDue (PlannedRead name far n (Ok part)) (seen whole_of r)
+pub read_due : (name : List ℕ) (part : PartData) (far n : ℕ) (r : Result (Vec ℕ Global) Refusal) → IfOk r (λ t. PlannedRead name far n (Ok part) (Ok (text_of_bytes t))) → IfErr r (λ x. (event_of x ≡ no_memory) ⊎ PlannedRead name far n (Ok part) (Err (event_of x)))
+    → EndsDue (PlannedRead name far n (Ok part)) (seen text_of_bytes r)
 read_due name part far n (Ok t) ok err = inr (tt, tt, ok)
 read_due name part far n (Err x) ok (inl e) = inl (ap (λ (event : Event). Err event) e)
 read_due name part far n (Err x) ok (inr h) = read_fault_due name part far n (event_of x) h.0 h.1 h.2
@@ -94,8 +101,8 @@ too_long_due : (name : List ℕ) (event : Event) (answer : Answer) (large : Bool
 too_long_due name event answer true e = let same : bad_input name input.Image ≡ event = cc in bad_due (λ got. Err (bad_input name input.Image) ≡ got) name input.Image event same e
 too_long_due name event answer false e = absurd cc
 
-pub image_due : (name : List ℕ) (unit : ℕ) (s : ImageStreams) (r : Result Text Refusal) → IfOk r (λ t. image_by name unit s ≡ Ok (whole_of t)) → IfErr r (λ x. (event_of x ≡ no_memory) ⊎ (image_by name unit s ≡ Err (event_of x)))
-    → EndsDue (λ got. image_by name unit s ≡ got) (seen whole_of r)
+pub image_due : (name : List ℕ) (unit : ℕ) (s : ImageStreams) (r : Result (Vec ℕ Global) Refusal) → IfOk r (λ t. image_by name unit s ≡ Ok (text_of_bytes t)) → IfErr r (λ x. (event_of x ≡ no_memory) ⊎ (image_by name unit s ≡ Err (event_of x)))
+    → EndsDue (λ got. image_by name unit s ≡ got) (seen text_of_bytes r)
 image_due name unit s (Ok t) ok err = inr (tt, tt, ok)
 image_due name unit s (Err x) ok (inl e) = inl (ap (λ (event : Event). Err event) e)
 image_due name unit s (Err x) ok (inr h) = too_long_due name (event_of x) _ _ h

@@ -15,7 +15,7 @@ use Rattle.x7_mcs.proofs.BackLemmas.{text_gives}
 use Rattle.x7_mcs.proofs.SizeLemmas.{text_short}
 use Rattle.x7_forms.specs.declared.status.Status.{Status}
 use Rattle.x7_forms.specs.declared.status.Status.TheVariants as status
-use Rattle.x7_forms.specs.Event.{Event, Cause, Wording, Want, Fault, Absence, Break, Contents, Difference, cause_of, no_memory, status_of, usage, write_fault}
+use Rattle.x7_forms.specs.Event.{Event, Cause, Wording, Want, Fault, Absence, Break, Contents, Difference, cause_of_event, no_memory, status_of_event, usage, writing_failed}
 use Rattle.x7_forms.specs.Form.{AskedForm, Assembling, FlashUse, FromMcs, Unused, flash_use, listed_by, names_used, updated_by}
 use Rattle.x7_forms.specs.Message.{final_status, text_status}
 use Rattle.x7_forms.specs.Known.{Answer, Failing, Known, Lacking, Mishap, mishap_event, and_so, found, known_of, taken_whole, whole_in, with_inputs, within}
@@ -33,8 +33,8 @@ use Rattle.x7_tool.proofs.PromiseLemmas.{promised}
 -- ---- which status an event has
 
 -- want of memory has a status of its own
-want_is : (event : Event) → event ≡ no_memory → status_of event ≡ status.NoMemory
-want_is event e = ap status_of e
+want_is : (event : Event) → event ≡ no_memory → status_of_event event ≡ status.NoMemory
+want_is event e = ap status_of_event e
 
 -- ---- where contents are known and nothing failed
 
@@ -60,7 +60,7 @@ outcome_is : (form : Option AskedForm) (old new : Outside) (s : Status) (end : R
     → (known : Known) → known_in old ≡ Some known → IsQuiet form old new → (s ≡ status.NoMemory) ⊎ IsOutcome known form end
 outcome_is None old new s end e h known k q = inr (sym h)
 outcome_is (Some form) old new s (Ok answer) e h known k q = inr (rw k at h)
-outcome_is (Some form) old new s (Err event) e h known k q = by (event_by known form old new event (cause_of event) k q h)
+outcome_is (Some form) old new s (Err event) e h known k q = by (event_by known form old new event (cause_of_event event) k q h)
   where
     by : (event ≡ no_memory) ⊎ FormGives known form (Err event) → (s ≡ status.NoMemory) ⊎ FormGives known form (Err event)
     by (inl n) = inl (e ∙ want_is event n)
@@ -83,12 +83,12 @@ is_ok (Ok a) = true
 is_ok (Err event) = false
 
 -- an event of a mishap, by that
-mishap_cause : (m : Mishap) (form : AskedForm) (old new : Outside) (event : Event) → mishap_event m ≡ event → Happens form old new event → CausedBy (cause_of event) form old new event
-mishap_cause (Failing name given) form old new event e h = subst (λ (c : Cause). CausedBy c form old new event) (ap cause_of e) h
-mishap_cause (Lacking name) form old new event e h = subst (λ (c : Cause). CausedBy c form old new event) (ap cause_of e) (inl h)
+mishap_cause : (m : Mishap) (form : AskedForm) (old new : Outside) (event : Event) → mishap_event m ≡ event → Happens form old new event → CausedBy (cause_of_event event) form old new event
+mishap_cause (Failing name given) form old new event e h = subst (λ (c : Cause). CausedBy c form old new event) (ap cause_of_event e) h
+mishap_cause (Lacking name) form old new event e h = subst (λ (c : Cause). CausedBy c form old new event) (ap cause_of_event e) (inl h)
 
-outside_cause : (form : AskedForm) (old new : Outside) (event : Event) → IsFromOutside {A = Answer} (known_in old) (Came (Some form) old new) (λ t end. FormGives t form end) (Err event) → CausedBy (cause_of event) form old new event
-outside_cause form old new event (inl e) = subst (λ (x : Event). CausedBy (cause_of x) form old new x) (sym e) refl
+outside_cause : (form : AskedForm) (old new : Outside) (event : Event) → IsFromOutside {A = Answer} (known_in old) (Came (Some form) old new) (λ t end. FormGives t form end) (Err event) → CausedBy (cause_of_event event) form old new event
+outside_cause form old new event (inl e) = subst (λ (x : Event). CausedBy (cause_of_event x) form old new x) (sym e) refl
 outside_cause form old new event (inr h) = mishap_cause h.mishap form old new event h.is h
 
 known_cause : (cause : Cause) (known : Known) (form : AskedForm) (old new : Outside) (event : Event) → known_in old ≡ Some known → DecidedBy cause → FormGives known form (Err event) → CausedBy cause form old new event
@@ -103,8 +103,8 @@ open_cause cause form old new event k o = absurd o
 due_cause : (known : Option Known) (form : AskedForm) (old new : Outside) (got : Result Answer Event) → known_in old ≡ known → IsDue known (λ t end. FormGives t form end) got → EndIsCaused (Some form) old new got
 due_cause None form old new (Ok answer) k h = rw k tt
 due_cause (Some known) form old new (Ok answer) k h = rw k h.1
-due_cause None form old new (Err event) k h = open_cause (cause_of event) form old new event k h
-due_cause (Some known) form old new (Err event) k h = known_cause (cause_of event) known form old new event k h.0 h.1
+due_cause None form old new (Err event) k h = open_cause (cause_of_event event) form old new event k h
+due_cause (Some known) form old new (Err event) k h = known_cause (cause_of_event event) known form old new event k h.0 h.1
 
 -- a text that is ready, or none, has its cause
 pub has_cause : (form : AskedForm) (old new : Outside) (got : Result Answer Event) → AnswersOver form old new got → EndIsCaused (Some form) old new got
@@ -207,13 +207,13 @@ pub leaves_all : (form : AskedForm) (cause : Cause) (old new : Outside) (event :
 leaves_all form Break old new event l n e = absurd (n refl)
 leaves_all form cause old new event l n e = subst (λ (s : Option (List ℕ)). LeavesBy s event old new) (sym l) e
 
-outside_by : (known : Option Known) (C : Mishap → Type 0) (Due : Known → Result Answer Event → Type 0) (event : Event) → IsFromOutside {A = Answer} known C Due (Err event) → cause_of event ≡ Break → ⊥
-outside_by known C Due event (inl e) b = let c : Want ≡ Break = sym (ap cause_of e) ∙ b in absurd (cc)
+outside_by : (known : Option Known) (C : Mishap → Type 0) (Due : Known → Result Answer Event → Type 0) (event : Event) → IsFromOutside {A = Answer} known C Due (Err event) → cause_of_event event ≡ Break → ⊥
+outside_by known C Due event (inl e) b = let c : Want ≡ Break = sym (ap cause_of_event e) ∙ b in absurd (cc)
 outside_by known C Due event (inr h) b = by h.mishap h.is
   where
     by : (m : Mishap) → mishap_event m ≡ event → ⊥
-    by (Failing name given) e = let c : Fault ≡ Break = ap cause_of e ∙ b in absurd (cc)
-    by (Lacking name) e = let c : Absence ≡ Break = ap cause_of e ∙ b in absurd (cc)
+    by (Failing name given) e = let c : Fault ≡ Break = ap cause_of_event e ∙ b in absurd (cc)
+    by (Lacking name) e = let c : Absence ≡ Break = ap cause_of_event e ∙ b in absurd (cc)
 
 decided_by : (cause : Cause) → DecidedBy cause → cause ≡ Break → ⊥
 decided_by Break h e = h
@@ -224,10 +224,10 @@ open_by Break h e = h
 open_by cause h e = absurd (cc)
 
 -- a text that isn't ready was not refused by the output
-pub no_break : (known : Option Known) (C : Mishap → Type 0) (Due : Known → Result Answer Event → Type 0) (event : Event) → IsCausedBy known C Due (Err event) → cause_of event ≡ Break → ⊥
+pub no_break : (known : Option Known) (C : Mishap → Type 0) (Due : Known → Result Answer Event → Type 0) (event : Event) → IsCausedBy known C Due (Err event) → cause_of_event event ≡ Break → ⊥
 no_break known C Due event (inl h) = outside_by known C Due event h
-no_break None C Due event (inr h) = open_by (cause_of event) h
-no_break (Some t) C Due event (inr h) = decided_by (cause_of event) h.0
+no_break None C Due event (inr h) = open_by (cause_of_event event) h
+no_break (Some t) C Due event (inr h) = decided_by (cause_of_event event) h.0
 
 gets_by : (known : Option Known) (form : AskedForm) (answer : Answer) (old new : SinkState) → listed_by (Some form) ≡ None → Agrees known form (Ok answer) → PutsSome old answer.text new → GetsPrefix known form old new
 gets_by None form answer old new l h p = (answer.text, p)
@@ -282,17 +282,17 @@ puts_end form old new (Ok answer) (Err event) l u m f c p =
       cause = (refl, inl p.1);
       wrote = subst (λ (x : Option (List ℕ)). LeftAtBreak x form old new) (sym u) (gets_by (known_in old) form answer old.out new.out l (has_cause form old new (Ok answer) c) p.2);
       near = near_all form status.WriteFault old new l;
-      measured = not_large (Some form) new.flash write_fault (λ r. absurd (cc));
-      last = not_fault (Some form) old.inputs new.flash write_fault (λ r. absurd (cc));
-      updates = updates_none form old new (Err write_fault) u;
+      measured = not_large (Some form) new.flash writing_failed (λ r. absurd (cc));
+      last = not_fault (Some form) old.inputs new.flash writing_failed (λ r. absurd (cc));
+      updates = updates_none form old new (Err writing_failed) u;
     })
 puts_end form old new (Err event) (Ok stopped) l u m f c p = let e : true ≡ false = ap is_ok p.0 in absurd (cc)
 puts_end form old new (Err event) (Err other) l u m f c p =
     subst (λ (e : Event). Ends (Some form) old new (Err e)) (sym (ap event_in p.0))
     (record {
       cause = has_cause form old new (Err event) c;
-      wrote = leaves_all form (cause_of event) old new event l (no_break (known_in old) (Came (Some form) old new) (λ t end. FormGives t form end) event c) p.1;
-      near = near_all form (status_of event) old new l;
+      wrote = leaves_all form (cause_of_event event) old new event l (no_break (known_in old) (Came (Some form) old new) (λ t end. FormGives t form end) event c) p.1;
+      near = near_all form (status_of_event event) old new l;
       measured = m;
       last = f;
       updates = updates_none form old new (Err event) u;

@@ -7,7 +7,7 @@ use Rattle.x7_words.specs.Flash.{FlashState}
 use Rattle.x7_words.specs.Sink.{SinkState}
 use Rattle.x7_part.specs.Part.{PartData}
 use Rattle.x7_forms.specs.declared.refusal.Refusal.{Refusal}
-use Rattle.x7_forms.specs.Event.{Absence, Break, Cause, Contents, Difference, Event, Fault, Want, Wording, bad_input, cause_of, differs, missing, no_memory, read_fault, too_large, too_many_reads, write_fault}
+use Rattle.x7_forms.specs.Event.{Absence, Break, Cause, Contents, Difference, Event, Fault, Want, Wording, bad_input, cause_of_event, differs, missing, no_memory, reading_failed, too_large, too_many_reads, writing_failed}
 use Rattle.x7_forms.specs.declared.bad_input.InputFault.TheVariants as input
 use Rattle.x7_forms.specs.declared.refusal.Why.{Why}
 use Rattle.x7_forms.specs.declared.refusal.Why.TheVariants as why
@@ -92,35 +92,35 @@ stops_by Fault form old now event t = t
 stops_by Absence form old now event t = t
 stops_by Contents form old now event t = t
 
-pub want_stops : (form : AskedForm) (old now : InputsState) (event : Event) → event ≡ no_memory → StopsBy (cause_of event) form old now event
-want_stops form old now event e = subst (λ (x : Event). StopsBy (cause_of x) form old now x) (sym e) tt
+pub want_stops : (form : AskedForm) (old now : InputsState) (event : Event) → event ≡ no_memory → StopsBy (cause_of_event event) form old now event
+want_stops form old now event e = subst (λ (x : Event). StopsBy (cause_of_event x) form old now x) (sym e) tt
 
-pub reads_stop : (form : AskedForm) (old now : InputsState) (event : Event) → (event ≡ no_memory) ⊎ (event ≡ too_many_reads) → StopsBy (cause_of event) form old now event
+pub reads_stop : (form : AskedForm) (old now : InputsState) (event : Event) → (event ≡ no_memory) ⊎ (event ≡ too_many_reads) → StopsBy (cause_of_event event) form old now event
 reads_stop form old now event (inl e) = want_stops form old now event e
-reads_stop form old now event (inr e) = stops_by (cause_of event) form old now event (inr (inl e))
+reads_stop form old now event (inr e) = stops_by (cause_of_event event) form old now event (inr (inl e))
 
 -- one of the form's inputs
-pub among_stops : (form : AskedForm) (old now : InputsState) (event : Event) → StopsAmong (inputs_of old.contents form) old now event → StopsBy (cause_of event) form old now event
+pub among_stops : (form : AskedForm) (old now : InputsState) (event : Event) → StopsAmong (inputs_of old.contents form) old now event → StopsBy (cause_of_event event) form old now event
 among_stops form old now event (inl e) = want_stops form old now event e
-among_stops form old now event (inr h) = stops_by (cause_of event) form old now event (inr (inr h))
+among_stops form old now event (inr h) = stops_by (cause_of_event event) form old now event (inr (inr h))
 
 -- the first of the form's inputs
 pub first_stops : (form : AskedForm) (first : Limited) (others : List Limited) (old now : InputsState) (event : Event)
-    → inputs_of old.contents form ≡ first ∷ others → StandsAt first.name first.limit now → AsksFew old 1 now → IsAbout first.name event → StopsBy (cause_of event) form old now event
+    → inputs_of old.contents form ≡ first ∷ others → StandsAt first.name first.limit now → AsksFew old 1 now → IsAbout first.name event → StopsBy (cause_of_event event) form old now event
 first_stops form first others old now event i s n a = among_stops form old now event (about_among (inputs_of old.contents form) [] first others old now event i s n a)
 
 -- the second
 pub second_stops : (form : AskedForm) (first second : Limited) (others : List Limited) (old now : InputsState) (event : Event)
-    → inputs_of old.contents form ≡ first ∷ second ∷ others → StandsAt second.name second.limit now → AsksFew old 2 now → IsAbout second.name event → StopsBy (cause_of event) form old now event
+    → inputs_of old.contents form ≡ first ∷ second ∷ others → StandsAt second.name second.limit now → AsksFew old 2 now → IsAbout second.name event → StopsBy (cause_of_event event) form old now event
 second_stops form first second others old now event i s n a = among_stops form old now event (about_among (inputs_of old.contents form) (first ∷ []) second others old now event i s n a)
 
 -- the third
 pub third_stops : (form : AskedForm) (first second third : Limited) (others : List Limited) (old now : InputsState) (event : Event)
-    → inputs_of old.contents form ≡ first ∷ second ∷ third ∷ others → StandsAt third.name third.limit now → AsksFew old 3 now → IsAbout third.name event → StopsBy (cause_of event) form old now event
+    → inputs_of old.contents form ≡ first ∷ second ∷ third ∷ others → StandsAt third.name third.limit now → AsksFew old 3 now → IsAbout third.name event → StopsBy (cause_of_event event) form old now event
 third_stops form first second third others old now event i s n a = among_stops form old now event (about_among (inputs_of old.contents form) (first ∷ second ∷ []) third others old now event i s n a)
 
 -- a call's result, where each refusal stops so
-pub result_stops : {A B : Type 0} (value : A → B) (form : AskedForm) (old now : InputsState) (r : Result A Refusal) → IfErr r (λ x. StopsBy (cause_of (event_of x)) form old now (event_of x)) → Stops (Some form) old now (seen value r)
+pub result_stops : {A B : Type 0} (value : A → B) (form : AskedForm) (old now : InputsState) (r : Result A Refusal) → IfErr r (λ x. StopsBy (cause_of_event (event_of x)) form old now (event_of x)) → Stops (Some form) old now (seen value r)
 result_stops value form old now (Ok a) h = tt
 result_stops value form old now (Err x) h = h
 
@@ -134,17 +134,17 @@ reads_only value form old now (Err x) h = reads_stop form old now (event_of x) h
 
 -- streams that are played one after the other, after a part
 pub streams_stop : (part : List ℕ) (streams : List (List ℕ)) (old mid now : InputsState) (event : Event) → mid.contents ≡ old.contents → AsksFew old 1 mid
-    → StopsAmong (limited_together mid.contents stream_limit streams) mid now event → StopsBy (cause_of event) (Playing part streams) old now event
+    → StopsAmong (limited_together mid.contents stream_limit streams) mid now event → StopsBy (cause_of_event event) (Playing part streams) old now event
 streams_stop part streams old mid now event e n h =
     among_stops (Playing part streams) old now event (stops_after (limited part_limit part) (limited_together old.contents stream_limit streams) old mid now event n
     (subst (λ (k : Option (List ℕ → Option (List ℕ))). StopsAmong (limited_together k stream_limit streams) mid now event) e h))
 
 -- the form's flash
-pub flash_stops : (form : AskedForm) (old now : InputsState) (event : Event) (name : List ℕ) → event.concerned ≡ name → Among (flash_names (Some form)) name → StopsBy (cause_of event) form old now event
-flash_stops form old now event name n a = stops_by (cause_of event) form old now event (inl (subst (λ (x : List ℕ). Among (flash_names (Some form)) x) (sym n) a))
+pub flash_stops : (form : AskedForm) (old now : InputsState) (event : Event) (name : List ℕ) → event.concerned ≡ name → Among (flash_names (Some form)) name → StopsBy (cause_of_event event) form old now event
+flash_stops form old now event name n a = stops_by (cause_of_event event) form old now event (inl (subst (λ (x : List ℕ). Among (flash_names (Some form)) x) (sym n) a))
 
-pub write_stops : (form : AskedForm) (old now : InputsState) (event : Event) → event ≡ write_fault → StopsBy (cause_of event) form old now event
-write_stops form old now event e = subst (λ (x : Event). StopsBy (cause_of x) form old now x) (sym e) tt
+pub write_stops : (form : AskedForm) (old now : InputsState) (event : Event) → event ≡ writing_failed → StopsBy (cause_of_event event) form old now event
+write_stops form old now event e = subst (λ (x : Event). StopsBy (cause_of_event x) form old now x) (sym e) tt
 
 -- a boot from a flash
 pub boot_stops : (name part_name : List ℕ) (part : PartData) (old now : InputsState) (first last : FlashState) (end : Result Answer Event) → FlashComes name part first last end → Stops (Some (Booting part_name name)) old now end
@@ -155,14 +155,14 @@ boot_stops name part_name part old now first last (Err event) (inr (inl (inr h))
 boot_stops name part_name part old now first last (Err event) (inr (inr h)) = flash_stops (Booting part_name name) old now event name (ap (λ (x : Event). x.concerned) (flash_open name part first.bytes event h.0)) (inl refl)
 
 -- a flash that can't be used
-pub unopened_stops : (name stream : List ℕ) (old now : InputsState) (first last : FlashState) (event : Event) → IsUnopened name first last event → StopsBy (cause_of event) (UpdatingFlash name stream) old now event
+pub unopened_stops : (name stream : List ℕ) (old now : InputsState) (first last : FlashState) (event : Event) → IsUnopened name first last event → StopsBy (cause_of_event event) (UpdatingFlash name stream) old now event
 unopened_stops name stream old now first last event (inl (inl h, d)) = flash_stops (UpdatingFlash name stream) old now event name (ap (λ (x : Event). x.concerned) h.0) (inl refl)
 unopened_stops name stream old now first last event (inl (inr h, d)) = flash_stops (UpdatingFlash name stream) old now event name (ap (λ (x : Event). x.concerned) h.0) (inl refl)
 unopened_stops name stream old now first last event (inr h) = flash_stops (UpdatingFlash name stream) old now event name (ap (λ (x : Event). x.concerned) h.0) (inl refl)
 
 -- a fault of an update
 fault_stops : (flash stream : List ℕ) (old now : InputsState) (fault : UpdateFault) → StandsAt stream stream_limit now → AsksFew old 1 now
-    → StopsBy (cause_of (update_event (record { flash = flash; stream = stream }) fault)) (UpdatingFlash flash stream) old now (update_event (record { flash = flash; stream = stream }) fault)
+    → StopsBy (cause_of_event (update_event (record { flash = flash; stream = stream }) fault)) (UpdatingFlash flash stream) old now (update_event (record { flash = flash; stream = stream }) fault)
 fault_stops flash stream old now (update.Failed true) s n = tt
 fault_stops flash stream old now (update.Failed false) s n = inl (inl refl)
 fault_stops flash stream old now update.TooLong s n = inr (inr (record { before = []; input = limited stream_limit stream; after = []; among = refl; tells = refl; stands = s; asks = n }))
@@ -171,20 +171,20 @@ fault_stops flash stream old now (update.Differs place wrote read) s n = tt
 fault_stops flash stream old now update.NoMemory s n = tt
 
 pub updated_stops : (flash stream : List ℕ) (old now : InputsState) (fault : UpdateFault) (event : Event) → event ≡ update_event (record { flash = flash; stream = stream }) fault → StandsAt stream stream_limit now → AsksFew old 1 now
-    → StopsBy (cause_of event) (UpdatingFlash flash stream) old now event
-updated_stops flash stream old now fault event e s n = subst (λ (x : Event). StopsBy (cause_of x) (UpdatingFlash flash stream) old now x) (sym e) (fault_stops flash stream old now fault s n)
+    → StopsBy (cause_of_event event) (UpdatingFlash flash stream) old now event
+updated_stops flash stream old now fault event e s n = subst (λ (x : Event). StopsBy (cause_of_event x) (UpdatingFlash flash stream) old now x) (sym e) (fault_stops flash stream old now fault s n)
 
 -- ---- a listing
 
-pub prefix_stops : {Q : Type 0} (form : AskedForm) (old now : InputsState) (event : Event) → (event ≡ no_memory) ⊎ ((event ≡ write_fault) × Q) → StopsBy (cause_of event) form old now event
+pub prefix_stops : {Q : Type 0} (form : AskedForm) (old now : InputsState) (event : Event) → (event ≡ no_memory) ⊎ ((event ≡ writing_failed) × Q) → StopsBy (cause_of_event event) form old now event
 prefix_stops form old now event (inl e) = want_stops form old now event e
 prefix_stops form old now event (inr h) = write_stops form old now event h.0
 
-pub put_stops : {P Q : Type 0} (form : AskedForm) (old now : InputsState) (event : Event) → ((event ≡ no_memory) × P) ⊎ ((event ≡ write_fault) × Q) → StopsBy (cause_of event) form old now event
+pub put_stops : {P Q : Type 0} (form : AskedForm) (old now : InputsState) (event : Event) → ((event ≡ no_memory) × P) ⊎ ((event ≡ writing_failed) × Q) → StopsBy (cause_of_event event) form old now event
 put_stops form old now event (inl h) = want_stops form old now event h.0
 put_stops form old now event (inr h) = write_stops form old now event h.0
 
-pub written_stops : {A : Type 0} (P Q : Type 0) (form : AskedForm) (old now : InputsState) (r : Result A Refusal) → IfErr r (λ x. ((event_of x ≡ no_memory) × P) ⊎ ((event_of x ≡ write_fault) × Q)) → Stops (Some form) old now (seen (λ _. false) r)
+pub written_stops : {A : Type 0} (P Q : Type 0) (form : AskedForm) (old now : InputsState) (r : Result A Refusal) → IfErr r (λ x. ((event_of x ≡ no_memory) × P) ⊎ ((event_of x ≡ writing_failed) × Q)) → Stops (Some form) old now (seen (λ _. false) r)
 written_stops P Q form old now (Ok a) h = tt
 written_stops P Q form old now (Err x) h = put_stops form old now (event_of x) h
 
@@ -194,7 +194,7 @@ written_stops P Q form old now (Err x) h = put_stops form old now (event_of x) h
 pub puts_stop : (form : AskedForm) (first now : InputsState) (whole : Result Answer Event) (old new : SinkState) (got : Result Bool Event) → Stops (Some form) first now whole → Puts whole old new got → Stops (Some form) first now got
 puts_stop form first now (Err event) old new got s p = subst (λ (r : Result Bool Event). Stops (Some form) first now r) (sym p.0) s
 puts_stop form first now (Ok answer) old new (Ok stopped) s p = tt
-puts_stop form first now (Ok answer) old new (Err event) s p = subst (λ (x : Event). StopsBy (cause_of x) form first now x) (sym p.0) tt
+puts_stop form first now (Ok answer) old new (Err event) s p = subst (λ (x : Event). StopsBy (cause_of_event x) form first now x) (sym p.0) tt
 
 -- ---- what an update asks for where its flash can't be used
 
@@ -222,7 +222,7 @@ same_name flash stream event is e n c = sym n ∙ sym (ap (λ (x : Event). x.con
 named_judges : (flash stream : List ℕ) (now : FlashState) (event : Event) → event.concerned ≡ stream → IsUnusable flash now event → flash ≡ stream
 named_judges flash stream now event c (inl e) = same_name flash stream event (missing flash) e refl c
 named_judges flash stream now event c (inr (inl e)) = same_name flash stream event (too_large flash) e refl c
-named_judges flash stream now event c (inr (inr e)) = same_name flash stream event (read_fault flash) e.0 refl c
+named_judges flash stream now event c (inr (inr e)) = same_name flash stream event (reading_failed flash) e.0 refl c
 
 -- the event of a flash that can't be used has one of three reasons
 unusable_reason : (flash : List ℕ) (now : FlashState) (event : Event) → IsUnusable flash now event → (event.reason ≡ why.Missing) ⊎ ((event.reason ≡ why.TooLarge) ⊎ ((event.reason ≡ why.ReadFault) × (now.attached ≡ false)))
@@ -250,8 +250,8 @@ fault_by now reason a m t (inr (inl e)) = t e
 fault_by now reason a m t (inr (inr e)) = let f : true ≡ false = sym a ∙ e.1 in absurd cc
 
 fault_judges : (flash stream : List ℕ) (now : FlashState) (fault : UpdateFault) → now.attached ≡ true → IsUnusable flash now (update_event (record { flash = flash; stream = stream }) fault) → ⊥
-fault_judges flash stream now (update.Failed true) a u = fault_by now why.WriteFault a (λ e. absurd cc) (λ e. absurd cc) (unusable_reason flash now write_fault u)
-fault_judges flash stream now (update.Failed false) a u = fault_by now why.ReadFault a (λ e. absurd cc) (λ e. absurd cc) (unusable_reason flash now (read_fault flash) u)
+fault_judges flash stream now (update.Failed true) a u = fault_by now why.WriteFault a (λ e. absurd cc) (λ e. absurd cc) (unusable_reason flash now writing_failed u)
+fault_judges flash stream now (update.Failed false) a u = fault_by now why.ReadFault a (λ e. absurd cc) (λ e. absurd cc) (unusable_reason flash now (reading_failed flash) u)
 fault_judges flash stream now update.TooLong a u = fault_by now (why.BadInput input.Long) a (λ e. absurd cc) (λ e. absurd cc) (unusable_reason flash now (bad_input stream input.Long) u)
 fault_judges flash stream now (update.NoLayout place) a u = fault_by now (why.BadInput (input.Layout place)) a (λ e. absurd cc) (λ e. absurd cc) (unusable_reason flash now (bad_input flash (input.Layout place)) u)
 fault_judges flash stream now (update.Differs place wrote read) a u = fault_by now (why.Differs place) a (λ e. absurd cc) (λ e. absurd cc) (unusable_reason flash now (differs flash place) u)

@@ -13,7 +13,7 @@ use Rattle.x7_words.specs.Input.{InputsState, AtEnd, Selects, Stays, preceded}
 use Rattle.x7_words.proofs.ListLemmas.{all_append, all_back}
 use Rattle.x7_forms.specs.Step.{CameIn, step_over}
 use Rattle.x7_words.proofs.InputLemmas.{preceded_preceded}
-use Rattle.x7_forms.specs.Event.{Event, read_fault, too_large, write_fault}
+use Rattle.x7_forms.specs.Event.{Event, reading_failed, too_large, writing_failed}
 use Rattle.x7_forms.specs.Known.{Mishap, found, stream_limit, with_inputs}
 use Rattle.x7_tool.specs.Run.{ListsSoFar}
 use Rattle.x7_tool.specs.Turns.{Lists, ListsStream}
@@ -151,7 +151,7 @@ goes_on bytes piece line sent g rest = ap stream_listing (append_assoc bytes pie
 -- a sink that failed in a turn
 pub write_failed : (contents : Option (List ℕ → Option (List ℕ))) (flash : Option (List ℕ)) (C : Mishap → Type 0) (stream taken piece same : List ℕ) (l : ListerState) (rest : Option (List ℕ)) (Full : Type 0) (old mid now : Option (List ℕ))
     → same ≡ piece → Selects contents stream (preceded (taken ++ piece) rest) → Full → (t : ListsStream l old mid taken) → AreBytes same → ((left : List ℕ) → AreBytes (t.sent ++ (same ++ left)) → PutsPrefix (appended old t.line) (listing_of (t.sent ++ (same ++ left))) now)
-    → Ended (with_inputs contents flash) C stream Full old now (Err write_fault)
+    → Ended (with_inputs contents flash) C stream Full old now (Err writing_failed)
 write_failed contents flash C stream taken piece same l rest Full old mid now e s f t fits p =
     let sent : AreBytes t.sent = stands_fit l t.lists.given t.sent t.lists.stands in
     let q : (left : List ℕ) → AreBytes left → PutsListed ((taken ++ piece) ++ left) old now
@@ -171,7 +171,7 @@ prefix_here taken line sent last old now fits g p =
 -- a sink that failed at the front of a stream
 pub prefix_failed : (contents : Option (List ℕ → Option (List ℕ))) (flash : Option (List ℕ)) (C : Mishap → Type 0) (stream taken line sent : List ℕ) (rest : Option (List ℕ)) (last : Bool) (Full : Type 0) (old now : Option (List ℕ))
     → Selects contents stream (preceded taken rest) → (last ≡ true → AtEnd rest) → Full → AreBytes sent → ((left : List ℕ) → FollowsUnlessLast last left → stream_listing (taken ++ left) ≡ Ok (line ++ listing_of (sent ++ left)))
-    → ((left : List ℕ) → AreBytes (sent ++ left) → PutsPrefix old (line ++ listing_of (sent ++ left)) now) → Ended (with_inputs contents flash) C stream Full old now (Err write_fault)
+    → ((left : List ℕ) → AreBytes (sent ++ left) → PutsPrefix old (line ++ listing_of (sent ++ left)) now) → Ended (with_inputs contents flash) C stream Full old now (Err writing_failed)
 prefix_failed contents flash C stream taken line sent rest last Full old now s e f fits g p =
     let q : (left : List ℕ) → FollowsUnlessLast last left → AreBytes left → PutsListed (taken ++ left) old now
     = λ left m fit. (line ++ listing_of (sent ++ left), (g left m, p left (all_append (λ b. b < 256) sent left fits fit))) in
@@ -180,7 +180,7 @@ prefix_failed contents flash C stream taken line sent rest last Full old now s e
 
 -- a sink that failed at the end
 pub end_failed : (contents : Option (List ℕ → Option (List ℕ))) (flash : Option (List ℕ)) (C : Mishap → Type 0) (stream taken : List ℕ) (rest : Option (List ℕ)) (Full : Type 0) (old now : Option (List ℕ))
-    → Selects contents stream (preceded taken rest) → AtEnd rest → Full → PutsListed taken old now → Ended (with_inputs contents flash) C stream Full old now (Err write_fault)
+    → Selects contents stream (preceded taken rest) → AtEnd rest → Full → PutsListed taken old now → Ended (with_inputs contents flash) C stream Full old now (Err writing_failed)
 end_failed None flash C stream taken rest Full old now s e f p = (refl, f, (p.0, p.1.1))
 end_failed (Some inputs) flash C stream taken rest Full old now s e f p =
     let all = known_all inputs stream taken rest s in
@@ -193,7 +193,7 @@ pub unread_end : (s m n : InputsState) (flash : Option (List ℕ)) (stream taken
     → Ended (with_inputs s.contents flash) (CameIn (step_over (stream ∷ []) s n)) stream Full old now (Err event)
 unread_end s m n flash stream taken l left Full old now event f sel a t k (inl h) q =
     let fault = at_fault s m n stream taken left f a h.1 q in
-    ends_same (with_inputs s.contents flash) (CameIn (step_over (stream ∷ []) s n)) stream Full old now event (read_fault stream) h.0
+    ends_same (with_inputs s.contents flash) (CameIn (step_over (stream ∷ []) s n)) stream Full old now event (reading_failed stream) h.0
     (broken s.contents flash (CameIn (step_over (stream ∷ []) s n)) stream taken m.rest Full old now sel (faulted s n flash stream fault.0 (omega (arith, fault.1, k))) (stream_so_far l old now taken t))
 unread_end s m n flash stream taken l left Full old now event f sel a t k (inr h) q =
     let piece = h.1.0 in

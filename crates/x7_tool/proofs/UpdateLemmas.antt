@@ -20,7 +20,7 @@ use Rattle.x7_update.proofs.KnownLemmas.{moments_weaker, only_read, read_moments
 use Rattle.x7_forms.specs.declared.bad_input.InputFault.TheVariants as input
 use Rattle.x7_forms.specs.declared.refusal.Why.{Why}
 use Rattle.x7_forms.specs.declared.refusal.Why.TheVariants as why
-use Rattle.x7_forms.specs.Event.{Event, bad_input, cause_of, differs, no_memory, read_fault, status_of, too_large, write_fault}
+use Rattle.x7_forms.specs.Event.{Event, bad_input, cause_of_event, differs, no_memory, reading_failed, status_of_event, too_large, writing_failed}
 use Rattle.x7_forms.specs.Form.{AskedForm, UpdatingFlash, names_of}
 use Rattle.x7_forms.specs.Message.{text_status}
 use Rattle.x7_forms.specs.Known.{Absent, Answer, Failing, Found, Known, Lacking, Mishap, flash_found, mishap_event, spoiled, spoiled_name, with_inputs, with_mishap}
@@ -135,8 +135,8 @@ unplayed_last form inputs new name event a (inr h) = other_fault (Some form) inp
 
 -- a fault of an update says nothing of the size of a flash
 fault_measured : (form : Option AskedForm) (n : UpdateNames) (new : FlashState) (fault : UpdateFault) → IsMeasured form new (Err (update_event n fault))
-fault_measured form n new (Failed true) = not_large form new write_fault (λ r. absurd (cc))
-fault_measured form n new (Failed false) = not_large form new (read_fault n.flash) (λ r. absurd (cc))
+fault_measured form n new (Failed true) = not_large form new writing_failed (λ r. absurd (cc))
+fault_measured form n new (Failed false) = not_large form new (reading_failed n.flash) (λ r. absurd (cc))
 fault_measured form n new TooLong = not_large form new (bad_input n.stream input.Long) (λ r. absurd (cc))
 fault_measured form n new (NoLayout place) = not_large form new (bad_input n.flash (input.Layout place)) (λ r. absurd (cc))
 fault_measured form n new (Differs place wrote read) = not_large form new (differs n.flash place) (λ r. absurd (cc))
@@ -177,8 +177,8 @@ refused_ends flash stream old new event out m l a kept =
     let form = UpdatingFlash flash stream in
     record {
       cause = has_cause form old new (Err event) a;
-      wrote = leaves_all form (cause_of event) old new event refl (no_break (known_in old) (Came (Some form) old new) (λ t end. FormGives t form end) event a) (out_same old new out);
-      near = near_all form (status_of event) old new refl;
+      wrote = leaves_all form (cause_of_event event) old new event refl (no_break (known_in old) (Came (Some form) old new) (λ t end. FormGives t form end) event a) (out_same old new out);
+      near = near_all form (status_of_event event) old new refl;
       measured = m;
       last = l;
       updates = kept;
@@ -230,7 +230,7 @@ stream_good (Some inputs) flash stream bytes h = inr (tt, subst (λ (r : Result 
 -- which fault of an update is one of a flash that is attached
 fault_last : (flash stream bytes : List ℕ) (inputs : InputsState) (new : FlashState) (fault : UpdateFault) → HasData (with_inputs inputs.contents None) stream bytes → new.extent ≤ flash_limit
     → FailsLast (Some (UpdatingFlash flash stream)) inputs new (Err (update_event (names flash stream) fault))
-fault_last flash stream bytes inputs new (Failed true) has size = not_fault (Some (UpdatingFlash flash stream)) inputs new write_fault (λ r. absurd (cc))
+fault_last flash stream bytes inputs new (Failed true) has size = not_fault (Some (UpdatingFlash flash stream)) inputs new writing_failed (λ r. absurd (cc))
 fault_last flash stream bytes inputs new (Failed false) has size = λ name a e at. inl (size, (no_text, stream_good inputs.contents flash stream bytes has))
 fault_last flash stream bytes inputs new TooLong has size = not_fault (Some (UpdatingFlash flash stream)) inputs new (bad_input stream input.Long) (λ r. absurd (cc))
 fault_last flash stream bytes inputs new (NoLayout place) has size = not_fault (Some (UpdatingFlash flash stream)) inputs new (bad_input flash (input.Layout place)) (λ r. absurd (cc))
@@ -241,9 +241,9 @@ fault_last flash stream bytes inputs new NoMemory has size = not_fault (Some (Up
 pub fault_ends : (flash stream bytes : List ℕ) (old new : Outside) (fault : UpdateFault) → new.out ≡ old.out → IsTrue (new.flash.names flash) → IsWithin old.flash.bytes → HasData (known_in old) stream bytes
     → HasData (with_inputs old.inputs.contents None) stream bytes → new.flash.extent ≤ flash_limit → HasCause bytes old.flash new.flash fault → (IsEarly fault → new.flash.bytes ≡ old.flash.bytes) → EndsAs (Some (UpdatingFlash flash stream)) old new (Err (update_event (names flash stream) fault))
 fault_ends flash stream bytes old new (Failed true) out asked within has reads size h early =
-    record { cause = (refl, inr (h.0, size, could_end flash stream bytes old within has h.2)); last = fault_last flash stream bytes old.inputs new.flash (Failed true) reads size; wrote = out_same old new out; near = near_all (UpdatingFlash flash stream) (status_of write_fault) old new refl; measured = fault_measured (Some (UpdatingFlash flash stream)) (names flash stream) new.flash (Failed true); updates = tt }
+    record { cause = (refl, inr (h.0, size, could_end flash stream bytes old within has h.2)); last = fault_last flash stream bytes old.inputs new.flash (Failed true) reads size; wrote = out_same old new out; near = near_all (UpdatingFlash flash stream) (status_of_event writing_failed) old new refl; measured = fault_measured (Some (UpdatingFlash flash stream)) (names flash stream) new.flash (Failed true); updates = tt }
 fault_ends flash stream bytes old new (Failed false) out asked within has reads size h early =
-    refused_ends flash stream old new (read_fault flash) out (fault_measured (Some (UpdatingFlash flash stream)) (names flash stream) new.flash (Failed false)) (fault_last flash stream bytes old.inputs new.flash (Failed false) reads size)
+    refused_ends flash stream old new (reading_failed flash) out (fault_measured (Some (UpdatingFlash flash stream)) (names flash stream) new.flash (Failed false)) (fault_last flash stream bytes old.inputs new.flash (Failed false) reads size)
     (inl (inr (record { mishap = Failing flash new.inputs.given; came = (refl, inr (record { among = inl refl; asked = asked; risen = h.0 })); is = refl; due = flash_due (known_in old) (Failing flash new.inputs.given) flash stream refl }))) (inl h.0)
 fault_ends flash stream bytes old new TooLong out asked within has reads size h early =
     refused_ends flash stream old new (bad_input stream input.Long) out (fault_measured (Some (UpdatingFlash flash stream)) (names flash stream) new.flash TooLong) (fault_last flash stream bytes old.inputs new.flash TooLong reads size)
@@ -259,7 +259,7 @@ fault_ends flash stream bytes old new (Differs place wrote read) out asked withi
         (λ t e. fault_known (names flash stream) old.flash.bytes (stream_data t stream) bytes (Differs place wrote read) within (data_at (known_in old) stream bytes has t e) ((new.flash.extent, h.0), h.1)),
   );
   wrote = out_same old new out;
-  near = near_all (UpdatingFlash flash stream) (status_of (differs flash place)) old new refl;
+  near = near_all (UpdatingFlash flash stream) (status_of_event (differs flash place)) old new refl;
   measured = fault_measured (Some (UpdatingFlash flash stream)) (names flash stream) new.flash (Differs place wrote read);
   last = fault_last flash stream bytes old.inputs new.flash (Differs place wrote read) reads size;
   updates = tt;

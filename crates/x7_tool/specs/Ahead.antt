@@ -78,6 +78,7 @@ abbrev pub StaysNearIn : Status → Option (List ℕ) → Outside → Outside �
 StaysNearIn s None old new = Unit {0}
 StaysNearIn s (Some stream) old new = StaysNearBy s stream old new
 
+-- how far the stream of a form that lists one was read, by how the run ended
 abbrev pub StaysNear : Status → Option AskedForm → Outside → Outside → Type 0
 StaysNear s form old new = StaysNearIn s (listed_by form) old new
 

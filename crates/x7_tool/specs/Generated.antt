@@ -39,13 +39,15 @@ abbrev pub words_sum : FrameMap → List ℕ → ℕ
 words_sum memory [] = 0
 words_sum memory (far ∷ fars) = sum (unwrap_or (memory far) []) + words_sum memory fars
 
--- the lines of a part's name and a seed, of a number, and of a sum
+-- the line of a part's name and a seed
 abbrev pub head_line : List ℕ → ℕ → List ℕ
 head_line name seed = codes "gen " ++ name ++ codes " " ++ decimal seed ++ codes "\n"
 
+-- the line of a number, after its key
 abbrev pub count_line : List ℕ → ℕ → List ℕ
 count_line key n = key ++ decimal n ++ codes "\n"
 
+-- the line of a sum
 abbrev pub sum_line : ℕ → List ℕ
 sum_line n = codes "sum " ++ hex_word n ++ codes "\n"
 

@@ -52,7 +52,7 @@ use Rattle.x7_debug.specs.Script.{IsScriptOf}
 use Rattle.x7_debug.specs.Transcript.{final_position, transcript_of}
 use Rattle.x7_tool.specs.Generated.{gen_text}
 use Rattle.x7_forms.specs.declared.bad_input.InputFault.TheVariants as input
-use Rattle.x7_forms.specs.Event.{Event, bad_input, differs, missing, no_memory, read_fault, too_large, usage, write_fault}
+use Rattle.x7_forms.specs.Event.{Event, bad_input, differs, missing, no_memory, reading_failed, too_large, usage, writing_failed}
 use Rattle.x7_forms.specs.Form.{AskedForm, Assembling, Booting, Debugging, FromMcs, Imaging, ImagingFor, Listing, PlanningFull, PlanningRead, Playing, PlayingSvf, ToMcs, PlanningPartial, Generating, UpdatingFlash}
 use Rattle.x7_tool.specs.BootText.{boot_text}
 use Rattle.x7_forms.specs.Known.{Absent, Answer, Broken, Found, Held, Known, and_so, data_in, part_of, stream_limit, whole_in, within}
@@ -71,7 +71,7 @@ listed_bytes stream bytes = and_so (text_by stream (stream_listing bytes)) (λ t
 abbrev pub listed_found : List ℕ → Found → Result Answer Event
 listed_found stream (Held bytes) = listed_bytes stream bytes
 listed_found stream Absent = Err (missing stream)
-listed_found stream (Broken bytes) = and_so (within stream stream_limit bytes) (λ _. Err (read_fault stream))
+listed_found stream (Broken bytes) = and_so (within stream stream_limit bytes) (λ _. Err (reading_failed stream))
 
 -- `list STREAM`: the listing of the stream, its header's line first
 abbrev pub listed : Known → List ℕ → Result Answer Event
@@ -173,6 +173,7 @@ PlannedRead name far n (Ok part) (Err event) = (fault : PlanFault) × IsReadFaul
 abbrev pub gen_answer : PartData → ℕ → Answer
 gen_answer part seed = record { stopped = false; text = gen_text part seed }
 
+-- `gen PART SEED` over known inputs: the summary, or why there is no part
 abbrev pub gen_made : Known → List ℕ → ℕ → Result Answer Event
 gen_made known part seed = and_so (part_of known part) (λ p. Ok (gen_answer p seed))
 
@@ -194,6 +195,7 @@ pub record DebugInputs : Type 0 where
   pub stream : List ℕ
   pub script : List ℕ
 
+-- the inputs of a debugging are read in the order of its words
 abbrev pub debug_inputs : Known → List ℕ → List ℕ → List ℕ → Result DebugInputs Event
 debug_inputs known part stream script =
     and_so (part_of known part) (λ p. and_so (stream_data known stream) (λ bytes. and_so (whole_in known script_limit script) (λ text. Ok (record { part = p; stream = bytes; script = text }))))
@@ -289,7 +291,7 @@ FlashBoots name part None (Err event) = event ≡ too_large name
 FlashBoots name part (Some (Held flash)) (Ok answer) = (length flash ≤ flash_limit) × (AreBytes flash → IsBootText part flash answer)
 FlashBoots name part (Some (Held flash)) (Err event) = (flash_limit < length flash) × (event ≡ too_large name)
 FlashBoots name part (Some Absent) end = end ≡ Err (missing name)
-FlashBoots name part (Some (Broken bytes)) end = end ≡ Err (read_fault name)
+FlashBoots name part (Some (Broken bytes)) end = end ≡ Err (reading_failed name)
 
 -- `boot PART FLASH`: the boot of the part from the flash
 abbrev pub BootedAs : List ℕ → Result PartData Event → Option Found → Result Answer Event → Type 0
@@ -298,7 +300,7 @@ BootedAs name (Ok part) flash end = FlashBoots name part flash end
 
 -- the event of a boot that came to no end
 abbrev pub boot_event : List ℕ → BootFault → Event
-boot_event name fault.Failed = read_fault name
+boot_event name fault.Failed = reading_failed name
 boot_event name fault.TooLarge = too_large name
 boot_event name fault.NoMemory = no_memory
 
@@ -315,8 +317,8 @@ no_text = record { stopped = false; text = [] }
 
 -- the event of an update that came to no end
 abbrev pub update_event : UpdateNames → UpdateFault → Event
-update_event names (update_fault.Failed true) = write_fault
-update_event names (update_fault.Failed false) = read_fault names.flash
+update_event names (update_fault.Failed true) = writing_failed
+update_event names (update_fault.Failed false) = reading_failed names.flash
 update_event names update_fault.TooLong = bad_input names.stream input.Long
 update_event names (update_fault.NoLayout place) = bad_input names.flash (input.Layout place)
 update_event names (update_fault.Differs place wrote read) = differs names.flash place
@@ -347,7 +349,7 @@ abbrev pub FlashUpdates : UpdateNames → Option Found → Result (List ℕ) Eve
 FlashUpdates names None stream end = UpdatesBytes names None stream end
 FlashUpdates names (Some (Held flash)) stream end = UpdatesBytes names (Some flash) stream end
 FlashUpdates names (Some Absent) stream end = end ≡ Err (missing names.flash)
-FlashUpdates names (Some (Broken bytes)) stream end = end ≡ Err (read_fault names.flash)
+FlashUpdates names (Some (Broken bytes)) stream end = end ≡ Err (reading_failed names.flash)
 
 -- `update FLASH STREAM`: no text, or why the flash isn't updated
 abbrev pub UpdatedAs : Known → UpdateNames → Result Answer Event → Type 0

@@ -20,6 +20,7 @@ pub record Sources : Type 0 where
   pub inputs : InputsState
   pub flash : FlashState
 
+-- the inputs and the flash as sources
 abbrev pub sources : InputsState → FlashState → Sources
 sources inputs flash = record { inputs = inputs; flash = flash }
 
@@ -27,6 +28,7 @@ sources inputs flash = record { inputs = inputs; flash = flash }
 abbrev pub known_from : Sources → Option Known
 known_from s = with_inputs s.inputs.contents s.flash.bytes
 
+-- the outside with these sources in place of its own
 abbrev pub with_sources : Outside → Sources → Outside
 with_sources o s = record o { inputs = s.inputs; flash = s.flash }
 
@@ -35,9 +37,11 @@ pub record Transfer : Type 0 where
   pub inputs : InputsState
   pub out : SinkState
 
+-- the inputs and the output as a transfer
 abbrev pub transfer : InputsState → SinkState → Transfer
 transfer inputs out = record { inputs = inputs; out = out }
 
+-- the outside with this transfer in place of its own inputs and output
 abbrev pub with_transfer : Outside → Transfer → Outside
 with_transfer o t = record o { inputs = t.inputs; out = t.out }
 

@@ -15,6 +15,7 @@ report_of part bytes = record {
   text = report_text part (state_of part on_the_bench false bytes) (reads_of part on_the_bench bytes) (memory_in part on_the_bench bytes);
 }
 
+-- the report of a play of these data, or that they read out more words than a play may
 unfoldable pub reported : PartData → List ℕ → Result Answer Event
 reported part bytes = if nat_lt reads_limit (length (reads_of part on_the_bench bytes)) then Err too_many_reads else Ok (report_of part bytes)
 

@@ -10,7 +10,7 @@ use Rattle.x7_listing.specs.StreamListing.{stream_listing}
 use Rattle.x7_forms.specs.declared.refusal.Refusal.{Refusal}
 use Rattle.x7_forms.specs.declared.refusal.Why.{Why}
 use Rattle.x7_forms.specs.declared.refusal.Why.TheVariants as why
-use Rattle.x7_forms.specs.Event.{Event, Cause, Wording, Want, Fault, Absence, Break, Contents, Difference, cause_of, differs, line_of, missing, no_memory, read_fault, too_large, usage, write_fault}
+use Rattle.x7_forms.specs.Event.{Event, Cause, Wording, Want, Fault, Absence, Break, Contents, Difference, cause_of_event, differs, line_of, missing, no_memory, reading_failed, too_large, usage, writing_failed}
 use Rattle.x7_forms.specs.Form.{AskedForm, Listing, UpdatingFlash, flash_names, listed_by, names_of, updated_by}
 use Rattle.x7_forms.specs.Known.{Answer, Held, Known, bytes_found, flash_found, with_inputs}
 use Rattle.x7_part.specs.Part.{PartData}
@@ -62,7 +62,7 @@ CausedBy Wording form old new event = ⊥
 CausedBy Want form old new event = event ≡ no_memory
 CausedBy Fault form old new event = Happens form old new event
 CausedBy Absence form old new event = Happens form old new event ⊎ Shows (known_in old) form (Err event)
-CausedBy Break form old new event = (event ≡ write_fault) × (SinkFails old.out new.out ⊎ WritesLast form old new)
+CausedBy Break form old new event = (event ≡ writing_failed) × (SinkFails old.out new.out ⊎ WritesLast form old new)
 CausedBy Difference form old new event = IsDifference form old new event × Agrees (known_in old) form (Err event)
 CausedBy Contents form old new event = Agrees (known_in old) form (Err event)
 
@@ -70,7 +70,7 @@ CausedBy Contents form old new event = Agrees (known_in old) form (Err event)
 abbrev pub EndIsCaused : Option AskedForm → Outside → Outside → Result Answer Event → Type 0
 EndIsCaused None old new end = end ≡ Err usage
 EndIsCaused (Some form) old new (Ok answer) = Agrees (known_in old) form (Ok answer)
-EndIsCaused (Some form) old new (Err event) = CausedBy (cause_of event) form old new event
+EndIsCaused (Some form) old new (Err event) = CausedBy (cause_of_event event) form old new event
 
 -- ---- what the output got
 
@@ -135,7 +135,7 @@ LeftBy _ form old new event = LeavesBy (listed_by form) event old new
 -- what the output got: the whole text, or what the event leaves of it
 abbrev pub Wrote : Option AskedForm → Outside → Outside → Result Answer Event → Type 0
 Wrote form old new (Ok answer) = PutsAll old.out answer.text new.out
-Wrote form old new (Err event) = LeftBy (cause_of event) form old new event
+Wrote form old new (Err event) = LeftBy (cause_of_event event) form old new event
 
 -- ---- how large a flash is
 
@@ -155,11 +155,11 @@ abbrev pub FailsLast : Option AskedForm → InputsState → FlashState → Resul
 FailsLast None old new end = Unit {0}
 FailsLast (Some form) old new (Ok answer) = Unit {0}
 FailsLast (Some form) old new (Err event) =
-    (name : List ℕ) → Among (flash_names (Some form)) name → event ≡ read_fault name → new.attached ≡ true → NeedsOnlyFlash form old new ⊎ Among (names_of (Some form)) name
+    (name : List ℕ) → Among (flash_names (Some form)) name → event ≡ reading_failed name → new.attached ≡ true → NeedsOnlyFlash form old new ⊎ Among (names_of (Some form)) name
 
 -- a flash of this name isn't there, was not attached, or is too large
 abbrev pub IsUnusable : List ℕ → FlashState → Event → Type 0
-IsUnusable name now event = (event ≡ missing name) ⊎ ((event ≡ too_large name) ⊎ ((event ≡ read_fault name) × (now.attached ≡ false)))
+IsUnusable name now event = (event ≡ missing name) ⊎ ((event ≡ too_large name) ⊎ ((event ≡ reading_failed name) × (now.attached ≡ false)))
 
 -- an update whose flash can't be used asks for no stream; the event may be that of a stream of its name too
 abbrev pub JudgesFlash : {A : Type 0} → Option AskedForm → Sources → Sources → Result A Event → Type 0
@@ -211,7 +211,7 @@ SaysEnd old new (Err event) = Tells old (line_of event) new
 abbrev pub Puts : Result Answer Event → SinkState → SinkState → Result Bool Event → Type 0
 Puts (Err event) old new got = (got ≡ Err event) × (new.written ≡ old.written)
 Puts (Ok answer) old new (Ok stopped) = (stopped ≡ answer.stopped) × PutsAll old answer.text new
-Puts (Ok answer) old new (Err event) = (event ≡ write_fault) × SinkFails old new × PutsSome old answer.text new
+Puts (Ok answer) old new (Err event) = (event ≡ writing_failed) × SinkFails old new × PutsSome old answer.text new
 
 -- a text of the form that is ready has its cause: it is due by what is known, or what the form names failed or was missing
 abbrev pub AnswersOver : AskedForm → Outside → Outside → Result Answer Event → Type 0
@@ -243,7 +243,7 @@ pub record MakesReadyFrom (form : AskedForm) (old new : Sources) (got : Result A
 
 -- a flash was not attached: its name isn't there, or the flash failed
 abbrev pub IsUnattached : List ℕ → FlashState → FlashState → Event → Type 0
-IsUnattached name old new event = ((event ≡ missing name) × FlashLacksAmong (name ∷ []) old new name) ⊎ ((event ≡ read_fault name) × FlashFailsAmong (name ∷ []) old new name)
+IsUnattached name old new event = ((event ≡ missing name) × FlashLacksAmong (name ∷ []) old new name) ⊎ ((event ≡ reading_failed name) × FlashFailsAmong (name ∷ []) old new name)
 
 -- a flash can't be used: it was not attached and none is, or it is larger than a flash may be
 abbrev pub IsUnopened : List ℕ → FlashState → FlashState → Event → Type 0

@@ -2,7 +2,7 @@
 use Rattle.std.specs.Prelude.{◌≡◌, ℕ, List, [], ◌∷◌, Option, None, Some, Result, Ok, Err, ◌⊎◌}
 use Rattle.x7_words.specs.Input.{InputsState}
 use Rattle.x7_boot.specs.Image.{flash_limit}
-use Rattle.x7_forms.specs.Event.{Absence, Cause, Contents, Event, Fault, cause_of, too_many_reads}
+use Rattle.x7_forms.specs.Event.{Absence, Cause, Contents, Event, Fault, cause_of_event, too_many_reads}
 use Rattle.x7_forms.specs.Form.{AskedForm, Assembling, Booting, Debugging, FromMcs, Generating, Imaging, ImagingFor, Listing, PlanningFull, PlanningPartial, PlanningRead, Playing, PlayingSvf, ToMcs, UpdatingFlash, flash_names}
 use Rattle.x7_forms.specs.Known.{part_limit, stream_limit}
 use Rattle.x7_forms.specs.Step.{Among}
@@ -42,4 +42,4 @@ StopsBy _ form old now event = Unit {0}
 abbrev pub Stops : {A : Type 0} → Option AskedForm → InputsState → InputsState → Result A Event → Type 0
 Stops None old now end = Unit {0}
 Stops (Some form) old now (Ok a) = Unit {0}
-Stops (Some form) old now (Err event) = StopsBy (cause_of event) form old now event
+Stops (Some form) old now (Err event) = StopsBy (cause_of_event event) form old now event

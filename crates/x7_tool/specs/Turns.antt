@@ -8,7 +8,7 @@ use Rattle.x7_listing.specs.Listing.{listing_of}
 use Rattle.x7_listing.specs.StreamListing.{stream_listing}
 use Rattle.x7_listing.specs.Telling.{ListerState, ListerStandsFor}
 use Rattle.x7_forms.specs.Turn.{longest_beginning}
-use Rattle.x7_forms.specs.Event.{Event, no_memory, write_fault}
+use Rattle.x7_forms.specs.Event.{Event, no_memory, writing_failed}
 
 -- What was put after the first bytes is the listing so far of these bytes, and the lister keeps no text of it.
 pub record Lists (l : ListerState) (first now : Option (List ℕ)) (bytes : List ℕ) : Type 0 where
@@ -19,7 +19,7 @@ pub record Lists (l : ListerState) (first now : Option (List ℕ)) (bytes : List
 
 -- a call that writes more of a listing came to nothing: memory was wanting, and nothing was written, or the sink failed
 abbrev pub IsUnlisted : SinkState → SinkState → Event → Type 0
-IsUnlisted old new event = ((event ≡ no_memory) × (new.written ≡ old.written)) ⊎ ((event ≡ write_fault) × SinkFails old new)
+IsUnlisted old new event = ((event ≡ no_memory) × (new.written ≡ old.written)) ⊎ ((event ≡ writing_failed) × SinkFails old new)
 
 -- The listing stopped in a piece: whatever was listed before, and may follow, a prefix of the listing of all of it was put.
 abbrev pub StopsIn : ListerState → Option (List ℕ) → List ℕ → Option (List ℕ) → Type 0

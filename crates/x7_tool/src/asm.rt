@@ -4,11 +4,10 @@ ghost use Rattle.x7_forms.specs.Message.{event_of};
 ghost use Rattle.x7_tool.specs.Outcome.{asm_event};
 ghost use Rattle.x7_tool.specs.Run.{MakesReady};
 ghost use Rattle.x7_forms.specs.Form.{Assembling};
-ghost use Rattle.x7_tool.specs.Ready.{whole_of};
+ghost use Rattle.x7_tool.specs.Ready.{text_of_bytes};
 ghost use Rattle.x7_forms.specs.Step.{seen};
 
 use crate::feeding::feed_whole;
-use crate::text::Text;
 use std::alloc::Global;
 use x7_forms::{InputFault, Refusal, Why};
 use x7_listing::{AsmFault, AsmLines};
@@ -34,18 +33,12 @@ pub(crate) fn asm<'w, I: Inputs>(
     alloc: Global,
     inputs: &mut I,
     name: &'w str,
-) -> Result<Text, Refusal<'w>>
-    ensures { MakesReady (Assembling name.now) (I.state inputs.old) (I.state inputs.new) (seen whole_of result) }
+) -> Result<Vec<u8>, Refusal<'w>>
+    ensures { MakesReady (Assembling name.now) (I.state inputs.old) (I.state inputs.new) (seen text_of_bytes result) }
 {
-    let read = match feed_whole(alloc, inputs, name, AsmLines::new(alloc)) {
-        Ok(read) => read,
-        Err(refusal) => return Err(refusal),
-    };
+    let read = feed_whole(alloc, inputs, name, AsmLines::new(alloc))?;
     match read {
-        Ok(bytes) => Ok(Text {
-            stopped: false,
-            text: bytes,
-        }),
+        Ok(bytes) => Ok(bytes),
         Err(fault) => Err(refusal_of(name, fault)),
     }
 }

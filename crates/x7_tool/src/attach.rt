@@ -41,10 +41,7 @@ pub(crate) fn open_flash<'w, F: Flash>(flash: &mut F, name: &'w str) -> Result<(
     ensures stays { FlashStays (F.state flash.old) (F.state flash.new) (F.found_since flash.old) (F.found_since flash.new) }
     ensures asks { AsksFor (F.state flash.old) name.now (F.state flash.new) }
 {
-    match attach(flash, name) {
-        Ok(()) => (),
-        Err(refusal) => return Err(refusal),
-    }
+    attach(flash, name)?;
     if flash.size() > FLASH_LIMIT {
         return Err(Refusal {
             reason: Why::TooLarge,

@@ -6,7 +6,7 @@ ghost use Rattle.x7_boot.specs.Boot.{IsBoot};
 ghost use Rattle.x7_engine.specs.Standing.{NoWordDue};
 ghost use Rattle.x7_forms.specs.Form.{Booting};
 ghost use Rattle.x7_boot.specs.Image.{flash_limit};
-ghost use Rattle.x7_forms.specs.Event.{no_memory, read_fault};
+ghost use Rattle.x7_forms.specs.Event.{no_memory, reading_failed};
 ghost use Rattle.x7_forms.specs.Message.{event_of};
 ghost use Rattle.x7_tool.specs.Outcome.{IsBootText, boot_event, has_failed};
 ghost use Rattle.x7_tool.specs.BootText.{OfBoot, boot_text};
@@ -75,10 +75,7 @@ fn text_of<'w>(alloc: Global, booted: Booted) -> Result<PlayText, Refusal<'w>>
     ensures ok { IfOk result (λ text. (part : PartData) (flash : List ℕ) → IsBoot part flash booted → NoWordDue booted.device → IsBootText part flash (text_of_play text)) }
     ensures err { IfErr result (λ r. event_of r ≡ no_memory) }
 {
-    match ready_text(alloc, booted) {
-        Ok(text) => Ok(text),
-        Err(_) => Err(Refusal::unnamed(Why::NoMemory)),
-    }
+    Ok(ready_text(alloc, booted)?)
 }
 
 /// Why a boot came to no end.
@@ -106,14 +103,11 @@ fn boot_from<'w, F: Flash>(
     name: &'w str,
 ) -> Result<PlayText, Refusal<'w>>
     ensures due { FlashComes name.now part.now (F.state flash.old) (F.state flash.new) (seen text_of_play result) }
-    ensures failed { IfErr result (λ r. event_of r ≡ read_fault name.now → (F.state flash.new).attached ≡ true → (F.state flash.new).extent ≤ flash_limit) }
+    ensures failed { IfErr result (λ r. event_of r ≡ reading_failed name.now → (F.state flash.new).attached ≡ true → (F.state flash.new).extent ≤ flash_limit) }
     ensures reads { ReadsFlash name.now (F.state flash.old) (F.state flash.new) }
     ensures unwritten { Unwritten (F.state flash.old) (F.state flash.new) (F.found_since flash.old) (F.found_since flash.new) }
 {
-    match attach(flash, name) {
-        Ok(()) => (),
-        Err(refusal) => return Err(refusal),
-    }
+    attach(flash, name)?;
     match x7_boot::boot(alloc, part, flash) {
         Ok(booted) => text_of(alloc, booted),
         Err(fault) => Err(refusal_of(name, fault)),
@@ -133,8 +127,6 @@ pub(crate) fn boot<'w, I: Inputs, F: Flash>(
     ensures reads { ReadsFlash name.now (F.state flash.old) (F.state flash.new) }
     ensures unwritten { Unwritten (F.state flash.old) (F.state flash.new) (F.found_since flash.old) (F.found_since flash.new) }
 {
-    match read_part(alloc, inputs, part) {
-        Ok(part) => boot_from(alloc, &part, flash, name),
-        Err(refusal) => Err(refusal),
-    }
+    let part = read_part(alloc, inputs, part)?;
+    boot_from(alloc, &part, flash, name)
 }

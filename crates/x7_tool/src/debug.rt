@@ -61,22 +61,14 @@ fn read_given<'w, I: Inputs>(
     ensures asks { AsksFew (I.state inputs.old) 3 (I.state inputs.new) }
     ensures inputs { Stays (I.state inputs.old) (I.state inputs.new) }
 {
-    let part = match read_part(alloc, inputs, part) {
-        Ok(part) => part,
-        Err(refusal) => return Err(refusal),
-    };
-    let stream = match read_data(alloc, inputs, stream) {
-        Ok(stream) => stream,
-        Err(refusal) => return Err(refusal),
-    };
-    match read_whole(alloc, inputs, script, SCRIPT_LIMIT) {
-        Ok(script) => Ok(Given {
-            part,
-            stream,
-            script,
-        }),
-        Err(refusal) => Err(refusal),
-    }
+    let part = read_part(alloc, inputs, part)?;
+    let stream = read_data(alloc, inputs, stream)?;
+    let script = read_whole(alloc, inputs, script, SCRIPT_LIMIT)?;
+    Ok(Given {
+        part,
+        stream,
+        script,
+    })
 }
 
 /// What a script shows of a session at its first position, and whether the device has a fault where the script ends.
@@ -85,13 +77,11 @@ fn shown<'w>(alloc: Global, session: &mut Session, script: &Script) -> Result<Te
     ensures ok { IfOk result (λ text. shown_of session.old.part session.old.stream script.now ≡ whole_of text) }
     ensures err { IfErr result (λ r. event_of r ≡ no_memory) }
 {
-    match transcript(alloc, session, script) {
-        Ok(text) => Ok(Text {
-            stopped: session.device().fault().is_some(),
-            text,
-        }),
-        Err(_) => Err(Refusal::unnamed(Why::NoMemory)),
-    }
+    let text = transcript(alloc, session, script)?;
+    Ok(Text {
+        stopped: session.device().fault().is_some(),
+        text,
+    })
 }
 
 /// What a script shows of a stream, and whether the device has a fault where it ends.
@@ -124,8 +114,6 @@ pub(crate) fn debug<'w, I: Inputs>(
 ) -> Result<Text, Refusal<'w>>
     ensures { MakesReady (Debugging part.now stream.now script.now) (I.state inputs.old) (I.state inputs.new) (seen whole_of result) }
 {
-    match read_given(alloc, inputs, part, stream, script) {
-        Ok(given) => text_of(alloc, given, script),
-        Err(refusal) => Err(refusal),
-    }
+    let given = read_given(alloc, inputs, part, stream, script)?;
+    text_of(alloc, given, script)
 }

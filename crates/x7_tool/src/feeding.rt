@@ -52,18 +52,12 @@ pub(crate) fn feed_whole<'w, I: Inputs, T: TakesLines>(
     ensures asks { AsksFew (I.state inputs.old) 1 (I.state inputs.new) }
     ensures inputs { Stays (I.state inputs.old) (I.state inputs.new) }
 {
-    match open(inputs, name) {
-        Ok(()) => (),
-        Err(refusal) => return Err(refusal),
-    }
+    open(inputs, name)?;
     let mut piece = [0u8; TURN];
     let mut left = TEXT_LIMIT;
     let mut read = Ok(LineReader::new(alloc, taker));
     loop {
-        let turn = match next_turn(inputs, name, left, &mut piece) {
-            Ok(turn) => turn,
-            Err(refusal) => return Err(refusal),
-        };
+        let turn = next_turn(inputs, name, left, &mut piece)?;
         read = take_turn(read, &piece[..turn.count]);
         left -= turn.count;
         if turn.last {

@@ -15,12 +15,11 @@ ghost use Rattle.x7_tool.specs.Outcome.{gen_answer};
 ghost use Rattle.x7_tool.specs.Run.{MakesReady};
 ghost use Rattle.x7_forms.specs.Form.{Generating};
 ghost use Rattle.x7_playing.specs.Play.{HasPlayed};
-ghost use Rattle.x7_tool.specs.Ready.{whole_of};
+ghost use Rattle.x7_tool.specs.Ready.{text_of_bytes};
 ghost use Rattle.x7_forms.specs.Step.{seen};
 
-use crate::text::Text;
 use std::alloc::Global;
-use x7_forms::{Refusal, Why, read_part};
+use x7_forms::{Refusal, read_part};
 use x7_memory::{Draft, Memory, Plan};
 use x7_part::Part;
 use x7_planner::FullStream;
@@ -258,17 +257,11 @@ pub fn gen_text(alloc: Global, part: &Part, seed: u32) -> Result<Vec<u8>, NoMemo
 }
 
 /// The whole text of a part and a seed.
-fn summary_of<'w>(alloc: Global, part: &Part, seed: u32) -> Result<Text, Refusal<'w>>
-    ensures ok { IfOk result (λ text. whole_of text ≡ gen_answer part.now seed) }
+fn summary_of<'w>(alloc: Global, part: &Part, seed: u32) -> Result<Vec<u8>, Refusal<'w>>
+    ensures ok { IfOk result (λ text. text_of_bytes text ≡ gen_answer part.now seed) }
     ensures err { IfErr result (λ r. event_of r ≡ no_memory) }
 {
-    match gen_text(alloc, part, seed) {
-        Ok(text) => Ok(Text {
-            stopped: false,
-            text,
-        }),
-        Err(_) => Err(Refusal::unnamed(Why::NoMemory)),
-    }
+    Ok(gen_text(alloc, part, seed)?)
 }
 
 /// The text of `gen PART SEED`.
@@ -277,12 +270,9 @@ pub(crate) fn generate<'w, I: Inputs>(
     inputs: &mut I,
     name: &'w str,
     seed: u32,
-) -> Result<Text, Refusal<'w>>
-    ensures { MakesReady (Generating name.now seed) (I.state inputs.old) (I.state inputs.new) (seen whole_of result) }
+) -> Result<Vec<u8>, Refusal<'w>>
+    ensures { MakesReady (Generating name.now seed) (I.state inputs.old) (I.state inputs.new) (seen text_of_bytes result) }
 {
-    let part = match read_part(alloc, inputs, name) {
-        Ok(part) => part,
-        Err(refusal) => return Err(refusal),
-    };
+    let part = read_part(alloc, inputs, name)?;
     summary_of(alloc, &part, seed)
 }

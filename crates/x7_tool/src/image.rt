@@ -10,12 +10,11 @@ ghost use Rattle.x7_forms.specs.declared.bad_input.InputFault.TheVariants as inp
 ghost use Rattle.x7_tool.specs.Outcome.{image_by, image_streams};
 ghost use Rattle.x7_tool.specs.Run.{MakesReady};
 ghost use Rattle.x7_forms.specs.Form.{Imaging, ImagingFor};
-ghost use Rattle.x7_tool.specs.Ready.{whole_of};
+ghost use Rattle.x7_tool.specs.Ready.{text_of_bytes};
 ghost use Rattle.x7_tool.specs.Streamed.{streams_of};
 ghost use Rattle.x7_forms.specs.Step.{AnswersAs, seen, step_over};
 
 use crate::stream::{Stream, read_stream};
-use crate::text::Text;
 use std::alloc::Global;
 use x7_boot::ImageFault;
 use x7_forms::{InputFault, Refusal, Why, read_part};
@@ -45,14 +44,9 @@ fn read_streams<'w, I: Inputs>(
     ensures asks { AsksFew (I.state inputs.old) 2 (I.state inputs.new) }
     ensures inputs { Stays (I.state inputs.old) (I.state inputs.new) }
 {
-    let golden = match read_stream(alloc, inputs, golden) {
-        Ok(stream) => stream,
-        Err(refusal) => return Err(refusal),
-    };
-    match read_stream(alloc, inputs, update) {
-        Ok(update) => Ok(Streams { golden, update }),
-        Err(refusal) => Err(refusal),
-    }
+    let golden = read_stream(alloc, inputs, golden)?;
+    let update = read_stream(alloc, inputs, update)?;
+    Ok(Streams { golden, update })
 }
 
 /// The update stream, which has this name, would end past the end of the largest flash.
@@ -66,20 +60,17 @@ fn too_long<'w>(name: &'w str) -> Refusal<'w>
 }
 
 /// The image of two streams for parts whose start address counts bytes.
-fn plain_text<'w>(alloc: Global, streams: &Streams, name: &'w str) -> Result<Text, Refusal<'w>>
+fn plain_text<'w>(alloc: Global, streams: &Streams, name: &'w str) -> Result<Vec<u8>, Refusal<'w>>
     requires golden { streams.now.golden.start ≤ length streams.now.golden.bytes.items }
     requires update { streams.now.update.start ≤ length streams.now.update.bytes.items }
-    ensures ok { IfOk result (λ text. image_by name.now 1 (streams_of streams.now) ≡ Ok (whole_of text)) }
+    ensures ok { IfOk result (λ text. image_by name.now 1 (streams_of streams.now) ≡ Ok (text_of_bytes text)) }
     ensures err { IfErr result (λ r. (event_of r ≡ no_memory) ⊎ (image_by name.now 1 (streams_of streams.now) ≡ Err (event_of r))) }
     ensures about { IfErr result (λ r. IsAbout name.now (event_of r)) }
 {
     let golden = &streams.golden.bytes[streams.golden.start..];
     let update = &streams.update.bytes[streams.update.start..];
     match x7_boot::image(alloc, golden, update) {
-        Ok(text) => Ok(Text {
-            stopped: false,
-            text,
-        }),
+        Ok(text) => Ok(text),
         Err(ImageFault::TooLong) => Err(too_long(name)),
         Err(ImageFault::NoMemory) => Err(Refusal::unnamed(Why::NoMemory)),
     }
@@ -91,20 +82,17 @@ fn part_text<'w>(
     part: &Part,
     streams: &Streams,
     name: &'w str,
-) -> Result<Text, Refusal<'w>>
+) -> Result<Vec<u8>, Refusal<'w>>
     requires golden { streams.now.golden.start ≤ length streams.now.golden.bytes.items }
     requires update { streams.now.update.start ≤ length streams.now.update.bytes.items }
-    ensures ok { IfOk result (λ text. image_by name.now part.now.start_unit (streams_of streams.now) ≡ Ok (whole_of text)) }
+    ensures ok { IfOk result (λ text. image_by name.now part.now.start_unit (streams_of streams.now) ≡ Ok (text_of_bytes text)) }
     ensures err { IfErr result (λ r. (event_of r ≡ no_memory) ⊎ (image_by name.now part.now.start_unit (streams_of streams.now) ≡ Err (event_of r))) }
     ensures about { IfErr result (λ r. IsAbout name.now (event_of r)) }
 {
     let golden = &streams.golden.bytes[streams.golden.start..];
     let update = &streams.update.bytes[streams.update.start..];
     match x7_boot::image_for(alloc, part, golden, update) {
-        Ok(text) => Ok(Text {
-            stopped: false,
-            text,
-        }),
+        Ok(text) => Ok(text),
         Err(ImageFault::TooLong) => Err(too_long(name)),
         Err(ImageFault::NoMemory) => Err(Refusal::unnamed(Why::NoMemory)),
     }
@@ -116,13 +104,11 @@ pub(crate) fn image<'w, I: Inputs>(
     inputs: &mut I,
     golden: &'w str,
     update: &'w str,
-) -> Result<Text, Refusal<'w>>
-    ensures { MakesReady (Imaging golden.now update.now) (I.state inputs.old) (I.state inputs.new) (seen whole_of result) }
+) -> Result<Vec<u8>, Refusal<'w>>
+    ensures { MakesReady (Imaging golden.now update.now) (I.state inputs.old) (I.state inputs.new) (seen text_of_bytes result) }
 {
-    match read_streams(alloc, inputs, golden, update) {
-        Ok(streams) => plain_text(alloc, &streams, update),
-        Err(refusal) => Err(refusal),
-    }
+    let streams = read_streams(alloc, inputs, golden, update)?;
+    plain_text(alloc, &streams, update)
 }
 
 /// The image of `image PART GOLDEN UPDATE`.
@@ -132,15 +118,10 @@ pub(crate) fn image_for<'w, I: Inputs>(
     part: &'w str,
     golden: &'w str,
     update: &'w str,
-) -> Result<Text, Refusal<'w>>
-    ensures { MakesReady (ImagingFor part.now golden.now update.now) (I.state inputs.old) (I.state inputs.new) (seen whole_of result) }
+) -> Result<Vec<u8>, Refusal<'w>>
+    ensures { MakesReady (ImagingFor part.now golden.now update.now) (I.state inputs.old) (I.state inputs.new) (seen text_of_bytes result) }
 {
-    let part = match read_part(alloc, inputs, part) {
-        Ok(part) => part,
-        Err(refusal) => return Err(refusal),
-    };
-    match read_streams(alloc, inputs, golden, update) {
-        Ok(streams) => part_text(alloc, &part, &streams, update),
-        Err(refusal) => Err(refusal),
-    }
+    let part = read_part(alloc, inputs, part)?;
+    let streams = read_streams(alloc, inputs, golden, update)?;
+    part_text(alloc, &part, &streams, update)
 }

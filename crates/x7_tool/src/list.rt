@@ -5,7 +5,7 @@ ghost use Rattle.x7_words.specs.Word.{AreBytes};
 ghost use Rattle.x7_listing.specs.Listing.{listing_of};
 ghost use Rattle.x7_tool.specs.Ahead.{IsLonger};
 ghost use Rattle.x7_forms.specs.Message.{event_of};
-ghost use Rattle.x7_forms.specs.Event.{no_memory, write_fault};
+ghost use Rattle.x7_forms.specs.Event.{no_memory, writing_failed};
 ghost use Rattle.x7_listing.specs.Telling.{ListerStandsFor};
 ghost use Rattle.x7_tool.specs.Outside.{transfer};
 ghost use Rattle.x7_tool.specs.Run.{AnsweredListing};
@@ -73,7 +73,7 @@ fn put_beginning<'w, O: Sink>(
     ensures ok { OnOk result (Lists lister.new (appended (O.state out.old).written line.now) (O.state out.new).written content.now) }
     ensures err { IfErr result (λ r. (rest : List ℕ) → AreBytes (content.now ++ rest)
         → PutsPrefix (O.state out.old).written (line.now ++ listing_of (content.now ++ rest)) (O.state out.new).written) }
-    ensures why { IfErr result (λ r. (event_of r ≡ no_memory) ⊎ ((event_of r ≡ write_fault) × SinkFails (O.state out.old) (O.state out.new))) }
+    ensures why { IfErr result (λ r. (event_of r ≡ no_memory) ⊎ ((event_of r ≡ writing_failed) × SinkFails (O.state out.old) (O.state out.new))) }
     ensures fits { AreBytes content.now }
     ensures counts { Counts (O.state out.old) (O.state out.new) }
 {
@@ -111,36 +111,21 @@ pub(crate) fn list<'w, I: Inputs, O: Sink>(
 ) -> Result<(), Refusal<'w>>
     ensures { AnsweredListing stream.now (transfer (I.state inputs.old) (O.state out.old)) (transfer (I.state inputs.new) (O.state out.new)) (seen (λ _. false) result) }
 {
-    match open(inputs, stream) {
-        Ok(()) => (),
-        Err(refusal) => return Err(refusal),
-    }
-    let beginning = match read_beginning(alloc, inputs, stream) {
-        Ok(beginning) => beginning,
-        Err(refusal) => return Err(refusal),
-    };
+    open(inputs, stream)?;
+    let beginning = read_beginning(alloc, inputs, stream)?;
     let mut lister = Lister::new(alloc);
     let line: &[u8] = &beginning.line;
     let content = &beginning.bytes[beginning.start..];
     if beginning.last {
         return put_short(&mut lister, out, line, content);
     }
-    match put_beginning(&mut lister, out, line, content) {
-        Ok(()) => (),
-        Err(refusal) => return Err(refusal),
-    }
+    put_beginning(&mut lister, out, line, content)?;
     let mut piece = [0u8; TURN];
     let mut left = STREAM_LIMIT - beginning.bytes.len();
     loop {
-        let turn = match next_turn(inputs, stream, left, &mut piece) {
-            Ok(turn) => turn,
-            Err(refusal) => return Err(refusal),
-        };
+        let turn = next_turn(inputs, stream, left, &mut piece)?;
         let bytes = &piece[..turn.count];
-        match put_turn(&mut lister, out, bytes) {
-            Ok(()) => (),
-            Err(refusal) => return Err(refusal),
-        }
+        put_turn(&mut lister, out, bytes)?;
         left -= turn.count;
         if turn.last {
             return put_end(&mut lister, out);

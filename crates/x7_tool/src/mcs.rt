@@ -4,11 +4,10 @@ ghost use Rattle.x7_forms.specs.Message.{event_of};
 ghost use Rattle.x7_tool.specs.Outcome.{mcs_event};
 ghost use Rattle.x7_tool.specs.Run.{MakesReady};
 ghost use Rattle.x7_forms.specs.Form.{FromMcs, ToMcs};
-ghost use Rattle.x7_tool.specs.Ready.{text_of_image, whole_of};
+ghost use Rattle.x7_tool.specs.Ready.{text_of_bytes, text_of_image};
 ghost use Rattle.x7_forms.specs.Step.{seen};
 
 use crate::feeding::feed_whole;
-use crate::text::Text;
 use std::alloc::Global;
 use x7_forms::{InputFault, Refusal, Why, read_whole};
 use x7_mcs::{FLASH_LIMIT, McsFault, McsLines, McsText};
@@ -40,14 +39,8 @@ pub(crate) fn mcs<'w, I: Inputs>(
 ) -> Result<McsText, Refusal<'w>>
     ensures { MakesReady (ToMcs image.now) (I.state inputs.old) (I.state inputs.new) (seen text_of_image result) }
 {
-    let bytes = match read_whole(alloc, inputs, image, FLASH_LIMIT) {
-        Ok(bytes) => bytes,
-        Err(refusal) => return Err(refusal),
-    };
-    match McsText::new(alloc, bytes) {
-        Ok(text) => Ok(text),
-        Err(_) => Err(Refusal::unnamed(Why::NoMemory)),
-    }
+    let bytes = read_whole(alloc, inputs, image, FLASH_LIMIT)?;
+    Ok(McsText::new(alloc, bytes)?)
 }
 
 /// The image of `unmcs TEXT`, which is read line by line while it comes.
@@ -55,18 +48,12 @@ pub(crate) fn unmcs<'w, I: Inputs>(
     alloc: Global,
     inputs: &mut I,
     name: &'w str,
-) -> Result<Text, Refusal<'w>>
-    ensures { MakesReady (FromMcs name.now) (I.state inputs.old) (I.state inputs.new) (seen whole_of result) }
+) -> Result<Vec<u8>, Refusal<'w>>
+    ensures { MakesReady (FromMcs name.now) (I.state inputs.old) (I.state inputs.new) (seen text_of_bytes result) }
 {
-    let read = match feed_whole(alloc, inputs, name, McsLines::new(alloc)) {
-        Ok(read) => read,
-        Err(refusal) => return Err(refusal),
-    };
+    let read = feed_whole(alloc, inputs, name, McsLines::new(alloc))?;
     match read {
-        Ok(image) => Ok(Text {
-            stopped: false,
-            text: image,
-        }),
+        Ok(image) => Ok(image),
         Err(fault) => Err(refusal_of(name, fault)),
     }
 }

@@ -11,13 +11,12 @@ ghost use Rattle.x7_forms.specs.Turn.{StandsAt};
 ghost use Rattle.x7_forms.specs.Form.{PlanningFull, PlanningPartial, PlanningRead};
 ghost use Rattle.x7_tool.specs.Planned.{ReadsPlan};
 ghost use Rattle.x7_tool.specs.FullText.{full_of};
-ghost use Rattle.x7_tool.specs.Ready.{whole_of};
+ghost use Rattle.x7_tool.specs.Ready.{text_of_bytes};
 ghost use Rattle.x7_forms.specs.Step.{seen};
 ghost use Rattle.x7_tool.specs.Run.{MakesReady};
 
 use crate::feeding::feed_whole;
 use crate::full_text::FullText;
-use crate::text::Text;
 use std::alloc::Global;
 use x7_forms::{InputFault, Refusal, Why, read_part};
 use x7_frames::{FrameLines, FramesFault};
@@ -74,10 +73,7 @@ fn read_plan<'w, I: Inputs>(
     let Ok(lines) = FrameLines::new(alloc, part) else {
         return Err(Refusal::unnamed(Why::NoMemory));
     };
-    let read = match feed_whole(alloc, inputs, name, lines) {
-        Ok(read) => read,
-        Err(refusal) => return Err(refusal),
-    };
+    let read = feed_whole(alloc, inputs, name, lines)?;
     match read {
         Ok(plan) => Ok(plan),
         Err(fault) => Err(frames_refusal(name, fault)),
@@ -93,14 +89,8 @@ pub(crate) fn plan_full<'w, I: Inputs>(
 ) -> Result<FullText, Refusal<'w>>
     ensures { MakesReady (PlanningFull part.now frames.now) (I.state inputs.old) (I.state inputs.new) (seen full_of result) }
 {
-    let known = match read_part(alloc, inputs, part) {
-        Ok(known) => known,
-        Err(refusal) => return Err(refusal),
-    };
-    let plan = match read_plan(alloc, inputs, &known, frames) {
-        Ok(plan) => plan,
-        Err(refusal) => return Err(refusal),
-    };
+    let known = read_part(alloc, inputs, part)?;
+    let plan = read_plan(alloc, inputs, &known, frames)?;
     FullText::new(alloc, known, plan)
 }
 
@@ -110,18 +100,15 @@ fn partial_text<'w>(
     part: &Part,
     plan: &Plan,
     frames: &'w str,
-) -> Result<Text, Refusal<'w>>
+) -> Result<Vec<u8>, Refusal<'w>>
     requires { plan.now.width ≡ frame_words part.now }
-    ensures ok { IfOk result (λ end. (text : List ℕ) → IsPlanOf part.now text (Ok plan.now) → PlannedPartial frames.now (Ok (record { part = part.now; text = text })) (Ok (whole_of end))) }
+    ensures ok { IfOk result (λ end. (text : List ℕ) → IsPlanOf part.now text (Ok plan.now) → PlannedPartial frames.now (Ok (record { part = part.now; text = text })) (Ok (text_of_bytes end))) }
     ensures err { IfErr result (λ r. (event_of r ≡ no_memory)
         ⊎ ((text : List ℕ) → IsPlanOf part.now text (Ok plan.now) → PlannedPartial frames.now (Ok (record { part = part.now; text = text })) (Err (event_of r)))) }
     ensures about { IfErr result (λ r. IsAbout frames.now (event_of r)) }
 {
     match partial(alloc, part, plan) {
-        Ok(text) => Ok(Text {
-            stopped: false,
-            text,
-        }),
+        Ok(text) => Ok(text),
         Err(fault) => Err(planner_refusal(frames, fault)),
     }
 }
@@ -132,17 +119,11 @@ pub(crate) fn plan_partial<'w, I: Inputs>(
     inputs: &mut I,
     part: &'w str,
     frames: &'w str,
-) -> Result<Text, Refusal<'w>>
-    ensures { MakesReady (PlanningPartial part.now frames.now) (I.state inputs.old) (I.state inputs.new) (seen whole_of result) }
+) -> Result<Vec<u8>, Refusal<'w>>
+    ensures { MakesReady (PlanningPartial part.now frames.now) (I.state inputs.old) (I.state inputs.new) (seen text_of_bytes result) }
 {
-    let known = match read_part(alloc, inputs, part) {
-        Ok(known) => known,
-        Err(refusal) => return Err(refusal),
-    };
-    let plan = match read_plan(alloc, inputs, &known, frames) {
-        Ok(plan) => plan,
-        Err(refusal) => return Err(refusal),
-    };
+    let known = read_part(alloc, inputs, part)?;
+    let plan = read_plan(alloc, inputs, &known, frames)?;
     partial_text(alloc, &known, &plan, frames)
 }
 
@@ -153,16 +134,13 @@ fn read_text<'w>(
     name: &'w str,
     far: u32,
     n: u32,
-) -> Result<Text, Refusal<'w>>
-    ensures ok { IfOk result (λ text. PlannedRead name.now far n (Ok part.now) (Ok (whole_of text))) }
+) -> Result<Vec<u8>, Refusal<'w>>
+    ensures ok { IfOk result (λ text. PlannedRead name.now far n (Ok part.now) (Ok (text_of_bytes text))) }
     ensures err { IfErr result (λ r. (event_of r ≡ no_memory) ⊎ PlannedRead name.now far n (Ok part.now) (Err (event_of r))) }
     ensures about { IfErr result (λ r. IsAbout name.now (event_of r)) }
 {
     match readback(alloc, part, far, n) {
-        Ok(text) => Ok(Text {
-            stopped: false,
-            text,
-        }),
+        Ok(text) => Ok(text),
         Err(fault) => Err(planner_refusal(name, fault)),
     }
 }
@@ -174,12 +152,9 @@ pub(crate) fn plan_read<'w, I: Inputs>(
     name: &'w str,
     far: u32,
     n: u32,
-) -> Result<Text, Refusal<'w>>
-    ensures { MakesReady (PlanningRead name.now far n) (I.state inputs.old) (I.state inputs.new) (seen whole_of result) }
+) -> Result<Vec<u8>, Refusal<'w>>
+    ensures { MakesReady (PlanningRead name.now far n) (I.state inputs.old) (I.state inputs.new) (seen text_of_bytes result) }
 {
-    let part = match read_part(alloc, inputs, name) {
-        Ok(part) => part,
-        Err(refusal) => return Err(refusal),
-    };
+    let part = read_part(alloc, inputs, name)?;
     read_text(alloc, &part, name, far, n)
 }

@@ -28,10 +28,7 @@ fn text_of<'w>(alloc: Global, player: Player) -> Result<PlayText, Refusal<'w>>
         });
     }
     let stopped = player.device.fault().is_some();
-    match PlayText::new(alloc, player.device, &player.reads, stopped) {
-        Ok(text) => Ok(text),
-        Err(_) => Err(Refusal::unnamed(Why::NoMemory)),
-    }
+    Ok(PlayText::new(alloc, player.device, &player.reads, stopped)?)
 }
 
 /// The text of `play PART STREAM..`: the inputs are read in the order of the words, and the streams' data are played as
@@ -44,12 +41,7 @@ pub(crate) fn play<'w, I: Inputs>(
 ) -> Result<PlayText, Refusal<'w>>
     ensures { MakesReady (Playing part.now (map string_bytes streams.now)) (I.state inputs.old) (I.state inputs.new) (seen text_of_play result) }
 {
-    let part = match read_part(alloc, inputs, part) {
-        Ok(part) => part,
-        Err(refusal) => return Err(refusal),
-    };
-    match play_streams(alloc, &part, inputs, streams) {
-        Ok(player) => text_of(alloc, player),
-        Err(refusal) => Err(refusal),
-    }
+    let part = read_part(alloc, inputs, part)?;
+    let player = play_streams(alloc, &part, inputs, streams)?;
+    text_of(alloc, player)
 }

@@ -33,14 +33,9 @@ pub(crate) fn read_stream<'w, I: Inputs>(
     ensures asks { AsksFew (I.state inputs.old) 1 (I.state inputs.new) }
     ensures inputs { Stays (I.state inputs.old) (I.state inputs.new) }
 {
-    let bytes = match read_whole(alloc, inputs, name, STREAM_LIMIT) {
-        Ok(bytes) => bytes,
-        Err(refusal) => return Err(refusal),
-    };
-    match data_start(name, &bytes) {
-        Ok(start) => Ok(Stream { bytes, start }),
-        Err(refusal) => Err(refusal),
-    }
+    let bytes = read_whole(alloc, inputs, name, STREAM_LIMIT)?;
+    let start = data_start(name, &bytes)?;
+    Ok(Stream { bytes, start })
 }
 
 /// The data of a stream, in the room of its bytes.
@@ -71,8 +66,6 @@ pub(crate) fn read_data<'w, I: Inputs>(
     ensures asks { AsksFew (I.state inputs.old) 1 (I.state inputs.new) }
     ensures inputs { Stays (I.state inputs.old) (I.state inputs.new) }
 {
-    match read_stream(alloc, inputs, name) {
-        Ok(stream) => Ok(data_of(stream)),
-        Err(refusal) => Err(refusal),
-    }
+    let stream = read_stream(alloc, inputs, name)?;
+    Ok(data_of(stream))
 }

@@ -59,14 +59,9 @@ fn read_given<'w, I: Inputs>(
     ensures asks { AsksFew (I.state inputs.old) 2 (I.state inputs.new) }
     ensures inputs { Stays (I.state inputs.old) (I.state inputs.new) }
 {
-    let part = match read_part(alloc, inputs, part) {
-        Ok(part) => part,
-        Err(refusal) => return Err(refusal),
-    };
-    match read_whole(alloc, inputs, text, TEXT_LIMIT) {
-        Ok(text) => Ok(Given { part, text }),
-        Err(refusal) => Err(refusal),
-    }
+    let part = read_part(alloc, inputs, part)?;
+    let text = read_whole(alloc, inputs, text, TEXT_LIMIT)?;
+    Ok(Given { part, text })
 }
 
 /// The statements of a text, which is given up for them.
@@ -110,14 +105,8 @@ fn text_of<'w>(alloc: Global, given: Given, name: &'w str) -> Result<PlayText, R
     ensures err { IfErr result (λ r. (event_of r ≡ no_memory) ⊎ PlayedSvf name.now (Ok (svf_texts given)) (Err (event_of r))) }
 {
     let Given { part, text } = given;
-    let svf = match statements_of(alloc, text, name) {
-        Ok(svf) => svf,
-        Err(refusal) => return Err(refusal),
-    };
-    match played(alloc, &part, &svf) {
-        Ok(text) => Ok(text),
-        Err(_) => Err(Refusal::unnamed(Why::NoMemory)),
-    }
+    let svf = statements_of(alloc, text, name)?;
+    Ok(played(alloc, &part, &svf)?)
 }
 
 /// The text of `svf PART TEXT`: what the SVF text does, played on the test access port of a new device.
@@ -129,8 +118,6 @@ pub(crate) fn svf<'w, I: Inputs>(
 ) -> Result<PlayText, Refusal<'w>>
     ensures { MakesReady (PlayingSvf part.now text.now) (I.state inputs.old) (I.state inputs.new) (seen text_of_play result) }
 {
-    match read_given(alloc, inputs, part, text) {
-        Ok(given) => text_of(alloc, given, text),
-        Err(refusal) => Err(refusal),
-    }
+    let given = read_given(alloc, inputs, part, text)?;
+    text_of(alloc, given, text)
 }

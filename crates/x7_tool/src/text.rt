@@ -3,7 +3,7 @@ ghost use Rattle.std.specs.Prelude.{◌≡◌, OnErr, OnOk};
 ghost use Rattle.x7_words.specs.Sink.{PutsPrefix, SinkFails, appended};
 ghost use Rattle.x7_forms.specs.Known.{Answer};
 ghost use Rattle.x7_tool.specs.Play.{text_of_play};
-ghost use Rattle.x7_tool.specs.Ready.{text_of_image, whole_of};
+ghost use Rattle.x7_tool.specs.Ready.{text_of_bytes, text_of_image, whole_of};
 ghost use Rattle.x7_tool.specs.Run.{Puts};
 ghost use Rattle.x7_forms.specs.Step.{seen};
 
@@ -47,6 +47,19 @@ impl Ready for Text {
     }
 }
 
+/// A text that was made whole and reports no fault.
+impl Ready for Vec<u8> {
+    ghost answer = { text_of_bytes };
+
+    fn is_stopped(&self) -> bool {
+        false
+    }
+
+    fn write<O: Sink>(&mut self, out: &mut O) -> Result<(), Failed> {
+        write_all(out, self)
+    }
+}
+
 /// The text of a flash image, which is made as it is written.
 impl Ready for McsText {
     ghost answer = { text_of_image };
@@ -80,10 +93,7 @@ pub(crate) fn put_whole<'w, T: Ready + Drop, O: Sink>(
 ) -> Result<bool, Refusal<'w>>
     ensures { Puts (seen T.answer whole.entry) (O.state out.old) (O.state out.new) (seen (λ stopped. stopped) result) }
 {
-    let mut text = match whole {
-        Ok(text) => text,
-        Err(refusal) => return Err(refusal),
-    };
+    let mut text = whole?;
     let stopped = text.is_stopped();
     match text.write(out) {
         Ok(()) => Ok(stopped),

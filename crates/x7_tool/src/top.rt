@@ -1,8 +1,7 @@
 //! The top call.
-ghost use Rattle.std.specs.Prelude.{◌≡◌, ℕ, List, Some, false};
+ghost use Rattle.std.specs.Prelude.{ℕ, List, Some};
 ghost use Rattle.x7_words.specs.Sink.{SinkState};
 ghost use Rattle.x7_forms.specs.Form.{asked_by, form_in};
-ghost use Rattle.x7_forms.specs.Step.{seen};
 ghost use Rattle.x7_tool.specs.Leaving.{EachBoots, PowerLossMayLeave, UsesFlash};
 ghost use Rattle.x7_tool.specs.Outside.{outside, sources};
 ghost use Rattle.x7_tool.specs.Run.{Answered, written_by};
@@ -24,16 +23,6 @@ use std::alloc::Global;
 use x7_forms::{Form, Refusal, Status, Why, words_of};
 use x7_words::{Flash, Inputs, Sink};
 
-/// A listing that was written, which reports no fault, or why there is none.
-fn unstopped<'w>(written: Result<(), Refusal<'w>>) -> Result<bool, Refusal<'w>>
-    ensures { written_by result ≡ seen (λ _. false) written.entry }
-{
-    match written {
-        Ok(()) => Ok(false),
-        Err(refusal) => Err(refusal),
-    }
-}
-
 /// Writes the whole text of a form, and says whether what it reports stopped at a fault.
 fn answer<'w, I: Inputs, O: Sink, F: Flash>(
     alloc: Global,
@@ -48,7 +37,10 @@ fn answer<'w, I: Inputs, O: Sink, F: Flash>(
         (F.found_since flash.old) (F.found_since flash.new) }
 {
     match form {
-        Form::List { stream } => unstopped(list(alloc, inputs, out, stream)),
+        Form::List { stream } => {
+            list(alloc, inputs, out, stream)?;
+            Ok(false)
+        }
         Form::Play { part, streams } => put_whole(play(alloc, inputs, part, streams), out),
         Form::Asm { text } => put_whole(asm(alloc, inputs, text), out),
         Form::Mcs { image } => put_whole(mcs(alloc, inputs, image), out),
@@ -75,7 +67,10 @@ fn answer<'w, I: Inputs, O: Sink, F: Flash>(
         Form::Update {
             flash: name,
             stream,
-        } => update(alloc, inputs, flash, name, stream),
+        } => {
+            update(alloc, inputs, flash, name, stream)?;
+            Ok(false)
+        }
     }
 }
 

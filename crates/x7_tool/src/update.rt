@@ -1,11 +1,12 @@
 //! The command `update`: a flash gets another update stream, and may lose its power at any moment.
-ghost use Rattle.std.specs.Prelude.{◌≡◌, ℕ, List, Some};
+ghost use Rattle.std.specs.Prelude.{◌≡◌, ℕ, List, Some, false};
 ghost use Rattle.x7_forms.specs.Form.{UpdatingFlash};
 ghost use Rattle.x7_forms.specs.Message.{event_of};
+ghost use Rattle.x7_forms.specs.Step.{seen};
 ghost use Rattle.x7_tool.specs.Leaving.{UsesFlash};
 ghost use Rattle.x7_tool.specs.Outcome.{update_event};
 ghost use Rattle.x7_tool.specs.Outside.{sources};
-ghost use Rattle.x7_tool.specs.Run.{AnsweredSilently, written_by};
+ghost use Rattle.x7_tool.specs.Run.{AnsweredSilently};
 ghost use Rattle.x7_update.specs.declared.fault.UpdateFault.TheVariants.{Failed};
 
 use crate::attach::open_flash;
@@ -57,22 +58,16 @@ pub(crate) fn update<'w, I: Inputs, F: Flash>(
     flash: &mut F,
     name: &'w str,
     stream: &'w str,
-) -> Result<bool, Refusal<'w>>
+) -> Result<(), Refusal<'w>>
     ensures answered { AnsweredSilently (UpdatingFlash name.now stream.now) (sources (I.state inputs.old) (F.state flash.old))
-        (sources (I.state inputs.new) (F.state flash.new)) (written_by result) }
+        (sources (I.state inputs.new) (F.state flash.new)) (seen (λ _. false) result) }
     ensures flash { UsesFlash (Some (UpdatingFlash name.now stream.now)) (sources (I.state inputs.old) (F.state flash.old)) (F.state flash.new)
         (F.found_since flash.old) (F.found_since flash.new) }
 {
-    match open_flash(flash, name) {
-        Ok(()) => (),
-        Err(refusal) => return Err(refusal),
-    }
-    let read = match read_stream(alloc, inputs, stream) {
-        Ok(read) => read,
-        Err(refusal) => return Err(refusal),
-    };
+    open_flash(flash, name)?;
+    let read = read_stream(alloc, inputs, stream)?;
     match x7_update::update(alloc, flash, &read.bytes[read.start..]) {
-        Ok(()) => Ok(false),
+        Ok(()) => Ok(()),
         Err(fault) => Err(refusal_of(name, stream, fault)),
     }
 }

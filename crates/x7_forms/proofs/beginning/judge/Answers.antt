@@ -3,11 +3,11 @@ use Rattle.x7_header.specs.Header.{contents_of, header_bytes}
 use Rattle.x7_forms.proofs.BeginningLemmas.{cut_refused, few_in_header, headed, other_refused, unheaded}
 use Rattle.x7_forms.proofs.beginning.judge.Goals as goal
 
-pub returns-in-Ok-header_line-clause-judged : goal.returns-in-Ok-header_line-clause-judged
-returns-in-Ok-header_line-clause-judged c =
+pub returns-in_ok-header_line-in-Ok-clause-judged : goal.returns-in_ok-header_line-in-Ok-clause-judged
+returns-in_ok-header_line-in-Ok-clause-judged c =
     let x = contents_of c.in-Ok.head in
     let found = c.in-Ok.ensures.found in
-    (omega (arith, found.2, ap length found.1, length-append (header_bytes x) (drop c.in-Ok.head.size c.args.bytes.now)), headed c.args.bytes.now c.in-Ok-header_line.line.items x c.in-Ok.head.size c.args.last found.0 found.1 found.2 c.in-Ok-header_line.ensures)
+    (omega (arith, found.2, ap length found.1, length-append (header_bytes x) (drop c.in-Ok.head.size c.args.bytes.now)), headed c.args.bytes.now c.in_ok-header_line-in-Ok.field-0.items x c.in-Ok.head.size c.args.last found.0 found.1 found.2 c.in_ok-header_line-in-Ok.ensures)
 
 pub returns-in-Err-Raw-clause-judged : goal.returns-in-Err-Raw-clause-judged
 returns-in-Err-Raw-clause-judged c =

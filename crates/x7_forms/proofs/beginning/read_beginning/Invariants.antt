@@ -1,12 +1,12 @@
 use Rattle.std.proofs.Common.{◌≡◌, ◌≤◌, ◌<◌, ◌+◌, ◌-◌, length, true}
-use Rattle.x7_header.specs.Header.{EndsInHeader}
+use Rattle.x7_header.specs.Header.{EndsInHeader, longest_header}
 use Rattle.x7_words.specs.Input.{Stays, preceded}
 use Rattle.x7_forms.specs.Known.{stream_limit}
-use Rattle.x7_forms.specs.Turn.{longest_header, turn_bytes}
+use Rattle.x7_forms.specs.Turn.{turn_bytes}
 use Rattle.x7_forms.proofs.beginning.read_beginning.Given as goal
 
-abbrev pub invariant-loop-turn : goal.invariant-loop-turn
-invariant-loop-turn g l =
+abbrev pub invariant-loop-bytes : goal.invariant-loop-bytes
+invariant-loop-bytes g l =
     let i = g.I.Inputs in
     record {
       selected : (i.state l.inputs).selected ≡ true;
@@ -21,5 +21,5 @@ invariant-loop-turn g l =
       taken : (i.state l.fn.inputs).rest ≡ preceded l.bytes.items (i.state l.inputs).rest;
     }
 
-abbrev pub decreases-loop-turn : goal.decreases-loop-turn
-decreases-loop-turn g l = stream_limit - length l.bytes.items
+abbrev pub decreases-loop-bytes : goal.decreases-loop-bytes
+decreases-loop-bytes g l = stream_limit - length l.bytes.items

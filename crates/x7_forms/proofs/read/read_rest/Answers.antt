@@ -3,6 +3,7 @@ use Rattle.x7_words.proofs.InputLemmas.{stays_at, stays_on}
 use Rattle.x7_forms.specs.Message.{event_of}
 use Rattle.x7_forms.proofs.ReadLemmas.{reads_none, reads_on, rest_unread}
 use Rattle.x7_forms.proofs.StandLemmas.{gives_on}
+use Rattle.x7_forms.proofs.ResultLemmas.{handed_on}
 use Rattle.x7_forms.proofs.read.read_rest.Goals as goal
 
 pub loop-turn-init : goal.loop-turn-init
@@ -10,48 +11,47 @@ loop-turn-init g c =
     let i = g.I.Inputs in
     record { selected = c.requires.selected; inputs = stays_at _; ends = omega arith; left = omega arith; piece = refl; told = ([], (sym (append-nil _), omega arith, reads_none (i.state c.args.inputs.now) c.requires.selected)) }
 
-pub returns-in-Err-clause-err : goal.returns-in-Err-clause-err
-returns-in-Err-clause-err g c =
-    let i = g.I.Inputs in
+pub returns-in_err-turn-clause-err : goal.returns-in_err-turn-clause-err
+returns-in_err-turn-clause-err g c = rw (handed_on c.from_residual.result c.in_err-turn.field-0.0 c.from_residual.ensures) (let i = g.I.Inputs in
     let v = c.loop-turn.invariant in
-    inr (rest_unread (i.state c.args.inputs.now) (i.state c.loop-turn.inputs) (i.state c.next_turn.new.inputs) c.args.name.now v.told.0 c.args.limit c.loop-turn.left (event_of c.in-Err.refusal)
-    v.told.1.2 v.told.1.1 c.in-Err.ensures.err c.next_turn.ensures.asked)
+    inr (rest_unread (i.state c.args.inputs.now) (i.state c.loop-turn.inputs) (i.state c.next_turn.new.inputs) c.args.name.now v.told.0 c.args.limit c.loop-turn.left (event_of c.in_err-turn.field-0.0)
+    v.told.1.2 v.told.1.1 c.in_err-turn.ensures.err c.next_turn.ensures.asked))
 
 pub returns-then-turn-clause-ok : goal.returns-then-turn-clause-ok
 returns-then-turn-clause-ok g c =
     let i = g.I.Inputs in
     let v = c.loop-turn.invariant in
-    let n = c.in-Ok.turn.count in
+    let n = c.in_ok-turn.turn.count in
     let piece = take n c.next_turn.new.buf in
-    let size : length piece ≡ n = length-take-le n c.next_turn.new.buf (omega (arith, c.in-Ok.ensures.within.1, c.next_turn.ensures.length)) in
-    let reads = reads_on (i.state c.args.inputs.now) (i.state c.loop-turn.inputs) (i.state c.next_turn.new.inputs) v.told.0 piece v.told.1.2 c.in-Ok.ensures.ok c.next_turn.ensures.asked c.next_turn.ensures.inputs in
-    (v.told.0 ++ piece, c.in-Ok-extend_from_slice.ensures.items ∙ ap (λ t. t ++ piece) v.told.1.0 ∙ append_assoc _ v.told.0 piece, omega (arith, v.told.1.1, size, length-append v.told.0 piece, c.in-Ok.ensures.within.0), (reads.takes.taken, c.in-Ok.ensures.end c.if-turn.true))
+    let size : length piece ≡ n = length-take-le n c.next_turn.new.buf (omega (arith, c.in_ok-turn.ensures.within.1, c.next_turn.ensures.length)) in
+    let reads = reads_on (i.state c.args.inputs.now) (i.state c.loop-turn.inputs) (i.state c.next_turn.new.inputs) v.told.0 piece v.told.1.2 c.in_ok-turn.ensures.ok c.next_turn.ensures.asked c.next_turn.ensures.inputs in
+    (v.told.0 ++ piece, c.in-Ok.ensures.items ∙ ap (λ t. t ++ piece) v.told.1.0 ∙ append_assoc _ v.told.0 piece, omega (arith, v.told.1.1, size, length-append v.told.0 piece, c.in_ok-turn.ensures.within.0), (reads.takes.taken, c.in_ok-turn.ensures.end c.if-turn.true))
 
 pub loop-turn-preserved : goal.loop-turn-preserved
 loop-turn-preserved g c =
     let i = g.I.Inputs in
     let v = c.loop-turn.invariant in
-    let n = c.in-Ok.turn.count in
+    let n = c.in_ok-turn.turn.count in
     let piece = take n c.next_turn.new.buf in
-    let size : length piece ≡ n = length-take-le n c.next_turn.new.buf (omega (arith, c.in-Ok.ensures.within.1, c.next_turn.ensures.length)) in
-    let reads = reads_on (i.state c.args.inputs.now) (i.state c.loop-turn.inputs) (i.state c.next_turn.new.inputs) v.told.0 piece v.told.1.2 c.in-Ok.ensures.ok c.next_turn.ensures.asked c.next_turn.ensures.inputs in
+    let size : length piece ≡ n = length-take-le n c.next_turn.new.buf (omega (arith, c.in_ok-turn.ensures.within.1, c.next_turn.ensures.length)) in
+    let reads = reads_on (i.state c.args.inputs.now) (i.state c.loop-turn.inputs) (i.state c.next_turn.new.inputs) v.told.0 piece v.told.1.2 c.in_ok-turn.ensures.ok c.next_turn.ensures.asked c.next_turn.ensures.inputs in
     record {
-      selected = c.in-Ok.ensures.ok.selected;
+      selected = c.in_ok-turn.ensures.ok.selected;
       inputs = stays_on _ _ _ v.inputs c.next_turn.ensures.inputs;
-      ends = omega (arith, v.ends, c.in-Ok.ensures.more c.if-turn.false);
+      ends = omega (arith, v.ends, c.in_ok-turn.ensures.more c.if-turn.false);
       left = omega (arith, v.left);
       piece = c.next_turn.ensures.length ∙ v.piece;
-      told = (v.told.0 ++ piece, (c.in-Ok-extend_from_slice.ensures.items ∙ ap (λ t. t ++ piece) v.told.1.0 ∙ append_assoc _ v.told.0 piece, omega (arith, v.told.1.1, size, length-append v.told.0 piece, c.in-Ok.ensures.within.0), reads));
+      told = (v.told.0 ++ piece, (c.in-Ok.ensures.items ∙ ap (λ t. t ++ piece) v.told.1.0 ∙ append_assoc _ v.told.0 piece, omega (arith, v.told.1.1, size, length-append v.told.0 piece, c.in_ok-turn.ensures.within.0), reads));
     }
 
-pub returns-in-Err-clause-few : goal.returns-in-Err-clause-few
-returns-in-Err-clause-few g c =
+pub returns-in_err-turn-clause-few : goal.returns-in_err-turn-clause-few
+returns-in_err-turn-clause-few g c =
     let i = g.I.Inputs in
     let v = c.loop-turn.invariant in
     gives_on (i.state c.args.inputs.now) (i.state c.loop-turn.inputs) (i.state c.next_turn.new.inputs) v.told.0 c.args.limit c.loop-turn.left v.told.1.2 v.told.1.1 v.ends c.next_turn.ensures.few
 
-pub returns-in-Err-extend_from_slice-clause-few : goal.returns-in-Err-extend_from_slice-clause-few
-returns-in-Err-extend_from_slice-clause-few g c =
+pub returns-in-Err-clause-few : goal.returns-in-Err-clause-few
+returns-in-Err-clause-few g c =
     let i = g.I.Inputs in
     let v = c.loop-turn.invariant in
     gives_on (i.state c.args.inputs.now) (i.state c.loop-turn.inputs) (i.state c.next_turn.new.inputs) v.told.0 c.args.limit c.loop-turn.left v.told.1.2 v.told.1.1 v.ends c.next_turn.ensures.few

@@ -6,55 +6,54 @@ use Rattle.x7_forms.specs.Known.{whole_in, with_inputs}
 use Rattle.x7_forms.proofs.ReadLemmas.{open_refused, unopened_unread, want_unread, whole_read, whole_refused}
 use Rattle.x7_forms.proofs.StandLemmas.{few_read, stands_opened, stands_read}
 use Rattle.x7_words.proofs.InputLemmas.{few_once}
+use Rattle.x7_forms.proofs.ResultLemmas.{handed_on}
 use Rattle.x7_forms.proofs.read.read_whole.Goals as goal
 
-pub returns-in-Err-clause-due : goal.returns-in-Err-clause-due
-returns-in-Err-clause-due g c = λ flash.
+pub returns-in_err-open-clause-due : goal.returns-in_err-open-clause-due
+returns-in_err-open-clause-due g c = rw (handed_on c.from_residual.result c.in_err-open.field-0.0 c.from_residual.ensures) (λ flash.
     let i = g.I.Inputs in
-    open_refused (i.state c.args.inputs.now) (i.state c.open.new.inputs) flash c.args.name.now c.args.limit (event_of c.in-Err.refusal) c.in-Err.ensures.err c.open.ensures.asks
+    open_refused (i.state c.args.inputs.now) (i.state c.open.new.inputs) flash c.args.name.now c.args.limit (event_of c.in_err-open.field-0.0) c.in_err-open.ensures.err c.open.ensures.asks)
 
-pub returns-in-Ok-read_rest-clause-due : goal.returns-in-Ok-read_rest-clause-due
-returns-in-Ok-read_rest-clause-due g c = λ flash.
+pub returns-clause-due : goal.returns-clause-due
+returns-clause-due g c = λ flash.
     let i = g.I.Inputs in
     let name = c.args.name.now in
     let contents = (i.state c.args.inputs.now).contents in
-    let p = c.in-Ok-read_rest.ensures.ok in
-    let sel : Selects contents name _ = subst (λ r. Selects contents name r) p.3.0 c.in-Ok.ensures.ok.found in
+    let p = c.in_ok-read_rest.ensures.ok in
+    let sel : Selects contents name _ = subst (λ r. Selects contents name r) p.3.0 c.in_ok-open.ensures.ok.found in
     let C = CameIn (step_over (name ∷ []) (i.state c.args.inputs.now) (i.state c.read_rest.new.inputs)) in
     let is : c.read_rest.new.onto.items ≡ p.0 = p.1 ∙ ap (λ x. x ++ p.0) c.new-whole.ensures.items in
     subst (λ x. IsCaused (with_inputs contents flash) C (λ t. whole_in t c.args.limit name) (Ok x)) (sym is)
     (whole_read contents flash C name p.0 (i.state c.read_rest.new.inputs).rest c.args.limit sel p.3.1 p.2)
 
-pub returns-clause-due : goal.returns-clause-due
-returns-clause-due g c = λ flash.
+pub returns-in_err-read_rest-clause-due : goal.returns-in_err-read_rest-clause-due
+returns-in_err-read_rest-clause-due g c = rw (handed_on c.from_residual-in_err-read_rest.result c.in_err-read_rest.field-0.0 c.from_residual-in_err-read_rest.ensures) (λ flash.
     let i = g.I.Inputs in
-    whole_refused (i.state c.args.inputs.now) (i.state c.open.new.inputs) (i.state c.read_rest.new.inputs) flash c.args.name.now c.args.limit (event_of c.in-Err-read_rest.refusal)
-    c.open.ensures.inputs c.in-Ok.ensures.ok.found c.open.ensures.asks c.in-Err-read_rest.ensures.err
+    whole_refused (i.state c.args.inputs.now) (i.state c.open.new.inputs) (i.state c.read_rest.new.inputs) flash c.args.name.now c.args.limit (event_of c.in_err-read_rest.field-0.0)
+    c.open.ensures.inputs c.in_ok-open.ensures.ok.found c.open.ensures.asks c.in_err-read_rest.ensures.err)
 
-pub returns-in-Err-clause-named : goal.returns-in-Err-clause-named
-returns-in-Err-clause-named g c =
-    let i = g.I.Inputs in
-    unopened_unread (i.state c.args.inputs.now) (i.state c.open.new.inputs) c.args.name.now (event_of c.in-Err.refusal) c.in-Err.ensures.err
+pub returns-in_err-open-clause-named : goal.returns-in_err-open-clause-named
+returns-in_err-open-clause-named g c = rw (handed_on c.from_residual.result c.in_err-open.field-0.0 c.from_residual.ensures) (let i = g.I.Inputs in
+    unopened_unread (i.state c.args.inputs.now) (i.state c.open.new.inputs) c.args.name.now (event_of c.in_err-open.field-0.0) c.in_err-open.ensures.err)
 
-pub returns-clause-named : goal.returns-clause-named
-returns-clause-named g c =
-    let i = g.I.Inputs in
-    want_unread (i.state c.open.new.inputs) (i.state c.read_rest.new.inputs) c.args.name.now c.args.limit (event_of c.in-Err-read_rest.refusal) c.in-Err-read_rest.ensures.err
+pub returns-in_err-read_rest-clause-named : goal.returns-in_err-read_rest-clause-named
+returns-in_err-read_rest-clause-named g c = rw (handed_on c.from_residual-in_err-read_rest.result c.in_err-read_rest.field-0.0 c.from_residual-in_err-read_rest.ensures) (let i = g.I.Inputs in
+    want_unread (i.state c.open.new.inputs) (i.state c.read_rest.new.inputs) c.args.name.now c.args.limit (event_of c.in_err-read_rest.field-0.0) c.in_err-read_rest.ensures.err)
 
-pub returns-in-Err-clause-stands : goal.returns-in-Err-clause-stands
-returns-in-Err-clause-stands g c = stands_opened c.args.name.now c.args.limit (g.I.Inputs.state c.open.new.inputs) c.open.ensures.asks
-
-pub returns-in-Ok-read_rest-clause-stands : goal.returns-in-Ok-read_rest-clause-stands
-returns-in-Ok-read_rest-clause-stands g c = stands_read c.args.name.now c.args.limit (g.I.Inputs.state c.open.new.inputs) (g.I.Inputs.state c.read_rest.new.inputs) c.open.ensures.asks c.read_rest.ensures.few
+pub returns-in_err-open-clause-stands : goal.returns-in_err-open-clause-stands
+returns-in_err-open-clause-stands g c = stands_opened c.args.name.now c.args.limit (g.I.Inputs.state c.open.new.inputs) c.open.ensures.asks
 
 pub returns-clause-stands : goal.returns-clause-stands
 returns-clause-stands g c = stands_read c.args.name.now c.args.limit (g.I.Inputs.state c.open.new.inputs) (g.I.Inputs.state c.read_rest.new.inputs) c.open.ensures.asks c.read_rest.ensures.few
 
-pub returns-in-Err-clause-once : goal.returns-in-Err-clause-once
-returns-in-Err-clause-once g c = few_once (g.I.Inputs.state c.args.inputs.now) (g.I.Inputs.state c.open.new.inputs) c.open.ensures.once
+pub returns-in_err-read_rest-clause-stands : goal.returns-in_err-read_rest-clause-stands
+returns-in_err-read_rest-clause-stands g c = stands_read c.args.name.now c.args.limit (g.I.Inputs.state c.open.new.inputs) (g.I.Inputs.state c.read_rest.new.inputs) c.open.ensures.asks c.read_rest.ensures.few
 
-pub returns-in-Ok-read_rest-clause-once : goal.returns-in-Ok-read_rest-clause-once
-returns-in-Ok-read_rest-clause-once g c = few_read (g.I.Inputs.state c.args.inputs.now) (g.I.Inputs.state c.open.new.inputs) (g.I.Inputs.state c.read_rest.new.inputs) c.args.limit c.open.ensures.once c.read_rest.ensures.few
+pub returns-in_err-open-clause-once : goal.returns-in_err-open-clause-once
+returns-in_err-open-clause-once g c = few_once (g.I.Inputs.state c.args.inputs.now) (g.I.Inputs.state c.open.new.inputs) c.open.ensures.once
 
 pub returns-clause-once : goal.returns-clause-once
 returns-clause-once g c = few_read (g.I.Inputs.state c.args.inputs.now) (g.I.Inputs.state c.open.new.inputs) (g.I.Inputs.state c.read_rest.new.inputs) c.args.limit c.open.ensures.once c.read_rest.ensures.few
+
+pub returns-in_err-read_rest-clause-once : goal.returns-in_err-read_rest-clause-once
+returns-in_err-read_rest-clause-once g c = few_read (g.I.Inputs.state c.args.inputs.now) (g.I.Inputs.state c.open.new.inputs) (g.I.Inputs.state c.read_rest.new.inputs) c.args.limit c.open.ensures.once c.read_rest.ensures.few

@@ -7,6 +7,7 @@ use Rattle.x7_forms.specs.Step.{CameIn, step_over}
 use Rattle.x7_forms.proofs.ReadLemmas.{one_unplayed, rests_all, rests_none, stream_err, stream_next}
 use Rattle.x7_forms.specs.Stop.{limited_together}
 use Rattle.x7_forms.proofs.StandLemmas.{limits_first, limits_next, limits_stop, room_left}
+use Rattle.x7_forms.proofs.ResultLemmas.{handed_on}
 use Rattle.x7_playing.proofs.playing.play_streams.Goals as goal
 
 pub loop-name-init : goal.loop-name-init
@@ -26,12 +27,12 @@ play_stream-requires-clause-may g c =
     let v = c.loop-name.invariant in
     (c.args.part.now, (v.played.0, (v.played.1.0, omega (arith, v.played.1.1))))
 
-pub returns-in-Err-clause-err : goal.returns-in-Err-clause-err
-returns-in-Err-clause-err g c = λ flash.
+pub returns-in_err-left-clause-err : goal.returns-in_err-left-clause-err
+returns-in_err-left-clause-err g c = rw (handed_on c.from_residual.result c.in_err-left.field-0.0 c.from_residual.ensures) (λ flash.
     let i = g.I.Inputs in
     let v = c.loop-name.invariant in
     stream_err string_bytes (i.state c.args.inputs.now) (i.state c.loop-name.inputs) (i.state c.play_stream.new.inputs) flash c.args.streams.now c.loop-name.name-index stream_limit c.loop-name.left c.name-item.result c.as_str.result.now v.played.0
-    (event_of c.in-Err.refusal) v.inputs c.loop-name-test.true c.name-item.is c.as_str.ensures.value v.played.1.2 (c.in-Err.ensures.err flash)
+    (event_of c.in_err-left.field-0.0) v.inputs c.loop-name-test.true c.name-item.is c.as_str.ensures.value v.played.1.2 (c.in_err-left.ensures.err flash))
 
 pub loop-name-preserved : goal.loop-name-preserved
 loop-name-preserved g c =
@@ -39,8 +40,8 @@ loop-name-preserved g c =
     let v = c.loop-name.invariant in
     let name = c.as_str.result.now in
     let C = CameIn (step_over (name ∷ []) (i.state c.loop-name.inputs) (i.state c.play_stream.new.inputs)) in
-    let p = c.in-Ok-play_stream.ensures.ok in
-    let read : StreamRead = record { bytes = p.bytes; room = c.in-Ok-play_stream.left } in
+    let p = c.in_ok-left.ensures.ok in
+    let read : StreamRead = record { bytes = p.bytes; room = c.in_ok-left.left } in
     let next = stream_next string_bytes (i.state c.args.inputs.now).contents (i.state c.loop-name.inputs).contents C c.args.streams.now c.loop-name.name-index stream_limit c.loop-name.left c.name-item.result name v.played.0 read
     v.inputs.map c.loop-name-test.true c.name-item.is c.as_str.ensures.value v.played.1.2 p.reads in
     let new = c.play_stream.new.piece in
@@ -50,7 +51,7 @@ loop-name-preserved g c =
       inputs = stays_on _ _ _ v.inputs c.play_stream.ensures.inputs;
       asks = few_on _ _ _ c.loop-name.name-index 1 v.asks c.play_stream.ensures.once;
       within = omega (arith, c.loop-name-test.true);
-      limits = limits_next string_bytes (limited_together (i.state c.args.inputs.now).contents stream_limit (map string_bytes c.args.streams.now)) (i.state c.args.inputs.now).contents c.args.streams.now c.loop-name.name-index c.loop-name.left c.in-Ok-play_stream.left c.name-item.result name
+      limits = limits_next string_bytes (limited_together (i.state c.args.inputs.now).contents stream_limit (map string_bytes c.args.streams.now)) (i.state c.args.inputs.now).contents c.args.streams.now c.loop-name.name-index c.loop-name.left c.in_ok-left.left c.name-item.result name
           c.loop-name-test.true c.name-item.is c.as_str.ensures.value v.limits (room_left (i.state c.args.inputs.now).contents (i.state c.loop-name.inputs).contents C name c.loop-name.left read v.inputs.map (omega (arith, p.within)) (p.reads None));
       piece = omega (arith, length-take-le c.loop-name.piece.len (new ++ drop (length new) old) (omega (arith, length-append new (drop (length new) old), size, v.piece, c.loop-name.piece.ok.0)), v.piece, c.loop-name.piece.ok.0);
       played = (v.played.0 ++ p.bytes, (p.plays c.args.part.now v.played.0 v.played.1.0, omega (arith, v.played.1.1, p.within, length-append v.played.0 p.bytes), next));
@@ -66,20 +67,18 @@ returns-clause-ok g c =
           c.args.streams.now c.loop-name.name-index stream_limit c.loop-name.left v.played.0 c.loop-name-test.false v.played.1.2,
     )
 
-pub returns-in-Err-clause-named : goal.returns-in-Err-clause-named
-returns-in-Err-clause-named g c =
-    one_unplayed string_bytes c.args.streams.now c.loop-name.name-index c.name-item.result c.as_str.result.now (event_of c.in-Err.refusal) c.loop-name-test.true c.name-item.is c.as_str.ensures.value c.in-Err.ensures.named
+pub returns-in_err-left-clause-named : goal.returns-in_err-left-clause-named
+returns-in_err-left-clause-named g c = rw (handed_on c.from_residual.result c.in_err-left.field-0.0 c.from_residual.ensures) (one_unplayed string_bytes c.args.streams.now c.loop-name.name-index c.name-item.result c.as_str.result.now (event_of c.in_err-left.field-0.0) c.loop-name-test.true c.name-item.is c.as_str.ensures.value c.in_err-left.ensures.named)
 
-pub returns-in-Err-clause-stops : goal.returns-in-Err-clause-stops
-returns-in-Err-clause-stops g c =
-    let i = g.I.Inputs in
+pub returns-in_err-left-clause-stops : goal.returns-in_err-left-clause-stops
+returns-in_err-left-clause-stops g c = rw (handed_on c.from_residual.result c.in_err-left.field-0.0 c.from_residual.ensures) (let i = g.I.Inputs in
     let v = c.loop-name.invariant in
     let old = i.state c.args.inputs.now in
     limits_stop string_bytes (limited_together old.contents stream_limit (map string_bytes c.args.streams.now)) old.contents c.args.streams.now c.loop-name.name-index c.loop-name.left c.name-item.result c.as_str.result.now
-    old (i.state c.loop-name.inputs) (i.state c.play_stream.new.inputs) (event_of c.in-Err.refusal) c.loop-name-test.true c.name-item.is c.as_str.ensures.value v.limits v.asks c.play_stream.ensures.once c.play_stream.ensures.stands c.in-Err.ensures.named
+    old (i.state c.loop-name.inputs) (i.state c.play_stream.new.inputs) (event_of c.in_err-left.field-0.0) c.loop-name-test.true c.name-item.is c.as_str.ensures.value v.limits v.asks c.play_stream.ensures.once c.play_stream.ensures.stands c.in_err-left.ensures.named)
 
-pub returns-in-Err-clause-once : goal.returns-in-Err-clause-once
-returns-in-Err-clause-once g c =
+pub returns-in_err-left-clause-once : goal.returns-in_err-left-clause-once
+returns-in_err-left-clause-once g c =
     let i = g.I.Inputs in
     let first = i.state c.args.inputs.now in
     let last = i.state c.play_stream.new.inputs in

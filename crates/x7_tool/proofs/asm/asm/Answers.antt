@@ -6,43 +6,43 @@ use Rattle.x7_forms.proofs.StandLemmas.{about_by, unread_about}
 use Rattle.x7_tool.specs.Outcome.{asm_event, text_limit}
 use Rattle.x7_tool.proofs.AsmLemmas.{asm_faulted, asm_given, asm_unread}
 use Rattle.x7_tool.proofs.StopLemmas.{asm_about, first_stops}
+use Rattle.x7_forms.proofs.ResultLemmas.{handed_on}
 use Rattle.x7_tool.proofs.asm.asm.Goals as goal
+
+pub returns-in_err-read : goal.returns-in_err-read
+returns-in_err-read g c = rw (handed_on c.from_residual.result c.in_err-read.field-0.0 c.from_residual.ensures) (let old = g.I.Inputs.state c.args.inputs.now in
+    let new = g.I.Inputs.state c.feed_whole.new.inputs in
+    let name = c.args.name.now in
+    let event = event_of c.in_err-read.field-0.0 in
+    record {
+      due = asm_unread old new name event c.in_err-read.ensures.err;
+      stops = first_stops (Assembling name) (limited text_limit name) [] old new event refl c.feed_whole.ensures.stands c.feed_whole.ensures.asks (unread_about name event c.in_err-read.ensures.named);
+      asks = c.feed_whole.ensures.asks;
+      stays = c.feed_whole.ensures.inputs;
+    })
+
+pub returns-in-Ok : goal.returns-in-Ok
+returns-in-Ok g c =
+    let old = g.I.Inputs.state c.args.inputs.now in
+    let new = g.I.Inputs.state c.feed_whole.new.inputs in
+    let t = c.in_ok-read.ensures.ok in
+    record {
+      due = asm_given (λ v. v.items) old new c.args.name.now t.0 c.in_ok-read.read t.1 t.2 c.in-Ok.bytes c.in-Ok.is;
+      stops = tt;
+      asks = c.feed_whole.ensures.asks;
+      stays = c.feed_whole.ensures.inputs;
+    }
 
 pub returns-in-Err : goal.returns-in-Err
 returns-in-Err g c =
     let old = g.I.Inputs.state c.args.inputs.now in
     let new = g.I.Inputs.state c.feed_whole.new.inputs in
     let name = c.args.name.now in
-    let event = event_of c.in-Err.refusal in
-    record {
-      due = asm_unread old new name event c.in-Err.ensures.err;
-      stops = first_stops (Assembling name) (limited text_limit name) [] old new event refl c.feed_whole.ensures.stands c.feed_whole.ensures.asks (unread_about name event c.in-Err.ensures.named);
-      asks = c.feed_whole.ensures.asks;
-      stays = c.feed_whole.ensures.inputs;
-    }
-
-pub returns-in-Ok-read : goal.returns-in-Ok-read
-returns-in-Ok-read g c =
-    let old = g.I.Inputs.state c.args.inputs.now in
-    let new = g.I.Inputs.state c.feed_whole.new.inputs in
-    let t = c.in-Ok.ensures.ok in
-    record {
-      due = asm_given (λ v. v.items) old new c.args.name.now t.0 c.in-Ok.read t.1 t.2 c.in-Ok-read.bytes c.in-Ok-read.is;
-      stops = tt;
-      asks = c.feed_whole.ensures.asks;
-      stays = c.feed_whole.ensures.inputs;
-    }
-
-pub returns-in-Err-read : goal.returns-in-Err-read
-returns-in-Err-read g c =
-    let old = g.I.Inputs.state c.args.inputs.now in
-    let new = g.I.Inputs.state c.feed_whole.new.inputs in
-    let name = c.args.name.now in
     let event = event_of c.refusal_of.result in
-    let t = c.in-Ok.ensures.ok in
+    let t = c.in_ok-read.ensures.ok in
     record {
-      due = asm_faulted (λ v. v.items) old new name t.0 c.in-Ok.read t.1 t.2 c.in-Err-read.fault event c.in-Err-read.is (sym c.refusal_of.ensures);
-      stops = first_stops (Assembling name) (limited text_limit name) [] old new event refl c.feed_whole.ensures.stands c.feed_whole.ensures.asks (about_by name event (asm_event name c.in-Err-read.fault) c.refusal_of.ensures (asm_about name c.in-Err-read.fault));
+      due = asm_faulted (λ v. v.items) old new name t.0 c.in_ok-read.read t.1 t.2 c.in-Err.fault event c.in-Err.is (sym c.refusal_of.ensures);
+      stops = first_stops (Assembling name) (limited text_limit name) [] old new event refl c.feed_whole.ensures.stands c.feed_whole.ensures.asks (about_by name event (asm_event name c.in-Err.fault) c.refusal_of.ensures (asm_about name c.in-Err.fault));
       asks = c.feed_whole.ensures.asks;
       stays = c.feed_whole.ensures.inputs;
     }

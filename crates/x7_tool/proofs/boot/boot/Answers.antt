@@ -8,41 +8,41 @@ use Rattle.x7_forms.specs.Known.{part_limit}
 use Rattle.x7_tool.proofs.StopLemmas.{boot_stops, first_stops}
 use Rattle.x7_forms.proofs.StandLemmas.{no_part_about}
 use Rattle.x7_forms.specs.Stop.{limited}
+use Rattle.x7_forms.proofs.ResultLemmas.{handed_on}
 use Rattle.x7_tool.proofs.boot.boot.Goals as goal
 
-pub returns-in-Ok-clause-ready : goal.returns-in-Ok-clause-ready
-returns-in-Ok-clause-ready g c =
+pub returns-clause-ready : goal.returns-clause-ready
+returns-clause-ready g c =
     let old = g.I.Inputs.state c.args.inputs.now in
     let new = g.I.Inputs.state c.read_part.new.inputs in
     let first = g.F.Flash.state c.args.flash.now in
     let last = g.F.Flash.state c.boot_from.new.flash in
     let name = c.args.name.now in
     let part_name = c.args.part.now in
-    let part = c.in-Ok.part in
+    let part = c.in_ok-part.part in
     let made = seen text_of_play c.boot_from.result in
     let C = CameIn (step_over (part_name ∷ []) old new) in
     record {
-      due = λ before after. booted_ends (record before { inputs = old; flash = first }) (record after { inputs = new; flash = last }) name part_name part C made (c.in-Ok.ensures.due first.bytes) c.boot_from.ensures.due;
+      due = λ before after. booted_ends (record before { inputs = old; flash = first }) (record after { inputs = new; flash = last }) name part_name part C made (c.in_ok-part.ensures.due first.bytes) c.boot_from.ensures.due;
       stops = boot_stops name part_name part old new first last made c.boot_from.ensures.due;
       measured = boot_measured (Some (Booting part_name name)) name part first last made c.boot_from.ensures.due;
-      last = boot_last text_of_play name part_name old last c.boot_from.result c.boot_from.ensures.failed (part_good old.contents C name part_name part (c.in-Ok.ensures.due None));
+      last = boot_last text_of_play name part_name old last c.boot_from.result c.boot_from.ensures.failed (part_good old.contents C name part_name part (c.in_ok-part.ensures.due None));
       asks = c.read_part.ensures.once;
       stays = c.read_part.ensures.inputs;
     }
 
-pub returns-in-Err-clause-ready : goal.returns-in-Err-clause-ready
-returns-in-Err-clause-ready g c =
-    let old = g.I.Inputs.state c.args.inputs.now in
+pub returns-in_err-part-clause-ready : goal.returns-in_err-part-clause-ready
+returns-in_err-part-clause-ready g c = rw (handed_on c.from_residual.result c.in_err-part.field-0.0 c.from_residual.ensures) (let old = g.I.Inputs.state c.args.inputs.now in
     let new = g.I.Inputs.state c.read_part.new.inputs in
     let flash = g.F.Flash.state c.args.flash.now in
     let name = c.args.name.now in
     let part_name = c.args.part.now in
-    let event = event_of c.in-Err.refusal in
+    let event = event_of c.in_err-part.field-0.0 in
     record {
-      due = λ before after. part_refused (record before { inputs = old; flash = flash }) (record after { inputs = new; flash = flash }) name part_name event (c.in-Err.ensures.due flash.bytes);
-      stops = first_stops (Booting part_name name) (limited part_limit part_name) [] old new event refl c.read_part.ensures.stands c.read_part.ensures.once (no_part_about part_name event c.in-Err.ensures.named);
-      measured = no_part_measured (Some (Booting part_name name)) flash part_name event (inl refl) c.in-Err.ensures.named;
-      last = no_part_last (Booting part_name name) old flash part_name event (inl refl) c.in-Err.ensures.named;
+      due = λ before after. part_refused (record before { inputs = old; flash = flash }) (record after { inputs = new; flash = flash }) name part_name event (c.in_err-part.ensures.due flash.bytes);
+      stops = first_stops (Booting part_name name) (limited part_limit part_name) [] old new event refl c.read_part.ensures.stands c.read_part.ensures.once (no_part_about part_name event c.in_err-part.ensures.named);
+      measured = no_part_measured (Some (Booting part_name name)) flash part_name event (inl refl) c.in_err-part.ensures.named;
+      last = no_part_last (Booting part_name name) old flash part_name event (inl refl) c.in_err-part.ensures.named;
       asks = c.read_part.ensures.once;
       stays = c.read_part.ensures.inputs;
-    }
+    })

@@ -4,7 +4,7 @@ use Rattle.x7_forms.specs.Known.{Answer, part_limit, stream_limit}
 use Rattle.x7_forms.specs.Message.{event_of}
 use Rattle.x7_forms.specs.Stop.{limited}
 use Rattle.x7_forms.proofs.ReadLemmas.{answers_by, answers_kept}
-use Rattle.x7_forms.proofs.ResultLemmas.{err_weaker}
+use Rattle.x7_forms.proofs.ResultLemmas.{handed_on, err_weaker}
 use Rattle.x7_tool.specs.Debug.{debug_given}
 use Rattle.x7_tool.specs.Outcome.{DebugInputs, DebuggedAs, debug_inputs, script_limit}
 use Rattle.x7_tool.specs.Ready.{whole_of}
@@ -13,35 +13,34 @@ use Rattle.x7_tool.proofs.ReadyLemmas.{debug_due}
 use Rattle.x7_tool.proofs.StopLemmas.{debug_about, result_stops, among_stops, third_stops}
 use Rattle.x7_tool.proofs.debug.debug.Goals as goal
 
-pub returns-in-Ok : goal.returns-in-Ok
-returns-in-Ok g c =
+pub returns : goal.returns
+returns g c =
     let old = g.I.Inputs.state c.args.inputs.now in
     let new = g.I.Inputs.state c.read_given.new.inputs in
     let part = c.args.part.now in
     let stream = c.args.stream.now in
     let script = c.args.script.now in
-    let given = debug_given c.in-Ok.given in
+    let given = debug_given c.in_ok-given.given in
     let made = c.text_of.result in
     record {
-      due = answers_by DebugInputs Answer (part ∷ stream ∷ script ∷ []) old new (λ t. debug_inputs t part stream script) given (DebuggedAs script) (seen whole_of made) c.in-Ok.ensures.due (debug_due script given made c.text_of.ensures.ok c.text_of.ensures.err);
+      due = answers_by DebugInputs Answer (part ∷ stream ∷ script ∷ []) old new (λ t. debug_inputs t part stream script) given (DebuggedAs script) (seen whole_of made) c.in_ok-given.ensures.due (debug_due script given made c.text_of.ensures.ok c.text_of.ensures.err);
       stops = result_stops whole_of (Debugging part stream script) old new made (err_weaker made
-          (λ r h. third_stops (Debugging part stream script) (limited part_limit part) (limited stream_limit stream) (limited script_limit script) [] old new (event_of r) refl c.in-Ok.ensures.stands c.read_given.ensures.asks (debug_about script given (event_of r) h))
+          (λ r h. third_stops (Debugging part stream script) (limited part_limit part) (limited stream_limit stream) (limited script_limit script) [] old new (event_of r) refl c.in_ok-given.ensures.stands c.read_given.ensures.asks (debug_about script given (event_of r) h))
           c.text_of.ensures.err);
       asks = c.read_given.ensures.asks;
       stays = c.read_given.ensures.inputs;
     }
 
-pub returns-in-Err : goal.returns-in-Err
-returns-in-Err g c =
-    let old = g.I.Inputs.state c.args.inputs.now in
+pub returns-in_err-given : goal.returns-in_err-given
+returns-in_err-given g c = rw (handed_on c.from_residual.result c.in_err-given.field-0.0 c.from_residual.ensures) (let old = g.I.Inputs.state c.args.inputs.now in
     let new = g.I.Inputs.state c.read_given.new.inputs in
     let part = c.args.part.now in
     let stream = c.args.stream.now in
     let script = c.args.script.now in
-    let event = event_of c.in-Err.refusal in
+    let event = event_of c.in_err-given.field-0.0 in
     record {
-      due = answers_kept DebugInputs Answer (part ∷ stream ∷ script ∷ []) old new (λ t. debug_inputs t part stream script) (DebuggedAs script) event (λ x. refl) c.in-Err.ensures.due;
-      stops = among_stops (Debugging part stream script) old new event c.in-Err.ensures.stops;
+      due = answers_kept DebugInputs Answer (part ∷ stream ∷ script ∷ []) old new (λ t. debug_inputs t part stream script) (DebuggedAs script) event (λ x. refl) c.in_err-given.ensures.due;
+      stops = among_stops (Debugging part stream script) old new event c.in_err-given.ensures.stops;
       asks = c.read_given.ensures.asks;
       stays = c.read_given.ensures.inputs;
-    }
+    })

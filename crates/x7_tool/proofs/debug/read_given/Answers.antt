@@ -10,55 +10,53 @@ use Rattle.x7_forms.proofs.StandLemmas.{about_among, no_part_about, unplayed_abo
 use Rattle.x7_forms.specs.Stop.{limited}
 use Rattle.x7_tool.proofs.StopLemmas.{both_asked, all_asked}
 use Rattle.x7_words.proofs.InputLemmas.{few_more, few_on}
+use Rattle.x7_forms.proofs.ResultLemmas.{handed_on}
 use Rattle.x7_tool.proofs.debug.read_given.Goals as goal
 
-pub returns-in-Err-read_data-clause-due : goal.returns-in-Err-read_data-clause-due
-returns-in-Err-read_data-clause-due g c =
-    let i = g.I.Inputs in
+pub returns-in_err-stream-clause-due : goal.returns-in_err-stream-clause-due
+returns-in_err-stream-clause-due g c = rw (handed_on c.from_residual-in_err-stream.result c.in_err-stream.field-0.0 c.from_residual-in_err-stream.ensures) (let i = g.I.Inputs in
     let part = c.args.part.now in
     let stream = c.args.stream.now in
     let script = c.args.script.now in
-    let event = event_of c.in-Err-read_data.refusal in
+    let event = event_of c.in_err-stream.field-0.0 in
     answers_go PartData DebugInputs (part ∷ []) (stream ∷ []) (part ∷ stream ∷ script ∷ []) (i.state c.args.inputs.now) (i.state c.read_part.new.inputs) (i.state c.read_data.new.inputs) (λ t. part_of t part)
-    (λ t p. and_so (stream_data t stream) (λ bytes. and_so (whole_in t script_limit script) (λ text. Ok (record { part = p; stream = bytes; script = text })))) c.in-Ok.part (Err event) (part_steady part) c.read_part.ensures.inputs (λ n h. inr (first_of stream (script ∷ []) n h)) c.in-Ok.ensures.due
-    (answers_stop (List ℕ) DebugInputs (stream ∷ []) (stream ∷ []) (i.state c.read_part.new.inputs) (i.state c.read_data.new.inputs) (λ t. stream_data t stream) (λ t bytes. and_so (whole_in t script_limit script) (λ text. Ok (record { part = c.in-Ok.part; stream = bytes; script = text }))) event (λ n h. h) c.in-Err-read_data.ensures.due)
+    (λ t p. and_so (stream_data t stream) (λ bytes. and_so (whole_in t script_limit script) (λ text. Ok (record { part = p; stream = bytes; script = text })))) c.in_ok-part.part (Err event) (part_steady part) c.read_part.ensures.inputs (λ n h. inr (first_of stream (script ∷ []) n h)) c.in_ok-part.ensures.due
+    (answers_stop (List ℕ) DebugInputs (stream ∷ []) (stream ∷ []) (i.state c.read_part.new.inputs) (i.state c.read_data.new.inputs) (λ t. stream_data t stream) (λ t bytes. and_so (whole_in t script_limit script) (λ text. Ok (record { part = c.in_ok-part.part; stream = bytes; script = text }))) event (λ n h. h) c.in_err-stream.ensures.due))
 
-pub returns-in-Err-read_whole-clause-due : goal.returns-in-Err-read_whole-clause-due
-returns-in-Err-read_whole-clause-due g c =
-    let i = g.I.Inputs in
+pub returns-in_err-script-clause-due : goal.returns-in_err-script-clause-due
+returns-in_err-script-clause-due g c = rw (handed_on c.from_residual-in_err-script.result c.in_err-script.field-0.0 c.from_residual-in_err-script.ensures) (let i = g.I.Inputs in
     let part = c.args.part.now in
     let stream = c.args.stream.now in
     let script = c.args.script.now in
     let first = i.state c.read_part.new.inputs in
     let second = i.state c.read_data.new.inputs in
     let last = i.state c.read_whole.new.inputs in
-    let event = event_of c.in-Err-read_whole.refusal in
+    let event = event_of c.in_err-script.field-0.0 in
     answers_go PartData DebugInputs (part ∷ []) (stream ∷ script ∷ []) (part ∷ stream ∷ script ∷ []) (i.state c.args.inputs.now) first last (λ t. part_of t part)
-    (λ t p. and_so (stream_data t stream) (λ bytes. and_so (whole_in t script_limit script) (λ text. Ok (record { part = p; stream = bytes; script = text })))) c.in-Ok.part (Err event) (part_steady part) c.read_part.ensures.inputs (λ n h. inr h) c.in-Ok.ensures.due
-    (answers_go (List ℕ) DebugInputs (stream ∷ []) (script ∷ []) (stream ∷ script ∷ []) first second last (λ t. stream_data t stream) (λ t bytes. and_so (whole_in t script_limit script) (λ text. Ok (record { part = c.in-Ok.part; stream = bytes; script = text }))) c.in-Ok-read_data.stream.items (Err event)
-    (stream_steady stream) c.read_data.ensures.inputs (λ n h. inr h) c.in-Ok-read_data.ensures.due
-    (answers_stop (List ℕ) DebugInputs (script ∷ []) (script ∷ []) second last (λ t. whole_in t script_limit script) (λ t text. Ok (record { part = c.in-Ok.part; stream = c.in-Ok-read_data.stream.items; script = text })) event (λ n h. h) c.in-Err-read_whole.ensures.due))
+    (λ t p. and_so (stream_data t stream) (λ bytes. and_so (whole_in t script_limit script) (λ text. Ok (record { part = p; stream = bytes; script = text })))) c.in_ok-part.part (Err event) (part_steady part) c.read_part.ensures.inputs (λ n h. inr h) c.in_ok-part.ensures.due
+    (answers_go (List ℕ) DebugInputs (stream ∷ []) (script ∷ []) (stream ∷ script ∷ []) first second last (λ t. stream_data t stream) (λ t bytes. and_so (whole_in t script_limit script) (λ text. Ok (record { part = c.in_ok-part.part; stream = bytes; script = text }))) c.in_ok-stream.stream.items (Err event)
+    (stream_steady stream) c.read_data.ensures.inputs (λ n h. inr h) c.in_ok-stream.ensures.due
+    (answers_stop (List ℕ) DebugInputs (script ∷ []) (script ∷ []) second last (λ t. whole_in t script_limit script) (λ t text. Ok (record { part = c.in_ok-part.part; stream = c.in_ok-stream.stream.items; script = text })) event (λ n h. h) c.in_err-script.ensures.due)))
 
-pub returns-in-Err-clause-due : goal.returns-in-Err-clause-due
-returns-in-Err-clause-due g c =
-    let i = g.I.Inputs in
+pub returns-in_err-part-clause-due : goal.returns-in_err-part-clause-due
+returns-in_err-part-clause-due g c = rw (handed_on c.from_residual.result c.in_err-part.field-0.0 c.from_residual.ensures) (let i = g.I.Inputs in
     let part = c.args.part.now in
     let stream = c.args.stream.now in
     let script = c.args.script.now in
     answers_stop PartData DebugInputs (part ∷ []) (part ∷ stream ∷ script ∷ []) (i.state c.args.inputs.now) (i.state c.read_part.new.inputs) (λ t. part_of t part)
-    (λ t p. and_so (stream_data t stream) (λ bytes. and_so (whole_in t script_limit script) (λ text. Ok (record { part = p; stream = bytes; script = text })))) (event_of c.in-Err.refusal) (first_of part (stream ∷ script ∷ [])) c.in-Err.ensures.due
+    (λ t p. and_so (stream_data t stream) (λ bytes. and_so (whole_in t script_limit script) (λ text. Ok (record { part = p; stream = bytes; script = text })))) (event_of c.in_err-part.field-0.0) (first_of part (stream ∷ script ∷ [])) c.in_err-part.ensures.due)
 
-pub returns-in-Err-clause-stops : goal.returns-in-Err-clause-stops
-returns-in-Err-clause-stops g c = about_among (limited part_limit c.args.part.now ∷ limited stream_limit c.args.stream.now ∷ limited script_limit c.args.script.now ∷ []) [] (limited part_limit c.args.part.now) (limited stream_limit c.args.stream.now ∷ limited script_limit c.args.script.now ∷ []) (g.I.Inputs.state c.args.inputs.now) (g.I.Inputs.state c.read_part.new.inputs) (event_of c.in-Err.refusal) refl c.read_part.ensures.stands c.read_part.ensures.once (no_part_about c.args.part.now (event_of c.in-Err.refusal) c.in-Err.ensures.named)
+pub returns-in_err-part-clause-stops : goal.returns-in_err-part-clause-stops
+returns-in_err-part-clause-stops g c = rw (handed_on c.from_residual.result c.in_err-part.field-0.0 c.from_residual.ensures) (about_among (limited part_limit c.args.part.now ∷ limited stream_limit c.args.stream.now ∷ limited script_limit c.args.script.now ∷ []) [] (limited part_limit c.args.part.now) (limited stream_limit c.args.stream.now ∷ limited script_limit c.args.script.now ∷ []) (g.I.Inputs.state c.args.inputs.now) (g.I.Inputs.state c.read_part.new.inputs) (event_of c.in_err-part.field-0.0) refl c.read_part.ensures.stands c.read_part.ensures.once (no_part_about c.args.part.now (event_of c.in_err-part.field-0.0) c.in_err-part.ensures.named))
 
-pub returns-in-Err-read_data-clause-stops : goal.returns-in-Err-read_data-clause-stops
-returns-in-Err-read_data-clause-stops g c = about_among (limited part_limit c.args.part.now ∷ limited stream_limit c.args.stream.now ∷ limited script_limit c.args.script.now ∷ []) (limited part_limit c.args.part.now ∷ []) (limited stream_limit c.args.stream.now) (limited script_limit c.args.script.now ∷ []) (g.I.Inputs.state c.args.inputs.now) (g.I.Inputs.state c.read_data.new.inputs) (event_of c.in-Err-read_data.refusal) refl c.read_data.ensures.stands (both_asked (g.I.Inputs.state c.args.inputs.now) (g.I.Inputs.state c.read_part.new.inputs) (g.I.Inputs.state c.read_data.new.inputs) c.read_part.ensures.once c.read_data.ensures.asks) (unplayed_about c.args.stream.now (event_of c.in-Err-read_data.refusal) c.in-Err-read_data.ensures.named)
+pub returns-in_err-stream-clause-stops : goal.returns-in_err-stream-clause-stops
+returns-in_err-stream-clause-stops g c = rw (handed_on c.from_residual-in_err-stream.result c.in_err-stream.field-0.0 c.from_residual-in_err-stream.ensures) (about_among (limited part_limit c.args.part.now ∷ limited stream_limit c.args.stream.now ∷ limited script_limit c.args.script.now ∷ []) (limited part_limit c.args.part.now ∷ []) (limited stream_limit c.args.stream.now) (limited script_limit c.args.script.now ∷ []) (g.I.Inputs.state c.args.inputs.now) (g.I.Inputs.state c.read_data.new.inputs) (event_of c.in_err-stream.field-0.0) refl c.read_data.ensures.stands (both_asked (g.I.Inputs.state c.args.inputs.now) (g.I.Inputs.state c.read_part.new.inputs) (g.I.Inputs.state c.read_data.new.inputs) c.read_part.ensures.once c.read_data.ensures.asks) (unplayed_about c.args.stream.now (event_of c.in_err-stream.field-0.0) c.in_err-stream.ensures.named))
 
-pub returns-in-Err-read_whole-clause-stops : goal.returns-in-Err-read_whole-clause-stops
-returns-in-Err-read_whole-clause-stops g c = about_among (limited part_limit c.args.part.now ∷ limited stream_limit c.args.stream.now ∷ limited script_limit c.args.script.now ∷ []) (limited part_limit c.args.part.now ∷ limited stream_limit c.args.stream.now ∷ []) (limited script_limit c.args.script.now) [] (g.I.Inputs.state c.args.inputs.now) (g.I.Inputs.state c.read_whole.new.inputs) (event_of c.in-Err-read_whole.refusal) refl c.read_whole.ensures.stands (all_asked (g.I.Inputs.state c.args.inputs.now) (g.I.Inputs.state c.read_part.new.inputs) (g.I.Inputs.state c.read_data.new.inputs) (g.I.Inputs.state c.read_whole.new.inputs) c.read_part.ensures.once c.read_data.ensures.asks c.read_whole.ensures.once) (unread_about c.args.script.now (event_of c.in-Err-read_whole.refusal) c.in-Err-read_whole.ensures.named)
+pub returns-in_err-script-clause-stops : goal.returns-in_err-script-clause-stops
+returns-in_err-script-clause-stops g c = rw (handed_on c.from_residual-in_err-script.result c.in_err-script.field-0.0 c.from_residual-in_err-script.ensures) (about_among (limited part_limit c.args.part.now ∷ limited stream_limit c.args.stream.now ∷ limited script_limit c.args.script.now ∷ []) (limited part_limit c.args.part.now ∷ limited stream_limit c.args.stream.now ∷ []) (limited script_limit c.args.script.now) [] (g.I.Inputs.state c.args.inputs.now) (g.I.Inputs.state c.read_whole.new.inputs) (event_of c.in_err-script.field-0.0) refl c.read_whole.ensures.stands (all_asked (g.I.Inputs.state c.args.inputs.now) (g.I.Inputs.state c.read_part.new.inputs) (g.I.Inputs.state c.read_data.new.inputs) (g.I.Inputs.state c.read_whole.new.inputs) c.read_part.ensures.once c.read_data.ensures.asks c.read_whole.ensures.once) (unread_about c.args.script.now (event_of c.in_err-script.field-0.0) c.in_err-script.ensures.named))
 
-pub returns-in-Ok-read_whole-clause-due : goal.returns-in-Ok-read_whole-clause-due
-returns-in-Ok-read_whole-clause-due g c =
+pub returns-clause-due : goal.returns-clause-due
+returns-clause-due g c =
     let i = g.I.Inputs in
     let part = c.args.part.now in
     let stream = c.args.stream.now in
@@ -66,23 +64,23 @@ returns-in-Ok-read_whole-clause-due g c =
     let first = i.state c.read_part.new.inputs in
     let second = i.state c.read_data.new.inputs in
     let last = i.state c.read_whole.new.inputs in
-    let content = c.in-Ok-read_data.stream.items in
-    let text = c.in-Ok-read_whole.script.items in
-    let got : Result DebugInputs Event = Ok (record { part = c.in-Ok.part; stream = content; script = text }) in
+    let content = c.in_ok-stream.stream.items in
+    let text = c.in_ok-script.script.items in
+    let got : Result DebugInputs Event = Ok (record { part = c.in_ok-part.part; stream = content; script = text }) in
     answers_go PartData DebugInputs (part ∷ []) (stream ∷ script ∷ []) (part ∷ stream ∷ script ∷ []) (i.state c.args.inputs.now) first last (λ t. part_of t part)
-    (λ t p. and_so (stream_data t stream) (λ bytes. and_so (whole_in t script_limit script) (λ text. Ok (record { part = p; stream = bytes; script = text })))) c.in-Ok.part got (part_steady part) c.read_part.ensures.inputs (λ n h. inr h) c.in-Ok.ensures.due
-    (answers_go (List ℕ) DebugInputs (stream ∷ []) (script ∷ []) (stream ∷ script ∷ []) first second last (λ t. stream_data t stream) (λ t bytes. and_so (whole_in t script_limit script) (λ text. Ok (record { part = c.in-Ok.part; stream = bytes; script = text }))) content got
-    (stream_steady stream) c.read_data.ensures.inputs (λ n h. inr h) c.in-Ok-read_data.ensures.due
-    (answers_end (List ℕ) DebugInputs (script ∷ []) second last (λ t. whole_in t script_limit script) (λ text. Ok (record { part = c.in-Ok.part; stream = content; script = text })) text got (whole_steady script_limit script) c.in-Ok-read_whole.ensures.due (inr (tt, tt, refl))))
+    (λ t p. and_so (stream_data t stream) (λ bytes. and_so (whole_in t script_limit script) (λ text. Ok (record { part = p; stream = bytes; script = text })))) c.in_ok-part.part got (part_steady part) c.read_part.ensures.inputs (λ n h. inr h) c.in_ok-part.ensures.due
+    (answers_go (List ℕ) DebugInputs (stream ∷ []) (script ∷ []) (stream ∷ script ∷ []) first second last (λ t. stream_data t stream) (λ t bytes. and_so (whole_in t script_limit script) (λ text. Ok (record { part = c.in_ok-part.part; stream = bytes; script = text }))) content got
+    (stream_steady stream) c.read_data.ensures.inputs (λ n h. inr h) c.in_ok-stream.ensures.due
+    (answers_end (List ℕ) DebugInputs (script ∷ []) second last (λ t. whole_in t script_limit script) (λ text. Ok (record { part = c.in_ok-part.part; stream = content; script = text })) text got (whole_steady script_limit script) c.in_ok-script.ensures.due (inr (tt, tt, refl))))
 
-pub returns-in-Err-clause-asks : goal.returns-in-Err-clause-asks
-returns-in-Err-clause-asks g c = few_more _ _ 1 3 (omega arith) c.read_part.ensures.once
+pub returns-in_err-part-clause-asks : goal.returns-in_err-part-clause-asks
+returns-in_err-part-clause-asks g c = few_more _ _ 1 3 (omega arith) c.read_part.ensures.once
 
-pub returns-in-Err-read_data-clause-asks : goal.returns-in-Err-read_data-clause-asks
-returns-in-Err-read_data-clause-asks g c = few_more _ _ 2 3 (omega arith) (few_on _ _ _ 1 1 c.read_part.ensures.once c.read_data.ensures.asks)
+pub returns-in_err-stream-clause-asks : goal.returns-in_err-stream-clause-asks
+returns-in_err-stream-clause-asks g c = few_more _ _ 2 3 (omega arith) (few_on _ _ _ 1 1 c.read_part.ensures.once c.read_data.ensures.asks)
 
-pub returns-in-Err-read_whole-clause-asks : goal.returns-in-Err-read_whole-clause-asks
-returns-in-Err-read_whole-clause-asks g c = few_on _ _ _ 2 1 (few_on _ _ _ 1 1 c.read_part.ensures.once c.read_data.ensures.asks) c.read_whole.ensures.once
+pub returns-in_err-script-clause-asks : goal.returns-in_err-script-clause-asks
+returns-in_err-script-clause-asks g c = few_on _ _ _ 2 1 (few_on _ _ _ 1 1 c.read_part.ensures.once c.read_data.ensures.asks) c.read_whole.ensures.once
 
-pub returns-in-Ok-read_whole-clause-asks : goal.returns-in-Ok-read_whole-clause-asks
-returns-in-Ok-read_whole-clause-asks g c = few_on _ _ _ 2 1 (few_on _ _ _ 1 1 c.read_part.ensures.once c.read_data.ensures.asks) c.read_whole.ensures.once
+pub returns-clause-asks : goal.returns-clause-asks
+returns-clause-asks g c = few_on _ _ _ 2 1 (few_on _ _ _ 1 1 c.read_part.ensures.once c.read_data.ensures.asks) c.read_whole.ensures.once

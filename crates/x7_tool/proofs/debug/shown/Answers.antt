@@ -3,9 +3,9 @@ use Rattle.x7_engine.specs.Kept.{on_the_bench}
 use Rattle.x7_tool.proofs.DebugLemmas.{shown_is}
 use Rattle.x7_tool.proofs.debug.shown.Goals as goal
 
-pub returns-in-Ok-clause-ok : goal.returns-in-Ok-clause-ok
-returns-in-Ok-clause-ok c =
+pub returns-clause-ok : goal.returns-clause-ok
+returns-clause-ok c =
     let begin = c.args.session.now in
     let now = c.transcript.new.session in
-    shown_is begin.part begin.stream c.args.script.now begin now c.in-Ok.text.items c.fault.result c.is_some.result refl refl c.in-Ok.ensures.text c.in-Ok.ensures.position
+    shown_is begin.part begin.stream c.args.script.now begin now c.in_ok-text.text.items c.fault.result c.is_some.result refl refl c.in_ok-text.ensures.text c.in_ok-text.ensures.position
     (c.fault.ensures now.part on_the_bench false (take now.at now.stream) c.device.ensures.stands.stands) c.is_some.ensures

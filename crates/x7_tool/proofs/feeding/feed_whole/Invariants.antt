@@ -5,8 +5,8 @@ use Rattle.x7_forms.specs.Turn.{IsAt, turn_bytes}
 use Rattle.x7_tool.specs.Turns.{IsFed}
 use Rattle.x7_tool.proofs.feeding.feed_whole.Given as goal
 
-abbrev pub invariant-loop-turn : goal.invariant-loop-turn
-invariant-loop-turn g l =
+abbrev pub invariant-loop-read : goal.invariant-loop-read
+invariant-loop-read g l =
     let i = g.I.Inputs in
     let t = g.T.TakesLines in
     record {
@@ -18,5 +18,5 @@ invariant-loop-turn g l =
       told : (taken : List ℕ) × (Selects (i.state l.fn.inputs).contents l.name (preceded taken (i.state l.inputs).rest) × IsFed (t.took l.fn.taker) (t.fails l.fn.taker) l.read taken × (length taken + l.left ≡ text_limit) × IsAt l.name taken (i.state l.inputs));
     }
 
-abbrev pub decreases-loop-turn : goal.decreases-loop-turn
-decreases-loop-turn g l = l.left
+abbrev pub decreases-loop-read : goal.decreases-loop-read
+decreases-loop-read g l = l.left

@@ -5,40 +5,39 @@ use Rattle.x7_forms.specs.Message.{event_of}
 use Rattle.x7_forms.specs.Stop.{limited}
 use Rattle.x7_forms.specs.Step.{seen}
 use Rattle.x7_forms.proofs.ReadLemmas.{answers_end, answers_stop}
-use Rattle.x7_forms.proofs.ResultLemmas.{err_weaker}
+use Rattle.x7_forms.proofs.ResultLemmas.{handed_on, err_weaker}
 use Rattle.x7_tool.specs.Outcome.{ImageStreams, image_by, image_streams}
-use Rattle.x7_tool.specs.Ready.{whole_of}
+use Rattle.x7_tool.specs.Ready.{text_of_bytes}
 use Rattle.x7_tool.specs.Streamed.{streams_of}
 use Rattle.x7_tool.proofs.ReadyLemmas.{image_due, streams_steady}
 use Rattle.x7_tool.proofs.StopLemmas.{result_stops, among_stops, second_stops}
 use Rattle.x7_tool.proofs.image.image.Goals as goal
 
-pub returns-in-Ok : goal.returns-in-Ok
-returns-in-Ok g c =
+pub returns : goal.returns
+returns g c =
     let old = g.I.Inputs.state c.args.inputs.now in
     let new = g.I.Inputs.state c.read_streams.new.inputs in
     let golden = c.args.golden.now in
     let update = c.args.update.now in
-    let streams = streams_of c.in-Ok.streams in
+    let streams = streams_of c.in_ok-streams.streams in
     let made = c.plain_text.result in
     record {
-      due = answers_end ImageStreams Answer (golden ∷ update ∷ []) old new (λ t. image_streams t golden update) (image_by update 1) streams (seen whole_of made) (streams_steady golden update) c.in-Ok.ensures.due (image_due update 1 streams made c.plain_text.ensures.ok c.plain_text.ensures.err);
-      stops = result_stops whole_of (Imaging golden update) old new made (err_weaker made
-          (λ r a. second_stops (Imaging golden update) (limited stream_limit golden) (limited stream_limit update) [] old new (event_of r) refl c.in-Ok.ensures.stands c.read_streams.ensures.asks a) c.plain_text.ensures.about);
+      due = answers_end ImageStreams Answer (golden ∷ update ∷ []) old new (λ t. image_streams t golden update) (image_by update 1) streams (seen text_of_bytes made) (streams_steady golden update) c.in_ok-streams.ensures.due (image_due update 1 streams made c.plain_text.ensures.ok c.plain_text.ensures.err);
+      stops = result_stops text_of_bytes (Imaging golden update) old new made (err_weaker made
+          (λ r a. second_stops (Imaging golden update) (limited stream_limit golden) (limited stream_limit update) [] old new (event_of r) refl c.in_ok-streams.ensures.stands c.read_streams.ensures.asks a) c.plain_text.ensures.about);
       asks = c.read_streams.ensures.asks;
       stays = c.read_streams.ensures.inputs;
     }
 
-pub returns-in-Err : goal.returns-in-Err
-returns-in-Err g c =
-    let old = g.I.Inputs.state c.args.inputs.now in
+pub returns-in_err-streams : goal.returns-in_err-streams
+returns-in_err-streams g c = rw (handed_on c.from_residual.result c.in_err-streams.field-0.0 c.from_residual.ensures) (let old = g.I.Inputs.state c.args.inputs.now in
     let new = g.I.Inputs.state c.read_streams.new.inputs in
     let golden = c.args.golden.now in
     let update = c.args.update.now in
-    let event = event_of c.in-Err.refusal in
+    let event = event_of c.in_err-streams.field-0.0 in
     record {
-      due = answers_stop ImageStreams Answer (golden ∷ update ∷ []) (golden ∷ update ∷ []) old new (λ t. image_streams t golden update) (λ t. image_by update 1) event (λ n h. h) c.in-Err.ensures.due;
-      stops = among_stops (Imaging golden update) old new event c.in-Err.ensures.stops;
+      due = answers_stop ImageStreams Answer (golden ∷ update ∷ []) (golden ∷ update ∷ []) old new (λ t. image_streams t golden update) (λ t. image_by update 1) event (λ n h. h) c.in_err-streams.ensures.due;
+      stops = among_stops (Imaging golden update) old new event c.in_err-streams.ensures.stops;
       asks = c.read_streams.ensures.asks;
       stays = c.read_streams.ensures.inputs;
-    }
+    })

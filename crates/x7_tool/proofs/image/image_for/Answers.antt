@@ -7,52 +7,28 @@ use Rattle.x7_forms.specs.Message.{event_of}
 use Rattle.x7_forms.specs.Stop.{limited}
 use Rattle.x7_forms.specs.Step.{seen}
 use Rattle.x7_forms.proofs.ReadLemmas.{answers_end, answers_go, answers_stop, first_of, part_steady}
-use Rattle.x7_forms.proofs.ResultLemmas.{err_weaker}
+use Rattle.x7_forms.proofs.ResultLemmas.{handed_on, err_weaker}
 use Rattle.x7_forms.proofs.StandLemmas.{stops_after, no_part_about}
 use Rattle.x7_tool.specs.Outcome.{ImageStreams, image_by, image_streams}
-use Rattle.x7_tool.specs.Ready.{whole_of}
+use Rattle.x7_tool.specs.Ready.{text_of_bytes}
 use Rattle.x7_tool.specs.Streamed.{streams_of}
 use Rattle.x7_tool.proofs.ReadyLemmas.{image_due, streams_steady}
 use Rattle.x7_tool.proofs.StopLemmas.{first_asked, result_stops, third_stops, among_stops, first_stops}
 use Rattle.x7_tool.proofs.image.image_for.Goals as goal
 
-pub returns-in-Err : goal.returns-in-Err
-returns-in-Err g c =
-    let old = g.I.Inputs.state c.args.inputs.now in
+pub returns-in_err-part : goal.returns-in_err-part
+returns-in_err-part g c = rw (handed_on c.from_residual.result c.in_err-part.field-0.0 c.from_residual.ensures) (let old = g.I.Inputs.state c.args.inputs.now in
     let new = g.I.Inputs.state c.read_part.new.inputs in
     let part = c.args.part.now in
     let golden = c.args.golden.now in
     let update = c.args.update.now in
-    let event = event_of c.in-Err.refusal in
+    let event = event_of c.in_err-part.field-0.0 in
     record {
-      due = answers_stop PartData Answer (part ∷ []) (part ∷ golden ∷ update ∷ []) old new (λ t. part_of t part) (λ t p. and_so (image_streams t golden update) (image_by update p.start_unit)) event (first_of part (golden ∷ update ∷ [])) c.in-Err.ensures.due;
-      stops = first_stops (ImagingFor part golden update) (limited part_limit part) (limited stream_limit golden ∷ limited stream_limit update ∷ []) old new event refl c.read_part.ensures.stands c.read_part.ensures.once (no_part_about part event c.in-Err.ensures.named);
+      due = answers_stop PartData Answer (part ∷ []) (part ∷ golden ∷ update ∷ []) old new (λ t. part_of t part) (λ t p. and_so (image_streams t golden update) (image_by update p.start_unit)) event (first_of part (golden ∷ update ∷ [])) c.in_err-part.ensures.due;
+      stops = first_stops (ImagingFor part golden update) (limited part_limit part) (limited stream_limit golden ∷ limited stream_limit update ∷ []) old new event refl c.read_part.ensures.stands c.read_part.ensures.once (no_part_about part event c.in_err-part.ensures.named);
       asks = first_asked part (golden ∷ update ∷ []) old new c.read_part.ensures.once;
       stays = c.read_part.ensures.inputs;
-    }
-
-pub returns-in-Ok-read_streams : goal.returns-in-Ok-read_streams
-returns-in-Ok-read_streams g c =
-    let old = g.I.Inputs.state c.args.inputs.now in
-    let mid = g.I.Inputs.state c.read_part.new.inputs in
-    let new = g.I.Inputs.state c.read_streams.new.inputs in
-    let part = c.args.part.now in
-    let golden = c.args.golden.now in
-    let update = c.args.update.now in
-    let known = c.in-Ok.part in
-    let streams = streams_of c.in-Ok-read_streams.streams in
-    let made = c.part_text.result in
-    let asks = few_on old mid new 1 2 c.read_part.ensures.once c.read_streams.ensures.asks in
-    record {
-      due = answers_go PartData Answer (part ∷ []) (golden ∷ update ∷ []) (part ∷ golden ∷ update ∷ []) old mid new (λ t. part_of t part) (λ t p. and_so (image_streams t golden update) (image_by update p.start_unit)) known (seen whole_of made)
-          (part_steady part) c.read_part.ensures.inputs (λ n h. inr h) c.in-Ok.ensures.due
-          (answers_end ImageStreams Answer (golden ∷ update ∷ []) mid new (λ t. image_streams t golden update) (image_by update known.start_unit) streams (seen whole_of made) (streams_steady golden update) c.in-Ok-read_streams.ensures.due
-          (image_due update known.start_unit streams made c.part_text.ensures.ok c.part_text.ensures.err));
-      stops = result_stops whole_of (ImagingFor part golden update) old new made (err_weaker made
-          (λ r a. third_stops (ImagingFor part golden update) (limited part_limit part) (limited stream_limit golden) (limited stream_limit update) [] old new (event_of r) refl c.in-Ok-read_streams.ensures.stands asks a) c.part_text.ensures.about);
-      asks = asks;
-      stays = stays_on _ _ _ c.read_part.ensures.inputs c.read_streams.ensures.inputs;
-    }
+    })
 
 pub returns : goal.returns
 returns g c =
@@ -62,14 +38,36 @@ returns g c =
     let part = c.args.part.now in
     let golden = c.args.golden.now in
     let update = c.args.update.now in
-    let event = event_of c.in-Err-read_streams.refusal in
+    let known = c.in_ok-part.part in
+    let streams = streams_of c.in_ok-streams.streams in
+    let made = c.part_text.result in
     let asks = few_on old mid new 1 2 c.read_part.ensures.once c.read_streams.ensures.asks in
     record {
-      due = answers_go PartData Answer (part ∷ []) (golden ∷ update ∷ []) (part ∷ golden ∷ update ∷ []) old mid new (λ t. part_of t part) (λ t p. and_so (image_streams t golden update) (image_by update p.start_unit)) c.in-Ok.part (Err event)
-          (part_steady part) c.read_part.ensures.inputs (λ n h. inr h) c.in-Ok.ensures.due
-          (answers_stop ImageStreams Answer (golden ∷ update ∷ []) (golden ∷ update ∷ []) mid new (λ t. image_streams t golden update) (λ t. image_by update c.in-Ok.part.start_unit) event (λ n h. h) c.in-Err-read_streams.ensures.due);
-      stops = among_stops (ImagingFor part golden update) old new event
-          (stops_after (limited part_limit part) (limited stream_limit golden ∷ limited stream_limit update ∷ []) old mid new event c.read_part.ensures.once c.in-Err-read_streams.ensures.stops);
+      due = answers_go PartData Answer (part ∷ []) (golden ∷ update ∷ []) (part ∷ golden ∷ update ∷ []) old mid new (λ t. part_of t part) (λ t p. and_so (image_streams t golden update) (image_by update p.start_unit)) known (seen text_of_bytes made)
+          (part_steady part) c.read_part.ensures.inputs (λ n h. inr h) c.in_ok-part.ensures.due
+          (answers_end ImageStreams Answer (golden ∷ update ∷ []) mid new (λ t. image_streams t golden update) (image_by update known.start_unit) streams (seen text_of_bytes made) (streams_steady golden update) c.in_ok-streams.ensures.due
+          (image_due update known.start_unit streams made c.part_text.ensures.ok c.part_text.ensures.err));
+      stops = result_stops text_of_bytes (ImagingFor part golden update) old new made (err_weaker made
+          (λ r a. third_stops (ImagingFor part golden update) (limited part_limit part) (limited stream_limit golden) (limited stream_limit update) [] old new (event_of r) refl c.in_ok-streams.ensures.stands asks a) c.part_text.ensures.about);
       asks = asks;
       stays = stays_on _ _ _ c.read_part.ensures.inputs c.read_streams.ensures.inputs;
     }
+
+pub returns-in_err-streams : goal.returns-in_err-streams
+returns-in_err-streams g c = rw (handed_on c.from_residual-in_err-streams.result c.in_err-streams.field-0.0 c.from_residual-in_err-streams.ensures) (let old = g.I.Inputs.state c.args.inputs.now in
+    let mid = g.I.Inputs.state c.read_part.new.inputs in
+    let new = g.I.Inputs.state c.read_streams.new.inputs in
+    let part = c.args.part.now in
+    let golden = c.args.golden.now in
+    let update = c.args.update.now in
+    let event = event_of c.in_err-streams.field-0.0 in
+    let asks = few_on old mid new 1 2 c.read_part.ensures.once c.read_streams.ensures.asks in
+    record {
+      due = answers_go PartData Answer (part ∷ []) (golden ∷ update ∷ []) (part ∷ golden ∷ update ∷ []) old mid new (λ t. part_of t part) (λ t p. and_so (image_streams t golden update) (image_by update p.start_unit)) c.in_ok-part.part (Err event)
+          (part_steady part) c.read_part.ensures.inputs (λ n h. inr h) c.in_ok-part.ensures.due
+          (answers_stop ImageStreams Answer (golden ∷ update ∷ []) (golden ∷ update ∷ []) mid new (λ t. image_streams t golden update) (λ t. image_by update c.in_ok-part.part.start_unit) event (λ n h. h) c.in_err-streams.ensures.due);
+      stops = among_stops (ImagingFor part golden update) old new event
+          (stops_after (limited part_limit part) (limited stream_limit golden ∷ limited stream_limit update ∷ []) old mid new event c.read_part.ensures.once c.in_err-streams.ensures.stops);
+      asks = asks;
+      stays = stays_on _ _ _ c.read_part.ensures.inputs c.read_streams.ensures.inputs;
+    })

@@ -7,7 +7,7 @@ use Rattle.x7_words.proofs.InputLemmas.{few_once, once_on, stays_on}
 use Rattle.x7_words.proofs.CountLemmas.{risen_from}
 use Rattle.x7_listing.specs.Listing.{listing_of}
 use Rattle.x7_listing.specs.StreamListing.{stream_listing}
-use Rattle.x7_forms.specs.Event.{no_memory, status_of, write_fault}
+use Rattle.x7_forms.specs.Event.{no_memory, status_of_event, writing_failed}
 use Rattle.x7_forms.specs.Message.{event_of}
 use Rattle.x7_forms.specs.Known.{stream_limit, with_inputs}
 use Rattle.x7_forms.specs.Step.{CameIn, step_over}
@@ -20,52 +20,52 @@ use Rattle.x7_forms.specs.Turn.{FollowsUnlessLast, longest_beginning, turn_bytes
 use Rattle.x7_tool.proofs.AheadLemmas.{prefix_given, prefix_near, longer_prefix, longer_twice, same_now, stays_near, turn_given, turn_near, unfronted_near, unopened_near, unread_near, unwritten_near, why_weaker}
 use Rattle.x7_tool.proofs.Causes.{Ended, PutsListed, both_err, ends_same, list_ends, list_seen, listed_whole, nothing_put, nothing_taken, out_of_memory, unfronted, unopened}
 use Rattle.x7_forms.proofs.ReadLemmas.{asked_on, at_on, turn_unread}
-use Rattle.x7_forms.proofs.ResultLemmas.{err_weaker}
+use Rattle.x7_forms.proofs.ResultLemmas.{handed_on, err_weaker}
 use Rattle.x7_tool.proofs.TurnLemmas.{end_failed, prefix_failed, prefix_so_far, goes_on, line_prefix, line_then, stream_so_far, stream_whole, taken_more, unread_end, write_failed}
 use Rattle.x7_forms.proofs.StandLemmas.{few_read, stands_opened, stands_read, stands_turn, unfronted_about, unopened_about, unread_about}
 use Rattle.x7_tool.proofs.StopLemmas.{prefix_stops, put_stops, written_stops, first_stops}
 use Rattle.x7_forms.specs.Stop.{limited}
 use Rattle.x7_tool.proofs.list.list.Goals as goal
 
-pub returns-in-Err : goal.returns-in-Err
-returns-in-Err g c = λ before after.
+pub returns-in_err-open : goal.returns-in_err-open
+returns-in_err-open g c = rw (handed_on c.from_residual.result c.in_err-open.field-0.0 c.from_residual.ensures) (λ before after.
     let i = g.I.Inputs in
     let o = g.O.Sink in
     let old = record before { inputs = i.state c.args.inputs.now; out = o.state c.args.out.now } in
     let new = record after { inputs = i.state c.open.new.inputs; out = o.state c.args.out.now } in
     let stream = c.args.stream.now in
-    let event = event_of c.in-Err.refusal in
+    let event = event_of c.in_err-open.field-0.0 in
     let asks = few_once (i.state c.args.inputs.now) (i.state c.open.new.inputs) c.open.ensures.once in
     record {
-      ends = list_ends stream old new (Err event) (unopened old.inputs new.inputs old.flash.bytes stream (SinkFails old.out new.out) old.out.written event c.in-Err.ensures.err c.open.ensures.asks)
-          (stays_near event stream old new (unopened_near old.inputs.contents stream new.inputs.rest old.out.written new.out.written old.inputs new.inputs stream event c.open.ensures.asks (same_now old.out) c.in-Err.ensures.err));
-      stops = first_stops (Listing c.args.stream.now) (limited stream_limit c.args.stream.now) [] (g.I.Inputs.state c.args.inputs.now) (g.I.Inputs.state c.open.new.inputs) (event_of c.in-Err.refusal) refl (stands_opened c.args.stream.now stream_limit (g.I.Inputs.state c.open.new.inputs) c.open.ensures.asks) asks (unopened_about (g.I.Inputs.state c.args.inputs.now) (g.I.Inputs.state c.open.new.inputs) c.args.stream.now (event_of c.in-Err.refusal) c.in-Err.ensures.err);
+      ends = list_ends stream old new (Err event) (unopened old.inputs new.inputs old.flash.bytes stream (SinkFails old.out new.out) old.out.written event c.in_err-open.ensures.err c.open.ensures.asks)
+          (stays_near event stream old new (unopened_near old.inputs.contents stream new.inputs.rest old.out.written new.out.written old.inputs new.inputs stream event c.open.ensures.asks (same_now old.out) c.in_err-open.ensures.err));
+      stops = first_stops (Listing c.args.stream.now) (limited stream_limit c.args.stream.now) [] (g.I.Inputs.state c.args.inputs.now) (g.I.Inputs.state c.open.new.inputs) (event_of c.in_err-open.field-0.0) refl (stands_opened c.args.stream.now stream_limit (g.I.Inputs.state c.open.new.inputs) c.open.ensures.asks) asks (unopened_about (g.I.Inputs.state c.args.inputs.now) (g.I.Inputs.state c.open.new.inputs) c.args.stream.now (event_of c.in_err-open.field-0.0) c.in_err-open.ensures.err);
       judges = tt;
       asks = asks;
       stays = c.open.ensures.inputs;
-    }
+    })
 
-pub returns-in-Err-read_beginning : goal.returns-in-Err-read_beginning
-returns-in-Err-read_beginning g c = λ before after.
+pub returns-in_err-beginning : goal.returns-in_err-beginning
+returns-in_err-beginning g c = rw (handed_on c.from_residual-in_err-beginning.result c.in_err-beginning.field-0.0 c.from_residual-in_err-beginning.ensures) (λ before after.
     let i = g.I.Inputs in
     let o = g.O.Sink in
     let old = record before { inputs = i.state c.args.inputs.now; out = o.state c.args.out.now } in
     let new = record after { inputs = i.state c.read_beginning.new.inputs; out = o.state c.args.out.now } in
     let stream = c.args.stream.now in
-    let event = event_of c.in-Err-read_beginning.refusal in
+    let event = event_of c.in_err-beginning.field-0.0 in
     let asks = few_read (i.state c.args.inputs.now) (i.state c.open.new.inputs) (i.state c.read_beginning.new.inputs) stream_limit c.open.ensures.once c.read_beginning.ensures.few in
     record {
       ends = list_ends stream old new (Err event)
-          (unfronted old.inputs (i.state c.open.new.inputs) new.inputs old.flash.bytes stream (SinkFails old.out new.out) old.out.written event c.open.ensures.inputs c.in-Ok.ensures.ok.found c.open.ensures.asks c.in-Err-read_beginning.ensures.err)
-          (stays_near event stream old new (unfronted_near old.inputs.contents stream new.inputs.rest old.out.written new.out.written (i.state c.open.new.inputs) new.inputs stream event refl c.in-Ok.ensures.ok.found c.open.ensures.asks c.read_beginning.ensures.short (same_now old.out) c.in-Err-read_beginning.ensures.err));
-      stops = first_stops (Listing c.args.stream.now) (limited stream_limit c.args.stream.now) [] (g.I.Inputs.state c.args.inputs.now) (g.I.Inputs.state c.read_beginning.new.inputs) (event_of c.in-Err-read_beginning.refusal) refl (stands_read c.args.stream.now stream_limit (g.I.Inputs.state c.open.new.inputs) (g.I.Inputs.state c.read_beginning.new.inputs) c.open.ensures.asks c.read_beginning.ensures.few) asks (unfronted_about (g.I.Inputs.state c.open.new.inputs) (g.I.Inputs.state c.read_beginning.new.inputs) c.args.stream.now (event_of c.in-Err-read_beginning.refusal) c.in-Err-read_beginning.ensures.err);
+          (unfronted old.inputs (i.state c.open.new.inputs) new.inputs old.flash.bytes stream (SinkFails old.out new.out) old.out.written event c.open.ensures.inputs c.in_ok-open.ensures.ok.found c.open.ensures.asks c.in_err-beginning.ensures.err)
+          (stays_near event stream old new (unfronted_near old.inputs.contents stream new.inputs.rest old.out.written new.out.written (i.state c.open.new.inputs) new.inputs stream event refl c.in_ok-open.ensures.ok.found c.open.ensures.asks c.read_beginning.ensures.short (same_now old.out) c.in_err-beginning.ensures.err));
+      stops = first_stops (Listing c.args.stream.now) (limited stream_limit c.args.stream.now) [] (g.I.Inputs.state c.args.inputs.now) (g.I.Inputs.state c.read_beginning.new.inputs) (event_of c.in_err-beginning.field-0.0) refl (stands_read c.args.stream.now stream_limit (g.I.Inputs.state c.open.new.inputs) (g.I.Inputs.state c.read_beginning.new.inputs) c.open.ensures.asks c.read_beginning.ensures.few) asks (unfronted_about (g.I.Inputs.state c.open.new.inputs) (g.I.Inputs.state c.read_beginning.new.inputs) c.args.stream.now (event_of c.in_err-beginning.field-0.0) c.in_err-beginning.ensures.err);
       judges = tt;
       asks = asks;
       stays = stays_on _ _ _ c.open.ensures.inputs c.read_beginning.ensures.inputs;
-    }
+    })
 
-pub returns-in-Err-put_beginning : goal.returns-in-Err-put_beginning
-returns-in-Err-put_beginning g c = λ before after.
+pub returns-in_err-put_beginning : goal.returns-in_err-put_beginning
+returns-in_err-put_beginning g c = rw (handed_on c.from_residual-in_err-put_beginning.result c.in_err-put_beginning.field-0.0 c.from_residual-in_err-put_beginning.ensures) (λ before after.
     let i = g.I.Inputs in
     let o = g.O.Sink in
     let contents = (i.state c.args.inputs.now).contents in
@@ -73,39 +73,39 @@ returns-in-Err-put_beginning g c = λ before after.
     let stream = c.args.stream.now in
     let C = CameIn (step_over (stream ∷ []) (i.state c.args.inputs.now) (i.state c.read_beginning.new.inputs)) in
     let given = (i.state c.read_beginning.new.inputs).given in
-    let f = c.in-Ok-read_beginning.ensures.begins in
-    let taken = c.in-Ok-read_beginning.beginning.bytes.items in
-    let last = c.in-Ok-read_beginning.beginning.last in
+    let f = c.in_ok-beginning.ensures.begins in
+    let taken = c.in_ok-beginning.beginning.bytes.items in
+    let last = c.in_ok-beginning.beginning.last in
     let line = c.deref-line.result.now in
-    let start = c.in-Ok-read_beginning.beginning.start in
+    let start = c.in_ok-beginning.beginning.start in
     let bytes = c.deref.result.now in
     let sent = take (length bytes - start) (drop start bytes) in
     let cut : sent ≡ drop start taken = take_all (length bytes - start) (drop start bytes) (omega (arith, length-drop start bytes)) ∙ ap (drop start) c.deref.ensures.value in
     let rest = (i.state c.read_beginning.new.inputs).rest in
-    let sel : Selects contents stream (preceded taken rest) = subst (λ r. Selects contents stream r) f.reads.takes.taken c.in-Ok.ensures.ok.found in
+    let sel : Selects contents stream (preceded taken rest) = subst (λ r. Selects contents stream r) f.reads.takes.taken c.in_ok-open.ensures.ok.found in
     let goes : (left : List ℕ) → FollowsUnlessLast last left → stream_listing (taken ++ left) ≡ Ok (line ++ listing_of (sent ++ left)) = λ left m. f.begins left m ∙ ap (λ (l : List ℕ). Ok (l ++ listing_of (drop start taken ++ left))) (sym c.deref-line.ensures.value) ∙ ap (λ (s : List ℕ). Ok (line ++ listing_of (s ++ left))) (sym cut) in
     let now = (o.state c.put_beginning.new.out).written in
     let Full : Type 0 = SinkFails (o.state c.args.out.now) (o.state c.put_beginning.new.out) in
-    let r = event_of c.in-Err-put_beginning.refusal in
+    let r = event_of c.in_err-put_beginning.field-0.0 in
     let flash = before.flash.bytes in
     let on : (left : List ℕ) → stream_listing (taken ++ left) ≡ Ok (line ++ listing_of (sent ++ left)) = λ left. goes left (λ l. let never : false ≡ true = sym c.if-beginning.false ∙ l in absurd cc) in
-    let end : (r ≡ no_memory) ⊎ ((r ≡ write_fault) × SinkFails (o.state c.args.out.now) (o.state c.put_beginning.new.out)) → Ended (with_inputs contents flash) C stream Full old now (Err r)
+    let end : (r ≡ no_memory) ⊎ ((r ≡ writing_failed) × SinkFails (o.state c.args.out.now) (o.state c.put_beginning.new.out)) → Ended (with_inputs contents flash) C stream Full old now (Err r)
     = elim [
-      | inl h ↦ ends_same (with_inputs contents flash) C stream Full old now r no_memory h (out_of_memory contents flash C stream taken rest Full old now sel (prefix_so_far taken line sent old now c.put_beginning.ensures.fits on c.in-Err-put_beginning.ensures.err))
-      | inr h ↦ ends_same (with_inputs contents flash) C stream Full old now r write_fault h.0 (prefix_failed contents flash C stream taken line sent rest last Full old now sel f.end h.1 c.put_beginning.ensures.fits goes c.in-Err-put_beginning.ensures.err)
+      | inl h ↦ ends_same (with_inputs contents flash) C stream Full old now r no_memory h (out_of_memory contents flash C stream taken rest Full old now sel (prefix_so_far taken line sent old now c.put_beginning.ensures.fits on c.in_err-put_beginning.ensures.err))
+      | inr h ↦ ends_same (with_inputs contents flash) C stream Full old now r writing_failed h.0 (prefix_failed contents flash C stream taken line sent rest last Full old now sel f.end h.1 c.put_beginning.ensures.fits goes c.in_err-put_beginning.ensures.err)
     ] in
-    let put = c.in-Err-put_beginning.ensures.err [] (subst AreBytes (sym (append-nil _)) c.put_beginning.ensures.fits) in
+    let put = c.in_err-put_beginning.ensures.err [] (subst AreBytes (sym (append-nil _)) c.put_beginning.ensures.fits) in
     let longer = longer_prefix old now _ put in
     let few : given ≤ longest_beginning = omega (arith, c.open.ensures.asks.given, c.read_beginning.ensures.short) in
-    let near = unwritten_near contents stream rest old now _ given r (prefix_given contents stream given old now few longer) (prefix_near contents stream taken rest old now sel f.few longer) c.in-Err-put_beginning.ensures.why in
+    let near = unwritten_near contents stream rest old now _ given r (prefix_given contents stream given old now few longer) (prefix_near contents stream taken rest old now sel f.few longer) c.in_err-put_beginning.ensures.why in
     let asks = few_read (i.state c.args.inputs.now) (i.state c.open.new.inputs) (i.state c.read_beginning.new.inputs) stream_limit c.open.ensures.once c.read_beginning.ensures.few in
     record {
-      ends = list_ends stream (record before { inputs = i.state c.args.inputs.now; out = o.state c.args.out.now }) (record after { inputs = i.state c.read_beginning.new.inputs; out = o.state c.put_beginning.new.out }) (Err r) (end c.in-Err-put_beginning.ensures.why) (stays_near r stream (record before { inputs = i.state c.args.inputs.now; out = o.state c.args.out.now }) (record after { inputs = i.state c.read_beginning.new.inputs; out = o.state c.put_beginning.new.out }) near);
-      stops = prefix_stops (Listing c.args.stream.now) (g.I.Inputs.state c.args.inputs.now) (g.I.Inputs.state c.read_beginning.new.inputs) (event_of c.in-Err-put_beginning.refusal) c.in-Err-put_beginning.ensures.why;
+      ends = list_ends stream (record before { inputs = i.state c.args.inputs.now; out = o.state c.args.out.now }) (record after { inputs = i.state c.read_beginning.new.inputs; out = o.state c.put_beginning.new.out }) (Err r) (end c.in_err-put_beginning.ensures.why) (stays_near r stream (record before { inputs = i.state c.args.inputs.now; out = o.state c.args.out.now }) (record after { inputs = i.state c.read_beginning.new.inputs; out = o.state c.put_beginning.new.out }) near);
+      stops = prefix_stops (Listing c.args.stream.now) (g.I.Inputs.state c.args.inputs.now) (g.I.Inputs.state c.read_beginning.new.inputs) (event_of c.in_err-put_beginning.field-0.0) c.in_err-put_beginning.ensures.why;
       judges = tt;
       asks = asks;
       stays = stays_on _ _ _ c.open.ensures.inputs c.read_beginning.ensures.inputs;
-    }
+    })
 
 pub returns-then-beginning : goal.returns-then-beginning
 returns-then-beginning g c = λ before after.
@@ -116,16 +116,16 @@ returns-then-beginning g c = λ before after.
     let stream = c.args.stream.now in
     let C = CameIn (step_over (stream ∷ []) (i.state c.args.inputs.now) (i.state c.read_beginning.new.inputs)) in
     let given = (i.state c.read_beginning.new.inputs).given in
-    let f = c.in-Ok-read_beginning.ensures.begins in
-    let taken = c.in-Ok-read_beginning.beginning.bytes.items in
-    let last = c.in-Ok-read_beginning.beginning.last in
+    let f = c.in_ok-beginning.ensures.begins in
+    let taken = c.in_ok-beginning.beginning.bytes.items in
+    let last = c.in_ok-beginning.beginning.last in
     let line = c.deref-line.result.now in
-    let start = c.in-Ok-read_beginning.beginning.start in
+    let start = c.in_ok-beginning.beginning.start in
     let bytes = c.deref.result.now in
     let sent = take (length bytes - start) (drop start bytes) in
     let cut : sent ≡ drop start taken = take_all (length bytes - start) (drop start bytes) (omega (arith, length-drop start bytes)) ∙ ap (drop start) c.deref.ensures.value in
     let rest = (i.state c.read_beginning.new.inputs).rest in
-    let sel : Selects contents stream (preceded taken rest) = subst (λ r. Selects contents stream r) f.reads.takes.taken c.in-Ok.ensures.ok.found in
+    let sel : Selects contents stream (preceded taken rest) = subst (λ r. Selects contents stream r) f.reads.takes.taken c.in_ok-open.ensures.ok.found in
     let goes : (left : List ℕ) → FollowsUnlessLast last left → stream_listing (taken ++ left) ≡ Ok (line ++ listing_of (sent ++ left)) = λ left m. f.begins left m ∙ ap (λ (l : List ℕ). Ok (l ++ listing_of (drop start taken ++ left))) (sym c.deref-line.ensures.value) ∙ ap (λ (s : List ℕ). Ok (line ++ listing_of (s ++ left))) (sym cut) in
     let now = (o.state c.put_short.new.out).written in
     let Full : Type 0 = SinkFails (o.state c.args.out.now) (o.state c.put_short.new.out) in
@@ -136,20 +136,20 @@ returns-then-beginning g c = λ before after.
     let first = record before { inputs = i.state c.args.inputs.now; out = o.state c.args.out.now } in
     let later = record after { inputs = i.state c.read_beginning.new.inputs; out = o.state c.put_short.new.out } in
     let ok = on_ok_weaker c.put_short.result (λ h. (text, listed_whole contents flash C stream taken text rest Full old now sel end same (omega (arith, f.few)) h)) c.put_short.ensures.ok in
-    let Why : Refusal → Type 0 = λ r. ((event_of r ≡ no_memory) × (now ≡ old)) ⊎ ((event_of r ≡ write_fault) × Full) in
+    let Why : Refusal → Type 0 = λ r. ((event_of r ≡ no_memory) × (now ≡ old)) ⊎ ((event_of r ≡ writing_failed) × Full) in
     let err = both_err c.put_short.result (λ r. PutsPrefix old text now) Why (λ r. Ended (with_inputs contents flash) C stream Full old now (Err (event_of r)))
     (λ r p w.
-    let by : ((event_of r ≡ no_memory) × (now ≡ old)) ⊎ ((event_of r ≡ write_fault) × Full) → Ended (with_inputs contents flash) C stream Full old now (Err (event_of r))
+    let by : ((event_of r ≡ no_memory) × (now ≡ old)) ⊎ ((event_of r ≡ writing_failed) × Full) → Ended (with_inputs contents flash) C stream Full old now (Err (event_of r))
     = elim [
       | inl h ↦
           let none : ListsSoFar [] old now = subst (λ (x : Option (List ℕ)). ListsSoFar [] old x) (sym h.1) (nothing_put old) in
-          let opened = nothing_taken contents stream (i.state c.open.new.inputs).rest c.in-Ok.ensures.ok.found in
+          let opened = nothing_taken contents stream (i.state c.open.new.inputs).rest c.in_ok-open.ensures.ok.found in
           ends_same (with_inputs contents flash) C stream Full old now (event_of r) no_memory h.0 (out_of_memory contents flash C stream [] (i.state c.open.new.inputs).rest Full old now opened none)
-      | inr h ↦ ends_same (with_inputs contents flash) C stream Full old now (event_of r) write_fault h.0 (end_failed contents flash C stream taken rest Full old now sel end h.1 (text, (same, p)))
+      | inr h ↦ ends_same (with_inputs contents flash) C stream Full old now (event_of r) writing_failed h.0 (end_failed contents flash C stream taken rest Full old now sel end h.1 (text, (same, p)))
     ] in
     by w)
     c.put_short.ensures.err c.put_short.ensures.why in
-    let near = both_err c.put_short.result (λ r. PutsPrefix old text now) Why (λ r. StaysNear (status_of (event_of r)) (Some (Listing stream)) first later)
+    let near = both_err c.put_short.result (λ r. PutsPrefix old text now) Why (λ r. StaysNear (status_of_event (event_of r)) (Some (Listing stream)) first later)
     (λ r p w.
     let longer = longer_prefix old now text p in
     let few : given ≤ longest_beginning = omega (arith, c.open.ensures.asks.given, c.read_beginning.ensures.short) in
@@ -164,31 +164,31 @@ returns-then-beginning g c = λ before after.
       stays = stays_on _ _ _ c.open.ensures.inputs c.read_beginning.ensures.inputs;
     }
 
-pub returns-in-Err-next_turn : goal.returns-in-Err-next_turn
-returns-in-Err-next_turn g c = λ before after.
+pub returns-in_err-turn : goal.returns-in_err-turn
+returns-in_err-turn g c = rw (handed_on c.from_residual-in_err-turn.result c.in_err-turn.field-0.0 c.from_residual-in_err-turn.ensures) (λ before after.
     let i = g.I.Inputs in
     let o = g.O.Sink in
-    let v = c.loop-turn.invariant in
+    let v = c.loop-lister.invariant in
     let old = record before { inputs = i.state c.args.inputs.now; out = o.state c.args.out.now } in
-    let new = record after { inputs = i.state c.next_turn.new.inputs; out = o.state c.loop-turn.out } in
+    let new = record after { inputs = i.state c.next_turn.new.inputs; out = o.state c.loop-lister.out } in
     let stream = c.args.stream.now in
-    let event = event_of c.in-Err-next_turn.refusal in
+    let event = event_of c.in_err-turn.field-0.0 in
     let t = v.told.1.1 in
-    let asks = few_read (i.state c.args.inputs.now) (i.state c.loop-turn.inputs) (i.state c.next_turn.new.inputs) c.loop-turn.left c.loop-turn.invariant.once c.next_turn.ensures.few in
+    let asks = few_read (i.state c.args.inputs.now) (i.state c.loop-lister.inputs) (i.state c.next_turn.new.inputs) c.loop-lister.left c.loop-lister.invariant.once c.next_turn.ensures.few in
     record {
       ends = list_ends stream old new (Err event)
-          (unread_end old.inputs (i.state c.loop-turn.inputs) new.inputs old.flash.bytes stream v.told.0 c.loop-turn.lister c.loop-turn.left (SinkFails old.out new.out) old.out.written new.out.written event
-          v.inputs v.told.1.0 v.told.1.3 v.told.1.1 v.told.1.2 c.in-Err-next_turn.ensures.err c.next_turn.ensures.asked)
-          (stays_near event stream old new (unread_near old.inputs.contents stream new.inputs.rest old.out.written new.out.written (i.state c.loop-turn.inputs) new.inputs stream v.told.0 c.loop-turn.lister c.loop-turn.left event refl v.told.1.0 t
-          (omega (arith, v.told.1.3.given, c.next_turn.ensures.turn, v.piece)) (λ e. omega (arith, c.in-Err-next_turn.ensures.over e, v.piece)) (same_now (o.state c.loop-turn.out)) c.in-Err-next_turn.ensures.err));
-      stops = let v = c.loop-turn.invariant in first_stops (Listing c.args.stream.now) (limited stream_limit c.args.stream.now) [] (g.I.Inputs.state c.args.inputs.now) (g.I.Inputs.state c.next_turn.new.inputs) (event_of c.in-Err-next_turn.refusal) refl (stands_turn c.args.stream.now v.told.0 stream_limit c.loop-turn.left (g.I.Inputs.state c.loop-turn.inputs) (g.I.Inputs.state c.next_turn.new.inputs) v.told.1.3 v.told.1.2 c.next_turn.ensures.few) asks (unread_about c.args.stream.now (event_of c.in-Err-next_turn.refusal) (turn_unread (g.I.Inputs.state c.loop-turn.inputs) (g.I.Inputs.state c.next_turn.new.inputs) c.args.stream.now c.loop-turn.left (event_of c.in-Err-next_turn.refusal) c.in-Err-next_turn.ensures.err));
+          (unread_end old.inputs (i.state c.loop-lister.inputs) new.inputs old.flash.bytes stream v.told.0 c.loop-lister.lister c.loop-lister.left (SinkFails old.out new.out) old.out.written new.out.written event
+          v.inputs v.told.1.0 v.told.1.3 v.told.1.1 v.told.1.2 c.in_err-turn.ensures.err c.next_turn.ensures.asked)
+          (stays_near event stream old new (unread_near old.inputs.contents stream new.inputs.rest old.out.written new.out.written (i.state c.loop-lister.inputs) new.inputs stream v.told.0 c.loop-lister.lister c.loop-lister.left event refl v.told.1.0 t
+          (omega (arith, v.told.1.3.given, c.next_turn.ensures.turn, v.piece)) (λ e. omega (arith, c.in_err-turn.ensures.over e, v.piece)) (same_now (o.state c.loop-lister.out)) c.in_err-turn.ensures.err));
+      stops = let v = c.loop-lister.invariant in first_stops (Listing c.args.stream.now) (limited stream_limit c.args.stream.now) [] (g.I.Inputs.state c.args.inputs.now) (g.I.Inputs.state c.next_turn.new.inputs) (event_of c.in_err-turn.field-0.0) refl (stands_turn c.args.stream.now v.told.0 stream_limit c.loop-lister.left (g.I.Inputs.state c.loop-lister.inputs) (g.I.Inputs.state c.next_turn.new.inputs) v.told.1.3 v.told.1.2 c.next_turn.ensures.few) asks (unread_about c.args.stream.now (event_of c.in_err-turn.field-0.0) (turn_unread (g.I.Inputs.state c.loop-lister.inputs) (g.I.Inputs.state c.next_turn.new.inputs) c.args.stream.now c.loop-lister.left (event_of c.in_err-turn.field-0.0) c.in_err-turn.ensures.err));
       judges = tt;
       asks = asks;
-      stays = stays_on _ _ _ c.loop-turn.invariant.inputs c.next_turn.ensures.inputs;
-    }
+      stays = stays_on _ _ _ c.loop-lister.invariant.inputs c.next_turn.ensures.inputs;
+    })
 
-pub returns-in-Err-put_turn : goal.returns-in-Err-put_turn
-returns-in-Err-put_turn g c = λ before after.
+pub returns-in_err-put_turn : goal.returns-in_err-put_turn
+returns-in_err-put_turn g c = rw (handed_on c.from_residual-in_err-put_turn.result c.in_err-put_turn.field-0.0 c.from_residual-in_err-put_turn.ensures) (λ before after.
     let i = g.I.Inputs in
     let o = g.O.Sink in
     let contents = (i.state c.args.inputs.now).contents in
@@ -196,41 +196,41 @@ returns-in-Err-put_turn g c = λ before after.
     let stream = c.args.stream.now in
     let C = CameIn (step_over (stream ∷ []) (i.state c.args.inputs.now) (i.state c.next_turn.new.inputs)) in
     let given = (i.state c.next_turn.new.inputs).given in
-    let v = c.loop-turn.invariant in
+    let v = c.loop-lister.invariant in
     let taken = v.told.0 in
     let t = v.told.1.1 in
-    let piece = take c.in-Ok-next_turn.turn.count c.next_turn.new.buf in
-    let sel = taken_more contents stream taken piece (i.state c.loop-turn.inputs).rest (i.state c.next_turn.new.inputs).rest v.told.1.0 c.in-Ok-next_turn.ensures.ok.taken in
+    let piece = take c.in_ok-turn.turn.count c.next_turn.new.buf in
+    let sel = taken_more contents stream taken piece (i.state c.loop-lister.inputs).rest (i.state c.next_turn.new.inputs).rest v.told.1.0 c.in_ok-turn.ensures.ok.taken in
     let now = (o.state c.put_turn.new.out).written in
     let Full : Type 0 = SinkFails (o.state c.args.out.now) (o.state c.put_turn.new.out) in
-    let r = event_of c.in-Err-put_turn.refusal in
+    let r = event_of c.in_err-put_turn.field-0.0 in
     let flash = before.flash.bytes in
-    let end : ((r ≡ no_memory) × (now ≡ (o.state c.loop-turn.out).written)) ⊎ ((r ≡ write_fault) × SinkFails (o.state c.loop-turn.out) (o.state c.put_turn.new.out)) → Ended (with_inputs contents flash) C stream Full old now (Err r)
+    let end : ((r ≡ no_memory) × (now ≡ (o.state c.loop-lister.out).written)) ⊎ ((r ≡ writing_failed) × SinkFails (o.state c.loop-lister.out) (o.state c.put_turn.new.out)) → Ended (with_inputs contents flash) C stream Full old now (Err r)
     = elim [
       | inl h ↦
-          let front2 : ListsSoFar taken old now = subst (λ (w : Option (List ℕ)). ListsSoFar taken old w) (sym h.1) (stream_so_far c.loop-turn.lister old (o.state c.loop-turn.out).written taken t) in
-          ends_same (with_inputs contents flash) C stream Full old now r no_memory h.0 (out_of_memory contents flash C stream taken (i.state c.loop-turn.inputs).rest Full old now v.told.1.0 front2)
+          let front2 : ListsSoFar taken old now = subst (λ (w : Option (List ℕ)). ListsSoFar taken old w) (sym h.1) (stream_so_far c.loop-lister.lister old (o.state c.loop-lister.out).written taken t) in
+          ends_same (with_inputs contents flash) C stream Full old now r no_memory h.0 (out_of_memory contents flash C stream taken (i.state c.loop-lister.inputs).rest Full old now v.told.1.0 front2)
       | inr h ↦
-          let risen = risen_from (o.state c.args.out.now).faults (o.state c.loop-turn.out).faults (o.state c.put_turn.new.out).faults v.written h.1 in
+          let risen = risen_from (o.state c.args.out.now).faults (o.state c.loop-lister.out).faults (o.state c.put_turn.new.out).faults v.written h.1 in
           let err : (left : List ℕ) → AreBytes (t.sent ++ (piece ++ left)) → PutsPrefix (appended old t.line) (listing_of (t.sent ++ (piece ++ left))) now
-          = λ left fits. c.in-Err-put_turn.ensures.err (appended old t.line) t.sent left t.lists fits in
-          ends_same (with_inputs contents flash) C stream Full old now r write_fault h.0
-          (write_failed contents flash C stream taken piece piece c.loop-turn.lister (i.state c.next_turn.new.inputs).rest Full old (o.state c.loop-turn.out).written now refl sel risen t c.put_turn.ensures.fits err)
+          = λ left fits. c.in_err-put_turn.ensures.err (appended old t.line) t.sent left t.lists fits in
+          ends_same (with_inputs contents flash) C stream Full old now r writing_failed h.0
+          (write_failed contents flash C stream taken piece piece c.loop-lister.lister (i.state c.next_turn.new.inputs).rest Full old (o.state c.loop-lister.out).written now refl sel risen t c.put_turn.ensures.fits err)
     ] in
-    let n = c.in-Ok-next_turn.turn.count in
+    let n = c.in_ok-turn.turn.count in
     let rest = (i.state c.next_turn.new.inputs).rest in
-    let few : length piece ≤ turn_bytes = omega (arith, length-take-le n c.next_turn.new.buf (omega (arith, c.in-Ok-next_turn.ensures.within.1, c.next_turn.ensures.length, v.piece)), c.in-Ok-next_turn.ensures.within.1, v.piece) in
+    let few : length piece ≤ turn_bytes = omega (arith, length-take-le n c.next_turn.new.buf (omega (arith, c.in_ok-turn.ensures.within.1, c.next_turn.ensures.length, v.piece)), c.in_ok-turn.ensures.within.1, v.piece) in
     let told = stream_whole taken t.line t.sent (t.goes []) in
-    let near = turn_near contents stream taken piece t.line t.sent c.loop-turn.lister rest old (o.state c.loop-turn.out).written now sel t.close few told t.lists c.put_turn.ensures.longer in
-    let gives = turn_given contents stream taken t.line t.sent given c.loop-turn.lister (i.state c.loop-turn.inputs).rest old (o.state c.loop-turn.out).written now v.told.1.0 (omega (arith, v.told.1.3.given, c.next_turn.ensures.turn, v.piece)) told t.lists c.put_turn.ensures.longer in
-    let asks = few_read (i.state c.args.inputs.now) (i.state c.loop-turn.inputs) (i.state c.next_turn.new.inputs) c.loop-turn.left c.loop-turn.invariant.once c.next_turn.ensures.few in
+    let near = turn_near contents stream taken piece t.line t.sent c.loop-lister.lister rest old (o.state c.loop-lister.out).written now sel t.close few told t.lists c.put_turn.ensures.longer in
+    let gives = turn_given contents stream taken t.line t.sent given c.loop-lister.lister (i.state c.loop-lister.inputs).rest old (o.state c.loop-lister.out).written now v.told.1.0 (omega (arith, v.told.1.3.given, c.next_turn.ensures.turn, v.piece)) told t.lists c.put_turn.ensures.longer in
+    let asks = few_read (i.state c.args.inputs.now) (i.state c.loop-lister.inputs) (i.state c.next_turn.new.inputs) c.loop-lister.left c.loop-lister.invariant.once c.next_turn.ensures.few in
     record {
-      ends = list_ends stream (record before { inputs = i.state c.args.inputs.now; out = o.state c.args.out.now }) (record after { inputs = i.state c.next_turn.new.inputs; out = o.state c.put_turn.new.out }) (Err r) (end c.in-Err-put_turn.ensures.why) (stays_near r stream (record before { inputs = i.state c.args.inputs.now; out = o.state c.args.out.now }) (record after { inputs = i.state c.next_turn.new.inputs; out = o.state c.put_turn.new.out }) (unwritten_near contents stream rest old now _ given r gives near (why_weaker c.in-Err-put_turn.ensures.why)));
-      stops = put_stops (Listing c.args.stream.now) (g.I.Inputs.state c.args.inputs.now) (g.I.Inputs.state c.next_turn.new.inputs) (event_of c.in-Err-put_turn.refusal) c.in-Err-put_turn.ensures.why;
+      ends = list_ends stream (record before { inputs = i.state c.args.inputs.now; out = o.state c.args.out.now }) (record after { inputs = i.state c.next_turn.new.inputs; out = o.state c.put_turn.new.out }) (Err r) (end c.in_err-put_turn.ensures.why) (stays_near r stream (record before { inputs = i.state c.args.inputs.now; out = o.state c.args.out.now }) (record after { inputs = i.state c.next_turn.new.inputs; out = o.state c.put_turn.new.out }) (unwritten_near contents stream rest old now _ given r gives near (why_weaker c.in_err-put_turn.ensures.why)));
+      stops = put_stops (Listing c.args.stream.now) (g.I.Inputs.state c.args.inputs.now) (g.I.Inputs.state c.next_turn.new.inputs) (event_of c.in_err-put_turn.field-0.0) c.in_err-put_turn.ensures.why;
       judges = tt;
       asks = asks;
-      stays = stays_on _ _ _ c.loop-turn.invariant.inputs c.next_turn.ensures.inputs;
-    }
+      stays = stays_on _ _ _ c.loop-lister.invariant.inputs c.next_turn.ensures.inputs;
+    })
 
 pub returns-then-turn : goal.returns-then-turn
 returns-then-turn g c = λ before after.
@@ -241,19 +241,19 @@ returns-then-turn g c = λ before after.
     let stream = c.args.stream.now in
     let C = CameIn (step_over (stream ∷ []) (i.state c.args.inputs.now) (i.state c.next_turn.new.inputs)) in
     let given = (i.state c.next_turn.new.inputs).given in
-    let v = c.loop-turn.invariant in
+    let v = c.loop-lister.invariant in
     let taken = v.told.0 in
     let t = v.told.1.1 in
-    let n = c.in-Ok-next_turn.turn.count in
+    let n = c.in_ok-turn.turn.count in
     let piece = take n c.next_turn.new.buf in
-    let sel = taken_more contents stream taken piece (i.state c.loop-turn.inputs).rest (i.state c.next_turn.new.inputs).rest v.told.1.0 c.in-Ok-next_turn.ensures.ok.taken in
-    let lists : Lists c.put_turn.new.lister (appended old t.line) (o.state c.put_turn.new.out).written (t.sent ++ piece) = c.in-Ok-put_turn.ensures.ok (appended old t.line) t.sent t.lists in
+    let sel = taken_more contents stream taken piece (i.state c.loop-lister.inputs).rest (i.state c.next_turn.new.inputs).rest v.told.1.0 c.in_ok-turn.ensures.ok.taken in
+    let lists : Lists c.put_turn.new.lister (appended old t.line) (o.state c.put_turn.new.out).written (t.sent ++ piece) = c.in_ok-put_turn.ensures.ok (appended old t.line) t.sent t.lists in
     let goes = goes_on taken piece t.line t.sent t.goes in
     let now = (o.state c.put_end.new.out).written in
     let Full : Type 0 = SinkFails (o.state c.args.out.now) (o.state c.put_end.new.out) in
-    let size : length (taken ++ piece) ≡ length taken + n = length-append taken piece ∙ ap (λ k. length taken + k) (length-take-le n c.next_turn.new.buf (omega (arith, c.in-Ok-next_turn.ensures.within.1, c.next_turn.ensures.length, v.piece))) in
-    let short : length (taken ++ piece) ≤ stream_limit = omega (arith, size, c.in-Ok-next_turn.ensures.within.0, v.told.1.2) in
-    let end = c.in-Ok-next_turn.ensures.end c.if-turn.true in
+    let size : length (taken ++ piece) ≡ length taken + n = length-append taken piece ∙ ap (λ k. length taken + k) (length-take-le n c.next_turn.new.buf (omega (arith, c.in_ok-turn.ensures.within.1, c.next_turn.ensures.length, v.piece))) in
+    let short : length (taken ++ piece) ≤ stream_limit = omega (arith, size, c.in_ok-turn.ensures.within.0, v.told.1.2) in
+    let end = c.in_ok-turn.ensures.end c.if-turn.true in
     let text = t.line ++ listing_of (t.sent ++ piece) in
     let same = stream_whole (taken ++ piece) t.line (t.sent ++ piece) (goes []) in
     let flash = before.flash.bytes in
@@ -261,87 +261,87 @@ returns-then-turn g c = λ before after.
     let mid = (o.state c.put_turn.new.out).written in
     let told : ListsStream c.put_turn.new.lister old mid (taken ++ piece) = record { line = t.line; sent = t.sent ++ piece; lists = lists; goes = goes; close = omega (arith, t.close, length-append taken piece, length-append t.sent piece) } in
     let err = both_err c.put_end.result (λ r. (first : Option (List ℕ)) (bytes : List ℕ) → Lists c.put_turn.new.lister first mid bytes → PutsPrefix first (listing_of bytes) now)
-    (λ r. ((event_of r ≡ no_memory) × (now ≡ mid)) ⊎ ((event_of r ≡ write_fault) × SinkFails (o.state c.put_turn.new.out) (o.state c.put_end.new.out)))
+    (λ r. ((event_of r ≡ no_memory) × (now ≡ mid)) ⊎ ((event_of r ≡ writing_failed) × SinkFails (o.state c.put_turn.new.out) (o.state c.put_end.new.out)))
     (λ r. Ended (with_inputs contents flash) C stream Full old now (Err (event_of r)))
     (λ r p w.
     let front : PutsListed (taken ++ piece) old now = (text, (same, line_prefix old now t.line (listing_of (t.sent ++ piece)) (p (appended old t.line) (t.sent ++ piece) lists))) in
-    let end : ((event_of r ≡ no_memory) × (now ≡ mid)) ⊎ ((event_of r ≡ write_fault) × SinkFails (o.state c.put_turn.new.out) (o.state c.put_end.new.out)) → Ended (with_inputs contents flash) C stream Full old now (Err (event_of r))
+    let end : ((event_of r ≡ no_memory) × (now ≡ mid)) ⊎ ((event_of r ≡ writing_failed) × SinkFails (o.state c.put_turn.new.out) (o.state c.put_end.new.out)) → Ended (with_inputs contents flash) C stream Full old now (Err (event_of r))
     = elim [
       | inl h ↦
           let so_far : ListsSoFar (taken ++ piece) old now = subst (λ (x : Option (List ℕ)). ListsSoFar (taken ++ piece) old x) (sym h.1) (stream_so_far c.put_turn.new.lister old mid (taken ++ piece) told) in
           ends_same (with_inputs contents flash) C stream Full old now (event_of r) no_memory h.0 (out_of_memory contents flash C stream (taken ++ piece) (i.state c.next_turn.new.inputs).rest Full old now sel so_far)
       | inr h ↦
           let risen = risen_from (o.state c.args.out.now).faults (o.state c.put_turn.new.out).faults (o.state c.put_end.new.out).faults (omega (arith, v.written, c.put_turn.ensures.counts.faults)) h.1 in
-          ends_same (with_inputs contents flash) C stream Full old now (event_of r) write_fault h.0 (end_failed contents flash C stream (taken ++ piece) (i.state c.next_turn.new.inputs).rest Full old now sel (c.in-Ok-next_turn.ensures.end c.if-turn.true) risen front)
+          ends_same (with_inputs contents flash) C stream Full old now (event_of r) writing_failed h.0 (end_failed contents flash C stream (taken ++ piece) (i.state c.next_turn.new.inputs).rest Full old now sel (c.in_ok-turn.ensures.end c.if-turn.true) risen front)
     ] in
     end w)
     c.put_end.ensures.err c.put_end.ensures.why in
-    let few : length piece ≤ turn_bytes = omega (arith, length-take-le n c.next_turn.new.buf (omega (arith, c.in-Ok-next_turn.ensures.within.1, c.next_turn.ensures.length, v.piece)), c.in-Ok-next_turn.ensures.within.1, v.piece) in
-    let longer = longer_twice (o.state c.loop-turn.out).written (o.state c.put_turn.new.out).written now c.put_turn.ensures.longer c.put_end.ensures.longer in
+    let few : length piece ≤ turn_bytes = omega (arith, length-take-le n c.next_turn.new.buf (omega (arith, c.in_ok-turn.ensures.within.1, c.next_turn.ensures.length, v.piece)), c.in_ok-turn.ensures.within.1, v.piece) in
+    let longer = longer_twice (o.state c.loop-lister.out).written (o.state c.put_turn.new.out).written now c.put_turn.ensures.longer c.put_end.ensures.longer in
     let whole = stream_whole taken t.line t.sent (t.goes []) in
-    let near = turn_near contents stream taken piece t.line t.sent c.loop-turn.lister (i.state c.next_turn.new.inputs).rest old (o.state c.loop-turn.out).written now sel t.close few whole t.lists longer in
-    let gives = turn_given contents stream taken t.line t.sent given c.loop-turn.lister (i.state c.loop-turn.inputs).rest old (o.state c.loop-turn.out).written now v.told.1.0 (omega (arith, v.told.1.3.given, c.next_turn.ensures.turn, v.piece)) whole t.lists longer in
+    let near = turn_near contents stream taken piece t.line t.sent c.loop-lister.lister (i.state c.next_turn.new.inputs).rest old (o.state c.loop-lister.out).written now sel t.close few whole t.lists longer in
+    let gives = turn_given contents stream taken t.line t.sent given c.loop-lister.lister (i.state c.loop-lister.inputs).rest old (o.state c.loop-lister.out).written now v.told.1.0 (omega (arith, v.told.1.3.given, c.next_turn.ensures.turn, v.piece)) whole t.lists longer in
     let close = err_weaker c.put_end.result (λ r w. stays_near (event_of r) stream (record before { inputs = i.state c.args.inputs.now; out = o.state c.args.out.now }) (record after { inputs = i.state c.next_turn.new.inputs; out = o.state c.put_end.new.out }) (unwritten_near contents stream (i.state c.next_turn.new.inputs).rest old now _ given (event_of r) gives near (why_weaker w))) c.put_end.ensures.why in
-    let asks = few_read (i.state c.args.inputs.now) (i.state c.loop-turn.inputs) (i.state c.next_turn.new.inputs) c.loop-turn.left c.loop-turn.invariant.once c.next_turn.ensures.few in
+    let asks = few_read (i.state c.args.inputs.now) (i.state c.loop-lister.inputs) (i.state c.next_turn.new.inputs) c.loop-lister.left c.loop-lister.invariant.once c.next_turn.ensures.few in
     record {
       ends = list_seen stream (record before { inputs = i.state c.args.inputs.now; out = o.state c.args.out.now }) (record after { inputs = i.state c.next_turn.new.inputs; out = o.state c.put_end.new.out }) c.put_end.result ok err close;
       stops = written_stops _ _ (Listing c.args.stream.now) (g.I.Inputs.state c.args.inputs.now) (g.I.Inputs.state c.next_turn.new.inputs) c.put_end.result c.put_end.ensures.why;
       judges = tt;
       asks = asks;
-      stays = stays_on _ _ _ c.loop-turn.invariant.inputs c.next_turn.ensures.inputs;
+      stays = stays_on _ _ _ c.loop-lister.invariant.inputs c.next_turn.ensures.inputs;
     }
 
-pub loop-turn-preserved : goal.loop-turn-preserved
-loop-turn-preserved g c =
+pub loop-lister-preserved : goal.loop-lister-preserved
+loop-lister-preserved g c =
     let i = g.I.Inputs in
     let o = g.O.Sink in
     let contents = (i.state c.args.inputs.now).contents in
     let old = (o.state c.args.out.now).written in
     let stream = c.args.stream.now in
-    let v = c.loop-turn.invariant in
+    let v = c.loop-lister.invariant in
     let taken = v.told.0 in
     let t = v.told.1.1 in
-    let n = c.in-Ok-next_turn.turn.count in
+    let n = c.in_ok-turn.turn.count in
     let piece = take n c.next_turn.new.buf in
-    let sel = taken_more contents stream taken piece (i.state c.loop-turn.inputs).rest (i.state c.next_turn.new.inputs).rest v.told.1.0 c.in-Ok-next_turn.ensures.ok.taken in
-    let lists : Lists c.put_turn.new.lister (appended old t.line) (o.state c.put_turn.new.out).written (t.sent ++ piece) = c.in-Ok-put_turn.ensures.ok (appended old t.line) t.sent t.lists in
+    let sel = taken_more contents stream taken piece (i.state c.loop-lister.inputs).rest (i.state c.next_turn.new.inputs).rest v.told.1.0 c.in_ok-turn.ensures.ok.taken in
+    let lists : Lists c.put_turn.new.lister (appended old t.line) (o.state c.put_turn.new.out).written (t.sent ++ piece) = c.in_ok-put_turn.ensures.ok (appended old t.line) t.sent t.lists in
     let goes = goes_on taken piece t.line t.sent t.goes in
-    let size : length (taken ++ piece) ≡ length taken + n = length-append taken piece ∙ ap (λ k. length taken + k) (length-take-le n c.next_turn.new.buf (omega (arith, c.in-Ok-next_turn.ensures.within.1, c.next_turn.ensures.length, v.piece))) in
-    let full : n ≡ turn_bytes = c.in-Ok-next_turn.ensures.goes c.if-turn.false ∙ v.piece in
+    let size : length (taken ++ piece) ≡ length taken + n = length-append taken piece ∙ ap (λ k. length taken + k) (length-take-le n c.next_turn.new.buf (omega (arith, c.in_ok-turn.ensures.within.1, c.next_turn.ensures.length, v.piece))) in
+    let full : n ≡ turn_bytes = c.in_ok-turn.ensures.goes c.if-turn.false ∙ v.piece in
     record {
-      selected = c.in-Ok-next_turn.ensures.ok.selected;
+      selected = c.in_ok-turn.ensures.ok.selected;
       inputs = stays_on _ _ _ v.inputs c.next_turn.ensures.inputs;
-      once = once_on _ _ _ v.once c.in-Ok-next_turn.ensures.ok.selects (c.in-Ok-next_turn.ensures.more c.if-turn.false);
+      once = once_on _ _ _ v.once c.in_ok-turn.ensures.ok.selects (c.in_ok-turn.ensures.more c.if-turn.false);
       written = omega (arith, v.written, c.put_turn.ensures.counts.faults);
       left = omega (arith, v.left);
       piece = omega (arith, c.next_turn.ensures.length, v.piece);
-      told = (taken ++ piece, (sel, record { line = t.line; sent = t.sent ++ piece; lists = lists; goes = goes; close = omega (arith, t.close, length-append taken piece, length-append t.sent piece) }, omega (arith, size, v.told.1.2, c.in-Ok-next_turn.ensures.within.0), at_on stream taken piece (i.state c.loop-turn.inputs) (i.state c.next_turn.new.inputs) v.told.1.3 c.in-Ok-next_turn.ensures.ok c.next_turn.ensures.asked));
+      told = (taken ++ piece, (sel, record { line = t.line; sent = t.sent ++ piece; lists = lists; goes = goes; close = omega (arith, t.close, length-append taken piece, length-append t.sent piece) }, omega (arith, size, v.told.1.2, c.in_ok-turn.ensures.within.0), at_on stream taken piece (i.state c.loop-lister.inputs) (i.state c.next_turn.new.inputs) v.told.1.3 c.in_ok-turn.ensures.ok c.next_turn.ensures.asked));
     }
 
-pub loop-turn-init : goal.loop-turn-init
-loop-turn-init g c =
+pub loop-lister-init : goal.loop-lister-init
+loop-lister-init g c =
     let i = g.I.Inputs in
     let o = g.O.Sink in
     let contents = (i.state c.args.inputs.now).contents in
     let old = (o.state c.args.out.now).written in
     let stream = c.args.stream.now in
     let now = i.state c.read_beginning.new.inputs in
-    let f = c.in-Ok-read_beginning.ensures.begins in
-    let taken = c.in-Ok-read_beginning.beginning.bytes.items in
-    let last = c.in-Ok-read_beginning.beginning.last in
+    let f = c.in_ok-beginning.ensures.begins in
+    let taken = c.in_ok-beginning.beginning.bytes.items in
+    let last = c.in_ok-beginning.beginning.last in
     let line = c.deref-line.result.now in
-    let start = c.in-Ok-read_beginning.beginning.start in
+    let start = c.in_ok-beginning.beginning.start in
     let bytes = c.deref.result.now in
     let sent = take (length bytes - start) (drop start bytes) in
     let cut : sent ≡ drop start taken = take_all (length bytes - start) (drop start bytes) (omega (arith, length-drop start bytes)) ∙ ap (drop start) c.deref.ensures.value in
-    let sel : Selects contents stream (preceded taken now.rest) = subst (λ r. Selects contents stream r) f.reads.takes.taken c.in-Ok.ensures.ok.found in
+    let sel : Selects contents stream (preceded taken now.rest) = subst (λ r. Selects contents stream r) f.reads.takes.taken c.in_ok-open.ensures.ok.found in
     let goes : (left : List ℕ) → stream_listing (taken ++ left) ≡ Ok (line ++ listing_of (sent ++ left)) = λ left. f.begins left (λ l. let never : false ≡ true = sym c.if-beginning.false ∙ l in absurd cc) ∙ ap (λ (l : List ℕ). Ok (l ++ listing_of (drop start taken ++ left))) (sym c.deref-line.ensures.value) ∙ ap (λ (s : List ℕ). Ok (line ++ listing_of (s ++ left))) (sym cut) in
     record {
-      selected = c.in-Ok-read_beginning.ensures.selected;
+      selected = c.in_ok-beginning.ensures.selected;
       inputs = stays_on _ _ _ c.open.ensures.inputs c.read_beginning.ensures.inputs;
       written = c.put_beginning.ensures.counts.faults;
       once = once_on _ _ _ c.open.ensures.once c.read_beginning.ensures.few.selects (f.goes c.if-beginning.false);
       left = omega arith;
       piece = refl;
-      told = (taken, (sel, record { line = line; sent = sent; lists = c.in-Ok-put_beginning.ensures.ok; goes = goes; close = omega (arith, f.few) }, omega (arith, f.few, c.len-left.ensures), record { asked = asked_on stream (i.state c.open.new.inputs) now c.open.ensures.asks f.reads.asked; given = omega (arith, c.open.ensures.asks.given, f.reads.takes.given) }));
+      told = (taken, (sel, record { line = line; sent = sent; lists = c.in_ok-put_beginning.ensures.ok; goes = goes; close = omega (arith, f.few) }, omega (arith, f.few, c.len-left.ensures), record { asked = asked_on stream (i.state c.open.new.inputs) now c.open.ensures.asks f.reads.asked; given = omega (arith, c.open.ensures.asks.given, f.reads.takes.given) }));
     }

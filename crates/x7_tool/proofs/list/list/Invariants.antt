@@ -5,8 +5,8 @@ use Rattle.x7_forms.specs.Turn.{IsAt, turn_bytes}
 use Rattle.x7_tool.specs.Turns.{ListsStream}
 use Rattle.x7_tool.proofs.list.list.Given as goal
 
-abbrev pub invariant-loop-turn : goal.invariant-loop-turn
-invariant-loop-turn g l =
+abbrev pub invariant-loop-lister : goal.invariant-loop-lister
+invariant-loop-lister g l =
     let i = g.I.Inputs in
     let o = g.O.Sink in
     record {
@@ -19,5 +19,5 @@ invariant-loop-turn g l =
       told : (taken : List ℕ) × (Selects (i.state l.fn.inputs).contents l.stream (preceded taken (i.state l.inputs).rest) × ListsStream l.lister (o.state l.fn.out).written (o.state l.out).written taken × (length taken + l.left ≡ stream_limit) × IsAt l.stream taken (i.state l.inputs));
     }
 
-abbrev pub decreases-loop-turn : goal.decreases-loop-turn
-decreases-loop-turn g l = l.left
+abbrev pub decreases-loop-lister : goal.decreases-loop-lister
+decreases-loop-lister g l = l.left

@@ -8,37 +8,40 @@ use Rattle.x7_forms.specs.Stop.{limited}
 use Rattle.x7_forms.proofs.ReadLemmas.{answers_end, answers_stop, whole_steady}
 use Rattle.x7_forms.proofs.StandLemmas.{unread_about}
 use Rattle.x7_tool.proofs.StopLemmas.{first_stops, want_stops}
+use Rattle.x7_forms.proofs.ResultLemmas.{handed_on}
+use Rattle.x7_forms.specs.Event.{no_memory}
+use Rattle.x7_tool.specs.Ready.{text_of_image}
+use Rattle.x7_tool.proofs.ReadyLemmas.{want_seen}
 use Rattle.x7_tool.proofs.mcs.mcs.Goals as goal
 
-pub returns-in-Err : goal.returns-in-Err
-returns-in-Err g c =
-    let old = g.I.Inputs.state c.args.inputs.now in
+pub returns-in_err-bytes : goal.returns-in_err-bytes
+returns-in_err-bytes g c = rw (handed_on c.from_residual.result c.in_err-bytes.field-0.0 c.from_residual.ensures) (let old = g.I.Inputs.state c.args.inputs.now in
     let new = g.I.Inputs.state c.read_whole.new.inputs in
     let name = c.args.image.now in
-    let event = event_of c.in-Err.refusal in
+    let event = event_of c.in_err-bytes.field-0.0 in
     record {
-      due = answers_stop (List ℕ) Answer (name ∷ []) (name ∷ []) old new (λ t. whole_in t flash_limit name) (λ t xs. Ok (record { stopped = false; text = mcs_text xs })) event (λ n h. h) c.in-Err.ensures.due;
-      stops = first_stops (ToMcs name) (limited flash_limit name) [] old new event refl c.read_whole.ensures.stands c.read_whole.ensures.once (unread_about name event c.in-Err.ensures.named);
+      due = answers_stop (List ℕ) Answer (name ∷ []) (name ∷ []) old new (λ t. whole_in t flash_limit name) (λ t xs. Ok (record { stopped = false; text = mcs_text xs })) event (λ n h. h) c.in_err-bytes.ensures.due;
+      stops = first_stops (ToMcs name) (limited flash_limit name) [] old new event refl c.read_whole.ensures.stands c.read_whole.ensures.once (unread_about name event c.in_err-bytes.ensures.named);
       asks = c.read_whole.ensures.once;
       stays = c.read_whole.ensures.inputs;
-    }
+    })
 
-pub returns-in-Ok-new : goal.returns-in-Ok-new
-returns-in-Ok-new g c =
+pub returns : goal.returns
+returns g c =
     let old = g.I.Inputs.state c.args.inputs.now in
     let new = g.I.Inputs.state c.read_whole.new.inputs in
     let name = c.args.image.now in
     let whole : List ℕ → Answer = λ text. record { stopped = false; text = text } in
     record {
-      due = answers_end (List ℕ) Answer (name ∷ []) old new (λ t. whole_in t flash_limit name) (λ xs. Ok (whole (mcs_text xs))) c.in-Ok.bytes.items (Ok (whole (mcs_text c.in-Ok-new.text))) (whole_steady flash_limit name) c.in-Ok.ensures.due
-          (inr (tt, tt, ap (λ t. Ok (whole (mcs_text t))) (sym c.in-Ok-new.ensures)));
+      due = answers_end (List ℕ) Answer (name ∷ []) old new (λ t. whole_in t flash_limit name) (λ xs. Ok (whole (mcs_text xs))) c.in_ok-bytes.bytes.items (Ok (whole (mcs_text c.in_ok-new.field-0))) (whole_steady flash_limit name) c.in_ok-bytes.ensures.due
+          (inr (tt, tt, ap (λ t. Ok (whole (mcs_text t))) (sym c.in_ok-new.ensures)));
       stops = tt;
       asks = c.read_whole.ensures.once;
       stays = c.read_whole.ensures.inputs;
     }
 
-pub returns-in-Err-new : goal.returns-in-Err-new
-returns-in-Err-new g c =
-    let old = g.I.Inputs.state c.args.inputs.now in
+pub returns-in_err-new : goal.returns-in_err-new
+returns-in_err-new g c = rw (want_seen text_of_image c.from_residual-in_err-new.result c.from_residual-in_err-new.ensures)
+    (let old = g.I.Inputs.state c.args.inputs.now in
     let new = g.I.Inputs.state c.read_whole.new.inputs in
-    record { due = λ flash. inl (inl c.unnamed.ensures); stops = want_stops (ToMcs c.args.image.now) old new _ c.unnamed.ensures; asks = c.read_whole.ensures.once; stays = c.read_whole.ensures.inputs }
+    record { due = λ flash. inl (inl refl); stops = want_stops (ToMcs c.args.image.now) old new no_memory refl; asks = c.read_whole.ensures.once; stays = c.read_whole.ensures.inputs })

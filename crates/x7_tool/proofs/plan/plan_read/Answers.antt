@@ -6,37 +6,36 @@ use Rattle.x7_forms.specs.Message.{event_of}
 use Rattle.x7_forms.specs.Stop.{limited}
 use Rattle.x7_forms.specs.Step.{seen}
 use Rattle.x7_forms.proofs.ReadLemmas.{answers_by, answers_kept}
-use Rattle.x7_forms.proofs.ResultLemmas.{err_weaker}
+use Rattle.x7_forms.proofs.ResultLemmas.{handed_on, err_weaker}
 use Rattle.x7_forms.proofs.StandLemmas.{no_part_about}
 use Rattle.x7_tool.specs.Outcome.{PlannedRead}
-use Rattle.x7_tool.specs.Ready.{whole_of}
+use Rattle.x7_tool.specs.Ready.{text_of_bytes}
 use Rattle.x7_tool.proofs.ReadyLemmas.{read_due}
 use Rattle.x7_tool.proofs.StopLemmas.{result_stops, first_stops}
 use Rattle.x7_tool.proofs.plan.plan_read.Goals as goal
 
-pub returns-in-Err : goal.returns-in-Err
-returns-in-Err g c =
-    let old = g.I.Inputs.state c.args.inputs.now in
+pub returns-in_err-part : goal.returns-in_err-part
+returns-in_err-part g c = rw (handed_on c.from_residual.result c.in_err-part.field-0.0 c.from_residual.ensures) (let old = g.I.Inputs.state c.args.inputs.now in
     let new = g.I.Inputs.state c.read_part.new.inputs in
     let name = c.args.name.now in
-    let event = event_of c.in-Err.refusal in
+    let event = event_of c.in_err-part.field-0.0 in
     record {
-      due = answers_kept PartData Answer (name ∷ []) old new (λ t. part_of t name) (PlannedRead name c.args.far c.args.n) event (λ x. refl) c.in-Err.ensures.due;
-      stops = first_stops (PlanningRead name c.args.far c.args.n) (limited part_limit name) [] old new event refl c.read_part.ensures.stands c.read_part.ensures.once (no_part_about name event c.in-Err.ensures.named);
+      due = answers_kept PartData Answer (name ∷ []) old new (λ t. part_of t name) (PlannedRead name c.args.far c.args.n) event (λ x. refl) c.in_err-part.ensures.due;
+      stops = first_stops (PlanningRead name c.args.far c.args.n) (limited part_limit name) [] old new event refl c.read_part.ensures.stands c.read_part.ensures.once (no_part_about name event c.in_err-part.ensures.named);
       asks = c.read_part.ensures.once;
       stays = c.read_part.ensures.inputs;
-    }
+    })
 
 pub returns : goal.returns
 returns g c =
     let old = g.I.Inputs.state c.args.inputs.now in
     let new = g.I.Inputs.state c.read_part.new.inputs in
     let name = c.args.name.now in
-    let part = c.in-Ok.part in
+    let part = c.in_ok-part.part in
     let made = c.read_text.result in
     record {
-      due = answers_by PartData Answer (name ∷ []) old new (λ t. part_of t name) part (PlannedRead name c.args.far c.args.n) (seen whole_of made) c.in-Ok.ensures.due (read_due name part c.args.far c.args.n made c.read_text.ensures.ok c.read_text.ensures.err);
-      stops = result_stops whole_of (PlanningRead name c.args.far c.args.n) old new made (err_weaker made (λ r a. first_stops (PlanningRead name c.args.far c.args.n) (limited part_limit name) [] old new (event_of r) refl c.read_part.ensures.stands c.read_part.ensures.once a) c.read_text.ensures.about);
+      due = answers_by PartData Answer (name ∷ []) old new (λ t. part_of t name) part (PlannedRead name c.args.far c.args.n) (seen text_of_bytes made) c.in_ok-part.ensures.due (read_due name part c.args.far c.args.n made c.read_text.ensures.ok c.read_text.ensures.err);
+      stops = result_stops text_of_bytes (PlanningRead name c.args.far c.args.n) old new made (err_weaker made (λ r a. first_stops (PlanningRead name c.args.far c.args.n) (limited part_limit name) [] old new (event_of r) refl c.read_part.ensures.stands c.read_part.ensures.once a) c.read_text.ensures.about);
       asks = c.read_part.ensures.once;
       stays = c.read_part.ensures.inputs;
     }

@@ -9,37 +9,36 @@ use Rattle.x7_forms.proofs.StandLemmas.{about_among, no_part_about, unread_about
 use Rattle.x7_tool.proofs.StopLemmas.{both_asked}
 use Rattle.x7_forms.specs.Stop.{limited}
 use Rattle.x7_words.proofs.InputLemmas.{few_more, few_on}
+use Rattle.x7_forms.proofs.ResultLemmas.{handed_on}
 use Rattle.x7_tool.proofs.svf.read_given.Goals as goal
 
-pub returns-in-Err-read_whole-clause-given : goal.returns-in-Err-read_whole-clause-given
-returns-in-Err-read_whole-clause-given g c =
-    let i = g.I.Inputs in
-    texts_unread c.args.part.now c.args.text.now (i.state c.args.inputs.now) (i.state c.read_part.new.inputs) (i.state c.read_whole.new.inputs) c.in-Ok.part (event_of c.in-Err-read_whole.refusal) c.read_part.ensures.inputs c.in-Ok.ensures.due c.in-Err-read_whole.ensures.due
+pub returns-in_err-text-clause-given : goal.returns-in_err-text-clause-given
+returns-in_err-text-clause-given g c = rw (handed_on c.from_residual-in_err-text.result c.in_err-text.field-0.0 c.from_residual-in_err-text.ensures) (let i = g.I.Inputs in
+    texts_unread c.args.part.now c.args.text.now (i.state c.args.inputs.now) (i.state c.read_part.new.inputs) (i.state c.read_whole.new.inputs) c.in_ok-part.part (event_of c.in_err-text.field-0.0) c.read_part.ensures.inputs c.in_ok-part.ensures.due c.in_err-text.ensures.due)
 
-pub returns-in-Ok-read_whole-clause-given : goal.returns-in-Ok-read_whole-clause-given
-returns-in-Ok-read_whole-clause-given g c =
+pub returns-clause-given : goal.returns-clause-given
+returns-clause-given g c =
     let i = g.I.Inputs in
-    texts_read c.args.part.now c.args.text.now (i.state c.args.inputs.now) (i.state c.read_part.new.inputs) (i.state c.read_whole.new.inputs) c.in-Ok.part c.in-Ok-read_whole.text.items c.read_part.ensures.inputs c.in-Ok.ensures.due c.in-Ok-read_whole.ensures.due
+    texts_read c.args.part.now c.args.text.now (i.state c.args.inputs.now) (i.state c.read_part.new.inputs) (i.state c.read_whole.new.inputs) c.in_ok-part.part c.in_ok-text.text.items c.read_part.ensures.inputs c.in_ok-part.ensures.due c.in_ok-text.ensures.due
 
-pub returns-in-Err-clause-given : goal.returns-in-Err-clause-given
-returns-in-Err-clause-given g c =
-    let i = g.I.Inputs in
+pub returns-in_err-part-clause-given : goal.returns-in_err-part-clause-given
+returns-in_err-part-clause-given g c = rw (handed_on c.from_residual.result c.in_err-part.field-0.0 c.from_residual.ensures) (let i = g.I.Inputs in
     let part = c.args.part.now in
     let text = c.args.text.now in
     answers_stop PartData PlanTexts (part ∷ []) (part ∷ text ∷ []) (i.state c.args.inputs.now) (i.state c.read_part.new.inputs) (λ t. part_of t part) (λ t p. and_so (whole_in t text_limit text) (λ bytes. Ok (record { part = p; text = bytes })))
-    (event_of c.in-Err.refusal) (first_of part (text ∷ [])) c.in-Err.ensures.due
+    (event_of c.in_err-part.field-0.0) (first_of part (text ∷ [])) c.in_err-part.ensures.due)
 
-pub returns-in-Err-clause-stops : goal.returns-in-Err-clause-stops
-returns-in-Err-clause-stops g c = about_among (limited part_limit c.args.part.now ∷ limited text_limit c.args.text.now ∷ []) [] (limited part_limit c.args.part.now) (limited text_limit c.args.text.now ∷ []) (g.I.Inputs.state c.args.inputs.now) (g.I.Inputs.state c.read_part.new.inputs) (event_of c.in-Err.refusal) refl c.read_part.ensures.stands c.read_part.ensures.once (no_part_about c.args.part.now (event_of c.in-Err.refusal) c.in-Err.ensures.named)
+pub returns-in_err-part-clause-stops : goal.returns-in_err-part-clause-stops
+returns-in_err-part-clause-stops g c = rw (handed_on c.from_residual.result c.in_err-part.field-0.0 c.from_residual.ensures) (about_among (limited part_limit c.args.part.now ∷ limited text_limit c.args.text.now ∷ []) [] (limited part_limit c.args.part.now) (limited text_limit c.args.text.now ∷ []) (g.I.Inputs.state c.args.inputs.now) (g.I.Inputs.state c.read_part.new.inputs) (event_of c.in_err-part.field-0.0) refl c.read_part.ensures.stands c.read_part.ensures.once (no_part_about c.args.part.now (event_of c.in_err-part.field-0.0) c.in_err-part.ensures.named))
 
-pub returns-in-Err-read_whole-clause-stops : goal.returns-in-Err-read_whole-clause-stops
-returns-in-Err-read_whole-clause-stops g c = about_among (limited part_limit c.args.part.now ∷ limited text_limit c.args.text.now ∷ []) (limited part_limit c.args.part.now ∷ []) (limited text_limit c.args.text.now) [] (g.I.Inputs.state c.args.inputs.now) (g.I.Inputs.state c.read_whole.new.inputs) (event_of c.in-Err-read_whole.refusal) refl c.read_whole.ensures.stands (both_asked (g.I.Inputs.state c.args.inputs.now) (g.I.Inputs.state c.read_part.new.inputs) (g.I.Inputs.state c.read_whole.new.inputs) c.read_part.ensures.once c.read_whole.ensures.once) (unread_about c.args.text.now (event_of c.in-Err-read_whole.refusal) c.in-Err-read_whole.ensures.named)
+pub returns-in_err-text-clause-stops : goal.returns-in_err-text-clause-stops
+returns-in_err-text-clause-stops g c = rw (handed_on c.from_residual-in_err-text.result c.in_err-text.field-0.0 c.from_residual-in_err-text.ensures) (about_among (limited part_limit c.args.part.now ∷ limited text_limit c.args.text.now ∷ []) (limited part_limit c.args.part.now ∷ []) (limited text_limit c.args.text.now) [] (g.I.Inputs.state c.args.inputs.now) (g.I.Inputs.state c.read_whole.new.inputs) (event_of c.in_err-text.field-0.0) refl c.read_whole.ensures.stands (both_asked (g.I.Inputs.state c.args.inputs.now) (g.I.Inputs.state c.read_part.new.inputs) (g.I.Inputs.state c.read_whole.new.inputs) c.read_part.ensures.once c.read_whole.ensures.once) (unread_about c.args.text.now (event_of c.in_err-text.field-0.0) c.in_err-text.ensures.named))
 
-pub returns-in-Err-clause-asks : goal.returns-in-Err-clause-asks
-returns-in-Err-clause-asks g c = few_more _ _ 1 2 (omega arith) c.read_part.ensures.once
+pub returns-in_err-part-clause-asks : goal.returns-in_err-part-clause-asks
+returns-in_err-part-clause-asks g c = few_more _ _ 1 2 (omega arith) c.read_part.ensures.once
 
-pub returns-in-Err-read_whole-clause-asks : goal.returns-in-Err-read_whole-clause-asks
-returns-in-Err-read_whole-clause-asks g c = few_on _ _ _ 1 1 c.read_part.ensures.once c.read_whole.ensures.once
+pub returns-in_err-text-clause-asks : goal.returns-in_err-text-clause-asks
+returns-in_err-text-clause-asks g c = few_on _ _ _ 1 1 c.read_part.ensures.once c.read_whole.ensures.once
 
-pub returns-in-Ok-read_whole-clause-asks : goal.returns-in-Ok-read_whole-clause-asks
-returns-in-Ok-read_whole-clause-asks g c = few_on _ _ _ 1 1 c.read_part.ensures.once c.read_whole.ensures.once
+pub returns-clause-asks : goal.returns-clause-asks
+returns-clause-asks g c = few_on _ _ _ 1 1 c.read_part.ensures.once c.read_whole.ensures.once

@@ -5,7 +5,7 @@ use Rattle.x7_forms.specs.Message.{event_of}
 use Rattle.x7_forms.specs.Stop.{limited}
 use Rattle.x7_forms.specs.Step.{seen}
 use Rattle.x7_forms.proofs.ReadLemmas.{answers_by, answers_kept}
-use Rattle.x7_forms.proofs.ResultLemmas.{err_weaker}
+use Rattle.x7_forms.proofs.ResultLemmas.{handed_on, err_weaker}
 use Rattle.x7_tool.specs.Outcome.{PlanTexts, PlayedSvf, plan_texts, text_limit}
 use Rattle.x7_tool.specs.Play.{text_of_play}
 use Rattle.x7_tool.specs.Svf.{svf_texts}
@@ -13,33 +13,32 @@ use Rattle.x7_tool.proofs.ReadyLemmas.{svf_due}
 use Rattle.x7_tool.proofs.StopLemmas.{result_stops, svf_played_about, among_stops, second_stops}
 use Rattle.x7_tool.proofs.svf.svf.Goals as goal
 
-pub returns-in-Ok : goal.returns-in-Ok
-returns-in-Ok g c =
+pub returns : goal.returns
+returns g c =
     let old = g.I.Inputs.state c.args.inputs.now in
     let new = g.I.Inputs.state c.read_given.new.inputs in
     let part = c.args.part.now in
     let text = c.args.text.now in
-    let given = svf_texts c.in-Ok.given in
+    let given = svf_texts c.in_ok-given.given in
     let made = c.text_of.result in
     record {
-      due = answers_by PlanTexts Answer (part ∷ text ∷ []) old new (λ t. plan_texts t part text) given (PlayedSvf text) (seen text_of_play made) c.in-Ok.ensures.given (svf_due text given made c.text_of.ensures.ok c.text_of.ensures.err);
+      due = answers_by PlanTexts Answer (part ∷ text ∷ []) old new (λ t. plan_texts t part text) given (PlayedSvf text) (seen text_of_play made) c.in_ok-given.ensures.given (svf_due text given made c.text_of.ensures.ok c.text_of.ensures.err);
       stops = result_stops text_of_play (PlayingSvf part text) old new made (err_weaker made
-          (λ r h. second_stops (PlayingSvf part text) (limited part_limit part) (limited text_limit text) [] old new (event_of r) refl c.in-Ok.ensures.stands c.read_given.ensures.asks (svf_played_about text given (event_of r) h))
+          (λ r h. second_stops (PlayingSvf part text) (limited part_limit part) (limited text_limit text) [] old new (event_of r) refl c.in_ok-given.ensures.stands c.read_given.ensures.asks (svf_played_about text given (event_of r) h))
           c.text_of.ensures.err);
       asks = c.read_given.ensures.asks;
       stays = c.read_given.ensures.inputs;
     }
 
-pub returns-in-Err : goal.returns-in-Err
-returns-in-Err g c =
-    let old = g.I.Inputs.state c.args.inputs.now in
+pub returns-in_err-given : goal.returns-in_err-given
+returns-in_err-given g c = rw (handed_on c.from_residual.result c.in_err-given.field-0.0 c.from_residual.ensures) (let old = g.I.Inputs.state c.args.inputs.now in
     let new = g.I.Inputs.state c.read_given.new.inputs in
     let part = c.args.part.now in
     let text = c.args.text.now in
-    let event = event_of c.in-Err.refusal in
+    let event = event_of c.in_err-given.field-0.0 in
     record {
-      due = answers_kept PlanTexts Answer (part ∷ text ∷ []) old new (λ t. plan_texts t part text) (PlayedSvf text) event (λ x. refl) c.in-Err.ensures.given;
-      stops = among_stops (PlayingSvf part text) old new event c.in-Err.ensures.stops;
+      due = answers_kept PlanTexts Answer (part ∷ text ∷ []) old new (λ t. plan_texts t part text) (PlayedSvf text) event (λ x. refl) c.in_err-given.ensures.given;
+      stops = among_stops (PlayingSvf part text) old new event c.in_err-given.ensures.stops;
       asks = c.read_given.ensures.asks;
       stays = c.read_given.ensures.inputs;
-    }
+    })

@@ -1,25 +1,34 @@
-use Rattle.std.proofs.Common.{refl, Bool, Result, Some, map, string_bytes, sym, ap, subst}
-use Rattle.x7_forms.specs.Event.{Event}
+use Rattle.std.proofs.Common.{refl, Some, map, string_bytes, ap}
 use Rattle.x7_forms.specs.Form.{Assembling, Booting, Debugging, FromMcs, Generating, Imaging, ImagingFor, Listing, PlanningFull, PlanningPartial, PlanningRead, Playing, PlayingSvf, ToMcs, UpdatingFlash, asked_by}
 use Rattle.x7_forms.specs.Step.{seen}
+use Rattle.x7_forms.proofs.ResultLemmas.{handed_on}
 use Rattle.x7_tool.specs.FullText.{full_of}
 use Rattle.x7_tool.specs.Outside.{outside}
 use Rattle.x7_tool.specs.Play.{text_of_play}
-use Rattle.x7_tool.specs.Ready.{whole_of, text_of_image}
-use Rattle.x7_tool.specs.Run.{Answered}
+use Rattle.x7_tool.specs.Ready.{text_of_bytes, text_of_image, whole_of}
 use Rattle.x7_tool.proofs.AnswerLemmas.{as_asked, flash_answered, ready_answered, uses_as}
 use Rattle.x7_tool.proofs.FlashLemmas.{uses_read, uses_same}
 use Rattle.x7_tool.proofs.top.answer.Goals as goal
 
-pub returns-in-List-clause-answered : goal.returns-in-List-clause-answered
-returns-in-List-clause-answered g c = λ e f.
+pub returns-in_ok-list-in-List-clause-answered : goal.returns-in_ok-list-in-List-clause-answered
+returns-in_ok-list-in-List-clause-answered g c = λ e f.
     let flash = g.F.Flash.state c.args.flash.now in
     let old = outside (g.I.Inputs.state c.args.inputs.now) flash (g.O.Sink.state c.args.out.now) e in
     let new = outside (g.I.Inputs.state c.list.new.inputs) flash (g.O.Sink.state c.list.new.out) f in
-    as_asked _ (Listing c.in-List.stream.now) old new _ (ap asked_by c.in-List.is) (subst (λ (r : Result Bool Event). Answered (Listing c.in-List.stream.now) old new r) (sym c.unstopped.ensures) (c.list.ensures old new))
+    as_asked _ (Listing c.in-List.stream.now) old new _ (ap asked_by c.in-List.is) (c.in_ok-list-in-List.ensures old new)
 
-pub returns-in-List-clause-flash : goal.returns-in-List-clause-flash
-returns-in-List-clause-flash g c = uses_same _ _ (g.F.Flash.state c.args.flash.now) _
+pub returns-in_err-list-in-List-clause-answered : goal.returns-in_err-list-in-List-clause-answered
+returns-in_err-list-in-List-clause-answered g c = rw (handed_on c.from_residual.result c.in_err-list-in-List.field-0.0 c.from_residual.ensures) (λ e f.
+    let flash = g.F.Flash.state c.args.flash.now in
+    let old = outside (g.I.Inputs.state c.args.inputs.now) flash (g.O.Sink.state c.args.out.now) e in
+    let new = outside (g.I.Inputs.state c.list.new.inputs) flash (g.O.Sink.state c.list.new.out) f in
+    as_asked _ (Listing c.in-List.stream.now) old new _ (ap asked_by c.in-List.is) (c.in_err-list-in-List.ensures old new))
+
+pub returns-in_ok-list-in-List-clause-flash : goal.returns-in_ok-list-in-List-clause-flash
+returns-in_ok-list-in-List-clause-flash g c = uses_same _ _ (g.F.Flash.state c.args.flash.now) _
+
+pub returns-in_err-list-in-List-clause-flash : goal.returns-in_err-list-in-List-clause-flash
+returns-in_err-list-in-List-clause-flash g c = uses_same _ _ (g.F.Flash.state c.args.flash.now) _
 
 pub returns-in-Play-clause-answered : goal.returns-in-Play-clause-answered
 returns-in-Play-clause-answered g c = λ e f.
@@ -33,7 +42,7 @@ returns-in-Play-clause-flash g c = uses_same _ _ (g.F.Flash.state c.args.flash.n
 pub returns-in-Asm-clause-answered : goal.returns-in-Asm-clause-answered
 returns-in-Asm-clause-answered g c = λ e f.
     let flash = g.F.Flash.state c.args.flash.now in
-    ready_answered _ (Assembling c.in-Asm.text.now) (outside (g.I.Inputs.state c.args.inputs.now) flash (g.O.Sink.state c.args.out.now) e) (outside (g.I.Inputs.state c.asm.new.inputs) flash (g.O.Sink.state c.put_whole-in-Asm.new.out) f) (seen whole_of c.asm.result) _
+    ready_answered _ (Assembling c.in-Asm.text.now) (outside (g.I.Inputs.state c.args.inputs.now) flash (g.O.Sink.state c.args.out.now) e) (outside (g.I.Inputs.state c.asm.new.inputs) flash (g.O.Sink.state c.put_whole-in-Asm.new.out) f) (seen text_of_bytes c.asm.result) _
     (ap asked_by c.in-Asm.is) refl refl c.asm.ensures c.put_whole-in-Asm.ensures
 
 pub returns-in-Asm-clause-flash : goal.returns-in-Asm-clause-flash
@@ -60,7 +69,7 @@ returns-in-PlanFull-clause-flash g c = uses_same _ _ (g.F.Flash.state c.args.fla
 pub returns-in-PlanPartial-clause-answered : goal.returns-in-PlanPartial-clause-answered
 returns-in-PlanPartial-clause-answered g c = λ e f.
     let flash = g.F.Flash.state c.args.flash.now in
-    ready_answered _ (PlanningPartial c.in-PlanPartial.part.now c.in-PlanPartial.frames.now) (outside (g.I.Inputs.state c.args.inputs.now) flash (g.O.Sink.state c.args.out.now) e) (outside (g.I.Inputs.state c.plan_partial.new.inputs) flash (g.O.Sink.state c.put_whole-in-PlanPartial.new.out) f) (seen whole_of c.plan_partial.result) _
+    ready_answered _ (PlanningPartial c.in-PlanPartial.part.now c.in-PlanPartial.frames.now) (outside (g.I.Inputs.state c.args.inputs.now) flash (g.O.Sink.state c.args.out.now) e) (outside (g.I.Inputs.state c.plan_partial.new.inputs) flash (g.O.Sink.state c.put_whole-in-PlanPartial.new.out) f) (seen text_of_bytes c.plan_partial.result) _
     (ap asked_by c.in-PlanPartial.is) refl refl c.plan_partial.ensures c.put_whole-in-PlanPartial.ensures
 
 pub returns-in-PlanPartial-clause-flash : goal.returns-in-PlanPartial-clause-flash
@@ -69,7 +78,7 @@ returns-in-PlanPartial-clause-flash g c = uses_same _ _ (g.F.Flash.state c.args.
 pub returns-in-PlanRead-clause-answered : goal.returns-in-PlanRead-clause-answered
 returns-in-PlanRead-clause-answered g c = λ e f.
     let flash = g.F.Flash.state c.args.flash.now in
-    ready_answered _ (PlanningRead c.in-PlanRead.part.now c.in-PlanRead.far c.in-PlanRead.n) (outside (g.I.Inputs.state c.args.inputs.now) flash (g.O.Sink.state c.args.out.now) e) (outside (g.I.Inputs.state c.plan_read.new.inputs) flash (g.O.Sink.state c.put_whole-in-PlanRead.new.out) f) (seen whole_of c.plan_read.result) _
+    ready_answered _ (PlanningRead c.in-PlanRead.part.now c.in-PlanRead.far c.in-PlanRead.n) (outside (g.I.Inputs.state c.args.inputs.now) flash (g.O.Sink.state c.args.out.now) e) (outside (g.I.Inputs.state c.plan_read.new.inputs) flash (g.O.Sink.state c.put_whole-in-PlanRead.new.out) f) (seen text_of_bytes c.plan_read.result) _
     (ap asked_by c.in-PlanRead.is) refl refl c.plan_read.ensures c.put_whole-in-PlanRead.ensures
 
 pub returns-in-PlanRead-clause-flash : goal.returns-in-PlanRead-clause-flash
@@ -78,7 +87,7 @@ returns-in-PlanRead-clause-flash g c = uses_same _ _ (g.F.Flash.state c.args.fla
 pub returns-in-Gen-clause-answered : goal.returns-in-Gen-clause-answered
 returns-in-Gen-clause-answered g c = λ e f.
     let flash = g.F.Flash.state c.args.flash.now in
-    ready_answered _ (Generating c.in-Gen.part.now c.in-Gen.seed) (outside (g.I.Inputs.state c.args.inputs.now) flash (g.O.Sink.state c.args.out.now) e) (outside (g.I.Inputs.state c.generate.new.inputs) flash (g.O.Sink.state c.put_whole-in-Gen.new.out) f) (seen whole_of c.generate.result) _
+    ready_answered _ (Generating c.in-Gen.part.now c.in-Gen.seed) (outside (g.I.Inputs.state c.args.inputs.now) flash (g.O.Sink.state c.args.out.now) e) (outside (g.I.Inputs.state c.generate.new.inputs) flash (g.O.Sink.state c.put_whole-in-Gen.new.out) f) (seen text_of_bytes c.generate.result) _
     (ap asked_by c.in-Gen.is) refl refl c.generate.ensures c.put_whole-in-Gen.ensures
 
 pub returns-in-Gen-clause-flash : goal.returns-in-Gen-clause-flash
@@ -87,7 +96,7 @@ returns-in-Gen-clause-flash g c = uses_same _ _ (g.F.Flash.state c.args.flash.no
 pub returns-in-Image-clause-answered : goal.returns-in-Image-clause-answered
 returns-in-Image-clause-answered g c = λ e f.
     let flash = g.F.Flash.state c.args.flash.now in
-    ready_answered _ (Imaging c.in-Image.golden.now c.in-Image.update.now) (outside (g.I.Inputs.state c.args.inputs.now) flash (g.O.Sink.state c.args.out.now) e) (outside (g.I.Inputs.state c.image.new.inputs) flash (g.O.Sink.state c.put_whole-in-Image.new.out) f) (seen whole_of c.image.result) _
+    ready_answered _ (Imaging c.in-Image.golden.now c.in-Image.update.now) (outside (g.I.Inputs.state c.args.inputs.now) flash (g.O.Sink.state c.args.out.now) e) (outside (g.I.Inputs.state c.image.new.inputs) flash (g.O.Sink.state c.put_whole-in-Image.new.out) f) (seen text_of_bytes c.image.result) _
     (ap asked_by c.in-Image.is) refl refl c.image.ensures c.put_whole-in-Image.ensures
 
 pub returns-in-Image-clause-flash : goal.returns-in-Image-clause-flash
@@ -96,7 +105,7 @@ returns-in-Image-clause-flash g c = uses_same _ _ (g.F.Flash.state c.args.flash.
 pub returns-in-ImageFor-clause-answered : goal.returns-in-ImageFor-clause-answered
 returns-in-ImageFor-clause-answered g c = λ e f.
     let flash = g.F.Flash.state c.args.flash.now in
-    ready_answered _ (ImagingFor c.in-ImageFor.part.now c.in-ImageFor.golden.now c.in-ImageFor.update.now) (outside (g.I.Inputs.state c.args.inputs.now) flash (g.O.Sink.state c.args.out.now) e) (outside (g.I.Inputs.state c.image_for.new.inputs) flash (g.O.Sink.state c.put_whole-in-ImageFor.new.out) f) (seen whole_of c.image_for.result) _
+    ready_answered _ (ImagingFor c.in-ImageFor.part.now c.in-ImageFor.golden.now c.in-ImageFor.update.now) (outside (g.I.Inputs.state c.args.inputs.now) flash (g.O.Sink.state c.args.out.now) e) (outside (g.I.Inputs.state c.image_for.new.inputs) flash (g.O.Sink.state c.put_whole-in-ImageFor.new.out) f) (seen text_of_bytes c.image_for.result) _
     (ap asked_by c.in-ImageFor.is) refl refl c.image_for.ensures c.put_whole-in-ImageFor.ensures
 
 pub returns-in-ImageFor-clause-flash : goal.returns-in-ImageFor-clause-flash
@@ -105,7 +114,7 @@ returns-in-ImageFor-clause-flash g c = uses_same _ _ (g.F.Flash.state c.args.fla
 pub returns-in-Unmcs-clause-answered : goal.returns-in-Unmcs-clause-answered
 returns-in-Unmcs-clause-answered g c = λ e f.
     let flash = g.F.Flash.state c.args.flash.now in
-    ready_answered _ (FromMcs c.in-Unmcs.text.now) (outside (g.I.Inputs.state c.args.inputs.now) flash (g.O.Sink.state c.args.out.now) e) (outside (g.I.Inputs.state c.unmcs.new.inputs) flash (g.O.Sink.state c.put_whole-in-Unmcs.new.out) f) (seen whole_of c.unmcs.result) _
+    ready_answered _ (FromMcs c.in-Unmcs.text.now) (outside (g.I.Inputs.state c.args.inputs.now) flash (g.O.Sink.state c.args.out.now) e) (outside (g.I.Inputs.state c.unmcs.new.inputs) flash (g.O.Sink.state c.put_whole-in-Unmcs.new.out) f) (seen text_of_bytes c.unmcs.result) _
     (ap asked_by c.in-Unmcs.is) refl refl c.unmcs.ensures c.put_whole-in-Unmcs.ensures
 
 pub returns-in-Unmcs-clause-flash : goal.returns-in-Unmcs-clause-flash
@@ -139,12 +148,22 @@ pub returns-in-Boot-clause-flash : goal.returns-in-Boot-clause-flash
 returns-in-Boot-clause-flash g c =
     uses_read _ (Booting c.in-Boot.part.now c.in-Boot.name.now) c.in-Boot.name.now _ _ _ _ _ (ap (λ f. Some (asked_by f)) c.in-Boot.is) refl c.boot.ensures.reads c.boot.ensures.unwritten
 
-pub returns-in-Update-clause-answered : goal.returns-in-Update-clause-answered
-returns-in-Update-clause-answered g c = λ e f.
+pub returns-in_ok-update-in-Update-clause-answered : goal.returns-in_ok-update-in-Update-clause-answered
+returns-in_ok-update-in-Update-clause-answered g c = λ e f.
     let old = outside (g.I.Inputs.state c.args.inputs.now) (g.F.Flash.state c.args.flash.now) (g.O.Sink.state c.args.out.now) e in
     let new = outside (g.I.Inputs.state c.update.new.inputs) (g.F.Flash.state c.update.new.flash) (g.O.Sink.state c.args.out.now) f in
-    as_asked _ (UpdatingFlash c.in-Update.name.now c.in-Update.stream.now) old new _ (ap asked_by c.in-Update.is) (c.update.ensures.answered old new refl)
+    as_asked _ (UpdatingFlash c.in-Update.name.now c.in-Update.stream.now) old new _ (ap asked_by c.in-Update.is) (c.in_ok-update-in-Update.ensures.answered old new refl)
 
-pub returns-in-Update-clause-flash : goal.returns-in-Update-clause-flash
-returns-in-Update-clause-flash g c =
+pub returns-in_err-update-in-Update-clause-answered : goal.returns-in_err-update-in-Update-clause-answered
+returns-in_err-update-in-Update-clause-answered g c = rw (handed_on c.from_residual-in_err-update-in-Update.result c.in_err-update-in-Update.field-0.0 c.from_residual-in_err-update-in-Update.ensures) (λ e f.
+    let old = outside (g.I.Inputs.state c.args.inputs.now) (g.F.Flash.state c.args.flash.now) (g.O.Sink.state c.args.out.now) e in
+    let new = outside (g.I.Inputs.state c.update.new.inputs) (g.F.Flash.state c.update.new.flash) (g.O.Sink.state c.args.out.now) f in
+    as_asked _ (UpdatingFlash c.in-Update.name.now c.in-Update.stream.now) old new _ (ap asked_by c.in-Update.is) (c.in_err-update-in-Update.ensures.answered old new refl))
+
+pub returns-in_ok-update-in-Update-clause-flash : goal.returns-in_ok-update-in-Update-clause-flash
+returns-in_ok-update-in-Update-clause-flash g c =
+    uses_as _ (UpdatingFlash c.in-Update.name.now c.in-Update.stream.now) _ _ _ _ _ (ap (λ f. Some (asked_by f)) c.in-Update.is) c.update.ensures.flash
+
+pub returns-in_err-update-in-Update-clause-flash : goal.returns-in_err-update-in-Update-clause-flash
+returns-in_err-update-in-Update-clause-flash g c =
     uses_as _ (UpdatingFlash c.in-Update.name.now c.in-Update.stream.now) _ _ _ _ _ (ap (λ f. Some (asked_by f)) c.in-Update.is) c.update.ensures.flash

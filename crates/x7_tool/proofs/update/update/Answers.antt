@@ -18,59 +18,60 @@ use Rattle.x7_tool.proofs.UpdateLemmas.{cause_from, data_given, done_ends, fault
 use Rattle.x7_tool.proofs.StopLemmas.{stream_judges, unopened_judges, updated_judges, unopened_stops, updated_stops, first_stops}
 use Rattle.x7_forms.specs.Stop.{limited}
 use Rattle.x7_forms.proofs.StandLemmas.{unplayed_about}
+use Rattle.x7_forms.proofs.ResultLemmas.{handed_on}
 use Rattle.x7_tool.proofs.update.update.Goals as goal
 
-pub returns-in-Err-clause-answered : goal.returns-in-Err-clause-answered
-returns-in-Err-clause-answered g c = λ before after out.
+pub returns-in_err-open_flash-clause-answered : goal.returns-in_err-open_flash-clause-answered
+returns-in_err-open_flash-clause-answered g c = rw (handed_on c.from_residual.result c.in_err-open_flash.field-0.0 c.from_residual.ensures) (λ before after out.
     let first = g.F.Flash.state c.args.flash.now in
     let mid = g.F.Flash.state c.open_flash.new.flash in
     let old : Outside = record before { inputs = g.I.Inputs.state c.args.inputs.now; flash = first } in
     let new : Outside = record after { inputs = g.I.Inputs.state c.args.inputs.now; flash = mid } in
-    let event = event_of c.in-Err.refusal in
+    let event = event_of c.in_err-open_flash.field-0.0 in
     record {
-      ends = refused_ends c.args.name.now c.args.stream.now old new event out (unopened_measured (Some (UpdatingFlash c.args.name.now c.args.stream.now)) c.args.name.now first mid event c.in-Err.ensures.err) (unopened_last (UpdatingFlash c.args.name.now c.args.stream.now) c.args.name.now old.inputs first mid event c.in-Err.ensures.err) (unopened_over c.args.name.now c.args.stream.now old new event c.in-Err.ensures.err) (keeps_all event.reason first mid c.open_flash.ensures.stays.bytes);
-      stops = unopened_stops c.args.name.now c.args.stream.now (g.I.Inputs.state c.args.inputs.now) (g.I.Inputs.state c.args.inputs.now) (g.F.Flash.state c.args.flash.now) (g.F.Flash.state c.open_flash.new.flash) (event_of c.in-Err.refusal) c.in-Err.ensures.err;
-      judges = unopened_judges c.args.name.now c.args.stream.now (sources (g.I.Inputs.state c.args.inputs.now) (g.F.Flash.state c.args.flash.now)) (sources (g.I.Inputs.state c.args.inputs.now) (g.F.Flash.state c.open_flash.new.flash)) (event_of c.in-Err.refusal) refl;
+      ends = refused_ends c.args.name.now c.args.stream.now old new event out (unopened_measured (Some (UpdatingFlash c.args.name.now c.args.stream.now)) c.args.name.now first mid event c.in_err-open_flash.ensures.err) (unopened_last (UpdatingFlash c.args.name.now c.args.stream.now) c.args.name.now old.inputs first mid event c.in_err-open_flash.ensures.err) (unopened_over c.args.name.now c.args.stream.now old new event c.in_err-open_flash.ensures.err) (keeps_all event.reason first mid c.open_flash.ensures.stays.bytes);
+      stops = unopened_stops c.args.name.now c.args.stream.now (g.I.Inputs.state c.args.inputs.now) (g.I.Inputs.state c.args.inputs.now) (g.F.Flash.state c.args.flash.now) (g.F.Flash.state c.open_flash.new.flash) (event_of c.in_err-open_flash.field-0.0) c.in_err-open_flash.ensures.err;
+      judges = unopened_judges c.args.name.now c.args.stream.now (sources (g.I.Inputs.state c.args.inputs.now) (g.F.Flash.state c.args.flash.now)) (sources (g.I.Inputs.state c.args.inputs.now) (g.F.Flash.state c.open_flash.new.flash)) (event_of c.in_err-open_flash.field-0.0) refl;
       asks = few_more (g.I.Inputs.state c.args.inputs.now) (g.I.Inputs.state c.args.inputs.now) 0 1 (omega arith) (few_at (g.I.Inputs.state c.args.inputs.now));
       stays = stays_at _;
-    }
+    })
 
-pub returns-in-Err-read_stream-clause-answered : goal.returns-in-Err-read_stream-clause-answered
-returns-in-Err-read_stream-clause-answered g c = λ before after out.
+pub returns-in_err-read-clause-answered : goal.returns-in_err-read-clause-answered
+returns-in_err-read-clause-answered g c = rw (handed_on c.from_residual-in_err-read.result c.in_err-read.field-0.0 c.from_residual-in_err-read.ensures) (λ before after out.
     let first = g.F.Flash.state c.args.flash.now in
     let mid = g.F.Flash.state c.open_flash.new.flash in
     let same = c.open_flash.ensures.stays.bytes in
     let old : Outside = record before { inputs = g.I.Inputs.state c.args.inputs.now; flash = first } in
     let new : Outside = record after { inputs = g.I.Inputs.state c.read_stream.new.inputs; flash = mid } in
-    let event = event_of c.in-Err-read_stream.refusal in
-    let within = subst (λ (o : Option (List ℕ)). IfKnown o (λ all. length all ≤ flash_limit)) same c.in-Ok.ensures.within in
+    let event = event_of c.in_err-read.field-0.0 in
+    let within = subst (λ (o : Option (List ℕ)). IfKnown o (λ all. length all ≤ flash_limit)) same c.in_ok-open_flash.ensures.within in
     record {
       ends = refused_ends c.args.name.now c.args.stream.now old new event out
-          (unplayed_measured (Some (UpdatingFlash c.args.name.now c.args.stream.now)) mid c.args.stream.now event (inl refl) c.in-Err-read_stream.ensures.named)
-          (unplayed_last (UpdatingFlash c.args.name.now c.args.stream.now) old.inputs mid c.args.stream.now event (inl refl) c.in-Err-read_stream.ensures.named)
-          (unread_over c.args.name.now c.args.stream.now old new event within (c.in-Err-read_stream.ensures.due first.bytes)) (keeps_all event.reason first mid same);
-      stops = first_stops (UpdatingFlash c.args.name.now c.args.stream.now) (limited stream_limit c.args.stream.now) [] (g.I.Inputs.state c.args.inputs.now) (g.I.Inputs.state c.read_stream.new.inputs) (event_of c.in-Err-read_stream.refusal) refl c.read_stream.ensures.stands c.read_stream.ensures.asks (unplayed_about c.args.stream.now (event_of c.in-Err-read_stream.refusal) c.in-Err-read_stream.ensures.named);
-      judges = stream_judges c.args.name.now c.args.stream.now (sources (g.I.Inputs.state c.args.inputs.now) (g.F.Flash.state c.args.flash.now)) (sources (g.I.Inputs.state c.read_stream.new.inputs) (g.F.Flash.state c.open_flash.new.flash)) (event_of c.in-Err-read_stream.refusal) (unplayed_about c.args.stream.now (event_of c.in-Err-read_stream.refusal) c.in-Err-read_stream.ensures.named);
+          (unplayed_measured (Some (UpdatingFlash c.args.name.now c.args.stream.now)) mid c.args.stream.now event (inl refl) c.in_err-read.ensures.named)
+          (unplayed_last (UpdatingFlash c.args.name.now c.args.stream.now) old.inputs mid c.args.stream.now event (inl refl) c.in_err-read.ensures.named)
+          (unread_over c.args.name.now c.args.stream.now old new event within (c.in_err-read.ensures.due first.bytes)) (keeps_all event.reason first mid same);
+      stops = first_stops (UpdatingFlash c.args.name.now c.args.stream.now) (limited stream_limit c.args.stream.now) [] (g.I.Inputs.state c.args.inputs.now) (g.I.Inputs.state c.read_stream.new.inputs) (event_of c.in_err-read.field-0.0) refl c.read_stream.ensures.stands c.read_stream.ensures.asks (unplayed_about c.args.stream.now (event_of c.in_err-read.field-0.0) c.in_err-read.ensures.named);
+      judges = stream_judges c.args.name.now c.args.stream.now (sources (g.I.Inputs.state c.args.inputs.now) (g.F.Flash.state c.args.flash.now)) (sources (g.I.Inputs.state c.read_stream.new.inputs) (g.F.Flash.state c.open_flash.new.flash)) (event_of c.in_err-read.field-0.0) (unplayed_about c.args.stream.now (event_of c.in_err-read.field-0.0) c.in_err-read.ensures.named);
       asks = c.read_stream.ensures.asks;
       stays = c.read_stream.ensures.inputs;
-    }
+    })
 
-pub returns-in-Ok-update-clause-answered : goal.returns-in-Ok-update-clause-answered
-returns-in-Ok-update-clause-answered g c = λ before after out.
+pub returns-in-Ok-clause-answered : goal.returns-in-Ok-clause-answered
+returns-in-Ok-clause-answered g c = λ before after out.
     let i = g.I.Inputs in
     let first = g.F.Flash.state c.args.flash.now in
     let last = g.F.Flash.state c.update.new.flash in
     let stream = c.args.stream.now in
-    let read = c.in-Ok-read_stream.read in
+    let read = c.in_ok-read.read in
     let bytes = take (length c.deref.result.now - read.start) (drop read.start c.deref.result.now) in
     let same = c.open_flash.ensures.stays.bytes in
     let old : Outside = record before { inputs = i.state c.args.inputs.now; flash = first } in
     let new : Outside = record after { inputs = i.state c.read_stream.new.inputs; flash = last } in
-    let within = subst (λ (o : Option (List ℕ)). IfKnown o (λ all. length all ≤ flash_limit)) same c.in-Ok.ensures.within in
-    let has = data_given (with_inputs old.inputs.contents first.bytes) (CameIn (step_over (stream ∷ []) old.inputs new.inputs)) stream (data_from read) bytes (c.in-Ok-read_stream.ensures.due first.bytes) (rest_of c.deref.result.now read.bytes.items read.start c.deref.ensures.value) in
-    let layout = subst (λ (o : Option (List ℕ)). IfKnown o HasLayout) same c.in-Ok-update.ensures.layout in
-    let becomes = subst (λ (o : Option (List ℕ)). BecomesBytes (IsAfter bytes) o last.bytes) same c.in-Ok-update.ensures.updated in
-    let size = subst (λ (n : ℕ). n ≤ flash_limit) (sym c.update.ensures.only.extent) c.in-Ok.ensures.size in
+    let within = subst (λ (o : Option (List ℕ)). IfKnown o (λ all. length all ≤ flash_limit)) same c.in_ok-open_flash.ensures.within in
+    let has = data_given (with_inputs old.inputs.contents first.bytes) (CameIn (step_over (stream ∷ []) old.inputs new.inputs)) stream (data_from read) bytes (c.in_ok-read.ensures.due first.bytes) (rest_of c.deref.result.now read.bytes.items read.start c.deref.ensures.value) in
+    let layout = subst (λ (o : Option (List ℕ)). IfKnown o HasLayout) same c.in-Ok.ensures.layout in
+    let becomes = subst (λ (o : Option (List ℕ)). BecomesBytes (IsAfter bytes) o last.bytes) same c.in-Ok.ensures.updated in
+    let size = subst (λ (n : ℕ). n ≤ flash_limit) (sym c.update.ensures.only.extent) c.in_ok-open_flash.ensures.size in
     record {
       ends = done_ends c.args.name.now stream bytes old new out within has layout size becomes;
       stops = tt;
@@ -79,16 +80,16 @@ returns-in-Ok-update-clause-answered g c = λ before after out.
       stays = c.read_stream.ensures.inputs;
     }
 
-pub returns-in-Ok-update-clause-flash : goal.returns-in-Ok-update-clause-flash
-returns-in-Ok-update-clause-flash g c =
+pub returns-in-Ok-clause-flash : goal.returns-in-Ok-clause-flash
+returns-in-Ok-clause-flash g c =
     let i = g.I.Inputs in
     let first = g.F.Flash.state c.args.flash.now in
     let stream = c.args.stream.now in
-    let read = c.in-Ok-read_stream.read in
+    let read = c.in_ok-read.read in
     let bytes = take (length c.deref.result.now - read.start) (drop read.start c.deref.result.now) in
     let old = i.state c.args.inputs.now in
     let new = i.state c.read_stream.new.inputs in
-    let has = data_given (with_inputs old.contents first.bytes) (CameIn (step_over (stream ∷ []) old new)) stream (data_from read) bytes (c.in-Ok-read_stream.ensures.due first.bytes) (rest_of c.deref.result.now read.bytes.items read.start c.deref.ensures.value) in
+    let has = data_given (with_inputs old.contents first.bytes) (CameIn (step_over (stream ∷ []) old new)) stream (data_from read) bytes (c.in_ok-read.ensures.due first.bytes) (rest_of c.deref.result.now read.bytes.items read.start c.deref.ensures.value) in
     uses_updated c.args.name.now stream bytes old first (g.F.Flash.state c.open_flash.new.flash) (g.F.Flash.state c.update.new.flash) _ _ _ c.open_flash.ensures.stays c.open_flash.ensures.asks has c.update.ensures.only c.update.ensures.any_moment
 
 pub returns-clause-answered : goal.returns-clause-answered
@@ -99,22 +100,22 @@ returns-clause-answered g c = λ before after out.
     let last = g.F.Flash.state c.update.new.flash in
     let name = c.args.name.now in
     let stream = c.args.stream.now in
-    let read = c.in-Ok-read_stream.read in
+    let read = c.in_ok-read.read in
     let bytes = take (length c.deref.result.now - read.start) (drop read.start c.deref.result.now) in
     let stays = c.open_flash.ensures.stays in
     let old : Outside = record before { inputs = i.state c.args.inputs.now; flash = first } in
     let new : Outside = record after { inputs = i.state c.read_stream.new.inputs; flash = last } in
-    let within = subst (λ (o : Option (List ℕ)). IfKnown o (λ all. length all ≤ flash_limit)) stays.bytes c.in-Ok.ensures.within in
-    let has = data_given (with_inputs old.inputs.contents first.bytes) (CameIn (step_over (stream ∷ []) old.inputs new.inputs)) stream (data_from read) bytes (c.in-Ok-read_stream.ensures.due first.bytes) (rest_of c.deref.result.now read.bytes.items read.start c.deref.ensures.value) in
-    let reads = data_given (with_inputs old.inputs.contents None) (CameIn (step_over (stream ∷ []) old.inputs new.inputs)) stream (data_from read) bytes (c.in-Ok-read_stream.ensures.due None) (rest_of c.deref.result.now read.bytes.items read.start c.deref.ensures.value) in
-    let size = subst (λ (n : ℕ). n ≤ flash_limit) (sym c.update.ensures.only.extent) c.in-Ok.ensures.size in
+    let within = subst (λ (o : Option (List ℕ)). IfKnown o (λ all. length all ≤ flash_limit)) stays.bytes c.in_ok-open_flash.ensures.within in
+    let has = data_given (with_inputs old.inputs.contents first.bytes) (CameIn (step_over (stream ∷ []) old.inputs new.inputs)) stream (data_from read) bytes (c.in_ok-read.ensures.due first.bytes) (rest_of c.deref.result.now read.bytes.items read.start c.deref.ensures.value) in
+    let reads = data_given (with_inputs old.inputs.contents None) (CameIn (step_over (stream ∷ []) old.inputs new.inputs)) stream (data_from read) bytes (c.in_ok-read.ensures.due None) (rest_of c.deref.result.now read.bytes.items read.start c.deref.ensures.value) in
+    let size = subst (λ (n : ℕ). n ≤ flash_limit) (sym c.update.ensures.only.extent) c.in_ok-open_flash.ensures.size in
     let asked = subst (λ (names : List ℕ → Bool). IsTrue (names name)) (sym c.update.ensures.only.names) c.open_flash.ensures.asks.asked in
-    let cause = cause_from bytes first mid last c.in-Err-update.fault stays.bytes stays.unwritten.write_faults stays.faults c.in-Err-update.ensures.refused in
+    let cause = cause_from bytes first mid last c.in-Err.fault stays.bytes stays.unwritten.write_faults stays.faults c.in-Err.ensures.refused in
     record {
       ends = subst (λ (e : Event). EndsAs (Some (UpdatingFlash name stream)) old new (Err e)) (sym c.refusal_of.ensures)
-          (fault_ends name stream bytes old new c.in-Err-update.fault out asked within has reads size cause (λ early. let only = c.in-Err-update.ensures.unchanged early in only.bytes ∙ stays.bytes));
-      stops = updated_stops c.args.name.now c.args.stream.now (g.I.Inputs.state c.args.inputs.now) (g.I.Inputs.state c.read_stream.new.inputs) c.in-Err-update.fault (event_of c.refusal_of.result) c.refusal_of.ensures c.read_stream.ensures.stands c.read_stream.ensures.asks;
-      judges = updated_judges c.args.name.now c.args.stream.now (sources (g.I.Inputs.state c.args.inputs.now) (g.F.Flash.state c.args.flash.now)) (sources (g.I.Inputs.state c.read_stream.new.inputs) (g.F.Flash.state c.update.new.flash)) c.in-Err-update.fault (event_of c.refusal_of.result) c.refusal_of.ensures (c.update.ensures.only.attached ∙ c.in-Ok.ensures.attached);
+          (fault_ends name stream bytes old new c.in-Err.fault out asked within has reads size cause (λ early. let only = c.in-Err.ensures.unchanged early in only.bytes ∙ stays.bytes));
+      stops = updated_stops c.args.name.now c.args.stream.now (g.I.Inputs.state c.args.inputs.now) (g.I.Inputs.state c.read_stream.new.inputs) c.in-Err.fault (event_of c.refusal_of.result) c.refusal_of.ensures c.read_stream.ensures.stands c.read_stream.ensures.asks;
+      judges = updated_judges c.args.name.now c.args.stream.now (sources (g.I.Inputs.state c.args.inputs.now) (g.F.Flash.state c.args.flash.now)) (sources (g.I.Inputs.state c.read_stream.new.inputs) (g.F.Flash.state c.update.new.flash)) c.in-Err.fault (event_of c.refusal_of.result) c.refusal_of.ensures (c.update.ensures.only.attached ∙ c.in_ok-open_flash.ensures.attached);
       asks = c.read_stream.ensures.asks;
       stays = c.read_stream.ensures.inputs;
     }
@@ -124,19 +125,19 @@ returns-clause-flash g c =
     let i = g.I.Inputs in
     let first = g.F.Flash.state c.args.flash.now in
     let stream = c.args.stream.now in
-    let read = c.in-Ok-read_stream.read in
+    let read = c.in_ok-read.read in
     let bytes = take (length c.deref.result.now - read.start) (drop read.start c.deref.result.now) in
     let old = i.state c.args.inputs.now in
     let new = i.state c.read_stream.new.inputs in
-    let has = data_given (with_inputs old.contents first.bytes) (CameIn (step_over (stream ∷ []) old new)) stream (data_from read) bytes (c.in-Ok-read_stream.ensures.due first.bytes) (rest_of c.deref.result.now read.bytes.items read.start c.deref.ensures.value) in
+    let has = data_given (with_inputs old.contents first.bytes) (CameIn (step_over (stream ∷ []) old new)) stream (data_from read) bytes (c.in_ok-read.ensures.due first.bytes) (rest_of c.deref.result.now read.bytes.items read.start c.deref.ensures.value) in
     uses_updated c.args.name.now stream bytes old first (g.F.Flash.state c.open_flash.new.flash) (g.F.Flash.state c.update.new.flash) _ _ _ c.open_flash.ensures.stays c.open_flash.ensures.asks has c.update.ensures.only c.update.ensures.any_moment
 
-pub returns-in-Err-clause-flash : goal.returns-in-Err-clause-flash
-returns-in-Err-clause-flash g c =
+pub returns-in_err-open_flash-clause-flash : goal.returns-in_err-open_flash-clause-flash
+returns-in_err-open_flash-clause-flash g c =
     let f = g.F.Flash in
     uses_opened c.args.name.now c.args.stream.now (g.I.Inputs.state c.args.inputs.now) (f.state c.args.flash.now) (f.state c.open_flash.new.flash) (f.found_since c.args.flash.now) (f.found_since c.open_flash.new.flash) c.open_flash.ensures.stays c.open_flash.ensures.asks
 
-pub returns-in-Err-read_stream-clause-flash : goal.returns-in-Err-read_stream-clause-flash
-returns-in-Err-read_stream-clause-flash g c =
+pub returns-in_err-read-clause-flash : goal.returns-in_err-read-clause-flash
+returns-in_err-read-clause-flash g c =
     let f = g.F.Flash in
     uses_opened c.args.name.now c.args.stream.now (g.I.Inputs.state c.args.inputs.now) (f.state c.args.flash.now) (f.state c.open_flash.new.flash) (f.found_since c.args.flash.now) (f.found_since c.open_flash.new.flash) c.open_flash.ensures.stays c.open_flash.ensures.asks
