@@ -9,8 +9,8 @@ use Rattle.x7_regs.specs.declared.boot_status.Kind.{Kind}
 use Rattle.x7_regs.specs.declared.boot_status.Kind.TheVariants.{Fallback}
 use Rattle.x7_engine.specs.Kept.{is_fallback}
 use Rattle.x7_engine.specs.State.{kept_after, state_of, stop_in, taken_of, why_of}
-use Rattle.x7_engine.specs.Stops.{stop_fault}
-use Rattle.x7_engine.specs.Values.{failure_of}
+use Rattle.x7_engine.specs.Stop.{stop_fault}
+use Rattle.x7_engine.specs.Value.{failure_of}
 use Rattle.x7_engine.specs.declared.fault.Fault.{Fault}
 use Rattle.x7_engine.specs.declared.fault.Fault.TheVariants as fault
 use Rattle.x7_engine.specs.declared.kept.Kept.{Kept}
@@ -18,7 +18,7 @@ use Rattle.x7_engine.specs.declared.stop.Stop.{Stop}
 use Rattle.x7_engine.specs.declared.stop.Stop.TheVariants as stop
 use Rattle.x7_boot.specs.Attempt.{IsTrial, NoneBefore, Trial, ending_at, ending_by, failed_by}
 use Rattle.x7_boot.specs.Boot.{BootedState, IsBoot, LeadsToEnd, end_state, forbids_fallback, next_by, tried}
-use Rattle.x7_boot.specs.Course.{BootCourse, IsCourse, course_along, course_of}
+use Rattle.x7_boot.specs.Boots.{BootCourse, IsCourse, course_along, course_of}
 use Rattle.x7_boot.specs.declared.attempt.Ending.{Ending}
 use Rattle.x7_boot.specs.declared.attempt.Ending.TheVariants as ending
 use Rattle.x7_boot.specs.declared.boots.BootEnd.{BootEnd}

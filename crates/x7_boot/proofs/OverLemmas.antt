@@ -8,7 +8,7 @@ use Rattle.x7_part.specs.Part.{PartData}
 use Rattle.x7_engine.specs.Kept.{AreFallbacks}
 use Rattle.x7_engine.specs.Startup.{phase_by, startup_progress}
 use Rattle.x7_engine.specs.State.{history_by, state_of, stop_in, taken_by, why_of}
-use Rattle.x7_engine.specs.Stops.{Stopped}
+use Rattle.x7_engine.specs.Stop.{Stopped}
 use Rattle.x7_engine.specs.declared.kept.Kept.{Kept}
 use Rattle.x7_engine.specs.declared.regs.Regs.{Regs}
 use Rattle.x7_engine.proofs.AlikeLemmas.{alike_state, alike_stop}

@@ -9,7 +9,7 @@ use Rattle.x7_packets.proofs.GrowthLemmas.{prefix_of}
 use Rattle.x7_part.specs.Part.{PartData}
 use Rattle.x7_engine.specs.Checked.{HasStarted}
 use Rattle.x7_engine.specs.State.{history_by, history_taken, last_counted, why_of, state_of, stop_in, taken_of}
-use Rattle.x7_engine.specs.Stops.{Stopped}
+use Rattle.x7_engine.specs.Stop.{Stopped}
 use Rattle.x7_engine.specs.declared.kept.Kept.{Kept}
 use Rattle.x7_engine.proofs.CheckedLemmas.{phase_started}
 use Rattle.x7_engine.proofs.StateLemmas.{stop_is_final_stop}

@@ -10,13 +10,13 @@ use Rattle.x7_engine.specs.declared.stop.Stop.TheVariants as stop
 use Rattle.x7_engine.specs.declared.until_started.UntilStarted.{UntilStarted}
 use Rattle.x7_engine.specs.declared.until_started.UntilStarted.TheVariants as until
 use Rattle.x7_regs.specs.declared.boot_status.Cause.{Cause}
-use Rattle.x7_engine.specs.Values.{failure_of}
+use Rattle.x7_engine.specs.Value.{failure_of}
 use Rattle.x7_engine.specs.ReadBuffer.{IsFullBy, ReadBufState}
 use Rattle.x7_engine.specs.Past.{Answers, AnswersUntil}
 use Rattle.x7_engine.specs.Standing.{DeviceState, DeviceStandsFor, NoWordDue, taken_in}
 use Rattle.x7_engine.specs.State.{history_by, why_of, state_of, stop_in, taken_by}
 use Rattle.x7_engine.specs.Startup.{phase_by, startup_progress}
-use Rattle.x7_engine.specs.Stops.{Stopped, stop_fault}
+use Rattle.x7_engine.specs.Stop.{Stopped, stop_fault}
 use Rattle.x7_engine.specs.UntilStarted.{NoneStarted, has_started, says_started, taken_until}
 use Rattle.x7_engine.proofs.UntilLemmas.{going_before}
 use Rattle.x7_boot.specs.Attempt.{ending_at, ending_by, failed_by, IsReady, step_by, StepsTo, Took, past_in_flash}

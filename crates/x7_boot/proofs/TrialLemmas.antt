@@ -15,8 +15,8 @@ use Rattle.x7_engine.specs.declared.stop.Stop.{Stop}
 use Rattle.x7_engine.specs.declared.stop.Stop.TheVariants as stop
 use Rattle.x7_engine.specs.Standing.{DeviceState, DeviceStandsFor, MayWrap, NoWordDue}
 use Rattle.x7_engine.specs.State.{why_of, state_of, stop_in, taken_of, taken_by}
-use Rattle.x7_engine.specs.Stops.{Stopped, stop_fault, stopped_at}
-use Rattle.x7_engine.specs.Values.{failure_of}
+use Rattle.x7_engine.specs.Stop.{Stopped, stop_fault, stopped_at}
+use Rattle.x7_engine.specs.Value.{failure_of}
 use Rattle.x7_engine.proofs.BootLemmas.{may_wrap, none_due_at_first}
 use Rattle.x7_engine.proofs.StateLemmas.{stop_is_final_state, stop_is_final_stop}
 use Rattle.x7_boot.specs.Attempt.{Feeds, IsReady, NoneBefore, StepsTo, Took, Trial, Tries, attempt_at, ending_at, ending_by, failed_by, past_in_flash}

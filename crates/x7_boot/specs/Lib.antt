@@ -1,7 +1,7 @@
 pub mod Attempt
 pub mod Boot
-pub mod BootLines
+pub mod Text
 pub mod Checked
-pub mod Course
+pub mod Boots
 pub mod Image
 pub mod Pages

@@ -1,6 +1,6 @@
 //! One attempt of a boot.
 ghost use Rattle.std.specs.Prelude.{◌≡◌, false, length, Option, None, Some};
-ghost use Rattle.x7_engine.specs.Values.{failure_of};
+ghost use Rattle.x7_engine.specs.Value.{failure_of};
 ghost use Rattle.x7_boot.specs.Attempt.{IsReady, step_by, TakesPage};
 
 use x7_engine::{Device, Fault, Fed, ReadBuf, UntilStarted};

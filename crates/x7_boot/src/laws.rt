@@ -7,7 +7,7 @@ ghost use Rattle.x7_engine.specs.declared.kept.Kept.{Kept};
 ghost use Rattle.x7_boot.specs.Attempt.{IsTrial, Trial, trial_end};
 ghost use Rattle.x7_boot.specs.Boot.{BootedState, HasBoot, IsBoot, LeadsToEnd, end_state};
 ghost use Rattle.x7_boot.specs.Checked.{HasChecked};
-ghost use Rattle.x7_boot.specs.Course.{BootCourse, IsCourse, course_along, course_of};
+ghost use Rattle.x7_boot.specs.Boots.{BootCourse, IsCourse, course_along, course_of};
 ghost use Rattle.x7_boot.specs.declared.attempt.Ending.TheVariants as ending;
 ghost use Rattle.x7_boot.specs.declared.boots.BootEnd.{BootEnd};
 ghost use Rattle.x7_boot.specs.declared.boots.BootEnd.TheVariants as boot_end;

@@ -1,6 +1,6 @@
 //! What a boot came to, as lines of text.
 ghost use Rattle.std.specs.Prelude.{◌≡◌, ◌≤◌, ◌++◌, length, take, OnErr, OnOk};
-ghost use Rattle.x7_boot.specs.BootLines.{attempt_text, attempts_text, boot_end_text, boot_head, cause_text, ending_text, kind_text};
+ghost use Rattle.x7_boot.specs.Text.{attempt_text, attempts_text, boot_end_text, boot_head, cause_text, ending_text, kind_text};
 
 use crate::attempt::Ending;
 use crate::boots::{BootEnd, Tried};

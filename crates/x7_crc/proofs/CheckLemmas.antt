@@ -1,4 +1,4 @@
--- Lemmas on specs/RunningCheck: the check is what the shift register holds.
+-- Lemmas on specs/Check: the check is what the shift register holds.
 use Rattle.std.proofs.Common.{Bool, ◌≡◌, ℕ, ◌+◌, ◌^◌, ◌<◌, ◌≤◌, List, [], ◌∷◌, ◌++◌, length, bit_xor, refl, sym, ap, ◌∙◌, arith, lit<, append_assoc, append-nil, map, drop, get_or, add-one, drop-cons, subst, ◌*◌}
 use Rattle.std.proofs.Math.Nat.{zero-mul}
 use Rattle.std.specs.Int.Bits.{xor_zero_l}
@@ -6,7 +6,7 @@ use Rattle.std.proofs.lemmas.Nat.{xor_comm, xor_lt}
 use Rattle.std.proofs.lemmas.List.{drop_all}
 use Rattle.x7_words.specs.Word.{word_of_bytes}
 use Rattle.x7_crc.specs.Polynomial.{from_highest, IsRemainder, mirrored, remainder}
-use Rattle.x7_crc.specs.RunningCheck.{bits_of_write, bits_of_writes, check_after, check_of, dividend, generator, low_bits, writes_to}
+use Rattle.x7_crc.specs.Check.{bits_of_write, bits_of_writes, check_after, check_of, dividend, generator, low_bits, writes_to}
 use Rattle.x7_crc.specs.ShiftRegister.{shifted_all, advanced}
 use Rattle.x7_crc.proofs.PolynomialLemmas.{mirrored_lt, mirrored_same, one_remainder}
 use Rattle.x7_crc.proofs.ShiftLemmas.{divided_shifted, shifted_all_append, shifted_all_divides, shifted_all_low}

@@ -2,18 +2,18 @@
 use Rattle.std.proofs.Common.{◌≡◌, ◌==◌, ◌||◌, ◌≤◌, ◌<◌, ◌^◌, Bool, ◌+◌, ◌-◌, ◌*◌, ℕ, true, false, [], ◌∷◌, ◌++◌, List, length, take, drop, refl, sym, ap, subst, ◌∙◌, lit<, arith, append_assoc, take_all, length-drop, length-append}
 use Rattle.std.proofs.lemmas.List.{take-append-drop, take-append-le}
 use Rattle.x7_words.proofs.ListLemmas.{take_up_to}
-use Rattle.x7_packets.specs.Cutting.{between, CutterState, CutterStandsFor, ComesNearer, run_steps, AfterRun}
+use Rattle.x7_packets.specs.Cutter.{between, CutterState, CutterStandsFor, ComesNearer, run_steps, AfterRun}
 use Rattle.x7_packets.specs.History.{command_held, entered_all, entry, executes, History, history_of, next_word, Write}
 use Rattle.x7_packets.specs.Packet.{payload_steps}
 use Rattle.x7_packets.specs.Reading.{Place, Session}
-use Rattle.x7_packets.specs.RunningCheck.{clears, open_writes}
+use Rattle.x7_packets.specs.CheckedWrites.{clears, open_writes}
 use Rattle.x7_packets.specs.declared.cutter.Cut.{Cut}
 use Rattle.x7_packets.specs.declared.cutter.Cut.TheVariants.{Need}
 use Rattle.x7_packets.proofs.HistoryLemmas.{cut_enters, next_word_is}
 use Rattle.x7_crc.specs.OpenWrites.{in_order, running_check}
-use Rattle.x7_crc.specs.RunningCheck.{check_after, writes_to}
+use Rattle.x7_crc.specs.Check.{check_after, writes_to}
 use Rattle.x7_crc.proofs.CheckLemmas.{check_after_append, check_after_none, check_after_fits, check_of_more}
-use Rattle.x7_crc.specs.Checking.{steers_check, Checks, HasTaken, IsSum, CheckerState, Keeps}
+use Rattle.x7_crc.specs.Checker.{steers_check, Checks, HasTaken, IsSum, CheckerState, Keeps}
 
 pub check_none : running_check [] ≡ 0
 check_none = check_after_none 0 (lit< tt)

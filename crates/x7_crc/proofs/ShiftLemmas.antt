@@ -4,7 +4,7 @@ use Rattle.std.proofs.Math.Nat.{pow-suc, add-zero, zero-add, mul-one, zero-mul, 
 use Rattle.std.specs.Int.Bits.{xor_assoc, xor_self, xor_zero_l, xor_zero_r}
 use Rattle.std.proofs.lemmas.Nat.{pow-add, pow_pos, mul-add-lt, xor_comm, xor_shr, xor_mod, xor_block, xor_lt}
 use Rattle.x7_crc.specs.Polynomial.{digit, from_highest, product, IsRemainder, mirrored, remainder}
-use Rattle.x7_crc.specs.RunningCheck.{generator, low_bits, dividend}
+use Rattle.x7_crc.specs.Check.{generator, low_bits, dividend}
 use Rattle.x7_crc.specs.ShiftRegister.{shifted_one, shifted_all, advanced}
 use Rattle.x7_crc.proofs.PolynomialLemmas.{digit_cases, digit_lt, from_highest_lt, mirrored_twice, mirrored_double, mirrored_lt, mirrored_xor, one_remainder, remainder_is, xor_above, xor_double, xor_shl, xor_swap}
 

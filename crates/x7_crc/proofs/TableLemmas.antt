@@ -1,10 +1,10 @@
--- Lemmas on specs/CheckTable: what the entries of a table give.
+-- Lemmas on specs/Table: what the entries of a table give.
 use Rattle.std.proofs.Common.{◌≡◌, ◌==◌, ℕ, zero, suc, ◌+◌, ◌-◌, ◌*◌, ◌/◌, ◌%◌, ◌^◌, ◌<◌, Bool, true, false, ◌&&◌, List, [], ◌∷◌, length, get_or, bit_xor, bit_and, refl, sym, ap, ◌∙◌, arith, inl, inr, IsTrue}
 use Rattle.std.proofs.Math.Nat.{pow-suc, add-zero, zero-add, mul-one, mul_assoc, mod-lt}
 use Rattle.std.specs.Int.Bits.{xor_zero_r}
 use Rattle.std.proofs.lemmas.Nat.{xor_comm, pow_pos, and_mask, shr_split}
 use Rattle.std.proofs.lemmas.Bool.Decides.{eqb_tells}
-use Rattle.x7_crc.specs.CheckTable.{advance_all, advances}
+use Rattle.x7_crc.specs.Table.{advance_all, advances}
 use Rattle.x7_crc.specs.ShiftRegister.{advanced}
 use Rattle.x7_crc.proofs.PolynomialLemmas.{xor_above}
 use Rattle.x7_crc.proofs.ShiftLemmas.{advanced_xor, one_step}

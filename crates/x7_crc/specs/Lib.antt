@@ -1,6 +1,6 @@
-pub mod Checking
-pub mod CheckTable
+pub mod Checker
+pub mod Table
 pub mod OpenWrites
 pub mod Polynomial
-pub mod RunningCheck
+pub mod Check
 pub mod ShiftRegister

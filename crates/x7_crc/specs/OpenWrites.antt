@@ -5,8 +5,8 @@ use Rattle.x7_regs.specs.Register.{number_of}
 use Rattle.x7_regs.specs.declared.register.Reg.{Reg}
 use Rattle.x7_regs.specs.declared.register.Reg.TheVariants.{Lout}
 use Rattle.x7_packets.specs.History.{command_held, executed_by, History, Write}
-use Rattle.x7_packets.specs.RunningCheck.{RegisterWrite, clears, open_writes}
-use Rattle.x7_crc.specs.RunningCheck.{check_of}
+use Rattle.x7_packets.specs.CheckedWrites.{RegisterWrite, clears, open_writes}
+use Rattle.x7_crc.specs.Check.{check_of}
 
 -- writes that stand with the newest first, in the order in which they came
 abbrev pub in_order : List RegisterWrite → List (ℕ × ℕ)

@@ -1,6 +1,6 @@
 //! The running check (UG470, cyclic redundancy check): of one write, and of whole words to one register.
 ghost use Rattle.std.specs.Prelude.{◌≡◌, ◌<◌, ◌%◌, ◌++◌, List, [], ◌∷◌, bit_xor, length, ℕ};
-ghost use Rattle.x7_crc.specs.RunningCheck.{check_after, check_of, writes_to};
+ghost use Rattle.x7_crc.specs.Check.{check_after, check_of, writes_to};
 ghost use Rattle.std.specs.List.{flat_map};
 ghost use Rattle.x7_words.specs.Word.{words_of_bytes};
 

@@ -2,10 +2,10 @@
 ghost use Rattle.std.specs.Prelude.{◌≡◌, ℕ, List, [], ◌∷◌, ◌++◌, ◌<◌, ◌%◌, false, length, IfNone, IfSome};
 ghost use Rattle.x7_words.specs.Word.{words_of_bytes};
 ghost use Rattle.x7_regs.specs.Register.{number_of};
-ghost use Rattle.x7_packets.specs.Cutting.{IsRun, run_steps};
+ghost use Rattle.x7_packets.specs.Cutter.{IsRun, run_steps};
 ghost use Rattle.x7_packets.specs.History.{command_held, entered_all, entry, History, Write};
 ghost use Rattle.x7_packets.specs.Packet.{payload_steps};
-ghost use Rattle.x7_crc.specs.Checking.{check_of_bytes, IsSum, Checks, HasTaken, Keeps, steers_check};
+ghost use Rattle.x7_crc.specs.Checker.{check_of_bytes, IsSum, Checks, HasTaken, Keeps, steers_check};
 
 use crate::check::{fold, fold_slice};
 use crate::written::{check_after_write, executed};
@@ -125,7 +125,7 @@ pub struct PieceChecker {
 }
 
 impl Model for PieceChecker {
-    ghost use Rattle.x7_crc.specs.Checking.{PieceCheckerState};
+    ghost use Rattle.x7_crc.specs.Checker.{PieceCheckerState};
 
     ghost Value = { PieceCheckerState };
 
@@ -167,7 +167,7 @@ pub struct Checker {
 }
 
 impl Model for Checker {
-    ghost use Rattle.x7_crc.specs.Checking.{CheckerState};
+    ghost use Rattle.x7_crc.specs.Checker.{CheckerState};
 
     ghost Value = { CheckerState };
 

@@ -3,10 +3,10 @@ ghost use Rattle.std.specs.Prelude.{◌≡◌, ◌<◌, ◌*◌, ◌^◌, ◌++�
 ghost use Rattle.x7_regs.specs.Register.{number_of};
 ghost use Rattle.x7_regs.specs.declared.register.Reg.TheVariants.{Lout};
 ghost use Rattle.x7_packets.specs.History.{Bad, entry, History, Read, Write};
-ghost use Rattle.x7_packets.specs.RunningCheck.{clears};
+ghost use Rattle.x7_packets.specs.CheckedWrites.{clears};
 ghost use Rattle.x7_crc.specs.OpenWrites.{Folds, running_check};
 ghost use Rattle.x7_crc.specs.Polynomial.{from_highest, IsRemainder, mirrored};
-ghost use Rattle.x7_crc.specs.RunningCheck.{bits_of_writes, check_after, check_of, check_after_one, generator, IsCheckAfter};
+ghost use Rattle.x7_crc.specs.Check.{bits_of_writes, check_after, check_of, check_after_one, generator, IsCheckAfter};
 
 /// The check of writes is the remainder, by the polynomial of CRC-32C, of their bits times x^32; so it is after any check
 /// before them, whose polynomial is added above; and nothing else is.

@@ -1,7 +1,7 @@
 //! The running check by tables: a word at once, and four words at once.
 ghost use Rattle.std.specs.Prelude.{◌≡◌, ◌<◌, ◌+◌, ◌*◌, IsTrue, [], ◌∷◌, ℕ};
-ghost use Rattle.x7_crc.specs.CheckTable.{advance_all, advances};
-ghost use Rattle.x7_crc.specs.RunningCheck.{bits_a_write, check_after, writes_to};
+ghost use Rattle.x7_crc.specs.Table.{advance_all, advances};
+ghost use Rattle.x7_crc.specs.Check.{bits_a_write, check_after, writes_to};
 ghost use Rattle.x7_crc.specs.ShiftRegister.{advanced};
 
 use crate::block_table::{FIRST, LAST, SECOND, THIRD};

@@ -11,7 +11,7 @@ use Rattle.x7_engine.specs.ReadBuffer.{IsFullBy, ReadBufState, with_words}
 use Rattle.x7_engine.specs.Past.{Answers, past_of}
 use Rattle.x7_engine.specs.Standing.{DeviceState, DeviceStandsFor, NoWordDue, taken_in}
 use Rattle.x7_engine.specs.State.{stop_in, taken_by, taken_of}
-use Rattle.x7_engine.specs.Stops.{Stopped}
+use Rattle.x7_engine.specs.Stop.{Stopped}
 use Rattle.x7_engine.proofs.StateLemmas.{stop_is_final_stop, stop_place}
 
 -- bytes without a stop are all taken

@@ -10,7 +10,7 @@ use Rattle.x7_part.specs.Part.{PartData}
 use Rattle.x7_engine.specs.declared.stop.Stop.{Stop as Line}
 use Rattle.x7_engine.specs.Kept.{on_the_bench}
 use Rattle.x7_engine.specs.State.{end_by, why_of, stop_in}
-use Rattle.x7_engine.specs.Stops.{Stopped}
+use Rattle.x7_engine.specs.Stop.{Stopped}
 use Rattle.x7_engine.proofs.StateLemmas.{stop_is_final_stop, stop_place}
 use Rattle.x7_debug.specs.declared.order.Stop.TheVariants as stop
 use Rattle.x7_debug.specs.Position.{has_stopped, holds_at, last_of, until_of}

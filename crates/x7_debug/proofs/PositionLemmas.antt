@@ -15,7 +15,7 @@ use Rattle.x7_engine.specs.FirstStop.{why_at_byte, why_at_newest}
 use Rattle.x7_engine.specs.Kept.{on_the_bench}
 use Rattle.x7_engine.specs.Standing.{DeviceState, DeviceStandsFor, NoWordDue}
 use Rattle.x7_engine.specs.State.{stop_in, taken_of}
-use Rattle.x7_engine.specs.Stops.{Stopped}
+use Rattle.x7_engine.specs.Stop.{Stopped}
 use Rattle.x7_engine.specs.Watching.{fires}
 use Rattle.x7_engine.proofs.FirstStopLemmas.{no_stop_none, stop_is_first}
 use Rattle.x7_engine.proofs.StateLemmas.{stop_is_final_stop, stop_place, taken_is}

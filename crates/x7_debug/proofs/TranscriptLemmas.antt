@@ -6,7 +6,7 @@ use Rattle.std.proofs.lemmas.List.Sums.{fold_push}
 use Rattle.x7_part.specs.Part.{PartData}
 use Rattle.x7_debug.specs.declared.order.Order.{Order}
 use Rattle.x7_debug.specs.Session.{MovesTo, SessionState}
-use Rattle.x7_debug.specs.Transcript.{final_position, position_after, order_shown, transcript_from, transcript_of}
+use Rattle.x7_debug.specs.Showing.{final_position, position_after, order_shown, transcript_from, transcript_of}
 
 from_push : (part : PartData) (stream : List ℕ) (at : ℕ) (orders : List Order) (o : Order)
     → transcript_from part stream at (orders ++ o ∷ []) ≡ transcript_from part stream at orders ++ order_shown part stream (position_after part stream (fold (position_after part stream) at orders) o) o

@@ -4,4 +4,4 @@ pub mod Session
 pub mod Journal
 pub mod Moving
 pub mod Kept
-pub mod Transcript
+pub mod Showing

@@ -2,7 +2,7 @@
 ghost use Rattle.std.specs.Prelude.{◌≡◌, ◌++◌, IfOk, OnErr, OnOk};
 ghost use Rattle.x7_memory.specs.Frames.{AreFramesOf, frame_at};
 ghost use Rattle.x7_debug.specs.Session.{MovesTo};
-ghost use Rattle.x7_debug.specs.Transcript.{FollowsOrders, FollowsSome, frame_shown, none_text, position_after, position_text, order_shown, transcript_of};
+ghost use Rattle.x7_debug.specs.Showing.{FollowsOrders, FollowsSome, frame_shown, none_text, position_after, position_text, order_shown, transcript_of};
 
 use crate::order::Order;
 use crate::script::Script;

@@ -5,7 +5,7 @@ use Rattle.x7_part.specs.Part.{PartData}
 use Rattle.x7_engine.specs.declared.kept.Kept.{Kept}
 use Rattle.x7_engine.specs.Clock.{newest_place}
 use Rattle.x7_engine.specs.Kept.{is_fallback}
-use Rattle.x7_engine.specs.Stops.{why_at, stop_of, stopped_at}
+use Rattle.x7_engine.specs.Stop.{why_at, stop_of, stopped_at}
 use Rattle.x7_engine.specs.Watching.{timer_held, turns_on}
 use Rattle.x7_engine.proofs.ClockLemmas.{stop_of_access}
 use Rattle.x7_engine.proofs.RestLemmas.{stop_on}

@@ -8,7 +8,7 @@ use Rattle.x7_packets.specs.History as access
 use Rattle.x7_packets.specs.History.{History, command_held, entry, history_of}
 use Rattle.x7_packets.specs.Reading.{is_synced}
 use Rattle.x7_part.specs.Part.{PartData}
-use Rattle.x7_startup.specs.Calls.{StartupProgress}
+use Rattle.x7_startup.specs.Startup.{StartupProgress}
 use Rattle.x7_memory.specs.FrameMap.{AreSame, FrameMap}
 use Rattle.x7_flow.specs.Controls.{ctl0_held, forbids_reading}
 use Rattle.x7_flow.specs.FrameMemory.{memory_of}
@@ -16,8 +16,8 @@ use Rattle.x7_engine.specs.declared.kept.Kept.{Kept}
 use Rattle.x7_engine.specs.Rest.{AtRest}
 use Rattle.x7_engine.specs.Startup.{phase_by, phase_of, startup_progress}
 use Rattle.x7_engine.specs.State.{history_by, memory_in, reads_of, state_of, stop_in, taken_by}
-use Rattle.x7_engine.specs.Stops.{Stopped}
-use Rattle.x7_engine.specs.Values.{lines_by, read_out}
+use Rattle.x7_engine.specs.Stop.{Stopped}
+use Rattle.x7_engine.specs.Value.{lines_by, read_out}
 use Rattle.x7_engine.proofs.UntilLemmas.{phase_going}
 use Rattle.x7_effects.proofs.Items.{Write, item_entered}
 use Rattle.x7_effects.proofs.Checking.{ArePieces, Check, ClearFirst, Piece, Put, pieces_length}

@@ -12,12 +12,12 @@ use Rattle.x7_packets.specs.PacketWords.{no_op, sync_word}
 use Rattle.x7_packets.specs.Packet.{NoneEnds, ends_session}
 use Rattle.x7_part.specs.AddressOrder.{addresses_in}
 use Rattle.x7_part.specs.Part.{PartData, frame_words}
-use Rattle.x7_part.specs.PartRange.{IsPart}
-use Rattle.x7_part.specs.Slots.{slots_in}
+use Rattle.x7_part.specs.Ranges.{IsPart}
+use Rattle.x7_part.specs.Slot.{slots_in}
 use Rattle.x7_part.specs.declared.slot.Slot.{Slot}
 use Rattle.x7_part.specs.declared.slot.Slot.TheVariants.{Frame, Pad, End}
 use Rattle.x7_part.proofs.PartLemmas.{slots_count}
-use Rattle.x7_memory.specs.Planned.{PlanRow, PlanData, IsPlan, planned, planned_addresses}
+use Rattle.x7_memory.specs.Plan.{PlanRow, PlanData, IsPlan, planned, planned_addresses}
 use Rattle.x7_memory.proofs.PlanLemmas.{planned_here, planned_after}
 use Rattle.x7_effects.proofs.Items.{Item, Write, WriteLong, items_entered, item_words, items_words, bytes_of_words, closed, opened, desync, bus_width_head}
 use Rattle.x7_effects.proofs.Checking.{Checking, Piece, Put, Check, IsPiece, ArePieces, ClearFirst, at_first, with_checks, piece_item, piece_length, pieces_length, after_item}

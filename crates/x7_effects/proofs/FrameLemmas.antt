@@ -11,18 +11,18 @@ use Rattle.std.proofs.Math.Nat.{pow-le-pow_right}
 use Rattle.std.proofs.lemmas.List.{length-replicate}
 use Rattle.x7_pipeline.proofs.LawLemmas.{zip_nil}
 use Rattle.x7_part.specs.Part.{FieldWidths, RowData, PartData, frame_words}
-use Rattle.x7_part.specs.PartRange.{IsPart}
-use Rattle.x7_part.specs.FrameAddress.{AreRows, AreWidths, no_row, row, row_address, row_low, column_low, address_width, far_width}
+use Rattle.x7_part.specs.Ranges.{IsPart}
+use Rattle.x7_part.specs.Address.{AreRows, AreWidths, no_row, row, row_address, row_low, column_low, address_width, far_width}
 use Rattle.x7_part.proofs.SlotLemmas.{slots_all}
 use Rattle.x7_part.proofs.WidthLemmas.{columns_fit, pitch_least, row_within}
 use Rattle.x7_part.specs.AddressOrder.{addresses_of, addresses, addresses_in, row_addresses, count_from}
 use Rattle.x7_words.proofs.ListLemmas.{all_append}
-use Rattle.x7_part.specs.Slots.{addresses_among, slots, slots_in}
+use Rattle.x7_part.specs.Slot.{addresses_among, slots, slots_in}
 use Rattle.x7_part.specs.declared.slot.Slot.{Slot}
 use Rattle.x7_part.specs.declared.slot.Slot.TheVariants.{Frame, Pad, End}
 use Rattle.x7_memory.specs.FrameMap.{FrameMap, frame_or, AreSame}
 use Rattle.x7_memory.specs.Frames.{zeros, zero_frames}
-use Rattle.x7_memory.specs.Planned.{PlanRow, PlanData, planned, planned_addresses, IsPlan, total}
+use Rattle.x7_memory.specs.Plan.{PlanRow, PlanData, planned, planned_addresses, IsPlan, total}
 use Rattle.x7_memory.proofs.FrameLemmas.{among_none}
 use Rattle.x7_memory.proofs.MapLemmas.{zeros_at, unnamed_none}
 use Rattle.x7_memory.proofs.PlanLemmas.{planned_here, planned_after}

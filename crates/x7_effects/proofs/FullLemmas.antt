@@ -10,14 +10,14 @@ use Rattle.x7_packets.specs.History.{Access, History, command_held, entry, histo
 use Rattle.x7_crc.specs.OpenWrites.{running_check}
 use Rattle.x7_part.specs.AddressOrder.{addresses_in}
 use Rattle.x7_part.specs.Part.{PartData, frame_words}
-use Rattle.x7_part.specs.PartRange.{IsPart}
-use Rattle.x7_part.specs.Slots.{slots_in}
+use Rattle.x7_part.specs.Ranges.{IsPart}
+use Rattle.x7_part.specs.Slot.{slots_in}
 use Rattle.x7_part.proofs.PartLemmas.{some_address}
 use Rattle.x7_part.proofs.SlotLemmas.{slots_all}
 use Rattle.x7_memory.specs.FrameMap.{AreSame, FrameMap}
-use Rattle.x7_memory.specs.Planned.{IsPlan, PlanData, planned_addresses}
+use Rattle.x7_memory.specs.Plan.{IsPlan, PlanData, planned_addresses}
 use Rattle.x7_pipeline.specs.Runs.{written_frames, onto, put_over, slots_from}
-use Rattle.x7_startup.specs.Calls.{Begun, NotBegun, StartupProgress, cor0_of}
+use Rattle.x7_startup.specs.Startup.{Begun, NotBegun, StartupProgress, cor0_of}
 use Rattle.x7_startup.proofs.CallLemmas.{further}
 use Rattle.x7_flow.specs.Controls.{ctl0_held, forbids_reading, is_matched, mask_held, masked_word}
 use Rattle.x7_flow.specs.FrameMemory.{memory_of}
@@ -25,7 +25,7 @@ use Rattle.x7_engine.specs.declared.kept.Kept.{Kept}
 use Rattle.x7_engine.specs.Registers.{is_pending}
 use Rattle.x7_engine.specs.Rest.{AtRest}
 use Rattle.x7_engine.specs.Startup.{phase_by, phase_of, startup_progress}
-use Rattle.x7_engine.specs.Stops.{why_by_access, asks_decryption, has_dec, why_at, stop_of}
+use Rattle.x7_engine.specs.Stop.{why_by_access, asks_decryption, has_dec, why_at, stop_of}
 use Rattle.x7_engine.proofs.MaskLemmas.{bit_step}
 use Rattle.x7_engine.proofs.PassesLemmas.{went_past}
 use Rattle.x7_engine.proofs.StateLemmas.{parts_none}

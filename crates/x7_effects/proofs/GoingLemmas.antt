@@ -4,14 +4,14 @@ use Rattle.x7_packets.specs.History as access
 use Rattle.x7_packets.specs.History.{Access, History, command_held, entry, executes, last_word}
 use Rattle.x7_crc.specs.OpenWrites.{running_check}
 use Rattle.x7_part.specs.Part.{PartData}
-use Rattle.x7_startup.specs.Calls.{Call, StartupProgress}
-use Rattle.x7_startup.specs.Calls as call
+use Rattle.x7_startup.specs.Startup.{Call, StartupProgress}
+use Rattle.x7_startup.specs.Startup as call
 use Rattle.x7_engine.specs.declared.kept.Kept.{Kept}
 use Rattle.x7_flow.specs.Controls.{ctl0_held, is_matched, mask_held, masked_word}
 use Rattle.x7_engine.specs.Registers.{clears_check, is_pending, takes_shutdown}
 use Rattle.x7_engine.specs.Startup.{startup_call}
 use Rattle.x7_flow.specs.Flow.{frame_fault}
-use Rattle.x7_engine.specs.Stops.{why_by_access, why_by_frames, has_dec, why_at, or_else}
+use Rattle.x7_engine.specs.Stop.{why_by_access, why_by_frames, has_dec, why_at, or_else}
 use Rattle.x7_effects.proofs.Items.{Item, item_words, items_entered, item_entered}
 use Rattle.x7_effects.proofs.Checking.{Checking, Piece, checking_of, piece_item, piece_length, pieces_length, with_checks}
 use Rattle.x7_effects.proofs.CheckingLemmas.{item_checked}

@@ -7,7 +7,7 @@ use Rattle.std.proofs.lemmas.Bool.Decides.{nat_tests}
 use Rattle.x7_words.proofs.ListLemmas.{all_append, all_prefix, all_back}
 use Rattle.x7_part.specs.Part.{PartData}
 use Rattle.x7_memory.specs.FrameMap.{FrameMap, override, AreSame}
-use Rattle.x7_memory.specs.Planned.{PlanRow, planned, planned_addresses, AreInOrder}
+use Rattle.x7_memory.specs.Plan.{PlanRow, planned, planned_addresses, AreInOrder}
 use Rattle.x7_memory.proofs.PlanLemmas.{planned_here, planned_after, order_tail}
 use Rattle.x7_memory.proofs.MapLemmas.{override_same}
 use Rattle.x7_pipeline.specs.Runs.{put_over}

@@ -3,7 +3,7 @@ use Rattle.std.specs.Prelude.{◌≡◌, List, [], ◌∷◌, ◌++◌, reverse,
 use Rattle.x7_part.specs.Part.{PartData, frame_words}
 use Rattle.x7_part.specs.declared.slot.Slot.{Slot}
 use Rattle.x7_memory.specs.FrameMap.{FrameMap}
-use Rattle.x7_memory.specs.Planned.{PlanRow, planned_addresses}
+use Rattle.x7_memory.specs.Plan.{PlanRow, planned_addresses}
 use Rattle.x7_pipeline.specs.Runs.{slots_from, put_over, written_frames, onto, frames_of}
 use Rattle.x7_pipeline.specs.Copies.{newest_of}
 use Rattle.x7_effects.proofs.Frames.{joined, row_frames, row_slots, zero_frame}

@@ -3,16 +3,16 @@ use Rattle.std.proofs.Common.{◌≡◌, ℕ, ◌<◌, List, [], ◌∷◌, ◌+
 use Rattle.std.specs.List.{flat_map, fold}
 use Rattle.x7_words.specs.Word.{AreBytes}
 use Rattle.x7_words.proofs.ListLemmas.{all_append}
-use Rattle.x7_crc.specs.Checking.{check_of_bytes}
+use Rattle.x7_crc.specs.Checker.{check_of_bytes}
 use Rattle.x7_part.specs.Part.{PartData}
-use Rattle.x7_part.specs.PartRange.{IsPart}
+use Rattle.x7_part.specs.Ranges.{IsPart}
 use Rattle.x7_memory.specs.FrameMap.{FrameMap, AreSame, frame_or, override}
-use Rattle.x7_memory.specs.Planned.{IsPlanFor, PlanData, PlanRow, planned, total}
+use Rattle.x7_memory.specs.Plan.{IsPlanFor, PlanData, PlanRow, planned, total}
 use Rattle.x7_planner.specs.FullStream.{full_pieces, full_stream}
 use Rattle.x7_planner.specs.PartialStream.{partial_ending, partial_opening, partial_stream, stretch_words, stretches_of}
 use Rattle.x7_planner.specs.ReadStream.{read_stream}
-use Rattle.x7_planner.specs.Refusals.{CanRead}
-use Rattle.x7_planner.specs.Stream.{StreamPiece, Words, Check, bytes_of_words, check_words, stream_of, with_piece}
+use Rattle.x7_planner.specs.Fault.{CanRead}
+use Rattle.x7_planner.specs.Writer.{StreamPiece, Words, Check, bytes_of_words, check_words, stream_of, with_piece}
 use Rattle.x7_engine.specs.declared.kept.Kept.{Kept}
 use Rattle.x7_engine.specs.Rest.{AtRest}
 use Rattle.x7_engine.specs.State.{memory_in, reads_of}

@@ -8,7 +8,7 @@ use Rattle.x7_packets.specs.PacketWords.{no_op, type1_read, type1_write, type2_r
 use Rattle.x7_packets.specs.declared.header.Step.{Step}
 use Rattle.x7_packets.specs.declared.header.Step.TheVariants as step
 use Rattle.x7_packets.specs.Packet.{Packet, EachPacket, IsPacket, IsWhole, NoneEnds, OnlyLastEnds, latest_after, count_of, named_by, words, payload_steps, stepped, meaning, ended, last_ends}
-use Rattle.x7_packets.specs.Taking.{AllWhole}
+use Rattle.x7_packets.specs.Machine.{AllWhole}
 use Rattle.x7_packets.specs.History as access
 use Rattle.x7_packets.specs.History.{History, entry, entered, entered_all}
 use Rattle.x7_packets.proofs.HistoryLemmas.{entered_all_append}

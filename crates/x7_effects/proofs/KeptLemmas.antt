@@ -7,12 +7,12 @@ use Rattle.x7_packets.specs.History as access
 use Rattle.x7_packets.specs.History.{History, entry, history_of, last_word}
 use Rattle.x7_packets.specs.Reading.{is_synced}
 use Rattle.x7_part.specs.Part.{PartData}
-use Rattle.x7_memory.specs.Planned.{PlanRow}
+use Rattle.x7_memory.specs.Plan.{PlanRow}
 use Rattle.x7_flow.specs.Controls.{masked}
 use Rattle.x7_engine.specs.declared.kept.Kept.{Kept}
 use Rattle.x7_engine.specs.Kept.{kept_word}
 use Rattle.x7_engine.specs.State.{history_by, history_taken, state_of, stop_in}
-use Rattle.x7_engine.specs.Stops.{Stopped}
+use Rattle.x7_engine.specs.Stop.{Stopped}
 use Rattle.x7_planner.specs.PartialStream.{Copies, Rows, Stretch, stretches_of}
 use Rattle.x7_effects.specs.Played.{KeepsSettings, KeepsUnwritten}
 use Rattle.x7_effects.proofs.Items as item

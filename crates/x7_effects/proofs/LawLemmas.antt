@@ -5,11 +5,11 @@ use Rattle.x7_planner.proofs.FewLemmas.{by_rows}
 use Rattle.x7_words.specs.Word.{AreBytes}
 use Rattle.x7_part.specs.AddressOrder.{addresses_in}
 use Rattle.x7_part.specs.Part.{PartData, frame_words}
-use Rattle.x7_part.specs.PartRange.{IsPart}
-use Rattle.x7_memory.specs.Planned.{AreAddressed, IsPlan, PlanData}
+use Rattle.x7_part.specs.Ranges.{IsPart}
+use Rattle.x7_memory.specs.Plan.{AreAddressed, IsPlan, PlanData}
 use Rattle.x7_planner.specs.FullStream.{full_stream}
 use Rattle.x7_planner.specs.ReadStream.{read_stream}
-use Rattle.x7_planner.specs.Refusals.{CanRead}
+use Rattle.x7_planner.specs.Fault.{CanRead}
 use Rattle.x7_engine.specs.declared.kept.Kept.{Kept}
 use Rattle.x7_engine.specs.Rest.{AtRest}
 use Rattle.x7_planner.specs.PartialStream.{partial_stream}

@@ -6,7 +6,7 @@ use Rattle.std.proofs.lemmas.Bool.{eqb-true}
 use Rattle.x7_memory.proofs.PlanLemmas.{order_tail}
 use Rattle.x7_planner.proofs.RunLemmas.{all_rows}
 use Rattle.x7_part.specs.Part.{PartData}
-use Rattle.x7_memory.specs.Planned.{AreApart, AreInOrder, PlanRow, planned, planned_addresses}
+use Rattle.x7_memory.specs.Plan.{AreApart, AreInOrder, PlanRow, planned, planned_addresses}
 use Rattle.x7_planner.specs.PartialStream.{Copies, WritesOnce, groups_led, is_shared, leads_group, others, pairs_in, same_words, stretches_of, with_content}
 use Rattle.x7_effects.proofs.GroupLemmas.{Agree, Names, Pairs, content_agrees, later, names_either, own, stretches_agree, stretches_cover, stretches_pairs}
 

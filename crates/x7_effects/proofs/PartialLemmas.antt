@@ -11,10 +11,10 @@ use Rattle.x7_words.specs.Word.{AreBytes, AreWords}
 use Rattle.x7_packets.specs.History.{History, history_of}
 use Rattle.x7_part.specs.AddressOrder.{addresses_in}
 use Rattle.x7_part.specs.Part.{PartData, frame_words}
-use Rattle.x7_startup.specs.Calls.{StartupProgress}
-use Rattle.x7_part.specs.PartRange.{IsPart}
+use Rattle.x7_startup.specs.Startup.{StartupProgress}
+use Rattle.x7_part.specs.Ranges.{IsPart}
 use Rattle.x7_memory.specs.FrameMap.{FrameMap, override}
-use Rattle.x7_memory.specs.Planned.{AreInOrder, IsPlan, IsPlanRow, PlanData, PlanRow, planned}
+use Rattle.x7_memory.specs.Plan.{AreInOrder, IsPlan, IsPlanRow, PlanData, PlanRow, planned}
 use Rattle.x7_flow.specs.FrameMemory.{memory_of}
 use Rattle.x7_engine.specs.declared.kept.Kept.{Kept}
 use Rattle.x7_engine.specs.Rest.{AtRest}

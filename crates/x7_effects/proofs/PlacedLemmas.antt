@@ -10,12 +10,12 @@ use Rattle.x7_words.specs.Word.{AreWords}
 use Rattle.x7_words.proofs.ListLemmas.{all_append, all_prefix, all_back}
 use Rattle.x7_part.specs.AddressOrder.{addresses_in, Rises}
 use Rattle.x7_part.specs.Part.{PartData, frame_words}
-use Rattle.x7_part.specs.PartRange.{IsPart}
-use Rattle.x7_part.specs.Slots.{addresses_among, slots_in, from}
+use Rattle.x7_part.specs.Ranges.{IsPart}
+use Rattle.x7_part.specs.Slot.{addresses_among, slots_in, from}
 use Rattle.x7_part.specs.declared.slot.Slot.{Slot}
 use Rattle.x7_part.specs.declared.slot.Slot.TheVariants.{Frame, Pad, End}
 use Rattle.x7_part.proofs.RowLemmas.{part_rises}
-use Rattle.x7_memory.specs.Planned.{PlanRow, planned_addresses}
+use Rattle.x7_memory.specs.Plan.{PlanRow, planned_addresses}
 use Rattle.x7_pipeline.specs.Runs.{frames_of, slots_from, in_slots, written_frames, onto, but_newest}
 use Rattle.x7_pipeline.specs.Copies.{newest_of}
 use Rattle.x7_pipeline.proofs.SlotLemmas.{addresses_among_slots, slot_among}

@@ -10,11 +10,11 @@ use Rattle.x7_planner.proofs.FewLemmas.{by_rows}
 use Rattle.x7_words.proofs.ListLemmas.{all_append}
 use Rattle.x7_part.specs.AddressOrder.{addresses_in}
 use Rattle.x7_part.specs.Part.{PartData, frame_words}
-use Rattle.x7_part.specs.PartRange.{IsPart}
-use Rattle.x7_part.specs.Slots.{from, slots_in}
+use Rattle.x7_part.specs.Ranges.{IsPart}
+use Rattle.x7_part.specs.Slot.{from, slots_in}
 use Rattle.x7_part.specs.declared.slot.Slot.{Slot}
 use Rattle.x7_part.specs.declared.slot.Slot.TheVariants.{Frame, Pad, End}
-use Rattle.x7_memory.specs.Planned.{PlanRow, planned_addresses}
+use Rattle.x7_memory.specs.Plan.{PlanRow, planned_addresses}
 use Rattle.x7_pipeline.specs.FarAsRead.{has_frame_at}
 use Rattle.x7_pipeline.specs.Runs.{slots_from}
 use Rattle.x7_pipeline.proofs.SlotLemmas.{address_has}

@@ -9,15 +9,15 @@ use Rattle.x7_regs.specs.declared.command.Command.TheVariants.{Desync, Lfrm, Mfw
 use Rattle.x7_regs.specs.declared.register.Reg.TheVariants.{Cor0, Ctl0, Far, Fdri, Idcode, Mask}
 use Rattle.x7_words.specs.Word.{bytes_of_word}
 use Rattle.x7_words.proofs.ListLemmas.{all_append}
-use Rattle.x7_crc.specs.Checking.{check_of_bytes}
+use Rattle.x7_crc.specs.Checker.{check_of_bytes}
 use Rattle.x7_part.specs.AddressOrder.{addresses_in}
 use Rattle.x7_part.specs.Part.{PartData, frame_words}
-use Rattle.x7_part.specs.PartRange.{IsPart}
-use Rattle.x7_part.specs.Slots.{slots_in}
+use Rattle.x7_part.specs.Ranges.{IsPart}
+use Rattle.x7_part.specs.Slot.{slots_in}
 use Rattle.x7_part.specs.declared.slot.Slot.{Slot}
 use Rattle.x7_part.specs.declared.slot.Slot.TheVariants.{Frame, Pad, End}
-use Rattle.x7_memory.specs.Planned.{IsPlan, PlanData, PlanRow, planned_addresses}
-use Rattle.x7_planner.specs.Stream as planner
+use Rattle.x7_memory.specs.Plan.{IsPlan, PlanData, PlanRow, planned_addresses}
+use Rattle.x7_planner.specs.Writer as planner
 use Rattle.x7_packets.specs.PacketWords as packet_words
 use Rattle.x7_planner.specs.FullStream as full
 use Rattle.x7_planner.specs.ReadStream as readback

@@ -9,18 +9,18 @@ use Rattle.x7_packets.specs.History as access
 use Rattle.x7_packets.specs.History.{History, entry, history_of}
 use Rattle.x7_part.specs.AddressOrder.{addresses_in}
 use Rattle.x7_part.specs.Part.{PartData, frame_words}
-use Rattle.x7_startup.specs.Calls.{StartupProgress}
-use Rattle.x7_part.specs.PartRange.{IsPart}
-use Rattle.x7_part.specs.Slots.{slots_in}
+use Rattle.x7_startup.specs.Startup.{StartupProgress}
+use Rattle.x7_part.specs.Ranges.{IsPart}
+use Rattle.x7_part.specs.Slot.{slots_in}
 use Rattle.x7_part.specs.declared.slot.Slot.{Slot}
 use Rattle.x7_part.specs.declared.slot.Slot.TheVariants.{Frame, Pad, End}
 use Rattle.x7_part.proofs.SlotLemmas.{slots_number, slots_split}
 use Rattle.x7_memory.specs.FrameMap.{AreSame, FrameMap}
 use Rattle.x7_pipeline.specs.declared.fault.RunFault.{RunFault}
 use Rattle.x7_pipeline.specs.FarAsRead.{has_frame_at}
-use Rattle.x7_pipeline.specs.Faults.{address_fault}
+use Rattle.x7_pipeline.specs.Fault.{address_fault}
 use Rattle.x7_pipeline.specs.Runs.{slots_from}
-use Rattle.x7_flow.specs.Asked.{Other, Reads}
+use Rattle.x7_flow.specs.Asking.{Other, Reads}
 use Rattle.x7_flow.specs.Controls.{ctl0_held, forbids_reading}
 use Rattle.x7_flow.specs.Flow.{Flow, base_of, fault_by, flow_of, frame_fault, count_given}
 use Rattle.x7_flow.specs.FrameAccess.{reads_frame_data}
@@ -32,8 +32,8 @@ use Rattle.x7_engine.specs.declared.kept.Kept.{Kept}
 use Rattle.x7_engine.specs.Rest.{AtRest}
 use Rattle.x7_engine.specs.Startup.{startup_progress}
 use Rattle.x7_engine.specs.State.{reads_of}
-use Rattle.x7_engine.specs.Stops.{why_at}
-use Rattle.x7_engine.specs.Values.{answer_of, read_out, read_value, words_answered}
+use Rattle.x7_engine.specs.Stop.{why_at}
+use Rattle.x7_engine.specs.Value.{answer_of, read_out, read_value, words_answered}
 use Rattle.x7_engine.proofs.UntilLemmas.{phase_going}
 use Rattle.x7_effects.proofs.Checking.{Piece, pieces_length}
 use Rattle.x7_effects.specs.Played.{PlaysRead, resting_after, slot_words, words_along}

@@ -9,7 +9,7 @@ use Rattle.x7_packets.specs.Reading.{is_synced}
 use Rattle.x7_part.specs.Part.{PartData}
 use Rattle.x7_engine.specs.declared.kept.Kept.{Kept}
 use Rattle.x7_engine.specs.State.{reads_of, stop_in}
-use Rattle.x7_engine.specs.Values.{read_out}
+use Rattle.x7_engine.specs.Value.{read_out}
 use Rattle.x7_planner.specs.PartialStream.{Copies, Rows, Stretch}
 use Rattle.x7_effects.proofs.Items as item
 use Rattle.x7_effects.proofs.Items.{Item, item_entered, writes_entered}

@@ -2,16 +2,16 @@
 use Rattle.std.proofs.Common.{◌≡◌, ◌/◌, ◌+◌, ◌-◌, ◌≤◌, ◌⊎◌, inl, inr, ℕ, Bool, true, false, Option, List, [], ◌∷◌, ◌++◌, refl, sym, ap, ap₂, subst, ◌∙◌, append-nil, arith}
 use Rattle.x7_packets.specs.History.{Access, History, entry}
 use Rattle.x7_part.specs.Part.{PartData}
-use Rattle.x7_startup.specs.Arrivals.{IsPhase, arrival, wait_of}
-use Rattle.x7_startup.specs.Calls.{Begun, Call, NotBegun, StartupProgress, cor0_of, is_armed, progress_of, since_taking}
-use Rattle.x7_startup.specs.Calls as call
+use Rattle.x7_startup.specs.Phases.{IsPhase, arrival, wait_of}
+use Rattle.x7_startup.specs.Startup.{Begun, Call, NotBegun, StartupProgress, cor0_of, is_armed, progress_of, since_taking}
+use Rattle.x7_startup.specs.Startup as call
 use Rattle.x7_startup.specs.Lines.{done_line, gts_line, gwe_line}
 use Rattle.x7_startup.specs.declared.lines.Lines.{Lines}
 use Rattle.x7_startup.proofs.CallLemmas.{first_place, further, is_armed_arm, is_armed_bytes, is_armed_desync, is_armed_drop, progress_arm, progress_bytes, progress_desync, progress_drop}
 use Rattle.x7_startup.proofs.PhaseLemmas.{one_phase}
 use Rattle.x7_engine.specs.Clock.{newest_place}
 use Rattle.x7_engine.specs.Startup.{phase_by, phase_of, startup_call, startup_calls, startup_progress}
-use Rattle.x7_engine.specs.Values.{lines_by}
+use Rattle.x7_engine.specs.Value.{lines_by}
 use Rattle.x7_engine.proofs.ClockLemmas.{last_of, phase_rises, startup_entered, startup_more}
 use Rattle.x7_engine.proofs.StartupLemmas.{phase_is}
 

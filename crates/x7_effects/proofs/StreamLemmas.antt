@@ -8,7 +8,7 @@ use Rattle.x7_packets.specs.SyncWord.{sync_bytes}
 use Rattle.x7_packets.specs.PacketWords.{no_op, sync_word, type1_write}
 use Rattle.x7_packets.specs.declared.header.Step.TheVariants as step
 use Rattle.x7_packets.specs.Packet.{Packet, IsPacket, words, stepped, latest_of}
-use Rattle.x7_packets.specs.Taking.{AllWhole}
+use Rattle.x7_packets.specs.Machine.{AllWhole}
 use Rattle.x7_packets.specs.Reading.{Searching, Synced, Session, IsReading, IsSession, packet_bytes, is_synced}
 use Rattle.x7_packets.specs.ByHand.{reading_of}
 use Rattle.x7_packets.specs.History as access

@@ -10,8 +10,8 @@ use Rattle.x7_regs.specs.declared.register.Reg.TheVariants.{Cmd, Cor0, Ctl0, Far
 use Rattle.x7_words.specs.Word.{AreWords}
 use Rattle.x7_part.specs.AddressOrder.{addresses_in}
 use Rattle.x7_part.specs.Part.{PartData, frame_words}
-use Rattle.x7_part.specs.Slots.{slots_in}
-use Rattle.x7_memory.specs.Planned.{PlanRow, PlanData, planned_addresses}
+use Rattle.x7_part.specs.Slot.{slots_in}
+use Rattle.x7_memory.specs.Plan.{PlanRow, PlanData, planned_addresses}
 use Rattle.x7_effects.proofs.Items.{Noop, Write, WriteLong, ReadLong, bytes_of_words, closed, bus_width_head}
 use Rattle.x7_effects.proofs.Checking.{Piece, Put, Check, with_checks, at_first}
 use Rattle.x7_planner.specs.PartialStream.{Stretch, Copies, Rows}

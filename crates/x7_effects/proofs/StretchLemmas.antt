@@ -6,18 +6,18 @@ use Rattle.x7_regs.specs.declared.command.Command.TheVariants.{Mfw, Wcfg}
 use Rattle.x7_regs.specs.declared.register.Reg.TheVariants.{Far}
 use Rattle.x7_packets.specs.History as access
 use Rattle.x7_packets.specs.History.{History, command_held, entry}
-use Rattle.x7_startup.specs.Calls.{StartupProgress}
+use Rattle.x7_startup.specs.Startup.{StartupProgress}
 use Rattle.x7_part.specs.Part.{PartData, frame_words}
 use Rattle.x7_memory.specs.FrameMap.{AreSame, FrameMap}
-use Rattle.x7_memory.specs.Planned.{PlanRow, planned_addresses}
+use Rattle.x7_memory.specs.Plan.{PlanRow, planned_addresses}
 use Rattle.x7_regs.specs.Command.{command_with}
 use Rattle.x7_regs.specs.declared.command.Command.{Command}
 use Rattle.x7_pipeline.specs.Copies.{is_mfw}
 use Rattle.x7_pipeline.specs.FarAsRead.{has_frame_at, loaded_base}
-use Rattle.x7_pipeline.specs.Faults.{address_fault, copy_fault}
+use Rattle.x7_pipeline.specs.Fault.{address_fault, copy_fault}
 use Rattle.x7_pipeline.specs.Runs.{written_frames, onto, put_over, slots_from}
 use Rattle.x7_pipeline.proofs.LawLemmas.{put_twice}
-use Rattle.x7_flow.specs.Asked.{Copies, Other}
+use Rattle.x7_flow.specs.Asking.{Copies, Other}
 use Rattle.x7_flow.specs.Controls.{ctl0_held}
 use Rattle.x7_flow.specs.Flow.{Flow, base_of, fault_by, flow_of, frame_fault, run_of, source_of}
 use Rattle.x7_flow.specs.FrameMemory.{memory_of}

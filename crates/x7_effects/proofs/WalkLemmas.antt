@@ -6,10 +6,10 @@ use Rattle.x7_regs.specs.declared.register.Reg.TheVariants.{Far}
 use Rattle.x7_packets.specs.History as access
 use Rattle.x7_packets.specs.History.{History, command_held, entered_all, entry, executes}
 use Rattle.x7_packets.specs.Packet.{payload_steps}
-use Rattle.x7_startup.specs.Calls.{StartupProgress}
+use Rattle.x7_startup.specs.Startup.{StartupProgress}
 use Rattle.x7_part.specs.Part.{PartData, frame_words}
 use Rattle.x7_memory.specs.FrameMap.{AreSame, FrameMap}
-use Rattle.x7_memory.specs.Planned.{PlanRow, planned}
+use Rattle.x7_memory.specs.Plan.{PlanRow, planned}
 use Rattle.x7_memory.proofs.MapLemmas.{override_same}
 use Rattle.x7_pipeline.specs.FarAsRead.{has_frame_at, loaded_base}
 use Rattle.x7_pipeline.specs.Runs.{written_frames, onto, put_over, slots_from}
@@ -24,7 +24,7 @@ use Rattle.x7_flow.proofs.FlowLemmas.{flow_more}
 use Rattle.x7_flow.proofs.ManyLemmas.{words_settings}
 use Rattle.x7_flow.proofs.QuietLemmas.{quiet_memory}
 use Rattle.x7_engine.specs.declared.kept.Kept.{Kept}
-use Rattle.x7_engine.specs.Stops.{why_by_access}
+use Rattle.x7_engine.specs.Stop.{why_by_access}
 use Rattle.x7_effects.proofs.Items.{Write, WriteLong, item_entered, writes_entered}
 use Rattle.x7_effects.proofs.Checking.{Put, piece_length}
 use Rattle.x7_effects.proofs.Streams.{command, one}

@@ -3,11 +3,11 @@ use Rattle.std.specs.Prelude.{◌≡◌, ℕ, Bool, true, List, ◌++◌, replic
 use Rattle.std.specs.List.{flat_map}
 use Rattle.x7_words.specs.Word.{AreBytes}
 use Rattle.x7_part.specs.Part.{PartData, frame_words}
-use Rattle.x7_part.specs.PartRange.{IsPart}
+use Rattle.x7_part.specs.Ranges.{IsPart}
 use Rattle.x7_part.specs.declared.slot.Slot.{Slot}
 use Rattle.x7_part.specs.declared.slot.Slot.TheVariants.{Frame, Pad, End}
 use Rattle.x7_memory.specs.FrameMap.{AreSame, FrameMap, override}
-use Rattle.x7_memory.specs.Planned.{IsPlanFor, PlanData, planned, total}
+use Rattle.x7_memory.specs.Plan.{IsPlanFor, PlanData, planned, total}
 use Rattle.x7_pipeline.specs.Runs.{slots_from}
 use Rattle.x7_startup.specs.declared.lines.Lines.{Lines}
 use Rattle.x7_engine.specs.declared.kept.Kept.{Kept}

@@ -3,12 +3,12 @@ ghost use Rattle.std.specs.Prelude.{◌≡◌, ◌++◌, ℕ, List, []};
 ghost use Rattle.x7_planner.specs.PartialStream.{AreLongest, WritesOnce, joined_runs, pairs_in, partial_stream, runs_of, stretches_of};
 ghost use Rattle.x7_effects.specs.Played.{CanPlay, changed_memory, with_full, with_partial, Playing, PlaysBoth, PlaysFull, PlaysPartial, PlaysRead, ReadsBackAfter, Resting, resting_after, Rests};
 ghost use Rattle.x7_engine.specs.Kept.{on_the_bench};
-ghost use Rattle.x7_memory.specs.Planned.{AreInOrder, IsPlanFor, PlanData, PlanRow, total};
+ghost use Rattle.x7_memory.specs.Plan.{AreInOrder, IsPlanFor, PlanData, PlanRow, total};
 ghost use Rattle.x7_part.specs.Part.{PartData};
-ghost use Rattle.x7_part.specs.PartRange.{IsPart};
+ghost use Rattle.x7_part.specs.Ranges.{IsPart};
 ghost use Rattle.x7_planner.specs.FullStream.{full_stream};
 ghost use Rattle.x7_planner.specs.ReadStream.{read_stream};
-ghost use Rattle.x7_planner.specs.Refusals.{CanRead};
+ghost use Rattle.x7_planner.specs.Fault.{CanRead};
 
 /// After any bytes at rest the full stream of a plan at addresses of the part leaves the plan over zeros and ends startup
 /// with DONE, GTS and GWE 1, without a stop, and the device is at rest again; the registers that it doesn't write stay. So

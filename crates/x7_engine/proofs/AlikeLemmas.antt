@@ -8,7 +8,7 @@ use Rattle.x7_part.specs.Part.{PartData}
 use Rattle.x7_flow.specs.FrameMemory.{memory_of}
 use Rattle.x7_engine.specs.Course.{course_at}
 use Rattle.x7_engine.specs.State.{history_by, memory_in, state_by, state_of, stop_in, taken_by, why_of}
-use Rattle.x7_engine.specs.Stops.{Stopped, stop_of}
+use Rattle.x7_engine.specs.Stop.{Stopped, stop_of}
 use Rattle.x7_engine.specs.declared.kept.Kept.{Kept}
 use Rattle.x7_engine.specs.declared.regs.Regs.{Regs}
 

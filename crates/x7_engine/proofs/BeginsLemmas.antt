@@ -2,8 +2,8 @@
 use Rattle.std.proofs.Common.{◌≡◌, ◌||◌, ◌+◌, ◌-◌, ◌≤◌, inl, inr, ◌↔◌, IsTrue, ℕ, Bool, true, false, if◌then◌else◌, Option, None, Some, List, [], ◌∷◌, ◌++◌, refl, ap, sym, subst, ◌∙◌, append-nil, arith}
 use Rattle.x7_packets.specs.History.{Entry, History, Placed, executes, last_word}
 use Rattle.x7_packets.proofs.GrowthLemmas.{placed_within}
-use Rattle.x7_startup.specs.Calls.{Begun, Call, NotBegun, StartupProgress, is_armed, progress_of, since_taking}
-use Rattle.x7_startup.specs.Calls as call
+use Rattle.x7_startup.specs.Startup.{Begun, Call, NotBegun, StartupProgress, is_armed, progress_of, since_taking}
+use Rattle.x7_startup.specs.Startup as call
 use Rattle.x7_startup.proofs.CallLemmas.{first_place, further, is_armed_arm, is_armed_bytes, is_armed_desync, is_armed_drop, progress_arm, progress_bytes, progress_desync, progress_drop}
 use Rattle.x7_engine.specs.Registers.{takes_shutdown}
 use Rattle.x7_engine.specs.Sequence.{Begins, Executes, IsArmed, IsArmedDesync, disarms}

@@ -11,8 +11,8 @@ use Rattle.x7_engine.specs.declared.due.Due.TheVariants as due
 use Rattle.x7_engine.specs.Standing.{DeviceState, DeviceStandsFor, MayWrap, NoWordDue, due_count, words_left}
 use Rattle.x7_engine.specs.Startup.{phase_of}
 use Rattle.x7_engine.specs.State.{history_taken, why_of, state_of, stop_in}
-use Rattle.x7_engine.specs.Stops.{stop_fault}
-use Rattle.x7_engine.specs.Values.{failure_of}
+use Rattle.x7_engine.specs.Stop.{stop_fault}
+use Rattle.x7_engine.specs.Value.{failure_of}
 use Rattle.x7_engine.proofs.ClockLemmas.{phase_by_clock}
 use Rattle.x7_engine.proofs.StateLemmas.{why_is, taken_is}
 

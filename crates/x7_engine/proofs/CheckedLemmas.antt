@@ -8,7 +8,7 @@ use Rattle.x7_packets.specs.History.{Access, Bad, Entry, History, Placed, Read, 
 use Rattle.x7_packets.proofs.GrowthLemmas.{prefix_of, placed_of, placed_within}
 use Rattle.x7_crc.specs.OpenWrites.{running_check}
 use Rattle.x7_part.specs.Part.{PartData}
-use Rattle.x7_startup.specs.Calls.{Begun, NotBegun, StartupProgress}
+use Rattle.x7_startup.specs.Startup.{Begun, NotBegun, StartupProgress}
 use Rattle.x7_engine.specs.declared.fault.Fault.TheVariants as fault
 use Rattle.x7_engine.specs.declared.kept.Kept.{Kept}
 use Rattle.x7_engine.specs.declared.stop.Stop.{Stop}
@@ -18,7 +18,7 @@ use Rattle.x7_flow.specs.Controls.{is_matched, same_idcode}
 use Rattle.x7_engine.specs.Sequence.{Begins}
 use Rattle.x7_engine.specs.Startup.{phase_by, startup_progress}
 use Rattle.x7_engine.specs.State.{history_by, history_taken, last_counted, state_of, stop_in, taken_by, taken_of}
-use Rattle.x7_engine.specs.Stops.{Stopped, asks_decryption, why_at, needs_match, stop_of, stopped_at, why_by_write}
+use Rattle.x7_engine.specs.Stop.{Stopped, asks_decryption, why_at, needs_match, stop_of, stopped_at, why_by_write}
 use Rattle.x7_engine.proofs.BeginsLemmas.{begins_by}
 use Rattle.x7_engine.proofs.StateLemmas.{counted_least, no_stop_before, stop_place, parts_none}
 use Rattle.x7_engine.proofs.TurnLemmas.{until_until}

@@ -4,9 +4,9 @@ use Rattle.std.proofs.lemmas.Bool.Decides.{nat_tests}
 use Rattle.std.proofs.lemmas.List.{replicate-append-replicate}
 use Rattle.x7_packets.specs.History.{Access, Bad, History, Read, Write, command_held, entry, executed_by, executes, last_word, written}
 use Rattle.x7_part.specs.Part.{PartData}
-use Rattle.x7_startup.specs.Calls.{Begun, Call, IsPhaseOf, NotBegun, StartupProgress, StandsFor, Stored, progress_of}
-use Rattle.x7_startup.specs.Calls as call
-use Rattle.x7_startup.specs.Count.{Fires, Reload, Watch, WatchCall, Watched, WatchesFor, bytes_alike, watched_count, is_on, timer_after, timer_value_of}
+use Rattle.x7_startup.specs.Startup.{Begun, Call, IsPhaseOf, NotBegun, StartupProgress, StandsFor, Stored, progress_of}
+use Rattle.x7_startup.specs.Startup as call
+use Rattle.x7_startup.specs.Watchdog.{Fires, Reload, Watch, WatchCall, Watched, WatchesFor, bytes_alike, watched_count, is_on, timer_after, timer_value_of}
 use Rattle.x7_startup.proofs.CallLemmas.{idle_stands, one_phase_after, phase_never_falls}
 use Rattle.x7_startup.proofs.CountLemmas.{idle_fires, idle_watches, timer_load, timer_reload, timer_watched}
 use Rattle.x7_engine.specs.Course.{course_at}
@@ -15,7 +15,7 @@ use Rattle.x7_engine.specs.Clock.{AreEndedAlike, ClockState, IsClock, Ticks, new
 use Rattle.x7_engine.specs.Kept.{is_fallback}
 use Rattle.x7_engine.specs.Registers.{takes_shutdown}
 use Rattle.x7_engine.specs.Startup.{has_ended, phase_by, phase_of, startup_call, startup_calls, startup_progress}
-use Rattle.x7_engine.specs.Stops.{why_at, or_else, stop_of, stopped_at, stopped_by_watchdog, Stopped}
+use Rattle.x7_engine.specs.Stop.{why_at, or_else, stop_of, stopped_at, stopped_by_watchdog, Stopped}
 use Rattle.x7_engine.specs.Watching.{fired_or, fires, first_firing, timer_held, watch_call, watch_calls, watched_bytes}
 use Rattle.x7_engine.proofs.StartupLemmas.{phase_is}
 

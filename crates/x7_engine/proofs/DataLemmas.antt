@@ -17,7 +17,7 @@ use Rattle.x7_regs.specs.declared.register.Reg.TheVariants as reg
 use Rattle.x7_regs.specs.Register.{number_of}
 use Rattle.x7_engine.specs.declared.kept.Kept.{Kept}
 use Rattle.x7_engine.specs.declared.stop.Stop.{Stop}
-use Rattle.x7_engine.specs.Stops.{why_by_frames, why_by_write, why_at, or_else}
+use Rattle.x7_engine.specs.Stop.{why_by_frames, why_by_write, why_at, or_else}
 use Rattle.x7_engine.proofs.BodyLemmas.{length_of_words}
 use Rattle.x7_engine.proofs.FrameLemmas.{why_fdri, why_mfwr}
 use Rattle.x7_engine.proofs.PlainLemmas.{IsQuiet, NoneStop, fdri_quiet, mfwr_quiet}

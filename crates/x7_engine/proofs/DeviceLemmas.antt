@@ -9,7 +9,7 @@ use Rattle.x7_packets.specs.declared.cutter.Cut.TheVariants.{Body, Head, Need, S
 use Rattle.x7_packets.specs.Mode.{Mode}
 use Rattle.x7_packets.specs.declared.header.Step.{Step}
 use Rattle.x7_packets.specs.declared.header.Step.TheVariants as step
-use Rattle.x7_packets.specs.Cutting.{AtPlace, between, CutterState, CutterStandsFor, IsLent, IsRun, LongerSession, AfterRun, run_bytes, run_steps, syncs_due}
+use Rattle.x7_packets.specs.Cutter.{AtPlace, between, CutterState, CutterStandsFor, IsLent, IsRun, LongerSession, AfterRun, run_bytes, run_steps, syncs_due}
 use Rattle.x7_packets.specs.History.{History, Placed, entered_all, history_of, next_word, until}
 use Rattle.x7_packets.specs.Packet.{Packet, payload_steps}
 use Rattle.x7_packets.specs.Reading.{IsReading, Place, Searching, Session, Synced, tail_of}
@@ -20,8 +20,8 @@ use Rattle.x7_engine.specs.declared.kept.Kept.{Kept}
 use Rattle.x7_engine.specs.declared.stop.Stop.{Stop}
 use Rattle.x7_engine.specs.Standing.{DeviceStandsFor, DeviceState, EndsWords, HoldsRun, IsCutterOf, RegistersStandFor, counted_in, due_count, reads_given, words_left}
 use Rattle.x7_engine.specs.State.{history_by, history_taken, reads_of, stop_in}
-use Rattle.x7_engine.specs.Stops.{Stopped, stop_of, stopped_at}
-use Rattle.x7_engine.specs.Values.{read_out}
+use Rattle.x7_engine.specs.Stop.{Stopped, stop_of, stopped_at}
+use Rattle.x7_engine.specs.Value.{read_out}
 use Rattle.x7_engine.proofs.BodyLemmas.{length_of_words}
 use Rattle.x7_engine.proofs.FrameLemmas.{length_left}
 use Rattle.x7_engine.proofs.TurnLemmas.{history_until, no_rest, stop_until}

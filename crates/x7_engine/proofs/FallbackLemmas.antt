@@ -9,7 +9,7 @@ use Rattle.x7_flow.specs.FrameMemory.{memory_of}
 use Rattle.x7_engine.specs.Course.{course_at}
 use Rattle.x7_engine.specs.Kept.{AreFallbacks, is_fallback, without_kept}
 use Rattle.x7_engine.specs.State.{history_by, memory_in, state_by, state_of, stop_in, taken_by, why_of}
-use Rattle.x7_engine.specs.Stops.{Stopped, or_else, stop_of, stopped_at, stopped_by_watchdog, why_at}
+use Rattle.x7_engine.specs.Stop.{Stopped, or_else, stop_of, stopped_at, stopped_by_watchdog, why_at}
 use Rattle.x7_engine.specs.Watching.{first_firing, timer_held, turns_on}
 use Rattle.x7_engine.specs.declared.kept.Kept.{Kept}
 use Rattle.x7_engine.specs.declared.regs.Regs.{Regs}

@@ -3,7 +3,7 @@ use Rattle.std.proofs.Common.{◌≡◌, ◌+◌, ◌-◌, ◌≤◌, ◌<◌, �
 use Rattle.std.proofs.Math.Seq.{take-length}
 use Rattle.std.proofs.lemmas.List.{drop-take, length-take, take-append-drop, take-take}
 use Rattle.std.proofs.lemmas.Option.{none-some}
-use Rattle.x7_packets.specs.Cutting.{between}
+use Rattle.x7_packets.specs.Cutter.{between}
 use Rattle.x7_packets.specs.History.{History}
 use Rattle.x7_part.specs.Part.{PartData}
 use Rattle.x7_flow.specs.FrameAccess.{reads_frame_data}
@@ -19,7 +19,7 @@ use Rattle.x7_engine.specs.Readout.{Gave, GotAllBut, Gives}
 use Rattle.x7_engine.specs.Past.{Answers, past_of}
 use Rattle.x7_engine.specs.Standing.{DeviceStandsFor, DeviceState, NoWordDue, RegistersStandFor, RegistersState, due_count, fed_by, frames_among, frames_due, taken_in, reads_given, words_left}
 use Rattle.x7_engine.specs.State.{history_taken, reads_of}
-use Rattle.x7_engine.specs.Stops.{stopped_at}
+use Rattle.x7_engine.specs.Stop.{stopped_at}
 use Rattle.x7_engine.proofs.DeviceLemmas.{given_by}
 use Rattle.x7_engine.proofs.FrameLemmas.{frames_at, frames_of, goes_on}
 

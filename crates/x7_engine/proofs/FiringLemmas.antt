@@ -6,7 +6,7 @@ use Rattle.x7_part.specs.Part.{PartData}
 use Rattle.x7_engine.specs.Course.{course_at}
 use Rattle.x7_engine.specs.declared.kept.Kept.{Kept}
 use Rattle.x7_engine.specs.Clock.{ClockState, Ticks}
-use Rattle.x7_engine.specs.Stops.{or_else}
+use Rattle.x7_engine.specs.Stop.{or_else}
 use Rattle.x7_engine.specs.Watching.{first_firing}
 use Rattle.x7_engine.proofs.ClockLemmas.{firing_more}
 use Rattle.x7_engine.proofs.StateLemmas.{firing_within}

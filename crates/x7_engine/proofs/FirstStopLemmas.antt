@@ -14,7 +14,7 @@ use Rattle.x7_engine.specs.declared.stop.Stop.{Stop}
 use Rattle.x7_engine.specs.declared.stop.Stop.TheVariants as stop
 use Rattle.x7_engine.specs.FirstStop.{IsFirstStop, why_at_byte, why_at_newest}
 use Rattle.x7_engine.specs.State.{stop_in}
-use Rattle.x7_engine.specs.Stops.{Stopped, why_at, or_else, stop_of, stopped_at, stopped_by_watchdog}
+use Rattle.x7_engine.specs.Stop.{Stopped, why_at, or_else, stop_of, stopped_at, stopped_by_watchdog}
 use Rattle.x7_engine.specs.Watching.{fired_or, fires, first_firing}
 use Rattle.x7_engine.proofs.ClockLemmas.{stop_more_bytes, or_none}
 use Rattle.x7_engine.proofs.TurnLemmas.{newest_within}

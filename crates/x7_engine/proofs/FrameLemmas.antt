@@ -13,7 +13,7 @@ use Rattle.x7_regs.specs.declared.register.Reg.TheVariants as reg
 use Rattle.x7_regs.specs.Command.{command_by}
 use Rattle.x7_pipeline.specs.declared.fault.RunFault.{RunFault}
 use Rattle.x7_pipeline.specs.declared.fault.RunFault.TheVariants.{Address, Multi, Overrun}
-use Rattle.x7_flow.specs.Asked.{Copies, Load, Order, Other, Word}
+use Rattle.x7_flow.specs.Asking.{Copies, Load, Order, Other, Word}
 use Rattle.x7_flow.specs.Controls.{is_matched, same_idcode}
 use Rattle.x7_flow.specs.FrameAccess.{reads_frame_data}
 use Rattle.x7_flow.specs.Settings.{settings_of, takes_copies, takes_frames}
@@ -33,8 +33,8 @@ use Rattle.x7_engine.specs.declared.stop.Stop.{Stop}
 use Rattle.x7_engine.specs.declared.stop.Stop.TheVariants as stop
 use Rattle.x7_engine.specs.Kept.{is_fallback}
 use Rattle.x7_engine.specs.Standing.{FramesAre, due_count, frames_among, frames_due, frames_history, is_refusal, older, words_left}
-use Rattle.x7_engine.specs.Stops.{why_by_access, asks_decryption, why_by_frames, why_at, needs_match, or_else, stop_by, why_by_write}
-use Rattle.x7_engine.specs.Values.{register_value, value_owing}
+use Rattle.x7_engine.specs.Stop.{why_by_access, asks_decryption, why_by_frames, why_at, needs_match, or_else, stop_by, why_by_write}
+use Rattle.x7_engine.specs.Value.{register_value, value_owing}
 use Rattle.x7_engine.proofs.PlainLemmas.{IsPlain, plain_asks}
 
 -- ---- the history that the frames stand for

@@ -5,13 +5,13 @@ use Rattle.x7_packets.specs.History.{History, history_of}
 use Rattle.x7_packets.specs.SyncWord.{HasNoSync}
 use Rattle.x7_packets.proofs.AppendedLemmas.{nothing_read}
 use Rattle.x7_part.specs.Part.{PartData}
-use Rattle.x7_startup.specs.Calls.{NotBegun}
+use Rattle.x7_startup.specs.Startup.{NotBegun}
 use Rattle.x7_startup.proofs.CallLemmas.{progress_bytes}
 use Rattle.x7_engine.specs.declared.kept.Kept.{Kept}
 use Rattle.x7_engine.specs.Kept.{is_fallback}
 use Rattle.x7_engine.specs.Startup.{phase_by, startup_progress}
 use Rattle.x7_engine.specs.State.{history_by, history_taken, state_of, stop_in, taken_of}
-use Rattle.x7_engine.specs.Stops.{Stopped, stop_of}
+use Rattle.x7_engine.specs.Stop.{Stopped, stop_of}
 use Rattle.x7_engine.proofs.FallbackLemmas.{fallback_off}
 use Rattle.x7_engine.proofs.RestLemmas.{stop_on}
 

@@ -4,7 +4,7 @@ use Rattle.std.proofs.Math.Seq.{take-add}
 use Rattle.std.proofs.lemmas.List.{drop-drop}
 use Rattle.x7_words.specs.Word.{AreBytes}
 use Rattle.x7_words.proofs.ListLemmas.{all_prefix}
-use Rattle.x7_packets.specs.Cutting.{CutterState, CutterStandsFor, between}
+use Rattle.x7_packets.specs.Cutter.{CutterState, CutterStandsFor, between}
 use Rattle.x7_packets.specs.History.{History, Placed, history_of, until}
 use Rattle.x7_packets.specs.Nops.{Idles}
 use Rattle.x7_packets.specs.Reading.{Place, Session}
@@ -17,8 +17,8 @@ use Rattle.x7_engine.specs.declared.stop.Stop.{Stop}
 use Rattle.x7_engine.specs.declared.stop.Stop.TheVariants as stop
 use Rattle.x7_engine.specs.Standing.{DeviceStandsFor, DeviceState, IsCutterOf, RegistersStandFor, counted_in, due_count, reads_given}
 use Rattle.x7_engine.specs.State.{history_by, history_taken, reads_of, stop_in}
-use Rattle.x7_engine.specs.Stops.{stop_of, stopped_at}
-use Rattle.x7_engine.specs.Values.{read_out}
+use Rattle.x7_engine.specs.Stop.{stop_of, stopped_at}
+use Rattle.x7_engine.specs.Value.{read_out}
 use Rattle.x7_engine.proofs.DeviceLemmas.{going_taken, given_by}
 use Rattle.x7_engine.proofs.FrameLemmas.{none_due}
 use Rattle.x7_engine.proofs.TurnLemmas.{history_until, no_rest, quiet_until}

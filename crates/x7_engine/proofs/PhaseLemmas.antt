@@ -6,8 +6,8 @@ use Rattle.x7_words.proofs.ListLemmas.{all_prefix}
 use Rattle.x7_packets.specs.History.{Access, History, entry, executes, history_of, last_word, Placed}
 use Rattle.x7_packets.proofs.GrowthLemmas.{byte_enters, placed_of}
 use Rattle.x7_part.specs.Part.{PartData}
-use Rattle.x7_startup.specs.Arrivals.{arrival, IsPhase, wait_of}
-use Rattle.x7_startup.specs.Calls.{Call, Arm, Byte, Desync, DropBack, StartupProgress, NotBegun, Begun, is_armed, progress_of, since_taking}
+use Rattle.x7_startup.specs.Phases.{arrival, IsPhase, wait_of}
+use Rattle.x7_startup.specs.Startup.{Call, Arm, Byte, Desync, DropBack, StartupProgress, NotBegun, Begun, is_armed, progress_of, since_taking}
 use Rattle.x7_startup.proofs.CallLemmas.{first_place, further, progress_arm, progress_bytes, progress_desync, progress_drop}
 use Rattle.x7_startup.proofs.PhaseLemmas.{arrival_grows, phase_first}
 use Rattle.x7_engine.specs.Registers.{takes_shutdown}

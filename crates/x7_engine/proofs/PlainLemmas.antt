@@ -7,14 +7,14 @@ use Rattle.std.specs.List.{slice_get}
 use Rattle.x7_words.specs.Word.{word_of_bytes, words_of_bytes}
 use Rattle.x7_packets.specs.History.{Access, History, Placed, Write, command_held, entered_all, entry, executed_by, until}
 use Rattle.x7_packets.specs.Packet.{payload_steps}
-use Rattle.x7_packets.specs.RunningCheck.{clears}
+use Rattle.x7_packets.specs.CheckedWrites.{clears}
 use Rattle.x7_packets.proofs.GrowthLemmas.{placed_within, until_placed}
 use Rattle.x7_packets.proofs.HistoryLemmas.{kept_all}
 use Rattle.x7_part.specs.Part.{PartData}
-use Rattle.x7_startup.specs.Calls.{StandsFor, progress_of}
-use Rattle.x7_startup.specs.Calls as call
-use Rattle.x7_startup.specs.Count.{Watched, WatchesFor, watched_count, is_on, timer_value_of}
-use Rattle.x7_flow.specs.Asked.{Asked, Other}
+use Rattle.x7_startup.specs.Startup.{StandsFor, progress_of}
+use Rattle.x7_startup.specs.Startup as call
+use Rattle.x7_startup.specs.Watchdog.{Watched, WatchesFor, watched_count, is_on, timer_value_of}
+use Rattle.x7_flow.specs.Asking.{Asked, Other}
 use Rattle.x7_flow.specs.Flow.{asks, fault_by, flow_of, frame_fault}
 use Rattle.x7_engine.specs.declared.fault.Fault.TheVariants as fault
 use Rattle.x7_engine.specs.declared.kept.Kept.{Kept}
@@ -27,7 +27,7 @@ use Rattle.x7_engine.specs.Registers.{ghigh_after, has_effect, has_ghigh, clears
 use Rattle.x7_engine.specs.Standing.{AreControls, ControlsState, counted_in}
 use Rattle.x7_engine.specs.Startup.{has_ended, phase_by, startup_call, startup_calls}
 use Rattle.x7_engine.specs.State.{last_counted}
-use Rattle.x7_engine.specs.Stops.{why_by_access, why_by_frames, why_at, or_else, stop_of, stopped_at, stopped_by_watchdog}
+use Rattle.x7_engine.specs.Stop.{why_by_access, why_by_frames, why_at, or_else, stop_of, stopped_at, stopped_by_watchdog}
 use Rattle.x7_engine.specs.Watching.{fired_or, fires, first_firing, timer_held, watch_call, watch_calls, watched_bytes}
 use Rattle.x7_engine.proofs.ClockLemmas.{startup_entered, startup_more, stop_more_bytes, watch_entered, watch_more}
 use Rattle.x7_engine.proofs.TurnLemmas.{prefix_until, newest_within}

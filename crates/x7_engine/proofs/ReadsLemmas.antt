@@ -10,8 +10,8 @@ use Rattle.x7_part.specs.Part.{PartData}
 use Rattle.x7_engine.specs.declared.kept.Kept.{Kept}
 use Rattle.x7_engine.specs.declared.stop.Stop.{Stop}
 use Rattle.x7_engine.specs.State.{history_by, history_taken, last_counted, reads_of, stop_in}
-use Rattle.x7_engine.specs.Stops.{Stopped, why_at, or_else, stop_of, stopped_at, stopped_by_watchdog}
-use Rattle.x7_engine.specs.Values.{answer_of, read_out}
+use Rattle.x7_engine.specs.Stop.{Stopped, why_at, or_else, stop_of, stopped_at, stopped_by_watchdog}
+use Rattle.x7_engine.specs.Value.{answer_of, read_out}
 use Rattle.x7_engine.specs.Watching.{fired_or, fires, first_firing}
 use Rattle.x7_engine.proofs.StateLemmas.{stop_is_final_reads, parts_none, counted_most}
 

@@ -10,8 +10,8 @@ use Rattle.x7_packets.proofs.ByHandLemmas.{reading_is, reading_is_found}
 use Rattle.x7_packets.proofs.GrowthLemmas.{placed_of}
 use Rattle.x7_packets.proofs.HistoryLemmas.{history_is}
 use Rattle.x7_part.specs.Part.{PartData}
-use Rattle.x7_startup.specs.Calls.{NotBegun, progress_of}
-use Rattle.x7_startup.specs.Count.{cfg_mon_of, is_on, timer_value_of}
+use Rattle.x7_startup.specs.Startup.{NotBegun, progress_of}
+use Rattle.x7_startup.specs.Watchdog.{cfg_mon_of, is_on, timer_value_of}
 use Rattle.x7_startup.proofs.CallLemmas.{further, progress_bytes}
 use Rattle.x7_engine.specs.declared.kept.Kept.{Kept}
 use Rattle.x7_engine.specs.Clock.{newest_place}
@@ -21,7 +21,7 @@ use Rattle.x7_engine.specs.Registers.{is_pending}
 use Rattle.x7_engine.specs.Rest.{AtRest, LastGapGoesOn}
 use Rattle.x7_engine.specs.Startup.{has_ended, phase_of, startup_calls, startup_progress}
 use Rattle.x7_flow.specs.Controls.{forbids_reading}
-use Rattle.x7_engine.specs.Stops.{Stopped, or_else, stop_of, stopped_by_watchdog}
+use Rattle.x7_engine.specs.Stop.{Stopped, or_else, stop_of, stopped_by_watchdog}
 use Rattle.x7_engine.specs.Watching.{first_firing, timer_held, turns_on}
 use Rattle.x7_engine.proofs.ClockLemmas.{last_of, none_fires, phase_rises, startup_more, stop_more_bytes}
 use Rattle.x7_engine.proofs.SequenceLemmas.{and_false}

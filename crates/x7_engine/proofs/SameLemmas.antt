@@ -1,9 +1,9 @@
 -- Histories that differ in what was asked before RCRC: from there on they ask the same of a device.
 use Rattle.std.proofs.Common.{◌≡◌, ◌==◌, ◌&&◌, ◌||◌, ◌%◌, ◌^◌, ◌-◌, ◌≤◌, ◌⊎◌, inl, inr, ℕ, Bool, true, false, if◌then◌else◌, Option, None, List, [], ◌∷◌, ◌++◌, replicate, refl, ap, sym, subst, ◌∙◌, append_assoc, append-nil}
 use Rattle.x7_packets.specs.History.{Access, Entry, History, Write, command_held, entry, executed_by, executes, is_command, last_word, written, writes}
-use Rattle.x7_packets.specs.RunningCheck.{RegisterWrite, clears, open_writes, with_write}
+use Rattle.x7_packets.specs.CheckedWrites.{RegisterWrite, clears, open_writes, with_write}
 use Rattle.x7_crc.specs.OpenWrites.{in_order, running_check}
-use Rattle.x7_crc.specs.RunningCheck.{check_of}
+use Rattle.x7_crc.specs.Check.{check_of}
 use Rattle.x7_part.specs.Part.{PartData}
 use Rattle.x7_pipeline.specs.Copies.{source_after}
 use Rattle.x7_pipeline.specs.FarAsRead.{far_of}
@@ -11,8 +11,8 @@ use Rattle.x7_pipeline.specs.Runs.{put_over}
 use Rattle.x7_pipeline.proofs.LawLemmas.{far_loaded, no_source}
 use Rattle.x7_regs.specs.Command.{command_by}
 use Rattle.x7_regs.specs.declared.command.Command.{Command}
-use Rattle.x7_startup.specs.Calls.{Call, NotBegun, StartupProgress, is_armed, progress_of, since_taking}
-use Rattle.x7_startup.specs.Calls as call
+use Rattle.x7_startup.specs.Startup.{Call, NotBegun, StartupProgress, is_armed, progress_of, since_taking}
+use Rattle.x7_startup.specs.Startup as call
 use Rattle.x7_startup.proofs.CallLemmas.{first_place, further, is_armed_arm, is_armed_bytes, is_armed_desync, is_armed_drop, progress_arm, progress_bytes, progress_desync, progress_drop}
 use Rattle.x7_flow.specs.Controls.{ctl0_held, is_matched, mask_held, masked_word, names_part}
 use Rattle.x7_flow.specs.Flow.{Flow, asked_under, asks, fault_by, flow_by, flow_of, frame_fault}

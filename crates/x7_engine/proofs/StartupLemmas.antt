@@ -3,8 +3,8 @@ use Rattle.std.proofs.Common.{◌≡◌, ◌/◌, ◌<◌, ◌≤◌, ◌⊎◌,
 use Rattle.std.proofs.lemmas.Bool.Decides.{nat_tests}
 use Rattle.std.specs.Prelude.{nat_le}
 use Rattle.x7_part.specs.Part.{PartData}
-use Rattle.x7_startup.specs.Arrivals.{IsPhase, arrival, wait_of}
-use Rattle.x7_startup.specs.Calls.{Begun, IsPhaseOf, NotBegun, StartupProgress}
+use Rattle.x7_startup.specs.Phases.{IsPhase, arrival, wait_of}
+use Rattle.x7_startup.specs.Startup.{Begun, IsPhaseOf, NotBegun, StartupProgress}
 use Rattle.x7_engine.specs.Startup.{greatest_begun, phase_at, phase_by}
 
 -- ---- the phase is the greatest that has begun

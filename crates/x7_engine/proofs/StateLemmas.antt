@@ -18,9 +18,9 @@ use Rattle.x7_flow.specs.Flow.{Flow, far_in, flow_of}
 use Rattle.x7_flow.specs.FrameMemory.{memory_of}
 use Rattle.x7_flow.proofs.StandingLemmas.{no_less}
 use Rattle.x7_engine.specs.State.{history_by, history_taken, last_counted, why_of, reads_of, state_by, state_of, stop_in, taken_by, taken_of, memory_in, state_owing}
-use Rattle.x7_engine.specs.Stops.{Stopped, why_at, or_else, stop_of, stopped_at, stopped_by_watchdog}
+use Rattle.x7_engine.specs.Stop.{Stopped, why_at, or_else, stop_of, stopped_at, stopped_by_watchdog}
 use Rattle.x7_engine.specs.Watching.{fired_or, fires, first_firing}
-use Rattle.x7_engine.specs.Values.{read_out}
+use Rattle.x7_engine.specs.Value.{read_out}
 
 why_at_end : (n : ℕ) (d : Option Stop) → why_of (stopped_at n d) ≡ d
 why_at_end n None = refl

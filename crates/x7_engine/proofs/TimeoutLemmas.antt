@@ -4,7 +4,7 @@ use Rattle.x7_words.specs.Word.{AreBytes}
 use Rattle.x7_packets.specs.History.{Access, Bad, History, Placed, Read, Write, executes, history_of}
 use Rattle.x7_packets.proofs.GrowthLemmas.{OneMore}
 use Rattle.x7_part.specs.Part.{PartData}
-use Rattle.x7_startup.specs.Count.{Load, Reload, WatchCall, watched_count, is_on, timer_value_of}
+use Rattle.x7_startup.specs.Watchdog.{Load, Reload, WatchCall, watched_count, is_on, timer_value_of}
 use Rattle.x7_startup.proofs.CountLemmas.{count_loaded, count_watched}
 use Rattle.x7_engine.specs.declared.kept.Kept.{Kept}
 use Rattle.x7_engine.specs.Kept.{is_fallback}

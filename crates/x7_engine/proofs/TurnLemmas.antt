@@ -20,8 +20,8 @@ use Rattle.x7_engine.specs.declared.stop.Stop.TheVariants as stop
 use Rattle.x7_engine.specs.Clock.{ClockState, Ticks, newest_place}
 use Rattle.x7_engine.specs.Standing.{FramesAre, IsNextAccess, RegistersStandFor, RegistersState, counted_in, frames_due}
 use Rattle.x7_engine.specs.State.{history_by, last_counted}
-use Rattle.x7_engine.specs.Stops.{Stopped, why_at, or_else, stop_of, stopped_at, stopped_by_watchdog}
-use Rattle.x7_engine.specs.Values.{read_out}
+use Rattle.x7_engine.specs.Stop.{Stopped, why_at, or_else, stop_of, stopped_at, stopped_by_watchdog}
+use Rattle.x7_engine.specs.Value.{read_out}
 use Rattle.x7_engine.specs.Watching.{first_firing}
 use Rattle.x7_engine.proofs.ClockLemmas.{firing_more, stop_more_bytes}
 use Rattle.x7_engine.proofs.StateLemmas.{firing_within, counted_least}

@@ -10,7 +10,7 @@ use Rattle.x7_part.specs.Part.{PartData}
 use Rattle.x7_memory.specs.FrameMap.{AreSame}
 use Rattle.x7_memory.specs.Frames.{frame_at}
 use Rattle.x7_flow.specs.FrameMemory.{memory_of}
-use Rattle.x7_flow.specs.Saving.{FramesBack, KeepsFrames}
+use Rattle.x7_flow.specs.Saved.{FramesBack, KeepsFrames}
 use Rattle.x7_flow.specs.Standing.{FramesFit, FramesStandFor}
 use Rattle.x7_flow.proofs.SavingLemmas.{back_one, back_same}
 use Rattle.x7_engine.specs.declared.fed.Fed.{Fed}
@@ -21,7 +21,7 @@ use Rattle.x7_engine.specs.ReadBuffer.{IsFullBy, ReadBufState, with_words}
 use Rattle.x7_engine.specs.Past.{Answers, Past}
 use Rattle.x7_engine.specs.Standing.{DeviceState, DeviceStandsFor, NoWordDue, frames_due}
 use Rattle.x7_engine.specs.State.{history_by, history_taken, last_counted, memory_in, stop_in}
-use Rattle.x7_engine.specs.Stops.{Stopped, stopped_at}
+use Rattle.x7_engine.specs.Stop.{Stopped, stopped_at}
 use Rattle.x7_engine.specs.Undo.{Back, KeepsDevice, UndoState, dropping}
 use Rattle.x7_engine.proofs.DeviceLemmas.{going_taken}
 use Rattle.x7_engine.proofs.FrameLemmas.{frames_of, goes_on, none_frames}

@@ -10,14 +10,14 @@ use Rattle.x7_words.proofs.ListLemmas.{all_prefix}
 use Rattle.x7_packets.specs.declared.cutter.Cut.{Cut}
 use Rattle.x7_packets.specs.declared.cutter.Cut.TheVariants.{Body, Head, Need, Skip, Sync, Word}
 use Rattle.x7_packets.specs.declared.header.Step.TheVariants as step
-use Rattle.x7_packets.specs.Cutting.{CutterState, CutterStandsFor, IsLent, IsRun, AfterRun, between, run_steps}
+use Rattle.x7_packets.specs.Cutter.{CutterState, CutterStandsFor, IsLent, IsRun, AfterRun, between, run_steps}
 use Rattle.x7_packets.specs.History.{Access, Bad, History, Placed, Read, Write, command_held, entered_all, entry, executes, history_of, is_command, last_word, next_word, until, writes}
 use Rattle.x7_packets.specs.Packet.{payload_steps}
 use Rattle.x7_packets.specs.Reading.{Place, Session}
 use Rattle.x7_packets.proofs.GrowthLemmas.{prefix_of, placed_of, placed_within, until_placed}
 use Rattle.x7_packets.proofs.HistoryLemmas.{cut_enters, kept_all, next_word_is}
 use Rattle.x7_part.specs.Part.{PartData}
-use Rattle.x7_startup.specs.Calls.{Call, Arm, Desync, DropBack, StartupProgress, NotBegun, Begun, StandsFor, cor0_of, progress_of}
+use Rattle.x7_startup.specs.Startup.{Call, Arm, Desync, DropBack, StartupProgress, NotBegun, Begun, StandsFor, cor0_of, progress_of}
 use Rattle.x7_startup.proofs.CallLemmas.{further, progress_arm, progress_bytes, progress_drop}
 use Rattle.x7_engine.specs.declared.fed.Fed.{Fed}
 use Rattle.x7_engine.specs.declared.kept.Kept.{Kept}
@@ -31,7 +31,7 @@ use Rattle.x7_engine.specs.Past.{Answers, AnswersUntil, Past, StaysAtZero, past_
 use Rattle.x7_engine.specs.Standing.{DeviceStandsFor, DeviceState, EndsWords, NoWordDue, taken_in}
 use Rattle.x7_engine.specs.Startup.{phase_by, phase_of, startup_call, startup_calls, startup_progress}
 use Rattle.x7_engine.specs.State.{history_by, history_taken, state_of, stop_in, taken_by, taken_of}
-use Rattle.x7_engine.specs.Stops.{Stopped, stopped_at}
+use Rattle.x7_engine.specs.Stop.{Stopped, stopped_at}
 use Rattle.x7_engine.specs.UntilStarted.{AreOtherWrites, CommandsLast, HasNotBegun, IsOtherWrite, NoneStarted, has_started, says_started, taken_until}
 use Rattle.x7_engine.proofs.ClockLemmas.{last_of}
 use Rattle.x7_engine.proofs.DeviceLemmas.{ends_words, length_between}

@@ -2,17 +2,17 @@
 use Rattle.std.proofs.Common.{◌≡◌, ◌+◌, ◌-◌, ◌<◌, ◌≤◌, inl, inr, ℕ, Bool, Option, None, Some, List, [], ◌∷◌, ◌++◌, length, take, drop, refl, ap, sym, subst, ◌∙◌, append_assoc, append-nil, arith}
 use Rattle.std.proofs.lemmas.Bool.{cases_lt}
 use Rattle.std.proofs.lemmas.List.{length-append, length-drop, take-append-drop, take-take}
-use Rattle.x7_packets.specs.Cutting.{between}
+use Rattle.x7_packets.specs.Cutter.{between}
 use Rattle.x7_packets.specs.History.{Access, Bad, History, Read, Write, history_of}
 use Rattle.x7_part.specs.Part.{PartData}
 use Rattle.x7_engine.specs.ReadBuffer.{HasRoomBy, HasRoomForWords, HoldsWithinMost, ReadBufState, gathered, with_words}
 use Rattle.x7_engine.specs.declared.kept.Kept.{Kept}
 use Rattle.x7_engine.specs.Standing.{DeviceStandsFor, DeviceState, NoWordDue, reads_given}
 use Rattle.x7_engine.specs.State.{history_by, reads_of, stop_in}
-use Rattle.x7_engine.specs.Stops.{Stopped, stopped_at}
+use Rattle.x7_engine.specs.Stop.{Stopped, stopped_at}
 use Rattle.x7_engine.specs.UntilRead.{RoomBefore}
 use Rattle.x7_engine.specs.UntilStarted.{AreOtherWrites, CommandsLast, IsOtherWrite}
-use Rattle.x7_engine.specs.Values.{answer_of, read_out}
+use Rattle.x7_engine.specs.Value.{answer_of, read_out}
 use Rattle.x7_engine.proofs.DeviceLemmas.{length_between}
 use Rattle.x7_engine.proofs.FeedLemmas.{taken_more, given_all}
 use Rattle.x7_engine.proofs.UntilLemmas.{going_before}

@@ -6,7 +6,7 @@ use Rattle.x7_packets.specs.PacketWords.{type1_write}
 use Rattle.x7_packets.specs.declared.cutter.Cut.TheVariants as run
 use Rattle.x7_packets.specs.declared.header.Step.TheVariants as step
 use Rattle.x7_packets.specs.AtOnce.{WritesOne}
-use Rattle.x7_packets.specs.Cutting.{CutterState, CutterStandsFor, AfterRun, between}
+use Rattle.x7_packets.specs.Cutter.{CutterState, CutterStandsFor, AfterRun, between}
 use Rattle.x7_packets.specs.History.{History, Placed, Write, entry, history_of, next_word, until}
 use Rattle.x7_packets.specs.Reading.{Place, Searching, Session, Synced}
 use Rattle.x7_packets.proofs.GrowthLemmas.{prefix_of, until_placed}
@@ -15,9 +15,9 @@ use Rattle.x7_part.specs.Part.{PartData}
 use Rattle.x7_engine.specs.declared.kept.Kept.{Kept}
 use Rattle.x7_engine.specs.Standing.{DeviceStandsFor, DeviceState, IsCutterOf, IsNextAccess, RegistersStandFor, counted_in, due_count}
 use Rattle.x7_engine.specs.State.{history_by, history_taken, reads_of, stop_in}
-use Rattle.x7_engine.specs.Stops.{stop_of, stopped_at}
+use Rattle.x7_engine.specs.Stop.{stop_of, stopped_at}
 use Rattle.x7_engine.specs.UntilStarted.{CommandsLast}
-use Rattle.x7_engine.specs.Values.{read_out}
+use Rattle.x7_engine.specs.Value.{read_out}
 use Rattle.x7_engine.proofs.ClockLemmas.{idle_ticks}
 use Rattle.x7_engine.proofs.DeviceLemmas.{going_taken, one_word_ends}
 use Rattle.x7_engine.proofs.FrameLemmas.{none_due}

@@ -5,9 +5,9 @@ use Rattle.x7_packets.specs.History.{Access, Entry, History, is_command}
 use Rattle.x7_part.specs.Part.{PartData}
 use Rattle.x7_regs.specs.declared.command.Command.TheVariants.{Desync, Ltimer, Start}
 use Rattle.x7_regs.specs.Command.{code_of}
-use Rattle.x7_startup.specs.Calls.{Call, StandsFor, Stored}
-use Rattle.x7_startup.specs.Calls as call
-use Rattle.x7_startup.specs.Count.{Reload, Watch, WatchCall, WatchesFor}
+use Rattle.x7_startup.specs.Startup.{Call, StandsFor, Stored}
+use Rattle.x7_startup.specs.Startup as call
+use Rattle.x7_startup.specs.Watchdog.{Reload, Watch, WatchCall, WatchesFor}
 use Rattle.x7_engine.specs.declared.clock.Clock.{Clock}
 use Rattle.x7_engine.specs.declared.kept.Kept.{Kept}
 use Rattle.x7_engine.specs.Kept.{is_fallback}

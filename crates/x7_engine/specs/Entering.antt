@@ -2,7 +2,7 @@
 -- (this project's choice).
 use Rattle.std.specs.Prelude.{◌≡◌, ℕ, ◌+◌, ◌∷◌, ◌++◌, List}
 use Rattle.x7_words.specs.Word.{words_of_bytes}
-use Rattle.x7_packets.specs.Cutting.{run_steps}
+use Rattle.x7_packets.specs.Cutter.{run_steps}
 use Rattle.x7_packets.specs.declared.cutter.Cut.{Cut}
 use Rattle.x7_packets.specs.History.{Entry, History, Read, Write, entered, entered_all, entry, until}
 use Rattle.x7_packets.specs.Packet.{payload_steps}
@@ -12,7 +12,7 @@ use Rattle.x7_engine.specs.declared.due.Due.{Due}
 use Rattle.x7_engine.specs.declared.kept.Kept.{Kept}
 use Rattle.x7_engine.specs.declared.registers.Registers.{Registers}
 use Rattle.x7_engine.specs.Standing.{EndsWords, IsNextAccess, RegistersStandFor, RegistersState, counted_in, registers_in, words_left}
-use Rattle.x7_engine.specs.Values.{answer_of, read_out}
+use Rattle.x7_engine.specs.Value.{answer_of, read_out}
 
 -- what holds of what the registers stand for: what the reset kept, the history, and the number of bytes
 abbrev pub OfHistory : PartData → RegistersState → (Kept → History → ℕ → Type 0) → Type 0

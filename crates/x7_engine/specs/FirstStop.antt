@@ -7,7 +7,7 @@ use Rattle.x7_engine.specs.declared.fault.Fault.TheVariants as fault
 use Rattle.x7_engine.specs.declared.kept.Kept.{Kept}
 use Rattle.x7_engine.specs.declared.stop.Stop.{Stop}
 use Rattle.x7_engine.specs.declared.stop.Stop.TheVariants as stop
-use Rattle.x7_engine.specs.Stops.{Stopped, why_at}
+use Rattle.x7_engine.specs.Stop.{Stopped, why_at}
 use Rattle.x7_engine.specs.Watching.{fires}
 
 -- why the newest access stops a device, where it ends at byte n

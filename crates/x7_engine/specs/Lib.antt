@@ -2,7 +2,7 @@ pub mod Checked
 pub mod Clock
 pub mod Course
 pub mod Entering
-pub mod Fields
+pub mod DeviceFields
 pub mod FirstStop
 pub mod Kept
 pub mod Past
@@ -17,12 +17,12 @@ pub mod Since
 pub mod Standing
 pub mod Startup
 pub mod State
-pub mod Stops
+pub mod Stop
 pub mod Taken
 pub mod Targets
 pub mod Timeout
 pub mod Turns
-pub mod Values
+pub mod Value
 pub mod Watching
 pub mod Undo
 pub mod UntilRead

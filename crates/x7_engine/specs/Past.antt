@@ -9,7 +9,7 @@ use Rattle.x7_regs.specs.declared.boot_status.Kind.TheVariants.{Bench}
 use Rattle.x7_memory.specs.FrameMap.{FrameMap}
 use Rattle.x7_part.specs.Part.{PartData}
 use Rattle.x7_engine.specs.Checked.{StandsIn}
-use Rattle.x7_engine.specs.Values.{failure_of}
+use Rattle.x7_engine.specs.Value.{failure_of}
 use Rattle.x7_engine.specs.declared.fault.Fault.{Fault}
 use Rattle.x7_engine.specs.declared.fed.Fed.{Fed}
 use Rattle.x7_engine.specs.declared.fed.Fed.TheVariants as fed
@@ -21,7 +21,7 @@ use Rattle.x7_engine.specs.declared.until_started.UntilStarted.TheVariants as un
 use Rattle.x7_engine.specs.ReadBuffer.{IsFull, ReadBufState, with_words}
 use Rattle.x7_engine.specs.Standing.{DeviceStandsFor, DeviceState, NoWordDue, due_count, due_of, taken_in, reads_given}
 use Rattle.x7_engine.specs.State.{history_taken, why_of, memory_in, reads_of, state_of, stop_in, taken_of}
-use Rattle.x7_engine.specs.Stops.{Stopped, stop_fault}
+use Rattle.x7_engine.specs.Stop.{Stopped, stop_fault}
 use Rattle.x7_engine.specs.UntilStarted.{has_started, taken_until}
 
 -- a past: the part, what the last reset kept, whether the flash has ended since then, and the bytes taken since then

@@ -5,7 +5,7 @@ use Rattle.x7_packets.specs.History.{history_of}
 use Rattle.x7_packets.specs.Reading.{Searching, is_synced}
 use Rattle.x7_packets.specs.SyncWord.{HasNoSync}
 use Rattle.x7_part.specs.Part.{PartData}
-use Rattle.x7_startup.specs.Calls.{NotBegun}
+use Rattle.x7_startup.specs.Startup.{NotBegun}
 use Rattle.x7_engine.specs.declared.kept.Kept.{Kept}
 use Rattle.x7_engine.specs.Kept.{is_fallback}
 use Rattle.x7_flow.specs.Controls.{ctl0_held}

@@ -2,7 +2,7 @@
 -- choice).
 use Rattle.std.specs.Prelude.{◌≡◌, ℕ, ◌<◌, ◌≤◌, ◌==◌, ◌+◌, ◌++◌, ◌-◌, ◌^◌, min, Bool, true, false, if◌then◌else◌, take, List, [], ◌∷◌, length, slice_index, Option, None, Some, IsSome, replicate}
 use Rattle.x7_words.specs.Word.{AreBytes}
-use Rattle.x7_packets.specs.Cutting.{CutterState, CutterStandsFor}
+use Rattle.x7_packets.specs.Cutter.{CutterState, CutterStandsFor}
 use Rattle.x7_packets.specs.declared.cutter.Cut.{Cut}
 use Rattle.x7_packets.specs.declared.cutter.Cut.TheVariants.{Body, Head, Need, Skip, Sync, Word}
 use Rattle.x7_packets.specs.declared.header.Step.{Step}
@@ -36,8 +36,8 @@ use Rattle.x7_flow.specs.Controls.{is_matched, masked}
 use Rattle.x7_flow.specs.FrameAccess.{reads_frame_data}
 use Rattle.x7_engine.specs.Registers.{has_ghigh, is_pending, word_held, wrote_iprog}
 use Rattle.x7_engine.specs.State.{reads_of, history_taken, last_counted, stop_in}
-use Rattle.x7_engine.specs.Stops.{stop_fault, stop_of, stopped_at}
-use Rattle.x7_engine.specs.Values.{failure_of}
+use Rattle.x7_engine.specs.Stop.{stop_fault, stop_of, stopped_at}
+use Rattle.x7_engine.specs.Value.{failure_of}
 
 -- the stored registers under MASK: CTL0 and CTL1
 pub record ControlsState : Type 0 where

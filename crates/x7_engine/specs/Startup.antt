@@ -6,9 +6,9 @@ use Rattle.x7_regs.specs.declared.command.Command.TheVariants.{Desync, Start}
 use Rattle.x7_regs.specs.declared.register.Reg.TheVariants.{Cor0}
 use Rattle.x7_regs.specs.Command.{code_of}
 use Rattle.x7_regs.specs.Register.{number_of}
-use Rattle.x7_startup.specs.Arrivals.{arrival, wait_of}
-use Rattle.x7_startup.specs.Calls.{Call, StartupProgress, NotBegun, Begun, progress_of}
-use Rattle.x7_startup.specs.Calls as call
+use Rattle.x7_startup.specs.Phases.{arrival, wait_of}
+use Rattle.x7_startup.specs.Startup.{Call, StartupProgress, NotBegun, Begun, progress_of}
+use Rattle.x7_startup.specs.Startup as call
 use Rattle.x7_engine.specs.Registers.{takes_shutdown}
 
 -- what an access after this history asks of startup

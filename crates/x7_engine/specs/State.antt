@@ -22,8 +22,8 @@ use Rattle.x7_engine.specs.declared.stop.Stop.{Stop}
 use Rattle.x7_engine.specs.declared.stop.Stop.TheVariants as stop
 use Rattle.x7_engine.specs.Registers.{word_held}
 use Rattle.x7_engine.specs.Startup.{phase_by, startup_progress}
-use Rattle.x7_engine.specs.Stops.{Stopped, stop_fault, stop_of}
-use Rattle.x7_engine.specs.Values.{attempt_of, lines_by, read_out, register_value}
+use Rattle.x7_engine.specs.Stop.{Stopped, stop_fault, stop_of}
+use Rattle.x7_engine.specs.Value.{attempt_of, lines_by, read_out, register_value}
 
 -- the first stop in the bytes, where there is one
 abbrev pub stop_in : PartData → Kept → List ℕ → Option Stopped

@@ -1,6 +1,6 @@
 -- What one turn of a device does over bytes of a piece (this project's choice).
 use Rattle.std.specs.Prelude.{◌≡◌, ℕ, ◌+◌, ◌-◌, ◌^◌, ◌<◌, ◌≤◌, Bool, false, IsTrue, List, length, None}
-use Rattle.x7_packets.specs.Cutting.{between, calls_left}
+use Rattle.x7_packets.specs.Cutter.{between, calls_left}
 use Rattle.x7_engine.specs.Past.{GivesNone, OfPast, TakesJust}
 use Rattle.x7_engine.specs.Standing.{DeviceState, NoWordDue, fed_more, fed_of}
 use Rattle.x7_engine.specs.UntilStarted.{CommandsLast}

@@ -1,12 +1,12 @@
 -- What is kept of a device, so that the next bytes up to four can be taken back (this project's choice).
 use Rattle.std.specs.Prelude.{◌≡◌, ℕ, ◌≤◌, Bool, List, length, Option, None, []}
-use Rattle.x7_packets.specs.Cutting.{CutterState}
+use Rattle.x7_packets.specs.Cutter.{CutterState}
 use Rattle.x7_part.specs.Part.{PartData}
 use Rattle.x7_regs.specs.declared.boot_status.Attempt.{Attempt}
 use Rattle.x7_regs.specs.declared.boot_status.Kind.{Kind}
 use Rattle.x7_memory.specs.Frames.{zero_frames}
-use Rattle.x7_pipeline.specs.Saving.{IsSavedOf, SavedState}
-use Rattle.x7_flow.specs.Saving.{FramesBack, KeepsFrames}
+use Rattle.x7_pipeline.specs.Saved.{IsSavedOf, SavedState}
+use Rattle.x7_flow.specs.Saved.{FramesBack, KeepsFrames}
 use Rattle.x7_flow.specs.Standing.{FramesFit, FramesState, frames_state}
 use Rattle.x7_engine.specs.declared.due.Due.{Due}
 use Rattle.x7_engine.specs.declared.saved.SavedRegisters.{SavedRegisters}

@@ -4,7 +4,7 @@ use Rattle.x7_packets.specs.History.{Access, Bad, History, Read, Write, history_
 use Rattle.x7_part.specs.Part.{PartData}
 use Rattle.x7_regs.specs.declared.register.Reg.TheVariants.{Cmd}
 use Rattle.x7_regs.specs.Register.{number_of}
-use Rattle.x7_startup.specs.Calls.{NotBegun}
+use Rattle.x7_startup.specs.Startup.{NotBegun}
 use Rattle.x7_engine.specs.declared.kept.Kept.{Kept}
 use Rattle.x7_engine.specs.declared.until_started.UntilStarted.{UntilStarted}
 use Rattle.x7_engine.specs.declared.until_started.UntilStarted.TheVariants as until

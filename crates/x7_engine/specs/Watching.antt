@@ -6,7 +6,7 @@ use Rattle.x7_regs.specs.declared.command.Command.TheVariants.{Ltimer}
 use Rattle.x7_regs.specs.declared.register.Reg.TheVariants.{Timer}
 use Rattle.x7_regs.specs.Command.{code_of}
 use Rattle.x7_regs.specs.Register.{number_of}
-use Rattle.x7_startup.specs.Count.{WatchCall, Load, Reload, Watched, cfg_mon_of, watched_count, is_on, timer_value_of}
+use Rattle.x7_startup.specs.Watchdog.{WatchCall, Load, Reload, Watched, cfg_mon_of, watched_count, is_on, timer_value_of}
 use Rattle.x7_engine.specs.declared.kept.Kept.{Kept}
 use Rattle.x7_engine.specs.Kept.{is_fallback}
 use Rattle.x7_engine.specs.Registers.{word_held}

@@ -3,14 +3,14 @@ ghost use Rattle.std.specs.Prelude.{◌≡◌, ◌<◌, ◌≤◌, ◌+◌, ◌+
 ghost use Rattle.x7_packets.specs.History.{History};
 ghost use Rattle.x7_part.specs.Part.{PartData};
 ghost use Rattle.x7_flow.specs.Standing.{word_to, written_to};
-ghost use Rattle.x7_startup.specs.Calls.{Call, StandsFor, ticks_of};
-ghost use Rattle.x7_startup.specs.Count.{WatchCall, WatchesFor};
+ghost use Rattle.x7_startup.specs.Startup.{Call, StandsFor, ticks_of};
+ghost use Rattle.x7_startup.specs.Watchdog.{WatchCall, WatchesFor};
 ghost use Rattle.x7_engine.specs.Clock.{AreEndedAlike, HasEndedBy, TakesEntry, Ticks, TicksOn, newest_place, startup_call_by, watch_call_by};
 ghost use Rattle.x7_engine.specs.Course.{course_at};
 ghost use Rattle.x7_engine.specs.Kept.{is_fallback};
 ghost use Rattle.x7_engine.specs.Registers.{IsWrite};
 ghost use Rattle.x7_engine.specs.Startup.{has_ended, phase_of, startup_calls, startup_progress};
-ghost use Rattle.x7_engine.specs.Values.{lines_by};
+ghost use Rattle.x7_engine.specs.Value.{lines_by};
 ghost use Rattle.x7_engine.specs.Watching.{fires, first_firing};
 ghost use Rattle.x7_engine.specs.declared.kept.Kept.{Kept};
 

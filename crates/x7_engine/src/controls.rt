@@ -3,7 +3,7 @@ ghost use Rattle.std.specs.Prelude.{◌≡◌, ℕ, ◌∷◌, [], ◌==◌};
 ghost use Rattle.x7_packets.specs.History.{entry, History, Write};
 ghost use Rattle.x7_regs.specs.Register.{number_of};
 ghost use Rattle.x7_flow.specs.Controls.{mask_held, masked_word};
-ghost use Rattle.x7_engine.specs.Stops.{has_dec};
+ghost use Rattle.x7_engine.specs.Stop.{has_dec};
 
 use x7_regs::Reg;
 

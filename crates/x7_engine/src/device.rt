@@ -1,6 +1,6 @@
 //! A device.
 ghost use Rattle.std.specs.Prelude.{◌≡◌, ◌≤◌, ◌<◌, ◌+◌, ◌-◌, ◌^◌, ◌++◌, [], false, true, length, IfOk, IsSome, IsTrue, is_some, ◌↔◌, ◌==◌, Option, None, Some};
-ghost use Rattle.x7_packets.specs.Cutting.{between, IsNeed};
+ghost use Rattle.x7_packets.specs.Cutter.{between, IsNeed};
 ghost use Rattle.x7_packets.specs.History.{history_of};
 ghost use Rattle.x7_memory.specs.FrameMap.{AreSame};
 ghost use Rattle.x7_memory.specs.Frames.{AreFramesOf, frame_at};
@@ -10,9 +10,9 @@ ghost use Rattle.x7_engine.specs.Readout.{Gives};
 ghost use Rattle.x7_engine.specs.ReadBuffer.{HoldsWithinMost, IsFull};
 ghost use Rattle.x7_engine.specs.Standing.{DeviceStandsFor, MayWrap, NoWordDue, due_count, fed_by, fed_more, fed_of, frames_due, taken_in, with_wrap};
 ghost use Rattle.x7_engine.specs.State.{attempt_in, end_by, kept_after, why_of, memory_in, state_owing};
-ghost use Rattle.x7_engine.specs.Stops.{stop_fault};
+ghost use Rattle.x7_engine.specs.Stop.{stop_fault};
 ghost use Rattle.x7_engine.specs.Turns.{MayTake, TookTurn, Turned};
-ghost use Rattle.x7_engine.specs.Values.{failure_of};
+ghost use Rattle.x7_engine.specs.Value.{failure_of};
 ghost use Rattle.x7_engine.specs.declared.fault.Fault.{Fault as FaultData};
 ghost use Rattle.x7_engine.specs.Past.{AnswersFor, HasSomePast, OfPast, TakesJust, GivesWordsNext, part_taken, state_at, stop_at, reads_given_at};
 
@@ -54,7 +54,7 @@ pub struct Device {
 
 impl Model for Device {
     ghost use Rattle.x7_engine.specs.Standing.{DeviceState};
-    ghost use Rattle.x7_engine.specs.Fields.{DeviceFits, device_in};
+    ghost use Rattle.x7_engine.specs.DeviceFields.{DeviceFits, device_in};
 
     ghost Value = { DeviceState };
 

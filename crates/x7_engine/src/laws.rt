@@ -6,7 +6,7 @@ ghost use Rattle.x7_packets.specs.History.{Access, AllFit, History, Placed, hist
 ghost use Rattle.x7_packets.specs.SyncWord.{HasNoSync};
 ghost use Rattle.x7_part.specs.Part.{PartData};
 ghost use Rattle.x7_regs.specs.declared.register.Reg.TheVariants.{Crc, Idcode};
-ghost use Rattle.x7_startup.specs.Calls.{Begun, IsPhaseOf};
+ghost use Rattle.x7_startup.specs.Startup.{Begun, IsPhaseOf};
 ghost use Rattle.x7_crc.specs.OpenWrites.{running_check};
 ghost use Rattle.x7_engine.specs.Checked.{HasStarted};
 ghost use Rattle.x7_engine.specs.Kept.{AreFallbacks, is_fallback, on_the_bench, without_kept};
@@ -20,7 +20,7 @@ ghost use Rattle.x7_engine.specs.Sequence.{Begins, HasGhigh, IsPending};
 ghost use Rattle.x7_engine.specs.Standing.{DeviceState, NoWordDue};
 ghost use Rattle.x7_engine.specs.Startup.{phase_of, startup_progress};
 ghost use Rattle.x7_engine.specs.State.{memory_in, reads_of, state_of, stop_in, bootsts_in};
-ghost use Rattle.x7_engine.specs.Stops.{Stopped, why_at};
+ghost use Rattle.x7_engine.specs.Stop.{Stopped, why_at};
 ghost use Rattle.x7_engine.specs.Timeout.{before_byte, fires_at};
 ghost use Rattle.x7_engine.specs.Watching.{fires};
 ghost use Rattle.x7_engine.specs.declared.kept.Kept.{Kept};

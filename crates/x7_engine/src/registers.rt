@@ -1,6 +1,6 @@
 //! The registers of a device, and what an access does to them.
 ghost use Rattle.std.specs.Prelude.{◌≡◌, ◌≤◌, ◌<◌, ◌+◌, ◌*◌, ◌/◌, ◌%◌, ◌&&◌, ℕ, [], true, Option, None, Some, ◌-◌, length};
-ghost use Rattle.x7_packets.specs.Cutting.{IsRun};
+ghost use Rattle.x7_packets.specs.Cutter.{IsRun};
 ghost use Rattle.x7_packets.specs.History.{command_held, entered, History};
 ghost use Rattle.x7_part.specs.Part.{PartData};
 ghost use Rattle.x7_regs.specs.Register.{number_of};
@@ -12,7 +12,7 @@ ghost use Rattle.x7_crc.specs.OpenWrites.{executed_after};
 ghost use Rattle.x7_engine.specs.Ready.{AreReady, LeavesBytes, LeavesDue, RestsAtStop};
 ghost use Rattle.x7_engine.specs.Standing.{counted_in, due_count};
 ghost use Rattle.x7_engine.specs.State.{last_counted};
-ghost use Rattle.x7_engine.specs.Stops.{why_by_access, why_by_frames, or_else, stop_by};
+ghost use Rattle.x7_engine.specs.Stop.{why_by_access, why_by_frames, or_else, stop_by};
 ghost use Rattle.x7_engine.specs.declared.kept.Kept.{Kept as KeptData};
 ghost use Rattle.x7_engine.specs.Taken.{TookFirst, TookWords, TookWrite};
 ghost use Rattle.x7_engine.specs.Targets.{target_number};

@@ -1,8 +1,8 @@
 //! The stored values of registers, kept.
 ghost use Rattle.std.specs.Prelude.{◌≡◌, [], None};
 ghost use Rattle.x7_part.specs.Part.{PartData};
-ghost use Rattle.x7_pipeline.specs.Saving.{IsSavedOf};
-ghost use Rattle.x7_flow.specs.Saving.{FramesBack};
+ghost use Rattle.x7_pipeline.specs.Saved.{IsSavedOf};
+ghost use Rattle.x7_flow.specs.Saved.{FramesBack};
 ghost use Rattle.x7_flow.specs.Standing.{FramesFit, FramesStandFor, FramesState};
 ghost use Rattle.x7_engine.specs.Kept.{on_the_bench};
 ghost use Rattle.x7_engine.specs.Standing.{RegistersStandFor, RegistersState};

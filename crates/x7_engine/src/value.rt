@@ -10,8 +10,8 @@ ghost use Rattle.x7_engine.specs.Kept.{is_fallback};
 ghost use Rattle.x7_engine.specs.Registers.{has_ghigh};
 ghost use Rattle.x7_engine.specs.Standing.{due_count, frames_due};
 ghost use Rattle.x7_engine.specs.Startup.{startup_progress};
-ghost use Rattle.x7_engine.specs.Stops.{stop_fault};
-ghost use Rattle.x7_engine.specs.Values.{attempt_of, failure_of, check_shown, is_crc_fault, is_id_fault, read_value, stat_parts, value_owing};
+ghost use Rattle.x7_engine.specs.Stop.{stop_fault};
+ghost use Rattle.x7_engine.specs.Value.{attempt_of, failure_of, check_shown, is_crc_fault, is_id_fault, read_value, stat_parts, value_owing};
 ghost use Rattle.x7_engine.specs.declared.kept.Kept.{Kept};
 
 use crate::fault::Fault;

@@ -2,11 +2,11 @@
 use Rattle.std.proofs.Common.{◌≡◌, ℕ, ◌-◌, ◌^◌, ◌==◌, ◌||◌, Bool, true, false, if◌then◌else◌, List, [], ◌∷◌, ◌++◌, Option, bit_and, bit_or, refl, ap, ◌∙◌}
 use Rattle.x7_packets.specs.History.{Access, Write, Read, Bad, History, writes, written}
 use Rattle.x7_part.specs.Part.{PartData}
-use Rattle.x7_memory.specs.Planned.{PlanRow}
+use Rattle.x7_memory.specs.Plan.{PlanRow}
 use Rattle.x7_flow.specs.Controls.{masked_word, names_part}
 use Rattle.x7_pipeline.specs.FarAsRead.{loaded_base}
 use Rattle.x7_regs.specs.Command.{command_with}
-use Rattle.x7_flow.specs.Asked.{Asked}
+use Rattle.x7_flow.specs.Asking.{Asked}
 use Rattle.x7_flow.specs.Settings.{Settings, held_after, settings_from}
 use Rattle.x7_flow.specs.Flow.{Flow, asked_under, flow_by, write_asked}
 use Rattle.x7_flow.specs.FrameMemory.{puts}

@@ -10,10 +10,10 @@ use Rattle.x7_pipeline.specs.declared.fault.RunFault.TheVariants.{Address, Overr
 use Rattle.x7_pipeline.specs.Runs.{frames_of, written_frames, rest_of, slots_from}
 use Rattle.x7_pipeline.specs.FarAsRead.{has_frame_at}
 use Rattle.x7_pipeline.specs.Copies.{copied, is_mfw}
-use Rattle.x7_pipeline.specs.Faults.{address_fault, completes, copy_fault, has_filled, write_fault}
+use Rattle.x7_pipeline.specs.Fault.{address_fault, completes, copy_fault, has_filled, write_fault}
 use Rattle.x7_pipeline.proofs.LawLemmas.{copy_no_overrun, overrun_is, refused_far, refused_landed, write_no_multi}
 use Rattle.std.proofs.lemmas.Bool.{ltb-true}
-use Rattle.x7_flow.specs.Asked.{Asked, Load, Order, Word, Copies, Reads, Other}
+use Rattle.x7_flow.specs.Asking.{Asked, Load, Order, Word, Copies, Reads, Other}
 use Rattle.x7_flow.specs.Flow.{Flow, asks, base_of, far_in, far_read, fault_by, flow_by, flow_of, frame_fault, is_copy, is_word, run_of}
 use Rattle.x7_flow.specs.FrameMemory.{copy_pairs, written_frames_more, memory_of, puts}
 use Rattle.x7_flow.specs.NeedsAddress.{needs_address}

@@ -5,7 +5,7 @@ use Rattle.x7_packets.specs.History.{Access, Write, Entry, History, entry}
 use Rattle.x7_part.specs.Part.{PartData, frame_words}
 use Rattle.x7_part.specs.declared.slot.Slot.TheVariants.{End}
 use Rattle.x7_memory.specs.FrameMap.{FrameMap, AreSame}
-use Rattle.x7_memory.specs.Planned.{PlanRow, planned}
+use Rattle.x7_memory.specs.Plan.{PlanRow, planned}
 use Rattle.x7_regs.specs.Command.{command_with}
 use Rattle.x7_regs.specs.declared.command.Command.{Command}
 use Rattle.x7_pipeline.specs.Runs.{rest_of, frames_of, slots_from, in_slots, but_newest, written_frames, put_over}
@@ -13,7 +13,7 @@ use Rattle.x7_pipeline.specs.FarAsRead.{has_frame_at}
 use Rattle.x7_pipeline.specs.Copies.{is_wcfg}
 use Rattle.x7_pipeline.proofs.LawLemmas.{put_twice, no_source}
 use Rattle.x7_pipeline.proofs.RunLemmas.{frames_completes, frames_goes_on}
-use Rattle.x7_flow.specs.Asked.{Asked, Load, Order, Word, Copies, Reads, Other}
+use Rattle.x7_flow.specs.Asking.{Asked, Load, Order, Word, Copies, Reads, Other}
 use Rattle.x7_flow.specs.Settings.{Settings, settings_of, settings_after, settings_from}
 use Rattle.x7_flow.specs.Flow.{Flow, asked_under, asks, flow_by, flow_of, source_of}
 use Rattle.x7_flow.specs.FrameMemory.{written_frames_more, memory_of, newest_put, puts}

@@ -12,17 +12,17 @@ use Rattle.x7_part.specs.declared.slot.Slot.{Slot}
 use Rattle.x7_part.specs.declared.slot.Slot.TheVariants.{Frame, Pad, End}
 use Rattle.x7_memory.specs.FrameMap.{FrameMap, frame_or}
 use Rattle.x7_memory.specs.Frames.{zero_frames, zeros}
-use Rattle.x7_memory.specs.Planned.{PlanRow, planned}
+use Rattle.x7_memory.specs.Plan.{PlanRow, planned}
 use Rattle.x7_memory.proofs.FrameLemmas.{among_none}
 use Rattle.x7_memory.proofs.MapLemmas.{zeros_at}
 use Rattle.x7_memory.proofs.PlanLemmas.{planned_after, planned_here}
 use Rattle.x7_pipeline.specs.Copies.{copied, is_mfw, newest_of}
 use Rattle.x7_pipeline.specs.FarAsRead.{has_frame_at}
-use Rattle.x7_pipeline.specs.Faults.{completes}
+use Rattle.x7_pipeline.specs.Fault.{completes}
 use Rattle.x7_pipeline.specs.Runs.{at_slot, frames_of, put_over, slots_from}
 use Rattle.x7_pipeline.proofs.LawLemmas.{cut}
 use Rattle.x7_pipeline.proofs.SlotLemmas.{has_address, slot_address}
-use Rattle.x7_flow.specs.Asked.{Asked, Copies, Load, Order, Other, Reads, Word}
+use Rattle.x7_flow.specs.Asking.{Asked, Copies, Load, Order, Other, Reads, Word}
 use Rattle.x7_flow.specs.Flow.{asks, flow_of, source_of}
 use Rattle.x7_flow.specs.FrameMemory.{copy_pairs, written_frames_more, memory_of, newest_put, puts}
 use Rattle.x7_flow.specs.Inside.{HasFrames}

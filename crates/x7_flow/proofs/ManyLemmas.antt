@@ -4,12 +4,12 @@ use Rattle.x7_packets.specs.History.{Access, Write, History, command_held, enter
 use Rattle.x7_packets.specs.Packet.{payload_steps}
 use Rattle.x7_part.specs.Part.{PartData}
 use Rattle.x7_memory.specs.FrameMap.{FrameMap, AreSame}
-use Rattle.x7_memory.specs.Planned.{PlanRow}
+use Rattle.x7_memory.specs.Plan.{PlanRow}
 use Rattle.x7_pipeline.specs.Runs.{written_frames, onto, put_over, Lands}
 use Rattle.x7_pipeline.specs.Copies.{is_mfw}
 use Rattle.x7_pipeline.proofs.LawLemmas.{landed_empty, lands_more, lands_none}
 use Rattle.x7_regs.specs.Command.{command_with}
-use Rattle.x7_flow.specs.Asked.{Asked, Word, Other}
+use Rattle.x7_flow.specs.Asking.{Asked, Word, Other}
 use Rattle.x7_flow.specs.Settings.{Settings, settings_of, settings_after, settings_from, takes_frames}
 use Rattle.x7_flow.specs.Flow.{Flow, asked_under, base_of, flow_by, flow_of, run_of}
 use Rattle.x7_flow.specs.FrameMemory.{written_frames_more, memory_of, puts}

@@ -8,11 +8,11 @@ use Rattle.x7_packets.specs.History.{Write, History, command_held, entered_all, 
 use Rattle.x7_packets.specs.Packet.{payload_steps}
 use Rattle.x7_part.specs.AddressOrder.{addresses_in, Rises, risen, rise}
 use Rattle.x7_part.specs.Part.{PartData, frame_words}
-use Rattle.x7_part.specs.Slots.{addresses_among, from, slots_in}
+use Rattle.x7_part.specs.Slot.{addresses_among, from, slots_in}
 use Rattle.x7_part.specs.declared.slot.Slot.{Slot}
 use Rattle.x7_part.specs.declared.slot.Slot.TheVariants.{Frame, Pad, End}
 use Rattle.x7_memory.specs.FrameMap.{AreSame, frame_or, override}
-use Rattle.x7_memory.specs.Planned.{PlanRow, planned, planned_addresses}
+use Rattle.x7_memory.specs.Plan.{PlanRow, planned, planned_addresses}
 use Rattle.x7_memory.proofs.MapLemmas.{override_same, planned_joined}
 use Rattle.x7_memory.proofs.PlanLemmas.{planned_after, planned_here}
 use Rattle.x7_pipeline.specs.InWords.{pair_of}
@@ -21,7 +21,7 @@ use Rattle.x7_pipeline.specs.Copies.{newest_of}
 use Rattle.x7_pipeline.specs.FarAsRead.{loaded_base}
 use Rattle.x7_pipeline.proofs.SlotLemmas.{addresses_among_slots}
 use Rattle.x7_flow.specs.Settings.{settings_of, takes_copies, takes_frames}
-use Rattle.x7_flow.specs.Asked.{Copies, Other}
+use Rattle.x7_flow.specs.Asking.{Copies, Other}
 use Rattle.x7_flow.specs.Flow.{Flow, flow_by, flow_of, run_of, source_of}
 use Rattle.x7_flow.specs.InWords.{frame_taken, words_written}
 use Rattle.x7_flow.proofs.FlowLemmas.{flow_more}

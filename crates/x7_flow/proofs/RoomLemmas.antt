@@ -8,7 +8,7 @@ use Rattle.x7_part.specs.Part.{PartData, frame_words}
 use Rattle.x7_memory.specs.FrameMap.{AreSame}
 use Rattle.x7_pipeline.specs.declared.fault.RunFault.TheVariants.{Overrun}
 use Rattle.x7_pipeline.specs.FarAsRead.{has_frame_at}
-use Rattle.x7_pipeline.specs.Faults.{address_fault, completes, has_filled, write_fault}
+use Rattle.x7_pipeline.specs.Fault.{address_fault, completes, has_filled, write_fault}
 use Rattle.x7_pipeline.specs.Runs.{frames_of, written_frames, onto, put_over, slots_from}
 use Rattle.x7_pipeline.proofs.LawLemmas.{landed_empty, lands_over}
 use Rattle.x7_pipeline.proofs.RunLemmas.{length_run}

@@ -4,20 +4,20 @@ use Rattle.x7_packets.specs.History.{Entry, History}
 use Rattle.x7_part.specs.Part.{PartData}
 use Rattle.x7_memory.specs.FrameMap.{FrameMap, AreSame}
 use Rattle.x7_memory.specs.Frames.{AreFramesOf, frame_at}
-use Rattle.x7_memory.specs.Planned.{PlanRow, planned}
+use Rattle.x7_memory.specs.Plan.{PlanRow, planned}
 use Rattle.x7_memory.proofs.MapLemmas.{override_same, same_memory}
 use Rattle.x7_regs.specs.Command.{command_with}
 use Rattle.x7_pipeline.specs.Runs.{put_over}
 use Rattle.x7_pipeline.specs.FarAsRead.{has_frame_at}
 use Rattle.x7_pipeline.specs.Copies.{copied, is_mfw}
 use Rattle.x7_pipeline.specs.Pipeline.{PipelineData}
-use Rattle.x7_pipeline.specs.Saving.{ChangesAt, SavedState, next_put}
+use Rattle.x7_pipeline.specs.Saved.{ChangesAt, SavedState, next_put}
 use Rattle.x7_pipeline.proofs.SavedLemmas.{changes_copy, changes_none, taken_back, word_changes as one_word}
-use Rattle.x7_flow.specs.Asked.{Asked, Load, Order, Word, Copies, Reads, Other}
+use Rattle.x7_flow.specs.Asking.{Asked, Load, Order, Word, Copies, Reads, Other}
 use Rattle.x7_flow.specs.Settings.{Settings, settings_after, settings_of}
 use Rattle.x7_flow.specs.Flow.{Flow, asks, flow_of}
 use Rattle.x7_flow.specs.FrameMemory.{written_frames_more, memory_of, puts}
-use Rattle.x7_flow.specs.Saving.{FramesBack, KeepsFrames}
+use Rattle.x7_flow.specs.Saved.{FramesBack, KeepsFrames}
 use Rattle.x7_flow.specs.Sound.{IsSound}
 use Rattle.x7_flow.specs.Standing.{FramesFit, FramesStandFor, FramesState, HasFlow}
 use Rattle.x7_flow.proofs.FlowLemmas.{flow_sound, landed_grows, memory_more, put_none}

@@ -4,7 +4,7 @@ use Rattle.std.proofs.lemmas.Bool.Decides.{nat_tests}
 use Rattle.x7_packets.specs.History.{Access, Write, Read, Bad, Entry, History, last_word, written}
 use Rattle.x7_flow.specs.Controls.{ctl0_held, is_matched, mask_held}
 use Rattle.x7_regs.specs.Command.{command_by, command_with}
-use Rattle.x7_flow.specs.Asked.{Asked, Load, Order, Word, Copies, Reads, Other}
+use Rattle.x7_flow.specs.Asking.{Asked, Load, Order, Word, Copies, Reads, Other}
 use Rattle.x7_flow.specs.Settings.{Settings, settings_of, settings_after, settings_from, held_after, takes_frames, takes_copies, gives_frames}
 use Rattle.x7_flow.specs.Flow.{asked_under}
 

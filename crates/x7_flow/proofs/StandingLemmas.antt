@@ -9,7 +9,7 @@ use Rattle.x7_part.specs.declared.slot.Slot.{Slot}
 use Rattle.x7_part.specs.declared.slot.Slot.TheVariants.{Frame, Pad, End}
 use Rattle.x7_memory.specs.FrameMap.{FrameMap, AreSame}
 use Rattle.x7_memory.specs.Frames.{frame_at, zero_frames}
-use Rattle.x7_memory.specs.Planned.{PlanRow, planned}
+use Rattle.x7_memory.specs.Plan.{PlanRow, planned}
 use Rattle.x7_memory.proofs.MapLemmas.{override_same, same_memory}
 use Rattle.x7_pipeline.proofs.LawLemmas.{one_state}
 use Rattle.x7_regs.specs.declared.command.Command.{Command}
@@ -21,11 +21,11 @@ use Rattle.x7_pipeline.specs.declared.fault.RunFault.TheVariants.{Address, Multi
 use Rattle.x7_pipeline.specs.Runs.{written_frames, put_over, Lands}
 use Rattle.x7_pipeline.specs.FarAsRead.{has_frame_at, loaded_base}
 use Rattle.x7_pipeline.specs.Copies.{copied, is_mfw}
-use Rattle.x7_pipeline.specs.Faults.{address_fault, copy_fault, drop_fault, readback_fault}
+use Rattle.x7_pipeline.specs.Fault.{address_fault, copy_fault, drop_fault, readback_fault}
 use Rattle.x7_pipeline.specs.Flow.{FlowGoesOn, HoldsFlow, LandsAt, OfFlow, after_reads, after_words, begun_at, begun_by, copied_by, fault_of_copy}
 use Rattle.x7_pipeline.specs.Pipeline.{AreOf, PipelineData}
 use Rattle.x7_pipeline.specs.Readback.{readback_at, read_slot, word_at, word_of}
-use Rattle.x7_flow.specs.Asked.{Asked, Load, Order, Word, Copies, Reads, Other}
+use Rattle.x7_flow.specs.Asking.{Asked, Load, Order, Word, Copies, Reads, Other}
 use Rattle.x7_flow.specs.Flow.{Flow, asked_under, asks, base_of, fault_by, first_flow, flow_by, flow_of, frame_fault, count_given}
 use Rattle.x7_flow.specs.FrameMemory.{copy_pairs, written_frames_more, memory_of, puts}
 use Rattle.x7_flow.specs.FrameAccess.{reads_frame_data}

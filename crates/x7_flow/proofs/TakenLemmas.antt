@@ -8,15 +8,15 @@ use Rattle.x7_regs.specs.declared.register.Reg.TheVariants as reg
 use Rattle.x7_regs.specs.Register.{number_of}
 use Rattle.x7_memory.specs.FrameMap.{FrameMap, AreSame}
 use Rattle.x7_memory.specs.Frames.{frame_at}
-use Rattle.x7_memory.specs.Planned.{PlanRow, planned}
+use Rattle.x7_memory.specs.Plan.{PlanRow, planned}
 use Rattle.x7_memory.proofs.MapLemmas.{override_same}
 use Rattle.x7_pipeline.specs.declared.fault.RunFault.{RunFault}
 use Rattle.x7_pipeline.specs.Runs.{written_frames, onto, put_over, Lands}
-use Rattle.x7_pipeline.specs.Faults.{write_fault}
+use Rattle.x7_pipeline.specs.Fault.{write_fault}
 use Rattle.x7_pipeline.specs.Flow.{HoldsFlow, OfFlow, after_words, with_run, flow_written}
 use Rattle.x7_pipeline.specs.Pipeline.{PipelineData}
 use Rattle.x7_pipeline.specs.Words.{RunWritten, one_written, written}
-use Rattle.x7_flow.specs.Asked.{Asked, Copies, Other, Word}
+use Rattle.x7_flow.specs.Asking.{Asked, Copies, Other, Word}
 use Rattle.x7_flow.specs.Settings.{settings_of, takes_copies, takes_frames}
 use Rattle.x7_flow.specs.Flow.{Flow, asks, base_of, fault_by, flow_of, frame_fault, run_of}
 use Rattle.x7_flow.specs.FrameMemory.{copy_pairs, memory_of}

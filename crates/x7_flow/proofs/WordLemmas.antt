@@ -10,7 +10,7 @@ use Rattle.x7_pipeline.specs.Runs.{frames_of}
 use Rattle.x7_pipeline.specs.FarAsRead.{has_frame_at, loaded_base}
 use Rattle.x7_pipeline.specs.Copies.{is_mfw, is_wcfg, newest_of, source_after}
 use Rattle.x7_flow.specs.FrameAccess.{reads_frame_data, writes_frame_data}
-use Rattle.x7_flow.specs.Asked.{Load, Order, Word, Copies, Reads, Other}
+use Rattle.x7_flow.specs.Asking.{Load, Order, Word, Copies, Reads, Other}
 use Rattle.x7_flow.specs.Settings.{Settings, held_after, settings_of, takes_frames, takes_copies, gives_frames}
 use Rattle.x7_flow.specs.Flow.{Flow, asked_under, asks, is_read, is_word, far_in, far_read, flow_by, flow_of, base_of, run_of, source_of, count_given}
 use Rattle.x7_flow.specs.Stretches.{is_boundary}

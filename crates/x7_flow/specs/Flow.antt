@@ -9,9 +9,9 @@ use Rattle.x7_pipeline.specs.declared.fault.RunFault.{RunFault}
 use Rattle.x7_pipeline.specs.FarAsRead.{far_of, has_frame_at, loaded_base}
 use Rattle.x7_pipeline.specs.Copies.{source_after}
 pub use Rattle.x7_pipeline.specs.Flow.{Flow, first_flow}
-use Rattle.x7_pipeline.specs.Faults.{address_fault, copy_fault, write_fault}
+use Rattle.x7_pipeline.specs.Fault.{address_fault, copy_fault, write_fault}
 use Rattle.x7_flow.specs.Settings.{Settings, settings_of, takes_frames, takes_copies, gives_frames}
-use Rattle.x7_flow.specs.Asked.{Asked, Load, Order, Word, Copies, Reads, Other}
+use Rattle.x7_flow.specs.Asking.{Asked, Load, Order, Word, Copies, Reads, Other}
 
 -- ---- what an access asks
 

@@ -1,4 +1,4 @@
-pub mod Asked
+pub mod Asking
 pub mod Controls
 pub mod Settings
 pub mod FrameAccess
@@ -15,4 +15,4 @@ pub mod FrameWrites
 pub mod Alike
 pub mod Quiet
 pub mod Inside
-pub mod Saving
+pub mod Saved

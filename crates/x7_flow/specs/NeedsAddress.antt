@@ -5,7 +5,7 @@ use Rattle.x7_part.specs.Part.{PartData}
 use Rattle.x7_pipeline.specs.Copies.{is_mfw}
 use Rattle.x7_pipeline.specs.FarAsRead.{has_frame_at}
 use Rattle.x7_pipeline.specs.InWords.{Overruns}
-use Rattle.x7_flow.specs.Asked.{Asked, Word, Copies, Reads}
+use Rattle.x7_flow.specs.Asking.{Asked, Word, Copies, Reads}
 use Rattle.x7_flow.specs.Flow.{Flow, asks, base_of, flow_of, is_copy, run_of}
 
 -- a run has no word

@@ -12,7 +12,7 @@ use Rattle.x7_pipeline.specs.Flow.{HoldsFlow}
 use Rattle.x7_pipeline.specs.Pipeline.{AreOf, PipelineData}
 use Rattle.x7_pipeline.specs.Readback.{readback_at}
 use Rattle.x7_pipeline.specs.Runs.{put_over}
-use Rattle.x7_flow.specs.Asked.{Asked, Reads}
+use Rattle.x7_flow.specs.Asking.{Asked, Reads}
 use Rattle.x7_flow.specs.declared.settings.FrameSettings.{FrameSettings}
 use Rattle.x7_flow.specs.Flow.{Flow, HasAddress, asks, base_of, flow_by, flow_of, frame_fault, count_given}
 use Rattle.x7_flow.specs.FrameAccess.{reads_frame_data}

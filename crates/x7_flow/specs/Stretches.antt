@@ -5,7 +5,7 @@ use Rattle.x7_packets.specs.History.{Access, History, writes}
 use Rattle.x7_part.specs.Part.{PartData}
 use Rattle.x7_memory.specs.FrameMap.{FrameMap}
 use Rattle.x7_memory.specs.Frames.{zeros}
-use Rattle.x7_memory.specs.Planned.{PlanRow}
+use Rattle.x7_memory.specs.Plan.{PlanRow}
 use Rattle.x7_regs.specs.declared.register.Reg.TheVariants as reg
 use Rattle.x7_regs.specs.Register.{number_of}
 use Rattle.x7_pipeline.specs.Runs.{written_frames, put_over}

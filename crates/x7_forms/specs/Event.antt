@@ -3,7 +3,7 @@ use Rattle.std.specs.Prelude.{ℕ, List, [], ◌++◌, Option, None, Some, codes
 use Rattle.x7_part.specs.declared.fault.PartFault.{PartFault}
 use Rattle.x7_part.specs.declared.fault.PartFault.TheVariants as part
 use Rattle.x7_part.specs.declared.fault.Which.{Which}
-use Rattle.x7_part.specs.PartKey.{name_of}
+use Rattle.x7_part.specs.Keys.{name_of}
 use Rattle.x7_text.specs.Digits.{hex_byte, hex_word}
 use Rattle.x7_forms.specs.declared.bad_input.InputFault.{InputFault}
 use Rattle.x7_forms.specs.declared.bad_input.InputFault.TheVariants as input

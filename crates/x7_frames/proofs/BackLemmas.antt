@@ -14,7 +14,7 @@ use Rattle.x7_text.proofs.PieceLemmas.{free_both, word_free}
 use Rattle.x7_text.proofs.ReadRowLemmas.{hex_words}
 use Rattle.x7_text.proofs.SplitLemmas.{split_ended}
 use Rattle.x7_part.specs.Part.{PartData, frame_words}
-use Rattle.x7_memory.specs.Planned.{PlanRow, PlanData, IsPlanFor, IsPlanRow, AreApart, AreInOrder}
+use Rattle.x7_memory.specs.Plan.{PlanRow, PlanData, IsPlanFor, IsPlanRow, AreApart, AreInOrder}
 use Rattle.x7_frames.specs.FramesText.{frame_head, frame_line, plan_text, AreLinesOfRows, no_line, no_frame, frame, IsFrameLine, IsPlanOf, Plans}
 use Rattle.x7_frames.specs.declared.fault.FramesFault.{FramesFault}
 use Rattle.x7_frames.specs.declared.fault.FramesFault.TheVariants as fault

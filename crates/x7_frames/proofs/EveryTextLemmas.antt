@@ -13,7 +13,7 @@ use Rattle.x7_text.specs.Lines.{split}
 use Rattle.x7_text.proofs.ValueLemmas.{word_back}
 use Rattle.x7_part.specs.AddressOrder.{addresses_in}
 use Rattle.x7_part.specs.Part.{PartData, frame_words}
-use Rattle.x7_memory.specs.Planned.{IsPlanRow, PlanRow, planned_addresses}
+use Rattle.x7_memory.specs.Plan.{IsPlanRow, PlanRow, planned_addresses}
 use Rattle.x7_memory.proofs.DraftLemmas.{sorted_plan}
 use Rattle.x7_frames.specs.FramesText.{AreGood, AreLinesOfRows, frame, frame_head, HasPlan, IsFrameLine, IsGoodText, means_nothing, no_frame, no_line}
 use Rattle.x7_frames.specs.Steps.{IsFaultAt, TakesLine}

@@ -2,7 +2,7 @@
 use Rattle.std.proofs.Common.{◌≡◌, ◌⊎◌, inl, inr, ℕ, ◌+◌, List, [], ◌∷◌, ◌++◌, Result, Ok, Err, IfErr, OnOk, MatchResult, length, refl, subst, ◌∙◌}
 use Rattle.x7_text.specs.Lines.{split}
 use Rattle.x7_part.specs.Part.{PartData}
-use Rattle.x7_memory.specs.Planned.{PlanData}
+use Rattle.x7_memory.specs.Plan.{PlanData}
 use Rattle.x7_frames.specs.FrameLines.{AreGoodWith, AreRefused, ComeTo, HasRows, Rows}
 use Rattle.x7_frames.specs.FramesText.{IsPlanOf}
 use Rattle.x7_frames.specs.Steps.{IsFaultAt, IsGoodLine, TakesLine}

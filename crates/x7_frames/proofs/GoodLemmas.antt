@@ -6,7 +6,7 @@ use Rattle.std.proofs.lemmas.List.{get_or_append_left, get_or_push, get_or-map, 
 use Rattle.std.proofs.lemmas.List.Elements.{All-push, All-nil, Contains-push, Contains-push_cases, Contains-append_left}
 use Rattle.x7_part.specs.AddressOrder.{addresses_in, Rises, risen, rise}
 use Rattle.x7_part.specs.Part.{PartData, frame_words}
-use Rattle.x7_memory.specs.Planned.{PlanRow, AreApart, planned_addresses}
+use Rattle.x7_memory.specs.Plan.{PlanRow, AreApart, planned_addresses}
 use Rattle.x7_frames.specs.FramesText.{means_nothing, AreGood, AreLinesOfRows, no_line, no_frame, frame, IsFrameLine, IsPlanOf, ReachesLine}
 use Rattle.x7_frames.specs.Steps.{HasMarks, IsFaultAt, TakesLine}
 use Rattle.x7_frames.specs.declared.fault.FramesFault.{FramesFault}

@@ -1,7 +1,7 @@
 -- The line of a frame, and what is none.
 use Rattle.std.proofs.Common.{◌≡◌, ℕ, ◌*◌, ◌^◌, ◌<◌, List, ◌++◌, length, sym, ap, ◌∙◌}
 use Rattle.x7_words.proofs.WordLemmas.{length_words}
-use Rattle.x7_memory.specs.Planned.{PlanRow}
+use Rattle.x7_memory.specs.Plan.{PlanRow}
 use Rattle.x7_frames.specs.FramesText.{frame_head, IsFrameLine}
 use Rattle.x7_frames.proofs.DigitLemmas.{pairs_long}
 

@@ -4,7 +4,7 @@ use Rattle.std.specs.Prelude.{Contains, Err}
 use Rattle.std.proofs.lemmas.Bool.{cases_order}
 use Rattle.x7_part.specs.AddressOrder.{addresses_in}
 use Rattle.x7_part.specs.Part.{PartData, frame_words}
-use Rattle.x7_memory.specs.Planned.{PlanRow}
+use Rattle.x7_memory.specs.Plan.{PlanRow}
 use Rattle.x7_frames.specs.FramesText.{AreGood, IsForeign, IsNoLine, IsPlanOf, IsRepeated, ReachesLine}
 use Rattle.x7_frames.specs.declared.fault.FramesFault.{FramesFault}
 use Rattle.x7_frames.specs.declared.fault.FramesFault.TheVariants as fault

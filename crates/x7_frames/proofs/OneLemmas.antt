@@ -15,7 +15,7 @@ use Rattle.x7_text.specs.Lines.{split}
 use Rattle.x7_text.proofs.ValueLemmas.{word_back}
 use Rattle.x7_part.specs.AddressOrder.{addresses_in}
 use Rattle.x7_part.specs.Part.{PartData, frame_words}
-use Rattle.x7_memory.specs.Planned.{PlanRow, PlanData, AreApart, AreInOrder}
+use Rattle.x7_memory.specs.Plan.{PlanRow, PlanData, AreApart, AreInOrder}
 use Rattle.x7_frames.specs.FramesText.{frame_head, means_nothing, AreGood, AreLinesOfRows, no_line, no_frame, frame, IsFrameLine, IsNoLine, IsForeign, IsRepeated, IsPlanOf, Plans}
 use Rattle.x7_frames.specs.declared.fault.FramesFault.{FramesFault}
 use Rattle.x7_frames.specs.declared.fault.FramesFault.TheVariants as fault

@@ -6,7 +6,7 @@ use Rattle.std.specs.List.Sorted.{IsNonDecreasingBy}
 use Rattle.std.proofs.lemmas.Bool.{cases_order}
 use Rattle.std.proofs.lemmas.List.Elements.{All-from_recursion}
 use Rattle.std.proofs.lemmas.List.Sorted.{IsPermutation-refl, IsPermutation-sym, IsPermutation-cons, IsPermutation-trans, IsPermutation-middle}
-use Rattle.x7_memory.specs.Planned.{PlanRow}
+use Rattle.x7_memory.specs.Plan.{PlanRow}
 
 -- none of the rows has an address below this one
 abbrev AreFrom : ℕ → List PlanRow → Type 0

@@ -2,7 +2,7 @@
 use Rattle.std.proofs.Common.{◌≡◌, ℕ, ◌+◌, ◌<◌, List, [], ◌∷◌, ◌++◌, length, take, get_or, sym, ap, ◌∙◌, append_assoc}
 use Rattle.std.proofs.lemmas.List.{take_more, flat_map_more}
 use Rattle.std.specs.List.{flat_map}
-use Rattle.x7_memory.specs.Planned.{PlanRow}
+use Rattle.x7_memory.specs.Plan.{PlanRow}
 use Rattle.x7_frames.specs.FramesText.{frame_line}
 
 pub line_put : (old r1 p1 p2 p3 r2 w last a b c d e : List ℕ) → r1 ≡ old → p1 ≡ r1 ++ a → p2 ≡ p1 ++ b → p3 ≡ p2 ++ c → r2 ≡ p3 → w ≡ r2 ++ d → last ≡ w ++ e

@@ -1,10 +1,10 @@
 -- Where memory is wanting while a frames text is read.
 use Rattle.std.proofs.Common.{◌≡◌, inl, inr, List, ℕ, [], ◌∷◌, ◌++◌, subst, sym, ap, ◌∙◌, append_assoc}
 use Rattle.x7_text.specs.Lines.{split}
-use Rattle.x7_text.specs.LineReading.{ReaderState, StandsFor, WantsIn}
+use Rattle.x7_text.specs.LineReader.{ReaderState, StandsFor, WantsIn}
 use Rattle.x7_text.proofs.SplitLemmas.{split_some}
 use Rattle.x7_part.specs.Part.{PartData}
-use Rattle.x7_memory.specs.Planned.{PlanRow}
+use Rattle.x7_memory.specs.Plan.{PlanRow}
 use Rattle.x7_frames.specs.FrameLines.{AreGoodWith, HasRows, Rows}
 use Rattle.x7_frames.specs.FramesText.{AreGood, IsGoodText}
 use Rattle.x7_frames.specs.Steps.{IsGoodLine}

@@ -2,7 +2,7 @@
 use Rattle.std.specs.Prelude.{◌≡◌, ◌⊎◌, ◌≤◌, ℕ, Bool, List, [], ◌∷◌, ◌++◌, Result, Err}
 use Rattle.x7_text.specs.Lines.{split}
 use Rattle.x7_part.specs.Part.{PartData, frame_words}
-use Rattle.x7_memory.specs.Planned.{AreApart, PlanData, PlanRow}
+use Rattle.x7_memory.specs.Plan.{AreApart, PlanData, PlanRow}
 use Rattle.x7_frames.specs.FramesText.{AreGood, IsPlanOf}
 use Rattle.x7_frames.specs.Steps.{HasMarks}
 use Rattle.x7_frames.specs.declared.fault.FramesFault.{FramesFault}

@@ -7,7 +7,7 @@ use Rattle.x7_text.specs.EitherCase.{pairs}
 use Rattle.x7_text.specs.Lines.{split}
 use Rattle.x7_part.specs.AddressOrder.{addresses_in}
 use Rattle.x7_part.specs.Part.{PartData, frame_words}
-use Rattle.x7_memory.specs.Planned.{PlanRow, PlanData, IsPlan, AreAddressed, AreApart, planned_addresses}
+use Rattle.x7_memory.specs.Plan.{PlanRow, PlanData, IsPlan, AreAddressed, AreApart, planned_addresses}
 use Rattle.x7_frames.specs.declared.fault.FramesFault.{FramesFault}
 use Rattle.x7_frames.specs.declared.fault.FramesFault.TheVariants as fault
 

@@ -2,7 +2,7 @@
 use Rattle.std.specs.Prelude.{◌≡◌, ◌↔◌, ℕ, ◌<◌, ◌⊎◌, Bool, true, false, List, [], ◌∷◌, ◌++◌, length, slice_index, slice_index_or, Contains}
 use Rattle.x7_part.specs.AddressOrder.{addresses_in, Rises}
 use Rattle.x7_part.specs.Part.{PartData, frame_words}
-use Rattle.x7_memory.specs.Planned.{PlanRow, planned_addresses}
+use Rattle.x7_memory.specs.Plan.{PlanRow, planned_addresses}
 use Rattle.x7_frames.specs.FramesText.{means_nothing, IsFrameLine, IsNoLine, IsForeign, IsRepeated}
 use Rattle.x7_frames.specs.declared.fault.FramesFault.{FramesFault}
 use Rattle.x7_frames.specs.declared.fault.FramesFault.TheVariants as fault

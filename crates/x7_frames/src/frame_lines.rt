@@ -1,7 +1,7 @@
 //! What the lines of a frames text give, as they come.
 ghost use Rattle.std.specs.Prelude.{◌≡◌, ◌⊎◌, ℕ, List, [], Ok, IfErr, IfOk, OnOk, IsPermutation};
 ghost use Rattle.x7_part.specs.Part.{frame_words};
-ghost use Rattle.x7_memory.specs.Planned.{IsPlan};
+ghost use Rattle.x7_memory.specs.Plan.{IsPlan};
 ghost use Rattle.x7_frames.specs.FrameLines.{AreGoodWith, AreRefused, ComeTo, HasRows, Rows};
 ghost use Rattle.x7_frames.specs.Steps.{IsFaultAt, IsGoodLine, TakesLine};
 ghost use Rattle.x7_frames.specs.declared.fault.FramesFault.{FramesFault};

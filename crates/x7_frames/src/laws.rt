@@ -1,9 +1,9 @@
 //! Laws of frame texts. The functions do nothing: their contracts are the laws.
 ghost use Rattle.std.specs.Prelude.{◌≡◌, ◌∷◌, ℕ, List, Ok, Err};
 ghost use Rattle.x7_text.specs.Lines.{split};
-ghost use Rattle.x7_text.specs.LineReading.{ReaderState, StandsFor, WantsIn};
+ghost use Rattle.x7_text.specs.LineReader.{ReaderState, StandsFor, WantsIn};
 ghost use Rattle.x7_part.specs.Part.{PartData};
-ghost use Rattle.x7_memory.specs.Planned.{IsPlanFor, PlanData};
+ghost use Rattle.x7_memory.specs.Plan.{IsPlanFor, PlanData};
 ghost use Rattle.x7_frames.specs.FrameLines.{AreGoodWith, HasRows, Rows};
 ghost use Rattle.x7_frames.specs.FramesText.{HasPlan, IsGoodText, IsPlanOf, plan_text};
 ghost use Rattle.x7_frames.specs.Steps.{IsGoodLine};

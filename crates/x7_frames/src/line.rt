@@ -2,7 +2,7 @@
 ghost use Rattle.std.specs.Prelude.{◌≡◌, ◌+◌, ◌*◌, ◌%◌, ◌<◌, ◌≤◌, ◌++◌, length, take, Some, None, MatchBool, MatchOption, vec_capacity};
 ghost use Rattle.x7_text.specs.EitherCase.{pairs};
 ghost use Rattle.x7_words.specs.Word.{AreBytes, words_of_bytes};
-ghost use Rattle.x7_memory.specs.Planned.{PlanRow};
+ghost use Rattle.x7_memory.specs.Plan.{PlanRow};
 ghost use Rattle.x7_frames.specs.FramesText.{HasNoFrameHead, frame_head, means_nothing, IsFrameLine};
 
 use x7_text::{block_of_hex, read_pairs, word_of_hex};

@@ -1,7 +1,7 @@
 //! The plan of a text, line by line.
 ghost use Rattle.std.specs.Prelude.{◌≡◌, ◌≤◌, ◌⊎◌, [], Ok, Err, IfOk, IfErr, OnErr, OnOk, MatchResult, vec_capacity};
 ghost use Rattle.x7_part.specs.Part.{frame_words};
-ghost use Rattle.x7_memory.specs.Planned.{IsPlanFor, PlanData};
+ghost use Rattle.x7_memory.specs.Plan.{IsPlanFor, PlanData};
 ghost use Rattle.x7_frames.specs.FramesText.{IsPlanOf, plan_text};
 ghost use Rattle.x7_frames.specs.Steps.{IsFaultAt, IsGoodLine, TakesLine, HasMarks};
 ghost use Rattle.x7_frames.specs.declared.fault.FramesFault.{FramesFault};

@@ -7,7 +7,7 @@ use Rattle.std.specs.Str.{bytes_eq}
 use Rattle.x7_words.specs.Count.{HasRisen}
 use Rattle.x7_words.specs.Flash.{replaced, AsksFor, IsTorn, Elapses, FlashStays, OnlyReads, Sees, Unwritten}
 use Rattle.x7_in_memory.specs.Memory.{FlashInMemory, PastWrite, WriteRecord, left_by, write_refused, next_tear, latest_tear, write_fails_in, known_flash, names_asked, seen_in, after_attach, after_read_at, flash_fails, begun, after_refusal, after_tear, after_tearing, after_write_of, recorded, has_room}
-use Rattle.x7_in_memory.specs.Past.{FoundSince}
+use Rattle.x7_in_memory.specs.FoundSince.{FoundSince}
 use Rattle.x7_words.proofs.CountLemmas.{raised_risen}
 use Rattle.x7_words.proofs.FlashLemmas.{get_or_slice_range, old_is_torn}
 use Rattle.x7_in_memory.proofs.TornLemmas.{left_is_torn, left_back, length_left_in}

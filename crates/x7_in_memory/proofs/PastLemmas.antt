@@ -2,7 +2,7 @@
 use Rattle.std.proofs.Common.{◌≡◌, ℕ, zero, suc, ◌≤◌, ◌⊎◌, inl, inr, ⊎_elim, List, [], ◌∷◌, ◌++◌, length, drop, refl, ap, sym, subst, arith, length-append}
 use Rattle.x7_words.specs.Flash.{replaced, IsTorn, Elapses}
 use Rattle.x7_in_memory.specs.Memory.{PastWrite}
-use Rattle.x7_in_memory.specs.Past.{whole_before, WithinOneOf, FoundSince}
+use Rattle.x7_in_memory.specs.FoundSince.{whole_before, WithinOneOf, FoundSince}
 
 -- one write more, before which the bytes were the old ones
 module _ (w : PastWrite) (old new : List ℕ) (undone : replaced w.place w.before new ≡ old) where

@@ -1,5 +1,5 @@
 pub mod Memory
-pub mod Past
+pub mod FoundSince
 pub mod Spans
 pub mod Tearing
 pub mod Put

@@ -242,7 +242,7 @@ impl MemoryFlash {
 impl Flash for MemoryFlash {
     ghost use Rattle.std.proofs.Common.{refl};
     ghost use Rattle.x7_in_memory.specs.Memory.{known_flash};
-    ghost use Rattle.x7_in_memory.specs.Past.{FoundSince, found_last, only_bytes};
+    ghost use Rattle.x7_in_memory.specs.FoundSince.{FoundSince, found_last, only_bytes};
 
     ghost state = { known_flash };
 

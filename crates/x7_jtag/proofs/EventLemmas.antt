@@ -8,10 +8,10 @@ use Rattle.x7_jtag.specs.declared.instruction.Instruction.TheVariants as instruc
 use Rattle.x7_jtag.specs.declared.state.State.{State}
 use Rattle.x7_jtag.specs.declared.state.State.TheVariants as state
 use Rattle.x7_jtag.specs.Events.{data_events, events_in, events_of, idle_events, update_events}
-use Rattle.x7_jtag.specs.Instructions.{instruction_of}
+use Rattle.x7_jtag.specs.Instruction.{instruction_of}
 use Rattle.x7_jtag.specs.Port.{Port, acted, captured, clocked, data_shifted, idled, new_port, port_after, queue_at_update, words_read_out, with_bit}
 use Rattle.x7_jtag.specs.Queue.{QueueEvent, Byte, Queue, by_event, offered, queue_after}
-use Rattle.x7_jtag.specs.States.{Clock}
+use Rattle.x7_jtag.specs.State.{Clock}
 
 eighth : (reads : List ℕ → List ℕ) (q : Queue) (x : ℕ) (b : Bool) → (if b then offered reads q x else q) ≡ fold (by_event reads) q (if b then Byte x ∷ [] else [])
 eighth reads q x true = refl

@@ -10,12 +10,12 @@ use Rattle.x7_engine.specs.Kept.{on_the_bench}
 use Rattle.x7_packets.specs.History.{History}
 use Rattle.x7_engine.specs.Standing.{DeviceStandsFor, DeviceState, due_count, frames_among, frames_due, words_left}
 use Rattle.x7_engine.specs.State.{history_taken, reads_of, state_owing, stop_in, taken_by, taken_of}
-use Rattle.x7_engine.specs.Stops.{Stopped, stopped_at}
+use Rattle.x7_engine.specs.Stop.{Stopped, stopped_at}
 use Rattle.x7_engine.proofs.FrameLemmas.{length_left}
 use Rattle.x7_engine.proofs.StateLemmas.{stop_is_final_stop}
 use Rattle.x7_jtag.specs.Port.{port_after, words_read_out}
 use Rattle.x7_jtag.specs.Shown.{bytes_taken, state_shown}
-use Rattle.x7_jtag.specs.States.{Clock}
+use Rattle.x7_jtag.specs.State.{Clock}
 use Rattle.x7_jtag.specs.Queue.{queue_of}
 use Rattle.x7_jtag.specs.Tap.{QueueHolds, TapStandsFor, TapState, TookOfGiven, words_taken, QueueState, QueueStandsFor}
 use Rattle.x7_jtag.proofs.TookLemmas.{reads_took}

@@ -18,7 +18,7 @@ use Rattle.x7_jtag.specs.Clocks.{clock, clocks, clocks_of, from_exit, from_reset
 use Rattle.x7_svf.specs.Bits.{bytes_bits}
 use Rattle.x7_jtag.specs.Play.{Ready, after_clocks, bit_at, difference, difference_from, differs_at, first_by, first_from, found_more, is_apart, least, tdo_at, walk_clocks}
 use Rattle.x7_jtag.specs.Port.{Port, clocked, new_port, port_after, tdo_of}
-use Rattle.x7_jtag.specs.States.{Clock, moved_by, state_after, test_logic_reset}
+use Rattle.x7_jtag.specs.State.{Clock, moved_by, state_after, test_logic_reset}
 use Rattle.x7_jtag.specs.Tap.{TapStandsFor, TapState}
 use Rattle.x7_jtag.proofs.ShiftLemmas.{inner_append}
 use Rattle.x7_jtag.proofs.ShortLemmas.{held_short, taken_short}

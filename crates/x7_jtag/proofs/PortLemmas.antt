@@ -10,10 +10,10 @@ use Rattle.x7_jtag.specs.declared.instruction.Instruction.{Instruction}
 use Rattle.x7_jtag.specs.declared.instruction.Instruction.TheVariants as instruction
 use Rattle.x7_jtag.specs.declared.state.State.{State}
 use Rattle.x7_jtag.specs.declared.state.State.TheVariants as state
-use Rattle.x7_jtag.specs.Instructions.{instruction_of}
+use Rattle.x7_jtag.specs.Instruction.{instruction_of}
 use Rattle.x7_jtag.specs.Port.{Port, acted, captured, clocked, data_shifted, idled, new_port, port_after, queue_at_update, words_read_out, status, ir_status, data_shown, register_shifted, shown_in, tdo_of, updated, with_bit}
 use Rattle.x7_jtag.specs.Queue.{Queue, empty, offered, shifted_out}
-use Rattle.x7_jtag.specs.States.{Clock, next_of}
+use Rattle.x7_jtag.specs.State.{Clock, next_of}
 use Rattle.x7_jtag.specs.Tap.{QueueStandsFor, QueueState, StandsForPort, TapState, TapStandsFor, TookOfGiven}
 use Rattle.x7_jtag.proofs.StandingLemmas.{resets}
 use Rattle.x7_jtag.proofs.TookLemmas.{state_took}

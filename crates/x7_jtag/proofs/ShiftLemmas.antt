@@ -13,7 +13,7 @@ use Rattle.x7_jtag.specs.declared.state.State.TheVariants as state
 use Rattle.x7_jtag.specs.Clocks.{clock, inner_clocks}
 use Rattle.x7_jtag.specs.Port.{Port, clocked, number_of_bit, port_after, new_port, with_bit, words_read_out}
 use Rattle.x7_jtag.specs.Queue.{Queue, offered}
-use Rattle.x7_jtag.specs.States.{Clock}
+use Rattle.x7_jtag.specs.State.{Clock}
 use Rattle.x7_jtag.specs.Tap.{QueueStandsFor, StandsForPort, TakesBytes, TapStandsFor, TapState, last_or}
 
 -- ---- eight bits make a byte

@@ -13,7 +13,7 @@ use Rattle.x7_engine.specs.ReadBuffer.{IsFull, ReadBufState}
 use Rattle.x7_engine.specs.Past.{Answers, past_of}
 use Rattle.x7_engine.specs.Standing.{DeviceState, NoWordDue, due_count, taken_in}
 use Rattle.x7_engine.specs.State.{reads_of, state_of, stop_in}
-use Rattle.x7_engine.specs.Stops.{Stopped}
+use Rattle.x7_engine.specs.Stop.{Stopped}
 use Rattle.x7_engine.proofs.StateLemmas.{stop_is_final_reads, stop_is_final_state}
 use Rattle.x7_jtag.specs.Tap.{TookOfGiven, words_taken}
 

@@ -2,7 +2,7 @@
 use Rattle.std.specs.Prelude.{Bool, true, false, List, [], ◌∷◌, ◌++◌, map, replicate}
 use Rattle.x7_jtag.specs.declared.state.State.{State}
 use Rattle.x7_jtag.specs.declared.state.State.TheVariants as state
-use Rattle.x7_jtag.specs.States.{Clock, state_after}
+use Rattle.x7_jtag.specs.State.{Clock, state_after}
 use Rattle.x7_svf.specs.declared.statement.ScannedRegister.{ScannedRegister}
 use Rattle.x7_svf.specs.declared.statement.ScannedRegister.TheVariants as scanned
 use Rattle.x7_svf.specs.declared.statement.Statement.{Statement}

@@ -9,7 +9,7 @@ use Rattle.x7_svf.specs.declared.statement.Statement.TheVariants as statement
 use Rattle.x7_jtag.specs.Clocks.{clock, clocks, clocks_of, from_reset, shift_clocks, to_shift}
 use Rattle.x7_jtag.specs.Port.{Port, clocked, new_port, port_after, tdo_of}
 use Rattle.x7_engine.specs.Standing.{DeviceState}
-use Rattle.x7_jtag.specs.States.{Clock, test_logic_reset}
+use Rattle.x7_jtag.specs.State.{Clock, test_logic_reset}
 use Rattle.x7_jtag.specs.Tap.{TapStandsFor, TapState}
 
 -- bit i, and 0 past the last

@@ -7,9 +7,9 @@ use Rattle.x7_jtag.specs.declared.instruction.Instruction.{Instruction}
 use Rattle.x7_jtag.specs.declared.instruction.Instruction.TheVariants as instruction
 use Rattle.x7_jtag.specs.declared.state.State.{State}
 use Rattle.x7_jtag.specs.declared.state.State.TheVariants as state
-use Rattle.x7_jtag.specs.Instructions.{instruction_of}
+use Rattle.x7_jtag.specs.Instruction.{instruction_of}
 use Rattle.x7_jtag.specs.Queue.{Queue, bit_shown, empty, offered, shifted_out}
-use Rattle.x7_jtag.specs.States.{Clock, next_of, test_logic_reset}
+use Rattle.x7_jtag.specs.State.{Clock, next_of, test_logic_reset}
 
 -- the state, the instruction, the register between TDI and TDO, how many of eight bits or clocks there were, and the queue
 pub record Port : Type 0 where

@@ -5,7 +5,7 @@ use Rattle.x7_engine.specs.declared.regs.Regs.{Regs}
 use Rattle.x7_engine.specs.Kept.{on_the_bench}
 use Rattle.x7_engine.specs.Standing.{frames_among}
 use Rattle.x7_engine.specs.State.{history_taken, why_of, memory_in, state_owing, stop_in, taken_of}
-use Rattle.x7_engine.specs.Stops.{stop_fault}
+use Rattle.x7_engine.specs.Stop.{stop_fault}
 use Rattle.x7_engine.specs.declared.fault.Fault.{Fault}
 use Rattle.x7_memory.specs.FrameMap.{FrameMap}
 use Rattle.x7_jtag.specs.Port.{Port, words_read_out}

@@ -14,7 +14,7 @@ use Rattle.x7_jtag.specs.declared.state.State.{State}
 use Rattle.x7_jtag.specs.declared.state.State.TheVariants as state
 use Rattle.x7_jtag.specs.Port.{Port, port_after}
 use Rattle.x7_jtag.specs.Queue.{Queue}
-use Rattle.x7_jtag.specs.States.{Clock}
+use Rattle.x7_jtag.specs.State.{Clock}
 
 -- the stored values of a queue: the bytes held, the latest word taken of the device, and how many of its bits are still to go out
 pub record QueueState : Type 0 where

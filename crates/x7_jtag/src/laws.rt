@@ -8,7 +8,7 @@ ghost use Rattle.x7_jtag.specs.Port.{new_port, port_after, words_read_out};
 ghost use Rattle.x7_jtag.specs.Queue.{Sound, queue_after};
 ghost use Rattle.x7_jtag.specs.Shown.{bytes_taken, state_shown, state_with, port_words_due};
 ghost use Rattle.x7_jtag.specs.Tap.{OfEachPort};
-ghost use Rattle.x7_jtag.specs.States.{Clock, state_after, one, test_logic_reset};
+ghost use Rattle.x7_jtag.specs.State.{Clock, state_after, one, test_logic_reset};
 ghost use Rattle.x7_jtag.specs.declared.state.State.{State};
 
 /// Five clocks of TMS 1 reach Test-Logic-Reset from every state.

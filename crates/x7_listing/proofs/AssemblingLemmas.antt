@@ -6,8 +6,8 @@ use Rattle.x7_words.proofs.ListLemmas.{all_append, map_append}
 use Rattle.x7_listing.specs.Assembly.{AreHeadedAsm, Assembles, assembled, BeginsWithLines, IsFirstBadText, PassesLimitAt, with_line}
 use Rattle.x7_listing.specs.Assembling.{asm_state, TextsAreRead, OpensText, LinesAreRead}
 use Rattle.x7_listing.specs.declared.assembler.AsmFault.TheVariants as fault
-use Rattle.x7_crc.specs.Checking.{check_of_bytes}
-use Rattle.x7_crc.specs.Checking.{CheckerState, Keeps}
+use Rattle.x7_crc.specs.Checker.{check_of_bytes}
+use Rattle.x7_crc.specs.Checker.{CheckerState, Keeps}
 use Rattle.x7_listing.specs.Line.{Line, line_bytes, FitsLine, text_of}
 use Rattle.x7_text.specs.Reads.{Reads}
 

@@ -9,7 +9,7 @@ use Rattle.x7_listing.specs.BitLine.{bit_text}
 use Rattle.x7_listing.specs.StreamListing.{stream_listing}
 use Rattle.x7_listing.proofs.BitLemmas.{one_header}
 use Rattle.x7_listing.proofs.StreamLemmas.{stream_back}
-use Rattle.x7_crc.specs.Checking.{check_of_bytes}
+use Rattle.x7_crc.specs.Checker.{check_of_bytes}
 use Rattle.x7_listing.specs.Line.{line_bytes, FitsLine, IsLine, Line, text_of}
 use Rattle.x7_words.specs.Word.{AreBytes}
 use Rattle.x7_listing.specs.declared.assembler.AsmFault.{AsmFault}

@@ -7,7 +7,7 @@ use Rattle.x7_words.proofs.ListLemmas.{all_append, map_append}
 use Rattle.x7_text.proofs.SplitLemmas.{split_line}
 use Rattle.x7_listing.specs.Listing.{listing_of}
 use Rattle.x7_listing.specs.Assembly.{Assembles, assembled, with_line}
-use Rattle.x7_crc.specs.Checking.{check_of_bytes}
+use Rattle.x7_crc.specs.Checker.{check_of_bytes}
 use Rattle.x7_text.specs.Lines.{split}
 use Rattle.x7_listing.specs.Line.{Line, Empty, line_bytes, FitsLine, text_of, ended_texts}
 use Rattle.x7_listing.specs.Listed.{listing_lines}

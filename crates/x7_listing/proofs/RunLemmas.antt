@@ -5,7 +5,7 @@ use Rattle.x7_packets.specs.Packet.{payload_steps}
 use Rattle.x7_packets.specs.declared.header.Step.{Step}
 use Rattle.x7_packets.specs.declared.header.Step.TheVariants.{Filler, Nop, Open, Payload, Read, Bad}
 use Rattle.x7_packets.specs.Reading.{Place, Searching, Synced, Session, IsReading}
-use Rattle.x7_packets.specs.Cutting.{Adds, IsRun, Turns}
+use Rattle.x7_packets.specs.Cutter.{Adds, IsRun, Turns}
 use Rattle.x7_packets.specs.Mode.{Mode}
 use Rattle.x7_packets.specs.declared.cutter.Cut.{Cut}
 use Rattle.x7_packets.specs.declared.cutter.Cut.TheVariants.{Need, Skip, Sync, Head, Word, Body}

@@ -5,9 +5,9 @@ use Rattle.std.specs.List.{AllByRecursion}
 use Rattle.x7_words.proofs.ListLemmas.{all_back, same_prefix}
 use Rattle.x7_packets.specs.SyncWord.{sync_bytes}
 use Rattle.x7_packets.specs.Packet.{Packet, EachPacket, ended, stepped}
-use Rattle.x7_packets.specs.Taking.{ends_by, is_end}
+use Rattle.x7_packets.specs.Machine.{ends_by, is_end}
 use Rattle.x7_packets.specs.Reading.{Place, Searching, Synced, Session, IsReading, IsSession, tail_of}
-use Rattle.x7_packets.specs.Cutting.{Adds, LongerSession, Turns}
+use Rattle.x7_packets.specs.Cutter.{Adds, LongerSession, Turns}
 use Rattle.x7_packets.specs.declared.header.Step.{Step}
 use Rattle.x7_packets.specs.declared.header.Step.TheVariants.{Filler, Nop, Open, Payload, Read, Bad}
 use Rattle.x7_packets.specs.Mode.{Mode}

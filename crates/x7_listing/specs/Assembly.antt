@@ -2,7 +2,7 @@
 use Rattle.std.specs.Prelude.{◌≡◌, ◌≢◌, ◌⊎◌, ℕ, ◌+◌, ◌-◌, ◌<◌, ◌≤◌, List, [], ◌∷◌, ◌++◌, length, map, fold, Result, Ok, Err}
 use Rattle.std.specs.List.{AllByRecursion}
 use Rattle.x7_text.specs.Lines.{split}
-use Rattle.x7_crc.specs.Checking.{check_of_bytes}
+use Rattle.x7_crc.specs.Checker.{check_of_bytes}
 use Rattle.x7_listing.specs.declared.assembler.AsmFault.{AsmFault}
 use Rattle.x7_listing.specs.declared.assembler.AsmFault.TheVariants as fault
 use Rattle.x7_header.specs.Header.{Contents, header_bytes}

@@ -2,7 +2,7 @@
 use Rattle.std.specs.Prelude.{◌≡◌, Bool, List, [], ℕ, ◌++◌, take, false, true}
 use Rattle.x7_words.specs.Word.{bytes_of_word}
 use Rattle.x7_packets.specs.AtOnce.{TakesAsOneRun}
-use Rattle.x7_packets.specs.Cutting.{CutterState}
+use Rattle.x7_packets.specs.Cutter.{CutterState}
 use Rattle.x7_packets.specs.declared.cutter.Cut.TheVariants.{Head}
 use Rattle.x7_packets.specs.declared.header.Step.{Step}
 use Rattle.x7_packets.specs.Reading.{Place, Session, tail_of}

@@ -4,7 +4,7 @@ use Rattle.std.specs.List.{flat_map}
 use Rattle.x7_packets.specs.SyncWord.{sync_bytes}
 use Rattle.x7_packets.specs.Packet.{Packet, stepped}
 use Rattle.x7_packets.specs.Reading.{Place, Searching, Synced, Session, IsReading, tail_of}
-use Rattle.x7_packets.specs.Cutting.{CutterState, CutterStandsFor, Adds, Turns, IsRun}
+use Rattle.x7_packets.specs.Cutter.{CutterState, CutterStandsFor, Adds, Turns, IsRun}
 use Rattle.x7_packets.specs.declared.header.Step.{Step}
 use Rattle.x7_packets.specs.declared.header.Step.TheVariants.{Payload}
 use Rattle.x7_packets.specs.declared.cutter.Cut.{Cut}

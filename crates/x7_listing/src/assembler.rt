@@ -1,7 +1,7 @@
 //! Assembling a whole text.
 ghost use Rattle.std.specs.Prelude.{◌≡◌, ℕ, List, [], ◌≤◌, ◌⊎◌, length, Ok, Err, IfOk, IfErr, MatchResult};
 ghost use Rattle.x7_words.specs.Word.{AreBytes};
-ghost use Rattle.x7_text.specs.LineReading.{WantsAt};
+ghost use Rattle.x7_text.specs.LineReader.{WantsAt};
 ghost use Rattle.x7_listing.specs.Assembly.{IsAsm};
 ghost use Rattle.x7_listing.specs.Assembling.{IsFirstOrGood};
 ghost use Rattle.x7_listing.specs.StreamListing.{stream_listing};

@@ -9,7 +9,7 @@ use Rattle.x7_text.proofs.PieceLemmas.{hex_free}
 use Rattle.x7_text.proofs.SplitLemmas.{split_line, split_some}
 use Rattle.x7_mcs.specs.Flash.{FlashReading, after_data, after_line, after_lines, and_then, of_no_line}
 use Rattle.x7_mcs.specs.Lines.{bare, lines_of, without_return}
-use Rattle.x7_mcs.specs.Places.{DataRecord}
+use Rattle.x7_mcs.specs.DataRecords.{DataRecord}
 use Rattle.x7_mcs.specs.McsLines.{AreGoodWith, HasMcsFault, HasReadRecords, flash_of_lines}
 use Rattle.x7_mcs.specs.Record.{sum_byte}
 use Rattle.x7_mcs.specs.State.{McsLinesState, FailsAsReading, TookRecords, at_base}

@@ -1,7 +1,7 @@
 -- What a flash text gives, said in other words.
 use Rattle.std.proofs.lemmas.Bool.{cases_lt}
 use Rattle.std.proofs.Common.{◌≡◌, ℕ, zero, suc, ◌+◌, ◌<◌, ◌≤◌, Bool, true, false, if◌then◌else◌, None, Some, MatchResult, inl, inr, ◌⊎◌, List, Result, Ok, Err, refl, subst, arith}
-use Rattle.x7_mcs.specs.Places.{DataRecord, covered, overlap}
+use Rattle.x7_mcs.specs.DataRecords.{DataRecord, covered, overlap}
 use Rattle.x7_mcs.specs.declared.fault.McsFault.{McsFault}
 use Rattle.x7_mcs.specs.declared.fault.McsFault.TheVariants as fault
 

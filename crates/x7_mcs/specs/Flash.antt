@@ -4,7 +4,7 @@ use Rattle.x7_mcs.specs.declared.fault.McsFault.{McsFault}
 use Rattle.x7_mcs.specs.declared.fault.McsFault.TheVariants as fault
 use Rattle.x7_mcs.specs.Lines.{lines_of}
 use Rattle.x7_mcs.specs.Record.{Meaning, record_data, meaning_of, pairs}
-use Rattle.x7_mcs.specs.Places.{DataRecord, records_image, with_record}
+use Rattle.x7_mcs.specs.DataRecords.{DataRecord, records_image, with_record}
 
 -- what lines give: the base that stands, whether a record 01 stood, and the data records, the last first
 pub record FlashReading : Type 0 where

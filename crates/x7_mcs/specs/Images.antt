@@ -1,7 +1,7 @@
 -- An image and a place in a text, each in one value (this project's choice).
 use Rattle.std.specs.Prelude.{◌≡◌, ◌⊎◌, ℕ, List, ◌∷◌, Result, Ok, Err, MatchResult}
 use Rattle.x7_mcs.specs.Flash.{FlashReading, after_meaning}
-use Rattle.x7_mcs.specs.Places.{DataRecord, with_record}
+use Rattle.x7_mcs.specs.DataRecords.{DataRecord, with_record}
 use Rattle.x7_mcs.specs.Record.{meaning_of}
 use Rattle.x7_mcs.specs.State.{FailsAsReading, HoldsRecords, TookRecords, at_base}
 use Rattle.x7_mcs.specs.declared.fault.McsFault.{McsFault}

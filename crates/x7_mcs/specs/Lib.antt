@@ -1,6 +1,6 @@
 pub mod Lines
 pub mod Record
-pub mod Places
+pub mod DataRecords
 pub mod Flash
 pub mod Text
 pub mod State

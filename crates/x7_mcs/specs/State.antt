@@ -1,7 +1,7 @@
 -- What the bytes and marks of a text that is being read stand for (this project's choice).
 use Rattle.std.specs.Prelude.{◌≡◌, ℕ, ◌+◌, ◌/◌, ◌%◌, ◌==◌, ◌-◌, ◌&&◌, ◌<◌, ◌≤◌, nat_le, nat_lt, max, Bool, true, false, if◌then◌else◌, None, Some, Result, Ok, Err, ◌⊎◌, List, length, get_or}
 use Rattle.std.specs.Int.{bit_at}
-use Rattle.x7_mcs.specs.Places.{byte_at, covered, extent, DataRecord}
+use Rattle.x7_mcs.specs.DataRecords.{byte_at, covered, extent, DataRecord}
 use Rattle.x7_mcs.specs.declared.fault.McsFault.{McsFault}
 use Rattle.x7_mcs.specs.declared.fault.McsFault.TheVariants as fault
 use Rattle.x7_mcs.specs.Record.{Meaning, pairs}

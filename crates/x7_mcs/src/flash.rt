@@ -1,6 +1,6 @@
 //! The bytes of a flash text.
 ghost use Rattle.std.specs.Prelude.{◌≡◌, ℕ, ◌≤◌, ◌⊎◌, List, [], length, Ok, Err, MatchResult, IfOk, IfErr};
-ghost use Rattle.x7_text.specs.LineReading.{WantsAt};
+ghost use Rattle.x7_text.specs.LineReader.{WantsAt};
 ghost use Rattle.x7_mcs.specs.Flash.{mcs_of};
 ghost use Rattle.x7_mcs.specs.McsLines.{AreGoodWith};
 ghost use Rattle.x7_words.specs.Flash.{flash_limit};

@@ -1,7 +1,7 @@
 //! The bytes of a flash that is being read, and the places that its records gave.
 ghost use Rattle.std.specs.Prelude.{◌≡◌, ℕ, true, ◌≤◌, ◌<◌, ◌+◌, ◌-◌, ◌*◌, ◌/◌, ◌%◌, ◌^◌, ◌==◌, ◌&&◌, nat_le, nat_lt, max, if◌then◌else◌, List, [], length, get_or, None, Some, Ok, Err, MatchResult, MatchOption};
 ghost use Rattle.std.specs.Int.{bit_at};
-ghost use Rattle.x7_mcs.specs.Places.{DataRecord, overlap};
+ghost use Rattle.x7_mcs.specs.DataRecords.{DataRecord, overlap};
 ghost use Rattle.x7_mcs.specs.Images.{HoldsIn, HoldsMore, IsRecordRefused, data_at};
 ghost use Rattle.x7_mcs.specs.State.{AreFree, IsFirstMarked, IsWrittenFrom, is_marked};
 ghost use Rattle.x7_mcs.specs.declared.fault.McsFault.{McsFault};

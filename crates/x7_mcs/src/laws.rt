@@ -4,7 +4,7 @@ ghost use Rattle.x7_text.specs.Row.{rows};
 ghost use Rattle.x7_words.specs.Flash.{flash_limit};
 ghost use Rattle.x7_words.specs.Word.{AreBytes};
 ghost use Rattle.x7_mcs.specs.Flash.{FlashReading, after_lines, and_then, mcs_of, flash_reading};
-ghost use Rattle.x7_mcs.specs.Places.{HaveNoOverlap, DataRecord, byte_at, covered, covers, extent, records_image, overlap};
+ghost use Rattle.x7_mcs.specs.DataRecords.{HaveNoOverlap, DataRecord, byte_at, covered, covers, extent, records_image, overlap};
 ghost use Rattle.x7_mcs.specs.Text.{mcs_text, row_lines, row_size};
 ghost use Rattle.x7_mcs.specs.declared.fault.McsFault.{McsFault};
 

@@ -1,10 +1,10 @@
 //! What the lines of a flash text give, as they come.
 ghost use Rattle.std.specs.Prelude.{◌≡◌, ◌+◌, ◌<◌, ◌≤◌, ◌++◌, ◌∷◌, [], List, ℕ, length, Ok, IfErr, IfOk, MatchOption, MatchResult};
-ghost use Rattle.x7_text.specs.LineReading.{WantsAt};
+ghost use Rattle.x7_text.specs.LineReader.{WantsAt};
 ghost use Rattle.x7_text.specs.Lines.{split};
 ghost use Rattle.x7_mcs.specs.Flash.{after_data, after_line};
 ghost use Rattle.x7_mcs.specs.Images.{HoldsIn, flash_reading_at};
-ghost use Rattle.x7_mcs.specs.Places.{DataRecord};
+ghost use Rattle.x7_mcs.specs.DataRecords.{DataRecord};
 ghost use Rattle.x7_mcs.specs.Text.{last_row, row_size};
 ghost use Rattle.x7_mcs.specs.McsLines.{AreGoodWith, HasMcsFault, HasReadRecords, ReachesIn, TakesFirstLine, mcs_lines_state, flash_of_lines};
 ghost use Rattle.x7_mcs.specs.declared.mcs_lines.McsLines.{McsLines};

@@ -1,7 +1,7 @@
 //! One line more.
 ghost use Rattle.std.specs.Prelude.{true, ◌<◌, ◌^◌, List, length};
 ghost use Rattle.x7_mcs.specs.Record.{record_data, meaning_of};
-ghost use Rattle.x7_mcs.specs.Places.{DataRecord};
+ghost use Rattle.x7_mcs.specs.DataRecords.{DataRecord};
 ghost use Rattle.x7_mcs.specs.Flash.{after_data, after_line};
 ghost use Rattle.x7_mcs.specs.Images.{CallComesTo, HoldsIn, after_record, flash_reading_at};
 ghost use Rattle.x7_mcs.specs.declared.fault.McsFault.{McsFault};

@@ -6,7 +6,7 @@ use Rattle.std.specs.List.Sorted.{IsNonDecreasingBy}
 use Rattle.std.proofs.lemmas.Bool.Decides.{eqb_tells}
 use Rattle.std.proofs.lemmas.List.Sorted.{All-permutation, sum_by-IsPermutation}
 use Rattle.std.proofs.lemmas.List.Sums.{sum_by-cons}
-use Rattle.x7_memory.specs.Planned.{PlanRow, IsPlan, IsDraft, AreInOrder, AreApart, IsPlanRow}
+use Rattle.x7_memory.specs.Plan.{PlanRow, IsPlan, IsDraft, AreInOrder, AreApart, IsPlanRow}
 
 -- whether a row has the address, and how many rows have it
 at : ℕ → PlanRow → ℕ

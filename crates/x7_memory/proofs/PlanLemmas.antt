@@ -11,7 +11,7 @@ use Rattle.std.proofs.lemmas.List.Elements.{All-nil, All-cons, All-head, All-tai
 use Rattle.std.proofs.lemmas.Option.{none-some, same_Some}
 use Rattle.std.proofs.lemmas.Bool.{cases_order}
 use Rattle.x7_words.specs.Word.{AreWords}
-use Rattle.x7_memory.specs.Planned.{PlanRow, IsPlan, IsPlanRow, AreInOrder, AreApart, planned, planned_addresses}
+use Rattle.x7_memory.specs.Plan.{PlanRow, IsPlan, IsPlanRow, AreInOrder, AreApart, planned, planned_addresses}
 use Rattle.x7_memory.specs.Places.{IsRowPlace, IsGap}
 
 pub no_row : PlanRow

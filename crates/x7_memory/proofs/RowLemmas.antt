@@ -11,7 +11,7 @@ use Rattle.std.proofs.Math.Seq.{drop-append_seam}
 use Rattle.std.proofs.lemmas.List.Sorted.{All-permutation, IsNonDecreasingBy-from_default, IsPermutation-map}
 use Rattle.std.proofs.lemmas.List.Elements.{All-nil, All-cons, All-head, All-tail}
 use Rattle.x7_memory.specs.declared.rows.Row.{Row}
-use Rattle.x7_memory.specs.Planned.{PlanRow, AreInOrder, IsDraft, IsPlanRow}
+use Rattle.x7_memory.specs.Plan.{PlanRow, AreInOrder, IsDraft, IsPlanRow}
 use Rattle.x7_memory.specs.Places.{IsRowPlace, IsGap}
 use Rattle.x7_memory.specs.Rows.{AreKept, row_in, rows_in}
 

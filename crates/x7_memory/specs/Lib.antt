@@ -1,7 +1,7 @@
 pub mod FrameMap
 pub mod Frames
-pub mod Planned
+pub mod Plan
 pub mod Places
 pub mod Flat
-pub mod Stored
+pub mod Memory
 pub mod Rows

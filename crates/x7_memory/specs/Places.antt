@@ -1,6 +1,6 @@
 -- Where an address stands among the rows of a plan, or would go (this project's choice).
 use Rattle.std.specs.Prelude.{◌≡◌, ℕ, ◌<◌, ◌≤◌, List, length, slice_index_or}
-use Rattle.x7_memory.specs.Planned.{PlanRow}
+use Rattle.x7_memory.specs.Plan.{PlanRow}
 
 -- the row at place i has the address
 pub record IsRowPlace (rows : List PlanRow) (far i : ℕ) : Type 0 where

@@ -2,7 +2,7 @@
 use Rattle.std.specs.Prelude.{ℕ, ◌+◌, ◌≤◌, List, length, map, take, drop, All}
 use Rattle.x7_memory.specs.declared.rows.Row.{Row}
 use Rattle.x7_memory.specs.declared.rows.Rows.TheInside.{Inside}
-use Rattle.x7_memory.specs.Planned.{PlanRow, PlanData, IsDraft}
+use Rattle.x7_memory.specs.Plan.{PlanRow, PlanData, IsDraft}
 
 -- a row with the words from its place on
 abbrev pub row_in : ℕ → List ℕ → Row → PlanRow

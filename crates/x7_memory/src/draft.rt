@@ -1,6 +1,6 @@
 //! Frames as they come, which become a plan at once.
 ghost use Rattle.std.specs.Prelude.{◌≡◌, [], ◌∷◌, ◌++◌, length, IsPermutation, IfOk, OnOk, OnErr};
-ghost use Rattle.x7_memory.specs.Planned.{IsPlan, AreApart};
+ghost use Rattle.x7_memory.specs.Plan.{IsPlan, AreApart};
 
 use crate::plan::Plan;
 use crate::rows::Rows;
@@ -15,7 +15,7 @@ pub struct Draft {
 }
 
 impl Model for Draft {
-    ghost use Rattle.x7_memory.specs.Planned.{PlanData, IsDraft};
+    ghost use Rattle.x7_memory.specs.Plan.{PlanData, IsDraft};
 
     ghost Value = { PlanData };
 

@@ -25,7 +25,7 @@ pub struct Memory {
 
 impl Model for Memory {
     ghost use Rattle.std.specs.Prelude.{ℕ, List};
-    ghost use Rattle.x7_memory.specs.Stored.{frames_seen, HasRoom};
+    ghost use Rattle.x7_memory.specs.Memory.{frames_seen, HasRoom};
 
     ghost Value = { List (List ℕ) };
 

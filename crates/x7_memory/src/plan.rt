@@ -1,7 +1,7 @@
 //! The frames that a user plans to write.
 ghost use Rattle.std.specs.Prelude.{◌≡◌, ℕ, ◌<◌, ◌≤◌, ◌==◌, ◌↔◌, true, false, Ok, if◌then◌else◌, [], length, slice_index_or, Contains, Some, None, IfSome, IfNone, IfOk, IfErr, OnOk, OnErr};
 ghost use Rattle.std.specs.List.{insert};
-ghost use Rattle.x7_memory.specs.Planned.{PlanRow, PlanData, IsPlan, HasMore, planned, planned_addresses};
+ghost use Rattle.x7_memory.specs.Plan.{PlanRow, PlanData, IsPlan, HasMore, planned, planned_addresses};
 ghost use Rattle.x7_memory.specs.Places.{IsRowPlace, IsGap};
 
 use crate::rows::Rows;

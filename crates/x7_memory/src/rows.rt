@@ -2,7 +2,7 @@
 ghost use Rattle.std.specs.Prelude.{◌≡◌, [], ◌∷◌, ◌++◌, ◌<◌, ◌≤◌, length, slice_index_or, IsPermutation, IfOk, IfErr, IfSome, IfNone, OnOk, OnErr};
 ghost use Rattle.std.specs.List.{insert};
 ghost use Rattle.std.specs.List.Sorted.{IsNonDecreasingBy};
-ghost use Rattle.x7_memory.specs.Planned.{PlanRow, AreInOrder};
+ghost use Rattle.x7_memory.specs.Plan.{PlanRow, AreInOrder};
 ghost use Rattle.x7_memory.specs.Places.{IsRowPlace, IsGap};
 
 use std::alloc::Global;
@@ -27,7 +27,7 @@ pub(crate) struct Rows {
 }
 
 impl Model for Rows {
-    ghost use Rattle.x7_memory.specs.Planned.{PlanData};
+    ghost use Rattle.x7_memory.specs.Plan.{PlanData};
     ghost use Rattle.x7_memory.specs.Rows.{rows_seen, AreKept};
 
     ghost Value = { PlanData };

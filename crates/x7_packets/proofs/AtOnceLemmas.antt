@@ -13,11 +13,11 @@ use Rattle.x7_packets.specs.declared.header.Step.TheVariants.{Nop, Open, Payload
 use Rattle.x7_packets.specs.declared.cutter.Cut.TheVariants.{Body, Head, Skip}
 use Rattle.x7_packets.specs.Mode.{Mode}
 use Rattle.x7_packets.specs.AtOnce.{BeginsWrite, EndsGap, in_write, longest_short_gap, longest_short_write, most_short_words, short_gap_room, WritesFew, WritesOne}
-use Rattle.x7_packets.specs.Cutting.{AtPlace, CutterState, CutterStandsFor, LongerSession, AfterRun, TakesAsOneRun}
+use Rattle.x7_packets.specs.Cutter.{AtPlace, CutterState, CutterStandsFor, LongerSession, AfterRun, TakesAsOneRun}
 use Rattle.x7_packets.specs.PacketWords.{dummy_word, no_op, sync_word, type1_write, type1_write_kind}
 use Rattle.x7_packets.specs.Packet.{Packet, ends_session, meaning, payload_steps, register_of}
 use Rattle.x7_packets.specs.Reading.{Place, Searching, Session, Synced, packet_bytes, session_bytes}
-use Rattle.x7_packets.specs.Taking.{Grows, MachineStandsFor, MachineState, ends_by, is_end}
+use Rattle.x7_packets.specs.Machine.{Grows, MachineStandsFor, MachineState, ends_by, is_end}
 use Rattle.x7_packets.proofs.CutLemmas.{body_more, joined_more, packet_bytes_grown, skip_found, sync_given, word_more}
 use Rattle.x7_packets.proofs.NopLemmas.{nop_grows}
 use Rattle.x7_packets.proofs.PacketLemmas.{words_of_payload}

@@ -1,4 +1,4 @@
--- Lemmas on specs/Cutting: what a cutter stands for after each kind of run.
+-- Lemmas on specs/Cutter: what a cutter stands for after each kind of run.
 use Rattle.std.proofs.Common.{◌≡◌, ℕ, ◌+◌, ◌<◌, ◌≤◌, Bool, true, false, List, [], ◌∷◌, ◌++◌, None, Some, inl, inr, length, map, take, Bor, refl, ap, sym, ◌∙◌, append_assoc, append-nil, if◌then◌else◌, arith, length-append, length-take-le, take_all}
 use Rattle.std.specs.List.{flat_map}
 use Rattle.std.proofs.lemmas.Grind.{flat_map-append}
@@ -7,9 +7,9 @@ use Rattle.x7_words.proofs.ListLemmas.{all_append}
 use Rattle.x7_packets.specs.SyncWord.{sync_bytes, HasNoSync}
 use Rattle.x7_packets.specs.Matching.{MatcherStandsFor, Searched}
 use Rattle.x7_packets.specs.Packet.{Packet, words, stepped}
-use Rattle.x7_packets.specs.Taking.{MachineStandsFor, Grows, ends_by}
+use Rattle.x7_packets.specs.Machine.{MachineStandsFor, Grows, ends_by}
 use Rattle.x7_packets.specs.Reading.{Place, Searching, Synced, Session, IsReading, IsSession, packet_bytes, session_bytes}
-use Rattle.x7_packets.specs.Cutting.{CutterState, CutterStandsFor, AtPlace, Cuts, KeepsNone, LongerSession, AfterRun, run_steps}
+use Rattle.x7_packets.specs.Cutter.{CutterState, CutterStandsFor, AtPlace, Cuts, KeepsNone, LongerSession, AfterRun, run_steps}
 use Rattle.x7_packets.specs.declared.header.Step.{Step}
 use Rattle.x7_packets.specs.declared.header.Step.TheVariants.{Payload}
 use Rattle.x7_packets.specs.Mode.{Mode}

@@ -11,7 +11,7 @@ use Rattle.x7_packets.specs.declared.cutter.Cut.{Cut}
 use Rattle.x7_packets.specs.declared.cutter.Cut.TheVariants.{Need, Skip, Sync, Head, Word, Body}
 use Rattle.x7_packets.specs.Packet.{Packet, words, stepped, payload_steps, ended}
 use Rattle.x7_packets.specs.Reading.{Place, Searching, Synced, Session, IsReading, session_bytes, place_bytes, packet_bytes, tail_of}
-use Rattle.x7_packets.specs.Cutting.{Adds, CutterState, CutterStandsFor, GoesOnAt, LongerSession, AfterRun, run_steps}
+use Rattle.x7_packets.specs.Cutter.{Adds, CutterState, CutterStandsFor, GoesOnAt, LongerSession, AfterRun, run_steps}
 use Rattle.x7_packets.specs.ByHand.{Reading, reading_of}
 use Rattle.x7_packets.specs.History.{Read, Write, History, entry, entered, entered_all, entered_sessions, history, history_in, history_of, next_in, next_word}
 use Rattle.x7_packets.proofs.ByHandLemmas.{reading_is}

@@ -9,13 +9,13 @@ use Rattle.x7_words.proofs.WordLemmas.{bytes_words, chunk_count, words_by_chunks
 use Rattle.x7_packets.specs.SyncWord.{sync_bytes}
 use Rattle.x7_packets.specs.declared.header.Step.TheVariants.{Nop}
 use Rattle.x7_packets.specs.Mode.{Mode}
-use Rattle.x7_packets.specs.Cutting.{AtPlace, CutterState, CutterStandsFor}
+use Rattle.x7_packets.specs.Cutter.{AtPlace, CutterState, CutterStandsFor}
 use Rattle.x7_packets.specs.History.{history}
 use Rattle.x7_packets.specs.Nops.{Idles, equal_bytes, nop_bytes}
 use Rattle.x7_packets.specs.PacketWords.{no_op}
 use Rattle.x7_packets.specs.Packet.{Packet}
 use Rattle.x7_packets.specs.Reading.{Place, Searching, Session, Synced, packet_bytes, session_bytes}
-use Rattle.x7_packets.specs.Taking.{Grows, MachineStandsFor, MachineState}
+use Rattle.x7_packets.specs.Machine.{Grows, MachineStandsFor, MachineState}
 use Rattle.x7_packets.proofs.CutLemmas.{joined_more, packet_bytes_grown}
 use Rattle.x7_packets.proofs.HistoryLemmas.{grown_goes_on}
 use Rattle.x7_packets.proofs.TakeLemmas.{header_whole}

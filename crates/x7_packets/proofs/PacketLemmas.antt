@@ -7,7 +7,7 @@ use Rattle.x7_words.proofs.ListLemmas.{flat_map_last, same_prefix, map_append}
 use Rattle.x7_packets.specs.declared.header.Step.{Step}
 use Rattle.x7_packets.specs.declared.header.Step.TheVariants.{Payload}
 use Rattle.x7_packets.specs.Packet.{Packet, Packets, EachPacket, IsPacket, IsWhole, OnlyLastEnds, NoneEnds, latest_of, latest_after, count_of, named_by, words, payload_steps, stepped, meaning, ends_session, ended, last_ends}
-use Rattle.x7_packets.specs.Taking.{AllWhole, is_end}
+use Rattle.x7_packets.specs.Machine.{AllWhole, is_end}
 
 pub whole_more : (l : Option ℕ) (ps : List Packet) (p : Packet) → AllWhole l ps → IsPacket (latest_of l ps) p → IsWhole p → AllWhole l (ps ++ p ∷ [])
 whole_more l [] p a i w = (i, w, tt)

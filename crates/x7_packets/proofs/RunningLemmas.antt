@@ -1,4 +1,4 @@
--- Lemmas on specs/Running.
+-- Lemmas on specs/Stream.
 use Rattle.std.proofs.Common.{Option, ◌≡◌, ◌≢◌, ℕ, ◌+◌, ◌*◌, ◌-◌, ◌<◌, ◌≤◌, ◌↔◌, Bool, true, false, List, [], ◌∷◌, ◌++◌, length, take, drop, Bor, inl, inr, refl, ap, sym, subst, ◌∙◌, append_assoc, append-nil, arith, length-append, length-take, if◌then◌else◌, ◌⊎◌, suc}
 use Rattle.std.specs.Bool.{⊤}
 use Rattle.std.proofs.lemmas.List.{drop-drop, drop-take, take-append-drop, take-take, take_all, take_at, drop_all}
@@ -8,7 +8,7 @@ use Rattle.x7_words.specs.Word.{words_of_bytes}
 use Rattle.x7_packets.specs.SyncWord.{sync_bytes}
 use Rattle.x7_packets.specs.Packet.{Packet, ended, payload_steps}
 use Rattle.x7_packets.specs.Reading.{Place, Searching, Synced, Session, IsPlace, IsReading, tail_of}
-use Rattle.x7_packets.specs.Cutting.{Adds, AtPlace, CompletesNone, CutterState, CutterStandsFor, Cuts, ComesNearer, IsLent, IsNeed, IsRun, SkipsAll, LongerSession, Turns, AfterRun, TakesAsOneRun, between, calls_left, run_bytes}
+use Rattle.x7_packets.specs.Cutter.{Adds, AtPlace, CompletesNone, CutterState, CutterStandsFor, Cuts, ComesNearer, IsLent, IsNeed, IsRun, SkipsAll, LongerSession, Turns, AfterRun, TakesAsOneRun, between, calls_left, run_bytes}
 use Rattle.x7_packets.specs.declared.header.Step.{Step}
 use Rattle.x7_packets.specs.declared.cutter.Cut.{Cut}
 use Rattle.x7_packets.specs.declared.cutter.Cut.TheVariants as cut
@@ -18,7 +18,7 @@ use Rattle.x7_packets.specs.declared.stream.Run.{Run}
 use Rattle.x7_packets.specs.declared.stream.Run.TheVariants as run
 use Rattle.x7_packets.specs.PacketsState.{PacketsState, piece_size}
 use Rattle.x7_packets.specs.Run.{FitsRun, IsNext, RunAdds, cut_of, is_last, bytes_of_run}
-use Rattle.x7_packets.specs.Running.{GivesRun, GivesUp, IsFound, IsLastFound, IsRunOf, PacketsStandFor, ReadsOn, SameDue, Steps, ReadsAndGives, filled, not_given, with_tail}
+use Rattle.x7_packets.specs.Stream.{GivesRun, GivesUp, IsFound, IsLastFound, IsRunOf, PacketsStandFor, ReadsOn, SameDue, Steps, ReadsAndGives, filled, not_given, with_tail}
 
 -- how many reads there are at most until a word is whole
 abbrev pub turns_left : List ℕ → List ℕ → ℕ

@@ -1,4 +1,4 @@
--- Lemmas on specs/Taking: what a machine stands for after one word more, and after several payload words.
+-- Lemmas on specs/Machine: what a machine stands for after one word more, and after several payload words.
 use Rattle.std.proofs.Common.{◌≡◌, ℕ, ◌+◌, ◌-◌, ◌<◌, ◌==◌, ◌^◌, List, [], ◌∷◌, ◌++◌, Option, None, Some, true, false, length, refl, ap, sym, ◌∙◌, append_assoc, arith, length-append, inl, inr}
 use Rattle.std.proofs.lemmas.Bool.{cases_eq}
 use Rattle.std.proofs.lemmas.Bool.Decides.{nat_tests}
@@ -8,7 +8,7 @@ use Rattle.x7_words.proofs.ListLemmas.{flat_map_last, map_append, all_append}
 use Rattle.x7_packets.specs.declared.header.Step.{Step}
 use Rattle.x7_packets.specs.declared.header.Step.TheVariants.{Filler, Nop, Open, Payload, Read, Bad}
 use Rattle.x7_packets.specs.Packet.{Packet, IsPacket, IsWhole, NoneEnds, latest_of, latest_after, count_of, named_by, words, payload_steps, stepped, meaning, ends_session, last_ends}
-use Rattle.x7_packets.specs.Taking.{MachineState, MachineStandsFor, AtHeader, InPayload, Grows, is_end, ends_by}
+use Rattle.x7_packets.specs.Machine.{MachineState, MachineStandsFor, AtHeader, InPayload, Grows, is_end, ends_by}
 use Rattle.x7_packets.proofs.PacketLemmas.{whole_more, each_more, latest_more, none_more, only_more, header_ends, last_ends_more, ended_more}
 
 -- a header whose packet is whole at once

@@ -4,10 +4,10 @@ use Rattle.std.specs.Borrow.{Bor}
 use Rattle.x7_words.specs.Word.{bytes_of_word}
 use Rattle.x7_regs.specs.Register.{number_of}
 use Rattle.x7_regs.specs.declared.register.Reg.TheVariants.{Cmd}
-pub use Rattle.x7_packets.specs.Cutting.{TakesAsOneRun}
-use Rattle.x7_packets.specs.Cutting.{CutterState}
+pub use Rattle.x7_packets.specs.Cutter.{TakesAsOneRun}
+use Rattle.x7_packets.specs.Cutter.{CutterState}
 use Rattle.x7_packets.specs.PacketWords.{type1_write}
-use Rattle.x7_packets.specs.Taking.{MachineState}
+use Rattle.x7_packets.specs.Machine.{MachineState}
 use Rattle.x7_packets.specs.SyncWord.{sync_bytes}
 use Rattle.x7_packets.specs.declared.cutter.Cut.TheVariants.{Body, Head, Skip, Sync, Word}
 use Rattle.x7_packets.specs.declared.header.Step.TheVariants.{Open}

@@ -9,7 +9,7 @@ use Rattle.x7_packets.specs.History.{Entry, Write, entry}
 use Rattle.x7_packets.specs.History as access
 use Rattle.x7_packets.specs.Reading.{Place, Searching, Session, Synced}
 use Rattle.x7_packets.specs.ByHand.{Reading}
-use Rattle.x7_packets.specs.RunningCheck.{RegisterWrite}
+use Rattle.x7_packets.specs.CheckedWrites.{RegisterWrite}
 
 -- the bytes of words
 abbrev pub stream : List ℕ → List ℕ

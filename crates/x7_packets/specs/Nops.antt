@@ -2,7 +2,7 @@
 use Rattle.std.specs.Prelude.{◌≡◌, ℕ, List, replicate}
 use Rattle.std.specs.List.{flat_map}
 use Rattle.x7_words.specs.Word.{bytes_of_word}
-use Rattle.x7_packets.specs.Cutting.{CutterState, CutterStandsFor}
+use Rattle.x7_packets.specs.Cutter.{CutterState, CutterStandsFor}
 use Rattle.x7_packets.specs.History.{history}
 use Rattle.x7_packets.specs.PacketWords.{no_op}
 use Rattle.x7_packets.specs.Reading.{Place, Session}

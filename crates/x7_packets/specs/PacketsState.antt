@@ -1,6 +1,6 @@
 -- What is kept of packets over an input (this project's choice).
 use Rattle.std.specs.Prelude.{ℕ, List, Bool}
-use Rattle.x7_packets.specs.Cutting.{CutterState}
+use Rattle.x7_packets.specs.Cutter.{CutterState}
 use Rattle.x7_packets.specs.FoundRun.{FoundRun}
 
 -- how many bytes are read at once at most, as many as the buffer holds

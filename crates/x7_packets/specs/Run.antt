@@ -1,7 +1,7 @@
 -- The runs of a stream, as they come one after another (this project's choice).
 use Rattle.std.specs.Prelude.{◌≡◌, ℕ, ◌<◌, List, [], ◌++◌, length, Bool, true, false}
 use Rattle.x7_packets.specs.Reading.{Place, Searching, Synced, Session, IsReading}
-use Rattle.x7_packets.specs.Cutting.{Adds, IsRun, Turns, run_bytes}
+use Rattle.x7_packets.specs.Cutter.{Adds, IsRun, Turns, run_bytes}
 use Rattle.x7_packets.specs.declared.cutter.Cut.{Cut}
 use Rattle.x7_packets.specs.declared.cutter.Cut.TheVariants as cut
 use Rattle.x7_packets.specs.Mode.{Mode}

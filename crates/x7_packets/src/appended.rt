@@ -9,7 +9,7 @@ ghost use Rattle.x7_packets.specs.History.{history_of};
 ghost use Rattle.x7_packets.specs.Packet.{IsWhole, Packet, Packets, words};
 ghost use Rattle.x7_packets.specs.Reading.{Searching, is_synced, tail_of};
 ghost use Rattle.x7_packets.specs.SyncWord.{HasNoSync, sync_bytes};
-ghost use Rattle.x7_packets.specs.Taking.{AllWhole};
+ghost use Rattle.x7_packets.specs.Machine.{AllWhole};
 
 /// After bytes that end searching, bytes that begin with a dummy word are read as they are alone: the reading of both is
 /// one after the other, and so is their history, whose places are moved. The same holds of each prefix of the later bytes.

@@ -4,7 +4,7 @@ ghost use Rattle.x7_words.specs.Word.{bytes_of_word};
 ghost use Rattle.x7_regs.specs.Register.{number_of};
 ghost use Rattle.x7_regs.specs.declared.register.Reg.TheVariants.{Cmd};
 ghost use Rattle.x7_packets.specs.AtOnce.{BeginsWrite, EndsGap, WritesFew, WritesOne};
-ghost use Rattle.x7_packets.specs.Cutting.{between, calls_left, CompletesNone, CutterStandsFor, ComesNearer, EndsWithWord, IsBody, IsLent, IsNeed, IsOneWord, IsRun, MovesPast, run_bytes, SkipsAll, TakesAsOneRun};
+ghost use Rattle.x7_packets.specs.Cutter.{between, calls_left, CompletesNone, CutterStandsFor, ComesNearer, EndsWithWord, IsBody, IsLent, IsNeed, IsOneWord, IsRun, MovesPast, run_bytes, SkipsAll, TakesAsOneRun};
 ghost use Rattle.x7_packets.specs.Matching.{IsClear};
 ghost use Rattle.x7_packets.specs.Nops.{Idles, nop_bytes};
 ghost use Rattle.x7_packets.specs.PacketWords.{no_op};
@@ -125,7 +125,7 @@ pub struct Cutter {
 
 impl Model for Cutter {
     ghost use Rattle.std.specs.Prelude.{◌≡◌, ◌≤◌, take};
-    ghost use Rattle.x7_packets.specs.Cutting.{CutterState, KeepsNone};
+    ghost use Rattle.x7_packets.specs.Cutter.{CutterState, KeepsNone};
     ghost use Rattle.x7_packets.specs.Mode.{mode_of};
 
     ghost Value = { CutterState };

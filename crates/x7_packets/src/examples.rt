@@ -4,7 +4,7 @@ ghost use Rattle.x7_packets.specs.ByHand.{packets_of, reading_of};
 ghost use Rattle.x7_packets.specs.Examples.{bad, bad_at, desync, desynced, filler, in_session, nop, opened, opening, read, read_at, reading_of_place, session_with, synced, then_gap, with_tail, write_at, write_of, write_packet};
 ghost use Rattle.x7_packets.specs.History.{executed, history_of};
 ghost use Rattle.x7_packets.specs.Reading.{Searching, Synced};
-ghost use Rattle.x7_packets.specs.RunningCheck.{open_writes};
+ghost use Rattle.x7_packets.specs.CheckedWrites.{open_writes};
 
 /// Where the sync word is found.
 pub fn examples_of_the_search()

@@ -3,7 +3,7 @@ ghost use Rattle.std.specs.Prelude.{◌≡◌, ◌<◌, ◌==◌};
 ghost use Rattle.x7_regs.specs.Register.{number_of};
 ghost use Rattle.x7_regs.specs.declared.register.Reg.TheVariants.{Cmd};
 ghost use Rattle.x7_packets.specs.Packet.{ends_session, meaning};
-ghost use Rattle.x7_packets.specs.Taking.{is_end};
+ghost use Rattle.x7_packets.specs.Machine.{is_end};
 
 use crate::words::{
     DUMMY_WORD, NO_OP_KIND, SYNC_WORD, TYPE1_READ_KIND, TYPE1_WRITE_KIND, TYPE2_READ_KIND,
@@ -66,7 +66,7 @@ pub(crate) fn is_desync(register: u8, w: u32) -> bool
 }
 
 impl Step {
-    ghost use Rattle.x7_packets.specs.Taking.{is_end};
+    ghost use Rattle.x7_packets.specs.Machine.{is_end};
 
     /// Whether the step's word ends the session.
     pub fn is_end(self) -> bool

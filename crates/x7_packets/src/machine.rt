@@ -6,7 +6,7 @@ ghost use Rattle.x7_regs.specs.declared.register.Reg.TheVariants.{Cmd};
 ghost use Rattle.x7_packets.specs.AtOnce.{in_write};
 ghost use Rattle.x7_packets.specs.PacketWords.{type1_write};
 ghost use Rattle.x7_packets.specs.Packet.{Packet, ends_session, payload_steps};
-ghost use Rattle.x7_packets.specs.Taking.{ends_by, Grows, MachineStandsFor};
+ghost use Rattle.x7_packets.specs.Machine.{ends_by, Grows, MachineStandsFor};
 
 use crate::header::{Step, header, is_cmd, is_desync};
 use std::marker::Model;
@@ -23,7 +23,7 @@ pub struct Machine {
 impl Model for Machine {
     ghost use Rattle.std.specs.Prelude.{◌<◌};
     ghost use Rattle.std.specs.Option.{ForSome};
-    ghost use Rattle.x7_packets.specs.Taking.{MachineState};
+    ghost use Rattle.x7_packets.specs.Machine.{MachineState};
 
     ghost Value = { MachineState };
 

@@ -1,11 +1,11 @@
 //! Packets over an input: its runs, one after another, lent out of one buffer.
 ghost use Rattle.std.specs.Prelude.{◌≡◌, ◌≢◌, ◌≤◌, ◌<◌, ◌+◌, ◌^◌, ◌⊎◌, ℕ, List, [], length, take, vec_len, true, false, IfNone, IfOk, IfSome, OnErr, OnOk};
 ghost use Rattle.x7_words.specs.Input.{AtEnd, Fails, Stays};
-ghost use Rattle.x7_packets.specs.Cutting.{IsNeed};
+ghost use Rattle.x7_packets.specs.Cutter.{IsNeed};
 ghost use Rattle.x7_packets.specs.Mode.{Mode};
 ghost use Rattle.x7_packets.specs.FoundRun.{FoundRun, found_of};
 ghost use Rattle.x7_packets.specs.PacketsState.{PacketsState, piece_size};
-ghost use Rattle.x7_packets.specs.Running.{CallsOn, Fills, GivesRun, GivesUp, IsFound, IsLastFound, MayCall, PacketsStandFor, Steps};
+ghost use Rattle.x7_packets.specs.Stream.{CallsOn, Fills, GivesRun, GivesUp, IsFound, IsLastFound, MayCall, PacketsStandFor, Steps};
 
 use crate::cutter::{Cut, Cutter};
 use crate::header::Step;
@@ -91,7 +91,7 @@ pub struct Packets {
 
 impl Model for Packets {
     ghost use Rattle.std.specs.Prelude.{◌≡◌, ◌≤◌, vec_len};
-    ghost use Rattle.x7_packets.specs.Cutting.{between};
+    ghost use Rattle.x7_packets.specs.Cutter.{between};
     ghost use Rattle.x7_packets.specs.FoundRun.{found_of};
     ghost use Rattle.x7_packets.specs.PacketsState.{PacketsState, piece_size};
 
@@ -104,7 +104,7 @@ impl Model for Packets {
 
 impl Packets {
     ghost use Rattle.std.specs.Borrow.{sem};
-    ghost use Rattle.x7_packets.specs.Running.{EndsNextCall};
+    ghost use Rattle.x7_packets.specs.Stream.{EndsNextCall};
 
     /// The packets of these bytes and then of what an input gives.
     pub fn new(alloc: Global, first: &[u8]) -> Result<Packets, NoMemory>

@@ -8,7 +8,7 @@ use Rattle.toml.specs.Data.{Members, no_members}
 use Rattle.toml.specs.Errors.{IsBlank}
 use Rattle.toml.specs.Parse.{parse_document, lines}
 use Rattle.x7_part.specs.PartFile.{HasNoKey}
-use Rattle.x7_part.specs.PartValues.{under}
+use Rattle.x7_part.specs.Values.{under}
 use Rattle.x7_part.specs.declared.fault.PartFault.{PartFault}
 use Rattle.x7_part.specs.declared.fault.PartKey.TheVariants as key
 

@@ -14,8 +14,8 @@ use Rattle.x7_part.specs.declared.column.Column.{Column}
 use Rattle.x7_part.specs.declared.slot.Slot.{Slot}
 use Rattle.x7_part.specs.declared.slot.Slot.TheVariants.{Frame, Pad, End}
 use Rattle.x7_part.specs.AddressOrder.{count_from, IsFollowedBy, IsLastIn}
-use Rattle.x7_part.specs.Columns.{frames_of, slots_of, column_addresses, column_slots, IsTable, no_column, column}
-use Rattle.x7_part.specs.Slots.{from}
+use Rattle.x7_part.specs.Column.{frames_of, slots_of, column_addresses, column_slots, IsTable, no_column, column}
+use Rattle.x7_part.specs.Slot.{from}
 
 -- ---- numbers in a row
 

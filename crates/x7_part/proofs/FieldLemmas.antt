@@ -4,7 +4,7 @@ use Rattle.std.specs.Prelude.{slice_index, Contains, IfSome, IfNone}
 use Rattle.std.proofs.lemmas.Bool.{false≢true}
 use Rattle.std.proofs.lemmas.List.Elements.{Contains-append_left, Contains-append_right, Contains-append_cases}
 use Rattle.x7_part.specs.Part.{FieldWidths, RowData, PartData}
-use Rattle.x7_part.specs.FrameAddress.{row_address, frame_address, column_low, IsAddressOf}
+use Rattle.x7_part.specs.Address.{row_address, frame_address, column_low, IsAddressOf}
 use Rattle.x7_part.specs.AddressOrder.{count_from, row_addresses, addresses_of, addresses, addresses_in}
 use Rattle.x7_part.proofs.ColumnLemmas.{length_count_from, get_or_count_from, count_from_bounds}
 

@@ -4,7 +4,7 @@ use Rattle.toml.specs.Data.{Data, Items, Members, item, string, integer, float, 
 use Rattle.toml.specs.View.{view, items_view}
 use Rattle.toml.specs.declared.value.Value.{Value}
 use Rattle.toml.proofs.Views.{items_view-drop}
-use Rattle.x7_part.specs.PartValues.{numbers, tables}
+use Rattle.x7_part.specs.Values.{numbers, tables}
 use Rattle.x7_part.specs.PartChecks.{are_tables, are_wholes}
 
 -- the items from one on

@@ -8,12 +8,12 @@ use Rattle.toml.specs.Data.{Members}
 use Rattle.toml.specs.Parse.{parse_document}
 use Rattle.x7_part.specs.declared.fault.PartFault.{PartFault}
 use Rattle.x7_part.specs.declared.fault.PartFault.TheVariants.{Toml}
-use Rattle.x7_part.specs.FrameAddress.{AreRows, AreWidths, IsRow, row, row_address, row_low}
+use Rattle.x7_part.specs.Address.{AreRows, AreWidths, IsRow, row, row_address, row_low}
 use Rattle.x7_part.specs.Part.{FieldWidths, PartData, RowData}
 use Rattle.x7_part.specs.PartFile.{first_fault, part_from, part_in, part_of_table, part_unless}
-use Rattle.x7_part.specs.PartRange.{IsPart}
-use Rattle.x7_part.specs.PartRows.{IsBefore, RowsRise}
-use Rattle.x7_part.specs.PartValues.{top_values, settings_by_values, rows_in_file}
+use Rattle.x7_part.specs.Ranges.{IsPart}
+use Rattle.x7_part.specs.Row.{IsBefore, RowsRise}
+use Rattle.x7_part.specs.Values.{top_values, settings_by_values, rows_in_file}
 use Rattle.x7_part.proofs.PassLemmas.{made_is}
 use Rattle.x7_part.proofs.SortLemmas.{from_least, ordered_same}
 use Rattle.x7_part.proofs.WidthLemmas.{before_of, some_weight}

@@ -13,10 +13,10 @@ use Rattle.std.proofs.lemmas.List.Sorted.{sum_by-IsPermutation, All-permutation}
 use Rattle.x7_part.specs.declared.fault.PartFault.{PartFault}
 use Rattle.x7_part.specs.declared.fault.PartFault.TheVariants.{SameRow}
 use Rattle.x7_part.specs.Part.{FieldWidths, RowData}
-use Rattle.x7_part.specs.FrameAddress.{row_address, row_low, AreWidths, IsRow, AreRows, no_row, row}
+use Rattle.x7_part.specs.Address.{row_address, row_low, AreWidths, IsRow, AreRows, no_row, row}
 use Rattle.x7_part.specs.AddressOrder.{addresses}
 use Rattle.x7_part.specs.PartChecks.{unless, first_of}
-use Rattle.x7_part.specs.PartRows.{is_same, has_same, same_row_fault}
+use Rattle.x7_part.specs.Row.{is_same, has_same, same_row_fault}
 use Rattle.x7_part.proofs.TableLemmas.{frames_cons}
 use Rattle.x7_part.proofs.WidthLemmas.{Order, rows_same, row_before, row_after, order_of, gap, some_weight}
 

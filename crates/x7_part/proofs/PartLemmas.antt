@@ -7,11 +7,11 @@ use Rattle.std.proofs.lemmas.List.Sums.{sum_by-cons}
 use Rattle.x7_part.specs.declared.column.Column.{Column}
 use Rattle.x7_part.specs.declared.slot.Slot.TheVariants.{Frame, Pad}
 use Rattle.x7_part.specs.Part.{FieldWidths, RowData, PartData}
-use Rattle.x7_part.specs.PartRange.{IsPart}
-use Rattle.x7_part.specs.FrameAddress.{AreRows, no_row, row}
+use Rattle.x7_part.specs.Ranges.{IsPart}
+use Rattle.x7_part.specs.Address.{AreRows, no_row, row}
 use Rattle.x7_part.specs.AddressOrder.{addresses_of, addresses, addresses_in}
-use Rattle.x7_part.specs.Slots.{slots, slots_in}
-use Rattle.x7_part.specs.Columns.{column_addresses, column_slots, IsTable, table_of}
+use Rattle.x7_part.specs.Slot.{slots, slots_in}
+use Rattle.x7_part.specs.Column.{column_addresses, column_slots, IsTable, table_of}
 use Rattle.x7_part.proofs.RowLemmas.{part_table, part_addresses, part_slots}
 use Rattle.x7_part.proofs.TableLemmas.{frames_cons}
 

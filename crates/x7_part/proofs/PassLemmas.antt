@@ -12,15 +12,15 @@ use Rattle.toml.specs.Parse.{parse_document}
 use Rattle.x7_part.specs.declared.fault.PartFault.{PartFault}
 use Rattle.x7_part.specs.declared.fault.PartFault.TheVariants.{Toml, Range, TooMany, NoMemory}
 use Rattle.x7_part.specs.declared.fault.PartKey.TheVariants as key
-use Rattle.x7_part.specs.PartKey.{top}
+use Rattle.x7_part.specs.Keys.{top}
 use Rattle.x7_part.specs.Part.{RowData, PartData}
-use Rattle.x7_part.specs.PartRange.{IsPart}
-use Rattle.x7_part.specs.FrameAddress.{IsRow}
+use Rattle.x7_part.specs.Ranges.{IsPart}
+use Rattle.x7_part.specs.Address.{IsRow}
 use Rattle.x7_part.specs.declared.settings.Settings.{Settings}
 use Rattle.x7_part.specs.AddressOrder.{addresses}
-use Rattle.x7_part.specs.PartValues.{RowValues, TopValues, top_values, settings_by_values, row_by_values, rows_in_file, part_data, part_with}
+use Rattle.x7_part.specs.Values.{RowValues, TopValues, top_values, settings_by_values, row_by_values, rows_in_file, part_data, part_with}
 use Rattle.x7_part.specs.PartChecks.{fault_of_call, unless, first_of, rows_fault, is_in, is_long, is_name, is_odd, is_unit, are_widths_or_none, row_range_fault, type_fault, other_fault, number_range_fault, top_range_fault, range_fault}
-use Rattle.x7_part.specs.PartRows.{same_row_fault, has_few_frames, frames_fault, in_order}
+use Rattle.x7_part.specs.Row.{same_row_fault, has_few_frames, frames_fault, in_order}
 use Rattle.x7_part.specs.PartFile.{first_fault, part_in, part_of_table, part_unless, part_from}
 use Rattle.x7_part.proofs.OrderLemmas.{unless_none, ordered, frames_sum, frames_permutation}
 use Rattle.x7_part.proofs.SortLemmas.{ordered_same, ordered_sorted}

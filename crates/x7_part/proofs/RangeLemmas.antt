@@ -9,9 +9,9 @@ use Rattle.std.proofs.lemmas.List.Elements.{All-cons, All-nil}
 use Rattle.x7_part.specs.declared.fault.PartFault.{PartFault}
 use Rattle.x7_part.specs.declared.fault.PartFault.TheVariants.{Range}
 use Rattle.x7_part.specs.declared.fault.PartKey.TheVariants as key
-use Rattle.x7_part.specs.PartKey.{in_row}
-use Rattle.x7_part.specs.FrameAddress.{IsRow, AreWidths}
-use Rattle.x7_part.specs.PartValues.{RowValues, natural, row_by_values, widths_of}
+use Rattle.x7_part.specs.Keys.{in_row}
+use Rattle.x7_part.specs.Address.{IsRow, AreWidths}
+use Rattle.x7_part.specs.Values.{RowValues, natural, row_by_values, widths_of}
 use Rattle.x7_part.specs.PartChecks.{unless, first_of, rows_fault, next_row_number, is_in, is_long, are_printed, is_name, is_odd, is_unit, are_in, are_minors, are_widths, are_widths_or_none, row_range_fault}
 use Rattle.x7_part.proofs.OrderLemmas.{unless_none, first_none}
 

@@ -10,10 +10,10 @@ use Rattle.x7_part.specs.declared.column.Column.{Column}
 use Rattle.x7_part.specs.Part.{FieldWidths, RowData}
 use Rattle.x7_part.specs.declared.slot.Slot.{Slot}
 use Rattle.x7_part.specs.declared.slot.Slot.TheVariants.{Frame, Pad}
-use Rattle.x7_part.specs.Slots.{slots}
+use Rattle.x7_part.specs.Slot.{slots}
 use Rattle.x7_part.specs.AddressOrder.{count_from, row_addresses, addresses, Rises, risen, rise}
-use Rattle.x7_part.specs.FrameAddress.{row_address, column_low, row_low, AreWidths, AreRows, no_row, row}
-use Rattle.x7_part.specs.Columns.{frames_of, slots_of, column_addresses, column_slots, IsTable, no_column, column, row_columns, table_of}
+use Rattle.x7_part.specs.Address.{row_address, column_low, row_low, AreWidths, AreRows, no_row, row}
+use Rattle.x7_part.specs.Column.{frames_of, slots_of, column_addresses, column_slots, IsTable, no_column, column, row_columns, table_of}
 use Rattle.x7_part.proofs.ColumnLemmas.{length_count_from}
 use Rattle.x7_part.proofs.WidthLemmas.{column_end, columns_fit, pitch_least, row_top}
 

@@ -6,10 +6,10 @@ use Rattle.std.proofs.lemmas.List.{get_or_append_left, get_or-append-add, get_or
 use Rattle.std.proofs.lemmas.List.Concat.{flat_map-append}
 use Rattle.std.proofs.lemmas.List.Elements.{Contains-append_cases}
 use Rattle.x7_part.specs.Part.{FieldWidths, RowData, PartData}
-use Rattle.x7_part.specs.PartRange.{IsPart}
-use Rattle.x7_part.specs.FrameAddress.{AreRows, no_row, row, row_address, column_low}
+use Rattle.x7_part.specs.Ranges.{IsPart}
+use Rattle.x7_part.specs.Address.{AreRows, no_row, row, row_address, column_low}
 use Rattle.x7_part.specs.AddressOrder.{addresses_of, addresses, addresses_in, Rises, risen, rise, IsFollowedBy}
-use Rattle.x7_part.specs.Slots.{slots, slots_in, from, addresses_among, AreInOneRow}
+use Rattle.x7_part.specs.Slot.{slots, slots_in, from, addresses_among, AreInOneRow}
 use Rattle.x7_part.specs.declared.slot.Slot.{Slot}
 use Rattle.x7_part.specs.declared.slot.Slot.TheVariants.{Frame, Pad, End}
 use Rattle.x7_part.proofs.RowLemmas.{part_rises, later_larger}

@@ -7,9 +7,9 @@ use Rattle.std.proofs.lemmas.Bool.Decides.{nat_tests}
 use Rattle.std.proofs.lemmas.List.Elements.{All-from_recursion, recursion_from_All}
 use Rattle.std.proofs.lemmas.List.Sorted.{All-permutation, IsPermutation-refl, IsPermutation-sym, IsPermutation-cons, IsPermutation-trans, IsPermutation-middle, sum_by-IsPermutation}
 use Rattle.std.proofs.lemmas.List.Sums.{sum_by-cons}
-use Rattle.x7_part.specs.FrameAddress.{AreRows, row, row_address, row_low}
+use Rattle.x7_part.specs.Address.{AreRows, row, row_address, row_low}
 use Rattle.x7_part.specs.Part.{FieldWidths, RowData}
-use Rattle.x7_part.specs.PartRows.{in_order, put_in}
+use Rattle.x7_part.specs.Row.{in_order, put_in}
 use Rattle.x7_part.proofs.WidthLemmas.{some_weight}
 
 -- one of the rows

@@ -4,9 +4,9 @@ use Rattle.std.specs.Prelude.{sum}
 use Rattle.std.proofs.lemmas.List.{drop_more}
 use Rattle.std.proofs.lemmas.List.Sums.{sum_by-cons}
 use Rattle.x7_part.specs.Part.{FieldWidths, RowData}
-use Rattle.x7_part.specs.FrameAddress.{row_address, column_low}
+use Rattle.x7_part.specs.Address.{row_address, column_low}
 use Rattle.x7_part.specs.AddressOrder.{count_from, row_addresses, addresses_of, addresses}
-use Rattle.x7_part.specs.Columns.{row_columns, table_of}
+use Rattle.x7_part.specs.Column.{row_columns, table_of}
 use Rattle.x7_part.proofs.ColumnLemmas.{length_count_from}
 use Rattle.x7_part.specs.declared.column.Column.{Column}
 

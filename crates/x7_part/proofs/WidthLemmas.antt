@@ -4,8 +4,8 @@ use Rattle.std.proofs.lemmas.Nat.{pow-add, pow_pos}
 use Rattle.std.proofs.lemmas.Bool.{cases_order}
 use Rattle.std.proofs.Math.Nat.{pow-le-pow_right, add-mul, mul-le-mul_right, mul-le-mul_left}
 use Rattle.x7_part.specs.Part.{FieldWidths, RowData}
-use Rattle.x7_part.specs.PartRows.{IsBefore}
-use Rattle.x7_part.specs.FrameAddress.{row_address, column_low, row_low, half_low, block_low, address_width, AreWidths, IsRow}
+use Rattle.x7_part.specs.Row.{IsBefore}
+use Rattle.x7_part.specs.Address.{row_address, column_low, row_low, half_low, block_low, address_width, AreWidths, IsRow}
 
 two_to : (i j : ℕ) → i ≤ j → 2 ^ i ≤ 2 ^ j
 two_to i j h = pow-le-pow_right (omega arith) h

@@ -2,7 +2,7 @@
 use Rattle.std.specs.Prelude.{◌≡◌, ℕ, zero, suc, ◌+◌, ◌*◌, ◌^◌, ◌<◌, ◌≤◌, List, [], ◌∷◌, ◌++◌, length, slice_index}
 use Rattle.std.specs.List.{flat_map}
 use Rattle.x7_part.specs.Part.{FieldWidths, RowData, PartData}
-use Rattle.x7_part.specs.FrameAddress.{row_address, column_low}
+use Rattle.x7_part.specs.Address.{row_address, column_low}
 
 -- `n` numbers from `first` on, each one more than the one before it
 abbrev pub count_from : ℕ → ℕ → List ℕ

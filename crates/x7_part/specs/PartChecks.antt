@@ -4,9 +4,9 @@ use Rattle.toml.specs.Data.{Data, Items, no_items, item, Members, as_str, as_int
 use Rattle.x7_part.specs.declared.fault.PartKey.TheVariants as key
 use Rattle.x7_part.specs.declared.fault.PartFault.{PartFault}
 use Rattle.x7_part.specs.declared.fault.PartFault.TheVariants.{Key, Range, NoMemory}
-use Rattle.x7_part.specs.PartKey.{top, in_row}
-use Rattle.x7_part.specs.FrameAddress.{address_width}
-use Rattle.x7_part.specs.PartValues.{under, row_tables, RowValues, TopValues, natural, widths_of}
+use Rattle.x7_part.specs.Keys.{top, in_row}
+use Rattle.x7_part.specs.Address.{address_width}
+use Rattle.x7_part.specs.Values.{under, row_tables, RowValues, TopValues, natural, widths_of}
 
 -- ---- faults in order
 

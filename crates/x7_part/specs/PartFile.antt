@@ -7,9 +7,9 @@ use Rattle.toml.specs.Errors.{IsBlank}
 use Rattle.x7_part.specs.declared.fault.PartFault.{PartFault}
 use Rattle.x7_part.specs.declared.fault.PartFault.TheVariants.{Toml}
 use Rattle.x7_part.specs.Part.{PartData}
-use Rattle.x7_part.specs.PartValues.{top_values, settings_by_values, part_with, rows_in_file}
+use Rattle.x7_part.specs.Values.{top_values, settings_by_values, part_with, rows_in_file}
 use Rattle.x7_part.specs.PartChecks.{first_of, type_fault, other_fault, range_fault}
-use Rattle.x7_part.specs.PartRows.{same_row_fault, frames_fault, in_order}
+use Rattle.x7_part.specs.Row.{same_row_fault, frames_fault, in_order}
 
 -- the first fault of a part file's table: types, unknown keys, ranges, the same row twice, too many frames
 unfoldable pub first_fault : Members → Option PartFault

@@ -1,6 +1,6 @@
 //! The fields of a frame address (UG470, frame address register).
 ghost use Rattle.std.specs.Prelude.{◌≡◌, ◌≤◌, ◌+◌, ◌^◌, nat_le, is_some, IfSome};
-ghost use Rattle.x7_part.specs.FrameAddress.{AreWidths, address_width, column_low, row_low, half_low, block_low};
+ghost use Rattle.x7_part.specs.Address.{AreWidths, address_width, column_low, row_low, half_low, block_low};
 ghost use Rattle.x7_part.specs.Part.{FieldWidths};
 
 use std::marker::Model;

@@ -1,8 +1,8 @@
 //! The table of a part's columns, in which addresses and slots are searched by halves.
 ghost use Rattle.std.specs.Prelude.{◌≡◌, ◌<◌, ◌≤◌, ◌+◌, ◌-◌, ◌^◌, ◌⊎◌, ℕ, length, slice_index, slice_index_or, Contains, IfSome, IfNone};
 ghost use Rattle.x7_part.specs.AddressOrder.{IsFollowedBy, IsLastIn};
-ghost use Rattle.x7_part.specs.Columns.{IsIn, column_addresses, column_slots, IsTable};
-ghost use Rattle.x7_part.specs.Slots.{HasFrameOf, from};
+ghost use Rattle.x7_part.specs.Column.{IsIn, column_addresses, column_slots, IsTable};
+ghost use Rattle.x7_part.specs.Slot.{HasFrameOf, from};
 ghost use Rattle.x7_part.specs.declared.column.Column.{Column};
 ghost use Rattle.x7_part.specs.declared.slot.Slot.{Slot};
 

@@ -1,6 +1,6 @@
 //! The keys of a part file, and why a part file is refused.
 ghost use Rattle.std.specs.Prelude.{◌≡◌};
-ghost use Rattle.x7_part.specs.PartKey.{name_of};
+ghost use Rattle.x7_part.specs.Keys.{name_of};
 ghost use Rattle.x7_part.specs.declared.fault.PartFault.TheVariants.{NoMemory};
 
 use std::alloc::{AllocError, AllocFailed};

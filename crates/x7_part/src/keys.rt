@@ -1,7 +1,7 @@
 //! The keys that a part file's tables may have.
 ghost use Rattle.std.specs.Prelude.{◌≡◌};
 ghost use Rattle.toml.specs.View.{table_view};
-ghost use Rattle.x7_part.specs.PartKey.{is_known, has_only};
+ghost use Rattle.x7_part.specs.Keys.{is_known, has_only};
 
 use crate::fault::PartKey;
 use toml::Table;

@@ -3,14 +3,14 @@ ghost use Rattle.std.specs.Prelude.{◌≡◌, ◌+◌, ◌*◌, ◌↔◌, ℕ,
 ghost use Rattle.std.specs.List.Sorted.{IsNonDecreasingBy};
 ghost use Rattle.toml.specs.Data.{Members};
 ghost use Rattle.toml.specs.Parse.{parse_document};
-ghost use Rattle.x7_part.specs.FrameAddress.{row_address};
+ghost use Rattle.x7_part.specs.Address.{row_address};
 ghost use Rattle.x7_part.specs.Part.{FieldWidths, PartData, RowData};
 ghost use Rattle.x7_part.specs.PartFile.{part_in};
-ghost use Rattle.x7_part.specs.PartRange.{IsPart};
-ghost use Rattle.x7_part.specs.PartRows.{in_order, RowsRise};
-ghost use Rattle.x7_part.specs.PartValues.{rows_in_file};
+ghost use Rattle.x7_part.specs.Ranges.{IsPart};
+ghost use Rattle.x7_part.specs.Row.{in_order, RowsRise};
+ghost use Rattle.x7_part.specs.Values.{rows_in_file};
 ghost use Rattle.x7_part.specs.AddressOrder.{addresses_in, IsFollowedBy};
-ghost use Rattle.x7_part.specs.Slots.{slots, slots_in, from, row_slots, slot_after, addresses_among, AreInOneRow};
+ghost use Rattle.x7_part.specs.Slot.{slots, slots_in, from, row_slots, slot_after, addresses_among, AreInOneRow};
 ghost use Rattle.x7_part.specs.declared.slot.Slot.{Slot};
 ghost use Rattle.x7_part.specs.declared.slot.Slot.TheVariants.{Frame};
 

@@ -4,9 +4,9 @@ ghost use Rattle.toml.specs.Parse.{parse_document};
 ghost use Rattle.toml.specs.View.{table_view};
 ghost use Rattle.x7_part.specs.Part.{PartData};
 ghost use Rattle.x7_part.specs.PartChecks.{fault_of_call, first_of};
-ghost use Rattle.x7_part.specs.PartRows.{same_row_fault, frames_fault, has_few_frames};
+ghost use Rattle.x7_part.specs.Row.{same_row_fault, frames_fault, has_few_frames};
 ghost use Rattle.x7_part.specs.PartFile.{HasNoKey, part_in};
-ghost use Rattle.x7_part.specs.PartKey.{top};
+ghost use Rattle.x7_part.specs.Keys.{top};
 ghost use Rattle.x7_part.specs.declared.fault.PartFault.{PartFault};
 ghost use Rattle.x7_part.specs.declared.fault.PartKey.{PartKey};
 

@@ -1,13 +1,13 @@
 //! A part, and the questions that are asked of its addresses and slots.
 ghost use Rattle.std.specs.Prelude.{◌≡◌, ◌+◌, ◌*◌, ◌<◌, ◌≤◌, ◌⊎◌, ◌↔◌, ◌%◌, ◌^◌, ℕ, true, None, [], All, length, slice_index, slice_index_or, count_by, nat_lt, string_bytes, Contains, IfSome, IfNone, IfOk};
 ghost use Rattle.x7_part.specs.AddressOrder.{addresses_in, IsFollowedBy, IsLastIn, Rises};
-ghost use Rattle.x7_part.specs.Columns.{table_of as columns_of};
-ghost use Rattle.x7_part.specs.FrameAddress.{IsAddressOf, IsRow, far_width};
+ghost use Rattle.x7_part.specs.Column.{table_of as columns_of};
+ghost use Rattle.x7_part.specs.Address.{IsAddressOf, IsRow, far_width};
 ghost use Rattle.x7_part.specs.Part.{PartData, frame_words};
-ghost use Rattle.x7_part.specs.PartValues.{part_data};
-ghost use Rattle.x7_part.specs.PartRows.{same_row_fault, in_order};
-ghost use Rattle.x7_part.specs.PartRange.{IsPart};
-ghost use Rattle.x7_part.specs.Slots.{HasFrameOf, slots_in, from};
+ghost use Rattle.x7_part.specs.Values.{part_data};
+ghost use Rattle.x7_part.specs.Row.{same_row_fault, in_order};
+ghost use Rattle.x7_part.specs.Ranges.{IsPart};
+ghost use Rattle.x7_part.specs.Slot.{HasFrameOf, slots_in, from};
 ghost use Rattle.x7_part.specs.declared.slot.Slot.{Slot};
 
 use crate::column::{self, Column};

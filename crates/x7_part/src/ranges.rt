@@ -1,6 +1,6 @@
 //! The ranges of a part file's values: each judges a value and gives the number of a part that it stands for.
 ghost use Rattle.std.specs.Prelude.{◌≡◌, ◌≤◌, [], ◌∷◌, map, length, is_some, true, false, IfOk, IfSome, MatchOption, Some};
-ghost use Rattle.x7_part.specs.PartValues.{natural, widths_of};
+ghost use Rattle.x7_part.specs.Values.{natural, widths_of};
 ghost use Rattle.x7_part.specs.PartChecks.{fault_of_call, AnswersDue, unless, is_in, is_long, are_printed, is_name, is_odd, is_unit, are_widths, are_minors};
 ghost use Rattle.x7_part.specs.declared.fault.PartFault.TheVariants.{Range};
 

@@ -1,10 +1,10 @@
 //! Rows of a part.
 ghost use Rattle.std.specs.Prelude.{◌≡◌, ◌≤◌, [], None, map, length, sum, All, IfOk};
 ghost use Rattle.std.specs.List.{sum_by};
-ghost use Rattle.x7_part.specs.FrameAddress.{row_address, AreWidths, IsRow};
+ghost use Rattle.x7_part.specs.Address.{row_address, AreWidths, IsRow};
 ghost use Rattle.x7_part.specs.PartChecks.{fault_of_call, AnswersDue, rows_fault, row_range_fault};
-ghost use Rattle.x7_part.specs.PartRows.{is_same, has_same, same_row_fault, in_order};
-ghost use Rattle.x7_part.specs.PartValues.{row_by_values};
+ghost use Rattle.x7_part.specs.Row.{is_same, has_same, same_row_fault, in_order};
+ghost use Rattle.x7_part.specs.Values.{row_by_values};
 ghost use Rattle.x7_part.specs.Part.{RowData};
 
 use crate::address::Fields;

@@ -1,6 +1,6 @@
 //! What a part file's top table says of a part, but for its name and its rows.
 ghost use Rattle.std.specs.Prelude.{◌≡◌, [], option_map, unwrap_or, IfOk};
-ghost use Rattle.x7_part.specs.PartValues.{settings_by_values, widths_of};
+ghost use Rattle.x7_part.specs.Values.{settings_by_values, widths_of};
 ghost use Rattle.x7_part.specs.PartChecks.{fault_of_call, unless, are_widths_or_none, number_range_fault, top_range_fault};
 ghost use Rattle.x7_part.specs.declared.fault.PartFault.TheVariants.{Range};
 

@@ -1,8 +1,8 @@
 //! The table of a part's columns, made from its rows.
 ghost use Rattle.std.specs.Prelude.{◌≡◌, ◌<◌, ◌≤◌, ◌+◌, ◌*◌, ◌^◌, ◌++◌, ◌==◌, if◌then◌else◌, length, IfOk, OnOk};
 ghost use Rattle.x7_part.specs.AddressOrder.{addresses};
-ghost use Rattle.x7_part.specs.Columns.{row_columns, table_of as columns_of};
-ghost use Rattle.x7_part.specs.FrameAddress.{AreRows};
+ghost use Rattle.x7_part.specs.Column.{row_columns, table_of as columns_of};
+ghost use Rattle.x7_part.specs.Address.{AreRows};
 
 use crate::address::Fields;
 use crate::column::Column;

@@ -1,11 +1,11 @@
 //! What stands under a key of a table, as a value of the key's type.
 ghost use Rattle.std.specs.Prelude.{◌≡◌, None, Ok, option_map, is_some, map, string_bytes, IfOk, IfSome, IsErrOf};
 ghost use Rattle.toml.specs.View.{view, table_view, items_view};
-ghost use Rattle.x7_part.specs.PartValues.{under, text, number_or, numbers, numbers_under, tables, row_tables};
+ghost use Rattle.x7_part.specs.Values.{under, text, number_or, numbers, numbers_under, tables, row_tables};
 ghost use Rattle.x7_part.specs.PartChecks.{fault_of_call, AnswersDue, unless, has, may_have, are_wholes, are_tables, is_text, is_whole, is_list_of_wholes, is_list_of_tables};
 ghost use Rattle.x7_part.specs.declared.fault.PartFault.TheVariants.{Key};
 ghost use Rattle.x7_part.specs.declared.fault.PartKey.TheVariants as key;
-ghost use Rattle.x7_part.specs.PartKey.{top};
+ghost use Rattle.x7_part.specs.Keys.{top};
 
 use crate::fault::{PartFault, PartKey, Which, top};
 use std::alloc::{AllocError, Global};

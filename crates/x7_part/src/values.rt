@@ -1,9 +1,9 @@
 //! The values of a part file, each of its type, and no range of them looked at.
 ghost use Rattle.std.specs.Prelude.{◌≡◌, None, map, option_map, string_bytes, IfOk, IsErrOf};
 ghost use Rattle.toml.specs.View.{table_view};
-ghost use Rattle.x7_part.specs.PartValues.{RowValues as RowData, TopValues, row_values, top_values, under};
+ghost use Rattle.x7_part.specs.Values.{RowValues as RowData, TopValues, row_values, top_values, under};
 ghost use Rattle.x7_part.specs.PartChecks.{fault_of_call, AnswersDue, rows_fault, row_type_fault, row_other_fault, type_fault, other_fault};
-ghost use Rattle.x7_part.specs.PartKey.{top};
+ghost use Rattle.x7_part.specs.Keys.{top};
 ghost use Rattle.x7_part.specs.declared.fault.PartFault.TheVariants.{Key};
 ghost use Rattle.x7_part.specs.declared.fault.PartKey.TheVariants as key;
 

@@ -11,7 +11,7 @@ use Rattle.x7_regs.specs.declared.command.Command.{Command}
 use Rattle.x7_pipeline.specs.declared.fault.RunFault.{RunFault}
 use Rattle.x7_pipeline.specs.FarAsRead.{has_frame_at}
 use Rattle.x7_pipeline.specs.Runs.{at_slot, onto, put_over, slots_from, Lands}
-use Rattle.x7_pipeline.specs.Faults.{write_fault}
+use Rattle.x7_pipeline.specs.Fault.{write_fault}
 use Rattle.x7_pipeline.specs.Words.{RunWritten, one_written, written}
 use Rattle.x7_pipeline.specs.Flow.{Flow, HoldsFlow, with_run}
 use Rattle.x7_pipeline.specs.Pipeline.{PipelineData}

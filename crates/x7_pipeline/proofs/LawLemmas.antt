@@ -11,11 +11,11 @@ use Rattle.std.proofs.lemmas.Nat.{div-mul-add, mod-mul-add}
 use Rattle.x7_words.proofs.ListLemmas.{flat_map_last}
 use Rattle.x7_part.specs.Part.{FieldWidths, RowData, PartData, frame_words}
 use Rattle.x7_part.specs.AddressOrder.{addresses_of}
-use Rattle.x7_part.specs.Slots.{slots, slots_in, from}
+use Rattle.x7_part.specs.Slot.{slots, slots_in, from}
 use Rattle.x7_part.specs.declared.slot.Slot.{Slot}
 use Rattle.x7_part.specs.declared.slot.Slot.TheVariants.{Frame, Pad, End}
 use Rattle.x7_memory.specs.FrameMap.{FrameMap, AreSame, override}
-use Rattle.x7_memory.specs.Planned.{PlanRow, planned}
+use Rattle.x7_memory.specs.Plan.{PlanRow, planned}
 use Rattle.x7_memory.proofs.MapLemmas.{override_twice, override_same, planned_joined}
 use Rattle.x7_regs.specs.declared.command.Command.{Command}
 use Rattle.x7_pipeline.specs.declared.fault.RunFault.{RunFault}
@@ -26,7 +26,7 @@ use Rattle.x7_pipeline.specs.FarAsRead.{has_frame_at, first_address, last_addres
 use Rattle.x7_regs.specs.declared.command.Command.TheVariants.{Wcfg, Mfw}
 use Rattle.x7_pipeline.specs.Copies.{is_wcfg, is_mfw, newest_of, source_after}
 use Rattle.x7_pipeline.specs.Readback.{word_at, readback_at, read_limit, given_stored}
-use Rattle.x7_pipeline.specs.Faults.{address_fault, completes, has_filled, write_fault, copy_fault, readback_fault}
+use Rattle.x7_pipeline.specs.Fault.{address_fault, completes, has_filled, write_fault, copy_fault, readback_fault}
 use Rattle.x7_pipeline.specs.Pipeline.{PipelineData}
 use Rattle.x7_pipeline.specs.Flow.{Flow, HoldsFlow}
 use Rattle.x7_pipeline.proofs.RunLemmas.{rest_goes_on, rest_completes, frames_completes, length_run}

@@ -9,17 +9,17 @@ use Rattle.x7_part.specs.declared.slot.Slot.{Slot}
 use Rattle.x7_part.specs.declared.slot.Slot.TheVariants.{Frame, Pad, End}
 use Rattle.x7_memory.specs.FrameMap.{FrameMap, AreSame, frame_or}
 use Rattle.x7_memory.specs.Frames.{AreFramesOf, frame_among, frame_at}
-use Rattle.x7_memory.specs.Planned.{PlanRow, planned}
+use Rattle.x7_memory.specs.Plan.{PlanRow, planned}
 use Rattle.x7_memory.proofs.MapLemmas.{override_one}
 use Rattle.x7_pipeline.specs.Runs.{at_slot, but_newest, frames_of, in_slots, written_frames, put_over, rest_of, slots_from, Lands}
 use Rattle.x7_regs.specs.declared.command.Command.{Command}
 use Rattle.x7_pipeline.specs.declared.fault.RunFault.TheVariants.{Address, Multi}
 use Rattle.x7_pipeline.specs.FarAsRead.{has_frame_at}
-use Rattle.x7_pipeline.specs.Faults.{address_fault, copy_fault}
+use Rattle.x7_pipeline.specs.Fault.{address_fault, copy_fault}
 use Rattle.x7_pipeline.specs.Pipeline.{PipelineData}
 use Rattle.x7_pipeline.proofs.FlowLemmas.{StandsFor}
 use Rattle.x7_pipeline.specs.Copies.{copied, is_mfw}
-use Rattle.x7_pipeline.specs.Saving.{ChangesAt, address_at_slot, next_put, pair_at, pair_held, pair_of_frame, expects_copies}
+use Rattle.x7_pipeline.specs.Saved.{ChangesAt, address_at_slot, next_put, pair_at, pair_held, pair_of_frame, expects_copies}
 use Rattle.x7_pipeline.proofs.SlotLemmas.{slot_address}
 use Rattle.x7_pipeline.proofs.RunLemmas.{frames_completes, frames_goes_on}
 use Rattle.x7_pipeline.proofs.StateLemmas.{at_slot_more}

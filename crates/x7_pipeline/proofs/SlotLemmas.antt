@@ -5,9 +5,9 @@ use Rattle.std.proofs.lemmas.Bool.{cases_eq, false≢true, ltb-true, lt-ltb}
 use Rattle.std.proofs.lemmas.Bool.Decides.{nat_tests}
 use Rattle.std.proofs.lemmas.List.{get_or_past}
 use Rattle.x7_part.specs.Part.{FieldWidths, RowData, PartData}
-use Rattle.x7_part.specs.PartRange.{IsPart}
+use Rattle.x7_part.specs.Ranges.{IsPart}
 use Rattle.x7_part.specs.AddressOrder.{addresses_of, addresses, addresses_in}
-use Rattle.x7_part.specs.Slots.{slots, slots_in, from}
+use Rattle.x7_part.specs.Slot.{slots, slots_in, from}
 use Rattle.x7_part.specs.declared.slot.Slot.{Slot}
 use Rattle.x7_part.specs.declared.slot.Slot.TheVariants.{Frame, Pad, End}
 use Rattle.x7_part.proofs.PartLemmas.{slots_count}

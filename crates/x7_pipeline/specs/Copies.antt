@@ -2,7 +2,7 @@
 -- taken, and that FAR doesn't move, is this project's choice).
 use Rattle.std.specs.Prelude.{ℕ, Bool, true, false, ◌&&◌, if◌then◌else◌, List, [], ◌∷◌, Option, Some, None}
 use Rattle.x7_part.specs.Part.{PartData, frame_words}
-use Rattle.x7_memory.specs.Planned.{PlanRow}
+use Rattle.x7_memory.specs.Plan.{PlanRow}
 use Rattle.x7_regs.specs.declared.command.Command.{Command}
 use Rattle.x7_regs.specs.declared.command.Command.TheVariants.{Wcfg, Mfw}
 use Rattle.x7_pipeline.specs.Runs.{frames_of}

@@ -2,7 +2,7 @@
 -- (UG470, frame address register).
 use Rattle.std.specs.Prelude.{◌≡◌, ℕ, ◌-◌, ◌/◌, ◌%◌, ◌^◌, max, nat_lt, Bool, true, if◌then◌else◌, List, [], ◌∷◌, length, drop, slice_index, Option, Some, None, unwrap_or}
 use Rattle.x7_part.specs.Part.{PartData, frame_words}
-use Rattle.x7_part.specs.FrameAddress.{far_width}
+use Rattle.x7_part.specs.Address.{far_width}
 use Rattle.x7_part.specs.AddressOrder.{addresses_in}
 use Rattle.x7_part.specs.declared.slot.Slot.{Slot}
 use Rattle.x7_part.specs.declared.slot.Slot.TheVariants.{Frame, Pad, End}

@@ -1,16 +1,16 @@
 -- What a frame pipeline stands for (UG470, frame address register and frame data registers).
 use Rattle.std.specs.Prelude.{◌≡◌, ℕ, ◌+◌, ◌-◌, ◌<◌, ◌≤◌, List, [], length, slice_index_or, Option, None, Some}
 use Rattle.x7_part.specs.Part.{PartData, frame_words}
-use Rattle.x7_part.specs.FrameAddress.{far_width}
+use Rattle.x7_part.specs.Address.{far_width}
 use Rattle.x7_part.specs.declared.slot.Slot.TheVariants.{End}
 use Rattle.x7_memory.specs.FrameMap.{FrameMap, AreSame}
 use Rattle.x7_regs.specs.declared.command.Command.{Command}
 use Rattle.x7_regs.specs.declared.command.Command.TheVariants.{Null}
 use Rattle.x7_pipeline.specs.FarAsRead.{far_of}
-use Rattle.x7_memory.specs.Planned.{PlanRow}
+use Rattle.x7_memory.specs.Plan.{PlanRow}
 use Rattle.x7_pipeline.specs.declared.fault.RunFault.{RunFault}
 use Rattle.x7_pipeline.specs.Copies.{copied, newest_of, source_after}
-use Rattle.x7_pipeline.specs.Faults.{copy_fault}
+use Rattle.x7_pipeline.specs.Fault.{copy_fault}
 use Rattle.x7_pipeline.specs.Readback.{given_stored, read_slot}
 use Rattle.x7_pipeline.specs.Pipeline.{PipelineData}
 use Rattle.x7_pipeline.specs.Runs.{Lands, at_slot, frames_of, onto, put_over, rest_of, slots_from}

@@ -5,7 +5,7 @@ use Rattle.x7_part.specs.Part.{PartData, frame_words}
 use Rattle.x7_part.specs.declared.slot.Slot.{Slot}
 use Rattle.x7_part.specs.declared.slot.Slot.TheVariants.{Frame, Pad, End}
 use Rattle.x7_memory.specs.FrameMap.{FrameMap, AreSame}
-use Rattle.x7_memory.specs.Planned.{PlanRow}
+use Rattle.x7_memory.specs.Plan.{PlanRow}
 use Rattle.x7_pipeline.specs.FarAsRead.{last_address}
 use Rattle.x7_pipeline.specs.Runs.{frames_of, written_frames, onto, put_over, rest_of, slots_from}
 use Rattle.x7_pipeline.specs.Words.{RunWritten}

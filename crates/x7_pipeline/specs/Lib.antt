@@ -3,10 +3,10 @@ pub mod FarAsRead
 pub mod Flow
 pub mod Copies
 pub mod Readback
-pub mod Faults
+pub mod Fault
 pub mod Words
 pub mod Pipeline
-pub mod Fields
+pub mod PipelineFields
 pub mod InWords
-pub mod Saving
-pub mod Places
+pub mod Saved
+pub mod Place

@@ -1,7 +1,7 @@
 -- What a frame pipeline stores (this project's choice).
 use Rattle.std.specs.Prelude.{◌≡◌, ℕ, ◌+◌, ◌*◌, ◌/◌, min, List, ◌∷◌, length, slice_index_or, Option}
 use Rattle.x7_part.specs.Part.{PartData, frame_words}
-use Rattle.x7_part.specs.FrameAddress.{far_width}
+use Rattle.x7_part.specs.Address.{far_width}
 use Rattle.x7_part.specs.declared.slot.Slot.{Slot}
 use Rattle.x7_part.specs.declared.slot.Slot.TheVariants.{End, Pad}
 use Rattle.x7_memory.specs.Frames.{AreFramesOf}

@@ -2,11 +2,11 @@
 -- (UG470, frame data input register; that the newest whole frame is held back is the frame buffer of the guide).
 use Rattle.std.specs.Prelude.{◌≡◌, ℕ, ◌+◌, ◌==◌, if◌then◌else◌, List, [], ◌∷◌, ◌++◌, length, slice_index_or}
 use Rattle.x7_part.specs.Part.{PartData, frame_words}
-use Rattle.x7_part.specs.Slots.{slots_in, from}
+use Rattle.x7_part.specs.Slot.{slots_in, from}
 use Rattle.x7_part.specs.declared.slot.Slot.{Slot}
 use Rattle.x7_part.specs.declared.slot.Slot.TheVariants.{Frame, Pad, End}
 use Rattle.x7_memory.specs.FrameMap.{FrameMap, override, AreSame}
-use Rattle.x7_memory.specs.Planned.{PlanRow, planned}
+use Rattle.x7_memory.specs.Plan.{PlanRow, planned}
 
 -- ---- frames of a run
 

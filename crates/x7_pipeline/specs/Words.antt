@@ -3,7 +3,7 @@ use Rattle.std.specs.Prelude.{◌≡◌, ℕ, ◌+◌, List, [], ◌∷◌, ◌+
 use Rattle.x7_part.specs.Part.{PartData}
 use Rattle.x7_pipeline.specs.declared.fault.RunFault.{RunFault}
 use Rattle.x7_pipeline.specs.Runs.{onto}
-use Rattle.x7_pipeline.specs.Faults.{write_fault}
+use Rattle.x7_pipeline.specs.Fault.{write_fault}
 
 -- the run with the words before the refused one, how many words were looked at, the refused one included, and its fault
 pub record RunWritten : Type 0 where

@@ -2,10 +2,10 @@
 ghost use Rattle.std.specs.Prelude.{◌≡◌, ◌≢◌, ◌+◌, ◌<◌, ◌≤◌, ◌↔◌, ℕ, true, false, reverse, min, List, [], ◌∷◌, ◌++◌, length, Contains, Option, Some, None};
 ghost use Rattle.x7_part.specs.Part.{PartData, frame_words};
 ghost use Rattle.x7_part.specs.AddressOrder.{addresses_in};
-ghost use Rattle.x7_part.specs.Slots.{slot_after};
+ghost use Rattle.x7_part.specs.Slot.{slot_after};
 ghost use Rattle.x7_memory.specs.FrameMap.{FrameMap, AreSame};
 ghost use Rattle.x7_memory.specs.Frames.{frame_at};
-ghost use Rattle.x7_memory.specs.Planned.{PlanRow};
+ghost use Rattle.x7_memory.specs.Plan.{PlanRow};
 ghost use Rattle.x7_regs.specs.declared.command.Command.{Command};
 ghost use Rattle.x7_pipeline.specs.declared.fault.RunFault.{RunFault};
 ghost use Rattle.x7_pipeline.specs.Runs.{rest_of, frames_of, but_newest, written_frames, put_over, Lands};
@@ -13,10 +13,10 @@ ghost use Rattle.x7_pipeline.specs.InWords.{AreCutFrom, FarStandsAt, HasRun, Ove
 ghost use Rattle.x7_pipeline.specs.FarAsRead.{IsBase, has_frame_at, far_of, last_address};
 ghost use Rattle.x7_pipeline.specs.Copies.{is_wcfg, is_mfw, newest_of, source_after};
 ghost use Rattle.x7_pipeline.specs.Readback.{word_at, readback_at, read_limit, given_stored};
-ghost use Rattle.x7_pipeline.specs.Faults.{write_fault, copy_fault, readback_fault};
+ghost use Rattle.x7_pipeline.specs.Fault.{write_fault, copy_fault, readback_fault};
 ghost use Rattle.x7_pipeline.specs.Words.{written, Refused};
 ghost use Rattle.x7_pipeline.specs.Pipeline.{PipelineData};
-ghost use Rattle.x7_pipeline.specs.Saving.{ChangesNext, HaveChangedAt, pair_at};
+ghost use Rattle.x7_pipeline.specs.Saved.{ChangesNext, HaveChangedAt, pair_at};
 ghost use Rattle.x7_pipeline.specs.Flow.{HoldsFlow, LandsAt, OfFlow, copied_by, fault_of_copy};
 
 /// A run is its whole frames and a rest. Its frames but the newest land with the slots in order, those at pads nowhere;

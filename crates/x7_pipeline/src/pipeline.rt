@@ -11,8 +11,8 @@ ghost use Rattle.x7_pipeline.specs.Runs.{Lands, put_over, slots_from};
 ghost use Rattle.x7_pipeline.specs.FarAsRead.{far_of, loaded_base, has_frame_at};
 ghost use Rattle.x7_pipeline.specs.Copies.{is_wcfg, is_mfw, source_with};
 ghost use Rattle.x7_pipeline.specs.Readback.{readback_at, word_at};
-ghost use Rattle.x7_pipeline.specs.Faults.{write_fault, readback_fault, drop_fault};
-ghost use Rattle.x7_pipeline.specs.Places.{StartsAt};
+ghost use Rattle.x7_pipeline.specs.Fault.{write_fault, readback_fault, drop_fault};
+ghost use Rattle.x7_pipeline.specs.Place.{StartsAt};
 ghost use Rattle.x7_pipeline.specs.Pipeline.{AreOf, PipelineData, IsPipelineOf, passed};
 ghost use Rattle.x7_pipeline.specs.Flow.{copied_by, fault_of_copy, FlowGoesOn, HoldsFlow, LandsAt, OfFlow, PutsNewest, after_reads, after_words, begun_at, begun_by, first_flow, with_run, flow_written};
 
@@ -59,7 +59,7 @@ impl Model for Pipeline {
 
     ghost Value = { PipelineData };
 
-    ghost use Rattle.x7_pipeline.specs.Fields.{pipeline_seen, HasFrameRoom};
+    ghost use Rattle.x7_pipeline.specs.PipelineFields.{pipeline_seen, HasFrameRoom};
 
     ghost view = { pipeline_seen };
 

@@ -5,8 +5,8 @@ use Rattle.std.proofs.lemmas.List.{take_more, drop_more, take-append-drop}
 use Rattle.std.proofs.lemmas.List.Elements.{All-push}
 use Rattle.x7_part.specs.AddressOrder.{addresses_in}
 use Rattle.x7_part.specs.Part.{PartData}
-use Rattle.x7_memory.specs.Planned.{AreAddressed, PlanRow}
-use Rattle.x7_planner.specs.Refusals.{IsFirstForeign}
+use Rattle.x7_memory.specs.Plan.{AreAddressed, PlanRow}
+use Rattle.x7_planner.specs.Fault.{IsFirstForeign}
 
 pub foreign_at : (part : PartData) (rows : List PlanRow) (i : ℕ) (row : PlanRow) → i < length rows → get_or rows i row ≡ row → AreAddressed part (take i rows) → ¬ Contains (addresses_in part) row.far
     → IsFirstForeign part rows row.far

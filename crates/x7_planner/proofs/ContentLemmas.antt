@@ -12,8 +12,8 @@ use Rattle.std.proofs.lemmas.Cmp.{nat_list_cmp_total, same_from_slice_cmp}
 use Rattle.std.proofs.lemmas.List.{get_or-take, get_or-drop, get_or-map, get_or_default, append-nil, take-append-drop, drop_more, length-append, length-drop, length-take-le, drop-drop, length-map, get_or-set_same, get_or-set_other, length_push, get_or_push, get_or_append_left}
 use Rattle.std.proofs.lemmas.List.Elements.{Contains-get_or}
 use Rattle.std.proofs.lemmas.List.Sorted.{sorted_far, ranks_by, All-permutation, Contains-permutation, IsPermutation-map}
-use Rattle.x7_memory.specs.Planned.{PlanRow}
-use Rattle.x7_planner.specs.Contents.{AreFirsts, AreGrouped, AreStarts, AreTogether, IsBegun, IsFirst, IsPlaced, content_row, content_rows}
+use Rattle.x7_memory.specs.Plan.{PlanRow}
+use Rattle.x7_planner.specs.Content.{AreFirsts, AreGrouped, AreStarts, AreTogether, IsBegun, IsFirst, IsPlaced, content_row, content_rows}
 use Rattle.x7_planner.specs.PartialStream.{same_words, with_content}
 use Rattle.x7_planner.specs.declared.content.Content.{Content}
 

@@ -7,9 +7,9 @@ use Rattle.std.proofs.lemmas.List.Elements.{All-head, All-tail}
 use Rattle.std.proofs.lemmas.List.{length-map}
 use Rattle.x7_part.specs.AddressOrder.{Rises, addresses_in, rise, risen}
 use Rattle.x7_part.specs.Part.{PartData}
-use Rattle.x7_part.specs.PartRange.{IsPart}
+use Rattle.x7_part.specs.Ranges.{IsPart}
 use Rattle.x7_part.proofs.RowLemmas.{part_rises}
-use Rattle.x7_memory.specs.Planned.{AreInOrder, PlanRow, planned_addresses}
+use Rattle.x7_memory.specs.Plan.{AreInOrder, PlanRow, planned_addresses}
 
 -- numbers that rise after the first
 pub rises_rest : (l y : ℕ) (ys : List ℕ) → Rises l (y ∷ ys) → Rises (y + 1) ys

@@ -5,14 +5,14 @@ use Rattle.std.specs.Prelude.{nat_le}
 use Rattle.std.specs.List.{flat_map}
 use Rattle.std.proofs.lemmas.Grind.{flat_map-append}
 use Rattle.std.proofs.lemmas.List.{append-nil, take_more, length-map, map-append, get_or_default, length_push, get_or_push, get_or_append_left}
-use Rattle.x7_memory.specs.Planned.{PlanRow, planned_addresses}
+use Rattle.x7_memory.specs.Plan.{PlanRow, planned_addresses}
 use Rattle.x7_part.specs.Part.{PartData, frame_words}
 use Rattle.x7_regs.specs.declared.command.Command.TheVariants.{Mfw, Wcfg}
 use Rattle.x7_regs.specs.declared.register.Reg.TheVariants.{Far}
 use Rattle.x7_packets.specs.PacketWords.{command, frame_data, write_one}
-use Rattle.x7_planner.specs.Contents.{AreFirsts, AreGrouped, AreStarts, AreTogether, IsFirst, content_row, content_rows}
+use Rattle.x7_planner.specs.Content.{AreFirsts, AreGrouped, AreStarts, AreTogether, IsFirst, content_row, content_rows}
 use Rattle.x7_planner.specs.PartialStream.{Copies, copy_words, groups_led, is_shared, leads_group, others, stretch_words, with_content}
-use Rattle.x7_planner.specs.Stream.{bytes_of_words}
+use Rattle.x7_planner.specs.Writer.{bytes_of_words}
 use Rattle.x7_planner.specs.declared.content.Content.{Content}
 use Rattle.x7_planner.proofs.ContentLemmas.{content_append, content_same, first_of, is_group, no_group, no_group_short, none_before, place_other, place_same, row_at, up_to}
 use Rattle.x7_planner.proofs.SlotLemmas.{written_on}

@@ -5,19 +5,19 @@ use Rattle.std.specs.List.{AllByRecursion, flat_map}
 use Rattle.std.proofs.lemmas.List.Elements.{All-cons, All-drop, All-nil}
 use Rattle.x7_words.specs.Word.{bytes_of_word}
 use Rattle.x7_part.specs.AddressOrder.{addresses_in}
-use Rattle.x7_part.specs.PartRange.{IsPart}
+use Rattle.x7_part.specs.Ranges.{IsPart}
 use Rattle.x7_planner.proofs.FewLemmas.{by_rows, rows_few}
 use Rattle.std.proofs.lemmas.Bool.{cases_eq}
 use Rattle.std.proofs.lemmas.Grind.{flat_map-append}
 use Rattle.std.proofs.lemmas.List.{length-drop, take_rest, drop-drop, length-map, take-map}
-use Rattle.x7_memory.specs.Planned.{AreInOrder, PlanRow, planned_addresses}
+use Rattle.x7_memory.specs.Plan.{AreInOrder, PlanRow, planned_addresses}
 use Rattle.x7_part.specs.Part.{PartData, frame_words}
 use Rattle.x7_regs.specs.declared.command.Command.TheVariants.{Wcfg}
 use Rattle.x7_regs.specs.declared.register.Reg.TheVariants.{Far}
 use Rattle.x7_packets.specs.PacketWords.{command, frame_data, write_one}
-use Rattle.x7_planner.specs.Contents.{IsRunLength, content_row, content_rows}
+use Rattle.x7_planner.specs.Content.{IsRunLength, content_row, content_rows}
 use Rattle.x7_planner.specs.PartialStream.{Rows, follows, frames_words, groups_led, is_shared, others, partial_ending, partial_opening, partial_stream, stretches_of, runs_of, runs_words, stretch_words, with_row}
-use Rattle.x7_planner.specs.Stream.{Check, Words, bytes_of_words, with_piece}
+use Rattle.x7_planner.specs.Writer.{Check, Words, bytes_of_words, with_piece}
 use Rattle.x7_planner.specs.declared.content.Content.{Content}
 use Rattle.x7_planner.proofs.ContentLemmas.{row_at}
 use Rattle.x7_planner.proofs.SlotLemmas.{written_on}

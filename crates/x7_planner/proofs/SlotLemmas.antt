@@ -9,15 +9,15 @@ use Rattle.x7_words.proofs.ListLemmas.{flat_map_last}
 use Rattle.x7_words.specs.Word.{bytes_of_word}
 use Rattle.x7_part.specs.AddressOrder.{addresses_in}
 use Rattle.x7_part.specs.Part.{PartData, frame_words}
-use Rattle.x7_part.specs.PartRange.{IsPart}
-use Rattle.x7_part.specs.Slots.{slots_in, from}
+use Rattle.x7_part.specs.Ranges.{IsPart}
+use Rattle.x7_part.specs.Slot.{slots_in, from}
 use Rattle.x7_part.specs.declared.slot.Slot.{Slot}
 use Rattle.x7_part.specs.declared.slot.Slot.TheVariants.{End}
 use Rattle.std.specs.Prelude.{Contains}
 use Rattle.x7_part.proofs.SlotLemmas.{slots_all, slots_number, slots_split}
-use Rattle.x7_memory.specs.Planned.{PlanData}
+use Rattle.x7_memory.specs.Plan.{PlanData}
 use Rattle.x7_planner.specs.FullStream.{frame_at_slot, words_of_slots}
-use Rattle.x7_planner.specs.Stream.{bytes_of_words}
+use Rattle.x7_planner.specs.Writer.{bytes_of_words}
 
 -- words written in two parts
 pub written_on : (old mid new xs ys : List ℕ) → mid ≡ old ++ bytes_of_words xs → new ≡ mid ++ bytes_of_words ys → new ≡ old ++ bytes_of_words (xs ++ ys)

@@ -5,13 +5,13 @@ use Rattle.std.proofs.lemmas.List.{drop-take, take-append-drop, take_rest}
 use Rattle.std.proofs.lemmas.Grind.{flat_map-append}
 use Rattle.x7_words.specs.Word.{bytes_of_word}
 use Rattle.x7_part.specs.Part.{PartData}
-use Rattle.x7_part.specs.Slots.{slots_in}
+use Rattle.x7_part.specs.Slot.{slots_in}
 use Rattle.x7_part.specs.declared.slot.Slot.{Slot}
-use Rattle.x7_memory.specs.Planned.{PlanData}
+use Rattle.x7_memory.specs.Plan.{PlanData}
 use Rattle.x7_planner.specs.FullStream.{frame_at_slot, full_ending, full_opening, full_stream, words_of_slots, start_words}
-use Rattle.x7_planner.specs.Stream.{StreamPiece, Words, Check, bytes_of_words, check_words, stream_of, with_piece}
-use Rattle.x7_crc.specs.Checking.{check_of_bytes, HasTaken}
-use Rattle.x7_planner.specs.Telling.{FullStreamState, HasGiven, IsFullStream, TellsMore, WritesPiece, calls_from, puts_left, frame_pieces, pieces_before, pieces_to, slot_next}
+use Rattle.x7_planner.specs.Writer.{StreamPiece, Words, Check, bytes_of_words, check_words, stream_of, with_piece}
+use Rattle.x7_crc.specs.Checker.{check_of_bytes, HasTaken}
+use Rattle.x7_planner.specs.FullStreamPieces.{FullStreamState, HasGiven, IsFullStream, TellsMore, WritesPiece, calls_from, puts_left, frame_pieces, pieces_before, pieces_to, slot_next}
 use Rattle.x7_planner.specs.declared.full_stream.NextPiece.{NextPiece}
 use Rattle.x7_planner.specs.declared.full_stream.NextPiece.TheVariants as next
 

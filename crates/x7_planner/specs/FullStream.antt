@@ -3,15 +3,15 @@ use Rattle.std.specs.Prelude.{ℕ, ◌*◌, List, [], ◌∷◌, ◌++◌, lengt
 use Rattle.std.specs.List.{flat_map}
 use Rattle.x7_part.specs.AddressOrder.{addresses_in}
 use Rattle.x7_part.specs.Part.{PartData, frame_words}
-use Rattle.x7_part.specs.Slots.{slots_in}
+use Rattle.x7_part.specs.Slot.{slots_in}
 use Rattle.x7_part.specs.declared.slot.Slot.{Slot}
 use Rattle.x7_part.specs.declared.slot.Slot.TheVariants.{Frame, Pad, End}
-use Rattle.x7_memory.specs.Planned.{PlanData, planned}
+use Rattle.x7_memory.specs.Plan.{PlanData, planned}
 use Rattle.x7_regs.specs.declared.command.Command.TheVariants.{Desync, Lfrm, Rcrc, Shutdown, Start, Wcfg}
 use Rattle.x7_regs.specs.declared.register.Reg.TheVariants.{Cor0, Ctl0, Far, Idcode, Mask}
 use Rattle.x7_packets.specs.PacketWords.{command, frame_data, no_op, write_one}
 use Rattle.x7_planner.specs.Settings.{control, control_mask, startup_options}
-use Rattle.x7_planner.specs.Stream.{StreamPiece, Words, Check, head, stream_of}
+use Rattle.x7_planner.specs.Writer.{StreamPiece, Words, Check, head, stream_of}
 
 -- a frame of zeros
 abbrev pub zero_frame : PartData → List ℕ

@@ -1,7 +1,7 @@
 -- The frames of a plan by content, as a planner holds them (this project's choice).
 use Rattle.std.specs.Prelude.{◌≡◌, List}
-use Rattle.x7_memory.specs.Planned.{PlanRow}
-use Rattle.x7_planner.specs.Contents.{AreByContent, content_rows}
+use Rattle.x7_memory.specs.Plan.{PlanRow}
+use Rattle.x7_planner.specs.Content.{AreByContent, content_rows}
 use Rattle.x7_planner.specs.PartialStream.{others}
 use Rattle.x7_planner.specs.declared.partial_stream.Grouping.{Grouping}
 

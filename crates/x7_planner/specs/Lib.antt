@@ -1,9 +1,9 @@
-pub mod Stream
+pub mod Writer
 pub mod FullStream
 pub mod ReadStream
-pub mod Refusals
+pub mod Fault
 pub mod Settings
 pub mod PartialStream
-pub mod Contents
-pub mod Telling
+pub mod Content
+pub mod FullStreamPieces
 pub mod Grouping

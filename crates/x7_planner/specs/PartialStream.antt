@@ -2,14 +2,14 @@
 use Rattle.std.specs.Prelude.{◌≡◌, ℕ, ◌+◌, ◌*◌, ◌==◌, ◌&&◌, nat_le, Bool, true, false, if◌then◌else◌, List, [], ◌∷◌, ◌++◌, length, map, replicate, slice_index, slice_index_or, All, Contains, Some}
 use Rattle.std.specs.List.{flat_map}
 use Rattle.x7_part.specs.Part.{PartData, frame_words}
-use Rattle.x7_part.specs.Slots.{from, slots_in}
+use Rattle.x7_part.specs.Slot.{from, slots_in}
 use Rattle.x7_part.specs.declared.slot.Slot.{Slot}
 use Rattle.x7_part.specs.declared.slot.Slot.TheVariants.{Frame, Pad, End}
-use Rattle.x7_memory.specs.Planned.{AreApart, PlanRow, planned, planned_addresses}
+use Rattle.x7_memory.specs.Plan.{AreApart, PlanRow, planned, planned_addresses}
 use Rattle.x7_regs.specs.declared.command.Command.TheVariants.{Desync, Mfw, Rcrc, Wcfg}
 use Rattle.x7_regs.specs.declared.register.Reg.TheVariants.{Far, Idcode, Mfwr}
 use Rattle.x7_packets.specs.PacketWords.{command, frame_data, no_op, write_one}
-use Rattle.x7_planner.specs.Stream.{Words, Check, head, stream_of}
+use Rattle.x7_planner.specs.Writer.{Words, Check, head, stream_of}
 use Rattle.x7_planner.specs.FullStream.{zero_frame}
 
 -- what a partial stream writes after one command: a content at some addresses, or frames from an address on

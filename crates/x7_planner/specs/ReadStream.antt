@@ -4,7 +4,7 @@ use Rattle.x7_part.specs.Part.{PartData, frame_words}
 use Rattle.x7_regs.specs.declared.command.Command.TheVariants.{Desync, Rcfg, Rcrc}
 use Rattle.x7_regs.specs.declared.register.Reg.TheVariants.{Far}
 use Rattle.x7_packets.specs.PacketWords.{command, frame_read, no_op, write_one}
-use Rattle.x7_planner.specs.Stream.{Words, head, stream_of}
+use Rattle.x7_planner.specs.Writer.{Words, head, stream_of}
 
 -- a read of this many words from an address on
 abbrev pub read_of_words : ℕ → ℕ → List ℕ

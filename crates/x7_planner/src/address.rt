@@ -1,7 +1,7 @@
 //! Whether a plan is one for a part.
 ghost use Rattle.std.specs.Prelude.{IfNone, IfSome};
-ghost use Rattle.x7_memory.specs.Planned.{AreAddressed};
-ghost use Rattle.x7_planner.specs.Refusals.{IsFirstForeign};
+ghost use Rattle.x7_memory.specs.Plan.{AreAddressed};
+ghost use Rattle.x7_planner.specs.Fault.{IsFirstForeign};
 
 use x7_memory::Plan;
 use x7_part::Part;

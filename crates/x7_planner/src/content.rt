@@ -1,7 +1,7 @@
 //! The contents of planned frames, equal ones together.
 ghost use Rattle.std.specs.Prelude.{◌≡◌, ℕ, ◌<◌, ◌≤◌, length, slice_index_or, IfOk};
-ghost use Rattle.x7_memory.specs.Planned.{PlanRow};
-ghost use Rattle.x7_planner.specs.Contents.{AreFirsts, AreGrouped, AreStarts, IsBegun, IsFirst, content_rows};
+ghost use Rattle.x7_memory.specs.Plan.{PlanRow};
+ghost use Rattle.x7_planner.specs.Content.{AreFirsts, AreGrouped, AreStarts, IsBegun, IsFirst, content_rows};
 ghost use Rattle.x7_planner.specs.PartialStream.{same_words};
 
 use std::alloc::{AllocError, Global};

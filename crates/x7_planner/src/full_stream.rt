@@ -1,14 +1,14 @@
 //! The stream of a whole configuration.
 ghost use Rattle.std.specs.Prelude.{◌≡◌, ◌⊎◌, ◌+◌, ◌-◌, ◌*◌, ◌<◌, ◌≤◌, ◌++◌, ℕ, List, [], true, false, length, take, drop, replicate, slice_index, Contains, vec_capacity, IfOk, IfErr, OnOk, OnErr};
-ghost use Rattle.x7_memory.specs.Planned.{AreAddressed};
+ghost use Rattle.x7_memory.specs.Plan.{AreAddressed};
 ghost use Rattle.x7_part.specs.AddressOrder.{addresses_in};
 ghost use Rattle.x7_part.specs.Part.{frame_words};
-ghost use Rattle.x7_part.specs.PartRange.{IsPart};
-ghost use Rattle.x7_part.specs.Slots.{slots_in};
+ghost use Rattle.x7_part.specs.Ranges.{IsPart};
+ghost use Rattle.x7_part.specs.Slot.{slots_in};
 ghost use Rattle.x7_planner.specs.FullStream.{frame_at_slot, full_opening, full_settings, full_stream, words_of_slots};
-ghost use Rattle.x7_planner.specs.Refusals.{IsFullFault};
-ghost use Rattle.x7_planner.specs.Stream.{bytes_of_words};
-ghost use Rattle.x7_planner.specs.Telling.{AppendsWithin, HasGiven, TellsMore, WritesPiece, most_frame_bytes, opening_size, piece_limit, puts_left, settings_size};
+ghost use Rattle.x7_planner.specs.Fault.{IsFullFault};
+ghost use Rattle.x7_planner.specs.Writer.{bytes_of_words};
+ghost use Rattle.x7_planner.specs.FullStreamPieces.{AppendsWithin, HasGiven, TellsMore, WritesPiece, most_frame_bytes, opening_size, piece_limit, puts_left, settings_size};
 ghost use Rattle.x7_planner.specs.declared.fault.PlanFault.{PlanFault};
 ghost use Rattle.x7_planner.specs.declared.full_stream.NextPiece.{NextPiece};
 
@@ -173,7 +173,7 @@ pub struct FullStream<'p> {
 }
 
 impl<'p> Model for FullStream<'p> {
-    ghost use Rattle.x7_planner.specs.Telling.{FullStreamState, IsFullStream};
+    ghost use Rattle.x7_planner.specs.FullStreamPieces.{FullStreamState, IsFullStream};
 
     ghost Value = { FullStreamState };
 

@@ -1,10 +1,10 @@
 //! Contents at three addresses or more, which are written once and copied.
 ghost use Rattle.std.specs.Prelude.{◌≡◌, ◌==◌, ◌&&◌, ◌<◌, ◌++◌, if◌then◌else◌, [], ◌∷◌, slice_index, IfOk, OnOk};
 ghost use Rattle.std.specs.List.{flat_map};
-ghost use Rattle.x7_memory.specs.Planned.{planned_addresses};
-ghost use Rattle.x7_planner.specs.Contents.{AreByContent, BeginsAt, content_rows};
+ghost use Rattle.x7_memory.specs.Plan.{planned_addresses};
+ghost use Rattle.x7_planner.specs.Content.{AreByContent, BeginsAt, content_rows};
 ghost use Rattle.x7_planner.specs.PartialStream.{are_shared, copy_words, groups_led, others, stretch_words, with_content, Copies};
-ghost use Rattle.x7_planner.specs.Stream.{with_piece, Words};
+ghost use Rattle.x7_planner.specs.Writer.{with_piece, Words};
 
 use crate::content::Content;
 use crate::writer::Writer;

@@ -1,12 +1,12 @@
 //! The stream of a partial reconfiguration.
 ghost use Rattle.std.specs.Prelude.{◌≡◌, ◌⊎◌, ◌<◌, length, IfOk, IfErr, OnOk};
 ghost use Rattle.std.specs.List.{flat_map};
-ghost use Rattle.x7_memory.specs.Planned.{AreAddressed};
+ghost use Rattle.x7_memory.specs.Plan.{AreAddressed};
 ghost use Rattle.x7_part.specs.Part.{frame_words};
 ghost use Rattle.x7_planner.specs.Grouping.{IsGrouping};
 ghost use Rattle.x7_planner.specs.PartialStream.{partial_opening, partial_stream, stretch_words, stretches_of};
-ghost use Rattle.x7_planner.specs.Refusals.{IsPartialFault};
-ghost use Rattle.x7_planner.specs.Stream.{with_piece, Words};
+ghost use Rattle.x7_planner.specs.Fault.{IsPartialFault};
+ghost use Rattle.x7_planner.specs.Writer.{with_piece, Words};
 ghost use Rattle.x7_planner.specs.declared.fault.PlanFault.{PlanFault};
 
 use crate::address::first_foreign;

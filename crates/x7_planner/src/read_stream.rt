@@ -1,7 +1,7 @@
 //! The stream of a readback.
 ghost use Rattle.std.specs.Prelude.{◌≡◌, ◌⊎◌, ◌^◌, ◌<◌, IfOk, IfErr};
 ghost use Rattle.x7_planner.specs.ReadStream.{read_stream, read_of_words};
-ghost use Rattle.x7_planner.specs.Refusals.{CanRead, IsReadFault};
+ghost use Rattle.x7_planner.specs.Fault.{CanRead, IsReadFault};
 ghost use Rattle.x7_planner.specs.declared.fault.PlanFault.{PlanFault};
 
 use crate::fault::PlanFault;

@@ -1,9 +1,9 @@
 //! Frames whose addresses follow one another, which are written at once.
 ghost use Rattle.std.specs.Prelude.{◌≡◌, ◌+◌, ◌-◌, ◌*◌, ◌<◌, ◌≤◌, false, length, All, Contains, OnOk};
 ghost use Rattle.x7_part.specs.AddressOrder.{addresses_in};
-ghost use Rattle.x7_planner.specs.Contents.{IsRunLength, content_rows};
+ghost use Rattle.x7_planner.specs.Content.{IsRunLength, content_rows};
 ghost use Rattle.x7_planner.specs.PartialStream.{follows, frames_words, runs_words, stretch_words, Rows};
-ghost use Rattle.x7_planner.specs.Stream.{with_piece, Words};
+ghost use Rattle.x7_planner.specs.Writer.{with_piece, Words};
 
 use crate::content::Content;
 use crate::full_stream::zeros;

@@ -1,7 +1,7 @@
 //! A stream that is being written.
 ghost use Rattle.std.specs.Prelude.{◌≡◌, ◌+◌, ◌*◌, ◌≤◌, [], ◌++◌, length, ◌<◌, ◌^◌, vec_capacity, IfOk, OnOk, OnErr};
 ghost use Rattle.std.specs.List.{flat_map};
-ghost use Rattle.x7_planner.specs.Stream.{bytes_of_words, with_piece, Check, Words};
+ghost use Rattle.x7_planner.specs.Writer.{bytes_of_words, with_piece, Check, Words};
 
 use byteorder::{BigEndian, ByteOrder};
 use std::alloc::Global;
@@ -27,7 +27,7 @@ pub(crate) struct Writer {
 
 impl Model for Writer {
     ghost use Rattle.std.specs.Prelude.{ℕ, List};
-    ghost use Rattle.x7_crc.specs.Checking.{Keeps};
+    ghost use Rattle.x7_crc.specs.Checker.{Keeps};
 
     ghost Value = { List ℕ };
 

@@ -8,9 +8,9 @@ use Rattle.x7_engine.specs.ReadBuffer.{IsFull, IsFullBy, ReadBufState, gathered,
 use Rattle.x7_engine.proofs.FeedLemmas.{given_all, given_within}
 use Rattle.x7_engine.specs.Standing.{NoWordDue, DeviceState, DeviceStandsFor, reads_given}
 use Rattle.x7_engine.specs.State.{memory_in, reads_of, state_of, stop_in}
-use Rattle.x7_engine.specs.Stops.{Stopped}
+use Rattle.x7_engine.specs.Stop.{Stopped}
 use Rattle.x7_forms.specs.Known.{reads_limit}
-use Rattle.x7_playing.specs.Play.{IsPlayed, emptied, reads_room}
+use Rattle.x7_playing.specs.Playing.{IsPlayed, emptied, reads_room}
 use Rattle.x7_engine.proofs.ReadsLemmas.{reads_grow}
 use Rattle.x7_engine.proofs.StateLemmas.{stop_is_final_memory, stop_is_final_reads, stop_is_final_state, stop_is_final_stop}
 use Rattle.x7_engine.specs.declared.fed.Fed.TheVariants as fed

@@ -13,13 +13,13 @@ use Rattle.x7_engine.specs.ReadBuffer.{ReadBufState}
 use Rattle.x7_engine.specs.Past.{Answers, past_of}
 use Rattle.x7_engine.specs.Standing.{DeviceState, DeviceStandsFor, NoWordDue, taken_in, reads_given, words_left}
 use Rattle.x7_engine.specs.State.{history_taken, reads_of, stop_in}
-use Rattle.x7_engine.specs.Stops.{Stopped}
+use Rattle.x7_engine.specs.Stop.{Stopped}
 use Rattle.x7_engine.proofs.FeedLemmas.{given_all}
 use Rattle.x7_engine.proofs.FrameLemmas.{length_left}
 use Rattle.x7_engine.proofs.ReadsLemmas.{reads_grow}
 use Rattle.x7_engine.proofs.StateLemmas.{stop_is_final_stop}
 use Rattle.x7_forms.specs.Known.{reads_limit}
-use Rattle.x7_playing.specs.Play.{HasPlayed, HasPlayedBy, IsPlayed, MayPlay, PlayState, Plays, PlaysOn, ReadsOver}
+use Rattle.x7_playing.specs.Playing.{HasPlayed, HasPlayedBy, IsPlayed, MayPlay, PlayState, Plays, PlaysOn, ReadsOver}
 use Rattle.x7_playing.specs.declared.player.Player.{Player}
 use Rattle.x7_playing.proofs.PlayLemmas.{IsEnd, over_limit, stopped_end}
 

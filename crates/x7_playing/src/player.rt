@@ -1,7 +1,7 @@
 //! A device that plays bytes piece by piece, and the words that it reads out.
 ghost use Rattle.std.specs.Prelude.{◌≡◌, ◌++◌, ◌+◌, ◌<◌, ◌≤◌, [], true, false, Ok, Err, length, vec_capacity, vec_len, IfOk, IsOk, OnErr, OnOk};
 ghost use Rattle.x7_forms.specs.Known.{reads_limit};
-ghost use Rattle.x7_playing.specs.Play.{HasPlayed, MayPlay, MayPlayBy, PlaysOn, emptied, FeedsOn, FeedsPrefix, OfPrefix, PlaysPrefix, play_state, reads_room};
+ghost use Rattle.x7_playing.specs.Playing.{HasPlayed, MayPlay, MayPlayBy, PlaysOn, emptied, FeedsOn, FeedsPrefix, OfPrefix, PlaysPrefix, play_state, reads_room};
 
 use std::alloc::Global;
 use x7_engine::{Device, Fed, ReadBuf};

@@ -4,7 +4,7 @@ ghost use Rattle.x7_words.specs.Input.{AsksFew, AtEnd, Stays};
 ghost use Rattle.x7_forms.specs.Message.{event_of};
 ghost use Rattle.x7_forms.specs.Event.{no_memory};
 ghost use Rattle.x7_forms.specs.Known.{stream_limit};
-ghost use Rattle.x7_playing.specs.Play.{HasPlayed, MayPlay, PlaysOn, PlaysStream};
+ghost use Rattle.x7_playing.specs.Playing.{HasPlayed, MayPlay, PlaysOn, PlaysStream};
 ghost use Rattle.x7_forms.specs.Turn.{GivesFew, ReadsRest, StandsAt, UnreadRest, play_turn_bytes};
 ghost use Rattle.x7_forms.specs.Stop.{StopsAmong, limited_together};
 ghost use Rattle.x7_forms.specs.Step.{IsOneUnplayed, IsUnplayed, ReadsStream, ReadsStreams};

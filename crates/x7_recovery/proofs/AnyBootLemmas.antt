@@ -1,11 +1,11 @@
 -- All that a boot from a flash with an open slot comes to, and from one that was updated.
 use Rattle.std.proofs.Common.{◌≤◌, ℕ, List, ◌++◌, length, false, subst}
 use Rattle.x7_part.specs.Part.{PartData}
-use Rattle.x7_part.specs.PartRange.{IsPart}
+use Rattle.x7_part.specs.Ranges.{IsPart}
 use Rattle.x7_regs.specs.declared.boot_status.Cause.{Cause}
 use Rattle.x7_boot.specs.Attempt.{Trial}
 use Rattle.x7_boot.specs.Image.{flash_limit, image_of, image_size, place_after_golden}
-use Rattle.x7_boot.specs.Course.{BootCourse, IsCourse}
+use Rattle.x7_boot.specs.Boots.{BootCourse, IsCourse}
 use Rattle.x7_recovery.specs.OpenBoot.{BootsOpen, EachBootsOpen, FallsBackClean, HasStreams, UpdateFails}
 use Rattle.x7_recovery.specs.OpenSlot.{BeginsAsImage, IsOpened, Opened, image_of_flash, slot_of_flash}
 use Rattle.x7_recovery.specs.Updated.{IsUpdated, one_more, opened_by}

@@ -16,13 +16,13 @@ use Rattle.x7_packets.proofs.AppendedLemmas.{history_after}
 use Rattle.x7_packets.proofs.GapLemmas.{history_passed}
 use Rattle.x7_packets.proofs.MovedLemmas.{moved_again, moved_append}
 use Rattle.x7_regs.specs.declared.boot_status.Kind.TheVariants.{Fallback}
-use Rattle.x7_startup.specs.Calls.{NotBegun, StartupProgress}
+use Rattle.x7_startup.specs.Startup.{NotBegun, StartupProgress}
 use Rattle.x7_flow.specs.FrameMemory.{memory_of}
 use Rattle.x7_engine.specs.Kept.{is_fallback}
 use Rattle.x7_engine.specs.Registers.{wrote_iprog}
 use Rattle.x7_engine.specs.Startup.{phase_by, startup_progress}
 use Rattle.x7_engine.specs.State.{memory_in, stop_in}
-use Rattle.x7_engine.specs.Stops.{stop_of}
+use Rattle.x7_engine.specs.Stop.{stop_of}
 use Rattle.x7_engine.specs.declared.kept.Kept.{Kept}
 use Rattle.x7_regs.specs.BootStatus.{boot_status_of}
 use Rattle.x7_regs.specs.declared.boot_status.Attempt.{Attempt}
@@ -36,7 +36,7 @@ use Rattle.x7_boot.proofs.StartLemmas.{prefix_goes, prefix_history, prefix_open}
 use Rattle.x7_boot.proofs.TookLemmas.{ends_going}
 use Rattle.x7_recovery.specs.Clean.{StartsClean}
 use Rattle.x7_recovery.specs.Golden.{with_erased}
-use Rattle.x7_boot.specs.Course.{BootCourse, IsCourse}
+use Rattle.x7_boot.specs.Boots.{BootCourse, IsCourse}
 use Rattle.x7_recovery.specs.OpenBoot.{FallsBackClean, UpdateFails}
 use Rattle.x7_recovery.specs.OpenSlot.{HasOpen, IsOpened, Opened}
 use Rattle.x7_effects.proofs.EndLemmas.{memory_all}

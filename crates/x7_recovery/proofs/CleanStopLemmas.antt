@@ -8,18 +8,18 @@ use Rattle.x7_regs.specs.Command.{command_by}
 use Rattle.x7_regs.specs.declared.command.Command.{Command}
 use Rattle.x7_pipeline.specs.Copies.{is_mfw}
 use Rattle.x7_memory.specs.FrameMap.{FrameMap}
-use Rattle.x7_memory.specs.Planned.{planned}
+use Rattle.x7_memory.specs.Plan.{planned}
 use Rattle.x7_pipeline.specs.Runs.{put_over}
 use Rattle.x7_pipeline.specs.Flow.{first_flow}
 use Rattle.x7_pipeline.proofs.LawLemmas.{no_source}
 use Rattle.x7_startup.proofs.CallLemmas.{progress_bytes}
 use Rattle.x7_flow.specs.Flow.{Flow, flow_by, flow_of}
 use Rattle.x7_flow.specs.FrameMemory.{memory_of}
-use Rattle.x7_flow.specs.Asked.{Order}
-use Rattle.x7_startup.specs.Calls.{NotBegun}
+use Rattle.x7_flow.specs.Asking.{Order}
+use Rattle.x7_startup.specs.Startup.{NotBegun}
 use Rattle.x7_engine.specs.Kept.{is_fallback}
 use Rattle.x7_engine.specs.Startup.{startup_calls}
-use Rattle.x7_engine.specs.Stops.{stop_of, why_at}
+use Rattle.x7_engine.specs.Stop.{stop_of, why_at}
 use Rattle.x7_engine.specs.declared.kept.Kept.{Kept}
 use Rattle.x7_engine.proofs.PassesLemmas.{goes_past, went_past, why_passes}
 use Rattle.x7_engine.proofs.SameLemmas.{IsIdle, IsNear, IsSame, SameStartup, near_clear, near_null, near_shutdown, near_spi, near_write, ordered, same_more}

@@ -1,14 +1,14 @@
 -- The boot of a flash that was left in an update, where the golden stream is the full stream of a plan: that is a golden stream that starts.
 use Rattle.std.proofs.Common.{List, ℕ, ap, sym, subst, ◌∙◌}
 use Rattle.x7_memory.specs.FrameMap.{AreSame, FrameMap}
-use Rattle.x7_memory.specs.Planned.{total}
+use Rattle.x7_memory.specs.Plan.{total}
 use Rattle.x7_engine.specs.declared.regs.Regs.{Regs}
 use Rattle.x7_boot.specs.Attempt.{Trial}
 use Rattle.x7_boot.specs.Boot.{BootedState, IsBoot}
 use Rattle.x7_update.specs.After.{MayBeLeft}
 use Rattle.x7_recovery.specs.Golden as any
 use Rattle.x7_recovery.specs.Golden.{BootsAlike, StartsAlike, StartsAsPlanned, UpdatingAny}
-use Rattle.x7_boot.specs.Course.{BootCourse}
+use Rattle.x7_boot.specs.Boots.{BootCourse}
 use Rattle.x7_recovery.specs.Recovery.{BootsAs, IsPrepared, StartsGolden, Updating, as_after, as_before, golden}
 use Rattle.x7_recovery.proofs.GoldenLemmas.{found_alike, full_golden}
 

@@ -11,15 +11,15 @@ use Rattle.x7_packets.specs.History as access
 use Rattle.x7_packets.specs.History.{History, entry, history_of}
 use Rattle.x7_packets.proofs.MovedLemmas.{moved_same}
 use Rattle.x7_part.specs.Part.{PartData}
-use Rattle.x7_part.specs.PartRange.{IsPart}
-use Rattle.x7_part.specs.Slots.{slots_in}
-use Rattle.x7_memory.specs.Planned.{IsPlanFor, PlanData}
+use Rattle.x7_part.specs.Ranges.{IsPart}
+use Rattle.x7_part.specs.Slot.{slots_in}
+use Rattle.x7_memory.specs.Plan.{IsPlanFor, PlanData}
 use Rattle.x7_planner.specs.FullStream.{full_stream}
 use Rattle.x7_engine.specs.State.{state_of, stop_in, why_of}
 use Rattle.x7_engine.specs.declared.kept.Kept.{Kept}
 use Rattle.x7_engine.specs.declared.stop.Stop.{Stop}
 use Rattle.x7_engine.specs.declared.stop.Stop.TheVariants as stop
-use Rattle.x7_engine.specs.Values.{failure_of}
+use Rattle.x7_engine.specs.Value.{failure_of}
 use Rattle.x7_regs.specs.declared.boot_status.Cause.{Cause}
 use Rattle.x7_effects.specs.Played.{PlaysFull, resting_after}
 use Rattle.x7_effects.proofs.Items.{writes_entered}

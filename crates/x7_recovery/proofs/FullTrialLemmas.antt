@@ -12,19 +12,19 @@ use Rattle.x7_packets.specs.History.{History, entry, history_of, until}
 use Rattle.x7_packets.specs.Reading.{is_synced}
 use Rattle.x7_packets.proofs.GrowthLemmas.{newer_of}
 use Rattle.x7_part.specs.Part.{PartData}
-use Rattle.x7_part.specs.PartRange.{IsPart}
-use Rattle.x7_part.specs.Slots.{slots_in}
+use Rattle.x7_part.specs.Ranges.{IsPart}
+use Rattle.x7_part.specs.Slot.{slots_in}
 use Rattle.x7_regs.specs.BootStatus.{boot_status_of}
 use Rattle.x7_memory.specs.FrameMap.{AreSame, FrameMap}
-use Rattle.x7_memory.specs.Planned.{IsPlanFor, PlanData, total}
+use Rattle.x7_memory.specs.Plan.{IsPlanFor, PlanData, total}
 use Rattle.x7_planner.specs.FullStream.{full_stream}
 use Rattle.x7_flow.specs.FrameMemory.{memory_of}
 use Rattle.x7_engine.specs.Kept.{is_fallback}
 use Rattle.x7_engine.specs.Registers.{wrote_iprog}
 use Rattle.x7_engine.specs.Rest.{AtRest}
 use Rattle.x7_engine.specs.State.{history_by, memory_in, state_of, stop_in, why_of}
-use Rattle.x7_engine.specs.Stops.{Stopped, stop_fault}
-use Rattle.x7_engine.specs.Values.{attempt_of}
+use Rattle.x7_engine.specs.Stop.{Stopped, stop_fault}
+use Rattle.x7_engine.specs.Value.{attempt_of}
 use Rattle.x7_engine.specs.declared.kept.Kept.{Kept}
 use Rattle.x7_effects.specs.Played.{PlaysFull, resting_after}
 use Rattle.x7_effects.proofs.Items.{bus_width_head, closed, writes_entered}

@@ -25,7 +25,7 @@ use Rattle.x7_engine.proofs.RestLemmas.{history_on, rest_on}
 use Rattle.x7_engine.specs.declared.kept.Kept.{Kept}
 use Rattle.x7_boot.specs.Attempt.{EndsFirst, IsTrial, Trial}
 use Rattle.x7_boot.specs.Boot.{BootedState, IsBoot, LeadsToEnd, at_power, end_state, next_by}
-use Rattle.x7_boot.specs.Course.{BootCourse, course_along, course_of}
+use Rattle.x7_boot.specs.Boots.{BootCourse, course_along, course_of}
 use Rattle.x7_boot.specs.declared.attempt.Ending.TheVariants as ending
 use Rattle.x7_boot.specs.declared.boots.BootEnd.TheVariants as boot_end
 use Rattle.x7_boot.specs.declared.boots.Tried.{Tried}

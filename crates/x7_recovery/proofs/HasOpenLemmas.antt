@@ -8,8 +8,8 @@ use Rattle.x7_words.proofs.WordLemmas.{bytes_words}
 use Rattle.x7_packets.specs.FlashSlot.{flash_slot}
 use Rattle.x7_packets.specs.SyncWord.{HasNoSync, sync_bytes}
 use Rattle.x7_part.specs.Part.{PartData}
-use Rattle.x7_part.specs.PartRange.{IsPart}
-use Rattle.x7_memory.specs.Planned.{PlanData}
+use Rattle.x7_part.specs.Ranges.{IsPart}
+use Rattle.x7_memory.specs.Plan.{PlanData}
 use Rattle.x7_planner.specs.FullStream.{full_stream}
 use Rattle.x7_boot.specs.Image as image
 use Rattle.x7_boot.specs.Image.{closed_slot, closed_slots, first_sector, flash_limit, image_of, image_size, open_slot, slot}

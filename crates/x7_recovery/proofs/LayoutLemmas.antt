@@ -11,7 +11,7 @@ use Rattle.x7_boot.specs.Image.{closed_slot, closed_slots, filled_to, first_sect
 use Rattle.x7_recovery.proofs.SlotLemmas.{image_begins, place_whole, sector_long, size_after, slot_long, update_after}
 use Rattle.x7_recovery.specs.PlannedImage.{HasImage, golden_image}
 use Rattle.x7_part.specs.Part.{PartData}
-use Rattle.x7_memory.specs.Planned.{PlanData}
+use Rattle.x7_memory.specs.Plan.{PlanData}
 use Rattle.x7_planner.specs.FullStream.{full_stream}
 use Rattle.x7_recovery.specs.Recovery.{IsPrepared}
 use Rattle.x7_update.specs.Layout.{HasLayout, LeadsToUpdate, IsOpen, four_at, first_slot, free_switch, open_switch, switch_of, update_place}

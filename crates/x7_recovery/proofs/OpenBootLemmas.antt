@@ -10,14 +10,14 @@ use Rattle.x7_regs.specs.declared.boot_status.Cause.{Cause}
 use Rattle.x7_regs.specs.declared.boot_status.Kind.{Kind}
 use Rattle.x7_regs.specs.declared.boot_status.Kind.TheVariants.{Power, Iprog, Fallback}
 use Rattle.x7_memory.specs.FrameMap.{AreSame}
-use Rattle.x7_memory.specs.Planned.{PlanData, total}
+use Rattle.x7_memory.specs.Plan.{PlanData, total}
 use Rattle.x7_planner.specs.FullStream.{full_stream}
 use Rattle.x7_engine.specs.Kept.{AreFallbacks, is_fallback, without_kept}
 use Rattle.x7_engine.specs.Registers.{wrote_iprog}
 use Rattle.x7_engine.specs.Rest.{AtRest}
 use Rattle.x7_engine.specs.State.{attempt_in, history_by, history_taken, kept_after, memory_in, stop_in, why_of}
-use Rattle.x7_engine.specs.Stops.{Stopped, stop_fault}
-use Rattle.x7_engine.specs.Values.{failure_of}
+use Rattle.x7_engine.specs.Stop.{Stopped, stop_fault}
+use Rattle.x7_engine.specs.Value.{failure_of}
 use Rattle.x7_engine.specs.declared.kept.Kept.{Kept}
 use Rattle.x7_engine.proofs.FallbackLemmas.{kept_memory, kept_state, kept_stop}
 use Rattle.x7_boot.specs.Attempt.{IsTrial, Trial}
@@ -29,7 +29,7 @@ use Rattle.x7_boot.specs.declared.boots.BootEnd.TheVariants as boot_end
 use Rattle.x7_boot.specs.declared.boots.Tried.{Tried}
 use Rattle.x7_boot.specs.declared.next.Next.{Next}
 use Rattle.x7_boot.specs.declared.next.Next.TheVariants.{Again, Ends}
-use Rattle.x7_boot.specs.Course.{BootCourse, IsCourse, course_along}
+use Rattle.x7_boot.specs.Boots.{BootCourse, IsCourse, course_along}
 use Rattle.x7_boot.proofs.CourseLemmas.{along, cause_is, fallback_next, stops_next, tried_is}
 use Rattle.x7_boot.proofs.OneBootLemmas.{GoesThrough, goes_through}
 use Rattle.x7_boot.proofs.OverLemmas.{kept_ends, started_first, with_kept}

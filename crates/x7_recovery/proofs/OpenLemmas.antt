@@ -17,13 +17,13 @@ use Rattle.x7_packets.proofs.SeamLemmas.{none_before_prefix}
 use Rattle.x7_packets.proofs.GrowthLemmas.{placed_of, until_placed}
 use Rattle.x7_part.specs.Part.{PartData}
 use Rattle.x7_regs.specs.declared.boot_status.Kind.TheVariants.{Power, Iprog}
-use Rattle.x7_startup.specs.Calls.{NotBegun}
+use Rattle.x7_startup.specs.Startup.{NotBegun}
 use Rattle.x7_engine.specs.Kept.{is_fallback}
 use Rattle.x7_engine.specs.Registers.{wrote_iprog}
 use Rattle.x7_engine.specs.Rest.{AtRest, LastGapGoesOn}
 use Rattle.x7_engine.specs.State.{history_by, kept_after, why_of, stop_in}
-use Rattle.x7_engine.specs.Stops.{Stopped, stop_fault, why_at, stop_of, stopped_at}
-use Rattle.x7_engine.specs.Values.{failure_of}
+use Rattle.x7_engine.specs.Stop.{Stopped, stop_fault, why_at, stop_of, stopped_at}
+use Rattle.x7_engine.specs.Value.{failure_of}
 use Rattle.x7_engine.specs.declared.kept.Kept.{Kept}
 use Rattle.x7_engine.specs.declared.stop.Stop.TheVariants as stop
 use Rattle.x7_engine.proofs.ClockLemmas.{stop_of_access}

@@ -5,10 +5,10 @@ use Rattle.x7_packets.specs.History as access
 use Rattle.x7_packets.specs.History.{History, entry, history_of}
 use Rattle.x7_packets.specs.Reading.{Searching, is_synced}
 use Rattle.x7_part.specs.Part.{PartData}
-use Rattle.x7_startup.specs.Calls.{NotBegun}
+use Rattle.x7_startup.specs.Startup.{NotBegun}
 use Rattle.x7_engine.specs.Kept.{is_fallback}
 use Rattle.x7_engine.specs.Rest.{AtRest}
-use Rattle.x7_engine.specs.Stops.{why_at}
+use Rattle.x7_engine.specs.Stop.{why_at}
 use Rattle.x7_engine.specs.declared.kept.Kept.{Kept}
 use Rattle.x7_engine.proofs.FallbackLemmas.{fallback_off}
 use Rattle.x7_effects.proofs.Items.{AreItems, Item, MayLead, Noop, Write, bytes_of_words, closed, opened}

@@ -5,18 +5,18 @@ use Rattle.std.proofs.Math.Seq.{drop-append_seam, take-append_seam}
 use Rattle.x7_words.specs.Word.{AreBytes}
 use Rattle.x7_words.proofs.FlashLemmas.{bytes_replaced}
 use Rattle.x7_part.specs.Part.{PartData}
-use Rattle.x7_part.specs.PartRange.{IsPart}
+use Rattle.x7_part.specs.Ranges.{IsPart}
 use Rattle.x7_regs.specs.declared.boot_status.Cause.TheVariants.{Wrap}
-use Rattle.x7_memory.specs.Planned.{IsPlanFor, PlanData}
+use Rattle.x7_memory.specs.Plan.{IsPlanFor, PlanData}
 use Rattle.x7_planner.specs.FullStream.{full_stream}
 use Rattle.x7_recovery.specs.Example.{tiny, nothing_planned}
 use Rattle.std.specs.Prelude.{Contains}
 use Rattle.std.proofs.lemmas.List.Elements.{All-nil, All-cons}
-use Rattle.x7_part.specs.FrameAddress.{IsRow, row, no_row}
+use Rattle.x7_part.specs.Address.{IsRow, row, no_row}
 use Rattle.x7_part.specs.AddressOrder.{addresses, addresses_in}
-use Rattle.x7_memory.specs.Planned.{IsPlanRow, PlanRow}
+use Rattle.x7_memory.specs.Plan.{IsPlanRow, PlanRow}
 use Rattle.x7_boot.specs.Attempt.{RunsOut, Trial, ending_at}
-use Rattle.x7_part.specs.Slots.{slots, slots_in}
+use Rattle.x7_part.specs.Slot.{slots, slots_in}
 use Rattle.x7_effects.proofs.FormLemmas.{full_length}
 use Rattle.x7_effects.proofs.PlannerLemmas.{full_same}
 use Rattle.x7_boot.specs.Image.{closed_slots, filled_to, first_sector, flash_limit, image_of, image_size, open_slot, slot, place_after_golden}

@@ -1,7 +1,7 @@
 -- A small part, and a plan of no frame: laws on parts, plans and images speak of something (this project's choice).
 use Rattle.std.specs.Prelude.{[], ◌∷◌}
 use Rattle.x7_part.specs.Part.{PartData}
-use Rattle.x7_memory.specs.Planned.{PlanData}
+use Rattle.x7_memory.specs.Plan.{PlanData}
 
 -- two rows of one column of two frames each
 abbrev pub tiny : PartData

@@ -1,8 +1,8 @@
 -- The image of the full stream of a plan and an update stream (the layout of an image is this project's choice).
 use Rattle.std.specs.Prelude.{ℕ, ◌≤◌, List, length}
 use Rattle.x7_part.specs.Part.{PartData}
-use Rattle.x7_part.specs.PartRange.{IsPart}
-use Rattle.x7_memory.specs.Planned.{IsPlanFor, PlanData}
+use Rattle.x7_part.specs.Ranges.{IsPart}
+use Rattle.x7_memory.specs.Plan.{IsPlanFor, PlanData}
 use Rattle.x7_planner.specs.FullStream.{full_stream}
 use Rattle.x7_boot.specs.Image.{flash_limit, image_of, image_size, place_after_golden}
 

@@ -2,15 +2,15 @@
 use Rattle.std.specs.Prelude.{◌≡◌, ℕ, ◌+◌, ◌≤◌, false, List, [], ◌∷◌, ◌++◌, None, drop, length}
 use Rattle.x7_packets.specs.FlashSlot.{sector_bytes}
 use Rattle.x7_part.specs.Part.{PartData}
-use Rattle.x7_part.specs.PartRange.{IsPart}
+use Rattle.x7_part.specs.Ranges.{IsPart}
 use Rattle.x7_regs.specs.BootStatus.{boot_status_of}
 use Rattle.x7_regs.specs.declared.boot_status.Kind.TheVariants.{Power}
 use Rattle.x7_memory.specs.FrameMap.{AreSame}
-use Rattle.x7_memory.specs.Planned.{IsPlanFor, PlanData, total}
+use Rattle.x7_memory.specs.Plan.{IsPlanFor, PlanData, total}
 use Rattle.x7_planner.specs.FullStream.{full_stream}
 use Rattle.x7_engine.specs.State.{memory_in}
 use Rattle.x7_boot.specs.Boot.{BootedState, IsBoot, end_state}
-use Rattle.x7_boot.specs.Course.{BootCourse, course_of}
+use Rattle.x7_boot.specs.Boots.{BootCourse, course_of}
 use Rattle.x7_recovery.specs.PlannedImage.{golden_image}
 use Rattle.x7_boot.specs.declared.attempt.Ending.TheVariants as ending
 use Rattle.x7_boot.specs.declared.boots.BootEnd.TheVariants as boot_end

@@ -5,7 +5,7 @@ ghost use Rattle.x7_part.specs.Part.{PartData};
 ghost use Rattle.x7_regs.specs.declared.boot_status.Cause.{Cause};
 ghost use Rattle.x7_boot.specs.Attempt.{Trial};
 ghost use Rattle.x7_recovery.specs.Clean.{StartsClean};
-ghost use Rattle.x7_boot.specs.Course.{BootCourse, IsCourse};
+ghost use Rattle.x7_boot.specs.Boots.{BootCourse, IsCourse};
 ghost use Rattle.x7_recovery.specs.Golden.{GoldenStarts};
 ghost use Rattle.x7_recovery.specs.OpenBoot.{EachBootsOpen, FallsBackClean, UpdateFails};
 ghost use Rattle.x7_recovery.specs.Updated.{AfterUpdates, IsUpdated, opened_by};

@@ -6,7 +6,7 @@ ghost use Rattle.x7_boot.specs.Attempt.{Trial};
 ghost use Rattle.x7_boot.specs.Boot.{BootedState, IsBoot};
 ghost use Rattle.x7_recovery.specs.Clean.{StartsClean};
 ghost use Rattle.x7_recovery.specs.Golden.{BootsAlike, HaveSameGolden, IsPreparedAny, IsShut, StartsAlike, StartsAsPlanned, UpdatingAny, with_erased};
-ghost use Rattle.x7_boot.specs.Course.{course_of};
+ghost use Rattle.x7_boot.specs.Boots.{course_of};
 ghost use Rattle.x7_recovery.specs.Recovery.{IsPrepared, Updating};
 ghost use Rattle.x7_update.specs.After.{IsBetween, MayBeLeft};
 ghost use Rattle.x7_update.specs.Layout.{HasLayout};

@@ -1,9 +1,9 @@
 //! What a boot from the image of a golden and an update stream comes to. The functions do nothing: their contracts are the laws.
 ghost use Rattle.std.specs.Prelude.{◌≢◌, ◌≤◌, ◌++◌, List, [], ℕ, false, length};
 ghost use Rattle.x7_part.specs.Part.{PartData};
-ghost use Rattle.x7_part.specs.PartRange.{IsPart};
+ghost use Rattle.x7_part.specs.Ranges.{IsPart};
 ghost use Rattle.x7_regs.specs.declared.boot_status.Cause.TheVariants.{Wrap};
-ghost use Rattle.x7_memory.specs.Planned.{IsPlanFor, PlanData};
+ghost use Rattle.x7_memory.specs.Plan.{IsPlanFor, PlanData};
 ghost use Rattle.x7_boot.specs.Attempt.{Trial};
 ghost use Rattle.x7_boot.specs.Image.{flash_limit, image_of, image_size};
 ghost use Rattle.x7_recovery.specs.Example.{nothing_planned, tiny};

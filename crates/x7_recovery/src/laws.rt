@@ -2,7 +2,7 @@
 ghost use Rattle.std.specs.Prelude.{◌≡◌, ◌≤◌, List, ℕ, length};
 ghost use Rattle.x7_words.specs.Flash.{flash_limit};
 ghost use Rattle.x7_part.specs.Part.{PartData};
-ghost use Rattle.x7_memory.specs.Planned.{PlanData};
+ghost use Rattle.x7_memory.specs.Plan.{PlanData};
 ghost use Rattle.x7_boot.specs.Boot.{BootedState, IsBoot};
 ghost use Rattle.x7_boot.specs.Image.{image_of, image_size};
 ghost use Rattle.x7_recovery.specs.PlannedImage.{HasImage};

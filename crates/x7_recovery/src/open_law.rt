@@ -4,8 +4,8 @@ ghost use Rattle.std.specs.Prelude.{◌≡◌, ◌<◌, ◌++◌, List, ℕ, dro
 ghost use Rattle.x7_words.specs.Word.{AreBytes};
 ghost use Rattle.x7_packets.specs.FlashSlot.{sector_bytes, slot_count};
 ghost use Rattle.x7_part.specs.Part.{PartData};
-ghost use Rattle.x7_part.specs.PartRange.{IsPart};
-ghost use Rattle.x7_memory.specs.Planned.{PlanData};
+ghost use Rattle.x7_part.specs.Ranges.{IsPart};
+ghost use Rattle.x7_memory.specs.Plan.{PlanData};
 ghost use Rattle.x7_recovery.specs.OpenBoot.{EachBootsOpen};
 ghost use Rattle.x7_recovery.specs.OpenSlot.{BeginsAsImage, IsOpened, Opened, image_of_flash, slot_of_flash};
 ghost use Rattle.x7_recovery.specs.Recovery.{HasGolden};

@@ -11,7 +11,7 @@ use Rattle.x7_memory.specs.Frames.{frame_at}
 use Rattle.x7_engine.specs.declared.regs.Regs.{Regs}
 use Rattle.x7_report.specs.Frames.{frames_text, frame_text_if, lines_text, addresses_shown}
 use Rattle.x7_report.specs.Reads.{reads_text}
-use Rattle.x7_report.specs.Report.{report_text}
+use Rattle.x7_report.specs.Reports.{report_text}
 use Rattle.x7_report.specs.State.{state_text}
 use Rattle.x7_report.proofs.ReportLemmas.{frames_same}
 

@@ -14,7 +14,7 @@ use Rattle.x7_memory.specs.Frames.{frame_at}
 use Rattle.x7_engine.specs.declared.regs.Regs.{Regs}
 use Rattle.x7_report.specs.Frames.{frames_text, are_zeros, is_shown, frame_text_if, addresses_shown}
 use Rattle.x7_report.specs.Reads.{reads_text}
-use Rattle.x7_report.specs.Report.{report_text}
+use Rattle.x7_report.specs.Reports.{report_text}
 use Rattle.x7_report.specs.State.{state_text}
 
 blank_append : (xs ys : List ℕ) → are_zeros (xs ++ ys) ≡ (are_zeros xs && are_zeros ys)

@@ -1,4 +1,4 @@
 pub mod Frames
 pub mod Reads
-pub mod Report
+pub mod Reports
 pub mod State

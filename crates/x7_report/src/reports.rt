@@ -2,7 +2,7 @@
 ghost use Rattle.std.specs.Prelude.{◌≡◌, IfOk};
 ghost use Rattle.x7_engine.specs.Past.{OfPast, memory_at, state_at};
 ghost use Rattle.x7_engine.specs.Standing.{NoWordDue};
-ghost use Rattle.x7_report.specs.Report.{report_head, report_text, state_reported};
+ghost use Rattle.x7_report.specs.Reports.{report_head, report_text, state_reported};
 
 use crate::frames::put_frames;
 use crate::reads::put_reads;

@@ -6,7 +6,7 @@ ghost use Rattle.x7_memory.specs.Frames.{AreFramesOf, frame_at};
 ghost use Rattle.x7_engine.specs.Past.{OfPast, memory_at, state_at};
 ghost use Rattle.x7_engine.specs.Standing.{NoWordDue};
 ghost use Rattle.x7_report.specs.Frames.{frame_line_room, frame_text_if, group_room, lines_text};
-ghost use Rattle.x7_report.specs.Report.{report_text, state_reported};
+ghost use Rattle.x7_report.specs.Reports.{report_text, state_reported};
 
 use crate::frames::{put_frame, shown_frames};
 use crate::reports::report_head;
@@ -92,7 +92,7 @@ impl Model for PlayText {
     ghost use Rattle.std.specs.Prelude.{◌++◌, ◌≤◌, vec_capacity};
     ghost use Rattle.x7_memory.specs.Frames.{frame_at};
     ghost use Rattle.x7_report.specs.Frames.{group_room, lines_text};
-    ghost use Rattle.x7_report.specs.Report.{PlayTextState};
+    ghost use Rattle.x7_report.specs.Reports.{PlayTextState};
 
     ghost Value = { PlayTextState };
 

@@ -1,8 +1,8 @@
 -- One call more at the end of a list of calls of a startup.
 use Rattle.std.proofs.Common.{◌≡◌, ℕ, zero, suc, ◌+◌, ◌/◌, ◌%◌, ◌<◌, ◌≤◌, min, Bool, true, false, List, [], ◌∷◌, ◌++◌, replicate, Some, None, if◌then◌else◌, refl, sym, ap, ◌∙◌, arith}
 use Rattle.std.proofs.Math.Nat.{zero-add}
-use Rattle.x7_startup.specs.Arrivals.{wait_of, IsPhase}
-use Rattle.x7_startup.specs.Calls.{IsPhaseOf, Call, Arm, Desync, Byte, DropBack, StartupProgress, NotBegun, Begun, has_taking, since_taking, bytes_among, is_armed, start_of, progress_of, Stored, StoresAt, StandsFor}
+use Rattle.x7_startup.specs.Phases.{wait_of, IsPhase}
+use Rattle.x7_startup.specs.Startup.{IsPhaseOf, Call, Arm, Desync, Byte, DropBack, StartupProgress, NotBegun, Begun, has_taking, since_taking, bytes_among, is_armed, start_of, progress_of, Stored, StoresAt, StandsFor}
 use Rattle.x7_startup.specs.Ticks.{PassesTicks, first_some, reached}
 use Rattle.x7_startup.proofs.PhaseLemmas.{phase_first, phase_rises, one_phase}
 

@@ -1,7 +1,7 @@
 -- How the phase moves.
 use Rattle.std.proofs.Common.{◌≡◌, ℕ, zero, suc, ◌+◌, ◌-◌, ◌<◌, ◌≤◌, arith, inl, inr}
 use Rattle.std.proofs.lemmas.Bool.{cases_lt}
-use Rattle.x7_startup.specs.Arrivals.{arrival, IsPhase}
+use Rattle.x7_startup.specs.Phases.{arrival, IsPhase}
 
 pub arrival_grows : (w : ℕ → ℕ) (p : ℕ) → arrival w p + 1 ≤ arrival w (suc p)
 unfolding arrival

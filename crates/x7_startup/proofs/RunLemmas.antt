@@ -1,5 +1,5 @@
 use Rattle.std.proofs.Common.{◌≡◌, ℕ, ◌+◌, ◌-◌, ◌<◌, ◌≤◌, min, arith, ◌^◌, ◌⊎◌, inl, inr}
-use Rattle.x7_startup.specs.Arrivals.{IsPhase}
+use Rattle.x7_startup.specs.Phases.{IsPhase}
 use Rattle.x7_startup.specs.Ticks.{PassesTicks, reached}
 use Rattle.x7_startup.proofs.PhaseLemmas.{phase_stays, phase_moves, phase_ended}
 

@@ -1,6 +1,6 @@
 pub mod Options
-pub mod Arrivals
+pub mod Phases
 pub mod Lines
-pub mod Calls
+pub mod Startup
 pub mod Ticks
-pub mod Count
+pub mod Watchdog

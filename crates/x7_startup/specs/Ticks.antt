@@ -1,6 +1,6 @@
 -- Ticks after ticks (this project's choice: the ticks are counted up to 65,535).
 use Rattle.std.specs.Prelude.{◌≡◌, ℕ, ◌+◌, min, Option, Some, None}
-use Rattle.x7_startup.specs.Arrivals.{IsPhase}
+use Rattle.x7_startup.specs.Phases.{IsPhase}
 use Rattle.x7_startup.specs.declared.phases.Reached.{Reached}
 
 -- `more` ticks lead from a phase and a capped count of ticks to the new ones

@@ -1,6 +1,6 @@
 //! Laws of the definitions, for the proofs of crates above.
 ghost use Rattle.std.specs.Prelude.{◌≡◌, ◌≤◌, ◌++◌, ℕ, List, replicate};
-ghost use Rattle.x7_startup.specs.Calls.{Byte, Call, IsPhaseOf, progress_of};
+ghost use Rattle.x7_startup.specs.Startup.{Byte, Call, IsPhaseOf, progress_of};
 
 /// After a list of calls there is one phase, and by bytes alone it never falls: so phase 7 lasts.
 pub fn startup_laws()

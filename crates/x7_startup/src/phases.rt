@@ -1,6 +1,6 @@
 //! Phases by ticks (UG470, startup).
 ghost use Rattle.std.specs.Prelude.{◌≡◌, ◌≤◌};
-ghost use Rattle.x7_startup.specs.Arrivals.{wait_of};
+ghost use Rattle.x7_startup.specs.Phases.{wait_of};
 ghost use Rattle.x7_startup.specs.Ticks.{PassesTicks};
 
 /// A phase of at most 7, and the ticks since startup began, at most 65,535.

@@ -2,7 +2,7 @@
 ghost use Rattle.std.specs.Prelude.{◌≡◌, ◌<◌, ◌≤◌, ◌+◌, ◌∷◌, ◌++◌, min, ℕ, List, [], replicate, is_some, Some, None, if◌then◌else◌};
 ghost use Rattle.x7_startup.specs.Lines.{done_line, gts_line, gwe_line, AreLines};
 ghost use Rattle.x7_startup.specs.Ticks.{first_some};
-ghost use Rattle.x7_startup.specs.Calls.{Call, Arm, Desync, Byte, DropBack, Stored, StandsFor, IsPhaseOf, progress_of, cor0_of, ticks_of};
+ghost use Rattle.x7_startup.specs.Startup.{Call, Arm, Desync, Byte, DropBack, Stored, StandsFor, IsPhaseOf, progress_of, cor0_of, ticks_of};
 
 use crate::lines::{Lines, lines_in};
 use crate::phases::{Reached, pass_ticks, tick};

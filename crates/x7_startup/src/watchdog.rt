@@ -1,6 +1,6 @@
 //! The configuration watchdog (UG470, watchdog): it counts the bytes that have it on.
 ghost use Rattle.std.specs.Prelude.{◌≡◌, ◌<◌, ◌≤◌, ◌^◌, ◌+◌, ◌-◌, ◌*◌, ◌==◌, ◌&&◌, ◌↔◌, ◌∷◌, ◌++◌, not, min, ℕ, IsTrue, [], IfSome, IfNone, if◌then◌else◌};
-ghost use Rattle.x7_startup.specs.Count.{FiredAt, NoneFired, OfCalls, Load, Reload, Watched, Watch, WatchesFor, Fires, full_count};
+ghost use Rattle.x7_startup.specs.Watchdog.{FiredAt, NoneFired, OfCalls, Load, Reload, Watched, Watch, WatchesFor, Fires, full_count};
 
 use std::marker::Model;
 

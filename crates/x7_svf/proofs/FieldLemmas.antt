@@ -3,8 +3,8 @@ use Rattle.std.specs.Prelude.{IfSome}
 use Rattle.std.proofs.Common.{◌≡◌, ℕ, ◌≤◌, Bool, true, if◌then◌else◌, List, ◌∷◌, ◌++◌, length, drop, Option, Some, None, refl, ap, sym, subst, ◌∙◌, arith}
 use Rattle.std.proofs.lemmas.List.{drop-append-le}
 use Rattle.x7_svf.specs.Fields.{Between, Fields, Inside, Named, Scanning, are_hex, fields_after_step, scan_from, scan_step}
-use Rattle.x7_svf.specs.Pieces.{Mark, mark_of}
-use Rattle.x7_svf.specs.Spans.{AreWithin, StaysKept, at_of, fields_of, scanning_of}
+use Rattle.x7_svf.specs.Token.{Mark, mark_of}
+use Rattle.x7_svf.specs.Span.{AreWithin, StaysKept, at_of, fields_of, scanning_of}
 use Rattle.x7_svf.specs.declared.fields.Field.{Field}
 use Rattle.x7_svf.specs.declared.fields.Given.{Given}
 use Rattle.x7_svf.specs.declared.fields.Place.{Place}

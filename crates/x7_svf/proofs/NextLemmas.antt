@@ -1,6 +1,6 @@
 -- The piece that comes next, by the marks of a statement and by what comes after it.
 use Rattle.std.proofs.Common.{◌≡◌, ℕ, List, [], ◌∷◌, refl, ap, ◌∙◌}
-use Rattle.x7_svf.specs.Pieces.{TextPiece, mark_of}
+use Rattle.x7_svf.specs.Token.{TextPiece, mark_of}
 use Rattle.x7_svf.specs.Svf.{marks_before, pieces_after}
 use Rattle.x7_svf.specs.declared.token.Token.{Token}
 use Rattle.x7_svf.specs.declared.token.Token.TheVariants as token

@@ -1,7 +1,7 @@
 -- What pieces come to, statement by statement.
 use Rattle.std.specs.Prelude.{Result, Ok, Err}
 use Rattle.std.proofs.Common.{◌≡◌, ℕ, zero, suc, ◌≤◌, List, [], ◌∷◌, ◌++◌, length, Option, Some, refl, sym, ap, ◌∙◌, append_assoc, arith}
-use Rattle.x7_svf.specs.Pieces.{Mark, Word, Open, Close, End, TextPiece}
+use Rattle.x7_svf.specs.Token.{Mark, Word, Open, Close, End, TextPiece}
 use Rattle.x7_svf.specs.declared.statement.Statement.{Statement}
 use Rattle.x7_svf.specs.Svf.{pieces_left_after, first_statement, outcome, outcome_by, pieces_after, with_first}
 use Rattle.x7_svf.specs.declared.fault.SvfFault.{SvfFault}

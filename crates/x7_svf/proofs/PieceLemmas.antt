@@ -1,6 +1,6 @@
 -- The first word of a text.
 use Rattle.std.proofs.Common.{◌≡◌, ℕ, zero, suc, ◌<◌, ◌≤◌, Bool, true, false, if◌then◌else◌, List, [], ◌∷◌, length, slice_index, take, drop, refl, ap, ◌∙◌, arith}
-use Rattle.x7_svf.specs.Pieces.{is_word_byte, line_after, TextPiece, pieces, with_word_byte, extend, Word}
+use Rattle.x7_svf.specs.Token.{is_word_byte, line_after, TextPiece, pieces, with_word_byte, extend, Word}
 
 -- a word's byte is no line end
 pub word_line : (c line : ℕ) → is_word_byte c ≡ true → line_after c line ≡ line

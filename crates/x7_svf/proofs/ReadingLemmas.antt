@@ -1,10 +1,10 @@
 -- Lemmas on specs/Reading.
 use Rattle.std.specs.Prelude.{IfSome}
 use Rattle.std.proofs.Common.{◌≡◌, ◌<◌, ◌≤◌, ℕ, List, Option, Some, None, length, length-drop, ap, sym, subst, ◌∙◌, drop, refl, arith}
-use Rattle.x7_svf.specs.Pieces.{pieces, token_size}
+use Rattle.x7_svf.specs.Token.{pieces, token_size}
 use Rattle.x7_svf.specs.Reading.{PassesBlanks, ReadsOn, StepsOver}
 use Rattle.x7_svf.specs.Source.{SourceState, left_after, pieces_left}
-use Rattle.x7_svf.specs.Spans.{StaysKept}
+use Rattle.x7_svf.specs.Span.{StaysKept}
 use Rattle.x7_svf.specs.Svf.{pieces_after}
 use Rattle.x7_svf.specs.declared.token.Token.{Token}
 use Rattle.x7_svf.proofs.SpanLemmas.{all_stays, prefix_on}

@@ -5,7 +5,7 @@ use Rattle.std.proofs.lemmas.Bool.{cases_lt}
 use Rattle.std.proofs.lemmas.List.{drop-take, take-append-le, take-take, take_all}
 use Rattle.x7_svf.specs.Bits.{bits_of}
 use Rattle.x7_svf.specs.Fields.{bits_option}
-use Rattle.x7_svf.specs.Spans.{AreWordsWithin, StaysKept, bytes_in, digits_if, span_end_if, span_end, words_kept}
+use Rattle.x7_svf.specs.Span.{AreWordsWithin, StaysKept, bytes_in, digits_if, span_end_if, span_end, words_kept}
 use Rattle.x7_svf.specs.Stored.{AreStoredWithin, IsStored, IsStoredWithin, statement_in, statements_in, stored_if}
 use Rattle.x7_svf.specs.declared.span.Span.{Span}
 use Rattle.x7_svf.specs.declared.statement.Statement.{Statement}

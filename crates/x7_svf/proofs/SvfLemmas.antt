@@ -4,9 +4,9 @@ use Rattle.std.proofs.lemmas.List.{map-append}
 use Rattle.x7_words.proofs.ListLemmas.{all_append}
 use Rattle.x7_svf.specs.declared.statement.Statement.{Statement}
 use Rattle.x7_svf.specs.declared.stored.Stored.{Stored}
-use Rattle.x7_svf.specs.Pieces.{TextPiece}
+use Rattle.x7_svf.specs.Token.{TextPiece}
 use Rattle.x7_svf.specs.Source.{SourceState, pieces_left}
-use Rattle.x7_svf.specs.Spans.{StaysKept}
+use Rattle.x7_svf.specs.Span.{StaysKept}
 use Rattle.x7_svf.specs.Stored.{AreStoredWithin, IsStoredWithin, statement_in, statements_in, stored_if}
 use Rattle.x7_svf.specs.Svf.{BeginWithOne, first_statement, outcome, pieces_after}
 use Rattle.x7_svf.proofs.OutcomeLemmas.{after_all, one_on}

@@ -1,7 +1,7 @@
 -- The words of a statement, one by one; no statement has more than four.
 use Rattle.std.proofs.Common.{◌≡◌, ℕ, ◌||◌, ◌≤◌, Bool, true, false, if◌then◌else◌, List, [], ◌∷◌, ◌++◌, length, take, Option, Some, None, codes, refl, ap, sym, ◌∙◌, append_assoc, append-nil, arith}
 use Rattle.std.specs.List.{list_all}
-use Rattle.x7_svf.specs.Pieces.{Mark, TextPiece, mark_of}
+use Rattle.x7_svf.specs.Token.{Mark, TextPiece, mark_of}
 use Rattle.x7_svf.specs.Source.{SourceState, left_after}
 use Rattle.x7_svf.specs.Words.{is_free_mark, is_key, statement_if_words, statement_of_words, word_before, words_of}
 use Rattle.x7_svf.specs.Svf.{marks_before}

@@ -1,7 +1,7 @@
 -- The fields of a scan, and what it says (this project's profile of SVF).
 use Rattle.std.specs.Prelude.{ℕ, ◌+◌, ◌*◌, ◌^◌, ◌==◌, ◌||◌, ◌&&◌, nat_le, nat_lt, Bool, true, false, if◌then◌else◌, List, [], ◌∷◌, ◌++◌, Option, Some, None, codes, length}
 use Rattle.std.specs.List.{list_all}
-use Rattle.x7_svf.specs.Pieces.{Mark, Word, Open, Close, End}
+use Rattle.x7_svf.specs.Token.{Mark, Word, Open, Close, End}
 use Rattle.x7_svf.specs.Bits.{bits_of, digit_number}
 use Rattle.x7_svf.specs.Words.{is_digit, is_key, number_within}
 use Rattle.x7_svf.specs.declared.statement.ScannedRegister.{ScannedRegister}

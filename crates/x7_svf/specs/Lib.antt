@@ -1,11 +1,11 @@
 pub mod Bits
-pub mod Comments
-pub mod Pieces
+pub mod Comment
+pub mod Token
 pub mod Words
 pub mod Fields
 pub mod Source
-pub mod Spans
+pub mod Span
 pub mod Stored
-pub mod Statements
+pub mod Statement
 pub mod Svf
 pub mod Reading

@@ -1,8 +1,8 @@
 -- What a step of a reader leaves of a text on its way (this project's choice).
 use Rattle.std.specs.Prelude.{◌≡◌, ◌<◌, ◌≤◌, ℕ, length, drop}
-use Rattle.x7_svf.specs.Pieces.{token_size}
+use Rattle.x7_svf.specs.Token.{token_size}
 use Rattle.x7_svf.specs.Source.{SourceState, pieces_left}
-use Rattle.x7_svf.specs.Spans.{StaysKept}
+use Rattle.x7_svf.specs.Span.{StaysKept}
 use Rattle.x7_svf.specs.Svf.{pieces_after}
 use Rattle.x7_svf.specs.declared.token.Token.{Token}
 

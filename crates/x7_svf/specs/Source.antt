@@ -1,6 +1,6 @@
 -- A text on its way (this project's choice).
 use Rattle.std.specs.Prelude.{ℕ, List, ◌∷◌, drop}
-use Rattle.x7_svf.specs.Pieces.{TextPiece, mark_of, pieces, token_size}
+use Rattle.x7_svf.specs.Token.{TextPiece, mark_of, pieces, token_size}
 use Rattle.x7_svf.specs.declared.token.Token.{Token}
 
 -- the bytes kept of what was read, and the rest with the line on which it begins

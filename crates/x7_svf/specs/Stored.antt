@@ -3,7 +3,7 @@ use Rattle.std.specs.Prelude.{◌≡◌, ℕ, ◌≤◌, ⊤, List, length, map,
 use Rattle.std.specs.List.{AllByRecursion}
 use Rattle.x7_svf.specs.Bits.{bits_of}
 use Rattle.x7_svf.specs.Fields.{bits_option}
-use Rattle.x7_svf.specs.Spans.{digits_if, bytes_in, span_end_if, span_end}
+use Rattle.x7_svf.specs.Span.{digits_if, bytes_in, span_end_if, span_end}
 use Rattle.x7_svf.specs.declared.statement.Statement.{Statement}
 use Rattle.x7_svf.specs.declared.statement.Statement.TheVariants as statement
 use Rattle.x7_svf.specs.declared.stored.StoredScan.{StoredScan}

@@ -1,8 +1,8 @@
 -- What a text comes to: its statements, or the line on which the first begins that is none (this project's profile of SVF).
 use Rattle.std.specs.Prelude.{◌≡◌, ℕ, zero, suc, false, List, [], ◌∷◌, length, Option, Some, None, Result, Ok, Err}
-use Rattle.x7_svf.specs.Comments.{clean_text}
-use Rattle.x7_svf.specs.Pieces.{Mark, Word, Open, Close, End, TextPiece, pieces}
-use Rattle.x7_svf.specs.Statements.{statement_of}
+use Rattle.x7_svf.specs.Comment.{clean_text}
+use Rattle.x7_svf.specs.Token.{Mark, Word, Open, Close, End, TextPiece, pieces}
+use Rattle.x7_svf.specs.Statement.{statement_of}
 use Rattle.x7_svf.specs.declared.statement.Statement.{Statement}
 use Rattle.x7_svf.specs.declared.fault.SvfFault.{SvfFault}
 use Rattle.x7_svf.specs.declared.fault.SvfFault.TheVariants as fault

@@ -1,6 +1,6 @@
 //! Blanks in place of comments.
 ghost use Rattle.std.specs.Prelude.{◌≡◌, ◌+◌, false, length};
-ghost use Rattle.x7_svf.specs.Comments.{begins_comment, clean_text, begins_with, is_inside, stand_in};
+ghost use Rattle.x7_svf.specs.Comment.{begins_comment, clean_text, begins_with, is_inside, stand_in};
 
 /// Whether a text begins with a byte.
 fn begins_with(text: &[u8], byte: u8) -> bool

@@ -1,10 +1,10 @@
 //! The fields of a scan.
 ghost use Rattle.std.specs.Prelude.{◌≡◌, ◌≤◌, ℕ, List, drop, length, IfSome, Option, Some, None};
-ghost use Rattle.x7_svf.specs.Pieces.{mark_of, token_size};
+ghost use Rattle.x7_svf.specs.Token.{mark_of, token_size};
 ghost use Rattle.x7_svf.specs.Fields.{are_hex, Between, closed_field, field_by_name, is_hex, no_fields, put_field, scan_from, scan_step};
 ghost use Rattle.x7_svf.specs.Reading.{ReadsOn, StepsOver};
 ghost use Rattle.x7_svf.specs.Source.{pieces_left};
-ghost use Rattle.x7_svf.specs.Spans.{AreWithin, IsWithin, at_of, bytes_in, span_end, fields_of, given_as, scanning_of};
+ghost use Rattle.x7_svf.specs.Span.{AreWithin, IsWithin, at_of, bytes_in, span_end, fields_of, given_as, scanning_of};
 ghost use Rattle.x7_svf.specs.Svf.{marks_before};
 
 use crate::source::Source;

@@ -2,11 +2,11 @@
 ghost use Rattle.std.specs.Prelude.{◌≡◌, ◌<◌, ◌≤◌, ◌+◌, ◌*◌, true, false, length, take, IfSome, IsTrue, Option, Some, None};
 ghost use Rattle.std.specs.List.{list_all};
 ghost use Rattle.x7_svf.specs.Fields.{all_fit, digit_width, fits, scan_by, scan_if, scan_of, width};
-ghost use Rattle.x7_svf.specs.Pieces.{mark_of, token_size};
+ghost use Rattle.x7_svf.specs.Token.{mark_of, token_size};
 ghost use Rattle.x7_svf.specs.Reading.{ReadsOn, StepsOver};
 ghost use Rattle.x7_svf.specs.Source.{pieces_left};
-ghost use Rattle.x7_svf.specs.Spans.{AreWithin, StaysKept, bytes_in, digits_if, span_end_if, span_end, fields_of};
-ghost use Rattle.x7_svf.specs.Statements.{statement_by, statement_of};
+ghost use Rattle.x7_svf.specs.Span.{AreWithin, StaysKept, bytes_in, digits_if, span_end_if, span_end, fields_of};
+ghost use Rattle.x7_svf.specs.Statement.{statement_by, statement_of};
 ghost use Rattle.x7_svf.specs.Stored.{IsStored};
 ghost use Rattle.x7_svf.specs.Svf.{first_statement, marks_before, pieces_after};
 ghost use Rattle.x7_svf.specs.Words.{is_free_mark, some_if, statement_if_words as if_words, words_of};

@@ -1,6 +1,6 @@
 //! A text that is read from its front, and the bytes that are kept of it.
 ghost use Rattle.std.specs.Prelude.{◌≡◌, ◌≤◌, ◌<◌, ◌^◌, ◌++◌, [], length, drop, take, slice_index, vec_len};
-ghost use Rattle.x7_svf.specs.Pieces.{line_after};
+ghost use Rattle.x7_svf.specs.Token.{line_after};
 
 use std::marker::Model;
 

@@ -1,6 +1,6 @@
 //! Where bytes are kept.
 ghost use Rattle.std.specs.Prelude.{◌≡◌, ◌≤◌, ◌-◌, ◌^◌, length};
-ghost use Rattle.x7_svf.specs.Spans.{bytes_in, span_end};
+ghost use Rattle.x7_svf.specs.Span.{bytes_in, span_end};
 
 /// A run of bytes: how many come before it, and how many it has.
 #[derive(Clone, Copy, Debug)]

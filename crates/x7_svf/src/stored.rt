@@ -1,7 +1,7 @@
 //! Statements whose digits are kept apart.
 ghost use Rattle.std.specs.Prelude.{◌≡◌, ◌≤◌, length};
 ghost use Rattle.x7_svf.specs.Fields.{bits_option as bits_if};
-ghost use Rattle.x7_svf.specs.Spans.{digits_if, span_end_if};
+ghost use Rattle.x7_svf.specs.Span.{digits_if, span_end_if};
 ghost use Rattle.x7_svf.specs.Stored.{IsStoredWithin, statement_in};
 
 use crate::bits::Bits;

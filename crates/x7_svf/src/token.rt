@@ -1,6 +1,6 @@
 //! The next word, bracket or end of a text without comments.
 ghost use Rattle.std.specs.Prelude.{◌≡◌, ◌+◌, ◌<◌, ◌≤◌, ◌∷◌, [], ℕ, List, true, false, length, MatchOption, IfSome, Some, None, slice_index, drop, take};
-ghost use Rattle.x7_svf.specs.Pieces.{byte_mark, is_blank_byte, is_word_byte, mark_of, pieces, token_size, Word};
+ghost use Rattle.x7_svf.specs.Token.{byte_mark, is_blank_byte, is_word_byte, mark_of, pieces, token_size, Word};
 ghost use Rattle.x7_svf.specs.Reading.{ComesNext, PassesBlanks};
 ghost use Rattle.x7_svf.specs.Source.{left_after, left_from, pieces_left};
 ghost use Rattle.x7_svf.specs.Svf.{marks_before, pieces_after};

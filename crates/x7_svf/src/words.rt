@@ -1,7 +1,7 @@
 //! Statements of words alone.
 ghost use Rattle.std.specs.Prelude.{◌≡◌, ◌<◌, ◌&&◌, ◌≤◌, ◌∷◌, ◌++◌, ℕ, [], List, length, codes, IfSome, IfNone, Option, Some, None};
 ghost use Rattle.x7_svf.specs.Words.{end_words, is_digit, is_free, is_free_byte, is_key, is_time, is_time_byte, most_clocks, number_within, reset_words, run_by, run_if as run_clocks, run_words, some_if, state_words, statement_of_words as of_words, word_list, zero_words};
-ghost use Rattle.x7_svf.specs.Spans.{AreWordsWithin, bytes_in, span_end, words_kept};
+ghost use Rattle.x7_svf.specs.Span.{AreWordsWithin, bytes_in, span_end, words_kept};
 ghost use Rattle.x7_svf.specs.Stored.{IsStored};
 ghost use Rattle.x7_svf.specs.declared.statement.Statement.{Statement as StatementData};
 ghost use Rattle.std.specs.List.{list_all};

@@ -2,7 +2,7 @@
 use Rattle.std.proofs.Common.{◌≡◌, ℕ, ◌+◌, ◌≤◌, true, List, [], ◌∷◌, ◌++◌, Result, Ok, Err, IfErr, length, refl, ap, sym, subst, ◌∙◌, arith, append_assoc, length-append}
 use Rattle.std.specs.List.{flat_map, AllByRecursion}
 use Rattle.x7_text.specs.Lines.{has_no_end, joined_lines, split}
-use Rattle.x7_text.specs.LineReading.{FailsFrom, IsCut, ReaderState, StandsFor, TakesPrefix, TakesWhole, WantsAt}
+use Rattle.x7_text.specs.LineReader.{FailsFrom, IsCut, ReaderState, StandsFor, TakesPrefix, TakesWhole, WantsAt}
 use Rattle.x7_text.proofs.PieceLemmas.{free_both, joined_ahead, some_line, split_alone}
 use Rattle.x7_text.proofs.SplitLemmas.{joined_split, split_free, split_line, split_some}
 

@@ -1,6 +1,6 @@
 //! A text that comes in pieces, line by line.
 ghost use Rattle.std.specs.Prelude.{◌≡◌, ◌+◌, ◌<◌, ◌^◌, ◌++◌, ◌∷◌, [], List, ℕ, length, IfErr, MatchOption, MatchResult};
-ghost use Rattle.x7_text.specs.LineReading.{FailsFrom, StandsFor, TakesPrefix, TakesWhole, WantsAt, WantsIn};
+ghost use Rattle.x7_text.specs.LineReader.{FailsFrom, StandsFor, TakesPrefix, TakesWhole, WantsAt, WantsIn};
 ghost use Rattle.x7_text.specs.Lines.{split};
 
 use crate::lines::first_line;
@@ -90,7 +90,7 @@ pub struct LineReader<T> {
 }
 
 impl<T> Model for LineReader<T> {
-    ghost use Rattle.x7_text.specs.LineReading.{ReaderState};
+    ghost use Rattle.x7_text.specs.LineReader.{ReaderState};
 
     ghost Value = { ReaderState T };
 

@@ -14,8 +14,8 @@ use Rattle.x7_boot.specs.declared.boots.BootEnd.{BootEnd}
 use Rattle.x7_boot.specs.declared.boots.Tried.{Tried}
 use Rattle.x7_boot.specs.declared.fault.BootFault.{BootFault}
 use Rattle.x7_boot.specs.declared.fault.BootFault.TheVariants as boot_fault
-use Rattle.x7_boot.specs.BootLines.{boot_head}
-use Rattle.x7_tool.specs.BootText.{boot_text}
+use Rattle.x7_boot.specs.Text.{boot_head}
+use Rattle.x7_tool.specs.Boot.{boot_text}
 use Rattle.x7_forms.specs.Event.{Event, no_memory, too_large}
 use Rattle.x7_forms.specs.Message.{event_of}
 use Rattle.x7_boot.specs.Image.{flash_limit}
@@ -24,7 +24,7 @@ use Rattle.x7_tool.specs.Outcome.{IsBootText, FlashBoots, boot_event, has_failed
 use Rattle.x7_tool.specs.Outside.{ReadsFlash}
 use Rattle.x7_tool.specs.Run.{FlashComes}
 use Rattle.x7_tool.specs.Play.{text_of_play}
-use Rattle.x7_report.specs.Report.{PlayTextState, report_text}
+use Rattle.x7_report.specs.Reports.{PlayTextState, report_text}
 use Rattle.x7_forms.specs.Step.{seen}
 use Rattle.x7_forms.specs.declared.refusal.Refusal.{Refusal}
 

@@ -5,10 +5,10 @@ use Rattle.x7_part.specs.Part.{PartData}
 use Rattle.x7_engine.specs.declared.fault.Fault.{Fault}
 use Rattle.x7_engine.specs.Kept.{on_the_bench}
 use Rattle.x7_engine.specs.State.{why_of, stop_in}
-use Rattle.x7_engine.specs.Stops.{stop_fault}
+use Rattle.x7_engine.specs.Stop.{stop_fault}
 use Rattle.x7_debug.specs.declared.order.Order.{Order}
 use Rattle.x7_debug.specs.Session.{MovesTo, SessionState}
-use Rattle.x7_debug.specs.Transcript.{final_position, transcript_of}
+use Rattle.x7_debug.specs.Showing.{final_position, transcript_of}
 use Rattle.x7_forms.specs.Known.{Answer, data_in, stream_limit, whole_in}
 use Rattle.x7_forms.proofs.ReadLemmas.{Steady, so_steady, whole_steady, work_steady}
 use Rattle.x7_tool.specs.Outcome.{shown_of, stream_data}

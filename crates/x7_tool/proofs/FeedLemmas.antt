@@ -1,6 +1,6 @@
 -- A text that is read line by line while it comes.
 use Rattle.std.proofs.Common.{◌≡◌, ℕ, List, [], ◌++◌, Result, Ok, Err, subst, sym, append_assoc, append-nil, ◌∷◌, Option, None, Some, inl, inr}
-use Rattle.x7_text.specs.LineReading.{ReaderState, StandsFor}
+use Rattle.x7_text.specs.LineReader.{ReaderState, StandsFor}
 use Rattle.x7_text.specs.Lines.{split}
 use Rattle.x7_tool.specs.Turns.{IsFed}
 use Rattle.x7_words.specs.Input.{InputsState}

@@ -3,9 +3,9 @@ use Rattle.std.proofs.Common.{◌≡◌, ℕ, List, [], ◌++◌, Option, ap, sy
 use Rattle.x7_words.specs.Sink.{PutsPrefix, appended}
 use Rattle.x7_words.proofs.SinkLemmas.{appended_appended, appended_nil, prefix_more}
 use Rattle.x7_part.specs.Part.{PartData}
-use Rattle.x7_memory.specs.Planned.{PlanData}
+use Rattle.x7_memory.specs.Plan.{PlanData}
 use Rattle.x7_planner.specs.FullStream.{full_stream}
-use Rattle.x7_planner.specs.Telling.{FullStreamState, HasGiven, TellsMore}
+use Rattle.x7_planner.specs.FullStreamPieces.{FullStreamState, HasGiven, TellsMore}
 
 -- what was given of the stream was put
 pub record Sent (part : PartData) (plan : PlanData) (s : FullStreamState) (first now : Option (List ℕ)) : Type 0 where

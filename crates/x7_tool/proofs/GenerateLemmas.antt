@@ -8,7 +8,7 @@ use Rattle.std.proofs.lemmas.List.FromFn.{length-range_with_len, map-range_with_
 use Rattle.x7_part.specs.AddressOrder.{Rises, addresses_in, rise}
 use Rattle.x7_part.specs.Part.{PartData, frame_words}
 use Rattle.x7_memory.specs.FrameMap.{AreSame, FrameMap}
-use Rattle.x7_memory.specs.Planned.{AreAddressed, AreApart, AreInOrder, IsPlan, IsPlanRow, PlanData, PlanRow, total}
+use Rattle.x7_memory.specs.Plan.{AreAddressed, AreApart, AreInOrder, IsPlan, IsPlanRow, PlanData, PlanRow, total}
 use Rattle.x7_memory.proofs.PlanLemmas.{words_by_place}
 use Rattle.x7_part.proofs.RowLemmas.{part_rises}
 use Rattle.x7_words.specs.Word.{AreWords}
@@ -17,12 +17,12 @@ use Rattle.x7_frames.proofs.OneLemmas.{same_order}
 use Rattle.std.proofs.lemmas.List.Elements.{All-cons, All-contains_itself, All-head, All-nil, All-tail}
 use Rattle.std.proofs.lemmas.List.Sorted.{All-permutation, IsPermutation-sym}
 use Rattle.x7_memory.specs.Frames.{frame_at}
-use Rattle.x7_part.specs.PartRange.{IsPart}
-use Rattle.x7_part.specs.Slots.{slots_in}
+use Rattle.x7_part.specs.Ranges.{IsPart}
+use Rattle.x7_part.specs.Slot.{slots_in}
 use Rattle.x7_part.proofs.SlotLemmas.{slots_number}
 use Rattle.x7_planner.specs.FullStream.{full_stream}
-use Rattle.x7_planner.specs.Telling.{FullStreamState, HasGiven, TellsMore}
-use Rattle.x7_planner.specs.Refusals.{IsFullFault}
+use Rattle.x7_planner.specs.FullStreamPieces.{FullStreamState, HasGiven, TellsMore}
+use Rattle.x7_planner.specs.Fault.{IsFullFault}
 use Rattle.x7_planner.specs.declared.fault.PlanFault.{PlanFault}
 use Rattle.x7_planner.specs.declared.fault.PlanFault.TheVariants as fault
 use Rattle.x7_engine.specs.Kept.{on_the_bench}
@@ -32,9 +32,9 @@ use Rattle.x7_effects.proofs.FormLemmas.{full_length}
 use Rattle.x7_effects.proofs.PlannerLemmas.{full_same}
 use Rattle.x7_effects.specs.Played.{PlaysFull, resting_after}
 use Rattle.x7_effects.proofs.LawLemmas.{new_law}
-use Rattle.x7_tool.specs.Generated.{count_line, counted, gen_text, generated, head_line, next_number, planned_summary, played_summary, row_by, rows_after, sum_line, summary_text, words_sum}
+use Rattle.x7_tool.specs.Generate.{count_line, counted, gen_text, generated, head_line, next_number, planned_summary, played_summary, row_by, rows_after, sum_line, summary_text, words_sum}
 use Rattle.x7_forms.specs.Known.{reads_limit}
-use Rattle.x7_playing.specs.Play.{HasPlayed, HasPlayedBy, PlayState, Plays, PlaysOn}
+use Rattle.x7_playing.specs.Playing.{HasPlayed, HasPlayedBy, PlayState, Plays, PlaysOn}
 use Rattle.x7_playing.specs.declared.player.Player.{Player}
 
 -- ---- frames that count up

@@ -4,14 +4,14 @@ use Rattle.std.specs.Prelude.{Contains}
 use Rattle.std.proofs.lemmas.List.Sorted.{All-permutation}
 use Rattle.x7_part.specs.AddressOrder.{addresses_in}
 use Rattle.x7_part.specs.Part.{PartData}
-use Rattle.x7_memory.specs.Planned.{AreAddressed, PlanData, PlanRow}
+use Rattle.x7_memory.specs.Plan.{AreAddressed, PlanData, PlanRow}
 use Rattle.x7_frames.specs.FramesText.{IsPlanOf}
 use Rattle.x7_frames.specs.FrameLines.{AreRefused, ComeTo}
 use Rattle.x7_text.specs.Lines.{split}
 use Rattle.x7_frames.specs.declared.fault.FramesFault.{FramesFault}
 use Rattle.x7_frames.specs.declared.fault.FramesFault.TheVariants as fault
 use Rattle.x7_planner.specs.FullStream.{full_stream}
-use Rattle.x7_planner.specs.Refusals.{IsPartialFault}
+use Rattle.x7_planner.specs.Fault.{IsPartialFault}
 use Rattle.x7_planner.specs.declared.fault.PlanFault.{PlanFault}
 use Rattle.x7_planner.specs.declared.fault.PlanFault.TheVariants as planner
 use Rattle.x7_words.specs.Input.{InputsState, Stays}
@@ -22,7 +22,7 @@ use Rattle.x7_forms.specs.Message.{event_of}
 use Rattle.x7_forms.specs.Step.{AnswersAs, AnswersBy, IsDecided, IsPossible, ReadsWhole, seen, step_over}
 use Rattle.x7_forms.proofs.ReadLemmas.{answers_by, answers_end, answers_go, answers_kept, answers_stop, first_of, part_steady, whole_steady}
 use Rattle.x7_tool.specs.Outcome.{IsUnplanned, PlanTexts, PlannedFull, PlannedPartial, frames_event, plan_texts, planner_event, text_limit}
-use Rattle.x7_tool.specs.Planned.{HasNoPlan, ReadsPlan}
+use Rattle.x7_tool.specs.Plan.{HasNoPlan, ReadsPlan}
 use Rattle.x7_tool.specs.FullText.{PlanFor, full_of}
 use Rattle.x7_tool.specs.Ready.{text_of_bytes}
 use Rattle.std.specs.Prelude.{Vec}

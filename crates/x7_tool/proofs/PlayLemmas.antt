@@ -8,12 +8,12 @@ use Rattle.x7_engine.specs.declared.fault.Fault.{Fault}
 use Rattle.x7_engine.specs.Kept.{on_the_bench}
 use Rattle.x7_engine.specs.Standing.{DeviceState}
 use Rattle.x7_engine.specs.State.{why_of, memory_in, reads_of, state_of, stop_in}
-use Rattle.x7_engine.specs.Stops.{stop_fault}
-use Rattle.x7_report.specs.Report.{PlayTextState, report_text}
+use Rattle.x7_engine.specs.Stop.{stop_fault}
+use Rattle.x7_report.specs.Reports.{PlayTextState, report_text}
 use Rattle.x7_forms.specs.Event.{Event, no_memory, too_many_reads}
 use Rattle.x7_forms.specs.Known.{Answer, reads_limit}
 use Rattle.x7_forms.specs.Message.{event_of}
-use Rattle.x7_playing.specs.Play.{HasPlayed, IsPlayed}
+use Rattle.x7_playing.specs.Playing.{HasPlayed, IsPlayed}
 use Rattle.x7_forms.specs.Step.{IsDecided, IsPossible, seen}
 use Rattle.x7_playing.specs.declared.player.Player.{Player}
 use Rattle.x7_forms.specs.declared.refusal.Refusal.{Refusal}

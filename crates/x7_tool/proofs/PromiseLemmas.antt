@@ -9,7 +9,7 @@ use Rattle.x7_words.proofs.ListLemmas.{all_prefix}
 use Rattle.x7_part.specs.AddressOrder.{addresses_in}
 use Rattle.x7_part.specs.Part.{PartData}
 use Rattle.x7_part.specs.PartFile.{part_in}
-use Rattle.x7_part.specs.PartRange.{IsPart}
+use Rattle.x7_part.specs.Ranges.{IsPart}
 use Rattle.x7_part.specs.declared.fault.PartFault.{PartFault}
 use Rattle.x7_part.proofs.FileRowLemmas.{text_is}
 use Rattle.x7_engine.specs.Kept.{on_the_bench}
@@ -17,7 +17,7 @@ use Rattle.x7_engine.specs.State.{reads_of, taken_of}
 use Rattle.x7_boot.specs.declared.boots.BootEnd.{BootEnd}
 use Rattle.x7_boot.specs.declared.boots.BootEnd.TheVariants as boot_end
 use Rattle.x7_boot.specs.Image.{flash_limit, image_of, image_size}
-use Rattle.x7_boot.specs.Course.{course_along}
+use Rattle.x7_boot.specs.Boots.{course_along}
 use Rattle.x7_recovery.specs.OpenBoot.{HasStreams}
 use Rattle.x7_recovery.specs.OpenSlot.{Opened}
 use Rattle.x7_boot.proofs.CheckedLemmas.{attempt_checked, checked, last_checked}

@@ -9,10 +9,10 @@ use Rattle.x7_debug.specs.declared.fault.ScriptFault.TheVariants as script
 use Rattle.x7_svf.specs.Svf.{IsSvfOf}
 use Rattle.x7_svf.specs.declared.fault.SvfFault.{SvfFault}
 use Rattle.x7_svf.specs.declared.fault.SvfFault.TheVariants as svf
-use Rattle.x7_planner.specs.Refusals.{IsReadFault}
+use Rattle.x7_planner.specs.Fault.{IsReadFault}
 use Rattle.x7_planner.specs.declared.fault.PlanFault.{PlanFault}
 use Rattle.x7_planner.specs.declared.fault.PlanFault.TheVariants as planner
-use Rattle.x7_report.specs.Report.{PlayTextState}
+use Rattle.x7_report.specs.Reports.{PlayTextState}
 use Rattle.x7_forms.specs.declared.bad_input.InputFault.{InputFault}
 use Rattle.x7_forms.specs.declared.bad_input.InputFault.TheVariants as input
 use Rattle.x7_forms.specs.declared.refusal.Refusal.{Refusal}

@@ -7,11 +7,11 @@ use Rattle.x7_engine.specs.declared.regs.Regs.{Regs}
 use Rattle.x7_engine.specs.Kept.{on_the_bench}
 use Rattle.x7_engine.specs.Standing.{DeviceState, frames_due}
 use Rattle.x7_engine.specs.State.{memory_in, state_owing}
-use Rattle.x7_report.specs.Report.{PlayTextState, report_text}
+use Rattle.x7_report.specs.Reports.{PlayTextState, report_text}
 use Rattle.x7_jtag.specs.declared.play.Differ.{Differ}
 use Rattle.x7_svf.specs.declared.statement.Statement.{Statement}
 use Rattle.x7_jtag.specs.Play.{clocks_played, first_difference}
-use Rattle.x7_jtag.specs.PlayLine.{play_text}
+use Rattle.x7_jtag.specs.Text.{play_text}
 use Rattle.x7_jtag.specs.Port.{Port, port_after}
 use Rattle.x7_jtag.specs.Shown.{bytes_taken, fault_shown, memory_shown, state_shown}
 use Rattle.x7_jtag.specs.Tap.{TapStandsFor, TapState}

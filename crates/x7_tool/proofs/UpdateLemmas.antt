@@ -12,7 +12,7 @@ use Rattle.x7_words.proofs.SinkLemmas.{appended_nil}
 use Rattle.x7_boot.specs.Image.{flash_limit}
 use Rattle.x7_update.specs.After.{IsAfter, MayBeLeft}
 use Rattle.x7_update.specs.Layout.{HasLayout}
-use Rattle.x7_update.specs.Refused.{CanTake, HasCause, IsEarly, IsTooLong, NoLayoutAt}
+use Rattle.x7_update.specs.Fault.{CanTake, HasCause, IsEarly, IsTooLong, NoLayoutAt}
 use Rattle.x7_update.specs.Writing.{AtAnyMoment, Becomes, BecomesBytes, OnlyUses}
 use Rattle.x7_update.specs.declared.fault.UpdateFault.{UpdateFault}
 use Rattle.x7_update.specs.declared.fault.UpdateFault.TheVariants.{Differs, Failed, NoLayout, NoMemory, TooLong}

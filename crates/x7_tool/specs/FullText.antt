@@ -1,9 +1,9 @@
 -- The text of `plan full`, which is made as it is written (this project's choice).
 use Rattle.std.specs.Prelude.{◌≡◌, ℕ, ◌≤◌, false}
 use Rattle.x7_part.specs.Part.{PartData, frame_words}
-use Rattle.x7_memory.specs.Planned.{AreAddressed, PlanData}
+use Rattle.x7_memory.specs.Plan.{AreAddressed, PlanData}
 use Rattle.x7_planner.specs.FullStream.{full_stream}
-use Rattle.x7_planner.specs.Telling.{piece_limit}
+use Rattle.x7_planner.specs.FullStreamPieces.{piece_limit}
 use Rattle.x7_forms.specs.Known.{Answer}
 
 -- a part, and a plan for it

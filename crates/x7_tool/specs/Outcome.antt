@@ -5,11 +5,11 @@ use Rattle.x7_svf.specs.declared.fault.SvfFault.TheVariants as svf
 use Rattle.x7_jtag.specs.declared.play.Differ.{Differ}
 use Rattle.x7_svf.specs.declared.statement.Statement.{Statement}
 use Rattle.x7_jtag.specs.Play.{first_difference, port_played}
-use Rattle.x7_jtag.specs.PlayLine.{play_text}
+use Rattle.x7_jtag.specs.Text.{play_text}
 use Rattle.x7_jtag.specs.Port.{Port}
 use Rattle.x7_jtag.specs.Shown.{fault_shown, memory_shown, state_shown}
 use Rattle.x7_svf.specs.Svf.{IsSvfOf}
-use Rattle.x7_report.specs.Report.{report_text}
+use Rattle.x7_report.specs.Reports.{report_text}
 use Rattle.x7_listing.specs.Assembly.{IsAsm}
 use Rattle.x7_listing.specs.StreamListing.{stream_listing}
 use Rattle.x7_listing.specs.declared.assembler.AsmFault.{AsmFault}
@@ -24,24 +24,24 @@ use Rattle.x7_boot.specs.declared.boots.BootEnd.{BootEnd}
 use Rattle.x7_boot.specs.declared.boots.BootEnd.TheVariants as boot_end
 use Rattle.x7_boot.specs.declared.fault.BootFault.{BootFault}
 use Rattle.x7_boot.specs.declared.fault.BootFault.TheVariants as fault
-use Rattle.x7_update.specs.Refused.{CanTake, IsTooLong, NoLayoutAt}
+use Rattle.x7_update.specs.Fault.{CanTake, IsTooLong, NoLayoutAt}
 use Rattle.x7_update.specs.Writing.{IsReadWrong}
 use Rattle.x7_update.specs.declared.fault.UpdateFault.{UpdateFault}
 use Rattle.x7_update.specs.declared.fault.UpdateFault.TheVariants as update_fault
 use Rattle.x7_engine.specs.Kept.{on_the_bench}
 use Rattle.x7_engine.specs.State.{why_of, stop_in}
-use Rattle.x7_engine.specs.Stops.{stop_fault}
+use Rattle.x7_engine.specs.Stop.{stop_fault}
 use Rattle.x7_mcs.specs.declared.fault.McsFault.{McsFault}
 use Rattle.x7_mcs.specs.declared.fault.McsFault.TheVariants as mcs
 use Rattle.x7_mcs.specs.Flash.{mcs_of}
-use Rattle.x7_memory.specs.Planned.{PlanData}
+use Rattle.x7_memory.specs.Plan.{PlanData}
 use Rattle.x7_frames.specs.FramesText.{IsPlanOf}
 use Rattle.x7_frames.specs.declared.fault.FramesFault.{FramesFault}
 use Rattle.x7_frames.specs.declared.fault.FramesFault.TheVariants as frames
 use Rattle.x7_planner.specs.FullStream.{full_stream}
 use Rattle.x7_planner.specs.PartialStream.{partial_stream}
 use Rattle.x7_planner.specs.ReadStream.{read_stream}
-use Rattle.x7_planner.specs.Refusals.{CanRead, IsPartialFault, IsReadFault}
+use Rattle.x7_planner.specs.Fault.{CanRead, IsPartialFault, IsReadFault}
 use Rattle.x7_planner.specs.declared.fault.PlanFault.{PlanFault}
 use Rattle.x7_planner.specs.declared.fault.PlanFault.TheVariants as planner
 use Rattle.x7_mcs.specs.Text.{mcs_text}
@@ -49,12 +49,12 @@ use Rattle.x7_debug.specs.declared.fault.ScriptFault.{ScriptFault}
 use Rattle.x7_debug.specs.declared.fault.ScriptFault.TheVariants as script
 use Rattle.x7_debug.specs.declared.order.Order.{Order}
 use Rattle.x7_debug.specs.Script.{IsScriptOf}
-use Rattle.x7_debug.specs.Transcript.{final_position, transcript_of}
-use Rattle.x7_tool.specs.Generated.{gen_text}
+use Rattle.x7_debug.specs.Showing.{final_position, transcript_of}
+use Rattle.x7_tool.specs.Generate.{gen_text}
 use Rattle.x7_forms.specs.declared.bad_input.InputFault.TheVariants as input
 use Rattle.x7_forms.specs.Event.{Event, bad_input, differs, missing, no_memory, reading_failed, too_large, usage, writing_failed}
 use Rattle.x7_forms.specs.Form.{AskedForm, Assembling, Booting, Debugging, FromMcs, Imaging, ImagingFor, Listing, PlanningFull, PlanningRead, Playing, PlayingSvf, ToMcs, PlanningPartial, Generating, UpdatingFlash}
-use Rattle.x7_tool.specs.BootText.{boot_text}
+use Rattle.x7_tool.specs.Boot.{boot_text}
 use Rattle.x7_forms.specs.Known.{Absent, Answer, Broken, Found, Held, Known, and_so, data_in, part_of, stream_limit, whole_in, within}
 use Rattle.x7_tool.specs.Play.{played}
 

@@ -3,8 +3,8 @@ use Rattle.std.specs.Prelude.{ℕ, List, is_some, Result, Ok, Err, false, if◌t
 use Rattle.x7_part.specs.Part.{PartData}
 use Rattle.x7_engine.specs.Kept.{on_the_bench}
 use Rattle.x7_engine.specs.State.{why_of, memory_in, reads_of, state_of, stop_in}
-use Rattle.x7_engine.specs.Stops.{stop_fault}
-use Rattle.x7_report.specs.Report.{PlayTextState, report_text}
+use Rattle.x7_engine.specs.Stop.{stop_fault}
+use Rattle.x7_report.specs.Reports.{PlayTextState, report_text}
 use Rattle.x7_forms.specs.Event.{Event, too_many_reads}
 use Rattle.x7_forms.specs.Known.{Answer, Known, and_so, data_of, part_of, reads_limit, stream_limit}
 

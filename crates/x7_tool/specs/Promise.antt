@@ -2,8 +2,8 @@
 use Rattle.std.specs.Prelude.{◌≡◌, ◌<◌, ℕ, List, [], ◌++◌, false, Option, Some, Result, Ok}
 use Rattle.x7_words.specs.Word.{AreBytes}
 use Rattle.x7_part.specs.Part.{PartData}
-use Rattle.x7_part.specs.PartRange.{IsPart}
-use Rattle.x7_memory.specs.Planned.{PlanData}
+use Rattle.x7_part.specs.Ranges.{IsPart}
+use Rattle.x7_memory.specs.Plan.{PlanData}
 use Rattle.x7_frames.specs.FramesText.{IsPlanOf}
 use Rattle.x7_engine.specs.Kept.{on_the_bench}
 use Rattle.x7_engine.specs.State.{state_of}
@@ -12,7 +12,7 @@ use Rattle.x7_engine.specs.Rest.{AtRest}
 use Rattle.x7_planner.specs.FullStream.{full_stream}
 use Rattle.x7_boot.specs.Boot.{end_state}
 use Rattle.x7_boot.specs.Checked.{HasChecked}
-use Rattle.x7_boot.specs.Course.{course_along}
+use Rattle.x7_boot.specs.Boots.{course_along}
 use Rattle.x7_recovery.specs.OpenBoot.{BootsOpen, HasStreams}
 use Rattle.x7_recovery.specs.OpenSlot.{IsOpened, Opened}
 use Rattle.x7_svf.specs.declared.statement.Statement.{Statement}
@@ -21,7 +21,7 @@ use Rattle.x7_jtag.specs.Shown.{bytes_taken, state_shown}
 use Rattle.x7_svf.specs.Svf.{IsSvfOf}
 use Rattle.x7_effects.specs.Played.{PlaysFull, PlaysPartial, PlaysRead, resting_after}
 use Rattle.x7_forms.specs.Event.{Event}
-use Rattle.x7_tool.specs.Generated.{generated, planned_summary}
+use Rattle.x7_tool.specs.Generate.{generated, planned_summary}
 use Rattle.x7_forms.specs.Form.{AskedForm, Booting, Generating, Imaging, ImagingFor, PlanningFull, PlanningPartial, PlanningRead, Playing, PlayingSvf}
 use Rattle.x7_forms.specs.Known.{Answer, Held, Known, data_of, part_of, stream_limit}
 use Rattle.x7_tool.specs.Play.{report_of}

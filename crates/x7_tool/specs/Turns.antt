@@ -2,7 +2,7 @@
 use Rattle.std.specs.Prelude.{◌≡◌, ◌⊎◌, ◌≤◌, ◌++◌, ℕ, List, [], Option, Result, Ok, MatchResult, length, ◌+◌}
 use Rattle.x7_words.specs.Sink.{PutsPrefix, SinkFails, SinkState, appended}
 use Rattle.x7_words.specs.Word.{AreBytes}
-use Rattle.x7_text.specs.LineReading.{FailsFrom, ReaderState, StandsFor}
+use Rattle.x7_text.specs.LineReader.{FailsFrom, ReaderState, StandsFor}
 use Rattle.x7_text.specs.Lines.{split}
 use Rattle.x7_listing.specs.Listing.{listing_of}
 use Rattle.x7_listing.specs.StreamListing.{stream_listing}

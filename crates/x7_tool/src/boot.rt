@@ -9,7 +9,7 @@ ghost use Rattle.x7_boot.specs.Image.{flash_limit};
 ghost use Rattle.x7_forms.specs.Event.{no_memory, reading_failed};
 ghost use Rattle.x7_forms.specs.Message.{event_of};
 ghost use Rattle.x7_tool.specs.Outcome.{IsBootText, boot_event, has_failed};
-ghost use Rattle.x7_tool.specs.BootText.{OfBoot, boot_text};
+ghost use Rattle.x7_tool.specs.Boot.{OfBoot, boot_text};
 ghost use Rattle.x7_forms.specs.Step.{seen};
 ghost use Rattle.x7_tool.specs.Outside.{ReadsFlash, sources};
 ghost use Rattle.x7_tool.specs.Play.{text_of_play};

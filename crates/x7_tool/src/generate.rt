@@ -3,18 +3,18 @@ ghost use Rattle.std.specs.Prelude.{◌≡◌, ◌++◌, ◌%◌, ◌^◌, ℕ, 
 ghost use Rattle.std.specs.List.{sum};
 ghost use Rattle.x7_part.specs.AddressOrder.{addresses_in};
 ghost use Rattle.x7_part.specs.Part.{PartData, frame_words};
-ghost use Rattle.x7_part.specs.PartRange.{IsPart};
+ghost use Rattle.x7_part.specs.Ranges.{IsPart};
 ghost use Rattle.x7_memory.specs.Frames.{AreFramesOf, frame_at};
-ghost use Rattle.x7_memory.specs.Planned.{AreAddressed, IsPlan};
+ghost use Rattle.x7_memory.specs.Plan.{AreAddressed, IsPlan};
 ghost use Rattle.x7_planner.specs.FullStream.{full_stream};
-ghost use Rattle.x7_planner.specs.Telling.{HasGiven};
-ghost use Rattle.x7_tool.specs.Generated.{TookStream, count_line, counted, gen_text, head_line, sum_line, generated, next_number, planned_summary, played_summary, row_by, summary_text, words_sum};
+ghost use Rattle.x7_planner.specs.FullStreamPieces.{HasGiven};
+ghost use Rattle.x7_tool.specs.Generate.{TookStream, count_line, counted, gen_text, head_line, sum_line, generated, next_number, planned_summary, played_summary, row_by, summary_text, words_sum};
 ghost use Rattle.x7_forms.specs.Event.{no_memory};
 ghost use Rattle.x7_forms.specs.Message.{event_of};
 ghost use Rattle.x7_tool.specs.Outcome.{gen_answer};
 ghost use Rattle.x7_tool.specs.Run.{MakesReady};
 ghost use Rattle.x7_forms.specs.Form.{Generating};
-ghost use Rattle.x7_playing.specs.Play.{HasPlayed};
+ghost use Rattle.x7_playing.specs.Playing.{HasPlayed};
 ghost use Rattle.x7_tool.specs.Ready.{text_of_bytes};
 ghost use Rattle.x7_forms.specs.Step.{seen};
 

@@ -11,7 +11,7 @@ ghost use Rattle.x7_tool.specs.Outcome.{image_by, image_streams};
 ghost use Rattle.x7_tool.specs.Run.{MakesReady};
 ghost use Rattle.x7_forms.specs.Form.{Imaging, ImagingFor};
 ghost use Rattle.x7_tool.specs.Ready.{text_of_bytes};
-ghost use Rattle.x7_tool.specs.Streamed.{streams_of};
+ghost use Rattle.x7_tool.specs.Stream.{streams_of};
 ghost use Rattle.x7_forms.specs.Step.{AnswersAs, seen, step_over};
 
 use crate::stream::{Stream, read_stream};

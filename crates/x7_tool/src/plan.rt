@@ -9,7 +9,7 @@ ghost use Rattle.x7_forms.specs.Event.{no_memory};
 ghost use Rattle.x7_tool.specs.Outcome.{PlannedPartial, PlannedRead, frames_event, planner_event, text_limit};
 ghost use Rattle.x7_forms.specs.Turn.{StandsAt};
 ghost use Rattle.x7_forms.specs.Form.{PlanningFull, PlanningPartial, PlanningRead};
-ghost use Rattle.x7_tool.specs.Planned.{ReadsPlan};
+ghost use Rattle.x7_tool.specs.Plan.{ReadsPlan};
 ghost use Rattle.x7_tool.specs.FullText.{full_of};
 ghost use Rattle.x7_tool.specs.Ready.{text_of_bytes};
 ghost use Rattle.x7_forms.specs.Step.{seen};

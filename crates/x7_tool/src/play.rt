@@ -3,7 +3,7 @@ ghost use Rattle.std.specs.Prelude.{◌≡◌, ◌⊎◌, ℕ, List, map, string
 ghost use Rattle.x7_part.specs.Part.{PartData};
 ghost use Rattle.x7_forms.specs.Event.{no_memory, too_many_reads};
 ghost use Rattle.x7_forms.specs.Message.{event_of};
-ghost use Rattle.x7_playing.specs.Play.{HasPlayed};
+ghost use Rattle.x7_playing.specs.Playing.{HasPlayed};
 ghost use Rattle.x7_forms.specs.Form.{Playing};
 ghost use Rattle.x7_forms.specs.Step.{seen};
 ghost use Rattle.x7_tool.specs.Play.{reported, text_of_play};

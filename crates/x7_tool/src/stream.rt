@@ -6,7 +6,7 @@ ghost use Rattle.x7_forms.specs.Known.{stream_limit};
 ghost use Rattle.x7_forms.specs.Message.{event_of};
 ghost use Rattle.x7_forms.specs.Turn.{StandsAt};
 ghost use Rattle.x7_forms.specs.Step.{AnswersAs, IsUnplayed, seen, step_over};
-ghost use Rattle.x7_tool.specs.Streamed.{data_from};
+ghost use Rattle.x7_tool.specs.Stream.{data_from};
 
 use std::alloc::Global;
 use x7_forms::{Refusal, STREAM_LIMIT, data_start, read_whole};

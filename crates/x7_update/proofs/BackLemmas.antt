@@ -4,7 +4,7 @@ use Rattle.x7_words.specs.Flash.{FlashState, IfKnown, Sees}
 use Rattle.x7_words.proofs.CountLemmas.{risen_from}
 use Rattle.x7_words.proofs.FlashLemmas.{get_or_slice_range}
 use Rattle.x7_update.specs.Layout.{CanStandAt, HasSize, IsOpen, open_switch}
-use Rattle.x7_update.specs.Refused.{CanTake, HasCause}
+use Rattle.x7_update.specs.Fault.{CanTake, HasCause}
 use Rattle.x7_update.specs.Writing.{BecomesBytes, EndFails, HasWanted, IsWritten, IsWrong, SeesWanted, in_stream, in_switch, wanted_at}
 use Rattle.x7_update.specs.declared.fault.UpdateFault.{UpdateFault}
 use Rattle.x7_update.specs.declared.fault.UpdateFault.TheVariants.{Differs, Failed, NoLayout, NoMemory, TooLong}

@@ -2,7 +2,7 @@
 use Rattle.std.proofs.Common.{◌≡◌, ℕ, inl, inr, true, false, List, None, Some, Result, Ok, Err, IfErr, length, get_or, refl, ap, sym, ◌∙◌, arith}
 use Rattle.x7_words.specs.Flash.{FlashState}
 use Rattle.x7_update.specs.Layout.{HasLayout, LeadsToUpdate}
-use Rattle.x7_update.specs.Refused.{CanBeUpdated, DiffersAt, HasCause, IsTooLong, NoLayoutAt, bad_first, bad_place, bad_size, bad_slot, last_taken}
+use Rattle.x7_update.specs.Fault.{CanBeUpdated, DiffersAt, HasCause, IsTooLong, NoLayoutAt, bad_first, bad_place, bad_size, bad_slot, last_taken}
 use Rattle.x7_update.specs.declared.fault.UpdateFault.{UpdateFault}
 use Rattle.x7_update.specs.declared.fault.UpdateFault.TheVariants.{Differs, Failed, NoLayout, NoMemory, TooLong}
 use Rattle.x7_update.proofs.KnownLemmas.{known_at}

@@ -2,7 +2,7 @@
 use Rattle.std.proofs.Common.{◌≡◌, ℕ, suc, ◌+◌, ◌<◌, ◌≤◌, inl, inr, List, Option, None, Some, refl, sym, subst, arith}
 use Rattle.std.proofs.lemmas.Bool.{cases_eq, cases_order}
 use Rattle.x7_update.specs.Layout.{CanStandAt, HasSize, IsFree, IsOpen, LeadsToUpdate, update_place}
-use Rattle.x7_update.specs.Refused.{BeginsWell, IsGoodSlot, NoLayoutAt, OpensAgain, last_taken}
+use Rattle.x7_update.specs.Fault.{BeginsWell, IsGoodSlot, NoLayoutAt, OpensAgain, last_taken}
 use Rattle.x7_update.specs.Slots.{Finds, OpenAmong, SoFar, TargetFits, WithinSlots}
 use Rattle.x7_update.specs.declared.slots.Slots.{Slots}
 use Rattle.x7_update.specs.declared.slots.Target.{Target}

@@ -3,7 +3,7 @@ use Rattle.std.proofs.Common.{◌≡◌, ℕ, ◌+◌, ◌*◌, ◌<◌, ◌≤�
 use Rattle.x7_words.specs.Word.{word_of_bytes}
 use Rattle.x7_packets.specs.FlashSlot.{flash_slot}
 use Rattle.x7_update.specs.Layout.{CanStandAt, LeadsToUpdate, IsOpen, IsFree, four_at, switch_of, first_slot, update_place, open_switch}
-use Rattle.x7_update.specs.Refused.{BeginsWell, DiffersAt, IsBadSlotAt, IsGoodSlot, NoLayoutAt, OpensAgain, bad_first, bad_place, bad_size, bad_slot, last_taken}
+use Rattle.x7_update.specs.Fault.{BeginsWell, DiffersAt, IsBadSlotAt, IsGoodSlot, NoLayoutAt, OpensAgain, bad_first, bad_place, bad_size, bad_slot, last_taken}
 use Rattle.x7_update.specs.Slots.{OpenAmong, Finds}
 use Rattle.x7_update.specs.declared.slots.Target.{Target}
 

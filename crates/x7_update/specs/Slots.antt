@@ -3,7 +3,7 @@ use Rattle.std.specs.Prelude.{◌≡◌, ◌≢◌, ℕ, suc, ◌<◌, ◌≤◌
 use Rattle.x7_words.specs.Flash.{FlashState, IfKnown}
 use Rattle.x7_packets.specs.FlashSlot.{sector_bytes, slot_count}
 use Rattle.x7_update.specs.Layout.{CanStandAt, HasSize, HasSlots, IsFree, IsNextFreeSlot, IsOpen, LeadsToUpdate, first_slot, free_switch, open_switch, switch_of, update_place}
-use Rattle.x7_update.specs.Refused.{OpensAgain}
+use Rattle.x7_update.specs.Fault.{OpensAgain}
 use Rattle.x7_update.specs.declared.slots.Slots.{Slots}
 use Rattle.x7_update.specs.declared.slots.Target.{Target}
 

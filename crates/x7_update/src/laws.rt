@@ -3,7 +3,7 @@ ghost use Rattle.std.specs.Prelude.{◌≡◌, ◌≢◌, ◌-◌, ◌<◌, ℕ,
 ghost use Rattle.x7_packets.specs.FlashSlot.{sector_bytes, slot_count};
 ghost use Rattle.x7_update.specs.After.{IsAfter, IsBetween, MayBeLeft};
 ghost use Rattle.x7_update.specs.Layout.{HasLayout, IsNextFreeSlot, four_at, open_switch};
-ghost use Rattle.x7_update.specs.Refused.{NoLayoutAt};
+ghost use Rattle.x7_update.specs.Fault.{NoLayoutAt};
 
 /// A flash with a layout lacks it at no place.
 pub fn layouts_are_not_refused()

@@ -3,7 +3,7 @@ ghost use Rattle.std.specs.Prelude.{◌≡◌, ◌+◌, ◌<◌, ℕ, List, true
 ghost use Rattle.x7_words.specs.Flash.{KnowsBytes, OnlyReads};
 ghost use Rattle.x7_packets.specs.FlashSlot.{sector_bytes, slot_count};
 ghost use Rattle.x7_update.specs.Layout.{HasSize, LeadsToUpdate};
-ghost use Rattle.x7_update.specs.Refused.{DiffersAt, HasCause, IsBadSlotAt, IsGoodSlot, NoLayoutAt};
+ghost use Rattle.x7_update.specs.Fault.{DiffersAt, HasCause, IsBadSlotAt, IsGoodSlot, NoLayoutAt};
 ghost use Rattle.x7_update.specs.Slots.{Finds, HasFirstSlot, IsFound, SoFar};
 
 use crate::fault::UpdateFault;

@@ -5,7 +5,7 @@ ghost use Rattle.x7_packets.specs.FlashSlot.{slot_count};
 ghost use Rattle.x7_update.specs.After.{ClosesTo, IsAfter, MayBeLeft, switched};
 ghost use Rattle.x7_update.specs.Layout.{HasLayout, IsClosed, IsFree, open_switch};
 ghost use Rattle.x7_update.specs.ReadBack.{AllReadBack, OpensReadBack, WasReady};
-ghost use Rattle.x7_update.specs.Refused.{CanBeUpdated, HasCause, IsEarly};
+ghost use Rattle.x7_update.specs.Fault.{CanBeUpdated, HasCause, IsEarly};
 ghost use Rattle.x7_update.specs.Slots.{IsFound};
 ghost use Rattle.x7_update.specs.Writing.{AtAnyMoment, Becomes, CanReadBack, EndFails, OnlyUses, OpeningSlot, Replaced, ReplacingUpdate, StaysBytes, Writes};
 ghost use Rattle.x7_update.specs.declared.fault.UpdateFault.TheVariants.{NoMemory};

@@ -1,6 +1,6 @@
 //! Feeding up to the end of startup.
 ghost use Rattle.std.specs.Prelude.{◌≡◌, ◌≤◌, ◌<◌, ◌+◌, ◌-◌, ◌^◌, ◌⊎◌, false, if◌then◌else◌, length, take, is_some, IsSome, IsTrue};
-ghost use Rattle.x7_packets.specs.Cutting.{between};
+ghost use Rattle.x7_packets.specs.Cutter.{between};
 ghost use Rattle.x7_engine.specs.UntilRead.{RoomBefore};
 ghost use Rattle.x7_engine.specs.Phases.{soonest};
 ghost use Rattle.x7_engine.specs.Standing.{HasBegun, HasStopped, NoWordDue, fed_more, fed_of};

@@ -1,7 +1,7 @@
 //! Frames kept, so that the next access can be taken back.
 ghost use Rattle.std.specs.Prelude.{◌≡◌};
-ghost use Rattle.x7_pipeline.specs.Saving.{IsSavedOf};
-ghost use Rattle.x7_flow.specs.Saving.{FramesBack, KeepsFrames};
+ghost use Rattle.x7_pipeline.specs.Saved.{IsSavedOf};
+ghost use Rattle.x7_flow.specs.Saved.{FramesBack, KeepsFrames};
 ghost use Rattle.x7_flow.specs.Standing.{FramesFit, FramesState};
 
 use super::Frames;

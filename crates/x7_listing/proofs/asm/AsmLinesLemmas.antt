@@ -6,7 +6,7 @@ use Rattle.std.specs.Result.{IsErrAnd}
 use Rattle.std.proofs.Math.ListN.{drop_of_length-le}
 use Rattle.std.proofs.Math.Seq.{drop-nil}
 use Rattle.std.specs.List.{flat_map}
-use Rattle.x7_crc.specs.Checking.{CheckerState, Keeps}
+use Rattle.x7_crc.specs.Checker.{CheckerState, Keeps}
 use Rattle.x7_crc.proofs.CheckerLemmas.{still_keeps}
 use Rattle.x7_header.specs.Header.{Contents, longest_header}
 use Rattle.x7_text.specs.Lines.{split}

@@ -2,7 +2,7 @@
 use Rattle.std.proofs.Common.{◌≡◌, ℕ, ◌+◌, ◌-◌, ◌<◌, ◌≤◌, Bool, true, false, List, [], ◌++◌, length, take, drop, take-add, take_all, length-take-le, length-drop, length-append, refl, ap, sym, subst, ◌∙◌, append_assoc, append-nil, arith, codes, Vec}
 use Rattle.std.specs.declared.alloc.Global.{Global}
 use Rattle.x7_packets.specs.Reading.{Place, Searching, Session, IsReading, tail_of}
-use Rattle.x7_packets.specs.Cutting.{between, CutterState, CutterStandsFor, ComesNearer, IsRun, syncs_due, AfterRun}
+use Rattle.x7_packets.specs.Cutter.{between, CutterState, CutterStandsFor, ComesNearer, IsRun, syncs_due, AfterRun}
 use Rattle.x7_packets.specs.Mode.{Mode}
 use Rattle.x7_packets.specs.declared.cutter.Cut.{Cut}
 use Rattle.x7_packets.specs.declared.cutter.Cut.TheVariants.{Need, Skip, Sync, Head, Word, Body}

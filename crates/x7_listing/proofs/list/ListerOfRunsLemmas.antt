@@ -2,7 +2,7 @@
 use Rattle.std.proofs.Common.{◌≡◌, ℕ, Bool, true, false, List, [], ◌++◌, Bor, if◌then◌else◌, refl, ap, sym, subst, ◌∙◌, append-nil}
 use Rattle.std.specs.List.{flat_map}
 use Rattle.x7_packets.specs.Reading.{Place, Searching, Synced, Session, IsReading, tail_of}
-use Rattle.x7_packets.specs.Cutting.{Adds, CutterStandsFor, IsNeed, IsRun}
+use Rattle.x7_packets.specs.Cutter.{Adds, CutterStandsFor, IsNeed, IsRun}
 use Rattle.x7_packets.specs.Run.{FitsRun, IsNext, RunAdds, cut_of, is_last, bytes_of_run}
 use Rattle.x7_packets.specs.declared.cutter.Cut.{Cut}
 use Rattle.x7_packets.specs.Mode.{Mode}

@@ -1,7 +1,7 @@
 -- What stands on a sheet after short runs were put there (this project's choice).
 use Rattle.std.specs.Prelude.{◌≡◌, ℕ, List, ◌++◌, codes, take}
 use Rattle.x7_words.specs.Word.{words_of_bytes}
-use Rattle.x7_packets.specs.Cutting.{CutterState}
+use Rattle.x7_packets.specs.Cutter.{CutterState}
 use Rattle.x7_text.specs.Row.{in_line_after, open_text, spaced}
 use Rattle.x7_listing.specs.Pens.{ListsMore, lister_with}
 use Rattle.x7_listing.specs.Telling.{ListerState}

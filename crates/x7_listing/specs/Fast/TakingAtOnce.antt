@@ -1,6 +1,6 @@
 -- How much a lister takes at once, and by how much its text grows (this project's choice).
 use Rattle.std.specs.Prelude.{ℕ, ◌+◌, ◌*◌, ◌<◌, ◌≤◌, List, length}
-use Rattle.x7_packets.specs.Cutting.{CutterState}
+use Rattle.x7_packets.specs.Cutter.{CutterState}
 
 -- `size` of the bytes that come next were taken, and the text grew from one length to another, by less than a lister has room for
 pub record TakesAtOnce (old new : CutterState) (rest : List ℕ) (size from to : ℕ) : Type 0 where

@@ -1,7 +1,7 @@
 //! The bytes of a text's lines, as the lines come.
 ghost use Rattle.std.specs.Prelude.{◌≡◌, ℕ, List, [], ◌∷◌, ◌++◌, ◌+◌, ◌≤◌, drop, length, vec_len, vec_capacity, Ok, IfErr, OnOk, MatchResult};
 ghost use Rattle.x7_text.specs.Reads.{Reads};
-ghost use Rattle.x7_crc.specs.Checking.{check_of_bytes, Keeps};
+ghost use Rattle.x7_crc.specs.Checker.{check_of_bytes, Keeps};
 ghost use Rattle.x7_listing.specs.Assembly.{AreHeadedAsm};
 ghost use Rattle.x7_listing.specs.Assembling.{AreReadWithRoom, FailsFirst, FailsNext, HasAsmFault, HasLineRoom, HasRoomForLine, IsFirstOrGood, Output, ReadsFirst, ReadsNext, TakesLines};
 ghost use Rattle.x7_listing.specs.Line.{line_bytes, FitsLine, text_of};

@@ -7,7 +7,7 @@ ghost use Rattle.x7_memory.specs.Frames.{AreFramesOf, frame_at};
 ghost use Rattle.x7_pipeline.specs.Flow.{HoldsFlow, first_flow};
 ghost use Rattle.x7_pipeline.specs.Pipeline.{AreOf, IsPipelineOf};
 ghost use Rattle.x7_pipeline.specs.Runs.{put_over};
-ghost use Rattle.x7_pipeline.specs.Saving.{IsPairOf, IsSavedOf, address_at_slot, next_put, pair_at, put_by_copy, put_by_word};
+ghost use Rattle.x7_pipeline.specs.Saved.{IsPairOf, IsSavedOf, address_at_slot, next_put, pair_at, put_by_copy, put_by_word};
 
 use super::Pipeline;
 use crate::place::{is_base, slot_at};
@@ -29,7 +29,7 @@ pub struct Saved {
 
 impl Model for Saved {
     ghost use Rattle.std.specs.Prelude.{◌≤◌, vec_capacity};
-    ghost use Rattle.x7_pipeline.specs.Saving.{SavedState, pair_held};
+    ghost use Rattle.x7_pipeline.specs.Saved.{SavedState, pair_held};
 
     ghost Value = { SavedState };
 

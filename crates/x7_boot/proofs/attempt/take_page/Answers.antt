@@ -2,9 +2,9 @@ use Rattle.std.proofs.Common.{◌++◌, List, ℕ, false, Option, length, take, 
 use Rattle.x7_regs.specs.declared.boot_status.Cause.{Cause}
 use Rattle.x7_engine.specs.ReadBuffer.{ReadBufState}
 use Rattle.x7_engine.specs.State.{why_of, stop_in}
-use Rattle.x7_engine.specs.Stops.{stop_fault}
+use Rattle.x7_engine.specs.Stop.{stop_fault}
 use Rattle.x7_engine.specs.UntilStarted.{taken_until}
-use Rattle.x7_engine.specs.Values.{failure_of}
+use Rattle.x7_engine.specs.Value.{failure_of}
 use Rattle.x7_engine.specs.declared.fault.Fault.{Fault}
 use Rattle.x7_engine.specs.declared.until_started.UntilStarted.{UntilStarted}
 use Rattle.x7_boot.specs.Attempt.{Took, past_in_flash}

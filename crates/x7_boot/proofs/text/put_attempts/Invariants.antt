@@ -1,5 +1,5 @@
 use Rattle.std.proofs.Common.{◌≡◌, ◌+◌, ◌++◌, length, take}
-use Rattle.x7_boot.specs.BootLines.{attempts_text}
+use Rattle.x7_boot.specs.Text.{attempts_text}
 use Rattle.x7_boot.proofs.text.put_attempts.Given as goal
 
 abbrev pub invariant-lines : goal.invariant-lines

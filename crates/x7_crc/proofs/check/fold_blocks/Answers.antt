@@ -1,5 +1,5 @@
 use Rattle.std.proofs.Common.{◌∙◌, ap, arith}
-use Rattle.x7_crc.specs.RunningCheck.{check_after, writes_to}
+use Rattle.x7_crc.specs.Check.{check_after, writes_to}
 use Rattle.x7_crc.proofs.CheckLemmas.{check_after_fits}
 use Rattle.x7_crc.proofs.BlockLemmas.{block_taken, blocks_end, four_of}
 use Rattle.x7_crc.proofs.check.fold_blocks.Goals as goal

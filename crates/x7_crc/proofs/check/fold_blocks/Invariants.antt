@@ -1,7 +1,7 @@
 use Rattle.std.proofs.Common.{◌≡◌, ◌<◌, ◌^◌, drop}
 use Rattle.std.specs.List.{flat_map}
 use Rattle.x7_words.specs.Word.{words_of_bytes}
-use Rattle.x7_crc.specs.RunningCheck.{check_after, writes_to}
+use Rattle.x7_crc.specs.Check.{check_after, writes_to}
 use Rattle.x7_crc.proofs.check.fold_blocks.Given as goal
 
 abbrev pub invariant-loop-block : goal.invariant-loop-block

@@ -1,7 +1,7 @@
 use Rattle.std.proofs.Common.{◌∙◌, ◌/◌, ap, arith, length}
 use Rattle.std.specs.List.{flat_map}
 use Rattle.x7_words.specs.Word.{words_of_bytes}
-use Rattle.x7_crc.specs.RunningCheck.{check_after, writes_to}
+use Rattle.x7_crc.specs.Check.{check_after, writes_to}
 use Rattle.x7_crc.proofs.BlockLemmas.{blocks_and_rest}
 use Rattle.x7_crc.proofs.CheckLemmas.{check_of_more}
 use Rattle.x7_crc.proofs.check.fold_slice.Goals as goal

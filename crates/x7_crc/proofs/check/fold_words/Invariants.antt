@@ -1,6 +1,6 @@
 use Rattle.std.proofs.Common.{◌≡◌, ◌<◌, ◌^◌, map, drop}
 use Rattle.x7_words.specs.Word.{word_of_bytes, words_of_bytes}
-use Rattle.x7_crc.specs.RunningCheck.{check_after, writes_to}
+use Rattle.x7_crc.specs.Check.{check_after, writes_to}
 use Rattle.x7_crc.proofs.check.fold_words.Given as goal
 
 abbrev pub invariant-loop-word : goal.invariant-loop-word

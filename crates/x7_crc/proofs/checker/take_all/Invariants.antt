@@ -1,6 +1,6 @@
 use Rattle.std.proofs.Common.{ℕ, List, ◌++◌, ◌-◌, ◌≤◌, take, length}
-use Rattle.x7_packets.specs.Cutting.{calls_left}
-use Rattle.x7_crc.specs.Checking.{Checks}
+use Rattle.x7_packets.specs.Cutter.{calls_left}
+use Rattle.x7_crc.specs.Checker.{Checks}
 use Rattle.x7_crc.proofs.checker.take_all.Given as goal
 
 abbrev pub invariant-loop-now : goal.invariant-loop-now

@@ -2,7 +2,7 @@ use Rattle.std.proofs.Common.{ℕ, subst}
 use Rattle.x7_words.specs.Word.{words_of_bytes}
 use Rattle.x7_packets.specs.History.{entered_all}
 use Rattle.x7_packets.specs.Packet.{payload_steps}
-use Rattle.x7_crc.specs.Checking.{IsSum}
+use Rattle.x7_crc.specs.Checker.{IsSum}
 use Rattle.x7_crc.proofs.CheckerLemmas.{plain_sum}
 use Rattle.x7_crc.proofs.checker.written_all.Goals as goal
 

@@ -4,7 +4,7 @@ use Rattle.x7_packets.specs.History.{entered_all, History}
 use Rattle.x7_packets.specs.Packet.{payload_steps}
 use Rattle.x7_regs.specs.Register.{number_of}
 use Rattle.x7_words.proofs.WordLemmas.{map_take_more, words_of_bytes_all}
-use Rattle.x7_crc.specs.Checking.{IsSum}
+use Rattle.x7_crc.specs.Checker.{IsSum}
 use Rattle.x7_crc.proofs.CheckerLemmas.{entered_more}
 use Rattle.x7_crc.proofs.checker.written_each.Goals as goal
 

@@ -3,7 +3,7 @@ use Rattle.x7_words.specs.Word.{word_of_bytes}
 use Rattle.x7_packets.specs.History.{entered_all, History}
 use Rattle.x7_packets.specs.Packet.{payload_steps}
 use Rattle.x7_regs.specs.Register.{number_of}
-use Rattle.x7_crc.specs.Checking.{IsSum}
+use Rattle.x7_crc.specs.Checker.{IsSum}
 use Rattle.x7_crc.proofs.checker.written_each.Given as goal
 
 abbrev pub invariant-loop-word : goal.invariant-loop-word

@@ -1,6 +1,6 @@
 use Rattle.std.proofs.Common.{ℕ, ◌∷◌, subst}
 use Rattle.x7_packets.specs.History.{entry, Write}
-use Rattle.x7_crc.specs.Checking.{IsSum}
+use Rattle.x7_crc.specs.Checker.{IsSum}
 use Rattle.x7_crc.proofs.CheckerLemmas.{plain_word}
 use Rattle.x7_crc.proofs.checker.written_one.Goals as goal
 

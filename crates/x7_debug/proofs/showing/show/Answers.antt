@@ -5,7 +5,7 @@ use Rattle.x7_memory.specs.Frames.{frame_at}
 use Rattle.x7_engine.specs.Kept.{on_the_bench}
 use Rattle.x7_debug.specs.Position.{memory_at_position}
 use Rattle.x7_debug.specs.declared.order.Order.{Order}
-use Rattle.x7_debug.specs.Transcript.{frame_shown, order_shown}
+use Rattle.x7_debug.specs.Showing.{frame_shown, order_shown}
 use Rattle.x7_debug.proofs.showing.show.Goals as goal
 
 pub returns-in-Frame : goal.returns-in-Frame

@@ -3,7 +3,7 @@ use Rattle.std.proofs.lemmas.List.{take-append-drop}
 use Rattle.x7_debug.specs.declared.order.Order.{Order}
 use Rattle.x7_debug.specs.declared.order.Order.TheVariants as order
 use Rattle.x7_debug.specs.Session.{MovesTo}
-use Rattle.x7_debug.specs.Transcript.{FollowsSome, final_position, order_shown}
+use Rattle.x7_debug.specs.Showing.{FollowsSome, final_position, order_shown}
 use Rattle.x7_debug.proofs.TranscriptLemmas.{moves_on, position_more, shows, text_more}
 use Rattle.x7_debug.proofs.showing.transcript.Goals as goal
 

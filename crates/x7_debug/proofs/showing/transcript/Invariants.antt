@@ -1,6 +1,6 @@
 use Rattle.std.proofs.Common.{◌≡◌, take}
 use Rattle.x7_debug.specs.Session.{MovesTo}
-use Rattle.x7_debug.specs.Transcript.{final_position, transcript_of}
+use Rattle.x7_debug.specs.Showing.{final_position, transcript_of}
 use Rattle.x7_debug.proofs.showing.transcript.Given as goal
 
 abbrev pub invariant-loop-order : goal.invariant-loop-order

@@ -1,6 +1,6 @@
 use Rattle.std.proofs.Common.{false, subst, sym, true, ◌∙◌}
 use Rattle.x7_regs.specs.declared.command.Command.{Command}
-use Rattle.x7_flow.specs.Asked.{Order}
+use Rattle.x7_flow.specs.Asking.{Order}
 use Rattle.x7_flow.specs.Standing.{Did, frames_state}
 use Rattle.x7_flow.proofs.StandingLemmas.{copies_asked, did_as, did_copy, did_load, did_order, did_other, did_word, fault_as, nothing_asked, word_asked}
 use Rattle.x7_flow.proofs.taking.take.Goals as goal

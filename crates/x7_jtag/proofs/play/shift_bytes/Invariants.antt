@@ -2,7 +2,7 @@ use Rattle.std.proofs.Common.{◌≡◌, ◌-◌, ◌%◌, ◌≤◌, ◌++◌, 
 use Rattle.x7_part.specs.Part.{PartData}
 use Rattle.x7_jtag.specs.Clocks.{shift_clocks}
 use Rattle.x7_jtag.specs.Play.{Ready}
-use Rattle.x7_jtag.specs.States.{Clock}
+use Rattle.x7_jtag.specs.State.{Clock}
 use Rattle.x7_jtag.specs.Tap.{TakesBytes, TapStandsFor}
 use Rattle.x7_jtag.proofs.play.shift_bytes.Given as goal
 

@@ -3,7 +3,7 @@ use Rattle.x7_part.specs.Part.{PartData}
 use Rattle.x7_jtag.specs.Clocks.{shift_clocks}
 use Rattle.x7_jtag.specs.Play.{Ready, differs_at, least}
 use Rattle.x7_jtag.specs.Port.{port_after}
-use Rattle.x7_jtag.specs.States.{Clock}
+use Rattle.x7_jtag.specs.State.{Clock}
 use Rattle.x7_jtag.specs.Tap.{TapStandsFor}
 use Rattle.x7_jtag.proofs.PlayLemmas.{found_or}
 use Rattle.x7_jtag.proofs.play.shift_from.Given as goal

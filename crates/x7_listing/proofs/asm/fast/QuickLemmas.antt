@@ -6,7 +6,7 @@ use Rattle.std.proofs.lemmas.List.{drop-append-le, drop_more, take-append-drop, 
 use Rattle.std.proofs.lemmas.List.Sums.{fold-append}
 use Rattle.std.specs.List.{AllByRecursion, flat_map}
 use Rattle.x7_words.proofs.ListLemmas.{all_append, map_append}
-use Rattle.x7_crc.specs.Checking.{check_of_bytes, CheckerState}
+use Rattle.x7_crc.specs.Checker.{check_of_bytes, CheckerState}
 use Rattle.x7_crc.proofs.CheckerLemmas.{still_keeps}
 use Rattle.std.specs.declared.alloc.Global.{Global}
 use Rattle.x7_text.specs.Appends.{Appends}

@@ -11,7 +11,7 @@ use Rattle.x7_words.specs.Word.{bytes_of_word, words_of_bytes}
 use Rattle.x7_packets.specs.AtOnce.{EndsGap, TakesAsOneRun, WritesFew, WritesOne}
 use Rattle.x7_packets.specs.PacketWords.{no_op, sync_word, type1_write}
 use Rattle.x7_packets.specs.SyncWord.{sync_bytes}
-use Rattle.x7_packets.specs.Cutting.{CutterState, IsRun, AfterRun}
+use Rattle.x7_packets.specs.Cutter.{CutterState, IsRun, AfterRun}
 use Rattle.x7_packets.specs.Nops.{equal_bytes}
 use Rattle.x7_packets.specs.Packet.{payload_steps, register_of}
 use Rattle.x7_packets.specs.declared.cutter.Cut.{Cut}

@@ -3,7 +3,7 @@
 ghost use Rattle.std.specs.Prelude.{◌≡◌, ℕ, ◌+◌, ◌*◌, ◌<◌, ◌≤◌, true, List, [], ◌∷◌, ◌++◌, IfNone, IfSome, codes, decimal, length, take, vec_len, vec_capacity};
 ghost use Rattle.x7_words.specs.Word.{words_of_bytes};
 ghost use Rattle.x7_packets.specs.AtOnce.{EndsGap, WritesFew, WritesOne};
-ghost use Rattle.x7_packets.specs.Cutting.{CutterState};
+ghost use Rattle.x7_packets.specs.Cutter.{CutterState};
 ghost use Rattle.x7_packets.specs.Nops.{nop_bytes};
 ghost use Rattle.x7_packets.specs.PacketWords.{no_op, type1_write};
 ghost use Rattle.x7_packets.specs.Packet.{payload_steps};

@@ -1,6 +1,6 @@
 //! A lister of runs: those of a stream, one after another.
 ghost use Rattle.std.specs.Prelude.{◌≡◌, [], ◌+◌, ◌*◌, ◌≤◌, ◌<◌, OnOk, OnErr, true, if◌then◌else◌, length, vec_len, vec_capacity};
-ghost use Rattle.x7_packets.specs.Cutting.{CutterState};
+ghost use Rattle.x7_packets.specs.Cutter.{CutterState};
 ghost use Rattle.x7_packets.specs.Run.{cut_of, FitsRun, bytes_of_run};
 ghost use Rattle.x7_listing.specs.Pens.{EndsHeld, held_by, is_in_session, line_of, lister_with, written_with};
 ghost use Rattle.x7_listing.specs.ListerOfRuns.{TakesNext};

@@ -1,5 +1,5 @@
 use Rattle.std.proofs.Common.{◌≡◌, drop}
-use Rattle.x7_part.specs.PartKey.{is_known}
+use Rattle.x7_part.specs.Keys.{is_known}
 use Rattle.x7_part.proofs.keys.is_known.Given as goal
 
 abbrev pub invariant-loop-key : goal.invariant-loop-key

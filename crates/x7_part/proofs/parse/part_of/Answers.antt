@@ -1,9 +1,9 @@
 use Rattle.std.proofs.Common.{◌≡◌, ◌∙◌, Ok, ap, sym, refl}
 use Rattle.toml.specs.View.{table_view}
 use Rattle.std.specs.String.{string_bytes}
-use Rattle.x7_part.specs.PartValues.{part_data}
+use Rattle.x7_part.specs.Values.{part_data}
 use Rattle.std.proofs.lemmas.Bool.{false≢true}
-use Rattle.x7_part.specs.PartKey.{top}
+use Rattle.x7_part.specs.Keys.{top}
 use Rattle.x7_part.specs.declared.fault.PartFault.TheVariants.{Key}
 use Rattle.x7_part.specs.declared.fault.PartKey.TheVariants as key
 use Rattle.x7_part.proofs.PassLemmas.{Whole, typed, passed, types_reported, others_reported, settings_reported, rows_reported, few_rows, last_reported, whole, handed_on, handed_from, toml_is, toml_fault}

@@ -1,6 +1,6 @@
 use Rattle.std.proofs.Common.{◌≡◌, ◌++◌, map, drop}
 use Rattle.x7_part.specs.PartChecks.{are_in}
-use Rattle.x7_part.specs.PartValues.{natural}
+use Rattle.x7_part.specs.Values.{natural}
 use Rattle.x7_part.proofs.ranges.minors.Given as goal
 
 abbrev pub invariant-loop-number : goal.invariant-loop-number

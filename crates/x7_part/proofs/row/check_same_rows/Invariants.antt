@@ -1,5 +1,5 @@
 use Rattle.std.proofs.Common.{◌≡◌, [], take, drop}
-use Rattle.x7_part.specs.PartRows.{same_row_fault}
+use Rattle.x7_part.specs.Row.{same_row_fault}
 use Rattle.x7_part.proofs.row.check_same_rows.Given as goal
 
 abbrev pub invariant-loop-place : goal.invariant-loop-place

@@ -1,5 +1,5 @@
 use Rattle.std.proofs.Common.{◌≡◌, drop}
-use Rattle.x7_part.specs.PartRows.{has_same}
+use Rattle.x7_part.specs.Row.{has_same}
 use Rattle.x7_part.proofs.row.has_same.Given as goal
 
 abbrev pub invariant-loop-other : goal.invariant-loop-other

@@ -1,6 +1,6 @@
 use Rattle.std.proofs.Common.{◌≡◌, ◌++◌, map, drop}
 use Rattle.x7_part.specs.PartChecks.{rows_fault, row_range_fault}
-use Rattle.x7_part.specs.PartValues.{row_by_values}
+use Rattle.x7_part.specs.Values.{row_by_values}
 use Rattle.x7_part.proofs.row.rows_in.Given as goal
 
 abbrev pub invariant-loop-row : goal.invariant-loop-row

@@ -1,5 +1,5 @@
 use Rattle.std.proofs.Common.{◌≡◌, ◌+◌, ◌*◌, ◌≤◌, ◌++◌, drop}
-use Rattle.x7_part.specs.Columns.{row_columns}
+use Rattle.x7_part.specs.Column.{row_columns}
 use Rattle.x7_part.proofs.table.add_row.Given as goal
 
 abbrev pub invariant-loop-column : goal.invariant-loop-column

@@ -1,6 +1,6 @@
 use Rattle.std.proofs.Common.{◌≡◌, ◌+◌, ◌*◌, ◌≤◌, ◌++◌, drop, length}
 use Rattle.x7_part.specs.AddressOrder.{addresses}
-use Rattle.x7_part.specs.Columns.{table_of as columns_of}
+use Rattle.x7_part.specs.Column.{table_of as columns_of}
 use Rattle.x7_part.proofs.table.table_of.Given as goal
 
 abbrev pub invariant-loop-row : goal.invariant-loop-row

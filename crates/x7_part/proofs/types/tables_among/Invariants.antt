@@ -1,7 +1,7 @@
 use Rattle.std.proofs.Common.{◌≡◌, ◌++◌, map, drop}
 use Rattle.toml.specs.View.{items_view, table_view}
 use Rattle.x7_part.specs.PartChecks.{are_tables}
-use Rattle.x7_part.specs.PartValues.{tables}
+use Rattle.x7_part.specs.Values.{tables}
 use Rattle.x7_part.proofs.types.tables_among.Given as goal
 
 abbrev pub invariant-loop-item : goal.invariant-loop-item

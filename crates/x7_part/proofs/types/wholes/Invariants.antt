@@ -1,7 +1,7 @@
 use Rattle.std.proofs.Common.{◌≡◌, ◌++◌, drop}
 use Rattle.toml.specs.View.{items_view}
 use Rattle.x7_part.specs.PartChecks.{are_wholes}
-use Rattle.x7_part.specs.PartValues.{numbers}
+use Rattle.x7_part.specs.Values.{numbers}
 use Rattle.x7_part.proofs.types.wholes.Given as goal
 
 abbrev pub invariant-loop-item : goal.invariant-loop-item

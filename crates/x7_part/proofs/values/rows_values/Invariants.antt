@@ -1,7 +1,7 @@
 use Rattle.std.proofs.Common.{◌≡◌, ◌++◌, map, drop}
 use Rattle.toml.specs.View.{table_view}
 use Rattle.x7_part.specs.PartChecks.{rows_fault, row_type_fault}
-use Rattle.x7_part.specs.PartValues.{row_values}
+use Rattle.x7_part.specs.Values.{row_values}
 use Rattle.x7_part.proofs.values.rows_values.Given as goal
 
 abbrev pub invariant-loop-row : goal.invariant-loop-row

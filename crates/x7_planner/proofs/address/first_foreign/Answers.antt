@@ -1,7 +1,7 @@
 use Rattle.std.proofs.Common.{◌≤◌, ◌∙◌, length, sym, subst, arith}
 use Rattle.std.proofs.lemmas.Bool.{false≢true}
 use Rattle.std.proofs.lemmas.List.{take_all}
-use Rattle.x7_memory.specs.Planned.{AreAddressed, PlanRow}
+use Rattle.x7_memory.specs.Plan.{AreAddressed, PlanRow}
 use Rattle.x7_planner.proofs.AddressLemmas.{foreign_at, addressed_more}
 use Rattle.x7_planner.proofs.address.first_foreign.Goals as goal
 

@@ -1,5 +1,5 @@
 use Rattle.std.proofs.Common.{take}
-use Rattle.x7_memory.specs.Planned.{AreAddressed}
+use Rattle.x7_memory.specs.Plan.{AreAddressed}
 use Rattle.x7_planner.proofs.address.first_foreign.Given as goal
 
 abbrev pub invariant-loop-i : goal.invariant-loop-i

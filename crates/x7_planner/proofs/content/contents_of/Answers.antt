@@ -1,6 +1,6 @@
 use Rattle.std.proofs.Common.{refl}
 use Rattle.x7_planner.specs.declared.content.Content.{Content}
-use Rattle.x7_memory.specs.Planned.{PlanRow}
+use Rattle.x7_memory.specs.Plan.{PlanRow}
 use Rattle.x7_planner.proofs.GroupLemmas.{content_pushed}
 use Rattle.x7_planner.proofs.content.contents_of.Goals as goal
 

@@ -1,5 +1,5 @@
 use Rattle.std.proofs.Common.{◌≡◌, ℕ, ◌<◌, length, take, get_or}
-use Rattle.x7_planner.specs.Contents.{content_rows}
+use Rattle.x7_planner.specs.Content.{content_rows}
 use Rattle.x7_planner.specs.declared.content.Content.{Content}
 use Rattle.x7_planner.proofs.content.contents_of.Given as goal
 

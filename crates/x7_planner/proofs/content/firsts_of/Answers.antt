@@ -1,6 +1,6 @@
 use Rattle.std.proofs.Common.{ℕ, List, arith, subst, sym}
 use Rattle.std.proofs.lemmas.List.{length-map}
-use Rattle.x7_planner.specs.Contents.{content_row, content_rows}
+use Rattle.x7_planner.specs.Content.{content_row, content_rows}
 use Rattle.x7_planner.proofs.ContentLemmas.{FirstsUpTo, firsts_all, firsts_none, firsts_step}
 use Rattle.x7_planner.proofs.content.firsts_of.Goals as goal
 

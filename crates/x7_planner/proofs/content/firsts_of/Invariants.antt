@@ -1,4 +1,4 @@
-use Rattle.x7_planner.specs.Contents.{content_rows}
+use Rattle.x7_planner.specs.Content.{content_rows}
 use Rattle.x7_planner.proofs.ContentLemmas.{FirstsUpTo}
 use Rattle.x7_planner.proofs.content.firsts_of.Given as goal
 

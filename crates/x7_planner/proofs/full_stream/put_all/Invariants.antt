@@ -1,5 +1,5 @@
 use Rattle.std.proofs.Common.{◌≡◌}
-use Rattle.x7_planner.specs.Telling.{HasGiven, puts_left}
+use Rattle.x7_planner.specs.FullStreamPieces.{HasGiven, puts_left}
 use Rattle.x7_planner.proofs.full_stream.put_all.Given as goal
 
 abbrev pub invariant-loop : goal.invariant-loop

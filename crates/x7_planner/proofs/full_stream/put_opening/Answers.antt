@@ -1,5 +1,5 @@
 use Rattle.x7_planner.specs.FullStream.{full_settings}
-use Rattle.x7_planner.specs.Stream.{head}
+use Rattle.x7_planner.specs.Writer.{head}
 use Rattle.x7_planner.proofs.SlotLemmas.{written_on}
 use Rattle.x7_planner.proofs.full_stream.put_opening.Goals as goal
 

@@ -3,12 +3,12 @@ use Rattle.std.specs.List.{flat_map}
 use Rattle.std.proofs.lemmas.Result.{on_ok_weaker}
 use Rattle.x7_part.specs.AddressOrder.{addresses_in}
 use Rattle.x7_part.specs.Part.{frame_words}
-use Rattle.x7_part.specs.Slots.{slots_in}
+use Rattle.x7_part.specs.Slot.{slots_in}
 use Rattle.x7_regs.specs.declared.command.Command.TheVariants.{Rcrc, Shutdown, Wcfg}
 use Rattle.x7_regs.specs.declared.register.Reg.TheVariants.{Cor0, Ctl0, Far, Idcode, Mask}
 use Rattle.x7_packets.specs.PacketWords.{command, frame_data, no_op, write_one}
 use Rattle.x7_planner.specs.Settings.{control, control_mask, startup_options}
-use Rattle.x7_planner.specs.Stream.{bytes_of_words}
+use Rattle.x7_planner.specs.Writer.{bytes_of_words}
 use Rattle.x7_planner.proofs.SlotLemmas.{and_packet, last_packet, packets_written, written_on}
 use Rattle.x7_planner.proofs.full_stream.put_settings.Goals as goal
 

@@ -1,6 +1,6 @@
 use Rattle.std.proofs.Common.{◌∙◌, ◌++◌, get_or, ap, arith}
 use Rattle.x7_part.specs.declared.slot.Slot.TheVariants.{End}
-use Rattle.x7_planner.specs.Stream.{bytes_of_words}
+use Rattle.x7_planner.specs.Writer.{bytes_of_words}
 use Rattle.x7_planner.proofs.SlotLemmas.{all_slots, slot_more, slots_none}
 use Rattle.x7_planner.proofs.full_stream.put_slots.Goals as goal
 

@@ -1,7 +1,7 @@
 use Rattle.std.proofs.Common.{◌≡◌, ◌≤◌, ◌+◌, ◌-◌, ◌*◌, ◌++◌, length, take, drop, vec_capacity}
-use Rattle.x7_part.specs.Slots.{slots_in}
+use Rattle.x7_part.specs.Slot.{slots_in}
 use Rattle.x7_planner.specs.FullStream.{words_of_slots}
-use Rattle.x7_planner.specs.Stream.{bytes_of_words}
+use Rattle.x7_planner.specs.Writer.{bytes_of_words}
 use Rattle.x7_planner.proofs.full_stream.put_slots.Given as goal
 
 abbrev pub invariant-loop-n : goal.invariant-loop-n

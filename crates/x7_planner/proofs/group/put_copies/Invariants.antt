@@ -1,9 +1,9 @@
 use Rattle.std.proofs.Common.{◌≡◌, ◌≤◌, ◌++◌, take}
 use Rattle.std.specs.List.{flat_map}
-use Rattle.x7_memory.specs.Planned.{planned_addresses}
-use Rattle.x7_planner.specs.Contents.{content_rows}
+use Rattle.x7_memory.specs.Plan.{planned_addresses}
+use Rattle.x7_planner.specs.Content.{content_rows}
 use Rattle.x7_planner.specs.PartialStream.{copy_words, with_content}
-use Rattle.x7_planner.specs.Stream.{bytes_of_words}
+use Rattle.x7_planner.specs.Writer.{bytes_of_words}
 use Rattle.x7_planner.proofs.group.put_copies.Given as goal
 
 abbrev pub invariant-loop-k : goal.invariant-loop-k

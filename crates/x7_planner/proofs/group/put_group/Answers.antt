@@ -1,8 +1,8 @@
 use Rattle.std.proofs.Common.{◌∙◌, ◌++◌, ap}
-use Rattle.x7_memory.specs.Planned.{planned_addresses}
-use Rattle.x7_planner.specs.Contents.{content_rows}
+use Rattle.x7_memory.specs.Plan.{planned_addresses}
+use Rattle.x7_planner.specs.Content.{content_rows}
 use Rattle.x7_planner.specs.PartialStream.{with_content}
-use Rattle.x7_planner.specs.Stream.{bytes_of_words}
+use Rattle.x7_planner.specs.Writer.{bytes_of_words}
 use Rattle.x7_planner.proofs.GroupLemmas.{first_far, group_written}
 use Rattle.x7_planner.proofs.SlotLemmas.{and_packet, last_packet, packets_written}
 use Rattle.x7_planner.proofs.group.put_group.Goals as goal

@@ -1,5 +1,5 @@
 use Rattle.std.proofs.Common.{get_or}
-use Rattle.x7_memory.specs.Planned.{PlanRow}
+use Rattle.x7_memory.specs.Plan.{PlanRow}
 use Rattle.x7_planner.proofs.GroupLemmas.{first_at, inside_at, group_more}
 use Rattle.x7_planner.proofs.group.put_groups.Goals as goal
 

@@ -1,7 +1,7 @@
 use Rattle.std.proofs.Common.{◌≡◌, ◌++◌, take}
 use Rattle.std.specs.List.{flat_map}
 use Rattle.x7_planner.specs.PartialStream.{groups_led, stretch_words}
-use Rattle.x7_planner.specs.Stream.{bytes_of_words}
+use Rattle.x7_planner.specs.Writer.{bytes_of_words}
 use Rattle.x7_planner.proofs.group.put_groups.Given as goal
 
 abbrev pub invariant-loop-i : goal.invariant-loop-i

@@ -1,4 +1,4 @@
-use Rattle.x7_planner.specs.Contents.{content_rows}
+use Rattle.x7_planner.specs.Content.{content_rows}
 use Rattle.x7_planner.proofs.GroupLemmas.{led_none, led_some}
 use Rattle.x7_planner.proofs.group.put_led.Goals as goal
 

@@ -1,7 +1,7 @@
 use Rattle.std.proofs.Common.{◌∙◌, ◌++◌, ap, replicate}
 use Rattle.x7_regs.specs.declared.command.Command.TheVariants.{Desync}
 use Rattle.x7_packets.specs.PacketWords.{command, no_op}
-use Rattle.x7_planner.specs.Stream.{bytes_of_words}
+use Rattle.x7_planner.specs.Writer.{bytes_of_words}
 use Rattle.x7_planner.proofs.RunLemmas.{stream_written}
 use Rattle.x7_planner.proofs.SlotLemmas.{written_on}
 use Rattle.x7_planner.proofs.partial_stream.partial_of.Goals as goal

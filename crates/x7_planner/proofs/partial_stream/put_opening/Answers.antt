@@ -2,7 +2,7 @@ use Rattle.std.proofs.Common.{ℕ, [], ◌∙◌, ◌∷◌, ◌++◌, ap}
 use Rattle.x7_regs.specs.declared.command.Command.TheVariants.{Rcrc}
 use Rattle.x7_regs.specs.declared.register.Reg.TheVariants.{Idcode}
 use Rattle.x7_packets.specs.PacketWords.{command, no_op, write_one}
-use Rattle.x7_planner.specs.Stream.{bytes_of_words, head}
+use Rattle.x7_planner.specs.Writer.{bytes_of_words, head}
 use Rattle.x7_planner.proofs.SlotLemmas.{written_on}
 use Rattle.x7_planner.proofs.partial_stream.put_opening.Goals as goal
 

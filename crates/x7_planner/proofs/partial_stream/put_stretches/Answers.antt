@@ -1,5 +1,5 @@
 use Rattle.std.proofs.Common.{ap, ◌∙◌}
-use Rattle.x7_planner.specs.Contents.{content_rows}
+use Rattle.x7_planner.specs.Content.{content_rows}
 use Rattle.x7_planner.proofs.RunLemmas.{alone_addressed, alone_few, stretches_written}
 use Rattle.x7_planner.proofs.partial_stream.put_stretches.Goals as goal
 

@@ -1,7 +1,7 @@
 use Rattle.std.proofs.Common.{ℕ, replicate, length, sym, ap, ◌∙◌, ◌++◌}
 use Rattle.std.proofs.lemmas.List.{length-map}
-use Rattle.x7_planner.specs.Contents.{content_row, content_rows}
-use Rattle.x7_planner.specs.Stream.{bytes_of_words}
+use Rattle.x7_planner.specs.Content.{content_row, content_rows}
+use Rattle.x7_planner.specs.Writer.{bytes_of_words}
 use Rattle.x7_planner.proofs.RunLemmas.{first_address, run_written}
 use Rattle.x7_planner.proofs.SlotLemmas.{and_packet, last_packet, packets_written}
 use Rattle.x7_planner.proofs.run.put_run.Goals as goal

@@ -2,7 +2,7 @@ use Rattle.std.proofs.Common.{List, sym, subst}
 use Rattle.std.specs.Prelude.{All, Contains}
 use Rattle.std.proofs.lemmas.List.{take_rest}
 use Rattle.x7_part.specs.AddressOrder.{addresses_in}
-use Rattle.x7_planner.specs.Contents.{content_rows}
+use Rattle.x7_planner.specs.Content.{content_rows}
 use Rattle.x7_planner.specs.declared.content.Content.{Content}
 use Rattle.x7_planner.proofs.RunLemmas.{addresses_drop, runs_stepped}
 use Rattle.x7_planner.proofs.run.put_runs.Goals as goal

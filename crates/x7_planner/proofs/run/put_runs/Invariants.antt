@@ -1,7 +1,7 @@
 use Rattle.std.proofs.Common.{◌≡◌, ◌-◌, ◌≤◌, ◌++◌, length, drop}
-use Rattle.x7_planner.specs.Contents.{content_rows}
+use Rattle.x7_planner.specs.Content.{content_rows}
 use Rattle.x7_planner.specs.PartialStream.{runs_words}
-use Rattle.x7_planner.specs.Stream.{bytes_of_words}
+use Rattle.x7_planner.specs.Writer.{bytes_of_words}
 use Rattle.x7_planner.proofs.run.put_runs.Given as goal
 
 abbrev pub invariant-loop-at : goal.invariant-loop-at

@@ -1,6 +1,6 @@
 use Rattle.std.proofs.Common.{◌≡◌, ℕ, ◌+◌, ◌<◌, ◌≤◌, true, get_or}
-use Rattle.x7_memory.specs.Planned.{PlanRow}
-use Rattle.x7_planner.specs.Contents.{content_rows}
+use Rattle.x7_memory.specs.Plan.{PlanRow}
+use Rattle.x7_planner.specs.Content.{content_rows}
 use Rattle.x7_planner.specs.PartialStream.{follows}
 use Rattle.x7_planner.proofs.run.run_length.Given as goal
 

@@ -4,7 +4,7 @@ use Rattle.x7_words.specs.Word.{AreBytes}
 use Rattle.x7_words.proofs.ListLemmas.{all_from_places}
 use Rattle.x7_engine.specs.Kept.{on_the_bench}
 use Rattle.x7_engine.specs.Standing.{taken_in}
-use Rattle.x7_playing.specs.Play.{Plays, reads_room}
+use Rattle.x7_playing.specs.Playing.{Plays, reads_room}
 use Rattle.x7_playing.proofs.PlayLemmas.{emptied_again, full_words, is_end, most_is, words_are}
 use Rattle.x7_playing.proofs.PlayerLemmas.{may_feed, turn_end, turn_full, turn_over}
 use Rattle.x7_playing.proofs.player.feed.Goals as goal

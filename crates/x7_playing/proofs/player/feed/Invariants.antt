@@ -1,7 +1,7 @@
 use Rattle.std.proofs.Common.{◌≡◌, ◌-◌, ◌≤◌, ◌++◌, ℕ, List, length, take, vec_len, false}
 use Rattle.x7_part.specs.Part.{PartData}
 use Rattle.x7_forms.specs.Known.{reads_limit}
-use Rattle.x7_playing.specs.Play.{HasPlayedBy, Plays, emptied, play_state}
+use Rattle.x7_playing.specs.Playing.{HasPlayedBy, Plays, emptied, play_state}
 use Rattle.x7_playing.proofs.player.feed.Given as goal
 
 abbrev pub invariant-feeds : goal.invariant-feeds

@@ -1,7 +1,7 @@
 use Rattle.std.proofs.Common.{◌≡◌, [], ◌++◌, ◌-◌, length, take, length-append, length-take-le, arith, inr, sym, ◌∙◌, false, true}
 use Rattle.x7_words.proofs.InputLemmas.{stays_at, stays_on}
 use Rattle.x7_forms.specs.Message.{event_of}
-use Rattle.x7_playing.specs.Play.{PlaysOn}
+use Rattle.x7_playing.specs.Playing.{PlaysOn}
 use Rattle.x7_playing.proofs.PlayerLemmas.{may_less, may_on, on_none, on_on}
 use Rattle.x7_forms.proofs.ReadLemmas.{reads_none, reads_on, rest_unread}
 use Rattle.x7_forms.proofs.ResultLemmas.{handed_on, from_ok}

@@ -1,7 +1,7 @@
 use Rattle.std.proofs.Common.{◌≡◌, ℕ, List, ◌+◌, ◌≤◌, length, true}
 use Rattle.x7_words.specs.Input.{Stays}
 use Rattle.x7_forms.specs.Turn.{Reads, play_turn_bytes}
-use Rattle.x7_playing.specs.Play.{MayPlay, PlaysOn}
+use Rattle.x7_playing.specs.Playing.{MayPlay, PlaysOn}
 use Rattle.x7_playing.proofs.playing.play_rest.Given as goal
 
 abbrev pub invariant-loop-turn : goal.invariant-loop-turn

@@ -5,7 +5,7 @@ use Rattle.x7_words.specs.Input.{Selects, preceded}
 use Rattle.x7_words.specs.Word.{AreBytes}
 use Rattle.x7_forms.specs.Message.{event_of}
 use Rattle.x7_forms.specs.Known.{read_of, with_inputs}
-use Rattle.x7_playing.specs.Play.{PlaysOn}
+use Rattle.x7_playing.specs.Playing.{PlaysOn}
 use Rattle.x7_forms.specs.Step.{CameIn, IsCaused, step_over}
 use Rattle.x7_forms.proofs.ResultLemmas.{handed_on, err_weaker, ok_weaker, from_ok}
 use Rattle.x7_playing.proofs.PlayerLemmas.{may_less, may_on, on_on}

@@ -2,7 +2,7 @@ use Rattle.std.proofs.Common.{◌≡◌, ℕ, List, ◌+◌, ◌≤◌, drop, le
 use Rattle.x7_words.specs.Input.{AsksFew, Stays}
 use Rattle.x7_forms.specs.Turn.{play_turn_bytes}
 use Rattle.x7_forms.specs.Known.{stream_limit}
-use Rattle.x7_playing.specs.Play.{HasPlayed}
+use Rattle.x7_playing.specs.Playing.{HasPlayed}
 use Rattle.x7_forms.specs.Stop.{limited_together}
 use Rattle.x7_forms.proofs.ReadLemmas.{Rests}
 use Rattle.x7_forms.proofs.StandLemmas.{LimitsFrom}

@@ -1,5 +1,5 @@
 use Rattle.std.proofs.Common.{arith}
-use Rattle.x7_startup.specs.Arrivals.{wait_of}
+use Rattle.x7_startup.specs.Phases.{wait_of}
 use Rattle.x7_startup.proofs.RunLemmas.{ran_stays, ran_moves}
 use Rattle.x7_startup.proofs.phases.pass_ticks.Goals as goal
 

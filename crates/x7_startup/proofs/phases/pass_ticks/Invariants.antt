@@ -1,4 +1,4 @@
-use Rattle.x7_startup.specs.Arrivals.{wait_of}
+use Rattle.x7_startup.specs.Phases.{wait_of}
 use Rattle.x7_startup.proofs.RunLemmas.{Ran}
 use Rattle.x7_startup.proofs.phases.pass_ticks.Given as goal
 

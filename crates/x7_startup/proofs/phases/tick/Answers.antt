@@ -1,5 +1,5 @@
 use Rattle.std.proofs.Common.{arith}
-use Rattle.x7_startup.specs.Arrivals.{wait_of}
+use Rattle.x7_startup.specs.Phases.{wait_of}
 use Rattle.x7_startup.proofs.RunLemmas.{tick_stays, tick_moves}
 use Rattle.x7_startup.proofs.phases.tick.Goals as goal
 

@@ -1,5 +1,5 @@
 use Rattle.std.proofs.Common.{◌≡◌, false, length, ◌++◌, take, drop}
-use Rattle.x7_svf.specs.Comments.{clean_text}
+use Rattle.x7_svf.specs.Comment.{clean_text}
 use Rattle.x7_svf.proofs.comment.clean.Given as goal
 
 abbrev pub invariant-loop-at : goal.invariant-loop-at

@@ -1,8 +1,8 @@
 use Rattle.std.proofs.Common.{◌≡◌, ◌∷◌, ℕ, List, Option, ap, sym, ◌∙◌}
 use Rattle.x7_svf.specs.Fields.{Between, Fields, no_fields, scan_from}
-use Rattle.x7_svf.specs.Pieces.{TextPiece, mark_of}
+use Rattle.x7_svf.specs.Token.{TextPiece, mark_of}
 use Rattle.x7_svf.specs.Source.{pieces_left}
-use Rattle.x7_svf.specs.Spans.{at_of, fields_of}
+use Rattle.x7_svf.specs.Span.{at_of, fields_of}
 use Rattle.x7_svf.specs.Svf.{marks_before}
 use Rattle.x7_svf.proofs.FieldLemmas.{scan_on}
 use Rattle.x7_svf.proofs.ReadingLemmas.{left_stepped, reads_both, reads_token}

@@ -2,7 +2,7 @@ use Rattle.std.proofs.Common.{◌≡◌, length}
 use Rattle.x7_svf.specs.Fields.{Between, no_fields, scan_from}
 use Rattle.x7_svf.specs.Reading.{ReadsOn}
 use Rattle.x7_svf.specs.Source.{pieces_left}
-use Rattle.x7_svf.specs.Spans.{IsWithin, at_of, fields_of}
+use Rattle.x7_svf.specs.Span.{IsWithin, at_of, fields_of}
 use Rattle.x7_svf.specs.Svf.{marks_before}
 use Rattle.x7_svf.proofs.fields.fields.Given as goal
 

@@ -1,10 +1,10 @@
 use Rattle.std.proofs.Common.{◌≡◌, ◌≤◌, ◌+◌, ◌++◌, ℕ, List, [], true, take, drop, length, length-append, refl, ap, sym, subst, ◌∙◌, Some, arith}
 use Rattle.std.proofs.lemmas.List.{drop_all}
 use Rattle.x7_svf.specs.Fields.{Inside, Named, Scanning, after_name, closed_by, are_hex, closed_field, field_by_name}
-use Rattle.x7_svf.specs.Pieces.{token_size}
+use Rattle.x7_svf.specs.Token.{token_size}
 use Rattle.x7_svf.specs.Reading.{StepsOver}
 use Rattle.x7_svf.specs.Source.{SourceState}
-use Rattle.x7_svf.specs.Spans.{AreWithin, IsPlaceWithin, at_of, fields_of, scanning_of}
+use Rattle.x7_svf.specs.Span.{AreWithin, IsPlaceWithin, at_of, fields_of, scanning_of}
 use Rattle.x7_svf.specs.declared.fields.Field.{Field}
 use Rattle.x7_svf.specs.declared.fields.Place.{Place}
 use Rattle.x7_svf.specs.declared.fields.Place.TheVariants as place

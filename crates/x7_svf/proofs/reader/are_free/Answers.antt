@@ -1,6 +1,6 @@
 use Rattle.std.proofs.Common.{◌≡◌, ℕ, List, true, ap, sym, subst, ◌∙◌}
 use Rattle.std.specs.List.{list_all}
-use Rattle.x7_svf.specs.Pieces.{TextPiece, mark_of}
+use Rattle.x7_svf.specs.Token.{TextPiece, mark_of}
 use Rattle.x7_svf.specs.Reading.{StepsOver}
 use Rattle.x7_svf.specs.Source.{left_after}
 use Rattle.x7_svf.specs.Svf.{marks_before}

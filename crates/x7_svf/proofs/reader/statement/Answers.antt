@@ -1,8 +1,8 @@
 use Rattle.std.proofs.Common.{◌≡◌, ◌<◌, ◌≤◌, ◌∷◌, ℕ, List, length, Option, subst, ap, sym, ◌∙◌}
-use Rattle.x7_svf.specs.Pieces.{TextPiece, mark_of, token_size}
+use Rattle.x7_svf.specs.Token.{TextPiece, mark_of, token_size}
 use Rattle.x7_svf.specs.Source.{left_after, pieces_left}
-use Rattle.x7_svf.specs.Spans.{bytes_in}
-use Rattle.x7_svf.specs.Statements.{statement_by, statement_of}
+use Rattle.x7_svf.specs.Span.{bytes_in}
+use Rattle.x7_svf.specs.Statement.{statement_by, statement_of}
 use Rattle.x7_svf.specs.Stored.{IsStored}
 use Rattle.x7_svf.specs.Svf.{marks_before, pieces_after}
 use Rattle.x7_svf.specs.declared.statement.Statement.{Statement}

@@ -1,7 +1,7 @@
 use Rattle.std.proofs.Common.{◌≡◌, ◌≤◌, ◌∷◌, [], ◌++◌, ℕ, List, length, ap, sym, subst, ◌∙◌}
-use Rattle.x7_svf.specs.Pieces.{pieces}
+use Rattle.x7_svf.specs.Token.{pieces}
 use Rattle.x7_svf.specs.Source.{left_after, pieces_left}
-use Rattle.x7_svf.specs.Spans.{StaysKept, bytes_in, words_kept}
+use Rattle.x7_svf.specs.Span.{StaysKept, bytes_in, words_kept}
 use Rattle.x7_svf.specs.Svf.{marks_before, pieces_after}
 use Rattle.x7_svf.specs.Words.{statement_if_words, statement_of_words, words_of}
 use Rattle.x7_svf.specs.declared.token.Token.{Token}

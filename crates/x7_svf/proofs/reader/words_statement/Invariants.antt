@@ -1,7 +1,7 @@
 use Rattle.std.proofs.Common.{◌≡◌, length}
 use Rattle.x7_svf.specs.Reading.{ReadsOn}
 use Rattle.x7_svf.specs.Source.{pieces_left}
-use Rattle.x7_svf.specs.Spans.{AreWordsWithin, words_kept}
+use Rattle.x7_svf.specs.Span.{AreWordsWithin, words_kept}
 use Rattle.x7_svf.specs.Svf.{marks_before}
 use Rattle.x7_svf.specs.Words.{words_of}
 use Rattle.x7_svf.proofs.WordsLemmas.{after_words}

@@ -1,5 +1,5 @@
 use Rattle.std.proofs.Common.{arith, ◌≡◌, ◌∷◌, [], ◌++◌, inr, List, ℕ, length, refl, ap, sym, subst, length-append}
-use Rattle.x7_svf.specs.Pieces.{mark_of}
+use Rattle.x7_svf.specs.Token.{mark_of}
 use Rattle.x7_svf.specs.Source.{left_after, pieces_left}
 use Rattle.x7_svf.specs.Stored.{AreStoredWithin}
 use Rattle.x7_svf.proofs.SvfLemmas.{all_within, one_begins, stored_on}

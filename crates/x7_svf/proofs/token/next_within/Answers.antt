@@ -1,5 +1,5 @@
 use Rattle.std.proofs.Common.{◌≡◌, ◌∷◌, [], MatchOption, Option, ap, sym, subst}
-use Rattle.x7_svf.specs.Pieces.{mark_of}
+use Rattle.x7_svf.specs.Token.{mark_of}
 use Rattle.x7_svf.specs.Source.{left_after, pieces_left}
 use Rattle.x7_svf.specs.Svf.{marks_before}
 use Rattle.x7_svf.specs.declared.token.Token.{Token}

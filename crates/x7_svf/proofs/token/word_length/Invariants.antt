@@ -1,5 +1,5 @@
 use Rattle.std.proofs.Common.{length, ◌-◌, ◌≡◌, ◌<◌, ◌≤◌, ℕ, true, slice_index}
-use Rattle.x7_svf.specs.Pieces.{is_word_byte}
+use Rattle.x7_svf.specs.Token.{is_word_byte}
 use Rattle.x7_svf.proofs.token.word_length.Given as goal
 
 abbrev pub invariant-loop-end : goal.invariant-loop-end

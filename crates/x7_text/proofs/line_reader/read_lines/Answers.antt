@@ -1,5 +1,5 @@
 use Rattle.std.proofs.Common.{[], MatchResult, append-nil, arith, refl, subst, sym}
-use Rattle.x7_text.specs.LineReading.{TakesWhole}
+use Rattle.x7_text.specs.LineReader.{TakesWhole}
 use Rattle.x7_text.specs.Lines.{split}
 use Rattle.x7_text.proofs.LineReadingLemmas.{cut_long, wants_last}
 use Rattle.std.proofs.lemmas.Result.{err_from_is_err_and}

@@ -1,5 +1,5 @@
 use Rattle.std.proofs.Common.{ap}
-use Rattle.x7_report.specs.Report.{PlayTextState}
+use Rattle.x7_report.specs.Reports.{PlayTextState}
 use Rattle.x7_tool.specs.Play.{text_of_play}
 use Rattle.x7_tool.proofs.BootTextLemmas.{boots_as}
 use Rattle.x7_tool.proofs.boot.text_of.Goals as goal

@@ -1,7 +1,7 @@
 use Rattle.std.proofs.Common.{◌∙◌, List, ℕ, ap, subst, arith}
 use Rattle.x7_words.specs.Sink.{PutsPrefix, appended}
 use Rattle.x7_words.proofs.SinkLemmas.{counts_at, counts_on}
-use Rattle.x7_planner.specs.Telling.{TellsMore}
+use Rattle.x7_planner.specs.FullStreamPieces.{TellsMore}
 use Rattle.x7_tool.proofs.FullTextLemmas.{all_prefix, sent_all, sent_more, sent_none, sent_part}
 use Rattle.x7_tool.proofs.full_text.write_pieces.Goals as goal
 

@@ -1,6 +1,6 @@
 use Rattle.std.proofs.Common.{◌≤◌, vec_capacity}
 use Rattle.x7_words.specs.Sink.{Counts}
-use Rattle.x7_planner.specs.Telling.{puts_left, piece_limit}
+use Rattle.x7_planner.specs.FullStreamPieces.{puts_left, piece_limit}
 use Rattle.x7_tool.proofs.FullTextLemmas.{Sent}
 use Rattle.x7_tool.proofs.full_text.write_pieces.Given as goal
 

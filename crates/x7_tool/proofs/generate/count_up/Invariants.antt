@@ -1,5 +1,5 @@
 use Rattle.std.proofs.Common.{◌≡◌, ◌+◌, ◌%◌, ◌^◌, length, take}
-use Rattle.x7_tool.specs.Generated.{counted}
+use Rattle.x7_tool.specs.Generate.{counted}
 use Rattle.x7_tool.proofs.generate.count_up.Given as goal
 
 abbrev pub invariant-loop-i : goal.invariant-loop-i

@@ -1,5 +1,5 @@
 use Rattle.std.proofs.Common.{ap, refl, sym, subst}
-use Rattle.x7_memory.specs.Planned.{AreAddressed, PlanData}
+use Rattle.x7_memory.specs.Plan.{AreAddressed, PlanData}
 use Rattle.x7_planner.specs.FullStream.{full_stream}
 use Rattle.x7_tool.proofs.GenerateLemmas.{few_reads, gen_is, generated_addressed, planned_is}
 use Rattle.x7_forms.proofs.ResultLemmas.{ok_weaker}

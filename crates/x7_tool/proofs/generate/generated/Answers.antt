@@ -1,8 +1,8 @@
 use Rattle.std.proofs.Common.{◌≡◌, ◌≤◌, ◌++◌, ℕ, List, length, drop, ◌+◌, subst, sym, ap, ◌∙◌, arith}
 use Rattle.x7_part.specs.AddressOrder.{addresses_in}
 use Rattle.x7_part.specs.Part.{frame_words}
-use Rattle.x7_memory.specs.Planned.{AreApart, PlanRow}
-use Rattle.x7_tool.specs.Generated.{generated, row_by, rows_after}
+use Rattle.x7_memory.specs.Plan.{AreApart, PlanRow}
+use Rattle.x7_tool.specs.Generate.{generated, row_by, rows_after}
 use Rattle.x7_tool.proofs.GenerateLemmas.{plan_is, rows_all, rows_apart, rows_more}
 use Rattle.x7_tool.proofs.generate.generated.Goals as goal
 

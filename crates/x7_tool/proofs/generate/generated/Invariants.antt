@@ -1,7 +1,7 @@
 use Rattle.std.proofs.Common.{◌≡◌, ◌≤◌, ◌++◌, length, drop}
 use Rattle.x7_part.specs.AddressOrder.{addresses_in}
 use Rattle.x7_part.specs.Part.{frame_words}
-use Rattle.x7_tool.specs.Generated.{generated, rows_after}
+use Rattle.x7_tool.specs.Generate.{generated, rows_after}
 use Rattle.x7_tool.proofs.generate.generated.Given as goal
 
 abbrev pub invariant-loop-rank : goal.invariant-loop-rank

@@ -1,7 +1,7 @@
 use Rattle.std.proofs.Common.{◌≡◌, ◌+◌, ◌^◌, ◌≤◌, ℕ, List, [], length, refl, ap, subst, ◌∙◌, arith}
 use Rattle.x7_planner.specs.FullStream.{full_stream}
-use Rattle.x7_planner.specs.Telling.{TellsMore}
-use Rattle.x7_playing.specs.Play.{HasPlayed}
+use Rattle.x7_planner.specs.FullStreamPieces.{TellsMore}
+use Rattle.x7_playing.specs.Playing.{HasPlayed}
 use Rattle.x7_tool.proofs.GenerateLemmas.{along, piece_fits}
 use Rattle.x7_tool.proofs.generate.play_all.Goals as goal
 

@@ -1,4 +1,4 @@
-use Rattle.x7_planner.specs.Telling.{puts_left}
+use Rattle.x7_planner.specs.FullStreamPieces.{puts_left}
 use Rattle.x7_tool.proofs.GenerateLemmas.{PlaysAlong}
 use Rattle.x7_tool.proofs.generate.play_all.Given as goal
 

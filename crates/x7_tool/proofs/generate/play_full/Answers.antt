@@ -1,6 +1,6 @@
 use Rattle.std.proofs.Common.{length, ap, subst, ◌∙◌}
 use Rattle.x7_planner.specs.FullStream.{full_stream}
-use Rattle.x7_playing.specs.Play.{HasPlayed}
+use Rattle.x7_playing.specs.Playing.{HasPlayed}
 use Rattle.x7_tool.proofs.GenerateLemmas.{no_fault}
 use Rattle.x7_tool.proofs.generate.play_full.Goals as goal
 

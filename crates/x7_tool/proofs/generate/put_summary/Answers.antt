@@ -1,5 +1,5 @@
 use Rattle.std.proofs.Common.{◌++◌, ℕ, codes, ap, ◌∙◌}
-use Rattle.x7_tool.specs.Generated.{count_line}
+use Rattle.x7_tool.specs.Generate.{count_line}
 use Rattle.x7_tool.proofs.GenerateLemmas.{summary_put}
 use Rattle.x7_tool.proofs.generate.put_summary.Goals as goal
 

@@ -3,7 +3,7 @@ use Rattle.x7_memory.specs.FrameMap.{AreSame, FrameMap}
 use Rattle.x7_memory.specs.Frames.{frame_at}
 use Rattle.x7_engine.specs.declared.regs.Regs.{Regs}
 use Rattle.x7_engine.specs.Kept.{on_the_bench}
-use Rattle.x7_playing.specs.Play.{play_state}
+use Rattle.x7_playing.specs.Playing.{play_state}
 use Rattle.x7_tool.proofs.GenerateLemmas.{summary_is, sure}
 use Rattle.x7_playing.proofs.PlayerLemmas.{played_all}
 use Rattle.x7_tool.proofs.generate.summarized.Goals as goal

@@ -8,7 +8,7 @@ use Rattle.x7_forms.proofs.ReadLemmas.{answers_end, answers_stop}
 use Rattle.x7_forms.proofs.ResultLemmas.{handed_on, err_weaker}
 use Rattle.x7_tool.specs.Outcome.{ImageStreams, image_by, image_streams}
 use Rattle.x7_tool.specs.Ready.{text_of_bytes}
-use Rattle.x7_tool.specs.Streamed.{streams_of}
+use Rattle.x7_tool.specs.Stream.{streams_of}
 use Rattle.x7_tool.proofs.ReadyLemmas.{image_due, streams_steady}
 use Rattle.x7_tool.proofs.StopLemmas.{result_stops, among_stops, second_stops}
 use Rattle.x7_tool.proofs.image.image.Goals as goal

@@ -11,7 +11,7 @@ use Rattle.x7_forms.proofs.ResultLemmas.{handed_on, err_weaker}
 use Rattle.x7_forms.proofs.StandLemmas.{stops_after, no_part_about}
 use Rattle.x7_tool.specs.Outcome.{ImageStreams, image_by, image_streams}
 use Rattle.x7_tool.specs.Ready.{text_of_bytes}
-use Rattle.x7_tool.specs.Streamed.{streams_of}
+use Rattle.x7_tool.specs.Stream.{streams_of}
 use Rattle.x7_tool.proofs.ReadyLemmas.{image_due, streams_steady}
 use Rattle.x7_tool.proofs.StopLemmas.{first_asked, result_stops, third_stops, among_stops, first_stops}
 use Rattle.x7_tool.proofs.image.image_for.Goals as goal

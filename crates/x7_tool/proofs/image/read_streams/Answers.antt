@@ -4,7 +4,7 @@ use Rattle.x7_forms.specs.Message.{event_of}
 use Rattle.x7_forms.specs.Known.{and_so, stream_limit}
 use Rattle.x7_forms.proofs.ReadLemmas.{answers_end, answers_go, answers_stop, first_of}
 use Rattle.x7_tool.specs.Outcome.{ImageStreams, stream_data}
-use Rattle.x7_tool.specs.Streamed.{data_from}
+use Rattle.x7_tool.specs.Stream.{data_from}
 use Rattle.x7_tool.proofs.DebugLemmas.{stream_steady}
 use Rattle.x7_forms.proofs.StandLemmas.{about_among, unplayed_about}
 use Rattle.x7_tool.proofs.StopLemmas.{both_asked}

@@ -1,10 +1,10 @@
 use Rattle.std.proofs.Common.{false, refl, inr, ap, sym, ◌∙◌, Ok}
 use Rattle.x7_engine.specs.Kept.{on_the_bench}
-use Rattle.x7_report.specs.Report.{PlayTextState}
+use Rattle.x7_report.specs.Reports.{PlayTextState}
 use Rattle.x7_tool.specs.Play.{text_of_play}
 use Rattle.x7_tool.proofs.PlayLemmas.{reported_is, reported_over}
 use Rattle.x7_playing.proofs.PlayerLemmas.{is_over, not_over, played_all}
-use Rattle.x7_playing.specs.Play.{play_state}
+use Rattle.x7_playing.specs.Playing.{play_state}
 use Rattle.x7_tool.proofs.play.text_of.Goals as goal
 
 pub returns-then-player-clause-err : goal.returns-then-player-clause-err

@@ -4,7 +4,7 @@ use Rattle.x7_part.specs.Part.{PartData}
 use Rattle.x7_engine.specs.Kept.{on_the_bench}
 use Rattle.x7_engine.specs.Standing.{DeviceStandsFor}
 use Rattle.x7_jtag.specs.Play.{clocks_played}
-use Rattle.x7_jtag.specs.PlayLine.{play_text}
+use Rattle.x7_jtag.specs.Text.{play_text}
 use Rattle.x7_jtag.specs.Shown.{bytes_taken}
 use Rattle.x7_jtag.specs.Tap.{TapStandsFor}
 use Rattle.x7_jtag.proofs.LawLemmas.{device_is}

@@ -13,7 +13,7 @@ use Rattle.x7_forms.specs.Message.{event_of}
 use Rattle.x7_forms.specs.Step.{CameIn, step_over}
 use Rattle.x7_tool.specs.Outside.{Outside, sources}
 use Rattle.x7_tool.specs.Run.{EndsAs}
-use Rattle.x7_tool.specs.Streamed.{data_from}
+use Rattle.x7_tool.specs.Stream.{data_from}
 use Rattle.x7_tool.proofs.UpdateLemmas.{cause_from, data_given, done_ends, fault_ends, keeps_all, refused_ends, rest_of, unopened_last, unopened_measured, unopened_over, unplayed_last, unplayed_measured, unread_over, uses_opened, uses_updated}
 use Rattle.x7_tool.proofs.StopLemmas.{stream_judges, unopened_judges, updated_judges, unopened_stops, updated_stops, first_stops}
 use Rattle.x7_forms.specs.Stop.{limited}

@@ -1,6 +1,6 @@
 use Rattle.std.proofs.Common.{◌≡◌, ℕ, ◌+◌, ◌<◌, length, get_or, slice_range, zero-add, ap, subst, ◌∙◌, arith}
 use Rattle.x7_words.proofs.FlashLemmas.{get_or_slice_range}
-use Rattle.x7_update.specs.Refused.{NoLayoutAt}
+use Rattle.x7_update.specs.Fault.{NoLayoutAt}
 use Rattle.x7_update.specs.Slots.{Finds, TargetFits}
 use Rattle.x7_update.proofs.KnownLemmas.{known_at, known_all}
 use Rattle.x7_update.proofs.SlotLemmas.{target_fits}

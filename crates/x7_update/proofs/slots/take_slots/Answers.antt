@@ -1,5 +1,5 @@
 use Rattle.std.proofs.Common.{ℕ, ◌<◌, IfErr, rules}
-use Rattle.x7_update.specs.Refused.{IsBadSlotAt, IsGoodSlot}
+use Rattle.x7_update.specs.Fault.{IsBadSlotAt, IsGoodSlot}
 use Rattle.x7_update.proofs.KnownLemmas.{if_err_map}
 use Rattle.x7_update.proofs.SlotLemmas.{so_far_good}
 use Rattle.x7_update.proofs.slots.take_slots.Goals as goal

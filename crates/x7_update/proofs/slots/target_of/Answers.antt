@@ -1,7 +1,7 @@
 use Rattle.std.proofs.Common.{◌≡◌, ◌<◌, ℕ, IfErr, refl, ap, rules, subst, ◌∙◌}
 use Rattle.x7_words.specs.Word.{word_of_bytes}
 use Rattle.x7_update.specs.Layout.{CanStandAt, update_place}
-use Rattle.x7_update.specs.Refused.{IsBadSlotAt, IsGoodSlot, NoLayoutAt, bad_slot}
+use Rattle.x7_update.specs.Fault.{IsBadSlotAt, IsGoodSlot, NoLayoutAt, bad_slot}
 use Rattle.x7_update.proofs.KnownLemmas.{if_err_map}
 use Rattle.x7_update.proofs.SlotLemmas.{all_found, none_free}
 use Rattle.x7_update.proofs.slots.target_of.Goals as goal

@@ -5,7 +5,7 @@ use Rattle.x7_words.specs.Word.{AreBytes}
 use Rattle.x7_update.specs.After.{IsBetween, MayBeLeft, untouched}
 use Rattle.x7_update.specs.Layout.{CanStandAt, HasLayout, HasSize, IsClosed, IsFree}
 use Rattle.x7_update.specs.ReadBack.{OpensReadBack, ReadBack, WasReady}
-use Rattle.x7_update.specs.Refused.{CanTake, IsTooLong}
+use Rattle.x7_update.specs.Fault.{CanTake, IsTooLong}
 use Rattle.x7_update.specs.Slots.{Finds, TargetFits}
 use Rattle.x7_update.specs.Writing.{HasWanted, OpeningSlot, Replaced, ReplacingUpdate, StaysBytes}
 use Rattle.x7_update.specs.declared.fault.UpdateFault.TheVariants.{Failed, TooLong}

@@ -1,5 +1,5 @@
 use Rattle.std.proofs.Common.{List, ℕ, length, refl, subst, sym}
-use Rattle.x7_crc.specs.Checking.{CheckerState, Keeps}
+use Rattle.x7_crc.specs.Checker.{CheckerState, Keeps}
 use Rattle.x7_crc.proofs.CheckerLemmas.{caught_up}
 use Rattle.x7_crc.proofs.checker.Checker.check_of.Goals as goal
 

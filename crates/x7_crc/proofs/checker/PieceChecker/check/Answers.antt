@@ -1,5 +1,5 @@
 use Rattle.std.proofs.Common.{subst, sym}
-use Rattle.x7_crc.specs.Checking.{HasTaken}
+use Rattle.x7_crc.specs.Checker.{HasTaken}
 use Rattle.x7_crc.proofs.checker.PieceChecker.check.Goals as goal
 
 pub returns-clause-value : goal.returns-clause-value

@@ -1,5 +1,5 @@
 use Rattle.std.proofs.Common.{◌≡◌, ◌+◌, ◌<◌, ◌≤◌, ℕ, sym, subst, arith}
-use Rattle.x7_startup.specs.Count.{WatchesFor}
+use Rattle.x7_startup.specs.Watchdog.{WatchesFor}
 use Rattle.x7_engine.specs.Clock.{newest_place}
 use Rattle.x7_engine.specs.Startup.{has_ended}
 use Rattle.x7_engine.specs.Kept.{is_fallback}

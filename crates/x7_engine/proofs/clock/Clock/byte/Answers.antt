@@ -1,6 +1,6 @@
 use Rattle.std.proofs.Common.{◌≡◌, ◌+◌, ◌≤◌, ℕ}
 use Rattle.x7_packets.specs.History.{History}
-use Rattle.x7_startup.specs.Calls.{StandsFor}
+use Rattle.x7_startup.specs.Startup.{StandsFor}
 use Rattle.x7_engine.specs.declared.kept.Kept.{Kept}
 use Rattle.x7_engine.specs.Clock.{IsClock, clock_in, newest_place}
 use Rattle.x7_engine.specs.Kept.{is_fallback}

@@ -1,5 +1,5 @@
 use Rattle.std.proofs.Common.{◌≡◌, ap, ◌∙◌}
-use Rattle.x7_startup.specs.Calls.{cor0_of}
+use Rattle.x7_startup.specs.Startup.{cor0_of}
 use Rattle.x7_startup.specs.Lines.{done_line, gts_line, gwe_line}
 use Rattle.x7_engine.specs.Startup.{phase_of, startup_calls, startup_progress}
 use Rattle.x7_engine.proofs.ClockLemmas.{phase_by_clock}

@@ -1,5 +1,5 @@
 use Rattle.std.proofs.Common.{ℕ, Bool, [], subst}
-use Rattle.x7_startup.specs.Count.{WatchesFor}
+use Rattle.x7_startup.specs.Watchdog.{WatchesFor}
 use Rattle.x7_engine.specs.Kept.{is_fallback}
 use Rattle.x7_engine.proofs.clock.Clock.new.Goals as goal
 

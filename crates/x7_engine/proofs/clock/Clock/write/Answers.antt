@@ -1,8 +1,8 @@
 use Rattle.std.proofs.Common.{subst}
 use Rattle.x7_packets.specs.History.{Access, Write}
 use Rattle.x7_regs.specs.Register.{number_of}
-use Rattle.x7_startup.specs.Calls.{StandsFor}
-use Rattle.x7_startup.specs.Count.{WatchesFor}
+use Rattle.x7_startup.specs.Startup.{StandsFor}
+use Rattle.x7_startup.specs.Watchdog.{WatchesFor}
 use Rattle.x7_engine.specs.Kept.{is_fallback}
 use Rattle.x7_engine.specs.Startup.{startup_calls}
 use Rattle.x7_engine.specs.Watching.{watch_calls}

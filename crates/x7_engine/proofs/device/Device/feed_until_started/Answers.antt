@@ -6,7 +6,7 @@ use Rattle.x7_engine.specs.declared.stop.Stop.{Stop}
 use Rattle.x7_engine.specs.ReadBuffer.{with_words}
 use Rattle.x7_engine.specs.Past.{Answers, AnswersUntil, past_of}
 use Rattle.x7_engine.specs.Standing.{DeviceStandsFor, DeviceState, NoWordDue, taken_in, reads_given}
-use Rattle.x7_engine.specs.Stops.{stopped_at}
+use Rattle.x7_engine.specs.Stop.{stopped_at}
 use Rattle.x7_engine.specs.UntilStarted.{NoneStarted, has_started, says_started, taken_until}
 use Rattle.x7_engine.proofs.FeedLemmas.{answers_stop, now_given, read_here, stands_on, taken_by_stop, words_none}
 use Rattle.x7_engine.proofs.UntilLemmas.{answers_until, count_is, none_on, says_answer}

@@ -1,6 +1,6 @@
 use Rattle.std.proofs.Common.{◌≡◌, ◌+◌, ◌-◌, ◌^◌, ◌≤◌, ◌++◌, ℕ, List, length, take, true, if◌then◌else◌, Bool}
 use Rattle.std.specs.Option.{is_some}
-use Rattle.x7_packets.specs.Cutting.{calls_left}
+use Rattle.x7_packets.specs.Cutter.{calls_left}
 use Rattle.x7_part.specs.Part.{PartData}
 use Rattle.x7_engine.specs.UntilRead.{RoomBefore}
 use Rattle.x7_engine.specs.declared.kept.Kept.{Kept}

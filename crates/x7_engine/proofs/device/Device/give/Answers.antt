@@ -1,7 +1,7 @@
 use Rattle.std.proofs.Common.{◌≡◌, None, sym, subst, ap, ◌∙◌, length}
 use Rattle.x7_packets.specs.History.{History}
 use Rattle.x7_part.specs.Part.{PartData}
-use Rattle.x7_engine.specs.Fields.{device_in}
+use Rattle.x7_engine.specs.DeviceFields.{device_in}
 use Rattle.x7_engine.specs.Past.{Past, past_of}
 use Rattle.x7_engine.specs.Readout.{Gives}
 use Rattle.x7_engine.specs.Standing.{DeviceStandsFor, DeviceState, registers_in}

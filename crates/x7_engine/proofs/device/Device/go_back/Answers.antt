@@ -1,7 +1,7 @@
 use Rattle.std.proofs.Common.{◌≡◌, ap, sym, subst, ◌∙◌}
 use Rattle.x7_part.specs.Part.{PartData}
-use Rattle.x7_pipeline.specs.Saving.{SavedState}
-use Rattle.x7_flow.specs.Saving.{FramesBack}
+use Rattle.x7_pipeline.specs.Saved.{SavedState}
+use Rattle.x7_flow.specs.Saved.{FramesBack}
 use Rattle.x7_flow.specs.Standing.{FramesFit, FramesState}
 use Rattle.x7_engine.specs.Standing.{DeviceState, registers_in}
 use Rattle.x7_engine.specs.Undo.{Back, UndoState}

@@ -6,7 +6,7 @@ use Rattle.x7_engine.specs.declared.due.Due.{Due}
 use Rattle.x7_engine.specs.Kept.{on_the_bench}
 use Rattle.x7_engine.specs.Past.{past_of}
 use Rattle.x7_engine.specs.Standing.{DeviceStandsFor, due_count, registers_in, words_left}
-use Rattle.x7_engine.specs.Stops.{stopped_at}
+use Rattle.x7_engine.specs.Stop.{stopped_at}
 use Rattle.x7_engine.proofs.device.Device.new.Goals as goal
 
 -- the device that took nothing

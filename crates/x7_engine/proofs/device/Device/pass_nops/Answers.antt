@@ -1,6 +1,6 @@
 use Rattle.std.proofs.Common.{◌≡◌, ◌+◌, ◌-◌, ◌*◌, ◌≤◌, ◌++◌, ℕ, Bool, List, length, take, drop, refl, sym, ap, subst, ◌∙◌, arith, length-drop, rules}
 use Rattle.std.proofs.lemmas.List.{take_rest}
-use Rattle.x7_packets.specs.Cutting.{between}
+use Rattle.x7_packets.specs.Cutter.{between}
 use Rattle.x7_packets.specs.History.{history_of}
 use Rattle.x7_packets.specs.Nops.{Idles}
 use Rattle.x7_part.specs.Part.{PartData}

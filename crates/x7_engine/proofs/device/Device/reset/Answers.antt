@@ -5,7 +5,7 @@ use Rattle.x7_flow.specs.Standing.{FramesFit}
 use Rattle.x7_engine.specs.declared.due.Due.{Due}
 use Rattle.x7_engine.specs.Past.{past_of}
 use Rattle.x7_engine.specs.Standing.{DeviceStandsFor, DeviceState, due_count, registers_in, words_left}
-use Rattle.x7_engine.specs.Stops.{stopped_at}
+use Rattle.x7_engine.specs.Stop.{stopped_at}
 use Rattle.x7_engine.proofs.device.Device.reset.Goals as goal
 
 -- the device that took nothing

@@ -10,8 +10,8 @@ use Rattle.x7_flow.specs.Standing.{less}
 use Rattle.x7_engine.specs.Standing.{DeviceStandsFor, DeviceState, RegistersStandFor, frames_due, registers_in}
 use Rattle.x7_engine.specs.Startup.{phase_by, startup_progress}
 use Rattle.x7_engine.specs.State.{history_taken, why_of, state_of, state_owing, stop_in, taken_of}
-use Rattle.x7_engine.specs.Stops.{stop_fault}
-use Rattle.x7_engine.specs.Values.{lines_by, register_value}
+use Rattle.x7_engine.specs.Stop.{stop_fault}
+use Rattle.x7_engine.specs.Value.{lines_by, register_value}
 use Rattle.x7_engine.proofs.FrameLemmas.{none_frames}
 use Rattle.x7_engine.proofs.StateLemmas.{why_is, state_now, taken_is}
 use Rattle.x7_engine.proofs.device.Device.state.Goals as goal

@@ -1,6 +1,6 @@
 use Rattle.std.proofs.Common.{◌≡◌, ◌-◌, ◌++◌, ℕ, true, false, List, length, Option, sym, ap, subst, ◌∙◌, append_assoc, arith, rules}
 use Rattle.std.specs.Option.{is_some}
-use Rattle.x7_packets.specs.Cutting.{CutterState, between, calls_left}
+use Rattle.x7_packets.specs.Cutter.{CutterState, between, calls_left}
 use Rattle.x7_engine.specs.declared.stop.Stop.{Stop}
 use Rattle.x7_engine.specs.Standing.{DeviceStandsFor, reads_given}
 use Rattle.x7_engine.specs.Turns.{TakesTurn}

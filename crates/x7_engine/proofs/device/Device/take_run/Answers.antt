@@ -1,5 +1,5 @@
 use Rattle.std.proofs.Common.{◌≡◌, ◌+◌, ◌-◌, ◌<◌, ◌≤◌, ◌++◌, ℕ, true, false, List, [], length, drop, None, refl, sym, ap, subst, ◌∙◌, arith, length-drop, Bool, rules}
-use Rattle.x7_packets.specs.Cutting.{ComesNearer, IsNeed, between, calls_left}
+use Rattle.x7_packets.specs.Cutter.{ComesNearer, IsNeed, between, calls_left}
 use Rattle.x7_packets.specs.declared.cutter.Cut.{Cut}
 use Rattle.x7_packets.specs.declared.cutter.Cut.TheVariants.{Body, Head, Need, Skip, Sync, Word}
 use Rattle.x7_part.specs.Part.{PartData}

@@ -1,5 +1,5 @@
 use Rattle.std.proofs.Common.{◌≡◌, ◌+◌, ◌∷◌, ◌++◌, ℕ, Bool, List, refl, sym, ap, subst, ◌∙◌, rules}
-use Rattle.x7_packets.specs.Cutting.{between}
+use Rattle.x7_packets.specs.Cutter.{between}
 use Rattle.x7_packets.specs.History.{Write, entry}
 use Rattle.x7_part.specs.Part.{PartData}
 use Rattle.x7_engine.specs.declared.kept.Kept.{Kept}

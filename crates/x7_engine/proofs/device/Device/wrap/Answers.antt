@@ -1,5 +1,5 @@
 use Rattle.std.proofs.Common.{true}
-use Rattle.x7_engine.specs.Fields.{device_in}
+use Rattle.x7_engine.specs.DeviceFields.{device_in}
 use Rattle.x7_engine.specs.Past.{Past, past_of}
 use Rattle.x7_engine.proofs.PastLemmas.{stands_wrapped}
 use Rattle.x7_engine.proofs.device.Device.wrap.Goals as goal

@@ -1,5 +1,5 @@
 use Rattle.std.proofs.Common.{ℕ, sym, ap, ◌∷◌, [], ◌∙◌}
-use Rattle.x7_crc.specs.RunningCheck.{check_after}
+use Rattle.x7_crc.specs.Check.{check_after}
 use Rattle.x7_engine.proofs.PlainLemmas.{AreFlags, IsPlain, clears_none, flags_more, plain_is}
 use Rattle.x7_engine.proofs.progress.Progress.pass.Goals as goal
 use Rattle.x7_crc.proofs.CheckerLemmas.{check_folded}

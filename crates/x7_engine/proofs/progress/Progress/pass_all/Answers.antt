@@ -1,7 +1,7 @@
 use Rattle.std.proofs.Common.{ℕ, List, sym, ap, ◌∙◌}
 use Rattle.x7_words.specs.Word.{words_of_bytes}
 use Rattle.x7_packets.specs.History.{History}
-use Rattle.x7_crc.specs.RunningCheck.{check_after, writes_to}
+use Rattle.x7_crc.specs.Check.{check_after, writes_to}
 use Rattle.x7_engine.proofs.PlainLemmas.{AreFlags, IsQuiet, clears_none, flags_stay, quiet_is}
 use Rattle.x7_engine.proofs.RunningLemmas.{check_all_folded}
 use Rattle.x7_engine.proofs.progress.Progress.pass_all.Goals as goal

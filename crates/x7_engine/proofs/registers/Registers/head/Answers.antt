@@ -5,7 +5,7 @@ use Rattle.x7_flow.proofs.TakenLemmas.{other_access}
 use Rattle.x7_engine.specs.declared.fault.Fault.TheVariants as fault
 use Rattle.x7_engine.specs.declared.stop.Stop.TheVariants as stop
 use Rattle.x7_engine.specs.Standing.{registers_in}
-use Rattle.x7_engine.specs.Stops.{stop_of, stopped_at}
+use Rattle.x7_engine.specs.Stop.{stop_of, stopped_at}
 use Rattle.x7_engine.proofs.ClockLemmas.{stop_of_access}
 use Rattle.x7_engine.proofs.FrameLemmas.{frames_none_at, standing_frames, none_among}
 use Rattle.x7_engine.proofs.PlainLemmas.{clock_other}

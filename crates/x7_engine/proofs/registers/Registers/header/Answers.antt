@@ -1,7 +1,7 @@
 use Rattle.std.proofs.Common.{◌≡◌, ◌+◌, ◌-◌, ◌++◌, ℕ, sym, ap, subst, ◌∙◌, arith}
 use Rattle.x7_packets.specs.History.{History, entered, until}
 use Rattle.x7_engine.specs.Standing.{RegistersStandFor, counted_in, due_count, registers_in, words_left}
-use Rattle.x7_engine.specs.Values.{read_out}
+use Rattle.x7_engine.specs.Value.{read_out}
 use Rattle.x7_engine.proofs.TurnLemmas.{all_counted, fired_until, next_at, none_there, until_all}
 use Rattle.x7_engine.proofs.FrameLemmas.{none_due}
 use Rattle.x7_engine.proofs.registers.Registers.header.Goals as goal

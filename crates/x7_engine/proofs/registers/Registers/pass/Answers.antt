@@ -3,7 +3,7 @@ use Rattle.x7_packets.specs.History.{Write, entry}
 use Rattle.x7_flow.proofs.TakenLemmas.{other_access}
 use Rattle.x7_engine.specs.declared.stop.Stop.{Stop}
 use Rattle.x7_engine.specs.Standing.{counted_in, registers_in}
-use Rattle.x7_engine.specs.Stops.{stop_of, stopped_at}
+use Rattle.x7_engine.specs.Stop.{stop_of, stopped_at}
 use Rattle.x7_engine.proofs.ClockLemmas.{stop_of_access}
 use Rattle.x7_engine.proofs.FrameLemmas.{frames_none, standing_frames, none_among}
 use Rattle.x7_engine.proofs.PlainLemmas.{IsPlain, clock_plain, why_none, plain_asks, plain_is}

@@ -11,8 +11,8 @@ use Rattle.x7_engine.specs.Course.{course_at}
 use Rattle.x7_engine.specs.declared.kept.Kept.{Kept}
 use Rattle.x7_engine.specs.declared.stop.Stop.{Stop}
 use Rattle.x7_engine.specs.Standing.{FramesAre, frames_due, registers_in}
-use Rattle.x7_engine.specs.Stops.{why_by_frames, why_at, stop_by, stop_of, stopped_at}
-use Rattle.x7_engine.specs.Values.{answer_of, read_value, words_answered}
+use Rattle.x7_engine.specs.Stop.{why_by_frames, why_at, stop_by, stop_of, stopped_at}
+use Rattle.x7_engine.specs.Value.{answer_of, read_value, words_answered}
 use Rattle.x7_engine.proofs.ClockLemmas.{stop_of_access}
 use Rattle.x7_engine.proofs.FrameLemmas.{frames_at, goes_on, none_among, none_frames, none_left, refused, standing_frames}
 use Rattle.x7_engine.proofs.PlainLemmas.{clock_other}

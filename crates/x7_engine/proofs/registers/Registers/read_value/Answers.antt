@@ -2,8 +2,8 @@ use Rattle.std.proofs.Common.{ℕ, Option, false, ap, ◌∙◌}
 use Rattle.x7_regs.specs.declared.register.Reg.{Reg}
 use Rattle.x7_engine.specs.Course.{course_at}
 use Rattle.x7_engine.specs.declared.stop.Stop.{Stop}
-use Rattle.x7_engine.specs.Stops.{stop_fault}
-use Rattle.x7_engine.specs.Values.{register_value, value_or_zero, value_owing}
+use Rattle.x7_engine.specs.Stop.{stop_fault}
+use Rattle.x7_engine.specs.Value.{register_value, value_or_zero, value_owing}
 use Rattle.x7_engine.proofs.FrameLemmas.{none_frames, value_now}
 use Rattle.x7_engine.proofs.registers.Registers.read_value.Goals as goal
 

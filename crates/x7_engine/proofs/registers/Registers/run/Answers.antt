@@ -1,12 +1,12 @@
 use Rattle.std.proofs.Common.{◌≡◌, ◌+◌, ◌-◌, ◌<◌, ◌∷◌, ℕ, List, length, sym, ap, subst, ◌∙◌, arith}
 use Rattle.x7_words.specs.Word.{words_of_bytes}
-use Rattle.x7_packets.specs.Cutting.{IsRun}
+use Rattle.x7_packets.specs.Cutter.{IsRun}
 use Rattle.x7_packets.specs.declared.cutter.Cut.{Cut}
 use Rattle.x7_packets.specs.declared.cutter.Cut.TheVariants.{Body, Word}
 use Rattle.x7_packets.specs.History.{History, Write, entered_all, entry, until}
 use Rattle.x7_packets.specs.Packet.{payload_steps}
 use Rattle.x7_engine.specs.Standing.{EndsWords, RegistersStandFor, counted_in, due_count, registers_in}
-use Rattle.x7_engine.specs.Values.{read_out}
+use Rattle.x7_engine.specs.Value.{read_out}
 use Rattle.x7_engine.proofs.TurnLemmas.{counted_more, quiet_until, write_until, writes_until}
 use Rattle.x7_engine.proofs.FrameLemmas.{none_due}
 use Rattle.x7_engine.proofs.registers.Registers.run.Goals as goal

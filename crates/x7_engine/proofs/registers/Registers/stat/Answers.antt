@@ -2,12 +2,12 @@ use Rattle.std.proofs.Common.{◌≡◌, ◌==◌, ℕ, Bool, not, Option, refl,
 use Rattle.std.specs.Prelude.{nat_le}
 use Rattle.x7_part.specs.Part.{PartData}
 use Rattle.x7_regs.specs.Status.{status_of}
-use Rattle.x7_startup.specs.Calls.{StartupProgress, ticks_of}
+use Rattle.x7_startup.specs.Startup.{StartupProgress, ticks_of}
 use Rattle.x7_startup.specs.declared.lines.Lines.{Lines}
 use Rattle.x7_engine.specs.declared.fault.Fault.{Fault}
 use Rattle.x7_engine.specs.Startup.{phase_by, startup_progress}
-use Rattle.x7_engine.specs.Stops.{stop_fault}
-use Rattle.x7_engine.specs.Values.{is_crc_fault, is_id_fault, lines_by, stat_parts}
+use Rattle.x7_engine.specs.Stop.{stop_fault}
+use Rattle.x7_engine.specs.Value.{is_crc_fault, is_id_fault, lines_by, stat_parts}
 use Rattle.x7_engine.proofs.registers.Registers.stat.Goals as goal
 
 -- what is told, by each of its parts

@@ -1,8 +1,8 @@
 use Rattle.std.proofs.Common.{false, ap, ◌∙◌}
 use Rattle.x7_regs.specs.BootStatus.{boot_status_of}
 use Rattle.x7_regs.specs.declared.boot_status.Attempt.{Attempt}
-use Rattle.x7_engine.specs.Stops.{stop_fault}
-use Rattle.x7_engine.specs.Values.{attempt_of}
+use Rattle.x7_engine.specs.Stop.{stop_fault}
+use Rattle.x7_engine.specs.Value.{attempt_of}
 use Rattle.x7_engine.proofs.registers.Registers.value.Goals as goal
 
 pub returns-in-Bootsts : goal.returns-in-Bootsts

@@ -5,7 +5,7 @@ use Rattle.x7_engine.specs.Registers.{takes_shutdown}
 use Rattle.x7_part.specs.Part.{PartData}
 use Rattle.x7_flow.specs.Standing.{FramesStandFor}
 use Rattle.x7_engine.specs.Standing.{AreLastWords, FramesAre, IsProgress, progress_in}
-use Rattle.x7_engine.specs.Stops.{stop_of, stopped_at}
+use Rattle.x7_engine.specs.Stop.{stop_of, stopped_at}
 use Rattle.x7_engine.proofs.ClockLemmas.{stop_of_access}
 use Rattle.x7_engine.proofs.FrameLemmas.{access_frames, why_is, none_frames, standing_frames, none_among}
 use Rattle.x7_engine.proofs.registers.Registers.write.Goals as goal

@@ -1,5 +1,5 @@
 use Rattle.std.proofs.Common.{sym, subst}
-use Rattle.x7_flow.specs.Saving.{FramesBack}
+use Rattle.x7_flow.specs.Saved.{FramesBack}
 use Rattle.x7_flow.specs.Standing.{FramesState}
 use Rattle.x7_flow.proofs.SavingLemmas.{back_is}
 use Rattle.x7_flow.proofs.frames.Frames.restore.Goals as goal

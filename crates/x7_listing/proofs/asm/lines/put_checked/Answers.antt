@@ -1,5 +1,5 @@
 use Rattle.std.proofs.Common.{◌≡◌, ◌-◌, IsTrue, List, ℕ, ap, drop, length, subst, take, ◌∙◌}
-use Rattle.x7_crc.specs.Checking.{check_of_bytes, Keeps}
+use Rattle.x7_crc.specs.Checker.{check_of_bytes, Keeps}
 use Rattle.x7_text.specs.Reads.{Reads}
 use Rattle.x7_listing.specs.Line.{line_bytes, FitsLine, text_of}
 use Rattle.x7_listing.proofs.asm.AsmLinesLemmas.{keeps_begun, reads_any, still_begun}

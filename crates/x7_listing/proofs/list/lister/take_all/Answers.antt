@@ -1,6 +1,6 @@
 use Rattle.std.proofs.Common.{◌≡◌, ◌+◌, ◌-◌, ◌<◌, ◌++◌, ap, append-nil, arith, drop, length, refl, subst, take, Vec, vec_capacity, vec_len, ℕ}
 use Rattle.std.specs.declared.alloc.Global.{Global}
-use Rattle.x7_packets.specs.Cutting.{calls_left, CutterState, run_bytes}
+use Rattle.x7_packets.specs.Cutter.{calls_left, CutterState, run_bytes}
 use Rattle.x7_listing.specs.Pens.{lister_with}
 use Rattle.x7_listing.specs.Telling.{HasListedJust}
 use Rattle.x7_listing.specs.declared.list.pen.state.Pen.TheVariants.{Session}

@@ -1,5 +1,5 @@
 use Rattle.std.proofs.Common.{◌+◌, ◌-◌, ◌*◌, ◌≤◌, take, length, vec_len, vec_capacity}
-use Rattle.x7_packets.specs.Cutting.{calls_left}
+use Rattle.x7_packets.specs.Cutter.{calls_left}
 use Rattle.x7_listing.specs.Pens.{ListsMore, lister_with}
 use Rattle.x7_listing.proofs.list.lister.take_all.Given as goal
 

@@ -1,5 +1,5 @@
 use Rattle.std.proofs.Common.{sym, subst}
-use Rattle.x7_memory.specs.Planned.{AreApart}
+use Rattle.x7_memory.specs.Plan.{AreApart}
 use Rattle.x7_memory.proofs.DraftLemmas.{sorted_plan}
 use Rattle.x7_memory.proofs.draft.Draft.finish.Goals as goal
 

@@ -1,5 +1,5 @@
 use Rattle.std.proofs.Common.{◌∙◌, ap, sym, subst, get_or, Some}
-use Rattle.x7_memory.specs.Planned.{AreInOrder}
+use Rattle.x7_memory.specs.Plan.{AreInOrder}
 use Rattle.x7_memory.proofs.PlanLemmas.{no_row, planned_at, gap_unlisted, gap_none}
 use Rattle.x7_memory.proofs.plan.Plan.get.Goals as goal
 

@@ -1,6 +1,6 @@
 use Rattle.std.proofs.Common.{◌∙◌, ap, sym, refl, arith}
 use Rattle.std.proofs.lemmas.Bool.{false≢true}
-use Rattle.x7_memory.specs.Planned.{planned}
+use Rattle.x7_memory.specs.Plan.{planned}
 use Rattle.x7_memory.proofs.PlanLemmas.{place_listed, gap_unlisted, planned_insert, gap_free}
 use Rattle.x7_memory.proofs.plan.Plan.insert.Goals as goal
 

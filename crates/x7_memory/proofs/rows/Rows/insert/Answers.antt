@@ -1,7 +1,7 @@
 use Rattle.std.proofs.Common.{◌∙◌, ap, sym, arith}
 use Rattle.std.specs.List.{insert}
 use Rattle.x7_words.specs.Word.{AreWords}
-use Rattle.x7_memory.specs.Planned.{PlanData}
+use Rattle.x7_memory.specs.Plan.{PlanData}
 use Rattle.x7_memory.proofs.PlanLemmas.{words_by_place}
 use Rattle.x7_memory.proofs.RowLemmas.{kept_insert, kept_still, on_err, rows_insert, rows_stay}
 use Rattle.x7_memory.proofs.rows.Rows.insert.Goals as goal

@@ -1,6 +1,6 @@
 use Rattle.std.proofs.Common.{rules, sym, subst}
 use Rattle.std.proofs.lemmas.List.Sorted.{answers_always}
-use Rattle.x7_memory.specs.Planned.{AreInOrder}
+use Rattle.x7_memory.specs.Plan.{AreInOrder}
 use Rattle.x7_memory.specs.Rows.{rows_in}
 use Rattle.x7_memory.proofs.RowLemmas.{searched}
 use Rattle.x7_memory.proofs.rows.Rows.search.Goals as goal

@@ -2,7 +2,7 @@ use Rattle.std.proofs.Common.{◌≡◌, ◌<◌, ◌+◌, ◌++◌, arith, sym,
 use Rattle.x7_words.proofs.ListLemmas.{all_from_places}
 use Rattle.x7_packets.specs.declared.cutter.Cut.TheVariants.{Need}
 use Rattle.x7_packets.specs.Mode.{Mode, mode_of}
-use Rattle.x7_packets.specs.Cutting.{CutterState, CutterStandsFor, AfterRun}
+use Rattle.x7_packets.specs.Cutter.{CutterState, CutterStandsFor, AfterRun}
 use Rattle.x7_packets.proofs.CutLemmas.{kept_more}
 use Rattle.x7_packets.proofs.cutter.Cutter.hold.Goals as goal
 

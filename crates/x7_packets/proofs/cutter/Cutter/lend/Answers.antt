@@ -6,7 +6,7 @@ use Rattle.x7_packets.specs.declared.cutter.Cut.TheVariants.{Body}
 use Rattle.x7_packets.specs.Mode.{Mode, mode_of}
 use Rattle.x7_packets.specs.declared.header.Step.{Step}
 use Rattle.x7_packets.specs.Packet.{payload_steps}
-use Rattle.x7_packets.specs.Cutting.{CutterState, CutterStandsFor, AfterRun}
+use Rattle.x7_packets.specs.Cutter.{CutterState, CutterStandsFor, AfterRun}
 use Rattle.x7_packets.proofs.PacketLemmas.{words_of_payload}
 use Rattle.x7_packets.proofs.CutLemmas.{body_more, no_count}
 use Rattle.x7_packets.proofs.cutter.Cutter.lend.Goals as goal

@@ -2,7 +2,7 @@ use Rattle.std.proofs.Common.{◌≡◌, ◌<◌, [], arith, ap, ◌∙◌, take
 use Rattle.std.proofs.lemmas.Bool.Decides.{nat_tests}
 use Rattle.x7_words.proofs.ListLemmas.{all_from_places, all_take}
 use Rattle.x7_packets.specs.Mode.{Mode, mode_of}
-use Rattle.x7_packets.specs.Cutting.{CutterState}
+use Rattle.x7_packets.specs.Cutter.{CutterState}
 use Rattle.x7_packets.proofs.CutLemmas.{cuts_all, cuts_found, keeps_none, none_kept}
 use Rattle.x7_packets.proofs.cutter.Cutter.skip.Goals.{in-Some, in-None}
 use Rattle.x7_packets.proofs.cutter.Cutter.skip.Goals as goal

@@ -1,7 +1,7 @@
 use Rattle.std.proofs.Common.{◌≡◌, ◌<◌, [], ap, arith, ◌∙◌, refl, take}
 use Rattle.x7_words.proofs.ListLemmas.{all_from_places}
 use Rattle.x7_packets.specs.Mode.{Mode, mode_of}
-use Rattle.x7_packets.specs.Cutting.{CutterState}
+use Rattle.x7_packets.specs.Cutter.{CutterState}
 use Rattle.x7_packets.proofs.AtOnceLemmas.{ends_gap}
 use Rattle.x7_packets.proofs.CutLemmas.{keeps_none, none_kept}
 use Rattle.x7_packets.proofs.cutter.Cutter.take_gap.Goals as goal

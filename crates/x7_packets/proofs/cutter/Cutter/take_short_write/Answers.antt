@@ -1,8 +1,8 @@
 use Rattle.std.proofs.Common.{◌≡◌, ◌<◌, [], ap, arith, sym, subst, ◌∙◌, refl, take}
 use Rattle.x7_words.proofs.ListLemmas.{all_from_places}
 use Rattle.x7_packets.specs.Mode.{Mode, mode_of}
-use Rattle.x7_packets.specs.Cutting.{CutterState}
-use Rattle.x7_packets.specs.Taking.{MachineStandsFor, MachineState}
+use Rattle.x7_packets.specs.Cutter.{CutterState}
+use Rattle.x7_packets.specs.Machine.{MachineStandsFor, MachineState}
 use Rattle.x7_packets.proofs.AtOnceLemmas.{other_register, writes_few}
 use Rattle.x7_packets.proofs.cutter.Cutter.take_short_write.Goals as goal
 

@@ -1,7 +1,7 @@
 use Rattle.std.proofs.Common.{Bool, if◌then◌else◌, ◌≡◌, [], ◌∷◌, true, false, ap, arith, sym, subst, ◌∙◌, refl, take}
 use Rattle.x7_packets.specs.Mode.{Mode, mode_of}
-use Rattle.x7_packets.specs.Cutting.{CutterState}
-use Rattle.x7_packets.specs.Taking.{MachineStandsFor, MachineState}
+use Rattle.x7_packets.specs.Cutter.{CutterState}
+use Rattle.x7_packets.specs.Machine.{MachineStandsFor, MachineState}
 use Rattle.x7_packets.proofs.AtOnceLemmas.{other_register, writes_one}
 use Rattle.x7_packets.proofs.TakeLemmas.{calm_word}
 use Rattle.x7_packets.proofs.cutter.Cutter.take_write.Goals as goal

@@ -6,8 +6,8 @@ use Rattle.x7_packets.specs.Mode.{Mode, mode_of}
 use Rattle.x7_packets.specs.declared.header.Step.{Step}
 use Rattle.x7_packets.specs.declared.header.Step.TheVariants.{Payload}
 use Rattle.x7_packets.specs.Packet.{Packet}
-use Rattle.x7_packets.specs.Taking.{Grows, is_end, MachineStandsFor}
-use Rattle.x7_packets.specs.Cutting.{CutterState, CutterStandsFor, AfterRun}
+use Rattle.x7_packets.specs.Machine.{Grows, is_end, MachineStandsFor}
+use Rattle.x7_packets.specs.Cutter.{CutterState, CutterStandsFor, AfterRun}
 use Rattle.x7_packets.proofs.CutLemmas.{head_more, word_more}
 use Rattle.x7_packets.proofs.cutter.Cutter.word.Goals.{in-Payload, in_default}
 use Rattle.x7_packets.proofs.cutter.Cutter.word.Goals as goal

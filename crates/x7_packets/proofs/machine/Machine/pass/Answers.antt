@@ -3,7 +3,7 @@ use Rattle.x7_words.specs.Word.{words_of_bytes}
 use Rattle.x7_words.proofs.ListLemmas.{all_from_places}
 use Rattle.x7_words.proofs.WordLemmas.{length_words, words_fit}
 use Rattle.x7_packets.specs.Packet.{payload_steps}
-use Rattle.x7_packets.specs.Taking.{Grows, MachineStandsFor, MachineState}
+use Rattle.x7_packets.specs.Machine.{Grows, MachineStandsFor, MachineState}
 use Rattle.x7_packets.proofs.TakeLemmas.{calm_words, payload_goes_on}
 use Rattle.x7_packets.proofs.AtOnceLemmas.{other_register}
 use Rattle.x7_packets.proofs.machine.Machine.pass.Goals as goal

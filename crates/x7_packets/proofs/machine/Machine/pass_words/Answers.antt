@@ -1,5 +1,5 @@
 use Rattle.std.proofs.Common.{refl, ap, ◌∙◌}
-use Rattle.x7_packets.specs.Taking.{MachineState}
+use Rattle.x7_packets.specs.Machine.{MachineState}
 use Rattle.x7_packets.proofs.AtOnceLemmas.{words_go_on, write_opens}
 use Rattle.x7_packets.proofs.machine.Machine.pass_words.Goals as goal
 

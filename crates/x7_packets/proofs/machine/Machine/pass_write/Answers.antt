@@ -1,5 +1,5 @@
 use Rattle.std.proofs.Common.{[], arith, refl, sym, subst, ap, ◌∙◌}
-use Rattle.x7_packets.specs.Taking.{MachineState, MachineStandsFor}
+use Rattle.x7_packets.specs.Machine.{MachineState, MachineStandsFor}
 use Rattle.x7_packets.proofs.AtOnceLemmas.{write_closes, write_goes_on, write_opens}
 use Rattle.x7_packets.proofs.machine.Machine.pass_write.Goals as goal
 

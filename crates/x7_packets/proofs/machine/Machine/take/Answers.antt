@@ -1,6 +1,6 @@
 use Rattle.std.proofs.Common.{inl, inr, [], ◌∷◌, arith, sym, ◌∙◌, refl, subst}
 use Rattle.std.proofs.lemmas.Bool.{cases_eq}
-use Rattle.x7_packets.specs.Taking.{Grows, MachineStandsFor, MachineState}
+use Rattle.x7_packets.specs.Machine.{Grows, MachineStandsFor, MachineState}
 use Rattle.x7_packets.proofs.PacketLemmas.{no_payload}
 use Rattle.x7_packets.proofs.TakeLemmas.{payload_goes, payload_ends, header_whole, header_opens, no_count, same_latest}
 use Rattle.x7_packets.proofs.machine.Machine.take.Goals as goal

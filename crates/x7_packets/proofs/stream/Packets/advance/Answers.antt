@@ -2,7 +2,7 @@ use Rattle.std.proofs.Common.{◌≡◌, Bool, true, false, [], ◌++◌, length
 use Rattle.x7_words.specs.Input.{preceded}
 use Rattle.x7_words.proofs.InputLemmas.{preceded_nil, preceded_preceded, stays_at, stays_on}
 use Rattle.x7_packets.specs.PacketsState.{PacketsState}
-use Rattle.x7_packets.specs.Running.{ReadsOn, Steps}
+use Rattle.x7_packets.specs.Stream.{ReadsOn, Steps}
 use Rattle.x7_packets.proofs.RunningLemmas.{gives_again, gives_end, gives_up, reads_none, reads_on, room_on, run_is_not_last, tells_run, turns_most}
 use Rattle.x7_packets.proofs.stream.Packets.advance.Goals as goal
 

@@ -1,5 +1,5 @@
 use Rattle.std.proofs.Common.{◌≡◌, ◌+◌, ◌∙◌, ap, sym, refl, arith}
-use Rattle.x7_pipeline.specs.Fields.{pipeline_seen}
+use Rattle.x7_pipeline.specs.PipelineFields.{pipeline_seen}
 use Rattle.x7_pipeline.specs.Pipeline.{PipelineData}
 use Rattle.x7_pipeline.proofs.StateLemmas.{alike, steps_nowhere, steps_in, steps_over, few_given}
 use Rattle.x7_pipeline.proofs.pipeline.Pipeline.step.Goals as goal

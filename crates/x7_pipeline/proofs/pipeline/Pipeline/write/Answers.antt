@@ -3,7 +3,7 @@ use Rattle.std.proofs.lemmas.Bool.{eqb-true, lt-ltb}
 use Rattle.x7_memory.specs.Frames.{frame_at}
 use Rattle.x7_pipeline.specs.FarAsRead.{has_frame_at}
 use Rattle.x7_pipeline.specs.Runs.{slots_from}
-use Rattle.x7_pipeline.specs.Fields.{pipeline_seen}
+use Rattle.x7_pipeline.specs.PipelineFields.{pipeline_seen}
 use Rattle.x7_pipeline.specs.Pipeline.{PipelineData}
 use Rattle.x7_pipeline.proofs.SlotLemmas.{has_address}
 use Rattle.x7_pipeline.proofs.StateLemmas.{alike, goes_on, completes_frame, lands_nothing, lands_frame, nowhere, somewhere, write_refused, write_allowed, overrun_refused, kept_now}

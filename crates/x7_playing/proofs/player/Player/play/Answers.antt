@@ -1,7 +1,7 @@
 use Rattle.std.proofs.Common.{◌<◌, arith}
 use Rattle.x7_words.specs.Word.{AreBytes}
 use Rattle.x7_words.proofs.ListLemmas.{all_from_places}
-use Rattle.x7_playing.specs.Play.{play_state}
+use Rattle.x7_playing.specs.Playing.{play_state}
 use Rattle.x7_playing.proofs.PlayerLemmas.{not_over, over_stays}
 use Rattle.x7_forms.proofs.ResultLemmas.{at_err}
 use Rattle.x7_playing.proofs.player.Player.play.Goals as goal

@@ -5,10 +5,10 @@ use Rattle.x7_engine.specs.declared.kept.Kept.{Kept}
 use Rattle.x7_engine.specs.declared.regs.Regs.{Regs}
 use Rattle.x7_engine.specs.Standing.{DeviceStandsFor, frames_due}
 use Rattle.x7_engine.specs.State.{memory_in, state_of, state_owing}
-use Rattle.x7_report.specs.Report.{PlayTextState}
+use Rattle.x7_report.specs.Reports.{PlayTextState}
 use Rattle.x7_report.specs.Frames.{lines_text}
 use Rattle.x7_report.specs.Reads.{reads_text}
-use Rattle.x7_report.specs.Report.{report_text}
+use Rattle.x7_report.specs.Reports.{report_text}
 use Rattle.x7_report.specs.State.{state_text}
 use Rattle.x7_report.proofs.LinesLemmas.{play_is}
 use Rattle.x7_report.proofs.streamed.PlayText.new.Goals as goal

@@ -1,7 +1,7 @@
 use Rattle.std.proofs.Common.{ap}
 use Rattle.x7_memory.specs.Frames.{frame_at}
 use Rattle.x7_report.specs.Frames.{lines_text}
-use Rattle.x7_report.specs.Report.{PlayTextState}
+use Rattle.x7_report.specs.Reports.{PlayTextState}
 use Rattle.x7_report.proofs.LinesLemmas.{report_began, report_failed, report_whole, whole_put}
 use Rattle.x7_report.proofs.streamed.PlayText.write.Goals as goal
 

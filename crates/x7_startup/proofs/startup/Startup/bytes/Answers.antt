@@ -1,5 +1,5 @@
 use Rattle.std.proofs.Common.{sym, ap, ◌∙◌, arith}
-use Rattle.x7_startup.specs.Calls.{Stored}
+use Rattle.x7_startup.specs.Startup.{Stored}
 use Rattle.x7_startup.proofs.CallLemmas.{idle_stands, running_stands}
 use Rattle.x7_startup.proofs.startup.Startup.bytes.Goals as goal
 

@@ -5,7 +5,7 @@ use Rattle.x7_flow.specs.Standing.{frames_state}
 use Rattle.x7_flow.proofs.StandingLemmas.{begins_so}
 use Rattle.x7_engine.specs.declared.due.Due.{Due}
 use Rattle.x7_engine.specs.Standing.{due_count, words_left}
-use Rattle.x7_engine.specs.Stops.{stopped_at}
+use Rattle.x7_engine.specs.Stop.{stopped_at}
 use Rattle.x7_engine.proofs.device.undo.Undo.new.Goals as goal
 
 pub returns-clause-device : goal.returns-clause-device

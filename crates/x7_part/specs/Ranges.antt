@@ -1,7 +1,7 @@
 -- The ranges of a part's numbers (this project's choice).
 use Rattle.std.specs.Prelude.{◌≡◌, ◌⊎◌, ◌+◌, ◌*◌, ◌%◌, ◌^◌, ◌<◌, ◌≤◌, length, All}
 use Rattle.x7_part.specs.Part.{PartData, frame_words}
-use Rattle.x7_part.specs.FrameAddress.{AreRows, AreWidths}
+use Rattle.x7_part.specs.Address.{AreRows, AreWidths}
 use Rattle.x7_part.specs.AddressOrder.{addresses_in}
 
 -- a name of 1 to 64 printed bytes, an odd idcode of 32 bits, numbers in range, and 1 to 192 rows with at most 131,072 frames and

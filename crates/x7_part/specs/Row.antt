@@ -3,7 +3,7 @@ use Rattle.std.specs.Prelude.{◌≡◌, ◌⊎◌, ◌<◌, ℕ, ◌+◌, ◌*�
 use Rattle.x7_part.specs.declared.fault.PartFault.{PartFault}
 use Rattle.x7_part.specs.declared.fault.PartFault.TheVariants.{SameRow, TooMany}
 use Rattle.x7_part.specs.Part.{FieldWidths, RowData, PartData, frame_words}
-use Rattle.x7_part.specs.FrameAddress.{row_address}
+use Rattle.x7_part.specs.Address.{row_address}
 use Rattle.x7_part.specs.AddressOrder.{addresses_in}
 use Rattle.x7_part.specs.PartChecks.{unless, first_of}
 

@@ -3,7 +3,7 @@
 use Rattle.std.specs.Prelude.{◌==◌, ◌||◌, Bool, ◌≡◌, ◌≤◌, ℕ, List, length, take}
 use Rattle.x7_regs.specs.Register.{number_of}
 use Rattle.x7_regs.specs.declared.register.Reg.TheVariants.{Cmd, Crc, Far, Lout}
-use Rattle.x7_packets.specs.Cutting.{CutterState, CutterStandsFor}
+use Rattle.x7_packets.specs.Cutter.{CutterState, CutterStandsFor}
 use Rattle.x7_packets.specs.History.{command_held, History, history_of}
 use Rattle.x7_packets.specs.Reading.{Place, Session}
 use Rattle.x7_crc.specs.OpenWrites.{running_check}

@@ -1,7 +1,7 @@
 -- The statement of marks (this project's profile of SVF).
 use Rattle.std.specs.Prelude.{ℕ, if◌then◌else◌, List, [], ◌∷◌, Option, None, codes}
 use Rattle.std.specs.List.{list_all}
-use Rattle.x7_svf.specs.Pieces.{Mark, Word, Open, Close, End}
+use Rattle.x7_svf.specs.Token.{Mark, Word, Open, Close, End}
 use Rattle.x7_svf.specs.Words.{is_free_mark, is_key, some_if, statement_if_words, words_of}
 use Rattle.x7_svf.specs.Fields.{scan_of}
 use Rattle.x7_svf.specs.declared.statement.ScannedRegister.TheVariants as scanned

@@ -1,7 +1,7 @@
 -- Where the slots from a base on stand among all of a part (this project's choice).
 use Rattle.std.specs.Prelude.{◌≡◌, ℕ, ◌+◌, ◌^◌, ◌<◌, slice_index_or}
 use Rattle.x7_part.specs.Part.{PartData}
-use Rattle.x7_part.specs.Slots.{slots_in}
+use Rattle.x7_part.specs.Slot.{slots_in}
 use Rattle.x7_part.specs.declared.slot.Slot.TheVariants.{End}
 use Rattle.x7_pipeline.specs.Runs.{slots_from}
 

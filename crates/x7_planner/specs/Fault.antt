@@ -2,8 +2,8 @@
 use Rattle.std.specs.Prelude.{◌≡◌, ◌⊎◌, ℕ, ◌<◌, ◌≤◌, List, [], ◌∷◌, ◌++◌, length, Contains}
 use Rattle.x7_part.specs.AddressOrder.{addresses_in}
 use Rattle.x7_part.specs.Part.{PartData}
-use Rattle.x7_part.specs.Slots.{slots_in, from}
-use Rattle.x7_memory.specs.Planned.{AreAddressed, PlanRow, PlanData}
+use Rattle.x7_part.specs.Slot.{slots_in, from}
+use Rattle.x7_memory.specs.Plan.{AreAddressed, PlanRow, PlanData}
 use Rattle.x7_planner.specs.declared.fault.PlanFault.{PlanFault}
 use Rattle.x7_planner.specs.declared.fault.PlanFault.TheVariants as fault
 

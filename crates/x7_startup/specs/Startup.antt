@@ -1,6 +1,6 @@
 -- What a list of calls of a `Startup` means: where startup begins (UG470, startup; arming is this project's choice).
 use Rattle.std.specs.Prelude.{◌≡◌, ℕ, ◌+◌, ◌/◌, ◌%◌, min, Bool, true, false, List, [], ◌∷◌, Option, Some, None, if◌then◌else◌}
-use Rattle.x7_startup.specs.Arrivals.{wait_of, IsPhase}
+use Rattle.x7_startup.specs.Phases.{wait_of, IsPhase}
 
 -- a call: START, DESYNC with COR0 as it stands there, a byte taken, a shutdown taken
 pub data Call : Type 0 where

@@ -4,7 +4,7 @@ use Rattle.toml.specs.Data.{Data, table, Items, no_items, item, Members, get_mem
 use Rattle.x7_part.specs.declared.fault.PartKey.{PartKey}
 use Rattle.x7_part.specs.declared.fault.PartKey.TheVariants as key
 use Rattle.x7_part.specs.declared.settings.Settings.{Settings}
-use Rattle.x7_part.specs.PartKey.{name_of, has_only, top_keys, row_keys}
+use Rattle.x7_part.specs.Keys.{name_of, has_only, top_keys, row_keys}
 use Rattle.x7_part.specs.Part.{FieldWidths, RowData, PartData}
 
 -- ---- one value

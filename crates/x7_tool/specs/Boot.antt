@@ -4,10 +4,10 @@ use Rattle.std.specs.Prelude.{ℕ, List, [], ◌++◌}
 use Rattle.x7_part.specs.Part.{PartData}
 use Rattle.x7_engine.specs.Standing.{NoWordDue}
 use Rattle.x7_engine.specs.State.{memory_in, state_of}
-use Rattle.x7_report.specs.Report.{report_text}
+use Rattle.x7_report.specs.Reports.{report_text}
 use Rattle.x7_boot.specs.Attempt.{IsDeviceOf, Trial}
 use Rattle.x7_boot.specs.Boot.{BootedState}
-use Rattle.x7_boot.specs.BootLines.{boot_head}
+use Rattle.x7_boot.specs.Text.{boot_head}
 use Rattle.x7_boot.specs.declared.boots.BootEnd.{BootEnd}
 use Rattle.x7_boot.specs.declared.boots.Tried.{Tried}
 

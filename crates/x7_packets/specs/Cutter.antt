@@ -8,7 +8,7 @@ use Rattle.x7_regs.specs.declared.register.Reg.TheVariants.{Cmd}
 use Rattle.x7_packets.specs.SyncWord.{sync_bytes}
 use Rattle.x7_packets.specs.Matching.{LastThree, MatcherStandsFor}
 use Rattle.x7_packets.specs.Packet.{Packet, stepped, ended, payload_steps}
-use Rattle.x7_packets.specs.Taking.{ends_by, MachineState, MachineStandsFor}
+use Rattle.x7_packets.specs.Machine.{ends_by, MachineState, MachineStandsFor}
 use Rattle.x7_packets.specs.ByHand.{Reading}
 use Rattle.x7_packets.specs.Reading.{Place, Searching, Synced, Session, IsReading}
 use Rattle.x7_packets.specs.declared.header.Step.{Step}

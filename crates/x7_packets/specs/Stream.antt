@@ -5,7 +5,7 @@ use Rattle.std.specs.Io.BufRead.{Rests}
 use Rattle.x7_words.specs.Input.{AtEnd, Fails, InputsState, Stays, preceded}
 use Rattle.x7_words.specs.declared.input.Failed.{Failed}
 use Rattle.x7_packets.specs.Reading.{Place, Searching, Synced, Session, IsReading, tail_of}
-use Rattle.x7_packets.specs.Cutting.{CutterStandsFor, Cuts, IsLent, IsNeed, SkipsAll}
+use Rattle.x7_packets.specs.Cutter.{CutterStandsFor, Cuts, IsLent, IsNeed, SkipsAll}
 use Rattle.x7_packets.specs.declared.cutter.Cut.{Cut}
 use Rattle.x7_packets.specs.declared.cutter.Cut.TheVariants as cut
 use Rattle.x7_packets.specs.Mode.{Mode}

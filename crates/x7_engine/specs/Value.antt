@@ -12,7 +12,7 @@ use Rattle.x7_regs.specs.declared.boot_status.Cause.TheVariants as cause
 use Rattle.x7_regs.specs.declared.register.Reg.{Reg}
 use Rattle.x7_regs.specs.declared.register.Reg.TheVariants.{Crc, Far, Fdri, Fdro, Cmd, Ctl0, Mask, Stat, Lout, Cor0, Mfwr, Cbc, Idcode, Axss, Cor1, Wbstar, Timer, Bootsts, Ctl1, Bspi}
 use Rattle.x7_regs.specs.declared.status.StatParts.{StatParts}
-use Rattle.x7_startup.specs.Calls.{StartupProgress, cor0_of, ticks_of}
+use Rattle.x7_startup.specs.Startup.{StartupProgress, cor0_of, ticks_of}
 use Rattle.x7_startup.specs.Lines.{done_line, gts_line, gwe_line}
 use Rattle.x7_startup.specs.declared.lines.Lines.{Lines}
 use Rattle.x7_flow.specs.FrameAccess.{reads_frame_data}
@@ -26,7 +26,7 @@ use Rattle.x7_engine.specs.Kept.{is_fallback}
 use Rattle.x7_flow.specs.Controls.{ctl0_held, mask_held, masked}
 use Rattle.x7_engine.specs.Registers.{has_ghigh, word_held, wrote_iprog}
 use Rattle.x7_engine.specs.Startup.{phase_by, startup_progress}
-use Rattle.x7_engine.specs.Stops.{why_at}
+use Rattle.x7_engine.specs.Stop.{why_at}
 
 -- the fault is Crc
 abbrev pub is_crc_fault : Option Fault → Bool

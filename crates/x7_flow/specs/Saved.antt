@@ -5,7 +5,7 @@ use Rattle.x7_part.specs.Part.{PartData}
 use Rattle.x7_memory.specs.FrameMap.{AreSame}
 use Rattle.x7_memory.specs.Frames.{AreFramesOf, frame_at}
 use Rattle.x7_pipeline.specs.Runs.{put_over}
-use Rattle.x7_pipeline.specs.Saving.{SavedState, next_put, pair_at}
+use Rattle.x7_pipeline.specs.Saved.{SavedState, next_put, pair_at}
 use Rattle.x7_flow.specs.FrameMemory.{memory_of}
 use Rattle.x7_flow.specs.Standing.{FramesFit, FramesStandFor, FramesState, frames_map}
 

@@ -1,7 +1,7 @@
 -- The contents of planned frames, equal ones together (this project's choice).
 use Rattle.std.specs.Prelude.{◌≡◌, ◌≢◌, ℕ, ◌+◌, ◌-◌, ◌<◌, ◌≤◌, true, false, List, length, map, slice_index_or, All, Contains}
 use Rattle.x7_part.specs.Part.{PartData}
-use Rattle.x7_memory.specs.Planned.{PlanRow}
+use Rattle.x7_memory.specs.Plan.{PlanRow}
 use Rattle.x7_planner.specs.PartialStream.{follows, with_content}
 use Rattle.x7_planner.specs.declared.content.Content.{Content}
 

@@ -2,12 +2,12 @@
 use Rattle.std.specs.Prelude.{◌≡◌, ◌≢◌, ℕ, ◌+◌, ◌-◌, ◌*◌, ◌<◌, ◌≤◌, List, [], ◌∷◌, ◌++◌, length, take, vec_capacity, OnErr, OnOk, Result, Vec}
 use Rattle.std.specs.declared.alloc.Global.{Global}
 use Rattle.x7_words.specs.declared.input.NoMemory.{NoMemory}
-use Rattle.x7_crc.specs.Checking.{HasTaken, PieceCheckerState}
+use Rattle.x7_crc.specs.Checker.{HasTaken, PieceCheckerState}
 use Rattle.x7_part.specs.Part.{PartData, frame_words}
-use Rattle.x7_part.specs.Slots.{slots_in}
-use Rattle.x7_memory.specs.Planned.{PlanData}
+use Rattle.x7_part.specs.Slot.{slots_in}
+use Rattle.x7_memory.specs.Plan.{PlanData}
 use Rattle.x7_planner.specs.FullStream.{full_opening, full_pieces, full_stream, words_of_slots, start_words}
-use Rattle.x7_planner.specs.Stream.{StreamPiece, Words, Check, stream_of}
+use Rattle.x7_planner.specs.Writer.{StreamPiece, Words, Check, stream_of}
 use Rattle.x7_planner.specs.declared.full_stream.NextPiece.{NextPiece}
 use Rattle.x7_planner.specs.declared.full_stream.NextPiece.TheVariants as next
 

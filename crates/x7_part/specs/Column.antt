@@ -2,7 +2,7 @@
 use Rattle.std.specs.Prelude.{◌≡◌, ℕ, ◌+◌, ◌*◌, ◌^◌, ◌<◌, ◌≤◌, List, [], ◌∷◌, ◌++◌, length, map, replicate}
 use Rattle.std.specs.List.{flat_map}
 use Rattle.x7_part.specs.Part.{FieldWidths, RowData}
-use Rattle.x7_part.specs.FrameAddress.{row_address, column_low}
+use Rattle.x7_part.specs.Address.{row_address, column_low}
 use Rattle.x7_part.specs.AddressOrder.{count_from, addresses_of}
 use Rattle.x7_part.specs.declared.column.Column.{Column}
 use Rattle.x7_part.specs.declared.slot.Slot.{Slot}

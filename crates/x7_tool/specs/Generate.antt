@@ -5,12 +5,12 @@ use Rattle.x7_text.specs.Digits.{hex_word}
 use Rattle.x7_part.specs.AddressOrder.{addresses_in}
 use Rattle.x7_part.specs.Part.{PartData, frame_words}
 use Rattle.x7_memory.specs.FrameMap.{FrameMap}
-use Rattle.x7_memory.specs.Planned.{PlanData, PlanRow, total}
+use Rattle.x7_memory.specs.Plan.{PlanData, PlanRow, total}
 use Rattle.x7_planner.specs.FullStream.{full_stream}
 use Rattle.x7_engine.specs.Kept.{on_the_bench}
 use Rattle.x7_engine.specs.State.{memory_in, reads_of, state_of}
 use Rattle.x7_forms.specs.Known.{reads_limit}
-use Rattle.x7_playing.specs.Play.{HasPlayed}
+use Rattle.x7_playing.specs.Playing.{HasPlayed}
 use Rattle.x7_playing.specs.declared.player.Player.{Player}
 
 -- the number after a number
