@@ -68,8 +68,8 @@ pub record IsSoundOutput (out : List ℕ) (start : ℕ) (checker : CheckerState)
   pub keeps : Keeps checker (drop start out)
 
 -- an `AsmState` of these lines' output
-abbrev pub state_after : Output → ℕ → AsmState
-state_after b n = asm_state b.out b.start b.checker n
+abbrev pub lines_after : Output → ℕ → AsmState
+lines_after b n = asm_state b.out b.start b.checker n
 
 -- The texts are read but for those that are left: their bytes are these, those of lines from `start` on, whose check is kept.
 pub record TextsAreRead (all left : List (List ℕ)) (b : AsmState) : Type 0 where
@@ -119,7 +119,7 @@ has_any (t ∷ ts) = true
 
 -- lines gave this output, whatever lines follow
 abbrev pub IsOutputOf : Output → List (List ℕ) → Type 0
-IsOutputOf b lines = (left : List (List ℕ)) → Waits (has_any lines) (lines ++ left) left (state_after b (length lines))
+IsOutputOf b lines = (left : List (List ℕ)) → Waits (has_any lines) (lines ++ left) left (lines_after b (length lines))
 
 -- lines gave this output, and once one was read there is room for the next
 pub record AreReadWithRoom (b : Output) (lines : List (List ℕ)) : Type 0 where
@@ -136,16 +136,16 @@ HasAsmFault f lines = (f ≡ fault.NoMemory) ⊎ AreHeadedAsm lines (Err f)
 
 -- a first line is read
 abbrev pub ReadsFirst : Output → Output → List ℕ → Type 0
-ReadsFirst old new line = (all left : List (List ℕ)) → Unbegun all (line ∷ left) (state_after old 0) → TextsAreRead all left (state_after new 1)
+ReadsFirst old new line = (all left : List (List ℕ)) → Unbegun all (line ∷ left) (lines_after old 0) → TextsAreRead all left (lines_after new 1)
 
 -- a first line is refused for this fault; want of memory says nothing
 abbrev pub FailsFirst : Output → List ℕ → AsmFault → Type 0
-FailsFirst old line f = (f ≡ fault.NoMemory) ⊎ ((all left : List (List ℕ)) → Unbegun all (line ∷ left) (state_after old 0) → AreHeadedAsm all (Err f))
+FailsFirst old line f = (f ≡ fault.NoMemory) ⊎ ((all left : List (List ℕ)) → Unbegun all (line ∷ left) (lines_after old 0) → AreHeadedAsm all (Err f))
 
 -- line n is read, after others
 abbrev pub ReadsNext : Output → Output → ℕ → List ℕ → Type 0
-ReadsNext old new n line = (all left : List (List ℕ)) (k : ℕ) → n ≡ k + 1 → TextsAreRead all (line ∷ left) (state_after old k) → TextsAreRead all left (state_after new n)
+ReadsNext old new n line = (all left : List (List ℕ)) (k : ℕ) → n ≡ k + 1 → TextsAreRead all (line ∷ left) (lines_after old k) → TextsAreRead all left (lines_after new n)
 
 -- line n, after others, is refused for this fault; want of memory says nothing
 abbrev pub FailsNext : Output → ℕ → List ℕ → AsmFault → Type 0
-FailsNext old n line f = (f ≡ fault.NoMemory) ⊎ ((all left : List (List ℕ)) (k : ℕ) → n ≡ k + 1 → TextsAreRead all (line ∷ left) (state_after old k) → AreHeadedAsm all (Err f))
+FailsNext old n line f = (f ≡ fault.NoMemory) ⊎ ((all left : List (List ℕ)) (k : ℕ) → n ≡ k + 1 → TextsAreRead all (line ∷ left) (lines_after old k) → AreHeadedAsm all (Err f))

@@ -24,8 +24,8 @@ Searched gap bytes None m = HasNoSync (gap ++ bytes) × MatcherStandsFor m (gap 
 Searched gap bytes (Some n) m = (prefix : List ℕ) × (gap ++ take n bytes ≡ prefix ++ sync_bytes) × IsBeforeSync prefix
 
 -- how many bytes 32 places of the sync word reach over
-abbrev pub reach : ℕ
-reach = 35
+abbrev pub places_reach : ℕ
+places_reach = 35
 
 -- the sync word stands at this place of the bytes, and at none before it
 pub record IsFirstSync (bytes : List ℕ) (at : ℕ) : Type 0 where

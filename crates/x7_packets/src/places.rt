@@ -3,7 +3,7 @@ ghost use Rattle.std.specs.Prelude.{◌≡◌, ◌≢◌, ◌↔◌, ℕ, ◌+�
 ghost use Rattle.std.specs.Int.{bit_at};
 ghost use Rattle.memchr.specs.Find.{IsFirst, OccursAt};
 ghost use Rattle.memchr.specs.Lanes.{HasLanes};
-ghost use Rattle.x7_packets.specs.Matching.{reach};
+ghost use Rattle.x7_packets.specs.Matching.{places_reach};
 ghost use Rattle.x7_packets.specs.SyncWord.{sync_bytes};
 
 use std::simd::prelude::*;
@@ -60,7 +60,7 @@ fn lowest(bits: u64) -> usize
 /// A bit for each of the 32 places from `at` on where the sync word stands, the first place's the lowest bit.
 #[inline(always)]
 fn sync_bits(bytes: &[u8], at: usize) -> u64
-    requires { at + reach ≤ length bytes.now }
+    requires { at + places_reach ≤ length bytes.now }
     ensures some { (k : ℕ) → bit_at result k ≡ 1 → (k < 32) × OccursAt bytes.now sync_bytes (at + k) }
     ensures all { (k : ℕ) → k < 32 → OccursAt bytes.now sync_bytes (at + k) → bit_at result k ≡ 1 }
 {
@@ -79,7 +79,7 @@ fn sync_bits(bytes: &[u8], at: usize) -> u64
 /// bit: in most gaps none.
 #[inline(always)]
 fn end_bits(bytes: &[u8], at: usize) -> u64
-    requires { at + reach ≤ length bytes.now }
+    requires { at + places_reach ≤ length bytes.now }
     ensures { (k : ℕ) → k < 32 → OccursAt bytes.now sync_bytes (at + k) → bit_at result k ≡ 1 }
 {
     top_bits(both(
@@ -91,7 +91,7 @@ fn end_bits(bytes: &[u8], at: usize) -> u64
 /// The first of the 32 places from `at` on where the sync word stands, none where it stands at none of them.
 #[inline(always)]
 pub(crate) fn first_of_places(bytes: &[u8], at: usize) -> Option<usize>
-    requires { at + reach ≤ length bytes.now }
+    requires { at + places_reach ≤ length bytes.now }
     ensures { IsFirst (OccursAt bytes.now sync_bytes) at (at + 32) result }
 {
     if end_bits(bytes, at) == 0 {
@@ -106,7 +106,7 @@ pub(crate) fn first_of_places(bytes: &[u8], at: usize) -> Option<usize>
 
 /// The first place where the sync word stands, none where it stands nowhere. The last 32 places may overlap those before.
 pub(crate) fn first_sync(bytes: &[u8]) -> Option<usize>
-    requires { reach ≤ length bytes.now }
+    requires { places_reach ≤ length bytes.now }
     ensures { IsFirst (OccursAt bytes.now sync_bytes) 0 (length bytes.now + 1) result }
 {
     let last = bytes.len() - REACH;

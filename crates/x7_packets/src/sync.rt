@@ -1,7 +1,7 @@
 //! The search for the sync word at any byte place (UG470, sync word).
 ghost use Rattle.std.specs.Prelude.{◌≡◌, ℕ, List, [], ◌∷◌, ◌++◌, ◌<◌, ◌≤◌, ◌+◌, ◌↔◌, length, IsTrue, IfSome, if◌then◌else◌};
 ghost use Rattle.x7_packets.specs.SyncWord.{EndsWithSync, HasNoSync, sync_bytes};
-ghost use Rattle.x7_packets.specs.Matching.{IsClear, IsFirstSync, MatcherStandsFor, Searched, reach};
+ghost use Rattle.x7_packets.specs.Matching.{IsClear, IsFirstSync, MatcherStandsFor, Searched, places_reach};
 
 use crate::places::{REACH, first_of_places, first_sync};
 use std::marker::Model;
@@ -20,7 +20,7 @@ fn is_sync(bytes: [u8; 4]) -> bool
 /// Where the sync word first stands among the first 32 bytes, if it does.
 #[inline(always)]
 pub(crate) fn near_sync(bytes: &[u8]) -> Option<usize>
-    requires { reach ≤ length bytes.now }
+    requires { places_reach ≤ length bytes.now }
     ensures first { IfSome result (λ at. IsFirstSync bytes.now at) }
     ensures near { IfSome result (λ at. at + 4 ≤ 32) }
 {

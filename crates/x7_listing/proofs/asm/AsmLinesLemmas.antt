@@ -12,7 +12,7 @@ use Rattle.x7_header.specs.Header.{Contents, longest_header}
 use Rattle.x7_text.specs.Lines.{split}
 use Rattle.x7_text.proofs.LineReadingLemmas.{HasTaken, each_fault}
 use Rattle.x7_listing.specs.Assembly.{AreHeadedAsm}
-use Rattle.x7_listing.specs.Assembling.{AreReadWithRoom, AsmState, FailsFirst, FailsNext, TextsAreRead, HasAsmFault, HasLineRoom, IsOutputOf, IsFirstOrGood, IsSoundOutput, Output, ReadsFirst, ReadsNext, TakesLines, Unbegun, Waits, LinesAreRead, state_after, asm_state, has_any}
+use Rattle.x7_listing.specs.Assembling.{AreReadWithRoom, AsmState, FailsFirst, FailsNext, TextsAreRead, HasAsmFault, HasLineRoom, IsOutputOf, IsFirstOrGood, IsSoundOutput, Output, ReadsFirst, ReadsNext, TakesLines, Unbegun, Waits, LinesAreRead, lines_after, asm_state, has_any}
 use Rattle.x7_listing.specs.BitLine.{bit_text, IsHeaderOf, IsHeld}
 use Rattle.x7_text.specs.Reads.{Reads}
 use Rattle.x7_listing.specs.Line.{Line, Empty, Comment, Bytes, Sync, Nop, Write, Read, Write2, Read2, Word, Data, Cmd, Check, line_bytes, FitsLine, text_of}
@@ -121,8 +121,8 @@ next_read r old new n line [] m more reads room fails h = absurd (more m)
 next_read (Ok _) old new n line (t ∷ ts) m more reads room fails h =
     let read : IsOutputOf new ((t ∷ ts) ++ line ∷ []) = λ left.
     let k : n ≡ length ((t ∷ ts) ++ line ∷ []) = m ∙ sym (length-append (t ∷ ts) (line ∷ [])) in
-    subst (λ all. TextsAreRead all left (state_after new (length ((t ∷ ts) ++ line ∷ [])))) (sym (append_assoc (t ∷ ts) (line ∷ []) left))
-    (subst (λ (j : ℕ). TextsAreRead ((t ∷ ts) ++ line ∷ left) left (state_after new j)) k (reads ((t ∷ ts) ++ line ∷ left) left (length (t ∷ ts)) m (h.read (line ∷ left)))) in
+    subst (λ all. TextsAreRead all left (lines_after new (length ((t ∷ ts) ++ line ∷ [])))) (sym (append_assoc (t ∷ ts) (line ∷ []) left))
+    (subst (λ (j : ℕ). TextsAreRead ((t ∷ ts) ++ line ∷ left) left (lines_after new j)) k (reads ((t ∷ ts) ++ line ∷ left) left (length (t ∷ ts)) m (h.read (line ∷ left)))) in
     record { read = read; room = λ _. room }
 next_read (Err f) old new n line (t ∷ ts) m more reads room (inl want) h = λ left. inl want
 next_read (Err f) old new n line (t ∷ ts) m more reads room (inr bad) h = λ left. inr (bad ((t ∷ ts) ++ line ∷ left) left (length (t ∷ ts)) m (h.read (line ∷ left)))
@@ -147,7 +147,7 @@ next_wants (Ok _) old new n line lines m more reads h = tt
 next_wants (Err f) old new n line [] m more reads h = absurd (more m)
 next_wants (Err f) old new n line (t ∷ ts) m more reads h = λ want.
     let all : List (List ℕ) = (t ∷ ts) ++ line ∷ [] in
-    let g : TextsAreRead all [] (state_after new n) = reads want (h.room refl) all [] (length (t ∷ ts)) m (h.read (line ∷ [])) in
+    let g : TextsAreRead all [] (lines_after new n) = reads want (h.room refl) all [] (length (t ∷ ts)) m (h.read (line ∷ [])) in
     inr (new.out, goes_whole all new.out new.start new.checker n g)
 
 -- ---- lines that are read at once
@@ -220,4 +220,4 @@ pub last_read : (b : Output) (lines : List (List ℕ)) (line : List ℕ) → IsO
 last_read b lines line h =
     let all : List (List ℕ) = lines ++ line ∷ [] in
     subst (λ ls. AreHeadedAsm ls (Ok b.out)) (append-nil all)
-    (goes_whole (all ++ []) b.out b.start b.checker (length all) (goes_any lines line (all ++ []) [] (state_after b (length all)) (h [])))
+    (goes_whole (all ++ []) b.out b.start b.checker (length all) (goes_any lines line (all ++ []) [] (lines_after b (length all)) (h [])))
