@@ -61,7 +61,7 @@ fn end_line(end: BootEnd) -> &'static [u8]
 const ATTEMPT_LINE: usize = 56;
 
 /// Appends the line of the attempt of this number. After an error the text is as it was.
-#[tactic(auto, unfolding(crate::specs::BootLines::attempt_text))]
+#[tactic(auto, unfolding(crate::specs::Text::attempt_text))]
 fn put_attempt(text: &mut Vec<u8>, number: u64, tried: &Tried) -> Result<(), NoMemory>
     ensures ok { OnOk result (text.new.items ≡ text.old.items ++ attempt_text number tried.now) }
     ensures err { OnErr result (text.new.items ≡ text.old.items) }
@@ -97,7 +97,7 @@ fn put_attempts(text: &mut Vec<u8>, attempts: &[Tried]) -> Result<(), NoMemory>
 }
 
 /// Appends the lines of a boot. After an error the first of them may stand there.
-#[tactic(auto, unfolding(crate::specs::BootLines::boot_head))]
+#[tactic(auto, unfolding(crate::specs::Text::boot_head))]
 fn put_boot(
     text: &mut Vec<u8>,
     name: &str,

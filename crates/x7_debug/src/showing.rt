@@ -16,7 +16,7 @@ use x7_text::{hex_of_word, make_room, put, put_decimal};
 use x7_words::NoMemory;
 
 /// Appends where a move led.
-#[tactic(auto, unfolding(crate::specs::Transcript::position_text))]
+#[tactic(auto, unfolding(crate::specs::Showing::position_text))]
 fn put_position(text: &mut Vec<u8>, regs: &Regs) -> Result<(), NoMemory>
     ensures { OnOk result (text.new.items ≡ text.old.items ++ position_text regs.now) }
 {
@@ -31,7 +31,7 @@ fn put_position(text: &mut Vec<u8>, regs: &Regs) -> Result<(), NoMemory>
 }
 
 /// Appends the line of an address where there is no frame.
-#[tactic(auto, unfolding(crate::specs::Transcript::none_text))]
+#[tactic(auto, unfolding(crate::specs::Showing::none_text))]
 fn none_line(text: &mut Vec<u8>, far: u32) -> Result<(), NoMemory>
     ensures { OnOk result (text.new.items ≡ text.old.items ++ none_text far) }
 {
