@@ -1,6 +1,6 @@
 pub mod BootedLemmas
 pub mod CheckedLemmas
-pub mod CourseLemmas
+pub mod BootsLemmas
 pub mod EveryBootLemmas
 pub mod ImageLemmas
 pub mod LeastLemmas

@@ -3,6 +3,6 @@ pub mod FeedLemmas
 pub mod LeastLemmas
 pub mod PositionLemmas
 pub mod ScriptLemmas
-pub mod TranscriptLemmas
+pub mod ShowingLemmas
 pub mod UniqueLemmas
 pub mod JournalLemmas

@@ -29,7 +29,7 @@ use Rattle.x7_debug.proofs.FeedLemmas.{taken_all, taken_stopped, taken_within}
 pub last_within : (part : PartData) (stream : List ℕ) → AreBytes stream → last_of part stream ≤ length stream
 last_within part stream fits = taken_within part on_the_bench stream fits
 
--- whether a byte stops a device is told by the bytes up to it
+-- whether a byte stops a device is known by the bytes up to it
 same_cause : (part : PartData) (stream : List ℕ) (n m : ℕ) → m ≤ n → why_at_byte part on_the_bench (take n stream) m ≡ why_at_byte part on_the_bench stream m
 same_cause part stream n m le =
     ap (λ (b : List ℕ). if fires part on_the_bench (history_of b) m then Some (stops.Fault faults.Watchdog) else why_at_newest part on_the_bench (history_of (take m (take n stream))) m) (take-take (m - 1) n stream (omega (arith, le)))

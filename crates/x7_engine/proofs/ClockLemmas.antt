@@ -8,7 +8,7 @@ use Rattle.x7_startup.specs.Startup.{Begun, Call, IsPhaseOf, NotBegun, StartupPr
 use Rattle.x7_startup.specs.Startup as call
 use Rattle.x7_startup.specs.Watchdog.{Fires, Reload, Watch, WatchCall, Watched, WatchesFor, bytes_alike, watched_count, is_on, timer_after, timer_value_of}
 use Rattle.x7_startup.proofs.CallLemmas.{idle_stands, one_phase_after, phase_never_falls}
-use Rattle.x7_startup.proofs.CountLemmas.{idle_fires, idle_watches, timer_load, timer_reload, timer_watched}
+use Rattle.x7_startup.proofs.WatchdogLemmas.{idle_fires, idle_watches, timer_load, timer_reload, timer_watched}
 use Rattle.x7_engine.specs.Course.{course_at}
 use Rattle.x7_engine.specs.declared.kept.Kept.{Kept}
 use Rattle.x7_engine.specs.Clock.{AreEndedAlike, ClockState, IsClock, Ticks, newest_place, startup_call_by, watch_call_by}

@@ -32,7 +32,7 @@ one_sync Mode.Searching = omega arith
 one_sync Mode.Due = omega arith
 one_sync Mode.Synced = omega arith
 
--- the words told, where all that is read out are these and some more that are due
+-- the words given, where all that is read out are these and some more that are due
 prefix_given : (told rest : List ℕ) (due : ℕ) → length rest ≡ due → take (length (told ++ rest) - due) (told ++ rest) ≡ told
 prefix_given told rest due e =
     let count : length (told ++ rest) - due ≡ length told = omega (arith, length-append told rest, e) in

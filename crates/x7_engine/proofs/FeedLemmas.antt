@@ -85,7 +85,7 @@ pub given_on : (part : PartData) (kept : Kept) (wrapped : Bool) (d e : DeviceSta
     → DeviceStandsFor part kept wrapped d (bytes ++ take from piece) → reads_given part kept e (bytes ++ take to piece) ≡ reads_given part kept d (bytes ++ take from piece)
 given_on part kept wrapped d e bytes piece from to l f s = sym (ap (reads_given part kept e) (taken_more bytes piece from to l)) ∙ f (bytes ++ take from piece) s
 
--- the words told so far, and those that were given now
+-- the words given before, and those that are given now
 pub now_given : (part : PartData) (kept : Kept) (wrapped : Bool) (d e : DeviceState) (first read next : ReadBufState) (taken told : List ℕ) → Gives (record { part = part; kept = kept; wrapped = wrapped; bytes = taken }) d e read next
     → ((more : List ℕ) × (read ≡ with_words first more) × (reads_given part kept d taken ≡ told ++ more))
     → (more : List ℕ) × (next ≡ with_words first more) × (reads_given part kept e taken ≡ told ++ more)
@@ -95,7 +95,7 @@ now_given part kept wrapped d e first read next taken told g m = (
   g.given_are ∙ ap (λ t. t ++ g.more) m.2 ∙ append_assoc told m.0 g.more,
 )
 
--- the words told once a run more is taken, which gives none
+-- the words given once a run more is taken, which gives none
 pub read_here : (part : PartData) (kept : Kept) (wrapped : Bool) (old new next : DeviceState) (first read last : ReadBufState) (bytes piece told : List ℕ) (from to : ℕ) → Gives (record { part = part; kept = kept; wrapped = wrapped; bytes = bytes ++ take from piece }) old new read last → from ≤ to
     → ((b : List ℕ) → DeviceStandsFor part kept wrapped new b → reads_given part kept next (b ++ between piece from to) ≡ reads_given part kept new b)
     → ((more : List ℕ) × (read ≡ with_words first more) × (reads_given part kept old (bytes ++ take from piece) ≡ told ++ more))
@@ -115,7 +115,7 @@ answers_stop part kept wrapped d bytes read stop.Iprog at s e = (s.stop_is ∙ a
 
 -- ---- named facts for the crates above
 
--- no word is due, so all that was read out was told
+-- no word is due, so all that was read out was given
 pub given_all : (part : PartData) (kept : Kept) (d : DeviceState) (bytes : List ℕ) → NoWordDue d → reads_given part kept d bytes ≡ reads_of part kept bytes
 given_all part kept d bytes e = ap (λ (n : ℕ). take (length (reads_of part kept bytes) - n) (reads_of part kept bytes)) e ∙ whole (reads_of part kept bytes)
   where
@@ -124,7 +124,7 @@ given_all part kept d bytes e = ap (λ (n : ℕ). take (length (reads_of part ke
         let all : length xs - 0 ≡ length xs = omega arith in
         ap (λ (n : ℕ). take n xs) all ∙ take-length xs
 
--- no more was told than was read out
+-- no more was given than was read out
 pub given_within : (part : PartData) (kept : Kept) (d : DeviceState) (bytes : List ℕ) → length (reads_given part kept d bytes) ≤ length (reads_of part kept bytes)
 given_within part kept d bytes = omega (arith, length-take (length (reads_of part kept bytes) - due_count d.registers.due) (reads_of part kept bytes))
 

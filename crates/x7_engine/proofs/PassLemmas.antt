@@ -86,7 +86,7 @@ passed part kept wrapped d e bytes cut more rest count left s going quiet idles 
       prefix,
     )
 
--- the words told stay where none is due before or after
+-- the words given stay where none is due before or after
 pub given_same : (part : PartData) (kept : Kept) (d e : DeviceState) (bytes more : List ℕ) → due_count d.registers.due ≡ 0 → due_count e.registers.due ≡ 0 → reads_of part kept more ≡ reads_of part kept bytes → reads_given part kept e more ≡ reads_given part kept d bytes
 given_same part kept d e bytes more i j r =
     given_by part kept e more (reads_of part kept bytes) [] (r ∙ none_due (reads_of part kept bytes) part [] e.registers.due j)

@@ -5,7 +5,7 @@ use Rattle.x7_packets.specs.History.{Access, Bad, History, Placed, Read, Write, 
 use Rattle.x7_packets.proofs.GrowthLemmas.{OneMore}
 use Rattle.x7_part.specs.Part.{PartData}
 use Rattle.x7_startup.specs.Watchdog.{Load, Reload, WatchCall, watched_count, is_on, timer_value_of}
-use Rattle.x7_startup.proofs.CountLemmas.{count_loaded, count_watched}
+use Rattle.x7_startup.proofs.WatchdogLemmas.{count_loaded, count_watched}
 use Rattle.x7_engine.specs.declared.kept.Kept.{Kept}
 use Rattle.x7_engine.specs.Kept.{is_fallback}
 use Rattle.x7_engine.specs.Startup.{has_ended}

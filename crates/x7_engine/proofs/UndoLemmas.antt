@@ -12,7 +12,7 @@ use Rattle.x7_memory.specs.Frames.{frame_at}
 use Rattle.x7_flow.specs.FrameMemory.{memory_of}
 use Rattle.x7_flow.specs.Saved.{FramesBack, KeepsFrames}
 use Rattle.x7_flow.specs.Standing.{FramesFit, FramesStandFor}
-use Rattle.x7_flow.proofs.SavingLemmas.{back_one, back_same}
+use Rattle.x7_flow.proofs.SavedLemmas.{back_one, back_same}
 use Rattle.x7_engine.specs.declared.fed.Fed.{Fed}
 use Rattle.x7_engine.specs.declared.fed.Fed.TheVariants as fed
 use Rattle.x7_engine.specs.declared.kept.Kept.{Kept}

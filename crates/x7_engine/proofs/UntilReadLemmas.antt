@@ -43,7 +43,7 @@ turn_reads_none part kept wrapped d e bytes more going s after f k l =
     let q = f k l in
     reads_going part kept (bytes ++ prefix) none ∙ ap (read_out part kept) q.1 ∙ writes_read_none part kept q.0 (history_of bytes) q.2 ∙ sym (reads_going part kept bytes before)
 
--- in a turn of a piece, at each byte but its last, the words read out are those told
+-- in a turn of a piece, at each byte but its last, the words read out are those given
 turn_piece : (part : PartData) (kept : Kept) (wrapped : Bool) (d e : DeviceState) (bytes piece : List ℕ) (from to k : ℕ) → from ≤ to → to ≤ length piece → d.registers.stop ≡ None → NoWordDue d
     → DeviceStandsFor part kept wrapped d (bytes ++ take from piece) → DeviceStandsFor part kept wrapped e ((bytes ++ take from piece) ++ between piece from to) → CommandsLast (bytes ++ take from piece) (between piece from to)
     → from ≤ k → k < to → reads_of part kept (bytes ++ take k piece) ≡ reads_given part kept d (bytes ++ take from piece)
@@ -63,7 +63,7 @@ room_for b more f = by b.most b.words more f
     by None words more f = tt
     by (Some most) words more f = omega (arith, f, length-append words more)
 
--- the words told before and those that the buffer has got, at each byte of a turn but its last
+-- the words given before and those that the buffer has got, at each byte of a turn but its last
 pub room_read_on : (part : PartData) (kept : Kept) (wrapped : Bool) (d e : DeviceState) (first read : ReadBufState) (bytes piece told : List ℕ) (from to : ℕ) → from ≤ to → to ≤ length piece → d.registers.stop ≡ None → NoWordDue d
     → DeviceStandsFor part kept wrapped d (bytes ++ take from piece) → DeviceStandsFor part kept wrapped e ((bytes ++ take from piece) ++ between piece from to) → CommandsLast (bytes ++ take from piece) (between piece from to)
     → HoldsWithinMost read.most read.words → ((more : List ℕ) × (read ≡ with_words first more) × (reads_given part kept d (bytes ++ take from piece) ≡ told ++ more))

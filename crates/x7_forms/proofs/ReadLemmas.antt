@@ -378,7 +378,7 @@ rest_unread old mid new name taken limit left event r n u a = (unread_on old mid
 pub reads_first : (old new : InputsState) (piece : List ℕ) → Takes old piece new → new.asked ≡ old.asked → Stays old new → Reads old piece new
 reads_first old new piece t a s = record { takes = t; asked = a; stays = s }
 
--- want of memory, or what was left behind the first turn was not read
+-- want of memory, or what was left after the first turn was not read
 pub want_or_rest : (old mid new : InputsState) (name taken : List ℕ) (limit left : ℕ) (event : Event) → Reads old taken mid → length taken + left ≡ limit → (event ≡ no_memory) ⊎ UnreadRest mid name new left event → (event ≡ no_memory) ⊎ UnreadRest old name new limit event
 want_or_rest old mid new name taken limit left event r n (inl e) = inl e
 want_or_rest old mid new name taken limit left event r n (inr h) = inr (rest_unread old mid new name taken limit left event r n h.0 h.1)

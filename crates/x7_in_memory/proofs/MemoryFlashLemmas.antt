@@ -11,7 +11,7 @@ use Rattle.x7_in_memory.specs.FoundSince.{FoundSince}
 use Rattle.x7_words.proofs.CountLemmas.{raised_risen}
 use Rattle.x7_words.proofs.FlashLemmas.{get_or_slice_range, old_is_torn}
 use Rattle.x7_in_memory.proofs.TornLemmas.{left_is_torn, left_back, length_left_in}
-use Rattle.x7_in_memory.proofs.PastLemmas.{passes_more, passes_none}
+use Rattle.x7_in_memory.proofs.FoundSinceLemmas.{passes_more, passes_none}
 use Rattle.x7_words.specs.declared.input.Failed.{Failed as FailedWrite}
 
 -- ---- how the code comes to it

@@ -1,6 +1,6 @@
 pub mod FrameLemmas
 pub mod FlatLemmas
-pub mod StoredLemmas
+pub mod MemoryLemmas
 pub mod ZeroLemmas
 pub mod PlanLemmas
 pub mod MapLemmas

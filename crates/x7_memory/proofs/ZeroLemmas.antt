@@ -15,7 +15,7 @@ use Rattle.x7_part.specs.AddressOrder.{addresses_in, Rises}
 use Rattle.x7_memory.specs.declared.memory.Memory.TheInside.{Inside}
 use Rattle.x7_memory.specs.Frames.{zero_frames, AreFramesOf}
 use Rattle.x7_memory.specs.Memory.{frames_seen, stored_frame, own_frames, HasRoom}
-use Rattle.x7_memory.proofs.StoredLemmas.{is_rank, stored_width}
+use Rattle.x7_memory.proofs.MemoryLemmas.{is_rank, stored_width}
 
 -- ---- words of which none has a bit
 

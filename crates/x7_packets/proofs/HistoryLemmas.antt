@@ -146,7 +146,7 @@ next_on more sessions (Synced gap packets tail) new l = words_end gap tail packe
 pub history_is : (bytes : List ℕ) (sessions : List Session) (place : Place) → IsReading bytes sessions place → history sessions place ≡ history_of bytes
 history_is bytes sessions place r = let e = reading_is bytes sessions place r in ap (λ t. history t place) e.0 ∙ ap (history (reading_of bytes).sessions) e.1
 
--- a call of a cutter enters the accesses of its run behind the bytes that it had taken
+-- a call of a cutter enters the accesses of its run after the bytes that it had taken
 pub cut_enters : (old new : CutterState) (bytes more : List ℕ) (sessions : List Session) (place : Place) (run : Cut) (n : ℕ) → CutterStandsFor old bytes sessions place → AfterRun old new (bytes ++ more) sessions place run
     → n + length (tail_of place) ≡ length bytes → history_of (bytes ++ more) ≡ entered_all n (run_steps run) (history_of bytes)
 cut_enters old new bytes more sessions place run n s w e =

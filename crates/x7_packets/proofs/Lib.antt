@@ -20,4 +20,4 @@ pub mod AppendedLemmas
 pub mod EndedLemmas
 pub mod OnceLemmas
 pub mod AtOnceLemmas
-pub mod RunningLemmas
+pub mod StreamLemmas

@@ -107,7 +107,7 @@ impl Matcher {
         match first_sync(bytes) {
             Some(at) => Some(at + 4),
             None => {
-                *self = Matcher::behind(bytes);
+                *self = Matcher::after(bytes);
                 None
             }
         }
@@ -128,7 +128,7 @@ impl Matcher {
     }
 
     /// A matcher that took these bytes last, three at least.
-    fn behind(bytes: &[u8]) -> Matcher
+    fn after(bytes: &[u8]) -> Matcher
         requires { 3 ≤ length bytes.now }
         ensures { (gap : List ℕ) → MatcherStandsFor result (gap ++ bytes.now) }
     {

@@ -1,6 +1,6 @@
 pub mod AddressLemmas
 pub mod SlotLemmas
-pub mod TellingLemmas
+pub mod FullStreamPiecesLemmas
 pub mod ContentLemmas
 pub mod GroupLemmas
 pub mod FewLemmas

@@ -31,7 +31,7 @@ full_words b m f = subst (λ (most : Option ℕ). IsFullBy most (length b.words)
 
 -- ---- the ends of a play
 
--- more words than the limit were told
+-- more words than the limit were given
 pub over_limit : (part : PartData) (d : DeviceState) (bytes reads words prefix rest : List ℕ) → AreBytes bytes → bytes ≡ prefix ++ rest → reads_given part on_the_bench d prefix ≡ reads ++ words → reads_limit < length reads + length words
     → reads_limit < length (reads_of part on_the_bench bytes)
 over_limit part d bytes reads words prefix rest fits split told k =

@@ -29,7 +29,7 @@ use Rattle.x7_boot.specs.Boots.{BootCourse, course_along, course_of}
 use Rattle.x7_boot.specs.declared.attempt.Ending.TheVariants as ending
 use Rattle.x7_boot.specs.declared.boots.BootEnd.TheVariants as boot_end
 use Rattle.x7_boot.specs.declared.boots.Tried.{Tried}
-use Rattle.x7_boot.proofs.CourseLemmas.{along, boot_course, tried_is}
+use Rattle.x7_boot.proofs.BootsLemmas.{along, boot_course, tried_is}
 use Rattle.x7_boot.proofs.OverLemmas.{alike_ends, alike_trial, started_first, taken_is, trial_over}
 use Rattle.x7_boot.proofs.StartLemmas.{NeverStarts}
 use Rattle.x7_update.specs.Layout.{HasLayout, four_at, open_switch, update_place}

@@ -30,7 +30,7 @@ use Rattle.x7_boot.specs.declared.boots.Tried.{Tried}
 use Rattle.x7_boot.specs.declared.next.Next.{Next}
 use Rattle.x7_boot.specs.declared.next.Next.TheVariants.{Again, Ends}
 use Rattle.x7_boot.specs.Boots.{BootCourse, IsCourse, course_along}
-use Rattle.x7_boot.proofs.CourseLemmas.{along, cause_is, fallback_next, stops_next, tried_is}
+use Rattle.x7_boot.proofs.BootsLemmas.{along, cause_is, fallback_next, stops_next, tried_is}
 use Rattle.x7_boot.proofs.OneBootLemmas.{GoesThrough, goes_through}
 use Rattle.x7_boot.proofs.OverLemmas.{kept_ends, started_first, with_kept}
 use Rattle.x7_recovery.specs.OpenBoot.{EndsAtUpdate, FallsBack, FallsBackAlike, HasFullUpdate, HasPlanned, StartsAsFallback, StartsUpdate, TriesUpdate, UpdateEnds, UpdateFails, kept_at_update}
@@ -38,7 +38,7 @@ use Rattle.x7_recovery.specs.OpenSlot.{IsOpened, Opened}
 use Rattle.x7_recovery.proofs.FullTrialLemmas.{StartsWith, full_starts, full_stream_fits, iprog_later}
 use Rattle.x7_recovery.proofs.OpenLemmas.{power, power_leads, sector_never, sector_rests, sector_wrote}
 
--- the first attempt, as it is told
+-- the first attempt, as it is reported
 abbrev pub obeyed : Tried
 obeyed = record { kind = Power; address = 0; ending = ending.Iprog }
 

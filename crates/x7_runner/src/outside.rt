@@ -16,7 +16,7 @@ pub enum Object {
 }
 
 impl Object {
-    /// A call of the object, as it is told in the name of a run.
+    /// A call of the object, as the name of a run has it.
     pub fn call_name(self) -> &'static str {
         match self {
             Object::In => ", in call",

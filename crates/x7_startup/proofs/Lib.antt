@@ -1,4 +1,4 @@
 pub mod CallLemmas
-pub mod CountLemmas
+pub mod WatchdogLemmas
 pub mod PhaseLemmas
 pub mod RunLemmas

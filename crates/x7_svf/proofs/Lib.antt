@@ -4,7 +4,7 @@ pub mod DigitLemmas
 pub mod FieldLemmas
 pub mod NextLemmas
 pub mod OutcomeLemmas
-pub mod PieceLemmas
+pub mod TokenLemmas
 pub mod ReadingLemmas
 pub mod SourceLemmas
 pub mod SpanLemmas

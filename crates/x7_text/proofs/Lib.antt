@@ -6,7 +6,7 @@ pub mod DecodeLemmas
 pub mod DigitLemmas
 pub mod PrefixLemmas
 pub mod LineLemmas
-pub mod LineReadingLemmas
+pub mod LineReaderLemmas
 pub mod PieceLemmas
 pub mod ReadRowLemmas
 pub mod RowLemmas

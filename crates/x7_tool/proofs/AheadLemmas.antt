@@ -66,7 +66,7 @@ stays_near event stream old new h = stays_by (status_of_event event) stream old 
 
 -- what has become longer
 
--- what is told begins with what was told
+-- what is listed begins with what was listed
 abbrev pub Longer : Option (List ℕ) → Option (List ℕ) → Type 0
 Longer old new = (more : List ℕ) × (new ≡ appended old more)
 

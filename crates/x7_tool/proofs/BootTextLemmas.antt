@@ -53,7 +53,7 @@ ready_is part last attempts a end e f name head start stopped report text none b
     ∙ ap (λ (t : List ℕ). record { stopped = has_failed end; text = t ++ shown })
     (begun ∙ ap (λ (t : List ℕ). t ++ boot_head name a e) none ∙ ap (λ (n : List ℕ). boot_head n a e) named ∙ ap (λ (x : List Tried). boot_head part.name x e) tried ∙ ap (λ (x : BootEnd). boot_head part.name attempts x) ends)
 
--- ---- where the bytes of the flash are told
+-- ---- where the bytes of the flash are known
 
 -- the answer of a boot, whatever the flash holds
 abbrev pub AnswersBoot : BootedState → Answer → Type 0

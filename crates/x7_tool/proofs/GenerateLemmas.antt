@@ -217,7 +217,7 @@ planned_is part seed text is e =
 
 -- ---- a stream that is played while it is written
 
--- what was told of the full stream of a plan was played, and no piece waits
+-- what was given of the full stream of a plan was played, and no piece waits
 pub record PlaysAlong (part : PartData) (plan : PlanData) (stream : FullStreamState) (player : Player) (size : ℕ) (block : List ℕ) : Type 0 where
   pub told : List ℕ
   pub stands : HasGiven stream told
@@ -227,7 +227,7 @@ pub record PlaysAlong (part : PartData) (plan : PlanData) (stream : FullStreamSt
   pub of_part : stream.part ≡ part
   pub of_plan : stream.plan ≡ plan
 
--- what was told of a full stream is no longer than a stream may be
+-- what was given of a full stream is no longer than a stream may be
 known_few : (part : PartData) (plan : PlanData) (stream : FullStreamState) (told : List ℕ) → IsPart part → IsPlan plan → plan.width ≡ frame_words part → stream.part ≡ part → stream.plan ≡ plan → HasGiven stream told → length told ≤ 2 ^ 27
 known_few part plan stream told is p e a b h =
     let whole : told ++ h.left ≡ full_stream part plan = h.whole ∙ ap (λ (x : PartData). full_stream x stream.plan) a ∙ ap (full_stream part) b in

@@ -27,7 +27,7 @@ listing_is bytes text l =
     let same = reading_is bytes l.sessions l.place l.reading in
     l.is ∙ ap (λ s. reading_text s l.place) same.0 ∙ ap (λ p. reading_text (reading_of bytes).sessions p) same.1
 
--- the bytes of which a lister has told are bytes
+-- the bytes of which a lister has listed are bytes
 stands_fit : (l : ListerState) (given bytes : List ℕ) → ListerStandsFor l given [] bytes → AreBytes bytes
 stands_fit l given bytes stands = stands.tells.cut.reading.fits
 

@@ -37,7 +37,7 @@ use Rattle.x7_tool.proofs.RunLemmas.{has_cause, leaves_all, near_all, no_break}
 abbrev names : List ℕ → List ℕ → UpdateNames
 names flash stream = record { flash = flash; stream = stream }
 
--- the flash is no larger than a flash may be, where its bytes are told
+-- the flash is no larger than a flash may be, where its bytes are known
 abbrev IsWithin : Option (List ℕ) → Type 0
 IsWithin told = IfKnown told (λ all. length all ≤ flash_limit)
 
@@ -51,7 +51,7 @@ found_updates : (n : UpdateNames) (bytes : Option (List ℕ)) (read : Result (Li
 found_updates n None read end h = h
 found_updates n (Some all) read end h = h
 
--- what is due of a flash that is told
+-- what is due of a flash that is known
 update_given : (t : Known) (bytes : Option (List ℕ)) (flash stream : List ℕ) (end : Result Answer Event) → t.flash flash ≡ flash_found bytes → UpdatesBytes (names flash stream) bytes (stream_data t stream) end → FormGives t (UpdatingFlash flash stream) end
 update_given t bytes flash stream end same h =
     subst (λ (f : Option Found). FlashUpdates (names flash stream) f (stream_data t stream) end) (sym same) (found_updates (names flash stream) bytes (stream_data t stream) end h)

@@ -10,7 +10,7 @@ use Rattle.x7_crc.specs.Checker.{CheckerState, Keeps}
 use Rattle.x7_crc.proofs.CheckerLemmas.{still_keeps}
 use Rattle.x7_header.specs.Header.{Contents, longest_header}
 use Rattle.x7_text.specs.Lines.{split}
-use Rattle.x7_text.proofs.LineReadingLemmas.{HasTaken, each_fault}
+use Rattle.x7_text.proofs.LineReaderLemmas.{HasTaken, each_fault}
 use Rattle.x7_listing.specs.Assembly.{AreHeadedAsm}
 use Rattle.x7_listing.specs.Assembling.{AreReadWithRoom, AsmState, FailsFirst, FailsNext, TextsAreRead, HasAsmFault, HasLineRoom, IsOutputOf, IsFirstOrGood, IsSoundOutput, Output, ReadsFirst, ReadsNext, TakesLines, Unbegun, Waits, LinesAreRead, lines_after, asm_state, has_any}
 use Rattle.x7_listing.specs.BitLine.{bit_text, IsHeaderOf, IsHeld}

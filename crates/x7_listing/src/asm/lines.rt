@@ -7,7 +7,7 @@ ghost use Rattle.x7_listing.specs.Assembling.{AreReadWithRoom, FailsFirst, Fails
 ghost use Rattle.x7_listing.specs.Line.{line_bytes, FitsLine, text_of};
 ghost use Rattle.x7_listing.specs.declared.assembler.AsmFault.{AsmFault};
 
-use super::fast::{WholeLines, next_line, put_quick_behind};
+use super::fast::{WholeLines, next_line, put_quick_after};
 use super::header::header_of_line;
 use super::reading::put_line;
 use crate::assembler::{ASM_LIMIT, AsmFault};
@@ -126,7 +126,7 @@ impl AsmLines {
         ensures limit { length self.old.out ≤ ASM_LIMIT → length self.new.out ≤ ASM_LIMIT }
         ensures none { n ≡ 0 → result.count ≡ 0 }
     {
-        put_quick_behind(&mut self.out, n, text)
+        put_quick_after(&mut self.out, n, text)
     }
 }
 

@@ -4,7 +4,7 @@ use Rattle.x7_debug.specs.declared.order.Order.{Order}
 use Rattle.x7_debug.specs.declared.order.Order.TheVariants as order
 use Rattle.x7_debug.specs.Session.{MovesTo}
 use Rattle.x7_debug.specs.Showing.{FollowsSome, final_position, order_shown}
-use Rattle.x7_debug.proofs.TranscriptLemmas.{moves_on, position_more, shows, text_more}
+use Rattle.x7_debug.proofs.ShowingLemmas.{moves_on, position_more, shows, text_more}
 use Rattle.x7_debug.proofs.showing.transcript.Goals as goal
 
 pub returns-in_err-show-clause-err : goal.returns-in_err-show-clause-err

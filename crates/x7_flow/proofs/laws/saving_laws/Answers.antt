@@ -1,4 +1,4 @@
-use Rattle.x7_flow.proofs.SavingLemmas.{back_one, back_same}
+use Rattle.x7_flow.proofs.SavedLemmas.{back_one, back_same}
 use Rattle.x7_flow.proofs.laws.saving_laws.Goals as goal
 
 pub returns : goal.returns

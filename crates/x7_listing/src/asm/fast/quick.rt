@@ -277,7 +277,7 @@ fn put_quick(out: &mut Vec<u8>, text: &[u8]) -> WholeLines
 /// Appends the bytes of the text's first lines, as far as they are read at once. Before any line none is, since the first one
 /// may be a header's.
 #[inline(always)]
-pub(crate) fn put_quick_behind(out: &mut Vec<u8>, n: u64, text: &[u8]) -> WholeLines
+pub(crate) fn put_quick_after(out: &mut Vec<u8>, n: u64, text: &[u8]) -> WholeLines
     ensures reads { ReadsAtOnce text.now out.old out.new result }
     ensures none { n ≡ 0 → result.count ≡ 0 }
 {

@@ -1,4 +1,4 @@
-use Rattle.x7_packets.proofs.RunningLemmas.{begins}
+use Rattle.x7_packets.proofs.StreamLemmas.{begins}
 use Rattle.x7_packets.proofs.stream.buffer_of.Goals as goal
 
 pub returns-clause-items : goal.returns-clause-items

@@ -1,5 +1,5 @@
 use Rattle.std.proofs.Common.{arith, sym, ◌∙◌}
-use Rattle.x7_svf.proofs.PieceLemmas.{word_at}
+use Rattle.x7_svf.proofs.TokenLemmas.{word_at}
 use Rattle.x7_svf.proofs.token.word_length.Goals as goal
 
 pub returns-else-is_in_word-clause-first : goal.returns-else-is_in_word-clause-first

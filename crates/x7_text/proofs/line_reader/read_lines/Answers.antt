@@ -1,7 +1,7 @@
 use Rattle.std.proofs.Common.{[], MatchResult, append-nil, arith, refl, subst, sym}
 use Rattle.x7_text.specs.LineReader.{TakesWhole}
 use Rattle.x7_text.specs.Lines.{split}
-use Rattle.x7_text.proofs.LineReadingLemmas.{cut_long, wants_last}
+use Rattle.x7_text.proofs.LineReaderLemmas.{cut_long, wants_last}
 use Rattle.std.proofs.lemmas.Result.{err_from_is_err_and}
 use Rattle.x7_text.proofs.line_reader.read_lines.Goals as goal
 

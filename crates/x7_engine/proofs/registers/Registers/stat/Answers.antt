@@ -10,7 +10,7 @@ use Rattle.x7_engine.specs.Stop.{stop_fault}
 use Rattle.x7_engine.specs.Value.{is_crc_fault, is_id_fault, lines_by, stat_parts}
 use Rattle.x7_engine.proofs.registers.Registers.stat.Goals as goal
 
--- what is told, by each of its parts
+-- what STAT shows, by each of its parts
 told : (part : PartData) (fault : Option Fault) (p : StartupProgress) (lines : Lines) (crc id ghigh had lock matched eos : Bool) (phase mode width : ℕ)
     → crc ≡ is_crc_fault fault → id ≡ is_id_fault fault → had ≡ ghigh → lock ≡ nat_le part.lock (ticks_of p) → matched ≡ nat_le part.matched (ticks_of p) → eos ≡ (phase_by part p == 7) → lines ≡ lines_by part p → phase ≡ phase_by part p → mode ≡ part.mode → width ≡ part.bus_width
     → status_of (record { crc_error = crc; lock = lock; matched = matched; eos = eos; gts = lines.gts; gwe = lines.gwe; ghigh = had; mode = mode; init_b = not crc; done = lines.done; id_error = id; phase = phase; bus_width = width })

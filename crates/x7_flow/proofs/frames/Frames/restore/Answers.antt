@@ -1,7 +1,7 @@
 use Rattle.std.proofs.Common.{sym, subst}
 use Rattle.x7_flow.specs.Saved.{FramesBack}
 use Rattle.x7_flow.specs.Standing.{FramesState}
-use Rattle.x7_flow.proofs.SavingLemmas.{back_is}
+use Rattle.x7_flow.proofs.SavedLemmas.{back_is}
 use Rattle.x7_flow.proofs.frames.Frames.restore.Goals as goal
 
 pub returns-clause-back : goal.returns-clause-back

@@ -1,5 +1,5 @@
 use Rattle.std.proofs.Common.{◌∷◌, ◌++◌, ◌∙◌, [], refl, append-nil, arith, ap, subst, sym}
-use Rattle.x7_text.proofs.LineReadingLemmas.{prefix_on, wants_here}
+use Rattle.x7_text.proofs.LineReaderLemmas.{prefix_on, wants_here}
 use Rattle.x7_text.proofs.PieceLemmas.{at_none, at_some, only_line}
 use Rattle.x7_mcs.specs.Flash.{after_line}
 use Rattle.x7_mcs.specs.McsLines.{AreGoodWith, HasMcsFault, mcs_lines_state}

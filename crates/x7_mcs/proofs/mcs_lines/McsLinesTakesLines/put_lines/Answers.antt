@@ -1,6 +1,6 @@
 use Rattle.std.proofs.Common.{◌≡◌, ◌∷◌, ◌++◌, ◌∙◌, ◌+◌, ◌<◌, [], length, append_assoc, MatchOption, arith, ap, subst, sym}
 use Rattle.x7_text.specs.Lines.{split}
-use Rattle.x7_text.proofs.LineReadingLemmas.{HasTaken, all_taken, few_taken, prefix_on, one_taken, wants_behind}
+use Rattle.x7_text.proofs.LineReaderLemmas.{HasTaken, all_taken, few_taken, prefix_on, one_taken, wants_behind}
 use Rattle.x7_mcs.specs.McsLines.{AreGoodWith, HasMcsFault, HasReadRecords, TakesFirstLine, mcs_lines_state}
 use Rattle.x7_mcs.specs.declared.mcs_lines.McsLines.{McsLines}
 use Rattle.std.proofs.lemmas.Result.{err_from_is_err_and}

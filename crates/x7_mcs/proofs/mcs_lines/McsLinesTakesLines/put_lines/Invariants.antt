@@ -1,5 +1,5 @@
 use Rattle.std.proofs.Common.{◌≡◌, ◌+◌, ◌<◌, ◌^◌, List, ℕ, length}
-use Rattle.x7_text.proofs.LineReadingLemmas.{HasTaken}
+use Rattle.x7_text.proofs.LineReaderLemmas.{HasTaken}
 use Rattle.x7_mcs.specs.McsLines.{HasReadRecords, mcs_lines_state}
 use Rattle.x7_mcs.proofs.mcs_lines.McsLinesTakesLines.put_lines.Given as goal
 

@@ -2,7 +2,7 @@ use Rattle.std.proofs.Common.{◌∙◌, ap, refl, sym, length, arith}
 use Rattle.std.specs.Prelude.{[], Some, slice_index}
 use Rattle.x7_part.specs.AddressOrder.{addresses_in}
 use Rattle.x7_memory.proofs.FrameLemmas.{among_found}
-use Rattle.x7_memory.proofs.StoredLemmas.{seen_count}
+use Rattle.x7_memory.proofs.MemoryLemmas.{seen_count}
 use Rattle.x7_memory.proofs.memory.Memory.frame_at_rank.Goals as goal
 
 pub returns-then-rank-len-clause-found : goal.returns-then-rank-len-clause-found

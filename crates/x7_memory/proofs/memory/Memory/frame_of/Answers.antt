@@ -1,6 +1,6 @@
 use Rattle.std.proofs.Common.{◌∙◌, ap, arith, length}
 use Rattle.std.proofs.lemmas.Grind.{get_or_default_zero}
-use Rattle.x7_memory.proofs.StoredLemmas.{is_rank}
+use Rattle.x7_memory.proofs.MemoryLemmas.{is_rank}
 use Rattle.x7_memory.proofs.memory.Memory.frame_of.Goals as goal
 
 pub words_from-requires : goal.words_from-requires

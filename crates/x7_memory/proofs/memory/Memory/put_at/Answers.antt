@@ -2,7 +2,7 @@ use Rattle.std.proofs.Common.{◌≡◌, ◌∙◌, ◌*◌, ◌<◌, [], ap, re
 use Rattle.std.specs.Prelude.{slice_set}
 use Rattle.std.proofs.lemmas.Grind.{get_or_default_zero}
 use Rattle.x7_memory.specs.Flat.{words_with_frame}
-use Rattle.x7_memory.proofs.StoredLemmas.{is_rank, new_width, own_number, over_seen, over_room, none_seen, first_room, first_seen, first_fields, stored_few, next_room}
+use Rattle.x7_memory.proofs.MemoryLemmas.{is_rank, new_width, own_number, over_seen, over_room, none_seen, first_room, first_seen, first_fields, stored_few, next_room}
 use Rattle.x7_memory.proofs.memory.Memory.put_at.Goals as goal
 
 pub write_over-requires : goal.write_over-requires

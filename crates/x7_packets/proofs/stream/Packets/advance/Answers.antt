@@ -3,7 +3,7 @@ use Rattle.x7_words.specs.Input.{preceded}
 use Rattle.x7_words.proofs.InputLemmas.{preceded_nil, preceded_preceded, stays_at, stays_on}
 use Rattle.x7_packets.specs.PacketsState.{PacketsState}
 use Rattle.x7_packets.specs.Stream.{ReadsOn, Steps}
-use Rattle.x7_packets.proofs.RunningLemmas.{gives_again, gives_end, gives_up, reads_none, reads_on, room_on, run_is_not_last, tells_run, turns_most}
+use Rattle.x7_packets.proofs.StreamLemmas.{gives_again, gives_end, gives_up, reads_none, reads_on, room_on, run_is_not_last, tells_run, turns_most}
 use Rattle.x7_packets.proofs.stream.Packets.advance.Goals as goal
 
 pub returns-then-self-clause-err : goal.returns-then-self-clause-err

@@ -1,7 +1,7 @@
 use Rattle.std.proofs.Common.{◌≡◌, ℕ, List, ◌≤◌, ◌+◌, ◌*◌, true, false}
 use Rattle.x7_words.specs.Input.{Stays, preceded}
 use Rattle.x7_packets.specs.Stream.{ReadsOn}
-use Rattle.x7_packets.proofs.RunningLemmas.{turns_left}
+use Rattle.x7_packets.proofs.StreamLemmas.{turns_left}
 use Rattle.x7_packets.proofs.stream.Packets.advance.Given as goal
 
 abbrev pub invariant-loop-self : goal.invariant-loop-self

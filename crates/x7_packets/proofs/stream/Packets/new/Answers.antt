@@ -1,6 +1,6 @@
 use Rattle.std.proofs.Common.{[], refl}
 use Rattle.x7_packets.specs.Reading.{Searching}
-use Rattle.x7_packets.proofs.RunningLemmas.{first_of, searches, starts}
+use Rattle.x7_packets.proofs.StreamLemmas.{first_of, searches, starts}
 use Rattle.x7_packets.proofs.stream.Packets.new.Goals as goal
 
 pub returns-clause-ok : goal.returns-clause-ok

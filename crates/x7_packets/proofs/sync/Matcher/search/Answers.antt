@@ -15,4 +15,4 @@ pub returns-in-None-clause-found : goal.returns-in-None-clause-found
 returns-in-None-clause-found c = λ gap s n.
     let seam = none_near gap c.args.bytes.now 3 _ _ (omega arith) (sym c.is_some.ensures ∙ c.if-is_some.false) (c.search_bytewise-near.ensures.found gap s n) in
     let nowhere = c.in-None.ensures in
-    (none_found gap c.args.bytes.now seam (λ k o. nowhere k (omega arith) (omega (arith, o.fits)) o), c.behind.ensures gap)
+    (none_found gap c.args.bytes.now seam (λ k o. nowhere k (omega arith) (omega (arith, o.fits)) o), c.after.ensures gap)

@@ -1,5 +1,5 @@
 use Rattle.std.proofs.Common.{refl, sym, ap, ◌∙◌}
-use Rattle.x7_planner.proofs.TellingLemmas.{wrote_nothing}
+use Rattle.x7_planner.proofs.FullStreamPiecesLemmas.{wrote_nothing}
 use Rattle.x7_planner.proofs.full_stream.FullStream.put.Goals as goal
 
 pub returns-in-Nothing-clause-writes : goal.returns-in-Nothing-clause-writes

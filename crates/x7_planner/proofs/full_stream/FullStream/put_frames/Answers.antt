@@ -1,7 +1,7 @@
 use Rattle.std.proofs.Common.{◌≡◌, ap, subst, ◌∙◌}
 use Rattle.x7_planner.specs.FullStreamPieces.{FullStreamState, WritesPiece}
 use Rattle.x7_planner.specs.declared.full_stream.NextPiece.TheVariants.{Check, Slot}
-use Rattle.x7_planner.proofs.TellingLemmas.{inside_at, wrote_frames, wrote_slots}
+use Rattle.x7_planner.proofs.FullStreamPiecesLemmas.{inside_at, wrote_frames, wrote_slots}
 use Rattle.x7_planner.proofs.full_stream.FullStream.put_frames.Goals as goal
 
 pub returns-then-end-count-clause-writes : goal.returns-then-end-count-clause-writes

@@ -2,7 +2,7 @@ use Rattle.std.proofs.Common.{ℕ, List, ◌++◌, ◌-◌, ◌<◌, length, tak
 use Rattle.std.proofs.lemmas.Bool.{false≢true}
 use Rattle.x7_crc.specs.Checker.{HasTaken}
 use Rattle.x7_planner.specs.FullStreamPieces.{FullStreamState, HasGiven, WritesPiece, puts_left}
-use Rattle.x7_planner.proofs.TellingLemmas.{given_more}
+use Rattle.x7_planner.proofs.FullStreamPiecesLemmas.{given_more}
 use Rattle.x7_planner.proofs.full_stream.FullStream.put_next.Goals as goal
 
 pub returns : goal.returns

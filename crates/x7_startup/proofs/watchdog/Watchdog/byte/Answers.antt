@@ -1,5 +1,5 @@
 use Rattle.std.proofs.Common.{refl}
-use Rattle.x7_startup.proofs.CountLemmas.{idle_watches, idle_fires, byte_watches, byte_fires}
+use Rattle.x7_startup.proofs.WatchdogLemmas.{idle_watches, idle_fires, byte_watches, byte_fires}
 use Rattle.x7_startup.proofs.watchdog.Watchdog.byte.Goals as goal
 
 pub returns-then-not-counts-clause-stands : goal.returns-then-not-counts-clause-stands

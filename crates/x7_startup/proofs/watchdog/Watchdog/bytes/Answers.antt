@@ -1,5 +1,5 @@
 use Rattle.std.proofs.Common.{arith}
-use Rattle.x7_startup.proofs.CountLemmas.{alike_watches, alike_quiet, alike_fired}
+use Rattle.x7_startup.proofs.WatchdogLemmas.{alike_watches, alike_quiet, alike_fired}
 use Rattle.x7_startup.proofs.watchdog.Watchdog.bytes.Goals as goal
 
 pub returns-in_default-clause-quiet : goal.returns-in_default-clause-quiet

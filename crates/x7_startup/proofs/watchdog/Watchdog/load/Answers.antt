@@ -1,4 +1,4 @@
-use Rattle.x7_startup.proofs.CountLemmas.{load_watches}
+use Rattle.x7_startup.proofs.WatchdogLemmas.{load_watches}
 use Rattle.x7_startup.proofs.watchdog.Watchdog.load.Goals as goal
 
 pub returns : goal.returns

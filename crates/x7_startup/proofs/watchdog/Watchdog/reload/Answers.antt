@@ -1,4 +1,4 @@
-use Rattle.x7_startup.proofs.CountLemmas.{reload_watches}
+use Rattle.x7_startup.proofs.WatchdogLemmas.{reload_watches}
 use Rattle.x7_startup.proofs.watchdog.Watchdog.reload.Goals as goal
 
 pub returns : goal.returns

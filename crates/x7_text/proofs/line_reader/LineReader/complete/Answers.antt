@@ -1,7 +1,7 @@
 use Rattle.std.proofs.Common.{◌≡◌, ◌∷◌, ◌++◌, ◌+◌, [], ◌∙◌, length-append, arith, ap, sym, subst, refl}
 use Rattle.x7_text.specs.Lines.{split}
 use Rattle.x7_text.specs.LineReader.{ReaderState, StandsFor}
-use Rattle.x7_text.proofs.LineReadingLemmas.{few_lines, held_on, line_ends, line_fails}
+use Rattle.x7_text.proofs.LineReaderLemmas.{few_lines, held_on, line_ends, line_fails}
 use Rattle.x7_text.proofs.PieceLemmas.{at_none, at_some, only_line}
 use Rattle.std.proofs.lemmas.Result.{err_from_is_err_and}
 use Rattle.x7_text.proofs.line_reader.LineReader.complete.Goals as goal

@@ -1,7 +1,7 @@
 use Rattle.std.proofs.Common.{◌≡◌, ◌∷◌, ◌++◌, [], ◌∙◌, IfErr, MatchResult, length, ap, arith, subst, sym}
 use Rattle.x7_text.specs.LineReader.{ReaderState, StandsFor}
 use Rattle.x7_text.specs.Lines.{split}
-use Rattle.x7_text.proofs.LineReadingLemmas.{few_lines, view_count, view_took}
+use Rattle.x7_text.proofs.LineReaderLemmas.{few_lines, view_count, view_took}
 use Rattle.x7_text.proofs.line_reader.LineReader.finish.Goals as goal
 
 pub returns-clause-read : goal.returns-clause-read

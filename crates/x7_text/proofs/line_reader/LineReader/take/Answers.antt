@@ -1,6 +1,6 @@
 use Rattle.std.proofs.Common.{◌≡◌, ◌^◌, ◌<◌, [], ◌++◌, ◌∙◌, MatchOption, MatchResult, append_assoc, length, arith, ap, sym, subst}
 use Rattle.x7_text.specs.LineReader.{FailsFrom, StandsFor, TakesPrefix}
-use Rattle.x7_text.proofs.LineReadingLemmas.{none_left}
+use Rattle.x7_text.proofs.LineReaderLemmas.{none_left}
 use Rattle.std.proofs.lemmas.Result.{err_from_is_err_and}
 use Rattle.x7_text.proofs.line_reader.LineReader.take.Goals as goal
 

@@ -1,6 +1,6 @@
 use Rattle.std.proofs.Common.{◌≡◌, ◌++◌, ◌∙◌, inl, inr, length, length-append, arith, ap, sym, subst}
 use Rattle.x7_text.specs.LineReader.{ReaderState, StandsFor, TakesWhole}
-use Rattle.x7_text.proofs.LineReadingLemmas.{few_lines, lines_fail, lines_taken, none_left, view_count, view_took}
+use Rattle.x7_text.proofs.LineReaderLemmas.{few_lines, lines_fail, lines_taken, none_left, view_count, view_took}
 use Rattle.std.proofs.lemmas.Result.{err_from_is_err_and}
 use Rattle.x7_text.proofs.line_reader.LineReader.take_lines.Goals as goal
 

@@ -1,6 +1,6 @@
 use Rattle.std.proofs.Common.{◌≡◌, ◌∷◌, ◌++◌, ◌+◌, arith}
 use Rattle.x7_text.specs.Lines.{split}
-use Rattle.x7_text.proofs.LineReadingLemmas.{HasTaken, at_fault, few_taken, one_taken, wants_here}
+use Rattle.x7_text.proofs.LineReaderLemmas.{HasTaken, at_fault, few_taken, one_taken, wants_here}
 use Rattle.x7_text.proofs.PieceLemmas.{at_some}
 use Rattle.std.proofs.lemmas.Result.{err_from_is_err_and}
 use Rattle.x7_text.proofs.line_reader.TakesLines.put_lines.Goals as goal

@@ -1,5 +1,5 @@
 use Rattle.std.proofs.Common.{◌≡◌, ◌+◌, ◌<◌, ◌^◌, List, ℕ, length}
-use Rattle.x7_text.proofs.LineReadingLemmas.{HasTaken}
+use Rattle.x7_text.proofs.LineReaderLemmas.{HasTaken}
 use Rattle.x7_text.proofs.line_reader.TakesLines.put_lines.Given as goal
 
 abbrev pub invariant-loop-after : goal.invariant-loop-after

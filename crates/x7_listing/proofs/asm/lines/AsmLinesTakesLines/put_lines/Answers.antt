@@ -1,6 +1,6 @@
 use Rattle.std.proofs.Common.{◌≡◌, ◌∷◌, ◌++◌, ◌+◌, ◌-◌, length, take, drop, arith}
 use Rattle.x7_text.specs.Lines.{split}
-use Rattle.x7_text.proofs.LineReadingLemmas.{HasTaken, all_taken, at_fault, few_taken, one_taken, wants_here}
+use Rattle.x7_text.proofs.LineReaderLemmas.{HasTaken, all_taken, at_fault, few_taken, one_taken, wants_here}
 use Rattle.x7_text.proofs.PieceLemmas.{at_none, at_some}
 use Rattle.x7_listing.specs.Assembling.{AreReadWithRoom, HasAsmFault, IsFirstOrGood}
 use Rattle.x7_listing.proofs.asm.AsmLinesLemmas.{at_once_taken, handed, handed_on}

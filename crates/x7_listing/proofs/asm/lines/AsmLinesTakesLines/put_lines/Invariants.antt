@@ -1,5 +1,5 @@
 use Rattle.std.proofs.Common.{◌≡◌, ◌+◌, ◌<◌, ◌^◌, List, ℕ, length}
-use Rattle.x7_text.proofs.LineReadingLemmas.{HasTaken}
+use Rattle.x7_text.proofs.LineReaderLemmas.{HasTaken}
 use Rattle.x7_listing.specs.Assembling.{AreReadWithRoom}
 use Rattle.x7_listing.proofs.asm.lines.AsmLinesTakesLines.put_lines.Given as goal
 
