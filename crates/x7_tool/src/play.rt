@@ -11,7 +11,7 @@ ghost use Rattle.x7_tool.specs.Run.{MakesReady};
 
 use std::alloc::Global;
 use x7_forms::{Refusal, Why, read_part};
-use x7_playing::play_streams;
+use x7_playing::{Player, play_streams};
 use x7_report::PlayText;
 use x7_words::Inputs;
 
