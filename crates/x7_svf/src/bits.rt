@@ -29,17 +29,10 @@ impl<'t> Model for Bits<'t> {
 pub(crate) fn digit_number(digit: u8) -> u8
     ensures { result ≡ digit_number digit }
 {
-    // all three before the choice, which then needs no jump
-    let decimal = digit.saturating_sub(b'0');
-    let upper = digit.saturating_sub(55);
-    let lower = digit.saturating_sub(87);
-    if digit <= b'9' {
-        decimal
-    } else if digit <= b'F' {
-        upper
-    } else {
-        lower
-    }
+    // by arithmetic: the digits of a scan are as good as random, and a jump over them would be guessed wrongly
+    let decimal = u8::from(digit <= b'9');
+    let upper = u8::from(digit <= b'F');
+    digit.saturating_sub(87 - 32 * upper - 7 * decimal)
 }
 
 /// Bit i of digits, whose last is the lowest.
