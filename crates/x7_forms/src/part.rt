@@ -34,7 +34,7 @@ pub fn read_part<'w, I: Inputs>(
     inputs: &mut I,
     name: &'w str,
 ) -> Result<Part, Refusal<'w>>
-    ensures due { AnswersAs (step_over (name.now ∷ []) (I.state inputs.old) (I.state inputs.new))
+    ensures caused { AnswersAs (step_over (name.now ∷ []) (I.state inputs.old) (I.state inputs.new))
         (λ known. part_due known name.now) (seen (λ part. part) result) }
     ensures named { IfErr result (λ r. IsNoPart name.now (event_of r)) }
     ensures stands { StandsAt name.now part_limit (I.state inputs.new) }

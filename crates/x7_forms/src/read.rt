@@ -109,9 +109,9 @@ pub fn next_turn<'w, I: Inputs>(
     requires some { 0 < length buf.old }
     ensures ok { IfOk result (λ turn. Takes (I.state inputs.old) (take turn.count buf.new) (I.state inputs.new)) }
     ensures within { IfOk result (λ turn. (turn.count ≤ left) × (turn.count ≤ length buf.old)) }
-    ensures goes { IfOk result (λ turn. turn.last ≡ false → turn.count ≡ length buf.old) }
+    ensures fills { IfOk result (λ turn. turn.last ≡ false → turn.count ≡ length buf.old) }
     ensures end { IfOk result (λ turn. turn.last ≡ true → AtEnd (I.state inputs.new).rest) }
-    ensures more { IfOk result (λ turn. turn.last ≡ false → (I.state inputs.new).ends ≤ (I.state inputs.old).ends) }
+    ensures ends { IfOk result (λ turn. turn.last ≡ false → (I.state inputs.new).ends ≤ (I.state inputs.old).ends) }
     ensures length { length buf.new ≡ length buf.old }
     ensures err { IfErr result (λ r. Unread (I.state inputs.old) name.now (I.state inputs.new) left (event_of r)) }
     ensures soon { IfErr result (λ r. event_of r ≡ reading_failed name.now → (I.state inputs.new).given < (I.state inputs.old).given + length buf.old) }
@@ -171,7 +171,7 @@ pub fn read_whole<'w, I: Inputs>(
     name: &'w str,
     limit: usize,
 ) -> Result<Vec<u8>, Refusal<'w>>
-    ensures due { ReadsWhole (I.state inputs.old) (I.state inputs.new) limit name.now (seen (λ whole. whole.items) result) }
+    ensures caused { ReadsWhole (I.state inputs.old) (I.state inputs.new) limit name.now (seen (λ whole. whole.items) result) }
     ensures named { IfErr result (λ r. IsUnread name.now (event_of r)) }
     ensures within { IfOk result (λ whole. vec_len whole ≤ limit) }
     ensures stands { StandsAt name.now limit (I.state inputs.new) }

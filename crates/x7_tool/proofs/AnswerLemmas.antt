@@ -27,7 +27,7 @@ pub ready_answered : (form asks : AskedForm) (old new : Outside) (whole : Result
     → MakesReady asks old.inputs new.inputs whole → Puts whole old.out new.out got → Answered form old new got
 ready_answered form asks old new whole got e l u r p =
     as_asked form asks old new got e (record {
-      ends = ready_ends asks old new whole got l u r.due p;
+      ends = ready_ends asks old new whole got l u r.caused p;
       stops = puts_stop asks old.inputs new.inputs whole old.out new.out got r.stops p;
       judges = unused_judges asks (sources old.inputs old.flash) (sources new.inputs new.flash) got u;
       asks = r.asks;

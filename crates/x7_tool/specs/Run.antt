@@ -213,7 +213,7 @@ Puts (Err event) old new got = (got ≡ Err event) × (new.written ≡ old.writt
 Puts (Ok answer) old new (Ok stopped) = (stopped ≡ answer.stopped) × PutsAll old answer.text new
 Puts (Ok answer) old new (Err event) = (event ≡ writing_failed) × SinkFails old new × PutsSome old answer.text new
 
--- a text of the form that is ready has its cause: it is due by what is known, or what the form names failed or was missing
+-- a text of the form that is ready has its cause: it is what the known contents come to, or what the form names failed or was missing
 abbrev pub AnswersOver : AskedForm → Outside → Outside → Result Answer Event → Type 0
 AnswersOver form old new got = IsCausedBy (known_in old) (Came (Some form) old new) (λ known end. FormGives known form end) got
 
@@ -227,14 +227,14 @@ AnswersForm form old new got = AnswersBy (step_over (names_of (Some form)) old n
 
 -- A form that reads inputs alone made its text ready, or not: the text has its cause, reading stopped where an input ends the form, no more inputs were asked for than the form names, and every input keeps its bytes.
 pub record MakesReady (form : AskedForm) (old new : InputsState) (got : Result Answer Event) : Type 0 where
-  pub due : AnswersForm form old new got
+  pub caused : AnswersForm form old new got
   pub stops : Stops (Some form) old new got
   pub asks : AsksFew old (length (names_of (Some form))) new
   pub stays : Stays old new
 
 -- A form that reads a flash too made its text ready, or not: what is said of a form that reads inputs alone, by what the flash holds too; and of the flash, how large it is, and when it may fail.
 pub record MakesReadyFrom (form : AskedForm) (old new : Sources) (got : Result Answer Event) : Type 0 where
-  pub due : AnswersFrom form old new got
+  pub caused : AnswersFrom form old new got
   pub stops : Stops (Some form) old.inputs new.inputs got
   pub measured : IsMeasured (Some form) new.flash got
   pub last : FailsLast (Some form) old.inputs new.flash got

@@ -102,7 +102,7 @@ fn boot_from<'w, F: Flash>(
     flash: &mut F,
     name: &'w str,
 ) -> Result<PlayText, Refusal<'w>>
-    ensures due { FlashComes name.now part.now (F.state flash.old) (F.state flash.new) (seen text_of_play result) }
+    ensures caused { FlashComes name.now part.now (F.state flash.old) (F.state flash.new) (seen text_of_play result) }
     ensures failed { IfErr result (λ r. event_of r ≡ reading_failed name.now → (F.state flash.new).attached ≡ true → (F.state flash.new).extent ≤ flash_limit) }
     ensures reads { ReadsFlash name.now (F.state flash.old) (F.state flash.new) }
     ensures unwritten { Unwritten (F.state flash.old) (F.state flash.new) (F.found_since flash.old) (F.found_since flash.new) }

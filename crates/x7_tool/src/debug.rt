@@ -53,7 +53,7 @@ fn read_given<'w, I: Inputs>(
     stream: &'w str,
     script: &'w str,
 ) -> Result<Given, Refusal<'w>>
-    ensures due { AnswersAs (step_over (part.now ∷ stream.now ∷ script.now ∷ []) (I.state inputs.old) (I.state inputs.new))
+    ensures caused { AnswersAs (step_over (part.now ∷ stream.now ∷ script.now ∷ []) (I.state inputs.old) (I.state inputs.new))
         (λ known. debug_inputs known part.now stream.now script.now) (seen debug_given result) }
     ensures stands { IfOk result (λ given. StandsAt script.now script_limit (I.state inputs.new)) }
     ensures stops { IfErr result (λ r. StopsAmong (limited part_limit part.now ∷ limited stream_limit stream.now ∷ limited script_limit script.now ∷ [])

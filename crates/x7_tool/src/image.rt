@@ -35,7 +35,7 @@ fn read_streams<'w, I: Inputs>(
     golden: &'w str,
     update: &'w str,
 ) -> Result<Streams, Refusal<'w>>
-    ensures due { AnswersAs (step_over (golden.now ∷ update.now ∷ []) (I.state inputs.old) (I.state inputs.new))
+    ensures caused { AnswersAs (step_over (golden.now ∷ update.now ∷ []) (I.state inputs.old) (I.state inputs.new))
         (λ known. image_streams known golden.now update.now) (seen streams_of result) }
     ensures stands { IfOk result (λ streams. StandsAt update.now stream_limit (I.state inputs.new)) }
     ensures stops { IfErr result (λ r. StopsAmong (limited stream_limit golden.now ∷ limited stream_limit update.now ∷ []) (I.state inputs.old) (I.state inputs.new) (event_of r)) }

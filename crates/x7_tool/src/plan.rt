@@ -64,7 +64,7 @@ fn read_plan<'w, I: Inputs>(
     part: &Part,
     name: &'w str,
 ) -> Result<Plan, Refusal<'w>>
-    ensures due { ReadsPlan (I.state inputs.old) (I.state inputs.new) part.now name.now (seen (λ plan. plan) result) }
+    ensures caused { ReadsPlan (I.state inputs.old) (I.state inputs.new) part.now name.now (seen (λ plan. plan) result) }
     ensures stands { IfOk result (λ plan. StandsAt name.now text_limit (I.state inputs.new)) }
     ensures stops { IfErr result (λ r. StopsAmong (limited text_limit name.now ∷ []) (I.state inputs.old) (I.state inputs.new) (event_of r)) }
     ensures asks { AsksFew (I.state inputs.old) 1 (I.state inputs.new) }

@@ -25,7 +25,7 @@ pub(crate) fn read_stream<'w, I: Inputs>(
     inputs: &mut I,
     name: &'w str,
 ) -> Result<Stream, Refusal<'w>>
-    ensures due { AnswersAs (step_over (name.now ∷ []) (I.state inputs.old) (I.state inputs.new))
+    ensures caused { AnswersAs (step_over (name.now ∷ []) (I.state inputs.old) (I.state inputs.new))
         (λ known. stream_data known name.now) (seen data_from result) }
     ensures named { IfErr result (λ r. IsUnplayed name.now (event_of r)) }
     ensures stands { StandsAt name.now stream_limit (I.state inputs.new) }
@@ -59,7 +59,7 @@ pub(crate) fn read_data<'w, I: Inputs>(
     inputs: &mut I,
     name: &'w str,
 ) -> Result<Vec<u8>, Refusal<'w>>
-    ensures due { AnswersAs (step_over (name.now ∷ []) (I.state inputs.old) (I.state inputs.new))
+    ensures caused { AnswersAs (step_over (name.now ∷ []) (I.state inputs.old) (I.state inputs.new))
         (λ known. stream_data known name.now) (seen (λ bytes. bytes.items) result) }
     ensures named { IfErr result (λ r. IsUnplayed name.now (event_of r)) }
     ensures stands { StandsAt name.now stream_limit (I.state inputs.new) }

@@ -25,7 +25,7 @@ returns-in-Some-clause-begins g c =
     let long = length-take-le count c.next_turn.new.buf within in
     let p = piece_of old mid piece c.deref.result.now bytes c.wanted.result joined c.deref-in-loop-bytes.ensures.value (omega (arith, long, c.in_ok-turn.ensures.within.1, c.min-count.ensures, length-take-le c.min-count.result c.loop-bytes.piece (omega (arith, c.min-count.ensures, v.piece)))) c.wanted.ensures.some c.deref.ensures.value c.wanted.ensures.fixed c.wanted.ensures.waits v.waiting in
     beginning_read old mid piece bytes c.in-Some.judged.line.items c.wanted.result c.in-Some.judged.start c.in_ok-turn.turn.last (i.state c.args.inputs.now) (i.state c.loop-bytes.inputs) (i.state c.next_turn.new.inputs)
-    p joined c.deref-in-loop-bytes.ensures.value (reads_by (i.state c.args.inputs.now) (i.state c.loop-bytes.inputs) old v.selected v.taken v.given v.asked v.inputs v.selects) c.in_ok-turn.ensures.ok c.next_turn.ensures.asked c.next_turn.ensures.inputs c.in_ok-turn.ensures.end (λ e. omega (arith, v.ends, c.in_ok-turn.ensures.more e)) v.few (omega (arith, long, c.in_ok-turn.ensures.within.1, c.min-count.ensures, length-take-le c.min-count.result c.loop-bytes.piece (omega (arith, c.min-count.ensures, v.piece)))) (found_some c.in_ok-judged.field-0 c.in-Some.judged _ (λ (j : Judged). (j.start ≤ length bytes) × IsBeginning bytes c.in_ok-turn.turn.last j.line.items j.start) c.in-Some.is c.in_ok-judged.ensures.judged) (found_some c.in_ok-judged.field-0 c.in-Some.judged _ (λ (j : Judged). BeginAt bytes j.start) c.in-Some.is c.in_ok-judged.ensures.begin)
+    p joined c.deref-in-loop-bytes.ensures.value (reads_by (i.state c.args.inputs.now) (i.state c.loop-bytes.inputs) old v.selected v.taken v.given v.asked v.inputs v.selects) c.in_ok-turn.ensures.ok c.next_turn.ensures.asked c.next_turn.ensures.inputs c.in_ok-turn.ensures.end (λ e. omega (arith, v.ends, c.in_ok-turn.ensures.ends e)) v.few (omega (arith, long, c.in_ok-turn.ensures.within.1, c.min-count.ensures, length-take-le c.min-count.result c.loop-bytes.piece (omega (arith, c.min-count.ensures, v.piece)))) (found_some c.in_ok-judged.field-0 c.in-Some.judged _ (λ (j : Judged). (j.start ≤ length bytes) × IsBeginning bytes c.in_ok-turn.turn.last j.line.items j.start) c.in-Some.is c.in_ok-judged.ensures.judged) (found_some c.in_ok-judged.field-0 c.in-Some.judged _ (λ (j : Judged). BeginAt bytes j.start) c.in-Some.is c.in_ok-judged.ensures.begin)
 
 pub returns-in_err-judged-clause-err : goal.returns-in_err-judged-clause-err
 returns-in_err-judged-clause-err g c = rw (handed_on c.from_residual-in_err-judged.result c.in_err-judged.field-0.0 c.from_residual-in_err-judged.ensures) (let i = g.I.Inputs in
@@ -86,7 +86,7 @@ loop-bytes-preserved g c =
       waiting = λ some. subst EndsInHeader c.deref-in-loop-bytes.ensures.value none.2;
       asked = c.next_turn.ensures.asked ∙ v.asked;
       selects = c.in_ok-turn.ensures.ok.selects ∙ v.selects;
-      ends = omega (arith, v.ends, c.in_ok-turn.ensures.more none.0);
+      ends = omega (arith, v.ends, c.in_ok-turn.ensures.ends none.0);
       given = omega (arith, v.given, c.in_ok-turn.ensures.ok.given, ap length joined, length-append old piece);
       taken = joined_taken (i.state c.args.inputs.now).rest (i.state c.loop-bytes.inputs).rest (i.state c.next_turn.new.inputs).rest old piece mid mid v.taken c.in_ok-turn.ensures.ok.taken joined refl;
     }

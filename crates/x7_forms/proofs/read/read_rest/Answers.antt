@@ -38,7 +38,7 @@ loop-turn-preserved g c =
     record {
       selected = c.in_ok-turn.ensures.ok.selected;
       inputs = stays_on _ _ _ v.inputs c.next_turn.ensures.inputs;
-      ends = omega (arith, v.ends, c.in_ok-turn.ensures.more c.if-turn.false);
+      ends = omega (arith, v.ends, c.in_ok-turn.ensures.ends c.if-turn.false);
       left = omega (arith, v.left);
       piece = c.next_turn.ensures.length ∙ v.piece;
       told = (v.told.0 ++ piece, (c.in-Ok.ensures.items ∙ ap (λ t. t ++ piece) v.told.1.0 ∙ append_assoc _ v.told.0 piece, omega (arith, v.told.1.1, size, length-append v.told.0 piece, c.in_ok-turn.ensures.within.0), reads));

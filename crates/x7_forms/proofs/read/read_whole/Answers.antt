@@ -9,13 +9,13 @@ use Rattle.x7_words.proofs.InputLemmas.{few_once}
 use Rattle.x7_forms.proofs.ResultLemmas.{handed_on}
 use Rattle.x7_forms.proofs.read.read_whole.Goals as goal
 
-pub returns-in_err-open-clause-due : goal.returns-in_err-open-clause-due
-returns-in_err-open-clause-due g c = rw (handed_on c.from_residual.result c.in_err-open.field-0.0 c.from_residual.ensures) (λ flash.
+pub returns-in_err-open-clause-caused : goal.returns-in_err-open-clause-caused
+returns-in_err-open-clause-caused g c = rw (handed_on c.from_residual.result c.in_err-open.field-0.0 c.from_residual.ensures) (λ flash.
     let i = g.I.Inputs in
     open_refused (i.state c.args.inputs.now) (i.state c.open.new.inputs) flash c.args.name.now c.args.limit (event_of c.in_err-open.field-0.0) c.in_err-open.ensures.err c.open.ensures.asks)
 
-pub returns-clause-due : goal.returns-clause-due
-returns-clause-due g c = λ flash.
+pub returns-clause-caused : goal.returns-clause-caused
+returns-clause-caused g c = λ flash.
     let i = g.I.Inputs in
     let name = c.args.name.now in
     let contents = (i.state c.args.inputs.now).contents in
@@ -26,8 +26,8 @@ returns-clause-due g c = λ flash.
     subst (λ x. IsCaused (with_inputs contents flash) C (λ t. whole_in t c.args.limit name) (Ok x)) (sym is)
     (whole_read contents flash C name p.0 (i.state c.read_rest.new.inputs).rest c.args.limit sel p.3.1 p.2)
 
-pub returns-in_err-read_rest-clause-due : goal.returns-in_err-read_rest-clause-due
-returns-in_err-read_rest-clause-due g c = rw (handed_on c.from_residual-in_err-read_rest.result c.in_err-read_rest.field-0.0 c.from_residual-in_err-read_rest.ensures) (λ flash.
+pub returns-in_err-read_rest-clause-caused : goal.returns-in_err-read_rest-clause-caused
+returns-in_err-read_rest-clause-caused g c = rw (handed_on c.from_residual-in_err-read_rest.result c.in_err-read_rest.field-0.0 c.from_residual-in_err-read_rest.ensures) (λ flash.
     let i = g.I.Inputs in
     whole_refused (i.state c.args.inputs.now) (i.state c.open.new.inputs) (i.state c.read_rest.new.inputs) flash c.args.name.now c.args.limit (event_of c.in_err-read_rest.field-0.0)
     c.open.ensures.inputs c.in_ok-open.ensures.ok.found c.open.ensures.asks c.in_err-read_rest.ensures.err)

@@ -33,7 +33,7 @@ loop-turn-preserved g c =
     record {
       selected = c.in_ok-turn.ensures.ok.selected;
       inputs = stays_on _ _ _ v.inputs c.next_turn.ensures.inputs;
-      ends = omega (arith, v.ends, c.in_ok-turn.ensures.more c.if-turn.false);
+      ends = omega (arith, v.ends, c.in_ok-turn.ensures.ends c.if-turn.false);
       left = omega (arith, v.left);
       buf = c.next_turn.ensures.length ∙ v.buf;
       told = (v.told.0 ++ piece, (omega (arith, v.told.1.0, size, length-append v.told.0 piece, c.in_ok-turn.ensures.within.0), reads));

@@ -43,7 +43,7 @@ loop-turn-preserved g c =
     record {
       selected = c.in_ok-turn.ensures.ok.selected;
       inputs = stays_on _ _ _ v.inputs c.next_turn.ensures.inputs;
-      ends = omega (arith, v.ends, c.in_ok-turn.ensures.more c.if-turn.false);
+      ends = omega (arith, v.ends, c.in_ok-turn.ensures.ends c.if-turn.false);
       left = omega (arith, v.left);
       piece = c.next_turn.ensures.length ∙ v.piece;
       may = may_on c.loop-turn.player c.play.new.self piece c.loop-turn.left (c.loop-turn.left - n) (omega (arith, size, c.in_ok-turn.ensures.within.0)) plays v.may;

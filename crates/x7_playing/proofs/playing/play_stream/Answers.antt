@@ -40,7 +40,7 @@ returns-else-is_err-clause-ok g c =
     let size : length first ≡ count = length-take-le count buf (omega (arith, c.in_ok-first.ensures.within.1, c.next_turn.ensures.length)) in
     let fits : AreBytes first = c.data_start.ensures.fits in
     let within : length first ≤ c.args.limit = omega (arith, size, c.in_ok-first.ensures.within.0) in
-    let long : c.in_ok-first.first.last ≡ false → longest_header ≤ length first = λ e. omega (arith, size, c.in_ok-first.ensures.goes e, c.requires.buffer) in
+    let long : c.in_ok-first.first.last ≡ false → longest_header ≤ length first = λ e. omega (arith, size, c.in_ok-first.ensures.fills e, c.requires.buffer) in
     let select : Selects contents name (preceded first (i.state c.next_turn.new.inputs).rest) = subst (λ r. Selects contents name r) c.in_ok-first.ensures.ok.taken c.in_ok-open.ensures.ok.found in
     let start = c.in-Ok.start in
     let slice = take (count - start) (drop start buf) in
@@ -102,7 +102,7 @@ returns-in_ok-skip_rest-in-Err-clause-err g c = λ flash.
     let size : length first ≡ count = length-take-le count buf (omega (arith, c.in_ok-first.ensures.within.1, c.next_turn.ensures.length)) in
     let fits : AreBytes first = c.data_start.ensures.fits in
     let within : length first ≤ c.args.limit = omega (arith, size, c.in_ok-first.ensures.within.0) in
-    let long : c.in_ok-first.first.last ≡ false → longest_header ≤ length first = λ e. omega (arith, size, c.in_ok-first.ensures.goes e, c.requires.buffer) in
+    let long : c.in_ok-first.first.last ≡ false → longest_header ≤ length first = λ e. omega (arith, size, c.in_ok-first.ensures.fills e, c.requires.buffer) in
     let select : Selects contents name (preceded first (i.state c.next_turn.new.inputs).rest) = subst (λ r. Selects contents name r) c.in_ok-first.ensures.ok.taken c.in_ok-open.ensures.ok.found in
     let C = CameIn (step_over (name ∷ []) (i.state c.args.inputs.now) (i.state c.skip_rest.new.inputs)) in
     let p = c.in_ok-skip_rest-in-Err.ensures.ok in
@@ -164,7 +164,7 @@ pub returns-else-is_err-clause-once : goal.returns-else-is_err-clause-once
 returns-else-is_err-clause-once g c =
     let i = g.I.Inputs in
     few_after c.in_ok-first.first.last (i.state c.args.inputs.now) (i.state c.open.new.inputs) (i.state c.next_turn.new.inputs) (i.state c.play_rest.new.inputs) c.args.limit (c.args.limit - c.in_ok-first.first.count)
-    c.open.ensures.once c.next_turn.ensures.few c.in_ok-first.ensures.more c.play_rest.ensures.few c.play_rest.ensures.ended
+    c.open.ensures.once c.next_turn.ensures.few c.in_ok-first.ensures.ends c.play_rest.ensures.few c.play_rest.ensures.ended
 
 pub returns-else-is_err-clause-inputs : goal.returns-else-is_err-clause-inputs
 returns-else-is_err-clause-inputs g c = stays_on _ _ _ (stays_on _ _ _ c.open.ensures.inputs c.next_turn.ensures.inputs) c.play_rest.ensures.inputs
@@ -183,7 +183,7 @@ pub returns-in_err-skip_rest-in-Err-clause-once : goal.returns-in_err-skip_rest-
 returns-in_err-skip_rest-in-Err-clause-once g c =
     let i = g.I.Inputs in
     few_after c.in_ok-first.first.last (i.state c.args.inputs.now) (i.state c.open.new.inputs) (i.state c.next_turn.new.inputs) (i.state c.skip_rest.new.inputs) c.args.limit (c.args.limit - c.in_ok-first.first.count)
-    c.open.ensures.once c.next_turn.ensures.few c.in_ok-first.ensures.more c.skip_rest.ensures.few c.skip_rest.ensures.ended
+    c.open.ensures.once c.next_turn.ensures.few c.in_ok-first.ensures.ends c.skip_rest.ensures.few c.skip_rest.ensures.ended
 
 pub returns-in_err-skip_rest-in-Err-clause-inputs : goal.returns-in_err-skip_rest-in-Err-clause-inputs
 returns-in_err-skip_rest-in-Err-clause-inputs g c = stays_on _ _ _ (stays_on _ _ _ c.open.ensures.inputs c.next_turn.ensures.inputs) c.skip_rest.ensures.inputs
@@ -202,7 +202,7 @@ pub returns-in_ok-skip_rest-in-Err-clause-once : goal.returns-in_ok-skip_rest-in
 returns-in_ok-skip_rest-in-Err-clause-once g c =
     let i = g.I.Inputs in
     few_after c.in_ok-first.first.last (i.state c.args.inputs.now) (i.state c.open.new.inputs) (i.state c.next_turn.new.inputs) (i.state c.skip_rest.new.inputs) c.args.limit (c.args.limit - c.in_ok-first.first.count)
-    c.open.ensures.once c.next_turn.ensures.few c.in_ok-first.ensures.more c.skip_rest.ensures.few c.skip_rest.ensures.ended
+    c.open.ensures.once c.next_turn.ensures.few c.in_ok-first.ensures.ends c.skip_rest.ensures.few c.skip_rest.ensures.ended
 
 pub returns-in_ok-skip_rest-in-Err-clause-inputs : goal.returns-in_ok-skip_rest-in-Err-clause-inputs
 returns-in_ok-skip_rest-in-Err-clause-inputs g c = stays_on _ _ _ (stays_on _ _ _ c.open.ensures.inputs c.next_turn.ensures.inputs) c.skip_rest.ensures.inputs

@@ -23,10 +23,10 @@ returns-clause-ready g c =
     let made = seen text_of_play c.boot_from.result in
     let C = CameIn (step_over (part_name ∷ []) old new) in
     record {
-      due = λ before after. booted_ends (record before { inputs = old; flash = first }) (record after { inputs = new; flash = last }) name part_name part C made (c.in_ok-part.ensures.due first.bytes) c.boot_from.ensures.due;
-      stops = boot_stops name part_name part old new first last made c.boot_from.ensures.due;
-      measured = boot_measured (Some (Booting part_name name)) name part first last made c.boot_from.ensures.due;
-      last = boot_last text_of_play name part_name old last c.boot_from.result c.boot_from.ensures.failed (part_good old.contents C name part_name part (c.in_ok-part.ensures.due None));
+      caused = λ before after. booted_ends (record before { inputs = old; flash = first }) (record after { inputs = new; flash = last }) name part_name part C made (c.in_ok-part.ensures.caused first.bytes) c.boot_from.ensures.caused;
+      stops = boot_stops name part_name part old new first last made c.boot_from.ensures.caused;
+      measured = boot_measured (Some (Booting part_name name)) name part first last made c.boot_from.ensures.caused;
+      last = boot_last text_of_play name part_name old last c.boot_from.result c.boot_from.ensures.failed (part_good old.contents C name part_name part (c.in_ok-part.ensures.caused None));
       asks = c.read_part.ensures.once;
       stays = c.read_part.ensures.inputs;
     }
@@ -39,7 +39,7 @@ returns-in_err-part-clause-ready g c = rw (handed_on c.from_residual.result c.in
     let part_name = c.args.part.now in
     let event = event_of c.in_err-part.field-0.0 in
     record {
-      due = λ before after. part_refused (record before { inputs = old; flash = flash }) (record after { inputs = new; flash = flash }) name part_name event (c.in_err-part.ensures.due flash.bytes);
+      caused = λ before after. part_refused (record before { inputs = old; flash = flash }) (record after { inputs = new; flash = flash }) name part_name event (c.in_err-part.ensures.caused flash.bytes);
       stops = first_stops (Booting part_name name) (limited part_limit part_name) [] old new event refl c.read_part.ensures.stands c.read_part.ensures.once (no_part_about part_name event c.in_err-part.ensures.named);
       measured = no_part_measured (Some (Booting part_name name)) flash part_name event (inl refl) c.in_err-part.ensures.named;
       last = no_part_last (Booting part_name name) old flash part_name event (inl refl) c.in_err-part.ensures.named;

@@ -8,8 +8,8 @@ use Rattle.x7_tool.proofs.BootTextLemmas.{text_boots, short_flash, fault_boots}
 use Rattle.x7_forms.proofs.ResultLemmas.{handed_on}
 use Rattle.x7_tool.proofs.boot.boot_from.Goals as goal
 
-pub returns-in_err-attach-clause-due : goal.returns-in_err-attach-clause-due
-returns-in_err-attach-clause-due g c = rw (handed_on c.from_residual.result c.in_err-attach.field-0.0 c.from_residual.ensures) (inr (inl c.in_err-attach.ensures.err))
+pub returns-in_err-attach-clause-caused : goal.returns-in_err-attach-clause-caused
+returns-in_err-attach-clause-caused g c = rw (handed_on c.from_residual.result c.in_err-attach.field-0.0 c.from_residual.ensures) (inr (inl c.in_err-attach.ensures.err))
 
 pub returns-in-Ok-clause-reads : goal.returns-in-Ok-clause-reads
 returns-in-Ok-clause-reads g c = let f = g.F.Flash in
@@ -27,14 +27,14 @@ pub returns-in-Err-clause-unwritten : goal.returns-in-Err-clause-unwritten
 returns-in-Err-clause-unwritten g c = let f = g.F.Flash in
     unwritten_on (f.state c.args.flash.now) (f.state c.attach.new.flash) (f.state c.boot.new.flash) (f.found_since c.args.flash.now) (f.found_since c.attach.new.flash) (f.found_since c.boot.new.flash) c.in_ok-attach.ensures.stays.unwritten c.in-Err.ensures.flash.unwritten
 
-pub returns-in-Err-clause-due : goal.returns-in-Err-clause-due
-returns-in-Err-clause-due g c = let f = g.F.Flash in
+pub returns-in-Err-clause-caused : goal.returns-in-Err-clause-caused
+returns-in-Err-clause-caused g c = let f = g.F.Flash in
     let b = c.in-Err.ensures in
     fault_boots c.args.name.now c.args.part.now (f.state c.args.flash.now) (f.state c.attach.new.flash) (f.state c.boot.new.flash) (f.found_since c.attach.new.flash) (f.found_since c.boot.new.flash) c.in-Err.fault (event_of c.refusal_of.result)
     c.in_ok-attach.ensures.reads c.in_ok-attach.ensures.asks c.in_ok-attach.ensures.sized b.flash c.refusal_of.ensures (λ e. b.failed (search (rules, e))) (λ e. b.too_large.0 (ap Err e))
 
-pub returns-in-Ok-clause-due : goal.returns-in-Ok-clause-due
-returns-in-Ok-clause-due g c = let f = g.F.Flash in
+pub returns-in-Ok-clause-caused : goal.returns-in-Ok-clause-caused
+returns-in-Ok-clause-caused g c = let f = g.F.Flash in
     let mid = f.state c.attach.new.flash in
     let b = c.in-Ok.ensures in
     let small : flash_limit < mid.extent → ⊥ = λ large. grind (arith, b.too_large.1 large) in

@@ -23,7 +23,7 @@ returns g c =
     let given = debug_given c.in_ok-given.given in
     let made = c.text_of.result in
     record {
-      due = answers_by DebugInputs Answer (part ∷ stream ∷ script ∷ []) old new (λ t. debug_inputs t part stream script) given (DebuggedAs script) (seen whole_of made) c.in_ok-given.ensures.due (debug_due script given made c.text_of.ensures.ok c.text_of.ensures.err);
+      caused = answers_by DebugInputs Answer (part ∷ stream ∷ script ∷ []) old new (λ t. debug_inputs t part stream script) given (DebuggedAs script) (seen whole_of made) c.in_ok-given.ensures.caused (debug_due script given made c.text_of.ensures.ok c.text_of.ensures.err);
       stops = result_stops whole_of (Debugging part stream script) old new made (err_weaker made
           (λ r h. third_stops (Debugging part stream script) (limited part_limit part) (limited stream_limit stream) (limited script_limit script) [] old new (event_of r) refl c.in_ok-given.ensures.stands c.read_given.ensures.asks (debug_about script given (event_of r) h))
           c.text_of.ensures.err);
@@ -39,7 +39,7 @@ returns-in_err-given g c = rw (handed_on c.from_residual.result c.in_err-given.f
     let script = c.args.script.now in
     let event = event_of c.in_err-given.field-0.0 in
     record {
-      due = answers_kept DebugInputs Answer (part ∷ stream ∷ script ∷ []) old new (λ t. debug_inputs t part stream script) (DebuggedAs script) event (λ x. refl) c.in_err-given.ensures.due;
+      caused = answers_kept DebugInputs Answer (part ∷ stream ∷ script ∷ []) old new (λ t. debug_inputs t part stream script) (DebuggedAs script) event (λ x. refl) c.in_err-given.ensures.caused;
       stops = among_stops (Debugging part stream script) old new event c.in_err-given.ensures.stops;
       asks = c.read_given.ensures.asks;
       stays = c.read_given.ensures.inputs;

@@ -43,7 +43,7 @@ loop-read-preserved g c =
     record {
       selected = c.in_ok-turn.ensures.ok.selected;
       inputs = stays_on _ _ _ v.inputs c.next_turn.ensures.inputs;
-      once = once_on _ _ _ v.once c.in_ok-turn.ensures.ok.selects (c.in_ok-turn.ensures.more c.if-turn.false);
+      once = once_on _ _ _ v.once c.in_ok-turn.ensures.ok.selects (c.in_ok-turn.ensures.ends c.if-turn.false);
       left = omega (arith, v.left);
       piece = c.next_turn.ensures.length ∙ v.piece;
       told = (taken ++ piece, (sel, c.take_turn-read.ensures c.args.taker taken fits v.told.1.1, omega (arith, size, v.told.1.2, c.in_ok-turn.ensures.within.0), at_on name taken piece (i.state c.loop-read.inputs) (i.state c.next_turn.new.inputs) v.told.1.3 c.in_ok-turn.ensures.ok c.next_turn.ensures.asked));

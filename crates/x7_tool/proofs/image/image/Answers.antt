@@ -22,7 +22,7 @@ returns g c =
     let streams = streams_of c.in_ok-streams.streams in
     let made = c.plain_text.result in
     record {
-      due = answers_end ImageStreams Answer (golden ∷ update ∷ []) old new (λ t. image_streams t golden update) (image_by update 1) streams (seen text_of_bytes made) (streams_steady golden update) c.in_ok-streams.ensures.due (image_due update 1 streams made c.plain_text.ensures.ok c.plain_text.ensures.err);
+      caused = answers_end ImageStreams Answer (golden ∷ update ∷ []) old new (λ t. image_streams t golden update) (image_by update 1) streams (seen text_of_bytes made) (streams_steady golden update) c.in_ok-streams.ensures.caused (image_due update 1 streams made c.plain_text.ensures.ok c.plain_text.ensures.err);
       stops = result_stops text_of_bytes (Imaging golden update) old new made (err_weaker made
           (λ r a. second_stops (Imaging golden update) (limited stream_limit golden) (limited stream_limit update) [] old new (event_of r) refl c.in_ok-streams.ensures.stands c.read_streams.ensures.asks a) c.plain_text.ensures.about);
       asks = c.read_streams.ensures.asks;
@@ -36,7 +36,7 @@ returns-in_err-streams g c = rw (handed_on c.from_residual.result c.in_err-strea
     let update = c.args.update.now in
     let event = event_of c.in_err-streams.field-0.0 in
     record {
-      due = answers_stop ImageStreams Answer (golden ∷ update ∷ []) (golden ∷ update ∷ []) old new (λ t. image_streams t golden update) (λ t. image_by update 1) event (λ n h. h) c.in_err-streams.ensures.due;
+      caused = answers_stop ImageStreams Answer (golden ∷ update ∷ []) (golden ∷ update ∷ []) old new (λ t. image_streams t golden update) (λ t. image_by update 1) event (λ n h. h) c.in_err-streams.ensures.caused;
       stops = among_stops (Imaging golden update) old new event c.in_err-streams.ensures.stops;
       asks = c.read_streams.ensures.asks;
       stays = c.read_streams.ensures.inputs;

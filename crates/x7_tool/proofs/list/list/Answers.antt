@@ -307,11 +307,11 @@ loop-lister-preserved g c =
     let lists : Lists c.put_turn.new.lister (appended old t.line) (o.state c.put_turn.new.out).written (t.sent ++ piece) = c.in_ok-put_turn.ensures.ok (appended old t.line) t.sent t.lists in
     let goes = goes_on taken piece t.line t.sent t.goes in
     let size : length (taken ++ piece) ≡ length taken + n = length-append taken piece ∙ ap (λ k. length taken + k) (length-take-le n c.next_turn.new.buf (omega (arith, c.in_ok-turn.ensures.within.1, c.next_turn.ensures.length, v.piece))) in
-    let full : n ≡ turn_bytes = c.in_ok-turn.ensures.goes c.if-turn.false ∙ v.piece in
+    let full : n ≡ turn_bytes = c.in_ok-turn.ensures.fills c.if-turn.false ∙ v.piece in
     record {
       selected = c.in_ok-turn.ensures.ok.selected;
       inputs = stays_on _ _ _ v.inputs c.next_turn.ensures.inputs;
-      once = once_on _ _ _ v.once c.in_ok-turn.ensures.ok.selects (c.in_ok-turn.ensures.more c.if-turn.false);
+      once = once_on _ _ _ v.once c.in_ok-turn.ensures.ok.selects (c.in_ok-turn.ensures.ends c.if-turn.false);
       written = omega (arith, v.written, c.put_turn.ensures.counts.faults);
       left = omega (arith, v.left);
       piece = omega (arith, c.next_turn.ensures.length, v.piece);

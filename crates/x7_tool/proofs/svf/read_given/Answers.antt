@@ -14,19 +14,19 @@ use Rattle.x7_tool.proofs.svf.read_given.Goals as goal
 
 pub returns-in_err-text-clause-given : goal.returns-in_err-text-clause-given
 returns-in_err-text-clause-given g c = rw (handed_on c.from_residual-in_err-text.result c.in_err-text.field-0.0 c.from_residual-in_err-text.ensures) (let i = g.I.Inputs in
-    texts_unread c.args.part.now c.args.text.now (i.state c.args.inputs.now) (i.state c.read_part.new.inputs) (i.state c.read_whole.new.inputs) c.in_ok-part.part (event_of c.in_err-text.field-0.0) c.read_part.ensures.inputs c.in_ok-part.ensures.due c.in_err-text.ensures.due)
+    texts_unread c.args.part.now c.args.text.now (i.state c.args.inputs.now) (i.state c.read_part.new.inputs) (i.state c.read_whole.new.inputs) c.in_ok-part.part (event_of c.in_err-text.field-0.0) c.read_part.ensures.inputs c.in_ok-part.ensures.caused c.in_err-text.ensures.caused)
 
 pub returns-clause-given : goal.returns-clause-given
 returns-clause-given g c =
     let i = g.I.Inputs in
-    texts_read c.args.part.now c.args.text.now (i.state c.args.inputs.now) (i.state c.read_part.new.inputs) (i.state c.read_whole.new.inputs) c.in_ok-part.part c.in_ok-text.text.items c.read_part.ensures.inputs c.in_ok-part.ensures.due c.in_ok-text.ensures.due
+    texts_read c.args.part.now c.args.text.now (i.state c.args.inputs.now) (i.state c.read_part.new.inputs) (i.state c.read_whole.new.inputs) c.in_ok-part.part c.in_ok-text.text.items c.read_part.ensures.inputs c.in_ok-part.ensures.caused c.in_ok-text.ensures.caused
 
 pub returns-in_err-part-clause-given : goal.returns-in_err-part-clause-given
 returns-in_err-part-clause-given g c = rw (handed_on c.from_residual.result c.in_err-part.field-0.0 c.from_residual.ensures) (let i = g.I.Inputs in
     let part = c.args.part.now in
     let text = c.args.text.now in
     answers_stop PartData PlanTexts (part ∷ []) (part ∷ text ∷ []) (i.state c.args.inputs.now) (i.state c.read_part.new.inputs) (λ t. part_of t part) (λ t p. and_so (whole_in t text_limit text) (λ bytes. Ok (record { part = p; text = bytes })))
-    (event_of c.in_err-part.field-0.0) (first_of part (text ∷ [])) c.in_err-part.ensures.due)
+    (event_of c.in_err-part.field-0.0) (first_of part (text ∷ [])) c.in_err-part.ensures.caused)
 
 pub returns-in_err-part-clause-stops : goal.returns-in_err-part-clause-stops
 returns-in_err-part-clause-stops g c = rw (handed_on c.from_residual.result c.in_err-part.field-0.0 c.from_residual.ensures) (about_among (limited part_limit c.args.part.now ∷ limited text_limit c.args.text.now ∷ []) [] (limited part_limit c.args.part.now) (limited text_limit c.args.text.now ∷ []) (g.I.Inputs.state c.args.inputs.now) (g.I.Inputs.state c.read_part.new.inputs) (event_of c.in_err-part.field-0.0) refl c.read_part.ensures.stands c.read_part.ensures.once (no_part_about c.args.part.now (event_of c.in_err-part.field-0.0) c.in_err-part.ensures.named))

@@ -22,7 +22,7 @@ returns g c =
     let given = svf_texts c.in_ok-given.given in
     let made = c.text_of.result in
     record {
-      due = answers_by PlanTexts Answer (part ∷ text ∷ []) old new (λ t. plan_texts t part text) given (PlayedSvf text) (seen text_of_play made) c.in_ok-given.ensures.given (svf_due text given made c.text_of.ensures.ok c.text_of.ensures.err);
+      caused = answers_by PlanTexts Answer (part ∷ text ∷ []) old new (λ t. plan_texts t part text) given (PlayedSvf text) (seen text_of_play made) c.in_ok-given.ensures.given (svf_due text given made c.text_of.ensures.ok c.text_of.ensures.err);
       stops = result_stops text_of_play (PlayingSvf part text) old new made (err_weaker made
           (λ r h. second_stops (PlayingSvf part text) (limited part_limit part) (limited text_limit text) [] old new (event_of r) refl c.in_ok-given.ensures.stands c.read_given.ensures.asks (svf_played_about text given (event_of r) h))
           c.text_of.ensures.err);
@@ -37,7 +37,7 @@ returns-in_err-given g c = rw (handed_on c.from_residual.result c.in_err-given.f
     let text = c.args.text.now in
     let event = event_of c.in_err-given.field-0.0 in
     record {
-      due = answers_kept PlanTexts Answer (part ∷ text ∷ []) old new (λ t. plan_texts t part text) (PlayedSvf text) event (λ x. refl) c.in_err-given.ensures.given;
+      caused = answers_kept PlanTexts Answer (part ∷ text ∷ []) old new (λ t. plan_texts t part text) (PlayedSvf text) event (λ x. refl) c.in_err-given.ensures.given;
       stops = among_stops (PlayingSvf part text) old new event c.in_err-given.ensures.stops;
       asks = c.read_given.ensures.asks;
       stays = c.read_given.ensures.inputs;

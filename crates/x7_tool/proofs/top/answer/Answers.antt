@@ -142,7 +142,7 @@ pub returns-in-Boot-clause-answered : goal.returns-in-Boot-clause-answered
 returns-in-Boot-clause-answered g c = λ e f.
     let old = outside (g.I.Inputs.state c.args.inputs.now) (g.F.Flash.state c.args.flash.now) (g.O.Sink.state c.args.out.now) e in
     let new = outside (g.I.Inputs.state c.boot.new.inputs) (g.F.Flash.state c.boot.new.flash) (g.O.Sink.state c.put_whole-in-Boot.new.out) f in
-    flash_answered _ (Booting c.in-Boot.part.now c.in-Boot.name.now) old new (seen text_of_play c.boot.result) _ (ap asked_by c.in-Boot.is) refl tt c.boot.ensures.ready (c.boot.ensures.ready.due old new) c.put_whole-in-Boot.ensures
+    flash_answered _ (Booting c.in-Boot.part.now c.in-Boot.name.now) old new (seen text_of_play c.boot.result) _ (ap asked_by c.in-Boot.is) refl tt c.boot.ensures.ready (c.boot.ensures.ready.caused old new) c.put_whole-in-Boot.ensures
 
 pub returns-in-Boot-clause-flash : goal.returns-in-Boot-clause-flash
 returns-in-Boot-clause-flash g c =

@@ -49,7 +49,7 @@ returns-in_err-read-clause-answered g c = rw (handed_on c.from_residual-in_err-r
       ends = refused_ends c.args.name.now c.args.stream.now old new event out
           (unplayed_measured (Some (UpdatingFlash c.args.name.now c.args.stream.now)) mid c.args.stream.now event (inl refl) c.in_err-read.ensures.named)
           (unplayed_last (UpdatingFlash c.args.name.now c.args.stream.now) old.inputs mid c.args.stream.now event (inl refl) c.in_err-read.ensures.named)
-          (unread_over c.args.name.now c.args.stream.now old new event within (c.in_err-read.ensures.due first.bytes)) (keeps_all event.reason first mid same);
+          (unread_over c.args.name.now c.args.stream.now old new event within (c.in_err-read.ensures.caused first.bytes)) (keeps_all event.reason first mid same);
       stops = first_stops (UpdatingFlash c.args.name.now c.args.stream.now) (limited stream_limit c.args.stream.now) [] (g.I.Inputs.state c.args.inputs.now) (g.I.Inputs.state c.read_stream.new.inputs) (event_of c.in_err-read.field-0.0) refl c.read_stream.ensures.stands c.read_stream.ensures.asks (unplayed_about c.args.stream.now (event_of c.in_err-read.field-0.0) c.in_err-read.ensures.named);
       judges = stream_judges c.args.name.now c.args.stream.now (sources (g.I.Inputs.state c.args.inputs.now) (g.F.Flash.state c.args.flash.now)) (sources (g.I.Inputs.state c.read_stream.new.inputs) (g.F.Flash.state c.open_flash.new.flash)) (event_of c.in_err-read.field-0.0) (unplayed_about c.args.stream.now (event_of c.in_err-read.field-0.0) c.in_err-read.ensures.named);
       asks = c.read_stream.ensures.asks;
@@ -68,7 +68,7 @@ returns-in-Ok-clause-answered g c = λ before after out.
     let old : Outside = record before { inputs = i.state c.args.inputs.now; flash = first } in
     let new : Outside = record after { inputs = i.state c.read_stream.new.inputs; flash = last } in
     let within = subst (λ (o : Option (List ℕ)). IfKnown o (λ all. length all ≤ flash_limit)) same c.in_ok-open_flash.ensures.within in
-    let has = data_given (with_inputs old.inputs.contents first.bytes) (CameIn (step_over (stream ∷ []) old.inputs new.inputs)) stream (data_from read) bytes (c.in_ok-read.ensures.due first.bytes) (rest_of c.deref.result.now read.bytes.items read.start c.deref.ensures.value) in
+    let has = data_given (with_inputs old.inputs.contents first.bytes) (CameIn (step_over (stream ∷ []) old.inputs new.inputs)) stream (data_from read) bytes (c.in_ok-read.ensures.caused first.bytes) (rest_of c.deref.result.now read.bytes.items read.start c.deref.ensures.value) in
     let layout = subst (λ (o : Option (List ℕ)). IfKnown o HasLayout) same c.in-Ok.ensures.layout in
     let becomes = subst (λ (o : Option (List ℕ)). BecomesBytes (IsAfter bytes) o last.bytes) same c.in-Ok.ensures.updated in
     let size = subst (λ (n : ℕ). n ≤ flash_limit) (sym c.update.ensures.only.extent) c.in_ok-open_flash.ensures.size in
@@ -89,7 +89,7 @@ returns-in-Ok-clause-flash g c =
     let bytes = take (length c.deref.result.now - read.start) (drop read.start c.deref.result.now) in
     let old = i.state c.args.inputs.now in
     let new = i.state c.read_stream.new.inputs in
-    let has = data_given (with_inputs old.contents first.bytes) (CameIn (step_over (stream ∷ []) old new)) stream (data_from read) bytes (c.in_ok-read.ensures.due first.bytes) (rest_of c.deref.result.now read.bytes.items read.start c.deref.ensures.value) in
+    let has = data_given (with_inputs old.contents first.bytes) (CameIn (step_over (stream ∷ []) old new)) stream (data_from read) bytes (c.in_ok-read.ensures.caused first.bytes) (rest_of c.deref.result.now read.bytes.items read.start c.deref.ensures.value) in
     uses_updated c.args.name.now stream bytes old first (g.F.Flash.state c.open_flash.new.flash) (g.F.Flash.state c.update.new.flash) _ _ _ c.open_flash.ensures.stays c.open_flash.ensures.asks has c.update.ensures.only c.update.ensures.any_moment
 
 pub returns-clause-answered : goal.returns-clause-answered
@@ -106,8 +106,8 @@ returns-clause-answered g c = λ before after out.
     let old : Outside = record before { inputs = i.state c.args.inputs.now; flash = first } in
     let new : Outside = record after { inputs = i.state c.read_stream.new.inputs; flash = last } in
     let within = subst (λ (o : Option (List ℕ)). IfKnown o (λ all. length all ≤ flash_limit)) stays.bytes c.in_ok-open_flash.ensures.within in
-    let has = data_given (with_inputs old.inputs.contents first.bytes) (CameIn (step_over (stream ∷ []) old.inputs new.inputs)) stream (data_from read) bytes (c.in_ok-read.ensures.due first.bytes) (rest_of c.deref.result.now read.bytes.items read.start c.deref.ensures.value) in
-    let reads = data_given (with_inputs old.inputs.contents None) (CameIn (step_over (stream ∷ []) old.inputs new.inputs)) stream (data_from read) bytes (c.in_ok-read.ensures.due None) (rest_of c.deref.result.now read.bytes.items read.start c.deref.ensures.value) in
+    let has = data_given (with_inputs old.inputs.contents first.bytes) (CameIn (step_over (stream ∷ []) old.inputs new.inputs)) stream (data_from read) bytes (c.in_ok-read.ensures.caused first.bytes) (rest_of c.deref.result.now read.bytes.items read.start c.deref.ensures.value) in
+    let reads = data_given (with_inputs old.inputs.contents None) (CameIn (step_over (stream ∷ []) old.inputs new.inputs)) stream (data_from read) bytes (c.in_ok-read.ensures.caused None) (rest_of c.deref.result.now read.bytes.items read.start c.deref.ensures.value) in
     let size = subst (λ (n : ℕ). n ≤ flash_limit) (sym c.update.ensures.only.extent) c.in_ok-open_flash.ensures.size in
     let asked = subst (λ (names : List ℕ → Bool). IsTrue (names name)) (sym c.update.ensures.only.names) c.open_flash.ensures.asks.asked in
     let cause = cause_from bytes first mid last c.in-Err.fault stays.bytes stays.unwritten.write_faults stays.faults c.in-Err.ensures.refused in
@@ -129,7 +129,7 @@ returns-clause-flash g c =
     let bytes = take (length c.deref.result.now - read.start) (drop read.start c.deref.result.now) in
     let old = i.state c.args.inputs.now in
     let new = i.state c.read_stream.new.inputs in
-    let has = data_given (with_inputs old.contents first.bytes) (CameIn (step_over (stream ∷ []) old new)) stream (data_from read) bytes (c.in_ok-read.ensures.due first.bytes) (rest_of c.deref.result.now read.bytes.items read.start c.deref.ensures.value) in
+    let has = data_given (with_inputs old.contents first.bytes) (CameIn (step_over (stream ∷ []) old new)) stream (data_from read) bytes (c.in_ok-read.ensures.caused first.bytes) (rest_of c.deref.result.now read.bytes.items read.start c.deref.ensures.value) in
     uses_updated c.args.name.now stream bytes old first (g.F.Flash.state c.open_flash.new.flash) (g.F.Flash.state c.update.new.flash) _ _ _ c.open_flash.ensures.stays c.open_flash.ensures.asks has c.update.ensures.only c.update.ensures.any_moment
 
 pub returns-in_err-open_flash-clause-flash : goal.returns-in_err-open_flash-clause-flash
