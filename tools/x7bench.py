@@ -74,14 +74,14 @@ class Asked:
             return "its session doesn't end: no DESYNC, so it is cut off or lacks its end"
         if end[0] != "fault":
             return ""
-        told = {
+        endings = {
             "Crc": "a check fails: the words before it have {0}, and the stream says {1}",
             "Packet": "{0} stands where a packet's header should: words were lost, or added",
             "Encrypted": "it is encrypted",
             "Id": "frames or START come before any IDCODE",
             "Watchdog": "its own watchdog ends it (TIMER)",
         }
-        return f"{told[end[1]].format(*end[2:])}, at byte {self.device.taken} of the data"
+        return f"{endings[end[1]].format(*end[2:])}, at byte {self.device.taken} of the data"
 
     def lead(self):
         """What stands before the first RCRC and may not stand there in a golden stream; none where there is no RCRC."""

@@ -30,13 +30,13 @@ class Source:
         self.name = os.path.basename(path)
 
     @property
-    def told(self):
+    def header_count(self):
         return self.header.length if self.header else None
 
     @property
     def lost(self):
         """How many bytes fewer there are than the header tells of; below 0 where there are more; 0 without a header."""
-        return self.told - len(self.data) if self.header else 0
+        return self.header_count - len(self.data) if self.header else 0
 
     @property
     def part(self):
@@ -101,9 +101,9 @@ def of_kind(source):
     """The cause where a file can't be a stream as it is, or none."""
     data, retake = source.data, "take the file again"
     if not data:
-        if source.told:
+        if source.header_count:
             return unsynced(
-                f"the stream is cut off right after its header, which tells of {source.told} bytes of data", retake, source)
+                f"the stream is cut off right after its header, which tells of {source.header_count} bytes of data", retake, source)
         return unsynced(
             "the file has no data: it is empty, or `x7 list` refused it: see its line", "write it again", source)
     kind = x7kinds.kind_of(data) if not source.header else None
@@ -133,7 +133,7 @@ def of_no_sync(source):
             "take the file again", source)
     if source.lost > 0:
         return unsynced(
-            f"the stream is cut off before its sync word: its header tells of {source.told} bytes, and it has {len(data)}",
+            f"the stream is cut off before its sync word: its header tells of {source.header_count} bytes, and it has {len(data)}",
             "take the file again", source)
     bits = x7kinds.late_by(data)
     if bits:
@@ -262,9 +262,9 @@ def swallowed(source, step, begins):
         return cause(text, "take the file again", "Lost words", place, source)
     if missing <= 0:
         return None
-    told = f" (its header tells of {source.lost} bytes more than there are)" if source.lost > 0 else ""
+    more = f" (its header tells of {source.lost} bytes more than there are)" if source.lost > 0 else ""
     text = (
-        f"{missing} bytes were lost among the frame data of '{head}'{told}: it takes the packets after them for frames, so "
+        f"{missing} bytes were lost among the frame data of '{head}'{more}: it takes the packets after them for frames, so "
         "check, START or DESYNC are missing"
     )
     return cause(text, AGAIN, "Lost words", place, source)
@@ -344,8 +344,8 @@ def of_identification(subject, source, words, after):
         )
     want, got = int(words[0], 16), int(words[1], 16)
     text = f"the stream is for a device with IDCODE {words[1]}{named(got)}, this one has {words[0]}{named(want)}"
-    told = idcode_of_name(source.part)
-    if told is not None and not (told ^ want) & 0xFFFFFFF:
+    by_header = idcode_of_name(source.part)
+    if by_header is not None and not (by_header ^ want) & 0xFFFFFFF:
         return cause(
             f"{text}; or the word is damaged: its header is for {source.part}, which is this one",
             "take the file again; compare it with a good copy", section, after, source,
@@ -460,7 +460,7 @@ def of_open_session(subject):
     last, after = subject.sources[-1], subject.fate.taken
     if last.lost > 0:
         return cause(
-            f"the stream is cut off: its header tells of {last.told} bytes, and it has {len(last.data)}", "take the file again",
+            f"the stream is cut off: its header tells of {last.header_count} bytes, and it has {len(last.data)}", "take the file again",
             "A stream that ends early", after, last,
         )
     commands = [it for it in subject.device.written if it.register == "CMD"]
@@ -705,11 +705,11 @@ def of_name(subject):
             )
             return cause(text, "give the streams of one device", "A stream for another device", source.first + after, None)
     for source in subject.sources:
-        told, words = idcode_of_name(source.part), idcodes_of(source)
-        if told is not None and words and (told ^ words[0][1]) & 0xFFFFFFF:
+        by_header, words = idcode_of_name(source.part), idcodes_of(source)
+        if by_header is not None and words and (by_header ^ words[0][1]) & 0xFFFFFFF:
             text = (
                 f"the stream writes the IDCODE {words[0][1]:08X}{named(words[0][1])}, and its header names {source.part}, which "
-                f"has {told:08X}: the word is damaged, or the header is another stream's"
+                f"has {by_header:08X}: the word is damaged, or the header is another stream's"
             )
             return cause(text, "take the file again", "A stream for another device", source.first + words[0][0], source)
     return None
@@ -760,5 +760,5 @@ def length_of(subject, found):
             has, kind = len(source.data), "lost" if source.lost > 0 else "added"
             of = f" of {source.name}" if len(subject.sources) > 1 else ""
             where = "listing" if source.is_listing else "file"
-            return f"the header{of} tells of {source.told} bytes of data, and the {where} has {has}: bytes were {kind}"
+            return f"the header{of} tells of {source.header_count} bytes of data, and the {where} has {has}: bytes were {kind}"
     return ""

@@ -138,7 +138,7 @@ def late_by(data):
 def of_digits(raw):
     """The data of a .rbt file: its lines of 32 digits, after some lines of text. A line that is damaged is refused, and `Bits:`
     compared."""
-    told, lines, begun = None, [], False
+    count, lines, begun = None, [], False
     for number, line in enumerate(raw.rstrip(b"\r\n").split(b"\n"), 1):
         line = line.rstrip(b"\r")
         if re.fullmatch(b"[01]{32}", line):
@@ -150,13 +150,13 @@ def of_digits(raw):
                 "off",
             )
         elif re.fullmatch(rb"Bits:\s*\d+\s*", line):
-            told = int(line.split(b":")[1])
+            count = int(line.split(b":")[1])
         elif re.fullmatch(rb"[01]+", line) or re.search(rb"[01]{24}", line):
             raise x7.Refused(f"line {number} of the .rbt file isn't 32 digits 0 and 1: it is damaged")
-    if told is not None and told != 32 * len(lines):
+    if count is not None and count != 32 * len(lines):
         raise x7.Refused(
-            f"the .rbt file tells of {told} bits, and has {32 * len(lines)}: lines were "
-            f"{'lost' if told > 32 * len(lines) else 'added'}",
+            f"the .rbt file tells of {count} bits, and has {32 * len(lines)}: lines were "
+            f"{'lost' if count > 32 * len(lines) else 'added'}",
         )
     return x7.bytes_of(lines)
 

@@ -18,9 +18,23 @@ SSI = {IDCODES[name] for name in ("7v2000t", "7vx1140t", "7vh580t", "7vh870t")}
 
 # other families by how the part in a header begins
 FAMILIES = [
-    ("6s", "Spartan-6"), ("3s", "Spartan-3"), ("2s", "Spartan-II"), ("4v", "Virtex-4"), ("5v", "Virtex-5"), ("6v", "Virtex-6"),
-    ("v", "Virtex"), ("2v", "Virtex-II"), ("ku", "Kintex UltraScale"), ("vu", "Virtex UltraScale"), ("zu", "Zynq UltraScale+"),
-    ("au", "Artix UltraScale+"), ("su", "Spartan UltraScale+"), ("ck", "Kria"), ("vc", "Versal"), ("vm", "Versal"), ("ve", "Versal"),
+    ("6s", "Spartan-6"),
+    ("3s", "Spartan-3"),
+    ("2s", "Spartan-II"),
+    ("4v", "Virtex-4"),
+    ("5v", "Virtex-5"),
+    ("6v", "Virtex-6"),
+    ("v", "Virtex"),
+    ("2v", "Virtex-II"),
+    ("ku", "Kintex UltraScale"),
+    ("vu", "Virtex UltraScale"),
+    ("zu", "Zynq UltraScale+"),
+    ("au", "Artix UltraScale+"),
+    ("su", "Spartan UltraScale+"),
+    ("ck", "Kria"),
+    ("vc", "Versal"),
+    ("vm", "Versal"),
+    ("ve", "Versal"),
     ("vp", "Versal"),
 ]
 

@@ -114,10 +114,10 @@ class Tally:
     def __init__(self):
         self.passed = self.failed = self.skipped = 0
 
-    def check(self, name, is_so, told=""):
+    def check(self, name, is_so, note=""):
         self.passed, self.failed = self.passed + bool(is_so), self.failed + (not is_so)
         if not is_so:
-            print(f"{os.path.basename(sys.argv[0])}: {name}{': ' if told else ''}{told}", file=sys.stderr)
+            print(f"{os.path.basename(sys.argv[0])}: {name}{': ' if note else ''}{note}", file=sys.stderr)
 
     def same(self, name, came, wanted):
         self.check(name, came == wanted, f"came {str(came)[:300]!r}, wanted {str(wanted)[:300]!r}")

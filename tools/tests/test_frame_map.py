@@ -40,10 +40,19 @@ with tempfile.TemporaryDirectory() as FOLDER:
     tally.check("one report", status == 0 and b"holds something: " in out and b"00000284: holds something" in out)
     good = open(path, encoding="ascii").read()
     for name, text in (
-        ("minors over the limit", good.replace("minors = [128, 128]", "minors = [3000000000]", 1)), ("no rows", 'name = "chip"\nidcode = 1\n'), ("row is a number", 'name = "chip"\nidcode = 1\nrow = 7\n'),
-        ("no name", good.replace('name = "chip"', "")), ("minors is a number", good.replace("minors = [128, 128]", "minors = 128", 1)), ("a text in minors", good.replace("[128, 128]", '["a"]', 1)),
-        ("no TOML", "name = \n[["), ("an open list", good + "minors = [1,"), ("not UTF-8", "\x7f"), ("nothing", ""), ("a row twice", good + "\n[[row]]\nblock = 0\nhalf = 0\nrow = 0\nminors = [1]\n"),
-        ("far is short", good.replace("frame_words", "far = [7]\nframe_words")), ("a wide far", good.replace("frame_words", "far = [12, 12, 8, 1, 3]\nframe_words")),
+        ("minors over the limit", good.replace("minors = [128, 128]", "minors = [3000000000]", 1)),
+        ("no rows", 'name = "chip"\nidcode = 1\n'),
+        ("row is a number", 'name = "chip"\nidcode = 1\nrow = 7\n'),
+        ("no name", good.replace('name = "chip"', "")),
+        ("minors is a number", good.replace("minors = [128, 128]", "minors = 128", 1)),
+        ("a text in minors", good.replace("[128, 128]", '["a"]', 1)),
+        ("no TOML", "name = \n[["),
+        ("an open list", good + "minors = [1,"),
+        ("not UTF-8", "\x7f"),
+        ("nothing", ""),
+        ("a row twice", good + "\n[[row]]\nblock = 0\nhalf = 0\nrow = 0\nminors = [1]\n"),
+        ("far is short", good.replace("frame_words", "far = [7]\nframe_words")),
+        ("a wide far", good.replace("frame_words", "far = [12, 12, 8, 1, 3]\nframe_words")),
     ):
         refused(name, in_file(text, "bad.part"), one)
     refused("another part's report", path, in_file(report(before, "other"), "other.report"))

@@ -72,7 +72,7 @@ def ecc_by_bits(frame):
 
 
 def ecc(bench):
-    """The ECC is told and made as the formula has it, and each single bit that is wrong is told."""
+    """The ECC is found and made as the formula has it, and each single bit that is wrong is found."""
     frames = {f"{far:08X}": frame_of(far) for far in range(12)}
     bench.put("stale", text_of(frames))
     came = bench.tool("frames", "ecc", "stale")
@@ -88,7 +88,7 @@ def ecc(bench):
     for bit in random.Random(4).sample(range(3232), 200):
         flipped[f"{len(flipped):08X}"] = (int.from_bytes(frame, "big") ^ 1 << bit).to_bytes(404, "big")
     bench.put("flipped", text_of(flipped))
-    bench.tally.same("a bit is told", lines_of(bench.tool("frames", "ecc", "flipped"))[-1], "ecc 200 frames, 200 wrong")
+    bench.tally.same("a bit is found", lines_of(bench.tool("frames", "ecc", "flipped"))[-1], "ecc 200 frames, 200 wrong")
     bench.put("short", "frame 00000000 0000000100000002\n")
     bench.refuses("frames", "ecc", "short", what="has 2 words")
     bench.refuses("frames", "mend", "short", what="has 2 words")
@@ -132,13 +132,13 @@ def written(bench, name, stream, frames, is_partial, report):
     """The addresses that `touch` tells, and its status against regions."""
     part = x7.read_part(bench.path("made.part"))
     came = bench.tool("frames", "touch", "made.part", stream)
-    told = set()
+    written = set()
     for line in lines_of(came):
         words = line.replace(",", "").split()
         if words[0] == "frames":
-            told |= {far for far in part.addresses() if int(words[1], 16) <= far <= int(words[3], 16)}
+            written |= {far for far in part.addresses() if int(words[1], 16) <= far <= int(words[3], 16)}
     wanted = {int(far, 16) for far in frames} if is_partial else set(part.addresses())
-    bench.tally.same(f"{name} writes", (came.status, told), (0, wanted))
+    bench.tally.same(f"{name} writes", (came.status, written), (0, wanted))
     least, most = min(wanted), max(wanted)
     inside = bench.tool("frames", "touch", "made.part", stream, f"far={least:08X}-{most:08X}")
     bench.tally.same(f"{name} within its region", inside.status, 0)

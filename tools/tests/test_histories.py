@@ -4,7 +4,7 @@
     test_histories.py [COUNT [SEED]]   COUNT plays and half as many boots, 200 where none is said, of the seeds from SEED on, or from 1
 
 It says the seed of each difference, the first line that differs, and a part file and an assembly text that show it, with as few
-pieces as were found; and whether a plain program with one wrong rule is told from x7 on these histories."""
+pieces as were found; and whether a plain program with one wrong rule is seen beside x7 on these histories."""
 from casefiles import Tally
 import os
 import subprocess
@@ -74,8 +74,8 @@ def differs(kind, part, pieces):
     if (came, status) == (wanted, wanted_status):
         return None
     both = zip([*came.splitlines(), "no more"], [*wanted.splitlines(), "no more"])
-    told = next((f"x7 '{one[:200]}', plainly '{other[:200]}'" for one, other in both if one != other), "only the status")
-    return f"{told}, status {status} and {wanted_status}"
+    difference = next((f"x7 '{one[:200]}', plainly '{other[:200]}'" for one, other in both if one != other), "only the status")
+    return f"{difference}, status {status} and {wanted_status}"
 
 
 def fewest(kind, part, pieces):
@@ -106,12 +106,12 @@ def is_alike(seed):
 def compare(kind, seed):
     """Compares the history of a seed; answers it with what x7 wrote."""
     part, pieces = kind.history(seed)
-    told = differs(kind, part, pieces)
-    if told and tally.failed < SHOWN:
+    difference = differs(kind, part, pieces)
+    if difference and tally.failed < SHOWN:
         pieces = fewest(kind, part, pieces)
         pieces = fewest(kind, part, [[line] for line in h.lines_of(pieces)])
-        told = "\n".join([differs(kind, part, pieces), "# the part file", part, "# the assembly text", *h.lines_of(pieces)])
-    tally.check(f"{kind.name} of seed {seed}", not told, told or "")
+        difference = "\n".join([differs(kind, part, pieces), "# the part file", part, "# the assembly text", *h.lines_of(pieces)])
+    tally.check(f"{kind.name} of seed {seed}", not difference, difference or "")
 
 
 # ---- wrong rules, each of which the histories must tell
@@ -252,7 +252,7 @@ WRONG = [
 ] + [(Boot(), it) for it in (ObeysIprog, ForgetsTheAttempt)]
 
 
-def is_told(kind, device):
+def is_seen(kind, device):
     """Whether one of the histories that are tried where nothing else is said tells the plain program from one with a wrong rule."""
     for seed in range(1, COUNT + 1):
         part, pieces = kind.history(seed)
@@ -273,7 +273,7 @@ def main(words):
     for seed in range(first, first + count):
         tally.check(f"the device without frames, of seed {seed}", is_alike(seed))
     for kind, device in WRONG:
-        tally.check(f"a wrong rule is told: {device.__doc__}", is_told(kind, device))
+        tally.check(f"a wrong rule is seen: {device.__doc__}", is_seen(kind, device))
     tally.end()
 
 

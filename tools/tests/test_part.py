@@ -112,10 +112,13 @@ def bad():
     refused("a name with blanks", raw, "NAME", "two words")
     for name, change in (
         ("without a column", lambda it: it["global_clock_regions"]["top"]["rows"]["0"]["configuration_buses"]["CLB_IO_CLK"]["configuration_columns"].pop("1")),
-        ("without an IDCODE", lambda it: it.pop("idcode")), ("without regions", lambda it: it.pop("global_clock_regions")), ("an odd bus", lambda it: it["global_clock_regions"]["top"]["rows"]["0"]["configuration_buses"].update(X={})),
+        ("without an IDCODE", lambda it: it.pop("idcode")),
+        ("without regions", lambda it: it.pop("global_clock_regions")),
+        ("an odd bus", lambda it: it["global_clock_regions"]["top"]["rows"]["0"]["configuration_buses"].update(X={})),
         ("too many minors", lambda it: it["global_clock_regions"]["top"]["rows"]["0"]["configuration_buses"]["BLOCK_RAM"]["configuration_columns"]["0"].update(frame_count=3000000000)),
         ("a count that is a text", lambda it: it["global_clock_regions"]["top"]["rows"]["0"]["configuration_buses"]["BLOCK_RAM"]["configuration_columns"]["0"].update(frame_count="many")),
-        ("an even IDCODE", lambda it: it.update(idcode=4)), ("a list", lambda it: it.update(global_clock_regions=[1])),
+        ("an even IDCODE", lambda it: it.update(idcode=4)),
+        ("a list", lambda it: it.update(global_clock_regions=[1])),
     ):
         table = regions()
         change(table)

@@ -102,8 +102,18 @@ def refused(bench):
     bench.put("jump", data.replace(bytes.fromhex("3000800100000005"), bytes.fromhex("300080010000000F")))
     bench.put("text", b"these are no streams, these are words\n" * 40)
     for name, what in (
-        ("change", "no START"), ("read", "no START"), ("image", "IPROG"), ("cut", "DESYNC"), ("bit", "check fails"), ("short.bit", "header tells"),
-        ("header", "header"), ("letter", "letter"), ("family", "no 7-series"), ("nothing", "no sync word"), ("text", "no sync word"), ("nowhere", "nowhere"),
+        ("change", "no START"),
+        ("read", "no START"),
+        ("image", "IPROG"),
+        ("cut", "DESYNC"),
+        ("bit", "check fails"),
+        ("short.bit", "header tells"),
+        ("header", "header"),
+        ("letter", "letter"),
+        ("family", "no 7-series"),
+        ("nothing", "no sync word"),
+        ("text", "no sync word"),
+        ("nowhere", "nowhere"),
     ):  # fmt: skip
         bench.refuses("svf", name, what=what)
     bench.refuses("svf", "jump")

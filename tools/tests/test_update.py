@@ -122,9 +122,9 @@ def layouts(bench):
     }  # fmt: skip
     for name, flash in bad.items():
         bench.put("bad", flash)
-        told = bench.x7("update", "bad", "next")
-        place = told.err.decode().rsplit(" ", 1)[-1].strip()
-        bench.tally.same(f"x7 refuses {name}", told.status, 5)
+        refused = bench.x7("update", "bad", "next")
+        place = refused.err.decode().rsplit(" ", 1)[-1].strip()
+        bench.tally.same(f"x7 refuses {name}", refused.status, 5)
         bench.refuses("flash_steps", "bad", "next", what=f"layout byte {place}:")
         came = bench.tool("check_update", "made.part", "bad", "next")
         bench.tally.check(f"check_update {name}", came.status == 1 and f"fails: layout: layout byte {place}:".encode() in came.out, came.out[:200])
@@ -165,8 +165,8 @@ def checked(bench, name, fails, *words):
     before = {it: bench.get(it) for it in words if it in ("flash", "other", "next")}
     came = bench.tool("check_update", *words)
     lines = [line for line in came.out.decode().splitlines() if ": " in line]
-    told = {line.split(": ")[1] for line in lines if line.startswith("fails")}
-    bench.tally.same(f"{name}", (came.status, told), (int(bool(fails)), set(fails)))
+    failing = {line.split(": ")[1] for line in lines if line.startswith("fails")}
+    bench.tally.same(f"{name}", (came.status, failing), (int(bool(fails)), set(fails)))
     bench.tally.check(f"{name} leaves its inputs", all(bench.get(it) == data for it, data in before.items()))
     return lines
 

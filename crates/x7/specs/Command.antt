@@ -5,7 +5,7 @@ use Rattle.x7_words.specs.Sink.{PutsAll, PutsSome, SinkFails, SinkState}
 use Rattle.x7_forms.specs.declared.status.Status.{Status}
 use Rattle.x7_forms.specs.declared.status.Status.TheVariants as status
 use Rattle.x7_forms.specs.Form.{form_of}
-use Rattle.x7_forms.specs.Message.{number_of}
+use Rattle.x7_forms.specs.Message.{status_number}
 use Rattle.x7_tool.specs.Outside.{Outside}
 use Rattle.x7_tool.specs.Runs.{Runs}
 use Rattle.x7.specs.declared.page.TheConstants.{HELP, VERSION}
@@ -18,12 +18,12 @@ page_of (word ∷ next ∷ more) = None
 
 -- a page was written whole, and the number is 0; or a prefix of it was, the output failed, and the number is 7
 abbrev pub WritesPage : List ℕ → SinkState → SinkState → ℕ → Type 0
-WritesPage page old new number = (PutsAll old page new × (number ≡ number_of status.Done)) ⊎ (SinkFails old new × PutsSome old page new × (number ≡ number_of status.WriteFault))
+WritesPage page old new number = (PutsAll old page new × (number ≡ status_number status.Done)) ⊎ (SinkFails old new × PutsSome old page new × (number ≡ status_number status.WriteFault))
 
 -- by the page that the words ask for: it is written, and nothing else is touched; where they ask for none, the command was run, and the number is its status's
 abbrev pub ProgramEndsBy : Option (List ℕ) → List (List ℕ) → Outside → Outside → ℕ → Type 0
 ProgramEndsBy (Some page) words old new number = WritesPage page old.out new.out number × (new ≡ record old { out = new.out })
-ProgramEndsBy None words old new number = (s : Status) × Runs (form_of words) old new s × (number ≡ number_of s)
+ProgramEndsBy None words old new number = (s : Status) × Runs (form_of words) old new s × (number ≡ status_number s)
 
 -- the program did what the words ask for, and ends with this number
 abbrev pub ProgramEnds : List (List ℕ) → Outside → Outside → ℕ → Type 0

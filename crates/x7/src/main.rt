@@ -4,7 +4,7 @@
 ghost use Rattle.std.specs.Prelude.{◌≡◌, map, string_bytes};
 ghost use Rattle.std.specs.Process.{exit_status};
 ghost use Rattle.x7.specs.Command.{ProgramEnds, WritesPage};
-ghost use Rattle.x7_forms.specs.Message.{number_of};
+ghost use Rattle.x7_forms.specs.Message.{status_number};
 ghost use Rattle.x7_tool.specs.Outside.{outside};
 
 mod page;
@@ -35,7 +35,7 @@ fn words(rt: &HostRuntime) -> io::Result<Vec<String>> {
 
 /// The exit status of a run that ended so.
 fn end_of(status: Status) -> ExitCode
-    ensures { exit_status result ≡ number_of status }
+    ensures { exit_status result ≡ status_number status }
 {
     ExitCode::from(status.number())
 }

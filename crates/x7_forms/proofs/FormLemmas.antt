@@ -18,10 +18,10 @@ same a b e = grind (arith, bytes_eq-Decides a b, e)
 is : (a b : List ℕ) → bytes_eq a b ≡ true → a ≡ b
 is a b e = grind (arith, bytes_eq-Decides a b, e)
 
-small : (n : ℕ) → n < 2 ^ 32 → nat_lt n 4294967296 ≡ true
+small : (n : ℕ) → n < 2 ^ 32 → nat_lt n (2 ^ 32) ≡ true
 small n h = grind (arith, nat_tests, h)
 
-is_small : (n : ℕ) → nat_lt n 4294967296 ≡ true → n < 2 ^ 32
+is_small : (n : ℕ) → nat_lt n (2 ^ 32) ≡ true → n < 2 ^ 32
 is_small n h = grind (arith, nat_tests, h)
 
 chosen : (a b : Bool) (n m : ℕ) → a ≡ true → b ≡ true → n ≡ m → Some m ≡ (if a && b then Some n else None)
@@ -35,16 +35,16 @@ none_by false b n h = refl
 pub word_some : (digits : List ℕ) (w : ℕ) → w < 2 ^ 32 → digits ≡ hex_word w → Some w ≡ word_in digits
 word_some digits w h e =
     let v : word_value digits ≡ w = ap word_value e ∙ word_back w h in
-    chosen (bytes_eq (hex_word (word_value digits)) digits) (nat_lt (word_value digits) 4294967296) (word_value digits) w (same (hex_word (word_value digits)) digits (ap hex_word v ∙ sym e))
+    chosen (bytes_eq (hex_word (word_value digits)) digits) (nat_lt (word_value digits) (2 ^ 32)) (word_value digits) w (same (hex_word (word_value digits)) digits (ap hex_word v ∙ sym e))
     (small (word_value digits) (subst (λ (n : ℕ). n < 2 ^ 32) (sym v) h)) v
 
 pub word_none : (digits : List ℕ) → ((w : ℕ) → w < 2 ^ 32 → digits ≡ hex_word w → ⊥) → None ≡ word_in digits
 word_none digits none =
-    none_by (bytes_eq (hex_word (word_value digits)) digits) (nat_lt (word_value digits) 4294967296) (word_value digits)
+    none_by (bytes_eq (hex_word (word_value digits)) digits) (nat_lt (word_value digits) (2 ^ 32)) (word_value digits)
     (λ a b. none (word_value digits) (is_small (word_value digits) b) (sym (is (hex_word (word_value digits)) digits a)))
 
 pub number_some : (digits : List ℕ) (n : ℕ) → n < 2 ^ 32 → digits ≡ decimal n → Some n ≡ number_in digits
 number_some digits n h e =
     let v : digits_value 10 digits ≡ n = ap (digits_value 10) e ∙ (decimal_is_IsNumeral n (omega arith)).1 in
-    chosen (bytes_eq (decimal (digits_value 10 digits)) digits) (nat_lt (digits_value 10 digits) 4294967296) (digits_value 10 digits) n (same (decimal (digits_value 10 digits)) digits (ap decimal v ∙ sym e))
+    chosen (bytes_eq (decimal (digits_value 10 digits)) digits) (nat_lt (digits_value 10 digits) (2 ^ 32)) (digits_value 10 digits) n (same (decimal (digits_value 10 digits)) digits (ap decimal v ∙ sym e))
     (small (digits_value 10 digits) (subst (λ (k : ℕ). k < 2 ^ 32) (sym v) h)) v

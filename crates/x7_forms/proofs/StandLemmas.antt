@@ -42,7 +42,7 @@ few_after false old opened mid new limit left o f go g none = record { selects =
 pub stands_less : (name : List ℕ) (left limit : ℕ) (now : InputsState) → left ≤ limit → StandsAt name left now → StandsAt name limit now
 stands_less name left limit now h s = record { asked = s.asked; given = omega (arith, h, s.given) }
 
--- ---- of whom an event tells
+-- ---- which input an event names
 
 about_same : (name : List ℕ) (event is : Event) → event ≡ is → is.concerned ≡ name → IsAbout name event
 about_same name event is e n = inr (subst (λ (x : Event). x.concerned ≡ name) (sym e) n)
@@ -79,7 +79,7 @@ unfronted_about old new name event (inr (inr h)) = about_same name event (bad_in
 pub about_among : (inputs before : List Limited) (input : Limited) (after : List Limited) (old now : InputsState) (event : Event)
     → inputs ≡ before ++ input ∷ after → StandsAt input.name input.limit now → AsksFew old (length before + 1) now → IsAbout input.name event → StopsAmong inputs old now event
 about_among inputs before input after old now event a s n (inl e) = inl e
-about_among inputs before input after old now event a s n (inr t) = inr (record { before = before; input = input; after = after; among = a; tells = t; stands = s; asks = n })
+about_among inputs before input after old now event a s n (inr t) = inr (record { before = before; input = input; after = after; among = a; concerns = t; stands = s; asks = n })
 
 -- one of the inputs after a first one
 pub stops_after : (first : Limited) (inputs : List Limited) (old mid now : InputsState) (event : Event) → AsksFew old 1 mid → StopsAmong inputs mid now event → StopsAmong (first ∷ inputs) old now event
@@ -90,7 +90,7 @@ stops_after first inputs old mid now event n (inr h) =
       input = h.input;
       after = h.after;
       among = ap (λ (x : List Limited). first ∷ x) h.among;
-      tells = h.tells;
+      concerns = h.concerns;
       stands = h.stands;
       asks = record { selects = omega (arith, n.selects, h.asks.selects); ends = omega (arith, n.ends, h.asks.ends) };
     })

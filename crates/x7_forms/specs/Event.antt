@@ -98,8 +98,8 @@ abbrev pub status_of_event : Event → Status
 status_of_event e = (row_of e.reason).ends_as
 
 -- the line that reports an event, with its end
-abbrev pub line_of : Event → List ℕ
-line_of e = codes "x7: " ++ ((row_of e.reason).words ++ (e.concerned ++ ((row_of e.reason).detail ++ codes "\n")))
+abbrev pub event_line : Event → List ℕ
+event_line e = codes "x7: " ++ ((row_of e.reason).words ++ (e.concerned ++ ((row_of e.reason).detail ++ codes "\n")))
 
 -- ---- the events by their reasons
 

@@ -1,5 +1,5 @@
 -- The forms of the command line (this project's choice).
-use Rattle.std.specs.Prelude.{ℕ, map, String, string_bytes, List, [], ◌∷◌, Option, None, Some, ◌&&◌, if◌then◌else◌, codes, length, nat_le, nat_lt, decimal}
+use Rattle.std.specs.Prelude.{ℕ, map, String, string_bytes, List, [], ◌∷◌, Option, None, Some, ◌&&◌, if◌then◌else◌, codes, length, nat_le, nat_lt, decimal, ◌^◌}
 use Rattle.std.specs.Str.Parse.{digits_value}
 use Rattle.x7_text.specs.Digits.{hex_word}
 use Rattle.x7_text.specs.DigitValue.{word_value}
@@ -40,11 +40,11 @@ two_names form (first ∷ second ∷ third ∷ more) = None
 
 -- the word of eight upper-case digits: written again it has these digits
 abbrev pub word_in : List ℕ → Option ℕ
-word_in digits = if bytes_eq (hex_word (word_value digits)) digits && nat_lt (word_value digits) 4294967296 then Some (word_value digits) else None
+word_in digits = if bytes_eq (hex_word (word_value digits)) digits && nat_lt (word_value digits) (2 ^ 32) then Some (word_value digits) else None
 
 -- the number below 2^32 of decimal digits without a leading zero: written again it has these digits
 abbrev pub number_in : List ℕ → Option ℕ
-number_in digits = if bytes_eq (decimal (digits_value 10 digits)) digits && nat_lt (digits_value 10 digits) 4294967296 then Some (digits_value 10 digits) else None
+number_in digits = if bytes_eq (decimal (digits_value 10 digits)) digits && nat_lt (digits_value 10 digits) (2 ^ 32) then Some (digits_value 10 digits) else None
 
 -- `plan read PART FAR N`
 abbrev pub read_asked : List ℕ → Option ℕ → Option ℕ → Option AskedForm

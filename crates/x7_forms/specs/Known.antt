@@ -29,7 +29,7 @@ pub record Known : Type 0 where
   pub inputs : List ℕ → Found
   pub flash : List ℕ → Option Found
 
--- a whole text, and whether what it reports stopped at a fault
+-- a whole text, and whether what it reports stopped: a device at a fault, a scan that differed, or a boot that no attempt started
 pub record Answer : Type 0 where
   pub stopped : Bool
   pub text : List ℕ

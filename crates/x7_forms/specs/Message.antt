@@ -7,18 +7,18 @@ use Rattle.x7_forms.specs.Event.{Event, status_of_event}
 use Rattle.x7_forms.specs.Known.{Answer}
 
 -- the number that the program ends with
-abbrev pub number_of : Status → ℕ
-number_of status.Done = 0
-number_of status.Stopped = 1
-number_of status.Usage = 2
-number_of status.Missing = 3
-number_of status.BadPart = 4
-number_of status.BadInput = 5
-number_of status.ReadFault = 6
-number_of status.WriteFault = 7
-number_of status.NoMemory = 8
-number_of status.TooLarge = 9
-number_of status.Differs = 11
+abbrev pub status_number : Status → ℕ
+status_number status.Done = 0
+status_number status.Stopped = 1
+status_number status.Usage = 2
+status_number status.Missing = 3
+status_number status.BadPart = 4
+status_number status.BadInput = 5
+status_number status.ReadFault = 6
+status_number status.WriteFault = 7
+status_number status.NoMemory = 8
+status_number status.TooLarge = 9
+status_number status.Differs = 11
 
 -- the status of a whole text, by whether what it reports stopped at a fault
 abbrev pub text_status : Bool → Status

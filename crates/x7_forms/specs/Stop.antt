@@ -38,7 +38,7 @@ pub record StopsAt (inputs : List Limited) (old now : InputsState) (event : Even
   pub input : Limited
   pub after : List Limited
   pub among : inputs ≡ before ++ input ∷ after
-  pub tells : event.concerned ≡ input.name
+  pub concerns : event.concerned ≡ input.name
   pub stands : StandsAt input.name input.limit now
   pub asks : AsksFew old (length before + 1) now
 

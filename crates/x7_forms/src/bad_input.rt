@@ -1,7 +1,7 @@
 //! The line that says why an input has no reading. No memory is taken.
 ghost use Rattle.std.specs.Prelude.{◌++◌, codes, decimal};
-ghost use Rattle.x7_words.specs.Sink.{Tells};
-ghost use Rattle.x7_forms.specs.Event.{bad_input, line_of};
+ghost use Rattle.x7_words.specs.Sink.{PutsOrFails};
+ghost use Rattle.x7_forms.specs.Event.{bad_input, event_line};
 ghost use Rattle.x7_forms.specs.declared.bad_input.InputFault.TheVariants as input;
 
 use itoa::Buffer;
@@ -60,14 +60,14 @@ fn say_at<'x, E: Sink>(
     kind: &'x [u8],
     place: &'x [u8],
 ) -> Result<(), Failed>
-    ensures { Tells (E.state err.old) (codes "x7: bad input " ++ (name.now ++ (kind.now ++ (place.now ++ codes "\n")))) (E.state err.new) }
+    ensures { PutsOrFails (E.state err.old) (codes "x7: bad input " ++ (name.now ++ (kind.now ++ (place.now ++ codes "\n")))) (E.state err.new) }
 {
     write_pieces(err, &[START, name.as_bytes(), kind, place, b"\n"])
 }
 
 /// Writes the line of a fault that has a number: that of a line, or of a byte of the input.
 fn say_number<E: Sink>(err: &mut E, name: &str, kind: &[u8], number: u64) -> Result<(), Failed>
-    ensures { Tells (E.state err.old) (codes "x7: bad input " ++ (name.now ++ (kind.now ++ (decimal number ++ codes "\n")))) (E.state err.new) }
+    ensures { PutsOrFails (E.state err.old) (codes "x7: bad input " ++ (name.now ++ (kind.now ++ (decimal number ++ codes "\n")))) (E.state err.new) }
 {
     let mut buffer = Buffer::new();
     say_at(err, name, kind, buffer.format(number).as_bytes())
@@ -75,7 +75,7 @@ fn say_number<E: Sink>(err: &mut E, name: &str, kind: &[u8], number: u64) -> Res
 
 /// Writes the line of a sum byte that is another.
 fn say_sum<E: Sink>(err: &mut E, name: &str, line: u64, want: u8, got: u8) -> Result<(), Failed>
-    ensures { Tells (E.state err.old) (line_of (bad_input name.now (input.Sum line want got))) (E.state err.new) }
+    ensures { PutsOrFails (E.state err.old) (event_line (bad_input name.now (input.Sum line want got))) (E.state err.new) }
 {
     let mut buffer = Buffer::new();
     let line = buffer.format(line).as_bytes();
@@ -101,7 +101,7 @@ pub(crate) fn say_bad_input<E: Sink>(
     name: &str,
     fault: InputFault,
 ) -> Result<(), Failed>
-    ensures { Tells (E.state err.old) (line_of (bad_input name.now fault)) (E.state err.new) }
+    ensures { PutsOrFails (E.state err.old) (event_line (bad_input name.now fault)) (E.state err.new) }
 {
     match fault {
         InputFault::Byte(place) => say_number(err, name, b": byte ", place),

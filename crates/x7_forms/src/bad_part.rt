@@ -1,7 +1,7 @@
 //! The line that says why a part file was refused. No memory is taken.
 ghost use Rattle.std.specs.Prelude.{◌++◌, codes, decimal};
-ghost use Rattle.x7_words.specs.Sink.{Tells};
-ghost use Rattle.x7_forms.specs.Event.{bad_part, line_of, which_text};
+ghost use Rattle.x7_words.specs.Sink.{PutsOrFails};
+ghost use Rattle.x7_forms.specs.Event.{bad_part, event_line, which_text};
 
 use itoa::Buffer;
 use x7_part::{PartFault, Which};
@@ -17,7 +17,7 @@ fn say_number<'x, E: Sink>(
     kind: &'x [u8],
     number: u32,
 ) -> Result<(), Failed>
-    ensures { Tells (E.state err.old) (codes "x7: bad part " ++ (name.now ++ (kind.now ++ (decimal number ++ codes "\n")))) (E.state err.new) }
+    ensures { PutsOrFails (E.state err.old) (codes "x7: bad part " ++ (name.now ++ (kind.now ++ (decimal number ++ codes "\n")))) (E.state err.new) }
 {
     let mut buffer = Buffer::new();
     let digits = buffer.format(number);
@@ -35,7 +35,7 @@ fn say_key_in_row<'x, E: Sink>(
     key: &'x str,
     row: u32,
 ) -> Result<(), Failed>
-    ensures { Tells (E.state err.old) (codes "x7: bad part " ++ (name.now ++ (kind.now ++ (key.now ++ (codes " in row " ++ (decimal row ++ codes "\n")))))) (E.state err.new) }
+    ensures { PutsOrFails (E.state err.old) (codes "x7: bad part " ++ (name.now ++ (kind.now ++ (key.now ++ (codes " in row " ++ (decimal row ++ codes "\n")))))) (E.state err.new) }
 {
     let mut buffer = Buffer::new();
     let digits = buffer.format(row);
@@ -60,14 +60,14 @@ fn say_top_key<'x, E: Sink>(
     kind: &'x [u8],
     key: &'x str,
 ) -> Result<(), Failed>
-    ensures { Tells (E.state err.old) (codes "x7: bad part " ++ (name.now ++ (kind.now ++ (key.now ++ codes "\n")))) (E.state err.new) }
+    ensures { PutsOrFails (E.state err.old) (codes "x7: bad part " ++ (name.now ++ (kind.now ++ (key.now ++ codes "\n")))) (E.state err.new) }
 {
     write_pieces(err, &[START, name.as_bytes(), kind, key.as_bytes(), b"\n"])
 }
 
 /// Writes the line of a fault that names a key.
 fn say_key<E: Sink>(err: &mut E, name: &str, kind: &[u8], which: Which) -> Result<(), Failed>
-    ensures { Tells (E.state err.old) (codes "x7: bad part " ++ (name.now ++ (kind.now ++ (which_text which ++ codes "\n")))) (E.state err.new) }
+    ensures { PutsOrFails (E.state err.old) (codes "x7: bad part " ++ (name.now ++ (kind.now ++ (which_text which ++ codes "\n")))) (E.state err.new) }
 {
     match which.row {
         Some(row) => say_key_in_row(err, name, kind, which.key.name(), row),
@@ -77,7 +77,7 @@ fn say_key<E: Sink>(err: &mut E, name: &str, kind: &[u8], which: Which) -> Resul
 
 /// Writes the line of a part file that was refused.
 pub(crate) fn say_bad_part<E: Sink>(err: &mut E, name: &str, fault: PartFault) -> Result<(), Failed>
-    ensures { Tells (E.state err.old) (line_of (bad_part name.now fault)) (E.state err.new) }
+    ensures { PutsOrFails (E.state err.old) (event_line (bad_part name.now fault)) (E.state err.new) }
 {
     match fault {
         PartFault::Toml => write_pieces(err, &[START, name.as_bytes(), b": toml\n"]),

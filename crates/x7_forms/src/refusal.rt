@@ -1,7 +1,7 @@
 //! Why a command has no whole text, and the line that says so.
 ghost use Rattle.std.specs.Prelude.{◌≡◌, ◌++◌, [], codes};
-ghost use Rattle.x7_words.specs.Sink.{Tells};
-ghost use Rattle.x7_forms.specs.Event.{differs, line_of};
+ghost use Rattle.x7_words.specs.Sink.{PutsOrFails};
+ghost use Rattle.x7_forms.specs.Event.{differs, event_line};
 
 use crate::bad_input::{InputFault, say_bad_input};
 use crate::bad_part::say_bad_part;
@@ -73,14 +73,14 @@ impl Why {
 
 /// Writes a line that has nothing after the name. No memory is taken.
 fn say_line<'x, E: Sink>(err: &mut E, words: &'x [u8], name: &'x str) -> Result<(), Failed>
-    ensures { Tells (E.state err.old) (words.now ++ (name.now ++ codes "\n")) (E.state err.new) }
+    ensures { PutsOrFails (E.state err.old) (words.now ++ (name.now ++ codes "\n")) (E.state err.new) }
 {
     write_pieces(err, &[words, name.as_bytes(), b"\n"])
 }
 
 /// Writes the line of a byte of a flash that differs. No memory is taken.
 fn say_differs<E: Sink>(err: &mut E, name: &str, place: u64) -> Result<(), Failed>
-    ensures { Tells (E.state err.old) (line_of (differs name.now place)) (E.state err.new) }
+    ensures { PutsOrFails (E.state err.old) (event_line (differs name.now place)) (E.state err.new) }
 {
     let mut buffer = Buffer::new();
     let place = buffer.format(place).as_bytes();
@@ -100,7 +100,7 @@ pub struct Refusal<'w> {
 }
 
 impl<'w> Refusal<'w> {
-    ghost use Rattle.x7_forms.specs.Event.{line_of, status_of_event, row_of};
+    ghost use Rattle.x7_forms.specs.Event.{event_line, status_of_event, row_of};
     ghost use Rattle.x7_forms.specs.Message.{event_of};
 
     /// A reason that concerns no input.
@@ -112,7 +112,7 @@ impl<'w> Refusal<'w> {
 
     /// Writes the refusal's line. A fault of the sink changes nothing else.
     fn say<E: Sink>(&self, err: &mut E) -> Result<(), Failed>
-        ensures { Tells (E.state err.old) (line_of (event_of self.now)) (E.state err.new) }
+        ensures { PutsOrFails (E.state err.old) (event_line (event_of self.now)) (E.state err.new) }
     {
         match self.reason {
             Why::BadPart(fault) => say_bad_part(err, self.name, fault),
@@ -125,7 +125,7 @@ impl<'w> Refusal<'w> {
     /// Writes the refusal's line, and gives its status. No memory is taken.
     pub fn tell<E: Sink>(&self, err: &mut E) -> Status
         ensures status { result ≡ status_of_event (event_of self.now) }
-        ensures line { Tells (E.state err.old) (line_of (event_of self.now)) (E.state err.new) }
+        ensures line { PutsOrFails (E.state err.old) (event_line (event_of self.now)) (E.state err.new) }
     {
         let _ = self.say(err);
         self.reason.status()

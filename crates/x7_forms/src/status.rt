@@ -6,7 +6,8 @@ ghost use Rattle.std.specs.Prelude.{◌≡◌};
 pub enum Status {
     /// The whole text was written.
     Done,
-    /// The whole text was written, and what it reports stopped at a fault.
+    /// The whole text was written, and says that the device stopped at a fault, that a scan differed, or that no attempt of a
+    /// boot started.
     Stopped,
     /// The words have no form.
     Usage,
@@ -29,9 +30,9 @@ pub enum Status {
 }
 
 impl Status {
-    ghost use Rattle.x7_forms.specs.Message.{number_of, text_status};
+    ghost use Rattle.x7_forms.specs.Message.{status_number, text_status};
 
-    /// The status after a whole text, by whether what it reports stopped at a fault.
+    /// The status after a whole text, by whether what it reports stopped: `Stopped` says at what.
     pub fn of_text(stopped: bool) -> Status
         ensures { result ≡ text_status stopped }
     {
@@ -44,7 +45,7 @@ impl Status {
 
     /// The number that the program ends with.
     pub fn number(self) -> u8
-        ensures { result ≡ number_of self }
+        ensures { result ≡ status_number self }
     {
         match self {
             Status::Done => 0,

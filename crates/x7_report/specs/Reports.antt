@@ -23,7 +23,7 @@ report_head part regs reads count = state_text part.name regs ++ reads_text read
 unfoldable pub report_text : PartData → Regs → List ℕ → FrameMap → List ℕ
 report_text part regs reads memory = state_text part.name regs ++ reads_text reads ++ frames_text memory (addresses_in part)
 
--- a report that is ready to be written, and whether what it reports stopped at a fault
+-- a report that is ready to be written, and whether what it reports stopped, as its caller says
 pub record PlayTextState : Type 0 where
   pub stopped : Bool
   pub text : List ℕ

@@ -103,7 +103,8 @@ impl Model for PlayText {
 
 impl PlayText {
     /// The report of a device and of the words that it read out. While words of frame data are due, FAR is that of the words
-    /// given so far.
+    /// given so far. `stopped` says whether what is reported stopped: the device at a fault, or what used the device, as a scan
+    /// that differs or a boot that no attempt started.
     pub fn new(
         alloc: Global,
         device: Device,
@@ -142,7 +143,7 @@ impl PlayText {
         })
     }
 
-    /// Whether the device stopped at a fault.
+    /// Whether what it reports stopped, as it was made with.
     pub fn is_stopped(&self) -> bool
         ensures { result ≡ self.now.stopped }
     {

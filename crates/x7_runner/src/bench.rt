@@ -12,15 +12,15 @@ use std::mem::swap;
 
 /// A case and the inputs that it shares with others of its file, the command, and what its runs left.
 #[derive(Drop)]
-pub struct Bench<'a, C: Command> {
-    pub command: &'a C,
-    pub alloc: Global,
-    pub shared: &'a [Named],
-    pub case: &'a Case,
-    pub notes: &'a mut Notes,
+pub(crate) struct Bench<'a, C: Command> {
+    pub(crate) command: &'a C,
+    pub(crate) alloc: Global,
+    pub(crate) shared: &'a [Named],
+    pub(crate) case: &'a Case,
+    pub(crate) notes: &'a mut Notes,
     /// What the run without a failing call left, and what the last run did.
-    pub whole: Ending,
-    pub came: Ending,
+    pub(crate) whole: Ending,
+    pub(crate) came: Ending,
 }
 
 impl<'a, C: Command> Bench<'a, C> {
@@ -130,7 +130,7 @@ impl<'a, C: Command> Bench<'a, C> {
     }
 
     /// All runs of the case.
-    pub fn run(&mut self) {
+    pub(crate) fn run(&mut self) {
         let Some(damaged) = self.case.outside.damaged.first() else {
             return self.run_pieces(None);
         };

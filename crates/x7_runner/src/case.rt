@@ -8,21 +8,21 @@ use std::alloc::Global;
 
 /// A case, by the lines taken so far.
 #[derive(Drop)]
-pub struct Case {
+pub(crate) struct Case {
     alloc: Global,
-    pub name: String,
-    pub outside: Outside,
-    pub expected: Expected,
+    pub(crate) name: String,
+    pub(crate) outside: Outside,
+    pub(crate) expected: Expected,
     /// Whether later cases have what `out` got, and its name there.
-    pub is_kept: bool,
-    pub kept: String,
+    pub(crate) is_kept: bool,
+    pub(crate) kept: String,
     /// Whether later cases have what the flash holds in place of what `out` got.
-    pub keeps_flash: bool,
+    pub(crate) keeps_flash: bool,
 }
 
 impl Case {
     /// A case without a name and lines.
-    pub fn new(alloc: Global) -> Case {
+    pub(crate) fn new(alloc: Global) -> Case {
         Case {
             alloc,
             name: String::new(alloc),
@@ -64,7 +64,7 @@ impl Case {
     }
 
     /// Takes a line between the case's first and its last.
-    pub fn take(&mut self, shared: &[Named], key: &str, rest: &str) -> Result<(), Fault> {
+    pub(crate) fn take(&mut self, shared: &[Named], key: &str, rest: &str) -> Result<(), Fault> {
         match key {
             "slice" => put_slice(self.alloc, &mut self.outside.inputs, shared, rest),
             "flash_slice" => self.outside.put_flash_slice(shared, rest),

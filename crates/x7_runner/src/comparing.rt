@@ -86,7 +86,7 @@ fn compare_answer(notes: &mut Notes, expected: &Expected, turn: &Turn, ending: &
 }
 
 /// Compares all that a run left with what it should come to.
-pub fn compare(
+pub(crate) fn compare(
     notes: &mut Notes,
     given: &Outside,
     expected: &Expected,

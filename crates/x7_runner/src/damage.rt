@@ -6,7 +6,7 @@ use std::alloc::Global;
 
 /// How an input is damaged.
 #[derive(Clone, Copy, Drop, PartialEq, Eq)]
-pub enum Damage {
+pub(crate) enum Damage {
     /// The input ends after this number of bytes.
     Cut,
     /// The input's bit of this number is changed, counted from 0 at the highest bit of the first byte.
@@ -15,12 +15,12 @@ pub enum Damage {
 
 /// An input, and the numbers of its damages: a run for each.
 #[derive(Drop)]
-pub struct Damaged {
-    pub named: Named,
+pub(crate) struct Damaged {
+    pub(crate) named: Named,
     damage: Damage,
-    pub from: u32,
+    pub(crate) from: u32,
     /// The first number after the last.
-    pub to: u32,
+    pub(crate) to: u32,
 }
 
 /// The bit with this number in its byte, from 0 at the highest.
@@ -47,7 +47,7 @@ fn change_bit(bytes: &mut [u8], number: u32) {
 
 impl Damaged {
     /// The damages of `NAME OTHER FROM TO`: of the other, which stands in `others`, under the name.
-    pub fn new(
+    pub(crate) fn new(
         alloc: Global,
         damage: Damage,
         others: &[Named],
@@ -66,7 +66,7 @@ impl Damaged {
     }
 
     /// The bytes with the damage of this number.
-    pub fn bytes_of(&self, alloc: Global, number: u32) -> Result<Vec<u8>, Fault> {
+    pub(crate) fn bytes_of(&self, alloc: Global, number: u32) -> Result<Vec<u8>, Fault> {
         let mut bytes = Vec::from_slice(alloc, &self.named.bytes)?;
         match self.damage {
             Damage::Cut => bytes.truncate(number as usize),

@@ -5,7 +5,7 @@ use std::alloc::Global;
 
 /// How much of the text is given.
 #[derive(Clone, Copy, Drop)]
-pub enum Extent {
+pub(crate) enum Extent {
     /// The text is the one given.
     Whole,
     /// The text is a prefix of the one given.
@@ -18,23 +18,23 @@ pub enum Extent {
 
 /// What a run should come to.
 #[derive(Drop)]
-pub struct Expected {
+pub(crate) struct Expected {
     alloc: Global,
-    pub status: u8,
-    pub extent: Extent,
-    pub out: Vec<u8>,
+    pub(crate) status: u8,
+    pub(crate) extent: Extent,
+    pub(crate) out: Vec<u8>,
     /// Lines that the text has, each with its end.
-    pub lines: Vec<u8>,
-    pub length: Option<u32>,
-    pub err: Vec<u8>,
+    pub(crate) lines: Vec<u8>,
+    pub(crate) length: Option<u32>,
+    pub(crate) err: Vec<u8>,
     /// Whether the flash isn't as it was, and what it is then.
-    pub has_flash: bool,
-    pub flash: Vec<u8>,
+    pub(crate) has_flash: bool,
+    pub(crate) flash: Vec<u8>,
 }
 
 impl Expected {
     /// Status 0, and no text.
-    pub fn new(alloc: Global) -> Expected {
+    pub(crate) fn new(alloc: Global) -> Expected {
         Expected {
             alloc,
             status: 0,
@@ -86,7 +86,7 @@ impl Expected {
     }
 
     /// Takes a line that says what a run comes to.
-    pub fn take(&mut self, key: &str, rest: &str) -> Result<(), Fault> {
+    pub(crate) fn take(&mut self, key: &str, rest: &str) -> Result<(), Fault> {
         match key {
             "status" => self.put_status(rest),
             "out" => put_line(self.alloc, &mut self.out, rest),

@@ -5,13 +5,14 @@ use crate::outside::Object;
 use crate::running::Ending;
 use std::alloc::Global;
 
-/// The status of a run in which a read failed, and of one in which a write did.
+/// The status of a run in which a read failed.
 const READ_FAULT: u64 = 6;
 
+/// The status of a run in which a write failed.
 const WRITE_FAULT: u64 = 7;
 
 /// Notes where a run differs from the whole run.
-pub fn compare_spared(notes: &mut Notes, whole: &Ending, came: &Ending) {
+pub(crate) fn compare_spared(notes: &mut Notes, whole: &Ending, came: &Ending) {
     notes.compare_numbers("status", u64::from(whole.status), u64::from(came.status));
     notes.compare_texts("out", &whole.out, &came.out);
     notes.compare_texts("err", &whole.err, &came.err);
@@ -51,19 +52,19 @@ fn next_place(words: &[String], from: usize, name: &[u8]) -> Option<usize> {
 /// The inputs that the messages of read faults have named, while the calls fail in turn: by the
 /// places of their words, which only rise, since each input is read whole before the next.
 #[derive(Drop)]
-pub struct Blamed {
+pub(crate) struct Blamed {
     places: Vec<usize>,
 }
 
 impl Blamed {
     /// No input yet.
-    pub fn new(alloc: Global) -> Blamed {
+    pub(crate) fn new(alloc: Global) -> Blamed {
         Blamed {
             places: Vec::new(alloc),
         }
     }
 
-    /// Takes the name in a message. False where it is no word from the one named last on.
+    /// Takes the name in a message. False where no word is it from the place of the last such name on.
     fn take(&mut self, notes: &mut Notes, words: &[String], name: &[u8]) -> bool {
         let last = self.places.last().copied().unwrap_or(1);
         let Some(place) = next_place(words, last, name) else {
@@ -87,7 +88,7 @@ impl Blamed {
     }
 
     /// Notes each of these inputs that the words name and no message did.
-    pub fn compare_all(&self, notes: &mut Notes, words: &[String], inputs: &[Named]) {
+    pub(crate) fn compare_all(&self, notes: &mut Notes, words: &[String], inputs: &[Named]) {
         for word in words.iter().skip(1) {
             let name = word.as_str();
             if has_name(inputs, name) && !self.has(words, name) {
@@ -139,7 +140,7 @@ fn is_write(words: &[String], came: &Ending) -> bool {
 }
 
 /// Notes where a run in which a call of the object failed didn't end as it should.
-pub fn compare_failed(
+pub(crate) fn compare_failed(
     notes: &mut Notes,
     words: &[String],
     blamed: &mut Blamed,

@@ -5,14 +5,14 @@ use std::alloc::Global;
 
 /// Bytes under a name.
 #[derive(Drop)]
-pub struct Named {
-    pub name: String,
-    pub bytes: Vec<u8>,
+pub(crate) struct Named {
+    pub(crate) name: String,
+    pub(crate) bytes: Vec<u8>,
 }
 
 impl Named {
     /// A copy of the bytes under the name.
-    pub fn new(alloc: Global, name: &str, bytes: &[u8]) -> Result<Named, Fault> {
+    pub(crate) fn new(alloc: Global, name: &str, bytes: &[u8]) -> Result<Named, Fault> {
         let name = String::from_str(alloc, name)?;
         let bytes = Vec::from_slice(alloc, bytes)?;
         Ok(Named { name, bytes })
@@ -30,12 +30,12 @@ fn place_of(list: &[Named], name: &str) -> Option<usize> {
 }
 
 /// Whether the list has the name.
-pub fn has_name(list: &[Named], name: &str) -> bool {
+pub(crate) fn has_name(list: &[Named], name: &str) -> bool {
     place_of(list, name).is_some()
 }
 
 /// The bytes under the name, where the list has it.
-pub fn bytes_of<'a>(list: &'a [Named], name: &str) -> Result<&'a [u8], Fault> {
+pub(crate) fn bytes_of<'a>(list: &'a [Named], name: &str) -> Result<&'a [u8], Fault> {
     for named in list {
         if named.name.as_str() == name {
             return Ok(&named.bytes);
@@ -45,7 +45,7 @@ pub fn bytes_of<'a>(list: &'a [Named], name: &str) -> Result<&'a [u8], Fault> {
 }
 
 /// The bytes under the name, none yet where it is new.
-pub fn bytes_under<'a>(
+pub(crate) fn bytes_under<'a>(
     alloc: Global,
     list: &'a mut Vec<Named>,
     name: &str,
@@ -64,7 +64,7 @@ pub fn bytes_under<'a>(
 }
 
 /// Appends bytes to those under the name.
-pub fn put_under(
+pub(crate) fn put_under(
     alloc: Global,
     list: &mut Vec<Named>,
     name: &str,
@@ -75,25 +75,25 @@ pub fn put_under(
 }
 
 /// Appends the bytes of `NAME HEX..`.
-pub fn put_bytes(alloc: Global, list: &mut Vec<Named>, line: &str) -> Result<(), Fault> {
+pub(crate) fn put_bytes(alloc: Global, list: &mut Vec<Named>, line: &str) -> Result<(), Fault> {
     let (name, tokens) = first_word(line);
     put_tokens(alloc, bytes_under(alloc, list, name)?, tokens)
 }
 
 /// Appends the line of `NAME LINE`, and its end.
-pub fn put_text(alloc: Global, list: &mut Vec<Named>, line: &str) -> Result<(), Fault> {
+pub(crate) fn put_text(alloc: Global, list: &mut Vec<Named>, line: &str) -> Result<(), Fault> {
     let (name, text) = first_word(line);
     put_line(alloc, bytes_under(alloc, list, name)?, text)
 }
 
 /// Appends the line of `NAME N LINE`, and its end, N times.
-pub fn put_texts(alloc: Global, list: &mut Vec<Named>, line: &str) -> Result<(), Fault> {
+pub(crate) fn put_texts(alloc: Global, list: &mut Vec<Named>, line: &str) -> Result<(), Fault> {
     let (name, lines) = first_word(line);
     put_lines(alloc, bytes_under(alloc, list, name)?, lines)
 }
 
 /// The bytes of `NAME FROM TO` in the list: from the one place to before the other.
-pub fn slice_of<'a>(list: &'a [Named], line: &str) -> Result<&'a [u8], Fault> {
+pub(crate) fn slice_of<'a>(list: &'a [Named], line: &str) -> Result<&'a [u8], Fault> {
     let (name, places) = first_word(line);
     let (from, to) = range_of(places)?;
     match bytes_of(list, name)?.get(from as usize..to as usize) {
@@ -103,7 +103,7 @@ pub fn slice_of<'a>(list: &'a [Named], line: &str) -> Result<&'a [u8], Fault> {
 }
 
 /// Appends to the input of `NAME OTHER FROM TO` bytes of the other, which stands in `others`.
-pub fn put_slice(
+pub(crate) fn put_slice(
     alloc: Global,
     list: &mut Vec<Named>,
     others: &[Named],

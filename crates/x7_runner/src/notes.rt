@@ -4,7 +4,7 @@ use std::alloc::Global;
 use std::fmt::Display;
 
 /// How many bytes two texts have in common from their first byte on.
-pub fn common_length(one: &[u8], other: &[u8]) -> usize {
+pub(crate) fn common_length(one: &[u8], other: &[u8]) -> usize {
     for (place, byte) in one.iter().enumerate() {
         if other.get(place) != Some(byte) {
             return place;
@@ -48,18 +48,18 @@ fn shown(alloc: Global, line: &[u8]) -> Result<String, Fault> {
 
 /// Notes on the runs of one file of cases.
 #[derive(Drop)]
-pub struct Notes {
+pub(crate) struct Notes {
     alloc: Global,
     /// The case, and what differs from run to run.
     run: String,
-    pub text: String,
+    pub(crate) text: String,
     /// Whether memory lacked for a run or for a note on it, so that the notes say too little.
-    pub lacks_memory: bool,
+    pub(crate) lacks_memory: bool,
 }
 
 impl Notes {
     /// No notes.
-    pub fn new(alloc: Global) -> Notes {
+    pub(crate) fn new(alloc: Global) -> Notes {
         Notes {
             alloc,
             run: String::new(alloc),
@@ -69,13 +69,13 @@ impl Notes {
     }
 
     /// Begins the notes on a run of this name.
-    pub fn begin(&mut self, name: &str) {
+    pub(crate) fn begin(&mut self, name: &str) {
         self.run.clear();
         self.add(name);
     }
 
     /// Adds to the name of the run.
-    pub fn add(&mut self, text: &str) {
+    pub(crate) fn add(&mut self, text: &str) {
         let done = self.run.push_str(text);
         if done.is_err() {
             self.lacks_memory = true;
@@ -83,7 +83,7 @@ impl Notes {
     }
 
     /// Adds a number to the name of the run, and texts before and after it.
-    pub fn add_number(&mut self, before: &str, number: u64, after: &str) {
+    pub(crate) fn add_number(&mut self, before: &str, number: u64, after: &str) {
         let done = write!(self.run, "{before}{number}{after}");
         if done.is_err() {
             self.lacks_memory = true;
@@ -91,14 +91,14 @@ impl Notes {
     }
 
     /// Takes how a run, or a note on it, went.
-    pub fn take(&mut self, done: Result<(), Fault>) {
+    pub(crate) fn take(&mut self, done: Result<(), Fault>) {
         if done.is_err() {
             self.lacks_memory = true;
         }
     }
 
     /// Notes two values that differ.
-    pub fn put<D: Display + Drop>(&mut self, what: &str, expected: D, came: D) {
+    pub(crate) fn put<D: Display + Drop>(&mut self, what: &str, expected: D, came: D) {
         let run = &self.run;
         let done = write!(
             self.text,
@@ -110,7 +110,14 @@ impl Notes {
     }
 
     /// Adds a line: a name, a number between two texts, and what comes after them.
-    pub fn put_line(&mut self, name: &str, before: &str, number: u64, after: &str, line: &str) {
+    pub(crate) fn put_line(
+        &mut self,
+        name: &str,
+        before: &str,
+        number: u64,
+        after: &str,
+        line: &str,
+    ) {
         let done = write!(self.text, "{name}: {before}{number}{after}{line}\n");
         if done.is_err() {
             self.lacks_memory = true;
@@ -118,7 +125,7 @@ impl Notes {
     }
 
     /// Adds a line on a case without an end.
-    pub fn put_open(&mut self, case: &str) {
+    pub(crate) fn put_open(&mut self, case: &str) {
         let done = write!(self.text, "the case has no end: {case}\n");
         if done.is_err() {
             self.lacks_memory = true;
@@ -126,7 +133,7 @@ impl Notes {
     }
 
     /// Notes that two numbers differ, if they do.
-    pub fn compare_numbers(&mut self, what: &str, expected: u64, came: u64) {
+    pub(crate) fn compare_numbers(&mut self, what: &str, expected: u64, came: u64) {
         if expected != came {
             self.put(what, expected, came);
         }
@@ -141,7 +148,7 @@ impl Notes {
     }
 
     /// Notes that two lines differ, if they do.
-    pub fn compare_lines(&mut self, what: &str, expected: &[u8], came: &[u8]) {
+    pub(crate) fn compare_lines(&mut self, what: &str, expected: &[u8], came: &[u8]) {
         if expected != came {
             let done = self.put_lines(what, expected, came);
             self.take(done);
@@ -159,7 +166,7 @@ impl Notes {
     }
 
     /// Notes where two texts differ, if they do.
-    pub fn compare_texts(&mut self, what: &str, expected: &[u8], came: &[u8]) {
+    pub(crate) fn compare_texts(&mut self, what: &str, expected: &[u8], came: &[u8]) {
         if expected != came {
             let done = self.put_place(what, expected, came);
             self.take(done);
@@ -167,7 +174,7 @@ impl Notes {
     }
 
     /// Notes that a text is no prefix of the whole one, if it isn't.
-    pub fn compare_prefix(&mut self, what: &str, whole: &[u8], came: &[u8]) {
+    pub(crate) fn compare_prefix(&mut self, what: &str, whole: &[u8], came: &[u8]) {
         if !whole.starts_with(came) {
             self.compare_texts(what, whole, came);
         }

@@ -8,7 +8,7 @@ use std::alloc::Global;
 
 /// An object that a run works on, and whose calls can fail.
 #[derive(Clone, Copy, Drop, PartialEq, Eq)]
-pub enum Object {
+pub(crate) enum Object {
     In,
     Flash,
     Out,
@@ -17,7 +17,7 @@ pub enum Object {
 
 impl Object {
     /// A call of the object, as the name of a run has it.
-    pub fn call_name(self) -> &'static str {
+    pub(crate) fn call_name(self) -> &'static str {
         match self {
             Object::In => ", in call",
             Object::Flash => ", flash call",
@@ -40,39 +40,39 @@ fn object_of(name: &str) -> Result<Object, Fault> {
 
 /// A call that fails, by its number from 1 among those of its object.
 #[derive(Drop)]
-pub struct Failing {
-    pub object: Object,
-    pub call: u64,
+pub(crate) struct Failing {
+    pub(crate) object: Object,
+    pub(crate) call: u64,
 }
 
 /// What a case gives to a run.
 #[derive(Drop)]
-pub struct Outside {
+pub(crate) struct Outside {
     alloc: Global,
-    pub words: Vec<String>,
-    pub inputs: Vec<Named>,
+    pub(crate) words: Vec<String>,
+    pub(crate) inputs: Vec<Named>,
     /// At most one: an input that has another damage in each run.
-    pub damaged: Vec<Damaged>,
+    pub(crate) damaged: Vec<Damaged>,
     /// The flash of the run; at most one.
-    pub flash: Vec<Named>,
-    pub writing: Writing,
+    pub(crate) flash: Vec<Named>,
+    pub(crate) writing: Writing,
     /// The most bytes of one read: a run for each, or one run without a limit.
-    pub pieces: Vec<u32>,
+    pub(crate) pieces: Vec<u32>,
     /// The most bytes of one read of a run that should come to the same as the one beside it.
-    pub alike: Vec<u32>,
+    pub(crate) alike: Vec<u32>,
     /// The most bytes of one write.
-    pub write_piece: u32,
+    pub(crate) write_piece: u32,
     /// The calls that fail: a run for each, or one run without a failing call.
-    pub failing: Vec<Failing>,
+    pub(crate) failing: Vec<Failing>,
     /// Objects whose calls fail in turn.
-    pub each: Vec<Object>,
+    pub(crate) each: Vec<Object>,
     /// The most bytes that `out` takes.
-    pub room: u32,
+    pub(crate) room: u32,
 }
 
 impl Outside {
     /// No words and no inputs, and nothing fails.
-    pub fn new(alloc: Global) -> Outside {
+    pub(crate) fn new(alloc: Global) -> Outside {
         Outside {
             alloc,
             words: Vec::new(alloc),
@@ -90,7 +90,7 @@ impl Outside {
     }
 
     /// Appends words.
-    pub fn put_words(&mut self, words: &str) -> Result<(), Fault> {
+    pub(crate) fn put_words(&mut self, words: &str) -> Result<(), Fault> {
         for word in words.split(' ') {
             self.words.push(String::from_str(self.alloc, word)?)?;
         }
@@ -98,7 +98,7 @@ impl Outside {
     }
 
     /// Takes an input that is damaged in many ways; there is at most one.
-    pub fn put_damaged(
+    pub(crate) fn put_damaged(
         &mut self,
         damage: Damage,
         shared: &[Named],
@@ -136,7 +136,7 @@ impl Outside {
     }
 
     /// Appends bytes of a shared input to the flash.
-    pub fn put_flash_slice(&mut self, shared: &[Named], line: &str) -> Result<(), Fault> {
+    pub(crate) fn put_flash_slice(&mut self, shared: &[Named], line: &str) -> Result<(), Fault> {
         put_slice(self.alloc, &mut self.flash, shared, line)?;
         self.one_flash()
     }
@@ -172,7 +172,7 @@ impl Outside {
     }
 
     /// Takes a line that says what a run is given.
-    pub fn take(&mut self, key: &str, rest: &str) -> Result<(), Fault> {
+    pub(crate) fn take(&mut self, key: &str, rest: &str) -> Result<(), Fault> {
         match key {
             "words" => self.put_words(rest),
             "bytes" => put_bytes(self.alloc, &mut self.inputs, rest),

@@ -11,13 +11,13 @@ use x7_words::{Flash, Inputs, SelectFault, Sink};
 
 /// What differs from run to run of one case.
 #[derive(Clone, Copy, Drop)]
-pub struct Turn {
+pub(crate) struct Turn {
     /// The number of the damage that an input has, where the case damages one.
     damage: Option<u32>,
     /// The most bytes of one read.
     piece: u32,
     /// The object whose call fails.
-    pub object: Object,
+    pub(crate) object: Object,
     /// The number of that call, 0 for none.
     call: u64,
     /// Whether the first call of `err` fails too.
@@ -26,7 +26,7 @@ pub struct Turn {
 
 impl Turn {
     /// A turn with this damage, reads of at most `piece` bytes, and no call that fails.
-    pub fn new(damage: Option<u32>, piece: u32) -> Turn {
+    pub(crate) fn new(damage: Option<u32>, piece: u32) -> Turn {
         Turn {
             damage,
             piece,
@@ -37,7 +37,7 @@ impl Turn {
     }
 
     /// This turn, but with this call of the object failing.
-    pub fn failing(self, object: Object, call: u64) -> Turn {
+    pub(crate) fn failing(self, object: Object, call: u64) -> Turn {
         Turn {
             object,
             call,
@@ -46,12 +46,12 @@ impl Turn {
     }
 
     /// This turn, but with reads of at most `piece` bytes.
-    pub fn in_pieces(self, piece: u32) -> Turn {
+    pub(crate) fn in_pieces(self, piece: u32) -> Turn {
         Turn { piece, ..self }
     }
 
     /// This turn, but with the first call of `err` failing too.
-    pub fn mute(self) -> Turn {
+    pub(crate) fn mute(self) -> Turn {
         Turn {
             is_mute: true,
             ..self
@@ -59,7 +59,7 @@ impl Turn {
     }
 
     /// Adds what differs to the name of the run, as it is printed after a case's name.
-    pub fn put_name(&self, notes: &mut Notes) {
+    pub(crate) fn put_name(&self, notes: &mut Notes) {
         if let Some(number) = self.damage {
             notes.add_number(", damage ", u64::from(number), "");
         }
@@ -76,7 +76,7 @@ impl Turn {
     }
 
     /// The number of the object's call that fails, 0 for none.
-    pub fn call_of(&self, object: Object) -> u64 {
+    pub(crate) fn call_of(&self, object: Object) -> u64 {
         if self.object == object && self.call > 0 {
             self.call
         } else {
@@ -87,19 +87,19 @@ impl Turn {
 
 /// How a run ended, and what it left.
 #[derive(Drop)]
-pub struct Ending {
-    pub status: u8,
+pub(crate) struct Ending {
+    pub(crate) status: u8,
     /// Whether the call that was to fail came after all calls of the run.
-    pub is_spared: bool,
-    pub out: Vec<u8>,
-    pub err: Vec<u8>,
+    pub(crate) is_spared: bool,
+    pub(crate) out: Vec<u8>,
+    pub(crate) err: Vec<u8>,
     /// What the flash holds.
-    pub flash: Vec<u8>,
+    pub(crate) flash: Vec<u8>,
 }
 
 impl Ending {
     /// Status 0, and nothing left.
-    pub fn new(alloc: Global) -> Ending {
+    pub(crate) fn new(alloc: Global) -> Ending {
         Ending {
             status: 0,
             is_spared: false,
@@ -257,7 +257,7 @@ impl Objects {
 }
 
 /// Runs the command once. The ending takes what it left.
-pub fn ran<C: Command>(
+pub(crate) fn ran<C: Command>(
     command: &C,
     alloc: Global,
     shared: &[Named],

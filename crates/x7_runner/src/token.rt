@@ -3,7 +3,7 @@ use crate::fault::Fault;
 use std::alloc::Global;
 
 /// The text before the first space, and the text after it.
-pub fn first_word(line: &str) -> (&str, &str) {
+pub(crate) fn first_word(line: &str) -> (&str, &str) {
     match line.split_once(' ') {
         Some((word, rest)) => (word, rest),
         None => (line, ""),
@@ -11,7 +11,7 @@ pub fn first_word(line: &str) -> (&str, &str) {
 }
 
 /// A number from 1.
-pub fn positive(token: &str) -> Result<u32, Fault> {
+pub(crate) fn positive(token: &str) -> Result<u32, Fault> {
     match token.parse::<u32>()? {
         0 => Err(Fault::Line),
         number => Ok(number),
@@ -19,7 +19,7 @@ pub fn positive(token: &str) -> Result<u32, Fault> {
 }
 
 /// Appends numbers from 1 to a list.
-pub fn put_numbers(list: &mut Vec<u32>, numbers: &str) -> Result<(), Fault> {
+pub(crate) fn put_numbers(list: &mut Vec<u32>, numbers: &str) -> Result<(), Fault> {
     for number in numbers.split(' ') {
         list.push(positive(number)?)?;
     }
@@ -27,7 +27,7 @@ pub fn put_numbers(list: &mut Vec<u32>, numbers: &str) -> Result<(), Fault> {
 }
 
 /// The numbers of `FROM TO`.
-pub fn range_of(places: &str) -> Result<(u32, u32), Fault> {
+pub(crate) fn range_of(places: &str) -> Result<(u32, u32), Fault> {
     let (from, to) = first_word(places);
     Ok((from.parse::<u32>()?, to.parse::<u32>()?))
 }
@@ -68,12 +68,12 @@ fn put_copies(alloc: Global, text: &mut Vec<u8>, line: &str, times: u32) -> Resu
 }
 
 /// Appends a line and its end.
-pub fn put_line(alloc: Global, text: &mut Vec<u8>, line: &str) -> Result<(), Fault> {
+pub(crate) fn put_line(alloc: Global, text: &mut Vec<u8>, line: &str) -> Result<(), Fault> {
     put_copies(alloc, text, line, 1)
 }
 
 /// Appends the line of `N LINE` and its end N times.
-pub fn put_lines(alloc: Global, text: &mut Vec<u8>, line: &str) -> Result<(), Fault> {
+pub(crate) fn put_lines(alloc: Global, text: &mut Vec<u8>, line: &str) -> Result<(), Fault> {
     let (times, line) = first_word(line);
     put_copies(alloc, text, line, positive(times)?)
 }
@@ -108,7 +108,7 @@ fn put_token(alloc: Global, bytes: &mut Vec<u8>, token: &str) -> Result<(), Faul
 }
 
 /// Appends the bytes of all tokens, of which there may be none.
-pub fn put_tokens(alloc: Global, bytes: &mut Vec<u8>, tokens: &str) -> Result<(), Fault> {
+pub(crate) fn put_tokens(alloc: Global, bytes: &mut Vec<u8>, tokens: &str) -> Result<(), Fault> {
     if tokens.is_empty() {
         return Ok(());
     }

@@ -5,7 +5,7 @@ use x7_in_memory::MemoryFlash;
 
 /// What the writes of a flash take, and which of them is torn.
 #[derive(Clone, Copy, Drop)]
-pub struct Writing {
+pub(crate) struct Writing {
     /// How many writes there is room for, and for how many bytes of their ranges.
     writes: u32,
     bytes: u32,
@@ -16,7 +16,7 @@ pub struct Writing {
 
 impl Writing {
     /// No room, and no write that is torn.
-    pub fn new() -> Writing {
+    pub(crate) fn new() -> Writing {
         Writing {
             writes: 0,
             bytes: 0,
@@ -26,7 +26,7 @@ impl Writing {
     }
 
     /// Takes `WRITES BYTES`.
-    pub fn put_room(&mut self, line: &str) -> Result<(), Fault> {
+    pub(crate) fn put_room(&mut self, line: &str) -> Result<(), Fault> {
         let (writes, bytes) = first_word(line);
         self.writes = positive(writes)?;
         self.bytes = positive(bytes)?;
@@ -34,7 +34,7 @@ impl Writing {
     }
 
     /// Takes `CALL HEX`.
-    pub fn put_tear(&mut self, line: &str) -> Result<(), Fault> {
+    pub(crate) fn put_tear(&mut self, line: &str) -> Result<(), Fault> {
         let (call, pattern) = first_word(line);
         self.call = positive(call)?;
         self.pattern = u8::from_str_radix(pattern, 16)?;
@@ -42,7 +42,7 @@ impl Writing {
     }
 
     /// Prepares the flash for the writes.
-    pub fn prepare(&self, flash: &mut MemoryFlash) -> Result<(), Fault> {
+    pub(crate) fn prepare(&self, flash: &mut MemoryFlash) -> Result<(), Fault> {
         flash.make_room(u64::from(self.writes), u64::from(self.bytes))?;
         if self.call > 0 {
             flash.tear_at(u64::from(self.call), self.pattern);

@@ -11,7 +11,7 @@ use x7_words::Flash;
 /// How a boot from a flash ends, in how many attempts, how many calls of the flash that takes, and the boot's text.
 type Boot = (BootEnd, usize, u64, Vec<u8>);
 
-/// A boot from a flash that holds `f`; none without memory.
+/// A boot from a flash that holds `f`.
 fn booted_from(alloc: Global, part: &Part, flash: &mut MemoryFlash) -> Option<Boot> {
     if flash.attach("f").is_err() {
         return None;
@@ -25,7 +25,7 @@ fn booted_from(alloc: Global, part: &Part, flash: &mut MemoryFlash) -> Option<Bo
     }
 }
 
-/// A boot from these bytes; none without memory.
+/// A boot from these bytes.
 fn booted(alloc: Global, bytes: &[u8]) -> Option<Boot> {
     let Ok(part) = part_of(alloc, TINY) else {
         return None;
@@ -51,7 +51,7 @@ fn sixteen_attempts_read_a_small_flash_once(rt: HostRuntime) {
     assert!(rt; (end, attempts, calls) == (BootEnd::Loop, 16, 2));
 }
 
-/// The image of a full stream and of the same stream with a wrong check; none without memory.
+/// The image of a full stream and of the same stream with a wrong check.
 fn image_of_a_wrong_update(alloc: Global) -> Option<Vec<u8>> {
     let (golden, _) = planned(alloc, TINY, &line(alloc)?)?;
     let mut update = Vec::from_slice(alloc, &golden).ok()?;

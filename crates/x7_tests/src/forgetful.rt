@@ -1,12 +1,15 @@
-//! A flash that tells no bytes and forgets what is programmed from a place on.
+//! A flash whose bytes aren't known, and that forgets what is programmed from a place on.
 ghost use Rattle.std.specs.Prelude.{None};
 
 use x7_words::{Failed, Flash, SelectFault};
 
-/// A flash that tells no bytes and takes no program from 131,072 on, though it says so.
+/// The place from which on nothing is programmed: that of the update.
+const FORGETS_FROM: u64 = 131_072;
+
+/// A flash whose bytes aren't known and that programs nothing from `FORGETS_FROM` on, though it says so.
 #[derive(Drop)]
-pub struct Forgetful<F: Flash> {
-    pub flash: F,
+pub(crate) struct Forgetful<F: Flash> {
+    pub(crate) flash: F,
 }
 
 impl<F: Flash> Flash for Forgetful<F> {
@@ -37,7 +40,7 @@ impl<F: Flash> Flash for Forgetful<F> {
     }
 
     fn program(&mut self, place: u64, given: &[u8]) -> Result<(), Failed> {
-        if place >= 131072 {
+        if place >= FORGETS_FROM {
             return self.flash.program(place, &[]);
         }
         self.flash.program(place, given)

@@ -9,7 +9,7 @@ use x7_tool::report;
 const NEW: &[u8] =
     b"part tiny\ntaken 0\nend searching\nphase 0 done 0 gts 0 gwe 0\nreg CRC 00000000\nreg FAR 00000000\nreg CMD 00000000\nreg CTL0 00000000\nreg MASK 00000000\nreg STAT 0000190C\nreg COR0 00000000\nreg IDCODE 0362D093\nreg AXSS 00000000\nreg COR1 00000000\nreg WBSTAR 00000000\nreg TIMER 00000000\nreg BOOTSTS 00000000\nreg CTL1 00000000\nreg BSPI 00000000\nreads 2\ndata 00000001 FFFFFFFF\nframes 0\n";
 
-/// The report of a new device and of words that it is said to have read out; none without memory.
+/// The report of a new device and of words that it is said to have read out.
 fn reported(alloc: Global, reads: &[u32]) -> Option<Vec<u8>> {
     let Ok(part) = part_of(alloc, TINY) else {
         return None;

@@ -12,7 +12,7 @@ const BEFORE: [u8; 36] = [
     0x30, 0x00, 0x20, 0x01, 0x00, 0x00, 0x00, 0x01, 0x30, 0x00, 0x40, 0x00, 0x50, 0x00, 0x00, 0xCA,
 ];
 
-/// A stream of 844 bytes that writes frame 00000001: a frame and a pad frame after 36 bytes; none without memory.
+/// A stream of 844 bytes that writes frame 00000001: a frame and a pad frame after 36 bytes.
 fn frame_write(alloc: Global) -> Option<Vec<u8>> {
     let mut stream = Vec::from_slice(alloc, &BEFORE).ok()?;
     stream.resize(440, 0xAA).ok()?;
@@ -20,7 +20,7 @@ fn frame_write(alloc: Global) -> Option<Vec<u8>> {
     Some(stream)
 }
 
-/// Whether a device shows what a new one does that is fed the stream's first `count` bytes; none without memory.
+/// Whether a device shows what a new one does that is fed the stream's first `count` bytes.
 fn is_as_played(alloc: Global, part: &Part, device: &Device, count: usize) -> Option<bool> {
     let stream = frame_write(alloc)?;
     let bytes = stream.get(..count)?;
@@ -34,7 +34,7 @@ fn is_as_played(alloc: Global, part: &Part, device: &Device, count: usize) -> Op
 }
 
 /// By how much a move back by `count` bytes raises what the session's device was fed, and whether the device is then as one that
-/// plays the stream up to there; none without memory.
+/// plays the stream up to there.
 fn went_back(alloc: Global, part: &Part, session: &mut Session, count: u64) -> Option<(u64, bool)> {
     let fed = session.device().fed();
     session.back(count);
@@ -42,7 +42,7 @@ fn went_back(alloc: Global, part: &Part, session: &mut Session, count: u64) -> O
     Some((session.device().fed().wrapping_sub(fed), played))
 }
 
-/// What moves back by 4, 252 and 500 bytes from byte 844 raise; none without memory.
+/// What moves back by 4, 252 and 500 bytes from byte 844 raise.
 fn moves_of(alloc: Global, part: &Part, session: &mut Session) -> Option<[(u64, bool); 3]> {
     session.go(844);
     Some([
@@ -52,7 +52,7 @@ fn moves_of(alloc: Global, part: &Part, session: &mut Session) -> Option<[(u64, 
     ])
 }
 
-/// What the moves raise in a session of the stream; none without memory.
+/// What the moves raise in a session of the stream.
 fn moves_back(alloc: Global) -> Option<[(u64, bool); 3]> {
     let stream = frame_write(alloc)?;
     let Ok(part) = part_of(alloc, TINY) else {

@@ -24,8 +24,8 @@ const PLANNED: [u32; 71] = [
     0x2000_0000, 0x2000_0000, 0x2000_0000, 0x2000_0000, 0x2000_0000, 0x2000_0000, 0x2000_0000,
 ];
 
-/// The full stream of a frames text, and the text of its plan; none without memory.
-pub fn planned(alloc: Global, part: &[u8], text: &[u8]) -> Option<(Vec<u8>, Vec<u8>)> {
+/// The full stream of a frames text, and the text of its plan.
+pub(crate) fn planned(alloc: Global, part: &[u8], text: &[u8]) -> Option<(Vec<u8>, Vec<u8>)> {
     let Ok(part) = part_of(alloc, part) else {
         return None;
     };
@@ -60,8 +60,8 @@ fn a_full_stream_is_its_list_of_words(rt: HostRuntime) {
     assert!(rt; are_bytes_of(&stream, &PLANNED) && again.as_slice() == text.as_slice());
 }
 
-/// A line of a frame of words 11111111 at 00000000; none without memory.
-pub fn line(alloc: Global) -> Option<Vec<u8>> {
+/// A line of a frame of words 11111111 at 00000000.
+pub(crate) fn line(alloc: Global) -> Option<Vec<u8>> {
     let mut text = Vec::from_slice(alloc, b"frame 00000000 ").ok()?;
     text.resize(823, b'1').ok()?;
     text.push(b'\n').ok()?;

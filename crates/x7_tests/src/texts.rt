@@ -6,7 +6,7 @@ use x7_mcs::{flash_of, mcs_text};
 use x7_packets::{Packets, Run, Step};
 use x7_words::{Inputs, NoMemory};
 
-/// The Intel HEX text of three bytes, and the image of that text; none without memory.
+/// The Intel HEX text of three bytes, and the image of that text.
 fn text_and_image(alloc: Global) -> Option<(Vec<u8>, Vec<u8>)> {
     let text = mcs_text(alloc, &[1, 2, 3]).ok()?;
     let image = flash_of(alloc, &text).ok()?;

@@ -10,10 +10,13 @@ use x7_tool::run;
 use x7_update::{UpdateFault, update};
 use x7_words::Flash;
 
+/// The switch word of an open slot: the sync word.
 const OPEN: [u8; 4] = [0xAA, 0x99, 0x55, 0x66];
 
+/// The switch word of a free slot, as it was erased.
 const FREE: [u8; 4] = [0xFF; 4];
 
+/// The switch word of a spent slot.
 const SPENT: [u8; 4] = [0; 4];
 
 /// A free slot: its switch word, and the words that lead to 131,072.
@@ -24,7 +27,7 @@ const SLOT: [u8; 32] = [
 ];
 
 /// What stands after the slots: up to a length a byte again and again. A golden stream, an update, and erased bytes.
-const BEHIND: [(usize, u8); 3] = [(131072, 0x11), (131172, 0x22), (262144, 0xFF)];
+const AFTER_SLOTS: [(usize, u8); 3] = [(131_072, 0x11), (131_172, 0x22), (262_144, 0xFF)];
 
 /// A flash of four sectors: slots, of which the first is open, a golden stream of 65,536 bytes 11, an update of 22.
 fn image(alloc: Global) -> Result<Vec<u8>, AllocError> {
@@ -33,7 +36,7 @@ fn image(alloc: Global) -> Result<Vec<u8>, AllocError> {
     for _ in 1..2048 {
         all.extend_from_slice(&SLOT)?;
     }
-    for (length, byte) in BEHIND {
+    for (length, byte) in AFTER_SLOTS {
         all.resize(length, byte)?;
     }
     Ok(all)
@@ -42,7 +45,7 @@ fn image(alloc: Global) -> Result<Vec<u8>, AllocError> {
 /// The stream of an update: 70,000 bytes.
 fn stream(alloc: Global) -> Result<Vec<u8>, AllocError> {
     let mut all = Vec::from_slice(alloc, &[0xFF; 16])?;
-    all.resize(70000, 0x35)?;
+    all.resize(70_000, 0x35)?;
     Ok(all)
 }
 
@@ -63,7 +66,7 @@ fn words_of(alloc: Global, name: &str) -> Result<Vec<String>, AllocError> {
     Ok(words)
 }
 
-/// Inputs that have the stream under the name `n`; none without memory.
+/// Inputs that have the stream under the name `n`.
 fn inputs_of(alloc: Global) -> Option<MemoryInputs> {
     let stream = stream(alloc).ok()?;
     let mut inputs = MemoryInputs::new(alloc);
@@ -73,7 +76,7 @@ fn inputs_of(alloc: Global) -> Option<MemoryInputs> {
     }
 }
 
-/// Runs `update NAME n` over the flash: the status; none without memory.
+/// Runs `update NAME n` over the flash: the status.
 fn run_on<F: Flash>(
     alloc: Global,
     flash: &mut F,
@@ -88,7 +91,7 @@ fn run_on<F: Flash>(
     }
 }
 
-/// Runs `update NAME n` over the flash: the status, and whether it was so with this message and no text; none without memory.
+/// Runs `update NAME n` over the flash: the status, and whether it was so with this message and no text.
 fn run_over<F: Flash>(
     alloc: Global,
     flash: &mut F,
@@ -103,11 +106,11 @@ fn run_over<F: Flash>(
     }
 }
 
-/// A flash in memory that holds the image, with room for an update; none without memory.
+/// A flash in memory that holds the image, with room for an update.
 fn flash_of(alloc: Global) -> Option<MemoryFlash> {
     let image = image(alloc).ok()?;
     let mut flash = MemoryFlash::new(alloc, "i", &image).ok()?;
-    match flash.make_room(20, 1000000) {
+    match flash.make_room(20, 1_000_000) {
         Ok(()) => Some(flash),
         Err(_) => None,
     }
@@ -125,7 +128,7 @@ fn a_byte_that_was_lost_differs(rt: HostRuntime) {
     assert!(rt; stands_at(left, 0, &SPENT) && stands_at(left, 32, &FREE));
 }
 
-/// A path of this kind in the folder of temporary files; none without memory.
+/// A path of this kind in the folder of temporary files.
 fn path_of(rt: &HostRuntime, kind: &str) -> Option<PathBuf> {
     let folder = env::temp_dir(rt).ok()?;
     let name = format!(in rt.alloc(); "x7-{kind}-{}", process::id(rt.process())).ok()?;
@@ -147,7 +150,7 @@ fn taken(rt: &HostRuntime, path: Path<'_>) -> Option<Vec<u8>> {
     }
 }
 
-/// The status of an update of a flash by this name; none without memory.
+/// The status of an update of a flash by this name.
 fn status_of<F: Flash>(alloc: Global, flash: &mut F, name: &str) -> Option<u8> {
     match run_over(alloc, flash, name, b"") {
         Some((status, _)) => Some(status),
@@ -155,7 +158,7 @@ fn status_of<F: Flash>(alloc: Global, flash: &mut F, name: &str) -> Option<u8> {
     }
 }
 
-/// Updates a flash in memory: the status, and whether it then holds these bytes; none without memory.
+/// Updates a flash in memory: the status, and whether it then holds these bytes.
 fn updated_in_memory(alloc: Global, bytes: &[u8]) -> Option<(u8, bool)> {
     let mut flash = flash_of(alloc)?;
     match status_of(alloc, &mut flash, "i") {
@@ -266,7 +269,7 @@ fn a_file_that_shrank_cannot_be_read(rt: HostRuntime) {
     );
 }
 
-/// The image, and bytes after it; none without memory.
+/// The image, and bytes after it.
 fn grown(alloc: Global) -> Result<Vec<u8>, AllocError> {
     let mut all = image(alloc)?;
     all.extend_from_slice(b"grown")?;
@@ -282,5 +285,5 @@ fn a_file_that_grew_is_updated_as_far_as_it_was_attached(rt: HostRuntime) {
         panic!(rt; "no memory or no file")
     };
     assert!(rt; answer == Ok(()));
-    assert!(rt; stands_at(&left, 131072, b"new\xFF") && stands_at(&left, 262144, b"grown"));
+    assert!(rt; stands_at(&left, 131_072, b"new\xFF") && stands_at(&left, 262_144, b"grown"));
 }

@@ -2,10 +2,10 @@
 use Rattle.std.proofs.Common.{◌≡◌, Bool, List, ℕ, Option, None, Some, Result, Ok, Err, refl, subst, sym}
 use Rattle.x7_words.specs.Flash.{FlashState}
 use Rattle.x7_words.specs.Input.{InputsState}
-use Rattle.x7_words.specs.Sink.{SinkState, Tells}
+use Rattle.x7_words.specs.Sink.{SinkState, PutsOrFails}
 use Rattle.x7_words.proofs.InputLemmas.{few_at, stays_at}
 use Rattle.x7_forms.specs.declared.status.Status.{Status}
-use Rattle.x7_forms.specs.Event.{Event, line_of, status_of_event, usage}
+use Rattle.x7_forms.specs.Event.{Event, event_line, status_of_event, usage}
 use Rattle.x7_forms.specs.Form.{AskedForm, Unused, flash_use, listed_by, updated_by}
 use Rattle.x7_forms.specs.Known.{Answer}
 use Rattle.x7_forms.specs.Message.{text_status}
@@ -69,7 +69,7 @@ ran_done form asks old new s stopped e t w a =
     })
 
 -- a form that has no whole text
-pub ran_refused : (form : Option AskedForm) (asks : AskedForm) (old new : Outside) (s : Status) (event : Event) → form ≡ Some asks → s ≡ status_of_event event → Tells old.err (line_of event) new.err → Answered asks old new (Err event) → RanAs form old new s
+pub ran_refused : (form : Option AskedForm) (asks : AskedForm) (old new : Outside) (s : Status) (event : Event) → form ≡ Some asks → s ≡ status_of_event event → PutsOrFails old.err (event_line event) new.err → Answered asks old new (Err event) → RanAs form old new s
 ran_refused form asks old new s event e t w a =
     subst (λ (f : Option AskedForm). RanAs f old new s) (sym e)
     (record {
@@ -84,7 +84,7 @@ ran_refused form asks old new s event e t w a =
     })
 
 -- words without a form
-pub ran_none : (form : Option AskedForm) (old : Outside) (err : SinkState) (s : Status) → form ≡ None → s ≡ status_of_event usage → Tells old.err (line_of usage) err → RanAs form old (record old { err = err }) s
+pub ran_none : (form : Option AskedForm) (old : Outside) (err : SinkState) (s : Status) → form ≡ None → s ≡ status_of_event usage → PutsOrFails old.err (event_line usage) err → RanAs form old (record old { err = err }) s
 ran_none form old err s e t w =
     subst (λ (f : Option AskedForm). RanAs f old (record old { err = err }) s) (sym e)
     (record {

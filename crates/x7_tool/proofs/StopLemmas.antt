@@ -36,9 +36,9 @@ use Rattle.x7_update.specs.declared.fault.UpdateFault.TheVariants as update
 use Rattle.x7_tool.specs.Outside.{Sources}
 use Rattle.x7_tool.specs.Run.{FlashComes, IsUnopened, IsUnusable, JudgesFlash, Puts}
 use Rattle.x7_tool.proofs.FlashLemmas.{flash_open}
-use Rattle.x7_tool.specs.Stopping.{Stops, StopsBy, TellsOf, inputs_of}
+use Rattle.x7_tool.specs.Stopping.{Stops, StopsBy, NamesItsStop, inputs_of}
 
--- ---- of whom an event tells
+-- ---- which input an event names
 
 pub asm_about : (name : List ℕ) (fault : AsmFault) → IsAbout name (asm_event name fault)
 asm_about name (asm.Line line) = inr refl
@@ -83,7 +83,7 @@ svf_played_about name texts event (inr h) = about_by name event (svf_event name 
 
 -- ---- where reading stops
 
-stops_by : (cause : Cause) (form : AskedForm) (old now : InputsState) (event : Event) → TellsOf form old now event → StopsBy cause form old now event
+stops_by : (cause : Cause) (form : AskedForm) (old now : InputsState) (event : Event) → NamesItsStop form old now event → StopsBy cause form old now event
 stops_by Wording form old now event t = tt
 stops_by Want form old now event t = tt
 stops_by Break form old now event t = tt
@@ -165,7 +165,7 @@ fault_stops : (flash stream : List ℕ) (old now : InputsState) (fault : UpdateF
     → StopsBy (cause_of_event (update_event (record { flash = flash; stream = stream }) fault)) (UpdatingFlash flash stream) old now (update_event (record { flash = flash; stream = stream }) fault)
 fault_stops flash stream old now (update.Failed true) s n = tt
 fault_stops flash stream old now (update.Failed false) s n = inl (inl refl)
-fault_stops flash stream old now update.TooLong s n = inr (inr (record { before = []; input = limited stream_limit stream; after = []; among = refl; tells = refl; stands = s; asks = n }))
+fault_stops flash stream old now update.TooLong s n = inr (inr (record { before = []; input = limited stream_limit stream; after = []; among = refl; concerns = refl; stands = s; asks = n }))
 fault_stops flash stream old now (update.NoLayout place) s n = inl (inl refl)
 fault_stops flash stream old now (update.Differs place wrote read) s n = tt
 fault_stops flash stream old now update.NoMemory s n = tt

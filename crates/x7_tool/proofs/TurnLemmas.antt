@@ -1,6 +1,6 @@
 -- A listing that is written turn by turn.
 use Rattle.std.proofs.Common.{length-append, arith, inl, inr, ◌≡◌, ℕ, ◌+◌, ◌<◌, Bool, true, List, [], ◌∷◌, ◌++◌, false, Option, None, Some, Ok, Err, length, refl, ap, sym, subst, ◌∙◌, append_assoc, append-nil, Result}
-use Rattle.x7_words.specs.Sink.{appended, PutsPrefix, SinkState, Tells}
+use Rattle.x7_words.specs.Sink.{appended, PutsPrefix, SinkState, PutsOrFails}
 use Rattle.x7_words.specs.Word.{AreBytes}
 use Rattle.x7_words.proofs.SinkLemmas.{appended_appended, appended_nil, prefix_more}
 use Rattle.x7_packets.specs.ByHand.{reading_of}
@@ -91,9 +91,9 @@ whole_text l fed done sent text stands feeds ends same =
     same ∙ f.listed ∙ listing_is sent f.listing f.is
 
 -- a text was put whole, or a prefix of it and the sink failed
-pub tells_prefix : (old new : SinkState) (text : List ℕ) → Tells old text new → PutsPrefix old.written text new.written
-tells_prefix old new text (inl all) = (text, ([], sym (append-nil text), all))
-tells_prefix old new text (inr some) = some.1
+pub puts_a_prefix : (old new : SinkState) (text : List ℕ) → PutsOrFails old text new → PutsPrefix old.written text new.written
+puts_a_prefix old new text (inl all) = (text, ([], sym (append-nil text), all))
+puts_a_prefix old new text (inr some) = some.1
 
 -- bytes more were taken
 pub taken_more : (contents : Option (List ℕ → Option (List ℕ))) (name taken piece : List ℕ) (old new : Option (List ℕ)) → Selects contents name (preceded taken old) → old ≡ preceded piece new → Selects contents name (preceded (taken ++ piece) new)

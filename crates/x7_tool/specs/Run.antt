@@ -4,13 +4,13 @@ use Rattle.x7_words.specs.Flash.{FlashState, IfKnown}
 use Rattle.x7_words.specs.Input.{AsksFew, InputsState, Stays}
 use Rattle.x7_boot.specs.Image.{flash_limit}
 use Rattle.x7_update.specs.Writing.{IsFirstRead, IsReadWrong}
-use Rattle.x7_words.specs.Sink.{PutsAll, PutsPrefix, PutsSome, SinkFails, SinkState, Tells}
+use Rattle.x7_words.specs.Sink.{PutsAll, PutsPrefix, PutsSome, SinkFails, SinkState, PutsOrFails}
 use Rattle.x7_words.specs.Word.{AreBytes}
 use Rattle.x7_listing.specs.StreamListing.{stream_listing}
 use Rattle.x7_forms.specs.declared.refusal.Refusal.{Refusal}
 use Rattle.x7_forms.specs.declared.refusal.Why.{Why}
 use Rattle.x7_forms.specs.declared.refusal.Why.TheVariants as why
-use Rattle.x7_forms.specs.Event.{Event, Cause, Wording, Want, Fault, Absence, Break, Contents, Difference, cause_of_event, differs, line_of, missing, no_memory, reading_failed, too_large, usage, writing_failed}
+use Rattle.x7_forms.specs.Event.{Event, Cause, Wording, Want, Fault, Absence, Break, Contents, Difference, cause_of_event, differs, event_line, missing, no_memory, reading_failed, too_large, usage, writing_failed}
 use Rattle.x7_forms.specs.Form.{AskedForm, Listing, UpdatingFlash, flash_names, listed_by, names_of, updated_by}
 use Rattle.x7_forms.specs.Known.{Answer, Held, Known, bytes_found, flash_found, with_inputs}
 use Rattle.x7_part.specs.Part.{PartData}
@@ -205,7 +205,7 @@ written_by result = seen (λ stopped. stopped) result
 -- what the sink of messages got: nothing after a whole text, and else the event's line, or a prefix of it where the sink failed
 abbrev pub SaysEnd : SinkState → SinkState → Result Answer Event → Type 0
 SaysEnd old new (Ok answer) = new.written ≡ old.written
-SaysEnd old new (Err event) = Tells old (line_of event) new
+SaysEnd old new (Err event) = PutsOrFails old (event_line event) new
 
 -- how a text that is ready, or none, was written: whether it reports a fault, or the event
 abbrev pub Puts : Result Answer Event → SinkState → SinkState → Result Bool Event → Type 0

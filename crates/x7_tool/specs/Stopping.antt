@@ -28,14 +28,14 @@ inputs_of contents (Booting part flash) = limited part_limit part ∷ []
 inputs_of contents (UpdatingFlash flash stream) = limited stream_limit stream ∷ []
 
 -- an event names the form's flash, the words that were read out, or the input at which reading stopped
-abbrev pub TellsOf : AskedForm → InputsState → InputsState → Event → Type 0
-TellsOf form old now event = Among (flash_names (Some form)) event.concerned ⊎ ((event ≡ too_many_reads) ⊎ StopsAt (inputs_of old.contents form) old now event)
+abbrev pub NamesItsStop : AskedForm → InputsState → InputsState → Event → Type 0
+NamesItsStop form old now event = Among (flash_names (Some form)) event.concerned ⊎ ((event ≡ too_many_reads) ⊎ StopsAt (inputs_of old.contents form) old now event)
 
 -- by the cause of an event: one that lies in an input or a flash, in its failing or in its absence
 abbrev pub StopsBy : Cause → AskedForm → InputsState → InputsState → Event → Type 0
-StopsBy Fault form old now event = TellsOf form old now event
-StopsBy Absence form old now event = TellsOf form old now event
-StopsBy Contents form old now event = TellsOf form old now event
+StopsBy Fault form old now event = NamesItsStop form old now event
+StopsBy Absence form old now event = NamesItsStop form old now event
+StopsBy Contents form old now event = NamesItsStop form old now event
 StopsBy _ form old now event = Unit {0}
 
 -- where an input ends a command, no later one was asked for, no earlier one twice, and no more than a byte over its limit was given of it

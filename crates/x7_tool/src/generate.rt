@@ -158,6 +158,7 @@ fn play_full(alloc: Global, part: &Part, plan: &Plan) -> Result<Played, NoMemory
     ensures played { IfOk result (λ p. HasPlayed part.now (full_stream part.now plan.now) p.player) }
     ensures size { IfOk result (λ p. p.size ≡ length (full_stream part.now plan.now)) }
 {
+    // for the proof alone: a part has a frame, and a plan has no more rows than its part has frames
     let _frames = part.frames();
     let _rows = plan.len();
     let Ok(stream) = FullStream::new(part, plan) else {
@@ -250,6 +251,7 @@ pub fn gen_text(alloc: Global, part: &Part, seed: u32) -> Result<Vec<u8>, NoMemo
     ensures planned { IfOk result (λ text. text.items ≡ planned_summary part.now seed) }
 {
     let plan = generated(alloc, part, seed)?;
+    // for the proof alone: a part has a frame
     let _frames = part.frames();
     let planned = plan.len();
     let played = play_full(alloc, part, &plan)?;

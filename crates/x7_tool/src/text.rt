@@ -14,10 +14,10 @@ use x7_words::{Failed, Sink, write_all};
 
 /// A text that is ready: what it is made of was read and judged, and writing it takes no memory.
 pub(crate) trait Ready {
-    /// The text, and whether what it reports stopped at a fault.
+    /// The text, and whether what it reports stopped (`Status::Stopped`).
     ghost answer: { Self → Answer };
 
-    /// Whether what it reports stopped at a fault.
+    /// Whether what it reports stopped (`Status::Stopped`).
     fn is_stopped(&self) -> bool
         ensures { result ≡ (answer self.now).stopped };
 
@@ -28,7 +28,7 @@ pub(crate) trait Ready {
         ensures failed { OnErr result (SinkFails (O.state out.old) (O.state out.new)) };
 }
 
-/// A text that was made whole, and whether what it reports stopped at a fault.
+/// A text that was made whole, and whether what it reports stopped (`Status::Stopped`).
 #[derive(Drop)]
 pub(crate) struct Text {
     pub(crate) stopped: bool,
@@ -47,7 +47,7 @@ impl Ready for Text {
     }
 }
 
-/// A text that was made whole and reports no fault.
+/// A text that was made whole, and that reports nothing that could stop.
 impl Ready for Vec<u8> {
     ghost answer = { text_of_bytes };
 

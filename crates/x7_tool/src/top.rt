@@ -23,7 +23,7 @@ use std::alloc::Global;
 use x7_forms::{Form, Refusal, Status, Why, words_of};
 use x7_words::{Flash, Inputs, Sink};
 
-/// Writes the whole text of a form, and says whether what it reports stopped at a fault.
+/// Writes the whole text of a form, and says whether what it reports stopped (`Status::Stopped`).
 fn answer<'w, I: Inputs, O: Sink, F: Flash>(
     alloc: Global,
     form: Form<'w>,
@@ -105,7 +105,7 @@ fn carry_out<I: Inputs, O: Sink, E: Sink, F: Flash>(
 ///
 /// Power may be lost at any moment. Where the bytes of the flash are known, what is found of it then is what it held, or what an
 /// update may leave of it. Where the stream is known too, and the golden stream, whoever made it, starts after an erased first
-/// sector and ends before the update's place, a boot from what is found is the one before the update, or starts as the golden
+/// sector and ends at the update's place or before it, a boot from what is found is the one before the update, or starts as the golden
 /// stream does, or is the one after the update. The full stream of a plan is such a golden stream
 /// (`x7_recovery::full_streams_start`).
 pub fn run<I: Inputs, O: Sink, E: Sink, F: Flash>(

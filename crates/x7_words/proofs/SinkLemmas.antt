@@ -2,7 +2,7 @@
 use Rattle.std.proofs.Common.{◌≡◌, ℕ, List, [], ◌∷◌, ◌++◌, ◌+◌, ◌<◌, take, drop, length, Option, None, Some, refl, ap, append_assoc, append-nil, sym, ◌∙◌, arith, inr, flat_map, zero, suc, get_or}
 use Rattle.std.proofs.Math.Seq.{take-add}
 use Rattle.std.proofs.lemmas.List.{take-append-drop}
-use Rattle.x7_words.specs.Sink.{appended, Counts, PutsAll, PutsPrefix, PutsSome, SinkFails, SinkState, Tells}
+use Rattle.x7_words.specs.Sink.{appended, Counts, PutsAll, PutsPrefix, PutsSome, SinkFails, SinkState, PutsOrFails}
 
 -- nothing more leaves what was written
 pub appended_nil : (known : Option (List ℕ)) → appended known [] ≡ known
@@ -35,8 +35,8 @@ flat_map_at f (p ∷ ps) zero d h = refl
 flat_map_at f (p ∷ ps) (suc k) d h = ap (λ r. f p ++ r) (flat_map_at f ps k d (omega arith)) ∙ sym (append_assoc (f p) (flat_map f (take k ps)) (f (get_or ps k d) ++ flat_map f (drop (suc k) ps)))
 
 -- a failure in the piece after some whole ones
-pub tells_prefix : (first mid last : SinkState) (all a b c : List ℕ) → all ≡ a ++ (b ++ c) → PutsAll first a mid → PutsSome mid b last → SinkFails first last → Tells first all last
-tells_prefix first mid last all a b c e p q r = inr (r, rw e (prefix_more first.written mid.written last.written a b c p q))
+pub puts_a_prefix : (first mid last : SinkState) (all a b c : List ℕ) → all ≡ a ++ (b ++ c) → PutsAll first a mid → PutsSome mid b last → SinkFails first last → PutsOrFails first all last
+puts_a_prefix first mid last all a b c e p q r = inr (r, rw e (prefix_more first.written mid.written last.written a b c p q))
 
 -- a count that does not fall over one call and over the next does not fall over both
 pub counts_on : (a b c : SinkState) → Counts a b → Counts b c → Counts a c

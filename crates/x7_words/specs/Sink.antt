@@ -36,5 +36,5 @@ pub record Counts (old new : SinkState) : Type 0 where
   pub fits : old.faults < 2 ^ 64 → new.faults < 2 ^ 64
 
 -- the whole text was put at the end, or a prefix of it and the sink failed
-abbrev pub Tells : SinkState → List ℕ → SinkState → Type 0
-Tells old text new = PutsAll old text new ⊎ (SinkFails old new × PutsSome old text new)
+abbrev pub PutsOrFails : SinkState → List ℕ → SinkState → Type 0
+PutsOrFails old text new = PutsAll old text new ⊎ (SinkFails old new × PutsSome old text new)

@@ -1,7 +1,7 @@
 use Rattle.x7_forms.proofs.bad_part.say_bad_part.Goals as goal
 
 pub returns-in-Toml : goal.returns-in-Toml
-returns-in-Toml g c = rw (c.in-Toml.is, ← c.as_bytes.ensures.value) c.write_pieces.ensures.tells
+returns-in-Toml g c = rw (c.in-Toml.is, ← c.as_bytes.ensures.value) c.write_pieces.ensures.puts
 
 pub returns-in-Key : goal.returns-in-Key
 returns-in-Key g c = rw c.in-Key.is c.say_key.ensures
@@ -16,4 +16,4 @@ pub returns-in-TooMany : goal.returns-in-TooMany
 returns-in-TooMany g c = rw c.in-TooMany.is c.say_number-in-TooMany.ensures
 
 pub returns-in-NoMemory : goal.returns-in-NoMemory
-returns-in-NoMemory g c = rw (c.in-NoMemory.is, ← c.as_bytes-in-NoMemory.ensures.value) c.write_pieces-in-NoMemory.ensures.tells
+returns-in-NoMemory g c = rw (c.in-NoMemory.is, ← c.as_bytes-in-NoMemory.ensures.value) c.write_pieces-in-NoMemory.ensures.puts

@@ -1,6 +1,6 @@
 use Rattle.std.proofs.Common.{ap, refl, subst, sym, ◌∙◌}
-use Rattle.x7_words.specs.Sink.{Tells}
-use Rattle.x7_forms.specs.Event.{Event, line_of, status_of_event}
+use Rattle.x7_words.specs.Sink.{PutsOrFails}
+use Rattle.x7_forms.specs.Event.{Event, event_line, status_of_event}
 use Rattle.x7_forms.specs.Form.{asked_by, form_asked}
 use Rattle.x7_forms.specs.Message.{event_of}
 use Rattle.x7_tool.specs.Outside.{outside}
@@ -11,7 +11,7 @@ use Rattle.x7_tool.proofs.top.carry_out.Goals as goal
 pub returns-in-None-clause-ran : goal.returns-in-None-clause-ran
 returns-in-None-clause-ran g c =
     let old = outside (g.I.Inputs.state c.args.inputs.now) (g.F.Flash.state c.args.flash.now) (g.O.Sink.state c.args.out.now) (g.E.Sink.state c.args.err.now) in
-    let line = subst (λ (event : Event). Tells (g.E.Sink.state c.args.err.now) (line_of event) (g.E.Sink.state c.tell.new.err)) c.unnamed.ensures c.tell.ensures.line in
+    let line = subst (λ (event : Event). PutsOrFails (g.E.Sink.state c.args.err.now) (event_line event) (g.E.Sink.state c.tell.new.err)) c.unnamed.ensures c.tell.ensures.line in
     ran_none _ old (g.E.Sink.state c.tell.new.err) _ (sym c.words_of.ensures ∙ ap form_asked c.in-None.is) (c.tell.ensures.status ∙ ap status_of_event c.unnamed.ensures) line
 
 pub returns-in-None-clause-flash : goal.returns-in-None-clause-flash
