@@ -1,0 +1,110 @@
+#!/usr/bin/env python3
+"""Tests the pages against the tree: what MAP and README name is there, what is there is named, and links lead somewhere."""
+import glob
+import os
+import re
+
+from casefiles import TOOLS, Tally
+
+TOP = os.path.dirname(TOOLS)
+CRATES = os.path.join(TOP, "crates")
+
+
+def text_of(*path):
+    with open(os.path.join(TOP, *path), encoding="utf-8") as file:
+        return file.read()
+
+
+def crates():
+    """The crates, as crates.txt has them."""
+    return [line.partition(":")[0] for line in text_of("crates.txt").splitlines() if line and not line.startswith("#")]
+
+
+def cells(line):
+    """The cells of a table's row, and none of its rule."""
+    row = [it.strip() for it in line.strip().strip("|").split("|")]
+    return [] if not line.startswith("|") or set("".join(row)) <= set("-: ") else row
+
+
+def map_rows():
+    """MAP's first table: for each crate the text of its modules and that of its definitions."""
+    rows, crate = {}, ""
+    for row in (cells(line) for line in text_of("docs", "MAP.md").partition("\n## ")[0].splitlines()):
+        if len(row) == 3 and row[0] != "Crate":
+            crate = row[0] or crate
+            one, other = rows.get(crate, ("", ""))
+            rows[crate] = (f"{one} {row[1]}", f"{other} {row[2]}")
+    return rows
+
+
+def names_in(folder, ending):
+    """The files below a folder, by their paths without the ending."""
+    found = glob.glob(os.path.join(CRATES, folder, "**", f"*{ending}"), recursive=True)
+    return {os.path.relpath(it, os.path.join(CRATES, folder))[: -len(ending)] for it in found}
+
+
+def is_one_of(name, paths):
+    """A path is named by itself or by its last parts."""
+    return any(it == name or it.endswith(f"/{name}") for it in paths)
+
+
+def lists_others(path, paths):
+    """A file beside a folder of its name may be the list of what stands there."""
+    return any(it.startswith(f"{path}/") for it in paths)
+
+
+def check_map(tally):
+    """Each module and each specs file stands in MAP, and no other."""
+    rows = map_rows()
+    tally.same("the crates of MAP", sorted(rows), sorted(crates()))
+    for crate, (modules, definitions) in sorted(rows.items()):
+        for what, text, paths, roots in (
+            ("module", modules, names_in(f"{crate}/src", ".rt"), {"lib", "main"}),
+            ("specs file", definitions, names_in(f"{crate}/specs", ".antt"), {"Lib"}),
+        ):
+            named = re.findall(r"`([A-Za-z_/0-9]+)`", text)
+            for path in sorted(paths - roots):
+                is_named = any(is_one_of(it, {path}) for it in named)
+                tally.check(f"{crate}: MAP names its {what} {path}", is_named or lists_others(path, paths), sorted(named))
+            if what == "specs file":
+                lost = [it for it in named if it[0].isupper() and not is_one_of(it, paths)]
+                tally.same(f"{crate}: the specs files that MAP names and that aren't there", lost, [])
+
+
+def check_links(tally):
+    """A link to a file of the tree leads to one."""
+    pages = [os.path.join(TOP, it) for it in ("README.md", "CHANGELOG.md")]
+    for pattern in ("docs/*.md", "bench/*.md", "tools/*.md", "examples/*.md", "crates/*/README.md", "crates/*/data/*.md"):
+        pages += glob.glob(os.path.join(TOP, pattern))
+    for page in sorted(pages):
+        text = text_of(page)
+        for link in re.findall(r"\]\(([^)\s#]+)(?:#[^)]*)?\)", text):
+            if "://" not in link:
+                there = os.path.join(os.path.dirname(page), link)
+                tally.check(f"{os.path.relpath(page, TOP)}: the link {link}", os.path.exists(there), there)
+
+
+def check_seconds(tally):
+    """MAP's times of the crates are those by which ./build reckons."""
+    table = text_of("docs", "MAP.md").partition("| Crate | Seconds |")[2].partition("\n\n")[0]
+    row_pairs = re.findall(r"(x7\w*) \| (\d+)", table)
+    reckoned = re.findall(r'"(x7\w*)": (\d+)', text_of("build"))
+    tally.check("build has its times", len(reckoned) > 20, reckoned)
+    tally.same("MAP's times and those of build", sorted(row_pairs), sorted(reckoned))
+
+
+def check_readme(tally):
+    """README's table of what is proved has each crate, and each library a README of its own."""
+    table = text_of("README.md").partition("## What is proved, crate by crate")[2]
+    for crate in crates():
+        tally.check(f"README has {crate}", re.search(rf"^\|.*\b{crate}\b[^|]*\|", table, re.M) is not None, crate)
+        if crate != "x7":
+            tally.check(f"{crate} has a README", os.path.isfile(os.path.join(CRATES, crate, "README.md")), crate)
+
+
+tally = Tally()
+check_map(tally)
+check_links(tally)
+check_seconds(tally)
+check_readme(tally)
+tally.end()
