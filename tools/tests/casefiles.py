@@ -22,6 +22,26 @@ def line_text(text):
     return re.sub(r"<([^<>]*)\*(\d+)>", lambda it: it[1] * int(it[2]), text) + "\n"
 
 
+# What a line of an input adds to it, by its key.
+INPUTS = {
+    "bytes": lambda case, words, rest: hex_bytes(words[1:]),
+    "flash": lambda case, words, rest: hex_bytes(words[1:]),
+    "text": lambda case, words, rest: line_text(rest[len(words[0]) + 1 :]).encode(),
+    "text_lines": lambda case, words, rest: line_text(rest.split(" ", 2)[2]).encode() * int(words[1]),
+    "slice": lambda case, words, rest: case.named(words[1])[int(words[2]) : int(words[3])],
+    "flash_slice": lambda case, words, rest: case.named(words[1])[int(words[2]) : int(words[3])],
+}
+# What a line of the output adds to it, by its key.
+OUTPUTS = {
+    "out": lambda case, words, rest: line_text(rest).encode(),
+    "out_lines": lambda case, words, rest: line_text(rest.partition(" ")[2]).encode() * int(words[0]),
+    "out_bytes": lambda case, words, rest: hex_bytes(words),
+    "out_slice": lambda case, words, rest: case.named(words[0])[int(words[1]) : int(words[2])],
+}
+# The keys of a case that is run in more ways than one, or whose output isn't given whole.
+VARIED = {"prefix", "any", "cut_each", "change_each", "room", "in_fails", "out_fails", "err_fails", "flash_fails", "length"}
+
+
 class Case:
     """A case: its words, its inputs by name, its status, and what is known of its text."""
 
@@ -31,39 +51,26 @@ class Case:
         self.text, self.has, self.keeps, self.is_plain = b"", [], [], True
 
     def named(self, name):
+        """The bytes of a stream of the file of cases, or of a text that an earlier case kept."""
         return self.streams.get(name, self.kept.get(name, b""))
 
     def add(self, key, words, rest):
         """Takes a line."""
-        if key == "words":
+        if key in INPUTS:
+            self.inputs[words[0]] = self.inputs.get(words[0], b"") + INPUTS[key](self, words, rest)
+        elif key in OUTPUTS:
+            self.text += OUTPUTS[key](self, words, rest)
+        elif key == "words":
             self.words = words
-        elif key in ("bytes", "flash"):
-            self.inputs[words[0]] = self.inputs.get(words[0], b"") + hex_bytes(words[1:])
-        elif key == "text":
-            self.inputs[words[0]] = self.inputs.get(words[0], b"") + line_text(rest[len(words[0]) + 1 :]).encode()
-        elif key == "text_lines":
-            text = line_text(rest.split(" ", 2)[2])
-            self.inputs[words[0]] = self.inputs.get(words[0], b"") + text.encode() * int(words[1])
-        elif key in ("slice", "flash_slice"):
-            self.inputs[words[0]] = self.inputs.get(words[0], b"") + self.named(words[1])[int(words[2]) : int(words[3])]
         elif key == "status":
             self.status = int(words[0])
         elif key == "err":
             self.error = rest
-        elif key == "out":
-            self.text += line_text(rest).encode()
-        elif key == "out_lines":
-            self.text += line_text(rest.partition(" ")[2]).encode() * int(words[0])
-        elif key == "out_bytes":
-            self.text += hex_bytes(words)
-        elif key == "out_slice":
-            self.text += self.named(words[0])[int(words[1]) : int(words[2])]
-            self.is_plain = self.is_plain and (words[0] in self.streams or words[0] in self.kept)
         elif key == "has":
             self.has.append(rest)
         elif key == "keep":
             self.keeps.append(words[0])
-        elif key in ("prefix", "any", "cut_each", "change_each", "room", "in_fails", "out_fails", "err_fails", "flash_fails", "length"):
+        if key in VARIED or key == "out_slice" and words[0] not in self.streams and words[0] not in self.kept:
             self.is_plain = False
 
     def bytes_of(self, name):
@@ -115,17 +122,21 @@ class Tally:
         self.passed = self.failed = self.skipped = 0
 
     def check(self, name, is_so, note=""):
+        """Counts one trial; where it failed, says its name and what came."""
         self.passed, self.failed = self.passed + bool(is_so), self.failed + (not is_so)
         if not is_so:
             print(f"{os.path.basename(sys.argv[0])}: {name}{': ' if note else ''}{note}", file=sys.stderr)
 
     def same(self, name, came, wanted):
+        """Counts a trial that passes where both values are equal."""
         self.check(name, came == wanted, f"came {str(came)[:300]!r}, wanted {str(wanted)[:300]!r}")
 
     def skip(self, name):
+        """Counts what the machine lacks something for."""
         self.skipped += 1
 
     def end(self):
+        """Prints the counts, and ends with status 1 where something failed."""
         more = f", {self.skipped} skipped" if self.skipped else ""
         print(f"{self.passed} passed, {self.failed} failed{more}")
         sys.exit(self.failed > 0)

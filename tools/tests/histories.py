@@ -32,6 +32,7 @@ def part_text(rng):
 
 
 def part_of(text):
+    """The part of a part file."""
     table = x7.Toml(text).tables()
     x7.check_part(table)
     return x7.Part(table)
@@ -49,6 +50,7 @@ class Maker:
         return self.rng.random() < (chance / 8 if self.is_tame else chance)
 
     def word(self):
+        """A word: all bits alike, few bits, or any."""
         return self.rng.choice([0, 0xFFFFFFFF, self.rng.getrandbits(5), self.rng.getrandbits(32), self.rng.getrandbits(32)])
 
     # packets
@@ -65,6 +67,7 @@ class Maker:
         return [f"{kind} {register} {count}"]
 
     def write(self, register, words):
+        """A write of these words to a register."""
         return self.packet("write", register, len(words)) + data_lines(words)
 
     def order(self, name):
@@ -93,9 +96,11 @@ class Maker:
     # pieces
 
     def far(self):
+        """A write of one frame address, or of two, to FAR."""
         return self.write("FAR", [self.address() for _ in range(self.rng.choice([1, 1, 1, 1, 2]))])
 
     def any_command(self):
+        """One of all commands, those of frames most often."""
         names = ["WCFG"] * 4 + ["MFW"] * 3 + ["RCFG"] * 3 + ["RCRC", "LFRM", "AGHIGH", "START", "SHUTDOWN", "LTIMER", "NULL", "GRESTORE", "SWITCH"]
         names += ["RCAP", "GCAPTURE", "CRCC", "BSPI_READ", "FALL_EDGE", "DESYNC", "IPROG"]
         name = self.rng.choice(names)
@@ -162,6 +167,7 @@ class Maker:
         return lines + self.write("CTL0", [word]) if mask & 0x40 == 0 or self.is_wild(0.5) else lines
 
     def options(self):
+        """A write to COR0."""
         return self.write("COR0", [self.rng.choice([0x02003FE5, self.rng.getrandbits(32), self.rng.getrandbits(32)])])
 
     def check(self):
@@ -171,6 +177,7 @@ class Maker:
         return ["crc", *(self.write("CRC", [0]) if self.rng.random() < 0.1 else [])]
 
     def identification(self):
+        """A write to IDCODE: of the part in any version, or seldom of another one."""
         word = self.part.idcode ^ (self.rng.getrandbits(4) << 28)
         return self.write("IDCODE", [word ^ (1 << self.rng.randint(0, 31)) if self.is_wild(0.15) else word])
 
@@ -205,6 +212,7 @@ class Maker:
         return lines + ["sync", *self.read()] if self.rng.random() < 0.8 else lines
 
     def shutdown(self):
+        """A SHUTDOWN, with time to take effect or without, and then a check, a FAR or nothing."""
         lines = self.order("SHUTDOWN") + (self.filler() if self.rng.random() < 0.4 else [])
         return lines + self.rng.choice([self.order("RCRC"), ["crc"], self.far(), []])
 
@@ -252,6 +260,7 @@ def pieces_of(rng, part, more=None):
 
 
 def lines_of(pieces):
+    """The lines of all pieces, in their order."""
     return [line for piece in pieces for line in piece]
 
 

@@ -20,6 +20,7 @@ def run(folder, words, given=b"", closed=()):
     """Runs a command in a folder, with some of its standard files closed; status None where it doesn't end in time."""
 
     def close():
+        """Closes these of the standard files, before a program begins."""
         for number in closed:
             os.close(number)
 
@@ -68,6 +69,7 @@ def status_of(path):
 
 
 def read_and_remove(path):
+    """The bytes of a file, which is removed."""
     with open(path, "rb") as file:
         data = file.read()
     os.remove(path)
@@ -81,13 +83,16 @@ class Bench:
         self.folder, self.tally = str(folder), Tally()
 
     def path(self, name):
+        """The path of a file of the bench."""
         return os.path.join(self.folder, name)
 
     def put(self, name, data):
+        """Writes a file of the bench."""
         with open(self.path(name), "wb") as file:
             file.write(data.encode() if isinstance(data, str) else data)
 
     def get(self, name):
+        """The bytes of a file of the bench."""
         with open(self.path(name), "rb") as file:
             return file.read()
 

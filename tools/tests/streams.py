@@ -30,12 +30,14 @@ HEAD = ["bytes " + "FF" * 32, "bytes 000000BB11220044" + "FF" * 8, "sync", "nop"
 
 
 def part():
+    """The part that the made streams are for."""
     table = x7.Toml(PART).tables()
     x7.check_part(table)
     return x7.Part(table)
 
 
 def data_lines(words):
+    """The lines of payload words, eight a line."""
     return ["data " + " ".join(f"{it:08X}" for it in words[at : at + 8]) for at in range(0, len(words), 8)]
 
 
@@ -45,6 +47,7 @@ def frame(number):
 
 
 def command(name):
+    """The two lines that write a command to CMD."""
     return ["write CMD 1", f"cmd {name}"]
 
 

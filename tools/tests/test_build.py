@@ -52,15 +52,18 @@ class Room:
         self.environment = {**os.environ, "PATH": f"{self.kit}/bin:{os.environ['PATH']}"}
 
     def path(self, name):
+        """The path of a file of the room."""
         return os.path.join(self.folder, name)
 
     def put(self, name, text, mode=0o644):
+        """Writes a file of the room."""
         os.makedirs(os.path.dirname(self.path(name)), exist_ok=True)
         with open(self.path(name), "w", encoding="utf-8") as file:
             file.write(text)
         os.chmod(self.path(name), mode)
 
     def get(self, name):
+        """The text of a file of the room."""
         with open(self.path(name), encoding="utf-8") as file:
             return file.read()
 
@@ -78,6 +81,7 @@ class Room:
         return started.returncode, said, self.proved()
 
     def proved(self):
+        """The crates that the prover was called for, in their order."""
         return self.get("kit/proved").split() if os.path.exists(self.path("kit/proved")) else []
 
     def wait_for(self, crate):

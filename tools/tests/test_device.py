@@ -13,6 +13,7 @@ SHORT, MOST_READS = 20000, 100000
 
 
 def in_file(name, data):
+    """The path of a file that holds these bytes."""
     return put_file(FOLDER, name, data)
 
 

@@ -17,6 +17,7 @@ MADE = {
 
 
 def example(name):
+    """The bytes of an example."""
     with open(os.path.join(EXAMPLES, name), "rb") as file:
         return file.read()
 

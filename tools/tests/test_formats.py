@@ -8,6 +8,7 @@ tally = Tally()
 
 
 def listing_text(raw):
+    """The text of the listing of a stream."""
     return "".join(f"{line}\n" for line in x7.listing_of(x7.stream_of(raw))).encode()
 
 

@@ -12,6 +12,7 @@ EXAMPLES = os.path.join(TOP, "examples")
 
 
 def in_file(text, name):
+    """The path of a file that holds this text."""
     return put_file(FOLDER, name, text)
 
 
@@ -22,6 +23,7 @@ def report(frames, name="chip"):
 
 
 def refused(name, *words):
+    """frame_map takes none of these words: status 2 and one line."""
     status, out, err = called("frame_map", *words)
     tally.check(name, status == 2 and not out and err.count("\n") == 1 and "Error" not in err, f"{status} {err!r}")
 

@@ -11,6 +11,7 @@ PARTS = ["00000000", "00000003", "00000080", "00000082", "00000101", "00400000",
 
 
 def text_of(frames):
+    """The text of frames by their addresses in hexadecimal digits."""
     return x7.frames_text({int(far, 16): frame for far, frame in frames.items()})
 
 
@@ -22,6 +23,7 @@ def report_of(frames, part="made", end="searching"):
 
 
 def lines_of(came):
+    """The lines that a tool wrote, without comments."""
     return [line for line in came.out.decode().splitlines() if not line.startswith("#")]
 
 
@@ -185,6 +187,7 @@ def others(bench):
 
 
 def main(folder):
+    """All tests, in a folder of their own."""
     bench = Bench(folder)
     bench.put("made.part", DEVICE)
     texts(bench)

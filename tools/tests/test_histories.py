@@ -30,12 +30,14 @@ class Play:
     history = staticmethod(h.play_history)
 
     def by_x7(self, part, lines):
+        """What x7 writes of the streams of these lines, and its status."""
         streams = h.streams_of(lines)
         for number, stream in enumerate(streams):
             x7.write_file(in_folder(f"s{number}"), stream)
         return ran("play", part, [f"s{number}" for number in range(len(streams))])
 
     def plainly(self, part, lines, device=r.PartDevice):
+        """What the plain program, or one with a wrong rule, writes of them."""
         return r.play(h.part_of(part), b"".join(h.streams_of(lines)), device)
 
 
@@ -46,17 +48,21 @@ class Boot:
     history = staticmethod(h.boot_history)
 
     def flash(self, lines):
+        """The flash that holds the streams, each at a multiple of 256 bytes."""
         return b"".join(stream + b"\xff" * (-len(stream) % 256) for stream in h.streams_of(lines))
 
     def by_x7(self, part, lines):
+        """What x7 writes of the streams of these lines, and its status."""
         x7.write_file(in_folder("flash"), self.flash(lines))
         return ran("boot", part, ["flash"])
 
     def plainly(self, part, lines, device=r.PartDevice):
+        """What the plain program, or one with a wrong rule, writes of them."""
         return r.boot(h.part_of(part), self.flash(lines), device)
 
 
 def in_folder(name):
+    """The path of a file in the folder of the runs."""
     return os.path.join(FOLDER, name)
 
 
@@ -263,6 +269,7 @@ def is_seen(kind, device):
 
 
 def main(words):
+    """COUNT plays and half as many boots, and the wrong rules."""
     count, first = [int(it) for it in words + [str(COUNT), "1"][len(words) :]]
     for kind, number in ((Play(), count), (Boot(), count // 2)):
         for seed in range(first, first + number):

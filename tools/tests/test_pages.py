@@ -11,6 +11,7 @@ CRATES = os.path.join(TOP, "crates")
 
 
 def text_of(*path):
+    """The text of a file of the tree."""
     with open(os.path.join(TOP, *path), encoding="utf-8") as file:
         return file.read()
 

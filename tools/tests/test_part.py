@@ -17,6 +17,7 @@ NAMES = {0: "CLB_IO_CLK", 1: "BLOCK_RAM"}
 
 
 def in_file(data, name):
+    """The path of a file that holds these bytes."""
     return put_file(FOLDER, name, data)
 
 
@@ -78,6 +79,7 @@ def yaml_ranges():
 
 
 def good():
+    """Files that give a part."""
     raw = s.bit(SMALL)
     err = made("a .bit file", in_file(raw, "small.bit"))
     tally.check("no guess", "columns with a guess: 0" in err, err)
@@ -93,6 +95,7 @@ def good():
 
 
 def bad():
+    """Files that give none, and what is said of each."""
     raw, data = s.bit(SMALL), s.data_of(SMALL)
     header = len(raw) - len(data)
     listing = "".join(f"{it}\n" for it in x7.listing_of(x7.stream_of(raw)))
@@ -129,6 +132,7 @@ def bad():
 
 
 def calls():
+    """Words that the tool takes and words that it refuses."""
     path = in_file(s.bit(SMALL), "small.bit")
     tally.check("help", b"tools/part small.bit" in ran("part", "--help")[1])
     for words in ([], [path], [path, "a", "b", "c"], ["/nowhere", "a"], [FOLDER, "a"], [path, "/nowhere/at/all"], [path, FOLDER]):

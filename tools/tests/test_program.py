@@ -11,6 +11,7 @@ TOP = os.path.dirname(TOOLS)
 
 
 def text_of(*path):
+    """The text of a file of the tree."""
     with open(os.path.join(TOP, *path), encoding="utf-8") as file:
         return file.read()
 

@@ -8,6 +8,7 @@ import x7formats as x7
 
 
 def text_of(frames):
+    """The text of frames by their addresses in hexadecimal digits."""
     return x7.frames_text({int(far, 16): frame for far, frame in frames.items()})
 
 
@@ -132,6 +133,7 @@ def refused(bench):
 
 
 def main(folder):
+    """All tests, in a folder of their own."""
     bench = Bench(folder)
     if X7:
         make(bench)

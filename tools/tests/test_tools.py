@@ -152,6 +152,7 @@ def helps(bench, names):
 
 
 def main(folder):
+    """All tests, in a folder of their own."""
     bench, take = Bench(folder), random.Random(2)
     good = good_files(bench)
     files = hostile_files(bench, good)

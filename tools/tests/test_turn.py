@@ -14,16 +14,19 @@ DATA = streams.data_of(streams.full())
 
 
 def in_file(data, name="file"):
+    """The path of a file that holds these bytes."""
     return put_file(FOLDER, name, data)
 
 
 def turned(name, raw, wanted, said=""):
+    """The file gives a stream with these bytes, and this is said."""
     status, out, err = called("turn", in_file(raw))
     tally.check(name, status == 0 and wanted in out, f"status {status}, {err.strip()}")
     tally.check(f"{name}: what is said", said in err, err.strip())
 
 
 def refused(name, raw, said):
+    """The file gives no stream: status 2, and one line that says why."""
     status, out, err = called("turn", in_file(raw))
     tally.check(name, status == 2 and not out and said in err and err.count("\n") == 1, f"status {status}, {len(out)} bytes, {err.strip()}")
 
@@ -41,11 +44,13 @@ def ways():
 
 
 def rbt(lines, bits=None):
+    """A .rbt file of these lines, whose head says how many bits there are."""
     head = [b"Xilinx ASCII Bitstream", b"Created by hand", b"Bits:        %d" % (32 * len(lines) if bits is None else bits)]
     return b"\n".join(head + lines) + b"\n"
 
 
 def texts():
+    """Streams as texts: bits, digits, dumps."""
     lines = [f"{int.from_bytes(DATA[at:at + 4], 'big'):032b}".encode() for at in range(0, len(DATA), 4)]
     turned("a .rbt file", rbt(lines), DATA, "the digits of a .rbt file packed")
     turned("a .rbt file with 0D 0A", rbt(lines).replace(b"\n", b"\r\n"), DATA)
@@ -63,6 +68,7 @@ def texts():
 
 
 def calls():
+    """Words that the tool takes and words that it refuses."""
     path = in_file(DATA)
     tally.check("help", ran("turn", "--help")[:1] == (0,))
     for words in ([], [path, path], ["/nowhere/at/all"], [FOLDER]):

@@ -13,6 +13,7 @@ SIZE = 5 * SECTOR
 
 
 def text_of(frames):
+    """The text of frames by their addresses in hexadecimal digits."""
     return x7.frames_text({int(far, 16): frame for far, frame in frames.items()})
 
 
@@ -53,6 +54,7 @@ def apply(flash, line, raw):
 
 
 def steps_of(bench, *words):
+    """The steps that flash_steps lists."""
     came = bench.tool("flash_steps", *words)
     bench.tally.same(f"flash_steps {' '.join(words)}", came.status, 0)
     return [line for line in came.out.decode().splitlines() if not line.startswith("#")]
@@ -92,6 +94,7 @@ def steps(bench):
 
 
 def header():
+    """A header of a .bit file for data of length 0."""
     return x7.FIXED + b"a\0\0b\0\0c\0\0d\0\0e\0\0\0\0"
 
 
@@ -218,6 +221,7 @@ def goldens(bench):
 
 
 def words(bench):
+    """Words that the tools refuse."""
     for it in ([], ["made.part", "flash"], ["--size", "x", "made.part", "flash", "next"], ["--x7", "/nowhere", "made.part", "flash", "next"], ["nowhere", "flash", "next"], ["made.part", "nowhere", "next"], ["flash", "flash", "next"], ["--none", "made.part", "flash", "next"]):
         bench.refuses("check_update", *it)
     for it in ([], ["flash"], ["--page", "0", "flash", "next"], ["--page", "flash", "next"], ["flash", "nowhere"], ["nowhere", "next"], ["flash", "next", "next"]):
@@ -227,6 +231,7 @@ def words(bench):
 
 
 def main(folder):
+    """All tests, in a folder of their own."""
     bench = Bench(folder)
     if X7:
         make(bench)

@@ -25,10 +25,12 @@ LOST = "were lost among the frame data"
 
 
 def flipped(data, place, bit=1):
+    """The bytes with one bit other at this place."""
     return data[:place] + bytes([data[place] ^ bit]) + data[place + 1 :]
 
 
 def without(raw, place, count):
+    """The bytes without `count` of them at this place."""
     return raw[:place] + raw[place + count :]
 
 
@@ -38,6 +40,7 @@ def no_check(lines):
 
 
 def swap(how):
+    """The way back from bytes that were turned so."""
     return next(way.back for way in x7kinds.WAYS if way.what == how)
 
 
@@ -123,10 +126,12 @@ NOTES = [
 
 
 def in_file(data, name):
+    """The path of a file that holds these bytes."""
     return put_file(FOLDER, name, data)
 
 
 def files_of(raws):
+    """The paths of files that hold these streams."""
     return [in_file(raw, f"s{number}.bit") for number, raw in enumerate(raws)]
 
 
@@ -136,6 +141,7 @@ def lists_of(paths, raws):
 
 
 def asked(name, words, pattern, status):
+    """why says this of the words, with this status, and never fails itself."""
     came, out, err = called("why", *words)
     text = out.decode() + err
     tally.check(name, came == status and re.search(pattern, text), f"status {came}: {text[:300]!r}, wanted {pattern!r}")
@@ -145,6 +151,7 @@ def asked(name, words, pattern, status):
 
 
 def table(cases, status):
+    """Each case alone, and with its part where x7 is at hand."""
     for name, raws, *pattern in cases:
         pattern, paths = pattern[0] if pattern else GOOD, files_of(raws)
         asked(name, paths, pattern, status)
@@ -208,6 +215,7 @@ def boots():
 
 
 def words():
+    """Words of a board, and words that why refuses."""
     for option, word, pattern in (
         ("--stat", "0000990C", "ID_ERROR +1.*wrong IDCODE(.|\n)*BOARD, A stream for another device"),
         ("--stat", "0x401079FC", "it says: the device runs"),
