@@ -195,7 +195,7 @@ impl Pipeline {
         ensures part { AreOf part.now self.new memory.new }
     {
         let mut at = 0;
-        'somes: while at < bytes.len() {
+        'pieces: while at < bytes.len() {
             let (_, rest) = bytes.split_at(at);
             match self.write_some(rest, part, memory) {
                 Ok(taken) => at += taken,
