@@ -121,7 +121,7 @@ closing = Check ∷ command Lfrm ∷ command Start ∷ Check ∷ []
 -- the words before frame data of this many words
 abbrev words_before : PartData → ℕ → List ℕ
 words_before part count =
-    planner.head ++ ((packet_words.command Shutdown) ++ ((packet_words.command Rcrc) ++ (packet_words.no_op ∷ (packet_words.write_one Idcode part.idcode ++ (packet_words.write_one Cor0 0x02003FE5 ++ (packet_words.write_one Mask 0x501 ++ (packet_words.write_one Ctl0 0x101
+    planner.opening_words ++ ((packet_words.command Shutdown) ++ ((packet_words.command Rcrc) ++ (packet_words.no_op ∷ (packet_words.write_one Idcode part.idcode ++ (packet_words.write_one Cor0 0x02003FE5 ++ (packet_words.write_one Mask 0x501 ++ (packet_words.write_one Ctl0 0x101
     ++ ((packet_words.command Wcfg) ++ (packet_words.write_one Far (get_or (addresses_in part) 0 0) ++ packet_words.frame_data count)))))))))
 
 opening_same : (part : PartData) (ws : List ℕ) → opened bus_width_head (with_checks at_first (opening part ws)) ≡ words_before part (length ws) ++ (ws ++ [])
@@ -221,7 +221,7 @@ partial_same part rows w fits =
     let prefix : List Piece = before_check part rows in
     let c : Checking = after_pieces at_first (Put item.Noop ∷ command Rcrc ∷ Put item.Noop ∷ one Idcode part.idcode ∷ []) in
     let words : flat_map (stretch_words part) (stretches_of part rows) ≡ items_words (with_checks c (stretches_pieces part (stretches_of part rows))) = sym (stretches_spelled part c (stretches_of part rows) (stretches_width part rows w)) in
-    ap (λ t. planner.with_piece (planner.with_piece (bytes_of_words (planner.head ++ ((packet_words.command Rcrc) ++ (packet_words.no_op ∷ (packet_words.write_one Idcode part.idcode ++ t))))) planner.Check) (planner.Words stretch.partial_ending)) words
+    ap (λ t. planner.with_piece (planner.with_piece (bytes_of_words (planner.opening_words ++ ((packet_words.command Rcrc) ++ (packet_words.no_op ∷ (packet_words.write_one Idcode part.idcode ++ t))))) planner.Check) (planner.Words stretch.partial_ending)) words
     ∙ ap (λ b. planner.with_piece b (planner.Words stretch.partial_ending)) (spelled_one prefix Check (prefix_of IsPiece prefix (Check ∷ []) fits))
     ∙ spelled_end (plan_pieces part rows) 4
 

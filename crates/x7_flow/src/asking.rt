@@ -1,7 +1,9 @@
 //! Whether written words and reads concern frames, under the settings.
 ghost use Rattle.std.specs.Prelude.{◌≡◌, ◌==◌, ◌&&◌, not, ℕ};
 ghost use Rattle.x7_packets.specs.History.{History, Read};
+ghost use Rattle.x7_regs.specs.Command.{code_of};
 ghost use Rattle.x7_regs.specs.Register.{number_of};
+ghost use Rattle.x7_regs.specs.declared.command.Command.TheVariants as command;
 ghost use Rattle.x7_flow.specs.Controls.{forbids_reading, forbids_writing};
 ghost use Rattle.x7_flow.specs.FrameAccess.{reads_frame_data};
 ghost use Rattle.x7_flow.specs.Settings.{AreSettingsAfter, settings_of, takes_copies as takes_copies_by, takes_frames as takes_frames_by};
@@ -33,7 +35,7 @@ pub(crate) fn takes_copies(settings: FrameSettings) -> bool
 
 /// Whether words of FDRI go to the memory.
 pub(crate) fn takes_frames(settings: FrameSettings) -> bool
-    ensures value { result ≡ (settings.matched && (settings.held == 1 && not (forbids_writing settings.ctl0))) }
+    ensures value { result ≡ (settings.matched && (settings.held == code_of command.Wcfg && not (forbids_writing settings.ctl0))) }
     ensures after { (idcode : ℕ) (h : History) → AreSettingsAfter idcode settings h → result ≡ takes_frames_by (settings_of idcode h) }
 {
     settings.matched && u32::from(settings.held) == Command::Wcfg.code() && may_write(settings.ctl0)

@@ -67,11 +67,11 @@ pub fn word_laws()
 /// One access more: frames that do what it asks stand for the longer history; a read that begins changes them not, and all
 /// the words of that read are due. Frames of a part that stand for one history, with as many words due, are equal.
 pub fn standing_laws()
-    ensures more { (part : PartData) (old new : FramesState) (e : Entry) (h : History) →
+    ensures one_more { (part : PartData) (old new : FramesState) (e : Entry) (h : History) →
         FramesDid part old new h e → FramesStandFor part old h 0 → FramesStandFor part new (e ∷ h) 0 }
     ensures read { (part : PartData) (f : FramesState) (e : Entry) (h : History) (count : ℕ) →
         ReadsFrames part f h e.access count → FramesStandFor part f (e ∷ h) count }
-    ensures due { (part : PartData) (f : FramesState) (e : Entry) (h : History) (count : ℕ) →
+    ensures words_due { (part : PartData) (f : FramesState) (e : Entry) (h : History) (count : ℕ) →
         ReadsFrames part f h e.access count → words_due part (e ∷ h) count ≡ frames_read part h count }
     ensures one { (part : PartData) (f g : FramesState) (h : History) (due : ℕ) → FramesFit part f → FramesFit part g →
         FramesStandFor part f h due → FramesStandFor part g h due → f ≡ g }
@@ -121,7 +121,7 @@ pub fn stream_laws()
 pub fn quiet_laws()
     ensures pairs { (part : PartData) (s : Settings) (f : Flow) (later : History) → AreQuiet later → pairs_from part s f later ≡ [] }
     ensures memory { (part : PartData) (later earlier : History) → AreQuiet later → AreSame (memory_of part (later ++ earlier)) (memory_of part earlier) }
-    ensures due { (part : PartData) (h : History) (register count due n : ℕ) → ReadsMore h register count due →
+    ensures some_due { (part : PartData) (h : History) (register count due n : ℕ) → ReadsMore h register count due →
         less due (flow_read part h register count n) ≡ flow_read part h register (count - due) n }
     ensures all_due { (part : PartData) (h : History) (register count n : ℕ) → ReadsData h register count → less count (flow_read part h register count n) ≡ flow_of part h }
 {}

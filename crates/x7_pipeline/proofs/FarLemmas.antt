@@ -79,8 +79,8 @@ slot_put_before slot places n m None l back here none = at
     at zero h = here (omega arith)
     at (suc i) h = none i (back i h)
 slot_put_before slot places n m (Some far) l back here first =
-    let after : n ≤ first.place = first.behind in
-    record { place = suc first.place; behind = omega arith; there = first.there; none_before = before }
+    let after : n ≤ first.place = first.no_sooner in
+    record { place = suc first.place; no_sooner = omega arith; there = first.there; none_before = before }
   where
     before : (earlier : ℕ) → m ≤ earlier → earlier < suc first.place → HasNoFrame (get_or (slot ∷ places) earlier End)
     before zero h k = here (omega arith)
@@ -90,7 +90,7 @@ first_found : (places : List Slot) (n : ℕ) → AddressFrom places n (first_add
 unfolding AddressFrom
 first_found [] zero = λ place h far e. cc
 first_found [] (suc n) = λ place h far e. cc
-first_found (Frame far ∷ places) zero = record { place = 0; behind = omega arith; there = refl; none_before = λ earlier h k. absurd (omega arith) }
+first_found (Frame far ∷ places) zero = record { place = 0; no_sooner = omega arith; there = refl; none_before = λ earlier h k. absurd (omega arith) }
 first_found (Pad ∷ places) zero = slot_put_before Pad places 0 0 (first_address places) (omega arith) (λ i h. omega arith) (λ z far e. cc) (first_found places 0)
 first_found (End ∷ places) zero = slot_put_before End places 0 0 (first_address places) (omega arith) (λ i h. omega arith) (λ z far e. cc) (first_found places 0)
 first_found (slot ∷ places) (suc n) = slot_put_before slot places n (suc n) (first_address (drop n places)) (omega arith) (λ i h. omega arith) (λ z. absurd (omega arith)) (first_found places n)

@@ -51,7 +51,7 @@ HasNoFrame slot = (far : ℕ) → slot ≢ Frame far
 -- an address is the first one at or after slot n
 pub record IsFirstAddress (places : List Slot) (n far : ℕ) : Type 0 where
   pub place : ℕ
-  pub behind : n ≤ place
+  pub no_sooner : n ≤ place
   pub there : slice_index_or places place End ≡ Frame far
   pub none_before : (earlier : ℕ) → n ≤ earlier → earlier < place → HasNoFrame (slice_index_or places earlier End)
 

@@ -7,5 +7,5 @@ use Rattle.x7_pipeline.specs.Runs.{slots_from}
 
 -- the slots from the base on stand at `place` among all slots of the part, below 2^63
 pub record StartsAt (part : PartData) (base place : ℕ) : Type 0 where
-  pub few : place < 2 ^ 63
+  pub fits : place < 2 ^ 63
   pub same : (n : ℕ) → slice_index_or (slots_in part) (place + n) End ≡ slice_index_or (slots_from part base) n End

@@ -30,7 +30,7 @@ pub fn run_laws()
     ensures none { (part : PartData) (base : ℕ) (run : List ℕ) (old new : FrameMap) → AreSame new old → Lands part base run run old new }
     ensures twice { (first second : List PlanRow) (old middle new : FrameMap) → AreSame middle (put_over first old) → AreSame new (put_over second middle) →
         AreSame new (put_over (second ++ first) old) }
-    ensures more { (part : PartData) (base : ℕ) (run longer longest : List ℕ) (m n o : FrameMap) →
+    ensures joined { (part : PartData) (base : ℕ) (run longer longest : List ℕ) (m n o : FrameMap) →
         Lands part base run longer m n → Lands part base longer longest n o → Lands part base run longest m o }
     ensures memory { (part : PartData) (base : ℕ) (run longer : List ℕ) (under m n : FrameMap) →
         Lands part base run longer m n → HasRun part base run under m → HasRun part base longer under n }

@@ -195,7 +195,7 @@ impl Pipeline {
         ensures part { AreOf part.now self.new memory.new }
     {
         let mut at = 0;
-        'somes: while at < bytes.len() {
+        'pieces: while at < bytes.len() {
             let (_, rest) = bytes.split_at(at);
             match self.write_some(rest, part, memory) {
                 Ok(taken) => at += taken,
@@ -288,7 +288,7 @@ impl Pipeline {
         requires part { AreOf part.now self.old memory.old }
         requires frame { length bytes.now ≡ 4 * self.old.width }
         requires slot { self.old.frame_count < length (slots_from part.now self.old.base) }
-        requires few { length (slots_from part.now self.old.base) < 2 ^ 31 }
+        requires limit { length (slots_from part.now self.old.base) < 2 ^ 31 }
         requires place { StartsAt part.now self.old.base first }
         ensures held { self.new ≡ record self.old { newest = Some (words_of_bytes bytes.now); frame_count = self.old.frame_count + 1 } }
         ensures none { self.old.newest ≡ None → memory.new ≡ memory.old }
@@ -312,7 +312,7 @@ impl Pipeline {
     fn put_held(&self, first: u64, near: &mut usize, part: &Part, memory: &mut Memory)
         requires part { AreOf part.now self.now memory.old }
         requires slot { self.now.frame_count < length (slots_from part.now self.now.base) }
-        requires few { length (slots_from part.now self.now.base) < 2 ^ 31 }
+        requires limit { length (slots_from part.now self.now.base) < 2 ^ 31 }
         requires place { StartsAt part.now self.now.base first }
         ensures none { self.now.newest ≡ None → memory.new ≡ memory.old }
         ensures put { PutsNewest part.now self.now (frame_at part.now memory.old) (frame_at part.now memory.new) }

@@ -239,14 +239,14 @@ pub start_same : (contents : List Content) (start k : ℕ) (e : Content) → IsB
 start_same contents start k e b l t d =
     begun_same (content_rows contents) start k d b (omega (arith, l, length-map contents content_row))
     (ap (λ (r : PlanRow). r.words) (row_at contents k d e l) ∙ same_words_true (get_or contents k e).words.now (get_or contents start e).words.now t
-    ∙ ap (λ (r : PlanRow). r.words) (sym (row_at contents start d e (let h = b.behind in omega (arith, h, l)))))
+    ∙ ap (λ (r : PlanRow). r.words) (sym (row_at contents start d e (let h = b.no_later in omega (arith, h, l)))))
 
 pub start_new : (contents : List Content) (start k : ℕ) (e : Content) → IsBegun (content_rows contents) start k → k < length contents → same_words (get_or contents k e).words.now (get_or contents start e).words.now ≡ false
     → (d : PlanRow) → IsFirst (content_rows contents) (get_or (content_rows contents) k d).words k
 start_new contents start k e b l t d =
     begun_new (content_rows contents) start k d b (omega (arith, l, length-map contents content_row)) (λ s.
     same_words_false (get_or contents k e).words.now (get_or contents start e).words.now t
-    (ap (λ (r : PlanRow). r.words) (sym (row_at contents k d e l)) ∙ s ∙ ap (λ (r : PlanRow). r.words) (row_at contents start d e (let h = b.behind in omega (arith, h, l)))))
+    (ap (λ (r : PlanRow). r.words) (sym (row_at contents k d e l)) ∙ s ∙ ap (λ (r : PlanRow). r.words) (row_at contents start d e (let h = b.no_later in omega (arith, h, l)))))
 
 -- places up to k know where their content begins
 pub record FirstsUpTo (rows : List PlanRow) (firsts : List ℕ) (start k : ℕ) : Type 0 where
@@ -256,7 +256,7 @@ pub record FirstsUpTo (rows : List PlanRow) (firsts : List ℕ) (start k : ℕ) 
 
 pub firsts_none : (rows : List PlanRow) → FirstsUpTo rows [] 0 0
 firsts_none rows = record {
-  begun = record { behind = omega arith; none = (λ e. refl); first = (λ d h. absurd (omega (arith, h))) };
+  begun = record { no_later = omega arith; none = (λ e. refl); first = (λ d h. absurd (omega (arith, h))) };
   count = refl;
   each = (λ j d h. absurd (omega (arith, h)));
 }
@@ -265,7 +265,7 @@ pub firsts_step : (rows : List PlanRow) (firsts new : List ℕ) (start k s : ℕ
 firsts_step rows firsts new start k s u f b e =
     subst (λ (t : List ℕ). FirstsUpTo rows t s (k + 1)) (sym e)
     record {
-      begun = record { behind = omega (arith, b); none = (λ e. absurd (omega (arith, e))); first = (λ d h. subst (λ (i : ℕ). IsFirst rows (get_or rows i d).words s) (omega arith) (f d)) };
+      begun = record { no_later = omega (arith, b); none = (λ e. absurd (omega (arith, e))); first = (λ d h. subst (λ (i : ℕ). IsFirst rows (get_or rows i d).words s) (omega arith) (f d)) };
       count = length_push firsts s ∙ ap (λ (n : ℕ). n + 1) u.count;
       each = (λ j d h. at j d h (cases_order j k));
     }

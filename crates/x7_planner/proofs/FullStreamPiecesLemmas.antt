@@ -11,7 +11,7 @@ use Rattle.x7_memory.specs.Plan.{PlanData}
 use Rattle.x7_planner.specs.FullStream.{frame_at_slot, full_ending, full_opening, full_stream, words_of_slots, start_words}
 use Rattle.x7_planner.specs.Writer.{StreamPiece, Words, Check, bytes_of_words, check_words, stream_of, with_piece}
 use Rattle.x7_crc.specs.Checker.{check_of_bytes, HasTaken}
-use Rattle.x7_planner.specs.FullStreamPieces.{FullStreamState, HasGiven, IsFullStream, TellsMore, WritesPiece, calls_from, puts_left, frame_pieces, pieces_before, pieces_to, slot_next}
+use Rattle.x7_planner.specs.FullStreamPieces.{FullStreamState, HasGiven, IsFullStream, AppendsNext, WritesPiece, calls_from, piece_slots, puts_left, frame_pieces, pieces_before, pieces_to, slot_next}
 use Rattle.x7_planner.specs.declared.full_stream.NextPiece.{NextPiece}
 use Rattle.x7_planner.specs.declared.full_stream.NextPiece.TheVariants as next
 
@@ -82,7 +82,7 @@ module _ (s : FullStreamState) (old new : List ℕ) where
       let piece : List ℕ = bytes_of_words (words_of_slots s.part s.plan (drop n (take to (slots_in s.part)))) in
       ap (λ (x : List ℕ). x ++ piece) (before_at s given (next.Slot n) e t) ∙ append_assoc prefix first piece ∙ ap (λ (x : List ℕ). prefix ++ x) (slots_to s.part s.plan n to h)
 
-  pub wrote_slots : (n count to : ℕ) → s.next ≡ next.Slot n → n ≤ length (slots_in s.part) → count ≡ length (slots_in s.part) → to ≡ min count (n + 160) → (to ≡ count → ⊥)
+  pub wrote_slots : (n count to : ℕ) → s.next ≡ next.Slot n → n ≤ length (slots_in s.part) → count ≡ length (slots_in s.part) → to ≡ min count (n + piece_slots) → (to ≡ count → ⊥)
       → new ≡ old ++ bytes_of_words (words_of_slots s.part s.plan (drop n (take to (slots_in s.part)))) → WritesPiece s old new (next.Slot to)
   wrote_slots n count to e within c m more adds = record {
     piece = bytes_of_words (words_of_slots s.part s.plan (drop n (take to (slots_in s.part))));
@@ -92,7 +92,7 @@ module _ (s : FullStreamState) (old new : List ℕ) where
     fewer = λ _. calls_at s (next.Slot n) (next.Slot to) e (omega (arith, within, c, m, more));
   }
 
-  pub wrote_frames : (n count to : ℕ) → s.next ≡ next.Slot n → n ≤ length (slots_in s.part) → count ≡ length (slots_in s.part) → to ≡ min count (n + 160) → to ≡ count
+  pub wrote_frames : (n count to : ℕ) → s.next ≡ next.Slot n → n ≤ length (slots_in s.part) → count ≡ length (slots_in s.part) → to ≡ min count (n + piece_slots) → to ≡ count
       → new ≡ old ++ bytes_of_words (words_of_slots s.part s.plan (drop n (take to (slots_in s.part)))) → WritesPiece s old new next.Check
   wrote_frames n count to e within c m last adds = record {
     piece = bytes_of_words (words_of_slots s.part s.plan (drop n (take to (slots_in s.part))));
@@ -119,7 +119,7 @@ after_old old piece new start e f =
 
 -- what was written is given, once it is checked too
 pub given_more : (s t : FullStreamState) (given old new : List ℕ) (start : ℕ) → t.part ≡ s.part → t.plan ≡ s.plan → start ≡ length old → WritesPiece s old new t.next
-    → ((bytes : List ℕ) → HasTaken s.check bytes → HasTaken t.check (bytes ++ take (length new - start) (drop start new))) → HasGiven s given → TellsMore t given old new
+    → ((bytes : List ℕ) → HasTaken s.check bytes → HasTaken t.check (bytes ++ take (length new - start) (drop start new))) → HasGiven s given → AppendsNext t given old new
 given_more s t given old new start same_part same_plan e w takes h =
     let before : given ++ w.piece ≡ stream_of (pieces_before t.part t.plan t.next) =
     w.before given h ∙ ap (λ (p : PartData). stream_of (pieces_before p s.plan t.next)) (sym same_part) ∙ ap (λ (p : PlanData). stream_of (pieces_before t.part p t.next)) (sym same_plan) in

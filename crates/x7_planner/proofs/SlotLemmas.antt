@@ -16,7 +16,7 @@ use Rattle.x7_part.specs.declared.slot.Slot.TheVariants.{End}
 use Rattle.std.specs.Prelude.{Contains}
 use Rattle.x7_part.proofs.SlotLemmas.{slots_all, slots_number, slots_split}
 use Rattle.x7_memory.specs.Plan.{PlanData}
-use Rattle.x7_planner.specs.FullStream.{frame_at_slot, words_of_slots}
+use Rattle.x7_planner.specs.FullStream.{frame_at_slot, most_slots, words_of_slots}
 use Rattle.x7_planner.specs.Writer.{bytes_of_words}
 
 -- words written in two parts
@@ -57,7 +57,7 @@ slots_none part plan old start =
 pub record IsFew (part : PartData) (w n : ℕ) : Type 0 where
   pub words : w * n ≤ 13277056
   pub count : n ≡ length (slots_in part)
-  pub most : n ≤ 131456
+  pub most : n ≤ most_slots
 
 pub few_slots : (part : PartData) (first w n : ℕ) → IsPart part → get_or (addresses_in part) 0 0 ≡ first → w ≡ frame_words part → n ≡ length (from first (slots_in part)) → IsFew part w n
 few_slots part first w n is f e g =
@@ -66,11 +66,11 @@ few_slots part first w n is f e g =
     record { words = omega (arith, same, is.slots); count = count; most = omega (arith, count, slots_number part, is.frames, is.few) }
 
 -- how many words a readback has
-pub read_fits : (part : PartData) (address w n : ℕ) → IsPart part → Contains (addresses_in part) address → w ≤ 255 → n ≤ length (from address (slots_in part)) → (n < 131457) × (w * (n + 1) < 2 ^ 27)
+pub read_fits : (part : PartData) (address w n : ℕ) → IsPart part → Contains (addresses_in part) address → w ≤ 255 → n ≤ length (from address (slots_in part)) → (n ≤ most_slots) × (w * (n + 1) < 2 ^ 27)
 read_fits part address w n is has narrow within =
     let split = slots_split part address has in
     let long : length (slots_in part) ≡ length split.0 + length (from address (slots_in part)) = ap length split.1 ∙ length-append split.0 (from address (slots_in part)) in
-    let few : n < 131457 = omega (arith, long, slots_number part, is.frames, is.few, within) in
+    let few : n ≤ most_slots = omega (arith, long, slots_number part, is.frames, is.few, within) in
     let turned : (n + 1) * w ≤ (n + 1) * 255 = mul-le-mul_left (n + 1) narrow in
     let most : w * (n + 1) ≤ 255 * (n + 1) = omega (arith, turned) in
     (few, omega (arith, most, few))

@@ -37,7 +37,7 @@ pub record IsFirst (rows : List PlanRow) (words : List ℕ) (start : ℕ) : Type
 
 -- the content of the row before a place begins at start, which is 0 at the first place
 pub record IsBegun (rows : List PlanRow) (start place : ℕ) : Type 0 where
-  pub behind : start ≤ place
+  pub no_later : start ≤ place
   pub none : place ≡ 0 → start ≡ 0
   pub first : (d : PlanRow) → 0 < place → IsFirst rows (slice_index_or rows (place - 1) d).words start
 

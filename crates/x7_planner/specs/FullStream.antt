@@ -1,5 +1,5 @@
 -- The stream of a whole configuration: the planned frames, and zeros at all other addresses (this project's choice).
-use Rattle.std.specs.Prelude.{ℕ, ◌*◌, List, [], ◌∷◌, ◌++◌, length, replicate, slice_index, unwrap_or}
+use Rattle.std.specs.Prelude.{ℕ, ◌+◌, ◌*◌, List, [], ◌∷◌, ◌++◌, length, replicate, slice_index, unwrap_or}
 use Rattle.std.specs.List.{flat_map}
 use Rattle.x7_part.specs.AddressOrder.{addresses_in}
 use Rattle.x7_part.specs.Part.{PartData, frame_words}
@@ -11,7 +11,7 @@ use Rattle.x7_regs.specs.declared.command.Command.TheVariants.{Desync, Lfrm, Rcr
 use Rattle.x7_regs.specs.declared.register.Reg.TheVariants.{Cor0, Ctl0, Far, Idcode, Mask}
 use Rattle.x7_packets.specs.PacketWords.{command, frame_data, no_op, write_one}
 use Rattle.x7_planner.specs.Settings.{control, control_mask, startup_options}
-use Rattle.x7_planner.specs.Writer.{StreamPiece, Words, Check, head, stream_of}
+use Rattle.x7_planner.specs.Writer.{StreamPiece, Words, Check, opening_words, stream_of}
 
 -- a frame of zeros
 abbrev pub zero_frame : PartData → List ℕ
@@ -22,6 +22,10 @@ abbrev pub frame_at_slot : PartData → PlanData → Slot → List ℕ
 frame_at_slot part plan (Frame address) = unwrap_or (planned plan.rows address) (zero_frame part)
 frame_at_slot part plan Pad = zero_frame part
 frame_at_slot part plan End = zero_frame part
+
+-- how many slots a part has at most: its frames, at most 131,072, and two pads for each of at most 192 rows (x7_part: Ranges)
+abbrev pub most_slots : ℕ
+most_slots = 131072 + 2 * 192
 
 -- the words of all slots in order
 abbrev pub words_of_slots : PartData → PlanData → List Slot → List ℕ
@@ -35,7 +39,7 @@ full_settings part =
 
 -- what stands before the frame data
 abbrev pub full_opening : PartData → List ℕ
-full_opening part = head ++ full_settings part
+full_opening part = opening_words ++ full_settings part
 
 -- the end of frame data, and the start of the device
 abbrev pub start_words : List ℕ

@@ -41,7 +41,7 @@ abbrev pub slot_next : NextPiece → ℕ
 slot_next (next.Slot n) = n
 slot_next _ = 0
 
--- how often there may be a piece more
+-- at most how many calls append a piece, where this is next, by the number of slots
 abbrev pub calls_from : ℕ → NextPiece → ℕ
 calls_from slots next.Opening = slots + 6
 calls_from slots (next.Slot n) = slots - n + 5
@@ -51,7 +51,7 @@ calls_from slots next.LastCheck = 2
 calls_from slots next.Desync = 1
 calls_from slots next.Nothing = 0
 
--- how often there may be a piece more of a full stream that is written piece by piece
+-- at most how many calls of `put_next` still append a piece
 abbrev pub puts_left : FullStreamState → ℕ
 puts_left s = calls_from (length (slots_in s.part)) s.next
 
@@ -71,27 +71,31 @@ pub record HasGiven (s : FullStreamState) (given : List ℕ) : Type 0 where
 abbrev pub most_frame_bytes : ℕ
 most_frame_bytes = 1020
 
--- how many bytes a piece has at most: those of 160 frames
+-- how many frames a piece has at most
+abbrev pub piece_slots : ℕ
+piece_slots = 160
+
+-- how many bytes a piece has at most
 abbrev pub piece_limit : ℕ
-piece_limit = 160 * most_frame_bytes
+piece_limit = piece_slots * most_frame_bytes
 
--- how many bytes the settings of startup have
+-- how many bytes the settings of startup have: those of nineteen words
 abbrev pub settings_size : ℕ
-settings_size = 76
+settings_size = 4 * 19
 
--- how many bytes stand before the frame data
+-- how many bytes stand before the frame data: those of the ten opening words, and of the settings
 abbrev pub opening_size : ℕ
-opening_size = 116
+opening_size = 4 * 10 + settings_size
 
 -- at most this many bytes were appended; or there was no room for so many, and the old bytes still stand first
 pub record AppendsWithin {T : Type 0} (old new : Vec ℕ Global) (result : Result T NoMemory) (most : ℕ) : Type 0 where
-  pub few : OnOk result (length new.items ≤ length old.items + most)
+  pub within : OnOk result (length new.items ≤ length old.items + most)
   pub failed : OnErr result (take (length old.items) new.items ≡ old.items)
   pub room : vec_capacity old ≤ vec_capacity new
   pub full : OnErr result (vec_capacity old < length old.items + most)
 
 -- a piece more was appended to bytes, and counts as written
-pub record TellsMore (s : FullStreamState) (given old new : List ℕ) : Type 0 where
+pub record AppendsNext (s : FullStreamState) (given old new : List ℕ) : Type 0 where
   pub piece : List ℕ
   pub adds : new ≡ old ++ piece
   pub more : HasGiven s (given ++ piece)

@@ -9,7 +9,7 @@ use Rattle.x7_memory.specs.Plan.{AreApart, PlanRow, planned, planned_addresses}
 use Rattle.x7_regs.specs.declared.command.Command.TheVariants.{Desync, Mfw, Rcrc, Wcfg}
 use Rattle.x7_regs.specs.declared.register.Reg.TheVariants.{Far, Idcode, Mfwr}
 use Rattle.x7_packets.specs.PacketWords.{command, frame_data, no_op, write_one}
-use Rattle.x7_planner.specs.Writer.{Words, Check, head, stream_of}
+use Rattle.x7_planner.specs.Writer.{Words, Check, opening_words, stream_of}
 use Rattle.x7_planner.specs.FullStream.{zero_frame}
 
 -- what a partial stream writes after one command: a content at some addresses, or frames from an address on
@@ -33,15 +33,15 @@ with_content words (r ∷ rows) = if same_words r.words words then r ∷ with_co
 abbrev pub group_least : ℕ
 group_least = 3
 
--- these words are the content of three addresses or more
+-- these words are the content of `group_least` addresses or more
 abbrev pub are_shared : List PlanRow → List ℕ → Bool
 are_shared all words = nat_le group_least (length (with_content words all))
 
--- a row's content stands at three addresses or more
+-- a row's content stands at `group_least` addresses or more
 abbrev pub is_shared : List PlanRow → PlanRow → Bool
 is_shared all r = are_shared all r.words
 
--- a row's content stands at three addresses or more, and the row is the first of them
+-- a row's content stands at `group_least` addresses or more, and the row is the first of them
 abbrev pub leads_group : List PlanRow → PlanRow → Bool
 leads_group all r = is_shared all r && (slice_index (planned_addresses (with_content r.words all)) 0 == r.far)
 
@@ -51,7 +51,7 @@ groups_led all [] = []
 groups_led all (r ∷ rows) =
     if leads_group all r then Copies r.words (planned_addresses (with_content r.words all)) ∷ groups_led all rows else groups_led all rows
 
--- the other rows
+-- the rows whose content stands at fewer than `group_least` addresses
 abbrev pub others : List PlanRow → List PlanRow → List PlanRow
 others all [] = []
 others all (r ∷ rows) = if is_shared all r then others all rows else r ∷ others all rows
@@ -98,7 +98,7 @@ stretch_words part (Rows rows) =
 
 -- what stands before the groups
 abbrev pub partial_opening : PartData → List ℕ
-partial_opening part = head ++ (command Rcrc ++ (no_op ∷ write_one Idcode part.idcode))
+partial_opening part = opening_words ++ (command Rcrc ++ (no_op ∷ write_one Idcode part.idcode))
 
 -- the words of the longest runs of rows
 abbrev pub runs_words : PartData → List PlanRow → List ℕ
@@ -112,7 +112,7 @@ partial_ending = command Desync ++ replicate 4 no_op
 abbrev pub partial_stream : PartData → List PlanRow → List ℕ
 partial_stream part rows = stream_of (Words (partial_opening part ++ flat_map (stretch_words part) (stretches_of part rows)) ∷ Check ∷ Words partial_ending ∷ [])
 
--- ---- the same in other words
+-- ---- what the stretches put, in other words
 
 -- what a stretch puts, in order: addresses with their frames
 abbrev pub pairs_of : Stretch → List PlanRow

@@ -20,8 +20,8 @@ abbrev pub check_words : ℕ → List ℕ
 check_words check = write_one Crc check
 
 -- what each stream begins with: dummy words, the bus width pattern, the sync word and a no-op
-abbrev pub head : List ℕ
-head = dummy_word ∷ dummy_word ∷ dummy_word ∷ dummy_word ∷ bus_width_sync ∷ bus_width_detect ∷ dummy_word ∷ dummy_word ∷ sync_word ∷ no_op ∷ []
+abbrev pub opening_words : List ℕ
+opening_words = dummy_word ∷ dummy_word ∷ dummy_word ∷ dummy_word ∷ bus_width_sync ∷ bus_width_detect ∷ dummy_word ∷ dummy_word ∷ sync_word ∷ no_op ∷ []
 
 -- ---- streams
 

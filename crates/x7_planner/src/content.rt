@@ -51,7 +51,7 @@ fn start_at(contents: &[Content], start: usize, place: usize) -> usize
     requires begun { IsBegun (content_rows contents.now) start place }
     requires inside { place < length contents.now }
     ensures first { (d : PlanRow) → IsFirst (content_rows contents.now) (slice_index_or (content_rows contents.now) place d).words result }
-    ensures behind { result ≤ place }
+    ensures no_later { result ≤ place }
 {
     if is_same(contents[place].words, contents[start].words) {
         return start;

@@ -5,17 +5,17 @@ ghost use Rattle.x7_part.specs.AddressOrder.{addresses_in};
 ghost use Rattle.x7_part.specs.Part.{frame_words};
 ghost use Rattle.x7_part.specs.Ranges.{IsPart};
 ghost use Rattle.x7_part.specs.Slot.{slots_in};
-ghost use Rattle.x7_planner.specs.FullStream.{frame_at_slot, full_opening, full_settings, full_stream, words_of_slots};
+ghost use Rattle.x7_planner.specs.FullStream.{frame_at_slot, full_opening, full_settings, full_stream, most_slots, words_of_slots};
 ghost use Rattle.x7_planner.specs.Fault.{IsFullFault};
 ghost use Rattle.x7_planner.specs.Writer.{bytes_of_words};
-ghost use Rattle.x7_planner.specs.FullStreamPieces.{AppendsWithin, HasGiven, TellsMore, WritesPiece, most_frame_bytes, opening_size, piece_limit, puts_left, settings_size};
+ghost use Rattle.x7_planner.specs.FullStreamPieces.{AppendsWithin, HasGiven, AppendsNext, WritesPiece, most_frame_bytes, opening_size, piece_limit, puts_left, settings_size};
 ghost use Rattle.x7_planner.specs.declared.fault.PlanFault.{PlanFault};
 ghost use Rattle.x7_planner.specs.declared.full_stream.NextPiece.{NextPiece};
 
 use crate::address::first_foreign;
 use crate::fault::PlanFault;
 use crate::settings::{CONTROL, CONTROL_MASK, STARTUP_OPTIONS};
-use crate::writer::{HEAD, put_packets, put_words};
+use crate::writer::{OPENING, put_packets, put_words};
 use std::alloc::Global;
 use std::marker::Model;
 use x7_crc::PieceChecker;
@@ -40,7 +40,7 @@ fn first_address(part: &Part) -> u32
     ensures address { Contains (addresses_in part.now) result }
     ensures part { IsPart part.now }
 {
-    // A part has a frame.
+    // For the proof alone: a part has a frame.
     let _frames = part.frames();
     let Some(first) = part.address(0) else {
         unreachable!()
@@ -51,7 +51,7 @@ fn first_address(part: &Part) -> u32
 /// The number of all slots.
 fn slot_count(part: &Part) -> u64
     ensures count { result ≡ length (slots_in part.now) }
-    ensures few { result ≤ 131456 }
+    ensures limit { result ≤ most_slots }
     ensures words { frame_words part.now * result ≤ 13277056 }
 {
     part.slots_from(first_address(part))
@@ -84,7 +84,7 @@ fn put_opening(out: &mut Vec<u8>, part: &Part) -> Result<(), NoMemory>
     ensures items { OnOk result (out.new.items ≡ out.old.items ++ bytes_of_words (full_opening part.now)) }
     ensures appends { AppendsWithin out.old out.new result opening_size }
 {
-    put_words(out, &HEAD)?;
+    put_words(out, &OPENING)?;
     put_settings(out, part)?;
     Ok(())
 }
@@ -110,7 +110,7 @@ pub(crate) fn zeros(count: u32) -> &'static [u32]
 fn frame_at<'p>(part: &Part, plan: &'p Plan, slot: Slot) -> &'p [u32]
     requires { plan.now.width ≡ frame_words part.now }
     ensures words { result.now ≡ frame_at_slot part.now plan.now slot }
-    ensures few { length result.now ≤ 255 }
+    ensures limit { length result.now ≤ 255 }
 {
     let width = part.words();
     let Slot::Frame(far) = slot else {
@@ -206,12 +206,12 @@ impl<'p> FullStream<'p> {
     /// Appends the next piece, of 160 frames at most, and says whether there was one; after the last there is none for good.
     /// After an error nothing was appended, and the same piece is next.
     pub fn put_next(&mut self, out: &mut Vec<u8>) -> Result<bool, NoMemory>
-        ensures more { (given : List ℕ) → HasGiven self.old given → IfOk result (λ more. more ≡ true → TellsMore self.new given out.old.items out.new.items) }
+        ensures more { (given : List ℕ) → HasGiven self.old given → IfOk result (λ more. more ≡ true → AppendsNext self.new given out.old.items out.new.items) }
         ensures fewer { IfOk result (λ more. more ≡ true → puts_left self.new < puts_left self.old) }
         ensures end { (given : List ℕ) → HasGiven self.old given → IfOk result (λ more. more ≡ false → given ≡ full_stream self.old.part self.old.plan) }
         ensures nothing { IfOk result (λ more. more ≡ false → out.new.items ≡ out.old.items) }
         ensures ended { IfOk result (λ more. more ≡ false → self.new ≡ self.old) }
-        ensures few { length out.new.items ≤ length out.old.items + piece_limit }
+        ensures limit { length out.new.items ≤ length out.old.items + piece_limit }
         ensures part { self.new.part ≡ self.old.part }
         ensures plan { self.new.plan ≡ self.old.plan }
         ensures failed { OnErr result (self.new ≡ self.old) }
@@ -232,7 +232,7 @@ impl<'p> FullStream<'p> {
         Ok(true)
     }
 
-    /// Appends what is next, and tells what is written after it.
+    /// Appends what is next, and answers what comes after it.
     fn put(&self, out: &mut Vec<u8>) -> Result<NextPiece, NoMemory>
         ensures writes { IfOk result (WritesPiece self.now out.old.items out.new.items) }
         ensures appends { AppendsWithin out.old out.new result piece_limit }
@@ -264,7 +264,7 @@ impl<'p> FullStream<'p> {
         }
     }
 
-    /// Appends the frames of the slots from one on, and tells what is written after them.
+    /// Appends the frames of the slots from one on, and answers what comes after them.
     fn put_frames(&self, out: &mut Vec<u8>, n: u64) -> Result<NextPiece, NoMemory>
         requires { self.now.next ≡ NextPiece.Slot n }
         ensures writes { IfOk result (WritesPiece self.now out.old.items out.new.items) }

@@ -14,7 +14,7 @@ use crate::content::{Content, firsts_of, grouped, starts_of};
 use crate::fault::PlanFault;
 use crate::group::{others_of, put_groups};
 use crate::run::put_runs;
-use crate::writer::{HEAD, Writer};
+use crate::writer::{OPENING, Writer};
 use std::alloc::{AllocError, Global};
 use x7_memory::Plan;
 use x7_packets::{NO_OP, command, write_one};
@@ -54,7 +54,7 @@ fn grouping_of(alloc: Global, plan: &Plan) -> Result<Grouping<'_>, AllocError>
 fn put_opening(writer: &mut Writer, part: &Part) -> Result<(), NoMemory>
     ensures { OnOk result (writer.new ≡ with_piece writer.old (Words (partial_opening part.now))) }
 {
-    writer.words(&HEAD)?;
+    writer.words(&OPENING)?;
     writer.words(&command(Command::Rcrc))?;
     writer.words(&[NO_OP])?;
     writer.words(&write_one(Reg::Idcode, part.idcode()))?;
@@ -72,7 +72,7 @@ fn put_stretches(
     requires addresses { AreAddressed part.now plan.now.rows }
     ensures { OnOk result (writer.new ≡ with_piece writer.old (Words (flat_map (stretch_words part.now) (stretches_of part.now plan.now.rows)))) }
 {
-    // The part is in range, and the plan in order: so its rows are few.
+    // For the proof alone: the part is in range and the plan in order, so its rows are few.
     let _frames = part.frames();
     let _rows = plan.len();
     put_groups(

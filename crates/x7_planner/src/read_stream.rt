@@ -5,7 +5,7 @@ ghost use Rattle.x7_planner.specs.Fault.{CanRead, IsReadFault};
 ghost use Rattle.x7_planner.specs.declared.fault.PlanFault.{PlanFault};
 
 use crate::fault::PlanFault;
-use crate::writer::{HEAD, Writer};
+use crate::writer::{OPENING, Writer};
 use std::alloc::Global;
 use x7_packets::{NO_OP, command, frame_read, write_one};
 use x7_part::Part;
@@ -21,7 +21,7 @@ fn read_of(alloc: Global, far: u32, words: u32) -> Result<Vec<u8>, NoMemory>
     ensures { IfOk result (λ bytes. bytes.items ≡ read_of_words far words) }
 {
     let mut writer = Writer::new(alloc, READ_WORDS)?;
-    writer.words(&HEAD)?;
+    writer.words(&OPENING)?;
     writer.words(&command(Command::Rcrc))?;
     writer.words(&[NO_OP])?;
     writer.packets(&[
@@ -48,7 +48,7 @@ pub fn readback(alloc: Global, part: &Part, far: u32, n: u32) -> Result<Vec<u8>,
     if n == 0 || u64::from(n) > part.slots_from(far) {
         return Err(PlanFault::Range(n));
     }
-    // The part is in range: so the counts are too.
+    // For the proof alone: the part is in range, and so the counts are.
     let _frames = part.frames();
     Ok(read_of(alloc, far, part.words() * (n + 1))?)
 }

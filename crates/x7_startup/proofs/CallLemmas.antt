@@ -1,7 +1,7 @@
 -- One call more at the end of a list of calls of a startup.
 use Rattle.std.proofs.Common.{◌≡◌, ℕ, zero, suc, ◌+◌, ◌/◌, ◌%◌, ◌<◌, ◌≤◌, min, Bool, true, false, List, [], ◌∷◌, ◌++◌, replicate, Some, None, if◌then◌else◌, refl, sym, ap, ◌∙◌, arith}
 use Rattle.std.proofs.Math.Nat.{zero-add}
-use Rattle.x7_startup.specs.Phases.{wait_of, IsPhase}
+use Rattle.x7_startup.specs.Phases.{wait_of, IsPhase, tick_limit}
 use Rattle.x7_startup.specs.Startup.{IsPhaseOf, Call, Arm, Desync, Byte, DropBack, StartupProgress, NotBegun, Begun, has_taking, since_taking, bytes_among, is_armed, start_of, progress_of, Stored, StoresAt, StandsFor}
 use Rattle.x7_startup.specs.Ticks.{PassesTicks, first_some, reached}
 use Rattle.x7_startup.proofs.PhaseLemmas.{phase_first, phase_rises, one_phase}
@@ -223,7 +223,7 @@ goes_on lock matched s (Begun c b) n cor0 more tick_bytes ticks phase some m q r
     let all : b / 4 + more ≡ (b + n) / 4 = omega arith in
     let p : IsPhase (wait_of lock matched c) (b / 4) s.phase = h.phase_is in
     let r = runs (b / 4) h.ticks_are (rw same at p) in
-    let t : ticks ≡ min ((b + n) / 4) 65535 = rw (← all) r.0 in
+    let t : ticks ≡ min ((b + n) / 4) tick_limit = rw (← all) r.0 in
     let f : IsPhase (wait_of lock matched cor0) ((b + n) / 4) phase = rw all at r.1 in
     record { begun_is = was; tick_bytes_are = omega arith; ticks_are = t; phase_is = rw same f }
 

@@ -1,5 +1,5 @@
 use Rattle.std.proofs.Common.{◌≡◌, ℕ, ◌+◌, ◌-◌, ◌<◌, ◌≤◌, min, arith, ◌^◌, ◌⊎◌, inl, inr}
-use Rattle.x7_startup.specs.Phases.{IsPhase}
+use Rattle.x7_startup.specs.Phases.{IsPhase, tick_limit}
 use Rattle.x7_startup.specs.Ticks.{PassesTicks, reached}
 use Rattle.x7_startup.proofs.PhaseLemmas.{phase_stays, phase_moves, phase_ended}
 
@@ -24,32 +24,32 @@ ran_stays w ticks₀ phase₀ count ticks phase left step wait e small le early 
   runs = λ t first s.
       let k : left ≤ count = h.within in
       let r = h.runs t first s in
-      let now : ticks ≡ min (t + (count - left)) 65535 = r.0 in
+      let now : ticks ≡ min (t + (count - left)) tick_limit = r.0 in
       let z : t + (count - (left - step)) ≡ t + (count - left) + step = omega arith in
       let p : IsPhase w (t + (count - left) + step) phase = phase_stays w (t + (count - left)) step phase r.1 (omega arith) in
       rw z (omega arith, p);
 }
 
 pub ran_moves : (w : ℕ → ℕ) (ticks₀ phase₀ count ticks phase left wait : ℕ) → wait ≡ w phase → wait < 2 ^ 16 → 0 < left → phase < 7 → wait ≤ ticks →
-    Ran w ticks₀ phase₀ count ticks phase left → Ran w ticks₀ phase₀ count (min (ticks + 1) 65535) (phase + 1) (left - 1)
+    Ran w ticks₀ phase₀ count ticks phase left → Ran w ticks₀ phase₀ count (min (ticks + 1) tick_limit) (phase + 1) (left - 1)
 ran_moves w ticks₀ phase₀ count ticks phase left wait e small some early waited h = record {
   within = let k : left ≤ count = h.within in omega arith;
   last = omega arith;
   runs = λ t first s.
       let k : left ≤ count = h.within in
       let r = h.runs t first s in
-      let now : ticks ≡ min (t + (count - left)) 65535 = r.0 in
+      let now : ticks ≡ min (t + (count - left)) tick_limit = r.0 in
       let z : t + (count - (left - 1)) ≡ t + (count - left) + 1 = omega arith in
       let p : IsPhase w (t + (count - left) + 1) (phase + 1) = phase_moves w (t + (count - left)) phase r.1 early (omega arith) in
       rw z (omega arith, p);
 }
 
 pub ran_all : (w : ℕ → ℕ) (ticks₀ phase₀ count ticks phase left : ℕ) → (left ≡ 0) ⊎ (7 ≤ phase) →
-    Ran w ticks₀ phase₀ count ticks phase left → PassesTicks w (reached ticks₀ phase₀) count (reached (min (ticks + left) 65535) phase)
+    Ran w ticks₀ phase₀ count ticks phase left → PassesTicks w (reached ticks₀ phase₀) count (reached (min (ticks + left) tick_limit) phase)
 ran_all w ticks₀ phase₀ count ticks phase left end h t first s =
     let k : left ≤ count = h.within in
     let r = h.runs t first s in
-    let now : ticks ≡ min (t + (count - left)) 65535 = r.0 in
+    let now : ticks ≡ min (t + (count - left)) tick_limit = r.0 in
     let z : t + count ≡ t + (count - left) + left = omega arith in
     let p : IsPhase w (t + (count - left) + left) phase =
     elim end [
@@ -59,8 +59,8 @@ ran_all w ticks₀ phase₀ count ticks phase left end h t first s =
     rw z (omega arith, p)
 
 -- one tick in a phase that waits, and in one that doesn't
-pub tick_stays : (w : ℕ → ℕ) (ticks phase wait : ℕ) → wait ≡ w phase → wait < 2 ^ 16 → ticks < wait → PassesTicks w (reached ticks phase) 1 (reached (min (ticks + 1) 65535) phase)
+pub tick_stays : (w : ℕ → ℕ) (ticks phase wait : ℕ) → wait ≡ w phase → wait < 2 ^ 16 → ticks < wait → PassesTicks w (reached ticks phase) 1 (reached (min (ticks + 1) tick_limit) phase)
 tick_stays w ticks phase wait is small below t e s = (omega arith, phase_stays w t 1 phase s (omega arith))
 
-pub tick_moves : (w : ℕ → ℕ) (ticks phase wait : ℕ) → wait ≡ w phase → wait < 2 ^ 16 → phase < 7 → wait ≤ ticks → PassesTicks w (reached ticks phase) 1 (reached (min (ticks + 1) 65535) (phase + 1))
+pub tick_moves : (w : ℕ → ℕ) (ticks phase wait : ℕ) → wait ≡ w phase → wait < 2 ^ 16 → phase < 7 → wait ≤ ticks → PassesTicks w (reached ticks phase) 1 (reached (min (ticks + 1) tick_limit) (phase + 1))
 tick_moves w ticks phase wait is small early waited t e s = (omega arith, phase_moves w t phase s early (omega arith))

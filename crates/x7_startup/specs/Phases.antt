@@ -8,6 +8,10 @@ abbrev pub wait_of : ℕ → ℕ → ℕ → ℕ → ℕ
 wait_of lock matched cor0 p =
     max (if lock_cycle_of cor0 == p then lock else 0) (if match_cycle_of cor0 == p then matched else 0)
 
+-- the number up to which ticks are counted, the last of 16 bits: no lock or match number of a part is larger
+abbrev pub tick_limit : ℕ
+tick_limit = 65535
+
 -- the tick at which a phase begins
 unfoldable pub arrival : (ℕ → ℕ) → ℕ → ℕ
 arrival wait zero = 0

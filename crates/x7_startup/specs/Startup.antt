@@ -1,6 +1,6 @@
 -- What a list of calls of a `Startup` means: where startup begins (UG470, startup; arming is this project's choice).
 use Rattle.std.specs.Prelude.{◌≡◌, ℕ, ◌+◌, ◌/◌, ◌%◌, min, Bool, true, false, List, [], ◌∷◌, Option, Some, None, if◌then◌else◌}
-use Rattle.x7_startup.specs.Phases.{wait_of, IsPhase}
+use Rattle.x7_startup.specs.Phases.{wait_of, tick_limit, IsPhase}
 
 -- a call: START, DESYNC with COR0 as it stands there, a byte taken, a shutdown taken
 pub data Call : Type 0 where
@@ -81,7 +81,7 @@ pub record Stored : Type 0 where
 pub record StoresAt (lock matched : ℕ) (s : Stored) (progress : StartupProgress) : Type 0 where
   pub begun_is : s.begun ≡ cor0_of progress
   pub tick_bytes_are : s.tick_bytes ≡ bytes_since_begun progress % 4
-  pub ticks_are : s.ticks ≡ min (ticks_of progress) 65535
+  pub ticks_are : s.ticks ≡ min (ticks_of progress) tick_limit
   pub phase_is : IsPhaseOf lock matched progress s.phase
 
 -- What is stored stands for the calls: each stored value is what the list of all calls so far comes to, each byte of which was

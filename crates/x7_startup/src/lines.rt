@@ -33,6 +33,7 @@ fn rises_of(code: u32, done: u8) -> (u8, Option<u8>)
     }
 }
 
+/// Whether a line that rises in this phase, if it rises, is 1.
 fn is_up(rise: Option<u8>, phase: u8) -> bool
     ensures { result ≡ has_risen rise phase }
 {

@@ -3,6 +3,9 @@ ghost use Rattle.std.specs.Prelude.{◌≡◌, ◌≤◌};
 ghost use Rattle.x7_startup.specs.Phases.{wait_of};
 ghost use Rattle.x7_startup.specs.Ticks.{PassesTicks};
 
+/// The number up to which ticks are counted.
+const TICK_LIMIT: u64 = 65535;
+
 /// A phase of at most 7, and the ticks since startup began, at most 65,535.
 #[derive(Clone, Copy)]
 pub(crate) struct Reached {
@@ -69,6 +72,6 @@ pub(crate) fn pass_ticks(cor0: u32, start: Reached, count: u64, lock: u16, match
             left -= 1;
         }
     }
-    let all = u64::from(ticks).saturating_add(left).min(65535) as u16;
+    let all = u64::from(ticks).saturating_add(left).min(TICK_LIMIT) as u16;
     Reached { ticks: all, phase }
 }

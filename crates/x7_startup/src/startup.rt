@@ -1,6 +1,7 @@
 //! The startup sequence: it moves by a phase a tick, save where COR0 makes it wait.
 ghost use Rattle.std.specs.Prelude.{◌≡◌, ◌<◌, ◌≤◌, ◌+◌, ◌∷◌, ◌++◌, min, ℕ, List, [], replicate, is_some, Some, None, if◌then◌else◌};
 ghost use Rattle.x7_startup.specs.Lines.{done_line, gts_line, gwe_line, AreLines};
+ghost use Rattle.x7_startup.specs.Phases.{tick_limit};
 ghost use Rattle.x7_startup.specs.Ticks.{first_some};
 ghost use Rattle.x7_startup.specs.Startup.{Call, Arm, Desync, Byte, DropBack, Stored, StandsFor, IsPhaseOf, progress_of, cor0_of, ticks_of};
 
@@ -134,7 +135,7 @@ impl Startup {
     /// The ticks since startup began, at most 65,535.
     pub fn ticks(&self) -> u16
         ensures now { result ≡ self.now.ticks }
-        ensures stands { (lock matched : ℕ) (calls : List Call) → StandsFor lock matched self.now calls → result ≡ min (ticks_of (progress_of calls)) 65535 }
+        ensures stands { (lock matched : ℕ) (calls : List Call) → StandsFor lock matched self.now calls → result ≡ min (ticks_of (progress_of calls)) tick_limit }
     {
         self.ticks
     }

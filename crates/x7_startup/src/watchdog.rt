@@ -89,6 +89,7 @@ impl Watchdog {
     }
 }
 
+/// The count at which the watchdog fires: four times TIMER's value, and 0 where TIMER or the attempt has it off.
 fn limit_of(off: bool, timer: u32) -> u32
     ensures { result ≡ full_count off timer }
 {
@@ -118,6 +119,7 @@ fn due_within(on: bool, count: u32, limit: u32, bytes: u64) -> Option<u64>
     }
 }
 
+/// The count after more bytes, which all have the watchdog on or none.
 fn counted(on: bool, count: u32, bytes: u64) -> u32
     ensures { result ≡ min (count + bytes * (if on then 1 else 0)) (2 ^ 32 - 1) }
 {

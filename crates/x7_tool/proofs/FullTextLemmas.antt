@@ -5,7 +5,7 @@ use Rattle.x7_words.proofs.SinkLemmas.{appended_appended, appended_nil, prefix_m
 use Rattle.x7_part.specs.Part.{PartData}
 use Rattle.x7_memory.specs.Plan.{PlanData}
 use Rattle.x7_planner.specs.FullStream.{full_stream}
-use Rattle.x7_planner.specs.FullStreamPieces.{FullStreamState, HasGiven, TellsMore}
+use Rattle.x7_planner.specs.FullStreamPieces.{FullStreamState, HasGiven, AppendsNext}
 
 -- what was given of the stream was put
 pub record Sent (part : PartData) (plan : PlanData) (s : FullStreamState) (first now : Option (List ℕ)) : Type 0 where
@@ -18,7 +18,7 @@ pub record Sent (part : PartData) (plan : PlanData) (s : FullStreamState) (first
 pub sent_none : (s : FullStreamState) (first : Option (List ℕ)) → HasGiven s [] → Sent s.part s.plan s first first
 sent_none s first h = record { given = []; stands = h; put = sym (appended_nil first); of_part = refl; of_plan = refl }
 
-pub sent_more : (part : PartData) (plan : PlanData) (a b : FullStreamState) (first mid now : Option (List ℕ)) (old new : List ℕ) → (t : Sent part plan a first mid) → TellsMore b t.given old new → old ≡ [] → b.part ≡ a.part → b.plan ≡ a.plan → now ≡ appended mid new
+pub sent_more : (part : PartData) (plan : PlanData) (a b : FullStreamState) (first mid now : Option (List ℕ)) (old new : List ℕ) → (t : Sent part plan a first mid) → AppendsNext b t.given old new → old ≡ [] → b.part ≡ a.part → b.plan ≡ a.plan → now ≡ appended mid new
     → Sent part plan b first now
 sent_more part plan a b first mid now old new t m empty same as_planned put =
     let piece : new ≡ m.piece = m.adds ∙ ap (λ x. x ++ m.piece) empty in
@@ -30,7 +30,7 @@ sent_more part plan a b first mid now old new t m empty same as_planned put =
       of_plan = as_planned ∙ t.of_plan;
     }
 
-pub sent_part : (part : PartData) (plan : PlanData) (a b : FullStreamState) (first mid now : Option (List ℕ)) (old new : List ℕ) → (t : Sent part plan a first mid) → TellsMore b t.given old new → old ≡ [] → b.part ≡ a.part → b.plan ≡ a.plan → PutsPrefix mid new now
+pub sent_part : (part : PartData) (plan : PlanData) (a b : FullStreamState) (first mid now : Option (List ℕ)) (old new : List ℕ) → (t : Sent part plan a first mid) → AppendsNext b t.given old new → old ≡ [] → b.part ≡ a.part → b.plan ≡ a.plan → PutsPrefix mid new now
     → PutsPrefix first (full_stream part plan) now
 sent_part part plan a b first mid now old new t m empty same as_planned put =
     let piece : m.piece ≡ new = sym (m.adds ∙ ap (λ x. x ++ m.piece) empty) in

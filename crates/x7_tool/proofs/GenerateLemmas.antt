@@ -21,7 +21,7 @@ use Rattle.x7_part.specs.Ranges.{IsPart}
 use Rattle.x7_part.specs.Slot.{slots_in}
 use Rattle.x7_part.proofs.SlotLemmas.{slots_number}
 use Rattle.x7_planner.specs.FullStream.{full_stream}
-use Rattle.x7_planner.specs.FullStreamPieces.{FullStreamState, HasGiven, TellsMore}
+use Rattle.x7_planner.specs.FullStreamPieces.{FullStreamState, HasGiven, AppendsNext}
 use Rattle.x7_planner.specs.Fault.{IsFullFault}
 use Rattle.x7_planner.specs.declared.fault.PlanFault.{PlanFault}
 use Rattle.x7_planner.specs.declared.fault.PlanFault.TheVariants as fault
@@ -235,7 +235,7 @@ known_few part plan stream told is p e a b h =
     let slots : frame_words part * length (slots_in part) ≡ frame_words part * (length (addresses_in part) + 2 * length part.rows) = ap (λ (k : ℕ). frame_words part * k) (slots_number part) in
     omega (arith, size, slots, is.slots)
 
-module _ (part : PartData) (plan : PlanData) (stream later : FullStreamState) (player : Player) (size : ℕ) (block new : List ℕ) (v : PlaysAlong part plan stream player size block) (m : TellsMore later v.told block new) where
+module _ (part : PartData) (plan : PlanData) (stream later : FullStreamState) (player : Player) (size : ℕ) (block new : List ℕ) (v : PlaysAlong part plan stream player size block) (m : AppendsNext later v.told block new) where
   piece_is : new ≡ m.piece
   piece_is = m.adds ∙ ap (λ (t : List ℕ). t ++ m.piece) v.empty
 

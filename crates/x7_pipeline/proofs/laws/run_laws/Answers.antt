@@ -19,8 +19,8 @@ returns-clause-none c = lands_none
 pub returns-clause-twice : goal.returns-clause-twice
 returns-clause-twice c = put_twice
 
-pub returns-clause-more : goal.returns-clause-more
-returns-clause-more c = lands_more
+pub returns-clause-joined : goal.returns-clause-joined
+returns-clause-joined c = lands_more
 
 pub returns-clause-memory : goal.returns-clause-memory
 returns-clause-memory c = lands_over

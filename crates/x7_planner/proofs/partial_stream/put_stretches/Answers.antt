@@ -6,8 +6,8 @@ use Rattle.x7_planner.proofs.partial_stream.put_stretches.Goals as goal
 pub put_runs-requires-clause-addresses : goal.put_runs-requires-clause-addresses
 put_runs-requires-clause-addresses c = alone_addressed c.args.part.now c.args.plan.now.rows c.deref-4.result.now c.requires.addresses (ap content_rows c.deref-4.ensures.value ∙ c.requires.grouping.alone)
 
-pub put_runs-requires-clause-few : goal.put_runs-requires-clause-few
-put_runs-requires-clause-few c =
+pub put_runs-requires-clause-limit : goal.put_runs-requires-clause-limit
+put_runs-requires-clause-limit c =
     alone_few c.args.part.now c.args.plan.now.rows c.deref-4.result.now c.frames-frames.ensures.part c.len-rows.ensures.plan.order c.requires.addresses (ap content_rows c.deref-4.ensures.value ∙ c.requires.grouping.alone)
 
 pub returns : goal.returns

@@ -1,7 +1,7 @@
 use Rattle.std.proofs.Common.{◌∙◌, List, ℕ, ap, subst, arith}
 use Rattle.x7_words.specs.Sink.{PutsPrefix, appended}
 use Rattle.x7_words.proofs.SinkLemmas.{counts_at, counts_on}
-use Rattle.x7_planner.specs.FullStreamPieces.{TellsMore}
+use Rattle.x7_planner.specs.FullStreamPieces.{AppendsNext}
 use Rattle.x7_tool.proofs.FullTextLemmas.{all_prefix, sent_all, sent_more, sent_none, sent_part}
 use Rattle.x7_tool.proofs.full_text.write_pieces.Goals as goal
 
@@ -27,7 +27,7 @@ pub returns-in_err-write_all-clause-prefix : goal.returns-in_err-write_all-claus
 returns-in_err-write_all-clause-prefix g c =
     let s = g.O.Sink in
     let t = c.loop-more.invariant.sent in
-    let m : TellsMore c.put_next.new.self t.given c.clear.new.self.items c.put_next.new.out.items = c.in-Ok.ensures.more t.given t.stands c.if-not-more.false in
+    let m : AppendsNext c.put_next.new.self t.given c.clear.new.self.items c.put_next.new.out.items = c.in-Ok.ensures.more t.given t.stands c.if-not-more.false in
     sent_part c.args.stream.part c.args.stream.plan c.loop-more.stream c.put_next.new.self (s.state c.args.out.now).written (s.state c.loop-more.out).written (s.state c.write_all.new.sink).written c.clear.new.self.items c.put_next.new.out.items t m
     c.clear.ensures.items c.put_next.ensures.part c.put_next.ensures.plan
     (subst (λ (x : List ℕ). PutsPrefix (s.state c.loop-more.out).written x (s.state c.write_all.new.sink).written) c.deref.ensures.value c.in_err-write_all.ensures.prefix)
@@ -37,7 +37,7 @@ loop-more-preserved g c =
     let s = g.O.Sink in
     let v = c.loop-more.invariant in
     let t = v.sent in
-    let m : TellsMore c.put_next.new.self t.given c.clear.new.self.items c.put_next.new.out.items = c.in-Ok.ensures.more t.given t.stands c.if-not-more.false in
+    let m : AppendsNext c.put_next.new.self t.given c.clear.new.self.items c.put_next.new.out.items = c.in-Ok.ensures.more t.given t.stands c.if-not-more.false in
     record {
       sent = sent_more c.args.stream.part c.args.stream.plan c.loop-more.stream c.put_next.new.self (s.state c.args.out.now).written (s.state c.loop-more.out).written (s.state c.write_all.new.sink).written c.clear.new.self.items c.put_next.new.out.items t m
           c.clear.ensures.items c.put_next.ensures.part c.put_next.ensures.plan (c.in_ok-write_all.ensures.ok ∙ ap (λ (x : List ℕ). appended (s.state c.loop-more.out).written x) c.deref.ensures.value);

@@ -1,6 +1,6 @@
 use Rattle.std.proofs.Common.{◌≡◌, ◌+◌, ◌^◌, ◌≤◌, ℕ, List, [], length, refl, ap, subst, ◌∙◌, arith}
 use Rattle.x7_planner.specs.FullStream.{full_stream}
-use Rattle.x7_planner.specs.FullStreamPieces.{TellsMore}
+use Rattle.x7_planner.specs.FullStreamPieces.{AppendsNext}
 use Rattle.x7_playing.specs.Playing.{HasPlayed}
 use Rattle.x7_tool.proofs.GenerateLemmas.{along, piece_fits}
 use Rattle.x7_tool.proofs.generate.play_all.Goals as goal
@@ -13,7 +13,7 @@ play-requires c =
     let v = c.loop-player.invariant in
     let s = c.args.stream in
     let new : List ℕ = c.put_next.new.out.items in
-    let m : TellsMore c.put_next.new.self v.told c.loop-player.block.items new = c.in_ok-put_next.ensures.more v.told v.stands c.if-branch.true in
+    let m : AppendsNext c.put_next.new.self v.told c.loop-player.block.items new = c.in_ok-put_next.ensures.more v.told v.stands c.if-branch.true in
     let fits : length v.told + length new ≤ 2 ^ 27 = piece_fits s.part s.plan c.loop-player.stream c.put_next.new.self c.loop-player.player c.loop-player.size c.loop-player.block.items new v m
     c.requires.part c.requires.plan c.requires.width c.in_ok-put_next.ensures.part c.in_ok-put_next.ensures.plan in
     (s.part, (v.told, (v.played, omega (arith, fits, ap length c.deref.ensures.value))))
@@ -23,7 +23,7 @@ overflow_add-size c =
     let v = c.loop-player.invariant in
     let s = c.args.stream in
     let new : List ℕ = c.put_next.new.out.items in
-    let m : TellsMore c.put_next.new.self v.told c.loop-player.block.items new = c.in_ok-put_next.ensures.more v.told v.stands c.if-branch.true in
+    let m : AppendsNext c.put_next.new.self v.told c.loop-player.block.items new = c.in_ok-put_next.ensures.more v.told v.stands c.if-branch.true in
     let fits : length v.told + length new ≤ 2 ^ 27 = piece_fits s.part s.plan c.loop-player.stream c.put_next.new.self c.loop-player.player c.loop-player.size c.loop-player.block.items new v m
     c.requires.part c.requires.plan c.requires.width c.in_ok-put_next.ensures.part c.in_ok-put_next.ensures.plan in
     omega (arith, fits, v.counted, c.len.ensures, c.put_next.new.out.ok.0)
@@ -33,7 +33,7 @@ loop-player-preserved c =
     let v = c.loop-player.invariant in
     let s = c.args.stream in
     let new : List ℕ = c.put_next.new.out.items in
-    let m : TellsMore c.put_next.new.self v.told c.loop-player.block.items new = c.in_ok-put_next.ensures.more v.told v.stands c.if-branch.true in
+    let m : AppendsNext c.put_next.new.self v.told c.loop-player.block.items new = c.in_ok-put_next.ensures.more v.told v.stands c.if-branch.true in
     along s.part s.plan c.loop-player.stream c.put_next.new.self c.loop-player.player c.loop-player.size c.loop-player.block.items new v m
     c.play.new.self (c.loop-player.size + c.len.result) c.deref.result.now c.clear-in-loop-player.new.self.items c.in_ok-put_next.ensures.part c.in_ok-put_next.ensures.plan c.deref.ensures.value c.in_ok-play.ensures.ok
     (omega (arith, c.len.ensures, c.put_next.new.out.ok.0)) c.clear-in-loop-player.ensures.items

@@ -6,13 +6,13 @@ use Rattle.x7_pipeline.proofs.WordLemmas.{ReachesRun}
 use Rattle.x7_pipeline.proofs.pipeline.Pipeline.write_bytes.Given as goal
 
 -- this many bytes were written
-abbrev pub invariant-somes : goal.invariant-somes
-invariant-somes l = record {
+abbrev pub invariant-pieces : goal.invariant-pieces
+invariant-pieces l = record {
   part : AreOf l.part l.self l.memory;
   within : l.at ≤ length l.fn.bytes;
   whole : l.at % 4 ≡ 0;
   goes : ReachesRun l.part l.fn.self l.self (frame_at l.part l.fn.memory) (frame_at l.part l.memory) (words_of_bytes l.fn.bytes) (words_of_bytes (drop l.at l.fn.bytes)) (l.at / 4);
 }
 
-abbrev pub decreases-somes : goal.decreases-somes
-decreases-somes l = length l.fn.bytes - l.at
+abbrev pub decreases-pieces : goal.decreases-pieces
+decreases-pieces l = length l.fn.bytes - l.at
