@@ -3,37 +3,37 @@ use Rattle.std.specs.Prelude.{IfSome}
 use Rattle.std.proofs.Common.{◌≡◌, ℕ, ◌≤◌, Bool, true, if◌then◌else◌, List, ◌∷◌, ◌++◌, length, drop, Option, Some, None, refl, ap, sym, subst, ◌∙◌, arith}
 use Rattle.std.proofs.lemmas.List.{drop-append-le}
 use Rattle.x7_svf.specs.Fields.{Between, Fields, Inside, Named, Scanning, are_hex, fields_after_step, scan_from, scan_step}
-use Rattle.x7_svf.specs.Token.{Mark, mark_of}
+use Rattle.x7_svf.specs.Token.{Token, token_of}
 use Rattle.x7_svf.specs.Span.{AreWithin, StaysKept, at_of, fields_of, scanning_of}
 use Rattle.x7_svf.specs.declared.fields.Field.{Field}
 use Rattle.x7_svf.specs.declared.fields.Given.{Given}
 use Rattle.x7_svf.specs.declared.fields.Place.{Place}
 use Rattle.x7_svf.specs.declared.fields.Scanner.{Scanner}
-use Rattle.x7_svf.specs.declared.token.Token.{Token}
-use Rattle.x7_svf.specs.declared.token.Token.TheVariants as token
+use Rattle.x7_svf.specs.declared.token.NextToken.{NextToken}
+use Rattle.x7_svf.specs.declared.token.NextToken.TheVariants as next_token
 use Rattle.x7_svf.proofs.SpanLemmas.{more_stays, option_stays}
 
 -- a step as that at this place and of this token
-pub step_at : (kept rest : List ℕ) (g : Given) (p q : Place) (t u : Token) → p ≡ q → t ≡ u → scan_step (at_of kept q) (fields_of kept g) (mark_of u rest) ≡ scan_step (at_of kept p) (fields_of kept g) (mark_of t rest)
-step_at kept rest g p q t u e f = sym (λ i. scan_step (at_of kept (e i)) (fields_of kept g) (mark_of (f i) rest))
+pub step_at : (kept rest : List ℕ) (g : Given) (p q : Place) (t u : NextToken) → p ≡ q → t ≡ u → scan_step (at_of kept q) (fields_of kept g) (token_of u rest) ≡ scan_step (at_of kept p) (fields_of kept g) (token_of t rest)
+step_at kept rest g p q t u e f = sym (λ i. scan_step (at_of kept (e i)) (fields_of kept g) (token_of (f i) rest))
 
-pub none_between : (f : Fields) (t : Token) (rest : List ℕ) → ((n : ℕ) → t ≡ token.Word n → ⊥) → None ≡ scan_step Between f (mark_of t rest)
-none_between f (token.Word n) rest not = absurd (not n refl)
-none_between f token.Open rest not = refl
-none_between f token.Close rest not = refl
-none_between f token.End rest not = refl
+pub none_between : (f : Fields) (t : NextToken) (rest : List ℕ) → ((n : ℕ) → t ≡ next_token.Word n → ⊥) → None ≡ scan_step Between f (token_of t rest)
+none_between f (next_token.Word n) rest not = absurd (not n refl)
+none_between f next_token.Open rest not = refl
+none_between f next_token.Close rest not = refl
+none_between f next_token.End rest not = refl
 
-pub none_named : (k : Field) (f : Fields) (t : Token) (rest : List ℕ) → (t ≡ token.Open → ⊥) → None ≡ scan_step (Named k) f (mark_of t rest)
-none_named k f (token.Word n) rest not = refl
-none_named k f token.Open rest not = absurd (not refl)
-none_named k f token.Close rest not = refl
-none_named k f token.End rest not = refl
+pub none_named : (k : Field) (f : Fields) (t : NextToken) (rest : List ℕ) → (t ≡ next_token.Open → ⊥) → None ≡ scan_step (Named k) f (token_of t rest)
+none_named k f (next_token.Word n) rest not = refl
+none_named k f next_token.Open rest not = absurd (not refl)
+none_named k f next_token.Close rest not = refl
+none_named k f next_token.End rest not = refl
 
-pub none_inside : (k : Field) (ds : List ℕ) (f : Fields) (t : Token) (rest : List ℕ) → ((n : ℕ) → t ≡ token.Word n → ⊥) → (t ≡ token.Close → ⊥) → None ≡ scan_step (Inside k ds) f (mark_of t rest)
-none_inside k ds f (token.Word n) rest word not = absurd (word n refl)
-none_inside k ds f token.Open rest word not = refl
-none_inside k ds f token.Close rest word not = absurd (not refl)
-none_inside k ds f token.End rest word not = refl
+pub none_inside : (k : Field) (ds : List ℕ) (f : Fields) (t : NextToken) (rest : List ℕ) → ((n : ℕ) → t ≡ next_token.Word n → ⊥) → (t ≡ next_token.Close → ⊥) → None ≡ scan_step (Inside k ds) f (token_of t rest)
+none_inside k ds f (next_token.Word n) rest word not = absurd (word n refl)
+none_inside k ds f next_token.Open rest word not = refl
+none_inside k ds f next_token.Close rest word not = absurd (not refl)
+none_inside k ds f next_token.End rest word not = refl
 
 pub none_holds : {A : Type 0} (o : Option A) (P : A → Type 0) → o ≡ None → IfSome o P
 none_holds o P e = subst (λ x. IfSome x P) (sym e) tt
@@ -59,8 +59,8 @@ digits_more kept more b g k from e l w h =
     ap (λ (s : Scanning). Some s) scanning
     ∙ sym (ap {B = Option Scanning} (λ (test : Bool). if test then Some (record { at = Inside k (drop from kept ++ more); fields = fields_of kept g }) else None) h)
 
--- the fields of marks of which the first was taken
-pub scan_on : (a b : List ℕ) (s next : Scanner) (ms left : List Mark) (m : Mark) (all : Option Fields) → all ≡ scan_from (at_of a s.place) (fields_of a s.given) ms → ms ≡ m ∷ left
+-- the fields of tokens of which the first was taken
+pub scan_on : (a b : List ℕ) (s next : Scanner) (ms left : List Token) (m : Token) (all : Option Fields) → all ≡ scan_from (at_of a s.place) (fields_of a s.given) ms → ms ≡ m ∷ left
     → scanning_of b (Some next) ≡ scan_step (at_of a s.place) (fields_of a s.given) m → all ≡ scan_from (at_of b next.place) (fields_of b next.given) left
 scan_on a b s next ms left m all h e is =
     h ∙ ap (scan_from (at_of a s.place) (fields_of a s.given)) e ∙ sym (ap (λ (o : Option Scanning). fields_after_step o (λ x g. scan_from x g left)) is)

@@ -1,12 +1,12 @@
 -- Lemmas on specs/Reading.
 use Rattle.std.specs.Prelude.{IfSome}
 use Rattle.std.proofs.Common.{◌≡◌, ◌<◌, ◌≤◌, ℕ, List, Option, Some, None, length, length-drop, ap, sym, subst, ◌∙◌, drop, refl, arith}
-use Rattle.x7_svf.specs.Token.{pieces, token_size}
+use Rattle.x7_svf.specs.Token.{tokens, token_size}
 use Rattle.x7_svf.specs.Reading.{PassesBlanks, ReadsOn, StepsOver}
-use Rattle.x7_svf.specs.Source.{SourceState, left_after, pieces_left}
+use Rattle.x7_svf.specs.Source.{SourceState, left_after, tokens_left}
 use Rattle.x7_svf.specs.Span.{StaysKept}
-use Rattle.x7_svf.specs.Svf.{pieces_after}
-use Rattle.x7_svf.specs.declared.token.Token.{Token}
+use Rattle.x7_svf.specs.Svf.{tokens_after_end}
+use Rattle.x7_svf.specs.declared.token.NextToken.{NextToken}
 use Rattle.x7_svf.proofs.SpanLemmas.{all_stays, prefix_on}
 
 pub reads_none : (a : SourceState) → ReadsOn a a
@@ -23,15 +23,15 @@ reads_both a b c f g = record {
   passed = omega (arith, f.passed, g.passed);
 }
 
--- the pieces after a token over which a reader stepped
-pub left_stepped : (b c : SourceState) (t : Token) → StepsOver (token_size t) b c → left_after b t ≡ pieces_left c
-left_stepped b c t g = sym (λ i. pieces (g.line i) (g.rest i))
+-- the tokens after one over which a reader stepped
+pub left_stepped : (b c : SourceState) (t : NextToken) → StepsOver (token_size t) b c → left_after b t ≡ tokens_left c
+left_stepped b c t g = sym (λ i. tokens (g.line i) (g.rest i))
 
 -- a token of the statement, after blanks
-pub reads_token : (a b c : SourceState) (t : Token) → PassesBlanks a b → pieces_after (pieces_left a) ≡ pieces_after (left_after b t) → StepsOver (token_size t) b c → ReadsOn a c
+pub reads_token : (a b c : SourceState) (t : NextToken) → PassesBlanks a b → tokens_after_end (tokens_left a) ≡ tokens_after_end (left_after b t) → StepsOver (token_size t) b c → ReadsOn a c
 reads_token a b c t f after g = record {
   prefix = subst (λ (k : List ℕ). StaysKept k c.kept) f.kept g.prefix;
-  after = after ∙ ap pieces_after (left_stepped b c t g);
+  after = after ∙ ap tokens_after_end (left_stepped b c t g);
   passed = omega (arith, f.passed, ap length g.rest, length-drop (token_size t) b.rest);
 }
 

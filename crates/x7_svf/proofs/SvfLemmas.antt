@@ -4,36 +4,36 @@ use Rattle.std.proofs.lemmas.List.{map-append}
 use Rattle.x7_words.proofs.ListLemmas.{all_append}
 use Rattle.x7_svf.specs.declared.statement.Statement.{Statement}
 use Rattle.x7_svf.specs.declared.stored.Stored.{Stored}
-use Rattle.x7_svf.specs.Token.{TextPiece}
-use Rattle.x7_svf.specs.Source.{SourceState, pieces_left}
+use Rattle.x7_svf.specs.Token.{TokenOnLine}
+use Rattle.x7_svf.specs.Source.{SourceState, tokens_left}
 use Rattle.x7_svf.specs.Span.{StaysKept}
 use Rattle.x7_svf.specs.Stored.{AreStoredWithin, IsStoredWithin, statement_in, statements_in, stored_if}
-use Rattle.x7_svf.specs.Svf.{BeginWithOne, first_statement, outcome, pieces_after}
+use Rattle.x7_svf.specs.Svf.{BeginWithOne, first_statement, outcome, tokens_after_end}
 use Rattle.x7_svf.proofs.OutcomeLemmas.{after_all, one_on}
 use Rattle.x7_svf.proofs.SpanLemmas.{all_stored_more, prefix_long, statements_stay}
 
--- a source from before its next piece, there, and after the statement there
-module _ (ps : List TextPiece) (before here after : SourceState) (out new : List Stored) (one : Stored) (e : new ≡ out ++ one ∷ []) (w : AreStoredWithin (length before.kept) out)
+-- a source from before its next token, there, and after the statement there
+module _ (ps : List TokenOnLine) (before here after : SourceState) (out new : List Stored) (one : Stored) (e : new ≡ out ++ one ∷ []) (w : AreStoredWithin (length before.kept) out)
     (same : here.kept ≡ before.kept) (f : StaysKept here.kept after.kept) where
   front_here : StaysKept before.kept after.kept
   front_here = subst (λ (k : List ℕ). StaysKept k after.kept) same f
 
-  pub stored_on : (p : TextPiece) (left : List TextPiece) → outcome ps ≡ after_all (statements_in before.kept out) (outcome (pieces_left before)) → pieces_left before ≡ p ∷ left → pieces_left before ≡ pieces_left here
-      → stored_if after.kept (Some one) ≡ first_statement (pieces_left here) → pieces_after (pieces_left here) ≡ Some (pieces_left after)
-      → outcome ps ≡ after_all (statements_in after.kept new) (outcome (pieces_left after))
+  pub stored_on : (p : TokenOnLine) (left : List TokenOnLine) → outcome ps ≡ after_all (statements_in before.kept out) (outcome (tokens_left before)) → tokens_left before ≡ p ∷ left → tokens_left before ≡ tokens_left here
+      → stored_if after.kept (Some one) ≡ first_statement (tokens_left here) → tokens_after_end (tokens_left here) ≡ Some (tokens_left after)
+      → outcome ps ≡ after_all (statements_in after.kept new) (outcome (tokens_left after))
   stored_on p left h first there is a =
       let s : Statement = statement_in after.kept one in
       let all : statements_in after.kept new ≡ statements_in before.kept out ++ s ∷ [] =
       ap (statements_in after.kept) e ∙ map-append (statement_in after.kept) out (one ∷ []) ∙ ap (λ (ss : List Statement). ss ++ s ∷ []) (statements_stay before.kept after.kept front_here out w) in
-      one_on ps (pieces_left before) (statements_in before.kept out) p left h first (pieces_left after) s (ap pieces_after there ∙ a) (is ∙ sym (ap first_statement there))
-      ∙ sym (ap (λ (ss : List Statement). after_all ss (outcome (pieces_left after))) all)
+      one_on ps (tokens_left before) (statements_in before.kept out) p left h first (tokens_left after) s (ap tokens_after_end there ∙ a) (is ∙ sym (ap first_statement there))
+      ∙ sym (ap (λ (ss : List Statement). after_all ss (outcome (tokens_left after))) all)
 
   pub all_within : IsStoredWithin (length after.kept) one → AreStoredWithin (length after.kept) new
   all_within o =
       let few : length before.kept ≤ length after.kept = prefix_long before.kept after.kept front_here in
       subst (AreStoredWithin (length after.kept)) (sym e) (all_append (IsStoredWithin (length after.kept)) out (one ∷ []) (all_stored_more (length before.kept) (length after.kept) out few w) (o, tt))
 
-  -- pieces begin with a statement, the first of all or this one
-  pub one_begins : (length out ≡ 0) × (pieces_left before ≡ ps) ⊎ BeginWithOne ps → pieces_left before ≡ pieces_left here → stored_if after.kept (Some one) ≡ first_statement (pieces_left here) → BeginWithOne ps
+  -- tokens begin with a statement, the first of all or this one
+  pub one_begins : (length out ≡ 0) × (tokens_left before ≡ ps) ⊎ BeginWithOne ps → tokens_left before ≡ tokens_left here → stored_if after.kept (Some one) ≡ first_statement (tokens_left here) → BeginWithOne ps
   one_begins (inl z) there is = (statement_in after.kept one, ap first_statement (sym z.1 ∙ there) ∙ sym is)
   one_begins (inr b) there is = b

@@ -1,12 +1,12 @@
 -- The words of a statement, one by one; no statement has more than four.
 use Rattle.std.proofs.Common.{◌≡◌, ℕ, ◌||◌, ◌≤◌, Bool, true, false, if◌then◌else◌, List, [], ◌∷◌, ◌++◌, length, take, Option, Some, None, codes, refl, ap, sym, ◌∙◌, append_assoc, append-nil, arith}
 use Rattle.std.specs.List.{list_all}
-use Rattle.x7_svf.specs.Token.{Mark, TextPiece, mark_of}
+use Rattle.x7_svf.specs.Token.{Token, TokenOnLine, token_of}
 use Rattle.x7_svf.specs.Source.{SourceState, left_after}
-use Rattle.x7_svf.specs.Words.{is_free_mark, is_key, statement_if_words, statement_of_words, word_before, words_of}
-use Rattle.x7_svf.specs.Svf.{marks_before}
-use Rattle.x7_svf.specs.declared.token.Token.{Token}
-use Rattle.x7_svf.specs.declared.token.Token.TheVariants as token
+use Rattle.x7_svf.specs.Words.{is_free_token, is_key, statement_if_words, statement_of_words, word_before, words_of}
+use Rattle.x7_svf.specs.Svf.{tokens_before_end}
+use Rattle.x7_svf.specs.declared.token.NextToken.{NextToken}
+use Rattle.x7_svf.specs.declared.token.NextToken.TheVariants as next_token
 use Rattle.x7_svf.specs.declared.statement.Statement.{Statement}
 
 -- words after words
@@ -39,24 +39,24 @@ one_more : (ws : List (List ℕ)) (w : List ℕ) (o : Option (List (List ℕ))) 
 one_more ws w None = refl
 one_more ws w (Some vs) = ap Some (sym (append_assoc ws (w ∷ []) vs))
 
--- the words so far, and the marks of the rest, which begin with a word
-module _ (ms : Option (List (List ℕ))) (ws : List (List ℕ)) (marks : List Mark) (here : SourceState) (t : Token) (n : ℕ) (same : ms ≡ after_words ws (words_of marks))
-    (e : marks ≡ mark_of t here.rest ∷ marks_before (left_after here t)) (is : t ≡ token.Word n) where
-  word_next : ms ≡ after_words ws (word_before (take n here.rest) (words_of (marks_before (left_after here (token.Word n)))))
-  word_next = same ∙ ap (λ (xs : List Mark). after_words ws (words_of xs)) (e ∙ ap (λ (u : Token). mark_of u here.rest ∷ marks_before (left_after here u)) is)
+-- the words so far, and the tokens of the rest, which begin with a word
+module _ (ms : Option (List (List ℕ))) (ws : List (List ℕ)) (tokens : List Token) (here : SourceState) (t : NextToken) (n : ℕ) (same : ms ≡ after_words ws (words_of tokens))
+    (e : tokens ≡ token_of t here.rest ∷ tokens_before_end (left_after here t)) (is : t ≡ next_token.Word n) where
+  word_next : ms ≡ after_words ws (word_before (take n here.rest) (words_of (tokens_before_end (left_after here (next_token.Word n)))))
+  word_next = same ∙ ap (λ (xs : List Token). after_words ws (words_of xs)) (e ∙ ap (λ (u : NextToken). token_of u here.rest ∷ tokens_before_end (left_after here u)) is)
 
   pub fifth : (key : List ℕ) → length ws ≡ 4 → None ≡ statement_if_words key ms
-  fifth key four = sym (ap (statement_if_words key) word_next ∙ too_many key ws (take n here.rest) (words_of (marks_before (left_after here (token.Word n)))) (omega (arith, four)))
+  fifth key four = sym (ap (statement_if_words key) word_next ∙ too_many key ws (take n here.rest) (words_of (tokens_before_end (left_after here (next_token.Word n)))) (omega (arith, four)))
 
-  pub words_on : (more : List (List ℕ)) (word : List ℕ) (left : List TextPiece) → more ≡ ws ++ word ∷ [] → word ≡ take n here.rest → left ≡ left_after here (token.Word n) → ms ≡ after_words more (words_of (marks_before left))
+  pub words_on : (more : List (List ℕ)) (word : List ℕ) (left : List TokenOnLine) → more ≡ ws ++ word ∷ [] → word ≡ take n here.rest → left ≡ left_after here (next_token.Word n) → ms ≡ after_words more (words_of (tokens_before_end left))
   words_on more word left g w l =
       let grown : more ≡ ws ++ take n here.rest ∷ [] = g ∙ ap (λ (x : List ℕ). ws ++ x ∷ []) w in
-      word_next ∙ one_more ws (take n here.rest) (words_of (marks_before (left_after here (token.Word n)))) ∙ sym (λ i. after_words (grown i) (words_of (marks_before (l i))))
+      word_next ∙ one_more ws (take n here.rest) (words_of (tokens_before_end (left_after here (next_token.Word n)))) ∙ sym (λ i. after_words (grown i) (words_of (tokens_before_end (l i))))
 
 -- all words
-pub all_said : (key : List ℕ) (ms : Option (List (List ℕ))) (ws : List (List ℕ)) (marks : List Mark) → ms ≡ after_words ws (words_of marks) → marks ≡ [] → statement_if_words key ms ≡ statement_of_words key ws
-all_said key ms ws marks same e = ap (statement_if_words key) (same ∙ ap (λ (xs : List Mark). after_words ws (words_of xs)) e) ∙ ap (statement_of_words key) (append-nil ws)
+pub all_said : (key : List ℕ) (ms : Option (List (List ℕ))) (ws : List (List ℕ)) (tokens : List Token) → ms ≡ after_words ws (words_of tokens) → tokens ≡ [] → statement_if_words key ms ≡ statement_of_words key ws
+all_said key ms ws tokens same e = ap (statement_if_words key) (same ∙ ap (λ (xs : List Token). after_words ws (words_of xs)) e) ∙ ap (statement_of_words key) (append-nil ws)
 
--- a mark that may stand among any words
-pub free_on : (m : Mark) (ms : List Mark) → is_free_mark m ≡ true → list_all is_free_mark (m ∷ ms) ≡ list_all is_free_mark ms
+-- a token that may stand among any words
+pub free_on : (m : Token) (ms : List Token) → is_free_token m ≡ true → list_all is_free_token (m ∷ ms) ≡ list_all is_free_token ms
 free_on m ms e = rw e refl

@@ -1,7 +1,7 @@
 -- The fields of a scan, and what it says (this project's profile of SVF).
 use Rattle.std.specs.Prelude.{ℕ, ◌+◌, ◌*◌, ◌^◌, ◌==◌, ◌||◌, ◌&&◌, nat_le, nat_lt, Bool, true, false, if◌then◌else◌, List, [], ◌∷◌, ◌++◌, Option, Some, None, codes, length}
 use Rattle.std.specs.List.{list_all}
-use Rattle.x7_svf.specs.Token.{Mark, Word, Open, Close, End}
+use Rattle.x7_svf.specs.Token.{Token, Word, Open, Close, End}
 use Rattle.x7_svf.specs.Bits.{bits_of, digit_number}
 use Rattle.x7_svf.specs.Words.{is_digit, is_key, number_within}
 use Rattle.x7_svf.specs.declared.statement.ScannedRegister.{ScannedRegister}
@@ -70,15 +70,15 @@ abbrev pub closed_by : Option Fields → Option Scanning
 closed_by None = None
 closed_by (Some f) = Some (record { at = Between; fields = f })
 
--- what a mark more comes to
-abbrev pub scan_step : At → Fields → Mark → Option Scanning
+-- what a token more comes to
+abbrev pub scan_step : At → Fields → Token → Option Scanning
 scan_step Between f (Word w) = after_name f (field_by_name w)
 scan_step (Named k) f Open = Some (record { at = Inside k []; fields = f })
 scan_step (Inside k ds) f (Word w) = if are_hex w then Some (record { at = Inside k (ds ++ w); fields = f }) else None
 scan_step (Inside k ds) f Close = closed_by (closed_field f k ds)
 scan_step _ f _ = None
 
--- the fields, where the marks end between two of them
+-- the fields, where the tokens end between two of them
 abbrev pub done : At → Fields → Option Fields
 done Between f = Some f
 done (Named k) f = None
@@ -89,10 +89,10 @@ abbrev pub fields_after_step : Option Scanning → (At → Fields → Option Fie
 fields_after_step None next = None
 fields_after_step (Some s) next = next s.at s.fields
 
--- the fields of marks, by where they begin and the fields before them
-abbrev pub scan_from : At → Fields → List Mark → Option Fields
+-- the fields of tokens, by where they begin and the fields before them
+abbrev pub scan_from : At → Fields → List Token → Option Fields
 scan_from at f [] = done at f
-scan_from at f (m ∷ ms) = fields_after_step (scan_step at f m) (λ a g. scan_from a g ms)
+scan_from at f (t ∷ ts) = fields_after_step (scan_step at f t) (λ a g. scan_from a g ts)
 
 -- no field as yet
 abbrev pub no_fields : Fields
@@ -146,15 +146,15 @@ abbrev pub some_bits : Option ℕ → Option ℕ
 some_bits None = None
 some_bits (Some n) = if n == 0 then None else Some n
 
--- the scan of this many bits, where that is a number of bits, by the marks after it
-abbrev pub scan_if : ScannedRegister → Option ℕ → List Mark → Option Statement
-scan_if register None ms = None
-scan_if register (Some n) ms = scan_by register n (scan_from Between no_fields ms)
+-- the scan of this many bits, where that is a number of bits, by the tokens after it
+abbrev pub scan_if : ScannedRegister → Option ℕ → List Token → Option Statement
+scan_if register None ts = None
+scan_if register (Some n) ts = scan_by register n (scan_from Between no_fields ts)
 
--- after SIR or SDR
-abbrev pub scan_of : ScannedRegister → List Mark → Option Statement
+-- the scan of the tokens after SIR or SDR
+abbrev pub scan_of : ScannedRegister → List Token → Option Statement
 scan_of register [] = None
-scan_of register (Word n ∷ ms) = scan_if register (some_bits (number_within most_bits n)) ms
-scan_of register (Open ∷ ms) = None
-scan_of register (Close ∷ ms) = None
-scan_of register (End ∷ ms) = None
+scan_of register (Word n ∷ ts) = scan_if register (some_bits (number_within most_bits n)) ts
+scan_of register (Open ∷ ts) = None
+scan_of register (Close ∷ ts) = None
+scan_of register (End ∷ ts) = None

@@ -1,7 +1,7 @@
 -- A text on its way (this project's choice).
 use Rattle.std.specs.Prelude.{ℕ, List, ◌∷◌, drop}
-use Rattle.x7_svf.specs.Token.{TextPiece, mark_of, pieces, token_size}
-use Rattle.x7_svf.specs.declared.token.Token.{Token}
+use Rattle.x7_svf.specs.Token.{TokenOnLine, token_of, tokens, token_size}
+use Rattle.x7_svf.specs.declared.token.NextToken.{NextToken}
 
 -- the bytes kept of what was read, and the rest with the line on which it begins
 pub record SourceState : Type 0 where
@@ -9,14 +9,14 @@ pub record SourceState : Type 0 where
   pub line : ℕ
   pub rest : List ℕ
 
--- the pieces of the rest
-abbrev pub pieces_left : SourceState → List TextPiece
-pieces_left s = pieces s.line s.rest
+-- the tokens of the rest
+abbrev pub tokens_left : SourceState → List TokenOnLine
+tokens_left s = tokens s.line s.rest
 
--- the pieces after a token that the rest begins with
-abbrev pub left_after : SourceState → Token → List TextPiece
-left_after s t = pieces s.line (drop (token_size t) s.rest)
+-- the tokens after the one that the rest begins with
+abbrev pub left_after : SourceState → NextToken → List TokenOnLine
+left_after s t = tokens s.line (drop (token_size t) s.rest)
 
--- the pieces from a token on that the rest begins with
-abbrev pub left_from : SourceState → Token → List TextPiece
-left_from s t = record { line = s.line; mark = mark_of t s.rest } ∷ left_after s t
+-- the token that the rest begins with, and those after it
+abbrev pub left_from : SourceState → NextToken → List TokenOnLine
+left_from s t = record { line = s.line; token = token_of t s.rest } ∷ left_after s t

@@ -1,70 +1,70 @@
 -- What a text comes to: its statements, or the line on which the first begins that is none (this project's profile of SVF).
 use Rattle.std.specs.Prelude.{◌≡◌, ℕ, zero, suc, false, List, [], ◌∷◌, length, Option, Some, None, Result, Ok, Err}
 use Rattle.x7_svf.specs.Comment.{clean_text}
-use Rattle.x7_svf.specs.Token.{Mark, Word, Open, Close, End, TextPiece, pieces}
+use Rattle.x7_svf.specs.Token.{Token, Word, Open, Close, End, TokenOnLine, tokens}
 use Rattle.x7_svf.specs.Statement.{statement_of}
 use Rattle.x7_svf.specs.declared.statement.Statement.{Statement}
 use Rattle.x7_svf.specs.declared.fault.SvfFault.{SvfFault}
 use Rattle.x7_svf.specs.declared.fault.SvfFault.TheVariants as fault
 
--- the marks of a statement: those before the first `;`, or all
-abbrev pub marks_before : List TextPiece → List Mark
-marks_before [] = []
-marks_before (p ∷ ps) = elim p.mark as (λ m. List Mark) [
-  | Word w ↦ Word w ∷ marks_before ps
-  | Open ↦ Open ∷ marks_before ps
-  | Close ↦ Close ∷ marks_before ps
+-- the tokens of a statement: those before the first `;`, or all
+abbrev pub tokens_before_end : List TokenOnLine → List Token
+tokens_before_end [] = []
+tokens_before_end (t ∷ ts) = elim t.token as (λ t. List Token) [
+  | Word w ↦ Word w ∷ tokens_before_end ts
+  | Open ↦ Open ∷ tokens_before_end ts
+  | Close ↦ Close ∷ tokens_before_end ts
   | End ↦ []
 ]
 
--- the pieces after the first `;`
-abbrev pub pieces_after : List TextPiece → Option (List TextPiece)
-pieces_after [] = None
-pieces_after (p ∷ ps) = elim p.mark as (λ m. Option (List TextPiece)) [
-  | Word w ↦ pieces_after ps
-  | Open ↦ pieces_after ps
-  | Close ↦ pieces_after ps
-  | End ↦ Some ps
+-- the tokens after the first `;`
+abbrev pub tokens_after_end : List TokenOnLine → Option (List TokenOnLine)
+tokens_after_end [] = None
+tokens_after_end (t ∷ ts) = elim t.token as (λ t. Option (List TokenOnLine)) [
+  | Word w ↦ tokens_after_end ts
+  | Open ↦ tokens_after_end ts
+  | Close ↦ tokens_after_end ts
+  | End ↦ Some ts
 ]
 
 -- a statement counts where its `;` stands
-abbrev pub if_ended : Option (List TextPiece) → Option Statement → Option Statement
+abbrev pub if_ended : Option (List TokenOnLine) → Option Statement → Option Statement
 if_ended None s = None
 if_ended (Some after) s = s
 
--- the statement that pieces begin with
-abbrev pub first_statement : List TextPiece → Option Statement
-first_statement ps = if_ended (pieces_after ps) (statement_of (marks_before ps))
+-- the statement that tokens begin with
+abbrev pub first_statement : List TokenOnLine → Option Statement
+first_statement ts = if_ended (tokens_after_end ts) (statement_of (tokens_before_end ts))
 
--- the pieces after a statement, none where it never ends
-abbrev pub pieces_left_after : Option (List TextPiece) → List TextPiece
-pieces_left_after None = []
-pieces_left_after (Some after) = after
+-- the tokens after a statement, none where it never ends
+abbrev pub tokens_if_ended : Option (List TokenOnLine) → List TokenOnLine
+tokens_if_ended None = []
+tokens_if_ended (Some after) = after
 
--- a statement before what the pieces after it come to, or the line on which one begins that is none
+-- a statement before what the tokens after it come to, or the line on which one begins that is none
 abbrev pub with_first : ℕ → Option Statement → Result (List Statement) SvfFault → Result (List Statement) SvfFault
 with_first line None more = Err (fault.Line line)
 with_first line (Some s) (Ok ss) = Ok (s ∷ ss)
 with_first line (Some s) (Err f) = Err f
 
--- what pieces come to, of which at most so many are statements
-abbrev pub outcome_by : ℕ → List TextPiece → Result (List Statement) SvfFault
+-- what tokens come to, of which at most so many are statements
+abbrev pub outcome_by : ℕ → List TokenOnLine → Result (List Statement) SvfFault
 outcome_by n [] = Ok []
-outcome_by zero (p ∷ ps) = Err (fault.Line p.line)
-outcome_by (suc n) (p ∷ ps) = with_first p.line (first_statement (p ∷ ps)) (outcome_by n (pieces_left_after (pieces_after (p ∷ ps))))
+outcome_by zero (t ∷ ts) = Err (fault.Line t.line)
+outcome_by (suc n) (t ∷ ts) = with_first t.line (first_statement (t ∷ ts)) (outcome_by n (tokens_if_ended (tokens_after_end (t ∷ ts))))
 
--- what pieces come to
-abbrev pub outcome : List TextPiece → Result (List Statement) SvfFault
-outcome ps = outcome_by (length ps) ps
+-- what tokens come to
+abbrev pub outcome : List TokenOnLine → Result (List Statement) SvfFault
+outcome ts = outcome_by (length ts) ts
 
--- the pieces begin with a statement
-abbrev pub BeginWithOne : List TextPiece → Type 0
-BeginWithOne ps = (one : Statement) × (first_statement ps ≡ Some one)
+-- the tokens begin with a statement
+abbrev pub BeginWithOne : List TokenOnLine → Type 0
+BeginWithOne ts = (one : Statement) × (first_statement ts ≡ Some one)
 
--- the pieces of a text
-abbrev pub pieces_of : List ℕ → List TextPiece
-pieces_of text = pieces 1 (clean_text false text)
+-- the tokens of a text with comments
+abbrev pub tokens_of : List ℕ → List TokenOnLine
+tokens_of text = tokens 1 (clean_text false text)
 
 -- what a text comes to: its statements, or the line on which the first begins that is none
 abbrev pub IsSvfOf : List ℕ → Result (List Statement) SvfFault → Type 0
-IsSvfOf text r = outcome (pieces_of text) ≡ r
+IsSvfOf text r = outcome (tokens_of text) ≡ r

@@ -1,19 +1,19 @@
--- The words, brackets and ends of a text without comments, each with the line on which it begins (this project's profile of SVF).
+-- The tokens of a text without comments, each with the line on which it begins (this project's profile of SVF).
 use Rattle.std.specs.Prelude.{ℕ, ◌+◌, ◌==◌, ◌||◌, not, Bool, if◌then◌else◌, List, [], ◌∷◌, take}
-use Rattle.x7_svf.specs.declared.token.Token.{Token}
-use Rattle.x7_svf.specs.declared.token.Token.TheVariants as token
+use Rattle.x7_svf.specs.declared.token.NextToken.{NextToken}
+use Rattle.x7_svf.specs.declared.token.NextToken.TheVariants as next_token
 
--- a word, `(`, `)` or `;`
-pub data Mark : Type 0 where
-  Word : (bytes : List ℕ) → Mark
-  Open : Mark
-  Close : Mark
-  End : Mark
+-- a token of a text: a word, `(`, `)` or `;`
+pub data Token : Type 0 where
+  Word : (bytes : List ℕ) → Token
+  Open : Token
+  Close : Token
+  End : Token
 
--- a mark and the line on which it begins
-pub record TextPiece : Type 0 where
+-- a token and the line of the text on which it begins
+pub record TokenOnLine : Type 0 where
   pub line : ℕ
-  pub mark : Mark
+  pub token : Token
 
 -- blanks, tabs and line ends separate words, and so do brackets and `;`
 abbrev pub is_word_byte : ℕ → Bool
@@ -23,49 +23,46 @@ is_word_byte c = not (c == 32 || c == 9 || c == 10 || c == 40 || c == 41 || c ==
 abbrev pub is_blank_byte : ℕ → Bool
 is_blank_byte c = c == 32 || c == 9 || c == 10
 
--- the mark of a byte that is no word's and no blank
-abbrev pub byte_mark : ℕ → Mark
-byte_mark c = if c == 40 then Open else (if c == 41 then Close else End)
+-- the token of a byte that is no word's and no blank
+abbrev pub byte_token : ℕ → Token
+byte_token c = if c == 40 then Open else (if c == 41 then Close else End)
 
 -- the line after a byte
 abbrev pub line_after : ℕ → ℕ → ℕ
 line_after c line = if c == 10 then line + 1 else line
 
--- a word with a byte more before it
-abbrev pub extend : ℕ → ℕ → List TextPiece → List TextPiece
-extend line c [] = record { line = line; mark = Word (c ∷ []) } ∷ []
-extend line c (p ∷ ps) = elim p.mark as (λ m. List TextPiece) [
-  | Word bytes ↦ record { line = line; mark = Word (c ∷ bytes) } ∷ ps
-  | Open ↦ record { line = line; mark = Word (c ∷ []) } ∷ p ∷ ps
-  | Close ↦ record { line = line; mark = Word (c ∷ []) } ∷ p ∷ ps
-  | End ↦ record { line = line; mark = Word (c ∷ []) } ∷ p ∷ ps
+-- tokens, of which the first is a word that has this byte more before it, or begins with it
+abbrev pub extend : ℕ → ℕ → List TokenOnLine → List TokenOnLine
+extend line c [] = record { line = line; token = Word (c ∷ []) } ∷ []
+extend line c (t ∷ ts) = elim t.token as (λ t. List TokenOnLine) [
+  | Word bytes ↦ record { line = line; token = Word (c ∷ bytes) } ∷ ts
+  | Open ↦ record { line = line; token = Word (c ∷ []) } ∷ t ∷ ts
+  | Close ↦ record { line = line; token = Word (c ∷ []) } ∷ t ∷ ts
+  | End ↦ record { line = line; token = Word (c ∷ []) } ∷ t ∷ ts
 ]
 
--- the pieces of a word's byte and of the text after it, whose own are these
-abbrev pub with_word_byte : ℕ → ℕ → List ℕ → List TextPiece → List TextPiece
-with_word_byte line c [] ps = record { line = line; mark = Word (c ∷ []) } ∷ ps
-with_word_byte line c (d ∷ ds) ps = if is_word_byte d then extend line c ps else record { line = line; mark = Word (c ∷ []) } ∷ ps
+-- the tokens of a text that begins with this byte of a word, by the rest of the text and the tokens of the rest
+abbrev pub with_word_byte : ℕ → ℕ → List ℕ → List TokenOnLine → List TokenOnLine
+with_word_byte line c [] ts = record { line = line; token = Word (c ∷ []) } ∷ ts
+with_word_byte line c (d ∷ ds) ts = if is_word_byte d then extend line c ts else record { line = line; token = Word (c ∷ []) } ∷ ts
 
--- the pieces of any other byte and of that text
-abbrev pub marked : ℕ → ℕ → List TextPiece → List TextPiece
-marked line c ps =
-    if c == 40 then record { line = line; mark = Open } ∷ ps
-    else (if c == 41 then record { line = line; mark = Close } ∷ ps
-    else (if c == 59 then record { line = line; mark = End } ∷ ps else ps))
+-- the tokens of a text that begins with this byte of no word, by the tokens of the rest
+abbrev pub with_other_byte : ℕ → ℕ → List TokenOnLine → List TokenOnLine
+with_other_byte line c ts = if is_blank_byte c then ts else record { line = line; token = byte_token c } ∷ ts
 
--- the pieces of a text that begins on this line
-abbrev pub pieces : ℕ → List ℕ → List TextPiece
-pieces line [] = []
-pieces line (c ∷ cs) = if is_word_byte c then with_word_byte line c cs (pieces (line_after c line) cs) else marked line c (pieces (line_after c line) cs)
+-- the tokens of a text that begins on this line
+abbrev pub tokens : ℕ → List ℕ → List TokenOnLine
+tokens line [] = []
+tokens line (c ∷ cs) = if is_word_byte c then with_word_byte line c cs (tokens (line_after c line) cs) else with_other_byte line c (tokens (line_after c line) cs)
 
--- a token at the front of a text as a mark
-abbrev pub mark_of : Token → List ℕ → Mark
-mark_of (token.Word n) text = Word (take n text)
-mark_of token.Open text = Open
-mark_of token.Close text = Close
-mark_of token.End text = End
+-- the token that a text begins with
+abbrev pub token_of : NextToken → List ℕ → Token
+token_of (next_token.Word n) text = Word (take n text)
+token_of next_token.Open text = Open
+token_of next_token.Close text = Close
+token_of next_token.End text = End
 
--- how many bytes a token has
-abbrev pub token_size : Token → ℕ
-token_size (token.Word n) = n
+-- how many bytes the token that comes next has
+abbrev pub token_size : NextToken → ℕ
+token_size (next_token.Word n) = n
 token_size _ = 1

@@ -3,11 +3,11 @@ use Rattle.std.specs.Prelude.{ℕ, ◌+◌, ◌-◌, ◌*◌, ◌==◌, ◌||◌
 use Rattle.std.specs.List.{list_all}
 use Rattle.std.specs.Borrow.{Bor}
 use Rattle.std.specs.Str.{str_eq_ignore_ascii_case}
-use Rattle.x7_svf.specs.Token.{Mark, Word, Open, Close, End}
+use Rattle.x7_svf.specs.Token.{Token, Word, Open, Close, End}
 use Rattle.x7_svf.specs.declared.statement.Statement.{Statement}
 use Rattle.x7_svf.specs.declared.statement.Statement.TheVariants as statement
 
--- keywords are in either case
+-- the word is this keyword, in either case
 abbrev pub is_key : List ℕ → List ℕ → Bool
 is_key word key = str_eq_ignore_ascii_case word key
 
@@ -30,7 +30,7 @@ number_within limit (c ∷ cs) = number_from limit 0 (c ∷ cs)
 abbrev pub most_clocks : ℕ
 most_clocks = 16777216
 
--- a time is digits, `.`, `E`, `+` and `-`
+-- a byte that may stand in a time: a digit, `.`, `E`, `+` or `-`
 abbrev pub is_time_byte : ℕ → Bool
 is_time_byte c = is_digit c || c == 46 || c == 69 || c == 43 || c == 45
 
@@ -38,7 +38,7 @@ is_time_byte c = is_digit c || c == 46 || c == 69 || c == 43 || c == 45
 abbrev pub is_time : List ℕ → Bool
 is_time w = nat_lt 0 (length w) && list_all is_time_byte w
 
--- a word that may hold any byte but 0D
+-- a byte that a word without meaning may hold: any but 0D
 abbrev pub is_free_byte : ℕ → Bool
 is_free_byte c = not (c == 13)
 
@@ -51,13 +51,13 @@ abbrev pub word_before : List ℕ → Option (List (List ℕ)) → Option (List 
 word_before w None = None
 word_before w (Some ws) = Some (w ∷ ws)
 
--- the words of marks without brackets
-abbrev pub words_of : List Mark → Option (List (List ℕ))
+-- the words of tokens, where there is no bracket among them
+abbrev pub words_of : List Token → Option (List (List ℕ))
 words_of [] = Some []
-words_of (Word w ∷ ms) = word_before w (words_of ms)
-words_of (Open ∷ ms) = None
-words_of (Close ∷ ms) = None
-words_of (End ∷ ms) = None
+words_of (Word w ∷ ts) = word_before w (words_of ts)
+words_of (Open ∷ ts) = None
+words_of (Close ∷ ts) = None
+words_of (End ∷ ts) = None
 
 -- a statement, where the test holds
 abbrev pub some_if : Bool → Statement → Option Statement
@@ -72,12 +72,12 @@ run_by (Some n) = Some (statement.Run n)
 abbrev pub run_if : Bool → List ℕ → Option Statement
 run_if b n = if b then run_by (number_within most_clocks n) else None
 
--- after STATE
+-- the statement of the words after STATE
 abbrev pub state_words : List (List ℕ) → Option Statement
 state_words (w ∷ []) = if is_key w (codes "RESET") then Some statement.Reset else some_if (is_key w (codes "IDLE")) statement.Idle
 state_words _ = None
 
--- after RUNTEST
+-- the statement of the words after RUNTEST
 abbrev pub run_words : List (List ℕ) → Option Statement
 run_words (n ∷ t ∷ []) =
     if is_key t (codes "TCK") then run_by (number_within most_clocks n) else some_if (is_key t (codes "SEC") && is_time n) statement.Nothing
@@ -85,17 +85,17 @@ run_words (i ∷ n ∷ t ∷ []) = run_if (is_key i (codes "IDLE") && is_key t (
 run_words (n ∷ t ∷ x ∷ s ∷ []) = run_if (is_key t (codes "TCK") && is_time x && is_key s (codes "SEC")) n
 run_words _ = None
 
--- after ENDIR and ENDDR
+-- the statement of the words after ENDIR and ENDDR
 abbrev pub end_words : List (List ℕ) → Option Statement
 end_words (w ∷ []) = some_if (is_key w (codes "IDLE")) statement.Nothing
 end_words _ = None
 
--- after HIR, HDR, TIR and TDR: no other device stands in the chain
+-- the statement of the words after HIR, HDR, TIR and TDR: no other device stands in the chain
 abbrev pub zero_words : List (List ℕ) → Option Statement
 zero_words (w ∷ []) = some_if (is_key w (codes "0")) statement.Nothing
 zero_words _ = None
 
--- after TRST
+-- the statement of the words after TRST
 abbrev pub reset_words : List (List ℕ) → Option Statement
 reset_words (w ∷ []) = some_if (is_free w) statement.Nothing
 reset_words _ = None
@@ -109,15 +109,15 @@ statement_of_words k ws =
     else (if is_key k (codes "HIR") || is_key k (codes "HDR") || is_key k (codes "TIR") || is_key k (codes "TDR") then zero_words ws
     else (if is_key k (codes "TRST") then reset_words ws else None))))
 
--- the statement of a keyword and the marks after it, where these are words
+-- the statement of a keyword and the tokens after it, where these are words
 abbrev pub statement_if_words : List ℕ → Option (List (List ℕ)) → Option Statement
 statement_if_words k None = None
 statement_if_words k (Some ws) = statement_of_words k ws
 
--- marks that are brackets, or words without 0D
-abbrev pub is_free_mark : Mark → Bool
-is_free_mark (Word w) = is_free w
-is_free_mark _ = true
+-- a token that is a bracket, or a word without 0D
+abbrev pub is_free_token : Token → Bool
+is_free_token (Word w) = is_free w
+is_free_token _ = true
 
 -- words as lists
 abbrev pub word_list : List (Bor (List ℕ)) → List (List ℕ)

@@ -1,15 +1,15 @@
 //! The fields of a scan.
 ghost use Rattle.std.specs.Prelude.{◌≡◌, ◌≤◌, ℕ, List, drop, length, IfSome, Option, Some, None};
-ghost use Rattle.x7_svf.specs.Token.{mark_of, token_size};
+ghost use Rattle.x7_svf.specs.Token.{token_of, token_size};
 ghost use Rattle.x7_svf.specs.Fields.{are_hex, Between, closed_field, field_by_name, is_hex, no_fields, put_field, scan_from, scan_step};
 ghost use Rattle.x7_svf.specs.Reading.{ReadsOn, StepsOver};
-ghost use Rattle.x7_svf.specs.Source.{pieces_left};
+ghost use Rattle.x7_svf.specs.Source.{tokens_left};
 ghost use Rattle.x7_svf.specs.Span.{AreWithin, IsWithin, at_of, bytes_in, span_end, fields_of, given_as, scanning_of};
-ghost use Rattle.x7_svf.specs.Svf.{marks_before};
+ghost use Rattle.x7_svf.specs.Svf.{tokens_before_end};
 
 use crate::source::Source;
 use crate::span::Span;
-use crate::token::{Token, next_within};
+use crate::token::{NextToken, next_within};
 use crate::words::is_keyword;
 
 /// The fields of a scan.
@@ -33,17 +33,17 @@ pub(crate) enum Place {
 /// Where the digits of each field are kept.
 #[derive(Clone, Copy)]
 pub(crate) struct Given {
-    pub tdi: Option<Span>,
-    pub tdo: Option<Span>,
-    pub mask: Option<Span>,
-    pub smask: Option<Span>,
+    pub(crate) tdi: Option<Span>,
+    pub(crate) tdo: Option<Span>,
+    pub(crate) mask: Option<Span>,
+    pub(crate) smask: Option<Span>,
 }
 
 /// A reader of a scan: where it stands, and the fields so far.
 #[derive(Clone, Copy)]
 pub(crate) struct Scanner {
-    pub place: Place,
-    pub given: Given,
+    pub(crate) place: Place,
+    pub(crate) given: Given,
 }
 
 /// The field of this name.
@@ -126,16 +126,16 @@ fn close(source: &Source, given: Given, field: Field, from: usize) -> Option<Giv
 }
 
 /// A token more, which is passed, or kept where it is digits.
-fn step(source: &mut Source, scanner: Scanner, token: Token) -> Option<Scanner>
+fn step(source: &mut Source, scanner: Scanner, token: NextToken) -> Option<Scanner>
     requires token { token_size token ≤ length source.old.rest }
     requires within { IsWithin (length source.old.kept) scanner }
-    ensures is { scanning_of source.new.kept result ≡ scan_step (at_of source.old.kept scanner.place) (fields_of source.old.kept scanner.given) (mark_of token source.old.rest) }
+    ensures is { scanning_of source.new.kept result ≡ scan_step (at_of source.old.kept scanner.place) (fields_of source.old.kept scanner.given) (token_of token source.old.rest) }
     ensures within { IfSome result (IsWithin (length source.new.kept)) }
     ensures steps { IfSome result (λ s. StepsOver (token_size token) source.old source.new) }
 {
     let given = scanner.given;
     match (scanner.place, token) {
-        (Place::Between, Token::Word(length)) => {
+        (Place::Between, NextToken::Word(length)) => {
             let field = field_named(&source.rest()[..length])?;
             source.skip(length);
             Some(Scanner {
@@ -143,21 +143,21 @@ fn step(source: &mut Source, scanner: Scanner, token: Token) -> Option<Scanner>
                 given,
             })
         }
-        (Place::Named(field), Token::Open) => {
+        (Place::Named(field), NextToken::Open) => {
             source.skip(1);
             Some(Scanner {
                 place: Place::Inside(field, source.kept().len()),
                 given,
             })
         }
-        (Place::Inside(_, _), Token::Word(length)) => {
+        (Place::Inside(_, _), NextToken::Word(length)) => {
             if !are_digits(&source.rest()[..length]) {
                 return None;
             }
             source.keep(length);
             Some(scanner)
         }
-        (Place::Inside(field, from), Token::Close) => {
+        (Place::Inside(field, from), NextToken::Close) => {
             source.skip(1);
             let given = close(source, given, field, from)?;
             Some(Scanner {
@@ -171,9 +171,9 @@ fn step(source: &mut Source, scanner: Scanner, token: Token) -> Option<Scanner>
 
 /// The fields of a statement that come next, each at most once. Their digits are kept.
 pub(crate) fn fields(source: &mut Source) -> Option<Given>
-    ensures is { given_as source.new.kept result ≡ scan_from Between no_fields (marks_before (pieces_left source.old)) }
+    ensures is { given_as source.new.kept result ≡ scan_from Between no_fields (tokens_before_end (tokens_left source.old)) }
     ensures within { IfSome result (AreWithin (length source.new.kept)) }
-    ensures reads { IfSome result (λ g. ReadsOn source.old source.new) }
+    ensures reads_on { IfSome result (λ g. ReadsOn source.old source.new) }
 {
     let mut scanner = Scanner {
         place: Place::Between,

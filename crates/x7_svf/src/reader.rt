@@ -2,14 +2,14 @@
 ghost use Rattle.std.specs.Prelude.{◌≡◌, ◌<◌, ◌≤◌, ◌+◌, ◌*◌, true, false, length, take, IfSome, IsTrue, Option, Some, None};
 ghost use Rattle.std.specs.List.{list_all};
 ghost use Rattle.x7_svf.specs.Fields.{all_fit, digit_width, fits, scan_by, scan_if, scan_of, width};
-ghost use Rattle.x7_svf.specs.Token.{mark_of, token_size};
+ghost use Rattle.x7_svf.specs.Token.{token_of, token_size};
 ghost use Rattle.x7_svf.specs.Reading.{ReadsOn, StepsOver};
-ghost use Rattle.x7_svf.specs.Source.{pieces_left};
+ghost use Rattle.x7_svf.specs.Source.{tokens_left};
 ghost use Rattle.x7_svf.specs.Span.{AreWithin, StaysKept, bytes_in, digits_if, span_end_if, span_end, fields_of};
 ghost use Rattle.x7_svf.specs.Statement.{statement_by, statement_of};
 ghost use Rattle.x7_svf.specs.Stored.{IsStored};
-ghost use Rattle.x7_svf.specs.Svf.{first_statement, marks_before, pieces_after};
-ghost use Rattle.x7_svf.specs.Words.{is_free_mark, some_if, statement_if_words as if_words, words_of};
+ghost use Rattle.x7_svf.specs.Svf.{first_statement, tokens_before_end, tokens_after_end};
+ghost use Rattle.x7_svf.specs.Words.{is_free_token, some_if, statement_if_words as if_words, words_of};
 ghost use Rattle.x7_svf.specs.declared.statement.ScannedRegister.{ScannedRegister as Register};
 ghost use Rattle.x7_svf.specs.declared.statement.Statement.{Statement as StatementData};
 
@@ -19,27 +19,27 @@ use crate::source::Source;
 use crate::span::Span;
 use crate::statement::ScannedRegister;
 use crate::stored::{Stored, StoredScan};
-use crate::token::{Token, next_within, pass_end};
+use crate::token::{NextToken, next_within, pass_end};
 use crate::words::{Words, is_any_word, is_keyword, number, statement_said, with_one};
 
 /// The most bits of a scan.
 const MOST_BITS: u32 = 536_870_912;
 
 /// Whether a token that a text begins with may stand among any words.
-fn is_free_token(token: Token, text: &[u8]) -> bool
+fn is_free_token(token: NextToken, text: &[u8]) -> bool
     requires { token_size token ≤ length text.now }
-    ensures { result ≡ is_free_mark (mark_of token text.now) }
+    ensures { result ≡ is_free_token (token_of token text.now) }
 {
     match token {
-        Token::Word(length) => is_any_word(&text[..length]),
+        NextToken::Word(length) => is_any_word(&text[..length]),
         _ => true,
     }
 }
 
 /// Whether what comes next of a statement may stand among any words; it is passed.
 fn are_free(source: &mut Source) -> bool
-    ensures is { result ≡ list_all is_free_mark (marks_before (pieces_left source.old)) }
-    ensures reads { IsTrue result → ReadsOn source.old source.new }
+    ensures is { result ≡ list_all is_free_token (tokens_before_end (tokens_left source.old)) }
+    ensures reads_on { IsTrue result → ReadsOn source.old source.new }
 {
     while let Some(token) = next_within(source) {
         if !is_free_token(token, source.rest()) {
@@ -52,8 +52,8 @@ fn are_free(source: &mut Source) -> bool
 
 /// The statement of any words that come next, which are passed.
 fn free_statement(source: &mut Source) -> Option<Stored>
-    ensures is { IsStored source.new.kept result (some_if (list_all is_free_mark (marks_before (pieces_left source.old))) StatementData.Nothing) }
-    ensures reads { IfSome result (λ s. ReadsOn source.old source.new) }
+    ensures is { IsStored source.new.kept result (some_if (list_all is_free_token (tokens_before_end (tokens_left source.old))) StatementData.Nothing) }
+    ensures reads_on { IfSome result (λ s. ReadsOn source.old source.new) }
 {
     if are_free(source) {
         Some(Stored::Nothing)
@@ -77,12 +77,12 @@ fn keep_word(source: &mut Source, size: usize) -> Span
 /// What a keyword, which is kept, and the words that come next say. The words are kept too.
 fn words_statement(source: &mut Source, key: Span) -> Option<Stored>
     requires key { span_end key ≤ length source.old.kept }
-    ensures is { IsStored source.new.kept result (if_words (bytes_in source.old.kept key) (words_of (marks_before (pieces_left source.old)))) }
-    ensures reads { IfSome result (λ s. ReadsOn source.old source.new) }
+    ensures is { IsStored source.new.kept result (if_words (bytes_in source.old.kept key) (words_of (tokens_before_end (tokens_left source.old)))) }
+    ensures reads_on { IfSome result (λ s. ReadsOn source.old source.new) }
 {
     let mut words = Words::None;
     while let Some(token) = next_within(source) {
-        let Token::Word(size) = token else {
+        let NextToken::Word(size) = token else {
             return None;
         };
         let word = keep_word(source, size);
@@ -181,10 +181,10 @@ fn scan_of_fields(
 
 /// How many bits the scan has whose keyword was passed.
 fn scan_count(source: &mut Source) -> Option<u32>
-    ensures is { (register : Register) → scan_of register (marks_before (pieces_left source.old)) ≡ scan_if register result (marks_before (pieces_left source.new)) }
-    ensures reads { IfSome result (λ n. ReadsOn source.old source.new) }
+    ensures is { (register : Register) → scan_of register (tokens_before_end (tokens_left source.old)) ≡ scan_if register result (tokens_before_end (tokens_left source.new)) }
+    ensures reads_on { IfSome result (λ n. ReadsOn source.old source.new) }
 {
-    let Token::Word(length) = next_within(source)? else {
+    let NextToken::Word(length) = next_within(source)? else {
         return None;
     };
     let count = number(&source.rest()[..length], MOST_BITS)?;
@@ -197,8 +197,8 @@ fn scan_count(source: &mut Source) -> Option<u32>
 
 /// The scan whose keyword was passed. Its digits are kept.
 fn scan(source: &mut Source, register: ScannedRegister) -> Option<Stored>
-    ensures is { IsStored source.new.kept result (scan_of register (marks_before (pieces_left source.old))) }
-    ensures reads { IfSome result (λ s. ReadsOn source.old source.new) }
+    ensures is { IsStored source.new.kept result (scan_of register (tokens_before_end (tokens_left source.old))) }
+    ensures reads_on { IfSome result (λ s. ReadsOn source.old source.new) }
 {
     let count = scan_count(source)?;
     let given = fields(source)?;
@@ -208,8 +208,8 @@ fn scan(source: &mut Source, register: ScannedRegister) -> Option<Stored>
 /// What a keyword, which is kept, and what comes after it say.
 fn said_by(source: &mut Source, key: Span) -> Option<Stored>
     requires key { span_end key ≤ length source.old.kept }
-    ensures is { IsStored source.new.kept result (statement_by (bytes_in source.old.kept key) (marks_before (pieces_left source.old))) }
-    ensures reads { IfSome result (λ s. ReadsOn source.old source.new) }
+    ensures is { IsStored source.new.kept result (statement_by (bytes_in source.old.kept key) (tokens_before_end (tokens_left source.old))) }
+    ensures reads_on { IfSome result (λ s. ReadsOn source.old source.new) }
 {
     let word = key.of(source.kept());
     if is_keyword(word, b"SIR") {
@@ -226,11 +226,11 @@ fn said_by(source: &mut Source, key: Span) -> Option<Stored>
 
 /// The statement that comes next, up to its `;`. Its keyword, and the digits of a scan or the words of another, are kept.
 fn statement(source: &mut Source) -> Option<Stored>
-    ensures is { IsStored source.new.kept result (statement_of (marks_before (pieces_left source.old))) }
-    ensures reads { IfSome result (λ s. ReadsOn source.old source.new) }
+    ensures is { IsStored source.new.kept result (statement_of (tokens_before_end (tokens_left source.old))) }
+    ensures reads_on { IfSome result (λ s. ReadsOn source.old source.new) }
     ensures passed { IfSome result (λ s. length source.new.rest < length source.old.rest) }
 {
-    let Token::Word(size) = next_within(source)? else {
+    let NextToken::Word(size) = next_within(source)? else {
         return None;
     };
     let key = keep_word(source, size);
@@ -239,9 +239,9 @@ fn statement(source: &mut Source) -> Option<Stored>
 
 /// The statement that comes next, with its `;`.
 pub(crate) fn ended_statement(source: &mut Source) -> Option<Stored>
-    ensures is { IsStored source.new.kept result (first_statement (pieces_left source.old)) }
+    ensures is { IsStored source.new.kept result (first_statement (tokens_left source.old)) }
     ensures prefix { IfSome result (λ s. StaysKept source.old.kept source.new.kept) }
-    ensures after { IfSome result (λ s. pieces_after (pieces_left source.old) ≡ Some (pieces_left source.new)) }
+    ensures after_end { IfSome result (λ s. tokens_after_end (tokens_left source.old) ≡ Some (tokens_left source.new)) }
     ensures passed { IfSome result (λ s. length source.new.rest + 2 ≤ length source.old.rest) }
 {
     let one = statement(source)?;

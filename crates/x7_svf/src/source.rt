@@ -1,10 +1,10 @@
-//! A text that is read from its front, and the bytes that are kept of it.
+//! A text that is read from its first byte on, and the bytes that are kept of it.
 ghost use Rattle.std.specs.Prelude.{◌≡◌, ◌≤◌, ◌<◌, ◌^◌, ◌++◌, [], length, drop, take, slice_index, vec_len};
 ghost use Rattle.x7_svf.specs.Token.{line_after};
 
 use std::marker::Model;
 
-/// A text on its way. The bytes that are kept stand at its front, in the place of bytes that were read.
+/// A text on its way. The bytes that are kept stand where it began, in the place of bytes that were read.
 #[derive(Drop)]
 pub(crate) struct Source {
     text: Vec<u8>,
@@ -65,7 +65,7 @@ impl Source {
     /// The bytes that are kept.
     pub(crate) fn kept(&self) -> &[u8]
         ensures now { result.now ≡ self.now.kept }
-        ensures few { length result.now ≤ 2 ^ 29 }
+        ensures within_limit { length result.now ≤ 2 ^ 29 }
     {
         &self.text[..self.kept]
     }

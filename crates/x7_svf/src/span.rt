@@ -13,7 +13,7 @@ impl Span {
     /// The bytes from here up to there, both at most 2^29.
     pub(crate) fn new(from: usize, end: usize) -> Span
         requires order { from ≤ end }
-        requires few { end ≤ 2 ^ 29 }
+        requires within_limit { end ≤ 2 ^ 29 }
         ensures from { result.from ≡ from }
         ensures count { result.count ≡ end - from }
     {

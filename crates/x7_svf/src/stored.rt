@@ -21,11 +21,11 @@ pub(crate) enum Stored {
 /// A scan of this many bits.
 #[derive(Clone, Copy, Debug)]
 pub(crate) struct StoredScan {
-    pub register: ScannedRegister,
-    pub count: u32,
-    pub tdi: Span,
-    pub tdo: Option<Span>,
-    pub mask: Option<Span>,
+    pub(crate) register: ScannedRegister,
+    pub(crate) count: u32,
+    pub(crate) tdi: Span,
+    pub(crate) tdo: Option<Span>,
+    pub(crate) mask: Option<Span>,
 }
 
 /// The bits of a field that may be left out.

@@ -1,9 +1,9 @@
 //! The statements of a text.
 ghost use Rattle.std.specs.Prelude.{◌≡◌, ◌<◌, ◌≤◌, ◌*◌, ◌^◌, [], List, length, MatchResult, Some, None, IfOk, IfErr, Ok, Err, ◌⊎◌, vec_len};
 ghost use Rattle.std.specs.List.{slice_get};
-ghost use Rattle.x7_svf.specs.Source.{pieces_left};
+ghost use Rattle.x7_svf.specs.Source.{tokens_left};
 ghost use Rattle.x7_svf.specs.Stored.{AreStoredWithin, statements_in};
-ghost use Rattle.x7_svf.specs.Svf.{BeginWithOne, IsSvfOf, outcome, pieces_of};
+ghost use Rattle.x7_svf.specs.Svf.{BeginWithOne, IsSvfOf, outcome, tokens_of};
 ghost use Rattle.x7_svf.specs.declared.fault.SvfFault.{SvfFault as FaultData};
 
 use crate::comment::clean;
@@ -40,7 +40,7 @@ impl Svf {
     /// How many statements there are.
     pub fn len(&self) -> usize
         ensures len { result ≡ length self.now }
-        ensures few { result < 2 ^ 29 }
+        ensures under_limit { result < 2 ^ 29 }
     {
         self.statements.len()
     }
@@ -59,11 +59,11 @@ impl Svf {
 /// The statements of a text without comments. The digits of their scans are kept.
 fn statements(alloc: Global, source: &mut Source) -> Result<Vec<Stored>, SvfFault>
     requires none_kept { source.old.kept ≡ [] }
-    requires few { length source.old.rest ≤ 2 ^ 29 }
-    ensures says { MatchResult result (λ s. outcome (pieces_left source.old) ≡ Ok (statements_in source.new.kept s.items))
-        (λ fault. (fault ≡ FaultData.NoMemory) ⊎ (outcome (pieces_left source.old) ≡ Err fault)) }
-    ensures memory { IfErr result (λ fault. fault ≡ FaultData.NoMemory → BeginWithOne (pieces_left source.old)) }
-    ensures few { IfOk result (λ s. 2 * length s.items ≤ length source.old.rest) }
+    requires within_limit { length source.old.rest ≤ 2 ^ 29 }
+    ensures says { MatchResult result (λ s. outcome (tokens_left source.old) ≡ Ok (statements_in source.new.kept s.items))
+        (λ fault. (fault ≡ FaultData.NoMemory) ⊎ (outcome (tokens_left source.old) ≡ Err fault)) }
+    ensures memory { IfErr result (λ fault. fault ≡ FaultData.NoMemory → BeginWithOne (tokens_left source.old)) }
+    ensures two_bytes_each { IfOk result (λ s. 2 * length s.items ≤ length source.old.rest) }
     ensures within { IfOk result (λ s. AreStoredWithin (length source.new.kept) s.items) }
 {
     let mut out = Vec::new(alloc);
@@ -85,7 +85,7 @@ pub fn svf_from(alloc: Global, text: Vec<u8>) -> Result<Svf, SvfFault>
     requires { vec_len text ≤ 2 ^ 29 }
     ensures statements { IfOk result (λ svf. IsSvfOf text.items (Ok svf)) }
     ensures fault { IfErr result (λ fault. (fault ≡ FaultData.NoMemory) ⊎ IsSvfOf text.items (Err fault)) }
-    ensures memory { IfErr result (λ fault. fault ≡ FaultData.NoMemory → BeginWithOne (pieces_of text.items)) }
+    ensures memory { IfErr result (λ fault. fault ≡ FaultData.NoMemory → BeginWithOne (tokens_of text.items)) }
 {
     let mut text = text;
     clean(&mut text);

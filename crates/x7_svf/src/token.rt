@@ -1,28 +1,28 @@
 //! The next word, bracket or end of a text without comments.
 ghost use Rattle.std.specs.Prelude.{◌≡◌, ◌+◌, ◌<◌, ◌≤◌, ◌∷◌, [], ℕ, List, true, false, length, MatchOption, IfSome, Some, None, slice_index, drop, take};
-ghost use Rattle.x7_svf.specs.Token.{byte_mark, is_blank_byte, is_word_byte, mark_of, pieces, token_size, Word};
+ghost use Rattle.x7_svf.specs.Token.{byte_token, is_blank_byte, is_word_byte, token_of, tokens, token_size, Word};
 ghost use Rattle.x7_svf.specs.Reading.{ComesNext, PassesBlanks};
-ghost use Rattle.x7_svf.specs.Source.{left_after, left_from, pieces_left};
-ghost use Rattle.x7_svf.specs.Svf.{marks_before, pieces_after};
+ghost use Rattle.x7_svf.specs.Source.{left_after, left_from, tokens_left};
+ghost use Rattle.x7_svf.specs.Svf.{tokens_before_end, tokens_after_end};
 
 use crate::source::Source;
 
-/// A word, of this many bytes, a bracket or the end of a statement.
+/// The token that a text begins with: a word of this many bytes, a bracket or the end of a statement.
 #[derive(Clone, Copy)]
-pub(crate) enum Token {
+pub(crate) enum NextToken {
     Word(usize),
     Open,
     Close,
     End,
 }
 
-impl Token {
+impl NextToken {
     /// How many bytes the token has.
     pub(crate) fn size(self) -> usize
         ensures { result ≡ token_size self }
     {
         match self {
-            Token::Word(length) => length,
+            NextToken::Word(length) => length,
             _ => 1,
         }
     }
@@ -40,7 +40,7 @@ fn is_in_word(byte: u8) -> bool
 /// How many bytes the word has that a text begins with.
 fn word_length(text: &[u8]) -> usize
     ensures within { result ≤ length text.now }
-    ensures first { (line : ℕ) → 0 < result → pieces line text.now ≡ record { line = line; mark = Word (take result text.now) } ∷ pieces line (drop result text.now) }
+    ensures first { (line : ℕ) → 0 < result → tokens line text.now ≡ record { line = line; token = Word (take result text.now) } ∷ tokens line (drop result text.now) }
     ensures none { result ≡ 0 → 0 < length text.now → is_word_byte (slice_index text.now 0) ≡ false }
 {
     let mut end = 0;
@@ -58,49 +58,49 @@ fn is_between(byte: u8) -> bool
 }
 
 /// The bracket or end that a byte is.
-fn token_of(byte: u8) -> Token
-    ensures mark { (text : List ℕ) → mark_of result text ≡ byte_mark byte }
+fn bracket_or_end(byte: u8) -> NextToken
+    ensures token { (text : List ℕ) → token_of result text ≡ byte_token byte }
     ensures size { token_size result ≡ 1 }
 {
     if byte == b'(' {
-        Token::Open
+        NextToken::Open
     } else if byte == b')' {
-        Token::Close
+        NextToken::Close
     } else {
-        Token::End
+        NextToken::End
     }
 }
 
-/// The first piece of a text that begins with no blank.
-fn first(text: &[u8]) -> Token
+/// The token that a text begins with, which begins with no blank.
+fn first(text: &[u8]) -> NextToken
     requires some { 0 < length text.now }
     requires begins { is_blank_byte (slice_index text.now 0) ≡ false }
-    ensures is { (line : ℕ) → pieces line text.now ≡ record { line = line; mark = mark_of result text.now } ∷ pieces line (drop (token_size result) text.now) }
+    ensures is { (line : ℕ) → tokens line text.now ≡ record { line = line; token = token_of result text.now } ∷ tokens line (drop (token_size result) text.now) }
     ensures some { 0 < token_size result }
     ensures within { token_size result ≤ length text.now }
 {
     let end = word_length(text);
     if end > 0 {
-        return Token::Word(end);
+        return NextToken::Word(end);
     }
-    token_of(text[0])
+    bracket_or_end(text[0])
 }
 
 /// Passes the blanks that come next.
 fn skip_blanks(source: &mut Source)
     ensures blanks { PassesBlanks source.old source.new }
-    ensures stop { 0 < length source.new.rest → is_blank_byte (slice_index source.new.rest 0) ≡ false }
+    ensures no_blank { 0 < length source.new.rest → is_blank_byte (slice_index source.new.rest 0) ≡ false }
 {
     while !source.rest().is_empty() && is_between(source.rest()[0]) {
         source.pass();
     }
 }
 
-/// The piece that comes next, after blanks, which are passed; none where the text ends.
-pub(crate) fn next(source: &mut Source) -> Option<Token>
-    ensures is { MatchOption result (pieces_left source.old ≡ [])
-        (λ t. pieces_left source.old ≡ left_from source.new t) }
-    ensures next { IfSome result (ComesNext source.new) }
+/// The token that comes next, after blanks, which are passed; none where the text ends.
+pub(crate) fn next(source: &mut Source) -> Option<NextToken>
+    ensures is { MatchOption result (tokens_left source.old ≡ [])
+        (λ t. tokens_left source.old ≡ left_from source.new t) }
+    ensures comes_next { IfSome result (ComesNext source.new) }
     ensures blanks { PassesBlanks source.old source.new }
 {
     skip_blanks(source);
@@ -113,31 +113,31 @@ pub(crate) fn next(source: &mut Source) -> Option<Token>
 
 /// The word or bracket of a statement that comes next, after blanks, which are passed; none where the statement, or the text,
 /// ends.
-pub(crate) fn next_within(source: &mut Source) -> Option<Token>
-    ensures is { MatchOption result (marks_before (pieces_left source.old) ≡ [])
-        (λ t. marks_before (pieces_left source.old) ≡ mark_of t source.new.rest ∷ marks_before (left_after source.new t)) }
-    ensures goes_on { IfSome result (λ t. pieces_after (pieces_left source.old) ≡ pieces_after (left_after source.new t)) }
-    ensures next { IfSome result (ComesNext source.new) }
+pub(crate) fn next_within(source: &mut Source) -> Option<NextToken>
+    ensures is { MatchOption result (tokens_before_end (tokens_left source.old) ≡ [])
+        (λ t. tokens_before_end (tokens_left source.old) ≡ token_of t source.new.rest ∷ tokens_before_end (left_after source.new t)) }
+    ensures after_end { IfSome result (λ t. tokens_after_end (tokens_left source.old) ≡ tokens_after_end (left_after source.new t)) }
+    ensures comes_next { IfSome result (ComesNext source.new) }
     ensures blanks { PassesBlanks source.old source.new }
 {
     let token = next(source)?;
     match token {
-        Token::End => None,
+        NextToken::End => None,
         _ => Some(token),
     }
 }
 
 /// Passes the rest of a statement with its `;`; false where there is none.
 pub(crate) fn pass_end(source: &mut Source) -> bool
-    ensures found { result ≡ true → pieces_after (pieces_left source.old) ≡ Some (pieces_left source.new) }
-    ensures none { result ≡ false → pieces_after (pieces_left source.old) ≡ None }
+    ensures found { result ≡ true → tokens_after_end (tokens_left source.old) ≡ Some (tokens_left source.new) }
+    ensures none { result ≡ false → tokens_after_end (tokens_left source.old) ≡ None }
     ensures kept { source.new.kept ≡ source.old.kept }
     ensures passed { result ≡ true → length source.new.rest + 1 ≤ length source.old.rest }
 {
     while let Some(token) = next(source) {
         source.skip(token.size());
         match token {
-            Token::End => return true,
+            NextToken::End => return true,
             _ => (),
         }
     }

@@ -226,8 +226,8 @@ pub(crate) enum Words {
 
 /// One word more, where there are fewer than four.
 pub(crate) fn with_one(words: Words, word: Span) -> Option<Words>
-    ensures more { (kept : List ℕ) → IfSome result (λ r. words_kept kept r ≡ words_kept kept words ++ bytes_in kept word ∷ []) }
-    ensures four { (kept : List ℕ) → IfNone result (length (words_kept kept words) ≡ 4) }
+    ensures one_more { (kept : List ℕ) → IfSome result (λ r. words_kept kept r ≡ words_kept kept words ++ bytes_in kept word ∷ []) }
+    ensures full_at_four { (kept : List ℕ) → IfNone result (length (words_kept kept words) ≡ 4) }
     ensures within { (n : ℕ) → AreWordsWithin n words → span_end word ≤ n → IfSome result (AreWordsWithin n) }
 {
     match words {

@@ -7,7 +7,7 @@ use Rattle.x7_update.specs.Layout.{HasLayout, HasSlots, IsOpen, IsFree, IsNextFr
 use Rattle.x7_update.specs.After.{ClosesTo, already, spends, IsAfter, IsBetween, MayBeLeft, untouched, between, after, switched, with_stream}
 use Rattle.x7_update.specs.Writing.{AtAnyMoment, ClosingSlot, HasWanted, KeepsBelow, OnlySwitch, OpeningSlot, Replaced, ReplacingUpdate}
 use Rattle.x7_update.specs.Slots.{Finds}
-use Rattle.x7_update.specs.declared.slots.Target.{Target}
+use Rattle.x7_update.specs.declared.slots.UpdateTarget.{UpdateTarget}
 use Rattle.x7_update.proofs.StreamLemmas.{length_with_stream, with_stream_below, with_stream_wanted}
 use Rattle.x7_update.proofs.SwitchLemmas.{length_switched, switched_others, switch_switched, switch_other}
 use Rattle.x7_update.proofs.KnownLemmas.{known_map}
@@ -57,7 +57,7 @@ between_closing size slot all found has h is only = record {
   where
     closed : (other : ℕ) → other < 2048 → IsOpen found other → ⊥
     closed other k o = elim (cases_eq other slot) [
-      | inl same ↦ only.shut (subst (λ n. IsOpen found n) same o)
+      | inl same ↦ only.not_open (subst (λ n. IsOpen found n) same o)
       | inr n ↦ n (has.one_open other slot k h (sym (only_other slot other all found n only) ∙ o) is)
     ]
 
@@ -66,7 +66,7 @@ pub only_spent : (slot : ℕ) (all : List ℕ) → 32 * slot + 4 ≤ length all 
 only_spent slot all within = record {
   size = length_switched slot spent_switch all refl within;
   others = switched_others slot spent_switch all refl within;
-  shut = λ o. open_not_spent (sym (switch_switched slot 0 0 0 0 all within) ∙ o);
+  not_open = λ o. open_not_spent (sym (switch_switched slot 0 0 0 0 all within) ∙ o);
 }
 
 pub between_closed : (all closed : List ℕ) → HasSlots (length all) all → ClosesTo all closed → IsBetween all closed
@@ -100,13 +100,13 @@ between_opening slot all mid found b next only = record {
   where
     closed : (other : ℕ) → other < 2048 → IsOpen found other → ⊥
     closed other k o = elim (cases_eq other slot) [
-      | inl same ↦ only.shut (subst (λ n. IsOpen found n) same o)
+      | inl same ↦ only.not_open (subst (λ n. IsOpen found n) same o)
       | inr n ↦ b.closed other k (sym (only_other slot other mid found n only) ∙ o)
     ]
 
 -- a free slot that nothing has opened as yet
 pub opening_none : (slot : ℕ) (all : List ℕ) → IsFree all slot → OpeningSlot slot all all
-opening_none slot all free = inr (record { size = refl; others = λ i h. refl; shut = λ o. open_not_free all slot o free })
+opening_none slot all free = inr (record { size = refl; others = λ i h. refl; not_open = λ o. open_not_free all slot o free })
 
 -- known bytes whose free slot was opened have an open slot
 pub opened_is_open : (known new : Option (List ℕ)) (slot : ℕ) → new ≡ option_map (switched slot open_switch) known → IfKnown known (λ all. 32 * slot + 4 ≤ length all) → IfKnown new (λ all. IsOpen all slot)
@@ -127,7 +127,7 @@ next_free next all closed found has n closes keeps =
 
 -- ---- the steps, by the slots that were found
 
-module _ (all : List ℕ) (target : Target) (finds : Finds (length all) all target) where
+module _ (all : List ℕ) (target : UpdateTarget) (finds : Finds (length all) all target) where
   layout : HasLayout all
   layout = record { size = finds.sized; slots = finds.has }
 

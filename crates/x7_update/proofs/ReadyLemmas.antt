@@ -3,7 +3,7 @@ use Rattle.std.proofs.Common.{◌≡◌, ℕ, ◌+◌, ◌-◌, ◌*◌, ◌≤�
 use Rattle.std.proofs.lemmas.Bool.{cases_lt}
 use Rattle.x7_words.specs.Flash.{FlashState, IfKnown, Sees}
 use Rattle.x7_update.specs.After.{IsAfter, IsBetween, with_stream}
-use Rattle.x7_update.specs.Layout.{CanStandAt, HasLayout, HasSize, IsClosed, IsNextFreeSlot, IsOpen, open_switch, switch_of, update_place}
+use Rattle.x7_update.specs.Layout.{CanStandAt, HasLayout, HasSize, HasNoOpenSlot, IsNextFreeSlot, IsOpen, open_switch, switch_of, update_place}
 use Rattle.x7_update.specs.ReadBack.{AllReadBack, ReadBack, WasReady}
 use Rattle.x7_update.specs.Slots.{Finds, IsFound, TargetFits}
 use Rattle.x7_update.specs.Writing.{CanReadBack, HasWanted, ReadsWanted, ReadsWantedTo, ReplacingUpdate, SeesWanted, wanted_at}
@@ -11,7 +11,7 @@ use Rattle.x7_update.proofs.CaseLemmas.{between_below, between_closed, open_not_
 use Rattle.x7_update.proofs.StreamLemmas.{wanted_inside}
 use Rattle.x7_update.proofs.SwitchLemmas.{switch_switched}
 use Rattle.x7_update.proofs.KnownLemmas.{known_map}
-use Rattle.x7_update.specs.declared.slots.Target.{Target}
+use Rattle.x7_update.specs.declared.slots.UpdateTarget.{UpdateTarget}
 
 -- ---- what is seen
 
@@ -47,7 +47,7 @@ pub sees_up_to : (update : ℕ) (stream : List ℕ) (from to end : ℕ) (state :
 sees_up_to update stream from to end state within had place l h = had place l (omega (arith, within, h))
 
 -- where an update goes is found as well after reads
-pub still_found : (old new : FlashState) (target : Target) → new.attached ≡ old.attached → new.extent ≡ old.extent → new.bytes ≡ old.bytes → IsFound old target → IsFound new target
+pub still_found : (old new : FlashState) (target : UpdateTarget) → new.attached ≡ old.attached → new.extent ≡ old.extent → new.bytes ≡ old.bytes → IsFound old target → IsFound new target
 still_found old new target attached size bytes found = record {
   attached = attached ∙ found.attached;
   fits = subst (λ n. TargetFits n target) (sym size) found.fits;
@@ -67,16 +67,16 @@ still_read_back old new update stream buffer after attached size bytes long can 
 
 -- what was seen before a write
 pub was_ready : {F : Type 0} (state : F → FlashState) (update : ℕ) (stream : List ℕ) (old new : FlashState) (ready : F) → new.extent ≡ old.extent → SeesWanted update stream update old.extent (state ready)
-    → (state ready).bytes ≡ old.bytes → IfKnown old.bytes IsClosed → new.moments ≤ (state ready).moments + 1 → WasReady state update stream new
+    → (state ready).bytes ≡ old.bytes → IfKnown old.bytes HasNoOpenSlot → new.moments ≤ (state ready).moments + 1 → WasReady state update stream new
 was_ready state update stream old new ready size seen same closed last = record {
   ready = ready;
   seen = subst (λ n. SeesWanted update stream update n (state ready)) (sym size) seen;
-  closed = subst (λ (o : Option (List ℕ)). IfKnown o IsClosed) (sym same) closed;
+  closed = subst (λ (o : Option (List ℕ)). IfKnown o HasNoOpenSlot) (sym same) closed;
   last = last;
 }
 
 -- what was read back of the slots of the flash
-module _ {F : Type 0} (state : F → FlashState) (stream : List ℕ) (old new : FlashState) (target : Target) where
+module _ {F : Type 0} (state : F → FlashState) (stream : List ℕ) (old new : FlashState) (target : UpdateTarget) where
   pub read_back : TargetFits new.extent target → IfKnown old.bytes (λ all. Finds (length all) all target) → WasReady state target.place stream new → ReadBack state stream old new
   read_back fits finds was = record {
     update = target.place;

@@ -5,7 +5,7 @@ use Rattle.x7_update.specs.Layout.{CanStandAt, HasSize, IsFree, IsOpen, LeadsToU
 use Rattle.x7_update.specs.Fault.{BeginsWell, IsGoodSlot, NoLayoutAt, OpensAgain, last_taken}
 use Rattle.x7_update.specs.Slots.{Finds, OpenAmong, SoFar, TargetFits, WithinSlots}
 use Rattle.x7_update.specs.declared.slots.Slots.{Slots}
-use Rattle.x7_update.specs.declared.slots.Target.{Target}
+use Rattle.x7_update.specs.declared.slots.UpdateTarget.{UpdateTarget}
 
 -- what holds of the slots before one and of it
 up_to : (P : ℕ → Type 0) (count : ℕ) → ((k : ℕ) → k < count → P k) → P count → (k : ℕ) → k < count + 1 → P k
@@ -48,7 +48,7 @@ pub so_far_good : (first : List ℕ) (count : ℕ) (slots : Slots) → SoFar fir
 so_far_good first count slots so slot h = (so.leads slot h, so.once slot h)
 
 -- all slots are good
-pub all_found : (size : ℕ) (first : List ℕ) (target : Target) → HasSize size → CanStandAt size (update_place first) → SoFar first 2048 target.slots → target.slots.next < 2048 → target.place ≡ update_place first → Finds size first target
+pub all_found : (size : ℕ) (first : List ℕ) (target : UpdateTarget) → HasSize size → CanStandAt size (update_place first) → SoFar first 2048 target.slots → target.slots.next < 2048 → target.place ≡ update_place first → Finds size first target
 all_found size first target sized place so some is = record {
   sized = sized;
   has = record { place = place; leads = so.leads; one_open = one_open; last_free = so.free 2047 (omega arith) (omega arith) };
@@ -77,7 +77,7 @@ within_slots first None o = tt
 within_slots first (Some slot) o = o.0
 
 -- where an update goes is within the flash
-pub target_fits : (size : ℕ) (first : List ℕ) (target : Target) → Finds size first target → TargetFits size target
+pub target_fits : (size : ℕ) (first : List ℕ) (target : UpdateTarget) → Finds size first target → TargetFits size target
 target_fits size first target f = record {
   sized = f.sized;
   place = subst (λ u. CanStandAt size u) (sym f.update) f.has.place;

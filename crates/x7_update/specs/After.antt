@@ -3,7 +3,7 @@ use Rattle.std.specs.Prelude.{◌≡◌, ℕ, ◌+◌, ◌-◌, ◌*◌, ◌%◌
 use Rattle.x7_words.specs.Flash.{replaced}
 use Rattle.x7_words.specs.Word.{AreBytes}
 use Rattle.x7_packets.specs.FlashSlot.{sector_bytes, slot_count}
-use Rattle.x7_update.specs.Layout.{HasLayout, IsClosed, IsNextFreeSlot, IsOpen, open_switch, spent_switch, switch_of, update_place}
+use Rattle.x7_update.specs.Layout.{HasLayout, HasNoOpenSlot, IsNextFreeSlot, IsOpen, open_switch, spent_switch, switch_of, update_place}
 
 -- the flash with this switch word in a slot
 abbrev pub switched : ℕ → List ℕ → List ℕ → List ℕ
@@ -15,7 +15,7 @@ with_stream place stream flash = take place flash ++ (stream ++ replicate (lengt
 
 -- the flash with its open slot spent, if it has one
 pub data ClosesTo (flash closed : List ℕ) : Type 0 where
-  already : IsClosed flash → closed ≡ flash → ClosesTo flash closed
+  already : HasNoOpenSlot flash → closed ≡ flash → ClosesTo flash closed
   spends : (slot : ℕ) → slot < slot_count → IsOpen flash slot → closed ≡ switched slot spent_switch flash → ClosesTo flash closed
 
 -- The flash after an update with a stream: its open slot is spent, the stream stands at U with FF after it, and the first slot
@@ -33,7 +33,7 @@ pub record IsAfter (stream flash after : List ℕ) : Type 0 where
 pub record IsBetween (flash found : List ℕ) : Type 0 where
   pub size : length found ≡ length flash
   pub slots : (i : ℕ) → i < sector_bytes → 4 ≤ i % 32 → get_or found i 0 ≡ get_or flash i 0
-  pub closed : IsClosed found
+  pub closed : HasNoOpenSlot found
   pub switches : (slot : ℕ) → slot < slot_count → (IsOpen flash slot → ⊥) → (IsNextFreeSlot flash slot → ⊥) → switch_of found slot ≡ switch_of flash slot
   pub golden : (i : ℕ) → sector_bytes ≤ i → i < update_place flash → get_or found i 0 ≡ get_or flash i 0
 

@@ -2,7 +2,7 @@
 use Rattle.std.specs.Prelude.{◌≡◌, ◌≢◌, ℕ, ◌+◌, ◌-◌, ◌*◌, ◌<◌, ◌≤◌, ◌⊎◌, true, false, List, length, get_or, None, Some}
 use Rattle.x7_words.specs.Flash.{FlashFails, FlashState, IfKnown, WriteFails}
 use Rattle.x7_packets.specs.FlashSlot.{slot_count}
-use Rattle.x7_update.specs.Layout.{CanStandAt, HasLayout, HasSize, IsFree, IsOpen, LeadsToUpdate, first_slot, update_place}
+use Rattle.x7_update.specs.Layout.{CanStandAt, HasLayout, HasSize, IsFree, IsOpen, LeadsToUpdate, first_slot, start_place, update_place}
 use Rattle.x7_update.specs.Writing.{IsFirstRead, IsReadWrong}
 use Rattle.x7_update.specs.declared.fault.UpdateFault.{UpdateFault}
 use Rattle.x7_update.specs.declared.fault.UpdateFault.TheVariants.{Differs, Failed, NoLayout, NoMemory, TooLong}
@@ -38,12 +38,12 @@ pub record BeginsWell (size : ℕ) (flash : List ℕ) : Type 0 where
   pub place : CanStandAt size (update_place flash)
 
 -- The place at which a flash of a size has no layout. The first of these lines that holds gives it: the size is bad (the size); the
--- first slot differs (there); U is no place for an update (12); a further slot is bad, the slots in their order; the last slot
+-- first slot differs (there); U is no place for an update (where the first slot has it); a further slot is bad, the slots in their order; the last slot
 -- isn't free (its place).
 pub data NoLayoutAt (size : ℕ) (flash : List ℕ) (place : ℕ) : Type 0 where
   bad_size : (HasSize size → ⊥) → place ≡ size → NoLayoutAt size flash place
   bad_first : HasSize size → DiffersAt flash 0 place → NoLayoutAt size flash place
-  bad_place : HasSize size → LeadsToUpdate flash 0 → (CanStandAt size (update_place flash) → ⊥) → place ≡ 12 → NoLayoutAt size flash place
+  bad_place : HasSize size → LeadsToUpdate flash 0 → (CanStandAt size (update_place flash) → ⊥) → place ≡ start_place → NoLayoutAt size flash place
   bad_slot : BeginsWell size flash → (slot : ℕ) → slot < slot_count → ((earlier : ℕ) → earlier < slot → IsGoodSlot flash earlier)
       → IsBadSlotAt flash slot place → NoLayoutAt size flash place
   last_taken : BeginsWell size flash → ((slot : ℕ) → slot < slot_count → IsGoodSlot flash slot) → (IsFree flash (slot_count - 1) → ⊥) → place ≡ 32 * (slot_count - 1)
@@ -59,17 +59,21 @@ pub record CanTake (stream flash : List ℕ) : Type 0 where
   pub layout : HasLayout flash
   pub fits : update_place flash + length stream ≤ length flash
 
--- Each refusal has its cause. A write or a read failed: its count has risen, the flash's size is good, and known bytes were written only where the stream
--- fits. The stream doesn't fit into known bytes, or these have no layout. A byte that was read at the place, with no write since, is another than the one
--- written there, only where the bytes aren't known; of the stream and FF after it, or of the switch word, each byte before it was read as it was written, with
--- no write since. Want of memory has no cause.
+-- the cause of each refusal
 abbrev pub HasCause : List ℕ → FlashState → FlashState → UpdateFault → Type 0
+-- a write failed: its count has risen, the flash's size is good, and known bytes were written only where the stream fits
 HasCause stream old new (Failed true) = WriteFails old new × HasSize new.extent × IfKnown old.bytes (CanTake stream)
+-- a read failed: its count has risen, and the flash's size is good
 HasCause stream old new (Failed false) = FlashFails old new × HasSize new.extent
+-- known bytes have a layout in which the stream doesn't fit
 HasCause stream old new TooLong = IfKnown old.bytes (IsTooLong stream)
+-- known bytes have no layout, as the place shows
 HasCause stream old new (NoLayout place) = IfKnown old.bytes (λ flash. NoLayoutAt (length flash) flash place)
+-- The bytes aren't known. A byte that was read at the place, with no write since, is another than the one written there, and the first that is: of the stream and
+-- FF after it, or of the switch word, each byte before it was read as it was written, with no write since.
 HasCause stream old new (Differs place wrote read) =
     (wrong : IsReadWrong new.extent stream place wrote read) × (old.bytes ≡ None) × IsFirstRead new wrong.from wrong.piece place read
+-- want of memory has no cause
 HasCause stream old new NoMemory = Unit {0}
 
 -- a refusal for this fault comes before the first write

@@ -32,13 +32,17 @@ free_switch = 0xFF ∷ 0xFF ∷ 0xFF ∷ 0xFF ∷ []
 abbrev pub spent_switch : List ℕ
 spent_switch = 0 ∷ 0 ∷ 0 ∷ 0 ∷ []
 
+-- where in a slot its start address stands
+abbrev pub start_place : ℕ
+start_place = 12
+
 -- U, which is the start address of the first slot
 abbrev pub update_place : List ℕ → ℕ
-update_place flash = word_of_bytes (four_at flash 12)
+update_place flash = word_of_bytes (four_at flash start_place)
 
 -- the 32 bytes that the first slot has to have, and each other one after its switch word
 abbrev pub first_slot : List ℕ → List ℕ
-first_slot flash = flash_slot open_switch (four_at flash 12)
+first_slot flash = flash_slot open_switch (four_at flash start_place)
 
 -- the flash is whole sectors, two at least, and not too large
 pub record HasSize (size : ℕ) : Type 0 where
@@ -77,8 +81,8 @@ pub record HasLayout (flash : List ℕ) : Type 0 where
   pub slots : HasSlots (length flash) flash
 
 -- no slot is open
-abbrev pub IsClosed : List ℕ → Type 0
-IsClosed flash = (slot : ℕ) → slot < slot_count → switch_of flash slot ≢ open_switch
+abbrev pub HasNoOpenSlot : List ℕ → Type 0
+HasNoOpenSlot flash = (slot : ℕ) → slot < slot_count → switch_of flash slot ≢ open_switch
 
 -- the first slot from which on all are free
 pub record IsNextFreeSlot (flash : List ℕ) (next : ℕ) : Type 0 where

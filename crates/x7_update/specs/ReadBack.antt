@@ -3,7 +3,7 @@ use Rattle.std.specs.Prelude.{◌≡◌, ℕ, ◌+◌, ◌*◌, ◌<◌, ◌≤�
 use Rattle.x7_words.specs.Flash.{FlashState, IfKnown, Sees}
 use Rattle.x7_packets.specs.FlashSlot.{slot_count}
 use Rattle.x7_update.specs.After.{IsAfter}
-use Rattle.x7_update.specs.Layout.{CanStandAt, HasLayout, IsClosed, IsNextFreeSlot, open_switch, update_place}
+use Rattle.x7_update.specs.Layout.{CanStandAt, HasLayout, HasNoOpenSlot, IsNextFreeSlot, open_switch, update_place}
 use Rattle.x7_update.specs.Writing.{SeesWanted}
 
 module _ {F : Type 0} (state : F → FlashState) where
@@ -12,7 +12,7 @@ module _ {F : Type 0} (state : F → FlashState) where
   pub record WasReady (update : ℕ) (stream : List ℕ) (new : FlashState) : Type 0 where
     pub ready : F
     pub seen : SeesWanted update stream update new.extent (state ready)
-    pub closed : IfKnown (state ready).bytes IsClosed
+    pub closed : IfKnown (state ready).bytes HasNoOpenSlot
     pub last : new.moments ≤ (state ready).moments + 1
 
   -- all of an update with a stream was read back, and no slot was open as yet

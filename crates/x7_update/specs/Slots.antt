@@ -5,7 +5,7 @@ use Rattle.x7_packets.specs.FlashSlot.{sector_bytes, slot_count}
 use Rattle.x7_update.specs.Layout.{CanStandAt, HasSize, HasSlots, IsFree, IsNextFreeSlot, IsOpen, LeadsToUpdate, first_slot, free_switch, open_switch, switch_of, update_place}
 use Rattle.x7_update.specs.Fault.{OpensAgain}
 use Rattle.x7_update.specs.declared.slots.Slots.{Slots}
-use Rattle.x7_update.specs.declared.slots.Target.{Target}
+use Rattle.x7_update.specs.declared.slots.UpdateTarget.{UpdateTarget}
 
 -- the bytes are those of a sector, and this is what each of its slots has to be after its switch word
 pub record HasFirstSlot (first wanted : List ℕ) : Type 0 where
@@ -27,7 +27,7 @@ pub record SoFar (flash : List ℕ) (count : ℕ) (slots : Slots) : Type 0 where
   pub first : (slot : ℕ) → suc slot ≡ slots.next → switch_of flash slot ≢ free_switch
 
 -- an update of a flash of this size goes here: the first sector is slots of a layout, with this U, this open slot or none, and this next one
-pub record Finds (size : ℕ) (flash : List ℕ) (target : Target) : Type 0 where
+pub record Finds (size : ℕ) (flash : List ℕ) (target : UpdateTarget) : Type 0 where
   pub sized : HasSize size
   pub has : HasSlots size flash
   pub update : target.place ≡ update_place flash
@@ -40,14 +40,14 @@ WithinSlots None = Unit {0}
 WithinSlots (Some slot) = slot < slot_count
 
 -- the update's place and the slots are within a flash of a size
-pub record TargetFits (size : ℕ) (target : Target) : Type 0 where
+pub record TargetFits (size : ℕ) (target : UpdateTarget) : Type 0 where
   pub sized : HasSize size
   pub place : CanStandAt size target.place
   pub next : target.slots.next < slot_count
   pub opens : WithinSlots target.slots.opened
 
 -- a flash is attached, and this is where its update goes, by its bytes where these are known
-pub record IsFound (state : FlashState) (target : Target) : Type 0 where
+pub record IsFound (state : FlashState) (target : UpdateTarget) : Type 0 where
   pub attached : state.attached ≡ true
   pub fits : TargetFits state.extent target
   pub finds : IfKnown state.bytes (λ all. Finds (length all) all target)

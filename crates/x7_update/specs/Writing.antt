@@ -73,13 +73,13 @@ pub record ErasedTo (place end : ℕ) (old now : List ℕ) : Type 0 where
 pub record OnlySwitch (slot : ℕ) (old found : List ℕ) : Type 0 where
   pub size : length found ≡ length old
   pub others : (i : ℕ) → (i < 32 * slot) ⊎ (32 * slot + 4 ≤ i) → get_or found i 0 ≡ get_or old i 0
-  pub shut : switch_of found slot ≢ open_switch
+  pub not_open : switch_of found slot ≢ open_switch
 
--- while an open slot is closed nothing has changed, or the slot is shut
+-- while an open slot is closed nothing has changed, or the slot isn't open
 abbrev pub ClosingSlot : ℕ → List ℕ → List ℕ → Type 0
 ClosingSlot slot old found = (found ≡ old) ⊎ OnlySwitch slot old found
 
--- while a free slot is opened the slot is shut, or open
+-- while a free slot is opened the slot is open, and nothing else has changed, or it isn't open yet
 abbrev pub OpeningSlot : ℕ → List ℕ → List ℕ → Type 0
 OpeningSlot slot old found = (found ≡ switched slot open_switch old) ⊎ OnlySwitch slot old found
 

@@ -14,6 +14,9 @@ pub(crate) const FREE: [u8; 4] = [0xFF; 4];
 /// Zeros: a slot with them is spent.
 pub(crate) const SPENT: [u8; 4] = [0; 4];
 
+/// Where in a slot its start address stands.
+pub(crate) const START_PLACE: usize = 12;
+
 /// The four bytes from a place on.
 pub(crate) fn four_at(first: &[u8], place: usize) -> [u8; 4]
     requires { place + 4 ≤ length first.now }
@@ -32,7 +35,7 @@ pub(crate) fn first_slot(first: &[u8]) -> [u8; 32]
     requires { 16 ≤ length first.now }
     ensures { result ≡ first_slot first.now }
 {
-    flash_slot(OPEN, four_at(first, 12))
+    flash_slot(OPEN, four_at(first, START_PLACE))
 }
 
 /// Whether a flash of this size can be updated.

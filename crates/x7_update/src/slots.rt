@@ -7,7 +7,7 @@ ghost use Rattle.x7_update.specs.Fault.{DiffersAt, HasCause, IsBadSlotAt, IsGood
 ghost use Rattle.x7_update.specs.Slots.{Finds, HasFirstSlot, IsFound, SoFar};
 
 use crate::fault::UpdateFault;
-use crate::layout::{FREE, OPEN, can_stand, first_slot, four_at, has_size};
+use crate::layout::{FREE, OPEN, START_PLACE, can_stand, first_slot, four_at, has_size};
 use x7_packets::SLOT_COUNT;
 use x7_words::{Flash, is_same, word_of};
 
@@ -15,18 +15,18 @@ use x7_words::{Flash, is_same, word_of};
 #[derive(Clone, Copy, Drop)]
 pub(crate) struct Slots {
     /// The number of the open slot.
-    pub opened: Option<u64>,
+    pub(crate) opened: Option<u64>,
     /// The number of the first slot from which on all are free.
-    pub next: u64,
+    pub(crate) next: u64,
 }
 
 /// Where an update goes, and by which slots.
 #[derive(Clone, Copy, Drop)]
-pub(crate) struct Target {
+pub(crate) struct UpdateTarget {
     /// The update's place, in bytes.
-    pub place: u64,
+    pub(crate) place: u64,
     /// The open slot and the next one.
-    pub slots: Slots,
+    pub(crate) slots: Slots,
 }
 
 /// The first place of a slot, after its switch word, at which the slot differs from what it has to be.
@@ -94,7 +94,7 @@ fn take_slots(first: &[u8], wanted: &[u8; 32]) -> Result<Slots, u64>
 }
 
 /// Where an update goes in a flash of a size, by its first sector, or the place at which there is no layout.
-fn target_of(first: &[u8], size: u64) -> Result<Target, u64>
+fn target_of(first: &[u8], size: u64) -> Result<UpdateTarget, u64>
     requires first { length first.now ≡ sector_bytes }
     requires size { HasSize size }
     ensures found { IfOk result (Finds size first.now) }
@@ -104,19 +104,22 @@ fn target_of(first: &[u8], size: u64) -> Result<Target, u64>
     if let Some(place) = difference(first, &wanted, 0) {
         return Err(place);
     }
-    let place = u64::from(word_of(four_at(first, 12)));
+    let place = u64::from(word_of(four_at(first, START_PLACE)));
     if !can_stand(place, size) {
-        return Err(12);
+        return Err(START_PLACE as u64);
     }
     let slots = take_slots(first, &wanted)?;
     if slots.next >= SLOT_COUNT {
         return Err(32 * (SLOT_COUNT - 1));
     }
-    Ok(Target { place, slots })
+    Ok(UpdateTarget { place, slots })
 }
 
 /// Reads the first sector of a flash into the buffer, and finds where an update goes.
-pub(crate) fn find_target<F: Flash>(flash: &mut F, buffer: &mut [u8]) -> Result<Target, UpdateFault>
+pub(crate) fn find_target<F: Flash>(
+    flash: &mut F,
+    buffer: &mut [u8],
+) -> Result<UpdateTarget, UpdateFault>
     requires attached { (F.state flash.old).attached ≡ true }
     requires buffer { length buffer.old ≡ sector_bytes }
     ensures found { IfOk result (IsFound (F.state flash.old)) }

@@ -3,7 +3,7 @@ ghost use Rattle.std.specs.Prelude.{◌≡◌, ◌+◌, ◌*◌, ◌<◌, ◌≤
 ghost use Rattle.x7_words.specs.Flash.{OnlyReads, IfKnown, Sees, WriteFails};
 ghost use Rattle.x7_packets.specs.FlashSlot.{slot_count};
 ghost use Rattle.x7_update.specs.After.{ClosesTo, IsAfter, MayBeLeft, switched};
-ghost use Rattle.x7_update.specs.Layout.{HasLayout, IsClosed, IsFree, open_switch};
+ghost use Rattle.x7_update.specs.Layout.{HasLayout, HasNoOpenSlot, IsFree, open_switch};
 ghost use Rattle.x7_update.specs.ReadBack.{AllReadBack, OpensReadBack, WasReady};
 ghost use Rattle.x7_update.specs.Fault.{CanBeUpdated, HasCause, IsEarly};
 ghost use Rattle.x7_update.specs.Slots.{IsFound};
@@ -11,7 +11,7 @@ ghost use Rattle.x7_update.specs.Writing.{AtAnyMoment, Becomes, CanReadBack, End
 ghost use Rattle.x7_update.specs.declared.fault.UpdateFault.TheVariants.{NoMemory};
 
 use crate::fault::UpdateFault;
-use crate::slots::{Target, find_target};
+use crate::slots::{UpdateTarget, find_target};
 use crate::switch::{close_slot, open_slot};
 use crate::verify::{verify_stream, verify_switch};
 use crate::write::write_stream;
@@ -19,7 +19,7 @@ use std::alloc::Global;
 use x7_words::{Failed, Flash, SECTOR};
 
 /// Closes the open slot, if there is one.
-fn close_opened<F: Flash>(flash: &mut F, target: Target) -> Result<(), Failed>
+fn close_opened<F: Flash>(flash: &mut F, target: UpdateTarget) -> Result<(), Failed>
     requires { IsFound (F.state flash.old) target }
     ensures closed { OnOk result (Becomes (F.state flash.old) (F.state flash.new) ClosesTo) }
     ensures writes { Writes (F.state flash.old) (F.state flash.new) (F.found_since flash.old) (F.found_since flash.new)
@@ -33,7 +33,7 @@ fn close_opened<F: Flash>(flash: &mut F, target: Target) -> Result<(), Failed>
 }
 
 /// Closes the open slot and writes the stream.
-fn replace<F: Flash>(flash: &mut F, target: Target, stream: &[u8]) -> Result<(), Failed>
+fn replace<F: Flash>(flash: &mut F, target: UpdateTarget, stream: &[u8]) -> Result<(), Failed>
     requires found { IsFound (F.state flash.old) target }
     requires stream { target.place + length stream.now ≤ (F.state flash.old).extent }
     ensures replaced { OnOk result (Becomes (F.state flash.old) (F.state flash.new) (Replaced target.place stream.now)) }
@@ -46,16 +46,16 @@ fn replace<F: Flash>(flash: &mut F, target: Target, stream: &[u8]) -> Result<(),
 }
 
 /// Reads the stream back, opens the next slot, and reads its switch word back.
-fn finish<F: Flash>(
+fn read_back_and_open<F: Flash>(
     flash: &mut F,
-    target: Target,
+    target: UpdateTarget,
     stream: &[u8],
     buffer: &mut [u8],
 ) -> Result<(), UpdateFault>
     requires written { CanReadBack (F.state flash.old) target.place stream.now buffer.old }
     requires next { target.slots.next < slot_count }
     requires free { IfKnown (F.state flash.old).bytes (λ all. IsFree all target.slots.next) }
-    requires closed { IfKnown (F.state flash.old).bytes IsClosed }
+    requires closed { IfKnown (F.state flash.old).bytes HasNoOpenSlot }
     ensures opened { OnOk result ((F.state flash.new).bytes ≡ option_map (switched target.slots.next open_switch) (F.state flash.old).bytes) }
     ensures any_moment { AtAnyMoment (F.state flash.old) (F.state flash.new) (F.found_since flash.old) (F.found_since flash.new)
         (OpeningSlot target.slots.next) }
@@ -110,5 +110,5 @@ pub fn update<F: Flash>(alloc: Global, flash: &mut F, stream: &[u8]) -> Result<(
         Ok(()) => (),
         Err(_) => return Err(UpdateFault::Failed { writing: true }),
     }
-    finish(flash, target, stream, &mut buffer)
+    read_back_and_open(flash, target, stream, &mut buffer)
 }

@@ -20,7 +20,7 @@ fn wanted(stream: &[u8], after: u64) -> u8
     }
 }
 
-/// Compares what was read from a place on with what is wanted there, and tells the first byte that differs.
+/// Compares what was read from a place on with what is wanted there, and answers the first byte that differs.
 fn compare(buffer: &[u8], after: u64, update: u64, stream: &[u8]) -> Result<(), UpdateFault>
     requires { update + after + length buffer.now < 2 ^ 63 }
     ensures same { OnOk result (ReadsWanted update stream.now (update + after) buffer.now) }

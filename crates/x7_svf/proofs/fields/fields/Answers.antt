@@ -1,9 +1,9 @@
 use Rattle.std.proofs.Common.{◌≡◌, ◌∷◌, ℕ, List, Option, ap, sym, ◌∙◌}
 use Rattle.x7_svf.specs.Fields.{Between, Fields, no_fields, scan_from}
-use Rattle.x7_svf.specs.Token.{TextPiece, mark_of}
-use Rattle.x7_svf.specs.Source.{pieces_left}
+use Rattle.x7_svf.specs.Token.{TokenOnLine, token_of}
+use Rattle.x7_svf.specs.Source.{tokens_left}
 use Rattle.x7_svf.specs.Span.{at_of, fields_of}
-use Rattle.x7_svf.specs.Svf.{marks_before}
+use Rattle.x7_svf.specs.Svf.{tokens_before_end}
 use Rattle.x7_svf.proofs.FieldLemmas.{scan_on}
 use Rattle.x7_svf.proofs.ReadingLemmas.{left_stepped, reads_both, reads_token}
 use Rattle.x7_svf.proofs.fields.fields.Goals as goal
@@ -15,13 +15,13 @@ loop-token-preserved c =
     let after = c.step.new.source in
     let t = c.in-Some.token in
     let s = c.loop-token.scanner in
-    let all : Option Fields = scan_from Between no_fields (marks_before (pieces_left c.args.source.now)) in
-    let before : all ≡ scan_from (at_of here.kept s.place) (fields_of here.kept s.given) (marks_before (pieces_left at)) =
-    c.loop-token.invariant.same ∙ ap (λ (k : List ℕ). scan_from (at_of k s.place) (fields_of k s.given) (marks_before (pieces_left at))) (sym c.in-Some.ensures.blanks.kept) in
-    let left : marks_before (pieces_left at) ≡ mark_of t here.rest ∷ marks_before (pieces_left after) =
-    c.in-Some.ensures.is ∙ ap (λ (ps : List TextPiece). mark_of t here.rest ∷ marks_before ps) (left_stepped here after t c.in-Some-step.ensures.steps) in
+    let all : Option Fields = scan_from Between no_fields (tokens_before_end (tokens_left c.args.source.now)) in
+    let before : all ≡ scan_from (at_of here.kept s.place) (fields_of here.kept s.given) (tokens_before_end (tokens_left at)) =
+    c.loop-token.invariant.same ∙ ap (λ (k : List ℕ). scan_from (at_of k s.place) (fields_of k s.given) (tokens_before_end (tokens_left at))) (sym c.in-Some.ensures.blanks.kept) in
+    let left : tokens_before_end (tokens_left at) ≡ token_of t here.rest ∷ tokens_before_end (tokens_left after) =
+    c.in-Some.ensures.is ∙ ap (λ (ps : List TokenOnLine). token_of t here.rest ∷ tokens_before_end ps) (left_stepped here after t c.in-Some-step.ensures.steps) in
     record {
-      same = scan_on here.kept after.kept s c.in-Some-step.next (marks_before (pieces_left at)) (marks_before (pieces_left after)) (mark_of t here.rest) all before left c.in-Some-step.ensures.is;
+      same = scan_on here.kept after.kept s c.in-Some-step.next (tokens_before_end (tokens_left at)) (tokens_before_end (tokens_left after)) (token_of t here.rest) all before left c.in-Some-step.ensures.is;
       within = c.in-Some-step.ensures.within;
-      reads = reads_both c.args.source.now at after c.loop-token.invariant.reads (reads_token at here after t c.in-Some.ensures.blanks c.in-Some.ensures.goes_on c.in-Some-step.ensures.steps);
+      reads_on = reads_both c.args.source.now at after c.loop-token.invariant.reads_on (reads_token at here after t c.in-Some.ensures.blanks c.in-Some.ensures.after_end c.in-Some-step.ensures.steps);
     }

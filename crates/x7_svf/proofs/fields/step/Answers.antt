@@ -8,8 +8,8 @@ use Rattle.x7_svf.specs.Span.{AreWithin, IsPlaceWithin, at_of, fields_of, scanni
 use Rattle.x7_svf.specs.declared.fields.Field.{Field}
 use Rattle.x7_svf.specs.declared.fields.Place.{Place}
 use Rattle.x7_svf.specs.declared.fields.Place.TheVariants as place
-use Rattle.x7_svf.specs.declared.token.Token.{Token}
-use Rattle.x7_svf.specs.declared.token.Token.TheVariants as token
+use Rattle.x7_svf.specs.declared.token.NextToken.{NextToken}
+use Rattle.x7_svf.specs.declared.token.NextToken.TheVariants as next_token
 use Rattle.x7_svf.proofs.FieldLemmas.{digits_more, fields_more, none_between, none_holds, none_inside, none_named, step_at}
 use Rattle.x7_svf.proofs.ReadingLemmas.{steps_skipped}
 use Rattle.x7_svf.proofs.SpanLemmas.{more_stays}
@@ -23,7 +23,7 @@ returns-in_err-field-in-Between-Word c =
     record {
       is = ap (scanning_of old.kept) c.from_residual.ensures
           ∙ ap (after_name (fields_of old.kept given)) (c.in_err-field-in-Between-Word.ensures ∙ ap (λ (r : List ℕ). field_by_name (take n r)) c.rest.ensures)
-          ∙ step_at old.kept old.rest given c.args.scanner.place place.Between c.args.token (token.Word n) c.in-Between-Word.is-0 c.in-Between-Word.is-1;
+          ∙ step_at old.kept old.rest given c.args.scanner.place place.Between c.args.token (next_token.Word n) c.in-Between-Word.is-0 c.in-Between-Word.is-1;
       within = none_holds c.from_residual.result _ c.from_residual.ensures;
       steps = none_holds c.from_residual.result _ c.from_residual.ensures;
     }
@@ -38,9 +38,9 @@ returns-in_ok-field-in-Between-Word c =
     record {
       is = ap (λ (k : List ℕ). Some (record { at = Named c.in_ok-field-in-Between-Word.field; fields = fields_of k given })) same
           ∙ ap (after_name (fields_of old.kept given)) (c.in_ok-field-in-Between-Word.ensures ∙ ap (λ (r : List ℕ). field_by_name (take n r)) c.rest.ensures)
-          ∙ step_at old.kept old.rest given c.args.scanner.place place.Between c.args.token (token.Word n) c.in-Between-Word.is-0 c.in-Between-Word.is-1;
+          ∙ step_at old.kept old.rest given c.args.scanner.place place.Between c.args.token (next_token.Word n) c.in-Between-Word.is-0 c.in-Between-Word.is-1;
       within = (tt, subst (λ (k : List ℕ). AreWithin (length k) given) (sym same) c.requires.within.1);
-      steps = subst (λ (t : Token). StepsOver (token_size t) old new) (sym c.in-Between-Word.is-1) (steps_skipped n old new c.skip.ensures);
+      steps = subst (λ (t : NextToken). StepsOver (token_size t) old new) (sym c.in-Between-Word.is-1) (steps_skipped n old new c.skip.ensures);
     }
 
 pub returns-in_default : goal.returns-in_default
@@ -64,9 +64,9 @@ returns-in-Named-Open c =
     let scanning : ◌≡◌ {A = Scanning} (record { at = Inside k (drop (length c.kept.result.now) new.kept); fields = fields_of new.kept given }) (record { at = Inside k []; fields = fields_of old.kept given }) = λ i. record { at = Inside k (none i); fields = fields_of (same i) given } in
     record {
       is = ap (λ (s : Scanning). Some s) scanning
-          ∙ step_at old.kept old.rest given c.args.scanner.place (place.Named k) c.args.token token.Open c.in-Named-Open.is-0 c.in-Named-Open.is-1;
+          ∙ step_at old.kept old.rest given c.args.scanner.place (place.Named k) c.args.token next_token.Open c.in-Named-Open.is-0 c.in-Named-Open.is-1;
       within = (omega (arith, ap length c.kept.ensures.now), subst (λ (k : List ℕ). AreWithin (length k) given) (sym same) c.requires.within.1);
-      steps = subst (λ (t : Token). StepsOver (token_size t) old new) (sym c.in-Named-Open.is-1) (steps_skipped 1 old new c.skip-in-Named-Open.ensures);
+      steps = subst (λ (t : NextToken). StepsOver (token_size t) old new) (sym c.in-Named-Open.is-1) (steps_skipped 1 old new c.skip-in-Named-Open.ensures);
     }
 
 pub returns-in_default-2 : goal.returns-in_default-2
@@ -95,9 +95,9 @@ returns-else-not-are_digits c =
     record {
       is = ap (λ (p : Place). Some (record { at = at_of new.kept p; fields = fields_of new.kept given })) c.in-Inside-Word.is-0
           ∙ digits_more old.kept word new.kept given k from grown begun c.requires.within.1 digits
-          ∙ step_at old.kept old.rest given c.args.scanner.place (place.Inside k from) c.args.token (token.Word n) c.in-Inside-Word.is-0 c.in-Inside-Word.is-1;
+          ∙ step_at old.kept old.rest given c.args.scanner.place (place.Inside k from) c.args.token (next_token.Word n) c.in-Inside-Word.is-0 c.in-Inside-Word.is-1;
       within = (subst (IsPlaceWithin (length new.kept)) (sym c.in-Inside-Word.is-0) (omega (arith, long, begun)), fields_more (length old.kept) (length new.kept) given (omega (arith, long)) c.requires.within.1);
-      steps = subst (λ (t : Token). StepsOver (token_size t) old new) (sym c.in-Inside-Word.is-1) (record {
+      steps = subst (λ (t : NextToken). StepsOver (token_size t) old new) (sym c.in-Inside-Word.is-1) (record {
         prefix = more_stays old.kept new.kept word grown;
         line = ap (λ (s : SourceState). s.line) c.keep.ensures;
         rest = ap (λ (s : SourceState). s.rest) c.keep.ensures;
@@ -115,9 +115,9 @@ returns-in_ok-given-in-Inside-Close c =
     let closed = c.in_ok-given-in-Inside-Close.ensures in
     record {
       is = ap closed_by (closed.is ∙ ap (λ (kept : List ℕ). closed_field (fields_of kept given) k (drop from kept)) same)
-          ∙ step_at old.kept old.rest given c.args.scanner.place (place.Inside k from) c.args.token token.Close c.in-Inside-Close.is-0 c.in-Inside-Close.is-1;
+          ∙ step_at old.kept old.rest given c.args.scanner.place (place.Inside k from) c.args.token next_token.Close c.in-Inside-Close.is-0 c.in-Inside-Close.is-1;
       within = (tt, closed.within (subst (λ (k : List ℕ). AreWithin (length k) given) (sym same) c.requires.within.1));
-      steps = subst (λ (t : Token). StepsOver (token_size t) old new) (sym c.in-Inside-Close.is-1) (steps_skipped 1 old new c.skip-in-Inside-Close.ensures);
+      steps = subst (λ (t : NextToken). StepsOver (token_size t) old new) (sym c.in-Inside-Close.is-1) (steps_skipped 1 old new c.skip-in-Inside-Close.ensures);
     }
 
 pub returns-in_default-3 : goal.returns-in_default-3

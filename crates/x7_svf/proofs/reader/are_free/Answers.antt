@@ -1,10 +1,10 @@
 use Rattle.std.proofs.Common.{◌≡◌, ℕ, List, true, ap, sym, subst, ◌∙◌}
 use Rattle.std.specs.List.{list_all}
-use Rattle.x7_svf.specs.Token.{TextPiece, mark_of}
+use Rattle.x7_svf.specs.Token.{TokenOnLine, token_of}
 use Rattle.x7_svf.specs.Reading.{StepsOver}
 use Rattle.x7_svf.specs.Source.{left_after}
-use Rattle.x7_svf.specs.Svf.{marks_before}
-use Rattle.x7_svf.specs.Words.{is_free_mark}
+use Rattle.x7_svf.specs.Svf.{tokens_before_end}
+use Rattle.x7_svf.specs.Words.{is_free_token}
 use Rattle.x7_svf.proofs.ReadingLemmas.{left_stepped, reads_both, reads_token, steps_skipped}
 use Rattle.x7_svf.proofs.WordsLemmas.{free_on}
 use Rattle.x7_svf.proofs.reader.are_free.Goals as goal
@@ -16,8 +16,8 @@ loop-token-preserved c =
     let after = c.skip.new.self in
     let t = c.in-Some.token in
     let steps = subst (λ (n : ℕ). StepsOver n here after) c.size.ensures (steps_skipped c.size.result here after c.skip.ensures) in
-    let is_free : is_free_mark (mark_of t here.rest) ≡ true = sym (c.if-not-is_free_token.ensures ∙ ap (λ (r : List ℕ). is_free_mark (mark_of t r)) c.rest.ensures) in
+    let is_free : is_free_token (token_of t here.rest) ≡ true = sym (c.if-not-is_free_token.ensures ∙ ap (λ (r : List ℕ). is_free_token (token_of t r)) c.rest.ensures) in
     record {
-      same = c.loop-token.invariant.same ∙ ap (list_all is_free_mark) c.in-Some.ensures.is ∙ free_on (mark_of t here.rest) (marks_before (left_after here t)) is_free ∙ ap (λ (ps : List TextPiece). list_all is_free_mark (marks_before ps)) (left_stepped here after t steps);
-      reads = reads_both c.args.source.now at after c.loop-token.invariant.reads (reads_token at here after t c.in-Some.ensures.blanks c.in-Some.ensures.goes_on steps);
+      same = c.loop-token.invariant.same ∙ ap (list_all is_free_token) c.in-Some.ensures.is ∙ free_on (token_of t here.rest) (tokens_before_end (left_after here t)) is_free ∙ ap (λ (ps : List TokenOnLine). list_all is_free_token (tokens_before_end ps)) (left_stepped here after t steps);
+      reads_on = reads_both c.args.source.now at after c.loop-token.invariant.reads_on (reads_token at here after t c.in-Some.ensures.blanks c.in-Some.ensures.after_end steps);
     }

@@ -1,17 +1,17 @@
 use Rattle.std.proofs.Common.{◌≡◌, length}
 use Rattle.x7_svf.specs.Reading.{ReadsOn}
-use Rattle.x7_svf.specs.Source.{pieces_left}
+use Rattle.x7_svf.specs.Source.{tokens_left}
 use Rattle.x7_svf.specs.Span.{AreWordsWithin, words_kept}
-use Rattle.x7_svf.specs.Svf.{marks_before}
+use Rattle.x7_svf.specs.Svf.{tokens_before_end}
 use Rattle.x7_svf.specs.Words.{words_of}
 use Rattle.x7_svf.proofs.WordsLemmas.{after_words}
 use Rattle.x7_svf.proofs.reader.words_statement.Given as goal
 
 abbrev pub invariant-loop-token : goal.invariant-loop-token
 invariant-loop-token l = record {
-  same : words_of (marks_before (pieces_left l.fn.source)) ≡ after_words (words_kept l.source.kept l.words) (words_of (marks_before (pieces_left l.source)));
+  same : words_of (tokens_before_end (tokens_left l.fn.source)) ≡ after_words (words_kept l.source.kept l.words) (words_of (tokens_before_end (tokens_left l.source)));
   within : AreWordsWithin (length l.source.kept) l.words;
-  reads : ReadsOn l.fn.source l.source;
+  reads_on : ReadsOn l.fn.source l.source;
 }
 
 abbrev pub decreases-loop-token : goal.decreases-loop-token

@@ -1,11 +1,11 @@
 use Rattle.std.proofs.Common.{◌≡◌, ◌≤◌, length}
-use Rattle.x7_svf.specs.Source.{pieces_left}
-use Rattle.x7_svf.specs.Svf.{pieces_after}
+use Rattle.x7_svf.specs.Source.{tokens_left}
+use Rattle.x7_svf.specs.Svf.{tokens_after_end}
 use Rattle.x7_svf.proofs.token.pass_end.Given as goal
 
 abbrev pub invariant-loop-token : goal.invariant-loop-token
 invariant-loop-token l = record {
-  same : pieces_after (pieces_left l.fn.source) ≡ pieces_after (pieces_left l.source);
+  same : tokens_after_end (tokens_left l.fn.source) ≡ tokens_after_end (tokens_left l.source);
   kept : l.source.kept ≡ l.fn.source.kept;
   within : length l.source.rest ≤ length l.fn.source.rest;
 }

@@ -1,10 +1,10 @@
 use Rattle.std.proofs.Common.{◌≡◌, ◌≤◌, length}
-use Rattle.x7_svf.specs.Source.{pieces_left}
+use Rattle.x7_svf.specs.Source.{tokens_left}
 use Rattle.x7_svf.proofs.token.skip_blanks.Given as goal
 
 abbrev pub invariant-loop-source : goal.invariant-loop-source
 invariant-loop-source l = record {
-  same : pieces_left l.fn.source ≡ pieces_left l.source;
+  same : tokens_left l.fn.source ≡ tokens_left l.source;
   kept : l.source.kept ≡ l.fn.source.kept;
   within : length l.source.rest ≤ length l.fn.source.rest;
 }

@@ -3,7 +3,7 @@ use Rattle.x7_words.specs.Count.{HasRisen}
 use Rattle.x7_words.specs.Flash.{IfKnown, WriteFails}
 use Rattle.x7_words.specs.Word.{AreBytes}
 use Rattle.x7_update.specs.After.{IsBetween, MayBeLeft, untouched}
-use Rattle.x7_update.specs.Layout.{CanStandAt, HasLayout, HasSize, IsClosed, IsFree}
+use Rattle.x7_update.specs.Layout.{CanStandAt, HasLayout, HasSize, HasNoOpenSlot, IsFree}
 use Rattle.x7_update.specs.ReadBack.{OpensReadBack, ReadBack, WasReady}
 use Rattle.x7_update.specs.Fault.{CanTake, IsTooLong}
 use Rattle.x7_update.specs.Slots.{Finds, TargetFits}
@@ -71,32 +71,32 @@ pub returns-clause-refused : goal.returns-clause-refused
 returns-clause-refused g c =
     let first = g.F.Flash.state c.args.flash.now in
     let then = g.F.Flash.state c.replace.new.flash in
-    let last = g.F.Flash.state c.finish.new.flash in
+    let last = g.F.Flash.state c.read_back_and_open.new.flash in
     let target = c.in_ok-target.target in
     let stream = c.args.stream.now in
     let fits = c.in_ok-target.ensures.found.fits in
     let read = c.find_target.ensures.only in
     let wrote = c.replace.ensures.writes.only in
-    let size : last.extent ≡ first.extent = c.finish.ensures.only.extent ∙ wrote.extent ∙ read.extent in
+    let size : last.extent ≡ first.extent = c.read_back_and_open.ensures.only.extent ∙ wrote.extent ∙ read.extent in
     let can : IfKnown first.bytes (CanTake stream) =
     known_map first.bytes (λ all. Finds (length all) all target) (CanTake stream)
     (λ all e finds.
     let long : first.extent ≡ length all = known_at first.bytes (λ all. first.extent ≡ length all) (g.met.F.Flash.counted c.args.flash.now) all e in
     record { layout = record { size = finds.sized; slots = finds.has }; fits = omega (arith, long, finds.update, read.extent, c.size.ensures.extent, fits.place.most, c.if-stream-size.false) })
     c.in_ok-target.ensures.found.finds in
-    end_refused stream first last c.finish.result (subst HasSize (sym size) fits.sized) can
-    (fails_since stream first then last c.finish.result (omega (arith, read.faults, wrote.faults)) (omega (arith, read.unwritten.write_faults, wrote.write_faults))
-    (λ none. sym read.bytes ∙ none_before (Replaced target.place stream) (g.F.Flash.state c.find_target.new.flash).bytes then.bytes c.in-Ok-replace.ensures.replaced none) c.finish.ensures.fault)
+    end_refused stream first last c.read_back_and_open.result (subst HasSize (sym size) fits.sized) can
+    (fails_since stream first then last c.read_back_and_open.result (omega (arith, read.faults, wrote.faults)) (omega (arith, read.unwritten.write_faults, wrote.write_faults))
+    (λ none. sym read.bytes ∙ none_before (Replaced target.place stream) (g.F.Flash.state c.find_target.new.flash).bytes then.bytes c.in-Ok-replace.ensures.replaced none) c.read_back_and_open.ensures.fault)
 
 pub returns-clause-complete : goal.returns-clause-complete
-returns-clause-complete g c = if_only_memory c.args.stream.now (g.F.Flash.state c.args.flash.now) (g.F.Flash.state c.finish.new.flash) c.finish.result (returns-clause-refused g c)
+returns-clause-complete g c = if_only_memory c.args.stream.now (g.F.Flash.state c.args.flash.now) (g.F.Flash.state c.read_back_and_open.new.flash) c.read_back_and_open.result (returns-clause-refused g c)
 
 -- ---- what an update leaves, at any moment
 
 pub returns-clause-layout : goal.returns-clause-layout
 returns-clause-layout g c =
     let known = (g.F.Flash.state c.args.flash.now).bytes in
-    on_ok (IfKnown known HasLayout) c.finish.result
+    on_ok (IfKnown known HasLayout) c.read_back_and_open.result
     (known_map known (λ all. Finds (length all) all c.in_ok-target.target) HasLayout (λ all e finds. record { size = finds.sized; slots = finds.has }) c.in_ok-target.ensures.found.finds)
 
 pub replace-requires-clause-found : goal.replace-requires-clause-found
@@ -104,8 +104,8 @@ replace-requires-clause-found g c =
     let read = c.find_target.ensures.only in
     still_found (g.F.Flash.state c.args.flash.now) (g.F.Flash.state c.find_target.new.flash) c.in_ok-target.target read.attached read.extent read.bytes c.in_ok-target.ensures.found
 
-pub finish-requires-clause-written : goal.finish-requires-clause-written
-finish-requires-clause-written g c =
+pub read_back_and_open-requires-clause-written : goal.read_back_and_open-requires-clause-written
+read_back_and_open-requires-clause-written g c =
     let first = g.F.Flash.state c.args.flash.now in
     let mid = g.F.Flash.state c.find_target.new.flash in
     let then = g.F.Flash.state c.replace.new.flash in
@@ -130,11 +130,11 @@ finish-requires-clause-written g c =
       buffer_is = search rules;
     }
 
-pub finish-requires-clause-next : goal.finish-requires-clause-next
-finish-requires-clause-next g c = c.in_ok-target.ensures.found.fits.next
+pub read_back_and_open-requires-clause-next : goal.read_back_and_open-requires-clause-next
+read_back_and_open-requires-clause-next g c = c.in_ok-target.ensures.found.fits.next
 
-pub finish-requires-clause-free : goal.finish-requires-clause-free
-finish-requires-clause-free g c =
+pub read_back_and_open-requires-clause-free : goal.read_back_and_open-requires-clause-free
+read_back_and_open-requires-clause-free g c =
     let first = g.F.Flash.state c.args.flash.now in
     let mid = g.F.Flash.state c.find_target.new.flash in
     let target = c.in_ok-target.target in
@@ -147,8 +147,8 @@ finish-requires-clause-free g c =
     replaced_free all target finds stream now fits r)
     c.in-Ok-replace.ensures.replaced
 
-pub finish-requires-clause-closed : goal.finish-requires-clause-closed
-finish-requires-clause-closed g c =
+pub read_back_and_open-requires-clause-closed : goal.read_back_and_open-requires-clause-closed
+read_back_and_open-requires-clause-closed g c =
     let first = g.F.Flash.state c.args.flash.now in
     let mid = g.F.Flash.state c.find_target.new.flash in
     let then = g.F.Flash.state c.replace.new.flash in
@@ -156,7 +156,7 @@ finish-requires-clause-closed g c =
     let stream = c.args.stream.now in
     let known : (all : List ℕ) → mid.bytes ≡ Some all → Finds (length all) all target =
     λ all e. known_at first.bytes (λ all. Finds (length all) all target) c.in_ok-target.ensures.found.finds all (sym c.find_target.ensures.only.bytes ∙ e) in
-    becomes_then mid then (Replaced target.place stream) IsClosed
+    becomes_then mid then (Replaced target.place stream) HasNoOpenSlot
     (λ all now e r.
     let long : mid.extent ≡ length all = known_at mid.bytes (λ all. mid.extent ≡ length all) (g.met.F.Flash.counted c.find_target.new.flash) all e in
     let fits : target.place + length stream ≤ length all = omega (arith, long, c.find_target.ensures.only.extent, c.size.ensures.extent, c.in_ok-target.ensures.found.fits.place.most, c.if-stream-size.false) in
@@ -189,7 +189,7 @@ returns-clause-any_moment g c =
     let stream = c.args.stream.now in
     let known : (all : List ℕ) → mid.bytes ≡ Some all → Finds (length all) all target =
     λ all e. known_at first.bytes (λ all. Finds (length all) all target) c.in_ok-target.ensures.found.finds all (sym c.find_target.ensures.only.bytes ∙ e) in
-    let last = g.F.Flash.state c.finish.new.flash in
+    let last = g.F.Flash.state c.read_back_and_open.new.flash in
     let Left : List ℕ → List ℕ → Type 0 = λ all found. AreBytes found → MayBeLeft stream all found in
     moments_weaker first last _ _ (λ all found. Left all found × StaysBytes all found) (MayBeLeft stream)
     (λ all found e both. both.0 (both.1 (known_at first.bytes AreBytes c.find_target.ensures.bytes all e)))
@@ -201,8 +201,8 @@ returns-clause-any_moment g c =
     let fits : target.place + length stream ≤ length all = omega (arith, long, c.find_target.ensures.only.extent, c.size.ensures.extent, c.in_ok-target.ensures.found.fits.place.most, c.if-stream-size.false) in
     opening_left all target (known all e) stream now fits r found opening)
     (moments_weaker mid then _ _ ReplacingUpdate Left (λ all found e h. replacing_left all target (known all e) stream found h) c.replace.ensures.writes.any_moment)
-    (becomes_leaves mid then (Replaced target.place stream) c.in-Ok-replace.ensures.replaced) c.finish.ensures.any_moment))
-    (read_moments first mid last _ _ _ StaysBytes (λ all e h. h) c.find_target.ensures.only.bytes c.find_target.ensures.only.unwritten (bytes_on mid then last _ _ _ c.replace.ensures.writes.bytes c.finish.ensures.bytes)))
+    (becomes_leaves mid then (Replaced target.place stream) c.in-Ok-replace.ensures.replaced) c.read_back_and_open.ensures.any_moment))
+    (read_moments first mid last _ _ _ StaysBytes (λ all e h. h) c.find_target.ensures.only.bytes c.find_target.ensures.only.unwritten (bytes_on mid then last _ _ _ c.replace.ensures.writes.bytes c.read_back_and_open.ensures.bytes)))
 
 pub returns-in_default-clause-found : goal.returns-in_default-clause-found
 returns-in_default-clause-found g c =
@@ -235,8 +235,8 @@ returns-in-Err-clause-found g c =
 pub returns-clause-found : goal.returns-clause-found
 returns-clause-found g c =
     let first = g.F.Flash.state c.args.flash.now in
-    let last = g.F.Flash.state c.finish.new.flash in
-    found_left c.args.stream.now first last (g.F.Flash.found_since c.args.flash.now) (g.F.Flash.found_since c.finish.new.flash) (λ found had. g.met.F.Flash.only_now c.args.flash.now found had)
+    let last = g.F.Flash.state c.read_back_and_open.new.flash in
+    found_left c.args.stream.now first last (g.F.Flash.found_since c.args.flash.now) (g.F.Flash.found_since c.read_back_and_open.new.flash) (λ found had. g.met.F.Flash.only_now c.args.flash.now found had)
     (returns-clause-any_moment g c)
 
 -- ---- read back
@@ -244,11 +244,11 @@ returns-clause-found g c =
 pub returns-clause-read_back : goal.returns-clause-read_back
 returns-clause-read_back g c =
     let first = g.F.Flash.state c.args.flash.now in
-    let last = g.F.Flash.state c.finish.new.flash in
+    let last = g.F.Flash.state c.read_back_and_open.new.flash in
     let target = c.in_ok-target.target in
     let stream = c.args.stream.now in
-    let size : last.extent ≡ first.extent = c.finish.ensures.only.extent ∙ c.replace.ensures.writes.only.extent ∙ c.find_target.ensures.only.extent in
-    all_back g.F.Flash.state stream first last target c.finish.result (subst (λ n. TargetFits n target) (sym size) c.in_ok-target.ensures.found.fits) c.in_ok-target.ensures.found.finds c.finish.ensures.ready c.finish.ensures.switch
+    let size : last.extent ≡ first.extent = c.read_back_and_open.ensures.only.extent ∙ c.replace.ensures.writes.only.extent ∙ c.find_target.ensures.only.extent in
+    all_back g.F.Flash.state stream first last target c.read_back_and_open.result (subst (λ n. TargetFits n target) (sym size) c.in_ok-target.ensures.found.fits) c.in_ok-target.ensures.found.finds c.read_back_and_open.ensures.ready c.read_back_and_open.ensures.switch
 
 pub returns-in_default-clause-opens : goal.returns-in_default-clause-opens
 returns-in_default-clause-opens g c =
@@ -282,10 +282,10 @@ returns-clause-opens g c =
     let stream = c.args.stream.now in
     let known : (all : List ℕ) → mid.bytes ≡ Some all → Finds (length all) all target =
     λ all e. known_at first.bytes (λ all. Finds (length all) all target) c.in_ok-target.ensures.found.finds all (sym c.find_target.ensures.only.bytes ∙ e) in
-    let last = g.F.Flash.state c.finish.new.flash in
+    let last = g.F.Flash.state c.read_back_and_open.new.flash in
     let Opens : List ℕ → List ℕ → Type 0 = OpensReadBack g.F.Flash.state stream first last in
     let Was : Type 0 = WasReady g.F.Flash.state target.place stream last in
-    let size : last.extent ≡ first.extent = c.finish.ensures.only.extent ∙ c.replace.ensures.writes.only.extent ∙ c.find_target.ensures.only.extent in
+    let size : last.extent ≡ first.extent = c.read_back_and_open.ensures.only.extent ∙ c.replace.ensures.writes.only.extent ∙ c.find_target.ensures.only.extent in
     let back : Was → ReadBack g.F.Flash.state stream first last =
     λ was. read_back g.F.Flash.state stream first last target (subst (λ n. TargetFits n target) (sym size) c.in_ok-target.ensures.found.fits) c.in_ok-target.ensures.found.finds was in
     read_moments first mid last _ _ _ Opens (λ all e l a. absurd (after_not_same stream all all l a refl)) c.find_target.ensures.only.bytes c.find_target.ensures.only.unwritten
@@ -295,4 +295,4 @@ returns-clause-opens g c =
     let fits : target.place + length stream ≤ length all = omega (arith, long, c.find_target.ensures.only.extent, c.size.ensures.extent, c.in_ok-target.ensures.found.fits.place.most, c.if-stream-size.false) in
     ⊎_elim (λ same. absurd (after_not_between stream all found l a (subst (IsBetween all) (sym same) (replaced_between all target (known all e) stream now fits r)))) back o)
     (moments_weaker mid then _ _ ReplacingUpdate Opens (λ all found e h l a. absurd (after_not_replacing stream all found l a h)) c.replace.ensures.writes.any_moment)
-    (becomes_leaves mid then (Replaced target.place stream) c.in-Ok-replace.ensures.replaced) c.finish.ensures.opens)
+    (becomes_leaves mid then (Replaced target.place stream) c.in-Ok-replace.ensures.replaced) c.read_back_and_open.ensures.opens)

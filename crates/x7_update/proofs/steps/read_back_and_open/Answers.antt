@@ -7,7 +7,7 @@ use Rattle.x7_update.proofs.BackLemmas.{fails_since, was_unknown}
 use Rattle.x7_update.proofs.CaseLemmas.{opened_is_open, opening_none}
 use Rattle.x7_update.proofs.ReadyLemmas.{was_ready}
 use Rattle.x7_update.proofs.KnownLemmas.{known_at, known_map, moments_read, moments_weaker, on_ok, only_read, read_moments}
-use Rattle.x7_update.proofs.steps.finish.Goals as goal
+use Rattle.x7_update.proofs.steps.read_back_and_open.Goals as goal
 
 pub returns-clause-fault : goal.returns-clause-fault
 returns-clause-fault g c =
