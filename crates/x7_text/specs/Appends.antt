@@ -3,6 +3,10 @@ use Rattle.std.specs.Prelude.{◌≡◌, ℕ, ◌+◌, ◌≤◌, List, ◌++◌
 use Rattle.std.specs.Prelude.{Vec}
 use Rattle.std.specs.declared.alloc.Global.{Global}
 
+-- there is spare room in a text: for this many bytes more
+abbrev pub HasSpareRoom : Vec ℕ Global → ℕ → Type 0
+HasSpareRoom text more = vec_len text + more ≤ vec_capacity text
+
 -- the bytes stand after what was there, they are no more than `most`, and no room was lost
 pub record Appends (old new : Vec ℕ Global) (bytes : List ℕ) (most : ℕ) : Type 0 where
   pub items : new.items ≡ old.items ++ bytes

@@ -14,3 +14,7 @@ abbrev pub hex_word : ℕ → List ℕ
 hex_word w =
     hex_digit (w / 2 ^ 28 % 16) ∷ hex_digit (w / 2 ^ 24 % 16) ∷ hex_digit (w / 2 ^ 20 % 16) ∷ hex_digit (w / 2 ^ 16 % 16)
     ∷ hex_digit (w / 2 ^ 12 % 16) ∷ hex_digit (w / 2 ^ 8 % 16) ∷ hex_digit (w / 2 ^ 4 % 16) ∷ hex_digit (w % 16) ∷ []
+
+-- the most decimal digits that a number of 64 bits has
+abbrev pub most_digits : ℕ
+most_digits = 20

@@ -1,5 +1,5 @@
 -- Rows of words or bytes, and the lines that show them (this project's choice).
-use Rattle.std.specs.Prelude.{ℕ, ◌+◌, ◌==◌, ◌≡◌, ◌<◌, ◌≤◌, if◌then◌else◌, List, [], ◌∷◌, ◌++◌, length, codes, Vec}
+use Rattle.std.specs.Prelude.{ℕ, ◌+◌, ◌*◌, ◌==◌, ◌≡◌, ◌<◌, ◌≤◌, if◌then◌else◌, List, [], ◌∷◌, ◌++◌, length, codes, Vec}
 use Rattle.std.specs.List.{flat_map}
 use Rattle.std.specs.declared.alloc.Global.{Global}
 use Rattle.x7_words.specs.Word.{AreBytes, AreWords}
@@ -26,6 +26,14 @@ AreFullButLast n [] = Unit {0}
 AreFullButLast n (r ∷ []) = (0 < length r) × (length r ≤ n)
 AreFullButLast n (r ∷ s ∷ rs) = (length r ≡ n) × AreFullButLast n (s ∷ rs)
 
+-- how many words a full `data` line has
+abbrev pub row_words : ℕ
+row_words = 8
+
+-- how many bytes a full `bytes` line has
+abbrev pub row_bytes : ℕ
+row_bytes = 32
+
 -- the line of a row: the word that it begins with, the text of each element, and the line end
 abbrev pub line : List ℕ → (ℕ → List ℕ) → List ℕ → List ℕ
 line word text row = word ++ flat_map text row ++ 10 ∷ []
@@ -34,13 +42,21 @@ line word text row = word ++ flat_map text row ++ 10 ∷ []
 abbrev pub spaced : ℕ → List ℕ
 spaced w = 32 ∷ hex_word w
 
--- bytes as `bytes` lines of 32, the last of which may be shorter
+-- bytes as `bytes` lines, the last of which may be shorter
 abbrev pub bytes_text : List ℕ → List ℕ
-bytes_text bs = flat_map (line (codes "bytes ") hex_byte) (rows 32 bs)
+bytes_text bs = flat_map (line (codes "bytes ") hex_byte) (rows row_bytes bs)
 
--- words as `data` lines of eight, the last of which may be shorter
+-- words as `data` lines, the last of which may be shorter
 abbrev pub data_text : List ℕ → List ℕ
-data_text ws = flat_map (line (codes "data") spaced) (rows 8 ws)
+data_text ws = flat_map (line (codes "data") spaced) (rows row_words ws)
+
+-- how many bytes of text a full `data` line has, with its end: its word, nine for each of eight words, and the line end
+abbrev pub data_line_size : ℕ
+data_line_size = 77
+
+-- how many bytes of text a full `bytes` line has, with its end: its word, two for each of 32 bytes, and the line end
+abbrev pub bytes_line_size : ℕ
+bytes_line_size = 71
 
 -- ---- the lines of rows element by element, where i elements stand in the open line (0 where none is open)
 
@@ -70,17 +86,37 @@ abbrev pub in_line_after : ℕ → ℕ → List ℕ → ℕ
 in_line_after n i [] = i
 in_line_after n i (x ∷ xs) = in_line_after n (next_in_line n i) xs
 
+-- what words add to `data` lines, of which the open one has i words
+abbrev pub open_data : ℕ → List ℕ → List ℕ
+open_data i ws = open_text row_words (codes "data") spaced i ws
+
+-- what bytes add to `bytes` lines, of which the open one has i bytes
+abbrev pub open_bytes : ℕ → List ℕ → List ℕ
+open_bytes i bs = open_text row_bytes (codes "bytes ") hex_byte i bs
+
+-- the most bytes of text that one word adds: the line's word, a space and eight digits, and the line end
+abbrev pub word_size : ℕ
+word_size = 14
+
+-- the most bytes of text that one byte adds: the line's word, two digits, and the line end
+abbrev pub byte_size : ℕ
+byte_size = 9
+
+-- the most bytes of text that the rows of n bytes add, whatever stands in the open line: three for each, and sixteen
+abbrev pub rows_size : ℕ → ℕ
+rows_size n = 3 * n + 16
+
 -- bytes were put to `bytes` lines, as text of at most this size: the open line had `in_line` bytes, and now has `next` of them
 pub record PutsBytes (in_line : ℕ) (bytes : List ℕ) (old new : Vec ℕ Global) (most next : ℕ) : Type 0 where
-  pub count : next ≡ in_line_after 32 in_line bytes
-  pub below : next < 32
-  pub appends : Appends old new (open_text 32 (codes "bytes ") hex_byte in_line bytes) most
+  pub count : next ≡ in_line_after row_bytes in_line bytes
+  pub below : next < row_bytes
+  pub appends : Appends old new (open_bytes in_line bytes) most
 
 -- words were put to `data` lines, as text of at most this size: the open line had `in_line` words, and now has `next` of them
 pub record PutsWords (in_line : ℕ) (words : List ℕ) (old new : Vec ℕ Global) (most next : ℕ) : Type 0 where
-  pub count : next ≡ in_line_after 8 in_line words
-  pub below : next < 8
-  pub appends : Appends old new (open_text 8 (codes "data") spaced in_line words) most
+  pub count : next ≡ in_line_after row_words in_line words
+  pub below : next < row_words
+  pub appends : Appends old new (open_data in_line words) most
 
 -- the end of an open line, and nothing where none is open
 abbrev pub close : ℕ → List ℕ
@@ -88,8 +124,8 @@ close i = if i == 0 then [] else 10 ∷ []
 
 -- the bytes of one `bytes` line
 abbrev pub IsByteRow : List ℕ → Type 0
-IsByteRow bytes = AreBytes bytes × (0 < length bytes) × (length bytes ≤ 32)
+IsByteRow bytes = AreBytes bytes × (0 < length bytes) × (length bytes ≤ row_bytes)
 
 -- the words of one `data` line
 abbrev pub IsWordRow : List ℕ → Type 0
-IsWordRow words = AreWords words × (0 < length words) × (length words ≤ 8)
+IsWordRow words = AreWords words × (0 < length words) × (length words ≤ row_words)

@@ -3,7 +3,7 @@ ghost use Rattle.std.specs.Prelude.{◌≡◌, ◌<◌, ◌≤◌, ◌+◌, ◌*
 ghost use Rattle.std.specs.List.{flat_map};
 ghost use Rattle.std.specs.Simd.Lanes.{Each1, chunk};
 ghost use Rattle.x7_text.specs.Digits.{hex_byte, hex_digit};
-ghost use Rattle.x7_text.specs.Row.{line, spaced};
+ghost use Rattle.x7_text.specs.Row.{line, spaced, data_line_size};
 ghost use Rattle.x7_words.specs.Word.{words_of_bytes};
 
 use std::simd::prelude::*;
@@ -104,7 +104,7 @@ fn sixteen_of(digits: &[u8; 64], at: usize) -> u8x16
 #[inline(always)]
 fn wide_line(bytes: &[u8; 32]) -> [u8; 80]
     ensures long { length result ≡ 80 }
-    ensures line { take 77 result ≡ line (codes "data") spaced (words_of_bytes bytes.now) }
+    ensures line { take data_line_size result ≡ line (codes "data") spaced (words_of_bytes bytes.now) }
 {
     let digits = hex_of_block(bytes);
     let (a, b) = (sixteen_of(&digits, 0), sixteen_of(&digits, 16));

@@ -1,7 +1,7 @@
 //! Digits of words, bytes and counts.
-ghost use Rattle.std.specs.Prelude.{◌≡◌, ◌≤◌, ◌+◌, vec_len, vec_capacity, decimal};
-ghost use Rattle.x7_text.specs.Appends.{Appends};
-ghost use Rattle.x7_text.specs.Digits.{hex_byte, hex_word};
+ghost use Rattle.std.specs.Prelude.{◌≡◌, decimal};
+ghost use Rattle.x7_text.specs.Appends.{Appends, HasSpareRoom};
+ghost use Rattle.x7_text.specs.Digits.{hex_byte, hex_word, most_digits};
 
 use crate::block::hex_of_four;
 use crate::room::put;
@@ -47,8 +47,8 @@ pub fn hex_of_byte(b: u8) -> [u8; 2]
 
 /// Appends the decimal digits of a number, without leading zeros. It takes no memory.
 pub fn put_decimal(text: &mut Vec<u8>, n: u64)
-    requires { vec_len text.old + 20 ≤ vec_capacity text.old }
-    ensures appends { Appends text.old text.new (decimal n) 20 }
+    requires { HasSpareRoom text.old most_digits }
+    ensures appends { Appends text.old text.new (decimal n) most_digits }
 {
     let mut buffer = Buffer::new();
     put(text, buffer.format(n).as_bytes());

@@ -1,17 +1,17 @@
 //! Laws of rows and their lines, for the proofs of crates above.
-ghost use Rattle.std.specs.Prelude.{◌≡◌, ℕ, List, [], ◌∷◌, ◌<◌, ◌+◌, ◌^◌, ◌⊎◌, ◌++◌, length, true, Some, codes, decimal};
+ghost use Rattle.std.specs.Prelude.{◌≡◌, ℕ, List, [], ◌∷◌, ◌<◌, ◌+◌, ◌^◌, ◌⊎◌, ◌++◌, length, true, Some, decimal};
 ghost use Rattle.std.specs.List.{flat_map, AllByRecursion};
 ghost use Rattle.x7_words.specs.Word.{AreBytes};
 ghost use Rattle.x7_text.specs.Digits.{hex_byte, hex_digit, hex_word};
 ghost use Rattle.x7_text.specs.DigitValue.{bytes_value, word_value};
 ghost use Rattle.x7_text.specs.EitherCase.{digit_of, pairs};
 ghost use Rattle.x7_text.specs.Lines.{has_no_end, joined_lines, split};
-ghost use Rattle.x7_text.specs.Row.{AreFullButLast, rows, line, bytes_text, data_text, open_text, in_line_after, spaced, close};
+ghost use Rattle.x7_text.specs.Row.{AreFullButLast, rows, line, bytes_text, data_text, open_text, in_line_after, close, open_data, open_bytes, row_words, row_bytes};
 
 /// Words given one by one and closed are the `data` lines, and bytes the `bytes` lines.
 pub fn lines_one_by_one()
-    ensures words { (ws : List ℕ) → open_text 8 (codes "data") spaced 0 ws ++ close (in_line_after 8 0 ws) ≡ data_text ws }
-    ensures bytes { (bs : List ℕ) → open_text 32 (codes "bytes ") hex_byte 0 bs ++ close (in_line_after 32 0 bs) ≡ bytes_text bs }
+    ensures words { (ws : List ℕ) → open_data 0 ws ++ close (in_line_after row_words 0 ws) ≡ data_text ws }
+    ensures bytes { (bs : List ℕ) → open_bytes 0 bs ++ close (in_line_after row_bytes 0 bs) ≡ bytes_text bs }
 {}
 
 /// Elements given in two parts are the same as at once.

@@ -1,11 +1,11 @@
 //! Rows of digits: the bytes of a `bytes` line and the words of a `data` line.
-ghost use Rattle.std.specs.Prelude.{◌≡◌, ℕ, List, ◌<◌, ◌≤◌, ◌+◌, ◌*◌, ◌/◌, ◌++◌, length, take, drop, vec_len, vec_capacity};
+ghost use Rattle.std.specs.Prelude.{◌≡◌, ℕ, List, ◌≤◌, ◌+◌, ◌*◌, ◌/◌, ◌++◌, length, take, drop};
 ghost use Rattle.std.specs.List.{flat_map};
 ghost use Rattle.std.specs.Simd.{first_chunks};
 ghost use Rattle.x7_words.specs.Word.{bytes_of_word};
 ghost use Rattle.x7_text.specs.Digits.{hex_byte};
-ghost use Rattle.x7_text.specs.Row.{spaced};
-ghost use Rattle.x7_text.specs.Row.{IsByteRow, IsWordRow};
+ghost use Rattle.x7_text.specs.Row.{IsByteRow, IsWordRow, row_bytes, spaced};
+ghost use Rattle.x7_text.specs.Appends.{HasSpareRoom};
 ghost use Rattle.x7_text.specs.Reads.{Reads, StaysWithin};
 
 use crate::block::{data_line, hex_of_block};
@@ -25,9 +25,9 @@ fn padded(digits: &[u8]) -> [u8; 64]
 
 /// Appends the bytes of one to 32 pairs of digits, exactly where they are digits.
 pub fn put_byte_row(out: &mut Vec<u8>, digits: &[u8]) -> bool
-    requires { vec_len out.old + 32 ≤ vec_capacity out.old }
+    requires { HasSpareRoom out.old row_bytes }
     ensures reads { Reads IsByteRow (flat_map hex_byte) (λ (bs : List ℕ). bs) result digits.now out.old.items out.new.items }
-    ensures room { StaysWithin out.old out.new 32 }
+    ensures room { StaysWithin out.old out.new row_bytes }
 {
     let count = digits.len() / 2;
     if count == 0 || digits.len() > 64 || digits.len() != 2 * count {
@@ -68,10 +68,10 @@ fn gathered(text: &[u8]) -> [u8; 64]
 /// Appends the bytes of one word, exactly where a space and its eight digits stand.
 #[inline(always)]
 fn put_one_word(out: &mut Vec<u8>, text: &[u8]) -> bool
-    requires room { vec_len out.old + 32 ≤ vec_capacity out.old }
+    requires room { HasSpareRoom out.old row_bytes }
     requires long { length text.now ≡ 9 }
     ensures reads { Reads IsWordRow (flat_map spaced) (flat_map bytes_of_word) result text.now out.old.items out.new.items }
-    ensures room { StaysWithin out.old out.new 32 }
+    ensures room { StaysWithin out.old out.new row_bytes }
 {
     if text[0] != b' ' {
         return false;
@@ -87,9 +87,9 @@ fn put_one_word(out: &mut Vec<u8>, text: &[u8]) -> bool
 
 /// Appends the bytes of one to eight words, exactly where a space and eight digits stand for each.
 pub fn put_word_row(out: &mut Vec<u8>, text: &[u8]) -> bool
-    requires { vec_len out.old + 32 ≤ vec_capacity out.old }
+    requires { HasSpareRoom out.old row_bytes }
     ensures reads { Reads IsWordRow (flat_map spaced) (flat_map bytes_of_word) result text.now out.old.items out.new.items }
-    ensures room { StaysWithin out.old out.new 32 }
+    ensures room { StaysWithin out.old out.new row_bytes }
 {
     if text.len() == 9 {
         return put_one_word(out, text);

@@ -15,7 +15,7 @@ use x7_words::{is_same, word_of};
 #[inline(always)]
 fn numbers_of_eight(digits: u8x8) -> u8x8
     requires lanes { length digits ≡ 8 }
-    requires fit { Each1 (λ c. c < 256) digits }
+    requires bytes { Each1 (λ c. c < 256) digits }
     ensures { result ≡ map digit_value digits }
 {
     (digits & u8x8::splat(15)) + (digits >> 6) * u8x8::splat(9)
@@ -36,7 +36,7 @@ fn bytes_of_four_pairs(halves: u8x8) -> u8x4
 #[inline(always)]
 fn bytes_of_eight(digits: &[u8; 8]) -> [u8; 4]
     ensures value { result ≡ bytes_value digits.now }
-    ensures fit { (i : ℕ) → slice_index result i < 256 }
+    ensures bytes { (i : ℕ) → slice_index result i < 256 }
 {
     bytes_of_four_pairs(numbers_of_eight(u8x8::from_array(*digits))).to_array()
 }
@@ -94,7 +94,7 @@ pub fn decimal_below(digits: &[u8], limit: u64) -> Option<u64>
 #[inline(always)]
 fn numbers_of(digits: u8x64) -> u8x64
     requires lanes { length digits ≡ 64 }
-    requires fit { Each1 (λ c. c < 256) digits }
+    requires bytes { Each1 (λ c. c < 256) digits }
     ensures { result ≡ map digit_value digits }
 {
     (digits & u8x64::splat(15)) + (digits >> 6) * u8x64::splat(9)
@@ -128,7 +128,7 @@ fn bytes_of_halves(halves: u8x64) -> u8x32
 pub(crate) fn bytes_of_digits(digits: &[u8; 64]) -> [u8; 32]
     ensures value { result ≡ bytes_value digits.now }
     ensures long { length result ≡ 32 }
-    ensures fit { (i : ℕ) → slice_index result i < 256 }
+    ensures bytes { (i : ℕ) → slice_index result i < 256 }
 {
     bytes_of_halves(numbers_of(u8x64::from_array(*digits))).to_array()
 }
@@ -171,7 +171,7 @@ pub struct HexPrefix {
 pub fn prefix_of_hex(block: &[u8; 64]) -> HexPrefix
     ensures within { result.digits ≤ 64 }
     ensures long { length result.bytes ≡ 32 }
-    ensures fit { AreBytes result.bytes }
+    ensures bytes { AreBytes result.bytes }
     ensures digits { take result.digits block.now ≡ take result.digits (flat_map hex_byte result.bytes) }
     ensures most { (bs : List ℕ) → AreBytes bs → 2 * length bs ≤ 64 → take (2 * length bs) block.now ≡ flat_map hex_byte bs → 2 * length bs ≤ result.digits }
 {

@@ -1,9 +1,9 @@
 //! Lines of a row, written as the elements come: an open line takes more elements until it is full.
-ghost use Rattle.std.specs.Prelude.{◌≡◌, [], ◌∷◌, ◌<◌, ◌≤◌, ◌+◌, ◌*◌, ◌%◌, length, vec_len, vec_capacity, codes};
+ghost use Rattle.std.specs.Prelude.{◌≡◌, [], ◌∷◌, ◌<◌, ◌+◌, ◌*◌, ◌%◌, length, codes};
 ghost use Rattle.std.specs.List.{flat_map};
-ghost use Rattle.x7_text.specs.Appends.{Appends};
+ghost use Rattle.x7_text.specs.Appends.{Appends, HasSpareRoom};
 ghost use Rattle.x7_text.specs.Digits.{hex_byte};
-ghost use Rattle.x7_text.specs.Row.{line, line_start, line_end, next_in_line, open_text, in_line_after, spaced, close, PutsBytes, PutsWords};
+ghost use Rattle.x7_text.specs.Row.{line, line_start, line_end, next_in_line, in_line_after, spaced, close, PutsBytes, PutsWords, row_words, row_bytes, data_line_size, bytes_line_size, word_size, byte_size, rows_size, open_data, open_bytes};
 ghost use Rattle.x7_words.specs.Word.{words_of_bytes};
 
 use crate::block::{bytes_line, data_line, hex_of_few};
@@ -13,7 +13,7 @@ use x7_words::word_of;
 
 /// Appends the word that a line begins with, where no line is open.
 fn put_line_start(text: &mut Vec<u8>, word: &[u8], in_line: usize)
-    requires { vec_len text.old + length word.now ≤ vec_capacity text.old }
+    requires { HasSpareRoom text.old (length word.now) }
     ensures appends { Appends text.old text.new (line_start word.now in_line) (length word.now) }
 {
     if in_line == 0 {
@@ -24,7 +24,7 @@ fn put_line_start(text: &mut Vec<u8>, word: &[u8], in_line: usize)
 /// Appends the end of a line that the last element filled. Gives the count of elements in the open line.
 fn put_line_end(text: &mut Vec<u8>, full: usize, in_line: usize) -> usize
     requires open { in_line < full }
-    requires room { vec_len text.old + 1 ≤ vec_capacity text.old }
+    requires room { HasSpareRoom text.old 1 }
     ensures next { result ≡ next_in_line full in_line }
     ensures open { result < full }
     ensures appends { Appends text.old text.new (line_end full in_line) 1 }
@@ -38,11 +38,11 @@ fn put_line_end(text: &mut Vec<u8>, full: usize, in_line: usize) -> usize
 
 /// Appends a word to a `data` line of which `in_line` words stand (0 where no line is open). Gives that count afterwards.
 pub fn put_word(text: &mut Vec<u8>, in_line: usize, w: u32) -> usize
-    requires open { in_line < 8 }
-    requires room { vec_len text.old + 14 ≤ vec_capacity text.old }
-    ensures count { result ≡ in_line_after 8 in_line (w ∷ []) }
-    ensures open { result < 8 }
-    ensures appends { Appends text.old text.new (open_text 8 (codes "data") spaced in_line (w ∷ [])) 14 }
+    requires open { in_line < row_words }
+    requires room { HasSpareRoom text.old word_size }
+    ensures count { result ≡ in_line_after row_words in_line (w ∷ []) }
+    ensures open { result < row_words }
+    ensures appends { Appends text.old text.new (open_data in_line (w ∷ [])) word_size }
 {
     put_line_start(text, b"data", in_line);
     put(text, b" ");
@@ -52,9 +52,9 @@ pub fn put_word(text: &mut Vec<u8>, in_line: usize, w: u32) -> usize
 
 /// Appends a byte to a `bytes` line of which `in_line` bytes stand.
 fn put_byte(text: &mut Vec<u8>, in_line: usize, byte: u8) -> usize
-    requires open { in_line < 32 }
-    requires room { vec_len text.old + 9 ≤ vec_capacity text.old }
-    ensures { PutsBytes in_line (byte ∷ []) text.old text.new 9 result }
+    requires open { in_line < row_bytes }
+    requires room { HasSpareRoom text.old byte_size }
+    ensures { PutsBytes in_line (byte ∷ []) text.old text.new byte_size result }
 {
     put_line_start(text, b"bytes ", in_line);
     put(text, &hex_of_byte(byte));
@@ -63,7 +63,7 @@ fn put_byte(text: &mut Vec<u8>, in_line: usize, byte: u8) -> usize
 
 /// Appends the end of an open line, and nothing where none is open.
 pub fn put_close(text: &mut Vec<u8>, in_line: usize)
-    requires { vec_len text.old + 1 ≤ vec_capacity text.old }
+    requires { HasSpareRoom text.old 1 }
     ensures appends { Appends text.old text.new (close in_line) 1 }
 {
     if in_line > 0 {
@@ -73,8 +73,8 @@ pub fn put_close(text: &mut Vec<u8>, in_line: usize)
 
 /// Appends whole `data` lines of eight words each.
 fn put_data_lines(text: &mut Vec<u8>, lines: &[[u8; 32]])
-    requires { vec_len text.old + 77 * length lines.now ≤ vec_capacity text.old }
-    ensures appends { Appends text.old text.new (flat_map (λ bytes. line (codes "data") spaced (words_of_bytes bytes)) lines.now) (77 * length lines.now) }
+    requires { HasSpareRoom text.old (data_line_size * length lines.now) }
+    ensures appends { Appends text.old text.new (flat_map (λ bytes. line (codes "data") spaced (words_of_bytes bytes)) lines.now) (data_line_size * length lines.now) }
 {
     for bytes in lines {
         put(text, &data_line(bytes));
@@ -83,8 +83,8 @@ fn put_data_lines(text: &mut Vec<u8>, lines: &[[u8; 32]])
 
 /// Appends whole `bytes` lines.
 fn put_bytes_lines(text: &mut Vec<u8>, lines: &[[u8; 32]])
-    requires { vec_len text.old + 71 * length lines.now ≤ vec_capacity text.old }
-    ensures appends { Appends text.old text.new (flat_map (line (codes "bytes ") hex_byte) lines.now) (71 * length lines.now) }
+    requires { HasSpareRoom text.old (bytes_line_size * length lines.now) }
+    ensures appends { Appends text.old text.new (flat_map (line (codes "bytes ") hex_byte) lines.now) (bytes_line_size * length lines.now) }
 {
     for bytes in lines {
         put(text, &bytes_line(bytes));
@@ -93,9 +93,9 @@ fn put_bytes_lines(text: &mut Vec<u8>, lines: &[[u8; 32]])
 
 /// Appends the words of whole groups of four bytes, word by word.
 fn put_each_word(text: &mut Vec<u8>, in_line: usize, bytes: &[u8]) -> usize
-    requires open { in_line < 8 }
+    requires open { in_line < row_words }
     requires whole { length bytes.now % 4 ≡ 0 }
-    requires room { vec_len text.old + (3 * length bytes.now + 4) ≤ vec_capacity text.old }
+    requires room { HasSpareRoom text.old (3 * length bytes.now + 4) }
     ensures { PutsWords in_line (words_of_bytes bytes.now) text.old text.new (3 * length bytes.now + 1) result }
 {
     let (words, _) = bytes.as_chunks::<4>();
@@ -108,8 +108,8 @@ fn put_each_word(text: &mut Vec<u8>, in_line: usize, bytes: &[u8]) -> usize
 
 /// Appends bytes, byte by byte.
 fn put_each_byte(text: &mut Vec<u8>, in_line: usize, bytes: &[u8]) -> usize
-    requires open { in_line < 32 }
-    requires room { vec_len text.old + (3 * length bytes.now + 11) ≤ vec_capacity text.old }
+    requires open { in_line < row_bytes }
+    requires room { HasSpareRoom text.old (3 * length bytes.now + 11) }
     ensures { PutsBytes in_line bytes.now text.old text.new (3 * length bytes.now + 5) result }
 {
     let mut count = in_line;
@@ -121,8 +121,8 @@ fn put_each_byte(text: &mut Vec<u8>, in_line: usize, bytes: &[u8]) -> usize
 
 /// Appends bytes that leave the line open.
 fn put_few_bytes(text: &mut Vec<u8>, in_line: usize, bytes: &[u8]) -> usize
-    requires open { in_line + length bytes.now < 32 }
-    requires room { vec_len text.old + (2 * length bytes.now + 6) ≤ vec_capacity text.old }
+    requires open { in_line + length bytes.now < row_bytes }
+    requires room { HasSpareRoom text.old (2 * length bytes.now + 6) }
     ensures { PutsBytes in_line bytes.now text.old text.new (2 * length bytes.now + 6) result }
 {
     if bytes.is_empty() {
@@ -136,7 +136,7 @@ fn put_few_bytes(text: &mut Vec<u8>, in_line: usize, bytes: &[u8]) -> usize
 /// Appends the words of whole groups of four bytes to new `data` lines. Gives how many stand in the open line then.
 fn put_new_words(text: &mut Vec<u8>, bytes: &[u8]) -> usize
     requires whole { length bytes.now % 4 ≡ 0 }
-    requires room { vec_len text.old + (3 * length bytes.now + 4) ≤ vec_capacity text.old }
+    requires room { HasSpareRoom text.old (3 * length bytes.now + 4) }
     ensures { PutsWords 0 (words_of_bytes bytes.now) text.old text.new (3 * length bytes.now + 1) result }
 {
     let (lines, rest) = bytes.as_chunks::<32>();
@@ -146,7 +146,7 @@ fn put_new_words(text: &mut Vec<u8>, bytes: &[u8]) -> usize
 
 /// Appends bytes to new `bytes` lines. Gives how many stand in the open line then.
 fn put_new_bytes(text: &mut Vec<u8>, bytes: &[u8]) -> usize
-    requires { vec_len text.old + (3 * length bytes.now + 6) ≤ vec_capacity text.old }
+    requires { HasSpareRoom text.old (3 * length bytes.now + 6) }
     ensures { PutsBytes 0 bytes.now text.old text.new (3 * length bytes.now + 6) result }
 {
     let (lines, rest) = bytes.as_chunks::<32>();
@@ -157,12 +157,12 @@ fn put_new_bytes(text: &mut Vec<u8>, bytes: &[u8]) -> usize
 /// Appends the words of whole groups of four bytes, the first byte the highest, to `data` lines of which the open one
 /// has `in_line` words (0 where none is open). Gives that count afterwards. It takes no memory.
 pub fn put_words(text: &mut Vec<u8>, in_line: usize, bytes: &[u8]) -> usize
-    requires open { in_line < 8 }
+    requires open { in_line < row_words }
     requires whole { length bytes.now % 4 ≡ 0 }
-    requires room { vec_len text.old + (3 * length bytes.now + 16) ≤ vec_capacity text.old }
-    ensures count { result ≡ in_line_after 8 in_line (words_of_bytes bytes.now) }
-    ensures open { result < 8 }
-    ensures appends { Appends text.old text.new (open_text 8 (codes "data") spaced in_line (words_of_bytes bytes.now)) (3 * length bytes.now + 16) }
+    requires room { HasSpareRoom text.old (rows_size (length bytes.now)) }
+    ensures count { result ≡ in_line_after row_words in_line (words_of_bytes bytes.now) }
+    ensures open { result < row_words }
+    ensures appends { Appends text.old text.new (open_data in_line (words_of_bytes bytes.now)) (rows_size (length bytes.now)) }
 {
     if in_line == 0 {
         return put_new_words(text, bytes);
@@ -179,11 +179,11 @@ pub fn put_words(text: &mut Vec<u8>, in_line: usize, bytes: &[u8]) -> usize
 /// Appends bytes to `bytes` lines of which the open one has `in_line` bytes (0 where none is open). Gives that count
 /// afterwards. It takes no memory.
 pub fn put_bytes(text: &mut Vec<u8>, in_line: usize, bytes: &[u8]) -> usize
-    requires open { in_line < 32 }
-    requires room { vec_len text.old + (3 * length bytes.now + 16) ≤ vec_capacity text.old }
-    ensures count { result ≡ in_line_after 32 in_line bytes.now }
-    ensures open { result < 32 }
-    ensures appends { Appends text.old text.new (open_text 32 (codes "bytes ") hex_byte in_line bytes.now) (3 * length bytes.now + 16) }
+    requires open { in_line < row_bytes }
+    requires room { HasSpareRoom text.old (rows_size (length bytes.now)) }
+    ensures count { result ≡ in_line_after row_bytes in_line bytes.now }
+    ensures open { result < row_bytes }
+    ensures appends { Appends text.old text.new (open_bytes in_line bytes.now) (rows_size (length bytes.now)) }
 {
     if in_line == 0 {
         return put_new_bytes(text, bytes);

@@ -19,4 +19,4 @@ returns-then-not-is_same-clause-reads c =
 
 pub returns-clause-reads : goal.returns-clause-reads
 returns-clause-reads c =
-    yes_word_row c.args.text.now c.bytes_of_digits-bytes.result (drop 4 c.data_line.result) c.args.out.now.items c.put.new.text.items (4 + length c.args.text.now - 4) (length c.args.text.now / 9) (omega arith) c.bytes_of_digits-bytes.ensures.long c.bytes_of_digits-bytes.ensures.fit (ap (drop 4) c.data_line.ensures) (c.is_same.ensures.0 c.if-not-is_same.false) (omega arith) (omega arith) (omega arith) c.put.ensures.appends.items
+    yes_word_row c.args.text.now c.bytes_of_digits-bytes.result (drop 4 c.data_line.result) c.args.out.now.items c.put.new.text.items (4 + length c.args.text.now - 4) (length c.args.text.now / 9) (omega arith) c.bytes_of_digits-bytes.ensures.long c.bytes_of_digits-bytes.ensures.bytes (ap (drop 4) c.data_line.ensures) (c.is_same.ensures.0 c.if-not-is_same.false) (omega arith) (omega arith) (omega arith) c.put.ensures.appends.items

@@ -2,4 +2,4 @@ use Rattle.x7_text.proofs.DigitLemmas.{numbers_are}
 use Rattle.x7_text.proofs.reading.numbers_of_eight.Goals as goal
 
 pub returns : goal.returns
-returns c = numbers_are c.args.digits 8 c.requires.lanes c.requires.fit
+returns c = numbers_are c.args.digits 8 c.requires.lanes c.requires.bytes
