@@ -107,6 +107,7 @@ def bad():
     refused("a bit of a frame", raw[: header + 400] + bytes([raw[header + 400] ^ 1]) + raw[header + 401 :], "is damaged, at byte")
     refused("a text transfer", s.header(len(data)) + data.replace(b"\n", b"\r\n"), "isn't whole|no sync|damaged")
     refused("an uncompressed stream", s.bit(FULL), "all frames stand in one run")
+    refused("a Spartan-6 by its header", s.bit(SMALL, "6slx9tqg144"), "which is a Spartan-6, and no 7-series device")
     refused("no frames", s.data_of(s.HEAD + s.command("RCRC") + s.command("DESYNC")), "writes no IDCODE, or no frames")
     refused("no sync word", b"\xff" * 4000, "no sync word")
     refused("a header that is cut", raw[:30], "ends inside its header")
