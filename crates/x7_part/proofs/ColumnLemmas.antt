@@ -14,7 +14,7 @@ use Rattle.x7_part.specs.declared.column.Column.{Column}
 use Rattle.x7_part.specs.declared.slot.Slot.{Slot}
 use Rattle.x7_part.specs.declared.slot.Slot.TheVariants.{Frame, Pad, End}
 use Rattle.x7_part.specs.AddressOrder.{count_from, IsFollowedBy, IsLastIn}
-use Rattle.x7_part.specs.Column.{frames_of, slots_of, column_addresses, column_slots, IsTable, no_column, column}
+use Rattle.x7_part.specs.Column.{addresses_of_column, slots_of, column_addresses, column_slots, IsTable, no_column, column}
 use Rattle.x7_part.specs.Slot.{from}
 
 -- ---- numbers in a row
@@ -87,8 +87,8 @@ rank_is _ _ _ _ (column r s l c cs er es le pos top rest) (suc i) d h =
 
 pub slots_length : (c : Column) → length (slots_of c) ≡ c.count + c.pads
 slots_length c =
-    length-append (map Frame (frames_of c)) (replicate c.pads Pad)
-    ∙ rw (length-map (frames_of c) Frame, length_count_from c.first c.count, length-replicate c.pads Pad) refl
+    length-append (map Frame (addresses_of_column c)) (replicate c.pads Pad)
+    ∙ rw (length-map (addresses_of_column c) Frame, length_count_from c.first c.count, length-replicate c.pads Pad) refl
 
 pub slot_is : (r s l : ℕ) (cs : List Column) → IsTable r s l cs → (i : ℕ) (d : Column) → i < length cs →
     (get_or cs i d).slot ≡ s + length (column_slots (take i cs))
@@ -111,7 +111,7 @@ address_at cs t i j d h k =
     let c = get_or cs i d in
     let e : c.rank ≡ length (column_addresses (take i cs)) = rank_is 0 0 0 cs t i d h ∙ zero-add (length (column_addresses (take i cs))) in
     let len : length (count_from c.first c.count) ≡ c.count = length_count_from c.first c.count in
-    rw e (get_or-flat_map frames_of cs i j d 0 h (omega arith) ∙ get_or_count_from c.first c.count j 0 k)
+    rw e (get_or-flat_map addresses_of_column cs i j d 0 h (omega arith) ∙ get_or_count_from c.first c.count j 0 k)
 
 -- the addresses end after the last column's
 pub ends : (r s l : ℕ) (cs : List Column) → IsTable r s l cs → (i : ℕ) (d : Column) → i < length cs →
@@ -136,7 +136,7 @@ pub lies_nowhere : (cs : List Column) (x : ℕ) →
 unfolding column_addresses
 lies_nowhere [] x h (k, low, e) = omega arith
 lies_nowhere (c ∷ cs) x h in' =
-    elim (Contains-append_cases (frames_of c) (column_addresses cs) x in') [
+    elim (Contains-append_cases (addresses_of_column c) (column_addresses cs) x in') [
       | inl here ↦ let b = count_from_bounds c.first c.count x here in h 0 c (omega arith) b.0 b.1
       | inr later ↦ lies_nowhere cs x (λ i d low. h (suc i) d (omega arith)) later
     ]
@@ -252,15 +252,15 @@ slot_in cs t i j d h k =
 
 frame_in : (c : Column) (j : ℕ) → j < c.count → get_or (slots_of c) j End ≡ Frame (c.first + j)
 frame_in c j h =
-    let len : length (frames_of c) ≡ c.count = length_count_from c.first c.count in
-    let mlen : length (map Frame (frames_of c)) ≡ c.count = length-map (frames_of c) Frame ∙ len in
-    get_or_append_left (map Frame (frames_of c)) (replicate c.pads Pad) End j (omega arith)
-    ∙ get_or-map Frame (frames_of c) j 0 End (omega arith) ∙ ap (λ (x : ℕ). Frame x) (get_or_count_from c.first c.count j 0 h)
+    let len : length (addresses_of_column c) ≡ c.count = length_count_from c.first c.count in
+    let mlen : length (map Frame (addresses_of_column c)) ≡ c.count = length-map (addresses_of_column c) Frame ∙ len in
+    get_or_append_left (map Frame (addresses_of_column c)) (replicate c.pads Pad) End j (omega arith)
+    ∙ get_or-map Frame (addresses_of_column c) j 0 End (omega arith) ∙ ap (λ (x : ℕ). Frame x) (get_or_count_from c.first c.count j 0 h)
 
 pad_in : (c : Column) (j : ℕ) → c.count ≤ j → j < c.count + c.pads → get_or (slots_of c) j End ≡ Pad
 pad_in c j h k =
-    let mlen : length (map Frame (frames_of c)) ≡ c.count = length-map (frames_of c) Frame ∙ length_count_from c.first c.count in
-    get_or-append_right (map Frame (frames_of c)) (replicate c.pads Pad) c.count j End mlen h
+    let mlen : length (map Frame (addresses_of_column c)) ≡ c.count = length-map (addresses_of_column c) Frame ∙ length_count_from c.first c.count in
+    get_or-append_right (map Frame (addresses_of_column c)) (replicate c.pads Pad) c.count j End mlen h
     ∙ get_or-replicate c.pads (j - c.count) Pad End (omega arith)
 
 pub slot_frame : (cs : List Column) → IsTable 0 0 0 cs → (i p : ℕ) (d : Column) → i < length cs →
@@ -407,7 +407,7 @@ unfolding column_slots
 from_at _ _ _ _ (no_column r s l) i far d h low high = absurd (omega arith)
 from_at _ _ _ _ (column r s l c cs er es le pos top rest) zero far d h low high =
     let z : c.slot + (far - c.first) - s ≡ far - c.first = omega arith in
-    rw (z, append_assoc (map Frame (frames_of c)) (replicate c.pads Pad) (column_slots cs))
+    rw (z, append_assoc (map Frame (addresses_of_column c)) (replicate c.pads Pad) (column_slots cs))
     (stop_here far c.first c.count (replicate c.pads Pad ++ column_slots cs) low high)
 from_at _ _ _ _ (column r s l c cs er es le pos top rest) (suc i) far d h low high =
     let f = starts (r + c.count) (s + c.count + c.pads) (c.first + c.count) cs rest i d (omega arith) in
@@ -417,7 +417,7 @@ from_at _ _ _ _ (column r s l c cs er es le pos top rest) (suc i) far d h low hi
     let ih : from far (column_slots cs) ≡ drop (x.slot + (far - x.first) - (s + c.count + c.pads)) (column_slots cs) =
     from_at (r + c.count) (s + c.count + c.pads) (c.first + c.count) cs rest i far d (omega arith) low high in
     let l : from far (slots_of c ++ column_slots cs) ≡ from far (column_slots cs) =
-    ap (from far) (append_assoc (map Frame (frames_of c)) (replicate c.pads Pad) (column_slots cs))
+    ap (from far) (append_assoc (map Frame (addresses_of_column c)) (replicate c.pads Pad) (column_slots cs))
     ∙ skip_frames far c.first c.count (replicate c.pads Pad ++ column_slots cs) (omega arith) ∙ skip_pads far c.pads (column_slots cs) in
     l ∙ ih ∙ sym (ap (λ n. drop n (slots_of c ++ column_slots cs)) z ∙ drop-append-add (slots_of c) (column_slots cs) (x.slot + (far - x.first) - (s + c.count + c.pads)))
 

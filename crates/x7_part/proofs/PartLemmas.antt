@@ -1,17 +1,18 @@
 -- A part and the table of its columns.
-use Rattle.std.proofs.Common.{◌≡◌, ℕ, ◌+◌, ◌*◌, ◌^◌, ◌<◌, ◌≤◌, List, [], ◌∷◌, ◌++◌, length, map, refl, arith, length-append}
+use Rattle.std.proofs.Common.{◌≡◌, ℕ, ◌+◌, ◌*◌, ◌<◌, ◌≤◌, List, [], ◌∷◌, ◌++◌, length, map, refl, arith, length-append}
 use Rattle.std.specs.Prelude.{sum, All}
 use Rattle.std.proofs.lemmas.List.{length-map}
 use Rattle.std.proofs.lemmas.List.Elements.{All-head}
 use Rattle.std.proofs.lemmas.List.Sums.{sum_by-cons}
 use Rattle.x7_part.specs.declared.column.Column.{Column}
 use Rattle.x7_part.specs.declared.slot.Slot.TheVariants.{Frame, Pad}
+use Rattle.x7_part.specs.Limits.{most_minors}
 use Rattle.x7_part.specs.Part.{FieldWidths, RowData, PartData}
 use Rattle.x7_part.specs.Ranges.{IsPart}
 use Rattle.x7_part.specs.Address.{AreRows, no_row, row}
 use Rattle.x7_part.specs.AddressOrder.{addresses_of, addresses, addresses_in}
 use Rattle.x7_part.specs.Slot.{slots, slots_in}
-use Rattle.x7_part.specs.Column.{column_addresses, column_slots, IsTable, table_of}
+use Rattle.x7_part.specs.Column.{AreColumns, AreColumnsOf, column_addresses, column_slots, table_of}
 use Rattle.x7_part.proofs.RowLemmas.{part_table, part_addresses, part_slots}
 use Rattle.x7_part.proofs.TableLemmas.{frames_cons}
 
@@ -26,35 +27,23 @@ slots_count far (r ∷ rows) =
     let ih = slots_count far rows in
     omega arith
 
-pub first_minors : (minors : List ℕ) → 1 ≤ length minors → All (λ n. (1 ≤ n) × (n ≤ 128)) minors → 0 < sum minors
+pub first_minors : (minors : List ℕ) → 1 ≤ length minors → All (λ n. (1 ≤ n) × (n ≤ most_minors)) minors → 0 < sum minors
 first_minors [] h all = absurd (omega arith)
 first_minors (n ∷ minors) h all =
     let s : sum (n ∷ minors) ≡ n + sum minors = sum_by-cons (λ x. x) n minors in
-    let low = (All-head (λ n. (1 ≤ n) × (n ≤ 128)) n minors all).0 in omega arith
+    let low = (All-head (λ n. (1 ≤ n) × (n ≤ most_minors)) n minors all).0 in omega arith
 
 pub some_address : (far : FieldWidths) (least : ℕ) (rows : List RowData) → AreRows far least rows → 1 ≤ length rows → 0 < length (addresses far rows)
 some_address far _ _ (no_row f least) h = absurd (omega arith)
 some_address far _ _ (row f least r rows le is rest) h =
     let f = frames_cons far r rows in let s = first_minors r.minors is.some is.minors in omega arith
 
--- the columns are the table of a part's rows
-pub record Stands (cs : List Column) (part : PartData) : Type 0 where
-  pub table : IsTable 0 0 0 cs
-  pub listed : column_addresses cs ≡ addresses_in part
-  pub placed : column_slots cs ≡ slots_in part
-  pub few : length (column_addresses cs) ≤ 131072
-  pub some : 0 < length (column_addresses cs)
-  pub fits : length (column_slots cs) < 2 ^ 63
-  pub is : IsPart part
-
-stands_so : (cs : List Column) (part : PartData) → cs ≡ table_of part.far 0 0 part.rows → IsPart part → Stands cs part
-stands_so cs part e is =
-    let a : column_addresses cs ≡ addresses_in part = part_addresses part.far cs part.rows e in
-    let s : column_slots cs ≡ slots_in part = part_slots part.far cs part.rows e is.rows in
-    let n = slots_count part.far part.rows in
-    let some = some_address part.far 0 part.rows is.rows is.some in
+-- the columns that are made of a part's rows are the part's
+pub columns_are : (cs : List Column) (seen part : PartData) → cs ≡ table_of seen.far 0 0 seen.rows → IsPart seen → seen ≡ part → AreColumnsOf part cs
+columns_are cs seen part e is same =
+    let a : column_addresses cs ≡ addresses_in seen = part_addresses seen.far cs seen.rows e in
+    let s : column_slots cs ≡ slots_in seen = part_slots seen.far cs seen.rows e is.rows in
+    let n = slots_count seen.far seen.rows in
     let few = is.frames in let rows = is.few in
-    record { table = part_table part.far cs part.rows e is.far is.rows; listed = a; placed = s; few = rw a few; some = rw a some; fits = rw s (omega arith); is = is }
-
-pub stands : (cs : List Column) (seen part : PartData) → cs ≡ table_of seen.far 0 0 seen.rows → IsPart seen → seen ≡ part → Stands cs part
-stands cs seen part e is same = rw (← same) (stands_so cs seen e is)
+    let columns : AreColumns cs = record { table = part_table seen.far cs seen.rows e is.far is.rows; addresses = rw a (omega arith); slots = rw s (omega arith) } in
+    rw (← same) (record { is = is; are = columns; addresses = a; slots = s })

@@ -13,13 +13,14 @@ use Rattle.x7_part.specs.declared.fault.PartFault.{PartFault}
 use Rattle.x7_part.specs.declared.fault.PartFault.TheVariants.{Toml, Range, TooMany, NoMemory}
 use Rattle.x7_part.specs.declared.fault.PartKey.TheVariants as key
 use Rattle.x7_part.specs.Keys.{top}
+use Rattle.x7_part.specs.Limits.{least_frame_words, most_frame_words, most_rows, most_frames, most_words}
 use Rattle.x7_part.specs.Part.{RowData, PartData}
 use Rattle.x7_part.specs.Ranges.{IsPart}
 use Rattle.x7_part.specs.Address.{IsRow}
 use Rattle.x7_part.specs.declared.settings.Settings.{Settings}
 use Rattle.x7_part.specs.AddressOrder.{addresses}
 use Rattle.x7_part.specs.Values.{RowValues, TopValues, top_values, settings_by_values, row_by_values, rows_in_file, part_data, part_with}
-use Rattle.x7_part.specs.PartChecks.{fault_of_call, unless, first_of, rows_fault, is_in, is_long, is_name, is_odd, is_unit, are_widths_or_none, row_range_fault, type_fault, other_fault, number_range_fault, top_range_fault, range_fault}
+use Rattle.x7_part.specs.PartChecks.{fault_of_call, AnswersDue, unless, first_of, rows_fault, is_in, is_long, is_name, is_odd, is_unit, are_widths_or_none, row_range_fault, type_fault, other_fault, number_range_fault, top_range_fault, range_fault}
 use Rattle.x7_part.specs.Row.{same_row_fault, has_few_frames, frames_fault, in_order}
 use Rattle.x7_part.specs.PartFile.{first_fault, part_in, part_of_table, part_unless, part_from}
 use Rattle.x7_part.proofs.OrderLemmas.{unless_none, ordered, frames_sum, frames_permutation}
@@ -28,10 +29,10 @@ use Rattle.x7_part.proofs.RangeLemmas.{nones, in_range, name_in, long_in, printe
 
 -- ---- the part
 
-few : (words frames rows : ℕ) → has_few_frames words frames rows ≡ true → (frames ≤ 131072) × (words * (frames + 2 * rows) ≤ 13277056)
+few : (words frames rows : ℕ) → has_few_frames words frames rows ≡ true → (frames ≤ most_frames) × (words * (frames + 2 * rows) ≤ most_words)
 few words frames rows h =
-    let p = and_parts (nat_le frames 131072) (nat_le (words * (frames + 2 * rows)) 13277056) h in
-    (leb-true frames 131072 p.0, leb-true (words * (frames + 2 * rows)) 13277056 p.1)
+    let p = and_parts (nat_le frames most_frames) (nat_le (words * (frames + 2 * rows)) most_words) h in
+    (leb-true frames most_frames p.0, leb-true (words * (frames + 2 * rows)) most_words p.1)
 
 made : (t : Members) → type_fault t ≡ None → other_fault (top_values t) ≡ None → range_fault (top_values t) ≡ None → same_row_fault [] (rows_in_file t) ≡ None →
     frames_fault (part_with (top_values t) (rows_in_file t)) ≡ None → IsPart (part_from t)
@@ -42,14 +43,14 @@ made t types others ranges apart frames =
     let rows = rows_in_file t in
     let sorted = in_order s.far rows in
     let each = nones (top_range_fault v ∷ rows_fault row_range_fault 1 v.rows ∷ []) ranges in
-    let all = nones (unless (is_name v.name) (Range (top key.Name)) ∷ number_range_fault v ∷ unless (is_long 1 192 (length v.rows)) (Range (top key.Row)) ∷ []) each.0 in
+    let all = nones (unless (is_name v.name) (Range (top key.Name)) ∷ number_range_fault v ∷ unless (is_long 1 most_rows (length v.rows)) (Range (top key.Row)) ∷ []) each.0 in
     let h = nones (
     unless (is_odd v.idcode) (Range (top key.Idcode))
     ∷ unless (is_in 0 7 v.mode) (Range (top key.Mode))
     ∷ unless (is_in 0 3 v.bus_width) (Range (top key.BusWidth))
     ∷ unless (is_in 0 65535 v.lock) (Range (top key.Lock))
     ∷ unless (is_in 0 65535 v.matched) (Range (top key.Match))
-    ∷ unless (is_in 2 255 v.words) (Range (top key.FrameWords))
+    ∷ unless (is_in least_frame_words most_frame_words v.words) (Range (top key.FrameWords))
     ∷ unless (are_widths_or_none v.far) (Range (top key.Far))
     ∷ unless (is_unit v.start_unit) (Range (top key.StartUnit))
     ∷ []) all.1.0 in
@@ -59,7 +60,7 @@ made t types others ranges apart frames =
     let lock = (in_range 0 65535 v.lock (unless_none (is_in 0 65535 v.lock) (Range (top key.Lock)) h.1.1.1.0)).1 in
     let matched = (in_range 0 65535 v.matched (unless_none (is_in 0 65535 v.matched) (Range (top key.Match)) h.1.1.1.1.0)).1 in
     let far = far_is v.far (unless_none (are_widths_or_none v.far) (Range (top key.Far)) h.1.1.1.1.1.1.0) in
-    let many = long_in 1 192 (length v.rows) (unless_none (is_long 1 192 (length v.rows)) (Range (top key.Row)) all.1.1.0) in
+    let many = long_in 1 most_rows (length v.rows) (unless_none (is_long 1 most_rows (length v.rows)) (Range (top key.Row)) all.1.1.0) in
     let count : length rows ≡ length v.rows = length-map v.rows row_by_values in
     let same = ordered_same s.far rows in
     let are = ordered s.far rows sorted far (rows_are 1 v.rows each.1.0) apart same (ordered_sorted s.far rows) in
@@ -76,7 +77,7 @@ made t types others ranges apart frames =
       bus_width = (in_range 0 3 v.bus_width (unless_none (is_in 0 3 v.bus_width) (Range (top key.BusWidth)) h.1.1.0)).1;
       lock = omega (arith, lock);
       matched = omega (arith, matched);
-      words = in_range 2 255 v.words (unless_none (is_in 2 255 v.words) (Range (top key.FrameWords)) h.1.1.1.1.1.0);
+      words = in_range least_frame_words most_frame_words v.words (unless_none (is_in least_frame_words most_frame_words v.words) (Range (top key.FrameWords)) h.1.1.1.1.1.0);
       far = far;
       start_unit = unit_in v.start_unit (unless_none (is_unit v.start_unit) (Range (top key.StartUnit)) h.1.1.1.1.1.1.1.0);
       some = (let low = many.0 in omega arith);
@@ -192,11 +193,11 @@ ranges_none : (text : List ℕ) (t : Members) (v : TopValues) (s : Settings) (ro
 unfolding range_fault
 ranges_none text t v s rows h = rw (← h.before, h.each) refl
 
-pub few_rows : (text : List ℕ) (t : Members) (v : TopValues) (s : Settings) (rows : List RowData) → Passed text t v s rows → length rows ≤ 192
+pub few_rows : (text : List ℕ) (t : Members) (v : TopValues) (s : Settings) (rows : List RowData) → Passed text t v s rows → length rows ≤ most_rows
 unfolding top_range_fault
 few_rows text t v s rows h =
-    let all = nones (unless (is_name v.name) (Range (top key.Name)) ∷ number_range_fault v ∷ unless (is_long 1 192 (length v.rows)) (Range (top key.Row)) ∷ []) (sym h.before) in
-    let many = (long_in 1 192 (length v.rows) (unless_none (is_long 1 192 (length v.rows)) (Range (top key.Row)) all.1.1.0)).1 in
+    let all = nones (unless (is_name v.name) (Range (top key.Name)) ∷ number_range_fault v ∷ unless (is_long 1 most_rows (length v.rows)) (Range (top key.Row)) ∷ []) (sym h.before) in
+    let many = (long_in 1 most_rows (length v.rows) (unless_none (is_long 1 most_rows (length v.rows)) (Range (top key.Row)) all.1.1.0)).1 in
     let count : length rows ≡ length v.rows = ap length h.made ∙ length-map v.rows row_by_values in
     omega arith
 
@@ -248,10 +249,26 @@ pub reported_from : {T : Type 0} (r : Result T PartFault) (fault : PartFault) �
 reported_from (Ok x) fault h = absurd (false≢true h.0)
 reported_from (Err e) fault h = ap Some h.1
 
+-- a fault that is due was handed on
+pub due_from : {T : Type 0} (r : Result T PartFault) (fault : PartFault) (due : Option PartFault) → IsErr r × IsErrAnd r (λ e. e ≡ fault) → Some fault ≡ due → AnswersDue due r
+due_from (Ok x) fault due h is = absurd (false≢true h.0)
+due_from (Err e) fault due h is = inr (sym is ∙ ap Some (sym h.1))
+
+-- a fault that is due, or want of memory, was handed on
+pub due_or_memory : {T : Type 0} (r : Result T PartFault) (fault : PartFault) (due : Option PartFault) → IsErr r × IsErrAnd r (λ e. e ≡ fault) →
+    (fault ≡ NoMemory) ⊎ (due ≡ Some fault) → AnswersDue due r
+due_or_memory (Ok x) fault due h is = absurd (false≢true h.0)
+due_or_memory (Err e) fault due h is = rw h.1 is
+
+-- want of memory, or the fault that is due
+pub or_memory : (fault : PartFault) (one due : Option PartFault) → (one ≡ Some fault → due ≡ Some fault) → (fault ≡ NoMemory) ⊎ (one ≡ Some fault) → (fault ≡ NoMemory) ⊎ (due ≡ Some fault)
+or_memory fault one due f (inl e) = inl e
+or_memory fault one due f (inr e) = inr (f e)
+
 -- the start unit is the first number out of range
 pub unit_reported : (v : TopValues) (fault : PartFault) → None ≡ unless (is_odd v.idcode) (Range (top key.Idcode)) → None ≡ unless (is_in 0 7 v.mode) (Range (top key.Mode)) →
     None ≡ unless (is_in 0 3 v.bus_width) (Range (top key.BusWidth)) → None ≡ unless (is_in 0 65535 v.lock) (Range (top key.Lock)) →
-    None ≡ unless (is_in 0 65535 v.matched) (Range (top key.Match)) → None ≡ unless (is_in 2 255 v.words) (Range (top key.FrameWords)) →
+    None ≡ unless (is_in 0 65535 v.matched) (Range (top key.Match)) → None ≡ unless (is_in least_frame_words most_frame_words v.words) (Range (top key.FrameWords)) →
     None ≡ unless (are_widths_or_none v.far) (Range (top key.Far)) → Some fault ≡ unless (is_unit v.start_unit) (Range (top key.StartUnit)) → Some fault ≡ number_range_fault v
 unfolding number_range_fault
 unit_reported v fault idcode mode bus_width lock matched words far unit = rw (← idcode, ← mode, ← bus_width, ← lock, ← matched, ← words, ← far, ← unit) refl

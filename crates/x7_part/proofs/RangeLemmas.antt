@@ -10,6 +10,7 @@ use Rattle.x7_part.specs.declared.fault.PartFault.{PartFault}
 use Rattle.x7_part.specs.declared.fault.PartFault.TheVariants.{Range}
 use Rattle.x7_part.specs.declared.fault.PartKey.TheVariants as key
 use Rattle.x7_part.specs.Keys.{in_row}
+use Rattle.x7_part.specs.Limits.{most_columns, most_minors, IsStartUnit}
 use Rattle.x7_part.specs.Address.{IsRow, AreWidths}
 use Rattle.x7_part.specs.Values.{RowValues, natural, row_by_values, widths_of}
 use Rattle.x7_part.specs.PartChecks.{unless, first_of, rows_fault, next_row_number, is_in, is_long, are_printed, is_name, is_odd, is_unit, are_in, are_minors, are_widths, are_widths_or_none, row_range_fault}
@@ -58,7 +59,7 @@ or_cases false b h = inr h
 one_number : (n : ℕ) (z : ℤ) → is_in n n z ≡ true → natural z ≡ n
 one_number n z h = let r = in_range n n z h in let low = r.0 in let high = r.1 in omega arith
 
-pub unit_in : (z : ℤ) → is_unit z ≡ true → (natural z ≡ 1) ⊎ (natural z ≡ 256)
+pub unit_in : (z : ℤ) → is_unit z ≡ true → IsStartUnit (natural z)
 unfolding is_unit
 unit_in z h = elim (or_cases (is_in 1 1 z) (is_in 256 256 z) h) [ inl first ↦ inl (one_number 1 z first) | inr second ↦ inr (one_number 256 z second) ]
 
@@ -90,22 +91,22 @@ unfolding are_widths_or_none
 far_is None h = record { minor = (omega arith, omega arith); column = (omega arith, omega arith); row = (omega arith, omega arith); half = refl; block = (omega arith, omega arith); sum = omega arith }
 far_is (Some zs) h = widths_are zs h
 
-minors_in : (zs : List ℤ) → are_in 1 128 zs ≡ true → All (λ n. (1 ≤ n) × (n ≤ 128)) (map natural zs)
-minors_in [] h = All-nil (λ n. (1 ≤ n) × (n ≤ 128))
+minors_in : (zs : List ℤ) → are_in 1 most_minors zs ≡ true → All (λ n. (1 ≤ n) × (n ≤ most_minors)) (map natural zs)
+minors_in [] h = All-nil (λ n. (1 ≤ n) × (n ≤ most_minors))
 minors_in (z ∷ zs) h =
-    let p = and_parts (is_in 1 128 z) (are_in 1 128 zs) h in
-    All-cons (λ n. (1 ≤ n) × (n ≤ 128)) (natural z) (map natural zs) (in_range 1 128 z p.0) (minors_in zs p.1)
+    let p = and_parts (is_in 1 most_minors z) (are_in 1 most_minors zs) h in
+    All-cons (λ n. (1 ≤ n) × (n ≤ most_minors)) (natural z) (map natural zs) (in_range 1 most_minors z p.0) (minors_in zs p.1)
 
 -- the numbers of minors of a row
 pub record Minors (minors : List ℕ) : Type 0 where
   pub some : 1 ≤ length minors
-  pub columns : length minors ≤ 1024
-  pub each : All (λ n. (1 ≤ n) × (n ≤ 128)) minors
+  pub columns : length minors ≤ most_columns
+  pub each : All (λ n. (1 ≤ n) × (n ≤ most_minors)) minors
 
 pub minors_are : (zs : List ℤ) (fault : PartFault) → unless (are_minors zs) fault ≡ None → Minors (map natural zs)
 minors_are zs fault e =
-    let m = and_parts (is_long 1 1024 (length zs)) (are_in 1 128 zs) (unless_none (are_minors zs) fault e) in
-    let many = long_in 1 1024 (length zs) m.0 in
+    let m = and_parts (is_long 1 most_columns (length zs)) (are_in 1 most_minors zs) (unless_none (are_minors zs) fault e) in
+    let many = long_in 1 most_columns (length zs) m.0 in
     let l = length-map zs natural in
     record {
       some = (let s = many.0 in omega arith);

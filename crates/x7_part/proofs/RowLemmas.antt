@@ -7,13 +7,14 @@ use Rattle.std.proofs.lemmas.List.{length-drop, get_or_default}
 use Rattle.std.proofs.lemmas.List.Concat.{flat_map-append}
 use Rattle.std.proofs.lemmas.List.Elements.{All-head, All-tail}
 use Rattle.x7_part.specs.declared.column.Column.{Column}
+use Rattle.x7_part.specs.Limits.{most_minors}
 use Rattle.x7_part.specs.Part.{FieldWidths, RowData}
 use Rattle.x7_part.specs.declared.slot.Slot.{Slot}
 use Rattle.x7_part.specs.declared.slot.Slot.TheVariants.{Frame, Pad}
 use Rattle.x7_part.specs.Slot.{slots}
 use Rattle.x7_part.specs.AddressOrder.{count_from, row_addresses, addresses, Rises, risen, rise}
 use Rattle.x7_part.specs.Address.{row_address, column_low, row_low, AreWidths, AreRows, no_row, row}
-use Rattle.x7_part.specs.Column.{frames_of, slots_of, column_addresses, column_slots, IsTable, no_column, column, row_columns, table_of}
+use Rattle.x7_part.specs.Column.{addresses_of_column, slots_of, column_addresses, column_slots, IsTable, no_column, column, row_columns, table_of}
 use Rattle.x7_part.proofs.ColumnLemmas.{length_count_from}
 use Rattle.x7_part.proofs.WidthLemmas.{column_end, columns_fit, pitch_least, row_top}
 
@@ -21,7 +22,7 @@ use Rattle.x7_part.proofs.WidthLemmas.{column_end, columns_fit, pitch_least, row
 
 addresses_append : (xs ys : List Column) → column_addresses (xs ++ ys) ≡ column_addresses xs ++ column_addresses ys
 unfolding column_addresses
-addresses_append xs ys = flat_map-append frames_of xs ys
+addresses_append xs ys = flat_map-append addresses_of_column xs ys
 
 slots_append : (xs ys : List Column) → column_slots (xs ++ ys) ≡ column_slots xs ++ column_slots ys
 unfolding column_slots
@@ -68,18 +69,18 @@ moved r s l r' s' l' cs er es h t = rw (← er, ← es) (lower r s l l' cs h t)
 
 -- a row's columns, and a table after them; `width` is that of all the row's columns from this one on
 row_table : (pitch base i rank slot least top : ℕ) (minors : List ℕ) (rest : List Column) → 128 ≤ pitch → 0 < length minors →
-    least ≤ base + i * pitch → base + (i + length minors) * pitch ≤ top → top ≤ 2 ^ 32 → All (λ n. (1 ≤ n) × (n ≤ 128)) minors →
+    least ≤ base + i * pitch → base + (i + length minors) * pitch ≤ top → top ≤ 2 ^ 32 → All (λ n. (1 ≤ n) × (n ≤ most_minors)) minors →
     IsTable (rank + length (row_addresses pitch base i minors)) (slot + length (row_addresses pitch base i minors) + 2) top rest →
     IsTable rank slot least (row_columns pitch base i rank slot minors ++ rest)
 row_table pitch base i rank slot least top [] rest p some le short high all t = absurd (omega arith)
 row_table pitch base i rank slot least top (n ∷ []) rest p some le short high all t =
-    let size = All-head (λ n. (1 ≤ n) × (n ≤ 128)) n [] all in
+    let size = All-head (λ n. (1 ≤ n) × (n ≤ most_minors)) n [] all in
     let end = column_end i 1 pitch in
     let len : length (count_from (base + i * pitch) n ++ []) ≡ n + 0 = length-append (count_from (base + i * pitch) n) [] ∙ ap (λ x. x + 0) (length_count_from (base + i * pitch) n) in
     column rank slot least _ rest refl refl le size.0 (omega arith)
     (moved _ _ _ (rank + n) (slot + n + 2) (base + i * pitch + n) rest (omega arith) (omega arith) (omega arith) t)
 row_table pitch base i rank slot least top (n ∷ m ∷ minors) rest p some le short high all t =
-    let size = All-head (λ n. (1 ≤ n) × (n ≤ 128)) n (m ∷ minors) all in
+    let size = All-head (λ n. (1 ≤ n) × (n ≤ most_minors)) n (m ∷ minors) all in
     let more = row_addresses pitch base (i + 1) (m ∷ minors) in
     let next_end = column_end i 1 pitch in
     let end = column_end i (length (n ∷ m ∷ minors)) pitch in
@@ -90,7 +91,7 @@ row_table pitch base i rank slot least top (n ∷ m ∷ minors) rest p some le s
     moved _ _ _ (rank + n + length more) (slot + n + length more + 2) top rest (omega arith) (omega arith) (omega arith) t in
     let next : IsTable (rank + n) (slot + n) (base + i * pitch + n) (row_columns pitch base (i + 1) (rank + n) (slot + n) (m ∷ minors) ++ rest) =
     row_table pitch base (i + 1) (rank + n) (slot + n) (base + i * pitch + n) top (m ∷ minors) rest p (omega arith) (omega arith)
-    (rw same short) high (All-tail (λ n. (1 ≤ n) × (n ≤ 128)) n (m ∷ minors) all) behind in
+    (rw same short) high (All-tail (λ n. (1 ≤ n) × (n ≤ most_minors)) n (m ∷ minors) all) behind in
     column rank slot least _ _ refl refl le size.0 (omega arith)
     (moved _ _ _ (rank + n) (slot + n + 0) (base + i * pitch + n) _ refl (omega arith) (omega arith) next)
 

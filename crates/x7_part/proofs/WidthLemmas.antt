@@ -3,6 +3,7 @@ use Rattle.std.proofs.Common.{◌≡◌, ℕ, ◌+◌, ◌*◌, ◌^◌, ◌<◌
 use Rattle.std.proofs.lemmas.Nat.{pow-add, pow_pos}
 use Rattle.std.proofs.lemmas.Bool.{cases_order}
 use Rattle.std.proofs.Math.Nat.{pow-le-pow_right, add-mul, mul-le-mul_right, mul-le-mul_left}
+use Rattle.x7_part.specs.Limits.{most_columns}
 use Rattle.x7_part.specs.Part.{FieldWidths, RowData}
 use Rattle.x7_part.specs.Row.{IsBefore}
 use Rattle.x7_part.specs.Address.{row_address, column_low, row_low, half_low, block_low, address_width, AreWidths, IsRow}
@@ -17,7 +18,7 @@ pub pitch_least : (far : FieldWidths) → AreWidths far → 128 ≤ 2 ^ column_l
 pitch_least far w = two_to 7 far.minor w.minor.0
 
 -- the columns of a row stay below the next row
-pub columns_fit : (far : FieldWidths) (n : ℕ) → AreWidths far → n ≤ 1024 → (0 + n) * 2 ^ column_low far ≤ 2 ^ row_low far
+pub columns_fit : (far : FieldWidths) (n : ℕ) → AreWidths far → n ≤ most_columns → (0 + n) * 2 ^ column_low far ≤ 2 ^ row_low far
 columns_fit far n w h =
     let most : n ≤ 2 ^ far.column = (let c = two_to 10 far.column w.column.0 in omega arith) in
     let times : n * 2 ^ far.minor ≤ 2 ^ far.column * 2 ^ far.minor = mul-le-mul_right (2 ^ far.minor) most in

@@ -1,6 +1,7 @@
 -- Frame addresses (UG470, frame address register): minor, column, row, half (0 top, 1 bottom) and block type, from bit 0 up,
 -- each with the part's width.
 use Rattle.std.specs.Prelude.{◌≡◌, ℕ, ◌+◌, ◌*◌, ◌^◌, ◌<◌, ◌≤◌, List, [], ◌∷◌, length, slice_index, Contains, All}
+use Rattle.x7_part.specs.Limits.{most_columns, most_minors}
 use Rattle.x7_part.specs.Part.{FieldWidths, RowData, PartData}
 
 -- the lowest bit of the column
@@ -57,8 +58,8 @@ pub record IsRow (r : RowData) : Type 0 where
   pub half : r.half ≤ 1
   pub row : r.row ≤ 31
   pub some : 1 ≤ length r.minors
-  pub columns : length r.minors ≤ 1024
-  pub minors : All (λ n. (1 ≤ n) × (n ≤ 128)) r.minors
+  pub columns : length r.minors ≤ most_columns
+  pub minors : All (λ n. (1 ≤ n) × (n ≤ most_minors)) r.minors
 
 -- rows in range, in number order and no two of them the same; the first has its address at `least` or above
 pub data AreRows : FieldWidths → ℕ → List RowData → Type 0 where

@@ -1,20 +1,22 @@
 -- The table of columns that addresses and slots are looked up in (this project's choice).
 use Rattle.std.specs.Prelude.{◌≡◌, ℕ, ◌+◌, ◌*◌, ◌^◌, ◌<◌, ◌≤◌, List, [], ◌∷◌, ◌++◌, length, map, replicate}
 use Rattle.std.specs.List.{flat_map}
-use Rattle.x7_part.specs.Part.{FieldWidths, RowData}
+use Rattle.x7_part.specs.Part.{FieldWidths, RowData, PartData}
 use Rattle.x7_part.specs.Address.{row_address, column_low}
-use Rattle.x7_part.specs.AddressOrder.{count_from, addresses_of}
+use Rattle.x7_part.specs.AddressOrder.{count_from, addresses_of, addresses_in}
+use Rattle.x7_part.specs.Ranges.{IsPart}
+use Rattle.x7_part.specs.Slot.{slots_in}
 use Rattle.x7_part.specs.declared.column.Column.{Column}
 use Rattle.x7_part.specs.declared.slot.Slot.{Slot}
 use Rattle.x7_part.specs.declared.slot.Slot.TheVariants.{Frame, Pad}
 
 -- the addresses of one column
-abbrev pub frames_of : Column → List ℕ
-frames_of c = count_from c.first c.count
+abbrev pub addresses_of_column : Column → List ℕ
+addresses_of_column c = count_from c.first c.count
 
 -- the slots of one column: its frames, and the pads after them
 abbrev pub slots_of : Column → List Slot
-slots_of c = map Frame (frames_of c) ++ replicate c.pads Pad
+slots_of c = map Frame (addresses_of_column c) ++ replicate c.pads Pad
 
 -- the address is one of a column's
 abbrev pub IsIn : Column → ℕ → Type 0
@@ -22,7 +24,7 @@ IsIn c address = (c.first ≤ address) × (address < c.first + c.count)
 
 -- the addresses of all columns
 unfoldable pub column_addresses : List Column → List ℕ
-column_addresses columns = flat_map frames_of columns
+column_addresses columns = flat_map addresses_of_column columns
 
 -- the slots of all columns
 unfoldable pub column_slots : List Column → List Slot
@@ -34,6 +36,19 @@ pub data IsTable : ℕ → ℕ → ℕ → List Column → Type 0 where
   column : (rank slot least : ℕ) (c : Column) (columns : List Column) → c.rank ≡ rank → c.slot ≡ slot → least ≤ c.first →
       0 < c.count → c.first + c.count ≤ 2 ^ 32 →
       IsTable (rank + c.count) (slot + c.count + c.pads) (c.first + c.count) columns → IsTable rank slot least (c ∷ columns)
+
+-- columns that can be searched: they stand in order, their addresses are counted in 32 bits and their slots in 63
+pub record AreColumns (columns : List Column) : Type 0 where
+  pub table : IsTable 0 0 0 columns
+  pub addresses : length (column_addresses columns) < 2 ^ 32
+  pub slots : length (column_slots columns) < 2 ^ 63
+
+-- the columns of a part: their addresses and slots are the part's
+pub record AreColumnsOf (part : PartData) (columns : List Column) : Type 0 where
+  pub is : IsPart part
+  pub are : AreColumns columns
+  pub addresses : column_addresses columns ≡ addresses_in part
+  pub slots : column_slots columns ≡ slots_in part
 
 module _ (pitch base : ℕ) where
   -- the columns of the row at `base`, from its `i`th on, after `rank` addresses and `slot` slots; the next column begins

@@ -1,3 +1,4 @@
+pub mod Limits
 pub mod Part
 pub mod Address
 pub mod AddressOrder

@@ -4,6 +4,7 @@ use Rattle.toml.specs.Data.{Data, Items, no_items, item, Members, as_str, as_int
 use Rattle.x7_part.specs.declared.fault.PartKey.TheVariants as key
 use Rattle.x7_part.specs.declared.fault.PartFault.{PartFault}
 use Rattle.x7_part.specs.declared.fault.PartFault.TheVariants.{Key, Range, NoMemory}
+use Rattle.x7_part.specs.Limits.{least_frame_words, most_frame_words, most_rows, most_columns, most_minors}
 use Rattle.x7_part.specs.Keys.{top, in_row}
 use Rattle.x7_part.specs.Address.{address_width}
 use Rattle.x7_part.specs.Values.{under, row_tables, RowValues, TopValues, natural, widths_of}
@@ -159,9 +160,9 @@ abbrev pub are_in : ℕ → ℕ → List ℤ → Bool
 are_in low high [] = true
 are_in low high (z ∷ zs) = is_in low high z && are_in low high zs
 
--- the numbers of minors of 1 to 1,024 columns, each from 1 to 128
+-- the numbers of minors of a row's columns
 abbrev pub are_minors : List ℤ → Bool
-are_minors zs = is_long 1 1024 (length zs) && are_in 1 128 zs
+are_minors zs = is_long 1 most_columns (length zs) && are_in 1 most_minors zs
 
 -- the first value of a row that is out of range
 abbrev pub row_range_fault : ℕ → RowValues → Option PartFault
@@ -180,7 +181,7 @@ number_range_fault v = first_of (
     ∷ unless (is_in 0 3 v.bus_width) (Range (top key.BusWidth))
     ∷ unless (is_in 0 65535 v.lock) (Range (top key.Lock))
     ∷ unless (is_in 0 65535 v.matched) (Range (top key.Match))
-    ∷ unless (is_in 2 255 v.words) (Range (top key.FrameWords))
+    ∷ unless (is_in least_frame_words most_frame_words v.words) (Range (top key.FrameWords))
     ∷ unless (are_widths_or_none v.far) (Range (top key.Far))
     ∷ unless (is_unit v.start_unit) (Range (top key.StartUnit))
     ∷ [])
@@ -190,7 +191,7 @@ unfoldable pub top_range_fault : TopValues → Option PartFault
 top_range_fault v = first_of (
     unless (is_name v.name) (Range (top key.Name))
     ∷ number_range_fault v
-    ∷ unless (is_long 1 192 (length v.rows)) (Range (top key.Row))
+    ∷ unless (is_long 1 most_rows (length v.rows)) (Range (top key.Row))
     ∷ [])
 
 -- the first value of a part file that is out of range, at the top and then row by row

@@ -1,11 +1,11 @@
 -- The ranges of a part's numbers (this project's choice).
-use Rattle.std.specs.Prelude.{◌≡◌, ◌⊎◌, ◌+◌, ◌*◌, ◌%◌, ◌^◌, ◌<◌, ◌≤◌, length, All}
+use Rattle.std.specs.Prelude.{◌≡◌, ◌+◌, ◌*◌, ◌%◌, ◌^◌, ◌<◌, ◌≤◌, length, All}
+use Rattle.x7_part.specs.Limits.{least_frame_words, most_frame_words, most_rows, most_frames, most_words, IsStartUnit}
 use Rattle.x7_part.specs.Part.{PartData, frame_words}
 use Rattle.x7_part.specs.Address.{AreRows, AreWidths}
 use Rattle.x7_part.specs.AddressOrder.{addresses_in}
 
--- a name of 1 to 64 printed bytes, an odd idcode of 32 bits, numbers in range, and 1 to 192 rows with at most 131,072 frames and
--- at most 13,277,056 words of frames and pads
+-- a name of 1 to 64 printed bytes, an odd idcode of 32 bits, numbers in range, and no more rows, frames and words than a part may have
 pub record IsPart (part : PartData) : Type 0 where
   pub named : 1 ≤ length part.name
   pub short : length part.name ≤ 64
@@ -16,11 +16,11 @@ pub record IsPart (part : PartData) : Type 0 where
   pub bus_width : part.bus_width ≤ 3
   pub lock : part.lock < 2 ^ 16
   pub matched : part.matched < 2 ^ 16
-  pub words : (2 ≤ part.words) × (part.words ≤ 255)
+  pub words : (least_frame_words ≤ part.words) × (part.words ≤ most_frame_words)
   pub far : AreWidths part.far
-  pub start_unit : (part.start_unit ≡ 1) ⊎ (part.start_unit ≡ 256)
+  pub start_unit : IsStartUnit part.start_unit
   pub some : 1 ≤ length part.rows
-  pub few : length part.rows ≤ 192
+  pub few : length part.rows ≤ most_rows
   pub rows : AreRows part.far 0 part.rows
-  pub frames : length (addresses_in part) ≤ 131072
-  pub slots : frame_words part * (length (addresses_in part) + 2 * length part.rows) ≤ 13277056
+  pub frames : length (addresses_in part) ≤ most_frames
+  pub slots : frame_words part * (length (addresses_in part) + 2 * length part.rows) ≤ most_words

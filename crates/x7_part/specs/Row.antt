@@ -2,19 +2,20 @@
 use Rattle.std.specs.Prelude.{◌≡◌, ◌⊎◌, ◌<◌, ℕ, ◌+◌, ◌*◌, List, [], ◌∷◌, ◌++◌, length, Bool, false, not, ◌&&◌, ◌||◌, ◌==◌, nat_le, nat_lt, if◌then◌else◌, Option, None}
 use Rattle.x7_part.specs.declared.fault.PartFault.{PartFault}
 use Rattle.x7_part.specs.declared.fault.PartFault.TheVariants.{SameRow, TooMany}
+use Rattle.x7_part.specs.Limits.{most_frames, most_words}
 use Rattle.x7_part.specs.Part.{FieldWidths, RowData, PartData, frame_words}
 use Rattle.x7_part.specs.Address.{row_address}
 use Rattle.x7_part.specs.AddressOrder.{addresses_in}
 use Rattle.x7_part.specs.PartChecks.{unless, first_of}
 
 -- two rows are of one block type, half and row
-abbrev pub is_same : RowData → RowData → Bool
-is_same r s = ((r.block == s.block) && (r.half == s.half)) && (r.row == s.row)
+abbrev pub has_place_of : RowData → RowData → Bool
+has_place_of r s = ((r.block == s.block) && (r.half == s.half)) && (r.row == s.row)
 
 -- a row is the same as one of others
 abbrev pub has_same : RowData → List RowData → Bool
 has_same r [] = false
-has_same r (s ∷ rows) = is_same r s || has_same r rows
+has_same r (s ∷ rows) = has_place_of r s || has_same r rows
 
 -- the first row that is the same as an earlier one
 abbrev pub same_row_fault : List RowData → List RowData → Option PartFault
@@ -22,9 +23,9 @@ same_row_fault earlier [] = None
 same_row_fault earlier (r ∷ rows) =
     first_of (unless (not (has_same r earlier)) (SameRow (length earlier + 1)) ∷ same_row_fault (earlier ++ r ∷ []) rows ∷ [])
 
--- at most 131,072 frames, and at most 13,277,056 words of frames and of the two pads after each row
+-- no more frames than a part may have, and no more words of frames and of the two pads after each row
 abbrev pub has_few_frames : ℕ → ℕ → ℕ → Bool
-has_few_frames words frames rows = nat_le frames 131072 && nat_le (words * (frames + 2 * rows)) 13277056
+has_few_frames words frames rows = nat_le frames most_frames && nat_le (words * (frames + 2 * rows)) most_words
 
 -- too many frames, with how many there are
 abbrev pub frames_fault : PartData → Option PartFault

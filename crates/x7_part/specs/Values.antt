@@ -5,6 +5,7 @@ use Rattle.x7_part.specs.declared.fault.PartKey.{PartKey}
 use Rattle.x7_part.specs.declared.fault.PartKey.TheVariants as key
 use Rattle.x7_part.specs.declared.settings.Settings.{Settings}
 use Rattle.x7_part.specs.Keys.{name_of, has_only, top_keys, row_keys}
+use Rattle.x7_part.specs.Limits.{usual_frame_words}
 use Rattle.x7_part.specs.Part.{FieldWidths, RowData, PartData}
 
 -- ---- one value
@@ -74,7 +75,7 @@ row_values t = record {
   known = has_only row_keys t;
 }
 
--- the values of a top table; a frame has 101 words where the table doesn't say (UG470, frame data)
+-- the values of a top table
 abbrev pub top_values : Members → TopValues
 top_values t = record {
   name = text key.Name t;
@@ -83,7 +84,7 @@ top_values t = record {
   bus_width = number_or 0 key.BusWidth t;
   lock = number_or 0 key.Lock t;
   matched = number_or 0 key.Match t;
-  words = number_or 101 key.FrameWords t;
+  words = number_or usual_frame_words key.FrameWords t;
   far = numbers_under key.Far t;
   start_unit = number_or 1 key.StartUnit t;
   rows = map row_values (row_tables t);

@@ -1,7 +1,7 @@
 //! The table of a part's columns, in which addresses and slots are searched by halves.
-ghost use Rattle.std.specs.Prelude.{◌≡◌, ◌<◌, ◌≤◌, ◌+◌, ◌-◌, ◌^◌, ◌⊎◌, ℕ, length, slice_index, slice_index_or, Contains, IfSome, IfNone};
+ghost use Rattle.std.specs.Prelude.{◌≡◌, ◌<◌, ◌≤◌, ◌+◌, ◌-◌, ◌⊎◌, ℕ, length, slice_index, slice_index_or, Contains, IfSome, IfNone};
 ghost use Rattle.x7_part.specs.AddressOrder.{IsFollowedBy, IsLastIn};
-ghost use Rattle.x7_part.specs.Column.{IsIn, column_addresses, column_slots, IsTable};
+ghost use Rattle.x7_part.specs.Column.{IsIn, column_addresses, column_slots, AreColumns};
 ghost use Rattle.x7_part.specs.Slot.{HasFrameOf, from};
 ghost use Rattle.x7_part.specs.declared.column.Column.{Column};
 ghost use Rattle.x7_part.specs.declared.slot.Slot.{Slot};
@@ -22,7 +22,7 @@ pub(crate) struct Column {
 
 /// The number of columns that begin at or before an address.
 fn begun_by_address(columns: &[Column], far: u32) -> usize
-    requires { IsTable 0 0 0 columns.now }
+    requires { AreColumns columns.now }
     ensures within { result ≤ length columns.now }
     ensures before { (k : ℕ) (d : Column) → k < result → (slice_index_or columns.now k d).first ≤ far }
     ensures after { (k : ℕ) (d : Column) → result ≤ k → k < length columns.now → far < (slice_index_or columns.now k d).first }
@@ -32,7 +32,7 @@ fn begun_by_address(columns: &[Column], far: u32) -> usize
 
 /// The number of columns with at most `rank` addresses before them.
 fn begun_by_rank(columns: &[Column], rank: u32) -> usize
-    requires { IsTable 0 0 0 columns.now }
+    requires { AreColumns columns.now }
     ensures within { result ≤ length columns.now }
     ensures before { (k : ℕ) (d : Column) → k < result → (slice_index_or columns.now k d).rank ≤ rank }
     ensures after { (k : ℕ) (d : Column) → result ≤ k → k < length columns.now → rank < (slice_index_or columns.now k d).rank }
@@ -42,7 +42,7 @@ fn begun_by_rank(columns: &[Column], rank: u32) -> usize
 
 /// The number of columns with at most `place` slots before them.
 fn begun_by_slot(columns: &[Column], place: u64) -> usize
-    requires { IsTable 0 0 0 columns.now }
+    requires { AreColumns columns.now }
     ensures within { result ≤ length columns.now }
     ensures before { (k : ℕ) (d : Column) → k < result → (slice_index_or columns.now k d).slot ≤ place }
     ensures after { (k : ℕ) (d : Column) → result ≤ k → k < length columns.now → place < (slice_index_or columns.now k d).slot }
@@ -52,7 +52,7 @@ fn begun_by_slot(columns: &[Column], place: u64) -> usize
 
 /// The place of the column that has the address.
 pub(crate) fn column_of(columns: &[Column], far: u32) -> Option<usize>
-    requires { IsTable 0 0 0 columns.now }
+    requires { AreColumns columns.now }
     ensures found { IfSome result (λ i. (i < length columns.now) × ((d : Column) → IsIn (slice_index_or columns.now i d) far)) }
     ensures address { IfSome result (λ i. Contains (column_addresses columns.now) far) }
     ensures none { IfNone result (¬ Contains (column_addresses columns.now) far) }
@@ -71,8 +71,7 @@ pub(crate) fn column_of(columns: &[Column], far: u32) -> Option<usize>
 
 /// The number of the part's addresses below this one.
 pub(crate) fn rank_of(columns: &[Column], far: u32) -> Option<u32>
-    requires table { IsTable 0 0 0 columns.now }
-    requires fits { length (column_addresses columns.now) < 2 ^ 32 }
+    requires { AreColumns columns.now }
     ensures found { IfSome result (λ r. (r < length (column_addresses columns.now)) × (slice_index (column_addresses columns.now) r ≡ far)) }
     ensures none { IfNone result (¬ Contains (column_addresses columns.now) far) }
 {
@@ -83,7 +82,7 @@ pub(crate) fn rank_of(columns: &[Column], far: u32) -> Option<u32>
 
 /// The address with `rank` smaller ones.
 pub(crate) fn address_of(columns: &[Column], rank: u32) -> Option<u32>
-    requires { IsTable 0 0 0 columns.now }
+    requires { AreColumns columns.now }
     ensures found { IfSome result (λ far. (rank < length (column_addresses columns.now)) × (slice_index (column_addresses columns.now) rank ≡ far)) }
     ensures none { IfNone result (length (column_addresses columns.now) ≤ rank) }
 {
@@ -102,7 +101,7 @@ pub(crate) fn address_of(columns: &[Column], rank: u32) -> Option<u32>
 
 /// The address after an address.
 pub(crate) fn next_of(columns: &[Column], far: u32) -> Option<u32>
-    requires { IsTable 0 0 0 columns.now }
+    requires { AreColumns columns.now }
     ensures found { IfSome result (λ y. IsFollowedBy (column_addresses columns.now) far y) }
     ensures none { IfNone result (IsLastIn (column_addresses columns.now) far ⊎ (¬ Contains (column_addresses columns.now) far)) }
 {
@@ -119,7 +118,7 @@ pub(crate) fn next_of(columns: &[Column], far: u32) -> Option<u32>
 
 /// The slot at a place, `End` after the last.
 fn slot_at(columns: &[Column], place: u64) -> Slot
-    requires { IsTable 0 0 0 columns.now }
+    requires { AreColumns columns.now }
     ensures { result ≡ slice_index_or (column_slots columns.now) place Slot.End }
 {
     let after = begun_by_slot(columns, place);
@@ -139,8 +138,7 @@ fn slot_at(columns: &[Column], place: u64) -> Slot
 
 /// The rank of the frame at a place of the slots, where the column of number `at` has that frame, and else none.
 fn rank_in(columns: &[Column], at: usize, place: u64) -> Option<u32>
-    requires table { IsTable 0 0 0 columns.now }
-    requires fits { length (column_addresses columns.now) < 2 ^ 32 }
+    requires { AreColumns columns.now }
     ensures found { IfSome result (λ r. HasFrameOf (column_addresses columns.now) (column_slots columns.now) place r) }
     ensures none { IfNone result ((d : Column) → at < length columns.now → (slice_index_or columns.now at d).slot ≤ place →
         (slice_index_or columns.now at d).count ≤ place - (slice_index_or columns.now at d).slot) }
@@ -163,8 +161,7 @@ fn rank_in(columns: &[Column], at: usize, place: u64) -> Option<u32>
 /// The number of addresses before the frame at a place of the slots, none at a pad and past the last slot. `near` is the number of
 /// the column that is looked at first, and then of the one that begins last at or before the place; the answer doesn't hang on it.
 pub(crate) fn rank_at(columns: &[Column], place: u64, near: &mut usize) -> Option<u32>
-    requires table { IsTable 0 0 0 columns.now }
-    requires fits { length (column_addresses columns.now) < 2 ^ 32 }
+    requires { AreColumns columns.now }
     ensures found { IfSome result (λ r. HasFrameOf (column_addresses columns.now) (column_slots columns.now) place r) }
     ensures none { IfNone result ((far : ℕ) → slice_index_or (column_slots columns.now) place Slot.End ≡ Slot.Frame far → ⊥) }
 {
@@ -181,9 +178,8 @@ pub(crate) fn rank_at(columns: &[Column], place: u64, near: &mut usize) -> Optio
 
 /// The place of an address among the slots.
 pub(crate) fn slot_of(columns: &[Column], far: u32) -> u64
-    requires table { IsTable 0 0 0 columns.now }
+    requires columns { AreColumns columns.now }
     requires address { Contains (column_addresses columns.now) far }
-    requires fits { length (column_slots columns.now) < 2 ^ 63 }
     ensures within { result < length (column_slots columns.now) }
     ensures slot { (n : ℕ) → slice_index_or (column_slots columns.now) (result + n) Slot.End ≡ slice_index_or (from far (column_slots columns.now)) n Slot.End }
     ensures left { length (column_slots columns.now) - result ≡ length (from far (column_slots columns.now)) }
@@ -197,9 +193,8 @@ pub(crate) fn slot_of(columns: &[Column], far: u32) -> u64
 
 /// Slot n of the slots from an address.
 pub(crate) fn slot_after(columns: &[Column], far: u32, n: u64) -> Slot
-    requires table { IsTable 0 0 0 columns.now }
+    requires columns { AreColumns columns.now }
     requires address { Contains (column_addresses columns.now) far }
-    requires fits { length (column_slots columns.now) < 2 ^ 63 }
     ensures { result ≡ slice_index_or (from far (column_slots columns.now)) n Slot.End }
 {
     match slot_of(columns, far).checked_add(n) {
@@ -210,8 +205,7 @@ pub(crate) fn slot_after(columns: &[Column], far: u32, n: u64) -> Slot
 
 /// The number of addresses of all columns.
 pub(crate) fn frame_count(columns: &[Column]) -> u32
-    requires table { IsTable 0 0 0 columns.now }
-    requires fits { length (column_addresses columns.now) < 2 ^ 32 }
+    requires { AreColumns columns.now }
     ensures { result ≡ length (column_addresses columns.now) }
 {
     match columns.last() {
@@ -222,8 +216,7 @@ pub(crate) fn frame_count(columns: &[Column]) -> u32
 
 /// The number of slots of all columns, pads included.
 fn slot_count(columns: &[Column]) -> u64
-    requires table { IsTable 0 0 0 columns.now }
-    requires fits { length (column_slots columns.now) < 2 ^ 63 }
+    requires { AreColumns columns.now }
     ensures { result ≡ length (column_slots columns.now) }
 {
     match columns.last() {
@@ -234,9 +227,8 @@ fn slot_count(columns: &[Column]) -> u64
 
 /// The number of slots from an address on.
 pub(crate) fn slots_from(columns: &[Column], far: u32) -> u64
-    requires table { IsTable 0 0 0 columns.now }
+    requires columns { AreColumns columns.now }
     requires address { Contains (column_addresses columns.now) far }
-    requires fits { length (column_slots columns.now) < 2 ^ 63 }
     ensures { result ≡ length (from far (column_slots columns.now)) }
 {
     slot_count(columns) - slot_of(columns, far)

@@ -6,6 +6,7 @@ mod column;
 mod fault;
 mod keys;
 mod laws;
+mod limits;
 mod parse;
 mod part;
 mod ranges;

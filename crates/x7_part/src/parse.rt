@@ -2,6 +2,7 @@
 ghost use Rattle.std.specs.Prelude.{◌≡◌, ◌⊎◌, ◌≤◌, [], ◌∷◌, Some, None, Ok, Err, length, IsUtf8, IfOk, IfErr, IsErrOf, IsOk};
 ghost use Rattle.toml.specs.Parse.{parse_document};
 ghost use Rattle.toml.specs.View.{table_view};
+ghost use Rattle.x7_part.specs.Limits.{most_frame_words, most_rows};
 ghost use Rattle.x7_part.specs.Part.{PartData};
 ghost use Rattle.x7_part.specs.PartChecks.{fault_of_call, first_of};
 ghost use Rattle.x7_part.specs.Row.{same_row_fault, frames_fault, has_few_frames};
@@ -11,6 +12,7 @@ ghost use Rattle.x7_part.specs.declared.fault.PartFault.{PartFault};
 ghost use Rattle.x7_part.specs.declared.fault.PartKey.{PartKey};
 
 use crate::fault::PartFault;
+use crate::limits::{MOST_FRAMES, MOST_WORDS};
 use crate::part::Part;
 use crate::ranges::require;
 use crate::row::{Row, check_same_rows, frame_count, rows_in};
@@ -18,12 +20,6 @@ use crate::settings::settings_in;
 use crate::values::{check_known, values_of};
 use std::alloc::Global;
 use toml::Table;
-
-/// The most frames that a part may have.
-const MAX_FRAMES: u32 = 131_072;
-
-/// The most words that a part's frames and pads may have.
-const MAX_WORDS: u32 = 13_277_056;
 
 /// The table of a TOML text.
 fn table_in(alloc: Global, text: &[u8]) -> Result<Table, PartFault>
@@ -50,8 +46,8 @@ fn table_in(alloc: Global, text: &[u8]) -> Result<Table, PartFault>
 
 /// What the rows may not be together: the same, or too many frames for words of this width.
 fn check_rows(words: u32, rows: &[Row]) -> Result<(), PartFault>
-    requires words { words ≤ 255 }
-    requires rows { length rows.now ≤ 192 }
+    requires words { words ≤ most_frame_words }
+    requires rows { length rows.now ≤ most_rows }
     ensures { (part : PartData) → part.words ≡ words → part.rows ≡ rows.now →
         fault_of_call result ≡ first_of (same_row_fault [] rows.now ∷ frames_fault part ∷ []) }
 {
@@ -65,11 +61,11 @@ fn check_rows(words: u32, rows: &[Row]) -> Result<(), PartFault>
 
 /// Whether a part may have `frames` frames of `words` words in `rows` rows.
 fn are_few(words: u32, frames: u32, rows: u32) -> bool
-    requires words { words ≤ 255 }
-    requires rows { rows ≤ 192 }
+    requires words { words ≤ most_frame_words }
+    requires rows { rows ≤ most_rows }
     ensures { result ≡ has_few_frames words frames rows }
 {
-    frames <= MAX_FRAMES && words * (frames + 2 * rows) <= MAX_WORDS
+    frames <= MOST_FRAMES && words * (frames + 2 * rows) <= MOST_WORDS
 }
 
 /// The part of a part file, or the first fault of the file.

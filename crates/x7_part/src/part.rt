@@ -1,8 +1,9 @@
 //! A part, and the questions that are asked of its addresses and slots.
 ghost use Rattle.std.specs.Prelude.{◌≡◌, ◌+◌, ◌*◌, ◌<◌, ◌≤◌, ◌⊎◌, ◌↔◌, ◌%◌, ◌^◌, ℕ, true, None, [], All, length, slice_index, slice_index_or, count_by, nat_lt, string_bytes, Contains, IfSome, IfNone, IfOk};
 ghost use Rattle.x7_part.specs.AddressOrder.{addresses_in, IsFollowedBy, IsLastIn, Rises};
-ghost use Rattle.x7_part.specs.Column.{table_of as columns_of};
+ghost use Rattle.x7_part.specs.Column.{AreColumnsOf, table_of as columns_of};
 ghost use Rattle.x7_part.specs.Address.{IsAddressOf, IsRow, far_width};
+ghost use Rattle.x7_part.specs.Limits.{least_frame_words, most_frame_words, most_frames, most_words, IsStartUnit};
 ghost use Rattle.x7_part.specs.Part.{PartData, frame_words};
 ghost use Rattle.x7_part.specs.Values.{part_data};
 ghost use Rattle.x7_part.specs.Row.{same_row_fault, in_order};
@@ -120,8 +121,8 @@ impl Part {
     /// The words of a frame (UG470, frame data).
     pub fn words(&self) -> u32
         ensures value { result ≡ frame_words self.now }
-        ensures least { 2 ≤ result }
-        ensures most { result ≤ 255 }
+        ensures least { least_frame_words ≤ result }
+        ensures most { result ≤ most_frame_words }
     {
         u32::from(self.settings.words)
     }
@@ -138,21 +139,28 @@ impl Part {
     /// The bytes of the flash that one step of the start address in WBSTAR stands for.
     pub fn start_unit(&self) -> u32
         ensures value { result ≡ self.now.start_unit }
-        ensures either { (result ≡ 1) ⊎ (result ≡ 256) }
+        ensures either { IsStartUnit result }
     {
         u32::from(self.settings.start_unit)
+    }
+
+    /// The table of the part's columns.
+    fn table(&self) -> &[Column]
+        ensures { AreColumnsOf self.now result.now }
+    {
+        &self.columns
     }
 
     /// The number of the part's frames, which is that of its addresses.
     pub fn frames(&self) -> u32
         ensures value { result ≡ length (addresses_in self.now) }
         ensures some { 0 < result }
-        ensures limit { result ≤ 131072 }
+        ensures limit { result ≤ most_frames }
         ensures part { IsPart self.now }
-        ensures words { frame_words self.now * (result + 2 * length self.now.rows) ≤ 13277056 }
+        ensures words { frame_words self.now * (result + 2 * length self.now.rows) ≤ most_words }
         ensures order { Rises 0 (addresses_in self.now) }
     {
-        column::frame_count(&self.columns)
+        column::frame_count(self.table())
     }
 
     /// Whether the part has a frame at the address.
@@ -160,7 +168,7 @@ impl Part {
         ensures listed { (result ≡ true) ↔ Contains (addresses_in self.now) far }
         ensures fields { (result ≡ true) ↔ IsAddressOf self.now far }
     {
-        column::column_of(&self.columns, far).is_some()
+        column::column_of(self.table(), far).is_some()
     }
 
     /// The next address in number order, none for the last one and for what is no address.
@@ -168,7 +176,7 @@ impl Part {
         ensures found { IfSome result (λ y. IsFollowedBy (addresses_in self.now) far y) }
         ensures none { IfNone result (IsLastIn (addresses_in self.now) far ⊎ (¬ Contains (addresses_in self.now) far)) }
     {
-        column::next_of(&self.columns, far)
+        column::next_of(self.table(), far)
     }
 
     /// The number of smaller addresses, none for what is no address.
@@ -177,7 +185,7 @@ impl Part {
         ensures smaller { IfSome result (λ r. r ≡ count_by (λ y. nat_lt y far) (addresses_in self.now)) }
         ensures none { IfNone result (¬ Contains (addresses_in self.now) far) }
     {
-        column::rank_of(&self.columns, far)
+        column::rank_of(self.table(), far)
     }
 
     /// The address with `rank` smaller ones, none from `frames()` on. This is the inverse of `rank()`.
@@ -186,7 +194,7 @@ impl Part {
         ensures smaller { IfSome result (λ far. rank ≡ count_by (λ y. nat_lt y far) (addresses_in self.now)) }
         ensures none { IfNone result (length (addresses_in self.now) ≤ rank) }
     {
-        column::address_of(&self.columns, rank)
+        column::address_of(self.table(), rank)
     }
 
     /// Slot n of the slots from an address on, `End` where there are no more than n.
@@ -194,7 +202,7 @@ impl Part {
         requires address { Contains (addresses_in self.now) far }
         ensures { result ≡ slice_index_or (from far (slots_in self.now)) n Slot.End }
     {
-        column::slot_after(&self.columns, far, n)
+        column::slot_after(self.table(), far, n)
     }
 
     /// The number of slots before an address.
@@ -204,7 +212,7 @@ impl Part {
         ensures slots { (n : ℕ) → slice_index_or (slots_in self.now) (result + n) Slot.End ≡ slice_index_or (from far (slots_in self.now)) n Slot.End }
         ensures few { length (slots_in self.now) < 2 ^ 63 }
     {
-        column::slot_of(&self.columns, far)
+        column::slot_of(self.table(), far)
     }
 
     /// The rank of the frame at a slot that has `place` slots before it, none at a pad and past the last slot. `near` keeps where to
@@ -213,7 +221,7 @@ impl Part {
         ensures found { IfSome result (λ r. HasFrameOf (addresses_in self.now) (slots_in self.now) place r) }
         ensures none { IfNone result ((far : ℕ) → slice_index_or (slots_in self.now) place Slot.End ≡ Slot.Frame far → ⊥) }
     {
-        column::rank_at(&self.columns, place, near)
+        column::rank_at(self.table(), place, near)
     }
 
     /// The number of slots from an address on.
@@ -221,6 +229,6 @@ impl Part {
         requires address { Contains (addresses_in self.now) far }
         ensures { result ≡ length (from far (slots_in self.now)) }
     {
-        column::slots_from(&self.columns, far)
+        column::slots_from(self.table(), far)
     }
 }

@@ -6,6 +6,7 @@ ghost use Rattle.x7_part.specs.declared.fault.PartFault.TheVariants.{Range};
 
 use crate::address::Fields;
 use crate::fault::{PartFault, Which};
+use crate::limits::{MOST_COLUMNS, MOST_MINORS};
 use std::alloc::Global;
 
 /// The fault, unless the test holds.
@@ -127,10 +128,13 @@ pub(crate) fn minors(alloc: Global, numbers: &[i64], at: Which) -> Result<Vec<u8
     ensures fault { AnswersDue (unless (are_minors numbers.now) (Range at)) result }
     ensures value { IfOk result (λ minors. minors.items ≡ map natural numbers.now) }
 {
-    require(is_long(numbers.len(), 1, 1024), PartFault::Range(at))?;
+    require(
+        is_long(numbers.len(), 1, MOST_COLUMNS),
+        PartFault::Range(at),
+    )?;
     let mut minors = Vec::with_capacity(alloc, numbers.len())?;
     for number in numbers {
-        minors.push(within(*number, 1, 128, at)? as u8)?;
+        minors.push(within(*number, 1, MOST_MINORS, at)? as u8)?;
     }
     Ok(minors)
 }

@@ -1,9 +1,10 @@
 //! Rows of a part.
-ghost use Rattle.std.specs.Prelude.{◌≡◌, ◌≤◌, [], None, map, length, sum, All, IfOk};
+ghost use Rattle.std.specs.Prelude.{◌≡◌, ◌≤◌, ◌*◌, [], None, map, length, sum, All, IfOk};
 ghost use Rattle.std.specs.List.{sum_by};
 ghost use Rattle.x7_part.specs.Address.{row_address, AreWidths, IsRow};
+ghost use Rattle.x7_part.specs.Limits.{most_columns, most_rows};
 ghost use Rattle.x7_part.specs.PartChecks.{fault_of_call, AnswersDue, rows_fault, row_range_fault};
-ghost use Rattle.x7_part.specs.Row.{is_same, has_same, same_row_fault, in_order};
+ghost use Rattle.x7_part.specs.Row.{has_place_of, has_same, same_row_fault, in_order};
 ghost use Rattle.x7_part.specs.Values.{row_by_values};
 ghost use Rattle.x7_part.specs.Part.{RowData};
 
@@ -45,8 +46,8 @@ impl Row {
     }
 
     /// Whether the other has the same block type, half and row.
-    fn is_same(&self, other: &Row) -> bool
-        ensures { result ≡ is_same self.now other.now }
+    fn has_place_of(&self, other: &Row) -> bool
+        ensures { result ≡ has_place_of self.now other.now }
     {
         self.block == other.block && self.half == other.half && self.row == other.row
     }
@@ -63,7 +64,7 @@ impl Row {
     /// The number of the row's frames.
     pub(crate) fn frames(&self) -> u32
         ensures value { result ≡ sum self.now.minors }
-        ensures most { result ≤ 261120 }
+        ensures most { result ≤ 255 * most_columns }
     {
         let mut frames = 0;
         for count in &self.minors {
@@ -105,7 +106,7 @@ fn has_same(row: &Row, rows: &[Row]) -> bool
     ensures { result ≡ has_same row.now rows.now }
 {
     for other in rows {
-        if row.is_same(other) {
+        if row.has_place_of(other) {
             return true;
         }
     }
@@ -114,7 +115,7 @@ fn has_same(row: &Row, rows: &[Row]) -> bool
 
 /// The first row that is the same as an earlier one. Rows count from 1.
 pub(crate) fn check_same_rows(rows: &[Row]) -> Result<(), PartFault>
-    requires { length rows.now ≤ 192 }
+    requires { length rows.now ≤ most_rows }
     ensures { fault_of_call result ≡ same_row_fault [] rows.now }
 {
     for (place, row) in rows.iter().enumerate() {
@@ -126,7 +127,7 @@ pub(crate) fn check_same_rows(rows: &[Row]) -> Result<(), PartFault>
 
 /// The number of frames of the rows.
 pub(crate) fn frame_count(rows: &[Row]) -> u32
-    requires { length rows.now ≤ 192 }
+    requires { length rows.now ≤ most_rows }
     ensures { result ≡ sum_by (λ row. sum row.minors) rows.now }
 {
     let mut frames = 0;

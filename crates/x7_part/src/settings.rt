@@ -6,6 +6,7 @@ ghost use Rattle.x7_part.specs.declared.fault.PartFault.TheVariants.{Range};
 
 use crate::address::Fields;
 use crate::fault::{PartFault, PartKey, Which, top};
+use crate::limits::{LEAST_FRAME_WORDS, MOST_FRAME_WORDS, MOST_ROWS};
 use crate::ranges::{is_long, is_name, odd, require, unit, widths, within};
 use crate::values::Values;
 
@@ -46,7 +47,12 @@ fn numbers_in(values: &Values) -> Result<Settings, PartFault>
         bus_width: within(values.bus_width, 0, 3, top!(BusWidth))? as u8,
         lock: within(values.lock, 0, 65_535, top!(Lock))? as u16,
         matched: within(values.matched, 0, 65_535, top!(Match))? as u16,
-        words: within(values.words, 2, 255, top!(FrameWords))? as u8,
+        words: within(
+            values.words,
+            LEAST_FRAME_WORDS,
+            MOST_FRAME_WORDS,
+            top!(FrameWords),
+        )? as u8,
         far: fields_in(&values.far, top!(Far))?,
         start_unit: unit(values.start_unit, top!(StartUnit))?,
     })
@@ -62,6 +68,6 @@ pub(crate) fn settings_in(values: &Values) -> Result<Settings, PartFault>
     require(is_name(&values.name), name)?;
     let settings = numbers_in(values)?;
     let rows = PartFault::Range(top!(Row));
-    require(is_long(values.rows.len(), 1, 192), rows)?;
+    require(is_long(values.rows.len(), 1, MOST_ROWS), rows)?;
     Ok(settings)
 }

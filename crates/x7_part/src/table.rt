@@ -3,6 +3,7 @@ ghost use Rattle.std.specs.Prelude.{◌≡◌, ◌<◌, ◌≤◌, ◌+◌, ◌*
 ghost use Rattle.x7_part.specs.AddressOrder.{addresses};
 ghost use Rattle.x7_part.specs.Column.{row_columns, table_of as columns_of};
 ghost use Rattle.x7_part.specs.Address.{AreRows};
+ghost use Rattle.x7_part.specs.Limits.{most_columns, most_frames, most_rows};
 
 use crate::address::Fields;
 use crate::column::Column;
@@ -28,7 +29,7 @@ fn add_row(
     slot: u64,
 ) -> Result<(), AllocError>
     requires base { base + length minors.now * pitch ≤ 2 ^ 32 }
-    requires columns { length minors.now ≤ 1024 }
+    requires columns { length minors.now ≤ most_columns }
     requires rank { rank < 2 ^ 31 }
     requires slot { slot < 2 ^ 62 }
     ensures { OnOk result (columns.new.items ≡ columns.old.items ++ row_columns pitch base 0 rank slot minors.now) }
@@ -52,8 +53,8 @@ fn add_row(
 /// The table of rows that stand in number order.
 pub(crate) fn table_of(alloc: Global, far: Fields, rows: &[Row]) -> Result<Vec<Column>, AllocError>
     requires rows { AreRows far 0 rows.now }
-    requires count { length rows.now ≤ 192 }
-    requires frames { length (addresses far rows.now) ≤ 131072 }
+    requires count { length rows.now ≤ most_rows }
+    requires frames { length (addresses far rows.now) ≤ most_frames }
     ensures { IfOk result (λ columns. columns.items ≡ columns_of far 0 0 rows.now) }
 {
     let mut columns = Vec::new(alloc);

@@ -9,14 +9,12 @@ ghost use Rattle.x7_part.specs.declared.fault.PartKey.TheVariants as key;
 
 use crate::fault::{PartFault, PartKey, Which, in_row, top};
 use crate::keys::{ROW_KEYS, TOP_KEYS, has_only};
+use crate::limits::USUAL_FRAME_WORDS;
 use crate::ranges::require;
 use crate::types::{number, number_or, numbers, rows, text};
 use std::alloc::Global;
 use std::marker::Model;
 use toml::Table;
-
-/// The words of a frame where a part file doesn't say (UG470, frame data).
-const USUAL_WORDS: u32 = 101;
 
 /// A row's values, and whether the row has these keys alone.
 #[derive(Drop)]
@@ -102,7 +100,7 @@ pub(crate) fn values_of(alloc: Global, table: &Table) -> Result<Values, PartFaul
         bus_width: number_or(0, table, top!(BusWidth))?,
         lock: number_or(0, table, top!(Lock))?,
         matched: number_or(0, table, top!(Match))?,
-        words: number_or(USUAL_WORDS, table, top!(FrameWords))?,
+        words: number_or(USUAL_FRAME_WORDS, table, top!(FrameWords))?,
         far: numbers(alloc, table, top!(Far))?,
         start_unit: number_or(1, table, top!(StartUnit))?,
         rows: rows_values(alloc, &rows(alloc, table)?)?,

@@ -4,20 +4,20 @@ use Rattle.x7_part.proofs.column.address_of.Goals as goal
 
 pub overflow_add-result : goal.overflow_add-result
 overflow_add-result c =
-    let b = bounded 0 0 0 c.args.columns.now c.requires (c.begun_by_rank-after.result - 1) nothing (omega arith) in
+    let b = bounded 0 0 0 c.args.columns.now c.requires.table (c.begun_by_rank-after.result - 1) nothing (omega arith) in
     record { fits = omega arith }
 
 pub returns-then-after-eq0-clause-none : goal.returns-then-after-eq0-clause-none
 returns-then-after-eq0-clause-none c =
-    address_missing c.args.columns.now c.requires c.begun_by_rank-after.result c.args.rank nothing c.begun_by_rank-after.ensures.within
+    address_missing c.args.columns.now c.requires.table c.begun_by_rank-after.result c.args.rank nothing c.begun_by_rank-after.ensures.within
     c.begun_by_rank-after.ensures.after (λ k e. absurd (omega arith))
 
 pub returns-then-minor-column-clause-found : goal.returns-then-minor-column-clause-found
 returns-then-minor-column-clause-found c =
-    address_found c.args.columns.now c.requires (c.begun_by_rank-after.result - 1) c.args.rank nothing (omega arith)
+    address_found c.args.columns.now c.requires.table (c.begun_by_rank-after.result - 1) c.args.rank nothing (omega arith)
     (c.begun_by_rank-after.ensures.before (c.begun_by_rank-after.result - 1) nothing (omega arith)) c.if-minor-column.true
 
 pub returns-else-minor-column-clause-none : goal.returns-else-minor-column-clause-none
 returns-else-minor-column-clause-none c =
-    missing_last c.args.columns.now c.args.rank c.begun_by_rank-after.result c.requires c.begun_by_rank-after.ensures.within
+    missing_last c.args.columns.now c.args.rank c.begun_by_rank-after.result c.requires.table c.begun_by_rank-after.ensures.within
     c.if-after-eq0.false c.begun_by_rank-after.ensures.before c.begun_by_rank-after.ensures.after c.if-minor-column.false
