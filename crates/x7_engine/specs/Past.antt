@@ -56,35 +56,35 @@ OfPast d Fact = (part : PartData) (kept : Kept) (wrapped : Bool) (bytes : List �
 abbrev pub state_at : Past → Regs
 state_at p = state_of p.part p.kept p.wrapped p.bytes
 
--- the first stop
+-- the first stop in the bytes of a past
 abbrev pub stop_at : Past → Option Stopped
 stop_at p = stop_in p.part p.kept p.bytes
 
--- the words read out
+-- the words that a device of a past reads out
 abbrev pub reads_at : Past → List ℕ
 reads_at p = reads_of p.part p.kept p.bytes
 
--- the memory
+-- the memory of a device of a past
 abbrev pub memory_at : Past → FrameMap
 memory_at p = memory_in p.part p.kept p.bytes
 
--- the history of the bytes taken
+-- the history of the bytes that a device of a past takes
 abbrev pub history_at : Past → History
 history_at p = history_taken p.part p.kept p.bytes
 
--- how many of the bytes were taken
+-- how many of the bytes of a past are taken
 abbrev pub taken_at : Past → ℕ
 taken_at p = taken_of p.part p.kept p.bytes
 
--- the words read out that were given
+-- of the words that a device of a past reads out, those that were given
 abbrev pub reads_given_at : DeviceState → Past → List ℕ
 reads_given_at d p = reads_given p.part p.kept d p.bytes
 
--- the words read out that are still due
+-- of the words that a device of a past reads out, those that are still due
 abbrev pub due_at : DeviceState → Past → List ℕ
 due_at d p = due_of p.part p.kept d p.bytes
 
--- startup has ended
+-- startup has ended with the bytes of a past
 abbrev pub started_at : Past → Bool
 started_at p = has_started p.part p.kept p.bytes
 

@@ -94,7 +94,7 @@ has_effect register = list_any (λ reg. register == number_of reg) effective_reg
 abbrev pub controlling_registers : List Reg
 controlling_registers = Crc ∷ Far ∷ Cmd ∷ Ctl0 ∷ Lout ∷ Idcode ∷ Timer ∷ Ctl1 ∷ []
 
--- a word written to the register of this number steers
+-- a word written to the register of this number moves a flag, a register under MASK or the clock, or isn't just folded
 abbrev pub is_controlling : ℕ → Bool
 is_controlling register = list_any (λ reg. register == number_of reg) controlling_registers
 

@@ -182,11 +182,11 @@ IsHeaderStep (Payload register w) = ⊥
 IsHeaderStep _ = Unit {0}
 
 -- a run without a word
-abbrev pub TellsNothing : Cut → Type 0
-TellsNothing Need = Unit {0}
-TellsNothing (Skip bytes) = Unit {0}
-TellsNothing Sync = Unit {0}
-TellsNothing _ = ⊥
+abbrev pub HasNoWord : Cut → Type 0
+HasNoWord Need = Unit {0}
+HasNoWord (Skip bytes) = Unit {0}
+HasNoWord Sync = Unit {0}
+HasNoWord _ = ⊥
 
 -- a run's lent slice lies in the `count` bytes that were taken last
 abbrev pub HoldsRun : Cut → ℕ → Type 0

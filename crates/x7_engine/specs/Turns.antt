@@ -43,4 +43,4 @@ HasFewerCalls old new piece from to = new.registers.stop ≡ None → calls_left
 pub record TookTurn (old new : DeviceState) (piece : List ℕ) (from to : ℕ) (says_so : Bool) : Type 0 where
   pub turned : Turned old new piece from to
   pub used_up : IsTrue says_so → IsUsedUp new piece to
-  pub goes : says_so ≡ false → HasFewerCalls old new piece from to
+  pub goes_on : says_so ≡ false → HasFewerCalls old new piece from to

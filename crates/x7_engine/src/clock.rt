@@ -50,7 +50,7 @@ fn move_watchdog(watchdog: &mut Watchdog, executed: Option<u8>, reg: Reg, word: 
     }
 }
 
-/// Whether two conditions hold both or neither.
+/// Whether two conditions hold both or neither: `==`, by a name that proofs cite.
 fn are_same(a: bool, b: bool) -> bool
     ensures { IsTrue result ↔ (a ≡ b) }
 {

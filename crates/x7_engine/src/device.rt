@@ -123,21 +123,16 @@ impl Device {
         ensures stands { IfOk result (λ d. DeviceStandsFor part.now on_the_bench false d []) }
         ensures fed { IfOk result (λ d. fed_of d ≡ 0) }
     {
-        let frames = match Frames::new(alloc, part) {
-            Ok(frames) => frames,
-            Err(NoMemory) => return Err(NoMemory),
-        };
-        match part.copy(alloc) {
-            Ok(part) => Ok(Device {
-                part,
-                cutter: Cutter::new(),
-                registers: Registers::new(&ON_THE_BENCH, frames),
-                wrapped: false,
-                taken: 0,
-                fed: 0,
-            }),
-            Err(NoMemory) => Err(NoMemory),
-        }
+        let frames = Frames::new(alloc, part)?;
+        let part = part.copy(alloc)?;
+        Ok(Device {
+            part,
+            cutter: Cutter::new(),
+            registers: Registers::new(&ON_THE_BENCH, frames),
+            wrapped: false,
+            taken: 0,
+            fed: 0,
+        })
     }
 
     /// Resets the device, which keeps `keep`. All frames are zeros again.
@@ -212,7 +207,7 @@ impl Device {
         requires going { self.old.registers.stop ≡ None }
         ensures none_left { IsTrue result ↔ NoWordDue self.new }
         ensures full { 0 < due_count self.new.registers.due → IsFull read.new }
-        ensures few { HoldsWithinMost read.new.most read.new.words }
+        ensures within_most { HoldsWithinMost read.new.most read.new.words }
         ensures going { self.new.registers.stop ≡ None }
         ensures taken { self.new.taken ≡ self.old.taken }
         ensures part { self.new.part ≡ self.old.part }
@@ -227,7 +222,7 @@ impl Device {
     fn pass_nops(&mut self, piece: &[u8], at: &mut usize)
         requires { MayTake self.old piece.now at.old }
         ensures turned { Turned self.old self.new piece.now at.old at.new }
-        ensures due { NoWordDue self.new }
+        ensures none_due { NoWordDue self.new }
         ensures cutter { self.new.cutter ≡ self.old.cutter }
         ensures quiet { OfPast self.old (λ p. history_of (p.bytes ++ between piece.now at.old at.new) ≡ history_of p.bytes) }
     {
@@ -261,7 +256,7 @@ impl Device {
         requires { MayTake self.old piece.now at.old }
         ensures none { result ≡ false → (self.new ≡ self.old) × (at.new ≡ at.old) }
         ensures one { IsTrue result → at.new ≡ at.old + 8 }
-        ensures due { NoWordDue self.new }
+        ensures none_due { NoWordDue self.new }
         ensures turned { IsTrue result → Turned self.old self.new piece.now at.old at.new }
     {
         if !self.registers.clock.is_idle() {
@@ -316,7 +311,7 @@ impl Device {
         ensures stands { TakesJust self.old self.new (part_taken piece.now result) }
         ensures answer { AnswersFor self.old self.new (part_taken piece.now result) read.new result }
         ensures reads { GivesWordsNext self.old self.new (part_taken piece.now result) read.old read.new }
-        ensures few { HoldsWithinMost read.new.most read.new.words }
+        ensures within_most { HoldsWithinMost read.new.most read.new.words }
         ensures first { OfPast self.old (λ p. RoomBefore p piece.now (taken_in (length piece.now) result) (reads_given_at self.old p) read.old) }
         ensures stopped { OfPast self.old (λ p. IsSome (stop_at p) → (self.new ≡ self.old) × (read.new ≡ read.old) × (taken_in (length piece.now) result ≡ 0)) }
         ensures stays { (why : Stop) → self.old.registers.stop ≡ Some why → (self.new ≡ self.old) × (read.new ≡ read.old) × (result ≡ fed_by why 0) }

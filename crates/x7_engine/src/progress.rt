@@ -12,11 +12,14 @@ use crate::target::PlainNumber;
 use x7_crc::{check_after_write, fold, fold_slice, is};
 use x7_regs::{Command, Reg};
 
+/// The bits of an idcode but its version, bits 31 to 28, which isn't compared (this project's choice).
+const VERSIONLESS: u32 = 0x0FFF_FFFF;
+
 /// Whether a written idcode is the part's.
 pub(crate) fn is_same_idcode(idcode: u32, word: u32) -> bool
     ensures { result ≡ same_idcode idcode word }
 {
-    word & 0x0FFF_FFFF == idcode & 0x0FFF_FFFF
+    word & VERSIONLESS == idcode & VERSIONLESS
 }
 
 /// Whether a written word is the running check, written to CRC.
@@ -50,7 +53,7 @@ fn is_ghigh_after(ghigh: bool, executed: Option<u8>, taken: bool) -> bool
     is(Command::Lfrm, executed) || ghigh && !is(Command::Aghigh, executed) && !taken
 }
 
-/// Whether two conditions hold both.
+/// Whether two conditions hold both: `&&`, by a name that proofs cite.
 fn both(a: bool, b: bool) -> bool
     ensures { result ≡ (a && b) }
 {

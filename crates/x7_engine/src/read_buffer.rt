@@ -131,7 +131,7 @@ impl ReadBuf {
     /// The words gathered since the buffer was made or cleared.
     pub fn words(&self) -> &[u32]
         ensures now { result.now ≡ self.now.words }
-        ensures few { HoldsWithinMost self.now.most result.now }
+        ensures within_most { HoldsWithinMost self.now.most result.now }
     {
         match &self.room {
             Room::Nothing | Room::Full => &[],

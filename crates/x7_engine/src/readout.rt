@@ -92,7 +92,7 @@ impl Registers {
     pub(crate) fn give(&mut self, part: &Part, read: &mut ReadBuf) -> bool
         requires { MayGive part.now self.old }
         ensures none_left { IsTrue result ↔ (due_count self.new.due ≡ 0) }
-        ensures few { HoldsWithinMost read.new.most read.new.words }
+        ensures within_most { HoldsWithinMost read.new.most read.new.words }
         ensures gave { GaveDue (change_of part.now self.old self.new) read.old read.new }
     {
         self.give_due(part, read);

@@ -106,7 +106,7 @@ pub(crate) struct Registers {
 }
 
 impl Registers {
-    ghost use Rattle.x7_engine.specs.Standing.{HoldsRun, IsHeaderStep, RegistersStandFor, registers_in, TellsNothing};
+    ghost use Rattle.x7_engine.specs.Standing.{HoldsRun, IsHeaderStep, RegistersStandFor, registers_in, HasNoWord};
 
     /// The registers of a device that took nothing, with what the reset kept and frames after a reset.
     pub(crate) fn new(kept: &Kept, frames: Frames) -> Registers
@@ -309,6 +309,7 @@ impl Registers {
             .write_bytes(settings, reg, &bytes[..before], part);
         let taken = taken_of(count, refused) * 4;
         let prefix = &bytes[..taken];
+        // No firing: the bytes before one are all that was looked at.
         let _ = self.clock.bytes(part, taken);
         self.progress.pass_all(reg.number(), prefix);
         self.words.pass_all(reg.number(), prefix);
@@ -403,7 +404,7 @@ impl Registers {
         requires run { IsRun run }
         requires holds { HoldsRun run count }
         ensures left { LeavesBytes count result self.new }
-        ensures quiet { TellsNothing run.entry → due_count self.new.due ≡ 0 }
+        ensures quiet { HasNoWord run.entry → due_count self.new.due ≡ 0 }
         ensures rests { RestsAtStop part.now self.new }
         ensures stands { RunEnters run.entry count (change_of part.now self.old self.new) (count - result) }
         ensures reads { RunReads run.entry count (change_of part.now self.old self.new) (count - result) }

@@ -66,6 +66,10 @@ reg_words r =
 abbrev pub reg_line : Reg × ℕ → List ℕ
 reg_line row = codes "reg " ++ reg_name (number_of row.0) ++ 32 ∷ hex_word row.1 ++ codes "\n"
 
+-- the most bytes that the line of a register has: those of the longest name, BOOTSTS
+abbrev pub reg_line_room : ℕ
+reg_line_room = 21
+
 -- the lines of the registers
 unfoldable pub reg_text : Regs → List ℕ
 reg_text r = flat_map reg_line (reg_words r)

@@ -175,7 +175,7 @@ pub(crate) fn shown_frames(
 }
 
 /// Appends the line of the frame at an address.
-fn put_frame_at(text: &mut Vec<u8>, part: &Part, memory: &Memory, far: u32) -> Result<(), NoMemory>
+fn push_frame_at(text: &mut Vec<u8>, part: &Part, memory: &Memory, far: u32) -> Result<(), NoMemory>
     requires { AreFramesOf part.now memory.now }
     ensures { OnOk result (text.new.items ≡ text.old.items ++ frame_text_if far (frame_at part.now memory.now far)) }
 {
@@ -196,7 +196,7 @@ fn put_frame_lines(
     ensures { OnOk result (text.new.items ≡ text.old.items ++ flat_map (λ far. frame_text_if far (frame_at part.now memory.now far)) fars.now) }
 {
     for far in fars {
-        put_frame_at(text, part, memory, *far)?;
+        push_frame_at(text, part, memory, *far)?;
     }
     Ok(())
 }

@@ -3,7 +3,7 @@ ghost use Rattle.std.specs.Prelude.{◌≡◌, ◌∷◌, ◌++◌, ◌≤◌, �
 ghost use Rattle.std.specs.List.{flat_map};
 ghost use Rattle.x7_text.specs.Appends.{Appends};
 ghost use Rattle.x7_text.specs.Digits.{hex_word};
-ghost use Rattle.x7_report.specs.State.{line_digit, end_text, fault_text, phase_text, reg_line, reg_text, reg_words, state_text};
+ghost use Rattle.x7_report.specs.State.{line_digit, end_text, fault_text, phase_text, reg_line, reg_line_room, reg_text, reg_words, state_text};
 
 use x7_engine::{End, Fault, Regs};
 use x7_regs::{Reg, name_of};
@@ -112,7 +112,7 @@ pub fn phase_line(out: &mut Vec<u8>, r: &Regs) -> Result<(), NoMemory>
 
 /// The registers in the order of their numbers, each with its word.
 #[rattlefmt::skip]
-fn rows_of(r: &Regs) -> [(Reg, u32); 15]
+fn rows_of(r: &Regs) -> [(Reg, u32); REG_LINES]
     ensures { result ≡ reg_words r.now }
 {
     [
@@ -134,10 +134,16 @@ fn rows_of(r: &Regs) -> [(Reg, u32); 15]
     ]
 }
 
+/// How many registers have a line.
+const REG_LINES: usize = 15;
+
+/// The most bytes that the line of a register takes: those of `reg BOOTSTS`, a blank, eight digits and a line end.
+const REG_LINE_ROOM: usize = 21;
+
 /// Appends the line of a register.
 fn put_row(out: &mut Vec<u8>, row: (Reg, u32))
-    requires { vec_len out.old + 21 ≤ vec_capacity out.old }
-    ensures appends { Appends out.old out.new (reg_line row) 21 }
+    requires { vec_len out.old + reg_line_room ≤ vec_capacity out.old }
+    ensures appends { Appends out.old out.new (reg_line row) reg_line_room }
 {
     let (reg, word) = row;
     put(out, b"reg ");
@@ -149,7 +155,7 @@ fn put_row(out: &mut Vec<u8>, row: (Reg, u32))
 
 /// Appends the lines of registers.
 fn put_rows(out: &mut Vec<u8>, rows: &[(Reg, u32)])
-    requires { vec_len out.old + 21 * length rows.now ≤ vec_capacity out.old }
+    requires { vec_len out.old + reg_line_room * length rows.now ≤ vec_capacity out.old }
     ensures { out.new.items ≡ out.old.items ++ flat_map reg_line rows.now }
 {
     for row in rows {
@@ -164,7 +170,7 @@ pub fn reg_lines(out: &mut Vec<u8>, r: &Regs) -> Result<(), NoMemory>
     ensures ok { OnOk result (out.new.items ≡ out.old.items ++ reg_text r.now) }
     ensures err { OnErr result (out.new.items ≡ out.old.items) }
 {
-    make_room(out, 315)?;
+    make_room(out, REG_LINES * REG_LINE_ROOM)?;
     put_rows(out, &rows_of(r));
     Ok(())
 }

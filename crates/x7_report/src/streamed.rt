@@ -32,6 +32,7 @@ fn put_frame_at(text: &mut Vec<u8>, part: &Part, memory: &Memory, far: u32)
     requires room { vec_len text.old + frame_line_room ≤ vec_capacity text.old }
     ensures appends { Appends text.old text.new (frame_text_if far (frame_at part.now memory.now far)) frame_line_room }
 {
+    // For the proof alone: a frame has at most 255 words.
     let _words = part.words();
     match memory.frame(part, far) {
         Some(words) => put_frame(text, far, words),

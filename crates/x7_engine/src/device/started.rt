@@ -40,7 +40,7 @@ impl Device {
         ensures within { result ≤ length }
         ensures forward { (result ≡ length) ⊎ (at < result) }
         ensures order { at ≤ result }
-        ensures few { OfPast self.now (λ p. HasNotBegun p.part p.kept p.bytes ⊎ (result ≤ at + soonest (state_at p).phase)) }
+        ensures soonest { OfPast self.now (λ p. HasNotBegun p.part p.kept p.bytes ⊎ (result ≤ at + soonest (state_at p).phase)) }
     {
         if self.registers.clock.startup.has_begun() {
             return at + soonest(self.phase()).min(length - at);

@@ -85,7 +85,7 @@ impl Device {
 
     /// Keeps the device, and takes up to four bytes as `feed` does. Words read out are dropped.
     pub fn feed_word(&mut self, piece: &[u8], undo: &mut Undo) -> Fed
-        requires few { length piece.now ≤ 4 }
+        requires four { length piece.now ≤ 4 }
         requires fits { self.old.taken + length piece.now ≤ 2 ^ 63 }
         requires none_due { NoWordDue self.old }
         requires undo { IsUndoOf self.old.part undo.old }
@@ -122,7 +122,7 @@ impl Device {
         requires undo { IsUndoOf self.old.part undo.now }
         requires back { TookFewSince undo.now self.old }
         ensures back { (old : DeviceState) → Back undo.now self.old old → AreEqual self.new old }
-        ensures more { (p : Past) (more : List ℕ) (old : DeviceState) → KeepsDevice undo.now old → NoWordDue old → length more ≤ 4
+        ensures after_more { (p : Past) (more : List ℕ) (old : DeviceState) → KeepsDevice undo.now old → NoWordDue old → length more ≤ 4
             → HasPast old p → HasPast self.old (later p more) → AreEqual self.new old }
         ensures part { self.new.part ≡ self.old.part }
         ensures fed { fed_of self.new ≡ fed_of self.old }
@@ -131,7 +131,7 @@ impl Device {
         self.go_back(undo);
     }
 
-    /// Makes the device the one to which what is kept leads back.
+    /// Does what `undo` does: a call of its own, which is proved by what is kept alone.
     fn go_back(&mut self, undo: &Undo)
         requires undo { IsUndoOf self.old.part undo.now }
         requires back { TookFewSince undo.now self.old }

@@ -62,7 +62,7 @@ went : (c : goal.After-self-1) (stream : List ℕ) → IsOn c.args.device.now.pa
     → IsOn c.undo.new.self.part stream c.undo.new.self (after c) × (c.undo.new.self.taken ≡ c.in-Some.undo.taken) × (c.in-Some.undo.taken ≤ c.args.device.now.taken) × (c.args.device.now.taken ≤ c.in-Some.undo.taken + 4)
 went c stream o =
     on_less c.args.device.now.part stream c.args.device.now c.undo.new.self c.args.self.now (after c) c.in-Some.undo o (records_are c) (all_fit c)
-    (λ more old k none few s t. c.undo.ensures.more (record { part = c.args.device.now.part; kept = on_the_bench; wrapped = false; bytes = take c.in-Some.undo.taken stream }) more old k none few s t)
+    (λ more old k none few s t. c.undo.ensures.after_more (record { part = c.args.device.now.part; kept = on_the_bench; wrapped = false; bytes = take c.in-Some.undo.taken stream }) more old k none few s t)
 
 pub returns-clause-back : goal.returns-clause-back
 returns-clause-back c = λ stream o. (went c stream o).0

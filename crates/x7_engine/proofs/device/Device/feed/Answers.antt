@@ -68,7 +68,7 @@ returns-then-turn-clause-first c = λ part kept wrapped bytes s.
     let gives = c.give.ensures.given part kept wrapped taken (c.runs.invariant.stands part kept wrapped bytes s) in
     let due : NoWordDue c.give.new.self = c.give.ensures.none_left.0 c.if-not-give.false in
     room_read_on part kept wrapped c.give.new.self c.turn.new.self c.args.read.now c.give.new.read bytes c.args.piece.now (reads_given part kept c.args.self.now bytes) c.runs.at c.turn.new.at c.turn.ensures.turned.forward c.turn.ensures.turned.within
-    c.give.ensures.going due gives.stands (c.turn.ensures.turned.turn.stands part kept wrapped taken gives.stands) (c.turn.ensures.turned.turn.commands part kept wrapped taken gives.stands) c.give.ensures.few
+    c.give.ensures.going due gives.stands (c.turn.ensures.turned.turn.stands part kept wrapped taken gives.stands) (c.turn.ensures.turned.turn.commands part kept wrapped taken gives.stands) c.give.ensures.within_most
     (now_given part kept wrapped c.runs.self c.give.new.self c.args.read.now c.runs.read c.give.new.read taken (reads_given part kept c.args.self.now bytes) gives (c.runs.invariant.reads part kept wrapped bytes s))
     (c.runs.invariant.first part kept wrapped bytes s))
 
@@ -117,9 +117,9 @@ runs-preserved c =
           let gives = c.give.ensures.given part kept wrapped taken (c.runs.invariant.stands part kept wrapped bytes s) in
           let due : NoWordDue c.give.new.self = c.give.ensures.none_left.0 c.if-not-give.false in
           room_read_on part kept wrapped c.give.new.self c.turn.new.self c.args.read.now c.give.new.read bytes c.args.piece.now (reads_given part kept c.args.self.now bytes) c.runs.at c.turn.new.at c.turn.ensures.turned.forward c.turn.ensures.turned.within
-          c.give.ensures.going due gives.stands (c.turn.ensures.turned.turn.stands part kept wrapped taken gives.stands) (c.turn.ensures.turned.turn.commands part kept wrapped taken gives.stands) c.give.ensures.few
+          c.give.ensures.going due gives.stands (c.turn.ensures.turned.turn.stands part kept wrapped taken gives.stands) (c.turn.ensures.turned.turn.commands part kept wrapped taken gives.stands) c.give.ensures.within_most
           (now_given part kept wrapped c.runs.self c.give.new.self c.args.read.now c.runs.read c.give.new.read taken (reads_given part kept c.args.self.now bytes) gives (c.runs.invariant.reads part kept wrapped bytes s))
           (c.runs.invariant.first part kept wrapped bytes s));
-      few = c.give.ensures.few;
+      few = c.give.ensures.within_most;
       stopped = λ e. absurd (let none : true ≡ false = sym e ∙ ap (λ (d : DeviceState). is_some d.registers.stop) (sym (c.runs.invariant.stopped e).0) ∙ sym (ap (λ (o : Option Stop). is_some o) c.in_default.ensures) in cc);
     }

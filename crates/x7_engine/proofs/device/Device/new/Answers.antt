@@ -10,24 +10,24 @@ use Rattle.x7_engine.specs.Stop.{stopped_at}
 use Rattle.x7_engine.proofs.device.Device.new.Goals as goal
 
 -- the device that took nothing
-first : (c : goal.After-new-in-Ok-copy-2) → DeviceStandsFor c.args.part.now on_the_bench false (record { part = c.in-Ok-copy.part; cutter = c.new-in-Ok-copy.result; registers = registers_in c.new-in-Ok-copy-2.result; wrapped = false; taken = 0; fed = 0 }) []
+first : (c : goal.After-new-3) → DeviceStandsFor c.args.part.now on_the_bench false (record { part = c.in_ok-part.part; cutter = c.new-2.result; registers = registers_in c.new-3.result; wrapped = false; taken = 0; fed = 0 }) []
 first c = record {
   fits = tt;
-  part_is = c.in-Ok-copy.ensures;
+  part_is = c.in_ok-part.ensures;
   wrapped_is = refl;
   taken_is = refl;
-  stop_is = sym (ap (stopped_at 0) c.new-in-Ok-copy-2.ensures.going);
-  registers_are = c.new-in-Ok-copy-2.ensures.stands c.args.part.now c.in-Ok.ensures.stands;
-  cutter_is = λ _. record { sessions = []; place = Searching []; stands = c.new-in-Ok-copy.ensures };
-  due_are = record { given = []; all = sym (ap (λ (d : Due). words_left c.args.part.now [] d) c.new-in-Ok-copy-2.ensures.none_due) };
-  at_rest = λ why q. ap due_count c.new-in-Ok-copy-2.ensures.none_due;
+  stop_is = sym (ap (stopped_at 0) c.new-3.ensures.going);
+  registers_are = c.new-3.ensures.stands c.args.part.now c.in_ok-frames.ensures.stands;
+  cutter_is = λ _. record { sessions = []; place = Searching []; stands = c.new-2.ensures };
+  due_are = record { given = []; all = sym (ap (λ (d : Due). words_left c.args.part.now [] d) c.new-3.ensures.none_due) };
+  at_rest = λ why q. ap due_count c.new-3.ensures.none_due;
 }
 
 pub invariant_of-result : goal.invariant_of-result
 invariant_of-result c = record {
-  frames = subst (λ (p : PartData). FramesFit p c.new-in-Ok-copy-2.result.frames) (sym c.in-Ok-copy.ensures) (subst (FramesFit c.args.part.now) (sym c.new-in-Ok-copy-2.ensures.frames) c.in-Ok.ensures.part);
+  frames = subst (λ (p : PartData). FramesFit p c.new-3.result.frames) (sym c.in_ok-part.ensures) (subst (FramesFit c.args.part.now) (sym c.new-3.ensures.frames) c.in_ok-frames.ensures.part);
   past = record { past = past_of c.args.part.now on_the_bench false []; has = first c };
 }
 
-pub returns-in-Ok-copy-clause-stands : goal.returns-in-Ok-copy-clause-stands
-returns-in-Ok-copy-clause-stands c = first c
+pub returns-clause-stands : goal.returns-clause-stands
+returns-clause-stands c = first c

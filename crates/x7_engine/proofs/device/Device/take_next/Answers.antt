@@ -38,7 +38,7 @@ pub returns-then-has_stopped : goal.returns-then-has_stopped
 returns-then-has_stopped c = record {
   turned = c.pass_nops.ensures.turned;
   used_up = λ e. absurd cc;
-  goes = λ e f. absurd (let both : true ≡ false = sym c.if-has_stopped.true ∙ c.has_stopped.ensures ∙ ap (λ (o : Option Stop). is_some o) f in cc);
+  goes_on = λ e f. absurd (let both : true ≡ false = sym c.if-has_stopped.true ∙ c.has_stopped.ensures ∙ ap (λ (o : Option Stop). is_some o) f in cc);
 }
 
 pub returns : goal.returns
@@ -51,9 +51,9 @@ returns c = record {
     turn = turn_taken c;
   };
   used_up = c.take_run.ensures.used_up;
-  goes = λ e f. (
+  goes_on = λ e f. (
       let piece : ℕ = length c.args.piece.now in
-      let nearer = c.take_run.ensures.goes e f in
+      let nearer = c.take_run.ensures.goes_on e f in
       let same = ap (λ (k : CutterState). calls_left k (piece - c.pass_nops.new.at)) c.pass_nops.ensures.cutter in
       omega (arith, nearer, same, c.pass_nops.ensures.turned.forward));
 }

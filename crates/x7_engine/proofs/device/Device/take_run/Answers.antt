@@ -5,7 +5,7 @@ use Rattle.x7_packets.specs.declared.cutter.Cut.TheVariants.{Body, Head, Need, S
 use Rattle.x7_part.specs.Part.{PartData}
 use Rattle.x7_engine.specs.declared.kept.Kept.{Kept}
 use Rattle.x7_engine.specs.Past.{HasSomePast}
-use Rattle.x7_engine.specs.Standing.{DeviceStandsFor, DeviceState, IsCutterOf, TellsNothing, registers_in, words_left}
+use Rattle.x7_engine.specs.Standing.{DeviceStandsFor, DeviceState, IsCutterOf, HasNoWord, registers_in, words_left}
 use Rattle.x7_engine.specs.State.{history_taken, reads_of}
 use Rattle.x7_engine.specs.Turns.{TakesTurn}
 use Rattle.x7_engine.proofs.DeviceLemmas.{between_prefix, holds_run, length_between, given_by, turned}
@@ -102,7 +102,7 @@ all_used (Head w step) left before after n g = absurd n
 all_used (Word register w) left before after n g = absurd n
 all_used (Body register bytes) left before after n g = absurd n
 
-tells_nothing : (run : Cut) → IsNeed run → TellsNothing run
+tells_nothing : (run : Cut) → IsNeed run → HasNoWord run
 tells_nothing Need n = tt
 tells_nothing (Skip bytes) n = tt
 tells_nothing Sync n = tt
@@ -137,7 +137,7 @@ returns c = record {
         going = going;
         none_due = c.run-left.ensures.quiet (tells_nothing c.cut-run.result need);
       });
-  goes = λ e f. (
+  goes_on = λ e f. (
       let unused : c.is_need-used_up.result ≡ false = c.is_done.ensures.no e (c.stop.ensures ∙ f) in
       let piece : ℕ = length c.args.piece.now in
       let nearer : calls_left c.cut-run.new.self (piece - c.cut-run.new.at) < calls_left c.self.inside.cutter (piece - c.args.at.now) =

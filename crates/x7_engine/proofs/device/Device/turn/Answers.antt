@@ -8,7 +8,7 @@ pub returns-then-take_write : goal.returns-then-take_write
 returns-then-take_write c = record {
   turned = c.take_write.ensures.turned c.if-take_write.true;
   used_up = λ e. absurd cc;
-  goes = λ e f. (
+  goes_on = λ e f. (
       let turned = c.take_write.ensures.turned c.if-take_write.true in
       omega (arith, c.take_write.ensures.one c.if-take_write.true, turned.within, one_sync c.take_write.new.self.cutter.mode));
 }

@@ -28,7 +28,7 @@ returns-then-turn-clause-took c =
     record {
       turned = slice_turned c.args.self.now c.turn.new.self c.args.piece.now c.turn_end-end.result c.args.at.now c.turn.new.at c.turn_end-end.ensures.within c.turn.ensures.turned;
       used_up = λ e. record { all = let all : c.turn_end-end.result ≡ length c.args.piece.now = grind (arith, nat_tests, e) in omega (arith, all, size, used.all); going = used.going; none_due = used.none_due };
-      goes = λ e f. (
+      goes_on = λ e f. (
           let more : c.turn_end-end.result ≡ length c.args.piece.now → ⊥ = λ all. absurd (grind (arith, nat_tests, e, all)) in
           let further : c.args.at.now < c.turn_end-end.result = second c.turn_end-end.ensures.forward more in
           omega (arith, further, size, used.all, c.turn_end-end.ensures.within, one_sync c.turn.new.self.cutter.mode));
@@ -37,19 +37,19 @@ returns-then-turn-clause-took c =
 pub returns-then-turn-clause-first : goal.returns-then-turn-clause-first
 returns-then-turn-clause-first c = λ part kept wrapped bytes s not.
     turn_first part kept wrapped c.args.self.now c.turn.new.self bytes c.args.piece.now c.turn_end-end.result c.args.at.now c.turn.new.at c.turn_end-end.ensures.within c.turn.ensures.turned.forward c.turn.ensures.turned.within c.requires.going
-    s (c.turn.ensures.turned.turn.stands part kept wrapped bytes s) (c.turn.ensures.turned.turn.commands part kept wrapped bytes s) (c.turn_end-end.ensures.few part kept wrapped bytes s) not
+    s (c.turn.ensures.turned.turn.stands part kept wrapped bytes s) (c.turn.ensures.turned.turn.commands part kept wrapped bytes s) (c.turn_end-end.ensures.soonest part kept wrapped bytes s) not
 
 pub returns-clause-took : goal.returns-clause-took
 returns-clause-took c = record {
   turned = slice_turned c.args.self.now c.turn.new.self c.args.piece.now c.turn_end-end.result c.args.at.now c.turn.new.at c.turn_end-end.ensures.within c.turn.ensures.turned;
   used_up = λ e. absurd cc;
-  goes = λ e f. (
+  goes_on = λ e f. (
       let size : length (take c.turn_end-end.result c.args.piece.now) ≡ c.turn_end-end.result = length-take-le c.turn_end-end.result c.args.piece.now c.turn_end-end.ensures.within in
-      let nearer = c.turn.ensures.goes c.if-turn.false f in
+      let nearer = c.turn.ensures.goes_on c.if-turn.false f in
       omega (arith, nearer, size, c.turn_end-end.ensures.within, c.turn.ensures.turned.within, c.turn.ensures.turned.forward));
 }
 
 pub returns-clause-first : goal.returns-clause-first
 returns-clause-first c = λ part kept wrapped bytes s not.
     turn_first part kept wrapped c.args.self.now c.turn.new.self bytes c.args.piece.now c.turn_end-end.result c.args.at.now c.turn.new.at c.turn_end-end.ensures.within c.turn.ensures.turned.forward c.turn.ensures.turned.within c.requires.going
-    s (c.turn.ensures.turned.turn.stands part kept wrapped bytes s) (c.turn.ensures.turned.turn.commands part kept wrapped bytes s) (c.turn_end-end.ensures.few part kept wrapped bytes s) not
+    s (c.turn.ensures.turned.turn.stands part kept wrapped bytes s) (c.turn.ensures.turned.turn.commands part kept wrapped bytes s) (c.turn_end-end.ensures.soonest part kept wrapped bytes s) not
