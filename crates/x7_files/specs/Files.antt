@@ -65,9 +65,9 @@ known_inputs f = record {
 }
 
 -- what is left of an open file, as its reader knows it
-abbrev pub rest_of : {F : Type 0} → (F → Option (List ℕ)) → Option F → Option (List ℕ)
-rest_of remaining None = None
-rest_of remaining (Some file) = remaining file
+abbrev pub left_of_file : {F : Type 0} → (F → Option (List ℕ)) → Option F → Option (List ℕ)
+left_of_file remaining None = None
+left_of_file remaining (Some file) = remaining file
 
 -- the files after an open with this answer: each fault and each absence is counted once
 abbrev pub after_open : RealInputs → Option (List ℕ) → Option ErrorKind → Result (Unit {0}) SelectFault → RealInputs
@@ -94,6 +94,7 @@ pub record KnowsOfFile (F : Type 0) : Type 0 where
   -- bytes of the file: those that reads will give, or those that were written, or all
   pub bytes : F → Option (List ℕ)
 
+-- what is known of a file, by these two functions
 abbrev pub file_tells : {F : Type 0} → (F → Option ℕ) → (F → Option (List ℕ)) → KnowsOfFile F
 file_tells position bytes = record { position = position; bytes = bytes }
 

@@ -66,13 +66,13 @@ pub struct FileInputs<'r, R: Files> {
 
 impl<'r, R: Files> Model for FileInputs<'r, R> {
     ghost use Rattle.std.specs.Prelude.{◌<◌, ◌^◌, is_some};
-    ghost use Rattle.x7_files.specs.Files.{RealInputs, rest_of};
+    ghost use Rattle.x7_files.specs.Files.{RealInputs, left_of_file};
 
     ghost Value = { RealInputs };
 
     ghost view = { λ f. record {
       selected = is_some f.file;
-      rest = rest_of R.File.remaining f.file;
+      rest = left_of_file R.File.remaining f.file;
       refusal = f.refusal;
       selects = f.selects;
       ends = f.ends;
@@ -208,7 +208,7 @@ impl<W: Write + Drop> Sink for StdSink<W> {
     }
 }
 
-/// A writer that knows what it holds, as a sink that tells it. Each write is one of the writer's,
+/// A writer that knows what it holds, as a sink of which that is known. Each write is one of the writer's,
 /// and one that takes nothing of a piece that is not empty is a fault.
 #[derive(Drop)]
 pub struct KnownSink<W: Write + Drop> {

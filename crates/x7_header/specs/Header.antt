@@ -11,9 +11,13 @@ fixed_bytes = 0x00 ∷ 0x09 ∷ 0x0F ∷ 0xF0 ∷ 0x0F ∷ 0xF0 ∷ 0x0F ∷ 0xF
 abbrev pub fixed_size : ℕ
 fixed_size = 13
 
--- the most bytes of a header: the fixed ones, four texts of at most 65,535 with a letter and a count each, and a number with its letter
+-- the most bytes of a text: its count has two bytes
+abbrev pub longest_text : ℕ
+longest_text = 65535
+
+-- the most bytes of a header: the fixed ones, four texts with a letter and a count each, and a number with its letter
 abbrev pub longest_header : ℕ
-longest_header = fixed_size + 4 * (3 + 65535) + 5
+longest_header = fixed_size + 4 * (3 + longest_text) + 5
 
 -- what stands after a field's letter
 pub data Kind : Type 0 where

@@ -15,7 +15,7 @@ use x7_words::word_of;
 pub fn after_fixed_bytes(bytes: &[u8]) -> Result<&[u8], HeaderFault>
     ensures value { ReturnsAs (λ rest. rest.now) result (fixed_at bytes.now) }
     // Thirteen bytes are judged alike whatever follows.
-    ensures more { IfOk result (λ x. (rest : List ℕ) → fixed_at (bytes.now ++ rest) ≡ Ok (x.now ++ rest)) }
+    ensures whole { IfOk result (λ x. (rest : List ℕ) → fixed_at (bytes.now ++ rest) ≡ Ok (x.now ++ rest)) }
     ensures raw { (rest : List ℕ) → fixed_size ≤ length bytes.now → IsErrOf result HeaderFault.Raw →
         fixed_at (bytes.now ++ rest) ≡ Err HeaderFault.Raw }
 {
@@ -56,11 +56,11 @@ pub fn text_field(bytes: &[u8], letter: u8, total: usize) -> Result<(&[u8], &[u8
     // What follows is left of the bytes.
     ensures within { IfOk result (λ x. length x.1.now ≤ length bytes.now) }
     // A field that is whole is judged alike whatever follows.
-    ensures more { IfOk result (λ x. (all : ℕ) (rest : List ℕ) →
+    ensures whole { IfOk result (λ x. (all : ℕ) (rest : List ℕ) →
         field_at all (text_of_letter letter) (bytes.now ++ rest)
         ≡ Ok (x.0.now, x.1.now ++ rest)) }
     // A wrong letter is judged alike whatever follows.
-    ensures other { (place : ℕ) (rest : List ℕ) → IsErrOf result (HeaderFault.Field place) →
+    ensures letter { (place : ℕ) (rest : List ℕ) → IsErrOf result (HeaderFault.Field place) →
         field_at (total + length rest) (text_of_letter letter) (bytes.now ++ rest) ≡ Err (HeaderFault.Field place) }
 {
     match after_letter(bytes, letter, total)? {
@@ -82,11 +82,11 @@ pub fn number_field(bytes: &[u8], letter: u8, total: usize) -> Result<(u32, &[u8
     // What follows is left of the bytes.
     ensures within { IfOk result (λ x. length x.1.now ≤ length bytes.now) }
     // A field that is whole is judged alike whatever follows.
-    ensures more { IfOk result (λ x. (all : ℕ) (rest : List ℕ) →
+    ensures whole { IfOk result (λ x. (all : ℕ) (rest : List ℕ) →
         field_at all (number_of_letter letter) (bytes.now ++ rest)
         ≡ Ok (bytes_of_word x.0, x.1.now ++ rest)) }
     // A wrong letter is judged alike whatever follows.
-    ensures other { (place : ℕ) (rest : List ℕ) → IsErrOf result (HeaderFault.Field place) →
+    ensures letter { (place : ℕ) (rest : List ℕ) → IsErrOf result (HeaderFault.Field place) →
         field_at (total + length rest) (number_of_letter letter) (bytes.now ++ rest) ≡ Err (HeaderFault.Field place) }
 {
     let (number, rest) = first_bytes(after_letter(bytes, letter, total)?, 4, total)?;

@@ -8,7 +8,7 @@ use Rattle.std.specs.Str.{bytes_eq}
 use Rattle.std.specs.List.{prefix_len}
 use Rattle.x7_words.specs.Input.{preceded}
 use Rattle.x7_in_memory.specs.Memory.{bytes_under, name_under}
-use Rattle.x7_in_memory.specs.Put.{entry_of, left_of, name_of}
+use Rattle.x7_in_memory.specs.Put.{entry_of, left_of, put_name}
 use Rattle.x7_in_memory.specs.declared.put.Put.{Put}
 
 -- how many stand before the first one of the name
@@ -57,28 +57,28 @@ bytes_under_position puts name (Some which) e =
     let h = found_from puts name at.0 in
     (rw h.1.0 refl, rw (← at.1) (h.1.1 ∙ sym h.1.0))
 
-name_at : (put : Put) (puts : List Put) (name : List ℕ) (before : ℕ) (same : Bool) → bytes_eq (string_bytes put.name) name ≡ same → (before < length puts → name_of puts (Some before) ≡ Some name) →
-    cond (not same) (1 + before) 0 < length (put ∷ puts) → name_of (put ∷ puts) (Some (cond (not same) (1 + before) 0)) ≡ Some name
+name_at : (put : Put) (puts : List Put) (name : List ℕ) (before : ℕ) (same : Bool) → bytes_eq (string_bytes put.name) name ≡ same → (before < length puts → put_name puts (Some before) ≡ Some name) →
+    cond (not same) (1 + before) 0 < length (put ∷ puts) → put_name (put ∷ puts) (Some (cond (not same) (1 + before) 0)) ≡ Some name
 name_at put puts name before true e more h = ap Some ((bytes_decides (string_bytes put.name) name).0 e)
 name_at put puts name before false e more h =
     let one : 1 + before ≡ suc before = omega arith in
     rw one (more (omega arith))
 
-name_from : (puts : List Put) (name : List ℕ) → count_before puts name < length puts → name_of puts (Some (count_before puts name)) ≡ Some name
+name_from : (puts : List Put) (name : List ℕ) → count_before puts name < length puts → put_name puts (Some (count_before puts name)) ≡ Some name
 name_from [] name h = absurd (omega arith)
 name_from (put ∷ puts) name h =
     name_at put puts name (count_before puts name) (bytes_eq (string_bytes put.name) name) refl (name_from puts name) h
 
 -- the name at the first place of the name is the name
 pub name_under_position : (puts : List Put) (name : List ℕ) (place : Option ℕ) → place ≡ position (λ put. bytes_eq (string_bytes put.name) name) puts →
-    name_of puts place ≡ name_under (map entry_of puts) name
+    put_name puts place ≡ name_under (map entry_of puts) name
 name_under_position puts name None e =
     let none = absent_from puts name (place_none (count_before puts name) (length puts) (sym e)) in
     rw none refl
 name_under_position puts name (Some which) e =
     let at = place_some (count_before puts name) (length puts) which (sym e) in
     let h = found_from puts name at.0 in
-    rw h.1.0 (ap (λ n. name_of puts (Some n)) (sym at.1) ∙ name_from puts name at.0)
+    rw h.1.0 (ap (λ n. put_name puts (Some n)) (sym at.1) ∙ name_from puts name at.0)
 
 got : {X : Type 0} (xs : List X) (i : ℕ) (d : X) → i < length xs → slice_get xs i ≡ Some (get_or xs i d)
 got [] i d h = absurd (omega arith)

@@ -20,8 +20,8 @@ abbrev pub no_calls : CallPlan
 no_calls = record { last = 0; failing = [] }
 
 -- one more call is to fail
-abbrev pub planned : CallPlan → ℕ → CallPlan
-planned calls call = record calls { failing = calls.failing ++ call ∷ [] }
+abbrev pub with_failing_call : CallPlan → ℕ → CallPlan
+with_failing_call calls call = record calls { failing = calls.failing ++ call ∷ [] }
 
 -- the next call is one of those that are to fail
 abbrev pub next_fails : CallPlan → Bool

@@ -7,9 +7,9 @@ abbrev pub entry_of : Put → List ℕ × List ℕ
 entry_of put = (string_bytes put.name, put.bytes.items)
 
 -- the name of the put at a place, none where no place is given
-abbrev pub name_of : List Put → Option ℕ → Option (List ℕ)
-name_of puts None = None
-name_of puts (Some which) = option_map (λ put. string_bytes put.name) (slice_get puts which)
+abbrev pub put_name : List Put → Option ℕ → Option (List ℕ)
+put_name puts None = None
+put_name puts (Some which) = option_map (λ put. string_bytes put.name) (slice_get puts which)
 
 -- the bytes of the selected put from the place among them on, none where nothing is selected
 abbrev pub left_of : List Put → ℕ → Option ℕ → Option (List ℕ)

@@ -1,6 +1,6 @@
 //! The numbers of calls, and those of them that are to fail.
 ghost use Rattle.std.specs.Prelude.{◌≡◌, OnOk, OnErr, is_err};
-ghost use Rattle.x7_in_memory.specs.Memory.{no_calls, next_fails, numbered, planned};
+ghost use Rattle.x7_in_memory.specs.Memory.{no_calls, next_fails, numbered, with_failing_call};
 
 use std::alloc::Global;
 use std::marker::Model;
@@ -41,7 +41,7 @@ impl Calls {
 
     /// The call of this number is to fail.
     pub(crate) fn fail_at(&mut self, call: u64) -> Result<(), NoMemory>
-        ensures ok { OnOk result (self.new ≡ planned self.old call) }
+        ensures ok { OnOk result (self.new ≡ with_failing_call self.old call) }
         ensures err { OnErr result (self.new ≡ self.old) }
     {
         self.failing.push(call)?;

@@ -1,15 +1,15 @@
 //! A flash in memory.
-ghost use Rattle.std.specs.Prelude.{◌≡◌, ◌+◌, ◌*◌, ◌<◌, ◌≤◌, ◌^◌, length, slice_range, IsTrue, Option, Some, None, true, false, is_some, OnOk, OnErr, IfOk, is_err, bit_and, vec_capacity};
+ghost use Rattle.std.specs.Prelude.{◌≡◌, ◌+◌, ◌<◌, ◌≤◌, ◌^◌, length, slice_range, IsTrue, Option, Some, None, true, false, is_some, OnOk, OnErr, IfOk, is_err, bit_and, vec_capacity};
 ghost use Rattle.x7_words.specs.Count.{IsLaterCount};
 ghost use Rattle.x7_words.specs.Word.{AreBytes};
-ghost use Rattle.x7_words.specs.Flash.{zip_with, cleared, erased_sector, replaced};
-ghost use Rattle.x7_in_memory.specs.Memory.{new_flash, planned, flash_fails, numbered, with_room, has_room, recorded, left_by, torn_byte, attach_answer, after_attach, after_read_at, write_refused, write_fails_in, begun, after_refusal, after_write_of, latest_tear, after_tear};
+ghost use Rattle.x7_words.specs.Flash.{zip_with, cleared, erased_sector, replaced, sector_bytes, sector_place};
+ghost use Rattle.x7_in_memory.specs.Memory.{new_flash, with_failing_call, flash_fails, numbered, with_room, has_room, recorded, left_by, torn_byte, attach_answer, after_attach, after_read_at, write_refused, write_fails_in, begun, after_refusal, after_write_of, latest_tear, after_tear};
 
 use crate::calls::Calls;
 use crate::record::Record;
 use std::alloc::Global;
 use std::marker::Model;
-use x7_words::{Failed, Flash, NoMemory, SECTOR, SelectFault, next_count};
+use x7_words::{ERASED, Failed, Flash, NoMemory, SECTOR, SelectFault, next_count};
 
 /// A write that is torn: the number of its call, and the pattern of the bits that stay old.
 #[derive(Clone, Copy, Drop)]
@@ -145,7 +145,7 @@ impl MemoryFlash {
 
     /// The call of this number, from 1, is to fail.
     pub fn fail_at(&mut self, call: u64) -> Result<(), NoMemory>
-        ensures ok { OnOk result (self.new ≡ record self.old { calls = planned self.old.calls call }) }
+        ensures ok { OnOk result (self.new ≡ record self.old { calls = with_failing_call self.old.calls call }) }
         ensures err { OnErr result (self.new ≡ self.old) }
     {
         self.calls.fail_at(call)
@@ -310,14 +310,14 @@ impl Flash for MemoryFlash {
 
     fn erase(&mut self, sector: u64) -> Result<(), Failed>
         requires attached { self.old.attached ≡ true }
-        requires within { sector * 65536 + 65536 ≤ length self.old.bytes }
-        ensures answer { is_err result ≡ write_fails_in self.old 65536 }
-        ensures after { self.new ≡ after_write_of self.old (sector * 65536) erased_sector }
+        requires within { sector_place sector + sector_bytes ≤ length self.old.bytes }
+        ensures answer { is_err result ≡ write_fails_in self.old sector_bytes }
+        ensures after { self.new ≡ after_write_of self.old (sector_place sector) erased_sector }
         ensures write_faults { IsLaterCount self.old.write_faults self.new.write_faults }
     {
         self.begin_write(SECTOR as usize)?;
         self.target.clear();
-        let Ok(()) = self.target.resize(SECTOR as usize, 0xFF) else {
+        let Ok(()) = self.target.resize(SECTOR as usize, ERASED) else {
             unreachable!()
         };
         let torn = self.torn();

@@ -2,7 +2,7 @@
 ghost use Rattle.std.specs.Prelude.{◌≡◌, [], ◌<◌, ◌≤◌, ◌+◌, ◌^◌, take, drop, length, Some, None, true, is_some, is_err, OnOk, OnErr, IfOk};
 ghost use Rattle.x7_words.specs.Count.{IsLaterCount};
 ghost use Rattle.x7_words.specs.Input.{preceded, AtEnd};
-ghost use Rattle.x7_in_memory.specs.Memory.{next_fails, planned, no_calls, after_put, select_answer, after_select, read_count, after_read, known_inputs};
+ghost use Rattle.x7_in_memory.specs.Memory.{next_fails, with_failing_call, no_calls, after_put, select_answer, after_select, read_count, after_read, known_inputs};
 
 use crate::calls::Calls;
 use crate::put::{Put, left_at, next_place, place_of};
@@ -37,12 +37,12 @@ impl Model for MemoryInputs {
 
     ghost Value = { InputsInMemory };
 
-    ghost use Rattle.x7_in_memory.specs.Put.{entry_of, left_of, name_of};
+    ghost use Rattle.x7_in_memory.specs.Put.{entry_of, left_of, put_name};
 
     ghost view = { λ m. record {
       entries = map entry_of m.puts.items;
       rest = left_of m.puts.items m.place m.selected;
-      asked = name_of m.puts.items m.asked;
+      asked = put_name m.puts.items m.asked;
       selects = m.selects;
       ends = m.ends;
       given = m.place;
@@ -94,7 +94,7 @@ impl MemoryInputs {
 
     /// The call of this number, from 1, is to fail.
     pub fn fail_at(&mut self, call: u64) -> Result<(), NoMemory>
-        ensures ok { OnOk result (self.new ≡ record self.old { calls = planned self.old.calls call }) }
+        ensures ok { OnOk result (self.new ≡ record self.old { calls = with_failing_call self.old.calls call }) }
         ensures err { OnErr result (self.new ≡ self.old) }
     {
         self.calls.fail_at(call)

@@ -3,7 +3,7 @@ ghost use Rattle.std.specs.Prelude.{◌≡◌, ◌<◌, ◌+◌, drop, length, m
 ghost use Rattle.std.specs.Option.{ForSome};
 ghost use Rattle.std.specs.Str.{bytes_eq};
 ghost use Rattle.x7_in_memory.specs.Memory.{bytes_under, name_under};
-ghost use Rattle.x7_in_memory.specs.Put.{entry_of, left_of, name_of};
+ghost use Rattle.x7_in_memory.specs.Put.{entry_of, left_of, put_name};
 
 /// A name and what was put under it.
 #[derive(Drop)]
@@ -24,7 +24,7 @@ pub(crate) fn place_of(puts: &[Put], name: &str) -> Option<usize>
     ensures within { IfSome result (λ which. which < length puts.now) }
     ensures found { is_none result ≡ is_none (bytes_under (map entry_of puts.now) name.now) }
     ensures bytes { left_of puts.now 0 result ≡ bytes_under (map entry_of puts.now) name.now }
-    ensures name { name_of puts.now result ≡ name_under (map entry_of puts.now) name.now }
+    ensures name { put_name puts.now result ≡ name_under (map entry_of puts.now) name.now }
 {
     first_place(puts, name)
 }

@@ -1,7 +1,7 @@
 //! A sink in memory.
 ghost use Rattle.std.specs.Prelude.{◌≡◌, [], ◌<◌, ◌≤◌, ◌^◌, length, Some, OnOk, OnErr, IfOk, is_err};
 ghost use Rattle.x7_words.specs.Count.{IsLaterCount};
-ghost use Rattle.x7_in_memory.specs.Memory.{no_calls, planned, write_fails, write_count, after_write};
+ghost use Rattle.x7_in_memory.specs.Memory.{no_calls, with_failing_call, write_fails, write_count, after_write};
 
 use crate::calls::Calls;
 use std::alloc::Global;
@@ -57,7 +57,7 @@ impl MemorySink {
 
     /// The call of this number, from 1, is to fail.
     pub fn fail_at(&mut self, call: u64) -> Result<(), NoMemory>
-        ensures ok { OnOk result (self.new ≡ record self.old { calls = planned self.old.calls call }) }
+        ensures ok { OnOk result (self.new ≡ record self.old { calls = with_failing_call self.old.calls call }) }
         ensures err { OnErr result (self.new ≡ self.old) }
     {
         self.calls.fail_at(call)

@@ -1,9 +1,11 @@
 -- A text that is assembled line by line: what its lines gave so far (this project's choice).
-use Rattle.std.specs.Prelude.{◌≡◌, ◌⊎◌, ℕ, ◌+◌, ◌-◌, ◌<◌, ◌≤◌, Bool, true, false, List, [], ◌∷◌, ◌++◌, drop, take, length, Ok, Err, Vec, vec_len, vec_capacity}
+use Rattle.std.specs.Prelude.{◌≡◌, ◌⊎◌, ℕ, ◌+◌, ◌-◌, ◌<◌, ◌≤◌, Bool, true, false, List, [], ◌∷◌, ◌++◌, drop, take, length, Ok, Err, Vec}
 use Rattle.std.specs.declared.alloc.Global.{Global}
 use Rattle.std.specs.List.{AllByRecursion, flat_map}
 use Rattle.x7_crc.specs.Checker.{CheckerState, Keeps}
 use Rattle.x7_header.specs.Header.{Contents, header_bytes, longest_header}
+use Rattle.x7_text.specs.Appends.{HasSpareRoom}
+use Rattle.x7_text.specs.Row.{row_bytes}
 use Rattle.x7_listing.specs.BitLine.{bit_text, IsHeld}
 use Rattle.x7_listing.specs.Line.{Line, line_bytes, FitsLine, IsListed, ended_texts}
 use Rattle.x7_listing.specs.Assembly.{AreHeadedAsm, asm_limit, assembled, BeginsWithLines, HasNoHeaderLine}
@@ -17,7 +19,7 @@ pub record LinesAreRead (limit : ℕ) (all left : List (List ℕ)) (bytes : List
   pub is : bytes ≡ assembled lines
   pub count : n ≡ length lines
 
--- a header's line stands first, which stands for the front's bytes, and the others follow it
+-- a header's line stands first, which stands for the header's bytes, and the others follow it
 pub record OpensHeaded (all others : List (List ℕ)) (prefix : List ℕ) (n : ℕ) : Type 0 where
   pub header : Contents
   pub held : IsHeld header
@@ -54,13 +56,13 @@ pub record Output : Type 0 where
   pub checker : CheckerState
   pub room : ℕ
 
--- there is room in a vector for the bytes of a line, 32 at most
+-- there is room in a vector for the bytes of a line: a row at most
 abbrev pub HasRoomForLine : Vec ℕ Global → Type 0
-HasRoomForLine out = vec_len out + 32 ≤ vec_capacity out
+HasRoomForLine out = HasSpareRoom out row_bytes
 
--- there is room for the bytes of one line more, 32 at most
+-- there is room for the bytes of one line more: a row at most
 abbrev pub HasLineRoom : Output → Type 0
-HasLineRoom b = length b.out + 32 ≤ b.room
+HasLineRoom b = length b.out + row_bytes ≤ b.room
 
 -- the bytes of lines begin within the bytes so far, and the checker keeps theirs
 pub record IsSoundOutput (out : List ℕ) (start : ℕ) (checker : CheckerState) : Type 0 where

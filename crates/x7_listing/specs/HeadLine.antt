@@ -41,6 +41,10 @@ HasRegister (Write register count) = register < 32
 HasRegister (Read register count) = register < 32
 HasRegister _ = Unit {0}
 
+-- how many bytes the line of one word has at most, with its end
+abbrev pub line_size : ℕ
+line_size = 47
+
 -- the text of a line, with its end
 abbrev pub line_text : HeadLine → List ℕ
 line_text Nop = codes "nop\n"

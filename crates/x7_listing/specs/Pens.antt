@@ -19,10 +19,10 @@ is_in_session (pen.Session in_line) = true
 is_in_session (pen.Tail in_line tail) = true
 
 -- how many elements stand in a pen's open line
-abbrev pub line_of : Pen → ℕ
-line_of (pen.Gap gap) = gap.line
-line_of (pen.Session in_line) = in_line.count
-line_of (pen.Tail in_line tail) = in_line.count
+abbrev pub in_line_of : Pen → ℕ
+in_line_of (pen.Gap gap) = gap.line
+in_line_of (pen.Session in_line) = in_line.count
+in_line_of (pen.Tail in_line tail) = in_line.count
 
 -- the bytes that a pen holds: of a gap, or of no whole word at the end of a stream
 abbrev pub held_by : Pen → List ℕ
@@ -32,7 +32,7 @@ held_by (pen.Tail in_line tail) = take tail.count tail.bytes
 
 -- a lister with this pen
 abbrev pub lister_with : CutterState → Pen → List ℕ → ListerState
-lister_with cutter p text = lister_of cutter (is_in_session p) (line_of p) (held_by p) text
+lister_with cutter p text = lister_of cutter (is_in_session p) (in_line_of p) (held_by p) text
 
 -- a cutter takes this word in a header's place, and is as it was
 abbrev pub TakesHead : CutterState → ℕ → Step → Type 0
@@ -48,7 +48,7 @@ ListsMoreAndRests old new more = (given before bytes : List ℕ) → HasListedJu
 
 -- what is written with this pen
 abbrev pub written_with : Pen → List ℕ → WrittenSoFar
-written_with p text = written_of (is_in_session p) (line_of p) (held_by p) text
+written_with p text = written_of (is_in_session p) (in_line_of p) (held_by p) text
 
 -- what is written with this pen in a gap
 abbrev pub gap_written : GapPen → List ℕ → WrittenSoFar

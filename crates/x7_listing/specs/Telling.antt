@@ -11,18 +11,17 @@ use Rattle.x7_packets.specs.declared.cutter.Cut.{Cut}
 use Rattle.x7_packets.specs.Mode.{Mode}
 use Rattle.x7_regs.specs.Register.{number_of}
 use Rattle.x7_regs.specs.declared.register.Reg.TheVariants.{Cmd}
-use Rattle.x7_text.specs.Digits.{hex_byte}
-use Rattle.x7_text.specs.Row.{bytes_text, close, element_text, in_line_after, next_in_line, open_text, spaced}
+use Rattle.x7_text.specs.Row.{bytes_text, close, element_text, in_line_after, next_in_line, spaced, open_bytes, row_bytes, row_words}
 use Rattle.x7_listing.specs.HeadLine.{command_line, text_of_head}
 use Rattle.x7_listing.specs.Listing.{IsListing, session_text}
 
 -- what a payload word adds where i words stand in an open `data` line (0: none is open)
 abbrev pub open_payload : Bool → ℕ → ℕ → List ℕ
-open_payload is_cmd i w = if is_cmd then close i ++ command_line w else element_text 8 (codes "data") spaced i w
+open_payload is_cmd i w = if is_cmd then close i ++ command_line w else element_text row_words (codes "data") spaced i w
 
 -- how many words stand in an open `data` line after one payload word more
 abbrev pub payload_next : Bool → ℕ → ℕ
-payload_next is_cmd i = if is_cmd then 0 else next_in_line 8 i
+payload_next is_cmd i = if is_cmd then 0 else next_in_line row_words i
 
 -- what a word of a session adds, by its step
 abbrev pub open_session_word : ℕ → ℕ → Step → List ℕ
@@ -48,8 +47,8 @@ words_place i (s ∷ ss) = words_place (word_next i s.1) ss
 pub record GapListed (all start : List ℕ) (line : ℕ) (held gap : List ℕ) : Type 0 where
   pub prefix : List ℕ
   pub split : gap ≡ prefix ++ held
-  pub listed : all ≡ start ++ open_text 32 (codes "bytes ") hex_byte 0 prefix
-  pub count : line ≡ in_line_after 32 0 prefix
+  pub listed : all ≡ start ++ open_bytes 0 prefix
+  pub count : line ≡ in_line_after row_bytes 0 prefix
   pub full : (length held ≡ 4) ⊎ (prefix ≡ [])
   pub few : length held ≤ 4
 
@@ -58,11 +57,13 @@ pub record SessionListed (all start : List ℕ) (line : ℕ) (gap : List ℕ) (p
   pub listed : all ≡ start ++ bytes_text gap ++ codes "sync\n" ++ open_words 0 (flat_map stepped packets)
   pub count : line ≡ words_place 0 (flat_map stepped packets)
 
--- what is written of a listing: whether the last bytes listed are a session's, how many elements stand in the open line, the bytes that are held (of a gap, or
--- of no whole word where runs are taken), and the text
+-- what is written of a listing
 pub record WrittenSoFar : Type 0 where
+  -- whether the last bytes listed are a session's
   pub synced : Bool
+  -- how many elements stand in the open line
   pub line : ℕ
+  -- the bytes that are held: of a gap, or of no whole word where runs are taken
   pub held : List ℕ
   pub text : List ℕ
 
@@ -100,13 +101,16 @@ WritesRun run w w2 =
     → HasListed w before sessions place old → Adds run sessions place new_sessions new_place → Turns run old new new_place → IsRun run
     → IsReading bytes new_sessions new_place → HasListed w2 before new_sessions new_place new
 
--- a lister: its cutter, whether the last bytes listed are a session's, how many elements stand in the open line, the bytes that are held, and the text since it
--- was last cleared
+-- a lister
 pub record ListerState : Type 0 where
   pub cutter : CutterState
+  -- whether the last bytes listed are a session's
   pub synced : Bool
+  -- how many elements stand in the open line
   pub line : ℕ
+  -- the bytes that are held: of a gap, or of no whole word where runs are taken
   pub held : List ℕ
+  -- the text since it was last cleared
   pub text : List ℕ
 
 -- a lister by its parts

@@ -21,11 +21,11 @@ abbrev pub with_records : FlashReading → Result (List DataRecord) McsFault →
 with_records r (Ok xs) = Ok (record { base = r.base; ended = r.ended; records = xs })
 with_records r (Err f) = Err f
 
--- after line n's data at an address
+-- what lines give with the data of line n at an address
 abbrev pub after_data : ℕ → FlashReading → ℕ → List ℕ → Result FlashReading McsFault
 after_data n r address content = with_records r (with_record n r.records (record { place = r.base + address; bytes = content }))
 
--- after the bytes of line n, which say this
+-- what lines give with the record of line n, which has these bytes and says this
 abbrev pub after_meaning : ℕ → FlashReading → List ℕ → Result Meaning McsFault → Result FlashReading McsFault
 after_meaning n r bs (Err f) = Err f
 after_meaning n r bs (Ok Meaning.Start) = Ok r
@@ -33,12 +33,12 @@ after_meaning n r bs (Ok Meaning.End) = Ok (record { base = r.base; ended = true
 after_meaning n r bs (Ok (Meaning.Base base)) = Ok (record { base = base; ended = r.ended; records = r.records })
 after_meaning n r bs (Ok (Meaning.Data address)) = after_data n r address (record_data bs)
 
--- after the bytes of line n, whose digits may be no pairs
+-- what lines give with the record of line n, whose digits may be no pairs
 abbrev pub after_bytes : ℕ → FlashReading → Option (List ℕ) → Result FlashReading McsFault
 after_bytes n r None = Err (fault.Line n)
 after_bytes n r (Some bs) = after_meaning n r bs (meaning_of n r.ended bs)
 
--- after line n: an empty line means nothing, and any other is `:` and pairs of digits
+-- what lines give with line n: an empty line means nothing, and any other is `:` and pairs of digits
 abbrev pub after_line : ℕ → FlashReading → List ℕ → Result FlashReading McsFault
 after_line n r [] = Ok r
 after_line n r (c ∷ cs) = if c == 58 then after_bytes n r (pairs cs) else Err (fault.Line n)
@@ -48,7 +48,7 @@ abbrev pub and_then : Result FlashReading McsFault → (FlashReading → Result 
 and_then (Err f) more = Err f
 and_then (Ok r) more = more r
 
--- after the lines from line n on, or the first bad line's fault
+-- what lines give with more of them from line n on, or the first bad line's fault
 abbrev pub after_lines : ℕ → FlashReading → List (List ℕ) → Result FlashReading McsFault
 after_lines n r [] = Ok r
 after_lines n r (t ∷ ts) = and_then (after_line n r t) (λ s. after_lines (n + 1) s ts)

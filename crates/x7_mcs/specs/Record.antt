@@ -9,6 +9,14 @@ use Rattle.x7_mcs.specs.declared.fault.McsFault.TheVariants as fault
 abbrev pub block_size : ℕ
 block_size = 65536
 
+-- how many values a byte has
+abbrev pub byte_values : ℕ
+byte_values = 256
+
+-- how many bytes a record has beside its data: its count, the two of its address, its type and its sum byte
+abbrev pub bytes_beside : ℕ
+bytes_beside = 5
+
 -- how many bytes of data a record says that it has
 abbrev pub record_count : List ℕ → ℕ
 record_count bs = get_or bs 0 0
@@ -33,9 +41,9 @@ record_data bs = take (record_count bs) (drop 4 bs)
 abbrev pub sum_found : List ℕ → ℕ
 sum_found bs = get_or bs (length bs - 1) 0
 
--- the byte that makes the sum of these and itself 0 mod 256
+-- the byte that makes the sum of these and itself 0, without its carries
 abbrev pub sum_byte : List ℕ → ℕ
-sum_byte bs = (256 - sum bs % 256) % 256
+sum_byte bs = (byte_values - sum bs % byte_values) % byte_values
 
 -- the sum byte that the record wants
 abbrev pub sum_wanted : List ℕ → ℕ
@@ -66,7 +74,7 @@ meaning_by_type n bs =
 -- what the bytes of line n say, where a record 01 stood before or not
 abbrev pub meaning_of : ℕ → Bool → List ℕ → Result Meaning McsFault
 meaning_of n ended bs =
-    if not (record_count bs + 5 == length bs) then Err (fault.Line n)
+    if not (record_count bs + bytes_beside == length bs) then Err (fault.Line n)
     else if not (sum_wanted bs == sum_found bs) then Err (fault.Sum n (sum_wanted bs) (sum_found bs))
     else if ended then Err (fault.Line n)
     else meaning_by_type n bs

@@ -1,10 +1,10 @@
 -- What the bytes and marks of a text that is being read stand for (this project's choice).
-use Rattle.std.specs.Prelude.{◌≡◌, ℕ, ◌+◌, ◌/◌, ◌%◌, ◌==◌, ◌-◌, ◌&&◌, ◌<◌, ◌≤◌, nat_le, nat_lt, max, Bool, true, false, if◌then◌else◌, None, Some, Result, Ok, Err, ◌⊎◌, List, length, get_or}
+use Rattle.std.specs.Prelude.{◌≡◌, ℕ, ◌+◌, ◌/◌, ◌%◌, ◌==◌, ◌-◌, ◌&&◌, ◌<◌, ◌≤◌, nat_le, nat_lt, max, Bool, true, false, if◌then◌else◌, Result, Ok, Err, ◌⊎◌, List, length, get_or}
 use Rattle.std.specs.Int.{bit_at}
-use Rattle.x7_mcs.specs.DataRecords.{byte_at, covered, extent, DataRecord}
+use Rattle.x7_mcs.specs.DataRecords.{byte_at, covered, extent, free_byte, DataRecord}
 use Rattle.x7_mcs.specs.declared.fault.McsFault.{McsFault}
 use Rattle.x7_mcs.specs.declared.fault.McsFault.TheVariants as fault
-use Rattle.x7_mcs.specs.Record.{Meaning, pairs}
+use Rattle.x7_mcs.specs.Record.{Meaning}
 use Rattle.x7_mcs.specs.declared.record.Meaning.{Meaning as Read}
 use Rattle.x7_mcs.specs.declared.record.Meaning.TheVariants as read
 use Rattle.x7_mcs.specs.Flash.{FlashReading}
@@ -21,14 +21,13 @@ abbrev pub SaysMeaning : Result Read McsFault → Result Meaning McsFault → Ty
 SaysMeaning (Ok m) said = said ≡ Ok (read_as m)
 SaysMeaning (Err f) said = said ≡ Err f
 
--- the digits are pairs of these bytes, or no pairs of digits
-abbrev pub ReadsPairs : Bool → List ℕ → List ℕ → Type 0
-ReadsPairs true digits bytes = pairs digits ≡ Some bytes
-ReadsPairs false digits bytes = pairs digits ≡ None
+-- how many places a mark is for
+abbrev pub places_a_mark : ℕ
+places_a_mark = 16
 
--- whether a place is marked: sixteen places a mark, the first in bit 0
+-- whether a place is marked; a mark has its first place in bit 0
 abbrev pub is_marked : List ℕ → ℕ → Bool
-is_marked marks p = bit_at (get_or marks (p / 16) 0) (p % 16) == 1
+is_marked marks p = bit_at (get_or marks (p / places_a_mark) 0) (p % places_a_mark) == 1
 
 -- no place from one to before another is marked
 abbrev pub AreFree : List ℕ → ℕ → ℕ → Type 0
@@ -44,12 +43,12 @@ pub record IsFirstMarked (marks : List ℕ) (from to q : ℕ) : Type 0 where
 -- bytes are written from a place on, after FF where the old ones end before it
 pub record IsWrittenFrom (place : ℕ) (content old new : List ℕ) : Type 0 where
   pub long : length new ≡ max (length old) (place + length content)
-  pub at : (p : ℕ) → get_or new p 255 ≡ (if nat_le place p && nat_lt p (place + length content) then get_or content (p - place) 255 else get_or old p 255)
+  pub at : (p : ℕ) → get_or new p free_byte ≡ (if nat_le place p && nat_lt p (place + length content) then get_or content (p - place) free_byte else get_or old p free_byte)
 
 -- what bytes and marks stand for: place by place, the records' bytes and whether a record covers it
 pub record HoldsRecords (records : List DataRecord) (bytes marks : List ℕ) : Type 0 where
   pub long : length bytes ≡ extent records
-  pub at : (p : ℕ) → get_or bytes p 255 ≡ byte_at records p
+  pub at : (p : ℕ) → get_or bytes p free_byte ≡ byte_at records p
   pub marked : (p : ℕ) → is_marked marks p ≡ covered records p
 
 -- what the lines so far gave: the base that stands, whether a record 01 stood, and the bytes and marks of the image

@@ -3,19 +3,27 @@ use Rattle.std.specs.Prelude.{ℕ, ◌+◌, ◌*◌, ◌/◌, ◌%◌, ◌==◌,
 use Rattle.std.specs.List.{flat_map}
 use Rattle.x7_text.specs.Digits.{hex_byte}
 use Rattle.x7_text.specs.Row.{rows}
-use Rattle.x7_mcs.specs.Record.{block_size, sum_byte}
+use Rattle.x7_mcs.specs.Record.{block_size, byte_values, sum_byte}
 
 -- how many bytes of a flash a row has, each but the last
 abbrev pub row_size : ℕ
 row_size = 16
 
--- the last address at which a row ends within its block
-abbrev pub last_row : ℕ
-last_row = 65520
+-- how many bytes of text a record 04 has, with its line end
+abbrev pub base_line_size : ℕ
+base_line_size = 16
 
--- the bytes that the text of a block takes at most: four for each byte, and its record 04
+-- how many bytes of text the data record of a whole row has, with its line end
+abbrev pub row_line_size : ℕ
+row_line_size = 44
+
+-- the bytes that the text of n bytes of rows takes at most, those of one block begun: four for each byte, a record 04 and a row's line
+abbrev pub rows_room : ℕ → ℕ
+rows_room n = 4 * n + (base_line_size + row_line_size)
+
+-- the bytes that the text of a block takes at most
 abbrev pub block_room : ℕ
-block_room = 4 * block_size + 60
+block_room = rows_room block_size
 
 -- the line of a record's bytes, with the byte that makes their sum 0
 abbrev pub record_line : List ℕ → List ℕ
@@ -29,6 +37,10 @@ base_line block = record_line (2 ∷ 0 ∷ 0 ∷ 4 ∷ block / 256 ∷ block % 2
 abbrev pub data_line : ℕ → List ℕ → List ℕ
 data_line address bs = record_line (length bs ∷ address / 256 ∷ address % 256 ∷ 0 ∷ bs)
 
+-- the fields of the data record of a whole row at an address: its count, the address, the high byte first, and its type
+abbrev pub row_fields : ℕ → List ℕ
+row_fields address = row_size ∷ address / byte_values ∷ address % byte_values ∷ 0 ∷ []
+
 -- where a block of 65,536 bytes begins, its record 04
 abbrev pub block_start : ℕ → List ℕ
 block_start place = if place % block_size == 0 then base_line (place / block_size) else []
@@ -38,6 +50,6 @@ abbrev pub row_lines : ℕ → List (List ℕ) → List ℕ
 row_lines place [] = []
 row_lines place (r ∷ rs) = block_start place ++ data_line (place % block_size) r ++ row_lines (place + length r) rs
 
--- the text of a flash's bytes: rows of 16, the last of which may be shorter, and the record 01
+-- the text of a flash's bytes: whole rows, the last of which may be shorter, and the record 01
 abbrev pub mcs_text : List ℕ → List ℕ
 mcs_text bytes = row_lines 0 (rows row_size bytes) ++ codes ":00000001FF\n"

@@ -1,10 +1,10 @@
 //! The bytes of a flash that is being read, and the places that its records gave.
-ghost use Rattle.std.specs.Prelude.{◌≡◌, ℕ, true, ◌≤◌, ◌<◌, ◌+◌, ◌-◌, ◌*◌, ◌/◌, ◌%◌, ◌^◌, ◌==◌, ◌&&◌, nat_le, nat_lt, max, if◌then◌else◌, List, [], length, get_or, None, Some, Ok, Err, MatchResult, MatchOption};
+ghost use Rattle.std.specs.Prelude.{◌≡◌, ℕ, true, ◌≤◌, ◌<◌, ◌+◌, ◌-◌, ◌*◌, ◌/◌, ◌%◌, ◌^◌, ◌==◌, ◌&&◌, nat_le, nat_lt, max, if◌then◌else◌, List, [], length, get_or, MatchResult, MatchOption};
 ghost use Rattle.std.specs.Int.{bit_at};
-ghost use Rattle.x7_mcs.specs.DataRecords.{DataRecord, overlap};
+ghost use Rattle.x7_mcs.specs.DataRecords.{DataRecord, overlap, free_byte};
 ghost use Rattle.x7_mcs.specs.Images.{HoldsIn, HoldsMore, IsRecordRefused, data_at};
-ghost use Rattle.x7_mcs.specs.State.{AreFree, IsFirstMarked, IsWrittenFrom, is_marked};
-ghost use Rattle.x7_mcs.specs.declared.fault.McsFault.{McsFault};
+ghost use Rattle.x7_mcs.specs.Record.{byte_values};
+ghost use Rattle.x7_mcs.specs.State.{AreFree, IsFirstMarked, IsWrittenFrom, is_marked, places_a_mark};
 
 use crate::fault::McsFault;
 use std::alloc::{AllocError, Global};
@@ -39,7 +39,7 @@ pub(crate) fn empty_image(alloc: Global) -> Image
 /// Lengthens bytes by FF.
 #[inline(always)]
 fn grow_bytes(bytes: &mut Vec<u8>, n: usize) -> Result<(), AllocError>
-    ensures { MatchResult result (λ _. (length bytes.new.items ≡ max (length bytes.old.items) n) × ((p : ℕ) → get_or bytes.new.items p 255 ≡ get_or bytes.old.items p 255)) (λ _. Unit {0}) }
+    ensures { MatchResult result (λ _. (length bytes.new.items ≡ max (length bytes.old.items) n) × ((p : ℕ) → get_or bytes.new.items p free_byte ≡ get_or bytes.old.items p free_byte)) (λ _. Unit {0}) }
 {
     if n <= bytes.len() {
         return Ok(());
@@ -51,7 +51,7 @@ fn grow_bytes(bytes: &mut Vec<u8>, n: usize) -> Result<(), AllocError>
 fn set_bytes(bytes: &mut Vec<u8>, place: usize, content: &[u8])
     requires { place + length content.now ≤ length bytes.old.items }
     ensures long { length bytes.new.items ≡ length bytes.old.items }
-    ensures at { (p : ℕ) → get_or bytes.new.items p 255 ≡ (if nat_le place p && nat_lt p (place + length content.now) then get_or content.now (p - place) 255 else get_or bytes.old.items p 255) }
+    ensures at { (p : ℕ) → get_or bytes.new.items p free_byte ≡ (if nat_le place p && nat_lt p (place + length content.now) then get_or content.now (p - place) free_byte else get_or bytes.old.items p free_byte) }
 {
     bytes[place..place + content.len()].copy_from_slice(content);
 }
@@ -83,7 +83,7 @@ fn put_bytes(bytes: &mut Vec<u8>, place: usize, content: &[u8]) -> Result<(), Al
 #[inline(always)]
 fn grow_marks(marks: &mut Vec<u16>, end: usize) -> Result<(), AllocError>
     requires { end < 2 ^ 34 }
-    ensures { MatchResult result (λ _. (end ≤ 16 * length marks.new.items) × ((k : ℕ) → get_or marks.new.items k 0 ≡ get_or marks.old.items k 0)) (λ _. Unit {0}) }
+    ensures { MatchResult result (λ _. (end ≤ places_a_mark * length marks.new.items) × ((k : ℕ) → get_or marks.new.items k 0 ≡ get_or marks.old.items k 0)) (λ _. Unit {0}) }
 {
     let n = end / 16 + 1;
     if n <= marks.len() {
@@ -94,7 +94,7 @@ fn grow_marks(marks: &mut Vec<u16>, end: usize) -> Result<(), AllocError>
 
 /// Marks a place.
 fn mark_place(marks: &mut Vec<u16>, place: usize)
-    requires { place / 16 < length marks.old.items }
+    requires { place / places_a_mark < length marks.old.items }
     ensures long { length marks.new.items ≡ length marks.old.items }
     ensures at { (p : ℕ) → is_marked marks.new.items p ≡ (if nat_le place p && nat_lt p (place + 1) then true else is_marked marks.old.items p) }
 {
@@ -103,10 +103,10 @@ fn mark_place(marks: &mut Vec<u16>, place: usize)
 
 /// Marks the sixteen places of one mark.
 fn mark_sixteen(marks: &mut Vec<u16>, place: usize)
-    requires within { place / 16 < length marks.old.items }
-    requires first { place % 16 ≡ 0 }
+    requires within { place / places_a_mark < length marks.old.items }
+    requires first { place % places_a_mark ≡ 0 }
     ensures long { length marks.new.items ≡ length marks.old.items }
-    ensures at { (p : ℕ) → is_marked marks.new.items p ≡ (if nat_le place p && nat_lt p (place + 16) then true else is_marked marks.old.items p) }
+    ensures at { (p : ℕ) → is_marked marks.new.items p ≡ (if nat_le place p && nat_lt p (place + places_a_mark) then true else is_marked marks.old.items p) }
 {
     marks[place / 16] = ALL;
 }
@@ -114,7 +114,7 @@ fn mark_sixteen(marks: &mut Vec<u16>, place: usize)
 /// Marks places from one on.
 #[inline(always)]
 fn mark_places(marks: &mut Vec<u16>, place: usize, count: usize)
-    requires within { place + count ≤ 16 * length marks.old.items }
+    requires within { place + count ≤ places_a_mark * length marks.old.items }
     requires small { place + count < 2 ^ 34 }
     ensures { (p : ℕ) → is_marked marks.new.items p ≡ (if nat_le place p && nat_lt p (place + count) then true else is_marked marks.old.items p) }
 {
@@ -133,7 +133,7 @@ fn mark_places(marks: &mut Vec<u16>, place: usize, count: usize)
 
 /// The mark that a place stands in; an empty one past the last.
 fn mark_of(marks: &[u16], place: usize) -> u16
-    ensures { result ≡ get_or marks.now (place / 16) 0 }
+    ensures { result ≡ get_or marks.now (place / places_a_mark) 0 }
 {
     if place / 16 < marks.len() {
         marks[place / 16]
@@ -144,7 +144,7 @@ fn mark_of(marks: &[u16], place: usize) -> u16
 
 /// Whether a mark has its place number `bit`.
 fn has_bit(mark: u16, bit: usize) -> bool
-    requires { bit < 16 }
+    requires { bit < places_a_mark }
     ensures { result ≡ (bit_at mark bit == 1) }
 {
     mark >> bit & 1 == 1
@@ -183,7 +183,7 @@ fn taken_place(image: &Image, place: usize, count: usize) -> Option<usize>
     first_marked(&image.marks, place, count)
 }
 
-/// Writes the data of line `n`'s record from a place on, or tells its fault.
+/// Writes the data of line `n`'s record from a place on, or answers its fault.
 #[inline(always)]
 pub(crate) fn put_content(
     image: &mut Image,
@@ -191,7 +191,7 @@ pub(crate) fn put_content(
     place: usize,
     content: &[u8],
 ) -> Result<(), McsFault>
-    requires { (place < 2 ^ 33) × (length content.now < 256) }
+    requires { (place < 2 ^ 33) × (length content.now < byte_values) }
     ensures { (xs : List DataRecord) → HoldsIn image.old xs
         → MatchResult result (λ _. HoldsMore image.new n xs (data_at place content.now)) (λ fault. IsRecordRefused n xs (data_at place content.now) fault) }
 {

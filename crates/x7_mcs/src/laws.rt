@@ -4,7 +4,7 @@ ghost use Rattle.x7_text.specs.Row.{rows};
 ghost use Rattle.x7_words.specs.Flash.{flash_limit};
 ghost use Rattle.x7_words.specs.Word.{AreBytes};
 ghost use Rattle.x7_mcs.specs.Flash.{FlashReading, after_lines, and_then, mcs_of, flash_reading};
-ghost use Rattle.x7_mcs.specs.DataRecords.{HaveNoOverlap, DataRecord, byte_at, covered, covers, extent, records_image, overlap};
+ghost use Rattle.x7_mcs.specs.DataRecords.{HaveNoOverlap, DataRecord, byte_at, covered, covers, extent, records_image, overlap, free_byte};
 ghost use Rattle.x7_mcs.specs.Text.{mcs_text, row_lines, row_size};
 ghost use Rattle.x7_mcs.specs.declared.fault.McsFault.{McsFault};
 
@@ -32,10 +32,10 @@ pub fn lines_in_turn()
 /// The flash's bytes, place by place.
 pub fn bytes_by_place()
     ensures long { (records : List DataRecord) → length (records_image records) ≡ extent records }
-    ensures at { (records : List DataRecord) (p : ℕ) → p < extent records → get_or (records_image records) p 255 ≡ byte_at records p }
+    ensures at { (records : List DataRecord) (p : ℕ) → p < extent records → get_or (records_image records) p free_byte ≡ byte_at records p }
     ensures covered { (before after : List DataRecord) (x : DataRecord) (p : ℕ) → HaveNoOverlap (before ++ x ∷ after) → covers x p ≡ true
-        → byte_at (before ++ x ∷ after) p ≡ get_or x.bytes (p - x.place) 255 }
-    ensures free { (records : List DataRecord) (p : ℕ) → covered records p ≡ false → byte_at records p ≡ 255 }
+        → byte_at (before ++ x ∷ after) p ≡ get_or x.bytes (p - x.place) free_byte }
+    ensures free { (records : List DataRecord) (p : ℕ) → covered records p ≡ false → byte_at records p ≡ free_byte }
 {}
 
 /// No two records of a good text cover one place.
@@ -43,7 +43,7 @@ pub fn records_are_apart()
     ensures { (text : List ℕ) (r : FlashReading) → flash_reading text ≡ Ok r → HaveNoOverlap r.records }
 {}
 
-/// The place that an overlap tells is the least of the record's that another covers.
+/// The place that an overlap names is the least of the record's that another covers.
 pub fn overlap_is_the_least()
     ensures some { (xs : List DataRecord) (p n q : ℕ) → overlap xs p n ≡ Some q → (p ≤ q) × (q < p + n) × (covered xs q ≡ true) × ((k : ℕ) → p ≤ k → k < q → covered xs k ≡ false) }
     ensures none { (xs : List DataRecord) (p n : ℕ) → overlap xs p n ≡ None → (k : ℕ) → p ≤ k → k < p + n → covered xs k ≡ false }

@@ -1,11 +1,11 @@
 //! What the lines of a flash text give, as they come.
-ghost use Rattle.std.specs.Prelude.{◌≡◌, ◌+◌, ◌<◌, ◌≤◌, ◌++◌, ◌∷◌, [], List, ℕ, length, Ok, IfErr, IfOk, MatchOption, MatchResult};
+ghost use Rattle.std.specs.Prelude.{◌≡◌, ◌+◌, ◌<◌, ◌++◌, ◌∷◌, [], List, ℕ, length, Ok, IfErr, IfOk, MatchOption, MatchResult};
 ghost use Rattle.x7_text.specs.LineReader.{WantsAt};
 ghost use Rattle.x7_text.specs.Lines.{split};
 ghost use Rattle.x7_mcs.specs.Flash.{after_data, after_line};
 ghost use Rattle.x7_mcs.specs.Images.{HoldsIn, flash_reading_at};
 ghost use Rattle.x7_mcs.specs.DataRecords.{DataRecord};
-ghost use Rattle.x7_mcs.specs.Text.{last_row, row_size};
+ghost use Rattle.x7_mcs.specs.Text.{row_size};
 ghost use Rattle.x7_mcs.specs.McsLines.{AreGoodWith, HasMcsFault, HasReadRecords, ReachesIn, TakesFirstLine, mcs_lines_state, flash_of_lines};
 ghost use Rattle.x7_mcs.specs.declared.mcs_lines.McsLines.{McsLines};
 ghost use Rattle.x7_mcs.specs.declared.fault.McsFault.{McsFault};
@@ -65,7 +65,7 @@ impl McsLines {
     /// Takes the first line of a text, line `n`, if it has its end. Answers the text after it.
     #[inline(always)]
     fn take_line<'t>(&mut self, n: u64, text: &'t [u8]) -> Result<Option<&'t [u8]>, McsFault>
-        ensures goes { (lines : List (List ℕ)) → n ≡ length lines + 1 → HasReadRecords (mcs_lines_state self.old) lines
+        ensures read { (lines : List (List ℕ)) → n ≡ length lines + 1 → HasReadRecords (mcs_lines_state self.old) lines
             → MatchResult result (λ found. MatchOption found (HasReadRecords (mcs_lines_state self.new) lines) (λ rest. TakesFirstLine lines text.now rest.now self.new))
             (λ f. (more : List ℕ) → HasMcsFault f (lines ++ split (text.now ++ more))) }
         ensures memory { (lines : List (List ℕ)) → n ≡ length lines + 1 → HasReadRecords (mcs_lines_state self.old) lines

@@ -1,7 +1,7 @@
 //! What the bytes of one record say.
 ghost use Rattle.std.specs.Prelude.{◌≡◌, ◌<◌, ◌+◌, ◌%◌, ◌++◌, get_or, length, MatchResult};
 ghost use Rattle.std.specs.List.{sum};
-ghost use Rattle.x7_mcs.specs.Record.{record_data, meaning_by_type, meaning_of, sum_byte};
+ghost use Rattle.x7_mcs.specs.Record.{record_data, meaning_by_type, meaning_of, sum_byte, byte_values, bytes_beside};
 ghost use Rattle.x7_mcs.specs.State.{SaysMeaning};
 
 use crate::fault::McsFault;
@@ -25,7 +25,7 @@ pub(crate) enum Meaning {
 /// The sum of bytes, without its carries.
 #[inline(always)]
 pub(crate) fn sum_of(bytes: &[u8]) -> u8
-    ensures { result ≡ sum bytes.now % 256 }
+    ensures { result ≡ sum bytes.now % byte_values }
 {
     let mut total: u8 = 0;
     for b in bytes {
@@ -44,7 +44,7 @@ pub(crate) fn sum_byte(fields: &[u8], content: &[u8]) -> u8
 
 /// What the record of line `n` says by its type, its count and its address.
 fn meaning_by_type(n: u64, bytes: &[u8]) -> Result<Meaning, McsFault>
-    requires { get_or bytes.now 0 0 + 5 ≡ length bytes.now }
+    requires { get_or bytes.now 0 0 + bytes_beside ≡ length bytes.now }
     ensures { SaysMeaning result (meaning_by_type n bytes.now) }
 {
     let count = u32::from(bytes[0]);
@@ -71,7 +71,7 @@ fn meaning_by_type(n: u64, bytes: &[u8]) -> Result<Meaning, McsFault>
 /// What the bytes of line `n` say, where a record 01 stood before or not.
 pub(crate) fn meaning_of(n: u64, ended: bool, bytes: &[u8]) -> Result<Meaning, McsFault>
     ensures meaning { SaysMeaning result (meaning_of n ended bytes.now) }
-    ensures long { MatchResult result (λ _. get_or bytes.now 0 0 + 5 ≡ length bytes.now) (λ _. Unit {0}) }
+    ensures long { MatchResult result (λ _. get_or bytes.now 0 0 + bytes_beside ≡ length bytes.now) (λ _. Unit {0}) }
 {
     if bytes.len() == 0 || usize::from(bytes[0]) + 5 != bytes.len() {
         return Err(McsFault::Line(n));
@@ -89,9 +89,9 @@ pub(crate) fn meaning_of(n: u64, ended: bool, bytes: &[u8]) -> Result<Meaning, M
 
 /// The data of a record.
 pub(crate) fn record_data(bytes: &[u8]) -> &[u8]
-    requires { get_or bytes.now 0 0 + 5 ≡ length bytes.now }
+    requires { get_or bytes.now 0 0 + bytes_beside ≡ length bytes.now }
     ensures is { result.now ≡ record_data bytes.now }
-    ensures long { length result.now < 256 }
+    ensures long { length result.now < byte_values }
 {
     let count = usize::from(bytes[0]);
     let (_, fields) = bytes.split_at(4);

@@ -1,11 +1,11 @@
 //! The usual line, a data record of sixteen bytes: written at once, and read by a guess that is written again and compared.
-ghost use Rattle.std.specs.Prelude.{◌≡◌, ◌<◌, ◌≤◌, ◌+◌, ◌/◌, ◌%◌, ◌^◌, [], ◌∷◌, ◌++◌, length, map, IsTrue, MatchOption};
+ghost use Rattle.std.specs.Prelude.{◌≡◌, ◌<◌, ◌≤◌, ◌+◌, ◌%◌, ◌++◌, length, map, IsTrue, MatchOption};
 ghost use Rattle.std.specs.List.{flat_map, sum};
 ghost use Rattle.std.specs.Simd.Lanes.{Each1, chunk};
 ghost use Rattle.x7_text.specs.Digits.{hex_byte, hex_digit};
 ghost use Rattle.x7_words.specs.Word.{AreBytes};
-ghost use Rattle.x7_mcs.specs.Record.{sum_byte};
-ghost use Rattle.x7_mcs.specs.Text.{data_line};
+ghost use Rattle.x7_mcs.specs.Record.{sum_byte, byte_values};
+ghost use Rattle.x7_mcs.specs.Text.{data_line, row_size, row_fields};
 
 use crate::record::sum_of;
 use std::simd::prelude::*;
@@ -43,7 +43,7 @@ fn hex_of_content(content: &[u8; 16]) -> ([u8; 16], [u8; 16])
 /// The sum of sixteen bytes, without its carries.
 #[inline(always)]
 fn sum_of_content(content: &[u8; 16]) -> u8
-    ensures { result ≡ sum content.now % 256 }
+    ensures { result ≡ sum content.now % byte_values }
 {
     u8x16::from_array(*content).reduce_sum()
 }
@@ -51,7 +51,7 @@ fn sum_of_content(content: &[u8; 16]) -> u8
 /// The sum byte of a data record of sixteen bytes.
 #[inline(always)]
 fn sum_byte_of_row(address: u16, content: &[u8; 16]) -> u8
-    ensures { result ≡ sum_byte (16 ∷ address / 256 ∷ address % 256 ∷ 0 ∷ content.now) }
+    ensures { result ≡ sum_byte (row_fields address ++ content.now) }
 {
     let fields = [16, (address / 256) as u8, (address % 256) as u8, 0];
     0u8.wrapping_sub(sum_of(&fields).wrapping_add(sum_of_content(content)))
@@ -60,7 +60,7 @@ fn sum_byte_of_row(address: u16, content: &[u8; 16]) -> u8
 /// The digits of the fields of a data record of sixteen bytes.
 #[inline(always)]
 fn hex_of_fields(address: u16) -> [u8; 8]
-    ensures { result ≡ flat_map hex_byte (16 ∷ address / 256 ∷ address % 256 ∷ 0 ∷ []) }
+    ensures { result ≡ flat_map hex_byte (row_fields address) }
 {
     let [a, b] = hex_of_byte((address / 256) as u8);
     let [c, d] = hex_of_byte((address % 256) as u8);
@@ -177,7 +177,7 @@ fn is_row_line(line: &[u8; 44], address: u16, content: &[u8; 16]) -> bool
 #[inline(always)]
 pub(crate) fn first_row(text: &[u8]) -> Option<(Row, &[u8])>
     ensures line { MatchOption result (Unit {0}) (λ r. text.now ≡ data_line r.0.address r.0.content ++ r.1.now) }
-    ensures content { MatchOption result (Unit {0}) (λ r. length r.0.content ≡ 16) }
+    ensures content { MatchOption result (Unit {0}) (λ r. length r.0.content ≡ row_size) }
     ensures bytes { MatchOption result (Unit {0}) (λ r. AreBytes r.0.content) }
     ensures shorter { MatchOption result (Unit {0}) (λ r. length r.1.now < length text.now) }
 {

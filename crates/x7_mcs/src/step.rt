@@ -1,10 +1,9 @@
-//! One line more.
-ghost use Rattle.std.specs.Prelude.{true, ◌<◌, ◌^◌, List, length};
-ghost use Rattle.x7_mcs.specs.Record.{record_data, meaning_of};
+//! One line more of a flash text, taken into the image that the lines before it gave.
+ghost use Rattle.std.specs.Prelude.{◌<◌, ◌^◌, List, length};
+ghost use Rattle.x7_mcs.specs.Record.{byte_values};
 ghost use Rattle.x7_mcs.specs.DataRecords.{DataRecord};
 ghost use Rattle.x7_mcs.specs.Flash.{after_data, after_line};
 ghost use Rattle.x7_mcs.specs.Images.{CallComesTo, HoldsIn, after_record, flash_reading_at};
-ghost use Rattle.x7_mcs.specs.declared.fault.McsFault.{McsFault};
 
 use crate::fault::McsFault;
 use crate::image::{Image, put_content};
@@ -21,7 +20,7 @@ pub(crate) struct Context {
     pub(crate) ended: bool,
 }
 
-/// After the data of line `n`'s record.
+/// Writes the data of line `n`'s record into the image, and gives the base and the end that stand after it.
 #[inline(always)]
 pub(crate) fn put_data(
     image: &mut Image,
@@ -30,7 +29,7 @@ pub(crate) fn put_data(
     address: u32,
     content: &[u8],
 ) -> Result<Context, McsFault>
-    requires content { length content.now < 256 }
+    requires content { length content.now < byte_values }
     requires address { address < 2 ^ 16 }
     ensures { (xs : List DataRecord) → HoldsIn image.old xs → CallComesTo result (after_data n (flash_reading_at context xs) address content.now) image.new }
 {
@@ -40,7 +39,7 @@ pub(crate) fn put_data(
     }
 }
 
-/// After the bytes of line `n`.
+/// Takes the record of line `n`, by its bytes, into the image, and gives the base and the end that stand after it.
 fn put_record(
     image: &mut Image,
     n: u64,
@@ -64,7 +63,7 @@ fn put_record(
     }
 }
 
-/// After line `n`.
+/// Takes line `n` into the image, and gives the base and the end that stand after it.
 pub(crate) fn put_line(
     image: &mut Image,
     n: u64,

@@ -1,14 +1,14 @@
 //! The text of a flash's bytes.
-ghost use Rattle.std.specs.Prelude.{◌≡◌, ◌≤◌, ◌<◌, ◌+◌, ◌*◌, ◌/◌, ◌%◌, ◌^◌, [], ◌++◌, length, vec_len, vec_capacity, IfOk, Ok};
+ghost use Rattle.std.specs.Prelude.{◌≡◌, ◌≤◌, ◌<◌, ◌+◌, ◌*◌, ◌%◌, ◌++◌, length, vec_capacity, IfOk, Ok};
 ghost use Rattle.std.specs.List.{flat_map};
-ghost use Rattle.x7_text.specs.Appends.{Appends};
+ghost use Rattle.x7_text.specs.Appends.{Appends, HasSpareRoom};
 ghost use Rattle.x7_text.specs.Digits.{hex_byte};
 ghost use Rattle.x7_text.specs.Row.{rows};
 ghost use Rattle.x7_words.specs.Word.{AreBytes};
 ghost use Rattle.x7_mcs.specs.Flash.{mcs_of};
 ghost use Rattle.x7_words.specs.Flash.{flash_limit};
 ghost use Rattle.x7_mcs.specs.Record.{block_size};
-ghost use Rattle.x7_mcs.specs.Text.{block_start, data_line, mcs_text, record_line, row_lines, row_size};
+ghost use Rattle.x7_mcs.specs.Text.{block_start, data_line, mcs_text, record_line, row_lines, row_size, base_line_size, row_line_size, rows_room};
 
 use crate::record::{BLOCK_SIZE, sum_byte};
 use crate::row::row_line;
@@ -21,7 +21,7 @@ pub(crate) const END_LINE: &[u8] = b":00000001FF\n";
 
 /// Appends the digits of bytes.
 fn put_digits(out: &mut Vec<u8>, bytes: &[u8])
-    requires { vec_len out.old + 2 * length bytes.now ≤ vec_capacity out.old }
+    requires { HasSpareRoom out.old (2 * length bytes.now) }
     ensures { Appends out.old out.new (flat_map hex_byte bytes.now) (2 * length bytes.now) }
 {
     for b in bytes {
@@ -31,7 +31,7 @@ fn put_digits(out: &mut Vec<u8>, bytes: &[u8])
 
 /// Appends the line of a record's bytes, those of its fields and its data.
 fn put_record(out: &mut Vec<u8>, fields: &[u8], content: &[u8])
-    requires { vec_len out.old + (2 * length fields.now + 2 * length content.now + 4) ≤ vec_capacity out.old }
+    requires { HasSpareRoom out.old (2 * length fields.now + 2 * length content.now + 4) }
     ensures { Appends out.old out.new (record_line (fields.now ++ content.now)) (2 * length fields.now + 2 * length content.now + 4) }
 {
     put(out, b":");
@@ -44,9 +44,9 @@ fn put_record(out: &mut Vec<u8>, fields: &[u8], content: &[u8])
 /// Appends the record 04 where a block begins.
 #[inline(always)]
 fn put_block_start(out: &mut Vec<u8>, place: u32)
-    requires room { vec_len out.old + 16 ≤ vec_capacity out.old }
+    requires room { HasSpareRoom out.old base_line_size }
     requires within { place < flash_limit }
-    ensures { Appends out.old out.new (block_start place) 16 }
+    ensures { Appends out.old out.new (block_start place) base_line_size }
 {
     if place % BLOCK_SIZE == 0 {
         let block = place / BLOCK_SIZE;
@@ -61,9 +61,9 @@ fn put_block_start(out: &mut Vec<u8>, place: u32)
 /// Appends the data record of a row.
 #[inline(always)]
 fn put_data(out: &mut Vec<u8>, address: u16, row: &[u8])
-    requires room { vec_len out.old + 44 ≤ vec_capacity out.old }
-    requires row { length row.now ≤ 16 }
-    ensures { Appends out.old out.new (data_line address row.now) 44 }
+    requires room { HasSpareRoom out.old row_line_size }
+    requires row { length row.now ≤ row_size }
+    ensures { Appends out.old out.new (data_line address row.now) row_line_size }
 {
     let Some(whole) = row.first_chunk::<16>() else {
         let fields = [
@@ -81,10 +81,10 @@ fn put_data(out: &mut Vec<u8>, address: u16, row: &[u8])
 /// Appends the lines of a row.
 #[inline(always)]
 fn put_row(out: &mut Vec<u8>, place: u32, row: &[u8])
-    requires room { vec_len out.old + 60 ≤ vec_capacity out.old }
+    requires room { HasSpareRoom out.old (base_line_size + row_line_size) }
     requires within { place < flash_limit }
-    requires row { length row.now ≤ 16 }
-    ensures { Appends out.old out.new (block_start place ++ data_line (place % block_size) row.now) 60 }
+    requires row { length row.now ≤ row_size }
+    ensures { Appends out.old out.new (block_start place ++ data_line (place % block_size) row.now) (base_line_size + row_line_size) }
 {
     put_block_start(out, place);
     put_data(out, (place % BLOCK_SIZE) as u16, row);
@@ -92,9 +92,9 @@ fn put_row(out: &mut Vec<u8>, place: u32, row: &[u8])
 
 /// Appends the lines of rows of 16 bytes, the first of which stands at a place where a row begins. It takes no memory.
 pub fn put_rows(text: &mut Vec<u8>, place: u32, bytes: &[u8])
-    requires begins { place % 16 ≡ 0 }
+    requires begins { place % row_size ≡ 0 }
     requires within { place + length bytes.now ≤ flash_limit }
-    requires room { vec_len text.old + (4 * length bytes.now + 60) ≤ vec_capacity text.old }
+    requires room { HasSpareRoom text.old (rows_room (length bytes.now)) }
     ensures items { text.new.items ≡ text.old.items ++ row_lines place (rows row_size bytes.now) }
     ensures room { vec_capacity text.old ≤ vec_capacity text.new }
 {

@@ -8,11 +8,23 @@ use Rattle.x7_words.specs.Word.{AreBytes}
 use Rattle.x7_words.specs.declared.input.SelectFault.{SelectFault}
 use Rattle.x7_words.specs.declared.input.SelectFault.TheVariants.{Missing, Failed}
 
--- the bytes of a sector: 65,536
-unfoldable pub sector_size : ℕ
-sector_size = 65536
+-- how many bytes a sector has, which one erase sets to FF
+abbrev pub sector_bytes : ℕ
+sector_bytes = 65536
 
--- the most bytes of a flash: 134,217,728
+-- how many bytes a sector has, as a number that unfolds only where a proof says so: else a check would count out an erased sector
+unfoldable pub sector_size : ℕ
+sector_size = sector_bytes
+
+-- what an erase sets each byte to
+abbrev pub erased_byte : ℕ
+erased_byte = 0xFF
+
+-- the place at which the sector of a number begins, the first of number 0
+abbrev pub sector_place : ℕ → ℕ
+sector_place sector = sector * sector_bytes
+
+-- the most bytes of a flash
 abbrev pub flash_limit : ℕ
 flash_limit = 134217728
 
@@ -103,7 +115,7 @@ Unattached old new Failed = FlashFails old new
 
 -- a sector with each bit 1
 abbrev pub erased_sector : List ℕ
-erased_sector = replicate sector_size 255
+erased_sector = replicate sector_size erased_byte
 
 -- the bytes with this piece in the place of as many of them
 abbrev pub replaced : ℕ → List ℕ → List ℕ → List ℕ
@@ -111,7 +123,7 @@ replaced place piece bytes = splice bytes place (place + length piece) piece
 
 -- the bytes with each bit of this sector 1
 abbrev pub erased : ℕ → List ℕ → List ℕ
-erased sector bytes = replaced (sector * 65536) erased_sector bytes
+erased sector bytes = replaced (sector_place sector) erased_sector bytes
 
 -- the values of a function at the pairs of two lists, place by place
 abbrev pub zip_with : (ℕ → ℕ → ℕ) → List ℕ → List ℕ → List ℕ

@@ -1,11 +1,14 @@
 //! A flash that is read, erased and programmed at places.
-ghost use Rattle.std.specs.Prelude.{◌≡◌, ℕ, List, ◌+◌, ◌*◌, ◌<◌, ◌≤◌, ◌^◌, length, Some, true, false, IfErr, OnOk, OnErr, slice_range, option_map};
-ghost use Rattle.x7_words.specs.Flash.{AsksFor, Elapses, FlashFails, FlashFits, FlashState, FlashStays, IsSized, KnowsBytes, OnlyReads, OnlyWrites, Sees, TornFrom, Unattached, IfKnown, WithinWrite, WriteFails, cleared, erased, erased_sector, programmed};
+ghost use Rattle.std.specs.Prelude.{◌≡◌, ℕ, List, ◌+◌, ◌<◌, ◌≤◌, ◌^◌, length, Some, true, false, IfErr, OnOk, OnErr, slice_range, option_map};
+ghost use Rattle.x7_words.specs.Flash.{AsksFor, Elapses, FlashFails, FlashFits, FlashState, FlashStays, IsSized, KnowsBytes, OnlyReads, OnlyWrites, Sees, TornFrom, Unattached, IfKnown, WithinWrite, WriteFails, cleared, erased, erased_sector, programmed, sector_bytes, sector_place};
 
 use crate::input::{Failed, SelectFault};
 
 /// How many bytes a sector has, which one erase sets to FF.
 pub const SECTOR: u64 = 65_536;
+
+/// What an erase sets each byte to.
+pub const ERASED: u8 = 0xFF;
 
 /// The most bytes of a flash.
 pub const FLASH_LIMIT: u64 = 134_217_728;
@@ -63,12 +66,12 @@ pub trait Flash {
     /// old or 1.
     fn erase(&mut self, sector: u64) -> Result<(), Failed>
         requires attached { (state self.old).attached ≡ true }
-        requires within { sector * 65536 + 65536 ≤ (state self.old).extent }
+        requires within { sector_place sector + sector_bytes ≤ (state self.old).extent }
         ensures erased { OnOk result ((state self.new).bytes ≡ option_map (erased sector) (state self.old).bytes) }
         ensures torn { OnErr result
-            (TornFrom (sector * 65536) (λ _. erased_sector) (state self.old).bytes (state self.new).bytes) }
+            (TornFrom (sector_place sector) (λ _. erased_sector) (state self.old).bytes (state self.new).bytes) }
         ensures passes { Elapses (state self.old).moments (state self.new).moments (found_since self.old) (found_since self.new)
-            (WithinWrite (sector * 65536) (λ _. erased_sector) (state self.old).bytes) }
+            (WithinWrite (sector_place sector) (λ _. erased_sector) (state self.old).bytes) }
         ensures moment { (state self.new).moments ≤ (state self.old).moments + 1 }
         ensures failed { OnErr result (WriteFails (state self.old) (state self.new)) }
         ensures only { OnlyWrites (state self.old) (state self.new) }

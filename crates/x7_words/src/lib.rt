@@ -5,12 +5,14 @@ mod bytes;
 mod count;
 mod flash;
 mod input;
+mod laws;
 mod sink;
 mod word;
 
 pub use bytes::is_same;
 pub use count::{count_end, next_count};
-pub use flash::{FLASH_LIMIT, Flash, SECTOR};
+pub use flash::{ERASED, FLASH_LIMIT, Flash, SECTOR};
 pub use input::{Failed, Inputs, NoMemory, SelectFault};
+pub use laws::words_are_big_endian;
 pub use sink::{Sink, write_all, write_pieces};
-pub use word::{bytes_of, word_of, words_are_big_endian};
+pub use word::{bytes_of, word_of};

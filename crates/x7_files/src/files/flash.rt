@@ -1,17 +1,17 @@
 //! A file as a flash.
-ghost use Rattle.std.specs.Prelude.{◌≡◌, ◌+◌, ◌*◌, ◌<◌, ◌≤◌, ◌^◌, length, bit_and, is_some, None, Some, true, IfErr, IfOk, OnOk, OnErr};
+ghost use Rattle.std.specs.Prelude.{◌≡◌, ◌+◌, ◌<◌, ◌≤◌, ◌^◌, length, bit_and, is_some, None, Some, true, IfErr, IfOk, OnOk, OnErr};
 ghost use Rattle.std.specs.Io.KnownBytes.{Consumes};
 ghost use Rattle.std.specs.Io.Seek.{MovesTo};
 ghost use Rattle.x7_words.specs.Count.{IsLaterCount, raised};
 ghost use Rattle.x7_files.specs.Files.{after_opening, file_tells, known_flash, Clears, ClearsAt, EndsAt, IsExtent, ReadsAt, RefusedFor, TriesWrite, WhileOpen, WritesAt};
-ghost use Rattle.x7_words.specs.Flash.{erased_sector, zip_with};
+ghost use Rattle.x7_words.specs.Flash.{erased_sector, sector_bytes, sector_place, zip_with};
 
 use super::count_refusal;
 use std::fs::{self, OpenFile, OpenOptions};
 use std::io::{self, ErrorKind, Read, Seek, SeekFrom, Write};
 use std::marker::Model;
 use std::rt::Files;
-use x7_words::{Failed, Flash, SECTOR, SelectFault, next_count};
+use x7_words::{ERASED, Failed, Flash, SECTOR, SelectFault, next_count};
 
 /// The number of a file's bytes: where its end is. A folder is no file.
 fn extent_of<F: OpenFile + Seek>(file: &mut F) -> io::Result<u64>
@@ -83,7 +83,7 @@ fn write_from<F: Write + Seek>(file: &mut F, place: u64, bytes: &[u8]) -> io::Re
 fn erase_from<F: Write + Seek + OpenFile>(file: &mut F, place: u64) -> io::Result<()>
     ensures { OnOk result (WritesAt (file_tells F.stream_position F.contents) place erased_sector file.old file.new) }
 {
-    let ones = [0xFF; SECTOR as usize];
+    let ones = [ERASED; SECTOR as usize];
     write_from(file, place, &ones)?;
     file.sync_data()
 }
@@ -100,7 +100,7 @@ fn clear_bits(bytes: &mut [u8], given: &[u8])
 
 /// Makes each byte of a piece from the place on the old one AND the given one.
 fn clear_piece<F: Read + Write + Seek>(file: &mut F, place: u64, given: &[u8]) -> io::Result<()>
-    requires { length given.now ≤ 4096 }
+    requires { length given.now ≤ PIECE }
     ensures { OnOk result (ClearsAt (file_tells F.stream_position F.remaining) (file_tells F.stream_position F.contents)
         place given.now file.old file.new) }
 {
@@ -247,8 +247,8 @@ impl<'r, R: Files> Flash for FileFlash<'r, R> {
 
     fn erase(&mut self, sector: u64) -> Result<(), Failed>
         requires attached { is_some self.old.file ≡ true }
-        requires within { sector * 65536 + 65536 ≤ self.old.extent }
-        ensures { TriesWrite (WritesAt (file_tells R.File.stream_position R.File.contents) (sector * 65536) erased_sector)
+        requires within { sector_place sector + sector_bytes ≤ self.old.extent }
+        ensures { TriesWrite (WritesAt (file_tells R.File.stream_position R.File.contents) (sector_place sector) erased_sector)
             self.old result self.new }
     {
         let Some(file) = &mut self.file else {

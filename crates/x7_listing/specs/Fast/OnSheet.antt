@@ -1,17 +1,41 @@
 -- What stands on a sheet after short runs were put there (this project's choice).
-use Rattle.std.specs.Prelude.{◌≡◌, ℕ, List, ◌++◌, codes, take}
+use Rattle.std.specs.Prelude.{◌≡◌, ℕ, ◌+◌, ◌*◌, List, ◌++◌, take}
 use Rattle.x7_words.specs.Word.{words_of_bytes}
 use Rattle.x7_packets.specs.Cutter.{CutterState}
-use Rattle.x7_text.specs.Row.{in_line_after, open_text, spaced}
+use Rattle.x7_text.specs.Row.{data_line_size, in_line_after, open_data, row_words}
 use Rattle.x7_listing.specs.Pens.{ListsMore, lister_with}
 use Rattle.x7_listing.specs.Telling.{ListerState}
 use Rattle.x7_listing.specs.declared.list.pen.state.OpenWords.{OpenWords}
 use Rattle.x7_listing.specs.declared.list.pen.state.Pen.TheVariants.{Session}
 
+-- ---- how many bytes of text a step puts on a sheet at most
+
+-- the lines of a write of one word, after an open line's end: a row, eight digits and a line end
+abbrev pub one_write_size : ℕ
+one_write_size = 42
+
+-- the line of a short write's header, after an open line's end: a row, two digits and a line end
+abbrev pub head_size : ℕ
+head_size = 36
+
+-- the lines of a short write: its header's, and two full `data` lines
+abbrev pub short_write_size : ℕ
+short_write_size = head_size + 2 * data_line_size
+
+-- the lines of 32 no-ops, four bytes each, after an open line's end
+abbrev pub nops_size : ℕ
+nops_size = 129
+
+-- the lines of a gap of 31 bytes, and of the sync word after it
+abbrev pub gap_size : ℕ
+gap_size = 74
+
+-- ---- what stands there
+
 -- after a shown text the words of a payload stand in new `data` lines, of which the last has this many words, or none where it is full
 pub record ShowsWords (payload shown all : List ℕ) (in_line : OpenWords) : Type 0 where
-  pub text : all ≡ shown ++ open_text 8 (codes "data") spaced 0 (words_of_bytes payload)
-  pub count : in_line.count ≡ in_line_after 8 0 (words_of_bytes payload)
+  pub text : all ≡ shown ++ open_data 0 (words_of_bytes payload)
+  pub count : in_line.count ≡ in_line_after row_words 0 (words_of_bytes payload)
 
 -- a lister in a session with this open line, whose text is any text and then the first bytes of a sheet
 abbrev pub on_sheet : CutterState → OpenWords → List ℕ → ℕ → List ℕ → ListerState

@@ -1,18 +1,25 @@
 -- How much a lister takes at once, and by how much its text grows (this project's choice).
 use Rattle.std.specs.Prelude.{ℕ, ◌+◌, ◌*◌, ◌<◌, ◌≤◌, List, length}
 use Rattle.x7_packets.specs.Cutter.{CutterState}
+use Rattle.x7_listing.specs.declared.list.fast.sheet.TheConstants.{SHEET_SIZE}
+use Rattle.x7_listing.specs.declared.list.lister.TheConstants.{BYTE_ROOM}
+use Rattle.x7_listing.specs.declared.list.pen.TheConstants.{CALL_ROOM}
 
--- `size` of the bytes that come next were taken, and the text grew from one length to another, by less than a lister has room for
+-- `size` of the bytes that come next were taken, and the text grew from one length to another, by less than a lister has room for: that of one call of a pen is left over
 pub record TakesAtOnce (old new : CutterState) (rest : List ℕ) (size from to : ℕ) : Type 0 where
   pub some : 0 < size
   pub within : size ≤ length rest
   pub kept : length new.kept ≤ length old.kept
-  pub grown : to + 64 ≤ from + 131 * size
+  pub grown : to + CALL_ROOM ≤ from + BYTE_ROOM * size
 
--- `size` of the bytes that come next were taken, and the text of a sheet grew from one length to another, by at most 25 bytes for each
+-- how many bytes of text a byte that is taken adds to a sheet at most
+abbrev pub most_text : ℕ
+most_text = 25
+
+-- `size` of the bytes that come next were taken, and the text of a sheet grew from one length to another, by at most so much for each
 pub record TakesOnSheet (old new : CutterState) (rest : List ℕ) (size from to : ℕ) : Type 0 where
   pub some : 4 ≤ size
   pub within : size ≤ length rest
   pub kept : length new.kept ≤ length old.kept
-  pub grown : to ≤ from + 25 * size
-  pub inside : to ≤ 2048
+  pub grown : to ≤ from + most_text * size
+  pub inside : to ≤ SHEET_SIZE

@@ -104,7 +104,7 @@ impl AsmLines {
 
     /// Appends the bytes of line `n`. Memory is wanting only at the first line, and for a good one.
     fn put_next(&mut self, n: u64, line: &[u8]) -> Result<(), AsmFault>
-        ensures goes { (lines : List (List ℕ)) → n ≡ length lines + 1 → AreReadWithRoom self.old lines
+        ensures read { (lines : List (List ℕ)) → n ≡ length lines + 1 → AreReadWithRoom self.old lines
             → MatchResult result (λ _. AreReadWithRoom self.new (lines ++ line.now ∷ [])) (λ f. (left : List (List ℕ)) → HasAsmFault f (lines ++ line.now ∷ left)) }
         ensures memory { (lines : List (List ℕ)) → n ≡ length lines + 1 → AreReadWithRoom self.old lines
             → IfErr result (λ fault. fault ≡ AsmFault.NoMemory → IsFirstOrGood lines line.now) }
@@ -122,7 +122,7 @@ impl AsmLines {
         ensures room { HasLineRoom self.old → HasLineRoom self.new }
         ensures checker { self.new.checker ≡ self.old.checker }
         ensures within { result.size ≤ length text.now }
-        ensures few { result.count ≤ result.size }
+        ensures counted { result.count ≤ result.size }
         ensures limit { length self.old.out ≤ ASM_LIMIT → length self.new.out ≤ ASM_LIMIT }
         ensures none { n ≡ 0 → result.count ≡ 0 }
     {

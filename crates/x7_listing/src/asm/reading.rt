@@ -1,5 +1,5 @@
 //! Reading one line: the bytes that it stands for.
-ghost use Rattle.std.specs.Prelude.{◌≡◌, ◌≢◌, ℕ, List, ◌<◌, ◌≤◌, ◌+◌, ◌*◌, ◌^◌, ◌∷◌, ◌++◌, length, slice_index, decimal, IfSome, MatchOption};
+ghost use Rattle.std.specs.Prelude.{◌≡◌, ◌≢◌, ℕ, List, ◌<◌, ◌^◌, ◌∷◌, ◌++◌, length, slice_index, decimal, IfSome, MatchOption};
 ghost use Rattle.x7_words.specs.Word.{bytes_of_word};
 ghost use Rattle.x7_regs.specs.Command.{code_of, command_name_of};
 ghost use Rattle.x7_regs.specs.Register.{reg_name};
@@ -12,6 +12,7 @@ ghost use Rattle.x7_listing.specs.Line.{access_text, line_bytes, FitsLine, IsAcc
 ghost use Rattle.x7_listing.specs.BitLine.{IsFirstSpace};
 ghost use Rattle.x7_listing.specs.OneWord.{IsWordOf, PutsWord};
 ghost use Rattle.x7_text.specs.Reads.{Reads, StaysWithin};
+ghost use Rattle.x7_text.specs.Row.{row_bytes};
 
 use x7_packets::{NO_OP, SYNC_WORD, type1_read, type1_write, type2_read, type2_write};
 use x7_regs::{Reg, command_named, reg_named};
@@ -73,7 +74,7 @@ pub(crate) fn access_at(text: &[u8], space: usize) -> Option<(u8, u32)>
 /// Appends the bytes of a word.
 pub(crate) fn put_word(out: &mut Vec<u8>, w: u32)
     requires { HasRoomForLine out.old }
-    ensures appends { Appends out.old out.new (bytes_of_word w) 32 }
+    ensures appends { Appends out.old out.new (bytes_of_word w) row_bytes }
 {
     put(out, &bytes_of(w));
 }
@@ -82,7 +83,7 @@ pub(crate) fn put_word(out: &mut Vec<u8>, w: u32)
 fn put_found(out: &mut Vec<u8>, word: Option<u32>) -> bool
     requires { HasRoomForLine out.old }
     ensures puts { PutsWord word result out.old.items out.new.items }
-    ensures room { StaysWithin out.old out.new 32 }
+    ensures room { StaysWithin out.old out.new row_bytes }
 {
     match word {
         Some(w) => {
@@ -180,7 +181,7 @@ fn read_of(text: &[u8]) -> Option<u32>
 fn put_plain(out: &mut Vec<u8>, check: u32, line: &[u8]) -> bool
     requires { HasRoomForLine out.old }
     ensures reads { Reads IsPlain text_of (line_bytes check) result line.now out.old.items out.new.items }
-    ensures room { StaysWithin out.old out.new 32 }
+    ensures room { StaysWithin out.old out.new row_bytes }
 {
     if is_same(line, b"") {
         return true;
@@ -201,7 +202,7 @@ fn put_plain(out: &mut Vec<u8>, check: u32, line: &[u8]) -> bool
 pub(crate) fn put_line(out: &mut Vec<u8>, check: u32, line: &[u8]) -> bool
     requires { HasRoomForLine out.old }
     ensures reads { Reads FitsLine text_of (line_bytes check) result line.now out.old.items out.new.items }
-    ensures room { StaysWithin out.old out.new 32 }
+    ensures room { StaysWithin out.old out.new row_bytes }
 {
     if is_same(line, b"nop") {
         put_word(out, NO_OP);

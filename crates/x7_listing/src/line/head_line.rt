@@ -1,10 +1,10 @@
 //! The lines of single words.
-ghost use Rattle.std.specs.Prelude.{◌≡◌, [], ◌∷◌, ◌++◌, ◌<◌, ◌≤◌, ◌+◌, length, vec_len, vec_capacity, codes, decimal};
+ghost use Rattle.std.specs.Prelude.{◌≡◌, [], ◌∷◌, ◌++◌, ◌<◌, ◌≤◌, ◌+◌, length, codes, decimal};
 ghost use Rattle.x7_regs.specs.Register.{reg_name};
-ghost use Rattle.x7_text.specs.Appends.{Appends};
+ghost use Rattle.x7_text.specs.Appends.{Appends, HasSpareRoom};
 ghost use Rattle.x7_text.specs.Digits.{hex_word};
 ghost use Rattle.x7_text.specs.Row.{close};
-ghost use Rattle.x7_listing.specs.HeadLine.{command_line, line_of_head, text_of_head};
+ghost use Rattle.x7_listing.specs.HeadLine.{command_line, line_of_head, text_of_head, line_size};
 
 use x7_packets::{
     NO_OP, SYNC_WORD, Step, TYPE2_READ_KIND, TYPE2_WRITE_KIND, type1_read, type1_write,
@@ -64,9 +64,9 @@ impl HeadLine {
 
     /// Appends the line.
     fn put(self, text: &mut Vec<u8>)
-        requires room { vec_len text.old + 47 ≤ vec_capacity text.old }
+        requires room { HasSpareRoom text.old line_size }
         requires register { HasRegister self }
-        ensures appends { Appends text.old text.new (line_text self) 47 }
+        ensures appends { Appends text.old text.new (line_text self) line_size }
     {
         match self {
             HeadLine::Nop => put(text, b"nop\n"),
@@ -82,10 +82,10 @@ impl HeadLine {
 
 /// Appends a line of a register's name and a word count.
 fn put_access(text: &mut Vec<u8>, word: &[u8], register: u8, count: u32)
-    requires room { vec_len text.old + 47 ≤ vec_capacity text.old }
+    requires room { HasSpareRoom text.old line_size }
     requires short { length word.now ≤ 6 }
     requires register { register < 32 }
-    ensures appends { Appends text.old text.new (word.now ++ reg_name register ++ 32 ∷ decimal count ++ 10 ∷ []) 47 }
+    ensures appends { Appends text.old text.new (word.now ++ reg_name register ++ 32 ∷ decimal count ++ 10 ∷ []) line_size }
 {
     put(text, word);
     put(text, name_of(register).bytes());
@@ -96,9 +96,9 @@ fn put_access(text: &mut Vec<u8>, word: &[u8], register: u8, count: u32)
 
 /// Appends a line of a word count.
 fn put_count(text: &mut Vec<u8>, word: &[u8], count: u32)
-    requires room { vec_len text.old + 47 ≤ vec_capacity text.old }
+    requires room { HasSpareRoom text.old line_size }
     requires short { length word.now ≤ 7 }
-    ensures appends { Appends text.old text.new (word.now ++ decimal count ++ 10 ∷ []) 47 }
+    ensures appends { Appends text.old text.new (word.now ++ decimal count ++ 10 ∷ []) line_size }
 {
     put(text, word);
     put_decimal(text, u64::from(count));
@@ -107,8 +107,8 @@ fn put_count(text: &mut Vec<u8>, word: &[u8], count: u32)
 
 /// Appends a line of one word, after four letters and a space.
 fn put_whole_word(text: &mut Vec<u8>, word: &[u8; 5], w: u32)
-    requires { vec_len text.old + 47 ≤ vec_capacity text.old }
-    ensures appends { Appends text.old text.new (word.now ++ hex_word w ++ 10 ∷ []) 47 }
+    requires { HasSpareRoom text.old line_size }
+    ensures appends { Appends text.old text.new (word.now ++ hex_word w ++ 10 ∷ []) line_size }
 {
     let mut line = [b'\n'; 14];
     line[5..13].copy_from_slice(&hex_of_word(w));
@@ -118,8 +118,8 @@ fn put_whole_word(text: &mut Vec<u8>, word: &[u8; 5], w: u32)
 
 /// Appends the line of a word in a header's place, after an open line of `in_line` words.
 pub(crate) fn put_head(text: &mut Vec<u8>, in_line: usize, step: Step, w: u32)
-    requires { vec_len text.old + 48 ≤ vec_capacity text.old }
-    ensures appends { Appends text.old text.new (close in_line ++ text_of_head step w) 48 }
+    requires { HasSpareRoom text.old (1 + line_size) }
+    ensures appends { Appends text.old text.new (close in_line ++ text_of_head step w) (1 + line_size) }
 {
     put_close(text, in_line);
     HeadLine::new(step, w).put(text);
@@ -127,8 +127,8 @@ pub(crate) fn put_head(text: &mut Vec<u8>, in_line: usize, step: Step, w: u32)
 
 /// Appends the line of a payload word of CMD, after an open line of `in_line` words.
 pub(crate) fn put_command(text: &mut Vec<u8>, in_line: usize, w: u32)
-    requires { vec_len text.old + 48 ≤ vec_capacity text.old }
-    ensures appends { Appends text.old text.new (close in_line ++ command_line w) 48 }
+    requires { HasSpareRoom text.old (1 + line_size) }
+    ensures appends { Appends text.old text.new (close in_line ++ command_line w) (1 + line_size) }
 {
     put_close(text, in_line);
     let command = command_of(w);
@@ -142,8 +142,8 @@ pub(crate) fn put_command(text: &mut Vec<u8>, in_line: usize, w: u32)
 
 /// Appends the line of a sync word, after an open line of `in_line` bytes.
 pub(crate) fn put_sync(text: &mut Vec<u8>, in_line: usize)
-    requires { vec_len text.old + 48 ≤ vec_capacity text.old }
-    ensures appends { Appends text.old text.new (close in_line ++ codes "sync\n") 48 }
+    requires { HasSpareRoom text.old (1 + line_size) }
+    ensures appends { Appends text.old text.new (close in_line ++ codes "sync\n") (1 + line_size) }
 {
     put_close(text, in_line);
     put(text, b"sync\n");

@@ -3,5 +3,5 @@
 mod sheet;
 mod short_runs;
 
-pub(crate) use sheet::SHEET;
+pub(crate) use sheet::SHEET_SIZE;
 pub(crate) use short_runs::take_short;

@@ -1,31 +1,32 @@
 //! A lister of streams that come in pieces.
-ghost use Rattle.std.specs.Prelude.{◌≡◌, ℕ, ◌+◌, ◌*◌, ◌≤◌, List, [], ◌++◌, OnOk, OnErr, length, vec_len, vec_capacity};
+ghost use Rattle.std.specs.Prelude.{◌≡◌, ℕ, ◌+◌, ◌*◌, List, [], ◌++◌, OnOk, OnErr, length};
 ghost use Rattle.x7_packets.specs.Mode.{Mode};
+ghost use Rattle.x7_text.specs.Appends.{HasSpareRoom};
 ghost use Rattle.x7_listing.specs.Telling.{TakerStandsFor, Finished, ListerStandsFor};
 ghost use Rattle.x7_listing.specs.Pens.{ListsMoreAndRests, lister_with};
 
 mod runs;
 
-use super::fast::{SHEET, take_short};
-use super::pen::{Pen, new_pen, put_end, put_run};
+use super::fast::{SHEET_SIZE, take_short};
+use super::pen::{CALL_ROOM, Pen, new_pen, put_end, put_run};
 use std::alloc::Global;
 use std::marker::Model;
 use x7_packets::{Cut, Cutter};
 use x7_words::NoMemory;
 
-/// How much room a byte of a piece asks for: 64 bytes of a call that takes it, 3 of its own, and 64 of a call for the sync
+/// How much room a byte of a piece asks for: that of a call that takes it, 3 bytes of its own, and that of a call for the sync
 /// word that it may end.
-pub(crate) const BYTE_ROOM: usize = 131;
+pub(crate) const BYTE_ROOM: usize = 2 * CALL_ROOM + 3;
 
-/// How much room is asked for besides: 64 bytes of a call for a sync word that is due, and 64 that are left over.
-const SPARE_ROOM: usize = 128;
+/// How much room is asked for besides: that of a call for a sync word that is due, and one call's that is left over.
+const SPARE_ROOM: usize = 2 * CALL_ROOM;
 
 /// Takes a whole piece, and writes the lines of its runs.
 fn take_all(text: &mut Vec<u8>, cutter: &mut Cutter, pen: Pen, piece: &[u8]) -> Pen
-    requires { vec_len text.old + (BYTE_ROOM * length piece.now + (3 * length cutter.old.kept + SPARE_ROOM)) ≤ vec_capacity text.old }
+    requires { HasSpareRoom text.old (BYTE_ROOM * length piece.now + (3 * length cutter.old.kept + SPARE_ROOM)) }
     ensures rests { ListsMoreAndRests (lister_with cutter.old pen text.old.items) (lister_with cutter.new result text.new.items) piece.now }
 {
-    let mut sheet = [0; SHEET];
+    let mut sheet = [0; SHEET_SIZE];
     let mut now = pen;
     let mut at = 0;
     loop {
@@ -113,7 +114,7 @@ impl Lister {
         ensures ok { OnOk result ((given before bytes : List ℕ) → ListerStandsFor self.old given before bytes → Finished self.new given before bytes) }
         ensures err { OnErr result (self.new ≡ self.old) }
     {
-        self.text.reserve(64)?;
+        self.text.reserve(CALL_ROOM)?;
         put_end(&mut self.text, self.pen, self.cutter.kept());
         self.cutter = Cutter::new();
         self.pen = Pen::Gap(new_pen());

@@ -1,15 +1,15 @@
 //! Writing a listing run by run: what stands in the open line, and the bytes of a gap that may yet be a sync word.
-ghost use Rattle.std.specs.Prelude.{◌≡◌, ℕ, ◌+◌, ◌*◌, ◌/◌, ◌<◌, ◌≤◌, ◌==◌, List, [], ◌∷◌, ◌++◌, false, true, if◌then◌else◌, codes, length, take, vec_len, vec_capacity};
+ghost use Rattle.std.specs.Prelude.{◌≡◌, ℕ, ◌+◌, ◌*◌, ◌/◌, ◌<◌, ◌≤◌, List, [], ◌∷◌, ◌++◌, true, if◌then◌else◌, length, take};
 ghost use Rattle.x7_words.specs.Word.{words_of_bytes};
 ghost use Rattle.x7_packets.specs.Packet.{payload_steps};
 ghost use Rattle.x7_packets.specs.Cutter.{IsNeed, IsRun, run_bytes};
 ghost use Rattle.x7_regs.specs.Register.{number_of};
 ghost use Rattle.x7_regs.specs.declared.register.Reg.TheVariants.{Cmd};
-ghost use Rattle.x7_text.specs.Appends.{Appends};
-ghost use Rattle.x7_text.specs.Digits.{hex_byte};
+ghost use Rattle.x7_text.specs.Appends.{Appends, HasSpareRoom};
 ghost use Rattle.x7_text.specs.Reads.{StaysWithin};
-ghost use Rattle.x7_text.specs.Row.{close, in_line_after, open_text};
-ghost use Rattle.x7_listing.specs.Pens.{EndsWith, GapGoesOn, gap_written, held_by, is_in_session, line_of, written_with};
+ghost use Rattle.x7_text.specs.Row.{close, in_line_after, open_bytes, row_bytes, rows_size};
+ghost use Rattle.x7_listing.specs.HeadLine.{line_size};
+ghost use Rattle.x7_listing.specs.Pens.{EndsWith, GapGoesOn, gap_written, held_by, is_in_session, in_line_of, written_with};
 ghost use Rattle.x7_listing.specs.Telling.{words_place, open_words, WritesRun};
 
 mod state;
@@ -20,6 +20,9 @@ use x7_packets::Cut;
 use x7_regs::Reg;
 use x7_text::{put_bytes, put_close, put_word, put_words};
 use x7_words::word_of;
+
+/// How much room a call that lists a run asks for, besides three bytes for each byte of the run.
+pub(crate) const CALL_ROOM: usize = 64;
 
 /// A pen at the start of a listing.
 pub(crate) fn new_pen() -> GapPen
@@ -35,7 +38,7 @@ pub(crate) fn new_pen() -> GapPen
 
 /// A pen in a gap: the one given, or a new one after a session.
 fn in_gap(pen: Pen) -> GapPen
-    ensures line { result.line ≡ (if is_in_session pen then 0 else line_of pen) }
+    ensures line { result.line ≡ (if is_in_session pen then 0 else in_line_of pen) }
     ensures held { take result.count result.held ≡ (if is_in_session pen then [] else held_by pen) }
 {
     match pen {
@@ -47,7 +50,7 @@ fn in_gap(pen: Pen) -> GapPen
 
 /// The words of a session's open line: none in a gap.
 pub(crate) fn open_in(pen: Pen) -> OpenWords
-    ensures { is_in_session pen ≡ true → result.count ≡ line_of pen }
+    ensures { is_in_session pen ≡ true → result.count ≡ in_line_of pen }
 {
     match pen {
         Pen::Gap(_) => OpenWords { count: 0 },
@@ -58,8 +61,8 @@ pub(crate) fn open_in(pen: Pen) -> OpenWords
 
 /// Takes a byte of a gap: where four are held, the first of them is listed.
 fn hold(text: &mut Vec<u8>, pen: GapPen, byte: u8) -> GapPen
-    requires room { vec_len text.old + 19 ≤ vec_capacity text.old }
-    ensures room { StaysWithin text.old text.new 19 }
+    requires room { HasSpareRoom text.old (rows_size 1) }
+    ensures room { StaysWithin text.old text.new (rows_size 1) }
     ensures listed { GapGoesOn (gap_written pen text.old.items) (gap_written result text.new.items) (byte ∷ []) }
 {
     if pen.count < 4 {
@@ -81,9 +84,9 @@ fn hold(text: &mut Vec<u8>, pen: GapPen, byte: u8) -> GapPen
 
 /// Takes fewer than four bytes of a gap, one by one.
 fn hold_each(text: &mut Vec<u8>, pen: GapPen, bytes: &[u8]) -> GapPen
-    requires few { length bytes.now < 4 }
-    requires room { vec_len text.old + 64 ≤ vec_capacity text.old }
-    ensures room { StaysWithin text.old text.new 64 }
+    requires short { length bytes.now < 4 }
+    requires room { HasSpareRoom text.old CALL_ROOM }
+    ensures room { StaysWithin text.old text.new CALL_ROOM }
     ensures listed { GapGoesOn (gap_written pen text.old.items) (gap_written result text.new.items) bytes.now }
 {
     let mut now = pen;
@@ -95,8 +98,8 @@ fn hold_each(text: &mut Vec<u8>, pen: GapPen, bytes: &[u8]) -> GapPen
 
 /// Takes bytes of a gap: all but the last four are listed.
 fn hold_all(text: &mut Vec<u8>, pen: GapPen, bytes: &[u8]) -> GapPen
-    requires room { vec_len text.old + (64 + 3 * length bytes.now) ≤ vec_capacity text.old }
-    ensures room { StaysWithin text.old text.new (64 + 3 * length bytes.now) }
+    requires room { HasSpareRoom text.old (CALL_ROOM + 3 * length bytes.now) }
+    ensures room { StaysWithin text.old text.new (CALL_ROOM + 3 * length bytes.now) }
     ensures listed { GapGoesOn (gap_written pen text.old.items) (gap_written result text.new.items) bytes.now }
 {
     if bytes.len() < 4 {
@@ -119,9 +122,9 @@ fn hold_all(text: &mut Vec<u8>, pen: GapPen, bytes: &[u8]) -> GapPen
 
 /// Appends a payload word after an open line. Gives the line afterwards.
 fn put_payload(text: &mut Vec<u8>, in_line: OpenWords, register: u8, w: u32) -> OpenWords
-    requires room { vec_len text.old + 48 ≤ vec_capacity text.old }
+    requires room { HasSpareRoom text.old (1 + line_size) }
     ensures count { result.count ≡ words_place in_line.count (payload_steps register (w ∷ [])) }
-    ensures appends { Appends text.old text.new (open_words in_line.count (payload_steps register (w ∷ []))) 48 }
+    ensures appends { Appends text.old text.new (open_words in_line.count (payload_steps register (w ∷ []))) (1 + line_size) }
 {
     if register == Reg::Cmd.number() {
         put_command(text, in_line.count, w);
@@ -136,9 +139,9 @@ fn put_payload(text: &mut Vec<u8>, in_line: OpenWords, register: u8, w: u32) -> 
 fn put_body(text: &mut Vec<u8>, in_line: OpenWords, register: u8, body: &[u8]) -> OpenWords
     requires whole { length body.now ≡ 4 * (length body.now / 4) }
     requires one { register ≡ number_of Cmd → length body.now ≡ 4 }
-    requires room { vec_len text.old + (64 + 3 * length body.now) ≤ vec_capacity text.old }
+    requires room { HasSpareRoom text.old (CALL_ROOM + 3 * length body.now) }
     ensures count { result.count ≡ words_place in_line.count (payload_steps register (words_of_bytes body.now)) }
-    ensures appends { Appends text.old text.new (open_words in_line.count (payload_steps register (words_of_bytes body.now))) (64 + 3 * length body.now) }
+    ensures appends { Appends text.old text.new (open_words in_line.count (payload_steps register (words_of_bytes body.now))) (CALL_ROOM + 3 * length body.now) }
 {
     if register == Reg::Cmd.number() {
         return put_payload(
@@ -156,8 +159,8 @@ fn put_body(text: &mut Vec<u8>, in_line: OpenWords, register: u8, body: &[u8]) -
 /// Appends what a run adds.
 pub(crate) fn put_run(text: &mut Vec<u8>, pen: Pen, run: Cut) -> Pen
     requires run { IsRun run }
-    requires room { vec_len text.old + (64 + 3 * length (run_bytes run)) ≤ vec_capacity text.old }
-    ensures room { StaysWithin text.old text.new (64 + 3 * length (run_bytes run.entry)) }
+    requires room { HasSpareRoom text.old (CALL_ROOM + 3 * length (run_bytes run)) }
+    ensures room { StaysWithin text.old text.new (CALL_ROOM + 3 * length (run_bytes run.entry)) }
     ensures listed { (given : List ℕ) → WritesRun run.entry (written_with pen (given ++ text.old.items)) (written_with result (given ++ text.new.items)) }
     ensures held { (IsNeed run.entry → ⊥) → is_in_session result ≡ true → held_by result ≡ [] }
 {
@@ -179,8 +182,8 @@ pub(crate) fn put_run(text: &mut Vec<u8>, pen: Pen, run: Cut) -> Pen
 
 /// Appends what is left of a gap.
 fn end_gap(text: &mut Vec<u8>, pen: GapPen)
-    requires room { vec_len text.old + 64 ≤ vec_capacity text.old }
-    ensures items { text.new.items ≡ text.old.items ++ open_text 32 (codes "bytes ") hex_byte pen.line (take pen.count pen.held) ++ close (in_line_after 32 pen.line (take pen.count pen.held)) }
+    requires room { HasSpareRoom text.old CALL_ROOM }
+    ensures items { text.new.items ≡ text.old.items ++ open_bytes pen.line (take pen.count pen.held) ++ close (in_line_after row_bytes pen.line (take pen.count pen.held)) }
 {
     let line = put_bytes(text, pen.line, &pen.held[..pen.count]);
     put_close(text, line);
@@ -189,8 +192,8 @@ fn end_gap(text: &mut Vec<u8>, pen: GapPen)
 /// Appends what is left of a session: the end of an open line, and the bytes of no whole word.
 fn end_session(text: &mut Vec<u8>, line: usize, kept: &[u8])
     requires short { length kept.now ≤ 3 }
-    requires room { vec_len text.old + 64 ≤ vec_capacity text.old }
-    ensures items { text.new.items ≡ text.old.items ++ close line ++ open_text 32 (codes "bytes ") hex_byte 0 kept.now ++ close (in_line_after 32 0 kept.now) }
+    requires room { HasSpareRoom text.old CALL_ROOM }
+    ensures items { text.new.items ≡ text.old.items ++ close line ++ open_bytes 0 kept.now ++ close (in_line_after row_bytes 0 kept.now) }
 {
     put_close(text, line);
     let count = put_bytes(text, 0, kept);
@@ -200,7 +203,7 @@ fn end_session(text: &mut Vec<u8>, line: usize, kept: &[u8])
 /// Appends what is left at the end of a stream.
 pub(crate) fn put_end(text: &mut Vec<u8>, pen: Pen, kept: &[u8])
     requires short { length kept.now ≤ 3 }
-    requires room { vec_len text.old + 64 ≤ vec_capacity text.old }
+    requires room { HasSpareRoom text.old CALL_ROOM }
     ensures listed { EndsWith (written_with pen text.old.items) kept.now text.new.items }
 {
     match pen {

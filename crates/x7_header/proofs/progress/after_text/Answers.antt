@@ -3,7 +3,7 @@ use Rattle.x7_header.proofs.WaitLemmas.{text_waits}
 use Rattle.x7_header.proofs.progress.after_text.Goals as goal
 
 pub returns-in-Ok-clause-whole : goal.returns-in-Ok-clause-whole
-returns-in-Ok-clause-whole c = (c.in-Ok.field-0-0.now, c.in-Ok.ensures.more)
+returns-in-Ok-clause-whole c = (c.in-Ok.field-0-0.now, c.in-Ok.ensures.whole)
 
 pub returns-in-Err-Cut-clause-waits : goal.returns-in-Err-Cut-clause-waits
 returns-in-Err-Cut-clause-waits c = λ total more h.

@@ -2,6 +2,7 @@
 ghost use Rattle.std.specs.Prelude.{◌≡◌, ℕ, List, ◌<◌, ◌≤◌, ◌+◌, ◌*◌, ◌++◌, codes, drop, length, slice_index, take, IsTrue};
 ghost use Rattle.std.specs.List.{flat_map};
 ghost use Rattle.std.specs.Simd.Lanes.{chunk};
+ghost use Rattle.x7_text.specs.Row.{row_words};
 ghost use Rattle.x7_listing.specs.Fast.AtOnce.{words_in_row};
 ghost use Rattle.x7_listing.specs.Assembling.{HasRoomForLine};
 ghost use Rattle.x7_listing.specs.Fast.Looking.{Looks, ReadsAtOnce};
@@ -95,7 +96,7 @@ fn row_digits(text: &[u8; LOOK]) -> [u8; 64]
 /// Whether spaces stand where a `data` line of this many words has them.
 #[inline(always)]
 fn has_spaces(text: &[u8; LOOK], count: usize) -> bool
-    requires few { count ≤ 8 }
+    requires in_row { count ≤ row_words }
     ensures { IsTrue result → (k : ℕ) → k < count → slice_index text.now (4 + 9 * k) ≡ 32 }
 {
     for k in 0..count {
@@ -109,7 +110,7 @@ fn has_spaces(text: &[u8; LOOK], count: usize) -> bool
 /// Whether spaces stand so, with the loop of a full row, which is the longest, laid out by the compiler.
 #[inline(always)]
 fn is_spaced(text: &[u8; LOOK], count: usize) -> bool
-    requires few { count ≤ 8 }
+    requires in_row { count ≤ row_words }
     ensures { IsTrue result → (k : ℕ) → k < count → slice_index text.now (4 + 9 * k) ≡ 32 }
 {
     if count == 8 {

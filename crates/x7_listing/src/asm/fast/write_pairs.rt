@@ -3,6 +3,7 @@ ghost use Rattle.std.specs.Prelude.{◌≡◌, ◌<◌, ◌≤◌, ◌+◌, ◌+
 ghost use Rattle.std.specs.Simd.Lanes.{chunk, mask_l, zip2};
 ghost use Rattle.x7_words.specs.Word.{bytes_of_word};
 ghost use Rattle.x7_text.specs.Appends.{Appends};
+ghost use Rattle.x7_text.specs.Row.{row_bytes};
 ghost use Rattle.x7_listing.specs.Fast.AtOnce.{bytes_differ, row_text};
 ghost use Rattle.x7_listing.specs.Assembling.{HasRoomForLine};
 ghost use Rattle.x7_listing.specs.Fast.Looking.{Looks};
@@ -40,7 +41,7 @@ static COMMANDS: [u8; 64] = [
 /// The number below 32 that a table has for the name from `at` on. Of what is no name it gives any.
 #[inline(always)]
 fn number_at(table: &[u8; 64], text: &[u8; LOOK], at: usize) -> u8
-    requires { at + 4 ≤ 77 }
+    requires { at + 4 ≤ LOOK }
     ensures { result < 32 }
 {
     let name = u32::from_le_bytes([text[at], text[at + 1], text[at + 2], text[at + 3]]);
@@ -73,7 +74,7 @@ fn begun(text: &[u8; LOOK], row: &[u8; 32]) -> Option<usize>
 #[inline(always)]
 fn put_two(out: &mut Vec<u8>, one: u32, other: u32)
     requires { HasRoomForLine out.old }
-    ensures appends { Appends out.old out.new (bytes_of_word one ++ bytes_of_word other) 32 }
+    ensures appends { Appends out.old out.new (bytes_of_word one ++ bytes_of_word other) row_bytes }
 {
     put(out, &bytes_of(one));
     put(out, &bytes_of(other));

@@ -6,12 +6,17 @@ ghost use Rattle.x7_listing.specs.Fast.AtOnce.{row_text};
 use std::simd::prelude::*;
 
 /// How many bytes a sheet has.
-pub(crate) const SHEET: usize = 2048;
+pub(crate) const SHEET_SIZE: usize = 2048;
 
 /// Stores a piece after a text of `len` bytes, which its first `count` bytes go on. Gives how long the text is then.
 #[inline(always)]
-pub(crate) fn put_prefix(sheet: &mut [u8; SHEET], len: usize, piece: &[u8], count: usize) -> usize
-    requires room { len + length piece.now ≤ 2048 }
+pub(crate) fn put_prefix(
+    sheet: &mut [u8; SHEET_SIZE],
+    len: usize,
+    piece: &[u8],
+    count: usize,
+) -> usize
+    requires room { len + length piece.now ≤ SHEET_SIZE }
     requires part { count ≤ length piece.now }
     ensures len { result ≡ len + count }
     ensures text { take result sheet.new ≡ take len sheet.old ++ take count piece.now }
@@ -22,8 +27,8 @@ pub(crate) fn put_prefix(sheet: &mut [u8; SHEET], len: usize, piece: &[u8], coun
 
 /// Stores a piece after a text of `len` bytes, which it goes on. Gives how long the text is then.
 #[inline(always)]
-pub(crate) fn put_whole(sheet: &mut [u8; SHEET], len: usize, piece: &[u8]) -> usize
-    requires room { len + length piece.now ≤ 2048 }
+pub(crate) fn put_whole(sheet: &mut [u8; SHEET_SIZE], len: usize, piece: &[u8]) -> usize
+    requires room { len + length piece.now ≤ SHEET_SIZE }
     ensures len { result ≡ len + length piece.now }
     ensures text { take result sheet.new ≡ take len sheet.old ++ piece.now }
 {
@@ -32,8 +37,8 @@ pub(crate) fn put_whole(sheet: &mut [u8; SHEET], len: usize, piece: &[u8]) -> us
 
 /// Stores a row after a text of `len` bytes, which the row's text goes on. Gives how long the text is then.
 #[inline(always)]
-pub(crate) fn put_row(sheet: &mut [u8; SHEET], len: usize, row: &[u8; 32]) -> usize
-    requires room { len + 32 ≤ 2048 }
+pub(crate) fn put_row(sheet: &mut [u8; SHEET_SIZE], len: usize, row: &[u8; 32]) -> usize
+    requires room { len + 32 ≤ SHEET_SIZE }
     ensures len { result ≤ len + 32 }
     ensures text { take result sheet.new ≡ take len sheet.old ++ row_text row.now }
 {

@@ -1,22 +1,22 @@
 //! Short runs, listed at once on a sheet: writes of one word and of up to sixteen, a few no-ops, and a short gap with the sync
 //! word after it.
-ghost use Rattle.std.specs.Prelude.{◌≡◌, ℕ, ◌+◌, ◌*◌, ◌<◌, ◌≤◌, true, List, [], ◌∷◌, ◌++◌, IfNone, IfSome, codes, decimal, length, take, vec_len, vec_capacity};
-ghost use Rattle.x7_words.specs.Word.{words_of_bytes};
-ghost use Rattle.x7_packets.specs.AtOnce.{EndsGap, WritesFew, WritesOne};
+ghost use Rattle.std.specs.Prelude.{◌≡◌, ℕ, ◌+◌, ◌*◌, ◌<◌, ◌≤◌, List, [], ◌∷◌, ◌++◌, IfNone, IfSome, codes, decimal, length, take, vec_len, vec_capacity};
+ghost use Rattle.x7_packets.specs.AtOnce.{EndsGap, WritesFew, WritesOne, longest_short_gap, longest_short_write, short_gap_room};
 ghost use Rattle.x7_packets.specs.Cutter.{CutterState};
 ghost use Rattle.x7_packets.specs.Nops.{nop_bytes};
 ghost use Rattle.x7_packets.specs.PacketWords.{no_op, type1_write};
 ghost use Rattle.x7_packets.specs.Packet.{payload_steps};
-ghost use Rattle.x7_text.specs.Row.{bytes_text, close};
+ghost use Rattle.x7_text.specs.Appends.{HasSpareRoom};
+ghost use Rattle.x7_text.specs.Row.{bytes_text, close, row_bytes, row_words, data_line_size};
 ghost use Rattle.x7_listing.specs.Fast.AtOnce.{command_lines};
-ghost use Rattle.x7_listing.specs.Fast.OnSheet.{ShowsWords, ListsMoreAfter, on_sheet};
+ghost use Rattle.x7_listing.specs.Fast.OnSheet.{ShowsWords, ListsMoreAfter, on_sheet, one_write_size, head_size, short_write_size, nops_size, gap_size};
 ghost use Rattle.x7_listing.specs.Fast.TakingAtOnce.{TakesAtOnce, TakesOnSheet};
 ghost use Rattle.x7_listing.specs.HeadLine.{text_of_head};
 ghost use Rattle.x7_listing.specs.Pens.{TakesHead, ListsMore, lister_with};
 ghost use Rattle.x7_listing.specs.declared.list.pen.state.Pen.{Pen};
 ghost use Rattle.x7_listing.specs.Telling.{words_place, open_words};
 
-use super::sheet::{SHEET, put_prefix, put_row, put_whole};
+use super::sheet::{SHEET_SIZE, put_prefix, put_row, put_whole};
 use crate::line::{command_row, name_row, write_row};
 use crate::list::lister::BYTE_ROOM;
 use crate::list::pen::{OpenWords, Pen};
@@ -25,7 +25,7 @@ use x7_regs::Reg;
 use x7_text::{bytes_line, data_line, hex_of_word, put};
 
 /// How many bytes of a sheet are free where a run is put on it: more than any short run is stored in.
-const FREE: usize = 256;
+const FREE_SIZE: usize = 256;
 
 /// How many no-ops at most are put on a sheet at once.
 const FEW: usize = 32;
@@ -42,8 +42,8 @@ struct End {
 
 /// Puts the end of an open line of `in_line` words, and nothing where none is open.
 #[inline(always)]
-fn put_close(sheet: &mut [u8; SHEET], len: usize, in_line: usize) -> usize
-    requires room { len + 1 ≤ 2048 }
+fn put_close(sheet: &mut [u8; SHEET_SIZE], len: usize, in_line: usize) -> usize
+    requires room { len + 1 ≤ SHEET_SIZE }
     ensures len { result ≤ len + 1 }
     ensures text { take result sheet.new ≡ take len sheet.old ++ close in_line }
 {
@@ -55,9 +55,9 @@ fn put_close(sheet: &mut [u8; SHEET], len: usize, in_line: usize) -> usize
 
 /// Puts the lines of a write of a word to CMD, after an open line of `in_line` words.
 #[inline(always)]
-fn put_command(sheet: &mut [u8; SHEET], len: usize, in_line: usize, w: u32) -> usize
-    requires room { len + 42 ≤ 2048 }
-    ensures len { result ≤ len + 42 }
+fn put_command(sheet: &mut [u8; SHEET_SIZE], len: usize, in_line: usize, w: u32) -> usize
+    requires room { len + one_write_size ≤ SHEET_SIZE }
+    ensures len { result ≤ len + one_write_size }
     ensures text { take result sheet.new ≡ take len sheet.old ++ (close in_line ++ command_lines w) }
 {
     let begin = put_close(sheet, len, in_line);
@@ -71,11 +71,17 @@ fn put_command(sheet: &mut [u8; SHEET], len: usize, in_line: usize, w: u32) -> u
 
 /// Puts the lines of a write of one word, after an open line of `in_line` words.
 #[inline(always)]
-fn put_one_word(sheet: &mut [u8; SHEET], len: usize, in_line: usize, register: u8, w: u32) -> End
+fn put_one_word(
+    sheet: &mut [u8; SHEET_SIZE],
+    len: usize,
+    in_line: usize,
+    register: u8,
+    w: u32,
+) -> End
     requires range { register < 32 }
-    requires room { len + 42 ≤ 2048 }
+    requires room { len + one_write_size ≤ SHEET_SIZE }
     ensures count { result.in_line.count ≡ words_place 0 (payload_steps register (w ∷ [])) }
-    ensures len { result.len ≤ len + 42 }
+    ensures len { result.len ≤ len + one_write_size }
     ensures text { take result.len sheet.new ≡ take len sheet.old ++ (close in_line ++ text_of_head (Step.Open register 1) (type1_write register 1) ++ open_words 0 (payload_steps register (w ∷ []))) }
 {
     if register == Reg::Cmd.number() {
@@ -94,9 +100,9 @@ fn put_one_word(sheet: &mut [u8; SHEET], len: usize, in_line: usize, register: u
 
 /// Puts a count of one or two digits, the first of two being 1, and the end of its line.
 #[inline(always)]
-fn put_count(sheet: &mut [u8; SHEET], len: usize, count: usize) -> usize
-    requires few { count < 20 }
-    requires room { len + 3 ≤ 2048 }
+fn put_count(sheet: &mut [u8; SHEET_SIZE], len: usize, count: usize) -> usize
+    requires two_digits { count < 20 }
+    requires room { len + 3 ≤ SHEET_SIZE }
     ensures len { result ≤ len + 3 }
     ensures text { take result sheet.new ≡ take len sheet.old ++ (decimal count ++ 10 ∷ []) }
 {
@@ -113,14 +119,14 @@ struct ShortWrite {
     count: usize,
     ghost range: { register < 32 },
     ghost some: { 0 < count },
-    ghost few: { count ≤ 16 },
+    ghost short: { count ≤ 16 },
 }
 
 /// Puts the line of the header of a short write, after an open line of `in_line` words.
 #[inline(always)]
-fn put_head(sheet: &mut [u8; SHEET], len: usize, in_line: usize, write: ShortWrite) -> usize
-    requires room { len + 36 ≤ 2048 }
-    ensures len { result ≤ len + 36 }
+fn put_head(sheet: &mut [u8; SHEET_SIZE], len: usize, in_line: usize, write: ShortWrite) -> usize
+    requires room { len + head_size ≤ SHEET_SIZE }
+    ensures len { result ≤ len + head_size }
     ensures text { take result sheet.new ≡ take len sheet.old ++ (close in_line ++ text_of_head (Step.Open write.register write.count) (type1_write write.register write.count)) }
 {
     let begin = put_close(sheet, len, in_line);
@@ -130,11 +136,11 @@ fn put_head(sheet: &mut [u8; SHEET], len: usize, in_line: usize, write: ShortWri
 
 /// Puts the first of eight words, one or more, in a new `data` line.
 #[inline(always)]
-fn put_in_row(sheet: &mut [u8; SHEET], len: usize, bytes: &[u8; 32], count: usize) -> End
+fn put_in_row(sheet: &mut [u8; SHEET_SIZE], len: usize, bytes: &[u8; 32], count: usize) -> End
     requires some { 0 < count }
-    requires few { count ≤ 8 }
-    requires room { len + 77 ≤ 2048 }
-    ensures len { result.len ≤ len + 77 }
+    requires in_row { count ≤ row_words }
+    requires room { len + data_line_size ≤ SHEET_SIZE }
+    ensures len { result.len ≤ len + data_line_size }
     ensures shows { ShowsWords (take (4 * count) bytes.now) (take len sheet.old) (take result.len sheet.new) result.in_line }
 {
     let line = data_line(bytes);
@@ -152,11 +158,11 @@ fn put_in_row(sheet: &mut [u8; SHEET], len: usize, bytes: &[u8; 32], count: usiz
 
 /// Puts the first of sixteen words, one or more, in new `data` lines.
 #[inline(always)]
-fn put_words(sheet: &mut [u8; SHEET], len: usize, bytes: &[u8; 64], count: usize) -> End
+fn put_words(sheet: &mut [u8; SHEET_SIZE], len: usize, bytes: &[u8; 64], count: usize) -> End
     requires some { 0 < count }
-    requires few { count ≤ 16 }
-    requires room { len + 154 ≤ 2048 }
-    ensures len { result.len ≤ len + 154 }
+    requires in_two_rows { count ≤ 2 * row_words }
+    requires room { len + 2 * data_line_size ≤ SHEET_SIZE }
+    ensures len { result.len ≤ len + 2 * data_line_size }
     ensures shows { ShowsWords (take (4 * count) bytes.now) (take len sheet.old) (take result.len sheet.new) result.in_line }
 {
     let (rows, _) = bytes.as_chunks::<32>();
@@ -169,10 +175,15 @@ fn put_words(sheet: &mut [u8; SHEET], len: usize, bytes: &[u8; 64], count: usize
 
 /// Puts the lines of a short gap and of the sync word after it.
 #[inline(always)]
-fn put_bytes_and_sync(sheet: &mut [u8; SHEET], len: usize, bytes: &[u8; 32], count: usize) -> usize
-    requires few { count < 32 }
-    requires room { len + 77 ≤ 2048 }
-    ensures len { result ≤ len + 77 }
+fn put_bytes_and_sync(
+    sheet: &mut [u8; SHEET_SIZE],
+    len: usize,
+    bytes: &[u8; 32],
+    count: usize,
+) -> usize
+    requires in_row { count < row_bytes }
+    requires room { len + gap_size ≤ SHEET_SIZE }
+    ensures len { result ≤ len + gap_size }
     ensures text { take result sheet.new ≡ take len sheet.old ++ (bytes_text (take count bytes.now) ++ codes "sync\n") }
 {
     if count == 0 {
@@ -193,11 +204,17 @@ struct Next {
 
 /// Puts what a write of one word adds.
 #[inline(always)]
-fn put_write(sheet: &mut [u8; SHEET], len: usize, in_line: OpenWords, register: u8, w: u32) -> Next
+fn put_write(
+    sheet: &mut [u8; SHEET_SIZE],
+    len: usize,
+    in_line: OpenWords,
+    register: u8,
+    w: u32,
+) -> Next
     requires range { register < 32 }
-    requires room { len + 42 ≤ 2048 }
+    requires room { len + one_write_size ≤ SHEET_SIZE }
     ensures size { result.size ≡ 8 }
-    ensures len { result.len ≤ len + 42 }
+    ensures len { result.len ≤ len + one_write_size }
     ensures listed { (c d : CutterState) (rest : List ℕ) → WritesOne c d rest register w
         → ListsMoreAfter (on_sheet c in_line sheet.old len) (on_sheet d result.in_line sheet.new result.len) (take 8 rest) }
 {
@@ -232,16 +249,16 @@ fn first_64(bytes: &[u8]) -> &[u8; 64]
 /// Puts what a short write adds, whose packet begins these bytes.
 #[inline(always)]
 fn put_short_write(
-    sheet: &mut [u8; SHEET],
+    sheet: &mut [u8; SHEET_SIZE],
     len: usize,
     in_line: OpenWords,
     write: ShortWrite,
     rest: &[u8],
 ) -> Next
-    requires long { 68 ≤ length rest.now }
-    requires room { len + 190 ≤ 2048 }
+    requires long { longest_short_write ≤ length rest.now }
+    requires room { len + short_write_size ≤ SHEET_SIZE }
     ensures size { result.size ≡ 4 + 4 * write.count }
-    ensures len { result.len ≤ len + 190 }
+    ensures len { result.len ≤ len + short_write_size }
     ensures listed { (c d : CutterState) → WritesFew c d rest.now write.register write.count
         → ListsMoreAfter (on_sheet c in_line sheet.old len) (on_sheet d result.in_line sheet.new result.len) (take (4 + 4 * write.count) rest.now) }
 {
@@ -256,10 +273,10 @@ fn put_short_write(
 
 /// Puts what a few no-ops in a row add, one or more.
 #[inline(always)]
-fn put_few_nops(sheet: &mut [u8; SHEET], len: usize, in_line: OpenWords, count: usize) -> Next
+fn put_few_nops(sheet: &mut [u8; SHEET_SIZE], len: usize, in_line: OpenWords, count: usize) -> Next
     requires some { 0 < count }
-    requires few { count ≤ 32 }
-    requires room { len + 129 ≤ 2048 }
+    requires in_table { count ≤ FEW }
+    requires room { len + nops_size ≤ SHEET_SIZE }
     ensures size { result.size ≡ 4 * count }
     ensures len { result.len ≤ len + (4 * count + 1) }
     ensures listed { (c : CutterState) → TakesHead c no_op Step.Nop
@@ -276,17 +293,17 @@ fn put_few_nops(sheet: &mut [u8; SHEET], len: usize, in_line: OpenWords, count: 
 /// Puts what a gap after a session adds, and the sync word after it, which begin these bytes.
 #[inline(always)]
 fn put_gap(
-    sheet: &mut [u8; SHEET],
+    sheet: &mut [u8; SHEET_SIZE],
     len: usize,
     in_line: OpenWords,
     count: usize,
     rest: &[u8],
 ) -> Next
-    requires near { count + 4 ≤ 32 }
-    requires long { 36 ≤ length rest.now }
-    requires room { len + 77 ≤ 2048 }
+    requires near { count + 4 ≤ longest_short_gap }
+    requires long { short_gap_room ≤ length rest.now }
+    requires room { len + gap_size ≤ SHEET_SIZE }
     ensures size { result.size ≡ count + 4 }
-    ensures len { result.len ≤ len + 77 }
+    ensures len { result.len ≤ len + gap_size }
     ensures listed { (c d : CutterState) → EndsGap c d rest.now count
         → ListsMoreAfter (on_sheet c in_line sheet.old len) (on_sheet d result.in_line sheet.new result.len) (take (count + 4) rest.now) }
 {
@@ -300,13 +317,13 @@ fn put_gap(
 /// Takes what comes next, where it is short, and puts what that adds.
 #[inline(always)]
 fn take_next(
-    sheet: &mut [u8; SHEET],
+    sheet: &mut [u8; SHEET_SIZE],
     len: usize,
     cutter: &mut Cutter,
     in_line: OpenWords,
     rest: &[u8],
 ) -> Option<Next>
-    requires room { len + 256 ≤ 2048 }
+    requires room { len + FREE_SIZE ≤ SHEET_SIZE }
     ensures some { IfSome result (λ n. TakesOnSheet cutter.old cutter.new rest.now n.size len n.len) }
     ensures listed { IfSome result (λ n. ListsMoreAfter (on_sheet cutter.old in_line sheet.old len) (on_sheet cutter.new n.in_line sheet.new n.len) (take n.size rest.now)) }
     ensures none { IfNone result ((cutter.new ≡ cutter.old) × (sheet.new ≡ sheet.old)) }
@@ -354,12 +371,12 @@ pub(crate) struct Taken {
 #[inline(always)]
 pub(crate) fn take_short(
     text: &mut Vec<u8>,
-    sheet: &mut [u8; SHEET],
+    sheet: &mut [u8; SHEET_SIZE],
     cutter: &mut Cutter,
     pen: Pen,
     rest: &[u8],
 ) -> Option<Taken>
-    requires { vec_len text.old + BYTE_ROOM * length rest.now ≤ vec_capacity text.old }
+    requires { HasSpareRoom text.old (BYTE_ROOM * length rest.now) }
     ensures some { IfSome result (λ t. TakesAtOnce cutter.old cutter.new rest.now t.size (vec_len text.old) (vec_len text.new)) }
     ensures listed { IfSome result (λ t. ListsMore (lister_with cutter.old pen text.old.items) (lister_with cutter.new (Pen.Session t.in_line) text.new.items) (take t.size rest.now)) }
     ensures none { IfNone result (cutter.new ≡ cutter.old) }
@@ -375,7 +392,7 @@ pub(crate) fn take_short(
     let mut now = in_line;
     let mut at = 0;
     let mut len = 0;
-    while len <= SHEET - FREE {
+    while len <= SHEET_SIZE - FREE_SIZE {
         let Some(next) = take_next(sheet, len, cutter, now, &rest[at..]) else {
             break;
         };

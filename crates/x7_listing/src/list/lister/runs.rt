@@ -1,12 +1,13 @@
 //! A lister of runs: those of a stream, one after another.
-ghost use Rattle.std.specs.Prelude.{◌≡◌, [], ◌+◌, ◌*◌, ◌≤◌, ◌<◌, OnOk, OnErr, true, if◌then◌else◌, length, vec_len, vec_capacity};
+ghost use Rattle.std.specs.Prelude.{◌≡◌, [], ◌+◌, ◌*◌, ◌<◌, OnOk, OnErr, true, if◌then◌else◌, length};
 ghost use Rattle.x7_packets.specs.Cutter.{CutterState};
 ghost use Rattle.x7_packets.specs.Run.{cut_of, FitsRun, bytes_of_run};
-ghost use Rattle.x7_listing.specs.Pens.{EndsHeld, held_by, is_in_session, line_of, lister_with, written_with};
+ghost use Rattle.x7_text.specs.Appends.{HasSpareRoom};
+ghost use Rattle.x7_listing.specs.Pens.{EndsHeld, held_by, is_in_session, in_line_of, lister_with, written_with};
 ghost use Rattle.x7_listing.specs.ListerOfRuns.{TakesNext};
 
 use super::Lister;
-use crate::list::pen::{Pen, TailBytes, new_pen, open_in, put_end, put_run};
+use crate::list::pen::{CALL_ROOM, Pen, TailBytes, new_pen, open_in, put_end, put_run};
 use x7_packets::{Cut, Run};
 use x7_words::NoMemory;
 
@@ -41,7 +42,7 @@ fn run_len(run: Run) -> usize
 fn with_tail(pen: Pen, tail: &[u8]) -> Pen
     requires { length tail.now < 4 }
     ensures synced { is_in_session result ≡ true }
-    ensures line { is_in_session pen ≡ true → line_of result ≡ line_of pen }
+    ensures line { is_in_session pen ≡ true → in_line_of result ≡ in_line_of pen }
     ensures held { held_by result ≡ tail.now }
 {
     let mut bytes = [0; 3];
@@ -67,7 +68,7 @@ fn tail_of(pen: &Pen) -> &[u8]
 
 /// Appends what is left at the end of a stream, whose tail the pen holds.
 fn put_last(text: &mut Vec<u8>, pen: Pen)
-    requires room { vec_len text.old + 64 ≤ vec_capacity text.old }
+    requires room { HasSpareRoom text.old CALL_ROOM }
     ensures listed { EndsHeld (written_with pen text.old.items) text.new.items }
 {
     put_end(text, pen, tail_of(&pen));
@@ -76,7 +77,7 @@ fn put_last(text: &mut Vec<u8>, pen: Pen)
 /// Appends what the next run of a stream adds.
 fn put_next(text: &mut Vec<u8>, pen: Pen, run: Run) -> Pen
     requires run { FitsRun run }
-    requires room { vec_len text.old + (64 + 3 * length (bytes_of_run run)) ≤ vec_capacity text.old }
+    requires room { HasSpareRoom text.old (CALL_ROOM + 3 * length (bytes_of_run run)) }
     ensures takes { (cutter : CutterState) → TakesNext run.entry (lister_with cutter pen text.old.items) (lister_with cutter result text.new.items) }
 {
     match run {
@@ -99,7 +100,7 @@ impl Lister {
         let Some(room) = run_len(*run).checked_mul(3) else {
             return Err(NoMemory);
         };
-        let Some(room) = room.checked_add(64) else {
+        let Some(room) = room.checked_add(CALL_ROOM) else {
             return Err(NoMemory);
         };
         self.text.reserve(room)?;

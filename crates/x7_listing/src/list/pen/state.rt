@@ -1,5 +1,6 @@
 //! What a pen keeps.
 ghost use Rattle.std.specs.Prelude.{◌<◌, ◌≤◌};
+ghost use Rattle.x7_text.specs.Row.{row_bytes, row_words};
 
 /// A pen in a gap: how many bytes stand in the open line, and the bytes that are held, the last four at most.
 #[derive(Clone, Copy)]
@@ -7,7 +8,7 @@ pub(crate) struct GapPen {
     pub(crate) line: usize,
     pub(crate) held: [u8; 4],
     pub(crate) count: usize,
-    ghost short: { line < 32 },
+    ghost short: { line < row_bytes },
     ghost few: { count ≤ 4 },
 }
 
@@ -15,7 +16,7 @@ pub(crate) struct GapPen {
 #[derive(Clone, Copy)]
 pub(crate) struct OpenWords {
     pub(crate) count: usize,
-    ghost short: { count < 8 },
+    ghost short: { count < row_words },
 }
 
 /// The bytes of no whole word at the end of a stream.

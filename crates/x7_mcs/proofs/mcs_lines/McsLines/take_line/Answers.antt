@@ -8,8 +8,8 @@ use Rattle.x7_mcs.proofs.McsLinesLemmas.{line_fails, line_read, line_wants, row_
 use Rattle.std.proofs.lemmas.Result.{err_from_is_err_and}
 use Rattle.x7_mcs.proofs.mcs_lines.McsLines.take_line.Goals as goal
 
-pub returns-clause-goes : goal.returns-clause-goes
-returns-clause-goes c = λ lines m t.
+pub returns-clause-read : goal.returns-clause-read
+returns-clause-read c = λ lines m t.
     let b = mcs_lines_state c.args.self.now in
     let d = mcs_lines_state c.put_row.new.self in
     let row = c.in-Some.row in
@@ -20,8 +20,8 @@ returns-clause-goes c = λ lines m t.
       read = line_read b lines c.args.n m t d (row_line row.address row.content) (subst (λ r. TookRecords r d.base d.ended d.bytes d.marks) is (c.in_ok-put_row.ensures t.records t.holds));
     }
 
-pub returns-in_err-put_row-clause-goes : goal.returns-in_err-put_row-clause-goes
-returns-in_err-put_row-clause-goes c =
+pub returns-in_err-put_row-clause-read : goal.returns-in_err-put_row-clause-read
+returns-in_err-put_row-clause-read c =
     let p = err_from_is_err_and c.from_residual.result c.from_residual.ensures.1 in
     rw (p.1, p.2) (λ lines m t more.
     let b = mcs_lines_state c.args.self.now in
@@ -39,8 +39,8 @@ returns-in_default-clause-left c =
     let alone = at_none c.args.text.now line c.first_line.result.1 c.in_default.is c.first_line.ensures in
     alone ∙ ap (λ t. t ∷ []) (sym (only_line c.args.text.now line alone).0)
 
-pub returns-2-clause-goes : goal.returns-2-clause-goes
-returns-2-clause-goes c = λ lines m t.
+pub returns-2-clause-read : goal.returns-2-clause-read
+returns-2-clause-read c = λ lines m t.
     let b = mcs_lines_state c.args.self.now in
     let d = mcs_lines_state c.put_one.new.self in
     let line = c.first_line.result.0.now in
@@ -51,8 +51,8 @@ returns-2-clause-goes c = λ lines m t.
           (subst (λ l. TookRecords (after_line c.args.n (at_base b.base b.ended t.records) l) d.base d.ended d.bytes d.marks) c.without_return.ensures (c.in_ok-put_one.ensures t.records t.holds));
     }
 
-pub returns-in_err-put_one-clause-goes : goal.returns-in_err-put_one-clause-goes
-returns-in_err-put_one-clause-goes c =
+pub returns-in_err-put_one-clause-read : goal.returns-in_err-put_one-clause-read
+returns-in_err-put_one-clause-read c =
     let p = err_from_is_err_and c.from_residual-in_err-put_one.result c.from_residual-in_err-put_one.ensures.1 in
     rw (p.1, p.2) (λ lines m t more.
     let b = mcs_lines_state c.args.self.now in

@@ -2,8 +2,8 @@ use Rattle.std.proofs.Common.{arith}
 use Rattle.x7_listing.proofs.asm.AsmLinesLemmas.{first_read, first_wants, next_read, next_wants}
 use Rattle.x7_listing.proofs.asm.lines.AsmLines.put_next.Goals as goal
 
-pub returns-then-n-eq1-clause-goes : goal.returns-then-n-eq1-clause-goes
-returns-then-n-eq1-clause-goes c = λ lines m h. first_read c.put_first.result c.args.self.now c.put_first.new.self c.args.line.now lines (omega (arith, m, c.if-n-eq1.true)) c.put_first.ensures.ok c.put_first.ensures.room c.put_first.ensures.fault h
+pub returns-then-n-eq1-clause-read : goal.returns-then-n-eq1-clause-read
+returns-then-n-eq1-clause-read c = λ lines m h. first_read c.put_first.result c.args.self.now c.put_first.new.self c.args.line.now lines (omega (arith, m, c.if-n-eq1.true)) c.put_first.ensures.ok c.put_first.ensures.room c.put_first.ensures.fault h
 
 pub returns-then-n-eq1-clause-memory : goal.returns-then-n-eq1-clause-memory
 returns-then-n-eq1-clause-memory c = λ lines m h. first_wants c.put_first.result c.args.line.now lines (omega (arith, m, c.if-n-eq1.true))
@@ -11,5 +11,5 @@ returns-then-n-eq1-clause-memory c = λ lines m h. first_wants c.put_first.resul
 pub returns-clause-memory : goal.returns-clause-memory
 returns-clause-memory c = λ lines m h. next_wants c.put_one.result c.args.self.now c.put_one.new.self c.args.n c.args.line.now lines m (λ e. omega (arith, e, c.if-n-eq1.false)) c.put_one.ensures.memory h
 
-pub returns-clause-goes : goal.returns-clause-goes
-returns-clause-goes c = λ lines m h. next_read c.put_one.result c.args.self.now c.put_one.new.self c.args.n c.args.line.now lines m (λ e. omega (arith, e, c.if-n-eq1.false)) c.put_one.ensures.ok c.put_one.ensures.room c.put_one.ensures.fault h
+pub returns-clause-read : goal.returns-clause-read
+returns-clause-read c = λ lines m h. next_read c.put_one.result c.args.self.now c.put_one.new.self c.args.n c.args.line.now lines m (λ e. omega (arith, e, c.if-n-eq1.false)) c.put_one.ensures.ok c.put_one.ensures.room c.put_one.ensures.fault h

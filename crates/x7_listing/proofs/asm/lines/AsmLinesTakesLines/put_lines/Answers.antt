@@ -19,14 +19,14 @@ loop-after-preserved c = λ lines same few t.
     let line = c.next_line.result.0.now in
     let h : HasTaken AreReadWithRoom lines text rest b c.loop-after.count = c.loop-after.invariant lines same few t in
     let room = few_taken AreReadWithRoom lines text rest b c.loop-after.count c.args.n same h in
-    let up : c.saturating_add-count.result ≡ c.loop-after.count + quick.count = omega (arith, c.saturating_add-count.ensures, room, few, e.within, e.few) in
+    let up : c.saturating_add-count.result ≡ c.loop-after.count + quick.count = omega (arith, c.saturating_add-count.ensures, room, few, e.within, e.counted) in
     let mid : HasTaken AreReadWithRoom lines text left now c.saturating_add-count.result =
     at_once_taken b now text rest left quick.count c.loop-after.count c.saturating_add-count.result quick.size lines (left_from quick.size rest e.within) e.takes e.start e.checker e.none e.limit e.room up h in
     let after = c.in-Some.after.now in
     let cut : split left ≡ line ∷ split after = (at_some left line c.next_line.result.1 c.in-Some.after c.in-Some.is c.next_line.ensures).0 in
     let n : c.saturating_add-count-in-loop-after.result ≡ c.saturating_add-count.result + 1 = omega (arith, c.saturating_add-count-in-loop-after.ensures, few_taken AreReadWithRoom lines text left now c.saturating_add-count.result c.args.n same mid, few) in
     one_taken AreReadWithRoom lines text left line after now c.put_next.new.self c.saturating_add-count.result c.saturating_add-count-in-loop-after.result cut mid n
-    (c.in_ok-put_next.ensures.goes (lines ++ mid.more) (omega (arith, n, mid.counts)) mid.took)
+    (c.in_ok-put_next.ensures.read (lines ++ mid.more) (omega (arith, n, mid.counts)) mid.took)
 
 pub returns-in_default-clause-read : goal.returns-in_default-clause-read
 returns-in_default-clause-read c = λ first lines same few t.
@@ -40,7 +40,7 @@ returns-in_default-clause-read c = λ first lines same few t.
     let line = c.next_line.result.0.now in
     let h : HasTaken AreReadWithRoom lines text rest b c.loop-after.count = c.loop-after.invariant lines same few t in
     let room = few_taken AreReadWithRoom lines text rest b c.loop-after.count c.args.n same h in
-    let up : c.saturating_add-count.result ≡ c.loop-after.count + quick.count = omega (arith, c.saturating_add-count.ensures, room, few, e.within, e.few) in
+    let up : c.saturating_add-count.result ≡ c.loop-after.count + quick.count = omega (arith, c.saturating_add-count.ensures, room, few, e.within, e.counted) in
     let mid : HasTaken AreReadWithRoom lines text left now c.saturating_add-count.result =
     at_once_taken b now text rest left quick.count c.loop-after.count c.saturating_add-count.result quick.size lines (left_from quick.size rest e.within) e.takes e.start e.checker e.none e.limit e.room up h in
     all_taken AreReadWithRoom lines text left now line c.saturating_add-count.result (at_none left line c.next_line.result.1 c.in_default.is c.next_line.ensures) mid
@@ -57,14 +57,14 @@ returns-in_err-put_next-clause-read c = λ first lines same few t.
     let line = c.next_line.result.0.now in
     let h : HasTaken AreReadWithRoom lines text rest b c.loop-after.count = c.loop-after.invariant lines same few t in
     let room = few_taken AreReadWithRoom lines text rest b c.loop-after.count c.args.n same h in
-    let up : c.saturating_add-count.result ≡ c.loop-after.count + quick.count = omega (arith, c.saturating_add-count.ensures, room, few, e.within, e.few) in
+    let up : c.saturating_add-count.result ≡ c.loop-after.count + quick.count = omega (arith, c.saturating_add-count.ensures, room, few, e.within, e.counted) in
     let mid : HasTaken AreReadWithRoom lines text left now c.saturating_add-count.result =
     at_once_taken b now text rest left quick.count c.loop-after.count c.saturating_add-count.result quick.size lines (left_from quick.size rest e.within) e.takes e.start e.checker e.none e.limit e.room up h in
     let after = c.in-Some.after.now in
     let cut : split left ≡ line ∷ split after = (at_some left line c.next_line.result.1 c.in-Some.after c.in-Some.is c.next_line.ensures).0 in
     let n : c.saturating_add-count-in-loop-after.result ≡ c.saturating_add-count.result + 1 = omega (arith, c.saturating_add-count-in-loop-after.ensures, few_taken AreReadWithRoom lines text left now c.saturating_add-count.result c.args.n same mid, few) in
     handed _ _ c.from_residual.result c.in_err-put_next.field-0.0 c.from_residual.ensures.1
-    (at_fault AreReadWithRoom lines text left (HasAsmFault c.in_err-put_next.field-0.0) line after now c.saturating_add-count.result cut mid (λ more. c.in_err-put_next.ensures.goes (lines ++ mid.more) (omega (arith, n, mid.counts)) mid.took (split more)))
+    (at_fault AreReadWithRoom lines text left (HasAsmFault c.in_err-put_next.field-0.0) line after now c.saturating_add-count.result cut mid (λ more. c.in_err-put_next.ensures.read (lines ++ mid.more) (omega (arith, n, mid.counts)) mid.took (split more)))
 
 pub returns-in_err-put_next-clause-memory : goal.returns-in_err-put_next-clause-memory
 returns-in_err-put_next-clause-memory c = λ first lines same few t.
@@ -78,7 +78,7 @@ returns-in_err-put_next-clause-memory c = λ first lines same few t.
     let line = c.next_line.result.0.now in
     let h : HasTaken AreReadWithRoom lines text rest b c.loop-after.count = c.loop-after.invariant lines same few t in
     let room = few_taken AreReadWithRoom lines text rest b c.loop-after.count c.args.n same h in
-    let up : c.saturating_add-count.result ≡ c.loop-after.count + quick.count = omega (arith, c.saturating_add-count.ensures, room, few, e.within, e.few) in
+    let up : c.saturating_add-count.result ≡ c.loop-after.count + quick.count = omega (arith, c.saturating_add-count.ensures, room, few, e.within, e.counted) in
     let mid : HasTaken AreReadWithRoom lines text left now c.saturating_add-count.result =
     at_once_taken b now text rest left quick.count c.loop-after.count c.saturating_add-count.result quick.size lines (left_from quick.size rest e.within) e.takes e.start e.checker e.none e.limit e.room up h in
     let after = c.in-Some.after.now in

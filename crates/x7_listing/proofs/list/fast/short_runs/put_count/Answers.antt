@@ -7,4 +7,4 @@ pub returns-then-count-lt10-clause-text : goal.returns-then-count-lt10-clause-te
 returns-then-count-lt10-clause-text c = c.put_whole.ensures.text ∙ ap (λ (t : List ℕ). take c.args.len c.args.sheet.now ++ (t ++ 10 ∷ [])) (sym (decimal_digit c.args.count c.if-count-lt10.true))
 
 pub returns-clause-text : goal.returns-clause-text
-returns-clause-text c = c.put_whole-2.ensures.text ∙ ap (λ (t : List ℕ). take c.args.len c.args.sheet.now ++ (t ++ 10 ∷ [])) (sym (two_digits c.args.count (omega (arith, c.if-count-lt10.false)) c.requires.few))
+returns-clause-text c = c.put_whole-2.ensures.text ∙ ap (λ (t : List ℕ). take c.args.len c.args.sheet.now ++ (t ++ 10 ∷ [])) (sym (two_digits c.args.count (omega (arith, c.if-count-lt10.false)) c.requires.two_digits))

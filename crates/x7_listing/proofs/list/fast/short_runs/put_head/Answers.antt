@@ -4,5 +4,5 @@ use Rattle.x7_listing.proofs.list.fast.short_runs.put_head.Goals as goal
 
 pub returns-clause-text : goal.returns-clause-text
 returns-clause-text c =
-    head_shown (take c.args.len c.args.sheet.now) _ _ c.args.in_line c.args.write.register c.args.write.count c.args.write.range (omega (arith, c.args.write.few))
+    head_shown (take c.args.len c.args.sheet.now) _ _ c.args.in_line c.args.write.register c.args.write.count c.args.write.range (omega (arith, c.args.write.short))
     (row_after (take c.args.len c.args.sheet.now) _ _ _ _ c.args.in_line c.put_close-begin.ensures.text c.put_row-start.ensures.text c.name_row.ensures) c.put_count.ensures.text

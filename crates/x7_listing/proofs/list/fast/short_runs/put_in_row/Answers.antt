@@ -10,7 +10,7 @@ returns-then-count-eq8-clause-shows c = record {
 
 pub returns-clause-shows : goal.returns-clause-shows
 returns-clause-shows c =
-    let few : c.args.count < 8 = omega (arith, c.requires.few, c.if-count-eq8.false) in
+    let few : c.args.count < 8 = omega (arith, c.requires.in_row, c.if-count-eq8.false) in
     record {
       text = c.put_prefix.ensures.text
           ∙ ap (λ (t : List ℕ). take c.args.len c.args.sheet.now ++ t) (first_words [] c.data_line-line.result c.data_line-line.result (take (4 + 9 * c.args.count) c.data_line-line.result) c.args.bytes.now (4 + 9 * c.args.count) c.args.count c.requires.some few c.told-bytes c.data_line-line.ensures (omega arith) refl refl);
