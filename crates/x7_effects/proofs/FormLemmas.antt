@@ -21,7 +21,8 @@ use Rattle.x7_memory.specs.Plan.{PlanRow, PlanData, IsPlan, planned, planned_add
 use Rattle.x7_memory.proofs.PlanLemmas.{planned_here, planned_after}
 use Rattle.x7_effects.proofs.Items.{Item, Write, WriteLong, items_entered, item_words, items_words, bytes_of_words, closed, opened, desync, bus_width_head}
 use Rattle.x7_effects.proofs.Checking.{Checking, Piece, Put, Check, IsPiece, ArePieces, ClearFirst, at_first, with_checks, piece_item, piece_length, pieces_length, after_item}
-use Rattle.x7_effects.proofs.Frames.{joined, AreWide, zero_frame, frame_of, frames_at, row_frames}
+use Rattle.x7_effects.proofs.Frames.{joined, AreWide, frame_of, frames_at, row_frames}
+use Rattle.x7_planner.specs.FullStream.{zero_frame}
 use Rattle.x7_planner.specs.PartialStream.{Stretch, Copies, Rows}
 use Rattle.x7_effects.proofs.Streams.{stream_of, full_pieces, full_stream, copy_pieces, stretch_pieces, stretches_pieces, partial_pieces, read_pieces, HaveWords, IsStretch, AreStretches}
 use Rattle.x7_effects.proofs.FrameLemmas.{all_wide, plan_wide, first_small}

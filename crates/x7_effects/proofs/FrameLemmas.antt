@@ -31,7 +31,8 @@ use Rattle.x7_pipeline.specs.InWords.{pair_of}
 use Rattle.x7_pipeline.proofs.SlotLemmas.{addresses_among_slots}
 use Rattle.x7_flow.proofs.InsideLemmas.{contains_or_not}
 use Rattle.x7_flow.proofs.StreamLemmas.{frames_land}
-use Rattle.x7_effects.proofs.Frames.{joined, AreWide, zero_frame, frame_of, frames_at, row_of, row_frames, row_slots}
+use Rattle.x7_effects.proofs.Frames.{joined, AreWide, frame_of, frames_at, row_of, row_frames, row_slots}
+use Rattle.x7_planner.specs.FullStream.{zero_frame}
 
 -- ---- lists
 

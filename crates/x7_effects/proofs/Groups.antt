@@ -6,7 +6,8 @@ use Rattle.x7_memory.specs.FrameMap.{FrameMap}
 use Rattle.x7_memory.specs.Plan.{PlanRow, planned_addresses}
 use Rattle.x7_pipeline.specs.Runs.{slots_from, put_over, written_frames, onto, frames_of}
 use Rattle.x7_pipeline.specs.Copies.{newest_of}
-use Rattle.x7_effects.proofs.Frames.{joined, row_frames, row_slots, zero_frame}
+use Rattle.x7_effects.proofs.Frames.{joined, row_frames, row_slots}
+use Rattle.x7_planner.specs.FullStream.{zero_frame}
 use Rattle.x7_effects.proofs.Checking.{Piece}
 use Rattle.x7_planner.specs.PartialStream.{Stretch, Copies, Rows, pairs_of, stretches_of}
 use Rattle.x7_effects.proofs.Streams.{partial_pieces}

@@ -20,7 +20,8 @@ use Rattle.x7_pipeline.specs.Runs.{frames_of, slots_from, in_slots, written_fram
 use Rattle.x7_pipeline.specs.Copies.{newest_of}
 use Rattle.x7_pipeline.proofs.SlotLemmas.{addresses_among_slots, slot_among}
 use Rattle.x7_planner.proofs.FewLemmas.{rises_in, rises_rest, by_rows}
-use Rattle.x7_effects.proofs.Frames.{joined, AreWide, zero_frame, row_frames}
+use Rattle.x7_effects.proofs.Frames.{joined, AreWide, row_frames}
+use Rattle.x7_planner.specs.FullStream.{zero_frame}
 use Rattle.x7_planner.specs.PartialStream.{Copies, Rows}
 use Rattle.x7_effects.proofs.Streams.{HaveWords, IsStretch, AreStretches}
 use Rattle.x7_planner.specs.PartialStream.{with_content, leads_group, groups_led, others, is_frame, follows, with_row, runs_of, stretches_of, same_words}

@@ -18,7 +18,8 @@ use Rattle.x7_memory.specs.Plan.{PlanRow, planned_addresses}
 use Rattle.x7_pipeline.specs.FarAsRead.{has_frame_at}
 use Rattle.x7_pipeline.specs.Runs.{slots_from}
 use Rattle.x7_pipeline.proofs.SlotLemmas.{address_has}
-use Rattle.x7_effects.proofs.Frames.{joined, row_frames, row_slots, zero_frame}
+use Rattle.x7_effects.proofs.Frames.{joined, row_frames, row_slots}
+use Rattle.x7_planner.specs.FullStream.{zero_frame}
 use Rattle.x7_planner.specs.PartialStream.{Rows, Stretch}
 use Rattle.x7_planner.specs.PartialStream as stretch
 use Rattle.x7_planner.specs.PartialStream.{groups_led, is_shared, leads_group, others, runs_of, stretches_of, with_content}

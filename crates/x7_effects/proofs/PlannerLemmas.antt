@@ -25,7 +25,8 @@ use Rattle.x7_packets.specs.PacketWords.{sync_word}
 use Rattle.x7_effects.proofs.Items.{AreItems, Item, Write, WriteLong, bus_width_head, bytes_of_words, closed, desync, item_words, items_entered, items_words, opened}
 use Rattle.x7_effects.proofs.Items as item
 use Rattle.x7_effects.proofs.Checking.{ArePieces, Check, Checking, IsPiece, Piece, Put, after_items, at_first, checking_of, piece_item, with_checks}
-use Rattle.x7_effects.proofs.Frames.{frame_of, frames_at, joined, row_frames, zero_frame}
+use Rattle.x7_effects.proofs.Frames.{frame_of, frames_at, joined, row_frames}
+use Rattle.x7_planner.specs.FullStream.{zero_frame}
 use Rattle.x7_effects.proofs.Groups.{plan_pieces}
 use Rattle.x7_effects.proofs.Streams.{command, copy_pieces, full_pieces, full_stream, one, read_stream, stream_of, stretch_pieces, stretches_pieces}
 use Rattle.x7_planner.specs.PartialStream.{Stretch, copy_words, frames_words, groups_led, leads_group, others, partial_stream, runs_of, stretch_words, stretches_of, with_content}

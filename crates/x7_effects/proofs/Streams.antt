@@ -15,7 +15,8 @@ use Rattle.x7_memory.specs.Plan.{PlanRow, PlanData, planned_addresses}
 use Rattle.x7_effects.proofs.Items.{Noop, Write, WriteLong, ReadLong, bytes_of_words, closed, bus_width_head}
 use Rattle.x7_effects.proofs.Checking.{Piece, Put, Check, with_checks, at_first}
 use Rattle.x7_planner.specs.PartialStream.{Stretch, Copies, Rows}
-use Rattle.x7_effects.proofs.Frames.{joined, frames_at, row_frames, zero_frame}
+use Rattle.x7_effects.proofs.Frames.{joined, frames_at, row_frames}
+use Rattle.x7_planner.specs.FullStream.{zero_frame}
 
 -- a command, and one word written to a register
 abbrev pub command : Command → Piece

@@ -29,7 +29,8 @@ use Rattle.x7_flow.proofs.WordLemmas.{mfw_with}
 use Rattle.x7_engine.specs.declared.kept.Kept.{Kept}
 use Rattle.x7_effects.proofs.Items.{Write, WriteLong, item_entered}
 use Rattle.x7_effects.proofs.Checking.{Piece, Put, piece_length, pieces_length}
-use Rattle.x7_effects.proofs.Frames.{joined, row_frames, zero_frame}
+use Rattle.x7_effects.proofs.Frames.{joined, row_frames}
+use Rattle.x7_planner.specs.FullStream.{zero_frame}
 use Rattle.x7_planner.specs.PartialStream.{Stretch, Rows}
 use Rattle.x7_effects.proofs.Streams.{command, copy_pieces, one, stretch_pieces, stretches_pieces}
 use Rattle.x7_planner.specs.PartialStream as stretch

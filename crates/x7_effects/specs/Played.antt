@@ -1,8 +1,8 @@
 -- What planned streams do on a device at rest (this project's choice).
-use Rattle.std.specs.Prelude.{◌≡◌, ℕ, Bool, true, List, ◌++◌, replicate, take, unwrap_or}
+use Rattle.std.specs.Prelude.{◌≡◌, ℕ, Bool, true, List, ◌++◌, take, unwrap_or}
 use Rattle.std.specs.List.{flat_map}
 use Rattle.x7_words.specs.Word.{AreBytes}
-use Rattle.x7_part.specs.Part.{PartData, frame_words}
+use Rattle.x7_part.specs.Part.{PartData}
 use Rattle.x7_part.specs.Ranges.{IsPart}
 use Rattle.x7_part.specs.declared.slot.Slot.{Slot}
 use Rattle.x7_part.specs.declared.slot.Slot.TheVariants.{Frame, Pad, End}
@@ -14,7 +14,7 @@ use Rattle.x7_engine.specs.declared.kept.Kept.{Kept}
 use Rattle.x7_engine.specs.declared.regs.Regs.{Regs}
 use Rattle.x7_engine.specs.Rest.{AtRest}
 use Rattle.x7_engine.specs.State.{memory_in, reads_of, state_of}
-use Rattle.x7_planner.specs.FullStream.{full_stream}
+use Rattle.x7_planner.specs.FullStream.{full_stream, zero_frame}
 use Rattle.x7_planner.specs.PartialStream.{partial_stream}
 use Rattle.x7_planner.specs.ReadStream.{read_stream}
 
@@ -60,13 +60,13 @@ changed_memory p = override (memory_in p.part p.kept p.bytes) (planned p.plan.ro
 
 -- the words of a memory at a slot: its frame at an address, zeros at a pad
 abbrev pub slot_words : PartData → FrameMap → Slot → List ℕ
-slot_words part memory (Frame far) = unwrap_or (memory far) (replicate (frame_words part) 0)
-slot_words part memory Pad = replicate (frame_words part) 0
-slot_words part memory End = replicate (frame_words part) 0
+slot_words part memory (Frame far) = unwrap_or (memory far) (zero_frame part)
+slot_words part memory Pad = zero_frame part
+slot_words part memory End = zero_frame part
 
 -- what a readback of n slots from an address on gives: a frame of zeros, and the frames along the slots
 abbrev pub words_along : PartData → FrameMap → ℕ → ℕ → List ℕ
-words_along part memory far n = replicate (frame_words part) 0 ++ flat_map (slot_words part memory) (take n (slots_from part far))
+words_along part memory far n = zero_frame part ++ flat_map (slot_words part memory) (take n (slots_from part far))
 
 -- DONE, GTS and GWE are 1: the device is configured, drives its outputs, and may write its memories
 abbrev pub all_high : Lines
