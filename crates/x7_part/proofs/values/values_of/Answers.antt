@@ -43,8 +43,13 @@ pub returns-in_err-number_or-3-clause-fault : goal.returns-in_err-number_or-3-cl
 unfolding type_fault
 returns-in_err-number_or-3-clause-fault c =
     due_from c.from_residual-in_err-number_or-3.result c.in_err-number_or-3.field-0.0 _ c.from_residual-in_err-number_or-3.ensures
-    (rw (c.in_ok-text.ensures.fault, ← c.in_ok-number.ensures.fault, ← c.in_ok-number_or.ensures.fault, ← c.in_ok-number_or-2.ensures.fault,
-    ← c.in_err-number_or-3.ensures.fault) refl)
+    (rw (
+      c.in_ok-text.ensures.fault,
+      ← c.in_ok-number.ensures.fault,
+      ← c.in_ok-number_or.ensures.fault,
+      ← c.in_ok-number_or-2.ensures.fault,
+      ← c.in_err-number_or-3.ensures.fault,
+    ) refl)
 
 pub returns-in_err-number_or-3-clause-unnamed : goal.returns-in_err-number_or-3-clause-unnamed
 returns-in_err-number_or-3-clause-unnamed c h = absurd (not_given _ (Key (top key.Name)) (c.in_ok-text.ensures.missing h))
@@ -53,8 +58,14 @@ pub returns-in_err-number_or-4-clause-fault : goal.returns-in_err-number_or-4-cl
 unfolding type_fault
 returns-in_err-number_or-4-clause-fault c =
     due_from c.from_residual-in_err-number_or-4.result c.in_err-number_or-4.field-0.0 _ c.from_residual-in_err-number_or-4.ensures
-    (rw (c.in_ok-text.ensures.fault, ← c.in_ok-number.ensures.fault, ← c.in_ok-number_or.ensures.fault, ← c.in_ok-number_or-2.ensures.fault,
-    ← c.in_ok-number_or-3.ensures.fault, ← c.in_err-number_or-4.ensures.fault) refl)
+    (rw (
+      c.in_ok-text.ensures.fault,
+      ← c.in_ok-number.ensures.fault,
+      ← c.in_ok-number_or.ensures.fault,
+      ← c.in_ok-number_or-2.ensures.fault,
+      ← c.in_ok-number_or-3.ensures.fault,
+      ← c.in_err-number_or-4.ensures.fault,
+    ) refl)
 
 pub returns-in_err-number_or-4-clause-unnamed : goal.returns-in_err-number_or-4-clause-unnamed
 returns-in_err-number_or-4-clause-unnamed c h = absurd (not_given _ (Key (top key.Name)) (c.in_ok-text.ensures.missing h))
@@ -63,8 +74,15 @@ pub returns-in_err-number_or-5-clause-fault : goal.returns-in_err-number_or-5-cl
 unfolding type_fault
 returns-in_err-number_or-5-clause-fault c =
     due_from c.from_residual-in_err-number_or-5.result c.in_err-number_or-5.field-0.0 _ c.from_residual-in_err-number_or-5.ensures
-    (rw (c.in_ok-text.ensures.fault, ← c.in_ok-number.ensures.fault, ← c.in_ok-number_or.ensures.fault, ← c.in_ok-number_or-2.ensures.fault,
-    ← c.in_ok-number_or-3.ensures.fault, ← c.in_ok-number_or-4.ensures.fault, ← c.in_err-number_or-5.ensures.fault) refl)
+    (rw (
+      c.in_ok-text.ensures.fault,
+      ← c.in_ok-number.ensures.fault,
+      ← c.in_ok-number_or.ensures.fault,
+      ← c.in_ok-number_or-2.ensures.fault,
+      ← c.in_ok-number_or-3.ensures.fault,
+      ← c.in_ok-number_or-4.ensures.fault,
+      ← c.in_err-number_or-5.ensures.fault,
+    ) refl)
 
 pub returns-in_err-number_or-5-clause-unnamed : goal.returns-in_err-number_or-5-clause-unnamed
 returns-in_err-number_or-5-clause-unnamed c h = absurd (not_given _ (Key (top key.Name)) (c.in_ok-text.ensures.missing h))
@@ -73,8 +91,16 @@ pub returns-in_err-numbers-clause-fault : goal.returns-in_err-numbers-clause-fau
 unfolding type_fault
 returns-in_err-numbers-clause-fault c =
     due_or_memory c.from_residual-in_err-numbers.result c.in_err-numbers.field-0.0 _ c.from_residual-in_err-numbers.ensures
-    (or_memory _ _ _ (λ e. rw (c.in_ok-text.ensures.fault, ← c.in_ok-number.ensures.fault, ← c.in_ok-number_or.ensures.fault, ← c.in_ok-number_or-2.ensures.fault,
-    ← c.in_ok-number_or-3.ensures.fault, ← c.in_ok-number_or-4.ensures.fault, ← c.in_ok-number_or-5.ensures.fault, e) refl) c.in_err-numbers.ensures.fault)
+    (or_memory _ _ _ (λ e. rw (
+      c.in_ok-text.ensures.fault,
+      ← c.in_ok-number.ensures.fault,
+      ← c.in_ok-number_or.ensures.fault,
+      ← c.in_ok-number_or-2.ensures.fault,
+      ← c.in_ok-number_or-3.ensures.fault,
+      ← c.in_ok-number_or-4.ensures.fault,
+      ← c.in_ok-number_or-5.ensures.fault,
+      e,
+    ) refl) c.in_err-numbers.ensures.fault)
 
 pub returns-in_err-numbers-clause-unnamed : goal.returns-in_err-numbers-clause-unnamed
 returns-in_err-numbers-clause-unnamed c h = absurd (not_given _ (Key (top key.Name)) (c.in_ok-text.ensures.missing h))
@@ -83,9 +109,17 @@ pub returns-in_err-number_or-6-clause-fault : goal.returns-in_err-number_or-6-cl
 unfolding type_fault
 returns-in_err-number_or-6-clause-fault c =
     due_from c.from_residual-in_err-number_or-6.result c.in_err-number_or-6.field-0.0 _ c.from_residual-in_err-number_or-6.ensures
-    (rw (c.in_ok-text.ensures.fault, ← c.in_ok-number.ensures.fault, ← c.in_ok-number_or.ensures.fault, ← c.in_ok-number_or-2.ensures.fault,
-    ← c.in_ok-number_or-3.ensures.fault, ← c.in_ok-number_or-4.ensures.fault, ← c.in_ok-number_or-5.ensures.fault, c.in_ok-numbers.ensures.fault,
-    ← c.in_err-number_or-6.ensures.fault) refl)
+    (rw (
+      c.in_ok-text.ensures.fault,
+      ← c.in_ok-number.ensures.fault,
+      ← c.in_ok-number_or.ensures.fault,
+      ← c.in_ok-number_or-2.ensures.fault,
+      ← c.in_ok-number_or-3.ensures.fault,
+      ← c.in_ok-number_or-4.ensures.fault,
+      ← c.in_ok-number_or-5.ensures.fault,
+      c.in_ok-numbers.ensures.fault,
+      ← c.in_err-number_or-6.ensures.fault,
+    ) refl)
 
 pub returns-in_err-number_or-6-clause-unnamed : goal.returns-in_err-number_or-6-clause-unnamed
 returns-in_err-number_or-6-clause-unnamed c h = absurd (not_given _ (Key (top key.Name)) (c.in_ok-text.ensures.missing h))
@@ -94,9 +128,18 @@ pub returns-in_err-rows-clause-fault : goal.returns-in_err-rows-clause-fault
 unfolding type_fault
 returns-in_err-rows-clause-fault c =
     due_or_memory c.from_residual-in_err-rows.result c.in_err-rows.field-0.0 _ c.from_residual-in_err-rows.ensures
-    (or_memory _ _ _ (λ e. rw (c.in_ok-text.ensures.fault, ← c.in_ok-number.ensures.fault, ← c.in_ok-number_or.ensures.fault, ← c.in_ok-number_or-2.ensures.fault,
-    ← c.in_ok-number_or-3.ensures.fault, ← c.in_ok-number_or-4.ensures.fault, ← c.in_ok-number_or-5.ensures.fault, c.in_ok-numbers.ensures.fault,
-    ← c.in_ok-number_or-6.ensures.fault, e) refl) c.in_err-rows.ensures.fault)
+    (or_memory _ _ _ (λ e. rw (
+      c.in_ok-text.ensures.fault,
+      ← c.in_ok-number.ensures.fault,
+      ← c.in_ok-number_or.ensures.fault,
+      ← c.in_ok-number_or-2.ensures.fault,
+      ← c.in_ok-number_or-3.ensures.fault,
+      ← c.in_ok-number_or-4.ensures.fault,
+      ← c.in_ok-number_or-5.ensures.fault,
+      c.in_ok-numbers.ensures.fault,
+      ← c.in_ok-number_or-6.ensures.fault,
+      e,
+    ) refl) c.in_err-rows.ensures.fault)
 
 pub returns-in_err-rows-clause-unnamed : goal.returns-in_err-rows-clause-unnamed
 returns-in_err-rows-clause-unnamed c h = absurd (not_given _ (Key (top key.Name)) (c.in_ok-text.ensures.missing h))
