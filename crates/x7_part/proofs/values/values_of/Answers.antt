@@ -15,7 +15,8 @@ returns-in_err-text-clause-fault c =
 pub returns-in_err-number-clause-fault : goal.returns-in_err-number-clause-fault
 unfolding type_fault
 returns-in_err-number-clause-fault c =
-    due_from c.from_residual-in_err-number.result c.in_err-number.field-0.0 _ c.from_residual-in_err-number.ensures (rw (c.in_ok-text.ensures.fault, ← c.in_err-number.ensures.fault) refl)
+    due_from c.from_residual-in_err-number.result c.in_err-number.field-0.0 _ c.from_residual-in_err-number.ensures
+    (rw (c.in_ok-text.ensures.fault, ← c.in_err-number.ensures.fault) refl)
 
 pub returns-in_err-number-clause-unnamed : goal.returns-in_err-number-clause-unnamed
 returns-in_err-number-clause-unnamed c h = absurd (not_given _ (Key (top key.Name)) (c.in_ok-text.ensures.missing h))
@@ -23,7 +24,8 @@ returns-in_err-number-clause-unnamed c h = absurd (not_given _ (Key (top key.Nam
 pub returns-in_err-number_or-clause-fault : goal.returns-in_err-number_or-clause-fault
 unfolding type_fault
 returns-in_err-number_or-clause-fault c =
-    due_from c.from_residual-in_err-number_or.result c.in_err-number_or.field-0.0 _ c.from_residual-in_err-number_or.ensures (rw (c.in_ok-text.ensures.fault, ← c.in_ok-number.ensures.fault, ← c.in_err-number_or.ensures.fault) refl)
+    due_from c.from_residual-in_err-number_or.result c.in_err-number_or.field-0.0 _ c.from_residual-in_err-number_or.ensures
+    (rw (c.in_ok-text.ensures.fault, ← c.in_ok-number.ensures.fault, ← c.in_err-number_or.ensures.fault) refl)
 
 pub returns-in_err-number_or-clause-unnamed : goal.returns-in_err-number_or-clause-unnamed
 returns-in_err-number_or-clause-unnamed c h = absurd (not_given _ (Key (top key.Name)) (c.in_ok-text.ensures.missing h))
@@ -31,7 +33,8 @@ returns-in_err-number_or-clause-unnamed c h = absurd (not_given _ (Key (top key.
 pub returns-in_err-number_or-2-clause-fault : goal.returns-in_err-number_or-2-clause-fault
 unfolding type_fault
 returns-in_err-number_or-2-clause-fault c =
-    due_from c.from_residual-in_err-number_or-2.result c.in_err-number_or-2.field-0.0 _ c.from_residual-in_err-number_or-2.ensures (rw (c.in_ok-text.ensures.fault, ← c.in_ok-number.ensures.fault, ← c.in_ok-number_or.ensures.fault, ← c.in_err-number_or-2.ensures.fault) refl)
+    due_from c.from_residual-in_err-number_or-2.result c.in_err-number_or-2.field-0.0 _ c.from_residual-in_err-number_or-2.ensures
+    (rw (c.in_ok-text.ensures.fault, ← c.in_ok-number.ensures.fault, ← c.in_ok-number_or.ensures.fault, ← c.in_err-number_or-2.ensures.fault) refl)
 
 pub returns-in_err-number_or-2-clause-unnamed : goal.returns-in_err-number_or-2-clause-unnamed
 returns-in_err-number_or-2-clause-unnamed c h = absurd (not_given _ (Key (top key.Name)) (c.in_ok-text.ensures.missing h))
@@ -39,7 +42,14 @@ returns-in_err-number_or-2-clause-unnamed c h = absurd (not_given _ (Key (top ke
 pub returns-in_err-number_or-3-clause-fault : goal.returns-in_err-number_or-3-clause-fault
 unfolding type_fault
 returns-in_err-number_or-3-clause-fault c =
-    due_from c.from_residual-in_err-number_or-3.result c.in_err-number_or-3.field-0.0 _ c.from_residual-in_err-number_or-3.ensures (rw (c.in_ok-text.ensures.fault, ← c.in_ok-number.ensures.fault, ← c.in_ok-number_or.ensures.fault, ← c.in_ok-number_or-2.ensures.fault, ← c.in_err-number_or-3.ensures.fault) refl)
+    due_from c.from_residual-in_err-number_or-3.result c.in_err-number_or-3.field-0.0 _ c.from_residual-in_err-number_or-3.ensures
+    (rw (
+      c.in_ok-text.ensures.fault,
+      ← c.in_ok-number.ensures.fault,
+      ← c.in_ok-number_or.ensures.fault,
+      ← c.in_ok-number_or-2.ensures.fault,
+      ← c.in_err-number_or-3.ensures.fault,
+    ) refl)
 
 pub returns-in_err-number_or-3-clause-unnamed : goal.returns-in_err-number_or-3-clause-unnamed
 returns-in_err-number_or-3-clause-unnamed c h = absurd (not_given _ (Key (top key.Name)) (c.in_ok-text.ensures.missing h))
@@ -47,7 +57,15 @@ returns-in_err-number_or-3-clause-unnamed c h = absurd (not_given _ (Key (top ke
 pub returns-in_err-number_or-4-clause-fault : goal.returns-in_err-number_or-4-clause-fault
 unfolding type_fault
 returns-in_err-number_or-4-clause-fault c =
-    due_from c.from_residual-in_err-number_or-4.result c.in_err-number_or-4.field-0.0 _ c.from_residual-in_err-number_or-4.ensures (rw (c.in_ok-text.ensures.fault, ← c.in_ok-number.ensures.fault, ← c.in_ok-number_or.ensures.fault, ← c.in_ok-number_or-2.ensures.fault, ← c.in_ok-number_or-3.ensures.fault, ← c.in_err-number_or-4.ensures.fault) refl)
+    due_from c.from_residual-in_err-number_or-4.result c.in_err-number_or-4.field-0.0 _ c.from_residual-in_err-number_or-4.ensures
+    (rw (
+      c.in_ok-text.ensures.fault,
+      ← c.in_ok-number.ensures.fault,
+      ← c.in_ok-number_or.ensures.fault,
+      ← c.in_ok-number_or-2.ensures.fault,
+      ← c.in_ok-number_or-3.ensures.fault,
+      ← c.in_err-number_or-4.ensures.fault,
+    ) refl)
 
 pub returns-in_err-number_or-4-clause-unnamed : goal.returns-in_err-number_or-4-clause-unnamed
 returns-in_err-number_or-4-clause-unnamed c h = absurd (not_given _ (Key (top key.Name)) (c.in_ok-text.ensures.missing h))
@@ -55,7 +73,16 @@ returns-in_err-number_or-4-clause-unnamed c h = absurd (not_given _ (Key (top ke
 pub returns-in_err-number_or-5-clause-fault : goal.returns-in_err-number_or-5-clause-fault
 unfolding type_fault
 returns-in_err-number_or-5-clause-fault c =
-    due_from c.from_residual-in_err-number_or-5.result c.in_err-number_or-5.field-0.0 _ c.from_residual-in_err-number_or-5.ensures (rw (c.in_ok-text.ensures.fault, ← c.in_ok-number.ensures.fault, ← c.in_ok-number_or.ensures.fault, ← c.in_ok-number_or-2.ensures.fault, ← c.in_ok-number_or-3.ensures.fault, ← c.in_ok-number_or-4.ensures.fault, ← c.in_err-number_or-5.ensures.fault) refl)
+    due_from c.from_residual-in_err-number_or-5.result c.in_err-number_or-5.field-0.0 _ c.from_residual-in_err-number_or-5.ensures
+    (rw (
+      c.in_ok-text.ensures.fault,
+      ← c.in_ok-number.ensures.fault,
+      ← c.in_ok-number_or.ensures.fault,
+      ← c.in_ok-number_or-2.ensures.fault,
+      ← c.in_ok-number_or-3.ensures.fault,
+      ← c.in_ok-number_or-4.ensures.fault,
+      ← c.in_err-number_or-5.ensures.fault,
+    ) refl)
 
 pub returns-in_err-number_or-5-clause-unnamed : goal.returns-in_err-number_or-5-clause-unnamed
 returns-in_err-number_or-5-clause-unnamed c h = absurd (not_given _ (Key (top key.Name)) (c.in_ok-text.ensures.missing h))
@@ -63,7 +90,17 @@ returns-in_err-number_or-5-clause-unnamed c h = absurd (not_given _ (Key (top ke
 pub returns-in_err-numbers-clause-fault : goal.returns-in_err-numbers-clause-fault
 unfolding type_fault
 returns-in_err-numbers-clause-fault c =
-    due_or_memory c.from_residual-in_err-numbers.result c.in_err-numbers.field-0.0 _ c.from_residual-in_err-numbers.ensures (or_memory _ _ _ (λ e. rw (c.in_ok-text.ensures.fault, ← c.in_ok-number.ensures.fault, ← c.in_ok-number_or.ensures.fault, ← c.in_ok-number_or-2.ensures.fault, ← c.in_ok-number_or-3.ensures.fault, ← c.in_ok-number_or-4.ensures.fault, ← c.in_ok-number_or-5.ensures.fault, e) refl) c.in_err-numbers.ensures.fault)
+    due_or_memory c.from_residual-in_err-numbers.result c.in_err-numbers.field-0.0 _ c.from_residual-in_err-numbers.ensures
+    (or_memory _ _ _ (λ e. rw (
+      c.in_ok-text.ensures.fault,
+      ← c.in_ok-number.ensures.fault,
+      ← c.in_ok-number_or.ensures.fault,
+      ← c.in_ok-number_or-2.ensures.fault,
+      ← c.in_ok-number_or-3.ensures.fault,
+      ← c.in_ok-number_or-4.ensures.fault,
+      ← c.in_ok-number_or-5.ensures.fault,
+      e,
+    ) refl) c.in_err-numbers.ensures.fault)
 
 pub returns-in_err-numbers-clause-unnamed : goal.returns-in_err-numbers-clause-unnamed
 returns-in_err-numbers-clause-unnamed c h = absurd (not_given _ (Key (top key.Name)) (c.in_ok-text.ensures.missing h))
@@ -71,7 +108,18 @@ returns-in_err-numbers-clause-unnamed c h = absurd (not_given _ (Key (top key.Na
 pub returns-in_err-number_or-6-clause-fault : goal.returns-in_err-number_or-6-clause-fault
 unfolding type_fault
 returns-in_err-number_or-6-clause-fault c =
-    due_from c.from_residual-in_err-number_or-6.result c.in_err-number_or-6.field-0.0 _ c.from_residual-in_err-number_or-6.ensures (rw (c.in_ok-text.ensures.fault, ← c.in_ok-number.ensures.fault, ← c.in_ok-number_or.ensures.fault, ← c.in_ok-number_or-2.ensures.fault, ← c.in_ok-number_or-3.ensures.fault, ← c.in_ok-number_or-4.ensures.fault, ← c.in_ok-number_or-5.ensures.fault, c.in_ok-numbers.ensures.fault, ← c.in_err-number_or-6.ensures.fault) refl)
+    due_from c.from_residual-in_err-number_or-6.result c.in_err-number_or-6.field-0.0 _ c.from_residual-in_err-number_or-6.ensures
+    (rw (
+      c.in_ok-text.ensures.fault,
+      ← c.in_ok-number.ensures.fault,
+      ← c.in_ok-number_or.ensures.fault,
+      ← c.in_ok-number_or-2.ensures.fault,
+      ← c.in_ok-number_or-3.ensures.fault,
+      ← c.in_ok-number_or-4.ensures.fault,
+      ← c.in_ok-number_or-5.ensures.fault,
+      c.in_ok-numbers.ensures.fault,
+      ← c.in_err-number_or-6.ensures.fault,
+    ) refl)
 
 pub returns-in_err-number_or-6-clause-unnamed : goal.returns-in_err-number_or-6-clause-unnamed
 returns-in_err-number_or-6-clause-unnamed c h = absurd (not_given _ (Key (top key.Name)) (c.in_ok-text.ensures.missing h))
@@ -79,7 +127,19 @@ returns-in_err-number_or-6-clause-unnamed c h = absurd (not_given _ (Key (top ke
 pub returns-in_err-rows-clause-fault : goal.returns-in_err-rows-clause-fault
 unfolding type_fault
 returns-in_err-rows-clause-fault c =
-    due_or_memory c.from_residual-in_err-rows.result c.in_err-rows.field-0.0 _ c.from_residual-in_err-rows.ensures (or_memory _ _ _ (λ e. rw (c.in_ok-text.ensures.fault, ← c.in_ok-number.ensures.fault, ← c.in_ok-number_or.ensures.fault, ← c.in_ok-number_or-2.ensures.fault, ← c.in_ok-number_or-3.ensures.fault, ← c.in_ok-number_or-4.ensures.fault, ← c.in_ok-number_or-5.ensures.fault, c.in_ok-numbers.ensures.fault, ← c.in_ok-number_or-6.ensures.fault, e) refl) c.in_err-rows.ensures.fault)
+    due_or_memory c.from_residual-in_err-rows.result c.in_err-rows.field-0.0 _ c.from_residual-in_err-rows.ensures
+    (or_memory _ _ _ (λ e. rw (
+      c.in_ok-text.ensures.fault,
+      ← c.in_ok-number.ensures.fault,
+      ← c.in_ok-number_or.ensures.fault,
+      ← c.in_ok-number_or-2.ensures.fault,
+      ← c.in_ok-number_or-3.ensures.fault,
+      ← c.in_ok-number_or-4.ensures.fault,
+      ← c.in_ok-number_or-5.ensures.fault,
+      c.in_ok-numbers.ensures.fault,
+      ← c.in_ok-number_or-6.ensures.fault,
+      e,
+    ) refl) c.in_err-rows.ensures.fault)
 
 pub returns-in_err-rows-clause-unnamed : goal.returns-in_err-rows-clause-unnamed
 returns-in_err-rows-clause-unnamed c h = absurd (not_given _ (Key (top key.Name)) (c.in_ok-text.ensures.missing h))
