@@ -5,7 +5,7 @@ use Rattle.x7_words.specs.Word.{AreWords}
 use Rattle.x7_words.proofs.ListLemmas.{all_append}
 use Rattle.x7_packets.specs.declared.header.Step.{Step}
 use Rattle.x7_packets.specs.declared.header.Step.TheVariants.{Filler, Nop, Open, Payload, Read, Bad}
-use Rattle.x7_packets.specs.Packet.{Packet, EachPacket, IsPacket, type_and_opcode_of, register_of, long_meaning, meaning, named_by, payload_steps, stepped, latest_after}
+use Rattle.x7_packets.specs.Packet.{Packet, EachPacket, IsPacket, type_and_opcode_of, register_of, type2_meaning, meaning, named_by, payload_steps, stepped, latest_after}
 use Rattle.x7_packets.specs.Reading.{Place, Searching, Synced, Session, IsReading, IsSession, IsPlace, session_bytes}
 use Rattle.x7_packets.specs.History as access
 use Rattle.x7_packets.specs.History.{History, AllFit, entry, entered, entered_all, entered_sessions, entered_place, history}
@@ -29,7 +29,7 @@ by_test : (b : Bool) (s t : Step) → FitsStep s → FitsStep t → FitsStep (if
 by_test true s t f g = f
 by_test false s t f g = g
 
-long_fits : (latest : Option ℕ) (w : ℕ) → w < 2 ^ 32 → FitsLatest latest → FitsStep (long_meaning latest w)
+long_fits : (latest : Option ℕ) (w : ℕ) → w < 2 ^ 32 → FitsLatest latest → FitsStep (type2_meaning latest w)
 long_fits None w f l = f
 long_fits (Some register) w f l =
     by_test (type_and_opcode_of w == 10) (Open register (w % 2 ^ 27)) _ l

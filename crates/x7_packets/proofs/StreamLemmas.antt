@@ -8,7 +8,7 @@ use Rattle.x7_words.specs.Word.{words_of_bytes}
 use Rattle.x7_packets.specs.SyncWord.{sync_bytes}
 use Rattle.x7_packets.specs.Packet.{Packet, ended, payload_steps}
 use Rattle.x7_packets.specs.Reading.{Place, Searching, Synced, Session, IsPlace, IsReading, tail_of}
-use Rattle.x7_packets.specs.Cutter.{Adds, AtPlace, CompletesNone, CutterState, CutterStandsFor, Cuts, ComesNearer, IsLent, IsNeed, IsRun, SkipsAll, LongerSession, Turns, AfterRun, TakesAsOneRun, between, calls_left, run_bytes}
+use Rattle.x7_packets.specs.Cutter.{Adds, AtPlace, CompletesNone, CutterState, CutterStandsFor, Cuts, ComesNearer, IsLent, IsNeed, IsRun, SkipsAll, LongerSession, ChangesMode, AfterRun, TakesAsOneRun, between, calls_left, run_bytes}
 use Rattle.x7_packets.specs.declared.header.Step.{Step}
 use Rattle.x7_packets.specs.declared.cutter.Cut.{Cut}
 use Rattle.x7_packets.specs.declared.cutter.Cut.TheVariants as cut
@@ -18,7 +18,7 @@ use Rattle.x7_packets.specs.declared.stream.Run.{Run}
 use Rattle.x7_packets.specs.declared.stream.Run.TheVariants as run
 use Rattle.x7_packets.specs.PacketsState.{PacketsState, piece_size}
 use Rattle.x7_packets.specs.Run.{FitsRun, IsNext, RunAdds, cut_of, is_last, bytes_of_run}
-use Rattle.x7_packets.specs.Stream.{GivesRun, GivesUp, IsFound, IsLastFound, IsRunOf, PacketsStandFor, ReadsOn, SameDue, Steps, ReadsAndGives, filled, not_given, with_tail}
+use Rattle.x7_packets.specs.Stream.{GivesRun, GivesUp, IsFoundRun, IsLastFound, IsRunOf, PacketsStandFor, TookBytes, SameDue, Steps, ReadsAndGives, filled, not_given, with_tail}
 
 -- how many reads there are at most until a word is whole
 abbrev pub turns_left : List ℕ → List ℕ → ℕ
@@ -76,7 +76,7 @@ adds_bare (cut.Body register bytes) t sessions (Synced gap packets tail) ns n ne
 record Same (c : Cut) (r : Run) : Type 0 where
   bytes : bytes_of_run r ≡ run_bytes c
   adds : (sessions new_sessions : List Session) (place new : Place) → Adds c sessions place new_sessions new → RunAdds r sessions place new_sessions new
-  turns : (old new : Mode) (place : Place) → Turns c old new place → Turns (cut_of r) old new place
+  turns : (old new : Mode) (place : Place) → ChangesMode c old new place → ChangesMode (cut_of r) old new place
   is : IsRun c → FitsRun r
   goes_on : is_last r ≡ false
 
@@ -84,7 +84,7 @@ skip_alike : (a b : Bor (List ℕ)) (sessions new_sessions : List Session) (plac
 skip_alike a b sessions ns (Searching gap) new e h = subst (λ t. (ns ≡ sessions) × ((new ≡ Searching (gap ++ t)) ⊎ ((prefix : List ℕ) × (gap ++ t ≡ prefix ++ sync_bytes) × (new ≡ Synced prefix [] [])))) (sym e) h
 skip_alike a b sessions ns (Synced gap packets tail) new e h = absurd h
 
-skip_turns : (a b : Bor (List ℕ)) (old new : Mode) (place : Place) → Turns (cut.Skip a) old new place → Turns (cut.Skip b) old new place
+skip_turns : (a b : Bor (List ℕ)) (old new : Mode) (place : Place) → ChangesMode (cut.Skip a) old new place → ChangesMode (cut.Skip b) old new place
 skip_turns a b old new (Searching gap) h = h
 skip_turns a b old new (Synced gap packets tail) h = h
 
@@ -116,7 +116,7 @@ Lends (cut.Skip bytes) all = bytes.now ≡ all
 Lends (cut.Body register bytes) all = bytes.now ≡ all
 Lends c all = ⊤
 
-same_run : (f : FoundRun) (c : Cut) (r : Run) (bytes kept : List ℕ) → IsFound f c → IsRunOf f bytes kept r → Lends c bytes → Same c r
+same_run : (f : FoundRun) (c : Cut) (r : Run) (bytes kept : List ℕ) → IsFoundRun f c → IsRunOf f bytes kept r → Lends c bytes → Same c r
 same_run FoundRun.Skip c r bytes kept i l h =
     let there : Lends (cut.Skip i.0) bytes = subst (λ x. Lends x bytes) i.1 h in
     rw (i.1, l.1) (same_skip i.0 l.0 (l.2 ∙ sym there))
@@ -130,7 +130,7 @@ same_run FoundRun.Tail c r bytes kept i l h = absurd i
 same_run FoundRun.End c r bytes kept i l h = absurd i
 
 -- the run of a cut lends the bytes that the cut lends
-same_lent : (f : FoundRun) (c : Cut) (r : Run) (bytes kept : List ℕ) (o n : CutterState) (left : ℕ) → IsFound f c → IsRunOf f bytes kept r → Lends c bytes → IsLent o left c → SkipsAll n left c → IsLent o left (cut_of r) × SkipsAll n left (cut_of r)
+same_lent : (f : FoundRun) (c : Cut) (r : Run) (bytes kept : List ℕ) (o n : CutterState) (left : ℕ) → IsFoundRun f c → IsRunOf f bytes kept r → Lends c bytes → IsLent o left c → SkipsAll n left c → IsLent o left (cut_of r) × SkipsAll n left (cut_of r)
 same_lent FoundRun.Skip c r bytes kept o n left i l h x y =
     let there : Lends (cut.Skip i.0) bytes = subst (λ t. Lends t bytes) i.1 h in
     rw l.1 (tt, subst (λ (t : List ℕ). (n.mode ≡ Mode.Due) ⊎ (length t ≡ left)) (there ∙ sym l.2) (subst (λ t. SkipsAll n left t) i.1 y))
@@ -145,7 +145,7 @@ same_lent FoundRun.Tail c r bytes kept o n left i l h x y = absurd i
 same_lent FoundRun.End c r bytes kept o n left i l h x y = absurd i
 
 -- a run that is found is no want of bytes
-found_needs_none : (f : FoundRun) (c : Cut) → IsFound f c → IsNeed c → ⊥
+found_needs_none : (f : FoundRun) (c : Cut) → IsFoundRun f c → IsNeed c → ⊥
 found_needs_none FoundRun.Skip c i n = let h : IsNeed (cut.Skip i.0) = subst IsNeed i.1 n in h
 found_needs_none FoundRun.Sync c i n = let h : IsNeed cut.Sync = subst IsNeed i n in h
 found_needs_none (FoundRun.Head w step) c i n = let h : IsNeed (cut.Head w step) = subst IsNeed i n in h
@@ -199,7 +199,7 @@ lends old new left taken count cut.Sync sessions ns place np l a k none j = tt
 lends old new left taken count (cut.Head w step) sessions ns place np l a k none j = tt
 lends old new left taken count (cut.Word register w) sessions ns place np l a k none j = tt
 
-same_due_turns : (c : Cut) (old now new : Mode) (place : Place) → SameDue old now → Turns c now new place → Turns c old new place
+same_due_turns : (c : Cut) (old now new : Mode) (place : Place) → SameDue old now → ChangesMode c now new place → ChangesMode c old new place
 same_due_turns cut.Need old now new place s t = (λ e. t.0 (s.0 e), t.1)
 same_due_turns (cut.Skip bytes) old now new (Searching gap) s t = t
 same_due_turns (cut.Skip bytes) old now new (Synced gap packets tail) s t = t
@@ -226,7 +226,7 @@ need_tells_none (cut.Head w step) n = absurd n
 need_tells_none (cut.Word register w) n = absurd n
 need_tells_none (cut.Body register bytes) n = absurd n
 
-need_turns : (c : Cut) (old new : Mode) (place : Place) → IsNeed c → Turns c old new place → (old ≡ Mode.Due → ⊥) × (new ≡ Mode.Due → ⊥)
+need_turns : (c : Cut) (old new : Mode) (place : Place) → IsNeed c → ChangesMode c old new place → (old ≡ Mode.Due → ⊥) × (new ≡ Mode.Due → ⊥)
 need_turns cut.Need old new place n t = t
 need_turns (cut.Skip bytes) old new place n t = absurd n
 need_turns cut.Sync old new place n t = absurd n
@@ -378,7 +378,7 @@ same_due : (old now new : Mode) → SameDue old now → (now ≡ Mode.Due → �
 same_due old now new s n m = (λ e. absurd (n (s.0 e)), λ e. absurd (m e))
 
 -- after a call that needs more bytes, and a read
-pub reads_on : (first old new : PacketsState) (more piece : List ℕ) (s : Steps old new false) → old.done ≡ false → ReadsOn first old more → ReadsOn first (filled new piece) (more ++ piece)
+pub reads_on : (first old new : PacketsState) (more piece : List ℕ) (s : Steps old new false) → old.done ≡ false → TookBytes first old more → TookBytes first (filled new piece) (more ++ piece)
 reads_on first old new more piece s on r = record {
   count = ap (λ t. t + length piece) (s.taken ∙ r.count) ∙ omega (arith, length-append more piece);
   stands = λ bytes given p.
@@ -389,7 +389,7 @@ reads_on first old new more piece s on r = record {
       );
 }
 
-pub reads_none : (p : PacketsState) → ReadsOn p p []
+pub reads_none : (p : PacketsState) → TookBytes p p []
 reads_none p = record {
   count = omega arith;
   stands = λ bytes given s. (subst (λ t. PacketsStandFor p t given) (sym (append-nil bytes)) s, (λ e. e, λ e. e));
@@ -414,7 +414,7 @@ not_last : (r : Run) → is_last r ≡ false → is_last r ≡ true → ⊥
 not_last r e f = let h : false ≡ true = sym e ∙ f in cc
 
 -- a run that tells nothing of the end; whether it is one shows in its kind alone
-kind_goes_on : (f : FoundRun) (c : Cut) (r : Run) (bytes kept : List ℕ) → IsFound f c → IsRunOf f bytes kept r → is_last r ≡ false
+kind_goes_on : (f : FoundRun) (c : Cut) (r : Run) (bytes kept : List ℕ) → IsFoundRun f c → IsRunOf f bytes kept r → is_last r ≡ false
 kind_goes_on FoundRun.Skip c r bytes kept i l = ap is_last l.1
 kind_goes_on FoundRun.Sync c r bytes kept i l = ap is_last l
 kind_goes_on (FoundRun.Head w step) c r bytes kept i l = ap is_last l
@@ -423,7 +423,7 @@ kind_goes_on (FoundRun.Body register) c r bytes kept i l = ap is_last l.1
 kind_goes_on FoundRun.Tail c r bytes kept i l = absurd i
 kind_goes_on FoundRun.End c r bytes kept i l = absurd i
 
-pub tells_run : (first old new : PacketsState) (more : List ℕ) (r : Run) (s : Steps old new true) → old.done ≡ false → old.failed ≡ false → IsLastFound new r → ReadsOn first old more → ReadsAndGives first new more r
+pub tells_run : (first old new : PacketsState) (more : List ℕ) (r : Run) (s : Steps old new true) → old.done ≡ false → old.failed ≡ false → IsLastFound new r → TookBytes first old more → ReadsAndGives first new more r
 tells_run first old new more r s on good last reads =
     let goes : is_last r ≡ false = kind_goes_on new.found s.run r new.bytes new.cutter.kept s.is last in
     record {
@@ -547,7 +547,7 @@ finishes p new r (x ∷ xs) k on none tail end last =
     rw (is, at.1) (tail_ends p at.0 on none (omega (arith, ap length k)) at.2)
 
 -- after a call that needs more bytes, and a read that gave none
-pub tells_end : (first old now new : PacketsState) (more : List ℕ) (r : Run) (s : Steps old now false) → old.done ≡ false → old.failed ≡ false → ReadsOn first old more
+pub tells_end : (first old now new : PacketsState) (more : List ℕ) (r : Run) (s : Steps old now false) → old.done ≡ false → old.failed ≡ false → TookBytes first old more
     → (now.cutter.kept ≢ [] → new ≡ record (filled now []) { found = FoundRun.Tail; done = true }) → (now.cutter.kept ≡ [] → new ≡ record (filled now []) { found = FoundRun.End; done = true })
     → IsLastFound new r → ReadsAndGives first new more r × (is_last r ≡ true)
 tells_end first old now new more r s on good reads tail end last =
@@ -603,7 +603,7 @@ gives_again p rest r off good end at =
     rw (same, at) (record { more = []; taken = sym (preceded_nil rest); tells = again p off good; end = λ _. end })
 
 -- a read that gave none, and then the end
-pub gives_end : (first old now mid new : PacketsState) (more piece : List ℕ) (rest rest_mid rest_now : Option (List ℕ)) (r : Run) (s : Steps old now false) → old.done ≡ false → old.failed ≡ false → ReadsOn first old more
+pub gives_end : (first old now mid new : PacketsState) (more piece : List ℕ) (rest rest_mid rest_now : Option (List ℕ)) (r : Run) (s : Steps old now false) → old.done ≡ false → old.failed ≡ false → TookBytes first old more
     → rest ≡ preceded more rest_mid → rest_mid ≡ preceded piece rest_now → mid ≡ filled now piece → piece ≡ [] → AtEnd rest_now
     → (mid.cutter.kept ≢ [] → new ≡ record mid { found = FoundRun.Tail; done = true }) → (mid.cutter.kept ≡ [] → new ≡ record mid { found = FoundRun.End; done = true })
     → IsLastFound new r → GivesRun first new rest rest_now r
@@ -619,7 +619,7 @@ gives_end first old now mid new more piece rest rest_mid rest_now r s on good re
     }
 
 -- a read that failed
-pub gives_up : (first old now new : PacketsState) (more : List ℕ) (s : Steps old now false) → old.done ≡ false → ReadsOn first old more → new ≡ record now { bytes = []; failed = true } → GivesUp first new
+pub gives_up : (first old now new : PacketsState) (more : List ℕ) (s : Steps old now false) → old.done ≡ false → TookBytes first old more → new ≡ record now { bytes = []; failed = true } → GivesUp first new
 gives_up first old now new more s on reads e = rw e (record {
   more = more;
   reads = record {

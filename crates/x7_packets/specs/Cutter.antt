@@ -94,15 +94,15 @@ Adds (Body register bytes) sessions (Synced gap packets tail) new_sessions new =
 abbrev pub IsNotDue : Mode → Type 0
 IsNotDue mode = mode ≡ Mode.Due → ⊥
 
--- how a run goes with what the cutter is at before and after it: the sync word is due just after it came, and given at once
-abbrev pub Turns : Cut → Mode → Mode → Place → Type 0
-Turns Need old new place = IsNotDue old × IsNotDue new
-Turns (Skip bytes) old new (Searching gap) = Unit {0}
-Turns (Skip bytes) old new (Synced gap packets tail) = new ≡ Mode.Due
-Turns Sync old new place = (old ≡ Mode.Due) × IsNotDue new
-Turns (Head w step) old new place = IsNotDue old × IsNotDue new
-Turns (Word register w) old new place = IsNotDue old × IsNotDue new
-Turns (Body register bytes) old new place = IsNotDue old × IsNotDue new
+-- how a run and what the cutter is at before and after it go together: the sync word is due just after it came, and given at once
+abbrev pub ChangesMode : Cut → Mode → Mode → Place → Type 0
+ChangesMode Need old new place = IsNotDue old × IsNotDue new
+ChangesMode (Skip bytes) old new (Searching gap) = Unit {0}
+ChangesMode (Skip bytes) old new (Synced gap packets tail) = new ≡ Mode.Due
+ChangesMode Sync old new place = (old ≡ Mode.Due) × IsNotDue new
+ChangesMode (Head w step) old new place = IsNotDue old × IsNotDue new
+ChangesMode (Word register w) old new place = IsNotDue old × IsNotDue new
+ChangesMode (Body register bytes) old new place = IsNotDue old × IsNotDue new
 
 -- what a run is apart from the reading: a header's step is no payload, a register has a number below 32, and a lent slice has whole words, one where the register is CMD
 abbrev pub IsRun : Cut → Type 0
@@ -177,7 +177,7 @@ pub record AfterRun (old new : CutterState) (bytes : List ℕ) (sessions : List 
   pub new_place : Place
   pub stands : CutterStandsFor new bytes new_sessions new_place
   pub adds : Adds run sessions place new_sessions new_place
-  pub turns : Turns run old.mode new.mode new_place
+  pub turns : ChangesMode run old.mode new.mode new_place
 
 -- the bytes `taken`, taken as one run, turn the old cutter into the new one, whatever bytes came before
 abbrev pub TakesAsOneRun : CutterState → CutterState → List ℕ → Cut → Type 0

@@ -1,15 +1,12 @@
 -- A slot of a flash's first sector, 32 bytes: a switch word, and packets that lead a device on (UG470, MultiBoot and fallback; that the first word switches a slot is this project's choice).
 use Rattle.std.specs.Prelude.{ℕ, List, ◌++◌}
 use Rattle.std.specs.List.{flat_map}
+pub use Rattle.x7_words.specs.Flash.{sector_bytes}
 use Rattle.x7_words.specs.Word.{bytes_of_word}
 use Rattle.x7_regs.specs.Register.{number_of}
 use Rattle.x7_regs.specs.declared.command.Command.TheVariants.{Desync, Iprog}
 use Rattle.x7_regs.specs.declared.register.Reg.TheVariants.{Wbstar}
 use Rattle.x7_packets.specs.PacketWords.{command, no_op, type1_write}
-
--- the number of bytes of a sector
-abbrev pub sector_bytes : ℕ
-sector_bytes = 65536
 
 -- how many slots fill a sector
 abbrev pub slot_count : ℕ

@@ -28,9 +28,9 @@ abbrev pub type2_count_of : ℕ → ℕ
 type2_count_of word = word % 2 ^ 27
 
 -- what a word in a header's place means as a type 2 header, where the nearest type 1 read or write named this register
-abbrev pub long_meaning : Option ℕ → ℕ → Step
-long_meaning None w = Bad w
-long_meaning (Some register) w =
+abbrev pub type2_meaning : Option ℕ → ℕ → Step
+type2_meaning None w = Bad w
+type2_meaning (Some register) w =
     if type_and_opcode_of w == type2_write_kind then Open register (type2_count_of w) else
     if type_and_opcode_of w == type2_read_kind then Read register (type2_count_of w) else Bad w
 
@@ -41,7 +41,7 @@ meaning latest w =
     if type_and_opcode_of w == no_op_kind then Nop else
     if type_and_opcode_of w == type1_write_kind then Open (register_of w) (type1_count_of w) else
     if type_and_opcode_of w == type1_read_kind then Read (register_of w) (type1_count_of w) else
-    long_meaning latest w
+    type2_meaning latest w
 
 -- a header word with its meaning, and the words of its payload
 pub record Packet : Type 0 where

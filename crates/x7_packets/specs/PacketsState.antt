@@ -7,12 +7,18 @@ use Rattle.x7_packets.specs.FoundRun.{FoundRun}
 abbrev pub piece_size : ℕ
 piece_size = 65536
 
--- a reader of packets: its cutter, the bytes read that the cutter has not taken, what the last run is and its bytes, whether that was the tail or the end, whether a read failed, and how many bytes were read
+-- what a reader of packets keeps
 pub record PacketsState : Type 0 where
   pub cutter : CutterState
+  -- the bytes that were read and that the cutter has not taken
   pub left : List ℕ
+  -- what the last run is
   pub found : FoundRun
+  -- the bytes of the last run
   pub bytes : List ℕ
+  -- whether the last run was the tail or the end
   pub done : Bool
+  -- whether a read failed
   pub failed : Bool
+  -- how many bytes were read
   pub taken : ℕ

@@ -1,7 +1,7 @@
 -- The runs of a stream, as they come one after another (this project's choice).
 use Rattle.std.specs.Prelude.{◌≡◌, ℕ, ◌<◌, List, [], ◌++◌, length, Bool, true, false}
 use Rattle.x7_packets.specs.Reading.{Place, Searching, Synced, Session, IsReading}
-use Rattle.x7_packets.specs.Cutter.{Adds, IsRun, Turns, run_bytes}
+use Rattle.x7_packets.specs.Cutter.{Adds, IsRun, ChangesMode, run_bytes}
 use Rattle.x7_packets.specs.declared.cutter.Cut.{Cut}
 use Rattle.x7_packets.specs.declared.cutter.Cut.TheVariants as cut
 use Rattle.x7_packets.specs.Mode.{Mode}
@@ -50,5 +50,5 @@ pub record IsNext (bytes : List ℕ) (old : Mode) (r : Run) (new : Mode) : Type 
   pub before : IsReading bytes sessions place
   pub after : IsReading (bytes ++ bytes_of_run r) new_sessions new_place
   pub adds : RunAdds r sessions place new_sessions new_place
-  pub turns : Turns (cut_of r) old new new_place
+  pub turns : ChangesMode (cut_of r) old new new_place
   pub is : FitsRun r

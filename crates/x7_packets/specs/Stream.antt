@@ -38,13 +38,13 @@ pub record PacketsStandFor (p : PacketsState) (bytes given : List ℕ) : Type 0 
   pub count : p.taken ≡ length bytes
 
 -- what a run is that was cut
-abbrev pub IsFound : FoundRun → Cut → Type 0
-IsFound FoundRun.Skip c = (bytes : Bor (List ℕ)) × (c ≡ cut.Skip bytes)
-IsFound FoundRun.Sync c = c ≡ cut.Sync
-IsFound (FoundRun.Head w step) c = c ≡ cut.Head w step
-IsFound (FoundRun.Word register w) c = c ≡ cut.Word register w
-IsFound (FoundRun.Body register) c = (bytes : Bor (List ℕ)) × (c ≡ cut.Body register bytes)
-IsFound f c = ⊥
+abbrev pub IsFoundRun : FoundRun → Cut → Type 0
+IsFoundRun FoundRun.Skip c = (bytes : Bor (List ℕ)) × (c ≡ cut.Skip bytes)
+IsFoundRun FoundRun.Sync c = c ≡ cut.Sync
+IsFoundRun (FoundRun.Head w step) c = c ≡ cut.Head w step
+IsFoundRun (FoundRun.Word register w) c = c ≡ cut.Word register w
+IsFoundRun (FoundRun.Body register) c = (bytes : Bor (List ℕ)) × (c ≡ cut.Body register bytes)
+IsFoundRun f c = ⊥
 
 -- the run that was found, where these are its bytes in the buffer, and these the ones that the cutter keeps
 abbrev pub IsRunOf : FoundRun → List ℕ → List ℕ → Run → Type 0
@@ -62,7 +62,7 @@ IsLastFound p r = IsRunOf p.found p.bytes p.cutter.kept r
 
 -- a run was cut of the bytes that are left, and is what was found; or the cutter needs more bytes
 abbrev pub IsCutOff : Bool → FoundRun → Cut → Type 0
-IsCutOff true f c = IsFound f c
+IsCutOff true f c = IsFoundRun f c
 IsCutOff false f c = IsNeed c
 
 -- a reader before and after one call of the cutter on the bytes that are left
@@ -96,7 +96,7 @@ abbrev pub SameDue : Mode → Mode → Type 0
 SameDue old new = (old ≡ Mode.Due) ↔ (new ≡ Mode.Due)
 
 -- the reader took more bytes of the input, and gave none
-pub record ReadsOn (old new : PacketsState) (more : List ℕ) : Type 0 where
+pub record TookBytes (old new : PacketsState) (more : List ℕ) : Type 0 where
   pub count : new.taken ≡ old.taken + length more
   pub stands : (bytes given : List ℕ) → PacketsStandFor old bytes given → PacketsStandFor new (bytes ++ more) given × SameDue old.cutter.mode new.cutter.mode
 
@@ -104,7 +104,7 @@ pub record ReadsOn (old new : PacketsState) (more : List ℕ) : Type 0 where
 -- after what was read; payload words and a gap's bytes among them are lent at once.
 pub record LendsRun (old new : PacketsState) (more : List ℕ) (r : Run) : Type 0 where
   pub at : PacketsState
-  pub reads : ReadsOn old at more
+  pub reads : TookBytes old at more
   pub bytes : at.cutter.kept ++ at.left ≡ bytes_of_run r ++ new.left
   pub lent : IsLent at.cutter (length at.left) (cut_of r)
   pub skips : SkipsAll new.cutter (length at.left) (cut_of r)
@@ -141,7 +141,7 @@ pub record CallsOn {T : Type 0} (p : PacketsState) (old new : InputsState) (resu
 -- the call failed: what it took before that still counts
 pub record GivesUp (old new : PacketsState) : Type 0 where
   pub more : List ℕ
-  pub reads : ReadsOn old new more
+  pub reads : TookBytes old new more
   pub failed : new.failed ≡ true
 
 -- a call gave a run, or failed

@@ -176,7 +176,7 @@ impl Cutter {
         }
     }
 
-    /// How many of the words that come next are no-ops of a session, one after the other. To take each of them, as a word
+    /// How many of the words that come next are no-ops of a session, one after the other; there may be more. To take each of them, as a word
     /// in a header's place, leaves the cutter as it is, and no access is entered.
     #[inline(always)]
     pub fn nop_count(&self, rest: &[u8]) -> usize
@@ -214,8 +214,9 @@ impl Cutter {
         Some((register, w))
     }
 
-    /// Takes the packet that comes next, where it is a write of one to sixteen words to a register other than CMD, its header's
-    /// reserved bits 0, and `rest` has 68 bytes at least. Gives its register and how many words it has.
+    /// Takes the packet that comes next, where it is a short write to a register other than CMD, of one word at least, its
+    /// header's reserved bits 0, and `rest` is long enough for the longest short write. Gives its register and how many words
+    /// it has.
     #[inline(always)]
     pub fn take_short_write(&mut self, rest: &[u8]) -> Option<(u8, usize)>
         ensures some { IfSome result (λ write. WritesFew self.old self.new rest.now write.0 write.1) }
@@ -243,8 +244,8 @@ impl Cutter {
         Some((register, count as usize))
     }
 
-    /// Takes a gap that comes next, and gives the sync word after it, where the sync word is among the first 32 bytes of `rest`,
-    /// which has 36 at least, and begins there. Gives how many bytes of the gap stand in `rest`.
+    /// Takes a gap that comes next, and gives the sync word after it, where both are a short gap's and begin in `rest`, which is
+    /// long enough to see that. Gives how many bytes of the gap stand in `rest`.
     #[inline(always)]
     pub fn take_gap(&mut self, rest: &[u8]) -> Option<usize>
         ensures some { IfSome result (λ count. EndsGap self.old self.new rest.now count) }
@@ -280,7 +281,7 @@ impl Cutter {
     fn is_at_header(&self) -> bool
         ensures mode { IsTrue result → self.now.mode ≡ Mode.Synced }
         ensures kept { IsTrue result → self.now.kept ≡ [] }
-        ensures due { IsTrue result → self.now.machine.due ≡ 0 }
+        ensures none_due { IsTrue result → self.now.machine.due ≡ 0 }
     {
         let Stage::Synced = self.stage else {
             return false;
@@ -320,7 +321,7 @@ impl Cutter {
     #[inline(never)]
     fn skip<'p>(&mut self, rest: &'p [u8], at: &mut usize) -> Cut<'p>
         requires searching { self.old.mode ≡ Mode.Searching }
-        requires fits { at.old + length rest.now < 2 ^ 64 }
+        requires in_range { at.old + length rest.now < 2 ^ 64 }
         ensures { MovesPast self.old self.new rest.now at.old at.new result }
     {
         if rest.is_empty() {
@@ -341,7 +342,7 @@ impl Cutter {
     #[inline(always)]
     fn take<'p>(&mut self, rest: &'p [u8], at: &mut usize) -> Cut<'p>
         requires synced { self.old.mode ≡ Mode.Synced }
-        requires fits { at.old + length rest.now < 2 ^ 64 }
+        requires in_range { at.old + length rest.now < 2 ^ 64 }
         ensures { MovesPast self.old self.new rest.now at.old at.new result }
     {
         if self.count == 0 {
@@ -365,7 +366,7 @@ impl Cutter {
     #[inline(never)]
     fn hold(&mut self, rest: &[u8])
         requires synced { self.old.mode ≡ Mode.Synced }
-        requires few { length self.old.kept + length rest.now < 4 }
+        requires short { length self.old.kept + length rest.now < 4 }
         ensures same { self.new ≡ record self.old { kept = self.old.kept ++ rest.now } }
         ensures adds { TakesAsOneRun self.old self.new rest.now Cut.Need }
     {
@@ -400,7 +401,7 @@ impl Cutter {
         requires none_kept { self.old.kept ≡ [] }
         requires whole { length body.now ≡ 4 * (length body.now / 4) }
         requires some { 0 < length body.now }
-        requires due { length body.now / 4 ≤ self.old.machine.due }
+        requires within_due { length body.now / 4 ≤ self.old.machine.due }
         requires one { self.old.machine.register ≡ number_of Cmd → length body.now ≡ 4 }
         ensures body { IsBody self.old.machine.register body.now result }
         ensures ends { EndsWithWord self.new result }

@@ -96,7 +96,7 @@ impl Machine {
     pub(crate) fn pass(&mut self, body: &[u8]) -> bool
         requires whole { length body.now ≡ 4 * (length body.now / 4) }
         requires some { 0 < length body.now }
-        requires due { length body.now / 4 ≤ self.old.due }
+        requires within_due { length body.now / 4 ≤ self.old.due }
         requires one { self.old.register ≡ number_of Cmd → length body.now ≡ 4 }
         ensures ends { result ≡ ends_by (payload_steps self.old.register (words_of_bytes body.now)) }
         ensures register { self.old.register < 32 }

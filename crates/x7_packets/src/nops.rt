@@ -60,7 +60,7 @@ fn count_blocks(bytes: &[u8], w: u32) -> usize
     blocks.len()
 }
 
-/// How many of the first words are `w`, one after the other.
+/// How many of the first words are `w`, one after the other. That the next one isn't is not promised.
 #[inline(always)]
 pub(crate) fn count_equal(bytes: &[u8], w: u32) -> usize
     ensures within { 4 * result ≤ length bytes.now }

@@ -5,7 +5,7 @@ ghost use Rattle.x7_packets.specs.Cutter.{IsNeed};
 ghost use Rattle.x7_packets.specs.Mode.{Mode};
 ghost use Rattle.x7_packets.specs.FoundRun.{FoundRun, found_of};
 ghost use Rattle.x7_packets.specs.PacketsState.{PacketsState, piece_size};
-ghost use Rattle.x7_packets.specs.Stream.{CallsOn, Fills, GivesRun, GivesUp, IsFound, IsLastFound, MayCall, PacketsStandFor, Steps};
+ghost use Rattle.x7_packets.specs.Stream.{CallsOn, Fills, GivesRun, GivesUp, IsFoundRun, IsLastFound, MayCall, PacketsStandFor, Steps};
 
 use crate::cutter::{Cut, Cutter};
 use crate::header::Step;
@@ -50,7 +50,7 @@ pub(crate) enum Last {
 
 /// The kind of the run that the cutter gave, without its bytes; `None` where the cutter needs more of them.
 fn last_of(cut: Cut) -> Option<Last>
-    ensures some { IfSome result (λ last. IsFound (found_of last) cut.entry) }
+    ensures some { IfSome result (λ last. IsFoundRun (found_of last) cut.entry) }
     ensures none { IfNone result (IsNeed cut.entry) }
 {
     match cut {
@@ -67,7 +67,7 @@ fn last_of(cut: Cut) -> Option<Last>
 fn buffer_of(alloc: Global, first: &[u8]) -> Result<Vec<u8>, NoMemory>
     requires { length first.now ≤ piece_size }
     ensures items { IfOk result (λ buffer. take (length first.now) buffer.items ≡ first.now) }
-    ensures len { IfOk result (λ buffer. vec_len buffer ≡ 65536) }
+    ensures len { IfOk result (λ buffer. vec_len buffer ≡ piece_size) }
 {
     let mut buffer = Vec::from_slice(alloc, first)?;
     buffer.resize(PIECE, 0)?;

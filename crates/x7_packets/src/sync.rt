@@ -1,5 +1,6 @@
 //! The search for the sync word at any byte place (UG470, sync word).
 ghost use Rattle.std.specs.Prelude.{◌≡◌, ℕ, List, [], ◌∷◌, ◌++◌, ◌<◌, ◌≤◌, ◌+◌, ◌↔◌, length, IsTrue, IfSome, if◌then◌else◌};
+ghost use Rattle.x7_packets.specs.AtOnce.{longest_short_gap};
 ghost use Rattle.x7_packets.specs.SyncWord.{EndsWithSync, HasNoSync, sync_bytes};
 ghost use Rattle.x7_packets.specs.Matching.{IsClear, IsFirstSync, MatcherStandsFor, Searched, places_reach};
 
@@ -17,12 +18,13 @@ fn is_sync(bytes: [u8; 4]) -> bool
     bytes[0] == 0xAA && bytes[1] == 0x99 && bytes[2] == 0x55 && bytes[3] == 0x66
 }
 
-/// Where the sync word first stands among the first 32 bytes, if it does.
+/// Where the sync word first stands among the first 32 bytes, if it is seen there. `None` says nothing: the search at length
+/// follows.
 #[inline(always)]
 pub(crate) fn near_sync(bytes: &[u8]) -> Option<usize>
     requires { places_reach ≤ length bytes.now }
     ensures first { IfSome result (λ at. IsFirstSync bytes.now at) }
-    ensures near { IfSome result (λ at. at + 4 ≤ 32) }
+    ensures near { IfSome result (λ at. at + 4 ≤ longest_short_gap) }
 {
     match first_of_places(bytes, 0) {
         Some(at) if at < 29 => Some(at),

@@ -2,7 +2,7 @@ use Rattle.std.proofs.Common.{◌≡◌, Bool, true, false, [], ◌++◌, length
 use Rattle.x7_words.specs.Input.{preceded}
 use Rattle.x7_words.proofs.InputLemmas.{preceded_nil, preceded_preceded, stays_at, stays_on}
 use Rattle.x7_packets.specs.PacketsState.{PacketsState}
-use Rattle.x7_packets.specs.Stream.{ReadsOn, Steps}
+use Rattle.x7_packets.specs.Stream.{TookBytes, Steps}
 use Rattle.x7_packets.proofs.StreamLemmas.{gives_again, gives_end, gives_up, reads_none, reads_on, room_on, run_is_not_last, tells_run, turns_most}
 use Rattle.x7_packets.proofs.stream.Packets.advance.Goals as goal
 
@@ -66,7 +66,7 @@ loop-self-preserved g c =
       reads = (
         i.reads.0 ++ f.piece,
         i.reads.1 ∙ ap (preceded i.reads.0) f.taken ∙ preceded_preceded i.reads.0 f.piece (g.I.Inputs.state c.fill.new.inputs).rest,
-        subst (λ (p : PacketsState). ReadsOn c.args.self.now p (i.reads.0 ++ f.piece)) (sym f.is) (reads_on c.args.self.now c.loop-self.self c.step.new.self i.reads.0 f.piece s i.on i.reads.2),
+        subst (λ (p : PacketsState). TookBytes c.args.self.now p (i.reads.0 ++ f.piece)) (sym f.is) (reads_on c.args.self.now c.loop-self.self c.step.new.self i.reads.0 f.piece s i.on i.reads.2),
       );
       room = room_on c.loop-self.self c.step.new.self c.fill.new.self s f.piece (c.args.self.now.taken + 589824) f.is some f.most i.room;
     }
