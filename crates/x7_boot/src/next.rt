@@ -11,8 +11,11 @@ ghost use Rattle.x7_boot.specs.declared.next.Next.TheVariants as next;
 
 use crate::attempt::Ending;
 use crate::boots::BootEnd;
-use x7_engine::{Device, Kept};
+use x7_engine::{Device, Kept, is_a_fallback};
 use x7_regs::Kind;
+
+/// The bit of CTL0 that keeps a failed attempt from falling back (UG470, control register 0).
+const CONFIG_FALLBACK: u32 = 10;
 
 /// The most attempts of a boot that end by IPROG.
 const ATTEMPTS: u32 = 16;
@@ -35,7 +38,7 @@ pub enum Next {
 fn forbids_fallback(ctl0: u32) -> bool
     ensures { result ≡ forbids_fallback ctl0 }
 {
-    ctl0 / 1_024 % 2 == 1
+    ctl0 >> CONFIG_FALLBACK & 1 == 1
 }
 
 /// The place in the flash, in bytes, that WBSTAR names, for a part whose start addresses count steps of `unit` bytes.
@@ -43,19 +46,9 @@ fn start_address(unit: u32, wbstar: u32) -> u32
     ensures { result ≡ start_address unit wbstar }
 {
     if unit == 256 {
-        256 * (wbstar % 16_777_216)
+        256 * (wbstar % (1 << 24))
     } else {
-        wbstar % 536_870_912
-    }
-}
-
-/// Whether an attempt of this kind is a fallback.
-pub(crate) fn is_a_fallback(kind: Kind) -> bool
-    ensures { result ≡ is_fallback kind }
-{
-    match kind {
-        Kind::Fallback => true,
-        _ => false,
+        wbstar % (1 << 29)
     }
 }
 

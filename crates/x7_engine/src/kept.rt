@@ -1,4 +1,6 @@
 //! What a device keeps over a reset.
+ghost use Rattle.std.specs.Prelude.{◌≡◌};
+ghost use Rattle.x7_engine.specs.Kept.{is_fallback};
 
 use x7_regs::{Attempt, Kind};
 
@@ -25,3 +27,13 @@ pub const ON_THE_BENCH: Kept = Kept {
     kind: Kind::Bench,
     before: None,
 };
+
+/// Whether an attempt is a fallback, which has no watchdog and ignores IPROG.
+pub fn is_a_fallback(kind: Kind) -> bool
+    ensures { result ≡ is_fallback kind }
+{
+    match kind {
+        Kind::Fallback => true,
+        _ => false,
+    }
+}

@@ -7,7 +7,6 @@ ghost use Rattle.x7_regs.specs.Register.{number_of};
 ghost use Rattle.x7_flow.specs.Settings.{AreSettingsAfter};
 ghost use Rattle.x7_flow.specs.Standing.{FramesFit, FramesStandFor, word_to};
 ghost use Rattle.x7_flow.specs.Words.{TakesWords, words_before};
-ghost use Rattle.x7_engine.specs.Kept.{is_fallback};
 ghost use Rattle.x7_crc.specs.OpenWrites.{executed_after};
 ghost use Rattle.x7_engine.specs.Ready.{AreReady, LeavesBytes, LeavesDue, RestsAtStop};
 ghost use Rattle.x7_engine.specs.Standing.{counted_in, due_count};
@@ -22,7 +21,7 @@ use crate::clock::Clock;
 use crate::controls::{Controls, is_dec, masked};
 use crate::due::Due;
 use crate::fault::Fault;
-use crate::kept::Kept;
+use crate::kept::{Kept, is_a_fallback};
 use crate::progress::{Progress, is_same_idcode};
 use crate::stop::Stop;
 use crate::target::{PlainNumber, Target};
@@ -54,16 +53,6 @@ fn taken_of(count: usize, refused: Option<RunFault>) -> usize
     match refused {
         Some(_) => count.saturating_sub(1),
         None => count,
-    }
-}
-
-/// Whether an attempt is a fallback, which has no watchdog and ignores IPROG.
-fn is_a_fallback(kind: Kind) -> bool
-    ensures { result ≡ is_fallback kind }
-{
-    match kind {
-        Kind::Fallback => true,
-        _ => false,
     }
 }
 

@@ -108,7 +108,7 @@ is_rank m rank is h =
     let n : length (frames_seen m) ≡ length m.numbers.items = length-map m.numbers.items (stored_frame m.width m.words.items) in
     let low : get_or m.numbers.items rank 0 < m.stored = is.below rank (omega arith) in
     let few = stored_few m is in
-    let limit = is.few in
+    let limit = is.ranks in
     let all : m.width * m.stored ≤ 255 * 131073 = mul-le-mul is.narrow (let s : m.stored ≤ 131073 = omega arith in s) in
     record { inside = omega arith; below = low; end = frame_end m.width m.stored (get_or m.numbers.items rank 0) low; small = omega arith }
 
@@ -150,13 +150,13 @@ pub over_room : (m p : Inside) (rank : ℕ) (new : List ℕ) → HasRoom m → I
     p.words.items ≡ words_with_frame (m.width * get_or m.numbers.items rank 0) new m.words.items → HasRoom p
 over_room m p rank new is r own e ew es en cap f =
     let number = get_or m.numbers.items rank 0 in
-    let some = is.some in let narrow = is.narrow in let few = is.few in let room = is.room in let whole = is.whole in let end = r.end in
+    let some = is.some in let narrow = is.narrow in let few = is.ranks in let room = is.room in let whole = is.whole in let end = r.end in
     let low = r.below in
     let long : length p.words.items ≡ length m.words.items = ap length f ∙ over_length (m.width * number) m.words.items new (omega arith) in
     record {
       some = omega arith;
       narrow = omega arith;
-      few = rw en few;
+      ranks = rw en few;
       room = rw (ew, en) (omega arith);
       whole = rw (ew, es) (long ∙ whole);
       zeros = rw (ew, f) (over_other m.width m.stored number 0 m.words.items new low (omega arith) (λ z. omega arith) whole e ∙ is.zeros);
@@ -227,7 +227,7 @@ pub first_fields : (m p : Inside) (rank : ℕ) (new : List ℕ) → HasRoom m �
     p.width ≡ m.width → p.stored ≡ m.stored + 1 → p.numbers.items ≡ set m.numbers.items rank m.stored → vec_capacity m.words ≤ vec_capacity p.words →
     p.words.items ≡ m.words.items ++ new → HasRoom p
 first_fields m p rank new is r none e ew es en cap f =
-    let some = is.some in let narrow = is.narrow in let few = is.few in let room = is.room in let whole = is.whole in let used = is.used in
+    let some = is.some in let narrow = is.narrow in let few = is.ranks in let room = is.room in let whole = is.whole in let used = is.used in
     let long = length-set m.numbers.items rank m.stored in
     let more : length p.words.items ≡ length m.words.items + length new = ap length f ∙ length-append m.words.items new in
     let next : m.width * suc m.stored ≡ m.width * m.stored + m.width = mul-suc m.width m.stored in
@@ -238,7 +238,7 @@ first_fields m p rank new is r none e ew es en cap f =
     record {
       some = omega arith;
       narrow = omega arith;
-      few = rw (en, long) few;
+      ranks = rw (en, long) few;
       room = rw (ew, en, long) (omega arith);
       whole = rw (ew, es) (more ∙ (omega arith));
       zeros = rw (ew, f) (frame_before m.width m.stored 0 m.words.items new (omega arith) whole ∙ is.zeros);

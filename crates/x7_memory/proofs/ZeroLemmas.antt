@@ -81,7 +81,7 @@ none_room p width count some narrow few ew es e f room =
     record {
       some = omega arith;
       narrow = omega arith;
-      few = omega arith;
+      ranks = omega arith;
       room = rw (ew, n) room;
       whole = rw (ew, es) (l ∙ (omega arith));
       zeros = rw (ew, e, mul-zero width) (take_all width (replicate width 0) (let k = length-replicate {A = ℕ} width 0 in omega arith));

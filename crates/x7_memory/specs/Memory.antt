@@ -25,7 +25,7 @@ AreDistinct numbers =
 pub record HasRoom (m : Inside) : Type 0 where
   pub some : 0 < m.width
   pub narrow : m.width ≤ 255
-  pub few : length m.numbers.items ≤ 131072
+  pub ranks : length m.numbers.items ≤ 131072
   pub room : m.width * (length m.numbers.items + 1) ≤ vec_capacity m.words
   pub whole : length m.words.items ≡ m.width * m.stored
   pub zeros : stored_frame m.width m.words.items 0 ≡ replicate m.width 0

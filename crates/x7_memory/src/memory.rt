@@ -64,7 +64,7 @@ impl Memory {
         Some(self.frame_of(rank as usize))
     }
 
-    /// The frame at the address of a rank, none from the number of all on.
+    /// The frame at the address of a rank, none for a rank that the part doesn't have.
     pub fn frame_at_rank(&self, rank: u32) -> Option<&[u32]>
         ensures found { IfSome result (λ words. (part : PartData) → AreFramesOf part self.now → frame_at part self.now (slice_index (addresses_in part) rank) ≡ Some words.now) }
         ensures width { IfSome result (λ words. (part : PartData) → AreFramesOf part self.now → length words.now ≡ frame_words part) }

@@ -25,6 +25,10 @@ code_of Ltimer = 17
 code_of BspiRead = 18
 code_of FallEdge = 19
 
+-- how many bytes the name of a command has at most
+abbrev pub command_name_limit : ℕ
+command_name_limit = 9
+
 -- the name of a command
 abbrev pub command_name_of : Command → List ℕ
 command_name_of Null = codes "NULL"

@@ -15,6 +15,10 @@ pub record IsCommandName (text : List ℕ) (code : ℕ) : Type 0 where
   pub name : text ≡ command_name_of command
   pub code_is : code ≡ code_of command
 
+-- how many bytes a name has at least
+abbrev pub name_least : ℕ
+name_least = 2
+
 -- the place of a name in a table of 64, which no two registers and no two commands share
 abbrev pub place_of : List ℕ → ℕ
 place_of name = (get_or name 0 0 + 13 * get_or name 1 0 + 3 * get_or name (length name - 1) 0 + 2 * length name) % 64

@@ -50,6 +50,10 @@ reg_with n =
     if n == 24 then Some Ctl1 else
     if n == 31 then Some Bspi else None
 
+-- how many bytes the name of a register number has at most
+abbrev pub reg_name_limit : ℕ
+reg_name_limit = 7
+
 -- the names by number, from 0 to 31; a number without a register is `R` and its two digits (this project's choice)
 abbrev pub reg_names : List (List ℕ)
 reg_names =

@@ -1,5 +1,5 @@
 //! The word of the boot history status register (UG470, boot history status register).
-ghost use Rattle.std.specs.Prelude.{◌≡◌, ◌<◌};
+ghost use Rattle.std.specs.Prelude.{◌≡◌, ◌<◌, ◌≤◌, ◌^◌};
 ghost use Rattle.x7_regs.specs.BootStatus.{attempt_bits_of, before_bits_of, boot_status_of, cause_bits_of, kind_bits_of};
 
 /// What began a boot attempt.
@@ -42,7 +42,7 @@ pub struct Attempt {
 #[tactic(auto, unfolding(crate::specs::Status::flag_of))]
 fn kind_bits(kind: Kind, ignored: bool) -> u32
     ensures value { result ≡ kind_bits_of kind ignored }
-    ensures fits { result < 8 }
+    ensures fits { result < 2 ^ 3 }
 {
     let iprog = if ignored { 0b100 } else { 0 };
     match kind {
@@ -56,7 +56,7 @@ fn kind_bits(kind: Kind, ignored: bool) -> u32
 /// The bit of a failure's cause, 0 where there is none.
 fn cause_bits(cause: Option<Cause>) -> u32
     ensures value { result ≡ cause_bits_of cause }
-    ensures fits { result < 65 }
+    ensures fits { result ≤ 2 ^ 6 }
 {
     match cause {
         None => 0,
@@ -70,7 +70,7 @@ fn cause_bits(cause: Option<Cause>) -> u32
 /// The bits of an attempt.
 fn attempt_bits(attempt: Attempt) -> u32
     ensures value { result ≡ attempt_bits_of attempt }
-    ensures fits { result < 128 }
+    ensures fits { result < 2 ^ 7 }
 {
     match attempt.kind {
         Kind::Bench => 0,
@@ -81,7 +81,7 @@ fn attempt_bits(attempt: Attempt) -> u32
 /// The bits of the attempt before, 0 where there is none.
 fn before_bits(before: Option<Attempt>) -> u32
     ensures value { result ≡ before_bits_of before }
-    ensures fits { result < 128 }
+    ensures fits { result < 2 ^ 7 }
 {
     match before {
         Some(attempt) => attempt_bits(attempt),
@@ -96,6 +96,6 @@ pub fn boot_word(latest: Attempt, before: Option<Attempt>) -> u32
 {
     match latest.kind {
         Kind::Bench => 0,
-        _ => attempt_bits(latest) + before_bits(before) * 0x100,
+        _ => attempt_bits(latest) + before_bits(before) * (1 << 8),
     }
 }

@@ -1,7 +1,7 @@
 //! Names of registers and commands, as UG470 spells them.
 ghost use Rattle.std.specs.Prelude.{◌≡◌, ◌<◌, ◌≤◌, length};
-ghost use Rattle.x7_regs.specs.Command.{command_name_of};
-ghost use Rattle.x7_regs.specs.Register.{reg_name};
+ghost use Rattle.x7_regs.specs.Command.{command_name_limit, command_name_of};
+ghost use Rattle.x7_regs.specs.Register.{reg_name, reg_name_limit};
 
 use crate::command::Command;
 use std::marker::Model;
@@ -14,19 +14,20 @@ pub struct RegName {
 
 impl Model for RegName {
     ghost use Rattle.std.specs.Prelude.{List, ℕ, ◌≤◌, length};
+    ghost use Rattle.x7_regs.specs.Register.{reg_name_limit};
 
     ghost Value = { List ℕ };
 
     ghost view = { λ n. n.text.now };
 
-    ghost invariant = { λ n. length n.text.now ≤ 7 };
+    ghost invariant = { λ n. length n.text.now ≤ reg_name_limit };
 }
 
 impl RegName {
     /// The bytes of the name.
     pub fn bytes(&self) -> &[u8]
         ensures value { result.now ≡ self.now }
-        ensures short { length result.now ≤ 7 }
+        ensures short { length result.now ≤ reg_name_limit }
     {
         self.text
     }
@@ -40,19 +41,20 @@ pub struct CommandName {
 
 impl Model for CommandName {
     ghost use Rattle.std.specs.Prelude.{List, ℕ, ◌≤◌, length};
+    ghost use Rattle.x7_regs.specs.Command.{command_name_limit};
 
     ghost Value = { List ℕ };
 
     ghost view = { λ n. n.text.now };
 
-    ghost invariant = { λ n. length n.text.now ≤ 9 };
+    ghost invariant = { λ n. length n.text.now ≤ command_name_limit };
 }
 
 impl CommandName {
     /// The bytes of the name.
     pub fn bytes(&self) -> &[u8]
         ensures value { result.now ≡ self.now }
-        ensures short { length result.now ≤ 9 }
+        ensures short { length result.now ≤ command_name_limit }
     {
         self.text
     }

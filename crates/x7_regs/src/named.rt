@@ -1,7 +1,7 @@
 //! Names of registers and commands read back.
 ghost use Rattle.std.specs.Prelude.{◌≡◌, ◌≢◌, ◌≤◌, ◌<◌, ℕ, length, slice_index, IfSome, IfNone};
-ghost use Rattle.x7_regs.specs.Command.{command_name_of};
-ghost use Rattle.x7_regs.specs.Named.{IsCommandName, IsRegName, place_of};
+ghost use Rattle.x7_regs.specs.Command.{command_name_limit, command_name_of};
+ghost use Rattle.x7_regs.specs.Named.{IsCommandName, IsRegName, name_least, place_of};
 ghost use Rattle.x7_regs.specs.Register.{reg_name};
 ghost use Rattle.x7_regs.specs.declared.command.Command.{Command};
 
@@ -29,8 +29,8 @@ const COMMANDS: [u8; 64] = [
 
 /// What a table has at the place of a name.
 fn at_place(table: &[u8; 64], name: &[u8]) -> u8
-    requires least { 2 ≤ length name.now }
-    requires most { length name.now ≤ 9 }
+    requires least { name_least ≤ length name.now }
+    requires limit { length name.now ≤ command_name_limit }
     ensures { result ≡ slice_index table.now (place_of name.now) }
 {
     let (first, second) = (usize::from(name[0]), usize::from(name[1]));
@@ -40,8 +40,8 @@ fn at_place(table: &[u8; 64], name: &[u8]) -> u8
 
 /// The register number that the table has for a name.
 fn register_at(name: &[u8]) -> u8
-    requires least { 2 ≤ length name.now }
-    requires most { length name.now ≤ 9 }
+    requires least { name_least ≤ length name.now }
+    requires limit { length name.now ≤ command_name_limit }
     ensures value { result ≡ slice_index REGISTERS (place_of name.now) }
     ensures below { result < 32 }
 {

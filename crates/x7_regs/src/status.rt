@@ -100,12 +100,12 @@ pub fn stat_word(p: &StatParts) -> u32
         + flag(p.gts, 5)
         + flag(p.gwe, 6)
         + flag(p.ghigh, 7)
-        + u32::from(p.mode) * 0x100
-        + 0x800
+        + u32::from(p.mode) * (1 << 8)
+        + (1 << 11)
         + flag(p.init_b, 12)
         + flag(p.done, 13)
         + flag(p.done, 14)
         + flag(p.id_error, 15)
-        + startup_state(p.phase) * 0x4_0000
-        + u32::from(p.bus_width) * 0x200_0000
+        + startup_state(p.phase) * (1 << 18)
+        + u32::from(p.bus_width) * (1 << 25)
 }

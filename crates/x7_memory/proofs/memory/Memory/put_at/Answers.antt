@@ -45,7 +45,7 @@ pub overflow_add-self : goal.overflow_add-self
 overflow_add-self c =
     let r = is_rank c.self.inside c.args.rank c.self.invariant (rw c.self.view_is c.requires.rank) in
     let number = c.index-number.ensures ∙ get_or_default_zero c.self.inside.numbers.items c.args.rank c.index-number.result.now r.inside in
-    let few = stored_few c.self.inside c.self.invariant in let limit = c.self.invariant.few in
+    let few = stored_few c.self.inside c.self.invariant in let limit = c.self.invariant.ranks in
     record { fits = omega arith }
 
 pub append-requires : goal.append-requires
