@@ -3,6 +3,7 @@ ghost use Rattle.std.specs.Prelude.{◌≡◌, ◌+◌, ◌*◌, ◌%◌, ◌<�
 ghost use Rattle.x7_text.specs.EitherCase.{pairs};
 ghost use Rattle.x7_words.specs.Word.{AreBytes, words_of_bytes};
 ghost use Rattle.x7_memory.specs.Plan.{PlanRow};
+ghost use Rattle.x7_part.specs.Limits.{most_frame_words};
 ghost use Rattle.x7_frames.specs.FramesText.{HasNoFrameHead, frame_head, means_nothing, IsFrameLine};
 
 use x7_text::{block_of_hex, read_pairs, word_of_hex};
@@ -105,7 +106,7 @@ fn replace(words: &mut Vec<u32>, bytes: &[u8])
 /// Reads a frame's line: gives its address and puts its words into `frame`, which has room for them. `None`: it is no
 /// frame's line.
 pub(crate) fn read_frame(frame: &mut Vec<u32>, width: u32, line: &[u8]) -> Option<u32>
-    requires width { width ≤ 255 }
+    requires width { width ≤ most_frame_words }
     requires room { width ≤ vec_capacity frame.old }
     ensures value { MatchOption result ((row : PlanRow) → IsFrameLine width line.now row → ⊥) (λ far. IsFrameLine width line.now record { far = far; words = frame.new.items }) }
     ensures room { vec_capacity frame.old ≤ vec_capacity frame.new }

@@ -2,6 +2,7 @@
 ghost use Rattle.std.specs.Prelude.{◌≡◌, ◌⊎◌, ◌+◌, ◌-◌, ◌*◌, ◌<◌, ◌≤◌, ◌++◌, ℕ, List, [], true, false, length, take, drop, replicate, slice_index, Contains, vec_capacity, IfOk, IfErr, OnOk, OnErr};
 ghost use Rattle.x7_memory.specs.Plan.{AreAddressed};
 ghost use Rattle.x7_part.specs.AddressOrder.{addresses_in};
+ghost use Rattle.x7_part.specs.Limits.{most_frame_words, most_words};
 ghost use Rattle.x7_part.specs.Part.{frame_words};
 ghost use Rattle.x7_part.specs.Ranges.{IsPart};
 ghost use Rattle.x7_part.specs.Slot.{slots_in};
@@ -52,7 +53,7 @@ fn first_address(part: &Part) -> u32
 fn slot_count(part: &Part) -> u64
     ensures count { result ≡ length (slots_in part.now) }
     ensures limit { result ≤ most_slots }
-    ensures words { frame_words part.now * result ≤ 13277056 }
+    ensures words { frame_words part.now * result ≤ most_words }
 {
     part.slots_from(first_address(part))
 }
@@ -99,7 +100,7 @@ fn first_words(words: &[u32], count: u32) -> &[u32]
 
 /// A frame of zeros.
 pub(crate) fn zeros(count: u32) -> &'static [u32]
-    requires { count ≤ 255 }
+    requires { count ≤ most_frame_words }
     ensures words { result.now ≡ replicate count 0 }
     ensures long { length result.now ≡ count }
 {
@@ -110,7 +111,7 @@ pub(crate) fn zeros(count: u32) -> &'static [u32]
 fn frame_at<'p>(part: &Part, plan: &'p Plan, slot: Slot) -> &'p [u32]
     requires { plan.now.width ≡ frame_words part.now }
     ensures words { result.now ≡ frame_at_slot part.now plan.now slot }
-    ensures limit { length result.now ≤ 255 }
+    ensures limit { length result.now ≤ most_frame_words }
 {
     let width = part.words();
     let Slot::Frame(far) = slot else {

@@ -1,6 +1,7 @@
 //! Frames whose addresses follow one another, which are written at once.
 ghost use Rattle.std.specs.Prelude.{◌≡◌, ◌+◌, ◌-◌, ◌*◌, ◌<◌, ◌≤◌, false, length, All, Contains, OnOk};
 ghost use Rattle.x7_part.specs.AddressOrder.{addresses_in};
+ghost use Rattle.x7_part.specs.Limits.{most_frames};
 ghost use Rattle.x7_planner.specs.Content.{IsRunLength, content_rows};
 ghost use Rattle.x7_planner.specs.PartialStream.{follows, frames_words, runs_words, stretch_words, Rows};
 ghost use Rattle.x7_planner.specs.Writer.{with_piece, Words};
@@ -51,7 +52,7 @@ fn put_frames(writer: &mut Writer, frames: &[Content]) -> Result<(), NoMemory>
 /// Writes a run: the frames from its first address on, and a frame of zeros.
 fn put_run(writer: &mut Writer, part: &Part, run: &[Content]) -> Result<(), NoMemory>
     requires some { 0 < length run.now }
-    requires limit { length run.now ≤ 131072 }
+    requires limit { length run.now ≤ most_frames }
     ensures { OnOk result (writer.new ≡ with_piece writer.old (Words (stretch_words part.now (Rows (content_rows run.now))))) }
 {
     let words = part.words() * (run.len() as u32 + 1);
@@ -68,7 +69,7 @@ fn put_run(writer: &mut Writer, part: &Part, run: &[Content]) -> Result<(), NoMe
 /// Writes the longest runs of frames in order.
 pub(crate) fn put_runs(writer: &mut Writer, part: &Part, frames: &[Content]) -> Result<(), NoMemory>
     requires addresses { All (λ row. Contains (addresses_in part.now) row.far) (content_rows frames.now) }
-    requires limit { length frames.now ≤ 131072 }
+    requires limit { length frames.now ≤ most_frames }
     ensures { OnOk result (writer.new ≡ with_piece writer.old (Words (runs_words part.now (content_rows frames.now)))) }
 {
     let mut at = 0;
