@@ -10,7 +10,7 @@ use x7_text::{block_of_hex, read_pairs, word_of_hex};
 use x7_words::{is_same, word_of};
 
 /// The most bytes of a frame.
-const MOST_BYTES: usize = 1020;
+const MOST_BYTES: usize = 4 * 255;
 
 /// The byte that begins a comment.
 const COMMENT: u8 = b'#';

@@ -1,6 +1,7 @@
 -- A memory as its fields hold it (this project's choice).
 use Rattle.std.specs.Prelude.{◌≡◌, ℕ, zero, suc, ◌+◌, ◌*◌, ◌≤◌, ◌<◌, List, length, map, take, drop, replicate, slice_index_or, vec_capacity}
 use Rattle.std.specs.List.{sum_by}
+use Rattle.x7_part.specs.Limits.{most_frame_words, most_frames}
 use Rattle.x7_memory.specs.declared.memory.Memory.TheInside.{Inside}
 
 -- the frame with a number among those that are stored one after another
@@ -24,8 +25,8 @@ AreDistinct numbers =
 -- there is room for a frame of each rank and for the zeros, which stand first; each rank has a frame that is stored
 pub record HasRoom (m : Inside) : Type 0 where
   pub some : 0 < m.width
-  pub narrow : m.width ≤ 255
-  pub ranks : length m.numbers.items ≤ 131072
+  pub narrow : m.width ≤ most_frame_words
+  pub ranks : length m.numbers.items ≤ most_frames
   pub room : m.width * (length m.numbers.items + 1) ≤ vec_capacity m.words
   pub whole : length m.words.items ≡ m.width * m.stored
   pub zeros : stored_frame m.width m.words.items 0 ≡ replicate m.width 0

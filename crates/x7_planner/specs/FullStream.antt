@@ -2,6 +2,7 @@
 use Rattle.std.specs.Prelude.{ℕ, ◌+◌, ◌*◌, List, [], ◌∷◌, ◌++◌, length, replicate, slice_index, unwrap_or}
 use Rattle.std.specs.List.{flat_map}
 use Rattle.x7_part.specs.AddressOrder.{addresses_in}
+use Rattle.x7_part.specs.Limits.{most_frames, most_rows}
 use Rattle.x7_part.specs.Part.{PartData, frame_words}
 use Rattle.x7_part.specs.Slot.{slots_in}
 use Rattle.x7_part.specs.declared.slot.Slot.{Slot}
@@ -23,9 +24,9 @@ frame_at_slot part plan (Frame address) = unwrap_or (planned plan.rows address) 
 frame_at_slot part plan Pad = zero_frame part
 frame_at_slot part plan End = zero_frame part
 
--- how many slots a part has at most: its frames, at most 131,072, and two pads for each of at most 192 rows (x7_part: Ranges)
+-- the most slots of a part: its frames, and two pads after each row
 abbrev pub most_slots : ℕ
-most_slots = 131072 + 2 * 192
+most_slots = most_frames + 2 * most_rows
 
 -- the words of all slots in order
 abbrev pub words_of_slots : PartData → PlanData → List Slot → List ℕ

@@ -3,6 +3,7 @@ use Rattle.std.specs.Prelude.{◌≡◌, ◌≢◌, ℕ, ◌+◌, ◌-◌, ◌*�
 use Rattle.std.specs.declared.alloc.Global.{Global}
 use Rattle.x7_words.specs.declared.input.NoMemory.{NoMemory}
 use Rattle.x7_crc.specs.Checker.{HasTaken, PieceCheckerState}
+use Rattle.x7_part.specs.Limits.{most_frame_words}
 use Rattle.x7_part.specs.Part.{PartData, frame_words}
 use Rattle.x7_part.specs.Slot.{slots_in}
 use Rattle.x7_memory.specs.Plan.{PlanData}
@@ -67,9 +68,9 @@ pub record HasGiven (s : FullStreamState) (given : List ℕ) : Type 0 where
   pub left : List ℕ
   pub whole : given ++ left ≡ full_stream s.part s.plan
 
--- how many bytes a frame has at most: those of 255 words
+-- the most bytes of a frame
 abbrev pub most_frame_bytes : ℕ
-most_frame_bytes = 1020
+most_frame_bytes = 4 * most_frame_words
 
 -- how many frames a piece has at most
 abbrev pub piece_slots : ℕ
