@@ -16,22 +16,23 @@ use Rattle.x7_svf.specs.declared.statement.Statement.{Statement}
 use Rattle.x7_svf.specs.declared.statement.Statement.TheVariants as statement
 use Rattle.x7_jtag.specs.Clocks.{clock, clocks, clocks_of, from_exit, from_reset, inner_clocks, shift_clocks, to_shift}
 use Rattle.x7_svf.specs.Bits.{bytes_bits}
-use Rattle.x7_jtag.specs.Play.{Ready, after_clocks, bit_at, difference, difference_from, differs_at, first_by, first_from, found_more, is_apart, least, tdo_at, walk_clocks}
+use Rattle.x7_jtag.specs.Play.{MayClock, after_clocks, bit_at, difference, difference_from, differs_at, first_by, first_from, found_more, is_apart, least, tdo_at, walk_clocks}
 use Rattle.x7_jtag.specs.Port.{Port, clocked, new_port, port_after, tdo_of}
+use Rattle.x7_jtag.specs.Queue.{most_bytes_held}
 use Rattle.x7_jtag.specs.State.{Clock, moved_by, state_after, test_logic_reset}
-use Rattle.x7_jtag.specs.Tap.{TapStandsFor, TapState}
+use Rattle.x7_jtag.specs.Tap.{CanBeGiven, TapStandsFor, TapState}
 use Rattle.x7_jtag.proofs.ShiftLemmas.{inner_append}
 use Rattle.x7_jtag.proofs.ShortLemmas.{held_short, taken_short}
 
 -- ---- one clock
 
-pub ready_fits : (t : TapState) (d : DeviceState) (more : ℕ) → Ready t d more → 0 < more → d.taken + 66 ≤ 2 ^ 63
+pub ready_fits : (t : TapState) (d : DeviceState) (more : ℕ) → MayClock t d more → 0 < more → CanBeGiven d (most_bytes_held + 1)
 ready_fits t d more r l = omega (arith, taken_short r.part t d r.before r.stands, r.few, l)
 
-pub ready_less : (t : TapState) (d : DeviceState) (more less : ℕ) → less ≤ more → Ready t d more → Ready t d less
+pub ready_less : (t : TapState) (d : DeviceState) (more less : ℕ) → less ≤ more → MayClock t d more → MayClock t d less
 ready_less t d more less l r = record { part = r.part; before = r.before; stands = r.stands; few = omega (arith, l, r.few) }
 
-pub ready_on : (t u : TapState) (d e : DeviceState) (more later : ℕ) (r : Ready t d more) (ds : List Clock) → TapStandsFor r.part u e (r.before ++ ds) → length ds + later ≤ more → Ready u e later
+pub ready_on : (t u : TapState) (d e : DeviceState) (more later : ℕ) (r : MayClock t d more) (ds : List Clock) → TapStandsFor r.part u e (r.before ++ ds) → length ds + later ≤ more → MayClock u e later
 ready_on t u d e more later r ds s l = record { part = r.part; before = r.before ++ ds; stands = s; few = omega (arith, l, r.few, length-append r.before ds) }
 
 pub stands_at : (part : PartData) (t : TapState) (d : DeviceState) (cs ds : List Clock) → cs ≡ ds → TapStandsFor part t d cs → TapStandsFor part t d ds
@@ -152,11 +153,11 @@ pub bits_count : (bytes : List ℕ) → length (bytes_bits bytes) ≡ 8 * length
 bits_count [] = refl
 bits_count (b ∷ bs) = omega (arith, bits_count bs)
 
-pub ready_bytes : (t u : TapState) (d e : DeviceState) (more later : ℕ) (bytes : List ℕ) → Ready t d more → ((part : PartData) (cs : List Clock) → TapStandsFor part t d cs → TapStandsFor part u e (cs ++ inner_clocks (bytes_bits bytes)))
-    → 8 * length bytes + later ≤ more → Ready u e later
+pub ready_bytes : (t u : TapState) (d e : DeviceState) (more later : ℕ) (bytes : List ℕ) → MayClock t d more → ((part : PartData) (cs : List Clock) → TapStandsFor part t d cs → TapStandsFor part u e (cs ++ inner_clocks (bytes_bits bytes)))
+    → 8 * length bytes + later ≤ more → MayClock u e later
 ready_bytes t u d e more later bytes r s l = ready_on t u d e more later r (inner_clocks (bytes_bits bytes)) (s r.part r.before r.stands) (omega (arith, l, inner_length (bytes_bits bytes), bits_count bytes))
 
-pub ready_holds : (t : TapState) (d : DeviceState) (more count : ℕ) → Ready t d more → count ≤ 2 ^ 32 → d.taken + length t.queue.held + count + 65 ≤ 2 ^ 63
+pub ready_holds : (t : TapState) (d : DeviceState) (more count : ℕ) → MayClock t d more → count ≤ 2 ^ 32 → CanBeGiven d (length t.queue.held + count + (most_bytes_held + 1))
 ready_holds t d more count r l = omega (arith, held_short r.part t d r.before r.stands, r.few, l)
 
 least_none : (holds : ℕ → Bool) → ((i : ℕ) → holds i ≡ false) → (from n : ℕ) → least holds from n ≡ None
@@ -226,27 +227,27 @@ pub to_shift_length : (r : ScannedRegister) → length (to_shift r) ≤ 4
 to_shift_length scanned.Instruction = omega arith
 to_shift_length scanned.Data = omega arith
 
-pub ready_left : (t u : TapState) (d e : DeviceState) (more later : ℕ) → Ready t d more → ((part : PartData) (cs : List Clock) → TapStandsFor part t d cs → TapStandsFor part u e (cs ++ from_reset (port_after part cs).state)) → 1 + later ≤ more → Ready u e later
+pub ready_left : (t u : TapState) (d e : DeviceState) (more later : ℕ) → MayClock t d more → ((part : PartData) (cs : List Clock) → TapStandsFor part t d cs → TapStandsFor part u e (cs ++ from_reset (port_after part cs).state)) → 1 + later ≤ more → MayClock u e later
 ready_left t u d e more later r s l =
     let c : State = (port_after r.part r.before).state in
     ready_on t u d e more later r (from_reset c) (s r.part r.before r.stands) (omega (arith, l, leave_length c))
 
-pub ready_in_shift : (t u : TapState) (d e : DeviceState) (more later : ℕ) (register : ScannedRegister) → Ready t d more → ((part : PartData) (cs : List Clock) → TapStandsFor part t d cs → TapStandsFor part u e (cs ++ to_shift register)) → 4 + later ≤ more → Ready u e later
+pub ready_in_shift : (t u : TapState) (d e : DeviceState) (more later : ℕ) (register : ScannedRegister) → MayClock t d more → ((part : PartData) (cs : List Clock) → TapStandsFor part t d cs → TapStandsFor part u e (cs ++ to_shift register)) → 4 + later ≤ more → MayClock u e later
 ready_in_shift t u d e more later register r s l = ready_on t u d e more later r (to_shift register) (s r.part r.before r.stands) (omega (arith, l, to_shift_length register))
 
-pub ready_shifted : (t u : TapState) (d e : DeviceState) (more later : ℕ) (bs : List Bool) → Ready t d more → ((part : PartData) (cs : List Clock) → TapStandsFor part t d cs → TapStandsFor part u e (cs ++ shift_clocks bs)) → length bs + later ≤ more → Ready u e later
+pub ready_shifted : (t u : TapState) (d e : DeviceState) (more later : ℕ) (bs : List Bool) → MayClock t d more → ((part : PartData) (cs : List Clock) → TapStandsFor part t d cs → TapStandsFor part u e (cs ++ shift_clocks bs)) → length bs + later ≤ more → MayClock u e later
 ready_shifted t u d e more later bs r s l = ready_on t u d e more later r (shift_clocks bs) (s r.part r.before r.stands) (omega (arith, l, shift_length bs))
 
-pub ready_clocked : (t u : TapState) (d e : DeviceState) (more later : ℕ) (c : Clock) → Ready t d more → ((part : PartData) (cs : List Clock) → TapStandsFor part t d cs → TapStandsFor part u e (cs ++ c ∷ [])) → 1 + later ≤ more → Ready u e later
+pub ready_clocked : (t u : TapState) (d e : DeviceState) (more later : ℕ) (c : Clock) → MayClock t d more → ((part : PartData) (cs : List Clock) → TapStandsFor part t d cs → TapStandsFor part u e (cs ++ c ∷ [])) → 1 + later ≤ more → MayClock u e later
 ready_clocked t u d e more later c r s l = ready_on t u d e more later r (c ∷ []) (s r.part r.before r.stands) (omega (arith, l))
 
-pub ready_walked : (t u : TapState) (d e : DeviceState) (rest : List Bool) (tms : Bool) → 0 < length rest → Ready t d (length rest) → ((part : PartData) (cs : List Clock) → TapStandsFor part t d cs → TapStandsFor part u e (cs ++ clock tms false ∷ []))
-    → Ready u e (length (take (length rest - 1) (drop 1 rest)))
+pub ready_walked : (t u : TapState) (d e : DeviceState) (rest : List Bool) (tms : Bool) → 0 < length rest → MayClock t d (length rest) → ((part : PartData) (cs : List Clock) → TapStandsFor part t d cs → TapStandsFor part u e (cs ++ clock tms false ∷ []))
+    → MayClock u e (length (take (length rest - 1) (drop 1 rest)))
 ready_walked t u d e rest tms some r s =
     ready_clocked t u d e (length rest) (length (take (length rest - 1) (drop 1 rest))) (clock tms false) r s (omega (arith, some, ap length (rest_bits rest), length-drop 1 rest))
 
-pub ready_played : (t u : TapState) (d e : DeviceState) (more later : ℕ) (x : Statement) → Ready t d more → ((part : PartData) (cs : List Clock) → TapStandsFor part t d cs → TapStandsFor part u e (cs ++ clocks_of (port_after part cs).state x))
-    → ((s : State) → length (clocks_of s x) ≤ 2 ^ 33) → 2 ^ 33 + later ≤ more → Ready u e later
+pub ready_played : (t u : TapState) (d e : DeviceState) (more later : ℕ) (x : Statement) → MayClock t d more → ((part : PartData) (cs : List Clock) → TapStandsFor part t d cs → TapStandsFor part u e (cs ++ clocks_of (port_after part cs).state x))
+    → ((s : State) → length (clocks_of s x) ≤ 2 ^ 33) → 2 ^ 33 + later ≤ more → MayClock u e later
 ready_played t u d e more later x r s short l =
     let c : State = (port_after r.part r.before).state in
     ready_on t u d e more later r (clocks_of c x) (s r.part r.before r.stands) (omega (arith, l, short c))

@@ -104,13 +104,13 @@ walk_clocks path = map (λ tms. clock tms false) path
 abbrev pub MakesClocks : TapState → DeviceState → TapState → DeviceState → (Port → List Clock) → Type 0
 MakesClocks t d u e made = (part : PartData) (cs : List Clock) → TapStandsFor part t d cs → TapStandsFor part u e (cs ++ made (port_after part cs))
 
--- the step finds what is sought, by the port before it
-abbrev pub FindsSought : TapState → DeviceState → (PartData → Port → Option ℕ) → Option ℕ → Type 0
-FindsSought t d sought found = (part : PartData) (cs : List Clock) → TapStandsFor part t d cs → found ≡ sought part (port_after part cs)
+-- a step's answer is `sought` of the port before the step
+abbrev pub FindsBy : TapState → DeviceState → (PartData → Port → Option ℕ) → Option ℕ → Type 0
+FindsBy t d sought found = (part : PartData) (cs : List Clock) → TapStandsFor part t d cs → found ≡ sought part (port_after part cs)
 
--- what holds of all clocks after which a tap and its device have made these
-abbrev pub HavingMade : TapState → DeviceState → List Clock → (PartData → List Clock → Type 0) → Type 0
-HavingMade t d made Fact = (part : PartData) (cs : List Clock) → TapStandsFor part t d (cs ++ made) → Fact part cs
+-- what holds of the clocks before the last ones, of each list of clocks that a tap and its device may have made which ends with these
+abbrev pub AfterClocks : TapState → DeviceState → List Clock → (PartData → List Clock → Type 0) → Type 0
+AfterClocks t d made Fact = (part : PartData) (cs : List Clock) → TapStandsFor part t d (cs ++ made) → Fact part cs
 
 -- ---- what a tap and a device are ready for
 
@@ -118,8 +118,16 @@ HavingMade t d made Fact = (part : PartData) (cs : List Clock) → TapStandsFor 
 abbrev pub AreNew : TapState → DeviceState → Type 0
 AreNew t d = (part : PartData) × TapStandsFor part t d []
 
+-- the most clocks of a run, and the most bits of a scan: a count of 32 bits
+abbrev pub count_limit : ℕ
+count_limit = 2 ^ 32
+
+-- the most clocks of a statement: those of a run or of a scan's bits, and a few on the way there and back
+abbrev pub statement_limit : ℕ
+statement_limit = 2 ^ 33
+
 -- This many clocks more may come of a tap and a device that were new before others: a device takes at most a byte a clock.
-pub record Ready (t : TapState) (d : DeviceState) (more : ℕ) : Type 0 where
+pub record MayClock (t : TapState) (d : DeviceState) (more : ℕ) : Type 0 where
   pub part : PartData
   pub before : List Clock
   pub stands : TapStandsFor part t d before

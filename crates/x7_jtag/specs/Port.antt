@@ -52,11 +52,11 @@ ir_status part given = status (state_of part on_the_bench false given).lines.don
 
 -- the byte that eight clocks of startup offer
 abbrev pub startup_byte : ℕ
-startup_byte = 255
+startup_byte = 0xFF
 
 -- the user code, which no stream sets here: FFFFFFFF
 abbrev pub user_code : ℕ
-user_code = 4294967295
+user_code = 0xFFFFFFFF
 
 -- Run-Test/Idle: under JSTART each eighth clock offers a byte FF
 abbrev pub idled : PartData → Instruction → Port → Port

@@ -1,5 +1,5 @@
 -- What a tap and its device stand for: a port after some clocks (this project's choice).
-use Rattle.std.specs.Prelude.{◌≡◌, ◌⊎◌, false, ℕ, ◌+◌, ◌*◌, ◌<◌, ◌≤◌, List, [], ◌∷◌, ◌++◌, length}
+use Rattle.std.specs.Prelude.{◌≡◌, ◌⊎◌, false, ℕ, ◌+◌, ◌*◌, ◌^◌, ◌<◌, ◌≤◌, List, [], ◌∷◌, ◌++◌, length}
 use Rattle.std.specs.Option.{IsSome}
 use Rattle.x7_words.specs.Word.{AreBytes}
 use Rattle.x7_part.specs.Part.{PartData}
@@ -42,7 +42,7 @@ pub record TookOfGiven (part : PartData) (given bytes : List ℕ) : Type 0 where
   pub parts : given ≡ bytes ++ rest
   pub over : (rest ≡ []) ⊎ IsSome (stop_in part on_the_bench bytes)
 
--- how many bytes of a piece of so many are given, by what a feed of them answers: after a stop the rest counts as given
+-- how many of a piece's bytes count as given, by what a feed of the piece answers and how many it has: after a stop all of them
 abbrev pub given_by : Fed → ℕ → ℕ
 given_by (fed.ReadFull n) count = n
 given_by _ count = count
@@ -50,6 +50,18 @@ given_by _ count = count
 -- the words that were taken of a device that took these bytes
 abbrev pub words_taken : PartData → DeviceState → List ℕ → List ℕ
 words_taken part d bytes = reads_given part on_the_bench d bytes
+
+-- ---- how many bytes
+
+-- a device can be given this many bytes more: it counts up to 2^63
+abbrev pub CanBeGiven : DeviceState → ℕ → Type 0
+CanBeGiven d count = d.taken + count ≤ 2 ^ 63
+
+-- the bytes that a queue holds and its device took are at most this many more than before
+abbrev pub AreGivenAtMost : QueueState → DeviceState → QueueState → DeviceState → ℕ → Type 0
+AreGivenAtMost k d n e count = e.taken + length n.held ≤ d.taken + length k.held + count
+
+-- ---- what they stand for
 
 -- a queue and its device stand for one of a port, where a word may be due though none waits
 pub record QueueHolds (part : PartData) (k : QueueState) (d : DeviceState) (q : Queue) : Type 0 where

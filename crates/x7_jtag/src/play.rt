@@ -3,7 +3,7 @@ ghost use Rattle.std.specs.Prelude.{◌≡◌, ◌≤◌, ◌<◌, ◌+◌, ◌-
 ghost use Rattle.std.specs.List.{slice_get};
 ghost use Rattle.x7_part.specs.Part.{PartData};
 ghost use Rattle.x7_jtag.specs.Clocks.{clock as clock_of, clocks_of, from_reset, shift_clocks, to_shift as to_shift_clocks};
-ghost use Rattle.x7_jtag.specs.Play.{AreNew, FindsSought, HavingMade, MakesClocks, Ready, are_apart as apart, bit_at, clocks_played, counts as counts_at, difference, difference_from, first_difference, found_more, is_apart, walk_clocks};
+ghost use Rattle.x7_jtag.specs.Play.{AreNew, FindsBy, AfterClocks, MakesClocks, MayClock, are_apart as apart, bit_at, clocks_played, count_limit, counts as counts_at, difference, difference_from, first_difference, found_more, is_apart, statement_limit, walk_clocks};
 ghost use Rattle.x7_jtag.specs.Port.{port_after};
 ghost use Rattle.x7_jtag.specs.Tap.{TapStandsFor};
 ghost use Rattle.x7_jtag.specs.declared.state.State.{State as StateData};
@@ -25,7 +25,7 @@ pub struct Differ {
 
 /// Clocks with these values of TMS, and TDI 0.
 fn walk(tap: &mut Tap, device: &mut Device, path: &[bool])
-    requires { Ready tap.old device.old (length path.now) }
+    requires { MayClock tap.old device.old (length path.now) }
     ensures { MakesClocks tap.old device.old tap.new device.new (λ p. walk_clocks path.now) }
 {
     let mut rest = path;
@@ -37,8 +37,8 @@ fn walk(tap: &mut Tap, device: &mut Device, path: &[bool])
 
 /// This many clocks of TMS 0 and TDI 0.
 fn run(tap: &mut Tap, device: &mut Device, count: u32)
-    requires { Ready tap.old device.old (2 ^ 32) }
-    ensures few { count < 2 ^ 32 }
+    requires { MayClock tap.old device.old count_limit }
+    ensures counted { count < count_limit }
     ensures stands { MakesClocks tap.old device.old tap.new device.new (λ p. replicate count (clock_of false false)) }
 {
     for _ in 0..count {
@@ -48,7 +48,7 @@ fn run(tap: &mut Tap, device: &mut Device, count: u32)
 
 /// One clock of TMS 0 where in Test-Logic-Reset.
 fn leave_reset(tap: &mut Tap, device: &mut Device)
-    requires { Ready tap.old device.old 1 }
+    requires { MayClock tap.old device.old 1 }
     ensures { MakesClocks tap.old device.old tap.new device.new (λ p. from_reset p.state) }
 {
     match tap.state() {
@@ -59,7 +59,7 @@ fn leave_reset(tap: &mut Tap, device: &mut Device)
 
 /// From Run-Test/Idle to Shift-IR or Shift-DR.
 fn to_shift(tap: &mut Tap, device: &mut Device, register: ScannedRegister)
-    requires { Ready tap.old device.old 4 }
+    requires { MayClock tap.old device.old 4 }
     ensures { MakesClocks tap.old device.old tap.new device.new (λ p. to_shift_clocks register) }
 {
     match register {
@@ -119,11 +119,11 @@ fn first_of(found: Option<u32>, differs: bool, i: u32) -> Option<u32>
 /// The clocks of the first bits of a scan, byte by byte, as many whole bytes as come before the last bit, where the device
 /// takes them and no bit is wanted. Says how many bits.
 fn shift_bytes(tap: &mut Tap, device: &mut Device, scan: &Scan<'_>) -> u32
-    requires { Ready tap.old device.old (2 ^ 32) }
+    requires { MayClock tap.old device.old count_limit }
     ensures within { result ≤ length scan.now.tdi }
     ensures stands { MakesClocks tap.old device.old tap.new device.new (λ p. take result (shift_clocks scan.now.tdi)) }
     ensures none_wanted { 0 < result → scan.now.tdo ≡ None }
-    ensures ready { Ready tap.new device.new (2 ^ 32 - result) }
+    ensures ready { MayClock tap.new device.new (count_limit - result) }
 {
     if scan.tdo.is_some() {
         return 0;
@@ -145,11 +145,11 @@ fn shift_bytes(tap: &mut Tap, device: &mut Device, scan: &Scan<'_>) -> u32
 /// Shifts the bits of a scan from this one on, with TMS 1 at the last, and finds the least of them at which TDO differs from
 /// what is wanted.
 fn shift_from(tap: &mut Tap, device: &mut Device, scan: &Scan<'_>, first: u32) -> Option<u32>
-    requires ready { Ready tap.old device.old (2 ^ 32 - first) }
+    requires ready { MayClock tap.old device.old (count_limit - first) }
     requires within { first ≤ length scan.now.tdi }
-    ensures stands { HavingMade tap.old device.old (take first (shift_clocks scan.now.tdi)) (λ part cs. TapStandsFor part tap.new device.new (cs ++ shift_clocks scan.now.tdi)) }
-    ensures few { length scan.now.tdi < 2 ^ 32 }
-    ensures found { HavingMade tap.old device.old (take first (shift_clocks scan.now.tdi)) (λ part cs. result ≡ difference_from part (port_after part cs) scan.now first) }
+    ensures stands { AfterClocks tap.old device.old (take first (shift_clocks scan.now.tdi)) (λ part cs. TapStandsFor part tap.new device.new (cs ++ shift_clocks scan.now.tdi)) }
+    ensures counted { length scan.now.tdi < count_limit }
+    ensures found { AfterClocks tap.old device.old (take first (shift_clocks scan.now.tdi)) (λ part cs. result ≡ difference_from part (port_after part cs) scan.now first) }
 {
     let tdi = &scan.tdi;
     let mut found = None;
@@ -163,10 +163,10 @@ fn shift_from(tap: &mut Tap, device: &mut Device, scan: &Scan<'_>, first: u32) -
 
 /// Shifts the bits of a scan, with TMS 1 at the last, and finds the least bit at which TDO differs from what is wanted.
 fn shift(tap: &mut Tap, device: &mut Device, scan: &Scan<'_>) -> Option<u32>
-    requires { Ready tap.old device.old (2 ^ 32) }
+    requires { MayClock tap.old device.old count_limit }
     ensures stands { MakesClocks tap.old device.old tap.new device.new (λ p. shift_clocks scan.now.tdi) }
-    ensures few { length scan.now.tdi < 2 ^ 32 }
-    ensures found { FindsSought tap.old device.old (λ part p. difference_from part p scan.now 0) result }
+    ensures counted { length scan.now.tdi < count_limit }
+    ensures found { FindsBy tap.old device.old (λ part p. difference_from part p scan.now 0) result }
 {
     let first = shift_bytes(tap, device, scan);
     shift_from(tap, device, scan, first)
@@ -174,10 +174,10 @@ fn shift(tap: &mut Tap, device: &mut Device, scan: &Scan<'_>) -> Option<u32>
 
 /// A scan of a register, and the least bit at which TDO differs from what is wanted.
 fn play_scan(tap: &mut Tap, device: &mut Device, scan: &Scan<'_>) -> Option<u32>
-    requires { Ready tap.old device.old (2 ^ 33) }
+    requires { MayClock tap.old device.old statement_limit }
     ensures stands { MakesClocks tap.old device.old tap.new device.new (λ p. clocks_of p.state (StatementData.Scan scan.now)) }
-    ensures few { length scan.now.tdi < 2 ^ 32 }
-    ensures found { FindsSought tap.old device.old (λ part p. difference part p (StatementData.Scan scan.now)) result }
+    ensures counted { length scan.now.tdi < count_limit }
+    ensures found { FindsBy tap.old device.old (λ part p. difference part p (StatementData.Scan scan.now)) result }
 {
     leave_reset(tap, device);
     to_shift(tap, device, scan.register);
@@ -188,10 +188,10 @@ fn play_scan(tap: &mut Tap, device: &mut Device, scan: &Scan<'_>) -> Option<u32>
 
 /// The clocks of a statement, and the least bit at which TDO differs from what is wanted.
 fn play_statement(statement: &Statement<'_>, tap: &mut Tap, device: &mut Device) -> Option<u32>
-    requires { Ready tap.old device.old (2 ^ 33) }
+    requires { MayClock tap.old device.old statement_limit }
     ensures stands { MakesClocks tap.old device.old tap.new device.new (λ p. clocks_of p.state statement.now) }
-    ensures short { (s : StateData) → length (clocks_of s statement.now) ≤ 2 ^ 33 }
-    ensures found { FindsSought tap.old device.old (λ part p. difference part p statement.now) result }
+    ensures within_limit { (s : StateData) → length (clocks_of s statement.now) ≤ statement_limit }
+    ensures found { FindsBy tap.old device.old (λ part p. difference part p statement.now) result }
 {
     match statement {
         Statement::Reset => {
@@ -214,10 +214,10 @@ fn play_statement(statement: &Statement<'_>, tap: &mut Tap, device: &mut Device)
 
 /// The clocks of statement i of a text, from 0, and the least bit at which TDO differs from what is wanted.
 fn play_at(svf: &Svf, i: usize, tap: &mut Tap, device: &mut Device) -> Option<u32>
-    requires { Ready tap.old device.old (2 ^ 33) }
+    requires { MayClock tap.old device.old statement_limit }
     ensures stands { (x : StatementData) → slice_get svf.now i ≡ Some x → MakesClocks tap.old device.old tap.new device.new (λ p. clocks_of p.state x) }
-    ensures short { (x : StatementData) → slice_get svf.now i ≡ Some x → (s : StateData) → length (clocks_of s x) ≤ 2 ^ 33 }
-    ensures found { (x : StatementData) → slice_get svf.now i ≡ Some x → FindsSought tap.old device.old (λ part p. difference part p x) result }
+    ensures within_limit { (x : StatementData) → slice_get svf.now i ≡ Some x → (s : StateData) → length (clocks_of s x) ≤ statement_limit }
+    ensures found { (x : StatementData) → slice_get svf.now i ≡ Some x → FindsBy tap.old device.old (λ part p. difference part p x) result }
 {
     match svf.statement(i) {
         Some(statement) => play_statement(&statement, tap, device),

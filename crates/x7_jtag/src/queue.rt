@@ -4,18 +4,21 @@ ghost use Rattle.std.specs.List.{fold};
 ghost use Rattle.x7_part.specs.Part.{PartData};
 ghost use Rattle.x7_engine.specs.Standing.{NoWordDue};
 ghost use Rattle.x7_jtag.specs.Port.{words_read_out};
-ghost use Rattle.x7_jtag.specs.Queue.{Queue as QueueData, bit_shown, dropped, empty, in_turn, offered, give_held as give_held_by, shifted_out, with_given, queue_with_room};
-ghost use Rattle.x7_jtag.specs.Tap.{QueueBecomes, QueueHolds, QueueStandsFor, given_by, with_word_taken};
+ghost use Rattle.x7_jtag.specs.Queue.{Queue as QueueData, bit_shown, dropped, empty, in_turn, most_bytes_held, offered, give_held as give_held_by, shifted_out, with_given, queue_with_room};
+ghost use Rattle.x7_jtag.specs.Tap.{AreGivenAtMost, CanBeGiven, QueueBecomes, QueueHolds, QueueStandsFor, given_by, with_word_taken};
 
 use arrayvec::ArrayVec;
 use std::marker::Model;
 use std::mem;
 use x7_engine::{Device, Fed, ON_THE_BENCH, ReadBuf};
 
+/// The most bytes that are held back.
+const HELD: usize = 64;
+
 /// The bytes held back while a word waits, and the bits of the latest word that are still to go out.
 #[derive(Drop)]
 pub(crate) struct Queue {
-    held: ArrayVec<u8, 64>,
+    held: ArrayVec<u8, HELD>,
     word: u32,
     left: u32,
 }
@@ -31,7 +34,7 @@ impl Model for Queue {
     ghost invariant = { λ q. q.left ≤ 32 };
 }
 
-/// How many bytes of a piece of so many are given, by what a feed of them answers: after a stop the rest counts as given.
+/// How many of a piece's `length` bytes count as given, by what a feed of the piece answers: after a stop all of them.
 fn given_of(fed: Fed, length: usize) -> usize
     ensures { result ≡ given_by fed length }
 {
@@ -65,9 +68,9 @@ impl Queue {
 
     /// Gives a piece of at most one byte to the device, and takes the word that is then the next, where there is one.
     fn feed(&mut self, piece: &[u8], device: &mut Device)
-        requires few { length piece.now ≤ 1 }
+        requires at_most_one { length piece.now ≤ 1 }
         requires none_waits { self.old.left ≡ 0 }
-        requires fits { device.old.taken + length piece.now ≤ 2 ^ 63 }
+        requires fits { CanBeGiven device.old (length piece.now) }
         ensures taken { device.new.taken ≤ device.old.taken + length piece.now }
         ensures held { self.new.held ≡ self.old.held }
         ensures stands { (part : PartData) (q : QueueData) → QueueHolds part self.old device.old q → (0 < length piece.now → NoWordDue device.old)
@@ -80,11 +83,11 @@ impl Queue {
 
     /// Takes a byte in its turn.
     fn take(&mut self, byte: u8, device: &mut Device)
-        requires room { 0 < self.old.left → length self.old.held < 64 }
-        requires fits { device.old.taken + 1 ≤ 2 ^ 63 }
+        requires room { 0 < self.old.left → length self.old.held < most_bytes_held }
+        requires fits { CanBeGiven device.old 1 }
         ensures taken { device.new.taken ≤ device.old.taken + 1 }
         ensures held { length self.new.held ≤ length self.old.held + 1 }
-        ensures all { device.new.taken + length self.new.held ≤ device.old.taken + length self.old.held + 1 }
+        ensures at_most { AreGivenAtMost self.old device.old self.new device.new 1 }
         ensures stands { QueueBecomes self.old device.old self.new device.new (λ part q. in_turn (words_read_out part) q byte) }
     {
         if self.left > 0 {
@@ -96,7 +99,7 @@ impl Queue {
 
     /// Drops what waits, gives the held bytes, and drops what they say.
     fn drop_all(&mut self, device: &mut Device)
-        requires fits { device.old.taken + 64 ≤ 2 ^ 63 }
+        requires fits { CanBeGiven device.old most_bytes_held }
         ensures taken { device.new.taken ≤ device.old.taken + length self.old.held }
         ensures held { self.new.held ≡ [] }
         ensures none_waits { self.new.left ≡ 0 }
@@ -110,18 +113,18 @@ impl Queue {
 
     /// Whether a byte has no room that should be held.
     fn overflows(&self) -> bool
-        ensures value { result ≡ (nat_lt 0 self.now.left && length self.now.held == 64) }
-        ensures room { result ≡ false → 0 < self.now.left → length self.now.held < 64 }
+        ensures value { result ≡ (nat_lt 0 self.now.left && length self.now.held == most_bytes_held) }
+        ensures room { result ≡ false → 0 < self.now.left → length self.now.held < most_bytes_held }
     {
         self.left > 0 && self.held.is_full()
     }
 
     /// Makes room for a byte, where it should be held and the most are.
     fn make_room(&mut self, device: &mut Device)
-        requires fits { device.old.taken + 64 ≤ 2 ^ 63 }
-        ensures all { device.new.taken + length self.new.held ≤ device.old.taken + length self.old.held }
-        ensures taken { device.new.taken ≤ device.old.taken + 64 }
-        ensures room { 0 < self.new.left → length self.new.held < 64 }
+        requires fits { CanBeGiven device.old most_bytes_held }
+        ensures at_most { AreGivenAtMost self.old device.old self.new device.new 0 }
+        ensures taken { device.new.taken ≤ device.old.taken + most_bytes_held }
+        ensures room { 0 < self.new.left → length self.new.held < most_bytes_held }
         ensures stands { QueueBecomes self.old device.old self.new device.new (λ part q. queue_with_room (words_read_out part) q) }
     {
         if self.overflows() {
@@ -131,8 +134,8 @@ impl Queue {
 
     /// Takes a byte that is offered.
     pub(crate) fn offer(&mut self, byte: u8, device: &mut Device)
-        requires fits { device.old.taken + 65 ≤ 2 ^ 63 }
-        ensures all { device.new.taken + length self.new.held ≤ device.old.taken + length self.old.held + 1 }
+        requires fits { CanBeGiven device.old (most_bytes_held + 1) }
+        ensures at_most { AreGivenAtMost self.old device.old self.new device.new 1 }
         ensures stands { QueueBecomes self.old device.old self.new device.new (λ part q. offered (words_read_out part) q byte) }
     {
         self.make_room(device);
@@ -141,9 +144,9 @@ impl Queue {
 
     /// Gives bytes to the device, where no word waits, up to the one with which a word is read out. Says how many.
     fn give(&mut self, bytes: &[u8], device: &mut Device) -> usize
-        requires fits { device.old.taken + length bytes.now ≤ 2 ^ 63 }
+        requires fits { CanBeGiven device.old (length bytes.now) }
         ensures within { result ≤ length bytes.now }
-        ensures all { device.new.taken + length self.new.held ≤ device.old.taken + length self.old.held + result }
+        ensures at_most { AreGivenAtMost self.old device.old self.new device.new result }
         ensures stands { QueueBecomes self.old device.old self.new device.new (λ part q. fold (offered (words_read_out part)) q (take result bytes.now)) }
     {
         if self.left > 0 {
@@ -158,10 +161,10 @@ impl Queue {
     /// Takes the first of bytes that are offered, as many as go at once. Says how many.
     fn offer_some(&mut self, bytes: &[u8], device: &mut Device) -> usize
         requires some { 0 < length bytes.now }
-        requires fits { device.old.taken + length self.old.held + length bytes.now + 65 ≤ 2 ^ 63 }
+        requires fits { CanBeGiven device.old (length self.old.held + length bytes.now + (most_bytes_held + 1)) }
         ensures some { 0 < result }
         ensures within { result ≤ length bytes.now }
-        ensures all { device.new.taken + length self.new.held ≤ device.old.taken + length self.old.held + result }
+        ensures at_most { AreGivenAtMost self.old device.old self.new device.new result }
         ensures stands { QueueBecomes self.old device.old self.new device.new (λ part q. fold (offered (words_read_out part)) q (take result bytes.now)) }
     {
         let count = self.give(bytes, device);
@@ -174,7 +177,7 @@ impl Queue {
 
     /// Takes bytes that are offered, one after another.
     pub(crate) fn offer_all(&mut self, bytes: &[u8], device: &mut Device)
-        requires fits { device.old.taken + length self.old.held + length bytes.now + 65 ≤ 2 ^ 63 }
+        requires fits { CanBeGiven device.old (length self.old.held + length bytes.now + (most_bytes_held + 1)) }
         ensures stands { QueueBecomes self.old device.old self.new device.new (λ part q. fold (offered (words_read_out part)) q bytes.now) }
     {
         let mut rest = bytes;
@@ -186,7 +189,7 @@ impl Queue {
 
     /// Gives held bytes in order until a word waits.
     fn give_held(&mut self, device: &mut Device)
-        requires fits { device.old.taken + 64 ≤ 2 ^ 63 }
+        requires fits { CanBeGiven device.old most_bytes_held }
         ensures stands { QueueBecomes self.old device.old self.new device.new (λ part q. give_held_by (words_read_out part) q) }
     {
         let held = mem::replace(&mut self.held, ArrayVec::new());
@@ -210,7 +213,7 @@ impl Queue {
     /// Takes the next word as soon as the last bit of the one before is out; where there is none, held bytes go on.
     fn refill(&mut self, device: &mut Device)
         requires none_waits { self.old.left ≡ 0 }
-        requires fits { device.old.taken + 64 ≤ 2 ^ 63 }
+        requires fits { CanBeGiven device.old most_bytes_held }
         ensures stands { (part : PartData) (q : QueueData) → QueueHolds part self.old device.old q
             → QueueStandsFor part self.new device.new (give_held_by (words_read_out part) q) }
     {
@@ -220,7 +223,7 @@ impl Queue {
 
     /// Shifts a bit out; 0 where none waits.
     pub(crate) fn shift(&mut self, device: &mut Device) -> bool
-        requires fits { device.old.taken + 64 ≤ 2 ^ 63 }
+        requires fits { CanBeGiven device.old most_bytes_held }
         ensures stands { QueueBecomes self.old device.old self.new device.new (λ part q. shifted_out (words_read_out part) q) }
         ensures bit { (part : PartData) (q : QueueData) → QueueStandsFor part self.old device.old q → result ≡ bit_shown (words_read_out part) q }
     {

@@ -4,9 +4,10 @@ ghost use Rattle.x7_part.specs.Part.{PartData};
 ghost use Rattle.x7_engine.specs.Kept.{on_the_bench};
 ghost use Rattle.x7_engine.specs.Standing.{DeviceStandsFor, DeviceState};
 ghost use Rattle.x7_jtag.specs.Port.{Port, acted, captured, data_shifted, data_shown, idled, lowest, number_of_bit, port_after, register_shifted as shifted_in, status as status_by, ir_status, tdo_of, updated, with_bit as with_bit_in};
+ghost use Rattle.x7_jtag.specs.Queue.{most_bytes_held};
 ghost use Rattle.x7_jtag.specs.State.{Clock};
 ghost use Rattle.x7_jtag.specs.declared.instruction.Instruction.TheVariants.{CfgIn};
-ghost use Rattle.x7_jtag.specs.Tap.{PortBecomes, StandsForPort, TakesBytes, TapStandsFor, TookOfGiven, last_or};
+ghost use Rattle.x7_jtag.specs.Tap.{CanBeGiven, PortBecomes, StandsForPort, TakesBytes, TapStandsFor, TookOfGiven, last_or};
 ghost use Rattle.x7_svf.specs.Bits.{bytes_bits};
 ghost use Rattle.x7_jtag.specs.Clocks.{inner_clocks};
 
@@ -20,6 +21,8 @@ use x7_engine::Device;
 const STARTUP_BYTE: u8 = 0xFF;
 /// The user code, which no stream sets here.
 const USER_CODE: u32 = 0xFFFF_FFFF;
+/// What the highest bit of a register of 32 bits is worth.
+const TOP_OF_32: u32 = 1 << 31;
 
 /// A test access port (IEEE 1149.1), clock by clock. It takes no memory.
 #[derive(Drop)]
@@ -140,7 +143,7 @@ impl Tap {
 
     /// Run-Test/Idle: under JSTART each eighth clock offers a byte FF.
     fn idle(&mut self, device: &mut Device)
-        requires { device.old.taken + 65 ≤ 2 ^ 63 }
+        requires { CanBeGiven device.old (most_bytes_held + 1) }
         ensures stands { PortBecomes self.old device.old self.new device.new (λ part p. idled part p.instruction p) }
     {
         match self.instruction {
@@ -170,7 +173,7 @@ impl Tap {
 
     /// Shift-DR under CFG_IN: each eighth bit completes a byte, which is offered.
     fn shift_byte(&mut self, tdi: bool, device: &mut Device)
-        requires { device.old.taken + 65 ≤ 2 ^ 63 }
+        requires { CanBeGiven device.old (most_bytes_held + 1) }
         ensures stands { PortBecomes self.old device.old self.new device.new (λ part p. data_shifted part CfgIn p tdi) }
     {
         let byte = with_bit(self.register, tdi);
@@ -204,7 +207,7 @@ impl Tap {
     /// The clocks of TMS 0 that shift the bits of these bytes, each from its highest bit.
     pub(crate) fn shift_bytes(&mut self, bytes: &[u8], device: &mut Device)
         requires takes { TakesBytes self.old }
-        requires fits { device.old.taken + length self.old.queue.held + length bytes.now + 65 ≤ 2 ^ 63 }
+        requires fits { CanBeGiven device.old (length self.old.queue.held + length bytes.now + (most_bytes_held + 1)) }
         ensures takes { TakesBytes self.new }
         ensures stands { (part : PartData) (cs : List Clock) → TapStandsFor part self.old device.old cs → TapStandsFor part self.new device.new (cs ++ inner_clocks (bytes_bits bytes.now)) }
     {
@@ -214,7 +217,7 @@ impl Tap {
 
     /// Shift-DR.
     fn shift(&mut self, tdi: bool, device: &mut Device) -> bool
-        requires { device.old.taken + 65 ≤ 2 ^ 63 }
+        requires { CanBeGiven device.old (most_bytes_held + 1) }
         ensures stands { PortBecomes self.old device.old self.new device.new (λ part p. data_shifted part p.instruction p tdi) }
         ensures tdo { (part : PartData) (p : Port) → StandsForPort part self.old device.old p → result ≡ data_shown part p.instruction p }
     {
@@ -224,8 +227,8 @@ impl Tap {
                 false
             }
             Instruction::CfgOut => self.queue.shift(device),
-            Instruction::Idcode => self.shift_register(0x8000_0000, tdi),
-            Instruction::Usercode => self.shift_register(0x8000_0000, tdi),
+            Instruction::Idcode => self.shift_register(TOP_OF_32, tdi),
+            Instruction::Usercode => self.shift_register(TOP_OF_32, tdi),
             _ => self.shift_register(1, tdi),
         }
     }
@@ -244,7 +247,7 @@ impl Tap {
 
     /// Does the action of the present state, and gives TDO.
     fn act(&mut self, tdi: bool, device: &mut Device) -> bool
-        requires { device.old.taken + 65 ≤ 2 ^ 63 }
+        requires { CanBeGiven device.old (most_bytes_held + 1) }
         ensures stands { PortBecomes self.old device.old self.new device.new (λ part p. acted part p.state p tdi) }
         ensures tdo { (part : PartData) (p : Port) → StandsForPort part self.old device.old p → result ≡ tdo_of part p }
     {
@@ -279,7 +282,7 @@ impl Tap {
     ///
     /// The tap is new, or was clocked with this device alone since the device was new.
     pub fn clock(&mut self, tms: bool, tdi: bool, device: &mut Device) -> bool
-        requires { device.old.taken + 66 ≤ 2 ^ 63 }
+        requires { CanBeGiven device.old (most_bytes_held + 1) }
         ensures stands { (part : PartData) (cs : List Clock) → TapStandsFor part self.old device.old cs → TapStandsFor part self.new device.new (cs ++ record { tms = tms; tdi = tdi } ∷ []) }
         ensures tdo { (part : PartData) (cs : List Clock) → TapStandsFor part self.old device.old cs → result ≡ tdo_of part (port_after part cs) }
     {

@@ -1,7 +1,7 @@
 use Rattle.std.proofs.Common.{◌≡◌, ◌-◌, ◌%◌, ◌≤◌, ◌++◌, ◌^◌, List, length, take}
 use Rattle.x7_part.specs.Part.{PartData}
 use Rattle.x7_jtag.specs.Clocks.{shift_clocks}
-use Rattle.x7_jtag.specs.Play.{Ready}
+use Rattle.x7_jtag.specs.Play.{MayClock}
 use Rattle.x7_jtag.specs.State.{Clock}
 use Rattle.x7_jtag.specs.Tap.{TakesBytes, TapStandsFor}
 use Rattle.x7_jtag.proofs.play.shift_bytes.Given as goal
@@ -12,7 +12,7 @@ invariant-loop-at l = record {
   takes : TakesBytes l.tap;
   whole : l.at % 8 ≡ 0;
   within : l.at ≤ length l.scan.tdi;
-  ready : Ready l.tap l.device (2 ^ 32 - l.at);
+  ready : MayClock l.tap l.device (2 ^ 32 - l.at);
 }
 
 abbrev pub decreases-loop-at : goal.decreases-loop-at
