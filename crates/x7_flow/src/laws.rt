@@ -28,14 +28,14 @@ ghost use Rattle.x7_flow.specs.Stretches.{ends_of, is_boundary, overridden};
 ghost use Rattle.x7_flow.specs.Words.{HasRoomFor, NoneRefused, with_copies, with_frame_data};
 
 /// A flow has what its settings say.
-pub fn flow_laws()
+pub fn flows_go_by_settings()
     ensures sound { (part : PartData) (h : History) → IsSound part (settings_of part.idcode h) (flow_of part h) }
     ensures written_frames { (part : PartData) (base word : ℕ) (run : List ℕ) → written_frames part base (word ∷ run) ≡ written_frames_more part base run ++ written_frames part base run }
     ensures settings { (idcode : ℕ) (e : Entry) (h : History) → settings_of idcode (e ∷ h) ≡ settings_after idcode e.access (settings_of idcode h) }
 {}
 
 /// The memory of a later history after an earlier one.
-pub fn memory_laws()
+pub fn later_histories_override()
     ensures settings { (idcode : ℕ) (later earlier : History) → settings_of idcode (later ++ earlier) ≡ settings_from idcode (settings_of idcode earlier) later }
     ensures flow { (part : PartData) (later earlier : History) → flow_of part (later ++ earlier) ≡ flow_from part (settings_of part.idcode earlier) (flow_of part earlier) later }
     ensures memory { (part : PartData) (later earlier : History) → MemoryGets part (later ++ earlier) earlier (pairs_after part earlier later) }
@@ -44,12 +44,12 @@ pub fn memory_laws()
 {}
 
 /// The memory is the zero map overridden, stretch by stretch in order, by the stretch's written frames and its copies.
-pub fn stretch_laws()
+pub fn stretches_override_in_order()
     ensures memory { (part : PartData) (h : History) → AreSame (memory_of part h) (overridden part (h ∷ ends_of h)) }
 {}
 
 /// What an access asks is what it does: frame data written, a copy, frame data read.
-pub fn asked_laws()
+pub fn accesses_do_what_they_ask()
     ensures begins { (idcode : ℕ) (h : History) (access : Access) → is_boundary access ≡ begins (asks idcode h access) }
     ensures word { (idcode : ℕ) (h : History) (access : Access) → writes_frame_data idcode h access ≡ is_word (asks idcode h access) }
     ensures copy { (idcode : ℕ) (h : History) (access : Access) → copies_frame idcode h access ≡ is_copy (asks idcode h access) }
@@ -57,7 +57,7 @@ pub fn asked_laws()
 {}
 
 /// The base, the run and the count given of a history, each by a recursion of its own.
-pub fn word_laws()
+pub fn flows_go_by_accesses()
     ensures base { (part : PartData) (e : Entry) (h : History) → base_of part (e ∷ h) ≡ base_after part e.access (far_read part h) (base_of part h) }
     ensures run { (part : PartData) (h : History) → run_of part h ≡ words_written part.idcode h }
     ensures given { (part : PartData) (h : History) → count_given part h ≡ words_given part h }
@@ -66,7 +66,7 @@ pub fn word_laws()
 
 /// One access more: frames that do what it asks stand for the longer history; a read that begins changes them not, and all
 /// the words of that read are due. Frames of a part that stand for one history, with as many words due, are equal.
-pub fn standing_laws()
+pub fn frames_stand_for_one_more()
     ensures one_more { (part : PartData) (old new : FramesState) (e : Entry) (h : History) →
         FramesDid part old new h e → FramesStandFor part old h 0 → FramesStandFor part new (e ∷ h) 0 }
     ensures read { (part : PartData) (f : FramesState) (e : Entry) (h : History) (count : ℕ) →
@@ -78,7 +78,7 @@ pub fn standing_laws()
 {}
 
 /// Why an access is refused, and that a refused one changes neither the memory nor FAR as read.
-pub fn fault_laws()
+pub fn refusals_have_causes()
     ensures address { (part : PartData) (h : History) (access : Access) (far : ℕ) → (frame_fault part h access ≡ Some (RunFault.Address far)) ↔ LacksAddress part h access far }
     ensures multi { (part : PartData) (h : History) (access : Access) → (frame_fault part h access ≡ Some RunFault.Multi) ↔ LacksSource part h access }
     ensures overrun { (part : PartData) (h : History) (access : Access) (w : ℕ) → WritesWord part h access w →
@@ -90,7 +90,7 @@ pub fn fault_laws()
 {}
 
 /// Many words of frame data at once, after a history and in one that goes on.
-pub fn many_laws()
+pub fn words_at_once_land()
     ensures settings { (idcode n : ℕ) (ws : List ℕ) (h : History) → settings_of idcode (with_frame_data n ws h) ≡ settings_of idcode h }
     ensures flow { (part : PartData) (n : ℕ) (ws : List ℕ) (h : History) → TakesFrames part h → flow_of part (with_frame_data n ws h) ≡ after_words ws (flow_of part h) }
     ensures lands { (part : PartData) (n : ℕ) (ws : List ℕ) (h : History) → TakesFrames part h →
@@ -100,7 +100,7 @@ pub fn many_laws()
 {}
 
 /// A history that goes on in two parts, and after a load under another command than MFW.
-pub fn later_laws()
+pub fn later_histories_join()
     ensures settings { (idcode : ℕ) (s : Settings) (later middle : History) → settings_from idcode s (later ++ middle) ≡ settings_from idcode (settings_from idcode s middle) later }
     ensures flow { (x : Start) (later middle : History) → flow_on x (later ++ middle) ≡ flow_on (start_on x middle) later }
     ensures pairs { (x : Start) (later middle : History) → pairs_on x (later ++ middle) ≡ pairs_on (start_on x middle) later ++ pairs_on x middle }
@@ -112,13 +112,13 @@ pub fn later_laws()
 
 /// What a planned stream does after a FAR load: whole frames under WCFG and one more land in order, pads left out, and
 /// words of MFWR put the source there.
-pub fn stream_laws()
+pub fn written_frames_land_in_order()
     ensures write { (part : PartData) (earlier : History) (x : FrameWrite) → TakesWrite part earlier x → MemoryGets part (with_frames x earlier) earlier (reverse (placed part x)) }
     ensures copies { (part : PartData) (earlier : History) (x : FrameCopies) → TakesCopies part earlier x → MemoryGets part (with_frame_copies x earlier) earlier (pair_copied part x) }
 {}
 
 /// Accesses that move no frame, and a read of frame data of which words are due: it has the flow of a read without them.
-pub fn quiet_laws()
+pub fn quiet_accesses_move_no_frame()
     ensures pairs { (part : PartData) (s : Settings) (f : Flow) (later : History) → AreQuiet later → pairs_from part s f later ≡ [] }
     ensures memory { (part : PartData) (later earlier : History) → AreQuiet later → AreSame (memory_of part (later ++ earlier)) (memory_of part earlier) }
     ensures some_due { (part : PartData) (h : History) (register count due n : ℕ) → ReadsMore h register count due →
@@ -128,7 +128,7 @@ pub fn quiet_laws()
 
 /// A write of whole frames after a FAR load leaves the memory overridden by a plan of these frames at the slots in order.
 /// MFW right after WCFG takes the last frame of the run, and words of MFWR keep it and the settings.
-pub fn plan_laws()
+pub fn written_frames_are_a_plan()
     ensures write { (part : PartData) (earlier : History) (x : FrameWrite) → TakesWrite part earlier x → Rises 0 (addresses_in part) →
         MemoryGets part (with_frames x earlier) earlier (placed part x) }
     ensures source { (part : PartData) (h : History) (c place : ℕ) (frames : List (List ℕ)) (last : List ℕ) → MfwAfter part h c frames last →
@@ -152,7 +152,7 @@ pub fn words_have_room()
 {}
 
 /// What is kept of frames without a word due leads back from the same history, and from one with one access more.
-pub fn saving_laws()
+pub fn kept_frames_lead_back()
     ensures same { (part : PartData) (s : SavedState) (old new : FramesState) → FramesAreKept part s old new →
         AreSame (frames_map part new) (frames_map part old) → FramesBack part s new old }
     ensures one { (part : PartData) (s : SavedState) (old new : FramesState) (h : History) (e : Entry) → FramesAreKept part s old new →

@@ -7,7 +7,7 @@ ghost use Rattle.x7_memory.specs.Frames.{frame_at, zeros, AreFramesOf};
 ghost use Rattle.x7_memory.specs.Plan.{PlanRow, PlanData, PlansEach, IsPlan, AreInOrder, AreApart, planned, planned_addresses, total};
 
 /// One map over another: twice, in any order where no address is in both, and by one frame.
-pub fn override_laws()
+pub fn maps_override_by_address()
     ensures twice { (m p q : FrameMap) → AreSame (override (override m p) q) (override m (override p q)) }
     ensures disjoint { (m p q : FrameMap) → AreDisjoint p q → AreSame (override (override m p) q) (override (override m q) p) }
     ensures again { (m p : FrameMap) → AreSame (override (override m p) p) (override m p) }
@@ -17,14 +17,14 @@ pub fn override_laws()
 {}
 
 /// A memory as a map: the part's addresses alone have frames, zeros are zeros, and equal maps are equal memories.
-pub fn memory_laws()
+pub fn memories_are_maps()
     ensures outside { (part : PartData) (frames : List (List ℕ)) (far : ℕ) → (¬ Contains (addresses_in part) far) → frame_at part frames far ≡ None }
     ensures zeros { (part : PartData) (far : ℕ) → Contains (addresses_in part) far → zeros part far ≡ Some (replicate (frame_words part) 0) }
     ensures equal { (part : PartData) (m n : List (List ℕ)) → AreFramesOf part m → AreFramesOf part n → AreSame (frame_at part m) (frame_at part n) → m ≡ n }
 {}
 
 /// A plan as a map: its rows, the addresses that it names, its parts, and its total.
-pub fn plan_laws()
+pub fn plans_are_maps()
     ensures rows { (plan : PlanData) (k : ℕ) (d : PlanRow) → IsPlan plan → k < length plan.rows → planned plan.rows (slice_index_or plan.rows k d).far ≡ Some (slice_index_or plan.rows k d).words }
     ensures named { (rows : List PlanRow) (far : ℕ) → (planned rows far ≡ None) ↔ (¬ Contains (planned_addresses rows) far) }
     ensures joined { (before after : List PlanRow) → AreSame (planned (before ++ after)) (override (planned after) (planned before)) }

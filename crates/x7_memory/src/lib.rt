@@ -8,6 +8,6 @@ mod plan;
 mod rows;
 
 pub use draft::Draft;
-pub use laws::{memory_laws, override_laws, plan_laws};
+pub use laws::{maps_override_by_address, memories_are_maps, plans_are_maps};
 pub use memory::Memory;
 pub use plan::Plan;

@@ -16,7 +16,7 @@ ghost use Rattle.x7_part.specs.declared.slot.Slot.TheVariants.{Frame};
 
 /// The slots of a part in words: the slots from an address are their end that begins with it, each row ends in two pads,
 /// the slots of frames are the addresses in order, and a frame stands right after another in one row alone.
-pub fn slot_laws()
+pub fn slots_follow_the_addresses()
     ensures split { (part : PartData) (far : ℕ) → Contains (addresses_in part) far → (before : List Slot) × (slots_in part ≡ before ++ from far (slots_in part)) }
     ensures first { (part : PartData) (far : ℕ) → Contains (addresses_in part) far → slot_after part far 0 ≡ Frame far }
     ensures count { (part : PartData) → length (slots_in part) ≡ length (addresses_in part) + 2 * length part.rows }
@@ -29,7 +29,7 @@ pub fn slot_laws()
 {}
 
 /// The rows of a part in words: they are the rows of its file, put in rising order of block type, half and row, no two the same.
-pub fn row_laws()
+pub fn rows_are_in_order()
     ensures file { (text : List ℕ) (table : Members) (part : PartData) → parse_document text ≡ Some table → part_in text ≡ Ok part → IsPermutation (rows_in_file table) part.rows }
     ensures part { (text : List ℕ) (part : PartData) → part_in text ≡ Ok part → IsPart part }
     ensures rise { (part : PartData) → IsPart part → RowsRise part.rows }

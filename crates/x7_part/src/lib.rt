@@ -18,7 +18,7 @@ mod types;
 mod values;
 
 pub use fault::{PartFault, PartKey, Which};
-pub use laws::{row_laws, slot_laws};
+pub use laws::{rows_are_in_order, slots_follow_the_addresses};
 pub use parse::part_of;
 pub use part::Part;
 pub use slot::Slot;

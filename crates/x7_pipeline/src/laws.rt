@@ -21,7 +21,7 @@ ghost use Rattle.x7_pipeline.specs.Flow.{HoldsFlow, LandsAt, OfFlow, copied_by, 
 
 /// A run is its whole frames and a rest. Its frames but the newest land with the slots in order, those at pads nowhere;
 /// and what a memory gets by one word after the other is what it gets by all.
-pub fn run_laws()
+pub fn runs_land_in_slot_order()
     ensures frames { (width : ℕ) (run : List ℕ) → 0 < width → AreCutFrom width run (frames_of width run) (rest_of width run) }
     ensures order { (part : PartData) (base : ℕ) (run : List ℕ) →
         reverse (written_frames part base run) ≡ placed_from part base (reverse (but_newest (frames_of (frame_words part) run))) }
@@ -37,7 +37,7 @@ pub fn run_laws()
 {}
 
 /// Words in order are all written, or they are written up to the first that is refused.
-pub fn word_laws()
+pub fn words_go_up_to_the_first_refused()
     ensures whole { (part : PartData) (base : ℕ) (run words : List ℕ) → (written part base run words).fault ≡ None →
         written part base run words ≡ all_written words run }
     ensures refused { (part : PartData) (base : ℕ) (run words : List ℕ) (fault : RunFault) → (written part base run words).fault ≡ Some fault →
@@ -45,7 +45,7 @@ pub fn word_laws()
 {}
 
 /// MFW right after WCFG takes the newest whole frame, and there is no other source.
-pub fn source_laws()
+pub fn mfw_takes_the_newest_frame()
     ensures taken { (part : PartData) (run : List ℕ) → source_after part Command.Wcfg Command.Mfw run ≡ newest_of (frames_of (frame_words part) run) }
     ensures not_after { (part : PartData) (old new : Command) (run : List ℕ) → is_wcfg old ≡ false → source_after part old new run ≡ None }
     ensures not_under { (part : PartData) (old new : Command) (run : List ℕ) → is_mfw new ≡ false → source_after part old new run ≡ None }
@@ -54,7 +54,7 @@ pub fn source_laws()
 /// FAR as read is the base up to the first whole frame and where the base is no address. After a whole frame, or the pad
 /// frame of a readback, and `count` more it stands at slot `count` of those from the base on; past the limit of a readback
 /// it is the last address.
-pub fn far_laws()
+pub fn far_is_read_by_slots()
     ensures loaded { (part : PartData) (base : ℕ) → far_of part base [] 0 ≡ base }
     ensures nowhere { (part : PartData) (base : ℕ) (run : List ℕ) (given : ℕ) → has_frame_at part base ≡ false → far_of part base run given ≡ base }
     ensures begun { (part : PartData) (base given : ℕ) (run : List ℕ) → length run < frame_words part → given < frame_words part → far_of part base run given ≡ base }
@@ -67,7 +67,7 @@ pub fn far_laws()
 {}
 
 /// A readback gives a frame of zeros, then the frames at the slots, then zeros.
-pub fn read_laws()
+pub fn readbacks_give_frames_along_slots()
     ensures pad { (part : PartData) (base : ℕ) (memory : FrameMap) (i : ℕ) → i < frame_words part → readback_at part base memory i ≡ 0 }
     ensures frames { (part : PartData) (base : ℕ) (memory : FrameMap) (n i : ℕ) → i < frame_words part →
         readback_at part base memory (place_in part n i) ≡ word_at (slot_after part base n) memory i }
@@ -76,7 +76,7 @@ pub fn read_laws()
 {}
 
 /// When there are faults, and that a refused word would change neither the written frames nor FAR as read.
-pub fn fault_laws()
+pub fn refused_words_change_nothing()
     ensures address { (part : PartData) (far : ℕ) → (has_frame_at part far ≡ true) ↔ Contains (addresses_in part) far }
     ensures overrun { (part : PartData) (base word newest : ℕ) (run : List ℕ) → (write_fault part base (newest ∷ run) ≡ Some RunFault.Overrun) ↔ Overruns part base (word ∷ newest ∷ run) }
     ensures written_frames { (part : PartData) (base : ℕ) (run : List ℕ) (word : ℕ) (fault : RunFault) → write_fault part base run ≡ Some fault →
@@ -89,13 +89,13 @@ pub fn fault_laws()
 {}
 
 /// Two pipelines that stand for the same are equal.
-pub fn pipeline_laws()
+pub fn pipelines_of_the_same_are_equal()
     ensures one { (part : PartData) (p q : PipelineData) → OfFlow part p (λ f. HoldsFlow part q f → p ≡ q) }
 {}
 
 /// A kept frame leads back where the memory changed at its address alone. A copy changes just the address where it puts one,
 /// and so does a word under another command than MFW.
-pub fn saving_laws()
+pub fn a_kept_frame_leads_back()
     ensures back { (part : PartData) (at : Option ℕ) (old new : List (List ℕ)) → HaveChangedAt part at old new →
         AreSame (put_over (pair_at (frame_at part old) at) (frame_at part new)) (frame_at part old) }
     ensures copy { (part : PartData) (p : PipelineData) → OfFlow part p (λ f. (old new : FrameMap) → fault_of_copy part f ≡ None

@@ -7,7 +7,7 @@ mod phases;
 mod startup;
 mod watchdog;
 
-pub use laws::startup_laws;
+pub use laws::phases_never_fall;
 pub use lines::Lines;
 pub use startup::Startup;
 pub use watchdog::Watchdog;

@@ -1,0 +1,18 @@
+use Rattle.x7_flow.proofs.ManyLemmas.{flow_twice, memory_after_load_alone, pairs_twice, settings_twice}
+use Rattle.x7_flow.proofs.AlikeLemmas.{loaded_alike}
+use Rattle.x7_flow.proofs.laws.later_histories_join.Goals as goal
+
+pub returns-clause-settings : goal.returns-clause-settings
+returns-clause-settings c = settings_twice
+
+pub returns-clause-flow : goal.returns-clause-flow
+returns-clause-flow c = λ x. flow_twice x.part x.settings x.flow
+
+pub returns-clause-pairs : goal.returns-clause-pairs
+returns-clause-pairs c = λ x. pairs_twice x.part x.settings x.flow
+
+pub returns-clause-alone : goal.returns-clause-alone
+returns-clause-alone c = memory_after_load_alone
+
+pub returns-clause-alike : goal.returns-clause-alike
+returns-clause-alike c = loaded_alike

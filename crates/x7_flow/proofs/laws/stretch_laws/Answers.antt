@@ -1,5 +1,0 @@
-use Rattle.x7_flow.proofs.StretchLemmas.{by_stretches}
-use Rattle.x7_flow.proofs.laws.stretch_laws.Goals as goal
-
-pub returns : goal.returns
-returns c = record { memory = by_stretches }

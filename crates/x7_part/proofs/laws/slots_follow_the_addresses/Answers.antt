@@ -1,0 +1,23 @@
+use Rattle.x7_part.proofs.SlotLemmas.{slots_split, slots_first, slots_number, slots_all, slots_rows, among_slots, slots_next}
+use Rattle.x7_part.proofs.laws.slots_follow_the_addresses.Goals as goal
+
+pub returns-clause-split : goal.returns-clause-split
+returns-clause-split c = slots_split
+
+pub returns-clause-first : goal.returns-clause-first
+returns-clause-first c = slots_first
+
+pub returns-clause-count : goal.returns-clause-count
+returns-clause-count c = slots_number
+
+pub returns-clause-all : goal.returns-clause-all
+returns-clause-all c = slots_all
+
+pub returns-clause-rows : goal.returns-clause-rows
+returns-clause-rows c = λ part before after r e. slots_rows part.far part.rows before after r e
+
+pub returns-clause-frames : goal.returns-clause-frames
+returns-clause-frames c = λ part. among_slots part.far part.rows
+
+pub returns-clause-next : goal.returns-clause-next
+returns-clause-next c = slots_next
