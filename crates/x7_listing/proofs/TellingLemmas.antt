@@ -7,7 +7,7 @@ use Rattle.x7_packets.specs.SyncWord.{sync_bytes}
 use Rattle.x7_packets.specs.Packet.{Packet, EachPacket, ended, stepped}
 use Rattle.x7_packets.specs.Machine.{ends_by, is_end}
 use Rattle.x7_packets.specs.Reading.{Place, Searching, Synced, Session, IsReading, IsSession, tail_of}
-use Rattle.x7_packets.specs.Cutter.{Adds, LongerSession, Turns}
+use Rattle.x7_packets.specs.Cutter.{Adds, LongerSession, ChangesMode}
 use Rattle.x7_packets.specs.declared.header.Step.{Step}
 use Rattle.x7_packets.specs.declared.header.Step.TheVariants.{Filler, Nop, Open, Payload, Read, Bad}
 use Rattle.x7_packets.specs.Mode.{Mode}
@@ -25,17 +25,17 @@ abbrev B : ℕ → List ℕ → List ℕ
 B i xs = open_text 32 (codes "bytes ") hex_byte i xs
 
 skipped : (line2 : ℕ) (held2 all2 start gap : List ℕ) (run : Bor (List ℕ)) (sessions new_sessions : List Session) (np : Place) (old new : Mode)
-    → Adds (Skip run) sessions (Searching gap) new_sessions np → Turns (Skip run) old new np → GapListed all2 start line2 held2 (gap ++ run.now) → HasListedAt (written_of false line2 held2 all2) start np new
+    → Adds (Skip run) sessions (Searching gap) new_sessions np → ChangesMode (Skip run) old new np → GapListed all2 start line2 held2 (gap ++ run.now) → HasListedAt (written_of false line2 held2 all2) start np new
 skipped line2 held2 all2 start gap run sessions new_sessions np old new a m g = elim a.1 [
   | inl e ↦ subst (λ p. HasListedAt (written_of false line2 held2 all2) start p new) (sym e) g
-  | inr f ↦ subst (λ p. Turns (Skip run) old new p → HasListedAt (written_of false line2 held2 all2) start p new) (sym f.2) (λ k. (k, refl, refl, subst (λ t. GapListed all2 start line2 held2 t) f.1 g)) m
+  | inr f ↦ subst (λ p. ChangesMode (Skip run) old new p → HasListedAt (written_of false line2 held2 all2) start p new) (sym f.2) (λ k. (k, refl, refl, subst (λ t. GapListed all2 start line2 held2 t) f.1 g)) m
 ]
 
 same_sessions : (synced : Bool) (line : ℕ) (held all before : List ℕ) (sessions new_sessions : List Session) (np : Place) (new : Mode) → new_sessions ≡ sessions → HasListedAt (written_of synced line held all) (before ++ flat_map session_text sessions) np new → HasListed (written_of synced line held all) before new_sessions np new
 same_sessions synced line held all before sessions new_sessions np new e a = subst (λ s. HasListedAt (written_of synced line held all) (before ++ flat_map session_text s) np new) (sym e) a
 
 pub skip_listed : (synced : Bool) (line line2 : ℕ) (held held2 all all2 before : List ℕ) (sessions new_sessions : List Session) (at np : Place) (old new : Mode) (run : Bor (List ℕ))
-    → HasListed (written_of synced line held all) before sessions at old → Adds (Skip run) sessions at new_sessions np → Turns (Skip run) old new np
+    → HasListed (written_of synced line held all) before sessions at old → Adds (Skip run) sessions at new_sessions np → ChangesMode (Skip run) old new np
     → ((start gap : List ℕ) → GapListed all start (if synced then 0 else line) (if synced then [] else held) gap → GapListed all2 start line2 held2 (gap ++ run.now))
     → HasListed (written_of false line2 held2 all2) before new_sessions np new
 skip_listed synced line line2 held held2 all all2 before sessions new_sessions (Synced gap packets tail) np old new run t a m g = absurd a
@@ -61,7 +61,7 @@ found_gap all start line held gap g =
     gap_closed all start line g.prefix g.listed g.count ∙ ap (λ t. start ++ bytes_text t) (sym same)
 
 pub sync_listed : (synced : Bool) (line : ℕ) (held held2 all all2 before : List ℕ) (sessions new_sessions : List Session) (at np : Place) (old new : Mode)
-    → HasListed (written_of synced line held all) before sessions at old → Adds Sync sessions at new_sessions np → Turns Sync old new np → (synced ≡ false → all2 ≡ all ++ close line ++ codes "sync\n") → HasListed (written_of true 0 held2 all2) before new_sessions np new
+    → HasListed (written_of synced line held all) before sessions at old → Adds Sync sessions at new_sessions np → ChangesMode Sync old new np → (synced ≡ false → all2 ≡ all ++ close line ++ codes "sync\n") → HasListed (written_of true 0 held2 all2) before new_sessions np new
 sync_listed synced line held held2 all all2 before sessions new_sessions (Searching gap) np old new t a m e = absurd a
 sync_listed true line held held2 all all2 before sessions new_sessions (Synced gap packets tail) np old new t a m e = absurd (t.0 m.0)
 sync_listed false line held held2 all all2 before sessions new_sessions (Synced gap packets tail) np old new t a m e =

@@ -4,7 +4,7 @@ use Rattle.std.specs.List.{flat_map}
 use Rattle.x7_packets.specs.SyncWord.{sync_bytes}
 use Rattle.x7_packets.specs.Packet.{Packet, stepped}
 use Rattle.x7_packets.specs.Reading.{Place, Searching, Synced, Session, IsReading, tail_of}
-use Rattle.x7_packets.specs.Cutter.{CutterState, CutterStandsFor, Adds, Turns, IsRun}
+use Rattle.x7_packets.specs.Cutter.{CutterState, CutterStandsFor, Adds, ChangesMode, IsRun}
 use Rattle.x7_packets.specs.declared.header.Step.{Step}
 use Rattle.x7_packets.specs.declared.header.Step.TheVariants.{Payload}
 use Rattle.x7_packets.specs.declared.cutter.Cut.{Cut}
@@ -98,7 +98,7 @@ pub record HasListedAll (w : WrittenSoFar) (before : List ℕ) (sessions : List 
 abbrev pub WritesRun : Cut → WrittenSoFar → WrittenSoFar → Type 0
 WritesRun run w w2 =
     (before bytes : List ℕ) (sessions new_sessions : List Session) (place new_place : Place) (old new : Mode)
-    → HasListed w before sessions place old → Adds run sessions place new_sessions new_place → Turns run old new new_place → IsRun run
+    → HasListed w before sessions place old → Adds run sessions place new_sessions new_place → ChangesMode run old new new_place → IsRun run
     → IsReading bytes new_sessions new_place → HasListed w2 before new_sessions new_place new
 
 -- a lister

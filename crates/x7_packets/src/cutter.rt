@@ -176,8 +176,8 @@ impl Cutter {
         }
     }
 
-    /// How many of the words that come next are no-ops of a session, one after the other; there may be more. To take each of them, as a word
-    /// in a header's place, leaves the cutter as it is, and no access is entered.
+    /// How many of the words that come next are no-ops of a session, one after the other; there may be more. To take each of
+    /// them, as a word in a header's place, leaves the cutter as it is, and no access is entered.
     #[inline(always)]
     pub fn nop_count(&self, rest: &[u8]) -> usize
         ensures within { 4 * result ≤ length rest.now }
