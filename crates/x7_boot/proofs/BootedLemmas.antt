@@ -8,7 +8,7 @@ use Rattle.x7_regs.specs.declared.boot_status.Kind.{Kind}
 use Rattle.x7_engine.specs.Kept.{is_fallback}
 use Rattle.x7_engine.specs.Standing.{DeviceState}
 use Rattle.x7_engine.specs.declared.kept.Kept.{Kept}
-use Rattle.x7_boot.specs.Attempt.{IsDeviceOf, Trial, Tries, attempt_at}
+use Rattle.x7_boot.specs.Attempt.{IsDeviceOf, AttemptCourse, AttemptEnds, attempt_at}
 use Rattle.x7_boot.specs.Boot.{IsBoot, Led, LeadsTo, next_by, tried}
 use Rattle.x7_boot.specs.declared.attempt.Ending.{Ending}
 use Rattle.x7_boot.specs.declared.boots.BootEnd.{BootEnd}
@@ -25,24 +25,24 @@ pub where_on : (known : Option (List ℕ)) (P Q R : List ℕ → Type 0) → ((a
 where_on None P Q R f p q = tt
 where_on (Some all) P Q R f p q = f all p q
 
-one_more : (older : List Trial) (t : Trial) (attempts : List Tried) (next : Tried) → attempts ≡ reverse (map tried older) → next ≡ tried t → attempts ++ next ∷ [] ≡ reverse (map tried (t ∷ older))
+one_more : (older : List AttemptCourse) (t : AttemptCourse) (attempts : List Tried) (next : Tried) → attempts ≡ reverse (map tried older) → next ≡ tried t → attempts ++ next ∷ [] ≡ reverse (map tried (t ∷ older))
 one_more older t attempts next e f =
     ap (λ (a : List Tried). a ++ next ∷ []) e ∙ ap (λ (x : Tried). reverse (map tried older) ++ x ∷ []) f ∙ sym (reverse-append (tried t ∷ []) (map tried older))
 
-tried_is : (part : PartData) (kept : Kept) (address : ℕ) (all : List ℕ) (d : DeviceState) (ending : Ending) (tries : Tries (attempt_at part kept address) all d ending) → record { kind = kept.kind; address = address; ending = ending } ≡ tried tries.trial
+tried_is : (part : PartData) (kept : Kept) (address : ℕ) (all : List ℕ) (d : DeviceState) (ending : Ending) (tries : AttemptEnds (attempt_at part kept address) all d ending) → record { kind = kept.kind; address = address; ending = ending } ≡ tried tries.course
 tried_is part kept address all d ending tries =
-    let e : tries.trial.kept ≡ kept = tries.kept_is in
-    let f : tries.trial.address ≡ address = tries.address_is in
-    let g : tries.trial.ending ≡ ending = tries.ending_is in
-    sym (ap (λ (k : Kept). record { kind = k.kind; address = tries.trial.address; ending = tries.trial.ending }) e
-    ∙ ap (λ (n : ℕ). record { kind = kept.kind; address = n; ending = tries.trial.ending }) f
+    let e : tries.course.kept ≡ kept = tries.kept_is in
+    let f : tries.course.address ≡ address = tries.address_is in
+    let g : tries.course.ending ≡ ending = tries.ending_is in
+    sym (ap (λ (k : Kept). record { kind = k.kind; address = tries.course.address; ending = tries.course.ending }) e
+    ∙ ap (λ (n : ℕ). record { kind = kept.kind; address = n; ending = tries.course.ending }) f
     ∙ ap (λ (n : Ending). record { kind = kept.kind; address = address; ending = n }) g)
 
 -- the attempts with one more, by the table
-leads_on : (part : PartData) (kept : Kept) (address : ℕ) (all : List ℕ) (d : DeviceState) (ending : Ending) (attempts : List Tried) (number : ℕ) (next : Next) (led : Led (attempt_at part kept address) all attempts number) (tries : Tries (attempt_at part kept address) all d ending)
-    → ((t : Trial) → IsDeviceOf part d t → t.kept.kind ≡ kept.kind → next ≡ next_by part (number + 1) t ending) → LeadsTo part all (tries.trial ∷ led.older) next
+leads_on : (part : PartData) (kept : Kept) (address : ℕ) (all : List ℕ) (d : DeviceState) (ending : Ending) (attempts : List Tried) (number : ℕ) (next : Next) (led : Led (attempt_at part kept address) all attempts number) (tries : AttemptEnds (attempt_at part kept address) all d ending)
+    → ((t : AttemptCourse) → IsDeviceOf part d t → t.kept.kind ≡ kept.kind → next ≡ next_by part (number + 1) t ending) → LeadsTo part all (tries.course ∷ led.older) next
 leads_on part kept address all d ending attempts number next led tries table =
-    let t : Trial = tries.trial in
+    let t : AttemptCourse = tries.course in
     let e : t.kept ≡ kept = tries.kept_is in
     let f : t.address ≡ address = tries.address_is in
     let g : t.ending ≡ ending = tries.ending_is in
@@ -53,24 +53,24 @@ leads_on part kept address all d ending attempts number next led tries table =
       here ∙ sym (ap (λ (n : ℕ). next_by part (n + 1) t t.ending) c ∙ ap (λ (x : Ending). next_by part (number + 1) t x) g),
     )
 
-pub led_on : (part : PartData) (kept kept_now : Kept) (address address_now : ℕ) (all : List ℕ) (d : DeviceState) (ending : Ending) (attempts : List Tried) (number : ℕ) (next : Next) → Led (attempt_at part kept address) all attempts number → Tries (attempt_at part kept address) all d ending
-    → ((t : Trial) → IsDeviceOf part d t → t.kept.kind ≡ kept.kind → next ≡ next_by part (number + 1) t ending) → next ≡ Again kept_now address_now
+pub led_on : (part : PartData) (kept kept_now : Kept) (address address_now : ℕ) (all : List ℕ) (d : DeviceState) (ending : Ending) (attempts : List Tried) (number : ℕ) (next : Next) → Led (attempt_at part kept address) all attempts number → AttemptEnds (attempt_at part kept address) all d ending
+    → ((t : AttemptCourse) → IsDeviceOf part d t → t.kept.kind ≡ kept.kind → next ≡ next_by part (number + 1) t ending) → next ≡ Again kept_now address_now
     → Led (attempt_at part kept_now address_now) all (attempts ++ record { kind = kept.kind; address = address; ending = ending } ∷ []) (number + 1)
 led_on part kept kept_now address address_now all d ending attempts number next led tries table is = record {
-  older = tries.trial ∷ led.older;
-  leads = subst (λ (n : Next). LeadsTo part all (tries.trial ∷ led.older) n) is (leads_on part kept address all d ending attempts number next led tries table);
-  tried_are = one_more led.older tries.trial attempts _ led.tried_are (tried_is part kept address all d ending tries);
+  older = tries.course ∷ led.older;
+  leads = subst (λ (n : Next). LeadsTo part all (tries.course ∷ led.older) n) is (leads_on part kept address all d ending attempts number next led tries table);
+  tried_are = one_more led.older tries.course attempts _ led.tried_are (tried_is part kept address all d ending tries);
   count = let c : length led.older ≡ number = led.count in omega (arith, c);
 }
 
-pub led_ends : (part : PartData) (kept : Kept) (address : ℕ) (all : List ℕ) (d : DeviceState) (ending : Ending) (attempts : List Tried) (number : ℕ) (next : Next) (end : BootEnd) → Led (attempt_at part kept address) all attempts number → Tries (attempt_at part kept address) all d ending
-    → ((t : Trial) → IsDeviceOf part d t → t.kept.kind ≡ kept.kind → next ≡ next_by part (number + 1) t ending) → next ≡ Ends end
+pub led_ends : (part : PartData) (kept : Kept) (address : ℕ) (all : List ℕ) (d : DeviceState) (ending : Ending) (attempts : List Tried) (number : ℕ) (next : Next) (end : BootEnd) → Led (attempt_at part kept address) all attempts number → AttemptEnds (attempt_at part kept address) all d ending
+    → ((t : AttemptCourse) → IsDeviceOf part d t → t.kept.kind ≡ kept.kind → next ≡ next_by part (number + 1) t ending) → next ≡ Ends end
     → IsBoot part all (record { attempts = attempts ++ record { kind = kept.kind; address = address; ending = ending } ∷ []; end = end; device = d })
 led_ends part kept address all d ending attempts number next end led tries table is = record {
-  last = tries.trial;
+  last = tries.course;
   older = led.older;
-  leads = subst (λ (n : Next). LeadsTo part all (tries.trial ∷ led.older) n) is (leads_on part kept address all d ending attempts number next led tries table);
-  attempts = one_more led.older tries.trial attempts _ led.tried_are (tried_is part kept address all d ending tries);
+  leads = subst (λ (n : Next). LeadsTo part all (tries.course ∷ led.older) n) is (leads_on part kept address all d ending attempts number next led tries table);
+  attempts = one_more led.older tries.course attempts _ led.tried_are (tried_is part kept address all d ending tries);
   device = tries.device;
 }
 
@@ -78,31 +78,31 @@ led_ends part kept address all d ending attempts number next end led tries table
 
 -- what the table says of the attempt that left this device
 abbrev pub ByTable : DeviceState → Kept → ℕ → Ending → Next → Type 0
-ByTable d kept number ending next = (part : PartData) (t : Trial) → IsDeviceOf part d t → t.kept.kind ≡ kept.kind → next ≡ next_by part number t ending
+ByTable d kept number ending next = (part : PartData) (t : AttemptCourse) → IsDeviceOf part d t → t.kept.kind ≡ kept.kind → next ≡ next_by part number t ending
 
 -- an attempt as it is reported
 abbrev pub known_as : Kept → ℕ → Ending → Tried
 known_as kept address ending = record { kind = kept.kind; address = address; ending = ending }
 
 pub led_next : (part old_part : PartData) (kept kept_now : Kept) (address address_now : ℕ) (known told : Option (List ℕ)) (d : DeviceState) (ending : Ending) (attempts now : List Tried) (number : ℕ) (next : Next)
-    → told ≡ known → old_part ≡ part → IfKnown known (λ all. AreBytes all → Led (attempt_at part kept address) all attempts number) → IfKnown told (λ all. AreBytes all → Tries (attempt_at old_part kept address) all d ending)
+    → told ≡ known → old_part ≡ part → IfKnown known (λ all. AreBytes all → Led (attempt_at part kept address) all attempts number) → IfKnown told (λ all. AreBytes all → AttemptEnds (attempt_at old_part kept address) all d ending)
     → ByTable d kept (number + 1) ending next → next ≡ Again kept_now address_now → now ≡ attempts ++ known_as kept address ending ∷ []
     → IfKnown known (λ all. AreBytes all → Led (attempt_at part kept_now address_now) all now (number + 1))
 led_next part old_part kept kept_now address address_now known told d ending attempts now number next same e led tries table is items =
-    let here : IfKnown known (λ all. AreBytes all → Tries (attempt_at part kept address) all d ending) =
-    subst (λ (p : PartData). IfKnown known (λ all. AreBytes all → Tries (attempt_at p kept address) all d ending)) e (subst (λ (k : Option (List ℕ)). IfKnown k (λ all. AreBytes all → Tries (attempt_at old_part kept address) all d ending)) same tries) in
-    where_on known (λ all. AreBytes all → Led (attempt_at part kept address) all attempts number) (λ all. AreBytes all → Tries (attempt_at part kept address) all d ending) (λ all. AreBytes all → Led (attempt_at part kept_now address_now) all now (number + 1))
+    let here : IfKnown known (λ all. AreBytes all → AttemptEnds (attempt_at part kept address) all d ending) =
+    subst (λ (p : PartData). IfKnown known (λ all. AreBytes all → AttemptEnds (attempt_at p kept address) all d ending)) e (subst (λ (k : Option (List ℕ)). IfKnown k (λ all. AreBytes all → AttemptEnds (attempt_at old_part kept address) all d ending)) same tries) in
+    where_on known (λ all. AreBytes all → Led (attempt_at part kept address) all attempts number) (λ all. AreBytes all → AttemptEnds (attempt_at part kept address) all d ending) (λ all. AreBytes all → Led (attempt_at part kept_now address_now) all now (number + 1))
     (λ all l t fits. subst (λ (a : List Tried). Led (attempt_at part kept_now address_now) all a (number + 1)) (sym items)
     (led_on part kept kept_now address address_now all d ending attempts number next (l fits) (t fits) (table part) is)) led here
 
 pub boot_ends : (part old_part : PartData) (kept : Kept) (address : ℕ) (known told : Option (List ℕ)) (d : DeviceState) (ending : Ending) (attempts now : List Tried) (number : ℕ) (next : Next) (end : BootEnd)
-    → told ≡ known → old_part ≡ part → IfKnown known (λ all. AreBytes all → Led (attempt_at part kept address) all attempts number) → IfKnown told (λ all. AreBytes all → Tries (attempt_at old_part kept address) all d ending)
+    → told ≡ known → old_part ≡ part → IfKnown known (λ all. AreBytes all → Led (attempt_at part kept address) all attempts number) → IfKnown told (λ all. AreBytes all → AttemptEnds (attempt_at old_part kept address) all d ending)
     → ByTable d kept (number + 1) ending next → next ≡ Ends end → now ≡ attempts ++ known_as kept address ending ∷ []
     → IfKnown known (λ all. AreBytes all → IsBoot part all (record { attempts = now; end = end; device = d }))
 boot_ends part old_part kept address known told d ending attempts now number next end same e led tries table is items =
-    let here : IfKnown known (λ all. AreBytes all → Tries (attempt_at part kept address) all d ending) =
-    subst (λ (p : PartData). IfKnown known (λ all. AreBytes all → Tries (attempt_at p kept address) all d ending)) e (subst (λ (k : Option (List ℕ)). IfKnown k (λ all. AreBytes all → Tries (attempt_at old_part kept address) all d ending)) same tries) in
-    where_on known (λ all. AreBytes all → Led (attempt_at part kept address) all attempts number) (λ all. AreBytes all → Tries (attempt_at part kept address) all d ending) (λ all. AreBytes all → IsBoot part all (record { attempts = now; end = end; device = d }))
+    let here : IfKnown known (λ all. AreBytes all → AttemptEnds (attempt_at part kept address) all d ending) =
+    subst (λ (p : PartData). IfKnown known (λ all. AreBytes all → AttemptEnds (attempt_at p kept address) all d ending)) e (subst (λ (k : Option (List ℕ)). IfKnown k (λ all. AreBytes all → AttemptEnds (attempt_at old_part kept address) all d ending)) same tries) in
+    where_on known (λ all. AreBytes all → Led (attempt_at part kept address) all attempts number) (λ all. AreBytes all → AttemptEnds (attempt_at part kept address) all d ending) (λ all. AreBytes all → IsBoot part all (record { attempts = now; end = end; device = d }))
     (λ all l t fits. subst (λ (a : List Tried). IsBoot part all (record { attempts = a; end = end; device = d })) (sym items)
     (led_ends part kept address all d ending attempts number next end (l fits) (t fits) (table part) is)) led here
 

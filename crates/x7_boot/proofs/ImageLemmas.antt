@@ -1,7 +1,7 @@
 -- Lemmas on the layout of an image.
 use Rattle.std.proofs.Common.{◌≡◌, ℕ, ◌/◌, List, [], ◌∷◌, ◌++◌, length, refl, ap, ◌∙◌}
 use Rattle.std.specs.List.{AllZip, repeat}
-use Rattle.x7_boot.specs.Image.{closed_slots, first_sector, slot, image_of, image_size, place_after_golden, filled_to}
+use Rattle.x7_boot.specs.Image.{free_slots, first_sector, slot, image_of, image_size, place_after_golden, filled_to}
 
 -- the image by its places
 pub image_put : (unit place size start : ℕ) (golden update all : List ℕ) → place ≡ place_after_golden (length golden) → size ≡ image_size (length golden) (length update)
@@ -19,6 +19,6 @@ equal (x ∷ xs) [] e = absurd e
 equal (x ∷ xs) (y ∷ ys) e = let head : y ≡ x = e.0 in let tail : ys ≡ xs = equal xs ys e.1 in cc
 
 -- all slots but the first
-pub closed_slots_are : (start : ℕ) (one all : List ℕ) → one ≡ slot 0xFFFFFFFF start → AllZip (λ x y. y ≡ x) (repeat 2047 one) all → all ≡ closed_slots start
-unfolding closed_slots
-closed_slots_are start one all e f = equal (repeat 2047 one) all f ∙ ap (λ o. repeat 2047 o) e
+pub free_slots_are : (start : ℕ) (one all : List ℕ) → one ≡ slot 0xFFFFFFFF start → AllZip (λ x y. y ≡ x) (repeat 2047 one) all → all ≡ free_slots start
+unfolding free_slots
+free_slots_are start one all e f = equal (repeat 2047 one) all f ∙ ap (λ o. repeat 2047 o) e

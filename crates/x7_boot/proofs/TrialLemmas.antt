@@ -19,7 +19,7 @@ use Rattle.x7_engine.specs.Stop.{Stopped, stop_fault, stopped_at}
 use Rattle.x7_engine.specs.Value.{failure_of}
 use Rattle.x7_engine.proofs.BootLemmas.{may_wrap, none_due_at_first}
 use Rattle.x7_engine.proofs.StateLemmas.{stop_is_final_state, stop_is_final_stop}
-use Rattle.x7_boot.specs.Attempt.{Feeds, IsReady, NoneBefore, StepsTo, Took, Trial, Tries, attempt_at, ending_at, ending_by, failed_by, past_in_flash}
+use Rattle.x7_boot.specs.Attempt.{Feeds, IsReady, NoneBefore, StepsTo, Took, AttemptCourse, AttemptEnds, attempt_at, ending_at, ending_by, failed_by, past_in_flash}
 use Rattle.x7_boot.specs.declared.attempt.Ending.{Ending}
 use Rattle.x7_boot.specs.declared.attempt.Ending.TheVariants.{Started, Iprog, Failed}
 use Rattle.x7_boot.specs.declared.attempt.Step.{Step}
@@ -156,16 +156,16 @@ none_of part kept from bytes rest e none k l =
 
 -- the attempt of a page that ends it
 pub tries_ended : (part : PartData) (kept : Kept) (address : ℕ) (all : List ℕ) (d new : DeviceState) (page : List ℕ) (at end : ℕ) (step : Step) (e : Ending) → at ≤ end → (f : Feeds (attempt_at part kept address) (Some all) d at)
-    → page ≡ slice_range all at end → Took (past_in_flash part kept f.bytes) new page step → step ≡ Ends e → Tries (attempt_at part kept address) all new e
+    → page ≡ slice_range all at end → Took (past_in_flash part kept f.bytes) new page step → step ≡ Ends e → AttemptEnds (attempt_at part kept address) all new e
 tries_ended part kept address all d new page at end step e order f told t is =
     let bytes : List ℕ = f.bytes ++ take t.count page in
     let count : address + length f.bytes ≡ at = f.count in
     let rest : List ℕ = drop t.count page ++ drop (end - address) (drop address all) in
     let from : drop address all ≡ bytes ++ rest = flash_from all f.bytes page address at end t.count (omega (arith, count)) order t.within f.read told in
     let ends : ending_at part kept bytes ≡ Some e = subst (λ (s : Step). StepsTo part kept bytes s) is t.steps in
-    let trial : Trial = record { kept = kept; address = address; bytes = bytes; wrapped = false; ending = e } in
+    let course : AttemptCourse = record { kept = kept; address = address; bytes = bytes; wrapped = false; ending = e } in
     record {
-      trial = trial;
+      course = course;
       is = inl (record { rest = rest; taken = from; ends = ends; first = none_of part kept (drop address all) bytes rest from (none_joined part kept f.bytes page t.count t.within f.none t.none); in_flash = refl });
       kept_is = refl;
       address_is = refl;
@@ -218,7 +218,7 @@ taken_stopped part kept d from bytes rest e fits stands some = by (stop_in part 
 
 -- the attempt of a page in which the device stopped, where the flash has ended for it
 pub tries_stopped : (part : PartData) (kept : Kept) (address : ℕ) (all : List ℕ) (d new wrapped : DeviceState) (page : List ℕ) (at end : ℕ) (step : Step) → AreBytes all → at ≤ end → (f : Feeds (attempt_at part kept address) (Some all) d at)
-    → page ≡ slice_range all at end → (t : Took (past_in_flash part kept f.bytes) new page step) → step ≡ Stops → DeviceStandsFor part kept true wrapped (f.bytes ++ take t.count page) → Tries (attempt_at part kept address) all wrapped (Failed Wrap)
+    → page ≡ slice_range all at end → (t : Took (past_in_flash part kept f.bytes) new page step) → step ≡ Stops → DeviceStandsFor part kept true wrapped (f.bytes ++ take t.count page) → AttemptEnds (attempt_at part kept address) all wrapped (Failed Wrap)
 tries_stopped part kept address all d new wrapped page at end step fits order f told t is w =
     let bytes : List ℕ = f.bytes ++ take t.count page in
     let count : address + length f.bytes ≡ at = f.count in
@@ -227,7 +227,7 @@ tries_stopped part kept address all d new wrapped page at end step fits order f 
     let stopped : StepsTo part kept bytes Stops = subst (λ (s : Step). StepsTo part kept bytes s) is t.steps in
     let fits' : AreBytes (bytes ++ rest) = subst AreBytes from (all_back (λ b. b < 256) (take address all) (drop address all) (subst AreBytes (sym (take-append-drop address all)) fits)) in
     record {
-      trial = record { kept = kept; address = address; bytes = bytes; wrapped = true; ending = Failed Wrap };
+      course = record { kept = kept; address = address; bytes = bytes; wrapped = true; ending = Failed Wrap };
       is = inr (record {
         none = none_stopped part kept (drop address all) bytes rest from fits' stopped.0 stopped.1 (none_joined part kept f.bytes page t.count t.within f.none t.none);
         taken = taken_stopped part kept new (drop address all) bytes rest from fits' t.stands stopped.0;
@@ -242,7 +242,7 @@ tries_stopped part kept address all d new wrapped page at end step fits order f 
 
 -- the attempt that took all bytes of the flash
 pub tries_out : (part : PartData) (kept : Kept) (address : ℕ) (all : List ℕ) (d wrapped : DeviceState) (at : ℕ) → (f : Feeds (attempt_at part kept address) (Some all) d at) → length all ≤ at
-    → DeviceStandsFor part kept true wrapped f.bytes → Tries (attempt_at part kept address) all wrapped (Failed Wrap)
+    → DeviceStandsFor part kept true wrapped f.bytes → AttemptEnds (attempt_at part kept address) all wrapped (Failed Wrap)
 tries_out part kept address all d wrapped at f past w =
     let from : List ℕ = drop address all in
     let left : length from ≡ length all - address = length-drop address all in
@@ -251,7 +251,7 @@ tries_out part kept address all d wrapped at f past w =
     let going : stop_in part kept from ≡ None = ap (stop_in part kept) (sym whole) ∙ f.going in
     let taken : taken_of part kept from ≡ length from = ap (λ (o : Option Stopped). taken_by o (length from)) going in
     record {
-      trial = record { kept = kept; address = address; bytes = f.bytes; wrapped = true; ending = Failed Wrap };
+      course = record { kept = kept; address = address; bytes = f.bytes; wrapped = true; ending = Failed Wrap };
       is = inr (record {
         none = λ k l. elim (cases_lt k (length f.bytes)) [
           | inl early ↦ subst (λ (b : List ℕ). ending_at part kept (take k b) ≡ None) whole (f.none k early)
@@ -272,22 +272,22 @@ tries_out part kept address all d wrapped at f past w =
 -- ---- the same where the bytes of the flash are known or not
 
 pub known_out : (part : PartData) (kept : Kept) (address : ℕ) (known : Option (List ℕ)) (d wrapped : DeviceState) (at size : ℕ) (e : Ending) → (f : Feeds (attempt_at part kept address) known d at) → size ≤ at
-    → IfKnown known (λ all. size ≡ length all) → DeviceStandsFor part kept true wrapped f.bytes → e ≡ Failed Wrap → IfKnown known (λ all. AreBytes all → Tries (attempt_at part kept address) all wrapped e)
+    → IfKnown known (λ all. size ≡ length all) → DeviceStandsFor part kept true wrapped f.bytes → e ≡ Failed Wrap → IfKnown known (λ all. AreBytes all → AttemptEnds (attempt_at part kept address) all wrapped e)
 known_out part kept address None d wrapped at size e f past told w is = tt
 known_out part kept address (Some all) d wrapped at size e f past told w is =
-    λ fits. subst (λ (x : Ending). Tries (attempt_at part kept address) all wrapped x) (sym is) (tries_out part kept address all d wrapped at f (omega (arith, past, told)) w)
+    λ fits. subst (λ (x : Ending). AttemptEnds (attempt_at part kept address) all wrapped x) (sym is) (tries_out part kept address all d wrapped at f (omega (arith, past, told)) w)
 
 pub known_ended : (part : PartData) (kept : Kept) (address : ℕ) (known : Option (List ℕ)) (d new : DeviceState) (page : List ℕ) (at : ℕ) (step : Step) (e : Ending) → (f : Feeds (attempt_at part kept address) known d at)
-    → IfKnown known (λ all. page ≡ slice_range all at (at + length page)) → Took (past_in_flash part kept f.bytes) new page step → step ≡ Ends e → IfKnown known (λ all. AreBytes all → Tries (attempt_at part kept address) all new e)
+    → IfKnown known (λ all. page ≡ slice_range all at (at + length page)) → Took (past_in_flash part kept f.bytes) new page step → step ≡ Ends e → IfKnown known (λ all. AreBytes all → AttemptEnds (attempt_at part kept address) all new e)
 known_ended part kept address None d new page at step e f told t is = tt
 known_ended part kept address (Some all) d new page at step e f told t is = λ fits. tries_ended part kept address all d new page at (at + length page) step e (omega arith) f told t is
 
 pub known_stopped : (part : PartData) (kept : Kept) (address : ℕ) (known : Option (List ℕ)) (d new wrapped : DeviceState) (page : List ℕ) (at : ℕ) (step : Step) (e : Ending) → (f : Feeds (attempt_at part kept address) known d at)
     → IfKnown known (λ all. page ≡ slice_range all at (at + length page)) → (t : Took (past_in_flash part kept f.bytes) new page step) → step ≡ Stops → DeviceStandsFor part kept true wrapped (f.bytes ++ take t.count page) → e ≡ Failed Wrap
-    → IfKnown known (λ all. AreBytes all → Tries (attempt_at part kept address) all wrapped e)
+    → IfKnown known (λ all. AreBytes all → AttemptEnds (attempt_at part kept address) all wrapped e)
 known_stopped part kept address None d new wrapped page at step e f told t is w failed = tt
 known_stopped part kept address (Some all) d new wrapped page at step e f told t is w failed =
-    λ fits. subst (λ (x : Ending). Tries (attempt_at part kept address) all wrapped x) (sym failed) (tries_stopped part kept address all d new wrapped page at (at + length page) step fits (omega arith) f told t is w)
+    λ fits. subst (λ (x : Ending). AttemptEnds (attempt_at part kept address) all wrapped x) (sym failed) (tries_stopped part kept address all d new wrapped page at (at + length page) step fits (omega arith) f told t is w)
 
 -- a device that stopped, where the flash may end
 pub stops_here : (part : PartData) (kept : Kept) (d : DeviceState) (bytes page : List ℕ) (step : Step) → (kept.kind ≡ Bench → ⊥) → Took (past_in_flash part kept bytes) d page step → step ≡ Stops → MayWrap d

@@ -36,7 +36,7 @@ ending_at part kept bytes =
     if (state_of part kept false bytes).phase == 7 then Some Started else ending_by (why_of (stop_in part kept bytes))
 
 -- an attempt: what its device kept over the reset, its address, the bytes that the device took, whether the flash ended first, and what ended it
-pub record Trial : Type 0 where
+pub record AttemptCourse : Type 0 where
   pub kept : Kept
   pub address : ℕ
   pub bytes : List ℕ
@@ -44,15 +44,15 @@ pub record Trial : Type 0 where
   pub ending : Ending
 
 -- the place of the flash after the last byte that an attempt took
-abbrev pub trial_end : Trial → ℕ
-trial_end t = t.address + length t.bytes
+abbrev pub attempt_end : AttemptCourse → ℕ
+attempt_end t = t.address + length t.bytes
 
 -- nothing ends an attempt at fewer than n bytes
 abbrev pub NoneBefore : PartData → Kept → List ℕ → ℕ → Type 0
 NoneBefore part kept from n = (k : ℕ) → k < n → ending_at part kept (take k from) ≡ None
 
 -- the attempt ended at the least number of bytes at which something ends it
-pub record EndsFirst (part : PartData) (from : List ℕ) (t : Trial) : Type 0 where
+pub record EndsFirst (part : PartData) (from : List ℕ) (t : AttemptCourse) : Type 0 where
   pub rest : List ℕ
   pub taken : from ≡ t.bytes ++ rest
   pub ends : ending_at part t.kept t.bytes ≡ Some t.ending
@@ -60,18 +60,18 @@ pub record EndsFirst (part : PartData) (from : List ℕ) (t : Trial) : Type 0 wh
   pub in_flash : t.wrapped ≡ false
 
 -- nothing ended the attempt up to the flash's end; the device took all bytes, or those up to another fault
-pub record RunsOut (part : PartData) (from : List ℕ) (t : Trial) : Type 0 where
+pub record RunsOut (part : PartData) (from : List ℕ) (t : AttemptCourse) : Type 0 where
   pub none : NoneBefore part t.kept from (suc (length from))
   pub taken : t.bytes ≡ take (taken_of part t.kept from) from
   pub failed : t.ending ≡ Failed Wrap
   pub past_end : t.wrapped ≡ true
 
 -- an attempt over a flash of these bytes; at an address past the flash's end there are no bytes to take
-abbrev pub IsTrial : PartData → List ℕ → Trial → Type 0
-IsTrial part flash t = EndsFirst part (drop t.address flash) t ⊎ RunsOut part (drop t.address flash) t
+abbrev pub IsAttemptOver : PartData → List ℕ → AttemptCourse → Type 0
+IsAttemptOver part flash t = EndsFirst part (drop t.address flash) t ⊎ RunsOut part (drop t.address flash) t
 
 -- the device is as the attempt left it
-abbrev pub IsDeviceOf : PartData → DeviceState → Trial → Type 0
+abbrev pub IsDeviceOf : PartData → DeviceState → AttemptCourse → Type 0
 IsDeviceOf part d t = DeviceStandsFor part t.kept t.wrapped d t.bytes
 
 -- what a feed does to an attempt in which startup hasn't ended after it, where the device has this cause of a failure
@@ -119,26 +119,26 @@ pub record IsReady (d : DeviceState) (more : ℕ) : Type 0 where
   pub fits : length bytes + more ≤ 2 ^ 63
 
 -- how an attempt begins: its device's part, what the device kept over the reset, and the address in the flash
-pub record Attempting : Type 0 where
+pub record AttemptStart : Type 0 where
   pub part : PartData
   pub kept : Kept
   pub address : ℕ
 
 -- an attempt of a device of the part, by what the device kept and the address
-abbrev pub attempt_at : PartData → Kept → ℕ → Attempting
+abbrev pub attempt_at : PartData → Kept → ℕ → AttemptStart
 attempt_at part kept address = record { part = part; kept = kept; address = address }
 
 -- an attempt that began as `a` says, over a flash of these bytes, ended by `ending` and left the device `d`
-pub record Tries (a : Attempting) (flash : List ℕ) (d : DeviceState) (ending : Ending) : Type 0 where
-  pub trial : Trial
-  pub is : IsTrial a.part flash trial
-  pub kept_is : trial.kept ≡ a.kept
-  pub address_is : trial.address ≡ a.address
-  pub ending_is : trial.ending ≡ ending
-  pub device : IsDeviceOf a.part d trial
+pub record AttemptEnds (a : AttemptStart) (flash : List ℕ) (d : DeviceState) (ending : Ending) : Type 0 where
+  pub course : AttemptCourse
+  pub is : IsAttemptOver a.part flash course
+  pub kept_is : course.kept ≡ a.kept
+  pub address_is : course.address ≡ a.address
+  pub ending_is : course.ending ≡ ending
+  pub device : IsDeviceOf a.part d course
 
 -- an attempt that took the bytes of a flash from its address to a place, where these are known, and that nothing has ended
-pub record Feeds (a : Attempting) (known : Option (List ℕ)) (d : DeviceState) (at : ℕ) : Type 0 where
+pub record Feeds (a : AttemptStart) (known : Option (List ℕ)) (d : DeviceState) (at : ℕ) : Type 0 where
   pub bytes : List ℕ
   pub stands : DeviceStandsFor a.part a.kept false d bytes
   pub going : stop_in a.part a.kept bytes ≡ None

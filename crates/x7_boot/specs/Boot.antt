@@ -14,7 +14,7 @@ use Rattle.x7_engine.specs.Standing.{DeviceState}
 use Rattle.x7_engine.specs.State.{kept_after, state_of}
 use Rattle.x7_engine.specs.declared.kept.Kept.{Kept}
 use Rattle.x7_engine.specs.declared.regs.Regs.{Regs}
-use Rattle.x7_boot.specs.Attempt.{Attempting, IsDeviceOf, IsTrial, Trial}
+use Rattle.x7_boot.specs.Attempt.{AttemptStart, IsDeviceOf, IsAttemptOver, AttemptCourse}
 use Rattle.x7_boot.specs.declared.attempt.Ending.{Ending}
 use Rattle.x7_boot.specs.declared.attempt.Ending.TheVariants as ending
 use Rattle.x7_boot.specs.declared.boots.BootEnd.{BootEnd}
@@ -32,7 +32,7 @@ abbrev pub start_address : ℕ → ℕ → ℕ
 start_address unit wbstar = if unit == 256 then 256 * field_of 0 24 wbstar else field_of 0 29 wbstar
 
 -- the state of a device at the end of an attempt
-abbrev pub end_state : PartData → Trial → Regs
+abbrev pub end_state : PartData → AttemptCourse → Regs
 end_state part t = state_of part t.kept t.wrapped t.bytes
 
 -- the most attempts of a boot that end by IPROG
@@ -40,7 +40,7 @@ abbrev pub most_attempts : ℕ
 most_attempts = 16
 
 -- the table: what comes after attempt `number`, by its ending
-abbrev pub next_by : PartData → ℕ → Trial → Ending → Next
+abbrev pub next_by : PartData → ℕ → AttemptCourse → Ending → Next
 next_by part number t ending.Started = Ends boot_end.Started
 next_by part number t ending.Iprog =
     if nat_le most_attempts number then Ends boot_end.Loop else Again (kept_after part t.kept t.wrapped t.bytes Iprog) (start_address part.start_unit (end_state part t).wbstar)
@@ -52,23 +52,23 @@ abbrev pub at_power : Kept
 at_power = record { wbstar = 0; timer = 0; bspi = 0; kind = Power; before = None }
 
 -- a flash leads a device through these attempts, the newest first, to what comes next
-abbrev pub LeadsTo : PartData → List ℕ → List Trial → Next → Type 0
+abbrev pub LeadsTo : PartData → List ℕ → List AttemptCourse → Next → Type 0
 LeadsTo part flash [] next = next ≡ Again at_power 0
-LeadsTo part flash (t ∷ older) next = LeadsTo part flash older (Again t.kept t.address) × IsTrial part flash t × (next ≡ next_by part (length older + 1) t t.ending)
+LeadsTo part flash (t ∷ older) next = LeadsTo part flash older (Again t.kept t.address) × IsAttemptOver part flash t × (next ≡ next_by part (length older + 1) t t.ending)
 
 -- a flash leads a device through these attempts, the newest first, to this end
-abbrev pub LeadsToEnd : PartData → List ℕ → List Trial → BootEnd → Type 0
+abbrev pub LeadsToEnd : PartData → List ℕ → List AttemptCourse → BootEnd → Type 0
 LeadsToEnd part flash trials end = LeadsTo part flash trials (Ends end)
 
 -- a flash leads a device through attempts, one at least, to an end
 pub record HasBoot (part : PartData) (flash : List ℕ) : Type 0 where
-  pub last : Trial
-  pub older : List Trial
+  pub last : AttemptCourse
+  pub older : List AttemptCourse
   pub end : BootEnd
   pub leads : LeadsToEnd part flash (last ∷ older) end
 
 -- what is reported of an attempt: its kind, its address in bytes and its ending
-abbrev pub tried : Trial → Tried
+abbrev pub tried : AttemptCourse → Tried
 tried t = record { kind = t.kept.kind; address = t.address; ending = t.ending }
 
 -- what a boot comes to: its attempts in order, its end, and the device as the last one left it
@@ -79,15 +79,15 @@ pub record BootedState : Type 0 where
 
 -- what a boot came to is the boot of a part from a flash of these bytes
 pub record IsBoot (part : PartData) (flash : List ℕ) (b : BootedState) : Type 0 where
-  pub last : Trial
-  pub older : List Trial
+  pub last : AttemptCourse
+  pub older : List AttemptCourse
   pub leads : LeadsToEnd part flash (last ∷ older) b.end
   pub attempts : b.attempts ≡ reverse (map tried (last ∷ older))
   pub device : IsDeviceOf part b.device last
 
 -- a flash has led a device through `number` attempts, which are reported as `attempts`, to the one that begins as `a` says
-pub record Led (a : Attempting) (flash : List ℕ) (attempts : List Tried) (number : ℕ) : Type 0 where
-  pub older : List Trial
+pub record Led (a : AttemptStart) (flash : List ℕ) (attempts : List Tried) (number : ℕ) : Type 0 where
+  pub older : List AttemptCourse
   pub leads : LeadsTo a.part flash older (Again a.kept a.address)
   pub tried_are : attempts ≡ reverse (map tried older)
   pub count : length older ≡ number

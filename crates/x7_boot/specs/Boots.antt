@@ -1,7 +1,7 @@
 -- The course of a boot: its attempts in order, how the boot ended, and the last attempt (UG470, MultiBoot and fallback).
 use Rattle.std.specs.Prelude.{◌≡◌, ℕ, List, ◌∷◌, map, reverse}
 use Rattle.x7_part.specs.Part.{PartData}
-use Rattle.x7_boot.specs.Attempt.{Trial}
+use Rattle.x7_boot.specs.Attempt.{AttemptCourse}
 use Rattle.x7_boot.specs.Boot.{BootedState, LeadsToEnd, tried}
 use Rattle.x7_boot.specs.declared.boots.BootEnd.{BootEnd}
 use Rattle.x7_boot.specs.declared.boots.Tried.{Tried}
@@ -10,18 +10,18 @@ use Rattle.x7_boot.specs.declared.boots.Tried.{Tried}
 pub record BootCourse : Type 0 where
   pub attempts : List Tried
   pub end : BootEnd
-  pub last : Trial
+  pub last : AttemptCourse
 
 -- the course of what a boot came to, by its last attempt
-abbrev pub course_of : BootedState → Trial → BootCourse
+abbrev pub course_of : BootedState → AttemptCourse → BootCourse
 course_of b last = record { attempts = b.attempts; end = b.end; last = last }
 
 -- the course through attempts to an end, given by the last attempt and then the older ones, the newest first
-abbrev pub course_along : Trial → List Trial → BootEnd → BootCourse
+abbrev pub course_along : AttemptCourse → List AttemptCourse → BootEnd → BootCourse
 course_along last older end = record { attempts = reverse (map tried (last ∷ older)); end = end; last = last }
 
 -- a flash leads a device of the part through this course
 pub record IsCourse (part : PartData) (flash : List ℕ) (c : BootCourse) : Type 0 where
-  pub older : List Trial
+  pub older : List AttemptCourse
   pub leads : LeadsToEnd part flash (c.last ∷ older) c.end
   pub attempts_are : c.attempts ≡ reverse (map tried (c.last ∷ older))

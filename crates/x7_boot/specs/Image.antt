@@ -29,13 +29,13 @@ slot switch start = flash_slot (bytes_of_word switch) (bytes_of_word start)
 abbrev pub open_slot : ℕ → List ℕ
 open_slot start = slot sync_word start
 
--- a closed slot begins with a dummy word
-abbrev pub closed_slot : ℕ → List ℕ
-closed_slot start = slot dummy_word start
+-- a free slot begins with a dummy word
+abbrev pub free_slot : ℕ → List ℕ
+free_slot start = slot dummy_word start
 
 -- all slots of a sector but the first
-unfoldable pub closed_slots : ℕ → List ℕ
-closed_slots start = repeat (slot_count - 1) (closed_slot start)
+unfoldable pub free_slots : ℕ → List ℕ
+free_slots start = repeat (slot_count - 1) (free_slot start)
 
 -- bytes, and FF after them up to a place
 abbrev pub filled_to : ℕ → List ℕ → List ℕ
@@ -43,7 +43,7 @@ filled_to place bytes = bytes ++ replicate (place - length bytes) 255
 
 -- the first sector, which leads to the update at this start address
 abbrev pub first_sector : ℕ → List ℕ
-first_sector start = open_slot start ++ closed_slots start
+first_sector start = open_slot start ++ free_slots start
 
 -- the size of the image, by the lengths of both streams
 abbrev pub image_size : ℕ → ℕ → ℕ

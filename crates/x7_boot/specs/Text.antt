@@ -53,5 +53,5 @@ boot_end_text boot_end.Stopped = codes "end stopped\n"
 boot_end_text boot_end.Loop = codes "end loop\n"
 
 -- all lines of a boot
-unfoldable pub boot_head : List ℕ → List Tried → BootEnd → List ℕ
-boot_head name attempts end = codes "boot " ++ name ++ codes "\n" ++ attempts_text 0 attempts ++ boot_end_text end
+unfoldable pub boot_lines : List ℕ → List Tried → BootEnd → List ℕ
+boot_lines name attempts end = codes "boot " ++ name ++ codes "\n" ++ attempts_text 0 attempts ++ boot_end_text end

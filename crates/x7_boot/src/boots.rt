@@ -101,7 +101,7 @@ pub fn boot<F: Flash>(alloc: Global, part: &Part, flash: &mut F) -> Result<Boote
     requires attached { (F.state flash.old).attached ≡ true }
     ensures booted { IfOk result (λ booted. IfKnown (F.state flash.old).bytes (λ all. AreBytes all → IsBoot part.now all booted)) }
     ensures part { IfOk result (λ booted. booted.device.part ≡ part.now) }
-    ensures due { IfOk result (λ booted. NoWordDue booted.device) }
+    ensures no_word_due { IfOk result (λ booted. NoWordDue booted.device) }
     ensures failed { IsErrOf result BootFault.Failed → FlashFails (F.state flash.old) (F.state flash.new) }
     ensures quiet { OnOk result ((F.state flash.new).faults ≡ (F.state flash.old).faults) }
     ensures no_memory { IsErrOf result BootFault.NoMemory → (F.state flash.new).faults ≡ (F.state flash.old).faults }

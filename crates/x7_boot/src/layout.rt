@@ -1,7 +1,7 @@
 //! A flash image with a golden and an update stream.
 ghost use Rattle.std.specs.Prelude.{◌≡◌, ◌+◌, ◌-◌, ◌*◌, ◌/◌, ◌<◌, ◌≤◌, ◌++◌, ◌↔◌, length, Err, IfOk, IfSome, OnOk, IfNone};
 ghost use Rattle.x7_packets.specs.FlashSlot.{sector_bytes};
-ghost use Rattle.x7_boot.specs.Image.{closed_slots, filled_to, first_sector, flash_limit, image_of, image_size, sector_from, slot, place_after_golden};
+ghost use Rattle.x7_boot.specs.Image.{free_slots, filled_to, first_sector, flash_limit, image_of, image_size, sector_from, slot, place_after_golden};
 
 use crate::fault::ImageFault;
 use std::alloc::Global;
@@ -54,10 +54,10 @@ fn slot(switch: u32, start: u32) -> [u8; 32]
     flash_slot(bytes_of(switch), bytes_of(start))
 }
 
-/// All slots of a sector but the first, closed.
-#[tactic(auto, unfolding(crate::specs::Image::closed_slots, crate::specs::Image::slot))]
-fn closed_slots(alloc: Global, start: u32) -> Result<Vec<u8>, NoMemory>
-    ensures items { IfOk result (λ all. all.items ≡ closed_slots start) }
+/// All slots of a sector but the first, free.
+#[tactic(auto, unfolding(crate::specs::Image::free_slots, crate::specs::Image::slot))]
+fn free_slots(alloc: Global, start: u32) -> Result<Vec<u8>, NoMemory>
+    ensures items { IfOk result (λ all. all.items ≡ free_slots start) }
     ensures length { IfOk result (λ all. length all.items ≡ sector_bytes - 32) }
 {
     Ok(slot(DUMMY_WORD, start).repeat(alloc, SLOT_COUNT as usize - 1)?)
@@ -68,9 +68,9 @@ fn put_first_sector(alloc: Global, out: &mut Vec<u8>, start: u32) -> Result<(), 
     ensures items { OnOk result (out.new.items ≡ out.old.items ++ first_sector start) }
     ensures length { OnOk result (length out.new.items ≡ length out.old.items + sector_bytes) }
 {
-    let closed = closed_slots(alloc, start)?;
+    let free = free_slots(alloc, start)?;
     out.extend_from_slice(&slot(SYNC_WORD, start))?;
-    out.extend_from_slice(&closed)?;
+    out.extend_from_slice(&free)?;
     Ok(())
 }
 
@@ -85,7 +85,7 @@ fn fill(out: &mut Vec<u8>, place: u64) -> Result<(), NoMemory>
 }
 
 /// The image of `size` bytes, with the update at its place, to which the first sector leads by the start address `start`.
-fn whole(
+fn image_of_size(
     alloc: Global,
     start: u32,
     golden: &[u8],
@@ -116,7 +116,7 @@ fn image_by(alloc: Global, unit: u32, golden: &[u8], update: &[u8]) -> Result<Ve
         return Err(ImageFault::TooLong);
     };
     let start = place as u32 / unit;
-    match whole(alloc, start, golden, place, update, size) {
+    match image_of_size(alloc, start, golden, place, update, size) {
         Ok(image) => Ok(image),
         Err(NoMemory) => Err(ImageFault::NoMemory),
     }

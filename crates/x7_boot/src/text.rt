@@ -1,6 +1,6 @@
 //! What a boot came to, as lines of text.
 ghost use Rattle.std.specs.Prelude.{◌≡◌, ◌≤◌, ◌++◌, length, take, OnErr, OnOk};
-ghost use Rattle.x7_boot.specs.Text.{attempt_text, attempts_text, boot_end_text, boot_head, cause_text, ending_text, kind_text};
+ghost use Rattle.x7_boot.specs.Text.{attempt_text, attempts_text, boot_end_text, boot_lines, cause_text, ending_text, kind_text};
 
 use crate::attempt::Ending;
 use crate::boots::{BootEnd, Tried};
@@ -97,14 +97,14 @@ fn put_attempts(text: &mut Vec<u8>, attempts: &[Tried]) -> Result<(), NoMemory>
 }
 
 /// Appends the lines of a boot. After an error the first of them may stand there.
-#[tactic(auto, unfolding(crate::specs::Text::boot_head))]
+#[tactic(auto, unfolding(crate::specs::Text::boot_lines))]
 fn put_boot(
     text: &mut Vec<u8>,
     name: &str,
     attempts: &[Tried],
     end: BootEnd,
 ) -> Result<(), NoMemory>
-    ensures ok { OnOk result (text.new.items ≡ text.old.items ++ boot_head name.now attempts.now end) }
+    ensures ok { OnOk result (text.new.items ≡ text.old.items ++ boot_lines name.now attempts.now end) }
     ensures err { OnErr result (take (length text.old.items) text.new.items ≡ text.old.items) }
 {
     put_text(text, b"boot ")?;
@@ -123,7 +123,7 @@ pub fn boot_lines(
     attempts: &[Tried],
     end: BootEnd,
 ) -> Result<(), NoMemory>
-    ensures ok { OnOk result (text.new.items ≡ text.old.items ++ boot_head name.now attempts.now end) }
+    ensures ok { OnOk result (text.new.items ≡ text.old.items ++ boot_lines name.now attempts.now end) }
     ensures err { OnErr result (text.new.items ≡ text.old.items) }
 {
     let start = text.len();

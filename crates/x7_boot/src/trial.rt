@@ -7,7 +7,7 @@ ghost use Rattle.x7_words.specs.Word.{AreBytes};
 ghost use Rattle.x7_part.specs.Part.{PartData};
 ghost use Rattle.x7_engine.specs.declared.kept.Kept.{Kept as KeptData};
 ghost use Rattle.x7_engine.specs.Standing.{DeviceStandsFor, MayWrap, NoWordDue, with_wrap};
-ghost use Rattle.x7_boot.specs.Attempt.{Feeds, Tries, attempt_at};
+ghost use Rattle.x7_boot.specs.Attempt.{Feeds, AttemptEnds, attempt_at};
 ghost use Rattle.x7_boot.specs.Image.{flash_limit};
 ghost use Rattle.x7_boot.specs.Pages.{ArePages};
 ghost use Rattle.x7_boot.specs.declared.attempt.Ending.TheVariants as ending;
@@ -25,7 +25,7 @@ fn run_out(device: &mut Device) -> Ending
     requires { MayWrap device.old }
     ensures ending { result ≡ ending.Failed Wrap }
     ensures device { device.new ≡ with_wrap device.old }
-    ensures due { NoWordDue device.new }
+    ensures no_word_due { NoWordDue device.new }
     ensures stands { (part : PartData) (kept : KeptData) (bytes : List ℕ) → DeviceStandsFor part kept false device.old bytes → DeviceStandsFor part kept true device.new bytes }
 {
     device.wrap();
@@ -49,12 +49,12 @@ pub(crate) fn try_once<F: Flash>(
 ) -> Result<Ending, BootFault>
     requires attached { (F.state flash.old).attached ≡ true }
     requires limit { (F.state flash.old).extent ≤ flash_limit }
-    requires boots { keep.kind ≡ Bench → ⊥ }
+    requires not_on_bench { keep.kind ≡ Bench → ⊥ }
     requires pages { ArePages (F.state flash.old).bytes (F.state flash.old).extent pages.old.pages.entries }
     ensures pages { ArePages (F.state flash.old).bytes (F.state flash.old).extent pages.new.pages.entries }
-    ensures tried { IfOk result (λ ending. IfKnown (F.state flash.old).bytes (λ all. AreBytes all → Tries (attempt_at device.old.part keep address) all device.new ending)) }
+    ensures tried { IfOk result (λ ending. IfKnown (F.state flash.old).bytes (λ all. AreBytes all → AttemptEnds (attempt_at device.old.part keep address) all device.new ending)) }
     ensures part { IfOk result (λ ending. device.new.part ≡ device.old.part) }
-    ensures due { IfOk result (λ ending. NoWordDue device.new) }
+    ensures no_word_due { IfOk result (λ ending. NoWordDue device.new) }
     ensures failed { IsErrOf result BootFault.Failed → FlashFails (F.state flash.old) (F.state flash.new) }
     ensures quiet { OnOk result ((F.state flash.new).faults ≡ (F.state flash.old).faults) }
     ensures no_memory { IsErrOf result BootFault.NoMemory → (F.state flash.new).faults ≡ (F.state flash.old).faults }

@@ -10,7 +10,7 @@ use Rattle.x7_engine.specs.Kept.{on_the_bench}
 use Rattle.x7_engine.specs.Standing.{DeviceState, DeviceStandsFor, NoWordDue}
 use Rattle.x7_engine.proofs.BootLemmas.{none_due_at_first}
 use Rattle.x7_engine.specs.Undo.{AreEqual, IsUndoOf, KeepsDevice, TookFewSince, UndoState}
-use Rattle.x7_debug.specs.Journal.{ComesToPosition, IsFedAtMost, GoesWith, IsOn, IsRecord, JournalState, LeadBack, oldest_by, records_of}
+use Rattle.x7_debug.specs.Journal.{ComesToPosition, IsFedAtMost, MoveCosts, IsOn, IsRecord, JournalState, LeadBack, oldest_by, records_of}
 use Rattle.x7_debug.specs.Kept.{session_of}
 use Rattle.x7_debug.specs.Moving.{ComesForward, ComesForwardRecorded}
 use Rattle.x7_debug.specs.Position.{last_of}
@@ -263,7 +263,7 @@ fed_none d = record { never_less = omega arith; most = omega arith }
 pub fed_on : (d e f : DeviceState) → d.taken ≤ e.taken → e.taken ≤ f.taken → IsFedAtMost d e (e.taken - d.taken) → IsFedAtMost e f (f.taken - e.taken) → IsFedAtMost d f (f.taken - d.taken)
 fed_on d e f l m i j = record { never_less = omega (arith, i.never_less, j.never_less); most = omega (arith, l, m, i.most, j.most) }
 
-pub goes_nowhere : (s : SessionState) → s.oldest ≤ s.at → GoesWith s s
+pub goes_nowhere : (s : SessionState) → s.oldest ≤ s.at → MoveCosts s s
 goes_nowhere s within = record {
   stays_oldest = λ e. refl;
   forward_oldest = λ l. absurd (omega (arith, l));
@@ -276,7 +276,7 @@ goes_nowhere s within = record {
   far_fed = λ l. omega arith;
 }
 
-pub goes_forward : (old new : SessionState) → old.at < new.at → old.oldest ≤ old.at → new.oldest ≤ max old.at (new.at - 253) → (old.fed ≤ new.fed) × (new.fed ≤ old.fed + (new.at - old.at)) → GoesWith old new
+pub goes_forward : (old new : SessionState) → old.at < new.at → old.oldest ≤ old.at → new.oldest ≤ max old.at (new.at - 253) → (old.fed ≤ new.fed) × (new.fed ≤ old.fed + (new.at - old.at)) → MoveCosts old new
 goes_forward old new l within oldest fed = record {
   stays_oldest = λ e. absurd (omega (arith, l, e));
   forward_oldest = λ m. oldest;
@@ -290,15 +290,23 @@ goes_forward old new l within oldest fed = record {
 }
 
 -- a session whose device came forward
-pub goes_recorded : (stream : List ℕ) (d new : DeviceState) (j k : JournalState) (n : ℕ) → IsOn d.part stream d j → d.taken < new.taken → ComesForwardRecorded stream d new k n → GoesWith (session_of d stream j) (session_of new stream k)
-goes_recorded stream d new j k n o l c = goes_forward (session_of d stream j) (session_of new stream k) l (oldest_within d.part stream d.taken (records_of j) o.leads) c.oldest (c.fed.never_less, c.fed.most)
+pub goes_recorded : (stream : List ℕ) (d new : DeviceState) (j k : JournalState) (n : ℕ) → IsOn d.part stream d j → d.taken < new.taken → ComesForwardRecorded stream d new k n → MoveCosts (session_of d stream j) (session_of new stream k)
+goes_recorded stream d new j k n o l c = goes_forward (session_of d stream j) (session_of new stream k) l (oldest_within d.part stream d.taken (records_of j) o.leads) c.oldest (c.forward.fed.never_less, c.forward.fed.most)
 
-pub comes_to : (stream : List ℕ) (d new : DeviceState) (k : JournalState) (n : ℕ) → ComesForwardRecorded stream d new k n → ComesToPosition stream d new k n
-comes_to stream d new k n c = record { on = c.on; part = c.part; taken = c.taken }
+-- a device comes to one position, and from there to another one
+pub comes_twice : (stream : List ℕ) (d e f : DeviceState) (j k : JournalState) (m n : ℕ) → ComesToPosition stream d e j m → ComesToPosition stream e f k n → ComesToPosition stream d f k n
+comes_twice stream d e f j k m n c x = record { on = x.on; part = x.part ∙ c.part; taken = x.taken }
 
 -- a device comes forward twice
 pub comes_on : (stream : List ℕ) (d e f : DeviceState) (j k : JournalState) (m n : ℕ) → d.taken ≤ e.taken → e.taken ≤ f.taken → ComesForward stream d e j m → ComesForward stream e f k n → ComesForward stream d f k n
-comes_on stream d e f j k m n l h c x = record { on = x.on; part = x.part ∙ c.part; taken = x.taken; fed = fed_on d e f l h c.fed x.fed }
+comes_on stream d e f j k m n l h c x = record { there = comes_twice stream d e f j k m n c.there x.there; fed = fed_on d e f l h c.fed x.fed }
+
+-- a device stays where it is, and one that came forward is where it is
+pub comes_nowhere : (stream : List ℕ) (d : DeviceState) (j : JournalState) → IsOn d.part stream d j → ComesForward stream d d j d.taken
+comes_nowhere stream d j o = record { there = record { on = o; part = refl; taken = refl }; fed = fed_none d }
+
+pub comes_here : (stream : List ℕ) (d new : DeviceState) (j : JournalState) (n : ℕ) → ComesForward stream d new j n → ComesForward stream d new j new.taken
+comes_here stream d new j n c = record { there = record { on = c.there.on; part = c.there.part; taken = refl }; fed = c.fed }
 
 -- a device of the same part, at a position that is not past the last one
 pub within_still : (p q : PartData) (stream : List ℕ) (n m : ℕ) → q ≡ p → n ≤ m → m ≤ last_of p stream → n ≤ last_of q stream

@@ -70,7 +70,7 @@ pub record IsFedAtMost (old new : DeviceState) (count : ℕ) : Type 0 where
   pub most : fed_of new ≤ fed_of old + count
 
 -- how far records lead back after a move, and how many bytes the device was fed in it
-pub record GoesWith (old new : SessionState) : Type 0 where
+pub record MoveCosts (old new : SessionState) : Type 0 where
   pub stays_oldest : new.at ≡ old.at → new.oldest ≡ old.oldest
   pub forward_oldest : old.at < new.at → new.oldest ≤ max old.at (new.at - reach)
   pub near_oldest : new.at < old.at → old.oldest ≤ new.at → new.oldest ≡ old.oldest
@@ -81,7 +81,7 @@ pub record GoesWith (old new : SessionState) : Type 0 where
   pub near_fed : old.oldest ≤ new.at → new.at < old.at → new.fed ≤ old.fed + (record_bytes - 1)
   pub far_fed : new.at < old.oldest → new.fed ≤ old.fed + new.at
 
--- a session moved to position n, with as many bytes fed, and records that lead back as far, as a move allows
+-- a session moved to position n; how many bytes were fed and how far records lead back is as `MoveCosts` says
 pub record IsMove (old new : SessionState) (n : ℕ) : Type 0 where
   pub stands : MovesTo old new n
-  pub goes : GoesWith old new
+  pub costs : MoveCosts old new

@@ -1,7 +1,7 @@
 -- Moves of a device along its stream, with the records that lead it back: what they ask, and what they come to (this project's choice).
 use Rattle.std.specs.Prelude.{◌≡◌, ◌≤◌, ◌<◌, ◌-◌, ℕ, List, max}
 use Rattle.x7_engine.specs.Standing.{DeviceState}
-use Rattle.x7_debug.specs.Journal.{IsFedAtMost, IsOn, JournalState, oldest_by, reach, records_of}
+use Rattle.x7_debug.specs.Journal.{ComesToPosition, IsFedAtMost, IsOn, JournalState, oldest_by, reach, records_of}
 use Rattle.x7_debug.specs.Position.{last_of}
 
 -- a device on its stream, with its records, can be brought to a position, which isn't past the last one
@@ -11,8 +11,7 @@ pub record MayMove (stream : List ℕ) (d : DeviceState) (j : JournalState) (to 
 
 -- a device on its stream, with its records, can be brought forward to a position, which isn't past the last one
 pub record MayMoveForward (stream : List ℕ) (d : DeviceState) (j : JournalState) (to : ℕ) : Type 0 where
-  pub on : IsOn d.part stream d j
-  pub within : to ≤ last_of d.part stream
+  pub may : MayMove stream d j to
   pub forward : d.taken ≤ to
 
 -- a device on its stream can be brought back to an earlier position to which its records lead
@@ -29,15 +28,10 @@ pub record IsBeforeLast (stream : List ℕ) (d : DeviceState) (j : JournalState)
 
 -- a device came forward to position n of its stream, where these records lead back, and was fed at most the bytes up to there
 pub record ComesForward (stream : List ℕ) (old new : DeviceState) (j : JournalState) (n : ℕ) : Type 0 where
-  pub on : IsOn new.part stream new j
-  pub part : new.part ≡ old.part
-  pub taken : new.taken ≡ n
+  pub there : ComesToPosition stream old new j n
   pub fed : IsFedAtMost old new (new.taken - old.taken)
 
 -- a device came forward to position n of its stream and was fed at most the bytes up to there; its records lead back to where it was, or as far as they reach
 pub record ComesForwardRecorded (stream : List ℕ) (old new : DeviceState) (j : JournalState) (n : ℕ) : Type 0 where
-  pub on : IsOn new.part stream new j
-  pub part : new.part ≡ old.part
-  pub taken : new.taken ≡ n
-  pub fed : IsFedAtMost old new (new.taken - old.taken)
+  pub forward : ComesForward stream old new j n
   pub oldest : oldest_by new.taken (records_of j) ≤ max old.taken (new.taken - reach)

@@ -73,15 +73,15 @@ impl Journal {
     /// Feeds a piece of up to four bytes to a device, up to what stops it, with a record. Where all are in use, the oldest
     /// one is used again.
     pub(crate) fn feed(&mut self, device: &mut Device, piece: &[u8])
-        requires few { length piece.now ≤ record_bytes }
+        requires one_record { length piece.now ≤ record_bytes }
         requires fits { device.old.taken + length piece.now ≤ 2 ^ 63 }
-        requires none_due { NoWordDue device.old }
+        requires no_word_due { NoWordDue device.old }
         requires records { AreRecordsOf device.old.part self.old }
         ensures stands { TakesPiece device.old device.new piece.now }
-        ensures none_due { OfPast device.old (λ p. NoWordDue device.new) }
+        ensures no_word_due { OfPast device.old (λ p. NoWordDue device.new) }
         ensures fed { IsFedAtMost device.old device.new (device.new.taken - device.old.taken) }
         ensures records { AreRecordsOf device.old.part self.new }
-        ensures more { (u : UndoState) × KeepsDevice u device.old × (records_of self.new ≡ u ∷ take (record_room - 1) (records_of self.old)) }
+        ensures recorded { (u : UndoState) × KeepsDevice u device.old × (records_of self.new ≡ u ∷ take (record_room - 1) (records_of self.old)) }
     {
         let Some(mut undo) = self.records.pop_back() else {
             unreachable!();
@@ -100,7 +100,7 @@ impl Journal {
         ensures less { (stream : List ℕ) → IsOn device.old.part stream device.old self.old → device.new.taken ≤ device.old.taken × device.old.taken ≤ device.new.taken + record_bytes }
         ensures fed { fed_of device.new ≡ fed_of device.old }
         ensures oldest { (stream : List ℕ) → IsOn device.old.part stream device.old self.old → oldest_by device.new.taken (records_of self.new) ≡ oldest_by device.old.taken (records_of self.old) }
-        ensures few { (stream : List ℕ) → IsOn device.old.part stream device.old self.old → length (records_of self.new) < record_room }
+        ensures room_for_one { (stream : List ℕ) → IsOn device.old.part stream device.old self.old → length (records_of self.new) < record_room }
         ensures count { self.new.count + 1 ≡ self.old.count }
         ensures part { device.new.part ≡ device.old.part }
     {

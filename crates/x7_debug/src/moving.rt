@@ -2,7 +2,7 @@
 ghost use Rattle.std.specs.Prelude.{◌≡◌, ◌≤◌, ◌<◌, ◌+◌, ◌-◌, ◌^◌, length};
 ghost use Rattle.x7_engine.specs.Past.{OfPast};
 ghost use Rattle.x7_engine.specs.Standing.{NoWordDue, fed_of};
-ghost use Rattle.x7_debug.specs.Journal.{ComesToPosition, GoesWith, HasRecorded, IsFedAtMost, IsOn, oldest_by, reach, record_bytes, record_room, records_of};
+ghost use Rattle.x7_debug.specs.Journal.{ComesToPosition, MoveCosts, HasRecorded, IsFedAtMost, IsOn, oldest_by, reach, record_bytes, record_room, records_of};
 ghost use Rattle.x7_debug.specs.Kept.{session_of};
 ghost use Rattle.x7_debug.specs.Moving.{ComesForward, ComesForwardRecorded, MayMove, MayMoveBack, MayMoveForward};
 ghost use Rattle.x7_debug.specs.Position.{last_of};
@@ -25,7 +25,7 @@ const RECORDED: u64 = RECORDS as u64 * RECORD_BYTES;
 pub(crate) fn take(device: &mut Device, piece: &[u8])
     requires { device.old.taken + length piece.now ≤ 2 ^ 63 }
     ensures stands { TakesPiece device.old device.new piece.now }
-    ensures none_due { OfPast device.old (λ p. NoWordDue device.new) }
+    ensures no_word_due { OfPast device.old (λ p. NoWordDue device.new) }
     ensures fed { IsFedAtMost device.old device.new (device.new.taken - device.old.taken) }
 {
     let mut read = ReadBuf::dropping();
@@ -47,9 +47,9 @@ pub(crate) fn feed_to(device: &mut Device, stream: &[u8], to: u64)
 /// Feeds a device up to four bytes of the stream, with a record of it before them.
 pub(crate) fn feed_recorded(device: &mut Device, journal: &mut Journal, stream: &[u8], to: u64)
     requires may { MayMoveForward stream.now device.old journal.old to }
-    requires few { to ≤ device.old.taken + record_bytes }
-    ensures comes { ComesForward stream.now device.old device.new journal.new to }
-    ensures more { HasRecorded device.old.taken journal.old journal.new }
+    requires one_record { to ≤ device.old.taken + record_bytes }
+    ensures at_position { ComesForward stream.now device.old device.new journal.new to }
+    ensures recorded { HasRecorded device.old.taken journal.old journal.new }
 {
     let from = device.taken() as usize;
     journal.feed(device, &stream[from..to as usize]);
@@ -58,7 +58,7 @@ pub(crate) fn feed_recorded(device: &mut Device, journal: &mut Journal, stream: 
 /// Brings a device forward by pieces of four bytes, the last one shorter, each with a record.
 fn go_by_words(device: &mut Device, journal: &mut Journal, stream: &[u8], to: u64)
     requires { MayMoveForward stream.now device.old journal.old to }
-    ensures comes { ComesForwardRecorded stream.now device.old device.new journal.new to }
+    ensures at_position { ComesForwardRecorded stream.now device.old device.new journal.new to }
 {
     while to - device.taken() >= RECORD_BYTES {
         let next = device.taken() + RECORD_BYTES;
@@ -72,7 +72,7 @@ fn go_by_words(device: &mut Device, journal: &mut Journal, stream: &[u8], to: u6
 /// Brings a device forward by one piece, and forgets the records.
 pub(crate) fn leap(device: &mut Device, journal: &mut Journal, stream: &[u8], to: u64)
     requires { MayMoveForward stream.now device.old journal.old to }
-    ensures comes { ComesForward stream.now device.old device.new journal.new to }
+    ensures at_position { ComesForward stream.now device.old device.new journal.new to }
 {
     feed_to(device, stream, to);
     journal.forget();
@@ -81,7 +81,7 @@ pub(crate) fn leap(device: &mut Device, journal: &mut Journal, stream: &[u8], to
 /// Brings a device forward: far away by one piece up to the reach of the records, and the rest by pieces of four bytes.
 fn go_forward(device: &mut Device, journal: &mut Journal, stream: &[u8], to: u64)
     requires { MayMoveForward stream.now device.old journal.old to }
-    ensures comes { ComesForwardRecorded stream.now device.old device.new journal.new to }
+    ensures at_position { ComesForwardRecorded stream.now device.old device.new journal.new to }
 {
     if to - device.taken() > RECORDED {
         leap(device, journal, stream, to - RECORDED);
@@ -93,7 +93,7 @@ fn go_forward(device: &mut Device, journal: &mut Journal, stream: &[u8], to: u64
 /// Resets a device, and forgets the records.
 fn begin_again(device: &mut Device, journal: &mut Journal, stream: &[u8])
     requires { IsOn device.old.part stream.now device.old journal.old }
-    ensures comes { ComesToPosition stream.now device.old device.new journal.new 0 }
+    ensures at_position { ComesToPosition stream.now device.old device.new journal.new 0 }
     ensures fed { fed_of device.new ≡ fed_of device.old }
 {
     device.reset(ON_THE_BENCH);
@@ -103,7 +103,7 @@ fn begin_again(device: &mut Device, journal: &mut Journal, stream: &[u8])
 /// Resets a device and brings it to an earlier position from the first byte on.
 fn replay(device: &mut Device, journal: &mut Journal, stream: &[u8], to: u64)
     requires { MayMove stream.now device.old journal.old to }
-    ensures comes { ComesToPosition stream.now device.old device.new journal.new to }
+    ensures at_position { ComesToPosition stream.now device.old device.new journal.new to }
     ensures fed { IsFedAtMost device.old device.new to }
     ensures oldest { oldest_by device.new.taken (records_of journal.new) ≤ to - reach }
 {
@@ -114,11 +114,11 @@ fn replay(device: &mut Device, journal: &mut Journal, stream: &[u8], to: u64)
 /// Takes a device back by records to the last position at or before this one where a record was made.
 fn take_back(device: &mut Device, journal: &mut Journal, stream: &[u8], to: u64)
     requires { MayMoveBack stream.now device.old journal.old to }
-    ensures comes { ComesToPosition stream.now device.old device.new journal.new device.new.taken }
+    ensures at_position { ComesToPosition stream.now device.old device.new journal.new device.new.taken }
     ensures before { device.new.taken ≤ to }
     ensures near { to < device.new.taken + record_bytes }
     ensures fed { fed_of device.new ≡ fed_of device.old }
-    ensures few { length (records_of journal.new) < record_room }
+    ensures room_for_one { length (records_of journal.new) < record_room }
     ensures oldest { oldest_by device.new.taken (records_of journal.new) ≡ oldest_by device.old.taken (records_of journal.old) }
 {
     while device.taken() > to {
@@ -129,7 +129,7 @@ fn take_back(device: &mut Device, journal: &mut Journal, stream: &[u8], to: u64)
 /// Takes a device back by records, and the few bytes up to the position forward again.
 fn go_back(device: &mut Device, journal: &mut Journal, stream: &[u8], to: u64)
     requires { MayMoveBack stream.now device.old journal.old to }
-    ensures comes { ComesToPosition stream.now device.old device.new journal.new to }
+    ensures at_position { ComesToPosition stream.now device.old device.new journal.new to }
     ensures fed { IsFedAtMost device.old device.new (record_bytes - 1) }
     ensures oldest { oldest_by device.new.taken (records_of journal.new) ≡ oldest_by device.old.taken (records_of journal.old) }
 {
@@ -142,8 +142,8 @@ fn go_back(device: &mut Device, journal: &mut Journal, stream: &[u8], to: u64)
 /// Brings a device that stands at a position of the stream to another one.
 pub(crate) fn move_to(device: &mut Device, journal: &mut Journal, stream: &[u8], to: u64)
     requires { MayMove stream.now device.old journal.old to }
-    ensures comes { ComesToPosition stream.now device.old device.new journal.new to }
-    ensures goes { GoesWith (session_of device.old stream.now journal.old) (session_of device.new stream.now journal.new) }
+    ensures at_position { ComesToPosition stream.now device.old device.new journal.new to }
+    ensures costs { MoveCosts (session_of device.old stream.now journal.old) (session_of device.new stream.now journal.new) }
 {
     let from = device.taken();
     if to == from {

@@ -1,7 +1,7 @@
 //! A device is brought forward to the first position where a stop holds.
 ghost use Rattle.std.specs.Prelude.{◌≡◌, ◌≤◌, ◌<◌, ◌+◌, ◌-◌, ◌∷◌, ℕ, List, true, false, max};
 ghost use Rattle.x7_engine.specs.Undo.{UndoState};
-ghost use Rattle.x7_debug.specs.Journal.{ComesToPosition, GoesWith, HasRecorded, reach, record_bytes, records_of};
+ghost use Rattle.x7_debug.specs.Journal.{ComesToPosition, MoveCosts, HasRecorded, reach, record_bytes, records_of};
 ghost use Rattle.x7_debug.specs.Kept.{IsKeptSession, session_of};
 ghost use Rattle.x7_debug.specs.Moving.{ComesForward, ComesForwardRecorded, IsBeforeLast, MayMove, MayMoveForward};
 ghost use Rattle.x7_debug.specs.Position.{holds_at, holds_in, until_of};
@@ -32,7 +32,7 @@ fn holds(stop: Stop, end: End, phase: u8) -> bool
 fn seek(device: &mut Device, journal: &Journal, stream: &[u8], end: u64, stop: Stop) -> bool
     requires may { MayMoveForward stream.now device.old journal.now end }
     requires some { (u : UndoState) × (older : List UndoState) × (records_of journal.now ≡ u ∷ older) × (end ≤ u.taken + record_bytes) }
-    ensures comes { ComesForward stream.now device.old device.new journal.now device.new.taken }
+    ensures at_position { ComesForward stream.now device.old device.new journal.now device.new.taken }
     ensures forward { device.old.taken ≤ device.new.taken × device.new.taken ≤ end }
     ensures found { result ≡ true → holds_at device.old.part stream.now stop device.new.taken ≡ true }
     ensures end { result ≡ false → device.new.taken ≡ end }
@@ -61,8 +61,8 @@ fn seek_word(
     stop: Stop,
 ) -> bool
     requires { IsBeforeLast stream.now device.old journal.old last }
-    ensures comes { ComesForward stream.now device.old device.new journal.new device.new.taken }
-    ensures more { HasRecorded device.old.taken journal.old journal.new }
+    ensures at_position { ComesForward stream.now device.old device.new journal.new device.new.taken }
+    ensures recorded { HasRecorded device.old.taken journal.old journal.new }
     ensures forward { device.old.taken < device.new.taken × device.new.taken ≤ last × device.new.taken ≤ device.old.taken + record_bytes }
     ensures whole { result ≡ false → device.new.taken < last → device.new.taken ≡ device.old.taken + record_bytes }
     ensures found { result ≡ true → holds_at device.old.part stream.now stop device.new.taken ≡ true }
@@ -77,7 +77,7 @@ fn seek_word(
 /// Brings a device forward, byte by byte, to the first later position where the stop holds, or else to the last one.
 fn forward_until(device: &mut Device, journal: &mut Journal, stream: &[u8], last: u64, stop: Stop)
     requires { IsBeforeLast stream.now device.old journal.old last }
-    ensures comes { ComesForwardRecorded stream.now device.old device.new journal.new (until_of device.old.part stream.now stop device.old.taken) }
+    ensures at_position { ComesForwardRecorded stream.now device.old device.new journal.new (until_of device.old.part stream.now stop device.old.taken) }
     ensures forward { device.old.taken < device.new.taken }
 {
     while device.taken() < last {
@@ -91,7 +91,7 @@ fn forward_until(device: &mut Device, journal: &mut Journal, stream: &[u8], last
 /// past it already stays.
 fn leap_near(device: &mut Device, journal: &mut Journal, stream: &[u8], begins: u64)
     requires { MayMove stream.now device.old journal.old begins }
-    ensures comes { ComesForward stream.now device.old device.new journal.new device.new.taken }
+    ensures at_position { ComesForward stream.now device.old device.new journal.new device.new.taken }
     ensures forward { device.old.taken ≤ device.new.taken }
     ensures near { device.new.taken ≤ max device.old.taken (begins - (reach + 1)) }
 {
@@ -112,7 +112,7 @@ fn go_to_phase(
 )
     requires kept { IsKeptSession device.old stream.now outline.last outline.begins journal.old }
     requires before { device.old.taken < outline.last }
-    ensures comes { ComesForwardRecorded stream.now device.old device.new journal.new (until_of device.old.part stream.now (to.Phase phase) device.old.taken) }
+    ensures at_position { ComesForwardRecorded stream.now device.old device.new journal.new (until_of device.old.part stream.now (to.Phase phase) device.old.taken) }
     ensures forward { device.old.taken < device.new.taken }
 {
     if phase == 0 {
@@ -132,8 +132,8 @@ pub(crate) fn go_until(
     stop: Stop,
 )
     requires { IsKeptSession device.old stream.now outline.last outline.begins journal.old }
-    ensures comes { ComesToPosition stream.now device.old device.new journal.new (until_of device.old.part stream.now stop device.old.taken) }
-    ensures goes { GoesWith (session_of device.old stream.now journal.old) (session_of device.new stream.now journal.new) }
+    ensures at_position { ComesToPosition stream.now device.old device.new journal.new (until_of device.old.part stream.now stop device.old.taken) }
+    ensures costs { MoveCosts (session_of device.old stream.now journal.old) (session_of device.new stream.now journal.new) }
 {
     if device.taken() >= outline.last {
         return;

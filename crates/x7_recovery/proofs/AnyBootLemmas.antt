@@ -3,7 +3,7 @@ use Rattle.std.proofs.Common.{◌≤◌, ℕ, List, ◌++◌, length, false, sub
 use Rattle.x7_part.specs.Part.{PartData}
 use Rattle.x7_part.specs.Ranges.{IsPart}
 use Rattle.x7_regs.specs.declared.boot_status.Cause.{Cause}
-use Rattle.x7_boot.specs.Attempt.{Trial}
+use Rattle.x7_boot.specs.Attempt.{AttemptCourse}
 use Rattle.x7_boot.specs.Image.{flash_limit, image_of, image_size, place_after_golden}
 use Rattle.x7_boot.specs.Boots.{BootCourse, IsCourse}
 use Rattle.x7_recovery.specs.OpenBoot.{BootsOpen, EachBootsOpen, FallsBackClean, HasStreams, UpdateFails}
@@ -40,14 +40,14 @@ image_boots part golden update behind is fits =
 
 -- ---- after updates
 
-updated_is_opened : (part : PartData) (flash found : List ℕ) (golden : Trial) → (u : IsUpdated part flash found golden) → IsOpened (opened_by part flash found golden u)
+updated_is_opened : (part : PartData) (flash found : List ℕ) (golden : AttemptCourse) → (u : IsUpdated part flash found golden) → IsOpened (opened_by part flash found golden u)
 updated_is_opened part flash found golden u =
     subst (λ (place : ℕ). IsOpened (slot_of_flash part found u.after.next place)) (place_later flash u.before u.updates) (after_is_opened part u.stream u.before found u.unit u.layout u.fits u.after)
 
-pub updated_boots : (part : PartData) (flash found : List ℕ) (golden : Trial) → (u : IsUpdated part flash found golden) → EachBootsOpen (opened_by part flash found golden u)
+pub updated_boots : (part : PartData) (flash found : List ℕ) (golden : AttemptCourse) → (u : IsUpdated part flash found golden) → EachBootsOpen (opened_by part flash found golden u)
 updated_boots part flash found golden u = boots_open (opened_by part flash found golden u) (updated_is_opened part flash found golden u)
 
-pub updated_falls_back : (part : PartData) (flash found : List ℕ) (golden t : Trial) (cause : Cause) (c : BootCourse) → (u : IsUpdated part flash found golden) → IsCourse part found c → UpdateFails (opened_by part flash found golden u) t cause false
+pub updated_falls_back : (part : PartData) (flash found : List ℕ) (golden t : AttemptCourse) (cause : Cause) (c : BootCourse) → (u : IsUpdated part flash found golden) → IsCourse part found c → UpdateFails (opened_by part flash found golden u) t cause false
     → FallsBackClean (opened_by part flash found golden u) cause golden c
 updated_falls_back part flash found golden t cause c u course fails =
     let boots : BootsOpen (opened_by part flash found golden u) c = updated_boots part flash found golden u c course in

@@ -27,7 +27,7 @@ use Rattle.x7_engine.specs.declared.kept.Kept.{Kept}
 use Rattle.x7_regs.specs.BootStatus.{boot_status_of}
 use Rattle.x7_regs.specs.declared.boot_status.Attempt.{Attempt}
 use Rattle.x7_regs.specs.declared.boot_status.Cause.{Cause}
-use Rattle.x7_boot.specs.Attempt.{EndsFirst, IsTrial, Trial, ending_at}
+use Rattle.x7_boot.specs.Attempt.{EndsFirst, IsAttemptOver, AttemptCourse, ending_at}
 use Rattle.x7_boot.specs.Boot.{at_power, end_state}
 use Rattle.x7_boot.specs.Image.{open_slot}
 use Rattle.x7_boot.specs.declared.attempt.Ending.TheVariants.{Started}
@@ -121,7 +121,7 @@ module _ (flash : List ℕ) (number start : ℕ) (o : HasOpen flash number start
 
 -- ---- the fallback
 
-module _ (o : Opened) (is : IsOpened o) (t : Trial) (c : StartsClean o.part o.flash t) where
+module _ (o : Opened) (is : IsOpened o) (t : AttemptCourse) (c : StartsClean o.part o.flash t) where
   abbrev s : List ℕ
   s = drop 65536 t.bytes
 
@@ -233,7 +233,7 @@ module _ (o : Opened) (is : IsOpened o) (t : Trial) (c : StartsClean o.part o.fl
     all_of : take (length s) s ≡ s
     all_of = take-length s
 
-    abbrev fallen : Trial
+    abbrev fallen : AttemptCourse
     fallen = record { kept = kept; address = 0; bytes = front' ++ s; wrapped = false; ending = Started }
 
     fallen_alike : (k : ℕ) → k ≤ length t.bytes → ending_at o.part kept (take k o.flash) ≡ ending_at o.part t.kept (take k one)
@@ -258,7 +258,7 @@ module _ (o : Opened) (is : IsOpened o) (t : Trial) (c : StartsClean o.part o.fl
               ∙ ap (λ (q : Kept). ending_at o.part q (take k one)) (sym c.starts.kept)
         ]
 
-    pub fallen_is : IsTrial o.part o.flash fallen
+    pub fallen_is : IsAttemptOver o.part o.flash fallen
     fallen_is =
         let count : length (front' ++ s) ≡ length t.bytes = omega (arith, length-append front' s, front_long, length-drop 65536 t.bytes, long) in
         inl (ends_alike o.part one o.flash t fallen x (record {
@@ -280,17 +280,17 @@ module _ (o : Opened) (is : IsOpened o) (t : Trial) (c : StartsClean o.part o.fl
     fallen_wrote : wrote_iprog (history_of (front' ++ s)) ≡ true
     fallen_wrote = iprog_later front' s (all_append (λ b. b < 256) front' s is.has.fits s_fits) (sector_wrote o.flash o.slot o.start is.has is.small)
 
-  pub falls_clean : (a : BootCourse) (u : Trial) (cause : Cause) → IsCourse o.part o.flash a → UpdateFails o u cause false → FallsBackClean o cause t a
+  pub falls_clean : (a : BootCourse) (u : AttemptCourse) (cause : Cause) → IsCourse o.part o.flash a → UpdateFails o u cause false → FallsBackClean o cause t a
   falls_clean a u cause course fails =
       let kept : Kept = kept_then o is u in
-      let l : Trial = fallen kept refl in
+      let l : AttemptCourse = fallen kept refl in
       let f : Falls o is a l cause = falls o is a u l cause course fails (fallen_is kept refl) refl refl refl in
       record {
         attempts_are = f.attempts_are;
         started = f.started;
-        taken = ap (λ (v : Trial). length v.bytes) f.last_is ∙ omega (arith, length-append front' s, front_long, length-drop 65536 t.bytes, long);
-        memory = ap (λ (v : Trial). memory_in o.part v.kept v.bytes) f.last_is ∙ fallen_memory kept refl;
-        bootsts = ap (λ (v : Trial). (end_state o.part v).bootsts) f.last_is
+        taken = ap (λ (v : AttemptCourse). length v.bytes) f.last_is ∙ omega (arith, length-append front' s, front_long, length-drop 65536 t.bytes, long);
+        memory = ap (λ (v : AttemptCourse). memory_in o.part v.kept v.bytes) f.last_is ∙ fallen_memory kept refl;
+        bootsts = ap (λ (v : AttemptCourse). (end_state o.part v).bootsts) f.last_is
             ∙ bootsts_is o.part kept (front' ++ s) true (fallen_going kept refl) (fallen_wrote kept refl)
             ∙ ap (λ (a : Attempt). boot_status_of (record { kind = Fallback; cause = None; ignored = true }) (Some a)) (failed_attempt o is u cause fails);
       }

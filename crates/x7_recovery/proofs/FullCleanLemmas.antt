@@ -32,7 +32,7 @@ use Rattle.x7_effects.proofs.PartialLemmas.{have_words}
 use Rattle.x7_effects.proofs.PlannerLemmas.{full_same}
 use Rattle.x7_effects.proofs.RestingLemmas.{stream_history}
 use Rattle.x7_effects.proofs.Streams as items
-use Rattle.x7_boot.specs.Attempt.{EndsFirst, Trial, ending_by, failed_by}
+use Rattle.x7_boot.specs.Attempt.{EndsFirst, AttemptCourse, ending_by, failed_by}
 use Rattle.x7_boot.specs.Boot.{at_power}
 use Rattle.x7_boot.specs.declared.attempt.Ending.TheVariants as ending
 use Rattle.x7_boot.proofs.StartLemmas.{prefix_goes}
@@ -78,7 +78,7 @@ seven false o e = absurd (stops_not o e)
 
 -- ---- the attempt
 
-module _ (u : Updating) (p : IsPrepared u) (t : Trial) (s : StartsAsPlanned u t) where
+module _ (u : Updating) (p : IsPrepared u) (t : AttemptCourse) (s : StartsAsPlanned u t) where
   abbrev stream : List ℕ
   stream = full_stream u.part u.golden
 

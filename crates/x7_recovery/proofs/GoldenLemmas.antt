@@ -23,7 +23,7 @@ use Rattle.x7_engine.specs.State.{memory_in, state_of}
 use Rattle.x7_engine.proofs.AlikeLemmas.{alike_memory, alike_state}
 use Rattle.x7_engine.proofs.RestLemmas.{history_on, rest_on}
 use Rattle.x7_engine.specs.declared.kept.Kept.{Kept}
-use Rattle.x7_boot.specs.Attempt.{EndsFirst, IsTrial, Trial}
+use Rattle.x7_boot.specs.Attempt.{EndsFirst, IsAttemptOver, AttemptCourse}
 use Rattle.x7_boot.specs.Boot.{BootedState, IsBoot, LeadsToEnd, at_power, end_state, next_by}
 use Rattle.x7_boot.specs.Boots.{BootCourse, course_along, course_of}
 use Rattle.x7_boot.specs.declared.attempt.Ending.TheVariants as ending
@@ -35,7 +35,7 @@ use Rattle.x7_boot.proofs.StartLemmas.{NeverStarts}
 use Rattle.x7_update.specs.Layout.{HasLayout, four_at, open_switch, update_place}
 use Rattle.x7_update.specs.After.{IsBetween, MayBeLeft, after, between, untouched}
 use Rattle.x7_update.proofs.LawLemmas.{no_sync}
-use Rattle.x7_recovery.specs.Golden.{BootsAlike, GoldenStarts, HaveSameGolden, IsPreparedAny, IsShut, StartsAlike, StartsAsPlanned, StartsAtPower, UpdatingAny, as_after, as_before, golden, with_erased}
+use Rattle.x7_recovery.specs.Golden.{BootsAlike, GoldenStarts, HaveSameGolden, IsPreparedAny, LeadsNowhere, StartsAlike, StartsAsPlanned, StartsAtPower, UpdatingAny, as_after, as_before, golden, with_erased}
 use Rattle.x7_recovery.specs.Recovery.{IsPrepared, Updating}
 use Rattle.x7_recovery.proofs.FullTrialLemmas.{StartsWith, full_starts}
 use Rattle.x7_recovery.proofs.SlotLemmas.{fill_fits}
@@ -52,22 +52,22 @@ word_at flash prefix back e =
     let first : get_or flash (length prefix) 0 ≡ 0xAA = let at : length prefix ≡ length prefix + 0 = omega arith in ap (λ (n : ℕ). get_or flash n 0) at ∙ byte 0 in
     rw (first, byte 1, byte 2, byte 3) refl
 
-pub shut_none : (flash gap more : List ℕ) → IsShut flash → flash ≡ gap ++ more → length gap ≤ 65536 → NoneBegins gap more
+pub shut_none : (flash gap more : List ℕ) → LeadsNowhere flash → flash ≡ gap ++ more → length gap ≤ 65536 → NoneBegins gap more
 shut_none flash gap more shut e l prefix back split = elim (cases_lt (length prefix) (length gap)) [
   | inl less ↦ absurd (shut (length prefix) (omega (arith, less, l)) (word_at flash prefix back (e ∙ split)))
   | inr past ↦ past
 ]
 
-none_before : (flash gap s rest : List ℕ) → IsShut flash → flash ≡ (gap ++ s) ++ rest → length gap ≤ 65536 → NoneBegins gap s
+none_before : (flash gap s rest : List ℕ) → LeadsNowhere flash → flash ≡ (gap ++ s) ++ rest → length gap ≤ 65536 → NoneBegins gap s
 none_before flash gap s rest shut e l = none_before_prefix gap s rest (shut_none flash gap (s ++ rest) shut (e ∙ append_assoc gap s rest) l)
 
 -- ---- an attempt over the other flash
 
-pub ended : (part : PartData) (flash : List ℕ) (t : Trial) → StartsAtPower part flash t → EndsFirst part flash t
+pub ended : (part : PartData) (flash : List ℕ) (t : AttemptCourse) → StartsAtPower part flash t → EndsFirst part flash t
 ended part flash t s = subst (λ (n : ℕ). EndsFirst part (drop n flash) t) s.address (started_first part flash t s.is s.started)
 
 -- after gaps of a sector the same bytes, up to those that the attempt took
-pub starts_after : (part : PartData) (g h s f r : List ℕ) (t : Trial) → AreGaps g h s → StartsAtPower part ((g ++ s) ++ f) t → length t.bytes ≤ length (g ++ s)
+pub starts_after : (part : PartData) (g h s f r : List ℕ) (t : AttemptCourse) → AreGaps g h s → StartsAtPower part ((g ++ s) ++ f) t → length t.bytes ≤ length (g ++ s)
     → StartsAtPower part ((h ++ s) ++ r) (alike_trial t ((h ++ s) ++ r)) × AreAlike t.bytes (alike_trial t ((h ++ s) ++ r)).bytes
 starts_after part g h s f r t gaps starts within =
     let one : List ℕ = (g ++ s) ++ f in
@@ -79,7 +79,7 @@ starts_after part g h s f r t gaps starts within =
     (subst (AreAlike (take k (g ++ s))) (sym (take-append-le k (h ++ s) r (omega (arith, l, within, as_long)))) (alike_prefixes g h s k gaps)) in
     let enough : length t.bytes ≤ length other = omega (arith, within, as_long, length-append (h ++ s) r) in (
       record {
-        is = subst (λ (n : ℕ). IsTrial part (drop n other) (alike_trial t other)) (refl {a = 0}) (inl (subst (λ (n : ℕ). EndsFirst part (drop n other) (alike_trial t other)) (sym starts.address) (alike_ends part one other t x enough alike)));
+        is = subst (λ (n : ℕ). IsAttemptOver part (drop n other) (alike_trial t other)) (refl {a = 0}) (inl (subst (λ (n : ℕ). EndsFirst part (drop n other) (alike_trial t other)) (sym starts.address) (alike_ends part one other t x enough alike)));
         kept = starts.kept;
         address = starts.address;
         started = starts.started;
@@ -89,30 +89,30 @@ starts_after part g h s f r t gaps starts within =
 
 -- ---- one attempt that starts is the whole boot
 
-alone : (part : PartData) (flash : List ℕ) (u : Trial) (b : BootedState) → StartsAtPower part flash u → (boot : IsBoot part flash b) → course_of b boot.last ≡ course_along u [] boot_end.Started
+alone : (part : PartData) (flash : List ℕ) (u : AttemptCourse) (b : BootedState) → StartsAtPower part flash u → (boot : IsBoot part flash b) → course_of b boot.last ≡ course_along u [] boot_end.Started
 alone part flash u b s boot =
     let kept_is : u.kept ≡ at_power = s.kept in
     let address_is : u.address ≡ 0 = s.address in
     let led : LeadsToEnd part flash (u ∷ []) boot_end.Started = (cc, s.is, sym (ap (next_by part 1 u) s.started)) in
     along part flash (course_of b boot.last) u [] boot_end.Started (boot_course part flash b boot) led
 
-alike_alone : (part : PartData) (flash : List ℕ) (t u : Trial) (b : BootedState) → StartsAtPower part flash u → u.kept ≡ t.kept → u.wrapped ≡ t.wrapped → AreAlike t.bytes u.bytes → (boot : IsBoot part flash b) → StartsAlike part t (course_of b boot.last)
+alike_alone : (part : PartData) (flash : List ℕ) (t u : AttemptCourse) (b : BootedState) → StartsAtPower part flash u → u.kept ≡ t.kept → u.wrapped ≡ t.wrapped → AreAlike t.bytes u.bytes → (boot : IsBoot part flash b) → StartsAlike part t (course_of b boot.last)
 alike_alone part flash t u b s kept wrapped a boot =
     let c : course_of b boot.last ≡ course_along u [] boot_end.Started = alone part flash u b s boot in
     let last : boot.last ≡ u = ap (λ (x : BootCourse). x.last) c in
     record {
       attempts_are = ap (λ (x : BootCourse). x.attempts) c ∙ ap (λ (x : Tried). x ∷ []) (tried_is u Power 0 ending.Started (ap (λ (k : Kept). k.kind) s.kept) s.address s.started);
       started = ap (λ (x : BootCourse). x.end) c;
-      memory = ap (λ (v : Trial). memory_in part v.kept v.bytes) last ∙ ap (λ (k : Kept). memory_in part k u.bytes) kept ∙ sym (alike_memory part t.kept t.bytes u.bytes a);
+      memory = ap (λ (v : AttemptCourse). memory_in part v.kept v.bytes) last ∙ ap (λ (k : Kept). memory_in part k u.bytes) kept ∙ sym (alike_memory part t.kept t.bytes u.bytes a);
       registers = ap (end_state part) last ∙ ap (λ (k : Kept). state_of part k u.wrapped u.bytes) kept ∙ ap (λ (w : Bool). state_of part t.kept w u.bytes) wrapped ∙ sym (alike_state part t.kept t.bytes u.bytes a t.wrapped);
     }
 
-pub in_flash : (part : PartData) (flash : List ℕ) (t : Trial) → StartsAtPower part flash t → t.wrapped ≡ false
+pub in_flash : (part : PartData) (flash : List ℕ) (t : AttemptCourse) → StartsAtPower part flash t → t.wrapped ≡ false
 in_flash part flash t s = (ended part flash t s).in_flash
 
 -- ---- two flashes whose first sector leads nowhere
 
-module _ (part : PartData) (one other : List ℕ) (t : Trial) (shut : IsShut one) (other_shut : IsShut other) (fits : AreBytes (take 65536 one)) (other_fits : AreBytes other)
+module _ (part : PartData) (one other : List ℕ) (t : AttemptCourse) (shut : LeadsNowhere one) (other_shut : LeadsNowhere other) (fits : AreBytes (take 65536 one)) (other_fits : AreBytes other)
     (least : 65536 ≤ length one) (other_least : 65536 ≤ length other) (starts : StartsAtPower part one t) (same : slice_range other 65536 (length t.bytes) ≡ slice_range one 65536 (length t.bytes)) where
   abbrev g : List ℕ
   g = take 65536 one
@@ -151,7 +151,7 @@ module _ (part : PartData) (one other : List ℕ) (t : Trial) (shut : IsShut one
   other_sum : AreBytes (h ++ s)
   other_sum = all_prefix (λ x. x < 256) (h ++ s) r (subst AreBytes other_is other_fits)
 
-  abbrev there : Trial
+  abbrev there : AttemptCourse
   there = alike_trial t ((h ++ s) ++ r)
 
   both : StartsAtPower part ((h ++ s) ++ r) there × AreAlike t.bytes there.bytes
@@ -165,12 +165,12 @@ module _ (part : PartData) (one other : List ℕ) (t : Trial) (shut : IsShut one
   pub shut_alike : (b : BootedState) → (boot : IsBoot part other b) → StartsAlike part t (course_of b boot.last)
   shut_alike b boot = alike_alone part other t there b (subst (λ (x : List ℕ). StartsAtPower part x there) (sym other_is) both.0) refl (sym (in_flash part one t starts)) both.1 boot
 
-pub same_golden_alike : (part : PartData) (one other : List ℕ) (t : Trial) (b : BootedState) → HaveSameGolden part one other t → (boot : IsBoot part other b) → StartsAlike part t (course_of b boot.last)
+pub same_golden_alike : (part : PartData) (one other : List ℕ) (t : AttemptCourse) (b : BootedState) → HaveSameGolden part one other t → (boot : IsBoot part other b) → StartsAlike part t (course_of b boot.last)
 same_golden_alike part one other t b s boot = shut_alike part one other t s.shut.0 s.shut.1 (all_take (λ x. x < 256) 65536 one s.fits.0) s.fits.1 s.least.0 s.least.1 s.starts s.same b boot
 
 -- ---- the first sector erased
 
-pub erased_shut : (more : List ℕ) → IsShut (erased_sector ++ more)
+pub erased_shut : (more : List ℕ) → LeadsNowhere (erased_sector ++ more)
 erased_shut more place h e =
     let byte : get_or (erased_sector ++ more) place 0 ≡ 255 = get_or_append_left erased_sector more 0 place (omega (arith, length_erased_sector, h)) ∙ get_or_erased_sector place h in
     let first : get_or (erased_sector ++ more) place 0 ≡ 0xAA = ap (λ (w : List ℕ). get_or w 0 0) e in
@@ -214,7 +214,7 @@ golden_stands flash found n l b most = ext_get_or 0 (take (n - 65536) (drop 6553
         ∙ sym (get_or-drop 65536 flash i 0)
         ∙ sym (get_or-take (n - 65536) (drop 65536 flash) i 0 short)
 
-pub between_alike : (part : PartData) (flash found : List ℕ) (t : Trial) (b : BootedState) → HasLayout flash → IsBetween flash found → GoldenStarts part flash t → AreBytes found → (boot : IsBoot part found b) → StartsAlike part t (course_of b boot.last)
+pub between_alike : (part : PartData) (flash found : List ℕ) (t : AttemptCourse) (b : BootedState) → HasLayout flash → IsBetween flash found → GoldenStarts part flash t → AreBytes found → (boot : IsBoot part found b) → StartsAlike part t (course_of b boot.last)
 between_alike part flash found t b l left starts fits boot =
     shut_alike part (with_erased flash) found t (erased_shut (drop 65536 flash)) (no_sync flash found l left) (subst AreBytes (sym (erased_take (drop 65536 flash))) bytes_erased_sector) fits
     (omega (arith, length-append erased_sector (drop 65536 flash), length_erased_sector)) (omega (arith, left.size, l.size.least)) starts.starts
@@ -238,13 +238,13 @@ rest_erased part =
 pub never_erased : NeverStarts (history_of erased_sector)
 never_erased = subst NeverStarts (sym (history_on [] erased_sector bytes_erased_sector goes)) tt
 
-pub full_golden : (u : Updating) → IsPrepared u → (t : Trial) × StartsAsPlanned u t
+pub full_golden : (u : Updating) → IsPrepared u → (t : AttemptCourse) × StartsAsPlanned u t
 full_golden u p =
     let stream : List ℕ = full_stream u.part u.golden in
     let short : List ℕ = erased_sector ++ stream in
     let s : StartsWith u.part at_power 0 short u.golden false =
     full_starts u.part at_power erased_sector u.golden 0 short [] false bytes_erased_sector (rest_erased u.part) never_erased p.is_part p.plan (sym (append-nil short)) refl in
-    let t : Trial = s.trial in
+    let t : AttemptCourse = s.course in
     let x : EndsFirst u.part short t = subst (λ (n : ℕ). EndsFirst u.part (drop n short) t) s.address_is (started_first u.part short t s.is s.ending_is) in
     let most : length t.bytes ≤ length short = omega (arith, ap length x.taken, length-append t.bytes x.rest) in
     let whole : with_erased u.flash ≡ short ++ p.golden.rest = ap (λ (x : List ℕ). erased_sector ++ x) p.golden.stands ∙ sym (append_assoc erased_sector stream p.golden.rest) in

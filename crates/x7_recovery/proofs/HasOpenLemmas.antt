@@ -12,7 +12,7 @@ use Rattle.x7_part.specs.Ranges.{IsPart}
 use Rattle.x7_memory.specs.Plan.{PlanData}
 use Rattle.x7_planner.specs.FullStream.{full_stream}
 use Rattle.x7_boot.specs.Image as image
-use Rattle.x7_boot.specs.Image.{closed_slot, closed_slots, first_sector, flash_limit, image_of, image_size, open_slot, slot}
+use Rattle.x7_boot.specs.Image.{free_slot, free_slots, first_sector, flash_limit, image_of, image_size, open_slot, slot}
 use Rattle.x7_update.specs.After.{IsAfter, IsBetween, spends, switched, with_stream}
 use Rattle.x7_update.specs.Layout.{HasLayout, IsOpen, first_slot, four_at, open_switch, spent_switch, switch_of, update_place}
 use Rattle.x7_update.proofs.CaseLemmas.{behind, between_below, between_closed, stream_keeps}
@@ -238,7 +238,7 @@ four_split (x ∷ xs) (suc place) h e =
     ap (λ (l : List ℕ). x ∷ l) (four_split xs place (omega arith) (sym (four_suc x xs place) ∙ e))
     ∙ ap (λ (n : ℕ). (x ∷ take place xs) ++ (sync_bytes ++ drop n (x ∷ xs))) (sym at)
 
-closed_end : (start : ℕ) → (get_or (closed_slot start) 29 0 ≡ 0) × (get_or (closed_slot start) 30 0 ≡ 0) × (get_or (closed_slot start) 31 0 ≡ 13)
+closed_end : (start : ℕ) → (get_or (free_slot start) 29 0 ≡ 0) × (get_or (free_slot start) 30 0 ≡ 0) × (get_or (free_slot start) 31 0 ≡ 13)
 unfolding slot
 closed_end start = (refl, refl, refl)
 
@@ -248,14 +248,14 @@ module _ (start : ℕ) (flash more : List ℕ) (whole : start % 256 ≡ 0) (low 
 
   image_stands : take 32 (drop 0 flash) ≡ open_slot start
   image_stands =
-      ap (take 32) (begins ∙ append_assoc (open_slot start) (closed_slots start) more)
-      ∙ ap (λ (n : ℕ). take n (open_slot start ++ (closed_slots start ++ more))) (sym (slot_long 0xAA995566 start)) ∙ take-append_seam (open_slot start) (closed_slots start ++ more)
+      ap (take 32) (begins ∙ append_assoc (open_slot start) (free_slots start) more)
+      ∙ ap (λ (n : ℕ). take n (open_slot start ++ (free_slots start ++ more))) (sym (slot_long 0xAA995566 start)) ∙ take-append_seam (open_slot start) (free_slots start ++ more)
 
-  ends_at : (i : ℕ) → i < 32 → get_or flash (32 * suc 2046 + i) 0 ≡ get_or (closed_slot start) i 0
+  ends_at : (i : ℕ) → i < 32 → get_or flash (32 * suc 2046 + i) 0 ≡ get_or (free_slot start) i 0
   ends_at i h = closed_byte start flash more begins 2046 i (omega arith) h
 
   first_sector_none : (tail : List ℕ) × (first_sector start ≡ 0xAA ∷ tail) × HasNoSync tail
-  first_sector_none = open_none start (closed_slots start) whole low (closed_none start whole low)
+  first_sector_none = open_none start (free_slots start) whole low (closed_none start whole low)
 
   in_sector : (place : ℕ) → place + 4 ≤ 65536 → four_at flash place ≡ four_at (first_sector start) place
   in_sector place h =

@@ -7,7 +7,7 @@ use Rattle.x7_words.specs.Word.{bytes_of_word, word_of_bytes}
 use Rattle.std.proofs.Math.Seq.{drop-append_seam}
 use Rattle.x7_packets.specs.FlashSlot.{flash_slot}
 use Rattle.x7_boot.specs.Image as image
-use Rattle.x7_boot.specs.Image.{closed_slot, closed_slots, filled_to, first_sector, image_of, image_size, open_slot, sector_from, slot}
+use Rattle.x7_boot.specs.Image.{free_slot, free_slots, filled_to, first_sector, image_of, image_size, open_slot, sector_from, slot}
 use Rattle.x7_recovery.proofs.SlotLemmas.{image_begins, place_whole, sector_long, size_after, slot_long, update_after}
 use Rattle.x7_recovery.specs.PlannedImage.{HasImage, golden_image}
 use Rattle.x7_part.specs.Part.{PartData}
@@ -32,12 +32,12 @@ slot_among one rest (suc n) (suc k) i e h j =
     ∙ slot_among one rest n k i e (omega arith) j
 
 -- an open slot and a closed one are the same after the switch word
-pub same_after : (start i : ℕ) → 4 ≤ i → get_or (closed_slot start) i 0 ≡ get_or (open_slot start) i 0
+pub same_after : (start i : ℕ) → 4 ≤ i → get_or (free_slot start) i 0 ≡ get_or (open_slot start) i 0
 unfolding slot
 same_after start i h =
     let at : 4 + (i - 4) ≡ i = omega arith in
-    ap (λ m. get_or (closed_slot start) m 0) (sym at)
-    ∙ sym (get_or-drop 4 (closed_slot start) (i - 4) 0)
+    ap (λ m. get_or (free_slot start) m 0) (sym at)
+    ∙ sym (get_or-drop 4 (free_slot start) (i - 4) 0)
     ∙ get_or-drop 4 (open_slot start) (i - 4) 0
     ∙ ap (λ m. get_or (open_slot start) m 0) at
 
@@ -45,7 +45,7 @@ pub open_is : (start : ℕ) → flash_slot open_switch (bytes_of_word start) ≡
 unfolding slot
 open_is start = refl
 
-closed_begins : (start : ℕ) → four_at (closed_slot start) 0 ≡ free_switch
+closed_begins : (start : ℕ) → four_at (free_slot start) 0 ≡ free_switch
 unfolding slot
 closed_begins start = refl
 
@@ -53,25 +53,25 @@ start_at : (start : ℕ) → four_at (open_slot start) 12 ≡ bytes_of_word star
 unfolding slot
 start_at start = refl
 
-closed_repeat : (start : ℕ) → closed_slots start ≡ repeat 2047 (closed_slot start)
-unfolding closed_slots
+closed_repeat : (start : ℕ) → free_slots start ≡ repeat 2047 (free_slot start)
+unfolding free_slots
 closed_repeat start = refl
 
 module _ (start : ℕ) (all rest : List ℕ) (begins : all ≡ first_sector start ++ rest) where
-  is : all ≡ open_slot start ++ (closed_slots start ++ rest)
-  is = begins ∙ append_assoc (open_slot start) (closed_slots start) rest
+  is : all ≡ open_slot start ++ (free_slots start ++ rest)
+  is = begins ∙ append_assoc (open_slot start) (free_slots start) rest
 
   open_byte : (i : ℕ) → i < 32 → get_or all i 0 ≡ get_or (open_slot start) i 0
-  open_byte i h = ap (λ l. get_or l i 0) is ∙ get_or_append_left (open_slot start) (closed_slots start ++ rest) 0 i (omega (arith, h, slot_long 0xAA995566 start))
+  open_byte i h = ap (λ l. get_or l i 0) is ∙ get_or_append_left (open_slot start) (free_slots start ++ rest) 0 i (omega (arith, h, slot_long 0xAA995566 start))
 
-  pub closed_byte : (k i : ℕ) → k < 2047 → i < 32 → get_or all (32 * suc k + i) 0 ≡ get_or (closed_slot start) i 0
+  pub closed_byte : (k i : ℕ) → k < 2047 → i < 32 → get_or all (32 * suc k + i) 0 ≡ get_or (free_slot start) i 0
   closed_byte k i h j =
       let at : 32 * suc k + i - 32 ≡ 32 * k + i = omega arith in
       ap (λ l. get_or l (32 * suc k + i) 0) is
-      ∙ get_or-append_right (open_slot start) (closed_slots start ++ rest) 32 (32 * suc k + i) 0 (slot_long 0xAA995566 start) (omega arith)
-      ∙ ap (λ m. get_or (closed_slots start ++ rest) m 0) at
+      ∙ get_or-append_right (open_slot start) (free_slots start ++ rest) 32 (32 * suc k + i) 0 (slot_long 0xAA995566 start) (omega arith)
+      ∙ ap (λ m. get_or (free_slots start ++ rest) m 0) at
       ∙ ap (λ l. get_or (l ++ rest) (32 * k + i) 0) (closed_repeat start)
-      ∙ slot_among (closed_slot start) rest 2047 k i (slot_long 0xFFFFFFFF start) h j
+      ∙ slot_among (free_slot start) rest 2047 k i (slot_long 0xFFFFFFFF start) h j
 
   start_is : four_at all 12 ≡ bytes_of_word start
   start_is = rw (open_byte 12 (omega arith), open_byte 13 (omega arith), open_byte 14 (omega arith), open_byte 15 (omega arith)) (start_at start)
@@ -91,7 +91,7 @@ module _ (start : ℕ) (all rest : List ℕ) (begins : all ≡ first_sector star
   pub closed_free : (k : ℕ) → k < 2047 → switch_of all (suc k) ≡ free_switch
   closed_free k h =
       let at : 32 * suc k + 0 ≡ 32 * suc k = omega arith in
-      let first : get_or all (32 * suc k) 0 ≡ get_or (closed_slot start) 0 0 = ap (λ m. get_or all m 0) (sym at) ∙ closed_byte k 0 h (omega arith) in
+      let first : get_or all (32 * suc k) 0 ≡ get_or (free_slot start) 0 0 = ap (λ m. get_or all m 0) (sym at) ∙ closed_byte k 0 h (omega arith) in
       rw (first, closed_byte k 1 h (omega arith), closed_byte k 2 h (omega arith), closed_byte k 3 h (omega arith)) (closed_begins start)
 
   not_open : (k : ℕ) → suc k < 2048 → IsOpen all (suc k) → ⊥

@@ -35,7 +35,7 @@ use Rattle.x7_effects.proofs.CalmLemmas.{IsCalm, IsOff, calm_access, calm_bytes}
 use Rattle.x7_effects.proofs.GoingLemmas.{IsGoing, going_access, going_bytes, going_desync, why_none}
 use Rattle.x7_effects.proofs.RestingLemmas.{rests}
 use Rattle.x7_effects.proofs.StillLemmas.{never_armed}
-use Rattle.x7_boot.specs.Attempt.{IsTrial, NoneBefore, Trial, ending_at, ending_by}
+use Rattle.x7_boot.specs.Attempt.{IsAttemptOver, NoneBefore, AttemptCourse, ending_at, ending_by}
 use Rattle.x7_boot.specs.Boot.{LeadsTo, at_power, end_state, start_address}
 use Rattle.x7_boot.specs.Image.{open_slot, slot}
 use Rattle.x7_boot.specs.declared.attempt.Ending.TheVariants as ending
@@ -159,10 +159,10 @@ module _ (flash : List ℕ) (number start : ℕ) (o : HasOpen flash number start
       no_stop_before part at_power (take k taken) (drop k taken) (record { place = 32 * number + 24; why = stop.Iprog }) (subst AreBytes (sym whole) taken_fits) (ap (stop_in part at_power) whole ∙ taken_stop part) (omega (arith, count, few, taken_long)) in
       ap (λ (x : List ℕ). ending_at part at_power (take k x)) taken_split ∙ ap (ending_at part at_power) (take-append-le k taken left within) ∙ prefix_open part at_power k taken taken_fits taken_never none
 
-  abbrev pub power : Trial
+  abbrev pub power : AttemptCourse
   power = record { kept = at_power; address = 0; bytes = taken; wrapped = false; ending = ending.Iprog }
 
-  power_tries : (part : PartData) → IsTrial part flash power
+  power_tries : (part : PartData) → IsAttemptOver part flash power
   power_tries part = inl (record { rest = left; taken = taken_split; ends = taken_ends part; first = taken_first part; in_flash = refl })
 
   -- what is kept after it

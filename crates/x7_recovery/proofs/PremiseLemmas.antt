@@ -15,11 +15,11 @@ use Rattle.std.proofs.lemmas.List.Elements.{All-nil, All-cons}
 use Rattle.x7_part.specs.Address.{IsRow, row, no_row}
 use Rattle.x7_part.specs.AddressOrder.{addresses, addresses_in}
 use Rattle.x7_memory.specs.Plan.{IsPlanRow, PlanRow}
-use Rattle.x7_boot.specs.Attempt.{RunsOut, Trial, ending_at}
+use Rattle.x7_boot.specs.Attempt.{RunsOut, AttemptCourse, ending_at}
 use Rattle.x7_part.specs.Slot.{slots, slots_in}
 use Rattle.x7_effects.proofs.FormLemmas.{full_length}
 use Rattle.x7_effects.proofs.PlannerLemmas.{full_same}
-use Rattle.x7_boot.specs.Image.{closed_slots, filled_to, first_sector, flash_limit, image_of, image_size, open_slot, slot, place_after_golden}
+use Rattle.x7_boot.specs.Image.{free_slots, filled_to, first_sector, flash_limit, image_of, image_size, open_slot, slot, place_after_golden}
 use Rattle.x7_update.specs.After.{IsBetween, MayBeLeft, between, spends, switched}
 use Rattle.x7_update.specs.Layout.{HasLayout, IsOpen, four_at, open_switch, spent_switch, switch_of}
 use Rattle.x7_update.proofs.CaseLemmas.{between_closed}
@@ -33,7 +33,7 @@ use Rattle.x7_recovery.specs.PlannedImage.{HasImage, golden_image, place_after}
 use Rattle.x7_boot.specs.declared.attempt.Ending.TheVariants as ending
 
 -- the attempt at an update of no bytes: it has none, and fails by the flash's end
-abbrev pub empty_trial : PartData → PlanData → Trial
+abbrev pub empty_trial : PartData → PlanData → AttemptCourse
 empty_trial part golden = record { kept = kept_at_update (place_after part golden / part.start_unit); address = place_after part golden; bytes = []; wrapped = true; ending = ending.Failed Wrap }
 
 nothing_ends : (part : PartData) (start k : ℕ) → ending_at part (kept_at_update start) (take k []) ≡ None
@@ -43,7 +43,7 @@ nothing_ends part start (suc k) = refl
 pub empty_fails : (part : PartData) (golden : PlanData) → drop (place_after part golden) (golden_image part golden []) ≡ [] → UpdateFails (image_of_flash part (golden_image part golden []) (place_after part golden)) (empty_trial part golden) Wrap false
 empty_fails part golden none =
     let start : ℕ = place_after part golden / part.start_unit in
-    let t : Trial = empty_trial part golden in
+    let t : AttemptCourse = empty_trial part golden in
     let out : RunsOut part [] t = record { none = λ k l. nothing_ends part start k; taken = refl; failed = refl; past_end = refl } in
     record {
       ended = record {
@@ -142,9 +142,9 @@ left_torn part golden update stream image bytes l =
     let place : ℕ = place_after part golden in
     let start : ℕ = place / part.start_unit in
     let b : (rest : List ℕ) × (flash ≡ (first_sector start ++ full_stream part golden) ++ rest) = image_begins part.start_unit (full_stream part golden) update in
-    let begins : flash ≡ open_slot start ++ (closed_slots start ++ (full_stream part golden ++ b.0)) = b.1 ∙ append_assoc (first_sector start) (full_stream part golden) b.0 ∙ append_assoc (open_slot start) (closed_slots start) (full_stream part golden ++ b.0) in
+    let begins : flash ≡ open_slot start ++ (free_slots start ++ (full_stream part golden ++ b.0)) = b.1 ∙ append_assoc (first_sector start) (full_stream part golden) b.0 ∙ append_assoc (open_slot start) (free_slots start) (full_stream part golden ++ b.0) in
     let stands : take 32 (drop 0 flash) ≡ open_slot start =
-    ap (take 32) begins ∙ ap (λ (n : ℕ). take n (open_slot start ++ (closed_slots start ++ (full_stream part golden ++ b.0)))) (sym (slot_long 0xAA995566 start)) ∙ take-append_seam (open_slot start) (closed_slots start ++ (full_stream part golden ++ b.0)) in
+    ap (take 32) begins ∙ ap (λ (n : ℕ). take n (open_slot start ++ (free_slots start ++ (full_stream part golden ++ b.0)))) (sym (slot_long 0xAA995566 start)) ∙ take-append_seam (open_slot start) (free_slots start ++ (full_stream part golden ++ b.0)) in
     let is : IsOpen flash 0 = begins_open flash start stands in
     let found : List ℕ = switched 0 spent_switch flash in
     let left : IsBetween flash found = between_closed flash found l.slots (spends 0 (omega arith) is refl) in

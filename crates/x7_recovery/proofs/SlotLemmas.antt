@@ -15,7 +15,7 @@ use Rattle.x7_regs.specs.declared.command.Command.TheVariants.{Desync, Iprog}
 use Rattle.x7_regs.specs.declared.register.Reg.TheVariants.{Wbstar}
 use Rattle.x7_packets.proofs.SyncLemmas.{none_empty}
 use Rattle.x7_effects.proofs.StreamLemmas.{bytes_fit}
-use Rattle.x7_boot.specs.Image.{closed_slot, closed_slots, filled_to, first_sector, image_of, image_size, flash_limit, open_slot, sector_from, slot, place_after_golden}
+use Rattle.x7_boot.specs.Image.{free_slot, free_slots, filled_to, first_sector, image_of, image_size, flash_limit, open_slot, sector_from, slot, place_after_golden}
 
 -- ---- no sync word in the closed slots
 
@@ -59,7 +59,7 @@ start_none start rest whole low none =
     let second : HasNoSync (start / 2 ^ 16 % 256 ∷ start / 2 ^ 8 % 256 ∷ end ∷ (slot_tail ++ rest)) = other_third (start / 2 ^ 16 % 256) (start / 2 ^ 8 % 256) end (slot_tail ++ rest) (omega (arith, whole)) third in
     other_first (start / 2 ^ 24 % 256) _ high second
 
-slot_none : (start : ℕ) (rest : List ℕ) → start % 256 ≡ 0 → start < 0xAA000000 → HasNoSync rest → HasNoSync (closed_slot start ++ rest)
+slot_none : (start : ℕ) (rest : List ℕ) → start % 256 ≡ 0 → start < 0xAA000000 → HasNoSync rest → HasNoSync (free_slot start ++ rest)
 unfolding slot
 slot_none start rest whole low none =
     none_after (255 ∷ 255 ∷ 255 ∷ 255 ∷ 32 ∷ 0 ∷ 0 ∷ 0 ∷ 0x30 ∷ 2 ∷ 0 ∷ 1 ∷ []) _ (refl, (refl, (refl, (refl, (refl, (refl, (refl, (refl, (refl, (refl, (refl, (refl, tt)))))))))))) (start_none start rest whole low none)
@@ -73,12 +73,12 @@ open_none start rest whole low none = (
   none_after (0x99 ∷ 0x55 ∷ 0x66 ∷ 32 ∷ 0 ∷ 0 ∷ 0 ∷ 0x30 ∷ 2 ∷ 0 ∷ 1 ∷ []) _ (refl, (refl, (refl, (refl, (refl, (refl, (refl, (refl, (refl, (refl, (refl, tt))))))))))) (start_none start rest whole low none),
 )
 
-slots_none : (n start : ℕ) → start % 256 ≡ 0 → start < 0xAA000000 → HasNoSync (repeat n (closed_slot start))
+slots_none : (n start : ℕ) → start % 256 ≡ 0 → start < 0xAA000000 → HasNoSync (repeat n (free_slot start))
 slots_none zero start whole low = none_empty
-slots_none (suc n) start whole low = slot_none start (repeat n (closed_slot start)) whole low (slots_none n start whole low)
+slots_none (suc n) start whole low = slot_none start (repeat n (free_slot start)) whole low (slots_none n start whole low)
 
-pub closed_none : (start : ℕ) → start % 256 ≡ 0 → start < 0xAA000000 → HasNoSync (closed_slots start)
-unfolding closed_slots
+pub closed_none : (start : ℕ) → start % 256 ≡ 0 → start < 0xAA000000 → HasNoSync (free_slots start)
+unfolding free_slots
 closed_none start whole low = slots_none 2047 start whole low
 
 -- ---- bytes
@@ -91,12 +91,12 @@ repeat_fits : (n : ℕ) (bytes : List ℕ) → AreBytes bytes → AreBytes (repe
 repeat_fits zero bytes f = tt
 repeat_fits (suc n) bytes f = all_append (λ b. b < 256) bytes (repeat n bytes) f (repeat_fits n bytes f)
 
-closed_fits : (start : ℕ) → AreBytes (closed_slots start)
-unfolding closed_slots
-closed_fits start = repeat_fits 2047 (closed_slot start) (slot_fits 0xFFFFFFFF start)
+closed_fits : (start : ℕ) → AreBytes (free_slots start)
+unfolding free_slots
+closed_fits start = repeat_fits 2047 (free_slot start) (slot_fits 0xFFFFFFFF start)
 
 pub sector_fits : (start : ℕ) → AreBytes (first_sector start)
-sector_fits start = all_append (λ b. b < 256) (open_slot start) (closed_slots start) (slot_fits 0xAA995566 start) (closed_fits start)
+sector_fits start = all_append (λ b. b < 256) (open_slot start) (free_slots start) (slot_fits 0xAA995566 start) (closed_fits start)
 
 pub fill_fits : (n : ℕ) → AreBytes (replicate n 255)
 fill_fits zero = tt
@@ -150,12 +150,12 @@ pub slot_long : (switch start : ℕ) → length (slot switch start) ≡ 32
 unfolding slot
 slot_long switch start = refl
 
-closed_long : (start : ℕ) → length (closed_slots start) ≡ 65504
-unfolding closed_slots
-closed_long start = repeat_long 2047 (closed_slot start) ∙ ap (λ (n : ℕ). 2047 * n) (slot_long 0xFFFFFFFF start)
+closed_long : (start : ℕ) → length (free_slots start) ≡ 65504
+unfolding free_slots
+closed_long start = repeat_long 2047 (free_slot start) ∙ ap (λ (n : ℕ). 2047 * n) (slot_long 0xFFFFFFFF start)
 
 pub sector_long : (start : ℕ) → length (first_sector start) ≡ 65536
-sector_long start = length-append (open_slot start) (closed_slots start) ∙ omega (arith, slot_long 0xAA995566 start, closed_long start)
+sector_long start = length-append (open_slot start) (free_slots start) ∙ omega (arith, slot_long 0xAA995566 start, closed_long start)
 
 -- an image begins with its first sector and the golden stream
 pub image_begins : (unit : ℕ) (golden update : List ℕ) → (more : List ℕ) × (image_of unit golden update ≡ (first_sector (place_after_golden (length golden) / unit) ++ golden) ++ more)

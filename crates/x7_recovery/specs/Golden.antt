@@ -10,7 +10,7 @@ use Rattle.x7_memory.specs.FrameMap.{AreSame}
 use Rattle.x7_memory.specs.Plan.{total}
 use Rattle.x7_planner.specs.FullStream.{full_stream}
 use Rattle.x7_engine.specs.State.{memory_in}
-use Rattle.x7_boot.specs.Attempt.{IsTrial, Trial}
+use Rattle.x7_boot.specs.Attempt.{IsAttemptOver, AttemptCourse}
 use Rattle.x7_boot.specs.Boot.{BootedState, IsBoot, at_power, end_state}
 use Rattle.x7_boot.specs.declared.attempt.Ending.TheVariants as ending
 use Rattle.x7_boot.specs.declared.boots.BootEnd.TheVariants as boot_end
@@ -19,36 +19,36 @@ use Rattle.x7_recovery.specs.Recovery.{Updating}
 use Rattle.x7_update.specs.After.{IsAfter}
 use Rattle.x7_update.specs.Layout.{HasLayout, four_at, open_switch, update_place}
 
--- no sync word begins in the first sector: none of its slots is open, or it is erased
-abbrev pub IsShut : List ℕ → Type 0
-IsShut flash = (place : ℕ) → place < sector_bytes → four_at flash place ≢ open_switch
+-- the first sector leads nowhere: no sync word begins in it, as where none of its slots is open, or where it is erased
+abbrev pub LeadsNowhere : List ℕ → Type 0
+LeadsNowhere flash = (place : ℕ) → place < sector_bytes → four_at flash place ≢ open_switch
 
 -- the flash with its first sector erased
 abbrev pub with_erased : List ℕ → List ℕ
 with_erased flash = erased_sector ++ drop sector_bytes flash
 
 -- an attempt at power that starts, over a flash
-pub record StartsAtPower (part : PartData) (flash : List ℕ) (t : Trial) : Type 0 where
-  pub is : IsTrial part flash t
+pub record StartsAtPower (part : PartData) (flash : List ℕ) (t : AttemptCourse) : Type 0 where
+  pub is : IsAttemptOver part flash t
   pub kept : t.kept ≡ at_power
   pub address : t.address ≡ 0
   pub started : t.ending ≡ ending.Started
 
--- Two flashes whose first sector leads nowhere have the same bytes after it, up to where an attempt at power over the first of them ended, which starts.
-pub record HaveSameGolden (part : PartData) (one other : List ℕ) (t : Trial) : Type 0 where
+-- Two flashes whose first sector leads nowhere have the same bytes after it, up to where an attempt at power that starts over the first of them ended.
+pub record HaveSameGolden (part : PartData) (one other : List ℕ) (t : AttemptCourse) : Type 0 where
   pub starts : StartsAtPower part one t
   pub same : slice_range other sector_bytes (length t.bytes) ≡ slice_range one sector_bytes (length t.bytes)
-  pub shut : IsShut one × IsShut other
+  pub shut : LeadsNowhere one × LeadsNowhere other
   pub fits : AreBytes one × AreBytes other
   pub least : (sector_bytes ≤ length one) × (sector_bytes ≤ length other)
 
 -- The golden stream starts: with the first sector erased the attempt at power starts, and it ends at U or before it.
-pub record GoldenStarts (part : PartData) (flash : List ℕ) (t : Trial) : Type 0 where
+pub record GoldenStarts (part : PartData) (flash : List ℕ) (t : AttemptCourse) : Type 0 where
   pub starts : StartsAtPower part (with_erased flash) t
   pub ends : length t.bytes ≤ update_place flash
 
 -- The boot starts at its one attempt, at power, with the memory and the registers that another attempt ended with.
-pub record StartsAlike (part : PartData) (t : Trial) (c : BootCourse) : Type 0 where
+pub record StartsAlike (part : PartData) (t : AttemptCourse) (c : BootCourse) : Type 0 where
   pub attempts_are : c.attempts ≡ record { kind = Power; address = 0; ending = ending.Started } ∷ []
   pub started : c.end ≡ boot_end.Started
   pub memory : memory_in part c.last.kept c.last.bytes ≡ memory_in part t.kept t.bytes
@@ -56,7 +56,7 @@ pub record StartsAlike (part : PartData) (t : Trial) (c : BootCourse) : Type 0 w
 
 -- the golden stream of a flash starts, at its end or before it, with the memory of its plan over zeros, and BOOTSTS shows no
 -- other attempt
-pub record StartsAsPlanned (u : Updating) (t : Trial) : Type 0 where
+pub record StartsAsPlanned (u : Updating) (t : AttemptCourse) : Type 0 where
   pub golden : GoldenStarts u.part u.flash t
   pub within : length t.bytes ≤ sector_bytes + length (full_stream u.part u.golden)
   pub memory : AreSame (memory_in u.part t.kept t.bytes) (total u.part u.golden)
@@ -67,7 +67,7 @@ pub record UpdatingAny : Type 0 where
   pub part : PartData
   pub flash : List ℕ
   pub stream : List ℕ
-  pub golden : Trial
+  pub golden : AttemptCourse
 
 -- the flash has a layout, with a golden stream that starts
 pub record IsPreparedAny (u : UpdatingAny) : Type 0 where

@@ -12,7 +12,7 @@ use Rattle.x7_planner.specs.FullStream.{full_stream}
 use Rattle.x7_engine.specs.State.{attempt_in, memory_in}
 use Rattle.x7_engine.specs.declared.kept.Kept.{Kept}
 use Rattle.x7_engine.specs.Kept.{without_kept}
-use Rattle.x7_boot.specs.Attempt.{IsTrial, Trial}
+use Rattle.x7_boot.specs.Attempt.{IsAttemptOver, AttemptCourse}
 use Rattle.x7_boot.specs.Boot.{end_state, forbids_fallback}
 use Rattle.x7_boot.specs.Boots.{BootCourse, IsCourse}
 use Rattle.x7_boot.specs.Image.{place_after_golden}
@@ -36,26 +36,26 @@ abbrev pub through_update : ℕ → Ending → List Tried → List Tried
 through_update place e more = record { kind = Power; address = 0; ending = ending.Iprog } ∷ record { kind = Iprog; address = place; ending = e } ∷ more
 
 -- an attempt at the place to which the open slot leads ended by `e`
-pub record UpdateEnds (o : Opened) (t : Trial) (e : Ending) : Type 0 where
-  pub is : IsTrial o.part o.flash t
+pub record UpdateEnds (o : Opened) (t : AttemptCourse) (e : Ending) : Type 0 where
+  pub is : IsAttemptOver o.part o.flash t
   pub kept : t.kept ≡ kept_at_update o.start
   pub address : t.address ≡ o.place
   pub ends : t.ending ≡ e
 
 -- the update failed by this cause, and CTL0 forbids a fallback or not
-pub record UpdateFails (o : Opened) (t : Trial) (cause : Cause) (forbidden : Bool) : Type 0 where
+pub record UpdateFails (o : Opened) (t : AttemptCourse) (cause : Cause) (forbidden : Bool) : Type 0 where
   pub ended : UpdateEnds o t (ending.Failed cause)
   pub forbids : forbids_fallback (end_state o.part t).ctl0 ≡ forbidden
 
 -- the second attempt of a boot is that at the update
 pub record TriesUpdate (o : Opened) (attempts : List Tried) : Type 0 where
-  pub trial : Trial
-  pub ended : UpdateEnds o trial trial.ending
+  pub course : AttemptCourse
+  pub ended : UpdateEnds o course course.ending
   pub more : List Tried
-  pub attempts_are : attempts ≡ through_update o.place trial.ending more
+  pub attempts_are : attempts ≡ through_update o.place course.ending more
 
 -- the attempt at the update is the last one, and the boot ends by `by_end`
-pub record EndsAtUpdate (o : Opened) (t : Trial) (by_end : BootEnd) (c : BootCourse) : Type 0 where
+pub record EndsAtUpdate (o : Opened) (t : AttemptCourse) (by_end : BootEnd) (c : BootCourse) : Type 0 where
   pub attempts_are : c.attempts ≡ through_update o.place t.ending []
   pub end_is : c.end ≡ by_end
   pub last_is : c.last ≡ t
@@ -99,7 +99,7 @@ pub record FallsBack (o : Opened) (golden : PlanData) (cause : Cause) (c : BootC
   pub bootsts : (end_state o.part c.last).bootsts ≡ fallback_status cause
 
 -- The boot falls back and starts as another attempt did: at the same byte, with the same memory, and BOOTSTS shows the fallback and the update's cause.
-pub record FallsBackClean (o : Opened) (cause : Cause) (t : Trial) (c : BootCourse) : Type 0 where
+pub record FallsBackClean (o : Opened) (cause : Cause) (t : AttemptCourse) (c : BootCourse) : Type 0 where
   pub attempts_are : c.attempts ≡ fell_back o.place cause
   pub started : c.end ≡ boot_end.Started
   pub taken : length c.last.bytes ≡ length t.bytes
@@ -107,14 +107,14 @@ pub record FallsBackClean (o : Opened) (cause : Cause) (t : Trial) (c : BootCour
   pub bootsts : (end_state o.part c.last).bootsts ≡ fallback_status cause
 
 -- some fallback over the flash starts, whatever its device kept over the reset
-pub record StartsAsFallback (o : Opened) (f : Trial) : Type 0 where
-  pub is : IsTrial o.part o.flash f
+pub record StartsAsFallback (o : Opened) (f : AttemptCourse) : Type 0 where
+  pub is : IsAttemptOver o.part o.flash f
   pub kind : f.kept.kind ≡ Fallback
   pub address : f.address ≡ 0
   pub started : f.ending ≡ ending.Started
 
 -- The boot falls back and starts as another fallback does: with the same bytes, memory and registers but those kept over the reset; BOOTSTS shows the fallback, and the update's cause.
-pub record FallsBackAlike (o : Opened) (cause : Cause) (f : Trial) (c : BootCourse) : Type 0 where
+pub record FallsBackAlike (o : Opened) (cause : Cause) (f : AttemptCourse) (c : BootCourse) : Type 0 where
   pub attempts_are : c.attempts ≡ fell_back o.place cause
   pub started : c.end ≡ boot_end.Started
   pub taken : c.last.bytes ≡ f.bytes
@@ -129,19 +129,19 @@ pub record BootsOpen (o : Opened) (c : BootCourse) : Type 0 where
   -- the second attempt is that at the update
   pub tries : TriesUpdate o c.attempts
   -- where the attempt at the update starts, the boot has started with the update
-  pub starts : (t : Trial) → UpdateEnds o t ending.Started → EndsAtUpdate o t boot_end.Started c
+  pub starts : (t : AttemptCourse) → UpdateEnds o t ending.Started → EndsAtUpdate o t boot_end.Started c
   -- an update that is the full stream of a plan starts, with the memory of the plan
   pub full : (update : PlanData) → HasFullUpdate o update → StartsUpdate o update c
   -- where the update fails and CTL0 forbids a fallback, the boot stops
-  pub stops : (t : Trial) (cause : Cause) → UpdateFails o t cause true → EndsAtUpdate o t boot_end.Stopped c
+  pub stops : (t : AttemptCourse) (cause : Cause) → UpdateFails o t cause true → EndsAtUpdate o t boot_end.Stopped c
   -- where the update fails and CTL0 allows a fallback, the full stream of a plan starts as golden stream, with the memory of the plan
-  pub falls_back : (t : Trial) (cause : Cause) (golden : PlanData) → HasPlanned o golden → UpdateFails o t cause false → FallsBack o golden cause c
+  pub falls_back : (t : AttemptCourse) (cause : Cause) (golden : PlanData) → HasPlanned o golden → UpdateFails o t cause false → FallsBack o golden cause c
   -- where the update fails and CTL0 allows a fallback, a golden stream of any kind that starts at power after an erased first
   -- sector and begins clean starts as it did there
-  pub falls_clean : (t : Trial) (cause : Cause) (golden : Trial) → StartsClean o.part o.flash golden → UpdateFails o t cause false → FallsBackClean o cause golden c
+  pub falls_clean : (t : AttemptCourse) (cause : Cause) (golden : AttemptCourse) → StartsClean o.part o.flash golden → UpdateFails o t cause false → FallsBackClean o cause golden c
   -- where the update fails and CTL0 allows a fallback, any golden stream with which some fallback over the flash starts does as
   -- that fallback
-  pub falls_alike : (t : Trial) (cause : Cause) (f : Trial) → StartsAsFallback o f → UpdateFails o t cause false → FallsBackAlike o cause f c
+  pub falls_alike : (t : AttemptCourse) (cause : Cause) (f : AttemptCourse) → StartsAsFallback o f → UpdateFails o t cause false → FallsBackAlike o cause f c
 
 -- every boot from the flash comes to what one from a flash with an open slot does
 abbrev pub EachBootsOpen : Opened → Type 0

@@ -3,7 +3,7 @@ use Rattle.std.specs.Prelude.{◌≡◌, ℕ, List, take}
 use Rattle.x7_words.specs.Word.{AreBytes}
 use Rattle.x7_packets.specs.FlashSlot.{sector_bytes}
 use Rattle.x7_part.specs.Part.{PartData}
-use Rattle.x7_boot.specs.Attempt.{Trial}
+use Rattle.x7_boot.specs.Attempt.{AttemptCourse}
 use Rattle.x7_recovery.specs.Clean.{StartsClean}
 use Rattle.x7_recovery.specs.Golden.{GoldenStarts}
 use Rattle.x7_recovery.specs.OpenSlot.{Opened, slot_of_flash}
@@ -16,7 +16,7 @@ pub data AfterUpdates (flash : List ℕ) : List ℕ → Type 0 where
   one_more : (before found stream : List ℕ) → AfterUpdates flash before → HasLayout before → IsAfter stream before found → AfterUpdates flash found
 
 -- A flash for a part whose start address counts bytes was updated, and then with a stream; before that a golden stream of any kind started, and began clean, as one attempt shows.
-pub record IsUpdated (part : PartData) (flash found : List ℕ) (golden : Trial) : Type 0 where
+pub record IsUpdated (part : PartData) (flash found : List ℕ) (golden : AttemptCourse) : Type 0 where
   pub unit : part.start_unit ≡ 1
   pub starts : GoldenStarts part flash golden
   pub clean : StartsClean part flash golden
@@ -28,5 +28,5 @@ pub record IsUpdated (part : PartData) (flash found : List ℕ) (golden : Trial)
   pub fits : AreBytes (take sector_bytes found)
 
 -- the slot that the last update opened
-abbrev pub opened_by : (part : PartData) (flash found : List ℕ) (golden : Trial) → IsUpdated part flash found golden → Opened
+abbrev pub opened_by : (part : PartData) (flash found : List ℕ) (golden : AttemptCourse) → IsUpdated part flash found golden → Opened
 opened_by part flash found golden u = slot_of_flash part found u.after.next (update_place flash)

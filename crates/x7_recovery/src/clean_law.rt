@@ -3,7 +3,7 @@
 ghost use Rattle.std.specs.Prelude.{◌≡◌, ◌≤◌, List, ℕ, false, length};
 ghost use Rattle.x7_part.specs.Part.{PartData};
 ghost use Rattle.x7_regs.specs.declared.boot_status.Cause.{Cause};
-ghost use Rattle.x7_boot.specs.Attempt.{Trial};
+ghost use Rattle.x7_boot.specs.Attempt.{AttemptCourse};
 ghost use Rattle.x7_recovery.specs.Clean.{StartsClean};
 ghost use Rattle.x7_boot.specs.Boots.{BootCourse, IsCourse};
 ghost use Rattle.x7_recovery.specs.Golden.{GoldenStarts};
@@ -13,8 +13,8 @@ ghost use Rattle.x7_update.specs.Layout.{HasLayout, update_place};
 
 /// After any number of updates a golden stream starts as it did before the first, and still begins clean.
 pub fn updates_keep_golden_streams()
-    ensures starts { (part : PartData) (flash found : List ℕ) (t : Trial) → AfterUpdates flash found → GoldenStarts part flash t → GoldenStarts part found t }
-    ensures clean { (part : PartData) (flash found : List ℕ) (t : Trial) → AfterUpdates flash found → length t.bytes ≤ update_place flash
+    ensures starts { (part : PartData) (flash found : List ℕ) (t : AttemptCourse) → AfterUpdates flash found → GoldenStarts part flash t → GoldenStarts part found t }
+    ensures clean { (part : PartData) (flash found : List ℕ) (t : AttemptCourse) → AfterUpdates flash found → length t.bytes ≤ update_place flash
         → StartsClean part flash t → StartsClean part found t }
     ensures place { (flash found : List ℕ) → AfterUpdates flash found → update_place found ≡ update_place flash }
 {}
@@ -22,7 +22,7 @@ pub fn updates_keep_golden_streams()
 /// After any number of updates and one more a boot tries the stream of the last, and where that fails and CTL0 allows it falls
 /// back to the golden stream: it starts at the byte at which it started before, with the same memory.
 pub fn updated_flashes_fall_back()
-    ensures boots { (part : PartData) (flash found : List ℕ) (golden : Trial) → (u : IsUpdated part flash found golden) → EachBootsOpen (opened_by part flash found golden u) }
-    ensures falls_back { (part : PartData) (flash found : List ℕ) (golden t : Trial) (cause : Cause) (c : BootCourse) → (u : IsUpdated part flash found golden)
+    ensures boots { (part : PartData) (flash found : List ℕ) (golden : AttemptCourse) → (u : IsUpdated part flash found golden) → EachBootsOpen (opened_by part flash found golden u) }
+    ensures falls_back { (part : PartData) (flash found : List ℕ) (golden t : AttemptCourse) (cause : Cause) (c : BootCourse) → (u : IsUpdated part flash found golden)
         → IsCourse part found c → UpdateFails (opened_by part flash found golden u) t cause false → FallsBackClean (opened_by part flash found golden u) cause golden c }
 {}

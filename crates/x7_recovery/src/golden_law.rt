@@ -2,10 +2,10 @@
 //! contracts are the laws.
 ghost use Rattle.std.specs.Prelude.{List, ℕ};
 ghost use Rattle.x7_part.specs.Part.{PartData};
-ghost use Rattle.x7_boot.specs.Attempt.{Trial};
+ghost use Rattle.x7_boot.specs.Attempt.{AttemptCourse};
 ghost use Rattle.x7_boot.specs.Boot.{BootedState, IsBoot};
 ghost use Rattle.x7_recovery.specs.Clean.{StartsClean};
-ghost use Rattle.x7_recovery.specs.Golden.{BootsAlike, HaveSameGolden, IsPreparedAny, IsShut, StartsAlike, StartsAsPlanned, UpdatingAny, with_erased};
+ghost use Rattle.x7_recovery.specs.Golden.{BootsAlike, HaveSameGolden, IsPreparedAny, LeadsNowhere, StartsAlike, StartsAsPlanned, UpdatingAny, with_erased};
 ghost use Rattle.x7_boot.specs.Boots.{course_of};
 ghost use Rattle.x7_recovery.specs.Recovery.{IsPrepared, Updating};
 ghost use Rattle.x7_update.specs.After.{IsBetween, MayBeLeft};
@@ -15,14 +15,14 @@ ghost use Rattle.x7_update.specs.Layout.{HasLayout};
 /// at power over one such flash starts is started with over each that has the same bytes after the first sector, at the same
 /// byte, with the same memory and the same registers.
 pub fn shut_flashes_start_alike()
-    ensures { (part : PartData) (one other : List ℕ) (t : Trial) (b : BootedState) → HaveSameGolden part one other t
+    ensures { (part : PartData) (one other : List ℕ) (t : AttemptCourse) (b : BootedState) → HaveSameGolden part one other t
         → (boot : IsBoot part other b) → StartsAlike part t (course_of b boot.last) }
 {}
 
 /// The first sector leads nowhere where it is erased, and where a power loss left a flash with a layout in an update.
 pub fn closed_flashes_are_shut()
-    ensures erased { (flash : List ℕ) → IsShut (with_erased flash) }
-    ensures between { (flash found : List ℕ) → HasLayout flash → IsBetween flash found → IsShut found }
+    ensures erased { (flash : List ℕ) → LeadsNowhere (with_erased flash) }
+    ensures between { (flash found : List ℕ) → HasLayout flash → IsBetween flash found → LeadsNowhere found }
 {}
 
 /// Of a flash whose golden stream starts where the first sector is erased, and ends at U or before it, whatever a power loss left
@@ -34,6 +34,6 @@ pub fn found_flashes_start()
 
 /// The full stream of a plan, as golden stream, starts with the memory of the plan, and begins clean.
 pub fn full_streams_start()
-    ensures starts { (u : Updating) → IsPrepared u → (t : Trial) × StartsAsPlanned u t }
-    ensures clean { (u : Updating) (t : Trial) → IsPrepared u → StartsAsPlanned u t → StartsClean u.part u.flash t }
+    ensures starts { (u : Updating) → IsPrepared u → (t : AttemptCourse) × StartsAsPlanned u t }
+    ensures clean { (u : Updating) (t : AttemptCourse) → IsPrepared u → StartsAsPlanned u t → StartsClean u.part u.flash t }
 {}

@@ -4,7 +4,7 @@ ghost use Rattle.x7_part.specs.Part.{PartData};
 ghost use Rattle.x7_part.specs.Ranges.{IsPart};
 ghost use Rattle.x7_regs.specs.declared.boot_status.Cause.TheVariants.{Wrap};
 ghost use Rattle.x7_memory.specs.Plan.{IsPlanFor, PlanData};
-ghost use Rattle.x7_boot.specs.Attempt.{Trial};
+ghost use Rattle.x7_boot.specs.Attempt.{AttemptCourse};
 ghost use Rattle.x7_boot.specs.Image.{flash_limit, image_of, image_size};
 ghost use Rattle.x7_recovery.specs.Example.{nothing_planned, tiny};
 ghost use Rattle.x7_recovery.specs.OpenBoot.{HasPlanned, HasStreams, UpdateFails};
@@ -32,5 +32,5 @@ pub fn premises_hold()
     ensures image { HasImage tiny nothing_planned [] }
     ensures prepared { (stream : List ℕ) → IsPrepared (updating_image tiny nothing_planned [] stream) }
     ensures torn { (stream : List ℕ) → (found : List ℕ) × MayBeLeft stream (golden_image tiny nothing_planned []) found × (found ≢ golden_image tiny nothing_planned []) }
-    ensures fails { (part : PartData) (golden : PlanData) → (t : Trial) × UpdateFails (image_of_flash part (golden_image part golden []) (place_after part golden)) t Wrap false }
+    ensures fails { (part : PartData) (golden : PlanData) → (t : AttemptCourse) × UpdateFails (image_of_flash part (golden_image part golden []) (place_after part golden)) t Wrap false }
 {}

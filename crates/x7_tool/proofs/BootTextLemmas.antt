@@ -8,13 +8,13 @@ use Rattle.x7_words.proofs.CountLemmas.{risen_from}
 use Rattle.x7_part.specs.Part.{PartData}
 use Rattle.x7_engine.specs.Standing.{NoWordDue}
 use Rattle.x7_engine.specs.State.{memory_in, state_of}
-use Rattle.x7_boot.specs.Attempt.{Trial}
+use Rattle.x7_boot.specs.Attempt.{AttemptCourse}
 use Rattle.x7_boot.specs.Boot.{BootedState, IsBoot}
 use Rattle.x7_boot.specs.declared.boots.BootEnd.{BootEnd}
 use Rattle.x7_boot.specs.declared.boots.Tried.{Tried}
 use Rattle.x7_boot.specs.declared.fault.BootFault.{BootFault}
 use Rattle.x7_boot.specs.declared.fault.BootFault.TheVariants as boot_fault
-use Rattle.x7_boot.specs.Text.{boot_head}
+use Rattle.x7_boot.specs.Text.{boot_lines}
 use Rattle.x7_tool.specs.Boot.{boot_text}
 use Rattle.x7_forms.specs.Event.{Event, no_memory, too_large}
 use Rattle.x7_forms.specs.Message.{event_of}
@@ -40,8 +40,8 @@ boots_as part flash b answer is stopped text = record {
 }
 
 -- the text of a boot by its head and the report of its device
-pub ready_is : (part : PartData) (last : Trial) (attempts a : List Tried) (end e f : BootEnd) (name head start : List ℕ) (stopped : Bool) (report text : PlayTextState)
-    → start ≡ [] → head ≡ start ++ boot_head name a e → name ≡ part.name → a ≡ attempts → e ≡ end → stopped ≡ has_failed f → f ≡ end
+pub ready_is : (part : PartData) (last : AttemptCourse) (attempts a : List Tried) (end e f : BootEnd) (name head start : List ℕ) (stopped : Bool) (report text : PlayTextState)
+    → start ≡ [] → head ≡ start ++ boot_lines name a e → name ≡ part.name → a ≡ attempts → e ≡ end → stopped ≡ has_failed f → f ≡ end
     → report ≡ record { stopped = stopped; text = report_text part (state_of part last.kept last.wrapped last.bytes) [] (memory_in part last.kept last.bytes) }
     → text ≡ record { stopped = report.stopped; text = head ++ report.text } → text ≡ record { stopped = has_failed end; text = boot_text part attempts end last }
 unfolding boot_text
@@ -51,7 +51,7 @@ ready_is part last attempts a end e f name head start stopped report text none b
     ∙ ap (λ (r : PlayTextState). record { stopped = r.stopped; text = head ++ r.text }) reports
     ∙ ap (λ (s : Bool). record { stopped = s; text = head ++ shown }) (failed ∙ ap has_failed fs)
     ∙ ap (λ (t : List ℕ). record { stopped = has_failed end; text = t ++ shown })
-    (begun ∙ ap (λ (t : List ℕ). t ++ boot_head name a e) none ∙ ap (λ (n : List ℕ). boot_head n a e) named ∙ ap (λ (x : List Tried). boot_head part.name x e) tried ∙ ap (λ (x : BootEnd). boot_head part.name attempts x) ends)
+    (begun ∙ ap (λ (t : List ℕ). t ++ boot_lines name a e) none ∙ ap (λ (n : List ℕ). boot_lines n a e) named ∙ ap (λ (x : List Tried). boot_lines part.name x e) tried ∙ ap (λ (x : BootEnd). boot_lines part.name attempts x) ends)
 
 -- ---- where the bytes of the flash are known
 

@@ -5,16 +5,16 @@ use Rattle.x7_part.specs.Part.{PartData}
 use Rattle.x7_engine.specs.Standing.{NoWordDue}
 use Rattle.x7_engine.specs.State.{memory_in, state_of}
 use Rattle.x7_report.specs.Reports.{report_text}
-use Rattle.x7_boot.specs.Attempt.{IsDeviceOf, Trial}
+use Rattle.x7_boot.specs.Attempt.{IsDeviceOf, AttemptCourse}
 use Rattle.x7_boot.specs.Boot.{BootedState}
-use Rattle.x7_boot.specs.Text.{boot_head}
+use Rattle.x7_boot.specs.Text.{boot_lines}
 use Rattle.x7_boot.specs.declared.boots.BootEnd.{BootEnd}
 use Rattle.x7_boot.specs.declared.boots.Tried.{Tried}
 
 -- `Holds` is true of the part and the last attempt of a boot, whose device has no word due
-abbrev pub OfBoot : BootedState → (PartData → Trial → Type 0) → Type 0
-OfBoot boot Holds = (part : PartData) (last : Trial) → IsDeviceOf part boot.device last → NoWordDue boot.device → Holds part last
+abbrev pub OfBoot : BootedState → (PartData → AttemptCourse → Type 0) → Type 0
+OfBoot boot Holds = (part : PartData) (last : AttemptCourse) → IsDeviceOf part boot.device last → NoWordDue boot.device → Holds part last
 
 -- the whole text of a boot, by its last attempt
-unfoldable pub boot_text : PartData → List Tried → BootEnd → Trial → List ℕ
-boot_text part attempts end last = boot_head part.name attempts end ++ report_text part (state_of part last.kept last.wrapped last.bytes) [] (memory_in part last.kept last.bytes)
+unfoldable pub boot_text : PartData → List Tried → BootEnd → AttemptCourse → List ℕ
+boot_text part attempts end last = boot_lines part.name attempts end ++ report_text part (state_of part last.kept last.wrapped last.bytes) [] (memory_in part last.kept last.bytes)

@@ -17,7 +17,7 @@ use Rattle.x7_listing.specs.declared.assembler.AsmFault.TheVariants as asm
 use Rattle.x7_part.specs.Part.{PartData}
 use Rattle.x7_words.specs.Flash.{IfKnown}
 use Rattle.x7_words.specs.Word.{AreBytes}
-use Rattle.x7_boot.specs.Attempt.{Trial}
+use Rattle.x7_boot.specs.Attempt.{AttemptCourse}
 use Rattle.x7_boot.specs.Boot.{LeadsToEnd, tried}
 use Rattle.x7_boot.specs.Image.{flash_limit, image_of, image_size}
 use Rattle.x7_boot.specs.declared.boots.BootEnd.{BootEnd}
@@ -277,8 +277,8 @@ has_failed boot_end.Loop = true
 
 -- the text is that of the boot of a part from a flash of these bytes
 pub record IsBootText (part : PartData) (flash : List ℕ) (answer : Answer) : Type 0 where
-  pub last : Trial
-  pub older : List Trial
+  pub last : AttemptCourse
+  pub older : List AttemptCourse
   pub end : BootEnd
   pub leads : LeadsToEnd part flash (last ∷ older) end
   pub stopped : answer.stopped ≡ has_failed end

@@ -18,9 +18,9 @@ attempts-preserved g c =
       led = led_next c.args.part.now c.attempts.device.part c.attempts.keep c.in-Again.kept c.attempts.address c.in-Again.place (f.state c.args.flash.now).bytes (f.state c.attempts.flash).bytes c.try_once.new.device c.in_ok-ending.ending
           c.attempts.attempts.items c.push.new.self.items c.attempts.number c.next_of.result i.flash.bytes i.part i.led t.tried next.table c.in-Again.is c.in-Ok-push.ensures.items;
       part = t.part ∙ i.part;
-      boots = next.boots c.in-Again.kept c.in-Again.place c.in-Again.is;
-      number = attempts_next c.attempts.keep.kind c.in-Again.kept.kind c.attempts.number (next.fallback c.in-Again.kept c.in-Again.place c.in-Again.is) (next.few c.in-Again.kept c.in-Again.place c.in-Again.is) i.room;
-      room = next.few c.in-Again.kept c.in-Again.place c.in-Again.is;
+      not_on_bench = next.not_on_bench c.in-Again.kept c.in-Again.place c.in-Again.is;
+      number = attempts_next c.attempts.keep.kind c.in-Again.kept.kind c.attempts.number (next.no_second_fallback c.in-Again.kept c.in-Again.place c.in-Again.is) (next.under_limit c.in-Again.kept c.in-Again.place c.in-Again.is) i.room;
+      room = next.under_limit c.in-Again.kept c.in-Again.place c.in-Again.is;
       limit = i.limit;
       pages = pages_of (f.state c.args.flash.now).bytes (f.state c.attempts.flash).bytes (f.state c.args.flash.now).extent (f.state c.attempts.flash).extent c.try_once.new.pages.pages.entries i.flash.bytes i.flash.extent c.try_once.ensures.pages;
       quiet = t.quiet ∙ i.quiet;

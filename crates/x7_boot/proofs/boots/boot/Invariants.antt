@@ -15,7 +15,7 @@ invariant-attempts g l =
     record {
       led : IfKnown (f.state l.fn.flash).bytes (λ all. AreBytes all → Led (attempt_at l.fn.part l.keep l.address) all l.attempts.items l.number);
       part : l.device.part ≡ l.fn.part;
-      boots : l.keep.kind ≡ Bench → ⊥;
+      not_on_bench : l.keep.kind ≡ Bench → ⊥;
       number : l.number ≤ 16;
       room : is_fallback l.keep.kind ≡ false → l.number < 16;
       limit : (f.state l.fn.flash).extent ≤ flash_limit;

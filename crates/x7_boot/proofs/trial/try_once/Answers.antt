@@ -20,7 +20,7 @@ pages-init g c = record {
 }
 
 pub run_out-requires : goal.run_out-requires
-run_out-requires g c = let f = c.pages.invariant.feeds in ends_here c.args.device.now.part c.args.keep c.pages.device f.bytes c.requires.boots f.stands f.open_end f.due
+run_out-requires g c = let f = c.pages.invariant.feeds in ends_here c.args.device.now.part c.args.keep c.pages.device f.bytes c.requires.not_on_bench f.stands f.open_end f.due
 
 pub returns-then-at-size-clause-tried : goal.returns-then-at-size-clause-tried
 returns-then-at-size-clause-tried g c =
@@ -61,7 +61,7 @@ returns-in-Ends-clause-tried g c =
 pub run_out-requires-in-Stops : goal.run_out-requires-in-Stops
 run_out-requires-in-Stops g c =
     let f = c.pages.invariant.feeds in
-    stops_here c.args.device.now.part c.args.keep c.take_page.new.device f.bytes c.bytes_from-bytes.result.now c.take_page.result c.requires.boots (c.take_page.ensures c.args.device.now.part c.args.keep f.bytes f.stands f.going f.open_end) c.in-Stops.is
+    stops_here c.args.device.now.part c.args.keep c.take_page.new.device f.bytes c.bytes_from-bytes.result.now c.take_page.result c.requires.not_on_bench (c.take_page.ensures c.args.device.now.part c.args.keep f.bytes f.stands f.going f.open_end) c.in-Stops.is
 
 pub returns-in-Stops-clause-tried : goal.returns-in-Stops-clause-tried
 returns-in-Stops-clause-tried g c =

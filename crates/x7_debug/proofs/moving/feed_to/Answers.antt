@@ -20,4 +20,4 @@ returns-clause-stands c =
     stands_there part stream c.take.new.device c.args.to c.requires.within
     (moved part stream (take (c.args.to - c.taken-from.result) (drop c.taken-from.result stream)) c.take.new.device from c.args.to fits c.requires.forward few
     (ap (λ (k : ℕ). take (c.args.to - k) (drop k stream)) c.taken-from.ensures.now)
-    (c.take.ensures.stands part on_the_bench false (take from stream) c.requires.stands.stands) (c.take.ensures.none_due part on_the_bench false (take from stream) c.requires.stands.stands))
+    (c.take.ensures.stands part on_the_bench false (take from stream) c.requires.stands.stands) (c.take.ensures.no_word_due part on_the_bench false (take from stream) c.requires.stands.stands))

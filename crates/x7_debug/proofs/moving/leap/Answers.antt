@@ -5,10 +5,12 @@ pub returns : goal.returns
 returns c =
     let there = c.feed_to.ensures.stands in
     record {
-      comes = record {
-        on = on_without c.args.stream.now c.feed_to.new.device c.args.journal.now c.forget.new.self c.args.device.now.part c.args.to there c.requires.on.records c.forget.ensures;
-        part = there.stands.part_is;
-        taken = there.taken;
+      at_position = record {
+        there = record {
+          on = on_without c.args.stream.now c.feed_to.new.device c.args.journal.now c.forget.new.self c.args.device.now.part c.args.to there c.requires.may.on.records c.forget.ensures;
+          part = there.stands.part_is;
+          taken = there.taken;
+        };
         fed = c.feed_to.ensures.fed;
       };
     }

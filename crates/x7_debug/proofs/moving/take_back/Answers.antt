@@ -1,8 +1,8 @@
 use Rattle.std.proofs.Common.{refl}
 use Rattle.x7_debug.proofs.moving.take_back.Goals as goal
 
-pub returns-clause-comes : goal.returns-clause-comes
-returns-clause-comes c = record { on = c.loop-journal.invariant.on; part = c.loop-journal.invariant.part; taken = refl }
+pub returns-clause-at_position : goal.returns-clause-at_position
+returns-clause-at_position c = record { on = c.loop-journal.invariant.on; part = c.loop-journal.invariant.part; taken = refl }
 
 pub back-requires-clause-on : goal.back-requires-clause-on
 back-requires-clause-on c = (c.args.stream.now, c.loop-journal.invariant.on)

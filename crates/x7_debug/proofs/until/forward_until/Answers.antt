@@ -1,16 +1,15 @@
-use Rattle.std.proofs.Common.{◌≡◌, ◌-◌, ◌<◌, ◌≤◌, ◌∷◌, ℕ, true, false, max, take, refl, ap, sym, subst, ◌∙◌, arith}
+use Rattle.std.proofs.Common.{◌≡◌, ◌-◌, ◌<◌, ◌≤◌, ◌∷◌, ℕ, true, false, max, take, ap, sym, subst, ◌∙◌, arith}
 use Rattle.x7_part.specs.Part.{PartData}
 use Rattle.x7_debug.specs.Journal.{oldest_by, reach, record_room, records_of}
+use Rattle.x7_debug.specs.Moving.{ComesForward}
 use Rattle.x7_debug.specs.Position.{holds_at, last_of}
-use Rattle.x7_debug.proofs.JournalLemmas.{Reaches, none_between, none_up_to, reaches_first, reaches_last, reaches_whole, fed_none, fed_on}
+use Rattle.x7_debug.proofs.JournalLemmas.{Reaches, none_between, none_up_to, reaches_first, reaches_last, reaches_whole, comes_nowhere, comes_on}
 use Rattle.x7_debug.proofs.PositionLemmas.{until_last, until_there}
 use Rattle.x7_debug.proofs.until.forward_until.Goals as goal
 
 pub loop-stop-init : goal.loop-stop-init
 loop-stop-init c = record {
-  on = c.requires.on;
-  part = refl;
-  fed = fed_none c.args.device.now;
+  comes = comes_nowhere c.args.stream.now c.args.device.now c.args.journal.now c.requires.on;
   since = omega arith;
   within = omega (arith, c.requires.before);
   none = λ k h j. absurd (omega (arith, h, j));
@@ -22,13 +21,13 @@ pub seek_word-requires : goal.seek_word-requires
 seek_word-requires c =
     let here = c.loop-stop.invariant in
     record {
-      on = here.on;
-      last_is = c.requires.last_is ∙ ap (λ (p : PartData). last_of p c.args.stream.now) (sym here.part);
+      on = here.comes.there.on;
+      last_is = c.requires.last_is ∙ ap (λ (p : PartData). last_of p c.args.stream.now) (sym here.comes.there.part);
       before = omega (arith, c.loop-stop-test.true, c.taken.ensures.now);
     }
 
-pub returns-then-seek_word-clause-comes : goal.returns-then-seek_word-clause-comes
-returns-then-seek_word-clause-comes c =
+pub returns-then-seek_word-clause-at_position : goal.returns-then-seek_word-clause-at_position
+returns-then-seek_word-clause-at_position c =
     let part : PartData = c.args.device.now.part in
     let stream = c.args.stream.now in
     let from : ℕ = c.args.device.now.taken in
@@ -36,18 +35,24 @@ returns-then-seek_word-clause-comes c =
     let m : ℕ = c.seek_word.new.device.taken in
     let here = c.loop-stop.invariant in
     let there = c.seek_word.ensures in
-    let found : holds_at part stream c.args.stop m ≡ true = subst (λ (p : PartData). holds_at p stream c.args.stop m ≡ true) here.part (there.found c.if-seek_word.true) in
-    let later : (k : ℕ) → n < k → k < m → holds_at part stream c.args.stop k ≡ false = λ k h j. subst (λ (p : PartData). holds_at p stream c.args.stop k ≡ false) here.part (there.none k h j) in
+    let found : holds_at part stream c.args.stop m ≡ true = subst (λ (p : PartData). holds_at p stream c.args.stop m ≡ true) here.comes.there.part (there.found c.if-seek_word.true) in
+    let later : (k : ℕ) → n < k → k < m → holds_at part stream c.args.stop k ≡ false = λ k h j. subst (λ (p : PartData). holds_at p stream c.args.stop k ≡ false) here.comes.there.part (there.none k h j) in
     let some : n < c.args.last = omega (arith, c.loop-stop-test.true, c.taken.ensures.now) in
-    let last : oldest_by m (there.more.0 ∷ take (record_room - 1) (records_of c.loop-stop.journal)) ≤ max from (m - reach) =
-    reaches_last from n m there.more.0 (records_of c.loop-stop.journal) there.more.1 there.forward.0 (here.reaches some) in
+    let last : oldest_by m (there.recorded.0 ∷ take (record_room - 1) (records_of c.loop-stop.journal)) ≤ max from (m - reach) =
+    reaches_last from n m there.recorded.0 (records_of c.loop-stop.journal) there.recorded.1 there.forward.0 (here.reaches some) in
+    let both : ComesForward stream c.args.device.now c.seek_word.new.device c.seek_word.new.journal m =
+    comes_on stream c.args.device.now c.loop-stop.device c.seek_word.new.device c.loop-stop.journal c.seek_word.new.journal n m here.since (omega (arith, there.forward.0)) here.comes there.at_position in
     record {
-      on = there.comes.on;
-      part = there.comes.part ∙ here.part;
-      taken = sym (until_there part stream c.args.stop from m (omega (arith, here.since, there.forward.0)) (omega (arith, there.forward.1, c.requires.last_is)) found
-          (none_between (holds_at part stream c.args.stop) from n m here.none later));
-      fed = fed_on c.args.device.now c.loop-stop.device c.seek_word.new.device here.since (omega (arith, there.forward.0)) here.fed there.comes.fed;
-      oldest = omega (arith, ap (oldest_by m) there.more.2, last);
+      forward = record {
+        there = record {
+          on = both.there.on;
+          part = both.there.part;
+          taken = sym (until_there part stream c.args.stop from m (omega (arith, here.since, there.forward.0)) (omega (arith, there.forward.1, c.requires.last_is)) found
+              (none_between (holds_at part stream c.args.stop) from n m here.none later));
+        };
+        fed = both.fed;
+      };
+      oldest = omega (arith, ap (oldest_by m) there.recorded.2, last);
     }
 
 pub loop-stop-preserved : goal.loop-stop-preserved
@@ -57,34 +62,36 @@ loop-stop-preserved c =
     let from : ℕ = c.args.device.now.taken in
     let n : ℕ = c.loop-stop.device.taken in
     let m : ℕ = c.seek_word.new.device.taken in
-    let same = c.loop-stop.invariant.part in
+    let same = c.loop-stop.invariant.comes.there.part in
     let some : n < c.args.last = omega (arith, c.loop-stop-test.true, c.taken.ensures.now) in
     let here : holds_at part stream c.args.stop m ≡ false = subst (λ (p : PartData). holds_at p stream c.args.stop m ≡ false) same (c.seek_word.ensures.none_at_end c.if-seek_word.false) in
     let later : (k : ℕ) → n < k → k < m → holds_at part stream c.args.stop k ≡ false = λ k h j. subst (λ (p : PartData). holds_at p stream c.args.stop k ≡ false) same (c.seek_word.ensures.none k h j) in
-    let last : oldest_by m (c.seek_word.ensures.more.0 ∷ take (record_room - 1) (records_of c.loop-stop.journal)) ≤ max from (m - reach) =
-    reaches_last from n m c.seek_word.ensures.more.0 (records_of c.loop-stop.journal) c.seek_word.ensures.more.1 c.seek_word.ensures.forward.0 (c.loop-stop.invariant.reaches some) in
+    let last : oldest_by m (c.seek_word.ensures.recorded.0 ∷ take (record_room - 1) (records_of c.loop-stop.journal)) ≤ max from (m - reach) =
+    reaches_last from n m c.seek_word.ensures.recorded.0 (records_of c.loop-stop.journal) c.seek_word.ensures.recorded.1 c.seek_word.ensures.forward.0 (c.loop-stop.invariant.reaches some) in
     record {
-      on = c.seek_word.ensures.comes.on;
-      part = c.seek_word.ensures.comes.part ∙ same;
-      fed = fed_on c.args.device.now c.loop-stop.device c.seek_word.new.device c.loop-stop.invariant.since (omega (arith, c.seek_word.ensures.forward.0)) c.loop-stop.invariant.fed c.seek_word.ensures.comes.fed;
+      comes = comes_on stream c.args.device.now c.loop-stop.device c.seek_word.new.device c.loop-stop.journal c.seek_word.new.journal n m c.loop-stop.invariant.since (omega (arith, c.seek_word.ensures.forward.0)) c.loop-stop.invariant.comes c.seek_word.ensures.at_position;
       since = omega (arith, c.loop-stop.invariant.since, c.seek_word.ensures.forward.0);
       within = c.seek_word.ensures.forward.1;
       none = none_up_to (holds_at part stream c.args.stop) from m (none_between (holds_at part stream c.args.stop) from n m c.loop-stop.invariant.none later) here;
       reaches = λ l.
-          subst (Reaches from m) (sym c.seek_word.ensures.more.2)
-          (reaches_whole from n m c.seek_word.ensures.more.0 (records_of c.loop-stop.journal) c.seek_word.ensures.more.1 (c.seek_word.ensures.whole c.if-seek_word.false l) (c.loop-stop.invariant.reaches some));
-      oldest = λ l. omega (arith, ap (oldest_by m) c.seek_word.ensures.more.2, last);
+          subst (Reaches from m) (sym c.seek_word.ensures.recorded.2)
+          (reaches_whole from n m c.seek_word.ensures.recorded.0 (records_of c.loop-stop.journal) c.seek_word.ensures.recorded.1 (c.seek_word.ensures.whole c.if-seek_word.false l) (c.loop-stop.invariant.reaches some));
+      oldest = λ l. omega (arith, ap (oldest_by m) c.seek_word.ensures.recorded.2, last);
     }
 
-pub returns-clause-comes : goal.returns-clause-comes
-returns-clause-comes c =
+pub returns-clause-at_position : goal.returns-clause-at_position
+returns-clause-at_position c =
     let at = c.taken.ensures.now in
     let here = c.loop-stop.invariant in
     record {
-      on = here.on;
-      part = here.part;
-      taken = sym (until_last c.args.device.now.part c.args.stream.now c.args.stop c.args.device.now.taken c.loop-stop.device.taken (omega (arith, c.requires.last_is, at, c.loop-stop-test.false)) (omega (arith, c.requires.last_is, here.within))
-          here.since here.none);
-      fed = here.fed;
+      forward = record {
+        there = record {
+          on = here.comes.there.on;
+          part = here.comes.there.part;
+          taken = sym (until_last c.args.device.now.part c.args.stream.now c.args.stop c.args.device.now.taken c.loop-stop.device.taken (omega (arith, c.requires.last_is, at, c.loop-stop-test.false)) (omega (arith, c.requires.last_is, here.within))
+              here.since here.none);
+        };
+        fed = here.comes.fed;
+      };
       oldest = here.oldest (omega (arith, c.requires.before, at, c.loop-stop-test.false));
     }

@@ -17,13 +17,13 @@ forward_until-requires-2 c =
     let near = c.leap_near.ensures in
     let kept = c.requires.kept in
     record {
-      on = near.comes.on;
-      last_is = kept.last_is ∙ ap (λ (p : PartData). last_of p c.args.stream.now) (sym near.comes.part);
+      on = near.at_position.there.on;
+      last_is = kept.last_is ∙ ap (λ (p : PartData). last_of p c.args.stream.now) (sym near.at_position.there.part);
       before = omega (arith, near.near, kept.begins_is.within, c.requires.before, kept.last_is);
     }
 
-pub returns-clause-comes : goal.returns-clause-comes
-returns-clause-comes c =
+pub returns-clause-at_position : goal.returns-clause-at_position
+returns-clause-at_position c =
     let part = c.args.device.now.part in
     let stream = c.args.stream.now in
     let phase = c.args.phase in
@@ -34,13 +34,17 @@ returns-clause-comes c =
     let there = c.forward_until-2.ensures in
     let some : 0 < phase = omega (arith, c.if-phase-eq0.false) in
     let led : c.forward_until-2.new.device.taken ≡ until_of part stream (stop.Phase phase) c.leap_near.new.device.taken =
-    subst (λ (p : PartData). c.forward_until-2.new.device.taken ≡ until_of p stream (stop.Phase phase) c.leap_near.new.device.taken) near.comes.part there.comes.taken in
+    subst (λ (p : PartData). c.forward_until-2.new.device.taken ≡ until_of p stream (stop.Phase phase) c.leap_near.new.device.taken) near.at_position.there.part there.at_position.forward.there.taken in
     let past : begins ≤ until_of part stream (stop.Phase phase) c.leap_near.new.device.taken = until_begun part stream phase begins kept.begins_is some c.leap_near.new.device.taken in
     record {
-      on = there.comes.on;
-      part = there.comes.part ∙ near.comes.part;
-      taken = led ∙ sym (until_near part stream phase begins kept.begins_is some from c.leap_near.new.device.taken near.forward
-          (omega (arith, near.near, kept.begins_is.within, c.requires.before, kept.last_is)) (λ k h j. omega (arith, near.near, h, j)));
-      fed = fed_on c.args.device.now c.leap_near.new.device c.forward_until-2.new.device near.forward (omega (arith, there.forward)) near.comes.fed there.comes.fed;
-      oldest = omega (arith, there.comes.oldest, near.near, led, past);
+      forward = record {
+        there = record {
+          on = there.at_position.forward.there.on;
+          part = there.at_position.forward.there.part ∙ near.at_position.there.part;
+          taken = led ∙ sym (until_near part stream phase begins kept.begins_is some from c.leap_near.new.device.taken near.forward
+              (omega (arith, near.near, kept.begins_is.within, c.requires.before, kept.last_is)) (λ k h j. omega (arith, near.near, h, j)));
+        };
+        fed = fed_on c.args.device.now c.leap_near.new.device c.forward_until-2.new.device near.forward (omega (arith, there.forward)) near.at_position.fed there.at_position.forward.fed;
+      };
+      oldest = omega (arith, there.at_position.oldest, near.near, led, past);
     }

@@ -6,22 +6,22 @@ use Rattle.x7_debug.specs.declared.order.Stop.TheVariants as to
 use Rattle.x7_debug.specs.Journal.{ComesToPosition, records_of}
 use Rattle.x7_debug.specs.Kept.{session_of}
 use Rattle.x7_debug.specs.Position.{until_of}
-use Rattle.x7_debug.proofs.JournalLemmas.{comes_to, goes_nowhere, goes_recorded, oldest_within}
+use Rattle.x7_debug.proofs.JournalLemmas.{goes_nowhere, goes_recorded, oldest_within}
 use Rattle.x7_debug.proofs.LeastLemmas.{until_stopped}
 use Rattle.x7_debug.proofs.PositionLemmas.{until_last}
 use Rattle.x7_debug.proofs.until.go_until.Goals as goal
 
-pub returns-then-taken-outline-clause-goes : goal.returns-then-taken-outline-clause-goes
-returns-then-taken-outline-clause-goes c =
+pub returns-then-taken-outline-clause-costs : goal.returns-then-taken-outline-clause-costs
+returns-then-taken-outline-clause-costs c =
     goes_nowhere (session_of c.args.device.now c.args.stream.now c.args.journal.now) (oldest_within c.args.device.now.part c.args.stream.now c.args.device.now.taken (records_of c.args.journal.now) c.requires.on.leads)
 
-pub returns-in-Stopped-clause-comes : goal.returns-in-Stopped-clause-comes
-returns-in-Stopped-clause-comes c =
+pub returns-in-Stopped-clause-at_position : goal.returns-in-Stopped-clause-at_position
+returns-in-Stopped-clause-at_position c =
     let part = c.args.device.now.part in
     let stream = c.args.stream.now in
     let fits : AreBytes stream = all_from_places (λ b. b < 256) stream (λ k h. omega (arith, c.type_inv.stream k)) in
     let from : ℕ = c.args.device.now.taken in
-    let there = c.move_to.ensures.comes in
+    let there = c.move_to.ensures.at_position in
     record {
       on = there.on;
       part = there.part;
@@ -33,8 +33,8 @@ returns-in_default c =
     let there = c.forward_until.ensures in
     let until : ℕ = until_of c.args.device.now.part c.args.stream.now c.args.stop c.args.device.now.taken in
     record {
-      comes = comes_to c.args.stream.now c.args.device.now c.forward_until.new.device c.forward_until.new.journal until there.comes;
-      goes = goes_recorded c.args.stream.now c.args.device.now c.forward_until.new.device c.args.journal.now c.forward_until.new.journal until c.requires.on there.forward there.comes;
+      at_position = there.at_position.forward.there;
+      costs = goes_recorded c.args.stream.now c.args.device.now c.forward_until.new.device c.args.journal.now c.forward_until.new.journal until c.requires.on there.forward there.at_position;
     }
 
 pub returns-in-Phase : goal.returns-in-Phase
@@ -43,10 +43,9 @@ returns-in-Phase c =
     let part = c.args.device.now.part in
     let from = c.args.device.now.taken in
     let until : ℕ = until_of part c.args.stream.now (to.Phase c.in-Phase.phase) from in
-    let comes : ComesToPosition c.args.stream.now c.args.device.now c.go_to_phase.new.device c.go_to_phase.new.journal until = comes_to c.args.stream.now c.args.device.now c.go_to_phase.new.device c.go_to_phase.new.journal until there.comes in
     record {
-      comes = subst (λ (s : Stop). ComesToPosition c.args.stream.now c.args.device.now c.go_to_phase.new.device c.go_to_phase.new.journal (until_of part c.args.stream.now s from)) (sym c.in-Phase.is) comes;
-      goes = goes_recorded c.args.stream.now c.args.device.now c.go_to_phase.new.device c.args.journal.now c.go_to_phase.new.journal until c.requires.on there.forward there.comes;
+      at_position = subst (λ (s : Stop). ComesToPosition c.args.stream.now c.args.device.now c.go_to_phase.new.device c.go_to_phase.new.journal (until_of part c.args.stream.now s from)) (sym c.in-Phase.is) there.at_position.forward.there;
+      costs = goes_recorded c.args.stream.now c.args.device.now c.go_to_phase.new.device c.args.journal.now c.go_to_phase.new.journal until c.requires.on there.forward there.at_position;
     }
 
 pub move_to-requires : goal.move_to-requires
@@ -55,8 +54,8 @@ move_to-requires c = record { on = c.requires.on; within = omega (arith, c.requi
 pub forward_until-requires : goal.forward_until-requires
 forward_until-requires c = record { on = c.requires.on; last_is = c.requires.last_is; before = omega (arith, c.if-taken-outline.false, c.taken.ensures.now) }
 
-pub returns-then-taken-outline-clause-comes : goal.returns-then-taken-outline-clause-comes
-returns-then-taken-outline-clause-comes c =
+pub returns-then-taken-outline-clause-at_position : goal.returns-then-taken-outline-clause-at_position
+returns-then-taken-outline-clause-at_position c =
     let part = c.args.device.now.part in
     let from : ℕ = c.args.device.now.taken in
     let within = c.requires.on.stands.within in

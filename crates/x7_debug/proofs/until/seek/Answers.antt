@@ -3,16 +3,24 @@ use Rattle.x7_part.specs.Part.{PartData}
 use Rattle.x7_engine.specs.Kept.{on_the_bench}
 use Rattle.x7_debug.specs.Position.{holds_at}
 use Rattle.x7_debug.specs.Session.{StandsAtPosition}
-use Rattle.x7_debug.proofs.JournalLemmas.{none_there, on_further, stands_of, fed_on}
+use Rattle.x7_debug.proofs.JournalLemmas.{comes_nowhere, none_there, on_further, stands_of, fed_on}
 use Rattle.x7_debug.proofs.PositionLemmas.{holds_is}
 use Rattle.x7_debug.proofs.until.seek.Goals as goal
+
+pub loop-stop-init : goal.loop-stop-init
+loop-stop-init c = record {
+  comes = comes_nowhere c.args.stream.now c.args.device.now c.args.journal.now c.requires.may.may.on;
+  since = omega arith;
+  within = c.requires.may.forward;
+  none = λ k h j. absurd (omega (arith, h, j));
+}
 
 pub returns-then-holds-clause-found : goal.returns-then-holds-clause-found
 returns-then-holds-clause-found c = λ q.
     let part : PartData = c.args.device.now.part in
     let stream = c.args.stream.now in
     let n : ℕ = c.loop-stop.device.taken in
-    let there : StandsAtPosition part stream c.loop-stop.device n = stands_of c.loop-stop.device.part part stream c.loop-stop.device c.args.journal.now c.loop-stop.invariant.part c.loop-stop.invariant.on in
+    let there : StandsAtPosition part stream c.loop-stop.device n = stands_of c.loop-stop.device.part part stream c.loop-stop.device c.args.journal.now c.loop-stop.invariant.comes.there.part c.loop-stop.invariant.comes.there.on in
     holds_is part stream c.args.stop n c.end.result c.phase.result c.holds.result (c.end.ensures part on_the_bench false (take n stream) there.stands) (c.phase.ensures part on_the_bench false (take n stream) there.stands) c.holds.ensures ∙ c.if-holds.true
 
 pub returns-then-at-end-clause-none_at_end : goal.returns-then-at-end-clause-none_at_end
@@ -20,7 +28,7 @@ returns-then-at-end-clause-none_at_end c = λ q.
     let part : PartData = c.args.device.now.part in
     let stream = c.args.stream.now in
     let n : ℕ = c.loop-stop.device.taken in
-    let there : StandsAtPosition part stream c.loop-stop.device n = stands_of c.loop-stop.device.part part stream c.loop-stop.device c.args.journal.now c.loop-stop.invariant.part c.loop-stop.invariant.on in
+    let there : StandsAtPosition part stream c.loop-stop.device n = stands_of c.loop-stop.device.part part stream c.loop-stop.device c.args.journal.now c.loop-stop.invariant.comes.there.part c.loop-stop.invariant.comes.there.on in
     let here : holds_at part stream c.args.stop n ≡ false =
     holds_is part stream c.args.stop n c.end.result c.phase.result c.holds.result (c.end.ensures part on_the_bench false (take n stream) there.stands) (c.phase.ensures part on_the_bench false (take n stream) there.stands) c.holds.ensures ∙ c.if-holds.false in
     let same : n ≡ c.args.end = omega (arith, c.if-at-end.true, c.taken-at.ensures.now, c.loop-stop.invariant.within) in
@@ -31,24 +39,29 @@ loop-stop-preserved c =
     let part : PartData = c.args.device.now.part in
     let stream = c.args.stream.now in
     let n : ℕ = c.loop-stop.device.taken in
-    let there : StandsAtPosition part stream c.loop-stop.device n = stands_of c.loop-stop.device.part part stream c.loop-stop.device c.args.journal.now c.loop-stop.invariant.part c.loop-stop.invariant.on in
+    let there : StandsAtPosition part stream c.loop-stop.device n = stands_of c.loop-stop.device.part part stream c.loop-stop.device c.args.journal.now c.loop-stop.invariant.comes.there.part c.loop-stop.invariant.comes.there.on in
     let here : holds_at part stream c.args.stop n ≡ false =
     holds_is part stream c.args.stop n c.end.result c.phase.result c.holds.result (c.end.ensures part on_the_bench false (take n stream) there.stands) (c.phase.ensures part on_the_bench false (take n stream) there.stands) c.holds.ensures ∙ c.if-holds.false in
     let at : c.taken-at.result ≡ n = c.taken-at.ensures.now in
     let next : c.feed_to.new.device.taken ≡ n + 1 = omega (arith, at, c.feed_to.ensures.stands.taken) in
     let less : n < c.args.end = omega (arith, at, c.if-at-end.false) in
     record {
-      on = on_further c.loop-stop.device.part stream c.loop-stop.device c.feed_to.new.device c.args.journal.now (c.taken-at.result + 1) c.requires.some.0 c.requires.some.1 c.loop-stop.invariant.on c.requires.some.2 c.feed_to.ensures.stands
-          (omega (arith, at)) (omega (arith, at, less, c.requires.some.3));
-      part = c.feed_to.ensures.stands.stands.part_is ∙ c.loop-stop.invariant.part;
-      fed = fed_on c.args.device.now c.loop-stop.device c.feed_to.new.device c.loop-stop.invariant.since (omega (arith, next)) c.loop-stop.invariant.fed c.feed_to.ensures.fed;
+      comes = record {
+        there = record {
+          on = on_further c.loop-stop.device.part stream c.loop-stop.device c.feed_to.new.device c.args.journal.now (c.taken-at.result + 1) c.requires.some.0 c.requires.some.1 c.loop-stop.invariant.comes.there.on c.requires.some.2 c.feed_to.ensures.stands
+              (omega (arith, at)) (omega (arith, at, less, c.requires.some.3));
+          part = c.feed_to.ensures.stands.stands.part_is ∙ c.loop-stop.invariant.comes.there.part;
+          taken = refl;
+        };
+        fed = fed_on c.args.device.now c.loop-stop.device c.feed_to.new.device c.loop-stop.invariant.since (omega (arith, next)) c.loop-stop.invariant.comes.fed c.feed_to.ensures.fed;
+      };
       since = omega (arith, next, c.loop-stop.invariant.since);
       within = omega (arith, next, less);
       none = none_there (holds_at part stream c.args.stop) c.args.device.now.taken n c.feed_to.new.device.taken next c.loop-stop.invariant.none here;
     }
 
-pub returns-then-holds-clause-comes : goal.returns-then-holds-clause-comes
-returns-then-holds-clause-comes c = let here = c.loop-stop.invariant in record { on = here.on; part = here.part; taken = refl; fed = here.fed }
+pub returns-then-holds-clause-at_position : goal.returns-then-holds-clause-at_position
+returns-then-holds-clause-at_position c = c.loop-stop.invariant.comes
 
-pub returns-then-at-end-clause-comes : goal.returns-then-at-end-clause-comes
-returns-then-at-end-clause-comes c = let here = c.loop-stop.invariant in record { on = here.on; part = here.part; taken = refl; fed = here.fed }
+pub returns-then-at-end-clause-at_position : goal.returns-then-at-end-clause-at_position
+returns-then-at-end-clause-at_position c = c.loop-stop.invariant.comes

@@ -1,13 +1,11 @@
 use Rattle.std.proofs.Common.{◌≡◌, ◌≤◌, ◌<◌, ◌-◌, ℕ, false}
-use Rattle.x7_debug.specs.Journal.{IsFedAtMost, IsOn}
+use Rattle.x7_debug.specs.Moving.{ComesForward}
 use Rattle.x7_debug.specs.Position.{holds_at}
 use Rattle.x7_debug.proofs.until.seek.Given as goal
 
 abbrev pub invariant-loop-stop : goal.invariant-loop-stop
 invariant-loop-stop l = record {
-  on : IsOn l.device.part l.stream l.device l.journal;
-  part : l.device.part ≡ l.fn.device.part;
-  fed : IsFedAtMost l.fn.device l.device (l.device.taken - l.fn.device.taken);
+  comes : ComesForward l.stream l.fn.device l.device l.journal l.device.taken;
   since : l.fn.device.taken ≤ l.device.taken;
   within : l.device.taken ≤ l.end;
   none : (k : ℕ) → l.fn.device.taken ≤ k → k < l.device.taken → holds_at l.fn.device.part l.stream l.stop k ≡ false;

@@ -7,39 +7,41 @@ use Rattle.x7_debug.proofs.until.seek_word.Goals as goal
 
 pub seek-requires-clause-some : goal.seek-requires-clause-some
 seek-requires-clause-some c =
-    let more : HasRecorded c.args.device.now.taken c.args.journal.now c.feed_recorded.new.journal = c.feed_recorded.ensures.more in
+    let more : HasRecorded c.args.device.now.taken c.args.journal.now c.feed_recorded.new.journal = c.feed_recorded.ensures.recorded in
     (more.0, take (record_room - 1) (records_of c.args.journal.now), more.2, omega (arith, more.1))
 
 pub feed_recorded-requires-clause-may : goal.feed_recorded-requires-clause-may
 feed_recorded-requires-clause-may c =
     let from = c.taken-from.ensures.now in
-    record { on = c.requires.on; within = omega (arith, from, c.requires.before, c.requires.last_is); forward = omega (arith, from) }
+    record { may = record { on = c.requires.on; within = omega (arith, from, c.requires.before, c.requires.last_is) }; forward = omega (arith, from) }
 
 pub seek-requires-clause-may : goal.seek-requires-clause-may
 seek-requires-clause-may c =
-    let first = c.feed_recorded.ensures.comes in
+    let first = c.feed_recorded.ensures.at_position.there in
     record {
-      on = first.on;
-      within = within_still c.args.device.now.part c.feed_recorded.new.device.part c.args.stream.now c.min.result c.args.last first.part (omega (arith, c.min.ensures)) (omega (arith, c.requires.last_is));
+      may = record {
+        on = first.on;
+        within = within_still c.args.device.now.part c.feed_recorded.new.device.part c.args.stream.now c.min.result c.args.last first.part (omega (arith, c.min.ensures)) (omega (arith, c.requires.last_is));
+      };
       forward = omega (arith, c.min.ensures, first.taken, c.taken-from.ensures.now, c.requires.before);
     }
 
-pub returns-clause-comes : goal.returns-clause-comes
-returns-clause-comes c =
-    let first = c.feed_recorded.ensures.comes in
+pub returns-clause-at_position : goal.returns-clause-at_position
+returns-clause-at_position c =
+    let first = c.feed_recorded.ensures.at_position in
     comes_on c.args.stream.now c.args.device.now c.feed_recorded.new.device c.seek.new.device c.feed_recorded.new.journal c.feed_recorded.new.journal (c.taken-from.result + 1) c.seek.new.device.taken
-    (omega (arith, first.taken, c.taken-from.ensures.now)) (omega (arith, c.seek.ensures.forward)) first c.seek.ensures.comes
+    (omega (arith, first.there.taken, c.taken-from.ensures.now)) (omega (arith, c.seek.ensures.forward)) first c.seek.ensures.at_position
 
 pub returns-clause-found : goal.returns-clause-found
 returns-clause-found c = λ q.
-    subst (λ (p : PartData). holds_at p c.args.stream.now c.args.stop c.seek.new.device.taken ≡ true) c.feed_recorded.ensures.comes.part (c.seek.ensures.found q)
+    subst (λ (p : PartData). holds_at p c.args.stream.now c.args.stop c.seek.new.device.taken ≡ true) c.feed_recorded.ensures.at_position.there.part (c.seek.ensures.found q)
 
 pub returns-clause-none : goal.returns-clause-none
 returns-clause-none c = λ k after before.
-    subst (λ (p : PartData). holds_at p c.args.stream.now c.args.stop k ≡ false) c.feed_recorded.ensures.comes.part
-    (c.seek.ensures.none k (omega (arith, after, c.feed_recorded.ensures.comes.taken, c.taken-from.ensures.now)) before)
+    subst (λ (p : PartData). holds_at p c.args.stream.now c.args.stop k ≡ false) c.feed_recorded.ensures.at_position.there.part
+    (c.seek.ensures.none k (omega (arith, after, c.feed_recorded.ensures.at_position.there.taken, c.taken-from.ensures.now)) before)
 
 pub returns-clause-none_at_end : goal.returns-clause-none_at_end
 returns-clause-none_at_end c = λ q.
-    subst (λ (p : PartData). holds_at p c.args.stream.now c.args.stop c.seek.new.device.taken ≡ false) c.feed_recorded.ensures.comes.part
+    subst (λ (p : PartData). holds_at p c.args.stream.now c.args.stop c.seek.new.device.taken ≡ false) c.feed_recorded.ensures.at_position.there.part
     (subst (λ (n : ℕ). holds_at c.feed_recorded.new.device.part c.args.stream.now c.args.stop n ≡ false) (sym (c.seek.ensures.end q)) (c.seek.ensures.none_at_end q))

@@ -39,4 +39,4 @@ returns-in-Ok-clause-caused g c = let f = g.F.Flash in
     let b = c.in-Ok.ensures in
     let small : flash_limit < mid.extent → ⊥ = λ large. grind (arith, b.too_large.1 large) in
     text_boots c.args.name.now c.args.part.now (f.state c.args.flash.now) mid (f.state c.boot.new.flash) c.in-Ok.booted c.text_of.result
-    c.in_ok-attach.ensures.reads (short_flash mid c.in_ok-attach.ensures.sized small) b.booted b.due c.text_of.ensures.ok c.text_of.ensures.err (grind (arith, b.flash.extent, small))
+    c.in_ok-attach.ensures.reads (short_flash mid c.in_ok-attach.ensures.sized small) b.booted b.no_word_due c.text_of.ensures.ok c.text_of.ensures.err (grind (arith, b.flash.extent, small))

@@ -77,8 +77,8 @@ pub returns-clause-oldest : goal.returns-clause-oldest
 returns-clause-oldest c = λ stream o.
     ap (λ (n : ℕ). oldest_by n (records_of (after c))) (went c stream o).1 ∙ ap (oldest_by c.args.device.now.taken) (sym (records_are c))
 
-pub returns-clause-few : goal.returns-clause-few
-returns-clause-few c = λ stream o. omega (arith, ap length (records_are c), o.few)
+pub returns-clause-room_for_one : goal.returns-clause-room_for_one
+returns-clause-room_for_one c = λ stream o. omega (arith, ap length (records_are c), o.few)
 
 pub invariant_of-self : goal.invariant_of-self
 invariant_of-self c = (

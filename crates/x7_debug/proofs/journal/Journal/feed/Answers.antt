@@ -14,8 +14,8 @@ feed_word-requires-clause-undo c =
     let all : AllByRecursion (IsUndoOf c.args.device.now.part) c.self.inside.records.items = subst (λ (j : JournalState). AllByRecursion (IsUndoOf c.args.device.now.part) j.all) (sym c.self.view_is) c.requires.records in
     get_all (IsUndoOf c.args.device.now.part) c.self.inside.records.items (length c.self.inside.records.items - 1) c.in-Some.undo c.in-Some.ensures.value all
 
-pub returns-clause-more : goal.returns-clause-more
-returns-clause-more c =
+pub returns-clause-recorded : goal.returns-clause-recorded
+returns-clause-recorded c =
     let items : List UndoState = c.self.inside.records.items in
     let popped : c.pop_back.new.self.items ≡ take (length items - 1) items = ap (λ (b : Buffer UndoState). b.items) c.in-Some.ensures.items in
     let room : c.pop_back.new.self.capacity ≡ 64 = ap (λ (b : Buffer UndoState). b.capacity) c.in-Some.ensures.items ∙ c.self.invariant.1 in
@@ -33,6 +33,6 @@ returns-clause-stands c = λ part kept wrapped bytes s.
     let fits : AreBytes piece = all_from_places (λ b. b < 256) piece (λ k h. omega (arith, c.type_inv.piece k)) in
     fed_stands part kept wrapped bytes piece c.feed_word.new.self dropping c.feed_word.result (all_append (λ b. b < 256) bytes piece s.fits fits) refl (c.feed_word.ensures.stands part kept wrapped bytes s) (c.feed_word.ensures.answer part kept wrapped bytes s)
 
-pub returns-clause-none_due : goal.returns-clause-none_due
-returns-clause-none_due c = λ part kept wrapped bytes s.
+pub returns-clause-no_word_due : goal.returns-clause-no_word_due
+returns-clause-no_word_due c = λ part kept wrapped bytes s.
     fed_none_due part kept wrapped bytes c.args.piece.now c.feed_word.new.self dropping c.feed_word.result refl (c.feed_word.ensures.answer part kept wrapped bytes s)

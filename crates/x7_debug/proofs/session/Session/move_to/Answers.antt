@@ -1,5 +1,5 @@
 use Rattle.std.proofs.Common.{◌≤◌, List, ℕ, ap, subst, sym, ◌∙◌}
-use Rattle.x7_debug.specs.Journal.{GoesWith}
+use Rattle.x7_debug.specs.Journal.{MoveCosts}
 use Rattle.x7_debug.specs.Kept.{session_of}
 use Rattle.x7_debug.specs.Moving.{MayMove}
 use Rattle.x7_debug.specs.Position.{last_of}
@@ -13,12 +13,12 @@ move_to-requires c =
 
 pub returns : goal.returns
 returns c =
-    let there = c.move_to.ensures.comes in
-    let goes : GoesWith (session_of c.self.inside.device c.self.inside.stream.items c.self.inside.journal) (session_of c.move_to.new.device c.self.inside.stream.items c.move_to.new.journal) =
-    subst (λ (b : List ℕ). GoesWith (session_of c.self.inside.device b c.self.inside.journal) (session_of c.move_to.new.device b c.move_to.new.journal)) c.deref.ensures.value c.move_to.ensures.goes in
+    let there = c.move_to.ensures.at_position in
+    let goes : MoveCosts (session_of c.self.inside.device c.self.inside.stream.items c.self.inside.journal) (session_of c.move_to.new.device c.self.inside.stream.items c.move_to.new.journal) =
+    subst (λ (b : List ℕ). MoveCosts (session_of c.self.inside.device b c.self.inside.journal) (session_of c.move_to.new.device b c.move_to.new.journal)) c.deref.ensures.value c.move_to.ensures.costs in
     record {
       moves = record {
         stands = record { part = there.part ∙ ap (λ (s : SessionState). s.part) c.self.view_is; stream = ap (λ (s : SessionState). s.stream) c.self.view_is; at = there.taken };
-        goes = subst (λ (s : SessionState). GoesWith s (session_of c.move_to.new.device c.self.inside.stream.items c.move_to.new.journal)) c.self.view_is goes;
+        costs = subst (λ (s : SessionState). MoveCosts s (session_of c.move_to.new.device c.self.inside.stream.items c.move_to.new.journal)) c.self.view_is goes;
       };
     }
