@@ -1,7 +1,7 @@
 -- What a device has been through where startup has begun (UG470, startup): START and DESYNC, and checks that passed.
 use Rattle.std.specs.Prelude.{◌≡◌, ℕ, ◌<◌, List, IsTrue}
 use Rattle.x7_packets.specs.History.{History, Write}
-use Rattle.x7_crc.specs.OpenWrites.{running_check}
+use Rattle.x7_crc.specs.RunningCheck.{running_check}
 use Rattle.x7_part.specs.Part.{PartData}
 use Rattle.x7_regs.specs.Register.{number_of}
 use Rattle.x7_regs.specs.declared.register.Reg.TheVariants.{Crc, Idcode}

@@ -11,6 +11,7 @@ use Rattle.std.specs.List.{repeat}
 use Rattle.x7_words.specs.Word.{bytes_of_word}
 use Rattle.x7_packets.specs.FlashSlot.{flash_slot, sector_bytes, slot_count}
 use Rattle.x7_packets.specs.PacketWords.{dummy_word, sync_word}
+use Rattle.x7_words.specs.Flash.{erased_byte}
 pub use Rattle.x7_words.specs.Flash.{flash_limit}
 
 -- the first place at or after this one at which a sector begins
@@ -39,7 +40,7 @@ free_slots start = repeat (slot_count - 1) (free_slot start)
 
 -- bytes, and FF after them up to a place
 abbrev pub filled_to : ℕ → List ℕ → List ℕ
-filled_to place bytes = bytes ++ replicate (place - length bytes) 255
+filled_to place bytes = bytes ++ replicate (place - length bytes) erased_byte
 
 -- the first sector, which leads to the update at this start address
 abbrev pub first_sector : ℕ → List ℕ

@@ -10,7 +10,7 @@ use Rattle.x7_packets.specs.CheckedWrites.{clears, open_writes}
 use Rattle.x7_packets.specs.declared.cutter.Cut.{Cut}
 use Rattle.x7_packets.specs.declared.cutter.Cut.TheVariants.{Need}
 use Rattle.x7_packets.proofs.HistoryLemmas.{cut_enters, next_word_is}
-use Rattle.x7_crc.specs.OpenWrites.{in_order, running_check}
+use Rattle.x7_crc.specs.RunningCheck.{in_order, running_check}
 use Rattle.x7_crc.specs.Check.{check_after, writes_to}
 use Rattle.x7_crc.proofs.CheckLemmas.{check_after_append, check_after_none, check_after_fits, check_of_more}
 use Rattle.x7_crc.specs.Checker.{steers_check, Checks, HasTaken, IsSum, CheckerState, Keeps}

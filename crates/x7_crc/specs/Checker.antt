@@ -6,7 +6,7 @@ use Rattle.x7_regs.specs.declared.register.Reg.TheVariants.{Cmd, Crc, Far, Lout}
 use Rattle.x7_packets.specs.Cutter.{CutterState, CutterStandsFor}
 use Rattle.x7_packets.specs.History.{command_held, History, history_of}
 use Rattle.x7_packets.specs.Reading.{Place, Session}
-use Rattle.x7_crc.specs.OpenWrites.{running_check}
+use Rattle.x7_crc.specs.RunningCheck.{running_check}
 
 -- the running check of all writes of the bytes
 abbrev pub check_of_bytes : List ℕ → ℕ

@@ -1,6 +1,6 @@
 pub mod Checker
 pub mod Table
-pub mod OpenWrites
+pub mod RunningCheck
 pub mod Polynomial
 pub mod Check
 pub mod ShiftRegister

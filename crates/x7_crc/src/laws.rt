@@ -4,7 +4,7 @@ ghost use Rattle.x7_regs.specs.Register.{number_of};
 ghost use Rattle.x7_regs.specs.declared.register.Reg.TheVariants.{Lout};
 ghost use Rattle.x7_packets.specs.History.{Bad, entry, History, Read, Write};
 ghost use Rattle.x7_packets.specs.CheckedWrites.{clears};
-ghost use Rattle.x7_crc.specs.OpenWrites.{Folds, running_check};
+ghost use Rattle.x7_crc.specs.RunningCheck.{Folds, running_check};
 ghost use Rattle.x7_crc.specs.Polynomial.{from_highest, IsRemainder, mirrored};
 ghost use Rattle.x7_crc.specs.Check.{bits_of_writes, check_after, check_of, check_after_one, generator, IsCheckAfter};
 

@@ -3,7 +3,7 @@ ghost use Rattle.std.specs.Prelude.{◌≡◌, ◌==◌, ◌||◌, not, ℕ, ◌
 ghost use Rattle.x7_regs.specs.Command.{code_of};
 ghost use Rattle.x7_regs.specs.Register.{number_of};
 ghost use Rattle.x7_packets.specs.History.{entry, executed_by, History, is_command, Write};
-ghost use Rattle.x7_crc.specs.OpenWrites.{executed_after, running_check};
+ghost use Rattle.x7_crc.specs.RunningCheck.{executed_after, running_check};
 
 use crate::check::fold;
 use x7_regs::{Command, Reg};

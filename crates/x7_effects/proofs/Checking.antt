@@ -4,7 +4,7 @@ use Rattle.std.specs.List.{AllByRecursion}
 use Rattle.x7_packets.specs.History as access
 use Rattle.x7_packets.specs.History.{Access, History, command_held, executed_by, is_command, writes}
 use Rattle.x7_crc.specs.Check.{check_after}
-use Rattle.x7_crc.specs.OpenWrites.{running_check}
+use Rattle.x7_crc.specs.RunningCheck.{running_check}
 use Rattle.x7_effects.proofs.Items.{Item, Noop, Dummy, Write, WriteLong, Read, ReadLong, IsItem, item_words}
 
 -- the running check, and the command that CMD holds

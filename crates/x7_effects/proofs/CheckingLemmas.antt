@@ -4,7 +4,7 @@ use Rattle.x7_packets.specs.History as access
 use Rattle.x7_packets.specs.History.{History, entry, command_held, last_word, history_of, entered, entered_all}
 use Rattle.x7_packets.specs.CheckedWrites.{RegisterWrite, open_writes, clears}
 use Rattle.x7_crc.specs.Check.{check_after, check_of}
-use Rattle.x7_crc.specs.OpenWrites.{in_order}
+use Rattle.x7_crc.specs.RunningCheck.{in_order}
 use Rattle.x7_crc.proofs.CheckLemmas.{check_after_none, check_after_fits, check_of_more}
 use Rattle.x7_effects.proofs.Items.{Item, Noop, Dummy, Write, WriteLong, Read, ReadLong, item_words, IsItem, AreItems, writes_entered, item_entered, items_entered}
 use Rattle.x7_effects.proofs.Checking.{Checking, clears_by, after_write, after_writes, after_item, after_items, checking_of, Piece, Put, Check, piece_item, with_checks, IsPiece, ArePieces}

@@ -2,7 +2,7 @@
 use Rattle.std.proofs.Common.{◌≡◌, ◌==◌, ◌&&◌, ◌||◌, ◌+◌, ◌*◌, ◌%◌, ◌^◌, ◌≤◌, ℕ, Bool, true, false, if◌then◌else◌, None, List, [], ◌∷◌, ◌++◌, length, refl, sym, ap, ◌∙◌, arith}
 use Rattle.x7_packets.specs.History as access
 use Rattle.x7_packets.specs.History.{Access, History, command_held, entry, executes, last_word}
-use Rattle.x7_crc.specs.OpenWrites.{running_check}
+use Rattle.x7_crc.specs.RunningCheck.{running_check}
 use Rattle.x7_part.specs.Part.{PartData}
 use Rattle.x7_startup.specs.Startup.{Call, StartupProgress}
 use Rattle.x7_startup.specs.Startup as call

@@ -6,7 +6,7 @@ use Rattle.std.proofs.lemmas.List.{length-take-le, take-append-drop}
 use Rattle.x7_words.specs.Word.{AreBytes}
 use Rattle.x7_packets.specs.History.{Access, Bad, Entry, History, Placed, Read, Write, entry, executes, history_of, until}
 use Rattle.x7_packets.proofs.GrowthLemmas.{prefix_of, placed_of, placed_within}
-use Rattle.x7_crc.specs.OpenWrites.{running_check}
+use Rattle.x7_crc.specs.RunningCheck.{running_check}
 use Rattle.x7_part.specs.Part.{PartData}
 use Rattle.x7_startup.specs.Startup.{Begun, NotBegun, StartupProgress}
 use Rattle.x7_engine.specs.declared.fault.Fault.TheVariants as fault

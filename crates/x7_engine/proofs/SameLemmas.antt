@@ -2,7 +2,7 @@
 use Rattle.std.proofs.Common.{◌≡◌, ◌==◌, ◌&&◌, ◌||◌, ◌%◌, ◌^◌, ◌-◌, ◌≤◌, ◌⊎◌, inl, inr, ℕ, Bool, true, false, if◌then◌else◌, Option, None, List, [], ◌∷◌, ◌++◌, replicate, refl, ap, sym, subst, ◌∙◌, append_assoc, append-nil}
 use Rattle.x7_packets.specs.History.{Access, Entry, History, Write, command_held, entry, executed_by, executes, is_command, last_word, written, writes}
 use Rattle.x7_packets.specs.CheckedWrites.{RegisterWrite, clears, open_writes, with_write}
-use Rattle.x7_crc.specs.OpenWrites.{in_order, running_check}
+use Rattle.x7_crc.specs.RunningCheck.{in_order, running_check}
 use Rattle.x7_crc.specs.Check.{check_of}
 use Rattle.x7_part.specs.Part.{PartData}
 use Rattle.x7_pipeline.specs.Copies.{source_after}

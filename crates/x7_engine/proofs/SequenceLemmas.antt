@@ -2,7 +2,7 @@
 use Rattle.std.proofs.Common.{◌≡◌, ◌==◌, ◌&&◌, ◌||◌, inl, inr, ◌↔◌, IsTrue, ℕ, Bool, true, false, if◌then◌else◌, Option, None, Some, [], ◌∷◌, refl, arith}
 use Rattle.std.proofs.lemmas.Bool.Decides.{nat_tests}
 use Rattle.x7_packets.specs.History.{Access, Bad, History, Read, Write, command_held, executed_by, executes, is_command}
-use Rattle.x7_crc.specs.OpenWrites.{running_check}
+use Rattle.x7_crc.specs.RunningCheck.{running_check}
 use Rattle.x7_engine.specs.Registers.{has_ghigh, clears_check, is_pending, takes_shutdown}
 use Rattle.x7_engine.specs.Sequence.{Executes, HasGhigh, IsPending, lowers_ghigh}
 use Rattle.x7_engine.proofs.SinceLemmas.{since_here, since_more, since_none, since_parts}

@@ -1,7 +1,7 @@
 -- The values of the registers as they are read (UG470, configuration registers).
 use Rattle.std.specs.Prelude.{ℕ, ◌==◌, ◌&&◌, Bool, true, false, not, nat_le, if◌then◌else◌, List, [], ◌∷◌, ◌++◌, Option, None, Some, replicate, is_some}
 use Rattle.x7_packets.specs.History.{Access, Write, Read, Bad, History, command_held}
-use Rattle.x7_crc.specs.OpenWrites.{running_check}
+use Rattle.x7_crc.specs.RunningCheck.{running_check}
 use Rattle.x7_part.specs.Part.{PartData}
 use Rattle.x7_regs.specs.BootStatus.{boot_status_of}
 use Rattle.x7_regs.specs.Register.{number_of, reg_with}

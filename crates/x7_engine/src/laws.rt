@@ -7,7 +7,7 @@ ghost use Rattle.x7_packets.specs.SyncWord.{HasNoSync};
 ghost use Rattle.x7_part.specs.Part.{PartData};
 ghost use Rattle.x7_regs.specs.declared.register.Reg.TheVariants.{Crc, Idcode};
 ghost use Rattle.x7_startup.specs.Startup.{Begun, IsPhaseOf};
-ghost use Rattle.x7_crc.specs.OpenWrites.{running_check};
+ghost use Rattle.x7_crc.specs.RunningCheck.{running_check};
 ghost use Rattle.x7_engine.specs.Checked.{HasStarted};
 ghost use Rattle.x7_engine.specs.Kept.{AreFallbacks, is_fallback, on_the_bench, without_kept};
 ghost use Rattle.x7_engine.specs.FirstStop.{IsFirstStop, why_at_byte};

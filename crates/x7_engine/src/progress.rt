@@ -1,7 +1,7 @@
 //! The running check, and what is known of all accesses so far.
 ghost use Rattle.std.specs.Prelude.{◌≡◌, ◌<◌, false, ◌||◌, ◌&&◌, ℕ, ◌∷◌, [], length, ◌%◌};
 ghost use Rattle.x7_packets.specs.History.{entry, History, Write};
-ghost use Rattle.x7_crc.specs.OpenWrites.{executed_after};
+ghost use Rattle.x7_crc.specs.RunningCheck.{executed_after};
 ghost use Rattle.x7_regs.specs.Command.{code_of};
 ghost use Rattle.x7_flow.specs.Controls.{names_part, same_idcode};
 ghost use Rattle.x7_flow.specs.Standing.{word_to, written_to};

@@ -3,5 +3,5 @@ pub mod Form
 pub mod Known
 pub mod Message
 pub mod Step
-pub mod Stop
+pub mod ReadingStops
 pub mod Turn

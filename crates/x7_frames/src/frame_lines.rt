@@ -7,7 +7,7 @@ ghost use Rattle.x7_frames.specs.Steps.{IsFaultAt, IsGoodLine, TakesLine};
 ghost use Rattle.x7_frames.specs.declared.fault.FramesFault.{FramesFault};
 
 use crate::fault::FramesFault;
-use crate::reading::Reading;
+use crate::frames_text::Reading;
 use std::alloc::Global;
 use std::marker::Model;
 use x7_memory::Plan;

@@ -17,7 +17,7 @@ use Rattle.x7_packets.proofs.ByHandLemmas.{reading_is_found}
 use Rattle.x7_text.proofs.LineLemmas.{bytes_closed, open_text_append}
 use Rattle.x7_listing.specs.HeadLine.{command_line, line_of_head, text_of_head, line_text}
 use Rattle.x7_listing.specs.Listing.{listing_of, packet_text, place_text, session_text}
-use Rattle.x7_listing.specs.Telling.{GapListed, ListerStandsFor, ListerState, HasListedAt, TakerStandsFor, open_payload, word_next, open_session_word, open_words, words_place, written_of}
+use Rattle.x7_listing.specs.Lister.{GapListed, ListerStandsFor, ListerState, HasListedAt, TakerStandsFor, open_payload, word_next, open_session_word, open_words, words_place, written_of}
 use Rattle.x7_packets.specs.Mode.{Mode}
 use Rattle.x7_listing.specs.declared.line.head_line.HeadLine.{HeadLine}
 use Rattle.x7_listing.specs.declared.line.head_line.HeadLine.TheVariants as line

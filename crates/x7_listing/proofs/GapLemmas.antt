@@ -6,7 +6,7 @@ use Rattle.x7_text.specs.Digits.{hex_byte}
 use Rattle.x7_text.specs.Row.{in_line_after, open_text}
 use Rattle.x7_words.proofs.WordLemmas.{words_four}
 use Rattle.x7_text.proofs.LineLemmas.{in_line_after_append, open_text_append}
-use Rattle.x7_listing.specs.Telling.{GapListed}
+use Rattle.x7_listing.specs.Lister.{GapListed}
 
 -- the text of bytes in `bytes` lines
 abbrev B : ℕ → List ℕ → List ℕ

@@ -17,7 +17,7 @@ use Rattle.x7_text.specs.Digits.{hex_byte}
 use Rattle.x7_text.specs.Row.{bytes_text, close, in_line_after, open_text}
 use Rattle.x7_text.proofs.LineLemmas.{bytes_closed, open_text_append}
 use Rattle.x7_listing.specs.Listing.{listing_of, packet_text, packets_text, place_text, session_text}
-use Rattle.x7_listing.specs.Telling.{GapListed, ListerStandsFor, ListerState, HasListedAt, words_place, open_words, written_of}
+use Rattle.x7_listing.specs.Lister.{GapListed, ListerStandsFor, ListerState, HasListedAt, words_place, open_words, written_of}
 use Rattle.x7_listing.proofs.SessionLemmas.{session_closed, open_words_append}
 
 -- the text of bytes in `bytes` lines, the last of which stays open unless it is full

@@ -11,7 +11,7 @@ use Rattle.x7_packets.specs.declared.cutter.Cut.{Cut}
 use Rattle.x7_packets.specs.declared.cutter.Cut.TheVariants.{Need, Skip, Sync, Head, Word, Body}
 use Rattle.x7_text.specs.Row.{close}
 use Rattle.x7_listing.specs.HeadLine.{text_of_head}
-use Rattle.x7_listing.specs.Telling.{GapListed, HasListed, words_place, open_words, WritesRun, WrittenSoFar, written_of}
+use Rattle.x7_listing.specs.Lister.{GapListed, HasListed, words_place, open_words, WritesRun, WrittenSoFar, written_of}
 use Rattle.x7_listing.proofs.TellingLemmas.{skip_listed, sync_listed, words_listed_at}
 use Rattle.x7_listing.proofs.SessionLemmas.{head_next, head_listed}
 

@@ -10,7 +10,7 @@ use Rattle.x7_text.specs.Row.{close, element_text, in_line_after, next_in_line, 
 use Rattle.x7_text.proofs.LineLemmas.{data_closed}
 use Rattle.x7_listing.specs.HeadLine.{command_line, text_of_head}
 use Rattle.x7_listing.specs.Listing.{packet_text, payload_text}
-use Rattle.x7_listing.specs.Telling.{payload_next, word_next, open_session_word, words_place, open_words}
+use Rattle.x7_listing.specs.Lister.{payload_next, word_next, open_session_word, words_place, open_words}
 
 pub open_words_append : (i : ℕ) (xs ys : List (ℕ × Step)) → open_words i (xs ++ ys) ≡ open_words i xs ++ open_words (words_place i xs) ys
 open_words_append i [] ys = refl

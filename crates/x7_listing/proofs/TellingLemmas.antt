@@ -16,7 +16,7 @@ use Rattle.x7_text.specs.Digits.{hex_byte}
 use Rattle.x7_text.specs.Row.{bytes_text, close, in_line_after, open_text}
 use Rattle.x7_text.proofs.LineLemmas.{bytes_closed, in_line_after_append, open_text_append}
 use Rattle.x7_listing.specs.Listing.{packets_text, reading_text, session_text}
-use Rattle.x7_listing.specs.Telling.{GapListed, SessionListed, HasListed, HasListedAt, word_next, words_place, open_words, written_of}
+use Rattle.x7_listing.specs.Lister.{GapListed, SessionListed, HasListed, HasListedAt, word_next, words_place, open_words, written_of}
 use Rattle.x7_listing.proofs.GapLemmas.{fresh_gap}
 use Rattle.x7_listing.proofs.SessionLemmas.{session_closed, words_place_append, open_words_append}
 

@@ -10,4 +10,4 @@ pub mod Listing
 pub mod OneWord
 pub mod Pens
 pub mod StreamListing
-pub mod Telling
+pub mod Lister

@@ -4,7 +4,7 @@ use Rattle.x7_packets.specs.Mode.{Mode}
 use Rattle.x7_packets.specs.Run.{IsNext, bytes_of_run}
 use Rattle.x7_packets.specs.declared.stream.Run.{Run}
 use Rattle.x7_packets.specs.declared.stream.Run.TheVariants as run
-use Rattle.x7_listing.specs.Telling.{Finished, ListerState, TakerStandsFor}
+use Rattle.x7_listing.specs.Lister.{Finished, ListerState, TakerStandsFor}
 
 -- what a lister of runs has listed: the texts given before its own, the listings before, the bytes of the runs, and what is due after them
 pub record RunsListed : Type 0 where

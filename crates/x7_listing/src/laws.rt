@@ -11,7 +11,7 @@ ghost use Rattle.x7_listing.specs.Listing.{IsListing, IsTextPrefix, listing_of};
 ghost use Rattle.x7_listing.specs.StreamListing.{stream_listing};
 ghost use Rattle.x7_header.specs.Header.{Contents};
 ghost use Rattle.x7_packets.specs.Mode.{Mode};
-ghost use Rattle.x7_listing.specs.Telling.{TakerStandsFor, ListerStandsFor, ListerState};
+ghost use Rattle.x7_listing.specs.Lister.{TakerStandsFor, ListerStandsFor, ListerState};
 
 /// A list of bytes has at most one listing.
 pub fn one_listing()

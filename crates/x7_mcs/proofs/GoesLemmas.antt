@@ -5,7 +5,7 @@ use Rattle.std.proofs.lemmas.Nat.Bits.{bit_at-zero}
 use Rattle.x7_mcs.specs.Lines.{bare}
 use Rattle.x7_mcs.specs.DataRecords.{DataRecord, byte_at, extent, records_image}
 use Rattle.x7_mcs.specs.Flash.{after_lines, flash_in, of_no_line, with_end}
-use Rattle.x7_mcs.specs.State.{McsLinesState, FailsAsReading, HoldsRecords, TookRecords, at_base, is_marked}
+use Rattle.x7_mcs.specs.Image.{McsLinesState, FailsAsReading, HoldsRecords, TookRecords, at_base, is_marked}
 use Rattle.x7_mcs.specs.McsLines.{HasMcsFault, HasReadRecords, flash_of_lines}
 use Rattle.x7_mcs.specs.declared.fault.McsFault.{McsFault}
 use Rattle.x7_mcs.specs.declared.fault.McsFault.TheVariants as fault

@@ -12,7 +12,7 @@ use Rattle.x7_mcs.specs.Lines.{bare, lines_of, without_return}
 use Rattle.x7_mcs.specs.DataRecords.{DataRecord}
 use Rattle.x7_mcs.specs.McsLines.{AreGoodWith, HasMcsFault, HasReadRecords, flash_of_lines}
 use Rattle.x7_mcs.specs.Record.{sum_byte}
-use Rattle.x7_mcs.specs.State.{McsLinesState, FailsAsReading, TookRecords, at_base}
+use Rattle.x7_mcs.specs.Image.{McsLinesState, FailsAsReading, TookRecords, at_base}
 use Rattle.x7_mcs.specs.Text.{data_line}
 use Rattle.x7_mcs.specs.declared.fault.McsFault.{McsFault}
 use Rattle.x7_mcs.specs.declared.fault.McsFault.TheVariants as fault

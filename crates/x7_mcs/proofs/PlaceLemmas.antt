@@ -7,7 +7,7 @@ use Rattle.std.specs.Int.{bit_at}
 use Rattle.std.specs.Prelude.{bit_or}
 use mir.Syntax.{w16}
 use Rattle.x7_mcs.specs.DataRecords.{DataRecord, covered, covers, record_end, extent, overlap, unless_covered, with_record}
-use Rattle.x7_mcs.specs.State.{AreFree, HoldsRecords, IsFirstMarked, is_marked}
+use Rattle.x7_mcs.specs.Image.{AreFree, HoldsRecords, IsFirstMarked, is_marked}
 use Rattle.x7_mcs.specs.declared.fault.McsFault.TheVariants as fault
 
 -- ---- marks

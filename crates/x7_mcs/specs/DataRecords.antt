@@ -1,7 +1,7 @@
 -- The places that data records cover (this project's choice).
 use Rattle.std.specs.Prelude.{◌≡◌, ℕ, zero, suc, ◌+◌, ◌-◌, ◌==◌, ◌&&◌, ◌||◌, nat_le, nat_lt, max, Bool, true, false, if◌then◌else◌, List, [], ◌∷◌, length, map, get_or, Option, None, Some, Result, Ok, Err}
 use Rattle.std.specs.List.{range_with_len}
-use Rattle.x7_words.specs.Flash.{flash_limit}
+use Rattle.x7_words.specs.Flash.{erased_byte, flash_limit}
 use Rattle.x7_mcs.specs.declared.fault.McsFault.{McsFault}
 use Rattle.x7_mcs.specs.declared.fault.McsFault.TheVariants as fault
 
@@ -21,7 +21,7 @@ covered (x ∷ xs) p = covers x p || covered xs p
 
 -- the byte at a place that no record gives: FF, as an erase leaves it
 abbrev pub free_byte : ℕ
-free_byte = 255
+free_byte = erased_byte
 
 -- the byte of the record that covers a place, and the free one where none does
 abbrev pub byte_at : List DataRecord → ℕ → ℕ

@@ -3,6 +3,6 @@ pub mod Record
 pub mod DataRecords
 pub mod Flash
 pub mod Text
-pub mod State
-pub mod Images
+pub mod Image
+pub mod Readings
 pub mod McsLines

@@ -2,9 +2,9 @@
 use Rattle.std.specs.Prelude.{◌≡◌, ◌⊎◌, ℕ, List, [], ◌∷◌, ◌++◌, map, Result, Err, MatchResult}
 use Rattle.x7_text.specs.Lines.{split}
 use Rattle.x7_mcs.specs.Flash.{FlashReading, after_lines, flash_in, of_no_line, with_end}
-use Rattle.x7_mcs.specs.Images.{CameTo}
+use Rattle.x7_mcs.specs.Readings.{CameTo}
 use Rattle.x7_mcs.specs.Lines.{bare, without_return}
-use Rattle.x7_mcs.specs.State.{McsLinesState, FailsAsReading, HasNoFault, TookRecords}
+use Rattle.x7_mcs.specs.Image.{McsLinesState, FailsAsReading, HasNoFault, TookRecords}
 use Rattle.x7_mcs.specs.declared.mcs_lines.McsLines.{McsLines}
 use Rattle.x7_mcs.specs.declared.fault.McsFault.{McsFault}
 use Rattle.x7_mcs.specs.declared.fault.McsFault.TheVariants as fault

@@ -2,9 +2,9 @@
 ghost use Rattle.std.specs.Prelude.{◌≡◌, ℕ, true, ◌≤◌, ◌<◌, ◌+◌, ◌-◌, ◌*◌, ◌/◌, ◌%◌, ◌^◌, ◌==◌, ◌&&◌, nat_le, nat_lt, max, if◌then◌else◌, List, [], length, get_or, MatchResult, MatchOption};
 ghost use Rattle.std.specs.Int.{bit_at};
 ghost use Rattle.x7_mcs.specs.DataRecords.{DataRecord, overlap, free_byte};
-ghost use Rattle.x7_mcs.specs.Images.{HoldsIn, HoldsMore, IsRecordRefused, data_at};
+ghost use Rattle.x7_mcs.specs.Readings.{HoldsIn, HoldsMore, IsRecordRefused, data_at};
 ghost use Rattle.x7_mcs.specs.Record.{byte_values};
-ghost use Rattle.x7_mcs.specs.State.{AreFree, IsFirstMarked, IsWrittenFrom, is_marked, places_a_mark};
+ghost use Rattle.x7_mcs.specs.Image.{AreFree, IsFirstMarked, IsWrittenFrom, is_marked, places_a_mark};
 
 use crate::fault::McsFault;
 use std::alloc::{AllocError, Global};

@@ -2,7 +2,7 @@
 ghost use Rattle.std.specs.Prelude.{◌≡◌, ◌<◌, ◌+◌, ◌%◌, ◌++◌, get_or, length, MatchResult};
 ghost use Rattle.std.specs.List.{sum};
 ghost use Rattle.x7_mcs.specs.Record.{record_data, meaning_by_type, meaning_of, sum_byte, byte_values, bytes_beside};
-ghost use Rattle.x7_mcs.specs.State.{SaysMeaning};
+ghost use Rattle.x7_mcs.specs.Image.{SaysMeaning};
 
 use crate::fault::McsFault;
 

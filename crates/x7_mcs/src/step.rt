@@ -3,7 +3,7 @@ ghost use Rattle.std.specs.Prelude.{◌<◌, ◌^◌, List, length};
 ghost use Rattle.x7_mcs.specs.Record.{byte_values};
 ghost use Rattle.x7_mcs.specs.DataRecords.{DataRecord};
 ghost use Rattle.x7_mcs.specs.Flash.{after_data, after_line};
-ghost use Rattle.x7_mcs.specs.Images.{CallComesTo, HoldsIn, after_record, flash_reading_at};
+ghost use Rattle.x7_mcs.specs.Readings.{CallComesTo, HoldsIn, after_record, flash_reading_at};
 
 use crate::fault::McsFault;
 use crate::image::{Image, put_content};

@@ -16,8 +16,8 @@ mod copied;
 use crate::header::{Step, is_cmd};
 use crate::machine::Machine;
 use crate::nops::count_equal;
+use crate::packet_words::{NO_OP, register_in, type1_count_in, type1_write};
 use crate::sync::{Matcher, near_sync};
-use crate::words::{NO_OP, register_in, type1_count_in, type1_write};
 use std::marker::Model;
 use x7_words::word_of;
 

@@ -5,7 +5,7 @@ ghost use Rattle.x7_regs.specs.declared.register.Reg.TheVariants.{Cmd};
 ghost use Rattle.x7_packets.specs.Packet.{ends_session, meaning};
 ghost use Rattle.x7_packets.specs.Machine.{is_end};
 
-use crate::words::{
+use crate::packet_words::{
     DUMMY_WORD, NO_OP_KIND, SYNC_WORD, TYPE1_READ_KIND, TYPE1_WRITE_KIND, TYPE2_READ_KIND,
     TYPE2_WRITE_KIND, kind_in, register_in, type1_count_in, type2_count_in,
 };

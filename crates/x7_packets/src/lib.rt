@@ -8,11 +8,11 @@ mod header;
 mod laws;
 mod machine;
 mod nops;
+mod packet_words;
 mod places;
 mod slot;
 mod stream;
 mod sync;
-mod words;
 
 pub use appended::{gaps_are_passed, gaps_ask_nothing, packets_append, streams_append};
 pub use cutter::{Cut, Cutter};
@@ -26,12 +26,12 @@ pub use laws::{
     words_enter,
 };
 pub use machine::Machine;
-pub use slot::{SLOT_COUNT, flash_slot};
-pub use stream::{Packets, Run};
-pub use sync::Matcher;
-pub use words::{
+pub use packet_words::{
     BUS_WIDTH_DETECT, BUS_WIDTH_SYNC, DUMMY_WORD, NO_OP, NO_OP_KIND, SYNC_BYTES, SYNC_WORD,
     TYPE1_READ_KIND, TYPE1_WRITE_KIND, TYPE2_READ_KIND, TYPE2_WRITE_KIND, command, frame_data,
     frame_read, kind_in, register_in, type1_count_in, type1_read, type1_write, type2_count_in,
     type2_read, type2_write, write_one,
 };
+pub use slot::{SLOT_COUNT, flash_slot};
+pub use stream::{Packets, Run};
+pub use sync::Matcher;

@@ -2,7 +2,7 @@
 ghost use Rattle.std.specs.Prelude.{◌≡◌};
 ghost use Rattle.x7_packets.specs.FlashSlot.{flash_slot};
 
-use crate::words::{NO_OP, type1_write};
+use crate::packet_words::{NO_OP, type1_write};
 use x7_regs::{Command, Reg};
 use x7_words::bytes_of;
 

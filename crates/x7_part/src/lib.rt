@@ -7,8 +7,8 @@ mod fault;
 mod keys;
 mod laws;
 mod limits;
-mod parse;
 mod part;
+mod part_file;
 mod ranges;
 mod row;
 mod settings;
@@ -19,6 +19,6 @@ mod values;
 
 pub use fault::{PartFault, PartKey, Which};
 pub use laws::{rows_are_in_order, slots_follow_the_addresses};
-pub use parse::part_of;
 pub use part::Part;
+pub use part_file::part_of;
 pub use slot::Slot;

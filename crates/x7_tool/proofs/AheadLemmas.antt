@@ -4,7 +4,7 @@ use Rattle.x7_words.specs.Input.{Asks, InputsState, preceded, Selects}
 use Rattle.x7_words.specs.Word.{AreBytes}
 use Rattle.x7_words.specs.Sink.{SinkState, appended, PutsPrefix}
 use Rattle.x7_words.proofs.SinkLemmas.{appended_appended, appended_nil}
-use Rattle.x7_listing.specs.Telling.{ListerState}
+use Rattle.x7_listing.specs.Lister.{ListerState}
 use Rattle.x7_listing.proofs.BoundLemmas.{few_held, listing_held}
 use Rattle.x7_listing.specs.Listing.{listing_of}
 use Rattle.x7_listing.specs.StreamListing.{stream_listing}
@@ -16,7 +16,7 @@ use Rattle.x7_forms.specs.declared.status.Status.TheVariants as status
 use Rattle.x7_forms.specs.Event.{Event, status_of_event, bad_input, missing, no_memory, reading_failed, too_large, writing_failed}
 use Rattle.x7_forms.specs.Form.{Listing}
 use Rattle.x7_forms.specs.Turn.{IsBadBeginning, NoLetterGiven, UnreadBeginning, Unopened, Unread, longest_beginning, turn_bytes}
-use Rattle.x7_tool.specs.Turns.{Lists, ListsStream}
+use Rattle.x7_tool.specs.Between.{Lists, ListsStream}
 use Rattle.x7_forms.proofs.BeginningLemmas.{letter_there}
 use Rattle.x7_forms.proofs.ReadLemmas.{known_all}
 use Rattle.x7_tool.proofs.Causes.{may_follow, nothing_listed, nothing_taken}

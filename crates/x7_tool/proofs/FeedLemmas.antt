@@ -2,7 +2,7 @@
 use Rattle.std.proofs.Common.{◌≡◌, ℕ, List, [], ◌++◌, Result, Ok, Err, subst, sym, append_assoc, append-nil, ◌∷◌, Option, None, Some, inl, inr}
 use Rattle.x7_text.specs.LineReader.{ReaderState, StandsFor}
 use Rattle.x7_text.specs.Lines.{split}
-use Rattle.x7_tool.specs.Turns.{IsFed}
+use Rattle.x7_tool.specs.Between.{IsFed}
 use Rattle.x7_words.specs.Input.{InputsState}
 use Rattle.x7_forms.specs.Event.{Event}
 use Rattle.x7_forms.specs.Known.{Answer, Known, Mishap, whole_in, with_inputs, with_mishap}

@@ -27,7 +27,7 @@ use Rattle.x7_tool.specs.FullText.{PlanFor, full_of}
 use Rattle.x7_tool.specs.Ready.{text_of_bytes}
 use Rattle.std.specs.Prelude.{Vec}
 use Rattle.std.specs.declared.alloc.Global.{Global}
-use Rattle.x7_tool.specs.Turns.{LinesGive}
+use Rattle.x7_tool.specs.Between.{LinesGive}
 
 -- all its addresses are the part's
 pub plan_addressed : (part : PartData) (text : List ℕ) (plan : PlanData) → IsPlanOf part text (Ok plan) → AreAddressed part plan.rows

@@ -15,7 +15,7 @@ use Rattle.x7_forms.specs.Form.{AskedForm, Booting, Playing, Unused, UpdatingFla
 use Rattle.x7_forms.specs.Known.{Answer, part_limit, stream_limit}
 use Rattle.x7_forms.specs.Message.{event_of}
 use Rattle.x7_forms.specs.Step.{Among, seen}
-use Rattle.x7_forms.specs.Stop.{IsAbout, Limited, StopsAmong, limited, limited_together}
+use Rattle.x7_forms.specs.ReadingStops.{IsAbout, Limited, StopsAmong, limited, limited_together}
 use Rattle.x7_forms.specs.Turn.{StandsAt}
 use Rattle.x7_forms.proofs.StandLemmas.{about_among, about_by, stops_after}
 use Rattle.x7_frames.specs.declared.fault.FramesFault.{FramesFault}

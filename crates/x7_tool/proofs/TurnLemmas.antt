@@ -7,7 +7,7 @@ use Rattle.x7_packets.specs.ByHand.{reading_of}
 use Rattle.x7_packets.proofs.ByHandLemmas.{reading_is}
 use Rattle.x7_listing.specs.Listing.{IsListing, listing_of, reading_text}
 use Rattle.x7_listing.specs.StreamListing.{stream_listing}
-use Rattle.x7_listing.specs.Telling.{Finished, ListerStandsFor, ListerState}
+use Rattle.x7_listing.specs.Lister.{Finished, ListerStandsFor, ListerState}
 use Rattle.x7_listing.proofs.PrefixLemmas.{listed_prefix}
 use Rattle.x7_words.specs.Input.{InputsState, AtEnd, Selects, Stays, preceded}
 use Rattle.x7_words.proofs.ListLemmas.{all_append, all_back}
@@ -16,7 +16,7 @@ use Rattle.x7_words.proofs.InputLemmas.{preceded_preceded}
 use Rattle.x7_forms.specs.Event.{Event, reading_failed, too_large, writing_failed}
 use Rattle.x7_forms.specs.Known.{Mishap, found, stream_limit, with_inputs}
 use Rattle.x7_tool.specs.Run.{ListsSoFar}
-use Rattle.x7_tool.specs.Turns.{Lists, ListsStream}
+use Rattle.x7_tool.specs.Between.{Lists, ListsStream}
 use Rattle.x7_forms.specs.Turn.{IsAt, FollowsUnlessLast, Unread}
 use Rattle.x7_tool.proofs.Causes.{Ended, PutsListed, broken, ends_same, faulted, oversized, unwritten}
 use Rattle.x7_forms.proofs.ReadLemmas.{at_fault, known_all}

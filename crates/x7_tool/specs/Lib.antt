@@ -15,4 +15,4 @@ pub mod Runs
 pub mod Stopping
 pub mod Stream
 pub mod Svf
-pub mod Turns
+pub mod Between

@@ -6,7 +6,7 @@ use Rattle.x7_forms.specs.Event.{Absence, Cause, Contents, Event, Fault, cause_o
 use Rattle.x7_forms.specs.Form.{AskedForm, Assembling, Booting, Debugging, FromMcs, Generating, Imaging, ImagingFor, Listing, PlanningFull, PlanningPartial, PlanningRead, Playing, PlayingSvf, ToMcs, UpdatingFlash, flash_names}
 use Rattle.x7_forms.specs.Known.{part_limit, stream_limit}
 use Rattle.x7_forms.specs.Step.{Among}
-use Rattle.x7_forms.specs.Stop.{Limited, StopsAt, limited, limited_together}
+use Rattle.x7_forms.specs.ReadingStops.{Limited, StopsAt, limited, limited_together}
 use Rattle.x7_tool.specs.Outcome.{script_limit, text_limit}
 
 -- the inputs that a form reads, in the order of its words, each with the most bytes that it may have

@@ -1,5 +1,5 @@
 //! The command `debug`.
-ghost use Rattle.x7_forms.specs.Stop.{StopsAmong, limited};
+ghost use Rattle.x7_forms.specs.ReadingStops.{StopsAmong, limited};
 ghost use Rattle.std.specs.Prelude.{◌≡◌, ◌⊎◌, [], ◌∷◌, Ok, Err, IfErr, IfOk};
 ghost use Rattle.x7_words.specs.Input.{AsksFew, Stays};
 ghost use Rattle.x7_tool.specs.Debug.{debug_given};

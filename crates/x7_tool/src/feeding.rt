@@ -5,7 +5,7 @@ ghost use Rattle.x7_forms.specs.Message.{event_of};
 ghost use Rattle.x7_forms.specs.Step.{IsUnread, ReadsWhole};
 ghost use Rattle.x7_forms.specs.Turn.{StandsAt};
 ghost use Rattle.x7_tool.specs.Outcome.{text_limit};
-ghost use Rattle.x7_tool.specs.Turns.{IsFed, LinesGive};
+ghost use Rattle.x7_tool.specs.Between.{IsFed, LinesGive};
 
 use std::alloc::Global;
 use x7_forms::{Refusal, TEXT_LIMIT, TURN, next_turn, open};

@@ -1,5 +1,5 @@
 //! The command `image`: the flash image of a golden and an update stream.
-ghost use Rattle.x7_forms.specs.Stop.{IsAbout, StopsAmong, limited};
+ghost use Rattle.x7_forms.specs.ReadingStops.{IsAbout, StopsAmong, limited};
 ghost use Rattle.std.specs.Prelude.{◌≡◌, ◌⊎◌, ◌≤◌, [], ◌∷◌, Ok, Err, IfOk, IfErr, length};
 ghost use Rattle.x7_words.specs.Input.{AsksFew, Stays};
 ghost use Rattle.x7_forms.specs.Known.{stream_limit};

@@ -6,11 +6,11 @@ ghost use Rattle.x7_listing.specs.Listing.{listing_of};
 ghost use Rattle.x7_tool.specs.Ahead.{IsLonger};
 ghost use Rattle.x7_forms.specs.Message.{event_of};
 ghost use Rattle.x7_forms.specs.Event.{no_memory, writing_failed};
-ghost use Rattle.x7_listing.specs.Telling.{ListerStandsFor};
+ghost use Rattle.x7_listing.specs.Lister.{ListerStandsFor};
 ghost use Rattle.x7_tool.specs.Outside.{transfer};
 ghost use Rattle.x7_tool.specs.Run.{AnsweredListing};
 ghost use Rattle.x7_forms.specs.Step.{seen};
-ghost use Rattle.x7_tool.specs.Turns.{IsUnlisted, Lists, StopsIn};
+ghost use Rattle.x7_tool.specs.Between.{IsUnlisted, Lists, StopsIn};
 
 use std::alloc::Global;
 use x7_forms::{Refusal, STREAM_LIMIT, TURN, Why, next_turn, open, read_beginning};

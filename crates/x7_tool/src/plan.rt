@@ -1,5 +1,5 @@
 //! The commands `plan full`, `plan partial` and `plan read`: streams for plans.
-ghost use Rattle.x7_forms.specs.Stop.{IsAbout, StopsAmong, limited};
+ghost use Rattle.x7_forms.specs.ReadingStops.{IsAbout, StopsAmong, limited};
 ghost use Rattle.std.specs.Prelude.{◌≡◌, ◌⊎◌, ◌∷◌, [], ℕ, List, Ok, Err, IfOk, IfErr};
 ghost use Rattle.x7_words.specs.Input.{AsksFew, Stays};
 ghost use Rattle.x7_part.specs.Part.{frame_words};

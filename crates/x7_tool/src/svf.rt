@@ -1,5 +1,5 @@
 //! The command `svf`.
-ghost use Rattle.x7_forms.specs.Stop.{StopsAmong, limited};
+ghost use Rattle.x7_forms.specs.ReadingStops.{StopsAmong, limited};
 ghost use Rattle.std.specs.Prelude.{◌≡◌, ◌⊎◌, ◌≤◌, ◌||◌, [], ◌∷◌, Ok, Err, IfErr, IfOk, vec_len};
 ghost use Rattle.x7_words.specs.Input.{AsksFew, Stays};
 ghost use Rattle.x7_forms.specs.Message.{event_of};

@@ -1,6 +1,6 @@
 -- What an update leaves of a flash, and what a power loss may leave of it (this project's choice).
 use Rattle.std.specs.Prelude.{◌≡◌, ℕ, ◌+◌, ◌-◌, ◌*◌, ◌%◌, ◌<◌, ◌≤◌, List, ◌++◌, length, get_or, take, replicate}
-use Rattle.x7_words.specs.Flash.{replaced}
+use Rattle.x7_words.specs.Flash.{erased_byte, replaced}
 use Rattle.x7_words.specs.Word.{AreBytes}
 use Rattle.x7_packets.specs.FlashSlot.{sector_bytes, slot_count}
 use Rattle.x7_update.specs.Layout.{HasLayout, HasNoOpenSlot, IsNextFreeSlot, IsOpen, open_switch, spent_switch, switch_of, update_place}
@@ -11,7 +11,7 @@ switched slot word flash = replaced (32 * slot) word flash
 
 -- the flash with this stream at its place, and FF from the stream's end to the flash's end
 abbrev pub with_stream : ℕ → List ℕ → List ℕ → List ℕ
-with_stream place stream flash = take place flash ++ (stream ++ replicate (length flash - (place + length stream)) 255)
+with_stream place stream flash = take place flash ++ (stream ++ replicate (length flash - (place + length stream)) erased_byte)
 
 -- the flash with its open slot spent, if it has one
 pub data ClosesTo (flash closed : List ℕ) : Type 0 where

@@ -1,6 +1,6 @@
 -- What the steps of an update do to the flash (this project's choice).
 use Rattle.std.specs.Prelude.{◌≡◌, ◌≢◌, ℕ, ◌+◌, ◌-◌, ◌*◌, ◌%◌, ◌<◌, ◌≤◌, ◌⊎◌, IsTrue, List, length, get_or, Option, Some, None, nat_lt, if◌then◌else◌, true, false}
-use Rattle.x7_words.specs.Flash.{Elapses, FlashFails, FlashState, IfKnown, OnlyWrites, WriteFails}
+use Rattle.x7_words.specs.Flash.{erased_byte, Elapses, FlashFails, FlashState, IfKnown, OnlyWrites, WriteFails}
 use Rattle.x7_words.specs.Word.{AreBytes}
 use Rattle.x7_packets.specs.FlashSlot.{sector_bytes, slot_count}
 use Rattle.x7_update.specs.After.{ClosesTo, IsBetween, switched, with_stream}
@@ -67,7 +67,7 @@ pub record KeepsBelow (place : ℕ) (old found : List ℕ) : Type 0 where
 pub record ErasedTo (place end : ℕ) (old now : List ℕ) : Type 0 where
   pub size : length now ≡ length old
   pub below : (i : ℕ) → i < place → get_or now i 0 ≡ get_or old i 0
-  pub ones : (i : ℕ) → place ≤ i → i < end → get_or now i 0 ≡ 255
+  pub ones : (i : ℕ) → place ≤ i → i < end → get_or now i 0 ≡ erased_byte
 
 -- only the slot's switch word may have changed, and the slot isn't open
 pub record OnlySwitch (slot : ℕ) (old found : List ℕ) : Type 0 where
@@ -99,7 +99,7 @@ pub record Replaced (place : ℕ) (stream old now : List ℕ) : Type 0 where
 
 -- the byte that is wanted at a place from U on: the stream's, or FF after it
 abbrev pub wanted_at : ℕ → List ℕ → ℕ → ℕ
-wanted_at update stream place = if nat_lt (place - update) (length stream) then get_or stream (place - update) 0 else 255
+wanted_at update stream place = if nat_lt (place - update) (length stream) then get_or stream (place - update) 0 else erased_byte
 
 -- all from U on is as it is wanted
 abbrev pub HasWanted : ℕ → List ℕ → List ℕ → Type 0

@@ -13,7 +13,7 @@ use Rattle.x7_listing.specs.Pens.{is_in_session}
 use Rattle.x7_listing.specs.declared.list.pen.state.GapPen.{GapPen}
 use Rattle.x7_listing.specs.declared.list.pen.state.Pen.{Pen}
 use Rattle.x7_listing.specs.declared.list.pen.state.Pen.TheVariants as pen
-use Rattle.x7_listing.specs.Telling.{HasListed, ListerStandsFor, HasListedJust, WritesRun, lister_of, written_of}
+use Rattle.x7_listing.specs.Lister.{HasListed, ListerStandsFor, HasListedJust, WritesRun, lister_of, written_of}
 use Rattle.x7_listing.proofs.GapLemmas.{fresh_gap}
 use Rattle.x7_listing.proofs.TellingLemmas.{gap_ended, session_over}
 use Rattle.x7_listing.proofs.RunLemmas.{need_adds}

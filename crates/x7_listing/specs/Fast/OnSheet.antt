@@ -4,7 +4,7 @@ use Rattle.x7_words.specs.Word.{words_of_bytes}
 use Rattle.x7_packets.specs.Cutter.{CutterState}
 use Rattle.x7_text.specs.Row.{data_line_size, in_line_after, open_data, row_words}
 use Rattle.x7_listing.specs.Pens.{ListsMore, lister_with}
-use Rattle.x7_listing.specs.Telling.{ListerState}
+use Rattle.x7_listing.specs.Lister.{ListerState}
 use Rattle.x7_listing.specs.declared.list.pen.state.OpenWords.{OpenWords}
 use Rattle.x7_listing.specs.declared.list.pen.state.Pen.TheVariants.{Session}
 

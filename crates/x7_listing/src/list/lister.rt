@@ -2,7 +2,7 @@
 ghost use Rattle.std.specs.Prelude.{◌≡◌, ℕ, ◌+◌, ◌*◌, List, [], ◌++◌, OnOk, OnErr, length};
 ghost use Rattle.x7_packets.specs.Mode.{Mode};
 ghost use Rattle.x7_text.specs.Appends.{HasSpareRoom};
-ghost use Rattle.x7_listing.specs.Telling.{TakerStandsFor, Finished, ListerStandsFor};
+ghost use Rattle.x7_listing.specs.Lister.{TakerStandsFor, Finished, ListerStandsFor};
 ghost use Rattle.x7_listing.specs.Pens.{ListsMoreAndRests, lister_with};
 
 mod runs;
@@ -56,7 +56,7 @@ pub struct Lister {
 
 impl Model for Lister {
     ghost use Rattle.x7_listing.specs.Pens.{lister_with};
-    ghost use Rattle.x7_listing.specs.Telling.{ListerState};
+    ghost use Rattle.x7_listing.specs.Lister.{ListerState};
 
     ghost Value = { ListerState };
 

@@ -10,7 +10,7 @@ ghost use Rattle.x7_text.specs.Reads.{StaysWithin};
 ghost use Rattle.x7_text.specs.Row.{close, in_line_after, open_bytes, row_bytes, rows_size};
 ghost use Rattle.x7_listing.specs.HeadLine.{line_size};
 ghost use Rattle.x7_listing.specs.Pens.{EndsWith, GapGoesOn, gap_written, held_by, is_in_session, in_line_of, written_with};
-ghost use Rattle.x7_listing.specs.Telling.{words_place, open_words, WritesRun};
+ghost use Rattle.x7_listing.specs.Lister.{words_place, open_words, WritesRun};
 
 mod state;
 

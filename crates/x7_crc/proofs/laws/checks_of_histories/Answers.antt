@@ -1,7 +1,7 @@
 use Rattle.std.proofs.Common.{◌≡◌, ◌==◌, false, [], ◌∷◌, refl, sym, arith, lit<}
 use Rattle.std.proofs.lemmas.Bool.Decides.{nat_tests}
 use Rattle.x7_packets.specs.CheckedWrites.{open_writes}
-use Rattle.x7_crc.specs.OpenWrites.{in_order, running_check}
+use Rattle.x7_crc.specs.RunningCheck.{in_order, running_check}
 use Rattle.x7_crc.proofs.CheckLemmas.{check_after_none, check_of_more}
 use Rattle.x7_crc.proofs.laws.checks_of_histories.Goals as goal
 

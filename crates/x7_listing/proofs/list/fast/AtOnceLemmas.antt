@@ -25,7 +25,7 @@ use Rattle.x7_regs.specs.Register.{reg_name}
 use Rattle.x7_listing.specs.declared.line.head_line.HeadLine.TheVariants.{Write}
 use Rattle.x7_listing.specs.Fast.AtOnce.{command_lines, equal_lines, write_line, write_name, write_start}
 use Rattle.x7_listing.specs.HeadLine.{best_line, command_line, text_of_head, line_text}
-use Rattle.x7_listing.specs.Telling.{GapListed, HasListedJust, words_place, open_words, WritesRun, lister_of, written_of}
+use Rattle.x7_listing.specs.Lister.{GapListed, HasListedJust, words_place, open_words, WritesRun, lister_of, written_of}
 use Rattle.x7_listing.proofs.GapLemmas.{listed_more}
 use Rattle.x7_listing.proofs.RunLemmas.{by_body, by_head, by_skip, by_sync, by_word}
 use Rattle.x7_listing.proofs.SessionLemmas.{data_listed, is_data}

@@ -14,7 +14,7 @@ ghost use Rattle.x7_listing.specs.Fast.TakingAtOnce.{TakesAtOnce, TakesOnSheet};
 ghost use Rattle.x7_listing.specs.HeadLine.{text_of_head};
 ghost use Rattle.x7_listing.specs.Pens.{TakesHead, ListsMore, lister_with};
 ghost use Rattle.x7_listing.specs.declared.list.pen.state.Pen.{Pen};
-ghost use Rattle.x7_listing.specs.Telling.{words_place, open_words};
+ghost use Rattle.x7_listing.specs.Lister.{words_place, open_words};
 
 use super::sheet::{SHEET_SIZE, put_prefix, put_row, put_whole};
 use crate::line::{command_row, name_row, write_row};

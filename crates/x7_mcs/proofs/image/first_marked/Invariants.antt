@@ -1,5 +1,5 @@
 use Rattle.std.proofs.Common.{◌-◌, ◌≤◌}
-use Rattle.x7_mcs.specs.State.{AreFree}
+use Rattle.x7_mcs.specs.Image.{AreFree}
 use Rattle.x7_mcs.proofs.image.first_marked.Given as goal
 
 abbrev pub invariant-loop-at : goal.invariant-loop-at

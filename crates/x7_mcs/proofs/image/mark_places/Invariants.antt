@@ -1,5 +1,5 @@
 use Rattle.std.proofs.Common.{◌≡◌, ℕ, ◌-◌, ◌*◌, ◌≤◌, ◌<◌, ◌^◌, ◌&&◌, nat_le, nat_lt, true, if◌then◌else◌, length}
-use Rattle.x7_mcs.specs.State.{is_marked}
+use Rattle.x7_mcs.specs.Image.{is_marked}
 use Rattle.x7_mcs.proofs.image.mark_places.Given as goal
 
 abbrev pub invariant-loop-at : goal.invariant-loop-at

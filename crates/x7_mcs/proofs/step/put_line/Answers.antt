@@ -1,5 +1,5 @@
 use Rattle.std.proofs.Common.{arith, inr}
-use Rattle.x7_mcs.specs.State.{at_base}
+use Rattle.x7_mcs.specs.Image.{at_base}
 use Rattle.x7_mcs.proofs.LongLemmas.{long_line, odd_line}
 use Rattle.x7_mcs.proofs.step.put_line.Goals as goal
 

@@ -3,7 +3,7 @@ use Rattle.x7_words.specs.Input.{AsksFew, Stays}
 use Rattle.x7_forms.specs.Turn.{play_turn_bytes}
 use Rattle.x7_forms.specs.Known.{stream_limit}
 use Rattle.x7_playing.specs.Playing.{HasPlayed}
-use Rattle.x7_forms.specs.Stop.{limited_together}
+use Rattle.x7_forms.specs.ReadingStops.{limited_together}
 use Rattle.x7_forms.proofs.ReadLemmas.{Rests}
 use Rattle.x7_forms.proofs.StandLemmas.{LimitsFrom}
 use Rattle.x7_playing.proofs.playing.play_streams.Given as goal

@@ -7,7 +7,7 @@ use Rattle.x7_tool.proofs.FlashLemmas.{boot_last, boot_measured, booted_ends, no
 use Rattle.x7_forms.specs.Known.{part_limit}
 use Rattle.x7_tool.proofs.StopLemmas.{boot_stops, first_stops}
 use Rattle.x7_forms.proofs.StandLemmas.{no_part_about}
-use Rattle.x7_forms.specs.Stop.{limited}
+use Rattle.x7_forms.specs.ReadingStops.{limited}
 use Rattle.x7_forms.proofs.ResultLemmas.{handed_on}
 use Rattle.x7_tool.proofs.boot.boot.Goals as goal
 

@@ -7,7 +7,7 @@ use Rattle.x7_forms.proofs.ReadLemmas.{answers_end, answers_go, answers_stop, fi
 use Rattle.x7_tool.specs.Outcome.{DebugInputs, script_limit, stream_data}
 use Rattle.x7_tool.proofs.DebugLemmas.{stream_steady}
 use Rattle.x7_forms.proofs.StandLemmas.{about_among, no_part_about, unplayed_about, unread_about}
-use Rattle.x7_forms.specs.Stop.{limited}
+use Rattle.x7_forms.specs.ReadingStops.{limited}
 use Rattle.x7_tool.proofs.StopLemmas.{both_asked, all_asked}
 use Rattle.x7_words.proofs.InputLemmas.{few_more, few_on}
 use Rattle.x7_forms.proofs.ResultLemmas.{handed_on}

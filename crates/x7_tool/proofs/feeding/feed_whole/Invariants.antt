@@ -2,7 +2,7 @@ use Rattle.std.proofs.Common.{◌≡◌, ℕ, List, ◌+◌, ◌≤◌, length, 
 use Rattle.x7_words.specs.Input.{AsksOnce, Selects, Stays, preceded}
 use Rattle.x7_tool.specs.Outcome.{text_limit}
 use Rattle.x7_forms.specs.Turn.{IsAt, turn_bytes}
-use Rattle.x7_tool.specs.Turns.{IsFed}
+use Rattle.x7_tool.specs.Between.{IsFed}
 use Rattle.x7_tool.proofs.feeding.feed_whole.Given as goal
 
 abbrev pub invariant-loop-read : goal.invariant-loop-read

@@ -4,7 +4,7 @@ use Rattle.x7_part.specs.Part.{PartData}
 use Rattle.x7_forms.specs.Form.{ImagingFor}
 use Rattle.x7_forms.specs.Known.{Answer, and_so, part_limit, part_of, stream_limit}
 use Rattle.x7_forms.specs.Message.{event_of}
-use Rattle.x7_forms.specs.Stop.{limited}
+use Rattle.x7_forms.specs.ReadingStops.{limited}
 use Rattle.x7_forms.specs.Step.{seen}
 use Rattle.x7_forms.proofs.ReadLemmas.{answers_end, answers_go, answers_stop, first_of, part_steady}
 use Rattle.x7_forms.proofs.ResultLemmas.{handed_on, err_weaker}

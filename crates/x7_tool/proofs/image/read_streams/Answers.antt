@@ -8,7 +8,7 @@ use Rattle.x7_tool.specs.Stream.{data_from}
 use Rattle.x7_tool.proofs.DebugLemmas.{stream_steady}
 use Rattle.x7_forms.proofs.StandLemmas.{about_among, unplayed_about}
 use Rattle.x7_tool.proofs.StopLemmas.{both_asked}
-use Rattle.x7_forms.specs.Stop.{limited}
+use Rattle.x7_forms.specs.ReadingStops.{limited}
 use Rattle.x7_words.proofs.InputLemmas.{few_more, few_on}
 use Rattle.x7_forms.proofs.ResultLemmas.{handed_on}
 use Rattle.x7_tool.proofs.image.read_streams.Goals as goal

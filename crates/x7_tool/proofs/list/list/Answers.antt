@@ -15,7 +15,7 @@ use Rattle.x7_forms.specs.declared.refusal.Refusal.{Refusal}
 use Rattle.x7_forms.specs.Form.{Listing}
 use Rattle.x7_tool.specs.Ahead.{StaysNear}
 use Rattle.x7_tool.specs.Run.{ListsSoFar}
-use Rattle.x7_tool.specs.Turns.{Lists, ListsStream}
+use Rattle.x7_tool.specs.Between.{Lists, ListsStream}
 use Rattle.x7_forms.specs.Turn.{FollowsUnlessLast, longest_beginning, turn_bytes}
 use Rattle.x7_tool.proofs.AheadLemmas.{prefix_given, prefix_near, longer_prefix, longer_twice, same_now, stays_near, turn_given, turn_near, unfronted_near, unopened_near, unread_near, unwritten_near, why_weaker}
 use Rattle.x7_tool.proofs.Causes.{Ended, PutsListed, both_err, ends_same, list_ends, list_seen, listed_whole, nothing_put, nothing_taken, out_of_memory, unfronted, unopened}
@@ -24,7 +24,7 @@ use Rattle.x7_forms.proofs.ResultLemmas.{handed_on, err_weaker}
 use Rattle.x7_tool.proofs.TurnLemmas.{end_failed, prefix_failed, prefix_so_far, goes_on, line_prefix, line_then, stream_so_far, stream_whole, taken_more, unread_end, write_failed}
 use Rattle.x7_forms.proofs.StandLemmas.{few_read, stands_opened, stands_read, stands_turn, unfronted_about, unopened_about, unread_about}
 use Rattle.x7_tool.proofs.StopLemmas.{prefix_stops, put_stops, written_stops, first_stops}
-use Rattle.x7_forms.specs.Stop.{limited}
+use Rattle.x7_forms.specs.ReadingStops.{limited}
 use Rattle.x7_tool.proofs.list.list.Goals as goal
 
 pub returns-in_err-open : goal.returns-in_err-open

@@ -2,7 +2,7 @@ use Rattle.std.proofs.Common.{◌≡◌, ℕ, List, ◌+◌, ◌≤◌, length, 
 use Rattle.x7_words.specs.Input.{AsksOnce, Selects, Stays, preceded}
 use Rattle.x7_forms.specs.Known.{stream_limit}
 use Rattle.x7_forms.specs.Turn.{IsAt, turn_bytes}
-use Rattle.x7_tool.specs.Turns.{ListsStream}
+use Rattle.x7_tool.specs.Between.{ListsStream}
 use Rattle.x7_tool.proofs.list.list.Given as goal
 
 abbrev pub invariant-loop-lister : goal.invariant-loop-lister

@@ -4,7 +4,7 @@ use Rattle.x7_boot.specs.Image.{flash_limit}
 use Rattle.x7_forms.specs.Form.{ToMcs}
 use Rattle.x7_forms.specs.Known.{Answer, whole_in}
 use Rattle.x7_forms.specs.Message.{event_of}
-use Rattle.x7_forms.specs.Stop.{limited}
+use Rattle.x7_forms.specs.ReadingStops.{limited}
 use Rattle.x7_forms.proofs.ReadLemmas.{answers_end, answers_stop, whole_steady}
 use Rattle.x7_forms.proofs.StandLemmas.{unread_about}
 use Rattle.x7_tool.proofs.StopLemmas.{first_stops, want_stops}

@@ -1,6 +1,6 @@
 use Rattle.std.proofs.Common.{sym, refl, []}
 use Rattle.x7_forms.specs.Message.{event_of}
-use Rattle.x7_forms.specs.Stop.{limited}
+use Rattle.x7_forms.specs.ReadingStops.{limited}
 use Rattle.x7_forms.specs.Form.{FromMcs}
 use Rattle.x7_forms.proofs.StandLemmas.{about_by, unread_about}
 use Rattle.x7_tool.specs.Outcome.{mcs_event, text_limit}

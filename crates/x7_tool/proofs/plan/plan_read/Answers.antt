@@ -3,7 +3,7 @@ use Rattle.x7_part.specs.Part.{PartData}
 use Rattle.x7_forms.specs.Form.{PlanningRead}
 use Rattle.x7_forms.specs.Known.{Answer, part_limit, part_of}
 use Rattle.x7_forms.specs.Message.{event_of}
-use Rattle.x7_forms.specs.Stop.{limited}
+use Rattle.x7_forms.specs.ReadingStops.{limited}
 use Rattle.x7_forms.specs.Step.{seen}
 use Rattle.x7_forms.proofs.ReadLemmas.{answers_by, answers_kept}
 use Rattle.x7_forms.proofs.ResultLemmas.{handed_on, err_weaker}

@@ -7,7 +7,7 @@ use Rattle.x7_tool.proofs.PlanLemmas.{texts_read, texts_unread}
 use Rattle.x7_tool.specs.Outcome.{PlanTexts, text_limit}
 use Rattle.x7_forms.proofs.StandLemmas.{about_among, no_part_about, unread_about}
 use Rattle.x7_tool.proofs.StopLemmas.{both_asked}
-use Rattle.x7_forms.specs.Stop.{limited}
+use Rattle.x7_forms.specs.ReadingStops.{limited}
 use Rattle.x7_words.proofs.InputLemmas.{few_more, few_on}
 use Rattle.x7_forms.proofs.ResultLemmas.{handed_on}
 use Rattle.x7_tool.proofs.svf.read_given.Goals as goal

@@ -16,7 +16,7 @@ use Rattle.x7_tool.specs.Run.{EndsAs}
 use Rattle.x7_tool.specs.Stream.{data_from}
 use Rattle.x7_tool.proofs.UpdateLemmas.{cause_from, data_given, done_ends, fault_ends, keeps_all, refused_ends, rest_of, unopened_last, unopened_measured, unopened_over, unplayed_last, unplayed_measured, unread_over, uses_opened, uses_updated}
 use Rattle.x7_tool.proofs.StopLemmas.{stream_judges, unopened_judges, updated_judges, unopened_stops, updated_stops, first_stops}
-use Rattle.x7_forms.specs.Stop.{limited}
+use Rattle.x7_forms.specs.ReadingStops.{limited}
 use Rattle.x7_forms.proofs.StandLemmas.{unplayed_about}
 use Rattle.x7_forms.proofs.ResultLemmas.{handed_on}
 use Rattle.x7_tool.proofs.update.update.Goals as goal

@@ -1,7 +1,7 @@
 use Rattle.std.proofs.Common.{◌≡◌, ◌&&◌, ◌||◌, ap, ◌∙◌}
 use Rattle.x7_packets.specs.History.{Access, Write}
 use Rattle.x7_regs.specs.Register.{number_of}
-use Rattle.x7_crc.specs.OpenWrites.{running_check}
+use Rattle.x7_crc.specs.RunningCheck.{running_check}
 use Rattle.x7_flow.specs.Controls.{names_part}
 use Rattle.x7_engine.specs.Registers.{clears_by, ghigh_after, has_ghigh, clears_check, is_pending, pending_after, takes_shutdown, writes_command}
 use Rattle.x7_engine.proofs.progress.Progress.write.Goals as goal

@@ -2,7 +2,7 @@ use Rattle.std.proofs.Common.{◌≡◌, ◌+◌, ◌-◌, ◌<◌, ◌++◌, ap
 use Rattle.std.specs.declared.alloc.Global.{Global}
 use Rattle.x7_packets.specs.Cutter.{calls_left, CutterState, run_bytes}
 use Rattle.x7_listing.specs.Pens.{lister_with}
-use Rattle.x7_listing.specs.Telling.{HasListedJust}
+use Rattle.x7_listing.specs.Lister.{HasListedJust}
 use Rattle.x7_listing.specs.declared.list.pen.state.Pen.TheVariants.{Session}
 use Rattle.x7_listing.proofs.list.fast.AtOnceLemmas.{rest_length, seam}
 use Rattle.x7_listing.proofs.list.ListerLemmas.{goes_less, goes_out, one_due, run_length, listed_as, took, took_all}

@@ -1,6 +1,6 @@
 use Rattle.std.proofs.Common.{ℕ, List, ◌++◌, ◌*◌, take}
 use Rattle.x7_text.specs.Reads.{StaysWithin}
-use Rattle.x7_listing.specs.Telling.{GapListed}
+use Rattle.x7_listing.specs.Lister.{GapListed}
 use Rattle.x7_listing.proofs.list.pen.hold_each.Given as goal
 
 abbrev pub invariant-loop-byte : goal.invariant-loop-byte

@@ -2,7 +2,7 @@ use Rattle.std.proofs.Common.{◌≡◌, [], ◌∷◌, ap, sym, ◌∙◌, arit
 use Rattle.x7_text.proofs.AppendsLemmas.{appends_as}
 use Rattle.x7_words.specs.Word.{words_of_bytes}
 use Rattle.x7_packets.specs.Packet.{payload_steps}
-use Rattle.x7_listing.specs.Telling.{open_words}
+use Rattle.x7_listing.specs.Lister.{open_words}
 use Rattle.x7_listing.proofs.GapLemmas.{body_word}
 use Rattle.x7_listing.proofs.SessionLemmas.{data_place, data_listed, is_data}
 use Rattle.x7_listing.proofs.list.pen.put_body.Goals as goal

@@ -3,7 +3,7 @@ use Rattle.x7_text.proofs.LineReaderLemmas.{prefix_on, wants_here}
 use Rattle.x7_text.proofs.PieceLemmas.{at_none, at_some, only_line}
 use Rattle.x7_mcs.specs.Flash.{after_line}
 use Rattle.x7_mcs.specs.McsLines.{AreGoodWith, HasMcsFault, mcs_lines_state}
-use Rattle.x7_mcs.specs.State.{FailsAsReading, TookRecords, at_base}
+use Rattle.x7_mcs.specs.Image.{FailsAsReading, TookRecords, at_base}
 use Rattle.x7_mcs.proofs.McsLinesLemmas.{line_fails, line_read, line_wants, row_cut, row_is, row_line}
 use Rattle.std.proofs.lemmas.Result.{err_from_is_err_and}
 use Rattle.x7_mcs.proofs.mcs_lines.McsLines.take_line.Goals as goal

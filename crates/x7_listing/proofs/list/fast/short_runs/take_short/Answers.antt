@@ -1,6 +1,6 @@
 use Rattle.std.proofs.Common.{◌≡◌, ◌-◌, ◌++◌, append-nil, arith, drop, length, refl, subst, take}
 use Rattle.x7_listing.specs.Pens.{lister_with}
-use Rattle.x7_listing.specs.Telling.{HasListedJust}
+use Rattle.x7_listing.specs.Lister.{HasListedJust}
 use Rattle.x7_listing.specs.declared.list.pen.state.Pen.{Pen}
 use Rattle.x7_listing.specs.declared.list.pen.state.Pen.TheVariants.{Session}
 use Rattle.x7_listing.proofs.list.fast.AtOnceLemmas.{rest_length, seam}

@@ -1,6 +1,6 @@
 use Rattle.std.proofs.Common.{List, ℕ, sym, subst}
 use Rattle.x7_listing.specs.Pens.{lister_with}
-use Rattle.x7_listing.specs.Telling.{ListerState, ListerStandsFor, HasListedJust}
+use Rattle.x7_listing.specs.Lister.{ListerState, ListerStandsFor, HasListedJust}
 use Rattle.x7_listing.proofs.list.lister.Lister.feed.Goals as goal
 
 pub returns-clause-ok : goal.returns-clause-ok

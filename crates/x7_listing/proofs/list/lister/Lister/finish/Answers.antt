@@ -1,7 +1,7 @@
 use Rattle.std.proofs.Common.{◌≡◌, ◌++◌, List, ℕ, refl, sym, subst}
 use Rattle.x7_listing.specs.Listing.{reading_text}
 use Rattle.x7_listing.specs.Pens.{lister_with}
-use Rattle.x7_listing.specs.Telling.{ListerState, ListerStandsFor, HasListedJust}
+use Rattle.x7_listing.specs.Lister.{ListerState, ListerStandsFor, HasListedJust}
 use Rattle.x7_listing.proofs.list.ListerLemmas.{begins, not_due}
 use Rattle.x7_listing.proofs.list.ListerOfRunsLemmas.{starts}
 use Rattle.x7_listing.proofs.list.lister.Lister.finish.Goals as goal

@@ -1,6 +1,6 @@
 use Rattle.std.proofs.Common.{List, ℕ, sym, subst}
 use Rattle.x7_listing.specs.Pens.{lister_with}
-use Rattle.x7_listing.specs.Telling.{ListerState, TakerStandsFor}
+use Rattle.x7_listing.specs.Lister.{ListerState, TakerStandsFor}
 use Rattle.x7_listing.proofs.list.lister.Lister.take.Goals as goal
 
 pub returns-clause-ok : goal.returns-clause-ok

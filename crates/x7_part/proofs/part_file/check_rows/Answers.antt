@@ -2,7 +2,7 @@ use Rattle.std.proofs.Common.{◌∙◌, ap}
 use Rattle.x7_part.specs.declared.fault.PartFault.TheVariants.{TooMany}
 use Rattle.x7_part.specs.PartChecks.{unless}
 use Rattle.x7_part.proofs.PassLemmas.{rows_checked}
-use Rattle.x7_part.proofs.parse.check_rows.Goals as goal
+use Rattle.x7_part.proofs.part_file.check_rows.Goals as goal
 
 pub returns : goal.returns
 returns c part words rows =

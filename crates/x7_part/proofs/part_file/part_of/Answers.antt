@@ -8,8 +8,8 @@ use Rattle.x7_part.specs.declared.fault.PartFault.TheVariants.{Key}
 use Rattle.x7_part.specs.declared.fault.PartKey.TheVariants as key
 use Rattle.x7_part.proofs.PassLemmas.{Whole, typed, passed, types_reported, others_reported, settings_reported, rows_reported, few_rows, last_reported, whole, handed_on, handed_from, toml_is, toml_fault}
 use Rattle.x7_part.proofs.BlankLemmas.{unnamed, handed_same, not_given}
-use Rattle.x7_part.proofs.parse.part_of.Goals as goal
-use Rattle.x7_part.proofs.parse.part_of.Goals.{In_ok-check_rows}
+use Rattle.x7_part.proofs.part_file.part_of.Goals as goal
+use Rattle.x7_part.proofs.part_file.part_of.Goals.{In_ok-check_rows}
 
 wholly : (c : In_ok-check_rows) → Whole c.args.text.now (string_bytes c.values.inside.name) c.in_ok-settings.settings c.in_ok-rows.rows.items
 wholly c =

@@ -3,7 +3,7 @@ use Rattle.std.specs.Prelude.{◌≡◌, ◌⊎◌, ℕ, List, ◌∷◌, Result
 use Rattle.x7_mcs.specs.Flash.{FlashReading, after_meaning}
 use Rattle.x7_mcs.specs.DataRecords.{DataRecord, with_record}
 use Rattle.x7_mcs.specs.Record.{meaning_of}
-use Rattle.x7_mcs.specs.State.{FailsAsReading, HoldsRecords, TookRecords, at_base}
+use Rattle.x7_mcs.specs.Image.{FailsAsReading, HoldsRecords, TookRecords, at_base}
 use Rattle.x7_mcs.specs.declared.fault.McsFault.{McsFault}
 use Rattle.x7_mcs.specs.declared.fault.McsFault.TheVariants as fault
 use Rattle.x7_mcs.specs.declared.image.Image.{Image}

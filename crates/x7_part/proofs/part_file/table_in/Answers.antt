@@ -1,7 +1,7 @@
 use Rattle.std.proofs.Common.{◌∙◌, sym}
 use Rattle.std.proofs.lemmas.Bool.{false≢true}
 use Rattle.x7_part.proofs.BlankLemmas.{blank_parsed}
-use Rattle.x7_part.proofs.parse.table_in.Goals as goal
+use Rattle.x7_part.proofs.part_file.table_in.Goals as goal
 
 pub returns-else-is_memory-clause-blank : goal.returns-else-is_memory-clause-blank
 returns-else-is_memory-clause-blank c h =

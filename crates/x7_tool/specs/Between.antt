@@ -6,7 +6,7 @@ use Rattle.x7_text.specs.LineReader.{FailsFrom, ReaderState, StandsFor}
 use Rattle.x7_text.specs.Lines.{split}
 use Rattle.x7_listing.specs.Listing.{listing_of}
 use Rattle.x7_listing.specs.StreamListing.{stream_listing}
-use Rattle.x7_listing.specs.Telling.{ListerState, ListerStandsFor}
+use Rattle.x7_listing.specs.Lister.{ListerState, ListerStandsFor}
 use Rattle.x7_forms.specs.Turn.{longest_beginning}
 use Rattle.x7_forms.specs.Event.{Event, no_memory, writing_failed}
 
