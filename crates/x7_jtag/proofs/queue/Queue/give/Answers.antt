@@ -20,7 +20,7 @@ returns-clause-stands c = λ part q s.
     let bytes = s.holds.bytes in
     let device = s.holds.device in
     let read = c.feed-fed.ensures.reads part on_the_bench false bytes device in
-    let none : read.0 ≡ [] = none_got read.0 c.feed-fed.new.read (read.1 ∙ ap (λ (b : ReadBufState). with_words b read.0) c.full.ensures) c.feed-fed.ensures.few in
+    let none : read.0 ≡ [] = none_got read.0 c.feed-fed.new.read (read.1 ∙ ap (λ (b : ReadBufState). with_words b read.0) c.full.ensures) c.feed-fed.ensures.within_most in
     let silent : words_taken part c.feed-fed.new.self (bytes ++ take (taken_in (length piece) c.feed-fed.result) piece) ≡ words_taken part c.args.device.now bytes =
     read.2 ∙ ap (λ (words : List ℕ). words_taken part c.args.device.now bytes ++ words) none ∙ append-nil (words_taken part c.args.device.now bytes) in
     gives part c.args.self.now c.feed.new.self c.args.device.now c.feed-fed.new.self c.feed.new.device q piece c.feed-fed.new.read c.feed-fed.result c.given_of-count.result s
