@@ -1,5 +1,5 @@
 #!/usr/bin/env python3
-"""Tests the pages against the tree: what MAP and README name is there, what is there is named, and links lead somewhere."""
+"""Tests the pages against the tree: what MAP and the READMEs name is there, what is there is named, and links lead somewhere."""
 import glob
 import os
 import re
@@ -103,9 +103,40 @@ def check_readme(tally):
             tally.check(f"{crate} has a README", os.path.isfile(os.path.join(CRATES, crate, "README.md")), crate)
 
 
+def says(crate):
+    """The names of clauses, fields, functions and definitions that a crate's code and definitions have."""
+    found = set()
+    for part, ending in (("src", ".rt"), ("specs", ".antt")):
+        for path in names_in(f"{crate}/{part}", ending):
+            text = text_of("crates", crate, part, path + ending)
+            found.update(re.findall(r"\b(?:ensures|requires|fn|ghost|struct|enum|trait|const|static|type|mod) (\w+)", text))
+            found.update(re.findall(r"^\s*(?:pub |abbrev |unfoldable |record |data )*([\w-]+)\b.* : ", text, re.M))
+            found.update(re.findall(r"\b(?:record|data) (\w+)", text))
+            found.add(path.rpartition("/")[2])
+    return found
+
+
+def check_clauses(tally):
+    """In the READMEs of crates 'CLAUSES of CALLS' names what the crate has, or one below it, and `specs/NAME` a file of it."""
+    below = {line.partition(":")[0]: line.partition(":")[2].split() for line in text_of("crates.txt").splitlines() if not line.startswith("#")}
+    known = {crate: says(crate) for crate in crates()}
+    for crate in crates():
+        if crate == "x7":
+            continue
+        text = text_of("crates", crate, "README.md")
+        near = known[crate].union(*(known[it] for it in below[crate] if it in known))
+        for clauses in re.findall(r"((?:`\w+`(?:, | and ))*`\w+`) of `", text):
+            for name in re.findall(r"`(\w+)`", clauses):
+                tally.check(f"{crate}: its README's {name}", name in near, clauses)
+        for name in re.findall(r"`specs/([A-Za-z/]+)(?:\.antt)?`", text):
+            path = os.path.join(CRATES, crate, "specs", name)
+            tally.check(f"{crate}: its README's specs/{name}", os.path.isfile(f"{path}.antt") or os.path.isdir(path), name)
+
+
 tally = Tally()
 check_map(tally)
 check_links(tally)
 check_seconds(tally)
 check_readme(tally)
+check_clauses(tally)
 tally.end()
