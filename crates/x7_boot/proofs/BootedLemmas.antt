@@ -84,22 +84,22 @@ ByTable d kept number ending next = (part : PartData) (t : AttemptCourse) → Is
 abbrev pub known_as : Kept → ℕ → Ending → Tried
 known_as kept address ending = record { kind = kept.kind; address = address; ending = ending }
 
-pub led_next : (part old_part : PartData) (kept kept_now : Kept) (address address_now : ℕ) (known told : Option (List ℕ)) (d : DeviceState) (ending : Ending) (attempts now : List Tried) (number : ℕ) (next : Next)
-    → told ≡ known → old_part ≡ part → IfKnown known (λ all. AreBytes all → Led (attempt_at part kept address) all attempts number) → IfKnown told (λ all. AreBytes all → AttemptEnds (attempt_at old_part kept address) all d ending)
+pub led_next : (part old_part : PartData) (kept kept_now : Kept) (address address_now : ℕ) (known known_now : Option (List ℕ)) (d : DeviceState) (ending : Ending) (attempts now : List Tried) (number : ℕ) (next : Next)
+    → known_now ≡ known → old_part ≡ part → IfKnown known (λ all. AreBytes all → Led (attempt_at part kept address) all attempts number) → IfKnown known_now (λ all. AreBytes all → AttemptEnds (attempt_at old_part kept address) all d ending)
     → ByTable d kept (number + 1) ending next → next ≡ Again kept_now address_now → now ≡ attempts ++ known_as kept address ending ∷ []
     → IfKnown known (λ all. AreBytes all → Led (attempt_at part kept_now address_now) all now (number + 1))
-led_next part old_part kept kept_now address address_now known told d ending attempts now number next same e led tries table is items =
+led_next part old_part kept kept_now address address_now known known_now d ending attempts now number next same e led tries table is items =
     let here : IfKnown known (λ all. AreBytes all → AttemptEnds (attempt_at part kept address) all d ending) =
     subst (λ (p : PartData). IfKnown known (λ all. AreBytes all → AttemptEnds (attempt_at p kept address) all d ending)) e (subst (λ (k : Option (List ℕ)). IfKnown k (λ all. AreBytes all → AttemptEnds (attempt_at old_part kept address) all d ending)) same tries) in
     where_on known (λ all. AreBytes all → Led (attempt_at part kept address) all attempts number) (λ all. AreBytes all → AttemptEnds (attempt_at part kept address) all d ending) (λ all. AreBytes all → Led (attempt_at part kept_now address_now) all now (number + 1))
     (λ all l t fits. subst (λ (a : List Tried). Led (attempt_at part kept_now address_now) all a (number + 1)) (sym items)
     (led_on part kept kept_now address address_now all d ending attempts number next (l fits) (t fits) (table part) is)) led here
 
-pub boot_ends : (part old_part : PartData) (kept : Kept) (address : ℕ) (known told : Option (List ℕ)) (d : DeviceState) (ending : Ending) (attempts now : List Tried) (number : ℕ) (next : Next) (end : BootEnd)
-    → told ≡ known → old_part ≡ part → IfKnown known (λ all. AreBytes all → Led (attempt_at part kept address) all attempts number) → IfKnown told (λ all. AreBytes all → AttemptEnds (attempt_at old_part kept address) all d ending)
+pub boot_ends : (part old_part : PartData) (kept : Kept) (address : ℕ) (known known_now : Option (List ℕ)) (d : DeviceState) (ending : Ending) (attempts now : List Tried) (number : ℕ) (next : Next) (end : BootEnd)
+    → known_now ≡ known → old_part ≡ part → IfKnown known (λ all. AreBytes all → Led (attempt_at part kept address) all attempts number) → IfKnown known_now (λ all. AreBytes all → AttemptEnds (attempt_at old_part kept address) all d ending)
     → ByTable d kept (number + 1) ending next → next ≡ Ends end → now ≡ attempts ++ known_as kept address ending ∷ []
     → IfKnown known (λ all. AreBytes all → IsBoot part all (record { attempts = now; end = end; device = d }))
-boot_ends part old_part kept address known told d ending attempts now number next end same e led tries table is items =
+boot_ends part old_part kept address known known_now d ending attempts now number next end same e led tries table is items =
     let here : IfKnown known (λ all. AreBytes all → AttemptEnds (attempt_at part kept address) all d ending) =
     subst (λ (p : PartData). IfKnown known (λ all. AreBytes all → AttemptEnds (attempt_at p kept address) all d ending)) e (subst (λ (k : Option (List ℕ)). IfKnown k (λ all. AreBytes all → AttemptEnds (attempt_at old_part kept address) all d ending)) same tries) in
     where_on known (λ all. AreBytes all → Led (attempt_at part kept address) all attempts number) (λ all. AreBytes all → AttemptEnds (attempt_at part kept address) all d ending) (λ all. AreBytes all → IsBoot part all (record { attempts = now; end = end; device = d }))

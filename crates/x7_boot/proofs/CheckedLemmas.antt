@@ -51,12 +51,12 @@ checked part kept wrapped bytes fits late = record {
 trial_fits : (part : PartData) (flash : List ℕ) (t : AttemptCourse) → AreBytes flash → IsAttemptOver part flash t → AreBytes t.bytes
 trial_fits part flash t fits is = by is
   where
-    behind : AreBytes (drop t.address flash)
-    behind = all_back (λ b. b < 256) (take t.address flash) (drop t.address flash) (subst AreBytes (sym (take-append-drop t.address flash)) fits)
+    after : AreBytes (drop t.address flash)
+    after = all_back (λ b. b < 256) (take t.address flash) (drop t.address flash) (subst AreBytes (sym (take-append-drop t.address flash)) fits)
 
     by : IsAttemptOver part flash t → AreBytes t.bytes
-    by (inl first) = all_prefix (λ b. b < 256) t.bytes first.rest (subst AreBytes first.taken behind)
-    by (inr out) = subst AreBytes (sym out.taken) (all_take (λ b. b < 256) (taken_of part t.kept (drop t.address flash)) (drop t.address flash) behind)
+    by (inl first) = all_prefix (λ b. b < 256) t.bytes first.rest (subst AreBytes first.taken after)
+    by (inr out) = subst AreBytes (sym out.taken) (all_take (λ b. b < 256) (taken_of part t.kept (drop t.address flash)) (drop t.address flash) after)
 
 pub attempt_checked : (part : PartData) (flash : List ℕ) (t : AttemptCourse) → AreBytes flash → IsAttemptOver part flash t → 0 < (end_state part t).phase → HasChecked part t.kept t.bytes
 attempt_checked part flash t fits is late = checked part t.kept t.wrapped t.bytes (trial_fits part flash t fits is) late

@@ -153,9 +153,9 @@ place_in at pages page bytes has e f =
 
 -- ---- in an attempt
 
-pub pages_of : (known told : Option (List ℕ)) (extent size : ℕ) (pages : Pages) → told ≡ known → size ≡ extent → ArePages told size pages → ArePages known extent pages
-pages_of known told extent size pages e f are page c =
-    subst (λ (k : Option (List ℕ)). IsRest k extent (page.0 * page_size) page.1.items) e (subst (λ (n : ℕ). IsRest told n (page.0 * page_size) page.1.items) f (are page c))
+pub pages_of : (known known_now : Option (List ℕ)) (extent size : ℕ) (pages : Pages) → known_now ≡ known → size ≡ extent → ArePages known_now size pages → ArePages known extent pages
+pages_of known known_now extent size pages e f are page c =
+    subst (λ (k : Option (List ℕ)). IsRest k extent (page.0 * page_size) page.1.items) e (subst (λ (n : ℕ). IsRest known_now n (page.0 * page_size) page.1.items) f (are page c))
 
 pub rest_known : (known : Option (List ℕ)) (extent at : ℕ) (page : List ℕ) → at < extent → IsRest known extent at page → IfKnown known (λ all. page ≡ slice_range all at (at + length page))
 rest_known known extent at page within r =
@@ -205,9 +205,9 @@ from_block known extent at count block lent within some b e =
     subst (AreFrom known extent at) (sym (take_rest lent (at % page_size) ∙ ap (drop (at % page_size)) e)) from
 
 -- what was loaded from a flash whose bytes and size are these
-pub loaded_from : (known told : Option (List ℕ)) (extent size number : ℕ) (block : List ℕ) (loaded : Loaded) → told ≡ known → size ≡ extent → IsLoaded told size number block loaded → IsLoaded known extent number block loaded
-loaded_from known told extent size number block loaded e f read =
-    subst (λ (k : Option (List ℕ)). IsLoaded k extent number block loaded) e (subst (λ (n : ℕ). IsLoaded told n number block loaded) f read)
+pub loaded_from : (known known_now : Option (List ℕ)) (extent size number : ℕ) (block : List ℕ) (loaded : Loaded) → known_now ≡ known → size ≡ extent → IsLoaded known_now size number block loaded → IsLoaded known extent number block loaded
+loaded_from known known_now extent size number block loaded e f read =
+    subst (λ (k : Option (List ℕ)). IsLoaded k extent number block loaded) e (subst (λ (n : ℕ). IsLoaded known_now n number block loaded) f read)
 
 -- a block that was read reaches the place for which it was
 pub reaches : (known : Option (List ℕ)) (extent at : ℕ) (block : List ℕ) (loaded : Loaded) → at < extent → IsLoaded known extent (at / page_size) block loaded → BlockReaches at block loaded

@@ -120,7 +120,7 @@ joined_known (Some all) bytes page a b c l m e f = ap (λ (x : List ℕ). x ++ p
 
 pub feeds_on : (part : PartData) (kept : Kept) (address : ℕ) (known : Option (List ℕ)) (d new : DeviceState) (page : List ℕ) (at end : ℕ) (step : Step) → at + length page ≡ end → (f : Feeds (attempt_at part kept address) known d at)
     → IfKnown known (λ all. page ≡ slice_range all at end) → Took (past_in_flash part kept f.bytes) new page step → step ≡ Goes → Feeds (attempt_at part kept address) known new end
-feeds_on part kept address known d new page at end step sum f told t goes =
+feeds_on part kept address known d new page at end step sum f knows t goes =
     let whole : t.count ≡ length page = t.all goes in
     let all : take t.count page ≡ page = ap (λ (n : ℕ). take n page) whole ∙ take_all (length page) page (omega arith) in
     let steps : StepsTo part kept (f.bytes ++ page) Goes = subst (λ (s : Step). StepsTo part kept (f.bytes ++ page) s) goes (subst (λ (b : List ℕ). StepsTo part kept (f.bytes ++ b) step) all t.steps) in
@@ -133,7 +133,7 @@ feeds_on part kept address known d new page at end step sum f told t goes =
       open_end = steps.1;
       due = t.due;
       count = omega (arith, count, long, sum);
-      read = joined_known known f.bytes page address at end (omega (arith, count)) (omega (arith, sum)) f.read told;
+      read = joined_known known f.bytes page address at end (omega (arith, count)) (omega (arith, sum)) f.read knows;
       none = subst (λ (b : List ℕ). (k : ℕ) → k < length (f.bytes ++ b) → ending_at part kept (take k (f.bytes ++ b)) ≡ None) all (none_joined part kept f.bytes page t.count t.within f.none t.none);
     }
 
@@ -157,11 +157,11 @@ none_of part kept from bytes rest e none k l =
 -- the attempt of a page that ends it
 pub tries_ended : (part : PartData) (kept : Kept) (address : ℕ) (all : List ℕ) (d new : DeviceState) (page : List ℕ) (at end : ℕ) (step : Step) (e : Ending) → at ≤ end → (f : Feeds (attempt_at part kept address) (Some all) d at)
     → page ≡ slice_range all at end → Took (past_in_flash part kept f.bytes) new page step → step ≡ Ends e → AttemptEnds (attempt_at part kept address) all new e
-tries_ended part kept address all d new page at end step e order f told t is =
+tries_ended part kept address all d new page at end step e order f knows t is =
     let bytes : List ℕ = f.bytes ++ take t.count page in
     let count : address + length f.bytes ≡ at = f.count in
     let rest : List ℕ = drop t.count page ++ drop (end - address) (drop address all) in
-    let from : drop address all ≡ bytes ++ rest = flash_from all f.bytes page address at end t.count (omega (arith, count)) order t.within f.read told in
+    let from : drop address all ≡ bytes ++ rest = flash_from all f.bytes page address at end t.count (omega (arith, count)) order t.within f.read knows in
     let ends : ending_at part kept bytes ≡ Some e = subst (λ (s : Step). StepsTo part kept bytes s) is t.steps in
     let course : AttemptCourse = record { kept = kept; address = address; bytes = bytes; wrapped = false; ending = e } in
     record {
@@ -219,11 +219,11 @@ taken_stopped part kept d from bytes rest e fits stands some = by (stop_in part 
 -- the attempt of a page in which the device stopped, where the flash has ended for it
 pub tries_stopped : (part : PartData) (kept : Kept) (address : ℕ) (all : List ℕ) (d new wrapped : DeviceState) (page : List ℕ) (at end : ℕ) (step : Step) → AreBytes all → at ≤ end → (f : Feeds (attempt_at part kept address) (Some all) d at)
     → page ≡ slice_range all at end → (t : Took (past_in_flash part kept f.bytes) new page step) → step ≡ Stops → DeviceStandsFor part kept true wrapped (f.bytes ++ take t.count page) → AttemptEnds (attempt_at part kept address) all wrapped (Failed Wrap)
-tries_stopped part kept address all d new wrapped page at end step fits order f told t is w =
+tries_stopped part kept address all d new wrapped page at end step fits order f knows t is w =
     let bytes : List ℕ = f.bytes ++ take t.count page in
     let count : address + length f.bytes ≡ at = f.count in
     let rest : List ℕ = drop t.count page ++ drop (end - address) (drop address all) in
-    let from : drop address all ≡ bytes ++ rest = flash_from all f.bytes page address at end t.count (omega (arith, count)) order t.within f.read told in
+    let from : drop address all ≡ bytes ++ rest = flash_from all f.bytes page address at end t.count (omega (arith, count)) order t.within f.read knows in
     let stopped : StepsTo part kept bytes Stops = subst (λ (s : Step). StepsTo part kept bytes s) is t.steps in
     let fits' : AreBytes (bytes ++ rest) = subst AreBytes from (all_back (λ b. b < 256) (take address all) (drop address all) (subst AreBytes (sym (take-append-drop address all)) fits)) in
     record {
@@ -273,21 +273,21 @@ tries_out part kept address all d wrapped at f past w =
 
 pub known_out : (part : PartData) (kept : Kept) (address : ℕ) (known : Option (List ℕ)) (d wrapped : DeviceState) (at size : ℕ) (e : Ending) → (f : Feeds (attempt_at part kept address) known d at) → size ≤ at
     → IfKnown known (λ all. size ≡ length all) → DeviceStandsFor part kept true wrapped f.bytes → e ≡ Failed Wrap → IfKnown known (λ all. AreBytes all → AttemptEnds (attempt_at part kept address) all wrapped e)
-known_out part kept address None d wrapped at size e f past told w is = tt
-known_out part kept address (Some all) d wrapped at size e f past told w is =
-    λ fits. subst (λ (x : Ending). AttemptEnds (attempt_at part kept address) all wrapped x) (sym is) (tries_out part kept address all d wrapped at f (omega (arith, past, told)) w)
+known_out part kept address None d wrapped at size e f past knows w is = tt
+known_out part kept address (Some all) d wrapped at size e f past knows w is =
+    λ fits. subst (λ (x : Ending). AttemptEnds (attempt_at part kept address) all wrapped x) (sym is) (tries_out part kept address all d wrapped at f (omega (arith, past, knows)) w)
 
 pub known_ended : (part : PartData) (kept : Kept) (address : ℕ) (known : Option (List ℕ)) (d new : DeviceState) (page : List ℕ) (at : ℕ) (step : Step) (e : Ending) → (f : Feeds (attempt_at part kept address) known d at)
     → IfKnown known (λ all. page ≡ slice_range all at (at + length page)) → Took (past_in_flash part kept f.bytes) new page step → step ≡ Ends e → IfKnown known (λ all. AreBytes all → AttemptEnds (attempt_at part kept address) all new e)
-known_ended part kept address None d new page at step e f told t is = tt
-known_ended part kept address (Some all) d new page at step e f told t is = λ fits. tries_ended part kept address all d new page at (at + length page) step e (omega arith) f told t is
+known_ended part kept address None d new page at step e f knows t is = tt
+known_ended part kept address (Some all) d new page at step e f knows t is = λ fits. tries_ended part kept address all d new page at (at + length page) step e (omega arith) f knows t is
 
 pub known_stopped : (part : PartData) (kept : Kept) (address : ℕ) (known : Option (List ℕ)) (d new wrapped : DeviceState) (page : List ℕ) (at : ℕ) (step : Step) (e : Ending) → (f : Feeds (attempt_at part kept address) known d at)
     → IfKnown known (λ all. page ≡ slice_range all at (at + length page)) → (t : Took (past_in_flash part kept f.bytes) new page step) → step ≡ Stops → DeviceStandsFor part kept true wrapped (f.bytes ++ take t.count page) → e ≡ Failed Wrap
     → IfKnown known (λ all. AreBytes all → AttemptEnds (attempt_at part kept address) all wrapped e)
-known_stopped part kept address None d new wrapped page at step e f told t is w failed = tt
-known_stopped part kept address (Some all) d new wrapped page at step e f told t is w failed =
-    λ fits. subst (λ (x : Ending). AttemptEnds (attempt_at part kept address) all wrapped x) (sym failed) (tries_stopped part kept address all d new wrapped page at (at + length page) step fits (omega arith) f told t is w)
+known_stopped part kept address None d new wrapped page at step e f knows t is w failed = tt
+known_stopped part kept address (Some all) d new wrapped page at step e f knows t is w failed =
+    λ fits. subst (λ (x : Ending). AttemptEnds (attempt_at part kept address) all wrapped x) (sym failed) (tries_stopped part kept address all d new wrapped page at (at + length page) step fits (omega arith) f knows t is w)
 
 -- a device that stopped, where the flash may end
 pub stops_here : (part : PartData) (kept : Kept) (d : DeviceState) (bytes page : List ℕ) (step : Step) → (kept.kind ≡ Bench → ⊥) → Took (past_in_flash part kept bytes) d page step → step ≡ Stops → MayWrap d

@@ -78,8 +78,8 @@ unfolding LinesOr OrderOr
 lines_or [] = inl ([], record { texts = refl; fit = tt })
 lines_or (line ∷ lines) = by (has_meaning line) refl (lines_or lines)
   where
-    behind : (bad : FirstBad lines) (orders : List Order) → AreOrders (line ∷ bad.before) orders → FirstBad (line ∷ lines)
-    behind bad orders good = record {
+    later_bad : (bad : FirstBad lines) (orders : List Order) → AreOrders (line ∷ bad.before) orders → FirstBad (line ∷ lines)
+    later_bad bad orders good = record {
       before = line ∷ bad.before;
       bad = bad.bad;
       after = bad.after;
@@ -92,12 +92,12 @@ lines_or (line ∷ lines) = by (has_meaning line) refl (lines_or lines)
     by_order : has_meaning line ≡ true → OrderOr line → LinesOr lines → LinesOr (line ∷ lines)
     by_order e (inr none) rest = inr (record { before = []; bad = line; after = lines; texts = refl; orders = []; good = record { texts = refl; fit = tt }; is_bad = record { meaning = e; no_order = none } })
     by_order e (inl (o, f, is)) (inl (orders, good)) = inl (o ∷ orders, with_order line lines o orders e f is good)
-    by_order e (inl (o, f, is)) (inr bad) = inr (behind bad (o ∷ bad.orders) (with_order line bad.before o bad.orders e f is bad.good))
+    by_order e (inl (o, f, is)) (inr bad) = inr (later_bad bad (o ∷ bad.orders) (with_order line bad.before o bad.orders e f is bad.good))
 
     by : (b : Bool) → has_meaning line ≡ b → LinesOr lines → LinesOr (line ∷ lines)
     by true e rest = by_order e (order_or line) rest
     by false e (inl (orders, good)) = inl (orders, without_meaning line lines orders e good)
-    by false e (inr bad) = inr (behind bad bad.orders (without_meaning line bad.before bad.orders e bad.good))
+    by false e (inr bad) = inr (later_bad bad bad.orders (without_meaning line bad.before bad.orders e bad.good))
 
 pub has_script : (text : List ℕ) → HasScript text
 unfolding LinesOr

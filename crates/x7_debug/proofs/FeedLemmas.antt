@@ -30,7 +30,7 @@ taken_within part kept bytes fits = by (stop_in part kept bytes) refl
     by None e = omega (arith, taken_all part kept bytes e)
     by (Some s) e = omega (arith, taken_stopped part kept bytes s e, (stop_place part kept bytes s fits e).1)
 
--- a front that the device took, where it goes on after it or has stopped at its end
+-- a prefix that the device took, where it goes on after it or has stopped at its end
 all_part : (part : PartData) (kept : Kept) (prefix : List ℕ) → stop_in part kept prefix ≡ None → prefix ≡ take (taken_of part kept prefix) prefix
 all_part part kept prefix e = sym (ap (λ (n : ℕ). take n prefix) (taken_all part kept prefix e) ∙ take-length prefix)
 

@@ -318,13 +318,13 @@ within_still p q stream n m same l within = subst (λ (x : PartData). n ≤ last
 pub none_there : (p : ℕ → Bool) (from n m : ℕ) → m ≡ n + 1 → ((k : ℕ) → from ≤ k → k < n → p k ≡ false) → p n ≡ false → (k : ℕ) → from ≤ k → k < m → p k ≡ false
 none_there p from n m e none here k low high = elim (cases_lt k n) [
   | inl before ↦ none k low before
-  | inr behind ↦ (let same : k ≡ n = omega (arith, e, high, behind) in ap p same ∙ here)
+  | inr after ↦ (let same : k ≡ n = omega (arith, e, high, after) in ap p same ∙ here)
 ]
 
 -- nowhere up to a position, nor between it and another one
 pub none_between : (p : ℕ → Bool) (from n m : ℕ) → ((k : ℕ) → from < k → k ≤ n → p k ≡ false) → ((k : ℕ) → n < k → k < m → p k ≡ false) → (k : ℕ) → from < k → k < m → p k ≡ false
 none_between p from n m first later k low high = elim (cases_lt n k) [
-  | inl behind ↦ later k behind high
+  | inl after ↦ later k after high
   | inr before ↦ first k low before
 ]
 
@@ -332,5 +332,5 @@ none_between p from n m first later k low high = elim (cases_lt n k) [
 pub none_up_to : (p : ℕ → Bool) (from m : ℕ) → ((k : ℕ) → from < k → k < m → p k ≡ false) → p m ≡ false → (k : ℕ) → from < k → k ≤ m → p k ≡ false
 none_up_to p from m none here k low high = elim (cases_lt k m) [
   | inl before ↦ none k low before
-  | inr behind ↦ (let same : k ≡ m = omega (arith, high, behind) in ap p same ∙ here)
+  | inr after ↦ (let same : k ≡ m = omega (arith, high, after) in ap p same ∙ here)
 ]

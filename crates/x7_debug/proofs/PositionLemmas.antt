@@ -39,8 +39,8 @@ same_cause part stream n m le =
 goes_on : (part : PartData) (stream : List ℕ) (n : ℕ) → AreBytes stream → n ≤ length stream → stop_in part on_the_bench (take n stream) ≡ None → n ≤ last_of part stream
 goes_on part stream n fits few none = by (stop_in part on_the_bench stream) refl
   where
-    front : AreBytes (take n stream)
-    front = all_prefix (λ b. b < 256) (take n stream) (drop n stream) (subst (λ b. AreBytes b) (sym (take-append-drop n stream)) fits)
+    prefix : AreBytes (take n stream)
+    prefix = all_prefix (λ b. b < 256) (take n stream) (drop n stream) (subst (λ b. AreBytes b) (sym (take-append-drop n stream)) fits)
 
     by : (o : Option Stopped) → stop_in part on_the_bench stream ≡ o → n ≤ last_of part stream
     by None e = omega (arith, taken_all part on_the_bench stream e, few)
@@ -48,8 +48,8 @@ goes_on part stream n fits few none = by (stop_in part on_the_bench stream) refl
         let first = stop_is_first part on_the_bench stream s fits e in
         elim (cases_lt n s.place) [
           | inl before ↦ omega (arith, taken_stopped part on_the_bench stream s e, before)
-          | inr behind ↦
-              absurd (none-some s.why (sym (no_stop_none part on_the_bench (take n stream) s.place front none first.some (omega (arith, length-take-le n stream few, behind))) ∙ same_cause part stream n s.place behind ∙ first.holds))
+          | inr after ↦
+              absurd (none-some s.why (sym (no_stop_none part on_the_bench (take n stream) s.place prefix none first.some (omega (arith, length-take-le n stream few, after))) ∙ same_cause part stream n s.place after ∙ first.holds))
         ]
 
 -- how many of the first bytes are taken: all, or those up to the last position

@@ -74,9 +74,9 @@ word_after part kept old new register n i w left taken m ws h e l t k r f s =
     subst (λ (x : ℕ). RegistersStandFor part kept new (until (counted_in new.stop x) (entry (Write register w) (n + taken + 4) ∷ prefix)) x) here (f prefix (n + taken) (omega arith) s) in
     let steps : length (payload_steps register ws) ≡ length ws = length-map ws _ in
     let some : i + 1 ≤ length (payload_steps register ws) = omega (arith, steps, l) in
-    let behind : counted_in new.stop m < n + 4 * (i + 1) + 4 = omega (arith, counted_within new.stop m, r, t) in
+    let after : counted_in new.stop m < n + 4 * (i + 1) + 4 = omega (arith, counted_within new.stop m, r, t) in
     let all : until (counted_in new.stop m) (entered_all n (payload_steps register ws) h) ≡ until (counted_in new.stop m) (entry (Write register w) (n + taken + 4) ∷ prefix) =
-    prefix_until n (i + 1) (counted_in new.stop m) (payload_steps register ws) h some behind
+    prefix_until n (i + 1) (counted_in new.stop m) (payload_steps register ws) h some after
     ∙ ap (λ t. until (counted_in new.stop m) (entered_all n t h)) (take-map _ (i + 1) ws)
     ∙ ap (until (counted_in new.stop m)) (sym (word_entered register n i w taken ws h e l t)) in
     subst (λ (x : History). RegistersStandFor part kept new x m) (sym all) one

@@ -36,12 +36,12 @@ nothing_more : {A : Type 0} (xs ys : List A) (y : A) → [] ≡ xs ++ y ∷ ys �
 nothing_more [] ys y e = cc
 nothing_more (x ∷ xs) ys y e = cc
 
-few : (part : PartData) (h : History) (told : List ℕ) (words : Due) → [] ≡ told ++ words_left part h words → due_count words ≡ 0
-few part h told due.Nothing e = refl
-few part h told (due.Same word zero) e = refl
-few part h told (due.Same word (suc n)) e = absurd (nothing_more told (replicate n word) word e)
-few part h told (due.Frames zero) e = refl
-few part h told (due.Frames (suc n)) e = absurd (nothing_more told _ _ e)
+few : (part : PartData) (h : History) (known : List ℕ) (words : Due) → [] ≡ known ++ words_left part h words → due_count words ≡ 0
+few part h known due.Nothing e = refl
+few part h known (due.Same word zero) e = refl
+few part h known (due.Same word (suc n)) e = absurd (nothing_more known (replicate n word) word e)
+few part h known (due.Frames zero) e = refl
+few part h known (due.Frames (suc n)) e = absurd (nothing_more known _ _ e)
 
 pub none_due_at_first : (part : PartData) (kept : Kept) (wrapped : Bool) (d : DeviceState) → DeviceStandsFor part kept wrapped d [] → NoWordDue d
 none_due_at_first part kept wrapped d s = few part (history_taken part kept []) s.due_are.given d.registers.due s.due_are.all

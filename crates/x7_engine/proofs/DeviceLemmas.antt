@@ -33,14 +33,14 @@ one_sync Mode.Due = omega arith
 one_sync Mode.Synced = omega arith
 
 -- the words given, where all that is read out are these and some more that are due
-prefix_given : (told rest : List ℕ) (due : ℕ) → length rest ≡ due → take (length (told ++ rest) - due) (told ++ rest) ≡ told
-prefix_given told rest due e =
-    let count : length (told ++ rest) - due ≡ length told = omega (arith, length-append told rest, e) in
-    ap (λ (n : ℕ). take n (told ++ rest)) count ∙ take-append_seam told rest
+prefix_given : (known rest : List ℕ) (due : ℕ) → length rest ≡ due → take (length (known ++ rest) - due) (known ++ rest) ≡ known
+prefix_given known rest due e =
+    let count : length (known ++ rest) - due ≡ length known = omega (arith, length-append known rest, e) in
+    ap (λ (n : ℕ). take n (known ++ rest)) count ∙ take-append_seam known rest
 
-pub given_by : (part : PartData) (kept : Kept) (d : DeviceState) (bytes told : List ℕ) (h : History) → reads_of part kept bytes ≡ told ++ words_left part h d.registers.due → reads_given part kept d bytes ≡ told
-given_by part kept d bytes told h e =
-    ap (λ (t : List ℕ). take (length t - due_count d.registers.due) t) e ∙ prefix_given told (words_left part h d.registers.due) (due_count d.registers.due) (length_left part h d.registers.due)
+pub given_by : (part : PartData) (kept : Kept) (d : DeviceState) (bytes known : List ℕ) (h : History) → reads_of part kept bytes ≡ known ++ words_left part h d.registers.due → reads_given part kept d bytes ≡ known
+given_by part kept d bytes known h e =
+    ap (λ (t : List ℕ). take (length t - due_count d.registers.due) t) e ∙ prefix_given known (words_left part h d.registers.due) (due_count d.registers.due) (length_left part h d.registers.due)
 
 -- a part of a piece, cut at a place in it
 pub between_prefix : (piece : List ℕ) (from at left : ℕ) → from ≤ at - left → between piece from at ≡ between piece from (at - left) ++ drop (at - left - from) (between piece from at)
@@ -145,7 +145,7 @@ turned part kept wrapped d e bytes cut more rest run count left room s going wen
     ∙ ap (λ (x : History). read_out part kept x ++ words_left part (until (counted_in e.registers.stop (length bytes + (count - left))) all) e.registers.due) (sym old) in
     let here_read : read_out part kept counted ≡ reads_of part kept bytes ++ words_left part counted e.registers.due =
     subst (λ (x : ℕ). read_out part kept (until (counted_in e.registers.stop x) all) ≡ reads_of part kept bytes ++ words_left part (until (counted_in e.registers.stop x) all) e.registers.due) count_is first in
-    let told : reads_of part kept (bytes ++ more) ≡ reads_of part kept bytes ++ words_left part (history_taken part kept (bytes ++ more)) e.registers.due =
+    let known : reads_of part kept (bytes ++ more) ≡ reads_of part kept bytes ++ words_left part (history_taken part kept (bytes ++ more)) e.registers.due =
     subst (λ (x : History). read_out part kept x ≡ reads_of part kept bytes ++ words_left part x e.registers.due) (sym new) here_read in (
       record {
         fits = here;
@@ -155,8 +155,8 @@ turned part kept wrapped d e bytes cut more rest run count left room s going wen
         stop_is = stops;
         registers_are = subst (λ (x : History). RegistersStandFor part kept e.registers x m) (sym new) after;
         cutter_is = λ o. record { sessions = w.new_sessions; place = w.new_place; stands = subst (λ (x : List ℕ). CutterStandsFor e.cutter (bytes ++ x) w.new_sessions w.new_place) (sym (no_rest cut more rest j (l ∙ g o))) w.stands };
-        due_are = record { given = reads_of part kept bytes; all = told };
+        due_are = record { given = reads_of part kept bytes; all = known };
         at_rest = q;
       },
-      told,
+      known,
     )

@@ -27,14 +27,14 @@ use Rattle.x7_engine.proofs.FrameLemmas.{frames_at, frames_of, goes_on}
 pub given : (part : PartData) (kept : Kept) (wrapped : Bool) (d : DeviceState) (r : RegistersState) (bytes : List ℕ) (old new : ReadBufState) → d.registers.stop ≡ None → r.stop ≡ None → DeviceStandsFor part kept wrapped d bytes
     → Gave (course_at part kept (history_taken part kept bytes) (length bytes)) d.registers r old new → Gives (record { part = part; kept = kept; wrapped = wrapped; bytes = bytes }) d (record d { registers = r }) old new
 given part kept wrapped d r bytes old new going on s g =
-    let told : List ℕ = s.due_are.given in
+    let known : List ℕ = s.due_are.given in
     let h : History = history_taken part kept bytes in
     let e : DeviceState = record d { registers = r } in
-    let all : reads_of part kept bytes ≡ (told ++ g.more) ++ words_left part h r.due = s.due_are.all ∙ ap (λ t. told ++ t) g.words_are ∙ sym (append_assoc told g.more (words_left part h r.due)) in
+    let all : reads_of part kept bytes ≡ (known ++ g.more) ++ words_left part h r.due = s.due_are.all ∙ ap (λ t. known ++ t) g.words_are ∙ sym (append_assoc known g.more (words_left part h r.due)) in
     record {
       more = g.more;
       read_is = g.read_is;
-      given_are = given_by part kept e bytes (told ++ g.more) h all ∙ ap (λ t. t ++ g.more) (sym (given_by part kept d bytes told h s.due_are.all));
+      given_are = given_by part kept e bytes (known ++ g.more) h all ∙ ap (λ t. t ++ g.more) (sym (given_by part kept d bytes known h s.due_are.all));
       stands = record {
         fits = s.fits;
         part_is = s.part_is;
@@ -43,7 +43,7 @@ given part kept wrapped d r bytes old new going on s g =
         stop_is = s.stop_is ∙ ap (stopped_at (length bytes)) (going ∙ sym on);
         registers_are = g.stands;
         cutter_is = λ o. s.cutter_is going;
-        due_are = record { given = told ++ g.more; all = all };
+        due_are = record { given = known ++ g.more; all = all };
         at_rest = λ why q. absurd (none-some _ (sym on ∙ q));
       };
     }
@@ -86,22 +86,22 @@ pub given_on : (part : PartData) (kept : Kept) (wrapped : Bool) (d e : DeviceSta
 given_on part kept wrapped d e bytes piece from to l f s = sym (ap (reads_given part kept e) (taken_more bytes piece from to l)) ∙ f (bytes ++ take from piece) s
 
 -- the words given before, and those that are given now
-pub now_given : (part : PartData) (kept : Kept) (wrapped : Bool) (d e : DeviceState) (first read next : ReadBufState) (taken told : List ℕ) → Gives (record { part = part; kept = kept; wrapped = wrapped; bytes = taken }) d e read next
-    → ((more : List ℕ) × (read ≡ with_words first more) × (reads_given part kept d taken ≡ told ++ more))
-    → (more : List ℕ) × (next ≡ with_words first more) × (reads_given part kept e taken ≡ told ++ more)
-now_given part kept wrapped d e first read next taken told g m = (
+pub now_given : (part : PartData) (kept : Kept) (wrapped : Bool) (d e : DeviceState) (first read next : ReadBufState) (taken known : List ℕ) → Gives (record { part = part; kept = kept; wrapped = wrapped; bytes = taken }) d e read next
+    → ((more : List ℕ) × (read ≡ with_words first more) × (reads_given part kept d taken ≡ known ++ more))
+    → (more : List ℕ) × (next ≡ with_words first more) × (reads_given part kept e taken ≡ known ++ more)
+now_given part kept wrapped d e first read next taken known g m = (
   m.0 ++ g.more,
   g.read_is ∙ ap (λ (b : ReadBufState). with_words b g.more) m.1 ∙ words_append first m.0 g.more,
-  g.given_are ∙ ap (λ t. t ++ g.more) m.2 ∙ append_assoc told m.0 g.more,
+  g.given_are ∙ ap (λ t. t ++ g.more) m.2 ∙ append_assoc known m.0 g.more,
 )
 
 -- the words given once a run more is taken, which gives none
-pub read_here : (part : PartData) (kept : Kept) (wrapped : Bool) (old new next : DeviceState) (first read last : ReadBufState) (bytes piece told : List ℕ) (from to : ℕ) → Gives (record { part = part; kept = kept; wrapped = wrapped; bytes = bytes ++ take from piece }) old new read last → from ≤ to
+pub read_here : (part : PartData) (kept : Kept) (wrapped : Bool) (old new next : DeviceState) (first read last : ReadBufState) (bytes piece known : List ℕ) (from to : ℕ) → Gives (record { part = part; kept = kept; wrapped = wrapped; bytes = bytes ++ take from piece }) old new read last → from ≤ to
     → ((b : List ℕ) → DeviceStandsFor part kept wrapped new b → reads_given part kept next (b ++ between piece from to) ≡ reads_given part kept new b)
-    → ((more : List ℕ) × (read ≡ with_words first more) × (reads_given part kept old (bytes ++ take from piece) ≡ told ++ more))
-    → (more : List ℕ) × (last ≡ with_words first more) × (reads_given part kept next (bytes ++ take to piece) ≡ told ++ more)
-read_here part kept wrapped old new next first read last bytes piece told from to g f t m =
-    let now : (more : List ℕ) × (last ≡ with_words first more) × (reads_given part kept new (bytes ++ take from piece) ≡ told ++ more) = now_given part kept wrapped old new first read last (bytes ++ take from piece) told g m in
+    → ((more : List ℕ) × (read ≡ with_words first more) × (reads_given part kept old (bytes ++ take from piece) ≡ known ++ more))
+    → (more : List ℕ) × (last ≡ with_words first more) × (reads_given part kept next (bytes ++ take to piece) ≡ known ++ more)
+read_here part kept wrapped old new next first read last bytes piece known from to g f t m =
+    let now : (more : List ℕ) × (last ≡ with_words first more) × (reads_given part kept new (bytes ++ take from piece) ≡ known ++ more) = now_given part kept wrapped old new first read last (bytes ++ take from piece) known g m in
     (now.0, now.1, given_on part kept wrapped new next bytes piece from to f t g.stands ∙ now.2)
 
 -- what is answered for a stop

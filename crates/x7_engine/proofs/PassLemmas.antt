@@ -65,7 +65,7 @@ passed part kept wrapped d e bytes cut more rest count left s going quiet idles 
     ap (λ o. history_by o (history_of (bytes ++ more))) stops
     ∙ ap (history_by (stopped_at m e.registers.stop)) (prefix ∙ sym (until_placed m h (placed_within (length bytes) m h (omega (arith, length-append bytes more)) placed)))
     ∙ history_until e.registers.stop m h ∙ all in
-    let told : reads_of part kept (bytes ++ more) ≡ reads_of part kept bytes = ap (read_out part kept) new ∙ ap (read_out part kept) (sym old) in (
+    let known : reads_of part kept (bytes ++ more) ≡ reads_of part kept bytes = ap (read_out part kept) new ∙ ap (read_out part kept) (sym old) in (
       record {
         fits = here;
         part_is = p ∙ s.part_is;
@@ -79,10 +79,10 @@ passed part kept wrapped d e bytes cut more rest count left s going quiet idles 
           stands = subst (λ (x : CutterState). CutterStandsFor x (bytes ++ more) cutter.sessions i.new_place) (sym c)
               (subst (λ (x : List ℕ). CutterStandsFor d.cutter (bytes ++ x) cutter.sessions i.new_place) (sym (no_rest cut more rest j (l ∙ g o))) i.stands);
         };
-        due_are = record { given = reads_of part kept bytes; all = told ∙ none_due (reads_of part kept bytes) part (history_taken part kept (bytes ++ more)) e.registers.due due };
+        due_are = record { given = reads_of part kept bytes; all = known ∙ none_due (reads_of part kept bytes) part (history_taken part kept (bytes ++ more)) e.registers.due due };
         at_rest = λ why o. due;
       },
-      told,
+      known,
       prefix,
     )
 

@@ -120,8 +120,8 @@ reads_on part kept bytes more fits all none =
     by newer e a (Some t) s =
         let long : length bytes ≤ length (bytes ++ more) = omega (arith, length-append bytes more) in
         let at : stop_of part kept (newer ++ history_of bytes) (length (bytes ++ more)) ≡ Some t = ap (λ (x : History). stop_of part kept x (length (bytes ++ more))) (sym e) ∙ s in
-        let behind : length bytes < t.place = newer_stop part kept newer (history_of bytes) (length bytes) (length (bytes ++ more)) (length (bytes ++ more)) t a long none at in
-        let prefix = until_prefix (length bytes) (length (bytes ++ more)) (last_counted t.why t.place) newer (history_of bytes) (placed_of bytes fits) (counted_most t.why t.place (length bytes) behind) in
+        let after : length bytes < t.place = newer_stop part kept newer (history_of bytes) (length bytes) (length (bytes ++ more)) (length (bytes ++ more)) t a long none at in
+        let prefix = until_prefix (length bytes) (length (bytes ++ more)) (last_counted t.why t.place) newer (history_of bytes) (placed_of bytes fits) (counted_most t.why t.place (length bytes) after) in
         (prefix.0, ap (λ (o : Option Stopped). history_by o (history_of (bytes ++ more))) s ∙ ap (λ (x : History). until (last_counted t.why t.place) x) e ∙ prefix.1)
 
 pub reads_grow : (part : PartData) (kept : Kept) (bytes more : List ℕ) → AreBytes (bytes ++ more) → (rest : List ℕ) × (reads_of part kept (bytes ++ more) ≡ reads_of part kept bytes ++ rest)

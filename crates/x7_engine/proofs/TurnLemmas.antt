@@ -59,8 +59,8 @@ until_until k m (e ∷ h) l = by (until_until k m h l) (nat_lt m e.place) refl
   where
     by : until k (until m h) ≡ until k h → (b : Bool) → nat_lt m e.place ≡ b → until k (if b then until m h else e ∷ h) ≡ until k (e ∷ h)
     by i true f =
-        let behind : m < e.place = grind (arith, nat_tests, f) in
-        i ∙ sym (ap (λ (b : Bool). if b then until k h else e ∷ h) (lt-ltb k e.place (omega (arith, l, behind))))
+        let after : m < e.place = grind (arith, nat_tests, f) in
+        i ∙ sym (ap (λ (b : Bool). if b then until k h else e ∷ h) (lt-ltb k e.place (omega (arith, l, after))))
     by i false f = refl
 
 -- ---- the stop at the last byte taken

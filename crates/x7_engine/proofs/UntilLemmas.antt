@@ -150,15 +150,15 @@ run_commands c n bytes cut sessions place run left s w r i = λ k l.
     quieter_run run from (length bytes) (length cut) m (history_of bytes) (placed_of bytes here) (omega (arith, count)) (omega (arith, count, l)) r (ends_words c n bytes cut sessions place run left s w r i) in
     (q.0, prefix ∙ q.1, q.2)
 
--- the front of such bytes
+-- the prefix of such bytes
 pub prefix_commands : (bytes cut more rest : List ℕ) → cut ≡ more ++ rest → CommandsLast bytes cut → CommandsLast bytes more
 prefix_commands bytes cut more rest e f = λ k l.
     let longer : length cut ≡ length more + length rest = ap length e ∙ length-append more rest in
-    let same : take k cut ≡ take k more = ap (take k) e ∙ take_front k more rest (omega (arith, l)) in
+    let same : take k cut ≡ take k more = ap (take k) e ∙ take_prefix k more rest (omega (arith, l)) in
     subst (λ (t : List ℕ). IsQuieter (history_of bytes) (history_of (bytes ++ t))) same (f k (omega (arith, l, longer)))
   where
-    take_front : (k : ℕ) (a b : List ℕ) → k ≤ length a → take k (a ++ b) ≡ take k a
-    take_front k a b l =
+    take_prefix : (k : ℕ) (a b : List ℕ) → k ≤ length a → take k (a ++ b) ≡ take k a
+    take_prefix k a b l =
         let all : take (length a) (a ++ b) ≡ a = take-append_seam a b in
         sym (take-take k (length a) (a ++ b) l) ∙ ap (take k) all
 
@@ -178,11 +178,11 @@ then_commands bytes quiet more fits e f = λ k l. elim (cases_lt k (length quiet
   | inl before ↦
       let same : take k (quiet ++ more) ≡ take k quiet = ap (take k) refl ∙ prefix k before in
       subst (λ (t : List ℕ). IsQuieter (history_of bytes) (history_of (bytes ++ t))) (sym same) (quiet_commands bytes quiet fits e k before)
-  | inr behind ↦
+  | inr after ↦
       let j : ℕ = k - length quiet in
-      let sum : length quiet + j ≡ k = omega (arith, behind) in
+      let sum : length quiet + j ≡ k = omega (arith, after) in
       let all : length (quiet ++ more) ≡ length quiet + length more = length-append quiet more in
-      let q : IsQuieter (history_of (bytes ++ quiet)) (history_of ((bytes ++ quiet) ++ take j more)) = f j (omega (arith, l, all, behind)) in
+      let q : IsQuieter (history_of (bytes ++ quiet)) (history_of ((bytes ++ quiet) ++ take j more)) = f j (omega (arith, l, all, after)) in
       let place : (bytes ++ quiet) ++ take j more ≡ bytes ++ take k (quiet ++ more) =
       append_assoc bytes quiet (take j more) ∙ ap (λ (t : List ℕ). bytes ++ t) (sym (back j) ∙ ap (λ (i : ℕ). take i (quiet ++ more)) sum) in
       (q.0, ap history_of (sym place) ∙ q.1 ∙ ap (λ (h : History). q.0 ++ h) e, q.2)
@@ -271,7 +271,7 @@ none_started part kept wrapped d bytes more going s not f b = λ k l.
 
 -- ---- turns of a piece
 
--- a part of a piece's front is that part of the piece
+-- a part of a piece's prefix is that part of the piece
 pub between_before : (piece : List ℕ) (end from to : ℕ) → from ≤ to → to ≤ end → between (take end piece) from to ≡ between piece from to
 between_before piece end from to l m =
     let sum : from + (end - from) ≡ end = omega (arith, l, m) in
@@ -308,11 +308,11 @@ pub holds_on : (P : List ℕ → Type 0) (bytes piece : List ℕ) (from to : ℕ
     → ((k : ℕ) → k < to - from → P ((bytes ++ take from piece) ++ take k (between piece from to))) → (k : ℕ) → k < to → P (bytes ++ take k piece)
 holds_on P bytes piece from to l f g k m = elim (cases_lt k from) [
   | inl before ↦ f k before
-  | inr behind ↦
+  | inr after ↦
       let j : ℕ = k - from in
-      let here : take j (between piece from to) ≡ between piece from k = take-take j (to - from) (drop from piece) (omega (arith, m, behind)) in
-      let all : (bytes ++ take from piece) ++ take j (between piece from to) ≡ bytes ++ take k piece = ap (λ (t : List ℕ). (bytes ++ take from piece) ++ t) here ∙ taken_more bytes piece from k behind in
-      subst P all (g j (omega (arith, m, behind)))
+      let here : take j (between piece from to) ≡ between piece from k = take-take j (to - from) (drop from piece) (omega (arith, m, after)) in
+      let all : (bytes ++ take from piece) ++ take j (between piece from to) ≡ bytes ++ take k piece = ap (λ (t : List ℕ). (bytes ++ take from piece) ++ t) here ∙ taken_more bytes piece from k after in
+      subst P all (g j (omega (arith, m, after)))
 ]
 
 pub none_on : (part : PartData) (kept : Kept) (bytes piece : List ℕ) (from to : ℕ) → from ≤ to → NoneStarted part kept bytes piece from → NoneStarted part kept (bytes ++ take from piece) (between piece from to) (to - from) → NoneStarted part kept bytes piece to

@@ -64,11 +64,11 @@ room_for b more f = by b.most b.words more f
     by (Some most) words more f = omega (arith, f, length-append words more)
 
 -- the words given before and those that the buffer has got, at each byte of a turn but its last
-pub room_read_on : (part : PartData) (kept : Kept) (wrapped : Bool) (d e : DeviceState) (first read : ReadBufState) (bytes piece told : List ℕ) (from to : ℕ) → from ≤ to → to ≤ length piece → d.registers.stop ≡ None → NoWordDue d
+pub room_read_on : (part : PartData) (kept : Kept) (wrapped : Bool) (d e : DeviceState) (first read : ReadBufState) (bytes piece known : List ℕ) (from to : ℕ) → from ≤ to → to ≤ length piece → d.registers.stop ≡ None → NoWordDue d
     → DeviceStandsFor part kept wrapped d (bytes ++ take from piece) → DeviceStandsFor part kept wrapped e ((bytes ++ take from piece) ++ between piece from to) → CommandsLast (bytes ++ take from piece) (between piece from to)
-    → HoldsWithinMost read.most read.words → ((more : List ℕ) × (read ≡ with_words first more) × (reads_given part kept d (bytes ++ take from piece) ≡ told ++ more))
-    → RoomBefore (record { part = part; kept = kept; wrapped = wrapped; bytes = bytes }) piece from told first → RoomBefore (record { part = part; kept = kept; wrapped = wrapped; bytes = bytes }) piece to told first
-room_read_on part kept wrapped d e first read bytes piece told from to l m going due s after f few now before = λ k n. elim (cases_lt k from) [
+    → HoldsWithinMost read.most read.words → ((more : List ℕ) × (read ≡ with_words first more) × (reads_given part kept d (bytes ++ take from piece) ≡ known ++ more))
+    → RoomBefore (record { part = part; kept = kept; wrapped = wrapped; bytes = bytes }) piece from known first → RoomBefore (record { part = part; kept = kept; wrapped = wrapped; bytes = bytes }) piece to known first
+room_read_on part kept wrapped d e first read bytes piece known from to l m going due s after f few now before = λ k n. elim (cases_lt k from) [
   | inl less ↦ before k less
   | inr more ↦ (
     now.0,

@@ -94,7 +94,7 @@ write_taken part kept wrapped d e bytes rest register w s going begun limit one 
     ∙ ap (history_by (stopped_at (length all) e.registers.stop)) (is.history ∙ sym (until_placed (length all) longer here.places))
     ∙ history_until e.registers.stop (length all) longer
     ∙ ap (λ (k : ℕ). until k longer) (counts (length all)) ∙ until_placed (length all) longer here.places in
-    let told : reads_of part kept all ≡ reads_of part kept bytes = ap (read_out part kept) taken ∙ append-nil (read_out part kept h) ∙ ap (read_out part kept) (sym old) in (
+    let known : reads_of part kept all ≡ reads_of part kept bytes = ap (read_out part kept) taken ∙ append-nil (read_out part kept h) ∙ ap (read_out part kept) (sym old) in (
       record {
         fits = is.fits;
         part_is = p ∙ s.part_is;
@@ -103,10 +103,10 @@ write_taken part kept wrapped d e bytes rest register w s going begun limit one 
         stop_is = stops;
         registers_are = subst (λ (x : History). RegistersStandFor part kept e.registers x (length all)) (sym taken) here;
         cutter_is = λ o. is.cutter;
-        due_are = record { given = reads_of part kept bytes; all = told ∙ none_due (reads_of part kept bytes) part (history_taken part kept all) e.registers.due due };
+        due_are = record { given = reads_of part kept bytes; all = known ∙ none_due (reads_of part kept bytes) part (history_taken part kept all) e.registers.due due };
         at_rest = λ why o. due;
       },
-      told,
+      known,
       written_last bytes (take 8 rest) register w eight is.fits before.places is.history,
     )
 

@@ -52,13 +52,13 @@ quiet_read_at old new file (Ok _) e = ap (λ f. f.faults) e
 quiet_read_at old new file (Err _) e = tt
 
 -- of a read nothing is known
-pub untold_read_at : (answer : Result (Unit {0}) FailedCall) → OnOk answer (Unit {0})
-untold_read_at (Ok _) = tt
-untold_read_at (Err _) = tt
+pub unknown_read_at : (answer : Result (Unit {0}) FailedCall) → OnOk answer (Unit {0})
+unknown_read_at (Ok _) = tt
+unknown_read_at (Err _) = tt
 
 -- a call that writes nothing leaves all that may be found
-pub untold_unwritten : {F : Type 0} → (old new : RealFlash F) → new.write_faults ≡ old.write_faults → Unwritten (known_flash old) (known_flash new) (λ moment found. Unit {0}) (λ moment found. Unit {0})
-untold_unwritten old new e = record { write_faults = e; moments = refl; nothing_else = λ moment found since. tt; keeps = λ moment found since. tt }
+pub unknown_unwritten : {F : Type 0} → (old new : RealFlash F) → new.write_faults ≡ old.write_faults → Unwritten (known_flash old) (known_flash new) (λ moment found. Unit {0}) (λ moment found. Unit {0})
+unknown_unwritten old new e = record { write_faults = e; moments = refl; nothing_else = λ moment found since. tt; keeps = λ moment found since. tt }
 
 -- a read leaves all but the file and the count of faults
 read_keeps : {F A : Type 0} → (part : RealFlash F → A) → ((f : RealFlash F) (file : Option F) (n : ℕ) → part (record f { file = file; faults = n }) ≡ part f) → (old new : RealFlash F) (file : Option F) (answer : Result (Unit {0}) FailedCall)
@@ -77,7 +77,7 @@ only_reads old new answer was is o e rises = record {
   seen = λ place byte h. refl;
   faults = rises;
   absences = read_keeps (λ f. f.absences) (λ f file n. refl) old new new.file answer o e;
-  unwritten = untold_unwritten old new (read_keeps (λ f. f.write_faults) (λ f file n. refl) old new new.file answer o e);
+  unwritten = unknown_unwritten old new (read_keeps (λ f. f.write_faults) (λ f file n. refl) old new new.file answer o e);
 }
 
 -- ---- a write
@@ -129,14 +129,14 @@ only_writes old new answer was is o e rises = record {
 }
 
 -- of a write nothing is known
-pub untold_written : (answer : Result (Unit {0}) FailedCall) (known : Option (List ℕ)) → OnOk answer (known ≡ known)
-untold_written (Ok _) known = refl
-untold_written (Err _) known = tt
+pub unknown_written : (answer : Result (Unit {0}) FailedCall) (known : Option (List ℕ)) → OnOk answer (known ≡ known)
+unknown_written (Ok _) known = refl
+unknown_written (Err _) known = tt
 
-pub untold_torn : (answer : Result (Unit {0}) FailedCall) → OnErr answer (Unit {0})
-untold_torn (Ok _) = tt
-untold_torn (Err _) = tt
+pub unknown_torn : (answer : Result (Unit {0}) FailedCall) → OnErr answer (Unit {0})
+unknown_torn (Ok _) = tt
+unknown_torn (Err _) = tt
 
 -- anything may be found of what isn't known, at any time
-pub untold_passes : Elapses 0 0 (λ moment found. Unit {0}) (λ moment found. Unit {0}) (λ found. Unit {0})
-untold_passes = record { later = omega arith; nothing_else = λ moment found le since. inl tt; keeps = λ moment found le since. tt }
+pub unknown_passes : Elapses 0 0 (λ moment found. Unit {0}) (λ moment found. Unit {0}) (λ found. Unit {0})
+unknown_passes = record { later = omega arith; nothing_else = λ moment found le since. inl tt; keeps = λ moment found le since. tt }

@@ -76,9 +76,9 @@ read_lost old new (Ok _) e = tt
 read_lost old new (Err _) e = let same : new.ends ≡ old.ends = ap (λ f. f.ends) e in omega arith
 
 -- of a read into a buffer nothing is known but its count
-pub untold_read : (answer : Result ℕ FailedRead) (length : ℕ) → IfOk answer (λ n. n ≡ 0 → 0 < length → Unit {0})
-untold_read (Ok n) length = λ _ _. tt
-untold_read (Err _) length = tt
+pub unknown_read : (answer : Result ℕ FailedRead) (length : ℕ) → IfOk answer (λ n. n ≡ 0 → 0 < length → Unit {0})
+unknown_read (Ok n) length = λ _ _. tt
+unknown_read (Err _) length = tt
 
 -- what fits into a buffer fits into it afterwards
 pub within_buffer : (answer : Result ℕ FailedRead) (old new : ℕ) → new ≡ old → IfOk answer (λ n. n ≤ old) → IfOk answer (λ n. n ≤ new)

@@ -221,13 +221,13 @@ letter_late (x ∷ old) rest all n place some e fixed waits waiting h =
 -- no letter at which a header would be refused was given, where the bytes before were read and fewer more were given than are wanted
 pub none_given : (old mid new : InputsState) (bytes all : List ℕ) (n count : ℕ) → 0 < n → count ≤ n → all ≡ bytes → (length all < 13 → length all + n ≡ 13) → (EndsInHeader all → HeaderWaits all n) → (0 < length bytes → EndsInHeader bytes)
     → Reads old bytes mid → new.given < mid.given + count → NoLetterGiven old new
-none_given old mid new bytes all n count some few e fixed waits waiting r g told place is h = by mid.rest refl
+none_given old mid new bytes all n count some few e fixed waits waiting r g known place is h = by mid.rest refl
   where
     by : (rest : Option (List ℕ)) → mid.rest ≡ rest → new.given ≤ old.given + place
-    by None m = let none : None ≡ Some told = ap (preceded bytes) (sym m) ∙ sym r.takes.taken ∙ is in absurd cc
+    by None m = let none : None ≡ Some known = ap (preceded bytes) (sym m) ∙ sym r.takes.taken ∙ is in absurd cc
     by (Some rest) m =
-        let same : Some (bytes ++ rest) ≡ Some told = ap (preceded bytes) (sym m) ∙ sym r.takes.taken ∙ is in
-        let whole : told ≡ bytes ++ rest = cc in
+        let same : Some (bytes ++ rest) ≡ Some known = ap (preceded bytes) (sym m) ∙ sym r.takes.taken ∙ is in
+        let whole : known ≡ bytes ++ rest = cc in
         let late = letter_late bytes rest all n place some e fixed waits waiting (subst (λ (b : List ℕ). HasOtherLetterAt b place) whole h) in
         omega (arith, g, few, r.takes.given, late)
 

@@ -37,7 +37,7 @@ known_all inputs stream taken (Some left) s =
     let same : taken ++ left ≡ s.0 = cc in
     (left, (refl, s.1 ∙ ap Some (sym same)))
 
--- the front of a buffer, where what was read stands after what it held
+-- the prefix of a buffer, where what was read stands after what it held
 pub filled : (xs ys zs : List ℕ) (at n : ℕ) → at ≤ length xs → n ≤ length ys → take (at + length ys) zs ≡ take at xs ++ ys → take (at + n) zs ≡ take at xs ++ take n ys
 filled xs ys zs at n a k e =
     let long : at + n ≤ at + length ys = omega (arith, k) in

@@ -68,10 +68,10 @@ pub unopened_about : (old new : InputsState) (name : List ℕ) (event : Event) �
 unopened_about old new name event (inl h, d) = about_same name event (missing name) h.0 refl
 unopened_about old new name event (inr h, d) = about_same name event (reading_failed name) h.0 refl
 
-pub unfronted_about : (old new : InputsState) (name : List ℕ) (event : Event) → UnreadBeginning old name new event → IsAbout name event
-unfronted_about old new name event (inl e) = inl e
-unfronted_about old new name event (inr (inl h)) = about_same name event (reading_failed name) h.0 refl
-unfronted_about old new name event (inr (inr h)) = about_same name event (bad_input name (input.Byte h.place)) h.is refl
+pub without_prefix_about : (old new : InputsState) (name : List ℕ) (event : Event) → UnreadBeginning old name new event → IsAbout name event
+without_prefix_about old new name event (inl e) = inl e
+without_prefix_about old new name event (inr (inl h)) = about_same name event (reading_failed name) h.0 refl
+without_prefix_about old new name event (inr (inr h)) = about_same name event (bad_input name (input.Byte h.place)) h.is refl
 
 -- ---- where reading stops
 

@@ -142,9 +142,9 @@ head_low : (x : PlanRow) (xs : List PlanRow) (k : ℕ) (d : PlanRow) → AreInOr
 head_low x xs k d order h = order 0 (suc k) d (omega arith) (omega arith)
 
 -- an element of one that is no head is after the other's head
-behind : (x y : PlanRow) (ys : List PlanRow) → Contains (y ∷ ys) x → (x.far ≡ y.far → ⊥) → Contains ys x
-behind x y ys (zero, h, e) n = absurd (n (ap (λ r. r.far) (sym e)))
-behind x y ys (suc k, h, e) n = (k, (omega arith), e)
+after : (x y : PlanRow) (ys : List PlanRow) → Contains (y ∷ ys) x → (x.far ≡ y.far → ⊥) → Contains ys x
+after x y ys (zero, h, e) n = absurd (n (ap (λ r. r.far) (sym e)))
+after x y ys (suc k, h, e) n = (k, (omega arith), e)
 
 -- the head of one list is not below that of the other
 not_below : (x y : PlanRow) (ys : List PlanRow) → AreInOrder (y ∷ ys) → Contains (y ∷ ys) x → y.far ≤ x.far
@@ -165,8 +165,8 @@ same_order (x ∷ xs) (y ∷ ys) a b f g =
     let far : x.far ≡ y.far = omega arith in
     let head : x ≡ y = is_head x y ys b (f 0 x (omega arith)) far in
     let tails : xs ≡ ys = same_order xs ys (order_tail x xs a) (order_tail y ys b)
-    (λ k d h. behind (get_or xs k d) y ys (f (suc k) d (omega arith)) (λ e. let low = head_low x xs k d a h in absurd (omega arith)))
-    (λ k d h. behind (get_or ys k d) x xs (g (suc k) d (omega arith)) (λ e. let low = head_low y ys k d b h in absurd (omega arith))) in
+    (λ k d h. after (get_or xs k d) y ys (f (suc k) d (omega arith)) (λ e. let low = head_low x xs k d a h in absurd (omega arith)))
+    (λ k d h. after (get_or ys k d) x xs (g (suc k) d (omega arith)) (λ e. let low = head_low y ys k d b h in absurd (omega arith))) in
     ap₂ (λ (r : PlanRow) (rs : List PlanRow). r ∷ rs) head tails
 
 pub one_plan : (part : PartData) (text : List ℕ) (p q : PlanData) → Plans part text p → Plans part text q → p ≡ q

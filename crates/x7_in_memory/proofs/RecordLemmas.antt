@@ -23,11 +23,11 @@ writes_of_more [] span [] (y ∷ targets) before target b t h k = absurd (omega 
 writes_of_more (s ∷ spans) span befores targets before target b t h k =
     let n = s.count in
     let prefix : take n (befores ++ before) ≡ take n befores = take-append-le n befores before (omega arith) in
-    let front_target : take n (targets ++ target) ≡ take n targets = take-append-le n targets target (omega arith) in
+    let target_prefix : take n (targets ++ target) ≡ take n targets = take-append-le n targets target (omega arith) in
     let rest : drop n (befores ++ before) ≡ drop n befores ++ before = drop-append-le n befores before (omega arith) in
     let rest_target : drop n (targets ++ target) ≡ drop n targets ++ target = drop-append-le n targets target (omega arith) in
     let more = writes_of_more spans span (drop n befores) (drop n targets) before target (omega (arith, length-drop n befores)) (omega (arith, length-drop n targets)) h k in
-    rw (prefix, front_target, rest, rest_target, more) refl
+    rw (prefix, target_prefix, rest, rest_target, more) refl
 
 -- the writes of one span more, where the spans and their contents before and after are given as the lists that they become
 pub writes_of_push : (spans : List Span) (span : Span) (befores targets before target : List ℕ) (news : List Span) (newb newt : List ℕ)

@@ -124,10 +124,10 @@ module _ (part : PartData) (k : QueueState) (d e : DeviceState) (q : Queue) (pie
             (quiet_whole part e q.given (h.bytes ++ take t piece) (take (length piece) piece) (words_taken part d h.bytes) took due same i) (omega (arith, h.out_is, z));
       }
 
-  given_front : (n : ℕ) → (s : QueueStandsFor part k d q) → k.left ≡ 0 → AreBytes piece → n ≤ length piece → DeviceStandsFor part on_the_bench false e (s.holds.bytes ++ take n piece)
+  given_prefix : (n : ℕ) → (s : QueueStandsFor part k d q) → k.left ≡ 0 → AreBytes piece → n ≤ length piece → DeviceStandsFor part on_the_bench false e (s.holds.bytes ++ take n piece)
       → words_taken part e (s.holds.bytes ++ take n piece) ≡ words_taken part d s.holds.bytes → (IsSome (stop_in part on_the_bench s.holds.bytes) → n ≡ 0)
       → RoomBefore (record { part = part; kept = on_the_bench; wrapped = false; bytes = s.holds.bytes }) piece n (words_taken part d s.holds.bytes) no_room → Given part k d e q piece n
-  given_front n s z f l stands same stopped before =
+  given_prefix n s z f l stands same stopped before =
       let h : QueueHolds part k d q = s.holds in
       let took : TookOfGiven part (q.given ++ take n piece) (h.bytes ++ take n piece) = took_piece part q.given h.bytes piece n n f (omega arith) l h.took stopped (inr refl) in
       let long : length (take n piece) ≡ n = length-take-le n piece l in
@@ -148,7 +148,7 @@ module _ (part : PartData) (k : QueueState) (d e : DeviceState) (q : Queue) (pie
   given_by_is fed.All read s z b l stands a same before stopped = given_whole (length piece) s z b l stands a.1 (inr refl) same stopped
   given_by_is (fed.Stopped n) read s z b l stands a same before stopped = given_whole n s z b l stands a.2 (inl (ap is_some a.1)) same stopped
   given_by_is (fed.Iprog n) read s z b l stands a same before stopped = given_whole n s z b l stands a.1 (inl (ap is_some a.0)) same stopped
-  given_by_is (fed.ReadFull n) read s z b l stands a same before stopped = given_front n s z b l stands same stopped before
+  given_by_is (fed.ReadFull n) read s z b l stands a same before stopped = given_prefix n s z b l stands same stopped before
 
 -- a buffer without room gets no word
 pub none_got : (words : List ℕ) (read : ReadBufState) → read ≡ with_words no_room words → HoldsWithinMost read.most read.words → words ≡ []

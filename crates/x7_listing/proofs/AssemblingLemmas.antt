@@ -129,16 +129,16 @@ module _ (line out mid new : List ℕ) (start n c : ℕ) (old-checker new-checke
     got : Reads FitsLine text_of (line_bytes (check_of_bytes (drop start out))) r line out new
     got = subst (λ (m : List ℕ). Reads FitsLine text_of (line_bytes (check_of_bytes (drop start m))) r line m new) same reads
 
-    behind_front : Reads FitsLine text_of (line_bytes (check_of_bytes (drop start out))) r line (drop start out) (drop start new)
-    behind_front = dropped start (check_of_bytes (drop start out)) r line out new g.long got
+    after_prefix : Reads FitsLine text_of (line_bytes (check_of_bytes (drop start out))) r line (drop start out) (drop start new)
+    after_prefix = dropped start (check_of_bytes (drop start out)) r line out new g.long got
 
     pub read_bad : r ≡ false → AreHeadedAsm all (Err (fault.Line c))
     read_bad e = close_bad all g.others (take start out) start g.first (g.read + 1) c (sym (length-take-le start out g.long)) g.opens
-        (bad (67108864 - start) g.others line (drop start out) (drop start new) left g.read g.went (subst (λ b. Reads FitsLine text_of (line_bytes (check_of_bytes (drop start out))) b line (drop start out) (drop start new)) e behind_front))
+        (bad (67108864 - start) g.others line (drop start out) (drop start new) left g.read g.went (subst (λ b. Reads FitsLine text_of (line_bytes (check_of_bytes (drop start out))) b line (drop start out) (drop start new)) e after_prefix))
         (omega (arith, n-is, g.count_is))
 
     yes : r ≡ true → Reads FitsLine text_of (line_bytes (check_of_bytes (drop start out))) true line (drop start out) (drop start new)
-    yes e = subst (λ b. Reads FitsLine text_of (line_bytes (check_of_bytes (drop start out))) b line (drop start out) (drop start new)) e behind_front
+    yes e = subst (λ b. Reads FitsLine text_of (line_bytes (check_of_bytes (drop start out))) b line (drop start out) (drop start new)) e after_prefix
 
     pub read_long : r ≡ true → 67108864 < length new → AreHeadedAsm all (Err (fault.TooLong c))
     read_long e h = close_long all g.others (take start out) start g.first (g.read + 1) c (sym (length-take-le start out g.long)) g.opens

@@ -156,8 +156,8 @@ pub line_fields : (line fields : List ℕ) (x : Contents) → line ≡ codes "bi
 line_fields line fields x e h = let both : codes "bit " ++ fields ≡ codes "bit " ++ fields_text x = sym e ∙ h in cc
 
 -- a text after a field goes on as the header's line does there
-pub behind : (here field rest own later : List ℕ) → IsField field → AreBytes own → here ≡ field_text field ++ 32 ∷ rest → here ≡ field_text own ++ 32 ∷ later → rest ≡ later
-behind here field rest own later h a e is = same_rest field own rest later h.bytes a (sym e ∙ is)
+pub after_field : (here field rest own later : List ℕ) → IsField field → AreBytes own → here ≡ field_text field ++ 32 ∷ rest → here ≡ field_text own ++ 32 ∷ later → rest ≡ later
+after_field here field rest own later h a e is = same_rest field own rest later h.bytes a (sym e ∙ is)
 
 -- a header's line, field by field
 pub line_made : (bit a b c d n t1 t2 t3 t4 t5 t6 t7 t8 : List ℕ) → t1 ≡ bit → t2 ≡ t1 ++ (a ++ 32 ∷ []) → t3 ≡ t2 ++ (b ++ 32 ∷ []) → t4 ≡ t3 ++ (c ++ 32 ∷ []) → t5 ≡ t4 ++ (d ++ 32 ∷ []) → t6 ≡ t5 → t7 ≡ t6 ++ n → t8 ≡ t7 ++ 10 ∷ []

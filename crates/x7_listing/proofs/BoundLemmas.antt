@@ -1,4 +1,4 @@
--- How far a lister's text is behind the bytes that it took.
+-- How far a lister's text lags the bytes that it took.
 use Rattle.std.proofs.Common.{◌≡◌, ◌==◌, ℕ, ◌+◌, ◌*◌, ◌-◌, ◌≤◌, Bool, true, false, if◌then◌else◌, List, [], ◌∷◌, ◌++◌, None, drop, length, length-drop, refl, sym, ap, ◌∙◌, take, take-append-drop, append-nil, arith, length-append, codes, flat_map, decimal}
 use Rattle.std.specs.List.{AllByRecursion}
 use Rattle.std.proofs.lemmas.List.{length-map, length-take-le}
@@ -108,7 +108,7 @@ place_long (Synced gap packets tail) is =
     let text : length (sure_place (Synced gap packets tail)) ≡ length (bytes_text gap ++ codes "sync\n" ++ open_words 0 (flat_map stepped packets)) = refl in
     omega (arith, session_long gap packets, is.3, bytes, text, length-append ((gap ++ sync_bytes) ++ packet_bytes packets) tail, length-append (gap ++ sync_bytes) (packet_bytes packets), length-append gap sync_bytes)
 
--- a lister's text is at most four bytes behind
+-- a lister's text is at most four bytes short
 pub few_held : (l : ListerState) (given before bytes : List ℕ) → ListerStandsFor l given before bytes → length before + length bytes ≤ length (given ++ l.text) + 4
 few_held l given before bytes s =
     let t = s.tells in
@@ -126,13 +126,13 @@ listed_long false line held all start (Searching gap) m t p =
 listed_long false line held all start (Synced gap packets tail) m t p =
     let bytes : place_bytes (Synced gap packets tail) ≡ gap ++ sync_bytes = rw (t.1, t.2) (append-nil (gap ++ sync_bytes ++ []) ∙ append-nil (gap ++ sync_bytes)) in
     omega (arith, due_long all start line held gap t.3, ap length bytes)
-listed_long true line held all start place m t p = omega (arith, ap length (told_sure_at line held all start place m t), length-append start (sure_place place), place_long place p)
+listed_long true line held all start place m t p = omega (arith, ap length (sure_at line held all start place m t), length-append start (sure_place place), place_long place p)
   where
-    told_sure_at : (line : ℕ) (held all start : List ℕ) (place : Place) (m : Mode) → HasListedAt (written_of true line held all) start place m → all ≡ start ++ sure_place place
-    told_sure_at line held all start (Searching gap) m t = place_sure true line held all start (Searching gap) Mode.Searching (λ e. let f : Mode.Searching ≡ Mode.Due = e in cc) t
-    told_sure_at line held all start (Synced gap packets tail) m t = place_sure true line held all start (Synced gap packets tail) m t.0 t
+    sure_at : (line : ℕ) (held all start : List ℕ) (place : Place) (m : Mode) → HasListedAt (written_of true line held all) start place m → all ≡ start ++ sure_place place
+    sure_at line held all start (Searching gap) m t = place_sure true line held all start (Searching gap) Mode.Searching (λ e. let f : Mode.Searching ≡ Mode.Due = e in cc) t
+    sure_at line held all start (Synced gap packets tail) m t = place_sure true line held all start (Synced gap packets tail) m t.0 t
 
--- a lister that takes runs is at most four bytes behind too
+-- a lister that takes runs is at most four bytes short too
 pub few_taken : (l : ListerState) (given before bytes : List ℕ) (due : Mode) → TakerStandsFor l given before bytes due → length before + length bytes ≤ length (given ++ l.text) + 4
 few_taken l given before bytes due t =
     let r = t.reading in
@@ -183,19 +183,19 @@ place_short (Searching gap) is =
 place_short (Synced gap packets tail) is =
     let over = session_closed None 0 packets is.1 in
     let sure : List ℕ = bytes_text gap ++ codes "sync\n" in
-    let told : List ℕ = open_words 0 (flat_map stepped packets) in
+    let known : List ℕ = open_words 0 (flat_map stepped packets) in
     let shut : List ℕ = close (words_place 0 (flat_map stepped packets)) in
     let text : length (place_text (Synced gap packets tail)) ≡ length ((sure ++ flat_map packet_text packets) ++ bytes_text tail) = refl in
-    let all : length (sure_place (Synced gap packets tail)) ≡ length (sure ++ told) = refl in
+    let all : length (sure_place (Synced gap packets tail)) ≡ length (sure ++ known) = refl in
     omega (
       arith,
       text,
       all,
       length-append (sure ++ flat_map packet_text packets) (bytes_text tail),
       length-append sure (flat_map packet_text packets),
-      length-append sure told,
+      length-append sure known,
       ap length over,
-      length-append told shut,
+      length-append known shut,
       close_short (words_place 0 (flat_map stepped packets)),
       ap length (bytes_closed tail),
       length-append (open_text 32 (codes "bytes ") hex_byte 0 tail) (close (in_line_after 32 0 tail)),

@@ -59,17 +59,17 @@ held_then (p ∷ q ∷ r ∷ s ∷ []) n byte e f = rw f refl
 held_then (p ∷ q ∷ r ∷ s ∷ t ∷ xs) n byte e f = absurd (omega (arith, e))
 
 -- bytes held and then a piece, of which all but the last four are listed
-pub listed_all : (given old mid new start : List ℕ) (line behind line2 : ℕ) (held gap bytes : List ℕ) → GapListed (given ++ old) start line held gap → 4 ≤ length bytes
-    → mid ≡ old ++ B line held → behind ≡ in_line_after 32 line held
-    → new ≡ mid ++ B behind (take (length bytes - 4) bytes) → line2 ≡ in_line_after 32 behind (take (length bytes - 4) bytes)
+pub listed_all : (given old mid new start : List ℕ) (line after line2 : ℕ) (held gap bytes : List ℕ) → GapListed (given ++ old) start line held gap → 4 ≤ length bytes
+    → mid ≡ old ++ B line held → after ≡ in_line_after 32 line held
+    → new ≡ mid ++ B after (take (length bytes - 4) bytes) → line2 ≡ in_line_after 32 after (take (length bytes - 4) bytes)
     → GapListed (given ++ new) start line2 (slice_index_or bytes (length bytes - 4) 0 ∷ slice_index_or bytes (length bytes - 4 + 1) 0 ∷ slice_index_or bytes (length bytes - 4 + 2) 0 ∷ slice_index_or bytes (length bytes - 4 + 3) 0 ∷ []) (gap ++ bytes)
-listed_all given old mid new start line behind line2 held gap bytes g h m b t n =
+listed_all given old mid new start line after line2 held gap bytes g h m b t n =
     let k : ℕ = length bytes - 4 in
     let last : drop k bytes ≡ slice_index_or bytes k 0 ∷ slice_index_or bytes (k + 1) 0 ∷ slice_index_or bytes (k + 2) 0 ∷ slice_index_or bytes (k + 3) 0 ∷ [] = last_four bytes k (omega arith) in
     let split : held ++ bytes ≡ (held ++ take k bytes) ++ slice_index_or bytes k 0 ∷ slice_index_or bytes (k + 1) 0 ∷ slice_index_or bytes (k + 2) 0 ∷ slice_index_or bytes (k + 3) 0 ∷ [] =
     ap (λ t. held ++ t) (sym (take-append-drop k bytes) ∙ ap (λ t. take k bytes ++ t) last) ∙ sym (append_assoc held (take k bytes) (slice_index_or bytes k 0 ∷ slice_index_or bytes (k + 1) 0 ∷ slice_index_or bytes (k + 2) 0 ∷ slice_index_or bytes (k + 3) 0 ∷ [])) in
     listed_more given old new start line line2 held _ gap bytes (held ++ take k bytes) g split refl
-    (t ∙ ap (λ x. x ++ B behind (take k bytes)) m ∙ append_assoc old (B line held) (B behind (take k bytes)) ∙ ap (λ i. old ++ (B line held ++ B i (take k bytes))) b ∙ ap (λ x. old ++ x) (sym (open_text_append 32 (codes "bytes ") hex_byte line held (take k bytes))))
+    (t ∙ ap (λ x. x ++ B after (take k bytes)) m ∙ append_assoc old (B line held) (B after (take k bytes)) ∙ ap (λ i. old ++ (B line held ++ B i (take k bytes))) b ∙ ap (λ x. old ++ x) (sym (open_text_append 32 (codes "bytes ") hex_byte line held (take k bytes))))
     (n ∙ ap (λ i. in_line_after 32 i (take k bytes)) b ∙ sym (in_line_after_append 32 line held (take k bytes)))
 
 -- the words of four bytes

@@ -29,14 +29,14 @@ same_line a b h k e = one_line (text_of a) a b (record { fits = h; is = refl }) 
 cons_prefix : (l m : Line) (ls ms : List Line) (here there : List (List ℕ)) → l ≡ m → IsPrefixOf ls ms here there → IsPrefixOf (l ∷ ls) (m ∷ ms) here there
 cons_prefix l m ls ms here there e f = record { more = f.more; lines = ap (λ t. m ∷ t) f.lines ∙ ap (λ x. x ∷ (ls ++ f.more)) (sym e); texts = f.texts; fits = f.fits }
 
-fronts : (ls ms : List Line) (here there : List (List ℕ)) → AllByRecursion FitsLine ls → AllByRecursion FitsLine ms → map text_of ls ++ here ≡ map text_of ms ++ there → IsPrefixOf ls ms here there ⊎ IsPrefixOf ms ls there here
-fronts [] ms here there a b e = inl (record { more = ms; lines = refl; texts = e; fits = b })
-fronts (l ∷ ls) [] here there a b e = inr (record { more = l ∷ ls; lines = refl; texts = sym e; fits = a })
-fronts (l ∷ ls) (m ∷ ms) here there a b e =
+prefixes : (ls ms : List Line) (here there : List (List ℕ)) → AllByRecursion FitsLine ls → AllByRecursion FitsLine ms → map text_of ls ++ here ≡ map text_of ms ++ there → IsPrefixOf ls ms here there ⊎ IsPrefixOf ms ls there here
+prefixes [] ms here there a b e = inl (record { more = ms; lines = refl; texts = e; fits = b })
+prefixes (l ∷ ls) [] here there a b e = inr (record { more = l ∷ ls; lines = refl; texts = sym e; fits = a })
+prefixes (l ∷ ls) (m ∷ ms) here there a b e =
     let first : text_of l ≡ text_of m = cc in
     let rest : map text_of ls ++ here ≡ map text_of ms ++ there = cc in
     let same : l ≡ m = same_line l m a.0 b.0 first in
-    elim (fronts ls ms here there a.1 b.1 rest) [
+    elim (prefixes ls ms here there a.1 b.1 rest) [
       | inl f ↦ inl (cons_prefix l m ls ms here there same f)
       | inr f ↦ inr (cons_prefix m l ms ls there here (sym same) f)
     ]
@@ -51,7 +51,7 @@ at_prefix ls ms here there f e = (sym (f.lines ∙ ap (λ t. ls ++ t) e ∙ appe
 one_place : (limit : ℕ) (texts : List (List ℕ)) (ls ms : List Line) (here there : List (List ℕ)) → BeginsWithLines limit texts ls here → BeginsWithLines limit texts ms there → Stops limit texts ls here → Stops limit texts ms there → (ls ≡ ms) × (here ≡ there)
 unfolding Stops
 one_place limit texts ls ms here there a b s t =
-    elim (fronts ls ms here there a.fits b.fits (sym a.texts ∙ b.texts)) [
+    elim (prefixes ls ms here there a.fits b.fits (sym a.texts ∙ b.texts)) [
       | inl f ↦ at_prefix ls ms here there f (s ms there b f)
       | inr f ↦ let p = at_prefix ms ls there here f (t ls here a f) in (sym p.0, sym p.1)
     ]

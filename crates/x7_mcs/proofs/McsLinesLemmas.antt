@@ -45,8 +45,8 @@ then_ok (Err f) = refl
 -- ---- a line after those that were read
 
 module _ (b : McsLinesState) (lines : List (List ℕ)) (n : ℕ) (m : n ≡ length lines + 1) (t : HasReadRecords b lines) where
-  read_behind : (ts : List (List ℕ)) → after_lines 1 of_no_line (map without_return lines ++ ts) ≡ after_lines n (at_base b.base b.ended t.records) ts
-  read_behind ts =
+  read_after : (ts : List (List ℕ)) → after_lines 1 of_no_line (map without_return lines ++ ts) ≡ after_lines n (at_base b.base b.ended t.records) ts
+  read_after ts =
       let k : 1 + length (map without_return lines) ≡ n = omega (arith, m, length-map lines without_return) in
       in_turn (map without_return lines) 1 of_no_line ts ∙ ap (λ r. and_then r (λ s. after_lines (1 + length (map without_return lines)) s ts)) t.is
       ∙ ap (λ (j : ℕ). after_lines j (at_base b.base b.ended t.records) ts) k
@@ -54,7 +54,7 @@ module _ (b : McsLinesState) (lines : List (List ℕ)) (n : ℕ) (m : n ≡ leng
   pub line_read : (d : McsLinesState) (line : List ℕ) → TookRecords (after_line n (at_base b.base b.ended t.records) (without_return line)) d.base d.ended d.bytes d.marks → HasReadRecords d (lines ++ line ∷ [])
   line_read d line w = record {
     records = w.records;
-    is = ap (after_lines 1 of_no_line) (map_push without_return lines line) ∙ read_behind (without_return line ∷ []) ∙ then_ok (after_line n (at_base b.base b.ended t.records) (without_return line)) ∙ w.is;
+    is = ap (after_lines 1 of_no_line) (map_push without_return lines line) ∙ read_after (without_return line ∷ []) ∙ then_ok (after_line n (at_base b.base b.ended t.records) (without_return line)) ∙ w.is;
     holds = w.holds;
   }
 
@@ -62,7 +62,7 @@ module _ (b : McsLinesState) (lines : List (List ℕ)) (n : ℕ) (m : n ≡ leng
   line_fails f line more (inl none) = inl none.0
   line_fails f line more (inr h) = gives_fault (lines ++ line ∷ split more) f (inr (
       ap (after_lines 1 of_no_line) (bare_after lines (line ∷ split more) (some_after line (split more)) ∙ ap (λ ts. map without_return lines ++ ts) (bare_more line (split more) (split_some more)))
-      ∙ read_behind (without_return line ∷ bare (split more)) ∙ ap (λ r. and_then r (λ s. after_lines (n + 1) s (bare (split more)))) h
+      ∙ read_after (without_return line ∷ bare (split more)) ∙ ap (λ r. and_then r (λ s. after_lines (n + 1) s (bare (split more)))) h
       ))
 
   pub line_came : {A : Type 0} (r : Result A McsFault) (d : McsLinesState) (line bare : List ℕ) → bare ≡ without_return line
@@ -74,7 +74,7 @@ module _ (b : McsLinesState) (lines : List (List ℕ)) (n : ℕ) (m : n ≡ leng
   -- memory is wanting at a good line
   pub line_wants : (f : McsFault) (line : List ℕ) → FailsAsReading (after_line n (at_base b.base b.ended t.records) (without_return line)) f → f ≡ fault.NoMemory → AreGoodWith lines line
   line_wants f line (inl none) want =
-      inl (none.1.0, ap (after_lines 1 of_no_line) (map_push without_return lines line) ∙ read_behind (without_return line ∷ []) ∙ then_ok (after_line n (at_base b.base b.ended t.records) (without_return line)) ∙ none.1.1)
+      inl (none.1.0, ap (after_lines 1 of_no_line) (map_push without_return lines line) ∙ read_after (without_return line ∷ []) ∙ then_ok (after_line n (at_base b.base b.ended t.records) (without_return line)) ∙ none.1.1)
   line_wants f line (inr h) want = absurd (reported_one (without_return line) n (at_base b.base b.ended t.records) (h ∙ ap Err want))
 
   pub line_wanted : {A : Type 0} (r : Result A McsFault) (d : McsLinesState) (line bare : List ℕ) → bare ≡ without_return line
@@ -88,7 +88,7 @@ module _ (b : McsLinesState) (lines : List (List ℕ)) (n : ℕ) (m : n ≡ leng
     last_is : after_lines 1 of_no_line (bare (lines ++ line ∷ [])) ≡ after_line n (at_base b.base b.ended t.records) line
     last_is =
         ap (after_lines 1 of_no_line) (bare_after lines (line ∷ []) (some_after line []))
-        ∙ read_behind (line ∷ []) ∙ then_ok (after_line n (at_base b.base b.ended t.records) line)
+        ∙ read_after (line ∷ []) ∙ then_ok (after_line n (at_base b.base b.ended t.records) line)
 
     last_took : (d : McsLinesState) → TookRecords (after_line n (at_base b.base b.ended t.records) line) d.base d.ended d.bytes d.marks → TookRecords (after_lines 1 of_no_line (bare (lines ++ line ∷ []))) d.base d.ended d.bytes d.marks
     last_took d w = record { records = w.records; is = last_is ∙ w.is; holds = w.holds }

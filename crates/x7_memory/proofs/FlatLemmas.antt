@@ -41,10 +41,10 @@ cut_set w (suc n) (suc i) ws new h e long =
     let back = new ++ drop (w + w * i + w) ws in
     let first : take w (take (w + w * i) ws ++ back) ≡ take w ws =
     take-append-le w (take (w + w * i) ws) back (omega arith) ∙ take-take w (w + w * i) ws (omega arith) in
-    let behind : drop (w + w * i + w) ws ≡ drop (w * i + w) (drop w ws) =
+    let after : drop (w + w * i + w) ws ≡ drop (w * i + w) (drop w ws) =
     ap (λ k. drop k ws) (let k : w + w * i + w ≡ w + (w * i + w) = omega arith in k) ∙ sym (drop-drop (w * i + w) w ws) in
     let rest : drop w (take (w + w * i) ws ++ back) ≡ take (w * i) (drop w ws) ++ (new ++ drop (w * i + w) (drop w ws)) =
-    drop-append-le w (take (w + w * i) ws) back (omega arith) ∙ ap (λ t. t ++ back) (drop-take w (w * i) ws) ∙ ap (λ d. take (w * i) (drop w ws) ++ (new ++ d)) behind in
+    drop-append-le w (take (w + w * i) ws) back (omega arith) ∙ ap (λ t. t ++ back) (drop-take w (w * i) ws) ∙ ap (λ d. take (w * i) (drop w ws) ++ (new ++ d)) after in
     let left : length (drop w ws) ≡ length ws - w = length-drop w ws in
     rw a (ap (λ f. f ∷ cut w n (drop w (take (w + w * i) ws ++ back))) first
     ∙ ap (λ r. take w ws ∷ cut w n r) rest

@@ -154,7 +154,7 @@ pub writes_few : (old new : CutterState) (bs : List ℕ) (head register count : 
     → WritesFew old new bs register count
 writes_few old new bs head register count is to none none2 long fits e g range other some few opens goes =
     let middle : CutterState = record { mode = Mode.Synced; matcher = old.matcher; machine = in_write register count; kept = [] } in
-    let behind : AreBytes (drop 4 bs) = all_back (λ b. b < 256) (take 4 bs) (drop 4 bs) (subst AreBytes (sym (take-append-drop 4 bs)) fits) in
+    let after : AreBytes (drop 4 bs) = all_back (λ b. b < 256) (take 4 bs) (drop 4 bs) (subst AreBytes (sym (take-append-drop 4 bs)) fits) in
     let size : length (take (4 * count) (drop 4 bs)) ≡ 4 * count = length-take-le (4 * count) (drop 4 bs) (omega (arith, length-drop 4 bs, long, few)) in
     record {
       between = middle;
@@ -165,7 +165,7 @@ writes_few old new bs head register count is to none none2 long fits e g range o
       long = long;
       bytes = first_four bs (omega (arith, long)) ∙ sym e ∙ ap bytes_of_word g;
       head = takes_head old middle (type1_write register count) (Open register count) is refl none refl refl (λ ps t. opens ps count some (omega (arith, few)) t);
-      words = λ run f. takes_words middle new register count run refl to refl none2 (subst AreBytes (sym f) (all_take (λ b. b < 256) (4 * count) (drop 4 bs) behind)) (ap length f ∙ size) some other refl goes;
+      words = λ run f. takes_words middle new register count run refl to refl none2 (subst AreBytes (sym f) (all_take (λ b. b < 256) (4 * count) (drop 4 bs) after)) (ap length f ∙ size) some other refl goes;
       none_kept = none2;
     }
 

@@ -105,15 +105,15 @@ after_within n m k (e ∷ h) l a = (a.0, omega (arith, a.1), after_within n m k 
 later_more : (n : ℕ) (h : History) (bytes : List ℕ) (x : ℕ) → AreBytes (bytes ++ x ∷ []) → (n ≤ length bytes) × IsLater n h bytes → (n ≤ length (bytes ++ x ∷ [])) × IsLater n h (bytes ++ x ∷ [])
 later_more n h bytes x f p =
     let longer : length (bytes ++ x ∷ []) ≡ length bytes + 1 = length-append bytes (x ∷ []) in
-    let behind : AllAfter n (length (bytes ++ x ∷ [])) p.1.0 = after_within n (length bytes) (length (bytes ++ x ∷ [])) p.1.0 (omega arith) p.1.2 in
+    let after : AllAfter n (length (bytes ++ x ∷ [])) p.1.0 = after_within n (length bytes) (length (bytes ++ x ∷ [])) p.1.0 (omega arith) p.1.2 in
     let place : ℕ = length bytes + 1 in
     let later : IsLater n h (bytes ++ x ∷ []) = elim (byte_enters bytes x f) [
-      | inl e ↦ (p.1.0, e ∙ p.1.1, behind)
-      | inr a ↦ (entry a.0 place ∷ p.1.0, a.1 ∙ ap (λ t. entry a.0 place ∷ t) p.1.1, (omega (arith, p.0), omega arith, behind))
+      | inl e ↦ (p.1.0, e ∙ p.1.1, after)
+      | inr a ↦ (entry a.0 place ∷ p.1.0, a.1 ∙ ap (λ t. entry a.0 place ∷ t) p.1.1, (omega (arith, p.0), omega arith, after))
     ] in
     (omega (arith, p.0), later)
 
--- the history of further bytes has newer accesses in front, which end in those bytes
+-- the history of further bytes has newer accesses in prefix, which end in those bytes
 pub newer_of : (bytes more : List ℕ) → AreBytes (bytes ++ more) → IsLater (length bytes) (history_of bytes) (bytes ++ more)
 newer_of bytes more f =
     let all : (length bytes ≤ length (bytes ++ more)) × IsLater (length bytes) (history_of bytes) (bytes ++ more) =

@@ -17,7 +17,7 @@ use Rattle.x7_packets.specs.History.{Read, Write, History, entry, entered, enter
 use Rattle.x7_packets.proofs.ByHandLemmas.{reading_is}
 use Rattle.x7_packets.proofs.PacketLemmas.{words_stepped}
 
--- an access is entered in front of what there is
+-- an access is entered in prefix of what there is
 entered_prefix : (place : ℕ) (s : Step) (h : History) → entered place s h ≡ entered place s [] ++ h
 entered_prefix place (step.Payload register w) h = refl
 entered_prefix place (step.Read register n) h = elim (n == 0) as (λ b. (if b then h else entry (Read register n) place ∷ h) ≡ (if b then [] else entry (Read register n) place ∷ []) ++ h) [ true ↦ refl | false ↦ refl ]
@@ -26,7 +26,7 @@ entered_prefix place step.Filler h = refl
 entered_prefix place step.Nop h = refl
 entered_prefix place (step.Open register n) h = refl
 
--- the accesses of words are entered in front of what there is
+-- the accesses of words are entered in prefix of what there is
 pub all_before : (n : ℕ) (ss : List (ℕ × Step)) (h : History) → entered_all n ss h ≡ entered_all n ss [] ++ h
 all_before n [] h = refl
 all_before n (s ∷ ss) h =
@@ -39,7 +39,7 @@ pub entered_all_append : (n : ℕ) (ss ts : List (ℕ × Step)) (h : History) �
 entered_all_append n [] ts h = ap (λ (x : ℕ). entered_all x ts h) (omega arith)
 entered_all_append n (s ∷ ss) ts h = entered_all_append (n + 4) ss ts (entered (n + 4) s.1 h) ∙ ap (λ (x : ℕ). entered_all x ts (entered_all (n + 4) ss (entered (n + 4) s.1 h))) (omega arith)
 
--- the accesses of words after others stand in front of theirs
+-- the accesses of words after others stand in prefix of theirs
 pub words_after : (n : ℕ) (ss ts : List (ℕ × Step)) (h : History) → entered_all n (ss ++ ts) h ≡ entered_all (n + 4 * length ss) ts [] ++ (entered_all n ss [] ++ h)
 words_after n ss ts h =
     entered_all_append n ss ts h

@@ -58,10 +58,10 @@ first_after gap more rest n m = record {
 pub none_in_gap : (gap more : List ℕ) (k : ℕ) → k ≤ length gap → NoneBegins gap more → HasNoSync (take k gap)
 none_in_gap gap more k l n = record {
   none = λ prefix back e.
-      let behind : List ℕ = drop k gap ++ more in
-      let longer : (prefix ++ sync_bytes ++ back) ++ behind ≡ prefix ++ (sync_bytes ++ (back ++ behind)) = simp append_assoc in
-      let whole : gap ++ more ≡ take k gap ++ behind = ap (λ (x : List ℕ). x ++ more) (sym (take-append-drop k gap)) ∙ append_assoc (take k gap) (drop k gap) more in
-      let past : length gap ≤ length prefix = n prefix (back ++ behind) (whole ∙ ap (λ (x : List ℕ). x ++ behind) e ∙ longer) in
+      let after : List ℕ = drop k gap ++ more in
+      let longer : (prefix ++ sync_bytes ++ back) ++ after ≡ prefix ++ (sync_bytes ++ (back ++ after)) = simp append_assoc in
+      let whole : gap ++ more ≡ take k gap ++ after = ap (λ (x : List ℕ). x ++ more) (sym (take-append-drop k gap)) ∙ append_assoc (take k gap) (drop k gap) more in
+      let past : length gap ≤ length prefix = n prefix (back ++ after) (whole ∙ ap (λ (x : List ℕ). x ++ after) e ∙ longer) in
       absurd (omega (arith, past, l, ap length e, length-take-le k gap l, length-append (prefix ++ sync_bytes) back, length-append prefix sync_bytes));
 }
 

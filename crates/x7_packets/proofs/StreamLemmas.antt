@@ -234,8 +234,8 @@ need_turns (cut.Head w step) old new place n t = absurd n
 need_turns (cut.Word register w) old new place n t = absurd n
 need_turns (cut.Body register bytes) old new place n t = absurd n
 
-untold_on : (p : PacketsState) → p.done ≡ false → not_given p ≡ p.cutter.kept
-untold_on p e = rw e refl
+unknown_on : (p : PacketsState) → p.done ≡ false → not_given p ≡ p.cutter.kept
+unknown_on p e = rw e refl
 
 tail_on : (place : Place) (done : Bool) (kept : List ℕ) → done ≡ false → tail_of place ≡ (if done then kept else []) → tail_of place ≡ []
 tail_on place true kept e h = absurd (cc)
@@ -249,14 +249,14 @@ parted given kept left n = ap (λ t. given ++ (kept ++ t)) (sym (take-append-dro
 pub needs : (old new : PacketsState) (bytes given : List ℕ) (s : Steps old new false) → old.done ≡ false → PacketsStandFor old bytes given
     → PacketsStandFor new bytes given × (old.cutter.mode ≡ Mode.Due → ⊥) × (new.cutter.mode ≡ Mode.Due → ⊥)
 needs old new bytes given s on p =
-    let none : not_given old ≡ old.cutter.kept = untold_on old on in
+    let none : not_given old ≡ old.cutter.kept = unknown_on old on in
     let still : new.done ≡ false = s.done ∙ on in
     let w : AfterRun old.cutter new.cutter ((given ++ not_given old) ++ take s.count old.left) p.sessions (with_tail old.cutter.kept p.place) s.run = s.cuts.adds _ p.sessions _ p.cutter in
     let k : new.cutter.kept ≡ tail_of w.new_place = s.kept _ w.new_sessions w.new_place w.stands in
     let at : (w.new_sessions ≡ p.sessions) × (w.new_place ≡ with_tail new.cutter.kept p.place) = need_place s.run p.sessions w.new_sessions p.place w.new_place old.cutter.kept new.cutter.kept s.is w.adds k in
     let t : (old.cutter.mode ≡ Mode.Due → ⊥) × (new.cutter.mode ≡ Mode.Due → ⊥) = need_turns s.run old.cutter.mode new.cutter.mode w.new_place s.is w.turns in
     let joined : old.cutter.kept ++ take s.count old.left ≡ new.cutter.kept = s.cuts.joined ∙ ap (λ x. x ++ new.cutter.kept) (need_tells_none s.run s.is) in
-    let taken : (given ++ not_given old) ++ take s.count old.left ≡ given ++ not_given new = ap (λ x. (given ++ x) ++ take s.count old.left) none ∙ append_assoc given old.cutter.kept (take s.count old.left) ∙ ap (λ x. given ++ x) (joined ∙ sym (untold_on new still)) in
+    let taken : (given ++ not_given old) ++ take s.count old.left ≡ given ++ not_given new = ap (λ x. (given ++ x) ++ take s.count old.left) none ∙ append_assoc given old.cutter.kept (take s.count old.left) ∙ ap (λ x. given ++ x) (joined ∙ sym (unknown_on new still)) in
     let stands : CutterStandsFor new.cutter (given ++ not_given new) p.sessions (with_tail new.cutter.kept p.place) = rw (← taken, ← at.0, ← at.1) w.stands in (
       record {
         sessions = p.sessions;
@@ -279,7 +279,7 @@ pub runs : (old new : PacketsState) (bytes given : List ℕ) (r : Run) (s : Step
     × (IsLent old.cutter (length old.left) (cut_of r) × SkipsAll new.cutter (length old.left) (cut_of r))
 runs old new bytes given r s on last p =
     let never : IsNeed s.run → ⊥ = found_needs_none new.found s.run s.is in
-    let none : not_given old ≡ old.cutter.kept = untold_on old on in
+    let none : not_given old ≡ old.cutter.kept = unknown_on old on in
     let still : new.done ≡ false = s.done ∙ on in
     let w : AfterRun old.cutter new.cutter ((given ++ not_given old) ++ take s.count old.left) p.sessions (with_tail old.cutter.kept p.place) s.run = s.cuts.adds _ p.sessions _ p.cutter in
     let k : new.cutter.kept ≡ tail_of w.new_place = s.kept _ w.new_sessions w.new_place w.stands in
@@ -290,7 +290,7 @@ runs old new bytes given r s on last p =
     let now : List ℕ = given ++ bytes_of_run r in
     let joined : old.cutter.kept ++ take s.count old.left ≡ bytes_of_run r = s.cuts.joined ∙ ap (λ t. run_bytes s.run ++ t) empty ∙ append-nil (run_bytes s.run) ∙ sym same.bytes in
     let taken : (given ++ not_given old) ++ take s.count old.left ≡ now = ap (λ x. (given ++ x) ++ take s.count old.left) none ∙ append_assoc given old.cutter.kept (take s.count old.left) ∙ ap (λ x. given ++ x) joined in
-    let nothing : not_given new ≡ [] = untold_on new still ∙ empty in
+    let nothing : not_given new ≡ [] = unknown_on new still ∙ empty in
     let all : (given ++ not_given old) ++ take s.count old.left ≡ now ++ not_given new = taken ∙ sym (append-nil now) ∙ ap (λ x. now ++ x) (sym nothing) in
     let own : with_tail new.cutter.kept w.new_place ≡ w.new_place = ap (λ t. with_tail t w.new_place) k ∙ with_own_tail w.new_place in
     let stands : CutterStandsFor new.cutter (now ++ not_given new) w.new_sessions w.new_place = subst (λ x. CutterStandsFor new.cutter x w.new_sessions w.new_place) all w.stands in
@@ -455,7 +455,7 @@ short_tail kept (Synced gap packets tail) p k = p.3
 ends_tail : (p : PacketsState) (bytes given : List ℕ) (lent : Bor (List ℕ)) → p.done ≡ false → p.left ≡ [] → 0 < length p.cutter.kept → lent.now ≡ p.cutter.kept → (p.cutter.mode ≡ Mode.Due → ⊥) → PacketsStandFor p bytes given
     → PacketsStandFor (record p { found = FoundRun.Tail; done = true }) bytes (given ++ lent.now) × IsNext given p.cutter.mode (run.Tail lent) p.cutter.mode × (given ++ lent.now ≡ bytes)
 ends_tail p bytes given lent on none some e due s =
-    let keeps : not_given p ≡ p.cutter.kept = untold_on p on in
+    let keeps : not_given p ≡ p.cutter.kept = unknown_on p on in
     let bare : tail_of s.place ≡ [] = tail_on s.place p.done p.cutter.kept on s.tail in
     let now : given ++ not_given p ≡ given ++ lent.now = ap (λ t. given ++ t) (keeps ∙ sym e) in
     let after : IsReading (given ++ lent.now) s.sessions (with_tail p.cutter.kept s.place) = subst (λ t. IsReading t s.sessions (with_tail p.cutter.kept s.place)) now s.cutter.reading in
@@ -540,7 +540,7 @@ finishes : (p new : PacketsState) (r : Run) (kept : List ℕ) → p.cutter.kept 
 finishes p new r [] k on none tail end last =
     let is : new ≡ record p { found = FoundRun.End; done = true } = end k in
     let at : r ≡ run.End = subst (λ (x : PacketsState). IsLastFound x r) is last in
-    rw (is, at) (none_ends p none (untold_on p on ∙ k) (λ bytes given s. tail_on s.place p.done p.cutter.kept on s.tail ∙ sym k))
+    rw (is, at) (none_ends p none (unknown_on p on ∙ k) (λ bytes given s. tail_on s.place p.done p.cutter.kept on s.tail ∙ sym k))
 finishes p new r (x ∷ xs) k on none tail end last =
     let is : new ≡ record p { found = FoundRun.Tail; done = true } = tail (λ e. absurd (let f : x ∷ xs ≡ [] = sym k ∙ e in cc)) in
     let at : (lent : Bor (List ℕ)) × (r ≡ run.Tail lent) × (lent.now ≡ p.cutter.kept) = subst (λ (x : PacketsState). IsLastFound x r) is last in
@@ -578,8 +578,8 @@ own_tail : (place : Place) (done : Bool) (kept : List ℕ) → done ≡ true →
 own_tail place true kept e h = h
 own_tail place false kept e h = absurd (cc)
 
-untold_off : (p : PacketsState) → p.done ≡ true → not_given p ≡ []
-untold_off p e = rw e refl
+unknown_off : (p : PacketsState) → p.done ≡ true → not_given p ≡ []
+unknown_off p e = rw e refl
 
 -- the end is given again
 again : (p : PacketsState) → p.done ≡ true → p.failed ≡ false → ReadsAndGives p (record p { found = FoundRun.End; done = true }) [] run.End
@@ -587,11 +587,11 @@ again p off good = record {
   count = omega arith;
   stands = λ bytes given s.
       let due = s.all off in
-      let t = ends_none p bytes given due.0 (untold_off p off) due.1 s (own_tail s.place p.done p.cutter.kept off s.tail) in
+      let t = ends_none p bytes given due.0 (unknown_off p off) due.1 s (own_tail s.place p.done p.cutter.kept off s.tail) in
       (subst (λ x. PacketsStandFor (record p { found = FoundRun.End; done = true }) x (given ++ [])) (sym (append-nil bytes)) t.0, t.1);
   all = λ _ bytes given s.
       let due = s.all off in
-      (ends_none p bytes given due.0 (untold_off p off) due.1 s (own_tail s.place p.done p.cutter.kept off s.tail)).2 ∙ sym (append-nil bytes);
+      (ends_none p bytes given due.0 (unknown_off p off) due.1 s (own_tail s.place p.done p.cutter.kept off s.tail)).2 ∙ sym (append-nil bytes);
   lends = λ f. absurd (let g : true ≡ false = f in cc);
   done = refl;
   good = good;
@@ -645,10 +645,10 @@ pub starts : (p : PacketsState) (first : List ℕ) → CutterStandsFor p.cutter 
 starts p first c k l on t = record {
   sessions = [];
   place = Searching [];
-  split = sym (ap (λ u. u ++ p.left) (untold_on p on ∙ k) ∙ l);
+  split = sym (ap (λ u. u ++ p.left) (unknown_on p on ∙ k) ∙ l);
   reading = c.reading;
   tail = rw on refl;
-  cutter = subst (λ u. CutterStandsFor p.cutter u [] (Searching [])) (sym (untold_on p on ∙ k)) c;
+  cutter = subst (λ u. CutterStandsFor p.cutter u [] (Searching [])) (sym (unknown_on p on ∙ k)) c;
   kept = k;
   all = λ e. absurd (let f : false ≡ true = sym on ∙ e in cc);
   count = t;

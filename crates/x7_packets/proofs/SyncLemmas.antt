@@ -34,14 +34,14 @@ pub found : (m : LastThree) (x : ℕ) (r : Bool) → (IsTrue r ↔ (m.first ∷ 
 found m x r h bytes s = (λ t. found_to bytes s.before _ _ _ x (h.0 t) s.last, λ e. h.1 (found_from bytes e.0 s.before _ _ _ x s.last e.1))
 
 -- the prefixes of two lists that end in one element each
-fronts : (xs ys : List ℕ) (x y : ℕ) → xs ++ x ∷ [] ≡ ys ++ y ∷ [] → xs ≡ ys
-fronts xs ys x y e = append_cancel_right xs ys (y ∷ []) (ap (λ t. xs ++ t) (sym (same_end xs ys (x ∷ []) (y ∷ []) refl e)) ∙ e)
+prefixes : (xs ys : List ℕ) (x y : ℕ) → xs ++ x ∷ [] ≡ ys ++ y ∷ [] → xs ≡ ys
+prefixes xs ys x y e = append_cancel_right xs ys (y ∷ []) (ap (λ t. xs ++ t) (sym (same_end xs ys (x ∷ []) (y ∷ []) refl e)) ∙ e)
 
 -- a sync word that comes with the last byte has nothing after it
 pub at_the_end : (gap prefix back : List ℕ) (x : ℕ) → HasNoSync gap → gap ++ x ∷ [] ≡ prefix ++ sync_bytes ++ back → back ≡ []
 at_the_end gap prefix back x n e = elim (last_of back) [
   | inl h ↦ h
-  | inr l ↦ absurd (n.none prefix l.0 (fronts gap (prefix ++ sync_bytes ++ l.0) x l.1 (e ∙ ap (λ t. prefix ++ sync_bytes ++ t) l.2 ∙ sym (append_assoc (prefix ++ sync_bytes) l.0 (l.1 ∷ [])))))
+  | inr l ↦ absurd (n.none prefix l.0 (prefixes gap (prefix ++ sync_bytes ++ l.0) x l.1 (e ∙ ap (λ t. prefix ++ sync_bytes ++ t) l.2 ∙ sym (append_assoc (prefix ++ sync_bytes) l.0 (l.1 ∷ [])))))
 ]
 
 pub none_yet : (gap : List ℕ) (x : ℕ) → HasNoSync gap → (EndsWithSync (gap ++ x ∷ []) → ⊥) → HasNoSync (gap ++ x ∷ [])

@@ -87,11 +87,11 @@ row_table pitch base i rank slot least top (n ∷ m ∷ minors) rest p some le s
     let same : i + 1 + length (m ∷ minors) ≡ i + length (n ∷ m ∷ minors) = omega arith in
     let len : length (count_from (base + i * pitch) n ++ more) ≡ n + length more =
     length-append (count_from (base + i * pitch) n) more ∙ ap (λ x. x + length more) (length_count_from (base + i * pitch) n) in
-    let behind : IsTable (rank + n + length more) (slot + n + length more + 2) top rest =
+    let after : IsTable (rank + n + length more) (slot + n + length more + 2) top rest =
     moved _ _ _ (rank + n + length more) (slot + n + length more + 2) top rest (omega arith) (omega arith) (omega arith) t in
     let next : IsTable (rank + n) (slot + n) (base + i * pitch + n) (row_columns pitch base (i + 1) (rank + n) (slot + n) (m ∷ minors) ++ rest) =
     row_table pitch base (i + 1) (rank + n) (slot + n) (base + i * pitch + n) top (m ∷ minors) rest p (omega arith) (omega arith)
-    (rw same short) high (All-tail (λ n. (1 ≤ n) × (n ≤ most_minors)) n (m ∷ minors) all) behind in
+    (rw same short) high (All-tail (λ n. (1 ≤ n) × (n ≤ most_minors)) n (m ∷ minors) all) after in
     column rank slot least _ _ refl refl le size.0 (omega arith)
     (moved _ _ _ (rank + n) (slot + n + 0) (base + i * pitch + n) _ refl (omega arith) (omega arith) next)
 

@@ -92,12 +92,12 @@ slots_rows far rows before after r e =
 -- ---- the first slot
 
 starts_with : (fars more : List ℕ) (rest : List Slot) → 0 < length fars →
-    (behind : List Slot) × (map Frame fars ++ Pad ∷ Pad ∷ [] ++ rest ≡ Frame (get_or (fars ++ more) 0 0) ∷ behind)
+    (after : List Slot) × (map Frame fars ++ Pad ∷ Pad ∷ [] ++ rest ≡ Frame (get_or (fars ++ more) 0 0) ∷ after)
 starts_with [] more rest h = absurd (omega arith)
 starts_with (a ∷ fars) more rest h = (map Frame fars ++ Pad ∷ Pad ∷ [] ++ rest, refl)
 
 rows_start : (far : FieldWidths) (least : ℕ) (rows : List RowData) → AreRows far least rows → 1 ≤ length rows →
-    (behind : List Slot) × (slots far rows ≡ Frame (get_or (addresses far rows) 0 0) ∷ behind)
+    (after : List Slot) × (slots far rows ≡ Frame (get_or (addresses far rows) 0 0) ∷ after)
 unfolding slots addresses
 rows_start far _ _ (no_row f least) h = absurd (omega arith)
 rows_start far _ _ (row f least r rows le is rest) h =
@@ -248,11 +248,11 @@ next_is far l (r ∷ rows) x y rises has =
         λ s. here_next far r rows l x y rises here (ap (λ t. get_or t 1 End) (sym (flat far r rows l x y rises)) ∙ s),
         λ f. ap (λ t. get_or t 1 End) (flat far r rows l x y rises) ∙ here_frame far r rows l x y rises here f.0 f.1,
       )
-      | inr behind ↦
-          let ih = next_is far (rises_after l (addresses_of far r) (addresses far rows) rises).0 rows x y (rises_after l (addresses_of far r) (addresses far rows) rises).1 behind in
-          let same = flat far r rows l x y rises ∙ skips x (addresses_of far r) (Pad ∷ Pad ∷ slots far rows) (λ here. not_both far r rows l x y rises here behind) in (
+      | inr after ↦
+          let ih = next_is far (rises_after l (addresses_of far r) (addresses far rows) rises).0 rows x y (rises_after l (addresses_of far r) (addresses far rows) rises).1 after in
+          let same = flat far r rows l x y rises ∙ skips x (addresses_of far r) (Pad ∷ Pad ∷ slots far rows) (λ here. not_both far r rows l x y rises here after) in (
             λ s. let f = ih.0 (ap (λ t. get_or t 1 End) (sym same) ∙ s) in (more_follows far r rows l x y rises f.0, more_row far r rows l x y rises f.1),
-            λ f. ap (λ t. get_or t 1 End) same ∙ ih.1 (later_follows far r rows l x y rises behind f.0, later_row far r rows l x y rises behind f.1),
+            λ f. ap (λ t. get_or t 1 End) same ∙ ih.1 (later_follows far r rows l x y rises after f.0, later_row far r rows l x y rises after f.1),
           )
     ]
 

@@ -45,8 +45,8 @@ addresses_among_slots far (r ∷ rows) =
 
 -- ---- the slots from an address on
 
-behind : (far a : ℕ) (fars : List ℕ) → Contains fars far → Contains (a ∷ fars) far
-behind far a fars has = (suc has.0, (let h = has.1 in omega arith), has.2)
+contains_later : (far a : ℕ) (fars : List ℕ) → Contains fars far → Contains (a ∷ fars) far
+contains_later far a fars has = (suc has.0, (let h = has.1 in omega arith), has.2)
 
 -- what stands among the slots from a place on stands among all
 pub slot_among : (base n far : ℕ) (places : List Slot) → get_or (from base places) n End ≡ Frame far → Contains (addresses_among places) far
@@ -54,13 +54,13 @@ slot_among base n far [] e = absurd (cc)
 slot_among base n far (Frame a ∷ places) e =
     elim (cases_eq a base) [
       | inl y ↦ here n far a places (rw (eq-eqb a base y) at e)
-      | inr x ↦ behind far a (addresses_among places) (slot_among base n far places (rw (ne_eqb a base x) at e))
+      | inr x ↦ contains_later far a (addresses_among places) (slot_among base n far places (rw (ne_eqb a base x) at e))
     ]
   where
     listed : (n far : ℕ) (places : List Slot) → get_or places n End ≡ Frame far → Contains (addresses_among places) far
     listed n far [] e = absurd (cc)
     listed zero far (Frame a ∷ places) e = (0, omega arith, (let same : a ≡ far = cc in same))
-    listed (suc n) far (Frame a ∷ places) e = behind far a (addresses_among places) (listed n far places e)
+    listed (suc n) far (Frame a ∷ places) e = contains_later far a (addresses_among places) (listed n far places e)
     listed zero far (Pad ∷ places) e = absurd (cc)
     listed (suc n) far (Pad ∷ places) e = listed n far places e
     listed zero far (End ∷ places) e = absurd (cc)
@@ -90,7 +90,7 @@ some_from far [] h = absurd (omega arith)
 some_from far (Frame a ∷ places) h =
     elim (cases_eq a far) [
       | inl y ↦ (0, omega arith, y)
-      | inr x ↦ behind far a (addresses_among places) (some_from far places (rw (ne_eqb a far x) at h))
+      | inr x ↦ contains_later far a (addresses_among places) (some_from far places (rw (ne_eqb a far x) at h))
     ]
 some_from far (Pad ∷ places) h = some_from far places h
 some_from far (End ∷ places) h = some_from far places h

@@ -120,10 +120,10 @@ pub no_group : (rows : List PlanRow) (words : List ℕ) (a : ℕ) → AreTogethe
 no_group rows words a t f l n =
     let parts : with_content words (drop a rows) ≡ with_content words (take 2 (drop a rows)) ++ with_content words (drop 2 (drop a rows)) =
     ap (with_content words) (sym (take-append-drop 2 (drop a rows))) ∙ content_append words (take 2 (drop a rows)) (drop 2 (drop a rows)) in
-    let behind : with_content words (drop 2 (drop a rows)) ≡ [] = ap (with_content words) (drop-drop 2 a rows) ∙ none_after rows words a (a + 2) t f (omega arith) n in
+    let after : with_content words (drop 2 (drop a rows)) ≡ [] = ap (with_content words) (drop-drop 2 a rows) ∙ none_after rows words a (a + 2) t f (omega arith) n in
     let whole : length (with_content words rows) ≡ length (with_content words (take 2 (drop a rows))) + length (with_content words (drop 2 (drop a rows))) =
     ap length (from_first rows words a t f ∙ parts) ∙ length-append (with_content words (take 2 (drop a rows))) (with_content words (drop 2 (drop a rows))) in
-    let none : length (with_content words (drop 2 (drop a rows))) ≡ 0 = ap length behind in
+    let none : length (with_content words (drop 2 (drop a rows))) ≡ 0 = ap length after in
     let two : length (take 2 (drop a rows)) ≡ 2 = length-take-le 2 (drop a rows) (omega (arith, length-drop a rows, l)) in
     at_most (length (with_content words rows)) (omega (arith, whole, none, two, content_shorter words (take 2 (drop a rows))))
 

@@ -34,7 +34,7 @@ slots_on part plan n =
     ∙ ap bytes_of_words (sym (flat_map-append (frame_at_slot part plan) (take n places) (drop n places)) ∙ ap (words_of_slots part plan) (take-append-drop n places))
 
 -- the bytes before what is next begin the stream
-pub left_of : (part : PartData) (plan : PlanData) (behind : NextPiece) → (left : List ℕ) × (stream_of (pieces_before part plan behind) ++ left ≡ full_stream part plan)
+pub left_of : (part : PartData) (plan : PlanData) (after : NextPiece) → (left : List ℕ) × (stream_of (pieces_before part plan after) ++ left ≡ full_stream part plan)
 left_of part plan next.Opening = (full_stream part plan, refl)
 left_of part plan (next.Slot n) =
     let prefix : List ℕ = bytes_of_words (full_opening part) in
@@ -70,8 +70,8 @@ inside_at s n e is = subst (λ (x : NextPiece). slot_next x ≤ length (slots_in
 before_at : (s : FullStreamState) (given : List ℕ) (at : NextPiece) → s.next ≡ at → HasGiven s given → given ≡ stream_of (pieces_before s.part s.plan at)
 before_at s given at e h = h.before ∙ ap (λ (x : NextPiece). stream_of (pieces_before s.part s.plan x)) e
 
-calls_at : (s : FullStreamState) (at behind : NextPiece) → s.next ≡ at → calls_from (length (slots_in s.part)) behind < calls_from (length (slots_in s.part)) at → calls_from (length (slots_in s.part)) behind < puts_left s
-calls_at s at behind e h = subst (λ (x : NextPiece). calls_from (length (slots_in s.part)) behind < calls_from (length (slots_in s.part)) x) (sym e) h
+calls_at : (s : FullStreamState) (at after : NextPiece) → s.next ≡ at → calls_from (length (slots_in s.part)) after < calls_from (length (slots_in s.part)) at → calls_from (length (slots_in s.part)) after < puts_left s
+calls_at s at after e h = subst (λ (x : NextPiece). calls_from (length (slots_in s.part)) after < calls_from (length (slots_in s.part)) x) (sym e) h
 
 module _ (s : FullStreamState) (old new : List ℕ) where
   frames_before : (n to : ℕ) → s.next ≡ next.Slot n → n ≤ to → (given : List ℕ) → HasGiven s given →

@@ -34,12 +34,12 @@ full_words b m f = subst (λ (most : Option ℕ). IsFullBy most (length b.words)
 -- more words than the limit were given
 pub over_limit : (part : PartData) (d : DeviceState) (bytes reads words prefix rest : List ℕ) → AreBytes bytes → bytes ≡ prefix ++ rest → reads_given part on_the_bench d prefix ≡ reads ++ words → reads_limit < length reads + length words
     → reads_limit < length (reads_of part on_the_bench bytes)
-over_limit part d bytes reads words prefix rest fits split told k =
+over_limit part d bytes reads words prefix rest fits split known k =
     let grown = reads_grow part on_the_bench prefix rest (subst (λ x. AreBytes x) split fits) in
     let all : length (reads_of part on_the_bench bytes) ≡ length (reads_of part on_the_bench prefix) + length grown.0
     = ap (λ x. length (reads_of part on_the_bench x)) split ∙ ap length grown.1 ∙ length-append (reads_of part on_the_bench prefix) grown.0 in
     let some : length (reads_given part on_the_bench d prefix) ≤ length (reads_of part on_the_bench prefix) = given_within part on_the_bench d prefix in
-    omega (arith, all, some, ap length told, length-append reads words, k)
+    omega (arith, all, some, ap length known, length-append reads words, k)
 
 abbrev pub IsEnd : Fed → Type 0
 IsEnd (fed.ReadFull n) = ⊥
@@ -53,7 +53,7 @@ is_end (fed.Iprog n) h = tt
 
 pub stopped_end : (part : PartData) (bytes prefix rest : List ℕ) (d : DeviceState) (reads : List ℕ) (s : Stopped) → AreBytes bytes → bytes ≡ prefix ++ rest → DeviceStandsFor part on_the_bench false d prefix → reads ≡ reads_given part on_the_bench d prefix → length reads ≤ reads_limit
     → stop_in part on_the_bench prefix ≡ Some s → NoWordDue d → IsPlayed part bytes d reads
-stopped_end part bytes prefix rest d reads s fits split stands told few stop due =
+stopped_end part bytes prefix rest d reads s fits split stands known few stop due =
     let all : AreBytes (prefix ++ rest) = subst (λ x. AreBytes x) split fits in
     record {
       prefix = prefix;
@@ -62,6 +62,6 @@ stopped_end part bytes prefix rest d reads s fits split stands told few stop due
       state = ap (state_of part on_the_bench false) split ∙ stop_is_final_state part on_the_bench false prefix rest s all stop;
       memory = ap (memory_in part on_the_bench) split ∙ stop_is_final_memory part on_the_bench prefix rest s all stop;
       none_due = due;
-      reads_are = told ∙ given_all part on_the_bench d prefix due ∙ sym (ap (reads_of part on_the_bench) split ∙ stop_is_final_reads part on_the_bench prefix rest s all stop);
+      reads_are = known ∙ given_all part on_the_bench d prefix due ∙ sym (ap (reads_of part on_the_bench) split ∙ stop_is_final_reads part on_the_bench prefix rest s all stop);
       few = few;
     }

@@ -41,8 +41,8 @@ over_grows part bytes more fits o =
 -- ---- a feed
 
 -- what was taken before and of a piece, and what is left of all
-pub behind : (part : PartData) (bytes piece : List ℕ) (n : ℕ) (d : DeviceState) (reads : List ℕ) → (s : Plays part bytes d reads) → (IsSome (stop_in part on_the_bench s.taken) → n ≡ 0) → (rest : List ℕ) × (bytes ++ piece ≡ (s.taken ++ take n piece) ++ rest)
-behind part bytes piece n d reads s still = by s.ends
+pub rest_of_turn : (part : PartData) (bytes piece : List ℕ) (n : ℕ) (d : DeviceState) (reads : List ℕ) → (s : Plays part bytes d reads) → (IsSome (stop_in part on_the_bench s.taken) → n ≡ 0) → (rest : List ℕ) × (bytes ++ piece ≡ (s.taken ++ take n piece) ++ rest)
+rest_of_turn part bytes piece n d reads s still = by s.ends
   where
     by : (s.left ≡ []) ⊎ IsSome (stop_in part on_the_bench s.taken) → (rest : List ℕ) × (bytes ++ piece ≡ (s.taken ++ take n piece) ++ rest)
     by (inl e) = (
@@ -71,7 +71,7 @@ taken_fit part bytes piece d reads s fits = all_append (λ b. b < 256) s.taken p
 -- a feed that waits for room
 pub fed_full : (part : PartData) (bytes piece : List ℕ) (d e : DeviceState) (reads now : List ℕ) → (s : Plays part bytes d reads) → AreBytes piece → DeviceStandsFor part on_the_bench false e (s.taken ++ piece) → stop_in part on_the_bench (s.taken ++ piece) ≡ None
     → now ≡ reads_given part on_the_bench e (s.taken ++ piece) → length now ≤ reads_limit → Plays part (bytes ++ piece) e now
-fed_full part bytes piece d e reads now s fits stands none told few =
+fed_full part bytes piece d e reads now s fits stands none known few =
     let fit = taken_fit part bytes piece d reads s fits in
     let all = ap (λ b. b ++ piece) (went_on part bytes piece d reads s fit none) in
     record {
@@ -81,14 +81,14 @@ fed_full part bytes piece d e reads now s fits stands none told few =
       ends = inl refl;
       fits = subst (λ x. AreBytes x) (sym all) fit;
       stands = stands;
-      reads_are = told;
+      reads_are = known;
       few = few;
     }
 
 fed_stopped : (part : PartData) (bytes piece : List ℕ) (n : ℕ) (d e : DeviceState) (reads now : List ℕ) → (s : Plays part bytes d reads) → (IsSome (stop_in part on_the_bench s.taken) → n ≡ 0) → AreBytes (bytes ++ piece) → DeviceStandsFor part on_the_bench false e (s.taken ++ take n piece) → (st : Stopped) → stop_in part on_the_bench (s.taken ++ take n piece) ≡ Some st
     → now ≡ reads_given part on_the_bench e (s.taken ++ take n piece) → length now ≤ reads_limit → Plays part (bytes ++ piece) e now
-fed_stopped part bytes piece n d e reads now s still fits stands st stop told few =
-    let rest = behind part bytes piece n d reads s still in
+fed_stopped part bytes piece n d e reads now s still fits stands st stop known few =
+    let rest = rest_of_turn part bytes piece n d reads s still in
     record {
       taken = s.taken ++ take n piece;
       left = rest.0;
@@ -96,7 +96,7 @@ fed_stopped part bytes piece n d e reads now s still fits stands st stop told fe
       ends = inr (some_is (stop_in part on_the_bench (s.taken ++ take n piece)) st stop);
       fits = fits;
       stands = stands;
-      reads_are = told;
+      reads_are = known;
       few = few;
     }
 
@@ -104,16 +104,16 @@ fed_stopped part bytes piece n d e reads now s still fits stands st stop told fe
 pub fed_end : (part : PartData) (bytes piece : List ℕ) (d e : DeviceState) (read : ReadBufState) (reads now : List ℕ) (f : Fed) → (s : Plays part bytes d reads) → IsEnd f → AreBytes piece → (IsSome (stop_in part on_the_bench s.taken) → taken_in (length piece) f ≡ 0)
     → DeviceStandsFor part on_the_bench false e (s.taken ++ take (taken_in (length piece) f) piece) → Answers (past_of part on_the_bench false (s.taken ++ take (taken_in (length piece) f) piece)) e read f
     → now ≡ reads_given part on_the_bench e (s.taken ++ take (taken_in (length piece) f) piece) → length now ≤ reads_limit → Plays part (bytes ++ piece) e now × NoWordDue e
-fed_end part bytes piece d e read reads now (fed.ReadFull n) s end fits still stands answer told few = absurd end
-fed_end part bytes piece d e read reads now (fed.Stopped n) s end fits still stands answer told few =
-    (fed_stopped part bytes piece n d e reads now s still (all_append (λ b. b < 256) bytes piece s.fits fits) stands _ answer.1 told few, answer.2)
-fed_end part bytes piece d e read reads now (fed.Iprog n) s end fits still stands answer told few =
-    (fed_stopped part bytes piece n d e reads now s still (all_append (λ b. b < 256) bytes piece s.fits fits) stands _ answer.0 told few, answer.1)
-fed_end part bytes piece d e read reads now fed.All s end fits still stands answer told few =
+fed_end part bytes piece d e read reads now (fed.ReadFull n) s end fits still stands answer known few = absurd end
+fed_end part bytes piece d e read reads now (fed.Stopped n) s end fits still stands answer known few =
+    (fed_stopped part bytes piece n d e reads now s still (all_append (λ b. b < 256) bytes piece s.fits fits) stands _ answer.1 known few, answer.2)
+fed_end part bytes piece d e read reads now (fed.Iprog n) s end fits still stands answer known few =
+    (fed_stopped part bytes piece n d e reads now s still (all_append (λ b. b < 256) bytes piece s.fits fits) stands _ answer.0 known few, answer.1)
+fed_end part bytes piece d e read reads now fed.All s end fits still stands answer known few =
     let whole : take (length piece) piece ≡ piece = take-length piece in
     let there = rw whole at stands in
     let none = rw whole at answer.0 in
-    let words = rw whole at told in
+    let words = rw whole at known in
     (fed_full part bytes piece d e reads now s fits there none words few, answer.1)
 
 -- ---- the end of a play
@@ -202,19 +202,19 @@ some_fits piece n fits = all_prefix (λ b. b < 256) (take n piece) (drop n piece
 
 pub turn_over : (part : PartData) (bytes piece : List ℕ) (at n : ℕ) (d e : DeviceState) (reads more : List ℕ) → AreBytes bytes → AreBytes piece → (s : Plays part (bytes ++ take at piece) d reads) → (IsSome (stop_in part on_the_bench s.taken) → n ≡ 0)
     → reads_given part on_the_bench e (s.taken ++ take n (drop at piece)) ≡ reads_given part on_the_bench d s.taken ++ more → reads_limit < length reads + length more → ReadsOver part (bytes ++ piece)
-turn_over part bytes piece at n d e reads more fb fp s still told many =
+turn_over part bytes piece at n d e reads more fb fp s still known many =
     let fits : AreBytes (bytes ++ piece) = all_append (λ b. b < 256) bytes piece fb fp in
-    let rest = behind part (bytes ++ take at piece) (drop at piece) n d reads s still in
+    let rest = rest_of_turn part (bytes ++ take at piece) (drop at piece) n d reads s still in
     record {
       fits = fits;
-      many = over_limit part e (bytes ++ piece) reads more (s.taken ++ take n (drop at piece)) rest.0 fits (sym (whole_piece bytes piece at) ∙ rest.1) (told ∙ ap (λ x. x ++ more) (sym s.reads_are)) many;
+      many = over_limit part e (bytes ++ piece) reads more (s.taken ++ take n (drop at piece)) rest.0 fits (sym (whole_piece bytes piece at) ∙ rest.1) (known ∙ ap (λ x. x ++ more) (sym s.reads_are)) many;
     }
 
 pub turn_full : (part : PartData) (bytes piece : List ℕ) (at n : ℕ) (d e : DeviceState) (reads now more : List ℕ) → AreBytes piece → (s : Plays part (bytes ++ take at piece) d reads) → DeviceStandsFor part on_the_bench false e (s.taken ++ take n (drop at piece))
     → stop_in part on_the_bench (s.taken ++ take n (drop at piece)) ≡ None → reads_given part on_the_bench e (s.taken ++ take n (drop at piece)) ≡ reads_given part on_the_bench d s.taken ++ more → now ≡ reads ++ more → length now ≤ reads_limit
     → Plays part (bytes ++ take (at + n) piece) e now
-turn_full part bytes piece at n d e reads now more fp s stands none told is few =
-    let words : now ≡ reads_given part on_the_bench e (s.taken ++ take n (drop at piece)) = is ∙ ap (λ x. x ++ more) s.reads_are ∙ sym told in
+turn_full part bytes piece at n d e reads now more fp s stands none known is few =
+    let words : now ≡ reads_given part on_the_bench e (s.taken ++ take n (drop at piece)) = is ∙ ap (λ x. x ++ more) s.reads_are ∙ sym known in
     subst (λ b. Plays part b e now) (more_piece bytes piece at n)
     (fed_full part (bytes ++ take at piece) (take n (drop at piece)) d e reads now s (some_fits (drop at piece) n (rest_fits piece at fp)) stands none words few)
 
@@ -223,8 +223,8 @@ pub turn_end : (part : PartData) (bytes piece : List ℕ) (at : ℕ) (d e : Devi
     → Answers (past_of part on_the_bench false (s.taken ++ take (taken_in (length (drop at piece)) f) (drop at piece))) e read f
     → reads_given part on_the_bench e (s.taken ++ take (taken_in (length (drop at piece)) f) (drop at piece)) ≡ reads_given part on_the_bench d s.taken ++ more → now ≡ reads ++ more → length now ≤ reads_limit
     → Plays part (bytes ++ piece) e now × NoWordDue e
-turn_end part bytes piece at d e read reads now more f fp s end still stands answer told is few =
-    let words : now ≡ reads_given part on_the_bench e (s.taken ++ take (taken_in (length (drop at piece)) f) (drop at piece)) = is ∙ ap (λ x. x ++ more) s.reads_are ∙ sym told in
+turn_end part bytes piece at d e read reads now more f fp s end still stands answer known is few =
+    let words : now ≡ reads_given part on_the_bench e (s.taken ++ take (taken_in (length (drop at piece)) f) (drop at piece)) = is ∙ ap (λ x. x ++ more) s.reads_are ∙ sym known in
     subst (λ b. Plays part b e now × NoWordDue e) (whole_piece bytes piece at)
     (fed_end part (bytes ++ take at piece) (drop at piece) d e read reads now f s end (rest_fits piece at fp) still stands answer words few)
 

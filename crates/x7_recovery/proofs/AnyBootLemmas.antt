@@ -26,15 +26,15 @@ boots_open o is c course = record {
 }
 
 -- boots from an image of two streams, with anything after it
-pub image_boots : (part : PartData) (golden update behind : List ℕ) → IsPart part → image_size (length golden) (length update) ≤ flash_limit → HasStreams part golden update (image_of part.start_unit golden update ++ behind)
-image_boots part golden update behind is fits =
+pub image_boots : (part : PartData) (golden update after : List ℕ) → IsPart part → image_size (length golden) (length update) ≤ flash_limit → HasStreams part golden update (image_of part.start_unit golden update ++ after)
+image_boots part golden update after is fits =
     let place : ℕ = place_after_golden (length golden) in
-    let flash : List ℕ = image_of part.start_unit golden update ++ behind in
-    let begins : BeginsAsImage part flash place = image_as part golden update behind is fits in
+    let flash : List ℕ = image_of part.start_unit golden update ++ after in
+    let begins : BeginsAsImage part flash place = image_as part golden update after is fits in
     record {
       begins = begins;
-      has_golden = image_golden_stands part golden update behind is fits;
-      has_update = image_update_stands part golden update behind is fits;
+      has_golden = image_golden_stands part golden update after is fits;
+      has_update = image_update_stands part golden update after is fits;
       boots = boots_open (image_of_flash part flash place) (image_is_opened part flash place is begins);
     }
 

@@ -59,8 +59,8 @@ regroup_word : (a b p w back more : List ℕ) → (a ++ (b ++ (p ++ (w ++ back))
 regroup_word a b p w back more = simp append_assoc
 
 module _ (flash : List ℕ) (number start : ℕ) (o : HasOpen flash number start) (small : start < 2 ^ 32) (s rest : List ℕ) (split : flash ≡ (sector flash number start o small ++ s) ++ rest) (fits : AreBytes (sector flash number start o small ++ s)) where
-  abbrev front : List ℕ
-  front = slots.sector flash number start o small
+  abbrev first : List ℕ
+  first = slots.sector flash number start o small
 
   abbrev before : List ℕ
   before = slots.gap flash number start o small
@@ -68,7 +68,7 @@ module _ (flash : List ℕ) (number start : ℕ) (o : HasOpen flash number start
   abbrev after : List ℕ
   after = slots.more flash number start o small
 
-  whole_is : front ++ s ≡ before ++ (open_slot start ++ (after ++ s))
+  whole_is : first ++ s ≡ before ++ (open_slot start ++ (after ++ s))
   whole_is = ap (λ (x : List ℕ). x ++ s) (slots.sector_is flash number start o small) ∙ regroup before (open_slot start) after s
 
   lengths : length before + (32 + length after) ≡ 65536
@@ -107,7 +107,7 @@ module _ (flash : List ℕ) (number start : ℕ) (o : HasOpen flash number start
       ∙ ap (λ (n : ℕ). moved n (moved (length after) (history_of s)) ++ history_of (open_slot start)) (slot_long 0xAA995566 start)
       ∙ ap (λ (h : History). moved 32 (moved (length after) (history_of s)) ++ h) (slot_history start small)
 
-  pub sector_then : history_of (front ++ s) ≡ moved 65536 (history_of s) ++ desync_at (32 * number) start
+  pub sector_then : history_of (first ++ s) ≡ moved 65536 (history_of s) ++ desync_at (32 * number) start
   sector_then =
       let inner : History = moved 32 (moved (length after) (history_of s)) in
       let n : ℕ = length before in
@@ -128,8 +128,8 @@ module _ (o : Opened) (is : IsOpened o) (t : AttemptCourse) (c : StartsClean o.p
   abbrev one : List ℕ
   one = with_erased o.flash
 
-  abbrev front' : List ℕ
-  front' = take 65536 o.flash
+  abbrev prefix' : List ℕ
+  prefix' = take 65536 o.flash
 
   x : EndsFirst o.part one t
   x = ended o.part one t c.starts
@@ -150,11 +150,11 @@ module _ (o : Opened) (is : IsOpened o) (t : AttemptCourse) (c : StartsClean o.p
   one_is : one ≡ (erased_sector ++ s) ++ x.rest
   one_is = x.taken ∙ ap (λ (b : List ℕ). b ++ x.rest) bytes_are
 
-  behind_is : drop 65536 o.flash ≡ s ++ x.rest
-  behind_is = sym (erased_drop (drop 65536 o.flash)) ∙ ap (drop 65536) (one_is ∙ append_assoc erased_sector s x.rest) ∙ erased_drop (s ++ x.rest)
+  after_is : drop 65536 o.flash ≡ s ++ x.rest
+  after_is = sym (erased_drop (drop 65536 o.flash)) ∙ ap (drop 65536) (one_is ∙ append_assoc erased_sector s x.rest) ∙ erased_drop (s ++ x.rest)
 
-  flash_is : o.flash ≡ (front' ++ s) ++ x.rest
-  flash_is = sym (take-append-drop 65536 o.flash) ∙ ap (λ (y : List ℕ). front' ++ y) behind_is ∙ sym (append_assoc front' s x.rest)
+  flash_is : o.flash ≡ (prefix' ++ s) ++ x.rest
+  flash_is = sym (take-append-drop 65536 o.flash) ∙ ap (λ (y : List ℕ). prefix' ++ y) after_is ∙ sym (append_assoc prefix' s x.rest)
 
   s_fits : AreBytes s
   s_fits = all_back (λ b. b < 256) erased_sector s (subst AreBytes bytes_are c.fits)
@@ -165,10 +165,10 @@ module _ (o : Opened) (is : IsOpened o) (t : AttemptCourse) (c : StartsClean o.p
   going : stop_in o.part at_power (erased_sector ++ s) ≡ None
   going = sym (ap (stop_in o.part at_power) bytes_are) ∙ ap (λ (k : Kept). stop_in o.part k t.bytes) (sym c.starts.kept) ∙ c.going
 
-  front_long : length front' ≡ 65536
-  front_long = sector_long o.flash o.slot o.start is.has is.small
+  prefix_long : length prefix' ≡ 65536
+  prefix_long = sector_long o.flash o.slot o.start is.has is.small
 
-  -- fronts of the golden stream
+  -- prefixes of the golden stream
   module _ (k : ℕ) where
     abbrev sk : List ℕ
     sk = take k s
@@ -179,17 +179,17 @@ module _ (o : Opened) (is : IsOpened o) (t : AttemptCourse) (c : StartsClean o.p
     power_long : length (erased_sector ++ sk) ≡ 65536 + length sk
     power_long = length-append erased_sector sk ∙ ap (λ (n : ℕ). n + length sk) length_erased_sector
 
-    fall_long : length (front' ++ sk) ≡ 65536 + length sk
-    fall_long = length-append front' sk ∙ ap (λ (n : ℕ). n + length sk) front_long
+    fall_long : length (prefix' ++ sk) ≡ 65536 + length sk
+    fall_long = length-append prefix' sk ∙ ap (λ (n : ℕ). n + length sk) prefix_long
 
     power_history : history_of (erased_sector ++ sk) ≡ moved 65536 (history_of sk)
     power_history = erased_history sk sk_fits
 
-    fall_history : history_of (front' ++ sk) ≡ moved 65536 (history_of sk) ++ desync_at (32 * o.slot) o.start
+    fall_history : history_of (prefix' ++ sk) ≡ moved 65536 (history_of sk) ++ desync_at (32 * o.slot) o.start
     fall_history =
         let rest_k : List ℕ = drop k s ++ x.rest in
-        let split : o.flash ≡ (front' ++ sk) ++ rest_k = flash_is ∙ ap (λ (y : List ℕ). (front' ++ y) ++ x.rest) (sym (take-append-drop k s)) ∙ ap (λ (y : List ℕ). y ++ x.rest) (sym (append_assoc front' sk (drop k s))) ∙ append_assoc (front' ++ sk) (drop k s) x.rest in
-        sector_then o.flash o.slot o.start is.has is.small sk rest_k split (all_append (λ b. b < 256) front' sk is.has.fits sk_fits)
+        let split : o.flash ≡ (prefix' ++ sk) ++ rest_k = flash_is ∙ ap (λ (y : List ℕ). (prefix' ++ y) ++ x.rest) (sym (take-append-drop k s)) ∙ ap (λ (y : List ℕ). y ++ x.rest) (sym (append_assoc prefix' sk (drop k s))) ∙ append_assoc (prefix' ++ sk) (drop k s) x.rest in
+        sector_then o.flash o.slot o.start is.has is.small sk rest_k split (all_append (λ b. b < 256) prefix' sk is.has.fits sk_fits)
 
     clean : AreClean (history_of sk)
     clean = subst AreClean (sym (prefix_history k s s_fits)) (clean_until (length sk) (history_of s) c.clean)
@@ -210,49 +210,49 @@ module _ (o : Opened) (is : IsOpened o) (t : AttemptCourse) (c : StartsClean o.p
           (λ m l. (going_bytes o.part kept NotBegun (desync_at (32 * o.slot) o.start) 65536 m l slot_going).calm.no_stop) (history_of sk) (65536 + length sk) (omega arith) clean
           (sym (ap (λ (h : History). stop_of o.part at_power h (length (erased_sector ++ sk))) power_history ∙ ap (stop_of o.part at_power (moved 65536 (history_of sk))) power_long) ∙ power_going)
 
-      fall_going : stop_in o.part kept (front' ++ sk) ≡ None
-      fall_going = ap (λ (h : History). stop_of o.part kept h (length (front' ++ sk))) fall_history ∙ ap (stop_of o.part kept (moved 65536 (history_of sk) ++ desync_at (32 * o.slot) o.start)) fall_long ∙ alike.none
+      fall_going : stop_in o.part kept (prefix' ++ sk) ≡ None
+      fall_going = ap (λ (h : History). stop_of o.part kept h (length (prefix' ++ sk))) fall_history ∙ ap (stop_of o.part kept (moved 65536 (history_of sk) ++ desync_at (32 * o.slot) o.start)) fall_long ∙ alike.none
 
-      progress_alike : startup_progress (history_of (front' ++ sk)) (length (front' ++ sk)) ≡ startup_progress (history_of (erased_sector ++ sk)) (length (erased_sector ++ sk))
+      progress_alike : startup_progress (history_of (prefix' ++ sk)) (length (prefix' ++ sk)) ≡ startup_progress (history_of (erased_sector ++ sk)) (length (erased_sector ++ sk))
       progress_alike =
-          ap (λ (h : History). startup_progress h (length (front' ++ sk))) fall_history ∙ ap (startup_progress (moved 65536 (history_of sk) ++ desync_at (32 * o.slot) o.start)) fall_long
+          ap (λ (h : History). startup_progress h (length (prefix' ++ sk))) fall_history ∙ ap (startup_progress (moved 65536 (history_of sk) ++ desync_at (32 * o.slot) o.start)) fall_long
           ∙ alike.startup.1
           ∙ sym (ap (λ (h : History). startup_progress h (length (erased_sector ++ sk))) power_history ∙ ap (startup_progress (moved 65536 (history_of sk))) power_long)
 
-      ending_alike : ending_at o.part kept (front' ++ sk) ≡ ending_at o.part at_power (erased_sector ++ sk)
+      ending_alike : ending_at o.part kept (prefix' ++ sk) ≡ ending_at o.part at_power (erased_sector ++ sk)
       ending_alike =
-          ends_going o.part kept (front' ++ sk) fall_going
+          ends_going o.part kept (prefix' ++ sk) fall_going
           ∙ ap (λ (p : StartupProgress). if phase_by o.part p == 7 then Some Started else None) progress_alike
           ∙ sym (ends_going o.part at_power (erased_sector ++ sk) power_going)
 
-      memory_alike : memory_in o.part kept (front' ++ sk) ≡ memory_in o.part at_power (erased_sector ++ sk)
+      memory_alike : memory_in o.part kept (prefix' ++ sk) ≡ memory_in o.part at_power (erased_sector ++ sk)
       memory_alike =
-          memory_all o.part kept (front' ++ sk) fall_going ∙ ap (memory_of o.part) fall_history ∙ alike.memory ∙ ap (memory_of o.part) (sym power_history) ∙ sym (memory_all o.part at_power (erased_sector ++ sk) power_going)
+          memory_all o.part kept (prefix' ++ sk) fall_going ∙ ap (memory_of o.part) fall_history ∙ alike.memory ∙ ap (memory_of o.part) (sym power_history) ∙ sym (memory_all o.part at_power (erased_sector ++ sk) power_going)
 
   module _ (kept : Kept) (fell : is_fallback kept.kind ≡ true) where
     all_of : take (length s) s ≡ s
     all_of = take-length s
 
     abbrev fallen : AttemptCourse
-    fallen = record { kept = kept; address = 0; bytes = front' ++ s; wrapped = false; ending = Started }
+    fallen = record { kept = kept; address = 0; bytes = prefix' ++ s; wrapped = false; ending = Started }
 
     fallen_alike : (k : ℕ) → k ≤ length t.bytes → ending_at o.part kept (take k o.flash) ≡ ending_at o.part t.kept (take k one)
     fallen_alike k within =
-        let most : k ≤ length (front' ++ s) = omega (arith, within, length-append front' s, front_long, length-drop 65536 t.bytes, long) in
-        let here : take k o.flash ≡ take k (front' ++ s) = ap (take k) flash_is ∙ take-append-le k (front' ++ s) x.rest most in
+        let most : k ≤ length (prefix' ++ s) = omega (arith, within, length-append prefix' s, prefix_long, length-drop 65536 t.bytes, long) in
+        let here : take k o.flash ≡ take k (prefix' ++ s) = ap (take k) flash_is ∙ take-append-le k (prefix' ++ s) x.rest most in
         elim (cases_lt k 65536) [
           | inl early ↦
-              ap (ending_at o.part kept) (here ∙ take-append-le k front' s (omega (arith, early, front_long)))
-              ∙ prefix_open o.part kept k front' is.has.fits (sector_never o.flash o.slot o.start is.has is.small) (prefix_goes o.part kept k front' is.has.fits (sector_rests o.flash o.slot o.start is.has is.small o.part kept fell).no_stop)
+              ap (ending_at o.part kept) (here ∙ take-append-le k prefix' s (omega (arith, early, prefix_long)))
+              ∙ prefix_open o.part kept k prefix' is.has.fits (sector_never o.flash o.slot o.start is.has is.small) (prefix_goes o.part kept k prefix' is.has.fits (sector_rests o.flash o.slot o.start is.has is.small o.part kept fell).no_stop)
               ∙ sym (x.first k (omega (arith, early, long)))
           | inr late ↦
               let j : ℕ = k - 65536 in
-              let sum : length front' + j ≡ k = omega (arith, late, front_long) in
+              let sum : length prefix' + j ≡ k = omega (arith, late, prefix_long) in
               let same : length erased_sector + j ≡ k = omega (arith, late, length_erased_sector) in
               let whole : k ≤ length (erased_sector ++ s) = omega (arith, within, ap length bytes_are) in
               let taken : take k one ≡ erased_sector ++ take j s =
               ap (take k) one_is ∙ take-append-le k (erased_sector ++ s) x.rest whole ∙ ap (λ (n : ℕ). take n (erased_sector ++ s)) (sym same) ∙ take-append-add erased_sector s j in
-              ap (ending_at o.part kept) (here ∙ ap (λ (n : ℕ). take n (front' ++ s)) (sym sum) ∙ take-append-add front' s j)
+              ap (ending_at o.part kept) (here ∙ ap (λ (n : ℕ). take n (prefix' ++ s)) (sym sum) ∙ take-append-add prefix' s j)
               ∙ ending_alike j kept fell
               ∙ ap (ending_at o.part at_power) (sym taken)
               ∙ ap (λ (q : Kept). ending_at o.part q (take k one)) (sym c.starts.kept)
@@ -260,25 +260,25 @@ module _ (o : Opened) (is : IsOpened o) (t : AttemptCourse) (c : StartsClean o.p
 
     pub fallen_is : IsAttemptOver o.part o.flash fallen
     fallen_is =
-        let count : length (front' ++ s) ≡ length t.bytes = omega (arith, length-append front' s, front_long, length-drop 65536 t.bytes, long) in
+        let count : length (prefix' ++ s) ≡ length t.bytes = omega (arith, length-append prefix' s, prefix_long, length-drop 65536 t.bytes, long) in
         inl (ends_alike o.part one o.flash t fallen x (record {
-          bytes = sym (ap (take (length t.bytes)) flash_is ∙ ap (λ (n : ℕ). take n ((front' ++ s) ++ x.rest)) (sym count) ∙ take-append_seam (front' ++ s) x.rest);
-          long = omega (arith, ap length flash_is, length-append (front' ++ s) x.rest, count);
+          bytes = sym (ap (take (length t.bytes)) flash_is ∙ ap (λ (n : ℕ). take n ((prefix' ++ s) ++ x.rest)) (sym count) ∙ take-append_seam (prefix' ++ s) x.rest);
+          long = omega (arith, ap length flash_is, length-append (prefix' ++ s) x.rest, count);
           ending = sym c.starts.started;
           in_flash = refl;
           prefixes = fallen_alike;
         }))
 
-    fallen_memory : memory_in o.part kept (front' ++ s) ≡ memory_in o.part t.kept t.bytes
+    fallen_memory : memory_in o.part kept (prefix' ++ s) ≡ memory_in o.part t.kept t.bytes
     fallen_memory =
-        ap (λ (y : List ℕ). memory_in o.part kept (front' ++ y)) (sym all_of) ∙ memory_alike (length s) kept fell ∙ ap (λ (y : List ℕ). memory_in o.part at_power (erased_sector ++ y)) all_of
+        ap (λ (y : List ℕ). memory_in o.part kept (prefix' ++ y)) (sym all_of) ∙ memory_alike (length s) kept fell ∙ ap (λ (y : List ℕ). memory_in o.part at_power (erased_sector ++ y)) all_of
         ∙ ap (memory_in o.part at_power) (sym bytes_are) ∙ ap (λ (k : Kept). memory_in o.part k t.bytes) (sym c.starts.kept)
 
-    fallen_going : stop_in o.part kept (front' ++ s) ≡ None
-    fallen_going = ap (λ (y : List ℕ). stop_in o.part kept (front' ++ y)) (sym all_of) ∙ fall_going (length s) kept fell
+    fallen_going : stop_in o.part kept (prefix' ++ s) ≡ None
+    fallen_going = ap (λ (y : List ℕ). stop_in o.part kept (prefix' ++ y)) (sym all_of) ∙ fall_going (length s) kept fell
 
-    fallen_wrote : wrote_iprog (history_of (front' ++ s)) ≡ true
-    fallen_wrote = iprog_later front' s (all_append (λ b. b < 256) front' s is.has.fits s_fits) (sector_wrote o.flash o.slot o.start is.has is.small)
+    fallen_wrote : wrote_iprog (history_of (prefix' ++ s)) ≡ true
+    fallen_wrote = iprog_later prefix' s (all_append (λ b. b < 256) prefix' s is.has.fits s_fits) (sector_wrote o.flash o.slot o.start is.has is.small)
 
   pub falls_clean : (a : BootCourse) (u : AttemptCourse) (cause : Cause) → IsCourse o.part o.flash a → UpdateFails o u cause false → FallsBackClean o cause t a
   falls_clean a u cause course fails =
@@ -288,9 +288,9 @@ module _ (o : Opened) (is : IsOpened o) (t : AttemptCourse) (c : StartsClean o.p
       record {
         attempts_are = f.attempts_are;
         started = f.started;
-        taken = ap (λ (v : AttemptCourse). length v.bytes) f.last_is ∙ omega (arith, length-append front' s, front_long, length-drop 65536 t.bytes, long);
+        taken = ap (λ (v : AttemptCourse). length v.bytes) f.last_is ∙ omega (arith, length-append prefix' s, prefix_long, length-drop 65536 t.bytes, long);
         memory = ap (λ (v : AttemptCourse). memory_in o.part v.kept v.bytes) f.last_is ∙ fallen_memory kept refl;
         bootsts = ap (λ (v : AttemptCourse). (end_state o.part v).bootsts) f.last_is
-            ∙ bootsts_is o.part kept (front' ++ s) true (fallen_going kept refl) (fallen_wrote kept refl)
+            ∙ bootsts_is o.part kept (prefix' ++ s) true (fallen_going kept refl) (fallen_wrote kept refl)
             ∙ ap (λ (a : Attempt). boot_status_of (record { kind = Fallback; cause = None; ignored = true }) (Some a)) (failed_attempt o is u cause fails);
       }

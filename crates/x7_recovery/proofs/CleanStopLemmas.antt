@@ -62,7 +62,7 @@ module _ (part : PartData) (kept power : Kept) (low : ℕ) (fell : is_fallback k
     abbrev pub IsClean : History → Type 0
     IsClean h = IsLead h ⊎ BeginsClean h
 
-    -- what a front comes to: no stop, startup as at power, and the same memory
+    -- what a prefix comes to: no stop, startup as at power, and the same memory
     pub record ComesAlike (h : History) (m : ℕ) : Type 0 where
       pub none : stop_of part kept (moved low h ++ c) m ≡ None
       pub startup : SameStartup (startup_calls (moved low h ++ c) m) (startup_calls (moved low h) m)

@@ -15,7 +15,7 @@ use Rattle.x7_boot.specs.Image as image
 use Rattle.x7_boot.specs.Image.{free_slot, free_slots, first_sector, flash_limit, image_of, image_size, open_slot, slot}
 use Rattle.x7_update.specs.After.{IsAfter, IsBetween, spends, switched, with_stream}
 use Rattle.x7_update.specs.Layout.{HasLayout, IsOpen, first_slot, four_at, open_switch, spent_switch, switch_of, update_place}
-use Rattle.x7_update.proofs.CaseLemmas.{behind, between_below, between_closed, stream_keeps}
+use Rattle.x7_update.proofs.CaseLemmas.{between_below, between_closed, outside_switch, stream_keeps}
 use Rattle.x7_update.proofs.LawLemmas.{no_sync}
 use Rattle.x7_update.proofs.SwitchLemmas.{length_switched, same_four, switch_switched, switched_others}
 use Rattle.x7_boot.specs.Boot.{start_address}
@@ -46,7 +46,7 @@ module _ (flash now found : List ℕ) (number : ℕ) (l : HasLayout flash) (b : 
   byte_at : (i m : ℕ) → i < 65536 → i % 32 ≡ m → 4 ≤ m → get_or found i 0 ≡ get_or (first_slot flash) m 0
   byte_at i m h e k =
       let at : 32 * (i / 32) + m ≡ i = omega (arith, e) in
-      others i (behind number i (omega (arith, e, k))) ∙ b.slots i h (omega (arith, e, k)) ∙ ap (λ (n : ℕ). get_or flash n 0) (sym at) ∙ l.slots.leads (i / 32) (omega (arith, h)) m k (omega (arith, e))
+      others i (outside_switch number i (omega (arith, e, k))) ∙ b.slots i h (omega (arith, e, k)) ∙ ap (λ (n : ℕ). get_or flash n 0) (sym at) ∙ l.slots.leads (i / 32) (omega (arith, h)) m k (omega (arith, e))
 
   same_outside : (place : ℕ) → ((k : ℕ) → k < 4 → (place + k < 32 * number) ⊎ (32 * number + 4 ≤ place + k)) → four_at found place ≡ four_at now place
   same_outside place out =
@@ -210,10 +210,10 @@ module _ (stream flash found : List ℕ) (l : HasLayout flash) (a : IsAfter stre
   after_stream =
       let place : ℕ = update_place flash in
       let fill : List ℕ = replicate (length a.closed - (place + length stream)) 255 in
-      let front : length (take place a.closed) ≡ place = length-take-le place a.closed (omega (arith, l.slots.place.most, closed_shut.size)) in (
+      let prefix : length (take place a.closed) ≡ place = length-take-le place a.closed (omega (arith, l.slots.place.most, closed_shut.size)) in (
         fill,
         same_from flash now found a.next l now_shut a.is_next.within found_size found_others found_open place (omega (arith, l.slots.place.least))
-            ∙ ap (λ (n : ℕ). drop n now) (sym front) ∙ drop-append_seam (take place a.closed) (stream ++ fill),
+            ∙ ap (λ (n : ℕ). drop n now) (sym prefix) ∙ drop-append_seam (take place a.closed) (stream ++ fill),
       )
 
 -- ---- a flash that begins as an image does
@@ -243,8 +243,8 @@ unfolding slot
 closed_end start = (refl, refl, refl)
 
 module _ (start : ℕ) (flash more : List ℕ) (whole : start % 256 ≡ 0) (low : start < 0xAA000000) (begins : flash ≡ first_sector start ++ more) where
-  front_is : take 65536 flash ≡ first_sector start
-  front_is = ap (take 65536) begins ∙ ap (λ (n : ℕ). take n (first_sector start ++ more)) (sym (sector_long start)) ∙ take-append_seam (first_sector start) more
+  prefix_is : take 65536 flash ≡ first_sector start
+  prefix_is = ap (take 65536) begins ∙ ap (λ (n : ℕ). take n (first_sector start ++ more)) (sym (sector_long start)) ∙ take-append_seam (first_sector start) more
 
   image_stands : take 32 (drop 0 flash) ≡ open_slot start
   image_stands =
@@ -295,11 +295,11 @@ module _ (start : ℕ) (flash more : List ℕ) (whole : start % 256 ≡ 0) (low 
     stands = image_stands;
     alone = image_alone;
     long = omega (arith, ap length begins, length-append (first_sector start) more, sector_long start);
-    fits = subst AreBytes (sym front_is) (sector_fits start);
+    fits = subst AreBytes (sym prefix_is) (sector_fits start);
   }
 
-  pub image_behind : drop 65536 flash ≡ more
-  image_behind = ap (drop 65536) begins ∙ ap (λ (n : ℕ). drop n (first_sector start ++ more)) (sym (sector_long start)) ∙ drop-append_seam (first_sector start) more
+  pub image_after : drop 65536 flash ≡ more
+  image_after = ap (drop 65536) begins ∙ ap (λ (n : ℕ). drop n (first_sector start ++ more)) (sym (sector_long start)) ∙ drop-append_seam (first_sector start) more
 
 -- ---- by the part
 
@@ -336,12 +336,12 @@ regrouped a b c d = simp append_assoc
 
 -- ---- the image of two streams, with anything after it
 
-module _ (part : PartData) (golden update behind : List ℕ) (is : IsPart part) (fits : image_size (length golden) (length update) ≤ flash_limit) where
+module _ (part : PartData) (golden update after : List ℕ) (is : IsPart part) (fits : image_size (length golden) (length update) ≤ flash_limit) where
   abbrev place : ℕ
   place = image.place_after_golden (length golden)
 
   abbrev all : List ℕ
-  all = image_of part.start_unit golden update ++ behind
+  all = image_of part.start_unit golden update ++ after
 
   abbrev start : ℕ
   start = place / part.start_unit
@@ -349,7 +349,7 @@ module _ (part : PartData) (golden update behind : List ℕ) (is : IsPart part) 
   begun : (rest : List ℕ) × (all ≡ first_sector start ++ (golden ++ rest))
   begun =
       let b : (rest : List ℕ) × (image_of part.start_unit golden update ≡ (first_sector start ++ golden) ++ rest) = image_begins part.start_unit golden update in
-      (b.0 ++ behind, ap (λ (x : List ℕ). x ++ behind) b.1 ∙ regrouped (first_sector start) golden b.0 behind)
+      (b.0 ++ after, ap (λ (x : List ℕ). x ++ after) b.1 ∙ regrouped (first_sector start) golden b.0 after)
 
   place_low : place ≤ flash_limit
   place_low = let l : place + length update ≤ image_size (length golden) (length update) = size_after (length golden) (length update) in omega (arith, l, fits)
@@ -361,13 +361,13 @@ module _ (part : PartData) (golden update behind : List ℕ) (is : IsPart part) 
   image_golden_stands =
       let whole : start % 256 ≡ 0 = start_whole part.start_unit place is.start_unit (place_whole (length golden)) in
       let low : start ≤ flash_limit = start_small part.start_unit place is.start_unit place_low in
-      (begun.0, image_behind start all (golden ++ begun.0) whole (omega (arith, low)) begun.1)
+      (begun.0, image_after start all (golden ++ begun.0) whole (omega (arith, low)) begun.1)
 
   pub image_update_stands : (rest : List ℕ) × (drop place all ≡ update ++ rest)
-  image_update_stands = image_has part.start_unit golden update behind
+  image_update_stands = image_has part.start_unit golden update after
 
 -- the full stream of a plan
-pub image_planned : (part : PartData) (golden : PlanData) (update behind : List ℕ) → HasImage part golden update → HasPlanned (image_of_flash part (golden_image part golden update ++ behind) (place_after part golden)) golden
-image_planned part golden update behind has =
-    let s : (rest : List ℕ) × (drop 65536 (golden_image part golden update ++ behind) ≡ full_stream part golden ++ rest) = image_golden_stands part (full_stream part golden) update behind has.is_part has.fits in
+pub image_planned : (part : PartData) (golden : PlanData) (update after : List ℕ) → HasImage part golden update → HasPlanned (image_of_flash part (golden_image part golden update ++ after) (place_after part golden)) golden
+image_planned part golden update after has =
+    let s : (rest : List ℕ) × (drop 65536 (golden_image part golden update ++ after) ≡ full_stream part golden ++ rest) = image_golden_stands part (full_stream part golden) update after has.is_part has.fits in
     record { is_part = has.is_part; plan = has.plan; rest = s.0; stands = s.1 }

@@ -113,9 +113,9 @@ unfolding image_of
 image_long golden update =
     let place = image.place_after_golden (length golden) in
     let prefix : List ℕ = first_sector (place / 1) ++ golden in
-    let front_long : length prefix ≤ place = omega (arith, length-append (first_sector (place / 1)) golden, sector_long (place / 1), update_after (length golden)) in
+    let prefix_long : length prefix ≤ place = omega (arith, length-append (first_sector (place / 1)) golden, sector_long (place / 1), update_after (length golden)) in
     let whole : List ℕ = filled_to place prefix ++ update in
-    let whole_long : length whole ≤ image_size (length golden) (length update) = omega (arith, length-append (filled_to place prefix) update, filled_long place prefix front_long, size_after (length golden) (length update)) in
+    let whole_long : length whole ≤ image_size (length golden) (length update) = omega (arith, length-append (filled_to place prefix) update, filled_long place prefix prefix_long, size_after (length golden) (length update)) in
     filled_long (image_size (length golden) (length update)) whole whole_long
 
 -- an image for a part that counts in bytes has a layout

@@ -54,8 +54,8 @@ module _ (o : Opened) (is : IsOpened o) where
       let same : Again t.kept t.address ≡ Again (kept_at_update o.start) o.place = ap (λ (k : Kept). Again k t.address) kept ∙ ap (Again (kept_at_update o.start)) address in
       (subst (λ (n : Next). LeadsTo o.part o.flash (first ∷ []) n) (sym same) to_place, tries, e)
 
-  told : (t : AttemptCourse) (e : Ending) → t.kept ≡ kept_at_update o.start → t.address ≡ o.place → t.ending ≡ e → tried t ≡ record { kind = Iprog; address = o.place; ending = e }
-  told t e kept address ends = tried_is t Iprog o.place e (ap (λ (k : Kept). k.kind) kept) address ends
+  tried_as : (t : AttemptCourse) (e : Ending) → t.kept ≡ kept_at_update o.start → t.address ≡ o.place → t.ending ≡ e → tried t ≡ record { kind = Iprog; address = o.place; ending = e }
+  tried_as t e kept address ends = tried_is t Iprog o.place e (ap (λ (k : Kept). k.kind) kept) address ends
 
   -- ---- the attempt at the update is the second
 
@@ -71,7 +71,7 @@ module _ (o : Opened) (is : IsOpened o) where
         attempts_are = course.attempts_are ∙ ap (λ (l : List AttemptCourse). reverse (map tried l)) g.split
             ∙ ap reverse (map_append tried g.newer (t ∷ first ∷ []))
             ∙ reverse-append (map tried g.newer) (tried t ∷ obeyed ∷ [])
-            ∙ ap (λ (x : Tried). obeyed ∷ x ∷ reverse (map tried g.newer)) (told t t.ending g.kept_is g.address_is refl);
+            ∙ ap (λ (x : Tried). obeyed ∷ x ∷ reverse (map tried g.newer)) (tried_as t t.ending g.kept_is g.address_is refl);
       }
 
   -- ---- it is the last
@@ -81,7 +81,7 @@ module _ (o : Opened) (is : IsOpened o) where
       let leads : LeadsTo o.part o.flash (t ∷ first ∷ []) (Ends by_end) = through t (Ends by_end) ended.is ended.kept ended.address (sym (ap (next_by o.part 2 t) ended.ends ∙ next)) in
       let a : c ≡ course_along t (first ∷ []) by_end = along o.part o.flash c t (first ∷ []) by_end course leads in
       record {
-        attempts_are = ap (λ (x : BootCourse). x.attempts) a ∙ ap (λ (x : Tried). obeyed ∷ x ∷ []) (told t t.ending ended.kept ended.address refl);
+        attempts_are = ap (λ (x : BootCourse). x.attempts) a ∙ ap (λ (x : Tried). obeyed ∷ x ∷ []) (tried_as t t.ending ended.kept ended.address refl);
         end_is = ap (λ (x : BootCourse). x.end) a;
         last_is = ap (λ (x : BootCourse). x.last) a;
       }
@@ -136,7 +136,7 @@ module _ (o : Opened) (is : IsOpened o) where
       let a : c ≡ course_along l (t ∷ first ∷ []) boot_end.Started = along o.part o.flash c l (t ∷ first ∷ []) boot_end.Started course leads in
       record {
         attempts_are = ap (λ (x : BootCourse). x.attempts) a
-            ∙ ap (λ (x : Tried). obeyed ∷ x ∷ tried l ∷ []) (told t (ending.Failed cause) ended.kept ended.address ended.ends)
+            ∙ ap (λ (x : Tried). obeyed ∷ x ∷ tried l ∷ []) (tried_as t (ending.Failed cause) ended.kept ended.address ended.ends)
             ∙ ap (λ (x : Tried). obeyed ∷ record { kind = Iprog; address = o.place; ending = ending.Failed cause } ∷ x ∷ []) (tried_is l Fallback 0 ending.Started (ap (λ (k : Kept). k.kind) l_kept) l_address l_ends);
         started = ap (λ (x : BootCourse). x.end) a;
         last_is = ap (λ (x : BootCourse). x.last) a;
@@ -146,12 +146,12 @@ module _ (o : Opened) (is : IsOpened o) where
   planned_starts : (kept : Kept) (golden : PlanData) → HasPlanned o golden → is_fallback kept.kind ≡ true → StartsWith o.part kept 0 o.flash golden true
   planned_starts kept golden has e =
       let stream : List ℕ = full_stream o.part golden in
-      let front : List ℕ = take 65536 o.flash in
-      let fits : AreBytes (front ++ stream) = all_append (λ b. b < 256) front stream is.has.fits (full_stream_fits o.part golden has.is_part has.plan) in
-      let wrote : wrote_iprog (history_of front) ≡ true = sector_wrote o.flash o.slot o.start is.has is.small in
-      let split : o.flash ≡ (front ++ stream) ++ has.rest = sym (take-append-drop 65536 o.flash) ∙ ap (λ (x : List ℕ). front ++ x) has.stands ∙ sym (append_assoc front stream has.rest) in
-      full_starts o.part kept front golden 0 o.flash has.rest true is.has.fits (sector_rests o.flash o.slot o.start is.has is.small o.part kept e) (sector_never o.flash o.slot o.start is.has is.small) has.is_part has.plan split
-      (ap (λ (x : Bool). x && wrote_iprog (history_of (front ++ stream))) e ∙ iprog_later front stream fits wrote)
+      let prefix : List ℕ = take 65536 o.flash in
+      let fits : AreBytes (prefix ++ stream) = all_append (λ b. b < 256) prefix stream is.has.fits (full_stream_fits o.part golden has.is_part has.plan) in
+      let wrote : wrote_iprog (history_of prefix) ≡ true = sector_wrote o.flash o.slot o.start is.has is.small in
+      let split : o.flash ≡ (prefix ++ stream) ++ has.rest = sym (take-append-drop 65536 o.flash) ∙ ap (λ (x : List ℕ). prefix ++ x) has.stands ∙ sym (append_assoc prefix stream has.rest) in
+      full_starts o.part kept prefix golden 0 o.flash has.rest true is.has.fits (sector_rests o.flash o.slot o.start is.has is.small o.part kept e) (sector_never o.flash o.slot o.start is.has is.small) has.is_part has.plan split
+      (ap (λ (x : Bool). x && wrote_iprog (history_of (prefix ++ stream))) e ∙ iprog_later prefix stream fits wrote)
 
   pub falls_back : (c : BootCourse) (t : AttemptCourse) (cause : Cause) (golden : PlanData) → IsCourse o.part o.flash c → HasPlanned o golden → UpdateFails o t cause false → FallsBack o golden cause c
   falls_back c t cause golden course has fails =

@@ -53,9 +53,9 @@ start_none start rest whole low none =
     let high : (start / 2 ^ 24 % 256 == 0xAA) ≡ false = grind (arith, nat_tests, low) in
     let end : ℕ = start % 256 in
     let last : (end == 0xAA) ≡ false = grind (arith, nat_tests, whole) in
-    let behind : HasNoSync (end ∷ (slot_tail ++ rest)) =
+    let after : HasNoSync (end ∷ (slot_tail ++ rest)) =
     other_first end (slot_tail ++ rest) last (none_after slot_tail rest (refl, (refl, (refl, (refl, (refl, (refl, (refl, (refl, (refl, (refl, (refl, (refl, (refl, (refl, (refl, (refl, tt)))))))))))))))) none) in
-    let third : HasNoSync (start / 2 ^ 8 % 256 ∷ end ∷ (slot_tail ++ rest)) = other_second (start / 2 ^ 8 % 256) end (slot_tail ++ rest) (omega (arith, whole)) behind in
+    let third : HasNoSync (start / 2 ^ 8 % 256 ∷ end ∷ (slot_tail ++ rest)) = other_second (start / 2 ^ 8 % 256) end (slot_tail ++ rest) (omega (arith, whole)) after in
     let second : HasNoSync (start / 2 ^ 16 % 256 ∷ start / 2 ^ 8 % 256 ∷ end ∷ (slot_tail ++ rest)) = other_third (start / 2 ^ 16 % 256) (start / 2 ^ 8 % 256) end (slot_tail ++ rest) (omega (arith, whole)) third in
     other_first (start / 2 ^ 24 % 256) _ high second
 
@@ -110,8 +110,8 @@ image_fits unit golden update g u =
     let prefix : List ℕ = first_sector start ++ golden in
     let filled : List ℕ = filled_to (place_after_golden (length golden)) prefix in
     let size : ℕ = image_size (length golden) (length update) in
-    let front_fits : AreBytes prefix = all_append (λ b. b < 256) (first_sector start) golden (sector_fits start) g in
-    let filled_fits : AreBytes filled = all_append (λ b. b < 256) prefix (replicate (place_after_golden (length golden) - length prefix) 255) front_fits (fill_fits (place_after_golden (length golden) - length prefix)) in
+    let prefix_fits : AreBytes prefix = all_append (λ b. b < 256) (first_sector start) golden (sector_fits start) g in
+    let filled_fits : AreBytes filled = all_append (λ b. b < 256) prefix (replicate (place_after_golden (length golden) - length prefix) 255) prefix_fits (fill_fits (place_after_golden (length golden) - length prefix)) in
     all_append (λ b. b < 256) (filled ++ update) (replicate (size - length (filled ++ update)) 255) (all_append (λ b. b < 256) filled update filled_fits u) (fill_fits (size - length (filled ++ update)))
 
 -- ---- places
@@ -173,13 +173,13 @@ unfolding image_of
 image_has unit golden update more =
     let place : ℕ = place_after_golden (length golden) in
     let prefix : List ℕ = first_sector (place / unit) ++ golden in
-    let front : List ℕ = filled_to place prefix in
+    let placed : List ℕ = filled_to place prefix in
     let size : ℕ = image_size (length golden) (length update) in
-    let end : List ℕ = replicate (size - length (front ++ update)) 255 in
+    let end : List ℕ = replicate (size - length (placed ++ update)) 255 in
     let long : length prefix ≡ 65536 + length golden = length-append (first_sector (place / unit)) golden ∙ ap (λ (n : ℕ). n + length golden) (sector_long (place / unit)) in
-    let filled : length front ≡ place = length-append prefix (replicate (place - length prefix) 255) ∙ omega (arith, length-replicate {A = ℕ} (place - length prefix) 255, long, update_after (length golden)) in (
+    let filled : length placed ≡ place = length-append prefix (replicate (place - length prefix) 255) ∙ omega (arith, length-replicate {A = ℕ} (place - length prefix) 255, long, update_after (length golden)) in (
       end ++ more,
-      ap (drop place) (append_assoc (front ++ update) end more ∙ append_assoc front update (end ++ more))
-          ∙ ap (λ (n : ℕ). drop n (front ++ (update ++ (end ++ more)))) (sym filled)
-          ∙ drop-append_seam front (update ++ (end ++ more)),
+      ap (drop place) (append_assoc (placed ++ update) end more ∙ append_assoc placed update (end ++ more))
+          ∙ ap (λ (n : ℕ). drop n (placed ++ (update ++ (end ++ more)))) (sym filled)
+          ∙ drop-append_seam placed (update ++ (end ++ more)),
     )

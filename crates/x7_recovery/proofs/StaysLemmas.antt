@@ -26,11 +26,11 @@ same_prefixes e xs ys m same = elim (cases_lt m (length e)) [
 power_moves : (part : PartData) (flash other : List ℕ) (t : AttemptCourse) → StartsAtPower part (with_erased flash) t → take (length t.bytes - 65536) (drop 65536 other) ≡ take (length t.bytes - 65536) (drop 65536 flash) → StartsAtPower part (with_erased other) t
 power_moves part flash other t s same =
     let at : t.address + length t.bytes ≡ length t.bytes = omega (arith, s.address) in
-    let fronts : take (length t.bytes) (with_erased other) ≡ take (length t.bytes) (with_erased flash) =
+    let prefixes : take (length t.bytes) (with_erased other) ≡ take (length t.bytes) (with_erased flash) =
     same_prefixes erased_sector (drop 65536 other) (drop 65536 flash) (length t.bytes) (ap (λ (n : ℕ). take (length t.bytes - n) (drop 65536 other)) length_erased_sector ∙ same ∙ ap (λ (n : ℕ). take (length t.bytes - n) (drop 65536 flash)) (sym length_erased_sector)) in
     record {
       is = trial_over part (with_erased flash) (with_erased other) t s.is (in_flash part (with_erased flash) t s)
-          (ap (λ (n : ℕ). take n (with_erased other)) at ∙ fronts ∙ ap (λ (n : ℕ). take n (with_erased flash)) (sym at));
+          (ap (λ (n : ℕ). take n (with_erased other)) at ∙ prefixes ∙ ap (λ (n : ℕ). take n (with_erased flash)) (sym at));
       kept = s.kept;
       address = s.address;
       started = s.started;

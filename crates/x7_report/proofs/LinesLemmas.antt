@@ -59,8 +59,8 @@ head_is name part_name regs state reads none first second third fourth count a b
     h ∙ ap (λ (t : List ℕ). t ++ decimal count ++ codes "\n") (g ∙ ap (λ (t : List ℕ). t ++ codes "frames ") (f ∙ ap (λ (t : List ℕ). t ++ reads_text reads)
     (e ∙ ap (λ (t : List ℕ). t ++ state_text name regs) z ∙ ap (λ (x : List ℕ). state_text x regs) a ∙ ap (λ (x : Regs). state_text part_name x) b)))
 
-behind : (prefix a b c d : List ℕ) → prefix ++ a ++ b ++ c ++ d ≡ prefix ++ (a ++ b ++ c ++ d)
-behind prefix a b c d =
+after : (prefix a b c d : List ℕ) → prefix ++ a ++ b ++ c ++ d ≡ prefix ++ (a ++ b ++ c ++ d)
+after prefix a b c d =
     ap (λ t. t ++ c ++ d) (append_assoc prefix a b) ∙ ap (λ t. t ++ d) (append_assoc prefix (a ++ b) c) ∙ append_assoc prefix (a ++ b ++ c) d
 
 pub play_is : (p q : PartData) (state : Regs) (reads : List ℕ) (frames : List (List ℕ)) (n : FrameMap) (head fars : List ℕ) → p ≡ q → AreSame (frame_at q frames) n → fars ≡ addresses_shown (frame_at p frames) (addresses_in p) →
@@ -70,7 +70,7 @@ play_is p q state reads frames n head fars d same e h =
     let prefix = state_text q.name state ++ reads_text reads in
     let m = frame_at p frames in
     ap (λ (t : List ℕ). t ++ lines_text m fars) h
-    ∙ behind prefix (codes "frames ") (decimal (length fars)) (codes "\n") (lines_text m fars)
+    ∙ after prefix (codes "frames ") (decimal (length fars)) (codes "\n") (lines_text m fars)
     ∙ ap (λ (t : List ℕ). prefix ++ (codes "frames " ++ decimal (length t) ++ codes "\n" ++ lines_text m t)) e
     ∙ ap (λ (x : PartData). prefix ++ frames_text (frame_at x frames) (addresses_in x)) d
     ∙ ap (λ (t : List ℕ). prefix ++ t) (frames_same (frame_at q frames) n (addresses_in q) same)

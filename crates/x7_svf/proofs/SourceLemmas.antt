@@ -1,4 +1,4 @@
--- Bytes that are kept at the front of a text.
+-- Bytes that are kept at the beginning of a text.
 use Rattle.std.proofs.Common.{◌≡◌, ℕ, ◌+◌, ◌-◌, ◌≤◌, List, ◌++◌, length, take, drop, ap, sym, ◌∙◌, length-append, length-drop, arith}
 use Rattle.std.proofs.lemmas.List.{drop-drop, length-take-le, take_at}
 use Rattle.std.proofs.lemmas.Slice.{drop-append-drop}

@@ -15,8 +15,8 @@ use Rattle.x7_svf.proofs.SpanLemmas.{all_stored_more, prefix_long, statements_st
 -- a source from before its next token, there, and after the statement there
 module _ (ps : List TokenOnLine) (before here after : SourceState) (out new : List Stored) (one : Stored) (e : new ≡ out ++ one ∷ []) (w : AreStoredWithin (length before.kept) out)
     (same : here.kept ≡ before.kept) (f : StaysKept here.kept after.kept) where
-  front_here : StaysKept before.kept after.kept
-  front_here = subst (λ (k : List ℕ). StaysKept k after.kept) same f
+  prefix_here : StaysKept before.kept after.kept
+  prefix_here = subst (λ (k : List ℕ). StaysKept k after.kept) same f
 
   pub stored_on : (p : TokenOnLine) (left : List TokenOnLine) → outcome ps ≡ after_all (statements_in before.kept out) (outcome (tokens_left before)) → tokens_left before ≡ p ∷ left → tokens_left before ≡ tokens_left here
       → stored_if after.kept (Some one) ≡ first_statement (tokens_left here) → tokens_after_end (tokens_left here) ≡ Some (tokens_left after)
@@ -24,13 +24,13 @@ module _ (ps : List TokenOnLine) (before here after : SourceState) (out new : Li
   stored_on p left h first there is a =
       let s : Statement = statement_in after.kept one in
       let all : statements_in after.kept new ≡ statements_in before.kept out ++ s ∷ [] =
-      ap (statements_in after.kept) e ∙ map-append (statement_in after.kept) out (one ∷ []) ∙ ap (λ (ss : List Statement). ss ++ s ∷ []) (statements_stay before.kept after.kept front_here out w) in
+      ap (statements_in after.kept) e ∙ map-append (statement_in after.kept) out (one ∷ []) ∙ ap (λ (ss : List Statement). ss ++ s ∷ []) (statements_stay before.kept after.kept prefix_here out w) in
       one_on ps (tokens_left before) (statements_in before.kept out) p left h first (tokens_left after) s (ap tokens_after_end there ∙ a) (is ∙ sym (ap first_statement there))
       ∙ sym (ap (λ (ss : List Statement). after_all ss (outcome (tokens_left after))) all)
 
   pub all_within : IsStoredWithin (length after.kept) one → AreStoredWithin (length after.kept) new
   all_within o =
-      let few : length before.kept ≤ length after.kept = prefix_long before.kept after.kept front_here in
+      let few : length before.kept ≤ length after.kept = prefix_long before.kept after.kept prefix_here in
       subst (AreStoredWithin (length after.kept)) (sym e) (all_append (IsStoredWithin (length after.kept)) out (one ∷ []) (all_stored_more (length before.kept) (length after.kept) out few w) (o, tt))
 
   -- tokens begin with a statement, the first of all or this one

@@ -118,8 +118,8 @@ pub bytes_line : (bs digits : List ℕ) → digits ≡ flat_map hex_byte bs → 
     → codes "bytes " ++ (put_chunk 0 (replicate 65 10) digits ++ []) ≡ line (codes "bytes ") hex_byte bs
 bytes_line bs digits e long =
     let size : length digits ≡ 64 = ap length e ∙ length_hex bs ∙ ap (λ (n : ℕ). 2 * n) long in
-    let behind : drop (length digits) (replicate 65 10) ≡ 10 ∷ [] = ap (λ (n : ℕ). drop n (replicate 65 10)) size in
-    ap (λ t. codes "bytes " ++ t) (append-nil (put_chunk 0 (replicate 65 10) digits) ∙ put_chunk_is 0 (replicate 65 10) digits (omega (arith, size)) ∙ ap (λ t. digits ++ t) behind ∙ ap (λ t. t ++ 10 ∷ []) e)
+    let after : drop (length digits) (replicate 65 10) ≡ 10 ∷ [] = ap (λ (n : ℕ). drop n (replicate 65 10)) size in
+    ap (λ t. codes "bytes " ++ t) (append-nil (put_chunk 0 (replicate 65 10) digits) ∙ put_chunk_is 0 (replicate 65 10) digits (omega (arith, size)) ∙ ap (λ t. digits ++ t) after ∙ ap (λ t. t ++ 10 ∷ []) e)
     ∙ sym (append_assoc (codes "bytes ") (flat_map hex_byte bs) (10 ∷ []))
   where
     length_hex : (xs : List ℕ) → length (flat_map hex_byte xs) ≡ 2 * length xs

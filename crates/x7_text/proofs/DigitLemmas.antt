@@ -89,8 +89,8 @@ pub same_no : (a b : List ℕ) (r : Bool) → r ≡ pointwise eqb a b → a ≡ 
 same_no a b r e h = e ∙ (slice_eq-Decides Decides-eqb a b (pointwise eqb a b) refl).1 h
 
 -- digits that written out again are others are no digits
-pub no_bytes : (ds told r : List ℕ) (b : Bool) → r ≡ bytes_value ds → told ≡ flat_map hex_byte r → b ≡ false → (told ≡ ds → IsTrue b) → (bs : List ℕ) → AreBytes bs → ds ≡ flat_map hex_byte bs → ⊥
-no_bytes ds told r b e f n is bs h k = refuted b n (is (f ∙ ap (flat_map hex_byte) (e ∙ ap bytes_value k ∙ bytes_back bs h) ∙ sym k))
+pub no_bytes : (ds known r : List ℕ) (b : Bool) → r ≡ bytes_value ds → known ≡ flat_map hex_byte r → b ≡ false → (known ≡ ds → IsTrue b) → (bs : List ℕ) → AreBytes bs → ds ≡ flat_map hex_byte bs → ⊥
+no_bytes ds known r b e f n is bs h k = refuted b n (is (f ∙ ap (flat_map hex_byte) (e ∙ ap bytes_value k ∙ bytes_back bs h) ∙ sym k))
 
 -- the one group of eight digits
 pub chunk_whole : (ds : List ℕ) (cs : List (List ℕ)) (d : List ℕ) → cs ≡ first_chunks 8 (length ds / 8) ds → length ds ≡ 8 → get_or cs 0 d ≡ ds
@@ -98,13 +98,13 @@ chunk_whole ds cs d e l =
     let one : length ds / 8 ≡ 1 = omega (arith, l) in
     ap (λ (k : List (List ℕ)). get_or k 0 d) (e ∙ ap (λ (n : ℕ). first_chunks 8 n ds) one) ∙ take_all 8 ds (omega (arith, l))
 
-pub no_word : (ds chunk told r : List ℕ) (b : Bool) → (length ds ≡ 8 → chunk ≡ ds) → r ≡ bytes_value chunk → told ≡ flat_map hex_byte r → b ≡ false → (told ≡ ds → IsTrue b) → (w : ℕ) → w < 2 ^ 32 → ds ≡ hex_word w → ⊥
-no_word ds chunk told r b whole e f n is w h k =
+pub no_word : (ds chunk known r : List ℕ) (b : Bool) → (length ds ≡ 8 → chunk ≡ ds) → r ≡ bytes_value chunk → known ≡ flat_map hex_byte r → b ≡ false → (known ≡ ds → IsTrue b) → (w : ℕ) → w < 2 ^ 32 → ds ≡ hex_word w → ⊥
+no_word ds chunk known r b whole e f n is w h k =
     let bytes : r ≡ bytes_of_word w = e ∙ ap bytes_value (whole (ap length k) ∙ k ∙ word_digits w h) ∙ bytes_back (bytes_of_word w) (word_bytes w) in
     refuted b n (is (f ∙ ap (flat_map hex_byte) bytes ∙ sym (word_digits w h) ∙ sym k))
 
-pub yes_word : (ds told r : List ℕ) (w : ℕ) → told ≡ ds → told ≡ flat_map hex_byte r → bytes_of_word w ≡ r → w < 2 ^ 32 → ds ≡ hex_word w
-yes_word ds told r w same f back h = sym same ∙ f ∙ ap (flat_map hex_byte) (sym back) ∙ sym (word_digits w h)
+pub yes_word : (ds known r : List ℕ) (w : ℕ) → known ≡ ds → known ≡ flat_map hex_byte r → bytes_of_word w ≡ r → w < 2 ^ 32 → ds ≡ hex_word w
+yes_word ds known r w same f back h = sym same ∙ f ∙ ap (flat_map hex_byte) (sym back) ∙ sym (word_digits w h)
 
 -- a text that no number leads to is no decimal number
 pub utf8_decimal : (ds : List ℕ) (n : ℕ) → n < 2 ^ 64 → ds ≡ decimal n → IsUtf8 ds
@@ -113,8 +113,8 @@ utf8_decimal ds n h e = let P : List ℕ → Type 0 = λ t. IsUtf8 t in subst P 
 pub not_parsed : {E : Type 0} (ds : List ℕ) (r : Result ℕ E) (e : E) → r ≡ Err e → ParsesUnsigned 64 10 ds r → (n : ℕ) → n < 2 ^ 64 → ds ≡ decimal n → ⊥
 not_parsed ds r e was p n h k = let yes : r ≡ Ok n = parse-decimal 64 n ds r h (omega arith) k p in cc
 
-pub no_decimal : {E : Type 0} (ds told : List ℕ) (r : Result ℕ E) (m : ℕ) (b : Bool) → r ≡ Ok m → ParsesUnsigned 64 10 ds r → told ≡ decimal m → b ≡ false → (told ≡ ds → IsTrue b) → (n : ℕ) → n < 2 ^ 64 → ds ≡ decimal n → ⊥
-no_decimal ds told r m b was p f off is n h k =
+pub no_decimal : {E : Type 0} (ds known : List ℕ) (r : Result ℕ E) (m : ℕ) (b : Bool) → r ≡ Ok m → ParsesUnsigned 64 10 ds r → known ≡ decimal m → b ≡ false → (known ≡ ds → IsTrue b) → (n : ℕ) → n < 2 ^ 64 → ds ≡ decimal n → ⊥
+no_decimal ds known r m b was p f off is n h k =
     let yes : r ≡ Ok n = parse-decimal 64 n ds r h (omega arith) k p in
     let same : m ≡ n = cc in
     refuted b off (is (f ∙ ap decimal same ∙ sym k))

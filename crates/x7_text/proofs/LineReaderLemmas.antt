@@ -116,8 +116,8 @@ module _ (wants : List (List ℕ) → List ℕ → Type 0) (lines : List (List �
   wants_here more text rest line after e f w = record { before = more; line = line; after = split after; texts = e ∙ ap (λ x. more ++ x) f; wanting = w }
 
   -- at a line of what is left, after lines of the text
-  pub wants_behind : (more : List (List ℕ)) (text rest : List ℕ) → split text ≡ more ++ split rest → WantsAt wants (lines ++ more) rest → WantsAt wants lines text
-  wants_behind more text rest e w = record {
+  pub wants_after : (more : List (List ℕ)) (text rest : List ℕ) → split text ≡ more ++ split rest → WantsAt wants (lines ++ more) rest → WantsAt wants lines text
+  wants_after more text rest e w = record {
     before = more ++ w.before;
     line = w.line;
     after = w.after;

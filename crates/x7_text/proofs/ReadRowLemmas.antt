@@ -1,4 +1,4 @@
--- Rows of digits: what is read of a front, whatever stands after it.
+-- Rows of digits: what is read of a prefix, whatever stands after it.
 use Rattle.std.proofs.Common.{◌≡◌, ℕ, zero, suc, ◌*◌, ◌/◌, ◌^◌, ◌<◌, ◌≤◌, Bool, true, false, IsTrue, List, [], ◌∷◌, ◌++◌, length, take, drop, refl, ap, ap₂, sym, ◌∙◌, arith, append_assoc, get_or, ◌-◌, take_all, length-drop}
 use Rattle.std.proofs.Math.Seq.{take-append_seam}
 use Rattle.std.proofs.lemmas.Grind.{flat_map-append}
@@ -45,7 +45,7 @@ digits_of_spaced : (ws : List ℕ) → flat_map (λ (word : List ℕ). drop 1 wo
 digits_of_spaced [] = refl
 digits_of_spaced (w ∷ ws) = ap (λ t. hex_word w ++ t) (digits_of_spaced ws)
 
--- a list is a front that it begins with and the rest
+-- a list is a prefix that it begins with and the rest
 prefix_of : (ds p : List ℕ) → take (length ds) p ≡ ds → p ≡ ds ++ drop (length ds) p
 prefix_of ds p e = sym (take-append-drop (length ds) p) ∙ ap (λ t. t ++ drop (length ds) p) e
 
@@ -57,26 +57,26 @@ pub no_word_length : (ds : List ℕ) → (0 < length ds / 9 → length ds ≤ 72
 no_word_length ds h ws r e = let n : length ds ≡ 9 * length ws = ap length e ∙ length_spaced ws in h (omega (arith, n, r.1)) (omega (arith, n, r.2)) (omega (arith, n))
 
 -- a text whose digits are others when written out again is that of no row
-pub no_byte_row : (ds p r told : List ℕ) (b : Bool) → take (length ds) p ≡ ds → r ≡ bytes_value p → told ≡ flat_map hex_byte r → b ≡ false → (take (length ds) told ≡ ds → IsTrue b)
+pub no_byte_row : (ds p r known : List ℕ) (b : Bool) → take (length ds) p ≡ ds → r ≡ bytes_value p → known ≡ flat_map hex_byte r → b ≡ false → (take (length ds) known ≡ ds → IsTrue b)
     → (bs : List ℕ) → IsByteRow bs → ds ≡ flat_map hex_byte bs → ⊥
-no_byte_row ds p r told b prefix value text off is bs row e =
+no_byte_row ds p r known b prefix value text off is bs row e =
     let T : List ℕ = drop (length ds) p in
     let whole : p ≡ flat_map hex_byte bs ++ drop (length ds) p = prefix_of ds p prefix ∙ ap (λ t. t ++ drop (length ds) p) e in
     let read : r ≡ bs ++ bytes_value (drop (length ds) p) = value ∙ ap bytes_value whole ∙ bytes_prefix bs (drop (length ds) p) row.0 in
-    let again : told ≡ ds ++ flat_map hex_byte (bytes_value (drop (length ds) p)) = text ∙ ap (flat_map hex_byte) read ∙ flat_map-append hex_byte bs (bytes_value (drop (length ds) p)) ∙ ap (λ t. t ++ flat_map hex_byte (bytes_value (drop (length ds) p))) (sym e) in
+    let again : known ≡ ds ++ flat_map hex_byte (bytes_value (drop (length ds) p)) = text ∙ ap (flat_map hex_byte) read ∙ flat_map-append hex_byte bs (bytes_value (drop (length ds) p)) ∙ ap (λ t. t ++ flat_map hex_byte (bytes_value (drop (length ds) p))) (sym e) in
     refuted b off (is (ap (take (length ds)) again ∙ take-append_seam ds (flat_map hex_byte (bytes_value (drop (length ds) p)))))
 
-pub yes_byte_row : (ds r told old new : List ℕ) (n : ℕ) → length r ≡ 32 → ((i : ℕ) → get_or r i 0 < 256) → told ≡ flat_map hex_byte r → take (length ds) told ≡ ds → 0 < n → length ds ≡ 2 * n → n ≤ 32 → new ≡ old ++ take n r
+pub yes_byte_row : (ds r known old new : List ℕ) (n : ℕ) → length r ≡ 32 → ((i : ℕ) → get_or r i 0 < 256) → known ≡ flat_map hex_byte r → take (length ds) known ≡ ds → 0 < n → length ds ≡ 2 * n → n ≤ 32 → new ≡ old ++ take n r
     → Reads IsByteRow (flat_map hex_byte) (λ (bs : List ℕ). bs) true ds old new
-yes_byte_row ds r told old new n long fit text same some two few appended =
+yes_byte_row ds r known old new n long fit text same some two few appended =
     let count : length (take n r) ≡ n = length-take-le n r (omega arith) in
     let is : ds ≡ flat_map hex_byte (take n r) = sym same ∙ ap (take (length ds)) text ∙ ap (λ (j : ℕ). take j (flat_map hex_byte r)) two ∙ take_hex n r (omega arith) in
     let all : AreBytes r = all_from_places (λ b. b < 256) r (λ k l. fit k) in
     (take n r, (all_take (λ b. b < 256) n r all, omega (arith, count), omega (arith, count)), is, appended)
 
-pub no_word_row : (ds p r told : List ℕ) (m : ℕ) (b : Bool) → m ≡ length ds → take (8 * (length ds / 9)) p ≡ flat_map (λ (word : List ℕ). drop 1 word) (first_chunks 9 (length ds / 9) ds) → length p ≡ 64 → r ≡ bytes_value p → told ≡ flat_map spaced (words_of_bytes r) ++ 10 ∷ [] → b ≡ false → (take m told ≡ ds → IsTrue b)
+pub no_word_row : (ds p r known : List ℕ) (m : ℕ) (b : Bool) → m ≡ length ds → take (8 * (length ds / 9)) p ≡ flat_map (λ (word : List ℕ). drop 1 word) (first_chunks 9 (length ds / 9) ds) → length p ≡ 64 → r ≡ bytes_value p → known ≡ flat_map spaced (words_of_bytes r) ++ 10 ∷ [] → b ≡ false → (take m known ≡ ds → IsTrue b)
     → (ws : List ℕ) → IsWordRow ws → ds ≡ flat_map spaced ws → ⊥
-no_word_row ds p r told m b same prefix long value text off is ws row e =
+no_word_row ds p r known m b same prefix long value text off is ws row e =
     let nine : length ds ≡ 9 * length ws = ap length e ∙ length_spaced ws in
     let count : length ds / 9 ≡ length ws = omega (arith, nine) in
     let j : ℕ = 8 * (length ds / 9) in
@@ -85,19 +85,19 @@ no_word_row ds p r told m b same prefix long value text off is ws row e =
     ap₂ (λ (k : ℕ) (t : List ℕ). flat_map (λ (word : List ℕ). drop 1 word) (first_chunks 9 k t)) count e ∙ digits_of_spaced ws ∙ hex_words ws row.0 in
     let whole : p ≡ flat_map hex_byte (flat_map bytes_of_word ws) ++ T = sym (take-append-drop (8 * (length ds / 9)) p) ∙ ap (λ t. t ++ T) (prefix ∙ ds_of) in
     let read : words_of_bytes r ≡ ws ++ words_of_bytes (bytes_value T) = ap words_of_bytes (value ∙ ap bytes_value whole ∙ bytes_prefix (flat_map bytes_of_word ws) T (bytes_fit ws)) ∙ words_back ws (bytes_value T) row.0 in
-    let again : told ≡ ds ++ (flat_map spaced (words_of_bytes (bytes_value T)) ++ 10 ∷ []) =
+    let again : known ≡ ds ++ (flat_map spaced (words_of_bytes (bytes_value T)) ++ 10 ∷ []) =
     text ∙ ap (λ t. flat_map spaced t ++ 10 ∷ []) read ∙ ap (λ t. t ++ 10 ∷ []) (flat_map-append spaced ws (words_of_bytes (bytes_value T)) ∙ ap (λ t. t ++ flat_map spaced (words_of_bytes (bytes_value T))) (sym e)) ∙ append_assoc ds (flat_map spaced (words_of_bytes (bytes_value T))) (10 ∷ []) in
-    refuted b off (is (ap (λ (j : ℕ). take j told) same ∙ ap (take (length ds)) again ∙ take-append_seam ds (flat_map spaced (words_of_bytes (bytes_value T)) ++ 10 ∷ [])))
+    refuted b off (is (ap (λ (j : ℕ). take j known) same ∙ ap (take (length ds)) again ∙ take-append_seam ds (flat_map spaced (words_of_bytes (bytes_value T)) ++ 10 ∷ [])))
 
-pub yes_word_row : (ds r told old new : List ℕ) (m n : ℕ) → m ≡ length ds → length r ≡ 32 → ((i : ℕ) → get_or r i 0 < 256) → told ≡ flat_map spaced (words_of_bytes r) ++ 10 ∷ [] → take m told ≡ ds → 0 < n → length ds ≡ 9 * n → n ≤ 8 → new ≡ old ++ take (4 * n) r
+pub yes_word_row : (ds r known old new : List ℕ) (m n : ℕ) → m ≡ length ds → length r ≡ 32 → ((i : ℕ) → get_or r i 0 < 256) → known ≡ flat_map spaced (words_of_bytes r) ++ 10 ∷ [] → take m known ≡ ds → 0 < n → length ds ≡ 9 * n → n ≤ 8 → new ≡ old ++ take (4 * n) r
     → Reads IsWordRow (flat_map spaced) (flat_map bytes_of_word) true ds old new
-yes_word_row ds r told old new m n eq long fit text same some nine few appended =
+yes_word_row ds r known old new m n eq long fit text same some nine few appended =
     let bs : List ℕ = take (4 * n) r in
     let count : length (take (4 * n) r) ≡ 4 * n = length-take-le (4 * n) r (omega arith) in
     let all : AreBytes (take (4 * n) r) = all_take (λ b. b < 256) (4 * n) r (all_from_places (λ b. b < 256) r (λ k l. fit k)) in
     let words : length (words_of_bytes (take (4 * n) r)) ≡ n = length_words (take (4 * n) r) n count in
     let eight : length (words_of_bytes r) ≡ 8 = length_words r 8 long in
-    let is : ds ≡ flat_map spaced (words_of_bytes (take (4 * n) r)) = sym same ∙ ap (λ (j : ℕ). take j told) eq ∙ ap (take (length ds)) text ∙ ap (λ (j : ℕ). take j (flat_map spaced (words_of_bytes r) ++ 10 ∷ [])) nine ∙ take_spaced n (words_of_bytes r) (10 ∷ []) (omega arith) ∙ ap (flat_map spaced) (sym (words_taken n r (omega arith))) in
+    let is : ds ≡ flat_map spaced (words_of_bytes (take (4 * n) r)) = sym same ∙ ap (λ (j : ℕ). take j known) eq ∙ ap (take (length ds)) text ∙ ap (λ (j : ℕ). take j (flat_map spaced (words_of_bytes r) ++ 10 ∷ [])) nine ∙ take_spaced n (words_of_bytes r) (10 ∷ []) (omega arith) ∙ ap (flat_map spaced) (sym (words_taken n r (omega arith))) in
     (words_of_bytes (take (4 * n) r), (words_fit (take (4 * n) r) all, omega (arith, words), omega (arith, words)), is, appended ∙ ap (λ t. old ++ t) (sym (bytes_words (take (4 * n) r) n all count)))
 
 -- a row of one word

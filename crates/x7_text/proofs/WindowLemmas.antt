@@ -30,16 +30,16 @@ whole_count bytes count long e = sym (ap (in_line_after 8 0) (all_words bytes co
 pub first_words_count : (bytes : List ℕ) (count : ℕ) → length bytes ≡ 32 → count < 8 → count ≡ in_line_after 8 0 (words_of_bytes (take (4 * count) bytes))
 first_words_count bytes count long few =
     let n : length (words_of_bytes (take (4 * count) bytes)) ≡ count = first_count bytes count (omega (arith, long, few)) in
-    let told : in_line_after 8 0 (words_of_bytes (take (4 * count) bytes)) ≡ 0 + length (words_of_bytes (take (4 * count) bytes)) = few_count 8 0 (words_of_bytes (take (4 * count) bytes)) (omega (arith, n, few)) in
-    omega (arith, told, n)
+    let known : in_line_after 8 0 (words_of_bytes (take (4 * count) bytes)) ≡ 0 + length (words_of_bytes (take (4 * count) bytes)) = few_count 8 0 (words_of_bytes (take (4 * count) bytes)) (omega (arith, n, few)) in
+    omega (arith, known, n)
 
 -- a prefix of what was appended
-kept_prefix : (old all told new : List ℕ) (n k : ℕ) → n ≡ length old + k → all ≡ old ++ told → new ≡ take n all → new ≡ old ++ take k told
-kept_prefix old all told new n k e f g = g ∙ ap (λ (m : ℕ). take m all) e ∙ ap (take (length old + k)) f ∙ take-append-add old told k
+kept_prefix : (old all known new : List ℕ) (n k : ℕ) → n ≡ length old + k → all ≡ old ++ known → new ≡ take n all → new ≡ old ++ take k known
+kept_prefix old all known new n k e f g = g ∙ ap (λ (m : ℕ). take m all) e ∙ ap (take (length old + k)) f ∙ take-append-add old known k
 
-pub first_words : (old all told new bytes : List ℕ) (n count : ℕ) → 0 < count → count < 8 → length bytes ≡ 32 → told ≡ line (codes "data") spaced (words_of_bytes bytes) → n ≡ length old + (4 + 9 * count) → all ≡ old ++ told → new ≡ take n all
+pub first_words : (old all known new bytes : List ℕ) (n count : ℕ) → 0 < count → count < 8 → length bytes ≡ 32 → known ≡ line (codes "data") spaced (words_of_bytes bytes) → n ≡ length old + (4 + 9 * count) → all ≡ old ++ known → new ≡ take n all
     → new ≡ old ++ open_text 8 (codes "data") spaced 0 (words_of_bytes (take (4 * count) bytes))
-first_words old all told new bytes n count some few long is e f g =
+first_words old all known new bytes n count some few long is e f g =
     let ws : List ℕ = words_of_bytes bytes in
     let prefix : List ℕ = words_of_bytes (take (4 * count) bytes) in
     let eight : length (words_of_bytes bytes) ≡ 8 = length_words bytes 8 (omega (arith, long)) in
@@ -47,9 +47,9 @@ first_words old all told new bytes n count some few long is e f g =
     let four : 4 + 9 * count ≡ suc (suc (suc (suc (9 * count)))) = omega arith in
     let digits : take (9 * count) (flat_map spaced (words_of_bytes bytes) ++ 10 ∷ []) ≡ flat_map spaced (words_of_bytes (take (4 * count) bytes)) =
     take_spaced count (words_of_bytes bytes) (10 ∷ []) (omega (arith, eight, few)) ∙ ap (flat_map spaced) (sym (words_taken count bytes (omega (arith, long, few)))) in
-    let shown : take (4 + 9 * count) told ≡ codes "data" ++ flat_map spaced (words_of_bytes (take (4 * count) bytes)) =
+    let shown : take (4 + 9 * count) known ≡ codes "data" ++ flat_map spaced (words_of_bytes (take (4 * count) bytes)) =
     ap (take (4 + 9 * count)) is ∙ ap (λ (m : ℕ). take m (line (codes "data") spaced (words_of_bytes bytes))) four ∙ ap (λ t. codes "data" ++ t) digits in
-    kept_prefix old all told new n (4 + 9 * count) e f g ∙ ap (λ t. old ++ t) (shown ∙ sym (few_text 8 (codes "data") spaced 0 (words_of_bytes (take (4 * count) bytes)) (omega (arith, number, some)) (omega (arith, number, few))))
+    kept_prefix old all known new n (4 + 9 * count) e f g ∙ ap (λ t. old ++ t) (shown ∙ sym (few_text 8 (codes "data") spaced 0 (words_of_bytes (take (4 * count) bytes)) (omega (arith, number, some)) (omega (arith, number, few))))
 
 -- the first rows of a block
 row_zero : (n : ℕ) (bytes : List ℕ) → 0 < n → get_or (first_chunks 32 n bytes) 0 [] ≡ take 32 bytes
@@ -89,10 +89,10 @@ pub two_rows_count : (bytes first second : List ℕ) (count last : ℕ) → leng
 two_rows_count bytes first second count last long more few e f g =
     g ∙ sym (ap (in_line_after 8 0) (in_two_rows bytes first second count long more few e f) ∙ in_line_after_row 8 (words_of_bytes first) (words_of_bytes (take (4 * (count - 8)) second)) (row_of_eight bytes first long e) (omega arith))
 
-pub two_rows : (bytes first second old middle new told : List ℕ) (count : ℕ) → length bytes ≡ 64 → 8 < count → count ≤ 16 → first ≡ take 32 bytes → second ≡ take 32 (drop 32 bytes)
-    → told ≡ line (codes "data") spaced (words_of_bytes first) → middle ≡ old ++ told → new ≡ middle ++ open_text 8 (codes "data") spaced 0 (words_of_bytes (take (4 * (count - 8)) second))
+pub two_rows : (bytes first second old middle new known : List ℕ) (count : ℕ) → length bytes ≡ 64 → 8 < count → count ≤ 16 → first ≡ take 32 bytes → second ≡ take 32 (drop 32 bytes)
+    → known ≡ line (codes "data") spaced (words_of_bytes first) → middle ≡ old ++ known → new ≡ middle ++ open_text 8 (codes "data") spaced 0 (words_of_bytes (take (4 * (count - 8)) second))
     → new ≡ old ++ open_text 8 (codes "data") spaced 0 (words_of_bytes (take (4 * count) bytes))
-two_rows bytes first second old middle new told count long more few e f t a b =
+two_rows bytes first second old middle new known count long more few e f t a b =
     b ∙ ap (λ x. x ++ open_text 8 (codes "data") spaced 0 (words_of_bytes (take (4 * (count - 8)) second))) (a ∙ ap (λ x. old ++ x) t)
     ∙ append_assoc old (line (codes "data") spaced (words_of_bytes first)) (open_text 8 (codes "data") spaced 0 (words_of_bytes (take (4 * (count - 8)) second)))
     ∙ ap (λ x. old ++ x) (sym (ap (open_text 8 (codes "data") spaced 0) (in_two_rows bytes first second count long more few e f)
@@ -101,14 +101,14 @@ two_rows bytes first second old middle new told count long more few e f t a b =
 closes : (k : ℕ) → 0 < k → close k ≡ 10 ∷ []
 closes k h = let e : (k == 0) ≡ false = grind (arith, nat_tests) in rw e refl
 
-pub first_bytes : (old begun all told cut new bytes : List ℕ) (n count : ℕ) → 0 < count → count < 32 → length bytes ≡ 32 → told ≡ flat_map hex_byte bytes → begun ≡ old ++ codes "bytes " → n ≡ length old + (6 + 2 * count) → all ≡ begun ++ told → cut ≡ take n all → new ≡ cut ++ 10 ∷ []
+pub first_bytes : (old begun all known cut new bytes : List ℕ) (n count : ℕ) → 0 < count → count < 32 → length bytes ≡ 32 → known ≡ flat_map hex_byte bytes → begun ≡ old ++ codes "bytes " → n ≡ length old + (6 + 2 * count) → all ≡ begun ++ known → cut ≡ take n all → new ≡ cut ++ 10 ∷ []
     → new ≡ old ++ bytes_text (take count bytes)
-first_bytes old begun all told cut new bytes n count some few long is b e f g h =
+first_bytes old begun all known cut new bytes n count some few long is b e f g h =
     let prefix : List ℕ = take count bytes in
     let number : length (take count bytes) ≡ count = length-take-le count bytes (omega (arith, long, few)) in
-    let shown : cut ≡ begun ++ flat_map hex_byte (take count bytes) = kept_prefix begun all told cut n (2 * count) (omega (arith, e, ap length b, length-append old (codes "bytes "))) f g ∙ ap (λ t. begun ++ take (2 * count) t) is ∙ ap (λ t. begun ++ t) (hex_prefix count bytes (omega (arith, long, few))) in
-    let told_so : in_line_after 32 0 (take count bytes) ≡ 0 + length (take count bytes) = few_count 32 0 (take count bytes) (omega (arith, number, few)) in
-    let ends : close (in_line_after 32 0 (take count bytes)) ≡ 10 ∷ [] = closes (in_line_after 32 0 (take count bytes)) (omega (arith, told_so, number, some)) in
+    let shown : cut ≡ begun ++ flat_map hex_byte (take count bytes) = kept_prefix begun all known cut n (2 * count) (omega (arith, e, ap length b, length-append old (codes "bytes "))) f g ∙ ap (λ t. begun ++ take (2 * count) t) is ∙ ap (λ t. begun ++ t) (hex_prefix count bytes (omega (arith, long, few))) in
+    let known_so : in_line_after 32 0 (take count bytes) ≡ 0 + length (take count bytes) = few_count 32 0 (take count bytes) (omega (arith, number, few)) in
+    let ends : close (in_line_after 32 0 (take count bytes)) ≡ 10 ∷ [] = closes (in_line_after 32 0 (take count bytes)) (omega (arith, known_so, number, some)) in
     let text : bytes_text (take count bytes) ≡ (codes "bytes " ++ flat_map hex_byte (take count bytes)) ++ 10 ∷ [] =
     sym (bytes_closed (take count bytes)) ∙ ap (λ t. t ++ close (in_line_after 32 0 (take count bytes))) (few_text 32 (codes "bytes ") hex_byte 0 (take count bytes) (omega (arith, number, some)) (omega (arith, number, few)))
     ∙ ap (λ t. (codes "bytes " ++ flat_map hex_byte (take count bytes)) ++ t) ends in

@@ -100,11 +100,11 @@ turn_written taken line sent l old mid new e t m before after o n =
     let got : mid ≡ Some (before ++ line ++ t.given) = t.put ∙ ap (λ (k : Option (List ℕ)). appended (appended k line) t.given) o in
     let all : after ≡ before ++ line ++ t.given ++ m.0 = let e = m.1 in let f : appended mid m.0 ≡ Some (before ++ line ++ t.given ++ m.0) = ap (λ (k : Option (List ℕ)). appended k m.0) got in cc in
     let held = listing_held l t.given [] sent t.stands in
-    let told : length (t.given ++ l.text) ≡ length t.given = ap (λ (x : List ℕ). length (t.given ++ x)) t.clear ∙ ap length (append-nil t.given) in
+    let known : length (t.given ++ l.text) ≡ length t.given = ap (λ (x : List ℕ). length (t.given ++ x)) t.clear ∙ ap length (append-nil t.given) in
     record {
       text = line ++ listing_of sent;
       lists = e;
-      written = omega (arith, held, told, ap length all, length-append (before ++ line ++ t.given) m.0, length-append (before ++ line) t.given, length-append before line, length-append line (listing_of sent));
+      written = omega (arith, held, known, ap length all, length-append (before ++ line ++ t.given) m.0, length-append (before ++ line) t.given, length-append before line, length-append line (listing_of sent));
     }
 
 -- ---- what the sink's failure finds
@@ -142,8 +142,8 @@ turn_near contents stream taken piece line sent l rest old mid new s close few e
     let got : mid ≡ Some (before ++ line ++ t.given) = t.put ∙ ap (λ (k : Option (List ℕ)). appended (appended k line) t.given) o in
     let all : after ≡ before ++ line ++ t.given ++ m.0 = let e = m.1 in let f : appended mid m.0 ≡ Some (before ++ line ++ t.given ++ m.0) = ap (λ (k : Option (List ℕ)). appended k m.0) got in cc in
     let held = few_held l t.given [] sent t.stands in
-    let told : length (t.given ++ l.text) ≡ length t.given = ap (λ (x : List ℕ). length (t.given ++ x)) t.clear ∙ ap length (append-nil t.given) in
-    (turn_written taken line sent l old mid new e t m before after o n, omega (arith, few, close, held, told, ap length all, length-append (before ++ line ++ t.given) m.0, length-append (before ++ line) t.given, length-append before line, length-append taken piece)))
+    let known : length (t.given ++ l.text) ≡ length t.given = ap (λ (x : List ℕ). length (t.given ++ x)) t.clear ∙ ap length (append-nil t.given) in
+    (turn_written taken line sent l old mid new e t m before after o n, omega (arith, few, close, held, known, ap length all, length-append (before ++ line ++ t.given) m.0, length-append (before ++ line) t.given, length-append before line, length-append taken piece)))
 
 -- ---- what was given
 
@@ -204,12 +204,12 @@ module _ (contents : Option (List ℕ → Option (List ℕ))) (stream : List ℕ
   unopened_near s n name event a l (inl h, none) = as_event n.given event (missing name) h.0 tt
   unopened_near s n name event a l (inr h, none) = as_event n.given event (reading_failed name) h.0 (λ inputs bytes place c i fits e f. omega (arith, a.given), prefix_given contents stream n.given old new (omega (arith, a.given)) l)
 
-  pub unfronted_near : (m n : InputsState) (name : List ℕ) (event : Event) → n.rest ≡ rest → Selects contents stream m.rest → Asks name m → n.given ≤ m.given + longest_beginning → Longer old new → UnreadBeginning m name n event
+  pub without_prefix_near : (m n : InputsState) (name : List ℕ) (event : Event) → n.rest ≡ rest → Selects contents stream m.rest → Asks name m → n.given ≤ m.given + longest_beginning → Longer old new → UnreadBeginning m name n event
       → StaysBy (status_of_event event) contents stream n.given rest old new
-  unfronted_near m n name event e s a few l (inl h) = as_event n.given event no_memory h (prefix_given contents stream n.given old new (omega (arith, a.given, few)) l)
-  unfronted_near m n name event e s a few l (inr (inl h)) =
+  without_prefix_near m n name event e s a few l (inl h) = as_event n.given event no_memory h (prefix_given contents stream n.given old new (omega (arith, a.given, few)) l)
+  without_prefix_near m n name event e s a few l (inr (inl h)) =
       as_event n.given event (reading_failed name) h.0 (prefix_unjudged contents stream name m n s a h.3, prefix_given contents stream n.given old new (omega (arith, a.given, few)) l)
-  unfronted_near m n name event e s a few l (inr (inr h)) =
+  without_prefix_near m n name event e s a few l (inr (inr h)) =
       as_event n.given event (bad_input name (input.Byte h.place)) h.is (subst (λ (r : Option (List ℕ)). SoonBy contents stream r) e (bad_soon contents stream name m n event s h))
 
   pub unread_near : (s n : InputsState) (name taken : List ℕ) (l : ListerState) (left : ℕ) (event : Event) → n.rest ≡ rest → Selects contents stream (preceded taken s.rest) → (t : ListsStream l old new taken)

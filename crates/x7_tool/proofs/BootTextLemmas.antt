@@ -76,7 +76,7 @@ text_boots name part old mid new b (Err x) r short boots due ok err size = inl e
 pub short_flash : (s : FlashState) → IsSized s → (flash_limit < s.extent → ⊥) → IfKnown s.bytes (λ all. length all ≤ flash_limit)
 short_flash s e small = by s.bytes e
   where
-    by : (told : Option (List ℕ)) → IfKnown told (λ all. s.extent ≡ length all) → IfKnown told (λ all. length all ≤ flash_limit)
+    by : (known : Option (List ℕ)) → IfKnown known (λ all. s.extent ≡ length all) → IfKnown known (λ all. length all ≤ flash_limit)
     by None h = tt
     by (Some all) h = within (cases_lt flash_limit (length all))
       where
@@ -84,7 +84,7 @@ short_flash s e small = by s.bytes e
         within (inl l) = absurd (small (omega (arith, l, h)))
         within (inr l) = l
 
-large_flash : (name : List ℕ) (part : PartData) (told : Option (List ℕ)) (extent : ℕ) (event : Event) → IfKnown told (λ all. extent ≡ length all) → flash_limit < extent → event ≡ too_large name → FlashBoots name part (flash_found told) (Err event)
+large_flash : (name : List ℕ) (part : PartData) (known : Option (List ℕ)) (extent : ℕ) (event : Event) → IfKnown known (λ all. extent ≡ length all) → flash_limit < extent → event ≡ too_large name → FlashBoots name part (flash_found known) (Err event)
 large_flash name part None extent event e l is = is
 large_flash name part (Some all) extent event e l is = (omega (arith, l, e), is)
 

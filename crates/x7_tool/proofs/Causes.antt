@@ -144,7 +144,7 @@ nothing_listed = raw_listed [] ((raw_at [] (starts_with nat_eq [] fixed_bytes) r
 pub nothing_put : (old : Option (List ℕ)) → ListsSoFar [] old old
 nothing_put old = record { has = (listing_of [], nothing_listed); goes = λ rest text fits e. none_put old text }
 
--- the bytes that were taken are a front of the input
+-- the bytes that were taken are a prefix of the input
 prefix_taken : (contents : Option (List ℕ → Option (List ℕ))) (flash : Option (List ℕ)) (name taken : List ℕ) (rest : Option (List ℕ)) → Selects contents name (preceded taken rest) → IsPrefixOf (with_inputs contents flash) name taken
 prefix_taken None flash name taken rest s = tt
 prefix_taken (Some inputs) flash name taken None s = let h = s.2 in absurd (cc)
@@ -167,7 +167,7 @@ out_of_memory contents flash C stream taken rest Full old now s p = (inl (inl re
 pub may_follow : (last : Bool) (rest : Option (List ℕ)) (left : List ℕ) → rest ≡ Some left → (last ≡ true → AtEnd rest) → FollowsUnlessLast last left
 may_follow last rest left e end = λ l. let none = rw e at (end l) in none
 
--- a sink that failed after a front of the listing of these bytes and any that may follow
+-- a sink that failed after a prefix of the listing of these bytes and any that may follow
 pub unwritten : (contents : Option (List ℕ → Option (List ℕ))) (flash : Option (List ℕ)) (C : Mishap → Type 0) (stream taken : List ℕ) (rest : Option (List ℕ)) (last : Bool) (Full : Type 0) (old now : Option (List ℕ))
     → Selects contents stream (preceded taken rest) → (last ≡ true → AtEnd rest) → Full → PutsListed taken old now → ((left : List ℕ) → FollowsUnlessLast last left → AreBytes (taken ++ left) → PutsListed (taken ++ left) old now)
     → Ended (with_inputs contents flash) C stream Full old now (Err writing_failed)
@@ -188,15 +188,15 @@ listed_is : (inputs : List ℕ → Option (List ℕ)) (flash : Option (List ℕ)
 listed_is inputs flash stream bytes e = rw e refl
 
 -- a stream of which more than the limit was taken
-pub oversized : (contents : Option (List ℕ → Option (List ℕ))) (flash : Option (List ℕ)) (C : Mishap → Type 0) (stream taken listed_front : List ℕ) (rest more : Option (List ℕ)) (Full : Type 0) (old now : Option (List ℕ))
-    → Selects contents stream (preceded taken rest) → Selects contents stream (preceded listed_front more) → ((left : List ℕ) → (text : List ℕ) × (stream_listing (taken ++ left) ≡ Ok text)) → stream_limit < length taken → ListsSoFar listed_front old now
+pub oversized : (contents : Option (List ℕ → Option (List ℕ))) (flash : Option (List ℕ)) (C : Mishap → Type 0) (stream taken listed_prefix : List ℕ) (rest more : Option (List ℕ)) (Full : Type 0) (old now : Option (List ℕ))
+    → Selects contents stream (preceded taken rest) → Selects contents stream (preceded listed_prefix more) → ((left : List ℕ) → (text : List ℕ) × (stream_listing (taken ++ left) ≡ Ok text)) → stream_limit < length taken → ListsSoFar listed_prefix old now
     → Ended (with_inputs contents flash) C stream Full old now (Err (too_large stream))
-oversized None flash C stream taken listed_front rest more Full old now s t h l p = (inr tt, (listed_front, (tt, p)))
-oversized (Some inputs) flash C stream taken listed_front rest more Full old now s t h l p =
+oversized None flash C stream taken listed_prefix rest more Full old now s t h l p = (inr tt, (listed_prefix, (tt, p)))
+oversized (Some inputs) flash C stream taken listed_prefix rest more Full old now s t h l p =
     let all = known_all inputs stream taken rest s in
     let text = h all.0 in
     let long : nat_lt stream_limit (length (taken ++ all.0)) ≡ true = grind (arith, length-append taken all.0, l, nat_tests) in
-    (inr (tt, listed_is inputs flash stream (taken ++ all.0) all.1.1 ∙ due_over stream (taken ++ all.0) text.0 true text.1 long), (listed_front, (prefix_taken (Some inputs) flash stream listed_front more t, p)))
+    (inr (tt, listed_is inputs flash stream (taken ++ all.0) all.1.1 ∙ due_over stream (taken ++ all.0) text.0 true text.1 long), (listed_prefix, (prefix_taken (Some inputs) flash stream listed_prefix more t, p)))
 
 -- a stream whose header is refused
 pub refused : (contents : Option (List ℕ → Option (List ℕ))) (flash : Option (List ℕ)) (C : Mishap → Type 0) (stream taken : List ℕ) (rest : Option (List ℕ)) (last : Bool) (place : ℕ) (Full : Type 0) (old : Option (List ℕ))
@@ -241,17 +241,17 @@ pub nothing_taken : (contents : Option (List ℕ → Option (List ℕ))) (stream
 nothing_taken contents stream None s = s
 nothing_taken contents stream (Some rest) s = s
 
--- a stream whose front was not read
-pub unfronted : (s m n : InputsState) (flash : Option (List ℕ)) (stream : List ℕ) (Full : Type 0) (old : Option (List ℕ)) (event : Event)
+-- a stream whose beginning was not read
+pub without_prefix : (s m n : InputsState) (flash : Option (List ℕ)) (stream : List ℕ) (Full : Type 0) (old : Option (List ℕ)) (event : Event)
     → Stays s m → Selects s.contents stream m.rest → Asks stream m → UnreadBeginning m stream n event
     → Ended (with_inputs s.contents flash) (CameIn (step_over (stream ∷ []) s n)) stream Full old old (Err event)
-unfronted s m n flash stream Full old event f sel a (inl h) =
+without_prefix s m n flash stream Full old event f sel a (inl h) =
     ends_same (with_inputs s.contents flash) (CameIn (step_over (stream ∷ []) s n)) stream Full old old event no_memory h
     (out_of_memory s.contents flash (CameIn (step_over (stream ∷ []) s n)) stream [] m.rest Full old old (nothing_taken s.contents stream m.rest sel) (nothing_put old))
-unfronted s m n flash stream Full old event f sel a (inr (inl h)) =
+without_prefix s m n flash stream Full old event f sel a (inr (inl h)) =
     let fault = at_fault s m n stream [] stream_limit f (at_open stream m a) h.1 h.2 in
     ends_same (with_inputs s.contents flash) (CameIn (step_over (stream ∷ []) s n)) stream Full old old event (reading_failed stream) h.0
     (broken s.contents flash (CameIn (step_over (stream ∷ []) s n)) stream [] m.rest Full old old (nothing_taken s.contents stream m.rest sel) (faulted s n flash stream fault.0 (omega (arith, fault.1))) (nothing_put old))
-unfronted s m n flash stream Full old event f sel a (inr (inr h)) =
+without_prefix s m n flash stream Full old event f sel a (inr (inr h)) =
     ends_same (with_inputs s.contents flash) (CameIn (step_over (stream ∷ []) s n)) stream Full old old event (bad_input stream (input.Byte h.place)) h.is
     (refused s.contents flash (CameIn (step_over (stream ∷ []) s n)) stream h.bytes n.rest h.last h.place Full old (subst (λ r. Selects s.contents stream r) h.taken sel) h.end h.refused)

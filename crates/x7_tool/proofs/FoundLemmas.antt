@@ -35,12 +35,12 @@ left_by r stream flash found e (inr h) = subst (λ (x : List ℕ). MayBeLeft x f
 -- what is found of a flash that a run updates with a stream may be left of that update
 found_left : (form : Option AskedForm) (inputs : InputsState) (flash : FlashState) (known : Known) (name stream all found : List ℕ) → known_from (sources inputs flash) ≡ Some known → updated_by form ≡ Some name → stream_data known name ≡ Ok stream → flash.bytes ≡ Some all
     → PowerLossMayLeave form (sources inputs flash) found → MayBeLeft stream all found
-found_left form inputs flash known name stream all found is_known updates told_data told_bytes f =
+found_left form inputs flash known name stream all found is_known updates data_known bytes_known f =
     let from = known_from (sources inputs flash) in
-    let here : MayBeFound from (updated_by form) all found = known_at flash.bytes (λ x. MayBeFound from (updated_by form) x found) f all told_bytes in
+    let here : MayBeFound from (updated_by form) all found = known_at flash.bytes (λ x. MayBeFound from (updated_by form) x found) f all bytes_known in
     let named : MayBeFound from (Some name) all found = subst (λ (s : Option (List ℕ)). MayBeFound from s all found) updates here in
-    let told : MayBeFound (Some known) (Some name) all found = subst (λ (k : Option Known). MayBeFound k (Some name) all found) is_known named in
-    left_by (stream_data known name) stream all found told_data told
+    let may_be : MayBeFound (Some known) (Some name) all found = subst (λ (k : Option Known). MayBeFound k (Some name) all found) is_known named in
+    left_by (stream_data known name) stream all found data_known may_be
 
 -- whatever is found of a flash that a run updates boots as one of the three
 pub found_run_boots : (form : Option AskedForm) (inputs : InputsState) (flash : FlashState) (u : UpdatingAny) (found : List ℕ) (b : BootedState) → IsUpdateOf form (sources inputs flash) u → PowerLossMayLeave form (sources inputs flash) found → IsBoot u.part found b

@@ -44,19 +44,19 @@ counted_more n i w e = map-range_with_len_more (λ k. (n + k) % 2 ^ 32) 0 i i (o
 
 -- ---- an address more
 
-behind : (fars : List ℕ) (rank far : ℕ) → rank < length fars → get_or fars rank 0 ≡ far → drop rank fars ≡ far ∷ drop (rank + 1) fars
-behind fars rank far h e = drop_more fars rank 0 h ∙ ap (λ (y : ℕ). y ∷ drop (rank + 1) fars) e
+rest_at : (fars : List ℕ) (rank far : ℕ) → rank < length fars → get_or fars rank 0 ≡ far → drop rank fars ≡ far ∷ drop (rank + 1) fars
+rest_at fars rank far h e = drop_more fars rank 0 h ∙ ap (λ (y : ℕ). y ∷ drop (rank + 1) fars) e
 
-pub rows_more : (width x rank far : ℕ) (fars : List ℕ) (front now all : List PlanRow) → rank < length fars → get_or fars rank 0 ≡ far → now ≡ front ++ row_by width far (next_number x)
-    → front ++ rows_after width x (drop rank fars) ≡ all → now ++ rows_after width (next_number x) (drop (rank + 1) fars) ≡ all
-rows_more width x rank far fars front now all h e n was =
+pub rows_more : (width x rank far : ℕ) (fars : List ℕ) (prefix now all : List PlanRow) → rank < length fars → get_or fars rank 0 ≡ far → now ≡ prefix ++ row_by width far (next_number x)
+    → prefix ++ rows_after width x (drop rank fars) ≡ all → now ++ rows_after width (next_number x) (drop (rank + 1) fars) ≡ all
+rows_more width x rank far fars prefix now all h e n was =
     ap (λ (t : List PlanRow). t ++ rows_after width (next_number x) (drop (rank + 1) fars)) n
-    ∙ append_assoc front (row_by width far (next_number x)) (rows_after width (next_number x) (drop (rank + 1) fars))
-    ∙ ap (λ (t : List ℕ). front ++ rows_after width x t) (sym (behind fars rank far h e))
+    ∙ append_assoc prefix (row_by width far (next_number x)) (rows_after width (next_number x) (drop (rank + 1) fars))
+    ∙ ap (λ (t : List ℕ). prefix ++ rows_after width x t) (sym (rest_at fars rank far h e))
     ∙ was
 
-pub rows_all : (width x rank : ℕ) (fars : List ℕ) (front all : List PlanRow) → length fars ≤ rank → front ++ rows_after width x (drop rank fars) ≡ all → front ≡ all
-rows_all width x rank fars front all h was = sym (append-nil front) ∙ ap (λ (t : List ℕ). front ++ rows_after width x t) (sym (drop_of_length-le fars h)) ∙ was
+pub rows_all : (width x rank : ℕ) (fars : List ℕ) (prefix all : List PlanRow) → length fars ≤ rank → prefix ++ rows_after width x (drop rank fars) ≡ all → prefix ≡ all
+rows_all width x rank fars prefix all h was = sym (append-nil prefix) ∙ ap (λ (t : List ℕ). prefix ++ rows_after width x t) (sym (drop_of_length-le fars h)) ∙ was
 
 -- ---- the rows stand in order
 
@@ -111,7 +111,7 @@ plan_is part seed draft plan r e w v same is =
 pub sum_more : (m : FrameMap) (rank far total s now all : ℕ) (fars : List ℕ) → rank < length fars → get_or fars rank 0 ≡ far → s ≡ sum (unwrap_or (m far) []) % 2 ^ 32 → now ≡ (total + s) % 2 ^ 32
     → (total + words_sum m (drop rank fars)) % 2 ^ 32 ≡ all → (now + words_sum m (drop (rank + 1) fars)) % 2 ^ 32 ≡ all
 sum_more m rank far total s now all fars h e f n was =
-    let split : words_sum m (drop rank fars) ≡ sum (unwrap_or (m far) []) + words_sum m (drop (rank + 1) fars) = ap (words_sum m) (behind fars rank far h e) in
+    let split : words_sum m (drop rank fars) ≡ sum (unwrap_or (m far) []) + words_sum m (drop (rank + 1) fars) = ap (words_sum m) (rest_at fars rank far h e) in
     omega (arith, f, n, was, split)
 
 pub sum_all : (m : FrameMap) (rank total all : ℕ) (fars : List ℕ) → length fars ≤ rank → total < 2 ^ 32 → (total + words_sum m (drop rank fars)) % 2 ^ 32 ≡ all → total ≡ all
@@ -219,39 +219,39 @@ planned_is part seed text is e =
 
 -- what was given of the full stream of a plan was played, and no piece waits
 pub record PlaysAlong (part : PartData) (plan : PlanData) (stream : FullStreamState) (player : Player) (size : ℕ) (block : List ℕ) : Type 0 where
-  pub told : List ℕ
-  pub stands : HasGiven stream told
-  pub played : HasPlayed part told player
-  pub counted : size ≡ length told
+  pub known : List ℕ
+  pub stands : HasGiven stream known
+  pub played : HasPlayed part known player
+  pub counted : size ≡ length known
   pub empty : block ≡ []
   pub of_part : stream.part ≡ part
   pub of_plan : stream.plan ≡ plan
 
 -- what was given of a full stream is no longer than a stream may be
-known_few : (part : PartData) (plan : PlanData) (stream : FullStreamState) (told : List ℕ) → IsPart part → IsPlan plan → plan.width ≡ frame_words part → stream.part ≡ part → stream.plan ≡ plan → HasGiven stream told → length told ≤ 2 ^ 27
-known_few part plan stream told is p e a b h =
-    let whole : told ++ h.left ≡ full_stream part plan = h.whole ∙ ap (λ (x : PartData). full_stream x stream.plan) a ∙ ap (full_stream part) b in
-    let size : length told + length h.left ≡ 4 * (55 + frame_words part * length (slots_in part)) = sym (length-append told h.left) ∙ ap length (whole ∙ full_same part plan is p e) ∙ full_length part plan p e in
+known_few : (part : PartData) (plan : PlanData) (stream : FullStreamState) (known : List ℕ) → IsPart part → IsPlan plan → plan.width ≡ frame_words part → stream.part ≡ part → stream.plan ≡ plan → HasGiven stream known → length known ≤ 2 ^ 27
+known_few part plan stream known is p e a b h =
+    let whole : known ++ h.left ≡ full_stream part plan = h.whole ∙ ap (λ (x : PartData). full_stream x stream.plan) a ∙ ap (full_stream part) b in
+    let size : length known + length h.left ≡ 4 * (55 + frame_words part * length (slots_in part)) = sym (length-append known h.left) ∙ ap length (whole ∙ full_same part plan is p e) ∙ full_length part plan p e in
     let slots : frame_words part * length (slots_in part) ≡ frame_words part * (length (addresses_in part) + 2 * length part.rows) = ap (λ (k : ℕ). frame_words part * k) (slots_number part) in
     omega (arith, size, slots, is.slots)
 
-module _ (part : PartData) (plan : PlanData) (stream later : FullStreamState) (player : Player) (size : ℕ) (block new : List ℕ) (v : PlaysAlong part plan stream player size block) (m : AppendsNext later v.told block new) where
+module _ (part : PartData) (plan : PlanData) (stream later : FullStreamState) (player : Player) (size : ℕ) (block new : List ℕ) (v : PlaysAlong part plan stream player size block) (m : AppendsNext later v.known block new) where
   piece_is : new ≡ m.piece
   piece_is = m.adds ∙ ap (λ (t : List ℕ). t ++ m.piece) v.empty
 
   -- a piece more is within what a device counts
-  pub piece_fits : IsPart part → IsPlan plan → plan.width ≡ frame_words part → later.part ≡ stream.part → later.plan ≡ stream.plan → length v.told + length new ≤ 2 ^ 27
+  pub piece_fits : IsPart part → IsPlan plan → plan.width ≡ frame_words part → later.part ≡ stream.part → later.plan ≡ stream.plan → length v.known + length new ≤ 2 ^ 27
   piece_fits is p e a b =
-      let few : length (v.told ++ m.piece) ≤ 2 ^ 27 = known_few part plan later (v.told ++ m.piece) is p e (a ∙ v.of_part) (b ∙ v.of_plan) m.more in
-      omega (arith, few, length-append v.told m.piece, ap length piece_is)
+      let few : length (v.known ++ m.piece) ≤ 2 ^ 27 = known_few part plan later (v.known ++ m.piece) is p e (a ∙ v.of_part) (b ∙ v.of_plan) m.more in
+      omega (arith, few, length-append v.known m.piece, ap length piece_is)
 
   -- a piece more is played
   pub along : (next : Player) (total : ℕ) (given after : List ℕ) → later.part ≡ stream.part → later.plan ≡ stream.plan → given ≡ new → PlaysOn player next given → total ≡ size + length new → after ≡ [] → PlaysAlong part plan later next total after
   along next total given after a b g on t e = record {
-    told = v.told ++ m.piece;
+    known = v.known ++ m.piece;
     stands = m.more;
-    played = subst (λ (x : List ℕ). HasPlayed part (v.told ++ x) next) (g ∙ piece_is) (on part v.told v.played);
-    counted = omega (arith, t, v.counted, length-append v.told m.piece, ap length piece_is);
+    played = subst (λ (x : List ℕ). HasPlayed part (v.known ++ x) next) (g ∙ piece_is) (on part v.known v.played);
+    counted = omega (arith, t, v.counted, length-append v.known m.piece, ap length piece_is);
     empty = e;
     of_part = a ∙ v.of_part;
     of_plan = b ∙ v.of_plan;

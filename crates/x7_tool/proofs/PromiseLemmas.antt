@@ -125,8 +125,8 @@ starts_checked part flash answer fits b = record {
   started = λ ok. last_checked part flash b.last b.older b.end fits b.leads (has_started b.end (sym b.stopped ∙ ok));
 }
 
-boots_known : (name : List ℕ) (part : PartData) (told : Option Found) (flash : List ℕ) (answer : Answer) → told ≡ Some (Held flash) → FlashBoots name part told (Ok answer) → AreBytes flash → IsBootText part flash answer
-boots_known name part told flash answer e h fits =
+boots_known : (name : List ℕ) (part : PartData) (known : Option Found) (flash : List ℕ) (answer : Answer) → known ≡ Some (Held flash) → FlashBoots name part known (Ok answer) → AreBytes flash → IsBootText part flash answer
+boots_known name part known flash answer e h fits =
     let here : FlashBoots name part (Some (Held flash)) (Ok answer) = subst (λ (f : Option Found). FlashBoots name part f (Ok answer)) e h in
     here.1 fits
 

@@ -31,19 +31,19 @@ listing_is bytes text l =
 stands_fit : (l : ListerState) (given bytes : List ℕ) → ListerStandsFor l given [] bytes → AreBytes bytes
 stands_fit l given bytes stands = stands.tells.cut.reading.fits
 
--- what was put is a front of the listing of the bytes and any that may follow
+-- what was put is a prefix of the listing of the bytes and any that may follow
 pub lists_prefix : (l : ListerState) (first now : Option (List ℕ)) (bytes rest : List ℕ) → Lists l first now bytes → AreBytes (bytes ++ rest) → PutsPrefix first (listing_of (bytes ++ rest)) now
 lists_prefix l first now bytes rest t fits =
-    let front = listed_prefix l t.given bytes rest t.stands fits in
-    (t.given, (front.0, front.1 ∙ ap (λ x. (t.given ++ x) ++ front.0) t.clear ∙ ap (λ x. x ++ front.0) (append-nil t.given), t.put))
+    let prefix = listed_prefix l t.given bytes rest t.stands fits in
+    (t.given, (prefix.0, prefix.1 ∙ ap (λ x. (t.given ++ x) ++ prefix.0) t.clear ∙ ap (λ x. x ++ prefix.0) (append-nil t.given), t.put))
 
--- what was put is a front of the listing of the bytes
+-- what was put is a prefix of the listing of the bytes
 pub lists_here : (l : ListerState) (first now : Option (List ℕ)) (bytes : List ℕ) → Lists l first now bytes → PutsPrefix first (listing_of bytes) now
 lists_here l first now bytes t =
     let fits : AreBytes (bytes ++ []) = rw (append-nil bytes) (stands_fit l t.given bytes t.stands) in
-    let front = lists_prefix l first now bytes [] t fits in
+    let prefix = lists_prefix l first now bytes [] t fits in
     let all : bytes ++ [] ≡ bytes = append-nil bytes in
-    rw all at front
+    rw all at prefix
 
 -- a turn that fed a piece, wrote its text and cleared it
 pub lists_more : (l fed clear : ListerState) (first mid now : Option (List ℕ)) (bytes piece text : List ℕ) → Lists l first mid bytes
@@ -60,12 +60,12 @@ lists_more l fed clear first mid now bytes piece text t feeds same put none clea
 pub lists_part : (l fed : ListerState) (first mid now : Option (List ℕ)) (bytes piece rest text : List ℕ) → Lists l first mid bytes
     → ((given before taken : List ℕ) → ListerStandsFor l given before taken → ListerStandsFor fed given before (taken ++ piece)) → text ≡ fed.text → PutsPrefix mid text now → AreBytes (bytes ++ (piece ++ rest))
     → PutsPrefix first (listing_of (bytes ++ (piece ++ rest))) now
-lists_part l fed first mid now bytes piece rest text t feeds same front fits =
+lists_part l fed first mid now bytes piece rest text t feeds same prefix fits =
     let all : (bytes ++ piece) ++ rest ≡ bytes ++ (piece ++ rest) = append_assoc bytes piece rest in
     let fits2 : AreBytes ((bytes ++ piece) ++ rest) = rw all fits in
-    let told = listed_prefix fed t.given (bytes ++ piece) rest (feeds t.given [] bytes t.stands) fits2 in
-    let here : listing_of (bytes ++ (piece ++ rest)) ≡ t.given ++ (text ++ told.0) = ap listing_of (sym all) ∙ told.1 ∙ append_assoc t.given fed.text told.0 ∙ ap (λ x. t.given ++ (x ++ told.0)) (sym same) in
-    rw here (prefix_more first mid now t.given text told.0 t.put front)
+    let known = listed_prefix fed t.given (bytes ++ piece) rest (feeds t.given [] bytes t.stands) fits2 in
+    let here : listing_of (bytes ++ (piece ++ rest)) ≡ t.given ++ (text ++ known.0) = ap listing_of (sym all) ∙ known.1 ∙ append_assoc t.given fed.text known.0 ∙ ap (λ x. t.given ++ (x ++ known.0)) (sym same) in
+    rw here (prefix_more first mid now t.given text known.0 t.put prefix)
 
 -- the end of a listing was written
 pub end_put : (l done : ListerState) (first mid now : Option (List ℕ)) (bytes text : List ℕ) → Lists l first mid bytes
@@ -78,10 +78,10 @@ end_put l done first mid now bytes text t ends same put =
 -- the end of a listing was written in part
 pub end_part : (l done : ListerState) (first mid now : Option (List ℕ)) (bytes text : List ℕ) → Lists l first mid bytes
     → ((given before taken : List ℕ) → ListerStandsFor l given before taken → Finished done given before taken) → text ≡ done.text → PutsPrefix mid text now → PutsPrefix first (listing_of bytes) now
-end_part l done first mid now bytes text t ends same front =
+end_part l done first mid now bytes text t ends same prefix =
     let f = ends t.given [] bytes t.stands in
     let whole : listing_of bytes ≡ t.given ++ (text ++ []) = sym (ap (λ x. t.given ++ x) (append-nil text ∙ same) ∙ f.listed ∙ listing_is bytes f.listing f.is) in
-    rw whole (prefix_more first mid now t.given text [] t.put front)
+    rw whole (prefix_more first mid now t.given text [] t.put prefix)
 
 -- what a lister that was fed all of a stream's data lists
 pub whole_text : (l fed done : ListerState) (sent text : List ℕ) → ListerStandsFor l [] [] [] → ((given before taken : List ℕ) → ListerStandsFor l given before taken → ListerStandsFor fed given before (taken ++ sent))
@@ -101,7 +101,7 @@ taken_more contents name taken piece old new s e =
     let whole : preceded taken old ≡ preceded (taken ++ piece) new = ap (preceded taken) e ∙ preceded_preceded taken piece new in
     subst (λ r. Selects contents name r) whole s
 
--- what was put is a front of the listing of the stream's bytes
+-- what was put is a prefix of the listing of the stream's bytes
 pub line_prefix : (first now : Option (List ℕ)) (line text : List ℕ) → PutsPrefix (appended first line) text now → PutsPrefix first (line ++ text) now
 line_prefix first now line text p = subst (λ t. PutsPrefix first (line ++ t) now) (append-nil text) (prefix_more first (appended first line) now line text [] refl p)
 
@@ -117,7 +117,7 @@ line_part first now line more p = (p.0, (p.1.0 ++ more, ap (λ t. t ++ more) p.1
 pub begins_after : (l : ListerState) (old mid : Option (List ℕ)) (line : List ℕ) → ListerStandsFor l [] [] [] → l.text ≡ [] → mid ≡ appended old line → Lists l (appended old line) mid []
 begins_after l old mid line stands clear e = record { given = []; stands = stands; put = e ∙ sym (appended_nil (appended old line)); clear = clear }
 
--- a front and then its listing
+-- a prefix and then its listing
 pub line_then : (first now : Option (List ℕ)) (line text : List ℕ) → now ≡ appended (appended first line) text → now ≡ appended first (line ++ text)
 line_then first now line text e = e ∙ appended_appended first line text
 
@@ -131,8 +131,8 @@ stream_so_far l first now bytes t = record {
   has = (t.line ++ listing_of t.sent, stream_whole bytes t.line t.sent (t.goes []));
   goes = λ rest text fits e.
       let sent : AreBytes (t.sent ++ rest) = all_append (λ b. b < 256) t.sent rest (stands_fit l t.lists.given t.sent t.lists.stands) fits in
-      let front = line_prefix first now t.line (listing_of (t.sent ++ rest)) (lists_prefix l (appended first t.line) now t.sent rest t.lists sent) in
-      subst (λ (x : List ℕ). PutsPrefix first x now) (one_text text (t.line ++ listing_of (t.sent ++ rest)) (stream_listing (bytes ++ rest)) (t.goes rest) e) front;
+      let prefix = line_prefix first now t.line (listing_of (t.sent ++ rest)) (lists_prefix l (appended first t.line) now t.sent rest t.lists sent) in
+      subst (λ (x : List ℕ). PutsPrefix first x now) (one_text text (t.line ++ listing_of (t.sent ++ rest)) (stream_listing (bytes ++ rest)) (t.goes rest) e) prefix;
 }
 
 -- a prefix of the listing of a stream that may go on, put while its first data are listed
@@ -156,19 +156,19 @@ write_failed contents flash C stream taken piece same l rest Full old mid now e 
     let sent : AreBytes t.sent = stands_fit l t.lists.given t.sent t.lists.stands in
     let q : (left : List ℕ) → AreBytes left → PutsListed ((taken ++ piece) ++ left) old now
     = λ left fit.
-    let front : PutsPrefix (appended old t.line) (listing_of (t.sent ++ (piece ++ left))) now = subst (λ x. PutsPrefix (appended old t.line) (listing_of (t.sent ++ (x ++ left))) now) e (p left (all_append (λ b. b < 256) t.sent (same ++ left) sent (all_append (λ b. b < 256) same left fits fit))) in
-    (t.line ++ listing_of (t.sent ++ (piece ++ left)), (ap stream_listing (append_assoc taken piece left) ∙ t.goes (piece ++ left), line_prefix old now t.line (listing_of (t.sent ++ (piece ++ left))) front)) in
+    let prefix : PutsPrefix (appended old t.line) (listing_of (t.sent ++ (piece ++ left))) now = subst (λ x. PutsPrefix (appended old t.line) (listing_of (t.sent ++ (x ++ left))) now) e (p left (all_append (λ b. b < 256) t.sent (same ++ left) sent (all_append (λ b. b < 256) same left fits fit))) in
+    (t.line ++ listing_of (t.sent ++ (piece ++ left)), (ap stream_listing (append_assoc taken piece left) ∙ t.goes (piece ++ left), line_prefix old now t.line (listing_of (t.sent ++ (piece ++ left))) prefix)) in
     let here : PutsListed (taken ++ piece) old now = subst (λ x. PutsListed x old now) (append-nil (taken ++ piece)) (q [] tt) in
     unwritten contents flash C stream (taken ++ piece) rest false Full old now s (λ l. absurd cc) f here (λ left m fit. q left (all_back (λ b. b < 256) (taken ++ piece) left fit))
 
--- what was put at the front of a stream
+-- what was put at the beginning of a stream
 pub prefix_here : (taken line sent : List ℕ) (last : Bool) (old now : Option (List ℕ)) → AreBytes sent → ((left : List ℕ) → FollowsUnlessLast last left → stream_listing (taken ++ left) ≡ Ok (line ++ listing_of (sent ++ left)))
     → ((left : List ℕ) → AreBytes (sent ++ left) → PutsPrefix old (line ++ listing_of (sent ++ left)) now) → PutsListed taken old now
 prefix_here taken line sent last old now fits g p =
     let put : PutsPrefix old (line ++ listing_of sent) now = subst (λ s. PutsPrefix old (line ++ listing_of s) now) (append-nil sent) (p [] (subst AreBytes (sym (append-nil sent)) fits)) in
     (line ++ listing_of sent, (stream_whole taken line sent (g [] (λ l. refl)), put))
 
--- a sink that failed at the front of a stream
+-- a sink that failed at the beginning of a stream
 pub prefix_failed : (contents : Option (List ℕ → Option (List ℕ))) (flash : Option (List ℕ)) (C : Mishap → Type 0) (stream taken line sent : List ℕ) (rest : Option (List ℕ)) (last : Bool) (Full : Type 0) (old now : Option (List ℕ))
     → Selects contents stream (preceded taken rest) → (last ≡ true → AtEnd rest) → Full → AreBytes sent → ((left : List ℕ) → FollowsUnlessLast last left → stream_listing (taken ++ left) ≡ Ok (line ++ listing_of (sent ++ left)))
     → ((left : List ℕ) → AreBytes (sent ++ left) → PutsPrefix old (line ++ listing_of (sent ++ left)) now) → Ended (with_inputs contents flash) C stream Full old now (Err writing_failed)

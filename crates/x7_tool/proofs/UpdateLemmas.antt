@@ -39,7 +39,7 @@ names flash stream = record { flash = flash; stream = stream }
 
 -- the flash is no larger than a flash may be, where its bytes are known
 abbrev IsWithin : Option (List ℕ) → Type 0
-IsWithin told = IfKnown told (λ all. length all ≤ flash_limit)
+IsWithin known = IfKnown known (λ all. length all ≤ flash_limit)
 
 -- what is known of the flash of this name is what its bytes say
 abbrev IsTold : Option Known → List ℕ → Option (List ℕ) → Type 0
@@ -202,8 +202,8 @@ data_at : (known : Option Known) (stream bytes : List ℕ) → HasData known str
 data_at known stream bytes h t e = let at : HasData (Some t) stream bytes = subst (λ (k : Option Known). HasData k stream bytes) e h in at
 
 -- a refusal by what the flash holds
-fault_known : (n : UpdateNames) (told : Option (List ℕ)) (read : Result (List ℕ) Event) (bytes : List ℕ) (fault : UpdateFault) → IsWithin told → read ≡ Ok bytes → IsUpdateFault told bytes fault → UpdatesBytes n told read (Err (update_event n fault))
-fault_known n told read bytes fault within e h = inr (within, subst (λ (r : Result (List ℕ) Event). UpdatesWith n told r (Err (update_event n fault))) (sym e) (fault, h, refl))
+fault_known : (n : UpdateNames) (known : Option (List ℕ)) (read : Result (List ℕ) Event) (bytes : List ℕ) (fault : UpdateFault) → IsWithin known → read ≡ Ok bytes → IsUpdateFault known bytes fault → UpdatesBytes n known read (Err (update_event n fault))
+fault_known n known read bytes fault within e h = inr (within, subst (λ (r : Result (List ℕ) Event). UpdatesWith n known r (Err (update_event n fault))) (sym e) (fault, h, refl))
 
 -- a refusal's cause since before the attach
 pub cause_from : (bytes : List ℕ) (a b c : FlashState) (fault : UpdateFault) → b.bytes ≡ a.bytes → b.write_faults ≡ a.write_faults → a.faults ≤ b.faults → HasCause bytes b c fault → HasCause bytes a c fault
@@ -217,10 +217,10 @@ cause_from bytes a b c NoMemory e w f h = tt
 -- the flash can take the stream's data
 could_end : (flash stream bytes : List ℕ) (old : Outside) → IsWithin old.flash.bytes → HasData (known_in old) stream bytes → IfKnown old.flash.bytes (CanTake bytes) → Agrees (known_in old) (UpdatingFlash flash stream) (Ok no_text)
 could_end flash stream bytes old within has can =
-    let told = old.flash.bytes in
+    let known = old.flash.bytes in
     let n = names flash stream in
-    agreed (known_in old) told flash stream (Ok no_text) (known_flash old.inputs.contents told flash)
-    (λ t e. inr (within, subst (λ (r : Result (List ℕ) Event). UpdatesWith n told r (Ok no_text)) (sym (data_at (known_in old) stream bytes has t e)) (refl, can)))
+    agreed (known_in old) known flash stream (Ok no_text) (known_flash old.inputs.contents known flash)
+    (λ t e. inr (within, subst (λ (r : Result (List ℕ) Event). UpdatesWith n known r (Ok no_text)) (sym (data_at (known_in old) stream bytes has t e)) (refl, can)))
 
 -- the stream is good, whatever the flash holds
 stream_good : (contents : Option (List ℕ → Option (List ℕ))) (flash stream bytes : List ℕ) → HasData (with_inputs contents None) stream bytes → Agrees (with_inputs contents None) (UpdatingFlash flash stream) (Ok no_text)
@@ -266,7 +266,7 @@ fault_ends flash stream bytes old new (Differs place wrote read) out asked withi
 }
 fault_ends flash stream bytes old new NoMemory out asked within has reads size h early = refused_ends flash stream old new no_memory out (fault_measured (Some (UpdatingFlash flash stream)) (names flash stream) new.flash NoMemory) (fault_last flash stream bytes old.inputs new.flash NoMemory reads size) (inl (inl refl)) (early tt)
 
-can_take : (told now : Option (List ℕ)) (bytes : List ℕ) → IfKnown told HasLayout → BecomesBytes (IsAfter bytes) told now → IfKnown told (CanTake bytes)
+can_take : (known now : Option (List ℕ)) (bytes : List ℕ) → IfKnown known HasLayout → BecomesBytes (IsAfter bytes) known now → IfKnown known (CanTake bytes)
 can_take None now bytes l b = tt
 can_take (Some all) now bytes l b = record { layout = l; fits = b.2.fits }
 
@@ -274,10 +274,10 @@ can_take (Some all) now bytes l b = record { layout = l; fits = b.2.fits }
 pub done_ends : (flash stream bytes : List ℕ) (old new : Outside) → new.out ≡ old.out → IsWithin old.flash.bytes → HasData (known_in old) stream bytes → IfKnown old.flash.bytes HasLayout → new.flash.extent ≤ flash_limit → Becomes old.flash new.flash (IsAfter bytes)
     → EndsAs (Some (UpdatingFlash flash stream)) old new (Ok false)
 done_ends flash stream bytes old new out within has layout size becomes =
-    let told = old.flash.bytes in (
+    let known = old.flash.bytes in (
       [],
       record {
-        cause = could_end flash stream bytes old within has (can_take told new.flash.bytes bytes layout becomes);
+        cause = could_end flash stream bytes old within has (can_take known new.flash.bytes bytes layout becomes);
         wrote = out_same old new out ∙ sym (appended_nil old.out.written);
         near = near_all (UpdatingFlash flash stream) (text_status false) old new refl;
         measured = λ name a. size;

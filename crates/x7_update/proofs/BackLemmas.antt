@@ -29,14 +29,14 @@ not_known (Some all) from piece place count buffer at wrote read long r h w =
 -- a fault of what was read from a place on and compared with what is wanted there
 wrong_fails : (from : ℕ) (piece : List ℕ) (place count end : ℕ) (buffer stream : List ℕ) (old new : FlashState) (fault : UpdateFault) → length buffer ≡ count → Sees new place buffer → HasSize new.extent → IfKnown old.bytes (λ all. buffer ≡ slice_range all place (place + count))
     → IfKnown old.bytes (AreWanted from piece place count) → IsWritten new.extent stream piece from end → from ≤ place → place + count ≤ end → SeesWanted from piece from place new → IsWrong from piece place buffer fault → EndFails stream old new fault
-wrong_fails from piece place count end buffer stream old new (Differs at wrote read) long seen sized r h written behind within had w = (
+wrong_fails from piece place count end buffer stream old new (Differs at wrote read) long seen sized r h written after within had w = (
   record {
     sized = sized;
     piece = piece;
     from = from;
     end = end;
     written = written;
-    begun = omega (arith, behind, w.2);
+    begun = omega (arith, after, w.2);
     before = omega (arith, within, long, w.1, w.2);
     wants = w.3;
     differs = w.5;
@@ -47,31 +47,31 @@ wrong_fails from piece place count end buffer stream old new (Differs at wrote r
     wanted = subst (λ (p : ℕ). SeesWanted from piece from p new) (sym w.2) (sees_to from piece place w.0 buffer new (omega (arith, w.1)) seen had w.6);
   },
 )
-wrong_fails from piece place count end buffer stream old new (Failed true) long seen sized r h written behind within had w = absurd w
-wrong_fails from piece place count end buffer stream old new (Failed false) long seen sized r h written behind within had w = absurd w
-wrong_fails from piece place count end buffer stream old new TooLong long seen sized r h written behind within had w = absurd w
-wrong_fails from piece place count end buffer stream old new (NoLayout at) long seen sized r h written behind within had w = absurd w
-wrong_fails from piece place count end buffer stream old new NoMemory long seen sized r h written behind within had w = absurd w
+wrong_fails from piece place count end buffer stream old new (Failed true) long seen sized r h written after within had w = absurd w
+wrong_fails from piece place count end buffer stream old new (Failed false) long seen sized r h written after within had w = absurd w
+wrong_fails from piece place count end buffer stream old new TooLong long seen sized r h written after within had w = absurd w
+wrong_fails from piece place count end buffer stream old new (NoLayout at) long seen sized r h written after within had w = absurd w
+wrong_fails from piece place count end buffer stream old new NoMemory long seen sized r h written after within had w = absurd w
 
 compared_fails : (from : ℕ) (piece : List ℕ) (place count end : ℕ) (buffer stream : List ℕ) (old new : FlashState) (result : Result (Unit {0}) UpdateFault) → length buffer ≡ count → Sees new place buffer → HasSize new.extent → IfKnown old.bytes (λ all. buffer ≡ slice_range all place (place + count))
     → IfKnown old.bytes (AreWanted from piece place count) → IsWritten new.extent stream piece from end → from ≤ place → place + count ≤ end → SeesWanted from piece from place new → IfErr result (IsWrong from piece place buffer) → IfErr result (EndFails stream old new)
-compared_fails from piece place count end buffer stream old new (Ok _) long seen sized r h written behind within had w = tt
-compared_fails from piece place count end buffer stream old new (Err fault) long seen sized r h written behind within had w =
-    wrong_fails from piece place count end buffer stream old new fault long seen sized r h written behind within had w
+compared_fails from piece place count end buffer stream old new (Ok _) long seen sized r h written after within had w = tt
+compared_fails from piece place count end buffer stream old new (Err fault) long seen sized r h written after within had w =
+    wrong_fails from piece place count end buffer stream old new fault long seen sized r h written after within had w
 
 -- ---- a piece of the stream
 
 stream_wanted : (known : Option (List ℕ)) (update : ℕ) (stream : List ℕ) (place count size : ℕ) → update ≤ place → place + count ≤ size → IfKnown known (λ all. size ≡ length all) → IfKnown known (HasWanted update stream) → IfKnown known (AreWanted update stream place count)
-stream_wanted None update stream place count size behind within s h = tt
-stream_wanted (Some all) update stream place count size behind within s h = λ i l. h (place + i) (omega arith) (omega (arith, s))
+stream_wanted None update stream place count size after within s h = tt
+stream_wanted (Some all) update stream place count size after within s h = λ i l. h (place + i) (omega arith) (omega (arith, s))
 
 -- this many bytes of the stream, or of FF after it, were read back from a place on
 pub stream_fails : (update : ℕ) (stream : List ℕ) (place count : ℕ) (buffer : List ℕ) (old new : FlashState) (result : Result (Unit {0}) UpdateFault) → length buffer ≡ count → Sees new place buffer → new.extent ≡ old.extent → HasSize old.extent → CanStandAt old.extent update
     → update + length stream ≤ old.extent → update ≤ place → place + count ≤ old.extent → IfKnown old.bytes (λ all. old.extent ≡ length all) → IfKnown old.bytes (HasWanted update stream)
     → IfKnown old.bytes (λ all. buffer ≡ slice_range all place (place + count)) → SeesWanted update stream update place new → IfErr result (IsWrong update stream place buffer) → IfErr result (EndFails stream old new)
-stream_fails update stream place count buffer old new result long seen same sized stands fits behind within counted wanted r had w =
-    compared_fails update stream place count new.extent buffer stream old new result long seen (subst HasSize (sym same) sized) r (stream_wanted old.bytes update stream place count old.extent behind within counted wanted)
-    (in_stream (subst (λ (n : ℕ). CanStandAt n update) (sym same) stands) (omega (arith, same, fits)) refl refl) behind (omega (arith, same, within)) had w
+stream_fails update stream place count buffer old new result long seen same sized stands fits after within counted wanted r had w =
+    compared_fails update stream place count new.extent buffer stream old new result long seen (subst HasSize (sym same) sized) r (stream_wanted old.bytes update stream place count old.extent after within counted wanted)
+    (in_stream (subst (λ (n : ℕ). CanStandAt n update) (sym same) stands) (omega (arith, same, fits)) refl refl) after (omega (arith, same, within)) had w
 
 -- ---- a switch word
 

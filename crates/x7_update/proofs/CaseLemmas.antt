@@ -30,8 +30,8 @@ open_not_spent : spent_switch ≡ open_switch → ⊥
 open_not_spent same = let first : 0 ≡ 0xAA = ap (λ l. get_or l 0 0) same in absurd (omega (arith, first))
 
 -- what is after a switch word is in no switch word
-pub behind : (slot i : ℕ) → 4 ≤ i % 32 → (i < 32 * slot) ⊎ (32 * slot + 4 ≤ i)
-behind slot i h = elim (cases_lt i (32 * slot)) [
+pub outside_switch : (slot i : ℕ) → 4 ≤ i % 32 → (i < 32 * slot) ⊎ (32 * slot + 4 ≤ i)
+outside_switch slot i h = elim (cases_lt i (32 * slot)) [
   | inl less ↦ inl less
   | inr from ↦ elim (cases_lt i (32 * slot + 4)) [ inl inside ↦ absurd (omega arith) | inr above ↦ inr above ]
 ]
@@ -49,7 +49,7 @@ only_other slot other old found n only = same_switch old found other (λ i h k. 
 pub between_closing : (size slot : ℕ) (all found : List ℕ) → HasSlots size all → slot < 2048 → IsOpen all slot → OnlySwitch slot all found → IsBetween all found
 between_closing size slot all found has h is only = record {
   size = only.size;
-  slots = λ i k b. only.others i (behind slot i b);
+  slots = λ i k b. only.others i (outside_switch slot i b);
   closed = closed;
   switches = λ other k shut last. only_other slot other all found (λ same. shut (subst (IsOpen all) (sym same) is)) only;
   golden = λ i k b. only.others i (inr (omega arith));
@@ -92,7 +92,7 @@ stream_keeps place stream all fits = record { size = length_with_stream place st
 pub between_opening : (slot : ℕ) (all mid found : List ℕ) → IsBetween all mid → IsNextFreeSlot all slot → OnlySwitch slot mid found → IsBetween all found
 between_opening slot all mid found b next only = record {
   size = only.size ∙ b.size;
-  slots = λ i k l. only.others i (behind slot i l) ∙ b.slots i k l;
+  slots = λ i k l. only.others i (outside_switch slot i l) ∙ b.slots i k l;
   closed = closed;
   switches = λ other k o n. only_other slot other mid found (λ same. n (subst (IsNextFreeSlot all) (sym same) next)) only ∙ b.switches other k o n;
   golden = λ i k l. only.others i (inr (omega arith)) ∙ b.golden i k l;

@@ -7,7 +7,7 @@ use Rattle.x7_packets.specs.FlashSlot.{flash_slot}
 use Rattle.x7_update.specs.Layout.{CanStandAt, HasLayout, HasSize, IsFree, IsNextFreeSlot, IsOpen, first_slot, four_at, open_switch, switch_of}
 use Rattle.x7_update.specs.After.{ClosesTo, already, spends, IsAfter, IsBetween, MayBeLeft, after, between, untouched, switched, with_stream}
 use Rattle.x7_update.specs.Layout.{spent_switch, update_place}
-use Rattle.x7_update.proofs.CaseLemmas.{behind, between_below, between_closed, open_not_free, stream_keeps, true_or_false}
+use Rattle.x7_update.proofs.CaseLemmas.{between_below, between_closed, open_not_free, outside_switch, stream_keeps, true_or_false}
 use Rattle.x7_update.proofs.SwitchLemmas.{length_switched, switch_other, switched_others}
 
 -- none of the bytes is AA, with which a sync word begins
@@ -86,11 +86,11 @@ module _ (flash found : List ℕ) (l : HasLayout flash) (b : IsBetween flash fou
               ]
             ]
           ]
-          | inr behind ↦ elim (cases_lt j 12) [
+          | inr past ↦ elim (cases_lt j 12) [
             | inl prefix ↦
                 let at : 4 + (j - 4) ≡ j = omega arith in
                 no_start (take 8 (drop 4 (first_slot flash))) (prefix_apart flash) (j - 4) (omega arith)
-                (get_or-take 8 (drop 4 (first_slot flash)) (j - 4) 0 (omega arith) ∙ get_or-drop 4 (first_slot flash) (j - 4) 0 ∙ ap (λ n. get_or (first_slot flash) n 0) at ∙ sym (byte_at place j h refl behind) ∙ e0)
+                (get_or-take 8 (drop 4 (first_slot flash)) (j - 4) 0 (omega arith) ∙ get_or-drop 4 (first_slot flash) (j - 4) 0 ∙ ap (λ n. get_or (first_slot flash) n 0) at ∙ sym (byte_at place j h refl past) ∙ e0)
             | inr start ↦ elim (cases_eq j 12) [
               | inl twelve ↦
                   let c : get_or flash 14 0 ≡ 0x55 = sym (byte_at (place + 2) 14 (omega arith) (omega arith) (omega arith)) ∙ e2 in
@@ -132,7 +132,7 @@ last_stays flash found l b more = b.switches 2047 (omega arith) (λ o. open_not_
 layout_after : (stream flash found : List ℕ) → HasLayout flash → IsAfter stream flash found → (IsNextFreeSlot flash 2047 → ⊥) → HasLayout found
 layout_after stream flash found l a more =
     layout_with flash found l (ap length a.is ∙ length_switched a.next open_switch now refl within ∙ b.size)
-    (λ i h k. ap (λ f. get_or f i 0) a.is ∙ switched_others a.next open_switch now refl within i (behind a.next i k) ∙ b.slots i h k)
+    (λ i h k. ap (λ f. get_or f i 0) a.is ∙ switched_others a.next open_switch now refl within i (outside_switch a.next i k) ∙ b.slots i h k)
     (λ slot other h k o p. the_next slot h o ∙ sym (the_next other k p))
     (ap (λ f. switch_of f 2047) a.is ∙ switch_other a.next 2047 open_switch now refl within (λ same. more (subst (IsNextFreeSlot flash) (sym same) a.is_next)) ∙ last_stays flash now l b more)
   where

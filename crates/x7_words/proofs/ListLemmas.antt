@@ -1,4 +1,4 @@
--- Lemmas on lists that several crates cite: common fronts and ends, and a list with one element more at its end.
+-- Lemmas on lists that several crates cite: common prefixes and ends, and a list with one element more at its end.
 use Rattle.std.proofs.Common.{◌≡◌, ℕ, suc, ◌<◌, ◌≤◌, List, [], ◌∷◌, ◌++◌, ◌⊎◌, inl, inr, length, map, refl, ap, sym, ◌∙◌, append_assoc, append-nil, arith, length-append, get_or, take, drop, take-append-drop, ◌+◌, ◌-◌, take-add}
 use Rattle.std.specs.List.{flat_map, AllByRecursion}
 
@@ -30,7 +30,7 @@ same_prefix (x ∷ xs) (y ∷ ys) cs ds l e =
 cons_prefix : (x y : ℕ) (xs ys m : List ℕ) → x ≡ y → ys ≡ xs ++ m → y ∷ ys ≡ x ∷ (xs ++ m)
 cons_prefix x y xs ys m h t = cc
 
--- the shorter of two fronts begins the longer
+-- the shorter of two prefixes begins the longer
 pub shorter_prefix : (xs ys cs ds : List ℕ) → length xs ≤ length ys → xs ++ cs ≡ ys ++ ds → (m : List ℕ) × (ys ≡ xs ++ m)
 shorter_prefix [] ys cs ds h e = (ys, refl)
 shorter_prefix (x ∷ xs) [] cs ds h e = absurd (omega arith)
@@ -83,7 +83,7 @@ all_from_places P (x ∷ xs) h = (h 0 (omega arith), all_from_places P xs (λ k 
 pub all_take : {X : Type 0} → (P : X → Type 0) (n : ℕ) (xs : List X) → AllByRecursion P xs → AllByRecursion P (take n xs)
 all_take P n xs a = all_prefix P (take n xs) (drop n xs) (rw take-append-drop a)
 
--- a front and what stands after it up to a later place
+-- a prefix and what stands after it up to a later place
 pub take_up_to : {X : Type 0} → (xs : List X) (from to : ℕ) → from ≤ to → take from xs ++ take (to - from) (drop from xs) ≡ take to xs
 take_up_to xs from to h = let sum : from + (to - from) ≡ to = omega arith in sym (take-add from (to - from) xs) ∙ ap (λ (k : ℕ). take k xs) sum
 

@@ -30,14 +30,14 @@ module _ (f : ℕ → ℕ → ℕ) where
   zip_with_all xs ys i h k = rw (take_all i xs h, take_all i ys k) refl
 
   -- the first i of the values in the place of the first i elements
-  pub length_front : (xs ys : List ℕ) (i : ℕ) → i ≤ length xs → i ≤ length ys → length (zip_with f (take i xs) (take i ys)) ≡ i
-  length_front xs ys i h k =
+  pub length_prefix : (xs ys : List ℕ) (i : ℕ) → i ≤ length xs → i ≤ length ys → length (zip_with f (take i xs) (take i ys)) ≡ i
+  length_prefix xs ys i h k =
       length_zip_with (take i xs) (take i ys) (length-take-le i xs h ∙ sym (length-take-le i ys k)) ∙ length-take-le i ys k
 
   -- the next element is the old one
   pub next_in_place : (now xs ys : List ℕ) (i d : ℕ) → i < length xs → i < length ys → now ≡ zip_with f (take i xs) (take i ys) ++ drop i xs → get_or now i d ≡ get_or xs i 0
   next_in_place now xs ys i d h k e =
-      e_at ∙ ap (λ t. get_or t i d) (ap (λ t. zip_with f (take i xs) (take i ys) ++ t) (drop_more xs i 0 h)) ∙ get_or_at (zip_with f (take i xs) (take i ys)) (get_or xs i 0) (drop (i + 1) xs) d i (length_front xs ys i (omega arith) (omega arith))
+      e_at ∙ ap (λ t. get_or t i d) (ap (λ t. zip_with f (take i xs) (take i ys) ++ t) (drop_more xs i 0 h)) ∙ get_or_at (zip_with f (take i xs) (take i ys)) (get_or xs i 0) (drop (i + 1) xs) d i (length_prefix xs ys i (omega arith) (omega arith))
     where
       e_at : get_or now i d ≡ get_or (zip_with f (take i xs) (take i ys) ++ drop i xs) i d
       e_at = ap (λ t. get_or t i d) e
@@ -48,7 +48,7 @@ module _ (f : ℕ → ℕ → ℕ) where
   more_in_place now xs ys i v h k e is =
       let prefix = zip_with f (take i xs) (take i ys) in
       ap (λ t. set t i v) (e ∙ ap (λ t. prefix ++ t) (drop_more xs i 0 h))
-      ∙ set_at prefix (get_or xs i 0) (drop (i + 1) xs) v i (length_front xs ys i (omega arith) (omega arith))
+      ∙ set_at prefix (get_or xs i 0) (drop (i + 1) xs) v i (length_prefix xs ys i (omega arith) (omega arith))
       ∙ ap (λ t. prefix ++ t ∷ drop (i + 1) xs) is
       ∙ sym (append_assoc prefix (f (get_or xs i 0) (get_or ys i 0) ∷ []) (drop (i + 1) xs))
       ∙ ap (λ t. t ++ drop (i + 1) xs) (sym (zip_with_more xs ys i h k))

@@ -12,7 +12,7 @@ invariant-loop-turn g l =
       ends : (i.state l.inputs).ends ≤ (i.state l.fn.inputs).ends;
       left : l.left ≤ l.limit;
       piece : length l.piece ≡ turn_bytes;
-      told : (taken : List ℕ) × ((l.onto.items ≡ l.fn.onto.items ++ taken) × (length taken + l.left ≡ l.limit) × Reads (i.state l.fn.inputs) taken (i.state l.inputs));
+      known : (taken : List ℕ) × ((l.onto.items ≡ l.fn.onto.items ++ taken) × (length taken + l.left ≡ l.limit) × Reads (i.state l.fn.inputs) taken (i.state l.inputs));
     }
 
 abbrev pub decreases-loop-turn : goal.decreases-loop-turn

@@ -12,7 +12,7 @@ invariant-loop-turn g l =
       ends : (i.state l.inputs).ends ≤ (i.state l.fn.inputs).ends;
       left : l.left ≤ l.limit;
       buf : length l.buf ≡ length l.fn.buf;
-      told : (taken : List ℕ) × ((length taken + l.left ≡ l.limit) × Reads (i.state l.fn.inputs) taken (i.state l.inputs));
+      known : (taken : List ℕ) × ((length taken + l.left ≡ l.limit) × Reads (i.state l.fn.inputs) taken (i.state l.inputs));
     }
 
 abbrev pub decreases-loop-turn : goal.decreases-loop-turn

@@ -114,17 +114,17 @@ takes_words text bs old all new digits n count end long word spaces last full fi
     let fits : AreBytes (take (4 * count) bs) = all_take (λ b. b < 256) (4 * count) bs fit in
     let number : length (words_of_bytes (take (4 * count) bs)) ≡ count = length_words (take (4 * count) bs) count size in
     let parts : 8 ≡ count + (8 - count) = omega (arith, few) in
-    let front : take (8 * count) digits ≡ flat_map (λ (w : List ℕ). w) (words_in_row text 4 count) =
+    let prefix : take (8 * count) digits ≡ flat_map (λ (w : List ℕ). w) (words_in_row text 4 count) =
     ap (take (8 * count)) are ∙ ap (λ (m : ℕ). take (8 * count) (flat_map (λ (w : List ℕ). w) (words_in_row text 4 m))) parts ∙ first_digits count (8 - count) 4 text (omega (arith, long, few)) in
     let hex : take (8 * count) digits ≡ flat_map hex_byte (take (4 * count) bs) =
     sym (take-take (8 * count) n digits most) ∙ ap (take (8 * count)) same ∙ take-take (8 * count) n (flat_map hex_byte bs) most
     ∙ ap (λ (m : ℕ). take m (flat_map hex_byte bs)) (let e : 8 * count ≡ 2 * (4 * count) = omega arith in e) ∙ hex_prefix (4 * count) bs (omega (arith, full, few)) in
     let words : words_in_row text 4 count ≡ map hex_word (words_of_bytes (take (4 * count) bs)) =
-    sym (cut_again count 4 text (omega (arith, long, few))) ∙ ap (first_chunks 8 count) (sym front ∙ hex) ∙ hex_words count (take (4 * count) bs) size (each_byte (take (4 * count) bs) fits) in
-    let told : take 4 text ++ take (9 * count) (drop 4 text) ≡ take 4 text ++ flat_map (λ (w : List ℕ). 32 ∷ w) (words_in_row text 4 count) =
+    sym (cut_again count 4 text (omega (arith, long, few))) ∙ ap (first_chunks 8 count) (sym prefix ∙ hex) ∙ hex_words count (take (4 * count) bs) size (each_byte (take (4 * count) bs) fits) in
+    let known : take 4 text ++ take (9 * count) (drop 4 text) ≡ take 4 text ++ flat_map (λ (w : List ℕ). 32 ∷ w) (words_in_row text 4 count) =
     sym (take-add 4 (9 * count) text) ∙ listed_at count 4 text (omega (arith, long, few)) spaces in
     let shown : take (9 * count) (drop 4 text) ≡ flat_map spaced (words_of_bytes (take (4 * count) bs)) =
-    append_cancel_left (take 4 text) _ _ told ∙ ap (flat_map (λ (w : List ℕ). 32 ∷ w)) words ∙ flat_map-map (λ (w : List ℕ). 32 ∷ w) hex_word (words_of_bytes (take (4 * count) bs)) in
+    append_cancel_left (take 4 text) _ _ known ∙ ap (flat_map (λ (w : List ℕ). 32 ∷ w)) words ∙ flat_map-map (λ (w : List ℕ). 32 ∷ w) hex_word (words_of_bytes (take (4 * count) bs)) in
     let added : new ≡ old ++ flat_map bytes_of_word (words_of_bytes (take (4 * count) bs)) =
     cut ∙ ap (take end) put ∙ ap (λ (k : ℕ). take k (old ++ bs)) at ∙ take-append-add old bs (4 * count) ∙ ap (λ t. old ++ t) (sym (bytes_words (take (4 * count) bs) count fits size)) in
     takes_line (Data (words_of_bytes (take (4 * count) bs))) (codes "data") (flat_map spaced (words_of_bytes (take (4 * count) bs))) text old new 4 (9 * count) (4 + 9 * count) (5 + 9 * count)

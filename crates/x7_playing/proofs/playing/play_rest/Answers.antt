@@ -11,8 +11,8 @@ use Rattle.x7_playing.proofs.playing.play_rest.Goals as goal
 pub returns-in_err-turn-clause-err : goal.returns-in_err-turn-clause-err
 returns-in_err-turn-clause-err g c = rw (handed_on c.from_residual.result c.in_err-turn.field-0.0 c.from_residual.ensures) (let i = g.I.Inputs in
     let v = c.loop-turn.invariant in
-    inr (rest_unread (i.state c.args.inputs.now) (i.state c.loop-turn.inputs) (i.state c.next_turn.new.inputs) c.args.name.now v.told.0 c.args.limit c.loop-turn.left (event_of c.in_err-turn.field-0.0)
-    v.told.1.2 v.told.1.0 c.in_err-turn.ensures.err c.next_turn.ensures.asked))
+    inr (rest_unread (i.state c.args.inputs.now) (i.state c.loop-turn.inputs) (i.state c.next_turn.new.inputs) c.args.name.now v.known.0 c.args.limit c.loop-turn.left (event_of c.in_err-turn.field-0.0)
+    v.known.1.2 v.known.1.0 c.in_err-turn.ensures.err c.next_turn.ensures.asked))
 
 pub play-requires : goal.play-requires
 play-requires g c =
@@ -27,9 +27,9 @@ returns-then-turn-clause-ok g c =
     let n = c.in_ok-turn.turn.count in
     let piece = take n c.next_turn.new.buf in
     let size : length piece ≡ n = length-take-le n c.next_turn.new.buf (omega (arith, c.in_ok-turn.ensures.within.1, c.next_turn.ensures.length)) in
-    let reads = reads_on (i.state c.args.inputs.now) (i.state c.loop-turn.inputs) (i.state c.next_turn.new.inputs) v.told.0 piece v.told.1.2 c.in_ok-turn.ensures.ok c.next_turn.ensures.asked c.next_turn.ensures.inputs in
+    let reads = reads_on (i.state c.args.inputs.now) (i.state c.loop-turn.inputs) (i.state c.next_turn.new.inputs) v.known.0 piece v.known.1.2 c.in_ok-turn.ensures.ok c.next_turn.ensures.asked c.next_turn.ensures.inputs in
     let plays : PlaysOn c.loop-turn.player c.play.new.self piece = from_ok c.play.result (sym c.is_err.ensures.value ∙ c.if-is_err.false) c.play.ensures.ok in
-    (v.told.0 ++ piece, omega (arith, v.told.1.0, size, length-append v.told.0 piece, c.in_ok-turn.ensures.within.0), on_on c.args.player.now c.loop-turn.player c.play.new.self v.told.0 piece v.told.1.1 plays, (reads.takes.taken, c.in_ok-turn.ensures.end c.if-turn.true))
+    (v.known.0 ++ piece, omega (arith, v.known.1.0, size, length-append v.known.0 piece, c.in_ok-turn.ensures.within.0), on_on c.args.player.now c.loop-turn.player c.play.new.self v.known.0 piece v.known.1.1 plays, (reads.takes.taken, c.in_ok-turn.ensures.end c.if-turn.true))
 
 pub loop-turn-preserved : goal.loop-turn-preserved
 loop-turn-preserved g c =
@@ -38,7 +38,7 @@ loop-turn-preserved g c =
     let n = c.in_ok-turn.turn.count in
     let piece = take n c.next_turn.new.buf in
     let size : length piece ≡ n = length-take-le n c.next_turn.new.buf (omega (arith, c.in_ok-turn.ensures.within.1, c.next_turn.ensures.length)) in
-    let reads = reads_on (i.state c.args.inputs.now) (i.state c.loop-turn.inputs) (i.state c.next_turn.new.inputs) v.told.0 piece v.told.1.2 c.in_ok-turn.ensures.ok c.next_turn.ensures.asked c.next_turn.ensures.inputs in
+    let reads = reads_on (i.state c.args.inputs.now) (i.state c.loop-turn.inputs) (i.state c.next_turn.new.inputs) v.known.0 piece v.known.1.2 c.in_ok-turn.ensures.ok c.next_turn.ensures.asked c.next_turn.ensures.inputs in
     let plays : PlaysOn c.loop-turn.player c.play.new.self piece = from_ok c.play.result (sym c.is_err.ensures.value ∙ c.if-is_err.false) c.play.ensures.ok in
     record {
       selected = c.in_ok-turn.ensures.ok.selected;
@@ -47,23 +47,23 @@ loop-turn-preserved g c =
       left = omega (arith, v.left);
       piece = c.next_turn.ensures.length ∙ v.piece;
       may = may_on c.loop-turn.player c.play.new.self piece c.loop-turn.left (c.loop-turn.left - n) (omega (arith, size, c.in_ok-turn.ensures.within.0)) plays v.may;
-      told = (v.told.0 ++ piece, (omega (arith, v.told.1.0, size, length-append v.told.0 piece, c.in_ok-turn.ensures.within.0), on_on c.args.player.now c.loop-turn.player c.play.new.self v.told.0 piece v.told.1.1 plays, reads));
+      known = (v.known.0 ++ piece, (omega (arith, v.known.1.0, size, length-append v.known.0 piece, c.in_ok-turn.ensures.within.0), on_on c.args.player.now c.loop-turn.player c.play.new.self v.known.0 piece v.known.1.1 plays, reads));
     }
 
 pub loop-turn-init : goal.loop-turn-init
-loop-turn-init g c = record { selected = c.requires.selected; inputs = stays_at _; ends = omega arith; left = omega arith; piece = c.requires.buffer; may = c.requires.may; told = ([], (omega arith, on_none c.args.player.now, reads_none (g.I.Inputs.state c.args.inputs.now) c.requires.selected)) }
+loop-turn-init g c = record { selected = c.requires.selected; inputs = stays_at _; ends = omega arith; left = omega arith; piece = c.requires.buffer; may = c.requires.may; known = ([], (omega arith, on_none c.args.player.now, reads_none (g.I.Inputs.state c.args.inputs.now) c.requires.selected)) }
 
 pub returns-in_err-turn-clause-few : goal.returns-in_err-turn-clause-few
 returns-in_err-turn-clause-few g c =
     let i = g.I.Inputs in
     let v = c.loop-turn.invariant in
-    gives_on (i.state c.args.inputs.now) (i.state c.loop-turn.inputs) (i.state c.next_turn.new.inputs) v.told.0 c.args.limit c.loop-turn.left v.told.1.2 v.told.1.0 v.ends c.next_turn.ensures.few
+    gives_on (i.state c.args.inputs.now) (i.state c.loop-turn.inputs) (i.state c.next_turn.new.inputs) v.known.0 c.args.limit c.loop-turn.left v.known.1.2 v.known.1.0 v.ends c.next_turn.ensures.few
 
 pub returns-then-turn-clause-few : goal.returns-then-turn-clause-few
 returns-then-turn-clause-few g c =
     let i = g.I.Inputs in
     let v = c.loop-turn.invariant in
-    gives_on (i.state c.args.inputs.now) (i.state c.loop-turn.inputs) (i.state c.next_turn.new.inputs) v.told.0 c.args.limit c.loop-turn.left v.told.1.2 v.told.1.0 v.ends c.next_turn.ensures.few
+    gives_on (i.state c.args.inputs.now) (i.state c.loop-turn.inputs) (i.state c.next_turn.new.inputs) v.known.0 c.args.limit c.loop-turn.left v.known.1.2 v.known.1.0 v.ends c.next_turn.ensures.few
 
 pub returns-in_err-turn-clause-ended : goal.returns-in_err-turn-clause-ended
 returns-in_err-turn-clause-ended g c = λ e. let never : false ≡ true = sym c.if-last.false ∙ e in absurd cc

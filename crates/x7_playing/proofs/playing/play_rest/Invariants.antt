@@ -14,7 +14,7 @@ invariant-loop-turn g l =
       left : l.left ≤ l.limit;
       piece : length l.piece ≡ play_turn_bytes;
       may : MayPlay l.player l.left;
-      told : (taken : List ℕ) × ((length taken + l.left ≡ l.limit) × PlaysOn l.fn.player l.player taken × Reads (i.state l.fn.inputs) taken (i.state l.inputs));
+      known : (taken : List ℕ) × ((length taken + l.left ≡ l.limit) × PlaysOn l.fn.player l.player taken × Reads (i.state l.fn.inputs) taken (i.state l.inputs));
     }
 
 abbrev pub decreases-loop-turn : goal.decreases-loop-turn

@@ -15,15 +15,15 @@ returns-then-turn-clause-ok g c =
     let contents = (i.state c.args.inputs.now).contents in
     let name = c.args.name.now in
     let v = c.loop-read.invariant in
-    let taken = v.told.0 in
+    let taken = v.known.0 in
     let n = c.in_ok-turn.turn.count in
     let piece = take n c.next_turn.new.buf in
-    let sel = taken_more contents name taken piece (i.state c.loop-read.inputs).rest (i.state c.next_turn.new.inputs).rest v.told.1.0 c.in_ok-turn.ensures.ok.taken in
+    let sel = taken_more contents name taken piece (i.state c.loop-read.inputs).rest (i.state c.next_turn.new.inputs).rest v.known.1.0 c.in_ok-turn.ensures.ok.taken in
     let size : length (taken ++ piece) ≡ length taken + n = length-append taken piece ∙ ap (λ k. length taken + k) (length-take-le n c.next_turn.new.buf (omega (arith, c.in_ok-turn.ensures.within.1, c.next_turn.ensures.length, v.piece))) in
-    let short : length (taken ++ piece) ≤ text_limit = omega (arith, size, c.in_ok-turn.ensures.within.0, v.told.1.2) in
+    let short : length (taken ++ piece) ≤ text_limit = omega (arith, size, c.in_ok-turn.ensures.within.0, v.known.1.2) in
     let fits : length (taken ++ piece) < 2 ^ 63 = omega (arith, short) in (
       taken ++ piece,
-      c.end_text.ensures c.args.taker (taken ++ piece) fits (c.take_turn-read.ensures c.args.taker taken fits v.told.1.1),
+      c.end_text.ensures c.args.taker (taken ++ piece) fits (c.take_turn-read.ensures c.args.taker taken fits v.known.1.1),
       λ flash.
           whole_read contents flash (CameIn (step_over (name ∷ []) (i.state c.args.inputs.now) (i.state c.next_turn.new.inputs))) name (taken ++ piece) (i.state c.next_turn.new.inputs).rest text_limit sel (c.in_ok-turn.ensures.end c.if-turn.true) short,
     )
@@ -34,19 +34,19 @@ loop-read-preserved g c =
     let contents = (i.state c.args.inputs.now).contents in
     let name = c.args.name.now in
     let v = c.loop-read.invariant in
-    let taken = v.told.0 in
+    let taken = v.known.0 in
     let n = c.in_ok-turn.turn.count in
     let piece = take n c.next_turn.new.buf in
-    let sel = taken_more contents name taken piece (i.state c.loop-read.inputs).rest (i.state c.next_turn.new.inputs).rest v.told.1.0 c.in_ok-turn.ensures.ok.taken in
+    let sel = taken_more contents name taken piece (i.state c.loop-read.inputs).rest (i.state c.next_turn.new.inputs).rest v.known.1.0 c.in_ok-turn.ensures.ok.taken in
     let size : length (taken ++ piece) ≡ length taken + n = length-append taken piece ∙ ap (λ k. length taken + k) (length-take-le n c.next_turn.new.buf (omega (arith, c.in_ok-turn.ensures.within.1, c.next_turn.ensures.length, v.piece))) in
-    let fits : length (taken ++ piece) < 2 ^ 63 = omega (arith, size, c.in_ok-turn.ensures.within.0, v.told.1.2) in
+    let fits : length (taken ++ piece) < 2 ^ 63 = omega (arith, size, c.in_ok-turn.ensures.within.0, v.known.1.2) in
     record {
       selected = c.in_ok-turn.ensures.ok.selected;
       inputs = stays_on _ _ _ v.inputs c.next_turn.ensures.inputs;
       once = once_on _ _ _ v.once c.in_ok-turn.ensures.ok.selects (c.in_ok-turn.ensures.ends c.if-turn.false);
       left = omega (arith, v.left);
       piece = c.next_turn.ensures.length ∙ v.piece;
-      told = (taken ++ piece, (sel, c.take_turn-read.ensures c.args.taker taken fits v.told.1.1, omega (arith, size, v.told.1.2, c.in_ok-turn.ensures.within.0), at_on name taken piece (i.state c.loop-read.inputs) (i.state c.next_turn.new.inputs) v.told.1.3 c.in_ok-turn.ensures.ok c.next_turn.ensures.asked));
+      known = (taken ++ piece, (sel, c.take_turn-read.ensures c.args.taker taken fits v.known.1.1, omega (arith, size, v.known.1.2, c.in_ok-turn.ensures.within.0), at_on name taken piece (i.state c.loop-read.inputs) (i.state c.next_turn.new.inputs) v.known.1.3 c.in_ok-turn.ensures.ok c.next_turn.ensures.asked));
     }
 
 pub returns-in_err-open-clause-err : goal.returns-in_err-open-clause-err
@@ -58,8 +58,8 @@ pub returns-in_err-turn-clause-err : goal.returns-in_err-turn-clause-err
 returns-in_err-turn-clause-err g c = rw (handed_on c.from_residual-in_err-turn.result c.in_err-turn.field-0.0 c.from_residual-in_err-turn.ensures) (λ flash.
     let i = g.I.Inputs in
     let v = c.loop-read.invariant in
-    turn_refused (i.state c.args.inputs.now) (i.state c.loop-read.inputs) (i.state c.next_turn.new.inputs) flash c.args.name.now v.told.0 text_limit c.loop-read.left (event_of c.in_err-turn.field-0.0)
-    v.inputs v.told.1.0 v.told.1.3 v.told.1.2 c.in_err-turn.ensures.err c.next_turn.ensures.asked)
+    turn_refused (i.state c.args.inputs.now) (i.state c.loop-read.inputs) (i.state c.next_turn.new.inputs) flash c.args.name.now v.known.0 text_limit c.loop-read.left (event_of c.in_err-turn.field-0.0)
+    v.inputs v.known.1.0 v.known.1.3 v.known.1.2 c.in_err-turn.ensures.err c.next_turn.ensures.asked)
 
 pub returns-in_err-open-clause-named : goal.returns-in_err-open-clause-named
 returns-in_err-open-clause-named g c = rw (handed_on c.from_residual.result c.in_err-open.field-0.0 c.from_residual.ensures) (unopened_unread (g.I.Inputs.state c.args.inputs.now) (g.I.Inputs.state c.open.new.inputs) c.args.name.now (event_of c.in_err-open.field-0.0) c.in_err-open.ensures.err)
@@ -71,10 +71,10 @@ pub returns-in_err-open-clause-stands : goal.returns-in_err-open-clause-stands
 returns-in_err-open-clause-stands g c = stands_opened c.args.name.now text_limit (g.I.Inputs.state c.open.new.inputs) c.open.ensures.asks
 
 pub returns-in_err-turn-clause-stands : goal.returns-in_err-turn-clause-stands
-returns-in_err-turn-clause-stands g c = let v = c.loop-read.invariant in stands_turn c.args.name.now v.told.0 text_limit c.loop-read.left (g.I.Inputs.state c.loop-read.inputs) (g.I.Inputs.state c.next_turn.new.inputs) v.told.1.3 v.told.1.2 c.next_turn.ensures.few
+returns-in_err-turn-clause-stands g c = let v = c.loop-read.invariant in stands_turn c.args.name.now v.known.0 text_limit c.loop-read.left (g.I.Inputs.state c.loop-read.inputs) (g.I.Inputs.state c.next_turn.new.inputs) v.known.1.3 v.known.1.2 c.next_turn.ensures.few
 
 pub returns-then-turn-clause-stands : goal.returns-then-turn-clause-stands
-returns-then-turn-clause-stands g c = let v = c.loop-read.invariant in stands_turn c.args.name.now v.told.0 text_limit c.loop-read.left (g.I.Inputs.state c.loop-read.inputs) (g.I.Inputs.state c.next_turn.new.inputs) v.told.1.3 v.told.1.2 c.next_turn.ensures.few
+returns-then-turn-clause-stands g c = let v = c.loop-read.invariant in stands_turn c.args.name.now v.known.0 text_limit c.loop-read.left (g.I.Inputs.state c.loop-read.inputs) (g.I.Inputs.state c.next_turn.new.inputs) v.known.1.3 v.known.1.2 c.next_turn.ensures.few
 
 pub returns-in_err-open-clause-asks : goal.returns-in_err-open-clause-asks
 returns-in_err-open-clause-asks g c = few_once _ _ c.open.ensures.once

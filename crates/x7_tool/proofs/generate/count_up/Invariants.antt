@@ -5,6 +5,6 @@ use Rattle.x7_tool.proofs.generate.count_up.Given as goal
 abbrev pub invariant-loop-i : goal.invariant-loop-i
 invariant-loop-i l = record {
   length : length l.frame.items ≡ length l.fn.frame.items;
-  front : take l.i l.frame.items ≡ counted l.i l.n;
+  prefix : take l.i l.frame.items ≡ counted l.i l.n;
   word : l.word ≡ (l.n + l.i) % 2 ^ 32;
 }

@@ -11,15 +11,15 @@ loop-rank-preserved c =
     let part = c.args.part.now in
     let v = c.loop-rank.invariant in
     let found = c.in-Some.ensures.found in
-    let front : List PlanRow = c.loop-rank.draft.rows in
-    let now : c.push_row.new.draft.rows ≡ front ++ row_by (frame_words part) c.in-Some.far _ =
-    c.in_ok-push_row.ensures.added ∙ ap (λ (w : ℕ). front ++ row_by w c.in-Some.far c.next_number-n.result) v.width ∙ ap (λ (n : ℕ). front ++ row_by (frame_words part) c.in-Some.far n) c.next_number-n.ensures in
+    let prefix : List PlanRow = c.loop-rank.draft.rows in
+    let now : c.push_row.new.draft.rows ≡ prefix ++ row_by (frame_words part) c.in-Some.far _ =
+    c.in_ok-push_row.ensures.added ∙ ap (λ (w : ℕ). prefix ++ row_by w c.in-Some.far c.next_number-n.result) v.width ∙ ap (λ (n : ℕ). prefix ++ row_by (frame_words part) c.in-Some.far n) c.next_number-n.ensures in
     record {
       within = omega (arith, found.0);
       room = c.push_row.ensures.room ∙ v.room;
       width = c.push_row.ensures.width ∙ v.width;
       rows = ap (λ (n : ℕ). c.push_row.new.draft.rows ++ rows_after (frame_words part) n (drop (c.loop-rank.rank + 1) (addresses_in part))) c.next_number-n.ensures
-          ∙ rows_more (frame_words part) c.loop-rank.n c.loop-rank.rank c.in-Some.far (addresses_in part) front c.push_row.new.draft.rows (generated part c.args.seed).rows found.0 found.1 now v.rows;
+          ∙ rows_more (frame_words part) c.loop-rank.n c.loop-rank.rank c.in-Some.far (addresses_in part) prefix c.push_row.new.draft.rows (generated part c.args.seed).rows found.0 found.1 now v.rows;
     }
 
 pub finish-requires : goal.finish-requires

@@ -6,25 +6,25 @@ use Rattle.x7_tool.proofs.GenerateLemmas.{along, piece_fits}
 use Rattle.x7_tool.proofs.generate.play_all.Goals as goal
 
 pub loop-player-init : goal.loop-player-init
-loop-player-init c = record { told = []; stands = c.requires.given; played = c.requires.played; counted = refl; empty = c.clear.ensures.items; of_part = refl; of_plan = refl }
+loop-player-init c = record { known = []; stands = c.requires.given; played = c.requires.played; counted = refl; empty = c.clear.ensures.items; of_part = refl; of_plan = refl }
 
 pub play-requires : goal.play-requires
 play-requires c =
     let v = c.loop-player.invariant in
     let s = c.args.stream in
     let new : List ℕ = c.put_next.new.out.items in
-    let m : AppendsNext c.put_next.new.self v.told c.loop-player.block.items new = c.in_ok-put_next.ensures.more v.told v.stands c.if-branch.true in
-    let fits : length v.told + length new ≤ 2 ^ 27 = piece_fits s.part s.plan c.loop-player.stream c.put_next.new.self c.loop-player.player c.loop-player.size c.loop-player.block.items new v m
+    let m : AppendsNext c.put_next.new.self v.known c.loop-player.block.items new = c.in_ok-put_next.ensures.more v.known v.stands c.if-branch.true in
+    let fits : length v.known + length new ≤ 2 ^ 27 = piece_fits s.part s.plan c.loop-player.stream c.put_next.new.self c.loop-player.player c.loop-player.size c.loop-player.block.items new v m
     c.requires.part c.requires.plan c.requires.width c.in_ok-put_next.ensures.part c.in_ok-put_next.ensures.plan in
-    (s.part, (v.told, (v.played, omega (arith, fits, ap length c.deref.ensures.value))))
+    (s.part, (v.known, (v.played, omega (arith, fits, ap length c.deref.ensures.value))))
 
 pub overflow_add-size : goal.overflow_add-size
 overflow_add-size c =
     let v = c.loop-player.invariant in
     let s = c.args.stream in
     let new : List ℕ = c.put_next.new.out.items in
-    let m : AppendsNext c.put_next.new.self v.told c.loop-player.block.items new = c.in_ok-put_next.ensures.more v.told v.stands c.if-branch.true in
-    let fits : length v.told + length new ≤ 2 ^ 27 = piece_fits s.part s.plan c.loop-player.stream c.put_next.new.self c.loop-player.player c.loop-player.size c.loop-player.block.items new v m
+    let m : AppendsNext c.put_next.new.self v.known c.loop-player.block.items new = c.in_ok-put_next.ensures.more v.known v.stands c.if-branch.true in
+    let fits : length v.known + length new ≤ 2 ^ 27 = piece_fits s.part s.plan c.loop-player.stream c.put_next.new.self c.loop-player.player c.loop-player.size c.loop-player.block.items new v m
     c.requires.part c.requires.plan c.requires.width c.in_ok-put_next.ensures.part c.in_ok-put_next.ensures.plan in
     omega (arith, fits, v.counted, c.len.ensures, c.put_next.new.out.ok.0)
 
@@ -33,7 +33,7 @@ loop-player-preserved c =
     let v = c.loop-player.invariant in
     let s = c.args.stream in
     let new : List ℕ = c.put_next.new.out.items in
-    let m : AppendsNext c.put_next.new.self v.told c.loop-player.block.items new = c.in_ok-put_next.ensures.more v.told v.stands c.if-branch.true in
+    let m : AppendsNext c.put_next.new.self v.known c.loop-player.block.items new = c.in_ok-put_next.ensures.more v.known v.stands c.if-branch.true in
     along s.part s.plan c.loop-player.stream c.put_next.new.self c.loop-player.player c.loop-player.size c.loop-player.block.items new v m
     c.play.new.self (c.loop-player.size + c.len.result) c.deref.result.now c.clear-in-loop-player.new.self.items c.in_ok-put_next.ensures.part c.in_ok-put_next.ensures.plan c.deref.ensures.value c.in_ok-play.ensures.ok
     (omega (arith, c.len.ensures, c.put_next.new.out.ok.0)) c.clear-in-loop-player.ensures.items
@@ -42,14 +42,14 @@ pub returns-clause-played : goal.returns-clause-played
 returns-clause-played c =
     let v = c.loop-player.invariant in
     let s = c.args.stream in
-    let whole : v.told ≡ full_stream s.part s.plan =
-    c.in_ok-put_next.ensures.end v.told v.stands c.if-branch.false ∙ ap (λ p. full_stream p c.loop-player.stream.plan) v.of_part ∙ ap (full_stream s.part) v.of_plan in
+    let whole : v.known ≡ full_stream s.part s.plan =
+    c.in_ok-put_next.ensures.end v.known v.stands c.if-branch.false ∙ ap (λ p. full_stream p c.loop-player.stream.plan) v.of_part ∙ ap (full_stream s.part) v.of_plan in
     subst (λ (t : List ℕ). HasPlayed s.part t c.loop-player.player) whole v.played
 
 pub returns-clause-size : goal.returns-clause-size
 returns-clause-size c =
     let v = c.loop-player.invariant in
     let s = c.args.stream in
-    let whole : v.told ≡ full_stream s.part s.plan =
-    c.in_ok-put_next.ensures.end v.told v.stands c.if-branch.false ∙ ap (λ p. full_stream p c.loop-player.stream.plan) v.of_part ∙ ap (full_stream s.part) v.of_plan in
+    let whole : v.known ≡ full_stream s.part s.plan =
+    c.in_ok-put_next.ensures.end v.known v.stands c.if-branch.false ∙ ap (λ p. full_stream p c.loop-player.stream.plan) v.of_part ∙ ap (full_stream s.part) v.of_plan in
     v.counted ∙ ap length whole

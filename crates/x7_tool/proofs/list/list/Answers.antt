@@ -17,12 +17,12 @@ use Rattle.x7_tool.specs.Ahead.{StaysNear}
 use Rattle.x7_tool.specs.Run.{ListsSoFar}
 use Rattle.x7_tool.specs.Between.{Lists, ListsStream}
 use Rattle.x7_forms.specs.Turn.{FollowsUnlessLast, longest_beginning, turn_bytes}
-use Rattle.x7_tool.proofs.AheadLemmas.{prefix_given, prefix_near, longer_prefix, longer_twice, same_now, stays_near, turn_given, turn_near, unfronted_near, unopened_near, unread_near, unwritten_near, why_weaker}
-use Rattle.x7_tool.proofs.Causes.{Ended, PutsListed, both_err, ends_same, list_ends, list_seen, listed_whole, nothing_put, nothing_taken, out_of_memory, unfronted, unopened}
+use Rattle.x7_tool.proofs.AheadLemmas.{prefix_given, prefix_near, longer_prefix, longer_twice, same_now, stays_near, turn_given, turn_near, without_prefix_near, unopened_near, unread_near, unwritten_near, why_weaker}
+use Rattle.x7_tool.proofs.Causes.{Ended, PutsListed, both_err, ends_same, list_ends, list_seen, listed_whole, nothing_put, nothing_taken, out_of_memory, without_prefix, unopened}
 use Rattle.x7_forms.proofs.ReadLemmas.{asked_on, at_on, turn_unread}
 use Rattle.x7_forms.proofs.ResultLemmas.{handed_on, err_weaker}
 use Rattle.x7_tool.proofs.TurnLemmas.{end_failed, prefix_failed, prefix_so_far, goes_on, line_prefix, line_then, stream_so_far, stream_whole, taken_more, unread_end, write_failed}
-use Rattle.x7_forms.proofs.StandLemmas.{few_read, stands_opened, stands_read, stands_turn, unfronted_about, unopened_about, unread_about}
+use Rattle.x7_forms.proofs.StandLemmas.{few_read, stands_opened, stands_read, stands_turn, without_prefix_about, unopened_about, unread_about}
 use Rattle.x7_tool.proofs.StopLemmas.{prefix_stops, put_stops, written_stops, first_stops}
 use Rattle.x7_forms.specs.ReadingStops.{limited}
 use Rattle.x7_tool.proofs.list.list.Goals as goal
@@ -56,9 +56,9 @@ returns-in_err-beginning g c = rw (handed_on c.from_residual-in_err-beginning.re
     let asks = few_read (i.state c.args.inputs.now) (i.state c.open.new.inputs) (i.state c.read_beginning.new.inputs) stream_limit c.open.ensures.once c.read_beginning.ensures.few in
     record {
       ends = list_ends stream old new (Err event)
-          (unfronted old.inputs (i.state c.open.new.inputs) new.inputs old.flash.bytes stream (SinkFails old.out new.out) old.out.written event c.open.ensures.inputs c.in_ok-open.ensures.ok.found c.open.ensures.asks c.in_err-beginning.ensures.err)
-          (stays_near event stream old new (unfronted_near old.inputs.contents stream new.inputs.rest old.out.written new.out.written (i.state c.open.new.inputs) new.inputs stream event refl c.in_ok-open.ensures.ok.found c.open.ensures.asks c.read_beginning.ensures.short (same_now old.out) c.in_err-beginning.ensures.err));
-      stops = first_stops (Listing c.args.stream.now) (limited stream_limit c.args.stream.now) [] (g.I.Inputs.state c.args.inputs.now) (g.I.Inputs.state c.read_beginning.new.inputs) (event_of c.in_err-beginning.field-0.0) refl (stands_read c.args.stream.now stream_limit (g.I.Inputs.state c.open.new.inputs) (g.I.Inputs.state c.read_beginning.new.inputs) c.open.ensures.asks c.read_beginning.ensures.few) asks (unfronted_about (g.I.Inputs.state c.open.new.inputs) (g.I.Inputs.state c.read_beginning.new.inputs) c.args.stream.now (event_of c.in_err-beginning.field-0.0) c.in_err-beginning.ensures.err);
+          (without_prefix old.inputs (i.state c.open.new.inputs) new.inputs old.flash.bytes stream (SinkFails old.out new.out) old.out.written event c.open.ensures.inputs c.in_ok-open.ensures.ok.found c.open.ensures.asks c.in_err-beginning.ensures.err)
+          (stays_near event stream old new (without_prefix_near old.inputs.contents stream new.inputs.rest old.out.written new.out.written (i.state c.open.new.inputs) new.inputs stream event refl c.in_ok-open.ensures.ok.found c.open.ensures.asks c.read_beginning.ensures.short (same_now old.out) c.in_err-beginning.ensures.err));
+      stops = first_stops (Listing c.args.stream.now) (limited stream_limit c.args.stream.now) [] (g.I.Inputs.state c.args.inputs.now) (g.I.Inputs.state c.read_beginning.new.inputs) (event_of c.in_err-beginning.field-0.0) refl (stands_read c.args.stream.now stream_limit (g.I.Inputs.state c.open.new.inputs) (g.I.Inputs.state c.read_beginning.new.inputs) c.open.ensures.asks c.read_beginning.ensures.few) asks (without_prefix_about (g.I.Inputs.state c.open.new.inputs) (g.I.Inputs.state c.read_beginning.new.inputs) c.args.stream.now (event_of c.in_err-beginning.field-0.0) c.in_err-beginning.ensures.err);
       judges = tt;
       asks = asks;
       stays = stays_on _ _ _ c.open.ensures.inputs c.read_beginning.ensures.inputs;
@@ -173,15 +173,15 @@ returns-in_err-turn g c = rw (handed_on c.from_residual-in_err-turn.result c.in_
     let new = record after { inputs = i.state c.next_turn.new.inputs; out = o.state c.loop-lister.out } in
     let stream = c.args.stream.now in
     let event = event_of c.in_err-turn.field-0.0 in
-    let t = v.told.1.1 in
+    let t = v.known.1.1 in
     let asks = few_read (i.state c.args.inputs.now) (i.state c.loop-lister.inputs) (i.state c.next_turn.new.inputs) c.loop-lister.left c.loop-lister.invariant.once c.next_turn.ensures.few in
     record {
       ends = list_ends stream old new (Err event)
-          (unread_end old.inputs (i.state c.loop-lister.inputs) new.inputs old.flash.bytes stream v.told.0 c.loop-lister.lister c.loop-lister.left (SinkFails old.out new.out) old.out.written new.out.written event
-          v.inputs v.told.1.0 v.told.1.3 v.told.1.1 v.told.1.2 c.in_err-turn.ensures.err c.next_turn.ensures.asked)
-          (stays_near event stream old new (unread_near old.inputs.contents stream new.inputs.rest old.out.written new.out.written (i.state c.loop-lister.inputs) new.inputs stream v.told.0 c.loop-lister.lister c.loop-lister.left event refl v.told.1.0 t
-          (omega (arith, v.told.1.3.given, c.next_turn.ensures.turn, v.piece)) (λ e. omega (arith, c.in_err-turn.ensures.over e, v.piece)) (same_now (o.state c.loop-lister.out)) c.in_err-turn.ensures.err));
-      stops = let v = c.loop-lister.invariant in first_stops (Listing c.args.stream.now) (limited stream_limit c.args.stream.now) [] (g.I.Inputs.state c.args.inputs.now) (g.I.Inputs.state c.next_turn.new.inputs) (event_of c.in_err-turn.field-0.0) refl (stands_turn c.args.stream.now v.told.0 stream_limit c.loop-lister.left (g.I.Inputs.state c.loop-lister.inputs) (g.I.Inputs.state c.next_turn.new.inputs) v.told.1.3 v.told.1.2 c.next_turn.ensures.few) asks (unread_about c.args.stream.now (event_of c.in_err-turn.field-0.0) (turn_unread (g.I.Inputs.state c.loop-lister.inputs) (g.I.Inputs.state c.next_turn.new.inputs) c.args.stream.now c.loop-lister.left (event_of c.in_err-turn.field-0.0) c.in_err-turn.ensures.err));
+          (unread_end old.inputs (i.state c.loop-lister.inputs) new.inputs old.flash.bytes stream v.known.0 c.loop-lister.lister c.loop-lister.left (SinkFails old.out new.out) old.out.written new.out.written event
+          v.inputs v.known.1.0 v.known.1.3 v.known.1.1 v.known.1.2 c.in_err-turn.ensures.err c.next_turn.ensures.asked)
+          (stays_near event stream old new (unread_near old.inputs.contents stream new.inputs.rest old.out.written new.out.written (i.state c.loop-lister.inputs) new.inputs stream v.known.0 c.loop-lister.lister c.loop-lister.left event refl v.known.1.0 t
+          (omega (arith, v.known.1.3.given, c.next_turn.ensures.turn, v.piece)) (λ e. omega (arith, c.in_err-turn.ensures.over e, v.piece)) (same_now (o.state c.loop-lister.out)) c.in_err-turn.ensures.err));
+      stops = let v = c.loop-lister.invariant in first_stops (Listing c.args.stream.now) (limited stream_limit c.args.stream.now) [] (g.I.Inputs.state c.args.inputs.now) (g.I.Inputs.state c.next_turn.new.inputs) (event_of c.in_err-turn.field-0.0) refl (stands_turn c.args.stream.now v.known.0 stream_limit c.loop-lister.left (g.I.Inputs.state c.loop-lister.inputs) (g.I.Inputs.state c.next_turn.new.inputs) v.known.1.3 v.known.1.2 c.next_turn.ensures.few) asks (unread_about c.args.stream.now (event_of c.in_err-turn.field-0.0) (turn_unread (g.I.Inputs.state c.loop-lister.inputs) (g.I.Inputs.state c.next_turn.new.inputs) c.args.stream.now c.loop-lister.left (event_of c.in_err-turn.field-0.0) c.in_err-turn.ensures.err));
       judges = tt;
       asks = asks;
       stays = stays_on _ _ _ c.loop-lister.invariant.inputs c.next_turn.ensures.inputs;
@@ -197,10 +197,10 @@ returns-in_err-put_turn g c = rw (handed_on c.from_residual-in_err-put_turn.resu
     let C = CameIn (step_over (stream ∷ []) (i.state c.args.inputs.now) (i.state c.next_turn.new.inputs)) in
     let given = (i.state c.next_turn.new.inputs).given in
     let v = c.loop-lister.invariant in
-    let taken = v.told.0 in
-    let t = v.told.1.1 in
+    let taken = v.known.0 in
+    let t = v.known.1.1 in
     let piece = take c.in_ok-turn.turn.count c.next_turn.new.buf in
-    let sel = taken_more contents stream taken piece (i.state c.loop-lister.inputs).rest (i.state c.next_turn.new.inputs).rest v.told.1.0 c.in_ok-turn.ensures.ok.taken in
+    let sel = taken_more contents stream taken piece (i.state c.loop-lister.inputs).rest (i.state c.next_turn.new.inputs).rest v.known.1.0 c.in_ok-turn.ensures.ok.taken in
     let now = (o.state c.put_turn.new.out).written in
     let Full : Type 0 = SinkFails (o.state c.args.out.now) (o.state c.put_turn.new.out) in
     let r = event_of c.in_err-put_turn.field-0.0 in
@@ -208,8 +208,8 @@ returns-in_err-put_turn g c = rw (handed_on c.from_residual-in_err-put_turn.resu
     let end : ((r ≡ no_memory) × (now ≡ (o.state c.loop-lister.out).written)) ⊎ ((r ≡ writing_failed) × SinkFails (o.state c.loop-lister.out) (o.state c.put_turn.new.out)) → Ended (with_inputs contents flash) C stream Full old now (Err r)
     = elim [
       | inl h ↦
-          let front2 : ListsSoFar taken old now = subst (λ (w : Option (List ℕ)). ListsSoFar taken old w) (sym h.1) (stream_so_far c.loop-lister.lister old (o.state c.loop-lister.out).written taken t) in
-          ends_same (with_inputs contents flash) C stream Full old now r no_memory h.0 (out_of_memory contents flash C stream taken (i.state c.loop-lister.inputs).rest Full old now v.told.1.0 front2)
+          let prefix_2 : ListsSoFar taken old now = subst (λ (w : Option (List ℕ)). ListsSoFar taken old w) (sym h.1) (stream_so_far c.loop-lister.lister old (o.state c.loop-lister.out).written taken t) in
+          ends_same (with_inputs contents flash) C stream Full old now r no_memory h.0 (out_of_memory contents flash C stream taken (i.state c.loop-lister.inputs).rest Full old now v.known.1.0 prefix_2)
       | inr h ↦
           let risen = risen_from (o.state c.args.out.now).faults (o.state c.loop-lister.out).faults (o.state c.put_turn.new.out).faults v.written h.1 in
           let err : (left : List ℕ) → AreBytes (t.sent ++ (piece ++ left)) → PutsPrefix (appended old t.line) (listing_of (t.sent ++ (piece ++ left))) now
@@ -220,9 +220,9 @@ returns-in_err-put_turn g c = rw (handed_on c.from_residual-in_err-put_turn.resu
     let n = c.in_ok-turn.turn.count in
     let rest = (i.state c.next_turn.new.inputs).rest in
     let few : length piece ≤ turn_bytes = omega (arith, length-take-le n c.next_turn.new.buf (omega (arith, c.in_ok-turn.ensures.within.1, c.next_turn.ensures.length, v.piece)), c.in_ok-turn.ensures.within.1, v.piece) in
-    let told = stream_whole taken t.line t.sent (t.goes []) in
-    let near = turn_near contents stream taken piece t.line t.sent c.loop-lister.lister rest old (o.state c.loop-lister.out).written now sel t.close few told t.lists c.put_turn.ensures.longer in
-    let gives = turn_given contents stream taken t.line t.sent given c.loop-lister.lister (i.state c.loop-lister.inputs).rest old (o.state c.loop-lister.out).written now v.told.1.0 (omega (arith, v.told.1.3.given, c.next_turn.ensures.turn, v.piece)) told t.lists c.put_turn.ensures.longer in
+    let known = stream_whole taken t.line t.sent (t.goes []) in
+    let near = turn_near contents stream taken piece t.line t.sent c.loop-lister.lister rest old (o.state c.loop-lister.out).written now sel t.close few known t.lists c.put_turn.ensures.longer in
+    let gives = turn_given contents stream taken t.line t.sent given c.loop-lister.lister (i.state c.loop-lister.inputs).rest old (o.state c.loop-lister.out).written now v.known.1.0 (omega (arith, v.known.1.3.given, c.next_turn.ensures.turn, v.piece)) known t.lists c.put_turn.ensures.longer in
     let asks = few_read (i.state c.args.inputs.now) (i.state c.loop-lister.inputs) (i.state c.next_turn.new.inputs) c.loop-lister.left c.loop-lister.invariant.once c.next_turn.ensures.few in
     record {
       ends = list_ends stream (record before { inputs = i.state c.args.inputs.now; out = o.state c.args.out.now }) (record after { inputs = i.state c.next_turn.new.inputs; out = o.state c.put_turn.new.out }) (Err r) (end c.in_err-put_turn.ensures.why) (stays_near r stream (record before { inputs = i.state c.args.inputs.now; out = o.state c.args.out.now }) (record after { inputs = i.state c.next_turn.new.inputs; out = o.state c.put_turn.new.out }) (unwritten_near contents stream rest old now _ given r gives near (why_weaker c.in_err-put_turn.ensures.why)));
@@ -242,37 +242,37 @@ returns-then-turn g c = λ before after.
     let C = CameIn (step_over (stream ∷ []) (i.state c.args.inputs.now) (i.state c.next_turn.new.inputs)) in
     let given = (i.state c.next_turn.new.inputs).given in
     let v = c.loop-lister.invariant in
-    let taken = v.told.0 in
-    let t = v.told.1.1 in
+    let taken = v.known.0 in
+    let t = v.known.1.1 in
     let n = c.in_ok-turn.turn.count in
     let piece = take n c.next_turn.new.buf in
-    let sel = taken_more contents stream taken piece (i.state c.loop-lister.inputs).rest (i.state c.next_turn.new.inputs).rest v.told.1.0 c.in_ok-turn.ensures.ok.taken in
+    let sel = taken_more contents stream taken piece (i.state c.loop-lister.inputs).rest (i.state c.next_turn.new.inputs).rest v.known.1.0 c.in_ok-turn.ensures.ok.taken in
     let lists : Lists c.put_turn.new.lister (appended old t.line) (o.state c.put_turn.new.out).written (t.sent ++ piece) = c.in_ok-put_turn.ensures.ok (appended old t.line) t.sent t.lists in
     let goes = goes_on taken piece t.line t.sent t.goes in
     let now = (o.state c.put_end.new.out).written in
     let Full : Type 0 = SinkFails (o.state c.args.out.now) (o.state c.put_end.new.out) in
     let size : length (taken ++ piece) ≡ length taken + n = length-append taken piece ∙ ap (λ k. length taken + k) (length-take-le n c.next_turn.new.buf (omega (arith, c.in_ok-turn.ensures.within.1, c.next_turn.ensures.length, v.piece))) in
-    let short : length (taken ++ piece) ≤ stream_limit = omega (arith, size, c.in_ok-turn.ensures.within.0, v.told.1.2) in
+    let short : length (taken ++ piece) ≤ stream_limit = omega (arith, size, c.in_ok-turn.ensures.within.0, v.known.1.2) in
     let end = c.in_ok-turn.ensures.end c.if-turn.true in
     let text = t.line ++ listing_of (t.sent ++ piece) in
     let same = stream_whole (taken ++ piece) t.line (t.sent ++ piece) (goes []) in
     let flash = before.flash.bytes in
     let ok = on_ok_weaker c.put_end.result (λ h. (text, listed_whole contents flash C stream (taken ++ piece) text (i.state c.next_turn.new.inputs).rest Full old now sel end same short (line_then old now t.line (listing_of (t.sent ++ piece)) (h (appended old t.line) (t.sent ++ piece) lists)))) c.put_end.ensures.ok in
     let mid = (o.state c.put_turn.new.out).written in
-    let told : ListsStream c.put_turn.new.lister old mid (taken ++ piece) = record { line = t.line; sent = t.sent ++ piece; lists = lists; goes = goes; close = omega (arith, t.close, length-append taken piece, length-append t.sent piece) } in
+    let known : ListsStream c.put_turn.new.lister old mid (taken ++ piece) = record { line = t.line; sent = t.sent ++ piece; lists = lists; goes = goes; close = omega (arith, t.close, length-append taken piece, length-append t.sent piece) } in
     let err = both_err c.put_end.result (λ r. (first : Option (List ℕ)) (bytes : List ℕ) → Lists c.put_turn.new.lister first mid bytes → PutsPrefix first (listing_of bytes) now)
     (λ r. ((event_of r ≡ no_memory) × (now ≡ mid)) ⊎ ((event_of r ≡ writing_failed) × SinkFails (o.state c.put_turn.new.out) (o.state c.put_end.new.out)))
     (λ r. Ended (with_inputs contents flash) C stream Full old now (Err (event_of r)))
     (λ r p w.
-    let front : PutsListed (taken ++ piece) old now = (text, (same, line_prefix old now t.line (listing_of (t.sent ++ piece)) (p (appended old t.line) (t.sent ++ piece) lists))) in
+    let prefix : PutsListed (taken ++ piece) old now = (text, (same, line_prefix old now t.line (listing_of (t.sent ++ piece)) (p (appended old t.line) (t.sent ++ piece) lists))) in
     let end : ((event_of r ≡ no_memory) × (now ≡ mid)) ⊎ ((event_of r ≡ writing_failed) × SinkFails (o.state c.put_turn.new.out) (o.state c.put_end.new.out)) → Ended (with_inputs contents flash) C stream Full old now (Err (event_of r))
     = elim [
       | inl h ↦
-          let so_far : ListsSoFar (taken ++ piece) old now = subst (λ (x : Option (List ℕ)). ListsSoFar (taken ++ piece) old x) (sym h.1) (stream_so_far c.put_turn.new.lister old mid (taken ++ piece) told) in
+          let so_far : ListsSoFar (taken ++ piece) old now = subst (λ (x : Option (List ℕ)). ListsSoFar (taken ++ piece) old x) (sym h.1) (stream_so_far c.put_turn.new.lister old mid (taken ++ piece) known) in
           ends_same (with_inputs contents flash) C stream Full old now (event_of r) no_memory h.0 (out_of_memory contents flash C stream (taken ++ piece) (i.state c.next_turn.new.inputs).rest Full old now sel so_far)
       | inr h ↦
           let risen = risen_from (o.state c.args.out.now).faults (o.state c.put_turn.new.out).faults (o.state c.put_end.new.out).faults (omega (arith, v.written, c.put_turn.ensures.counts.faults)) h.1 in
-          ends_same (with_inputs contents flash) C stream Full old now (event_of r) writing_failed h.0 (end_failed contents flash C stream (taken ++ piece) (i.state c.next_turn.new.inputs).rest Full old now sel (c.in_ok-turn.ensures.end c.if-turn.true) risen front)
+          ends_same (with_inputs contents flash) C stream Full old now (event_of r) writing_failed h.0 (end_failed contents flash C stream (taken ++ piece) (i.state c.next_turn.new.inputs).rest Full old now sel (c.in_ok-turn.ensures.end c.if-turn.true) risen prefix)
     ] in
     end w)
     c.put_end.ensures.err c.put_end.ensures.why in
@@ -280,7 +280,7 @@ returns-then-turn g c = λ before after.
     let longer = longer_twice (o.state c.loop-lister.out).written (o.state c.put_turn.new.out).written now c.put_turn.ensures.longer c.put_end.ensures.longer in
     let whole = stream_whole taken t.line t.sent (t.goes []) in
     let near = turn_near contents stream taken piece t.line t.sent c.loop-lister.lister (i.state c.next_turn.new.inputs).rest old (o.state c.loop-lister.out).written now sel t.close few whole t.lists longer in
-    let gives = turn_given contents stream taken t.line t.sent given c.loop-lister.lister (i.state c.loop-lister.inputs).rest old (o.state c.loop-lister.out).written now v.told.1.0 (omega (arith, v.told.1.3.given, c.next_turn.ensures.turn, v.piece)) whole t.lists longer in
+    let gives = turn_given contents stream taken t.line t.sent given c.loop-lister.lister (i.state c.loop-lister.inputs).rest old (o.state c.loop-lister.out).written now v.known.1.0 (omega (arith, v.known.1.3.given, c.next_turn.ensures.turn, v.piece)) whole t.lists longer in
     let close = err_weaker c.put_end.result (λ r w. stays_near (event_of r) stream (record before { inputs = i.state c.args.inputs.now; out = o.state c.args.out.now }) (record after { inputs = i.state c.next_turn.new.inputs; out = o.state c.put_end.new.out }) (unwritten_near contents stream (i.state c.next_turn.new.inputs).rest old now _ given (event_of r) gives near (why_weaker w))) c.put_end.ensures.why in
     let asks = few_read (i.state c.args.inputs.now) (i.state c.loop-lister.inputs) (i.state c.next_turn.new.inputs) c.loop-lister.left c.loop-lister.invariant.once c.next_turn.ensures.few in
     record {
@@ -299,11 +299,11 @@ loop-lister-preserved g c =
     let old = (o.state c.args.out.now).written in
     let stream = c.args.stream.now in
     let v = c.loop-lister.invariant in
-    let taken = v.told.0 in
-    let t = v.told.1.1 in
+    let taken = v.known.0 in
+    let t = v.known.1.1 in
     let n = c.in_ok-turn.turn.count in
     let piece = take n c.next_turn.new.buf in
-    let sel = taken_more contents stream taken piece (i.state c.loop-lister.inputs).rest (i.state c.next_turn.new.inputs).rest v.told.1.0 c.in_ok-turn.ensures.ok.taken in
+    let sel = taken_more contents stream taken piece (i.state c.loop-lister.inputs).rest (i.state c.next_turn.new.inputs).rest v.known.1.0 c.in_ok-turn.ensures.ok.taken in
     let lists : Lists c.put_turn.new.lister (appended old t.line) (o.state c.put_turn.new.out).written (t.sent ++ piece) = c.in_ok-put_turn.ensures.ok (appended old t.line) t.sent t.lists in
     let goes = goes_on taken piece t.line t.sent t.goes in
     let size : length (taken ++ piece) ≡ length taken + n = length-append taken piece ∙ ap (λ k. length taken + k) (length-take-le n c.next_turn.new.buf (omega (arith, c.in_ok-turn.ensures.within.1, c.next_turn.ensures.length, v.piece))) in
@@ -315,7 +315,7 @@ loop-lister-preserved g c =
       written = omega (arith, v.written, c.put_turn.ensures.counts.faults);
       left = omega (arith, v.left);
       piece = omega (arith, c.next_turn.ensures.length, v.piece);
-      told = (taken ++ piece, (sel, record { line = t.line; sent = t.sent ++ piece; lists = lists; goes = goes; close = omega (arith, t.close, length-append taken piece, length-append t.sent piece) }, omega (arith, size, v.told.1.2, c.in_ok-turn.ensures.within.0), at_on stream taken piece (i.state c.loop-lister.inputs) (i.state c.next_turn.new.inputs) v.told.1.3 c.in_ok-turn.ensures.ok c.next_turn.ensures.asked));
+      known = (taken ++ piece, (sel, record { line = t.line; sent = t.sent ++ piece; lists = lists; goes = goes; close = omega (arith, t.close, length-append taken piece, length-append t.sent piece) }, omega (arith, size, v.known.1.2, c.in_ok-turn.ensures.within.0), at_on stream taken piece (i.state c.loop-lister.inputs) (i.state c.next_turn.new.inputs) v.known.1.3 c.in_ok-turn.ensures.ok c.next_turn.ensures.asked));
     }
 
 pub loop-lister-init : goal.loop-lister-init
@@ -343,5 +343,5 @@ loop-lister-init g c =
       once = once_on _ _ _ c.open.ensures.once c.read_beginning.ensures.few.selects (f.goes c.if-beginning.false);
       left = omega arith;
       piece = refl;
-      told = (taken, (sel, record { line = line; sent = sent; lists = c.in_ok-put_beginning.ensures.ok; goes = goes; close = omega (arith, f.few) }, omega (arith, f.few, c.len-left.ensures), record { asked = asked_on stream (i.state c.open.new.inputs) now c.open.ensures.asks f.reads.asked; given = omega (arith, c.open.ensures.asks.given, f.reads.takes.given) }));
+      known = (taken, (sel, record { line = line; sent = sent; lists = c.in_ok-put_beginning.ensures.ok; goes = goes; close = omega (arith, f.few) }, omega (arith, f.few, c.len-left.ensures), record { asked = asked_on stream (i.state c.open.new.inputs) now c.open.ensures.asks f.reads.asked; given = omega (arith, c.open.ensures.asks.given, f.reads.takes.given) }));
     }

@@ -5,7 +5,7 @@ use Rattle.x7_boot.proofs.cache.PageCache.absent_pages.Given as goal
 
 abbrev pub invariant-loop-page : goal.invariant-loop-page
 invariant-loop-page l = record {
-  behind : l.fn.number < l.page-counter;
+  after : l.fn.number < l.page-counter;
   within : (page : ℕ) → page < l.page-counter → page * page_size < l.fn.size;
   absent : (page : ℕ) → l.fn.number < page → page < l.page-counter → lookup (nat_eq page) l.fn.self.pages.entries ≡ None;
 }

@@ -42,8 +42,8 @@ pub returns-in-Some-clause-reads : goal.returns-in-Some-clause-reads
 returns-in-Some-clause-reads c = λ part kept wrapped bytes s.
     let piece : List ℕ = c.args.piece.now in
     let count : taken_in (length piece) c.stopped.result ≡ c.runs.at = ap (taken_in (length piece)) c.stopped.ensures ∙ taken_by_stop c.in-Some.stop (length piece) c.runs.at in
-    let told = c.runs.invariant.reads part kept wrapped bytes s in
-    (told.0, told.1, ap (λ (k : ℕ). reads_given part kept c.runs.self (bytes ++ take k piece)) count ∙ told.2)
+    let known = c.runs.invariant.reads part kept wrapped bytes s in
+    (known.0, known.1, ap (λ (k : ℕ). reads_given part kept c.runs.self (bytes ++ take k piece)) count ∙ known.2)
 
 pub returns-in-Some-clause-first : goal.returns-in-Some-clause-first
 returns-in-Some-clause-first c = λ part kept wrapped bytes s.
@@ -91,10 +91,10 @@ pub returns-then-turn-clause-reads : goal.returns-then-turn-clause-reads
 returns-then-turn-clause-reads c = λ part kept wrapped bytes s.
     let piece : List ℕ = c.args.piece.now in
     let used = c.turn.ensures.used_up c.if-turn.true in
-    let told : (more : List ℕ) × (c.give.new.read ≡ with_words c.args.read.now more) × (reads_given part kept c.turn.new.self (bytes ++ take c.turn.new.at piece) ≡ reads_given part kept c.args.self.now bytes ++ more) =
+    let known : (more : List ℕ) × (c.give.new.read ≡ with_words c.args.read.now more) × (reads_given part kept c.turn.new.self (bytes ++ take c.turn.new.at piece) ≡ reads_given part kept c.args.self.now bytes ++ more) =
     read_here part kept wrapped c.runs.self c.give.new.self c.turn.new.self c.args.read.now c.runs.read c.give.new.read bytes piece (reads_given part kept c.args.self.now bytes) c.runs.at c.turn.new.at
     (c.give.ensures.given part kept wrapped (bytes ++ take c.runs.at piece) (c.runs.invariant.stands part kept wrapped bytes s)) c.turn.ensures.turned.forward (c.turn.ensures.turned.turn.silent part kept wrapped) (c.runs.invariant.reads part kept wrapped bytes s) in
-    (told.0, told.1, ap (λ (k : ℕ). reads_given part kept c.turn.new.self (bytes ++ take k piece)) (sym used.all) ∙ told.2)
+    (known.0, known.1, ap (λ (k : ℕ). reads_given part kept c.turn.new.self (bytes ++ take k piece)) (sym used.all) ∙ known.2)
 
 pub runs-preserved : goal.runs-preserved
 runs-preserved c =

@@ -59,8 +59,8 @@ returns-in-Some-clause-answer c = λ part kept wrapped bytes s.
 
 pub returns-in-Some-clause-reads : goal.returns-in-Some-clause-reads
 returns-in-Some-clause-reads c = λ part kept wrapped bytes s.
-    let told = c.runs.invariant.reads part kept wrapped bytes s in
-    (told.0, told.1, ap (λ (k : ℕ). reads_given part kept c.runs.self (bytes ++ take k c.args.piece.now)) (stop_count c) ∙ told.2)
+    let known = c.runs.invariant.reads part kept wrapped bytes s in
+    (known.0, known.1, ap (λ (k : ℕ). reads_given part kept c.runs.self (bytes ++ take k c.args.piece.now)) (stop_count c) ∙ known.2)
 
 pub returns-in-Some-clause-room : goal.returns-in-Some-clause-room
 returns-in-Some-clause-room c = λ part kept wrapped bytes s.
@@ -154,10 +154,10 @@ returns-then-turn_until_started-clause-reads c = λ part kept wrapped bytes s.
     let at : ℕ = c.turn_until_started.new.at in
     let used = c.turn_until_started.ensures.took.used_up c.if-turn_until_started.true in
     let count : taken_until (length piece) c.answer-then-turn_until_started.result ≡ at = count_is c.answer-then-turn_until_started.result c.started-then-turn_until_started.result fed.All (length piece) at c.answer-then-turn_until_started.ensures (sym used.all) in
-    let told : (more : List ℕ) × (c.give.new.read ≡ with_words c.args.read.now more) × (reads_given part kept c.turn_until_started.new.self (bytes ++ take at piece) ≡ reads_given part kept c.args.self.now bytes ++ more) =
+    let known : (more : List ℕ) × (c.give.new.read ≡ with_words c.args.read.now more) × (reads_given part kept c.turn_until_started.new.self (bytes ++ take at piece) ≡ reads_given part kept c.args.self.now bytes ++ more) =
     read_here part kept wrapped c.runs.self c.give.new.self c.turn_until_started.new.self c.args.read.now c.runs.read c.give.new.read bytes piece (reads_given part kept c.args.self.now bytes) c.runs.at at
     (c.give.ensures.given part kept wrapped (bytes ++ take c.runs.at piece) (c.runs.invariant.stands part kept wrapped bytes s)) c.turn_until_started.ensures.took.turned.forward (c.turn_until_started.ensures.took.turned.turn.silent part kept wrapped) (c.runs.invariant.reads part kept wrapped bytes s) in
-    (told.0, told.1, ap (λ (k : ℕ). reads_given part kept c.turn_until_started.new.self (bytes ++ take k piece)) count ∙ told.2)
+    (known.0, known.1, ap (λ (k : ℕ). reads_given part kept c.turn_until_started.new.self (bytes ++ take k piece)) count ∙ known.2)
 
 pub returns-then-turn_until_started-clause-room : goal.returns-then-turn_until_started-clause-room
 returns-then-turn_until_started-clause-room c = λ part kept wrapped bytes s.

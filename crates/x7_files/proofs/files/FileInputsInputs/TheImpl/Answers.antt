@@ -1,5 +1,5 @@
 use Rattle.std.proofs.Common.{refl, length, arith}
-use Rattle.x7_files.proofs.FilesLemmas.{opened_asks, opened_ok, opened_refused, opened_err, failed_read, read_ok, read_err, read_gives, read_lost, read_more, read_selects, untold_read, within_buffer}
+use Rattle.x7_files.proofs.FilesLemmas.{opened_asks, opened_ok, opened_refused, opened_err, failed_read, read_ok, read_err, read_gives, read_lost, read_more, read_selects, unknown_read, within_buffer}
 use Rattle.x7_files.proofs.files.FileInputsInputs.TheImpl.Goals as goal
 
 pub select-tells : goal.select-tells
@@ -23,7 +23,7 @@ read-tells g c =
     record {
       ok = read_ok old new c.new.buf.now c.result c.requires (within_buffer c.result (length c.args.buf.now) (length c.new.buf.now) c.ensures.length c.ensures.within) c.ensures.ok;
       within = c.ensures.within;
-      end = untold_read c.result (length c.args.buf.now);
+      end = unknown_read c.result (length c.args.buf.now);
       length = c.ensures.length;
       failed = failed_read old new c.result c.ensures.err;
       err = read_err old new c.result c.ensures.err;

@@ -1,6 +1,6 @@
 use Rattle.std.proofs.Common.{◌≡◌, ◌∷◌, ◌++◌, ◌∙◌, ◌+◌, ◌<◌, [], length, append_assoc, MatchOption, arith, ap, subst, sym}
 use Rattle.x7_text.specs.Lines.{split}
-use Rattle.x7_text.proofs.LineReaderLemmas.{HasTaken, all_taken, few_taken, prefix_on, one_taken, wants_behind}
+use Rattle.x7_text.proofs.LineReaderLemmas.{HasTaken, all_taken, few_taken, prefix_on, one_taken, wants_after}
 use Rattle.x7_mcs.specs.McsLines.{AreGoodWith, HasMcsFault, HasReadRecords, TakesFirstLine, mcs_lines_state}
 use Rattle.x7_mcs.specs.declared.mcs_lines.McsLines.{McsLines}
 use Rattle.std.proofs.lemmas.Result.{err_from_is_err_and}
@@ -47,4 +47,4 @@ returns-in_err-after-clause-memory c =
     let rest = c.loop-after.rest.now in
     let h : HasTaken (λ (b : McsLines). HasReadRecords (mcs_lines_state b)) lines text rest c.loop-after.self c.loop-after.count = c.loop-after.invariant lines same few t in
     let n : c.saturating_add-next.result ≡ c.loop-after.count + 1 = omega (arith, c.saturating_add-next.ensures, few_taken (λ (b : McsLines). HasReadRecords (mcs_lines_state b)) lines text rest c.loop-after.self c.loop-after.count c.args.n same h, few) in
-    wants_behind AreGoodWith lines h.more text rest h.texts (c.in_err-after.ensures.memory (lines ++ h.more) (omega (arith, n, h.counts)) h.took want))
+    wants_after AreGoodWith lines h.more text rest h.texts (c.in_err-after.ensures.memory (lines ++ h.more) (omega (arith, n, h.counts)) h.took want))

@@ -1,5 +1,5 @@
 use Rattle.std.proofs.Common.{None, inl, refl, arith}
-use Rattle.x7_files.proofs.FileFlashLemmas.{attached_ok, attached_refused, attached_err, attach_write_faults, failed_read_at, failed_write, on_ok, only_reads, only_writes, quiet_read_at, untold_passes, untold_read_at, untold_torn, untold_unwritten, untold_written}
+use Rattle.x7_files.proofs.FileFlashLemmas.{attached_ok, attached_refused, attached_err, attach_write_faults, failed_read_at, failed_write, on_ok, only_reads, only_writes, quiet_read_at, unknown_passes, unknown_read_at, unknown_torn, unknown_unwritten, unknown_written}
 use Rattle.x7_files.proofs.files.flash.FileFlashFlash.TheImpl.Goals as goal
 
 pub attach-tells : goal.attach-tells
@@ -15,7 +15,7 @@ attach-tells g c =
         bytes = refl;
         faults = c.ensures.faults.rises;
         absences = c.ensures.absences.rises;
-        unwritten = untold_unwritten old new (attach_write_faults old new c.result c.ensures.after);
+        unwritten = unknown_unwritten old new (attach_write_faults old new c.result c.ensures.after);
       };
       sized = tt;
       bytes = tt;
@@ -27,7 +27,7 @@ read_at-tells g c =
     let old = c.args.self.now in
     let new = c.new.self.now in
     record {
-      read = untold_read_at c.result;
+      read = unknown_read_at c.result;
       length = c.ensures.length;
       seen = on_ok c.result (λ i h. refl);
       quiet = quiet_read_at old new new.file c.result c.ensures.ok;
@@ -42,9 +42,9 @@ erase-tells g c =
     let old = c.args.self.now in
     let new = c.new.self.now in
     record {
-      erased = untold_written c.result None;
-      torn = untold_torn c.result;
-      passes = untold_passes;
+      erased = unknown_written c.result None;
+      torn = unknown_torn c.result;
+      passes = unknown_passes;
       moment = omega arith;
       failed = failed_write old new new.file c.result c.ensures.err;
       only = only_writes old new c.result c.requires.attached c.ensures.is_open c.ensures.ok c.ensures.err c.ensures.write_faults.rises;
@@ -57,9 +57,9 @@ program-tells g c =
     let old = c.args.self.now in
     let new = c.new.self.now in
     record {
-      programmed = untold_written c.result None;
-      torn = untold_torn c.result;
-      passes = untold_passes;
+      programmed = unknown_written c.result None;
+      torn = unknown_torn c.result;
+      passes = unknown_passes;
       moment = omega arith;
       failed = failed_write old new new.file c.result c.ensures.err;
       only = only_writes old new c.result c.requires.attached c.ensures.is_open c.ensures.ok c.ensures.err c.ensures.write_faults.rises;
