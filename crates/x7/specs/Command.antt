@@ -20,7 +20,8 @@ page_of (word ∷ next ∷ more) = None
 abbrev pub WritesPage : List ℕ → SinkState → SinkState → ℕ → Type 0
 WritesPage page old new number = (PutsAll old page new × (number ≡ status_number status.Done)) ⊎ (SinkFails old new × PutsSome old page new × (number ≡ status_number status.WriteFault))
 
--- by the page that the words ask for: it is written, and nothing else is touched; where they ask for none, the command was run, and the number is its status's
+-- by the page that the words ask for: it is written, and nothing else is touched; where they ask for none, the command
+-- was run, and the number is its status's
 abbrev pub ProgramEndsBy : Option (List ℕ) → List (List ℕ) → Outside → Outside → ℕ → Type 0
 ProgramEndsBy (Some page) words old new number = WritesPage page old.out new.out number × (new ≡ record old { out = new.out })
 ProgramEndsBy None words old new number = (s : Status) × Runs (form_of words) old new s × (number ≡ status_number s)

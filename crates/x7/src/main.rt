@@ -69,8 +69,8 @@ fn command<I: Inputs, O: Sink, E: Sink, F: Flash>(
 }
 
 fn main(rt: HostRuntime) -> ExitCode {
-    // The system gives a new file the lowest number that is free: that of a standard file which the caller closed. So /dev/null
-    // takes these numbers before an input or the flash may: what is written there fails.
+    // The system gives a new file the lowest number that is free: that of a standard file which the caller closed. So
+    // /dev/null takes these numbers before an input or the flash may: what is written there fails.
     let _input = fs::open(&rt, NOTHING);
     let _output = fs::open(&rt, NOTHING);
     let _error = fs::open(&rt, NOTHING);

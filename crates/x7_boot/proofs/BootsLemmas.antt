@@ -1,4 +1,5 @@
--- The course of a boot: a chain of attempts that leads to an end is the only one, and how an attempt is reported and followed.
+-- The course of a boot: a chain of attempts that leads to an end is the only one, and
+-- how an attempt is reported and followed.
 use Rattle.std.proofs.Common.{◌≡◌, ◌==◌, inl, inr, ℕ, suc, Bool, true, false, if◌then◌else◌, Option, None, Some, List, ◌∷◌, drop, take, length, map, reverse, refl, ap, sym, ◌∙◌, arith}
 use Rattle.std.proofs.Math.Seq.{take-length, take_all}
 use Rattle.std.proofs.lemmas.Bool.{cases_lt, or_from, or_right}

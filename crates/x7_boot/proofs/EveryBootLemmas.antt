@@ -1,4 +1,5 @@
--- Every flash leads a boot to an end: an attempt comes to an end, and after sixteen attempts and a fallback there is none.
+-- Every flash leads a boot to an end: an attempt comes to an end, and after
+-- sixteen attempts and a fallback there is none.
 use Rattle.std.proofs.Common.{◌≡◌, ◌+◌, ◌<◌, ◌⊎◌, inl, inr, ℕ, zero, suc, Bool, true, false, if◌then◌else◌, List, [], ◌∷◌, drop, take, length, Option, None, Some, refl, ap, sym, subst, ◌∙◌, take-append-drop, arith}
 use Rattle.std.specs.Prelude.{nat_le, ◌||◌}
 use Rattle.std.proofs.lemmas.Bool.Decides.{nat_tests}

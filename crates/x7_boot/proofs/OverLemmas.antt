@@ -1,4 +1,5 @@
--- An attempt that ended in the flash ends so over other bytes, or with other kept words, where each prefix ends it alike.
+-- An attempt that ended in the flash ends so over other bytes, or with other
+-- kept words, where each prefix ends it alike.
 use Rattle.std.proofs.Common.{◌≡◌, ◌==◌, ◌+◌, ◌≤◌, inl, inr, ℕ, true, false, if◌then◌else◌, Option, Some, List, ◌++◌, drop, take, length, length-append, length-take-le, refl, ap, sym, ◌∙◌, take-append-drop, arith}
 use Rattle.std.proofs.lemmas.List.{drop-take, take-take}
 use Rattle.std.proofs.Math.Seq.{take-append_seam}

@@ -1,5 +1,5 @@
--- A boot attempt: a device takes the bytes of a flash from an address on, up to what ends the attempt (UG470, MultiBoot and
--- fallback; the end at the least byte, and at the flash's end, are this project's choice).
+-- A boot attempt: a device takes the bytes of a flash from an address on, up to what ends the attempt (UG470, MultiBoot
+-- and fallback; the end at the least byte, and at the flash's end, are this project's choice).
 use Rattle.std.specs.Prelude.{◌≡◌, ℕ, suc, ◌+◌, ◌^◌, ◌<◌, ◌≤◌, ◌==◌, ◌⊎◌, Bool, true, false, if◌then◌else◌, List, ◌++◌, length, take, drop, slice_range, Option, None, Some, IsSome}
 use Rattle.x7_words.specs.Flash.{IfKnown}
 use Rattle.x7_part.specs.Part.{PartData}
@@ -35,7 +35,8 @@ abbrev pub ending_at : PartData → Kept → List ℕ → Option Ending
 ending_at part kept bytes =
     if (state_of part kept false bytes).phase == 7 then Some Started else ending_by (why_of (stop_in part kept bytes))
 
--- an attempt: what its device kept over the reset, its address, the bytes that the device took, whether the flash ended first, and what ended it
+-- an attempt: what its device kept over the reset, its address, the bytes that the device took, whether
+-- the flash ended first, and what ended it
 pub record AttemptCourse : Type 0 where
   pub kept : Kept
   pub address : ℕ
@@ -137,7 +138,8 @@ pub record AttemptEnds (a : AttemptStart) (flash : List ℕ) (d : DeviceState) (
   pub ending_is : course.ending ≡ ending
   pub device : IsDeviceOf a.part d course
 
--- an attempt that took the bytes of a flash from its address to a place, where these are known, and that nothing has ended
+-- an attempt that took the bytes of a flash from its address to a place, where
+-- these are known, and that nothing has ended
 pub record Feeds (a : AttemptStart) (known : Option (List ℕ)) (d : DeviceState) (at : ℕ) : Type 0 where
   pub bytes : List ℕ
   pub stands : DeviceStandsFor a.part a.kept false d bytes

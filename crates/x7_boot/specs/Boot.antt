@@ -1,5 +1,5 @@
--- The attempts of a boot, each of which the table gives from the end of the one before (UG470, MultiBoot and fallback; the
--- limit of 16 attempts is this project's choice).
+-- The attempts of a boot, each of which the table gives from the end of the one before (UG470, MultiBoot and fallback;
+-- the limit of 16 attempts is this project's choice).
 --
 --     the attempt ended by     then
 --     phase 7                  the boot has started
@@ -27,7 +27,8 @@ use Rattle.x7_boot.specs.declared.next.Next.TheVariants.{Again, Ends}
 abbrev pub forbids_fallback : ℕ → Bool
 forbids_fallback ctl0 = field_of 10 1 ctl0 == 1
 
--- the place in the flash that WBSTAR names: its bits 28:0, or 256 times its bits 23:0 where the part counts in steps of 256 bytes
+-- the place in the flash that WBSTAR names: its bits 28:0, or 256 times its bits 23:0
+-- where the part counts in steps of 256 bytes
 abbrev pub start_address : ℕ → ℕ → ℕ
 start_address unit wbstar = if unit == 256 then 256 * field_of 0 24 wbstar else field_of 0 29 wbstar
 
@@ -85,7 +86,8 @@ pub record IsBoot (part : PartData) (flash : List ℕ) (b : BootedState) : Type 
   pub attempts : b.attempts ≡ reverse (map tried (last ∷ older))
   pub device : IsDeviceOf part b.device last
 
--- a flash has led a device through `number` attempts, which are reported as `attempts`, to the one that begins as `a` says
+-- a flash has led a device through `number` attempts, which are reported as
+-- `attempts`, to the one that begins as `a` says
 pub record Led (a : AttemptStart) (flash : List ℕ) (attempts : List Tried) (number : ℕ) : Type 0 where
   pub older : List AttemptCourse
   pub leads : LeadsTo a.part flash older (Again a.kept a.address)

@@ -1,5 +1,5 @@
--- The lines of a boot (this project's choice): `boot NAME`; for each attempt `attempt N KIND ADDRESS ENDING`, N from 1; `end` and
--- how the boot ended.
+-- The lines of a boot (this project's choice): `boot NAME`; for each attempt `attempt N KIND ADDRESS
+-- ENDING`, N from 1; `end` and how the boot ended.
 use Rattle.std.specs.Prelude.{ℕ, ◌+◌, List, [], ◌∷◌, ◌++◌, codes, decimal}
 use Rattle.x7_text.specs.Digits.{hex_word}
 use Rattle.x7_regs.specs.declared.boot_status.Cause.{Cause}

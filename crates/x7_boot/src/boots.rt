@@ -95,8 +95,8 @@ const AT_POWER: Kept = Kept {
     before: None,
 };
 
-/// Boots a device of a part from a flash: attempt after attempt, as the table of UG470, MultiBoot and fallback, leads from
-/// the end of one to the next. Nothing is read of a flash that is too large.
+/// Boots a device of a part from a flash: attempt after attempt, as the table of UG470, MultiBoot and fallback, leads
+/// from the end of one to the next. Nothing is read of a flash that is too large.
 pub fn boot<F: Flash>(alloc: Global, part: &Part, flash: &mut F) -> Result<Booted, BootFault>
     requires attached { (F.state flash.old).attached ≡ true }
     ensures booted { IfOk result (λ booted. IfKnown (F.state flash.old).bytes (λ all. AreBytes all → IsBoot part.now all booted)) }

@@ -51,7 +51,8 @@ impl PageCache {
         })
     }
 
-    /// Makes the cache have the page of a number, read from the flash where the cache has it not, with the pages that follow.
+    /// Makes the cache have the page of a number, read from the flash where the
+    /// cache has it not, with the pages that follow.
     pub(crate) fn load<F: Flash>(&mut self, flash: &mut F, number: u64) -> Result<Loaded, BootFault>
         requires attached { (F.state flash.old).attached ≡ true }
         requires within { number * page_size < (F.state flash.old).extent }
@@ -77,8 +78,8 @@ impl PageCache {
         Ok(Loaded::Read(count))
     }
 
-    /// How many pages from a number on a block has: at most sixteen, none past the flash's end, and after the first none that the
-    /// cache has.
+    /// How many pages from a number on a block has: at most sixteen, none past the flash's end, and
+    /// after the first none that the cache has.
     fn absent_pages(&self, number: u64, size: u64) -> u64
         requires within { number * page_size < size }
         requires limit { size ≤ flash_limit }
@@ -139,7 +140,8 @@ impl PageCache {
         }
     }
 
-    /// The bytes from a place on, whose page was loaded: to the end of the block that was read for it, or else of the page.
+    /// The bytes from a place on, whose page was loaded: to the end of the block
+    /// that was read for it, or else of the page.
     pub(crate) fn bytes_from(&self, at: u64, loaded: Loaded) -> &[u8]
         requires page { HasPage self.now.pages.entries at }
         requires block { BlockReaches at self.now.block.items loaded }

@@ -12,15 +12,15 @@ ghost use Rattle.x7_boot.specs.declared.attempt.Ending.TheVariants as ending;
 ghost use Rattle.x7_boot.specs.declared.boots.BootEnd.{BootEnd};
 ghost use Rattle.x7_boot.specs.declared.boots.BootEnd.TheVariants as boot_end;
 
-/// An attempt that started made its checks, and so did the last one of a boot that started: an image starts only after its
-/// checks passed.
+/// An attempt that started made its checks, and so did the last one of a boot that started: an
+/// image starts only after its checks passed.
 pub fn starts_are_checked()
     ensures attempt { (part : PartData) (flash : List ℕ) (t : AttemptCourse) → AreBytes flash → IsAttemptOver part flash t → t.ending ≡ ending.Started → HasChecked part t.kept t.bytes }
     ensures boot { (part : PartData) (flash : List ℕ) (b : BootedState) → AreBytes flash → (is : IsBoot part flash b) → b.end ≡ boot_end.Started → HasChecked part is.last.kept is.last.bytes }
 {}
 
-/// Startup has begun only after its checks: after any bytes, at the end of an attempt, and at the end of a boot, also of one
-/// that didn't start.
+/// Startup has begun only after its checks: after any bytes, at the end of an attempt, and at the end
+/// of a boot, also of one that didn't start.
 pub fn startup_is_checked()
     ensures state { (part : PartData) (kept : Kept) (wrapped : Bool) (bytes : List ℕ) → AreBytes bytes → 0 < (state_of part kept wrapped bytes).phase → HasChecked part kept bytes }
     ensures attempt { (part : PartData) (flash : List ℕ) (t : AttemptCourse) → AreBytes flash → IsAttemptOver part flash t → 0 < (end_state part t).phase → HasChecked part t.kept t.bytes }
@@ -45,8 +45,8 @@ pub fn one_course()
         → LeadsToEnd part flash (last ∷ older) end → c ≡ course_along last older end }
 {}
 
-/// A flash has one boot of a part: an attempt is determined by what it keeps and its address, and a boot's attempts, its
-/// last one and its end by the bytes.
+/// A flash has one boot of a part: an attempt is determined by what it keeps and its address, and a boot's attempts,
+/// its last one and its end by the bytes.
 pub fn one_boot()
     ensures attempt { (part : PartData) (flash : List ℕ) (s t : AttemptCourse) → IsAttemptOver part flash s → IsAttemptOver part flash t → s.kept ≡ t.kept → s.address ≡ t.address → s ≡ t }
     ensures boot { (part : PartData) (flash : List ℕ) (a b : BootedState) → IsBoot part flash a → IsBoot part flash b → (a.attempts ≡ b.attempts) × (a.end ≡ b.end) }

@@ -27,8 +27,8 @@ struct Places {
     size: u64,
 }
 
-/// The update's place and the image's size, by the lengths of both streams; none where the image would be larger than a flash
-/// may be.
+/// The update's place and the image's size, by the lengths of both streams; none where the
+/// image would be larger than a flash may be.
 fn places_of(golden: u64, update: u64) -> Option<Places>
     ensures found { IfSome result (λ it. (it.place ≡ place_after_golden golden) × (it.size ≡ image_size golden update) × (it.size ≤ flash_limit)) }
     ensures none { IfNone result (flash_limit < image_size golden update) }
@@ -84,7 +84,8 @@ fn fill(out: &mut Vec<u8>, place: u64) -> Result<(), NoMemory>
     Ok(())
 }
 
-/// The image of `size` bytes, with the update at its place, to which the first sector leads by the start address `start`.
+/// The image of `size` bytes, with the update at its place, to which the first
+/// sector leads by the start address `start`.
 fn image_of_size(
     alloc: Global,
     start: u32,
@@ -122,9 +123,9 @@ fn image_by(alloc: Global, unit: u32, golden: &[u8], update: &[u8]) -> Result<Ve
     }
 }
 
-/// The flash image of a golden and an update stream, for parts whose start address counts bytes: the first sector leads to
-/// the update, and a device whose update fails falls back to the golden one (UG470, MultiBoot and fallback; the layout is
-/// this project's choice).
+/// The flash image of a golden and an update stream, for parts whose start address counts bytes: the first sector leads
+/// to the update, and a device whose update fails falls back to the golden one (UG470, MultiBoot and fallback; the
+/// layout is this project's choice).
 pub fn image(alloc: Global, golden: &[u8], update: &[u8]) -> Result<Vec<u8>, ImageFault>
     ensures bytes { IfOk result (λ all. all.items ≡ image_of 1 golden.now update.now) }
     ensures too_long { (result ≡ Err ImageFault.TooLong) ↔ (flash_limit < image_size (length golden.now) (length update.now)) }
@@ -132,8 +133,8 @@ pub fn image(alloc: Global, golden: &[u8], update: &[u8]) -> Result<Vec<u8>, Ima
     image_by(alloc, 1, golden, update)
 }
 
-/// The flash image of a golden and an update stream for a part, by the number of bytes that one step of the part's start
-/// address stands for.
+/// The flash image of a golden and an update stream for a part, by the number of bytes that one
+/// step of the part's start address stands for.
 pub fn image_for(
     alloc: Global,
     part: &Part,

@@ -115,8 +115,8 @@ fn put_boot(
     Ok(())
 }
 
-/// Appends to `text` the lines of a boot (this project's choice): `boot NAME`; for each attempt `attempt N KIND ADDRESS ENDING`,
-/// N from 1; and `end` and how the boot ended. `NoMemory` leaves the items as they were.
+/// Appends to `text` the lines of a boot (this project's choice): `boot NAME`; for each attempt `attempt N KIND ADDRESS
+/// ENDING`, N from 1; and `end` and how the boot ended. `NoMemory` leaves the items as they were.
 pub fn boot_lines(
     text: &mut Vec<u8>,
     name: &str,

@@ -1,5 +1,5 @@
--- The running check of writes to registers (UG470, cyclic redundancy check). That it is CRC-32C, in this order of the bits
--- and from 0 on, is this project's choice.
+-- The running check of writes to registers (UG470, cyclic redundancy check). That it is CRC-32C, in this order of the
+-- bits and from 0 on, is this project's choice.
 use Rattle.std.specs.Prelude.{◌==◌, ℕ, zero, suc, ◌+◌, ◌*◌, ◌/◌, ◌%◌, ◌^◌, Bool, List, [], ◌∷◌, ◌++◌, length, map, bit_xor}
 use Rattle.x7_crc.specs.Polynomial.{from_highest, IsRemainder, mirrored, remainder}
 

@@ -8,8 +8,8 @@ ghost use Rattle.x7_crc.specs.RunningCheck.{Folds, running_check};
 ghost use Rattle.x7_crc.specs.Polynomial.{from_highest, IsRemainder, mirrored};
 ghost use Rattle.x7_crc.specs.Check.{bits_of_writes, check_after, check_of, check_after_one, generator, IsCheckAfter};
 
-/// The check of writes is the remainder, by the polynomial of CRC-32C, of their bits times x^32; so it is after any check
-/// before them, whose polynomial is added above; and nothing else is.
+/// The check of writes is the remainder, by the polynomial of CRC-32C, of their bits times x^32; so it is after any
+/// check before them, whose polynomial is added above; and nothing else is.
 pub fn checks_are_remainders()
     ensures fits { (before : ℕ) (writes : List (ℕ × ℕ)) → check_after before writes < 2 ^ 32 }
     ensures remainder { (writes : List (ℕ × ℕ)) → IsRemainder (from_highest (bits_of_writes writes) * 2 ^ 32) generator 32 (mirrored 32 (check_of writes)) }
@@ -28,8 +28,8 @@ pub fn checks_are_linear()
     ensures { (before register word : ℕ) → before < 2 ^ 32 → register < 2 ^ 5 → word < 2 ^ 32 → check_after_one before register word ≡ check_after_one 0 register (bit_xor word before) }
 {}
 
-/// The running check of a history begins at 0, is 0 after an access that clears it, goes on by each other write but that of
-/// LOUT, and stays at all else.
+/// The running check of a history begins at 0, is 0 after an access that clears it, goes on by each other write but
+/// that of LOUT, and stays at all else.
 pub fn checks_of_histories()
     ensures begins { running_check [] ≡ 0 }
     ensures cleared { (h : History) (register word place : ℕ) → clears h (Write register word) ≡ true → running_check (entry (Write register word) place ∷ h) ≡ 0 }

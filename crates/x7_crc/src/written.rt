@@ -8,8 +8,8 @@ ghost use Rattle.x7_crc.specs.RunningCheck.{executed_after, running_check};
 use crate::check::fold;
 use x7_regs::{Command, Reg};
 
-/// The command that a written word executes, where CMD holds this one: a write to FAR executes it again, save DESYNC and
-/// IPROG (this project's choice).
+/// The command that a written word executes, where CMD holds this one: a write to FAR executes it again, save DESYNC
+/// and IPROG (this project's choice).
 pub fn executed(held: u8, reg: Reg, word: u32) -> Option<u8>
     ensures { result ≡ executed_by held (Write (number_of reg) word) }
 {
@@ -37,8 +37,8 @@ pub fn is(command: Command, executed: Option<u8>) -> bool
     }
 }
 
-/// The running check after a written word, which executes a command or none. RCRC and a write to CRC clear it, and LOUT is
-/// not folded (this project's choice).
+/// The running check after a written word, which executes a command or none. RCRC and a write to CRC clear it, and LOUT
+/// is not folded (this project's choice).
 pub fn check_after_write(check: u32, reg: Reg, word: u32, executed: Option<u8>) -> u32
     ensures { (h : History) (place : ℕ) → check ≡ running_check h → executed ≡ executed_after h reg word → result ≡ running_check (entry (Write (number_of reg) word) place ∷ h) }
 {

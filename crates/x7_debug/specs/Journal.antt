@@ -1,4 +1,5 @@
--- The records of a session: devices kept on the way, the newest first, which lead back along the stream (this project's choice).
+-- The records of a session: devices kept on the way, the newest first, which lead back
+-- along the stream (this project's choice).
 use Rattle.std.specs.Prelude.{◌≡◌, ℕ, ◌+◌, ◌-◌, ◌*◌, ◌<◌, ◌≤◌, max, List, [], ◌∷◌, length, take}
 use Rattle.std.specs.List.{AllByRecursion}
 use Rattle.x7_part.specs.Part.{PartData}

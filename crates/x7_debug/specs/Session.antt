@@ -7,7 +7,8 @@ use Rattle.x7_engine.specs.Standing.{DeviceState, DeviceStandsFor, NoWordDue}
 use Rattle.x7_engine.specs.State.{taken_of}
 use Rattle.x7_debug.specs.Position.{last_of}
 
--- the part, the bytes of the stream, the position, the least one that the records lead back to, and how many bytes the device was ever fed
+-- the part, the bytes of the stream, the position, the least one that the records lead back to,
+-- and how many bytes the device was ever fed
 pub record SessionState : Type 0 where
   pub part : PartData
   pub stream : List ℕ

@@ -70,8 +70,8 @@ impl Journal {
         }
     }
 
-    /// Feeds a piece of up to four bytes to a device, up to what stops it, with a record. Where all are in use, the oldest
-    /// one is used again.
+    /// Feeds a piece of up to four bytes to a device, up to what stops it, with a record. Where all
+    /// are in use, the oldest one is used again.
     pub(crate) fn feed(&mut self, device: &mut Device, piece: &[u8])
         requires one_record { length piece.now ≤ record_bytes }
         requires fits { device.old.taken + length piece.now ≤ 2 ^ 63 }

@@ -17,8 +17,8 @@ pub(crate) const RECORD_BYTES: u64 = 4;
 /// How many bytes before a position records lead back to: a record's bytes for each but one, and one byte.
 pub(crate) const REACH: u64 = (RECORDS as u64 - 1) * RECORD_BYTES + 1;
 
-/// How many bytes all records lead back over where each has four: a move forward ends with as many, so that a move back by a
-/// multiple of four bytes feeds none.
+/// How many bytes all records lead back over where each has four: a move forward ends with as many, so that a move back
+/// by a multiple of four bytes feeds none.
 const RECORDED: u64 = RECORDS as u64 * RECORD_BYTES;
 
 /// Feeds a piece to a device, up to what stops it. Words read out are dropped.

@@ -27,8 +27,8 @@ fn holds(stop: Stop, end: End, phase: u8) -> bool
     }
 }
 
-/// Brings a device forward byte by byte to the first position where the stop holds, or to `end`, which is at most four bytes
-/// after the newest record. Says whether the stop holds there.
+/// Brings a device forward byte by byte to the first position where the stop holds, or to `end`, which is at most four
+/// bytes after the newest record. Says whether the stop holds there.
 fn seek(device: &mut Device, journal: &Journal, stream: &[u8], end: u64, stop: Stop) -> bool
     requires may { MayMoveForward stream.now device.old journal.now end }
     requires some { (u : UndoState) × (older : List UndoState) × (records_of journal.now ≡ u ∷ older) × (end ≤ u.taken + record_bytes) }
@@ -87,8 +87,8 @@ fn forward_until(device: &mut Device, journal: &mut Journal, stream: &[u8], last
     }
 }
 
-/// Feeds a device in one piece up to a position from which records reach to `begins`, where startup may begin; a device that is
-/// past it already stays.
+/// Feeds a device in one piece up to a position from which records reach to `begins`, where startup may begin; a device
+/// that is past it already stays.
 fn leap_near(device: &mut Device, journal: &mut Journal, stream: &[u8], begins: u64)
     requires { MayMove stream.now device.old journal.old begins }
     ensures at_position { ComesForward stream.now device.old device.new journal.new device.new.taken }
@@ -101,8 +101,8 @@ fn leap_near(device: &mut Device, journal: &mut Journal, stream: &[u8], begins: 
     }
 }
 
-/// Brings a device forward to the first later position in this phase of startup, or else to the last one. Positions at which
-/// startup hasn't begun are passed over, where the phase isn't 0.
+/// Brings a device forward to the first later position in this phase of startup, or else to the last one. Positions at
+/// which startup hasn't begun are passed over, where the phase isn't 0.
 fn go_to_phase(
     device: &mut Device,
     journal: &mut Journal,
@@ -122,8 +122,8 @@ fn go_to_phase(
     forward_until(device, journal, stream, outline.last, Stop::Phase(phase));
 }
 
-/// Brings a device forward to the first later position where the stop holds, or else to the last one. What stops a device
-/// comes at the last position alone.
+/// Brings a device forward to the first later position where the stop holds, or else to the last one. What stops a
+/// device comes at the last position alone.
 pub(crate) fn go_until(
     device: &mut Device,
     journal: &mut Journal,

@@ -8,7 +8,8 @@ use Rattle.x7_packets.specs.Packet.{NoneEnds}
 use Rattle.x7_packets.specs.History as access
 use Rattle.x7_packets.specs.History.{History, entry}
 
--- no-op, dummy word, words written to a register by a type 1 packet, the same by an empty type 1 packet and a type 2 packet, and reads of some words by either
+-- no-op, dummy word, words written to a register by a type 1 packet, the same by an empty type 1 packet and a type 2
+-- packet, and reads of some words by either
 pub data Item : Type 0 where
   Noop : Item
   Dummy : Item
@@ -29,7 +30,8 @@ item_words (ReadLong register count) = type1_read register 0 ∷ type2_read coun
 abbrev pub items_words : List Item → List ℕ
 items_words items = flat_map item_words items
 
--- the item can be written: register, count and words have their bits, a read asks for some words, and no word ends the session
+-- the item can be written: register, count and words have their bits, a read asks for
+-- some words, and no word ends the session
 abbrev pub IsItem : Item → Type 0
 IsItem Noop = Unit {0}
 IsItem Dummy = Unit {0}

@@ -81,14 +81,16 @@ pub record KeepsUnwritten (old new : Regs) : Type 0 where
   pub timer : new.timer ≡ old.timer
   pub bspi : new.bspi ≡ old.bspi
 
--- the registers that no planned stream writes, and the settings that a full stream writes, are as they were: all but CRC, FAR, CMD and what shows the device's state
+-- the registers that no planned stream writes, and the settings that a full stream writes, are as they were: all but
+-- CRC, FAR, CMD and what shows the device's state
 pub record KeepsSettings (old new : Regs) : Type 0 where
   pub ctl0 : new.ctl0 ≡ old.ctl0
   pub mask : new.mask ≡ old.mask
   pub cor0 : new.cor0 ≡ old.cor0
   pub unwritten : KeepsUnwritten old new
 
--- After a full stream the memory is the plan over zeros, startup has ended, and its lines are 1. It reads nothing out, there is no stop, and the device is at rest again.
+-- After a full stream the memory is the plan over zeros, startup has ended, and its lines are 1. It reads nothing out,
+-- there is no stop, and the device is at rest again.
 pub record PlaysFull (r : Resting) (stream : List ℕ) (plan : PlanData) : Type 0 where
   pub memory : AreSame (memory_in r.part r.kept (r.bytes ++ stream)) (total r.part plan)
   pub phase : (wrapped : Bool) → (state_of r.part r.kept wrapped (r.bytes ++ stream)).phase ≡ 7
@@ -97,7 +99,8 @@ pub record PlaysFull (r : Resting) (stream : List ℕ) (plan : PlanData) : Type 
   pub reads : reads_of r.part r.kept (r.bytes ++ stream) ≡ reads_of r.part r.kept r.bytes
   pub rests : AtRest r.part r.kept (r.bytes ++ stream)
 
--- After a partial stream the memory is that before it, overridden by the plan, and phase, lines and settings stay. It reads nothing out, there is no stop, and the device is at rest again.
+-- After a partial stream the memory is that before it, overridden by the plan, and phase, lines and settings stay. It
+-- reads nothing out, there is no stop, and the device is at rest again.
 pub record PlaysPartial (r : Resting) (stream : List ℕ) (plan : PlanData) : Type 0 where
   pub memory : AreSame (memory_in r.part r.kept (r.bytes ++ stream)) (override (memory_in r.part r.kept r.bytes) (planned plan.rows))
   pub phase : (wrapped : Bool) → (state_of r.part r.kept wrapped (r.bytes ++ stream)).phase ≡ (state_of r.part r.kept wrapped r.bytes).phase
@@ -106,7 +109,8 @@ pub record PlaysPartial (r : Resting) (stream : List ℕ) (plan : PlanData) : Ty
   pub reads : reads_of r.part r.kept (r.bytes ++ stream) ≡ reads_of r.part r.kept r.bytes
   pub rests : AtRest r.part r.kept (r.bytes ++ stream)
 
--- A read stream reads out the words of n slots from an address on; memory, phase, lines and settings stay. There is no stop, and the device is at rest again.
+-- A read stream reads out the words of n slots from an address on; memory, phase, lines and settings stay. There is no
+-- stop, and the device is at rest again.
 pub record PlaysRead (r : Resting) (stream : List ℕ) (far n : ℕ) : Type 0 where
   pub reads : reads_of r.part r.kept (r.bytes ++ stream) ≡ reads_of r.part r.kept r.bytes ++ words_along r.part (memory_in r.part r.kept r.bytes) far n
   pub memory : AreSame (memory_in r.part r.kept (r.bytes ++ stream)) (memory_in r.part r.kept r.bytes)
@@ -117,7 +121,8 @@ pub record PlaysRead (r : Resting) (stream : List ℕ) (far n : ℕ) : Type 0 wh
 
 -- ---- streams one after another
 
--- After these bytes, which left this memory and read out no more than the device's own bytes, the read stream of n slots from an address on reads that memory out, and leaves it.
+-- After these bytes, which left this memory and read out no more than the device's own bytes, the read stream of n
+-- slots from an address on reads that memory out, and leaves it.
 pub record ReadsBack (r : Resting) (written : List ℕ) (memory : FrameMap) (far n : ℕ) : Type 0 where
   pub reads : reads_of r.part r.kept (written ++ read_stream r.part far n) ≡ reads_of r.part r.kept r.bytes ++ words_along r.part memory far n
   pub same : AreSame (memory_in r.part r.kept (written ++ read_stream r.part far n)) memory
@@ -128,7 +133,8 @@ pub record ReadsBack (r : Resting) (written : List ℕ) (memory : FrameMap) (far
 abbrev pub ReadsBackAfter : Playing → List ℕ → FrameMap → ℕ → ℕ → Type 0
 ReadsBackAfter p written memory far n = ReadsBack (resting_after p.part p.kept p.bytes) written memory far n
 
--- After a full stream and a partial one the memory is the later plan over the earlier one over zeros, and startup has ended.
+-- After a full stream and a partial one the memory is the later plan over the
+-- earlier one over zeros, and startup has ended.
 pub record PlaysBoth (part : PartData) (kept : Kept) (bytes : List ℕ) (plan later : PlanData) : Type 0 where
   pub memory : AreSame (memory_in part kept bytes) (override (total part plan) (planned later.rows))
   pub phase : (wrapped : Bool) → (state_of part kept wrapped bytes).phase ≡ 7

@@ -10,9 +10,9 @@ ghost use Rattle.x7_planner.specs.FullStream.{full_stream};
 ghost use Rattle.x7_planner.specs.ReadStream.{read_stream};
 ghost use Rattle.x7_planner.specs.Fault.{CanRead};
 
-/// After any bytes at rest the full stream of a plan at addresses of the part leaves the plan over zeros and ends startup
-/// with DONE, GTS and GWE 1, without a stop, and the device is at rest again; the registers that it doesn't write stay. So
-/// also on a new device.
+/// After any bytes at rest the full stream of a plan at addresses of the part leaves the plan over zeros and ends
+/// startup with DONE, GTS and GWE 1, without a stop, and the device is at rest again; the registers that it doesn't
+/// write stay. So also on a new device.
 pub fn full_streams_play()
     ensures plays { (r : Resting) (plan : PlanData) → Rests r → IsPlanFor r.part plan → PlaysFull r (full_stream r.part plan) plan }
     ensures new { (part : PartData) (plan : PlanData) → IsPart part → IsPlanFor part plan → PlaysFull (resting_after part on_the_bench []) (full_stream part plan) plan }
@@ -24,23 +24,23 @@ pub fn partial_streams_play()
     ensures { (r : Resting) (plan : PlanData) → Rests r → IsPlanFor r.part plan → PlaysPartial r (partial_stream r.part plan.rows) plan }
 {}
 
-/// The groups and runs of a plan write each of its rows once, with its frame, and no other address. Runs are their rows in
-/// order, cut where an address isn't the next one in its row and nowhere else.
+/// The groups and runs of a plan write each of its rows once, with its frame, and no other address. Runs are their rows
+/// in order, cut where an address isn't the next one in its row and nowhere else.
 pub fn partial_streams_write_once()
     ensures once { (part : PartData) (rows : List PlanRow) → AreInOrder rows → WritesOnce rows (pairs_in (stretches_of part rows)) }
     ensures runs { (part : PartData) (rows : List PlanRow) → joined_runs (runs_of part rows) ≡ rows }
     ensures longest { (part : PartData) (rows : List PlanRow) → AreLongest part (runs_of part rows) }
 {}
 
-/// After any bytes at rest the read stream of n slots from an address on reads out a frame of zeros and the frames along
-/// the slots; memory, phase, lines and settings stay, there is no stop, and the device is at rest again.
+/// After any bytes at rest the read stream of n slots from an address on reads out a frame of zeros and the frames
+/// along the slots; memory, phase, lines and settings stay, there is no stop, and the device is at rest again.
 pub fn read_streams_play()
     ensures { (r : Resting) (address n : ℕ) → Rests r → CanRead r.part address n → PlaysRead r (read_stream r.part address n) address n }
 {}
 
-/// Streams one after another, from a device at rest on: a read stream after a full one reads the plan over zeros back, and
-/// after a partial one the plan over what was there before; a partial stream after a full one leaves the later plan over
-/// the earlier one, and startup stays ended.
+/// Streams one after another, from a device at rest on: a read stream after a full one reads the plan over zeros back,
+/// and after a partial one the plan over what was there before; a partial stream after a full one leaves the later plan
+/// over the earlier one, and startup stays ended.
 pub fn streams_play_in_turn()
     ensures full { (p : Playing) (far n : ℕ) → CanPlay p → CanRead p.part far n → ReadsBackAfter p (with_full p) (total p.part p.plan) far n }
     ensures partial { (p : Playing) (far n : ℕ) → CanPlay p → CanRead p.part far n → ReadsBackAfter p (with_partial p) (changed_memory p) far n }

@@ -1,4 +1,5 @@
--- Lemmas on specs/UntilStarted: in a turn startup begins at the last byte at the soonest, and where it has begun, it ends some bytes later at the soonest.
+-- Lemmas on specs/UntilStarted: in a turn startup begins at the last byte at the soonest, and where it has begun, it
+-- ends some bytes later at the soonest.
 use Rattle.std.proofs.Common.{◌≡◌, ◌==◌, ◌+◌, ◌-◌, ◌/◌, ◌<◌, ◌≤◌, ◌⊎◌, inl, inr, ℕ, Bool, true, false, if◌then◌else◌, Option, None, Some, List, [], ◌∷◌, ◌++◌, length, take, drop, refl, ap, sym, subst, ◌∙◌, append_assoc, append-nil, arith, length-append}
 use Rattle.std.specs.Option.{is_some}
 use Rattle.std.specs.Prelude.{◌&&◌, ◌||◌, not, nat_lt}

@@ -1,4 +1,5 @@
--- What a stream has been through where startup has begun (this project's choice: a stop ends the taking of bytes at once).
+-- What a stream has been through where startup has begun (this project's choice:
+-- a stop ends the taking of bytes at once).
 use Rattle.std.specs.Prelude.{◌≡◌, ℕ, ◌<◌, ◌≤◌, ◌∷◌, ◌++◌, IsTrue}
 use Rattle.x7_packets.specs.History.{Access, Entry, History, entry}
 use Rattle.x7_regs.specs.declared.command.Command.TheVariants.{Desync, Start}

@@ -1,5 +1,5 @@
--- Courses. A course is all that the values of a device's registers are a function of: the part, what the last reset kept, and
--- the accesses and the number of bytes since then (this project's choice).
+-- Courses. A course is all that the values of a device's registers are a function of: the part, what the last reset
+-- kept, and the accesses and the number of bytes since then (this project's choice).
 use Rattle.std.specs.Prelude.{ℕ}
 use Rattle.x7_packets.specs.History.{History}
 use Rattle.x7_part.specs.Part.{PartData}

@@ -1,5 +1,5 @@
--- How the registers of a device go on: accesses enter the history that the registers stand for, up to what stops the device
--- (this project's choice).
+-- How the registers of a device go on: accesses enter the history that the registers stand for, up to what stops the
+-- device (this project's choice).
 use Rattle.std.specs.Prelude.{◌≡◌, ℕ, ◌+◌, ◌∷◌, ◌++◌, List}
 use Rattle.x7_words.specs.Word.{words_of_bytes}
 use Rattle.x7_packets.specs.Cutter.{run_steps}

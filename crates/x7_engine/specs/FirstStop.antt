@@ -15,7 +15,8 @@ abbrev pub why_at_newest : PartData → Kept → History → ℕ → Option Stop
 why_at_newest part kept [] n = None
 why_at_newest part kept (e ∷ h) n = if e.place == n then why_at part kept h e.access else None
 
--- Why byte n stops a device, where it does, the first being byte 1: the watchdog fires there by the accesses before it, or else the access that ends there stops it.
+-- Why byte n stops a device, where it does, the first being byte 1: the watchdog fires there by the accesses before it,
+-- or else the access that ends there stops it.
 abbrev pub why_at_byte : PartData → Kept → List ℕ → ℕ → Option Stop
 why_at_byte part kept bytes n =
     if fires part kept (history_of (take (n - 1) bytes)) n then Some (stop.Fault fault.Watchdog) else why_at_newest part kept (history_of (take n bytes)) n

@@ -1,6 +1,6 @@
--- Pasts. A past is all that the state of a device is a function of: the part, what the last reset kept, whether the flash has
--- ended since then, and the bytes taken since then. A clause on a device speaks of each past that the device has (this
--- project's choice).
+-- Pasts. A past is all that the state of a device is a function of: the part, what the last reset kept,
+-- whether the flash has ended since then, and the bytes taken since then. A clause on a device speaks of each
+-- past that the device has (this project's choice).
 use Rattle.std.specs.Prelude.{◌≡◌, ℕ, ◌<◌, ◌==◌, ◌++◌, Bool, false, List, length, take, Option, None, Some}
 use Rattle.x7_words.specs.Word.{AreBytes}
 use Rattle.x7_packets.specs.History.{Access, History}
@@ -113,7 +113,8 @@ pub record StandsBefore (p : Past) (access : Access) (place : ℕ) (older : Hist
   pub stands : StandsIn (history_at p) access place older
   pub before : place < taken_at p
 
--- the attempt of a boot goes on: startup hasn't ended, and neither a fault that a fallback follows nor an IPROG ended it
+-- the attempt of a boot goes on: startup hasn't ended, and neither a fault that
+-- a fallback follows nor an IPROG ended it
 pub record BootGoesOn (p : Past) : Type 0 where
   pub boots : IsAttempt p.kept
   pub not_started : ((state_at p).phase == 7) ≡ false
@@ -134,14 +135,16 @@ GivesNone old new more = OfPast old (λ p. reads_given_at new (later p more) ≡
 abbrev pub GivesWordsNext : DeviceState → DeviceState → List ℕ → ReadBufState → ReadBufState → Type 0
 GivesWordsNext old new more before after = OfPast old (λ p. (words : List ℕ) × (after ≡ with_words before words) × (reads_given_at new (later p more) ≡ reads_given_at old p ++ words))
 
--- what a feed answers: that nothing stopped the device and no word is due, the stop at the last byte, with no word due either, or that nothing stopped it, a word is due and the buffer full
+-- what a feed answers: that nothing stopped the device and no word is due, the stop at the last byte, with no word due
+-- either, or that nothing stopped it, a word is due and the buffer full
 abbrev pub Answers : Past → DeviceState → ReadBufState → Fed → Type 0
 Answers p d read fed.All = (stop_at p ≡ None) × NoWordDue d
 Answers p d read (fed.Stopped n) = (f : Fault) × (stop_at p ≡ Some (record { place = length p.bytes; why = stop.Fault f })) × NoWordDue d
 Answers p d read (fed.Iprog n) = (stop_at p ≡ Some (record { place = length p.bytes; why = stop.Iprog })) × NoWordDue d
 Answers p d read (fed.ReadFull n) = (stop_at p ≡ None) × (0 < due_count d.registers.due) × IsFull read
 
--- what a feed up to the end of startup answers: that no word is due, where startup has ended, and else what a feed answers
+-- what a feed up to the end of startup answers: that no word is due, where
+-- startup has ended, and else what a feed answers
 abbrev pub AnswersUntil : Past → DeviceState → ReadBufState → UntilStarted → Type 0
 AnswersUntil p d read (until.Started n) = NoWordDue d
 AnswersUntil p d read (until.Fed answer) = Answers p d read answer

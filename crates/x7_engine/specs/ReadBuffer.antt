@@ -44,7 +44,8 @@ abbrev pub HoldsWithinMost : Option ℕ → List ℕ → Type 0
 HoldsWithinMost None words = words ≡ []
 HoldsWithinMost (Some most) words = length words ≤ most
 
--- where a buffer has its words: nowhere (it drops each, or has room for none), in place, or in a vector with room for the most
+-- where a buffer has its words: nowhere (it drops each, or has room for none), in
+-- place, or in a vector with room for the most
 abbrev pub words_in : Room → List ℕ
 words_in room.Nothing = []
 words_in room.Full = []

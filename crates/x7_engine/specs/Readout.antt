@@ -22,8 +22,8 @@ pub record Gave (c : Course) (d e : RegistersState) (old new : ReadBufState) : T
   pub words_are : words_left c.part c.history d.due ≡ more ++ words_left c.part c.history e.due
   pub stands : RegistersStandFor c.part c.kept e c.history c.taken
 
--- registers that can give the words due: nothing stopped them, their frames are those of a device of the part, and they stand
--- for a history
+-- registers that can give the words due: nothing stopped them, their frames are those of a device
+-- of the part, and they stand for a history
 pub record MayGive (part : PartData) (d : Registers) : Type 0 where
   pub going : d.stop ≡ None
   pub frames : FramesFit part d.frames

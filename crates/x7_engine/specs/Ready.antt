@@ -7,7 +7,8 @@ use Rattle.x7_engine.specs.declared.stop.Stop.{Stop}
 use Rattle.x7_engine.specs.Entering.{Change}
 use Rattle.x7_engine.specs.Standing.{due_count}
 
--- registers that can take a word: nothing stopped them, no word is due, and their frames are those of a device of the part
+-- registers that can take a word: nothing stopped them, no word is due, and their
+-- frames are those of a device of the part
 pub record AreReady (part : PartData) (d : Registers) : Type 0 where
   pub going : d.stop ≡ None
   pub none_due : due_count d.due ≡ 0

@@ -42,7 +42,8 @@ abbrev pub writes_check : ℕ → Access → Bool
 writes_check check (Write register w) = register == number_of Crc && w == check
 writes_check check _ = false
 
--- an access at which the check was right: RCRC is executed, or the running check is written to CRC; here by the command executed and the check
+-- an access at which the check was right: RCRC is executed, or the running check is written to CRC;
+-- here by the command executed and the check
 abbrev pub clears_by : Option ℕ → ℕ → Access → Bool
 clears_by command check access = is_command (code_of Rcrc) command || writes_check check access
 
@@ -82,7 +83,8 @@ abbrev pub wrote_iprog : History → Bool
 wrote_iprog [] = false
 wrote_iprog (e ∷ h) = writes_command (code_of Iprog) e.access || wrote_iprog h
 
--- a word written to this register does more than stay and be folded; a write to LOUT isn't folded (this project's choice)
+-- a word written to this register does more than stay and be folded; a write to
+-- LOUT isn't folded (this project's choice)
 abbrev pub effective_registers : List Reg
 effective_registers = Crc ∷ Far ∷ Fdri ∷ Cmd ∷ Ctl0 ∷ Lout ∷ Mfwr ∷ Cbc ∷ Idcode ∷ Timer ∷ Ctl1 ∷ []
 

@@ -15,7 +15,8 @@ use Rattle.x7_engine.specs.State.{stop_in}
 use Rattle.x7_flow.specs.Controls.{forbids_reading}
 use Rattle.x7_engine.specs.Watching.{timer_held, turns_on}
 
--- After these bytes there is no stop, and the sync word is searched. Startup hasn't begun or has ended, SBITS are 00, no shutdown is pending and no watchdog runs.
+-- After these bytes there is no stop, and the sync word is searched. Startup hasn't begun or has ended, SBITS are 00,
+-- no shutdown is pending and no watchdog runs.
 pub record AtRest (part : PartData) (kept : Kept) (bytes : List ℕ) : Type 0 where
   pub no_stop : stop_in part kept bytes ≡ None
   pub searching : is_synced (reading_of bytes).place ≡ false

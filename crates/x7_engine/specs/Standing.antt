@@ -1,5 +1,5 @@
--- What a device stands for: all bytes that it took since its reset. Each stored value is that of the bytes (this project's
--- choice).
+-- What a device stands for: all bytes that it took since its reset. Each stored value is
+-- that of the bytes (this project's choice).
 use Rattle.std.specs.Prelude.{◌≡◌, ℕ, ◌<◌, ◌≤◌, ◌==◌, ◌+◌, ◌++◌, ◌-◌, ◌^◌, min, Bool, true, false, if◌then◌else◌, take, List, [], ◌∷◌, length, slice_index, Option, None, Some, IsSome, replicate}
 use Rattle.x7_words.specs.Word.{AreBytes}
 use Rattle.x7_packets.specs.Cutter.{CutterState, CutterStandsFor}
@@ -52,7 +52,8 @@ pub record ProgressState : Type 0 where
   pub ghigh : Bool
   pub iprog : Bool
 
--- the stored values of a device's registers: the last words written by register number, those under MASK, the check and the flags, what the boot history says of the attempt, the stop, the words that are due, and the frames
+-- the stored values of a device's registers: the last words written by register number, those under MASK, the check and
+-- the flags, what the boot history says of the attempt, the stop, the words that are due, and the frames
 pub record RegistersState : Type 0 where
   pub words : List ℕ
   pub controls : ControlsState
@@ -107,7 +108,8 @@ older (e ∷ h) = h
 abbrev pub frames_history : Option Stop → History → History
 frames_history why h = if is_refusal why then older h else h
 
--- The frames are those of a history, of whose last read `due` words are due. Where the last access was refused, the frames stand for the history before it; memory and FAR are the same with and without it.
+-- The frames are those of a history, of whose last read `due` words are due. Where the last access was refused, the
+-- frames stand for the history before it; memory and FAR are the same with and without it.
 pub record FramesAre (part : PartData) (f : FramesState) (why : Option Stop) (h : History) (due : ℕ) : Type 0 where
   pub stands : FramesStandFor part f (frames_history why h) due
   pub memory_same : AreSame (memory_of part (frames_history why h)) (memory_of part h)
@@ -158,7 +160,8 @@ pub record IsProgress (idcode : ℕ) (d : ProgressState) (h : History) : Type 0 
 abbrev pub IsNextAccess : ℕ → History → Type 0
 IsNextAccess place h = (0 < place) × Placed (place - 1) h
 
--- The registers are those of a history with n bytes taken: there is no stop in them, or it came at the last one. A word that ends at a firing of the watchdog is not of the history.
+-- The registers are those of a history with n bytes taken: there is no stop in them, or it came at the last one. A word
+-- that ends at a firing of the watchdog is not of the history.
 pub record RegistersStandFor (part : PartData) (kept : Kept) (d : RegistersState) (h : History) (n : ℕ) : Type 0 where
   pub places : Placed n h
   pub words : AreLastWords kept d.words h
@@ -200,7 +203,8 @@ EndsWords (Word register w) from n count = (n < from + 4) × (from + 4 ≡ n + c
 EndsWords (Body register bytes) from n count = (from ≡ n) × (length bytes.now ≡ count)
 EndsWords _ from n count = Unit {0}
 
--- a device: its part, its stored values, whether the flash has ended in this attempt, the bytes taken since its reset, and those that it was ever fed
+-- a device: its part, its stored values, whether the flash has ended in this attempt, the bytes taken since its reset,
+-- and those that it was ever fed
 pub record DeviceState : Type 0 where
   pub part : PartData
   pub cutter : CutterState
@@ -233,7 +237,8 @@ NoWordDue d = due_count d.registers.due ≡ 0
 abbrev pub with_wrap : DeviceState → DeviceState
 with_wrap d = record d { wrapped = true }
 
--- the flash may end here: the attempt is one of a boot that hasn't started, failed or left by an IPROG, and no word is due
+-- the flash may end here: the attempt is one of a boot that hasn't started,
+-- failed or left by an IPROG, and no word is due
 pub record MayWrapWith (d : RegistersState) : Type 0 where
   pub boots : d.kind ≡ Bench → ⊥
   pub not_started : (d.clock.startup.phase == 7) ≡ false
@@ -256,7 +261,8 @@ pub record AreDue (part : PartData) (d : RegistersState) (h : History) (reads : 
   pub given : List ℕ
   pub all : reads ≡ given ++ words_left part h d.due
 
--- A device took all of `bytes` since a reset that kept `kept`: it has no stop, or its stop came at the last byte. Where it stopped, its cutter may be past that byte.
+-- A device took all of `bytes` since a reset that kept `kept`: it has no stop, or its stop came at the last byte. Where
+-- it stopped, its cutter may be past that byte.
 pub record DeviceStandsFor (part : PartData) (kept : Kept) (wrapped : Bool) (d : DeviceState) (bytes : List ℕ) : Type 0 where
   pub fits : AreBytes bytes
   pub part_is : d.part ≡ part

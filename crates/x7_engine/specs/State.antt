@@ -122,6 +122,7 @@ reads_of part kept bytes = read_out part kept (history_taken part kept bytes)
 abbrev pub memory_in : PartData → Kept → List ℕ → FrameMap
 memory_in part kept bytes = memory_of part (history_taken part kept bytes)
 
--- the state while `due` words of frame data of the last read are still to be given: FAR is that of the words given so far
+-- the state while `due` words of frame data of the last read are still to be
+-- given: FAR is that of the words given so far
 abbrev pub state_owing : PartData → Kept → Bool → List ℕ → ℕ → Regs
 state_owing part kept wrapped bytes due = record (state_of part kept wrapped bytes) { far = far_in part (less due (flow_of part (history_taken part kept bytes))) }

@@ -5,15 +5,16 @@ use Rattle.x7_engine.specs.Past.{GivesNone, OfPast, TakesJust}
 use Rattle.x7_engine.specs.Standing.{DeviceState, NoWordDue, fed_more, fed_of}
 use Rattle.x7_engine.specs.UntilStarted.{CommandsLast}
 
--- a device that can take the bytes of a piece from a place on: nothing stopped it, no word is due, and the count of its bytes has room for them
+-- a device that can take the bytes of a piece from a place on: nothing stopped it, no word is due, and
+-- the count of its bytes has room for them
 pub record MayTake (d : DeviceState) (piece : List ℕ) (at : ℕ) : Type 0 where
   pub within : at ≤ length piece
   pub going : d.registers.stop ≡ None
   pub none_due : NoWordDue d
   pub fits : d.taken + (length piece - at) ≤ 2 ^ 63
 
--- in a turn a device keeps its part, takes just the bytes `more` and gives no word, and none of the bytes but the last ends a
--- write to CMD, a read or a word that is no header
+-- in a turn a device keeps its part, takes just the bytes `more` and gives no word, and none of the bytes but the last
+-- ends a write to CMD, a read or a word that is no header
 pub record TakesTurn (old new : DeviceState) (more : List ℕ) : Type 0 where
   pub part : new.part ≡ old.part
   pub stands : TakesJust old new more
@@ -38,8 +39,8 @@ pub record IsUsedUp (d : DeviceState) (piece : List ℕ) (at : ℕ) : Type 0 whe
 abbrev pub HasFewerCalls : DeviceState → DeviceState → List ℕ → ℕ → ℕ → Type 0
 HasFewerCalls old new piece from to = new.registers.stop ≡ None → calls_left new.cutter (length piece - to) < calls_left old.cutter (length piece - from)
 
--- a device took a turn over the bytes of a piece between two places, and used up the piece, where it says so, or else has
--- fewer calls of its cutter left in it
+-- a device took a turn over the bytes of a piece between two places, and used up the piece, where it says so, or else
+-- has fewer calls of its cutter left in it
 pub record TookTurn (old new : DeviceState) (piece : List ℕ) (from to : ℕ) (says_so : Bool) : Type 0 where
   pub turned : Turned old new piece from to
   pub used_up : IsTrue says_so → IsUsedUp new piece to

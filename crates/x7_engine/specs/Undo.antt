@@ -77,7 +77,8 @@ pub record KeepsDevice (u : UndoState) (d : DeviceState) : Type 0 where
   pub frames : KeepsFrames d.part u.frames d.registers.frames
   pub frames_fit : FramesFit d.part d.registers.frames
 
--- What is kept leads from a device back to an old one: the values are those of the old device, and the memory of the new one, with the kept frame put into it, is that of the old one.
+-- What is kept leads from a device back to an old one: the values are those of the old device, and the memory of the
+-- new one, with the kept frame put into it, is that of the old one.
 pub record Back (u : UndoState) (new old : DeviceState) : Type 0 where
   pub part : new.part ≡ old.part
   pub values : KeepsValues u old

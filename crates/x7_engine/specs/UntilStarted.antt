@@ -1,4 +1,5 @@
--- Feeding up to the end of startup: the bytes taken are those up to the least one at which startup has ended (this project's choice).
+-- Feeding up to the end of startup: the bytes taken are those up to the least one at which
+-- startup has ended (this project's choice).
 use Rattle.std.specs.Prelude.{◌≡◌, ℕ, ◌<◌, ◌==◌, ◌++◌, Bool, true, false, List, [], ◌∷◌, length, take}
 use Rattle.x7_packets.specs.History.{Access, Bad, History, Read, Write, history_of}
 use Rattle.x7_part.specs.Part.{PartData}

@@ -116,13 +116,14 @@ value_or_zero c (Some reg) = register_value c false None reg
 abbrev pub read_value : Course → ℕ → ℕ
 read_value c register = value_or_zero c (reg_with register)
 
--- the value of a register while `due` words of frame data of the last read are still to be given: FAR is that of the words
--- given so far
+-- the value of a register while `due` words of frame data of the last read are still to be
+-- given: FAR is that of the words given so far
 abbrev pub value_owing : Course → Option Fault → ℕ → Reg → ℕ
 value_owing c fault due Far = far_in c.part (less due (flow_of c.part c.history))
 value_owing c fault due reg = register_value c false fault reg
 
--- the words of a read that isn't refused: words of frame data, or the register's value as often as it asks, taken where its header ends
+-- the words of a read that isn't refused: words of frame data, or the register's value as
+-- often as it asks, taken where its header ends
 abbrev pub words_answered : Course → ℕ → ℕ → List ℕ
 words_answered c register count =
     if reads_frame_data c.history (Read register count) then frames_read c.part c.history count else replicate count (read_value c register)

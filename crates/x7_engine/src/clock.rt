@@ -133,7 +133,8 @@ impl Clock {
         self.watchdog.byte(eos)
     }
 
-    /// Takes bytes one by one, up to the end of startup or the one at which the watchdog fires: the number of that byte, from 1.
+    /// Takes bytes one by one, up to the end of startup or the one at which the
+    /// watchdog fires: the number of that byte, from 1.
     fn each(&mut self, part: &Part, count: usize) -> Option<usize>
         ensures { TicksOn part.now (clock_in self.old) (clock_in self.new) count result }
     {
@@ -197,7 +198,8 @@ impl Clock {
         !self.watchdog.is_running()
     }
 
-    /// Takes bytes before the word that they complete, up to the one at which the watchdog fires: the number of that byte, from 1.
+    /// Takes bytes before the word that they complete, up to the one at which the
+    /// watchdog fires: the number of that byte, from 1.
     #[inline(always)]
     pub(crate) fn bytes(&mut self, part: &Part, count: usize) -> Option<usize>
         ensures { TicksOn part.now (clock_in self.old) (clock_in self.new) count result }
@@ -221,8 +223,8 @@ impl Clock {
         }
     }
 
-    /// Takes `count` bytes, where startup or the watchdog may run, up to the one at which the watchdog fires: the number of that
-    /// byte, from 1.
+    /// Takes `count` bytes, where startup or the watchdog may run, up to the one at which the
+    /// watchdog fires: the number of that byte, from 1.
     #[inline(never)]
     fn move_on(&mut self, part: &Part, count: usize) -> Option<usize>
         ensures { TicksOn part.now (clock_in self.old) (clock_in self.new) count result }

@@ -118,7 +118,8 @@ fn cause_with(cause: Option<Cause>, wrapped: bool) -> Option<Cause>
 }
 
 impl Device {
-    /// A device of this part as after a reset on the bench. The call takes room for all frames, and no other call takes memory.
+    /// A device of this part as after a reset on the bench. The call takes room for
+    /// all frames, and no other call takes memory.
     pub fn new(alloc: Global, part: &Part) -> Result<Device, NoMemory>
         ensures stands { IfOk result (λ d. DeviceStandsFor part.now on_the_bench false d []) }
         ensures fed { IfOk result (λ d. fed_of d ≡ 0) }
@@ -233,8 +234,8 @@ impl Device {
         self.fed = self.fed.saturating_add((count - left) as u64);
     }
 
-    /// Takes the next run of the piece from place `at` on, moves `at` past the bytes taken, and says whether the piece is
-    /// used up.
+    /// Takes the next run of the piece from place `at` on, moves `at` past the bytes
+    /// taken, and says whether the piece is used up.
     fn take_run(&mut self, piece: &[u8], at: &mut usize) -> bool
         requires { MayTake self.old piece.now at.old }
         ensures { TookTurn self.old self.new piece.now at.old at.new result }
@@ -249,8 +250,8 @@ impl Device {
         is_done(used_up, self.registers.stop())
     }
 
-    /// Takes the write of one word that comes next, where it lies whole in the piece and no byte moves the clock. Moves `at`
-    /// past it, and says whether there is one.
+    /// Takes the write of one word that comes next, where it lies whole in the piece and no byte moves the clock. Moves
+    /// `at` past it, and says whether there is one.
     #[inline(always)]
     fn take_write(&mut self, piece: &[u8], at: &mut usize) -> bool
         requires { MayTake self.old piece.now at.old }
@@ -273,8 +274,8 @@ impl Device {
         true
     }
 
-    /// Takes a write of one word at once, where one comes next that lies whole in the piece and no byte moves the clock, or else as
-    /// `take_next` does.
+    /// Takes a write of one word at once, where one comes next that lies whole in the piece and no byte moves the
+    /// clock, or else as `take_next` does.
     #[inline(always)]
     fn turn(&mut self, piece: &[u8], at: &mut usize) -> bool
         requires { MayTake self.old piece.now at.old }
@@ -286,8 +287,8 @@ impl Device {
         self.take_next(piece, at)
     }
 
-    /// Takes the no-ops that come next, and then the next run. Moves `at` past the bytes taken, and says whether the piece is
-    /// used up.
+    /// Takes the no-ops that come next, and then the next run. Moves `at` past the bytes
+    /// taken, and says whether the piece is used up.
     #[inline(never)]
     fn take_next(&mut self, piece: &[u8], at: &mut usize) -> bool
         requires { MayTake self.old piece.now at.old }
@@ -300,8 +301,8 @@ impl Device {
         self.take_run(piece, at)
     }
 
-    /// Takes the bytes of a piece, up to one that stops the device or to the first read whose words have no room. After a stop
-    /// the device takes nothing.
+    /// Takes the bytes of a piece, up to one that stops the device or to the first read whose words have no room. After
+    /// a stop the device takes nothing.
     pub fn feed(&mut self, piece: &[u8], read: &mut ReadBuf) -> Fed
         requires { self.old.taken + length piece.now ≤ 2 ^ 63 }
         ensures within { taken_in (length piece.now) result ≤ length piece.now }
@@ -340,8 +341,8 @@ impl Device {
         self.registers.frames.memory()
     }
 
-    /// The registers and all else that a report shows but the memory. While words of frame data are still due, FAR is that of
-    /// the words given so far.
+    /// The registers and all else that a report shows but the memory. While words of frame data are still due, FAR is
+    /// that of the words given so far.
     pub fn state(&self) -> Regs
         ensures owing { OfPast self.now (λ p. result ≡ state_owing p.part p.kept p.wrapped p.bytes (frames_due self.now.registers.due)) }
         ensures value { OfPast self.now (λ p. NoWordDue self.now → result ≡ state_at p) }

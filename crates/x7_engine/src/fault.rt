@@ -5,7 +5,8 @@
 pub enum Fault {
     /// A word in a header's place is no header.
     Packet(u32),
-    /// A written idcode differs from the part's in the low 28 bits, or a word for frames or START came before a matching one: `got` is then 0.
+    /// A written idcode differs from the part's in the low 28 bits, or a word for frames or START came before a
+    /// matching one: `got` is then 0.
     Id {
         /// The part's idcode.
         want: u32,

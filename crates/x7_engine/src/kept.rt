@@ -4,7 +4,8 @@ ghost use Rattle.x7_engine.specs.Kept.{is_fallback};
 
 use x7_regs::{Attempt, Kind};
 
-/// What a device keeps over a reset (this project's choice): three registers, the kind of its boot attempt, and the attempt before.
+/// What a device keeps over a reset (this project's choice): three registers, the kind of
+/// its boot attempt, and the attempt before.
 #[derive(Clone, Copy, Debug, PartialEq, Eq)]
 pub struct Kept {
     /// The word of WBSTAR.

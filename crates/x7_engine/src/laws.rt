@@ -25,8 +25,8 @@ ghost use Rattle.x7_engine.specs.Timeout.{before_byte, fires_at};
 ghost use Rattle.x7_engine.specs.Watching.{fires};
 ghost use Rattle.x7_engine.specs.declared.kept.Kept.{Kept};
 
-/// The stop of bytes is the first one: it comes at one of them, fewer bytes have none, and with further bytes the stop, the
-/// state and the words read out stay.
+/// The stop of bytes is the first one: it comes at one of them, fewer bytes have none, and with further bytes the stop,
+/// the state and the words read out stay.
 pub fn stops_are_final()
     ensures place { (part : PartData) (kept : Kept) (bytes : List ℕ) (s : Stopped) → AreBytes bytes → stop_in part kept bytes ≡ Some s → (0 < s.place) × (s.place ≤ length bytes) }
     ensures before { (p : Past) (more : List ℕ) (s : Stopped) → AreBytes (p.bytes ++ more) → stop_at (later p more) ≡ Some s → length p.bytes < s.place → stop_at p ≡ None }
@@ -46,8 +46,8 @@ pub fn phases_are_the_greatest_begun()
     ensures { (part : PartData) (h : History) (n : ℕ) → IsPhaseOf part.lock part.matched (startup_progress h n) (phase_of part h n) }
 {}
 
-/// A shutdown is pending where SHUTDOWN was executed since the check was last cleared, which takes it; and GHIGH_B is 1 where the
-/// latest of LFRM, AGHIGH and a taken shutdown is LFRM.
+/// A shutdown is pending where SHUTDOWN was executed since the check was last cleared, which takes it; and GHIGH_B is 1
+/// where the latest of LFRM, AGHIGH and a taken shutdown is LFRM.
 pub fn shutdowns_and_ghigh()
     ensures pending { (h : History) → IsTrue (is_pending h) ↔ IsPending h }
     ensures taken { (h : History) (access : Access) → IsTrue (takes_shutdown h access) ↔ (IsTrue (clears_check h access) × IsPending h) }
@@ -69,13 +69,14 @@ pub fn stops_are_first()
         → why_at_byte part kept bytes n ≡ None }
 {}
 
-/// The watchdog fires at a byte that has it on, where four times TIMER's value of the bytes after the last load had it on.
+/// The watchdog fires at a byte that has it on, where four times TIMER's value of
+/// the bytes after the last load had it on.
 pub fn watchdog_fires()
     ensures { (part : PartData) (kept : Kept) (bytes : List ℕ) (n : ℕ) → AreBytes bytes → 0 < n → n ≤ length bytes → fires part kept (before_byte bytes n) n ≡ fires_at part kept bytes n }
 {}
 
-/// Startup has begun only where START was executed on a matched device and DESYNC after it, and each check and each idcode
-/// written before the stop was right.
+/// Startup has begun only where START was executed on a matched device and DESYNC after it, and each check and each
+/// idcode written before the stop was right.
 pub fn checks_before_startup()
     ensures started { (p : Past) → AreBytes p.bytes → 0 < (state_at p).phase → HasStarted p.part.idcode (history_at p) (taken_at p) }
     ensures checks { (p : Past) (w place : ℕ) (older : History) → StandsBefore p (word_to Crc w) place older → w ≡ running_check older }
@@ -101,23 +102,24 @@ pub fn reads_grow()
     ensures { (part : PartData) (kept : Kept) (bytes more : List ℕ) → AreBytes (bytes ++ more) → (rest : List ℕ) × (reads_of part kept (bytes ++ more) ≡ reads_of part kept bytes ++ rest) }
 {}
 
-/// The end of the flash shows in BOOTSTS alone: where no fault that a fallback follows ended the attempt of a boot, by the
-/// wrap bit.
+/// The end of the flash shows in BOOTSTS alone: where no fault that a fallback follows
+/// ended the attempt of a boot, by the wrap bit.
 pub fn wraps_show_in_bootsts()
     ensures alone { (part : PartData) (kept : Kept) (bytes : List ℕ) → state_of part kept true bytes ≡ record (state_of part kept false bytes) { bootsts = (state_of part kept true bytes).bootsts } }
     ensures bit { (part : PartData) (kept : Kept) (bytes : List ℕ) → IsAttempt kept → cause_in part kept bytes ≡ None
         → bootsts_in part kept true bytes ≡ bootsts_in part kept false bytes + 2 ^ 6 }
 {}
 
-/// Bytes that ask the same at the same places, as those after two gaps do, bring a device to the same stop, state and memory.
+/// Bytes that ask the same at the same places, as those after two gaps do, bring a
+/// device to the same stop, state and memory.
 pub fn alike_bytes_do_alike()
     ensures stop { (part : PartData) (kept : Kept) (one other : List ℕ) → AreAlike one other → stop_in part kept one ≡ stop_in part kept other }
     ensures memory { (part : PartData) (kept : Kept) (one other : List ℕ) → AreAlike one other → memory_in part kept one ≡ memory_in part kept other }
     ensures state { (part : PartData) (kept : Kept) (one other : List ℕ) → AreAlike one other → (wrapped : Bool) → state_of part kept wrapped one ≡ state_of part kept wrapped other }
 {}
 
-/// A fallback does the same whatever its device kept over the reset: it has no watchdog, and kept words show in their own
-/// registers alone.
+/// A fallback does the same whatever its device kept over the reset: it has no watchdog, and kept
+/// words show in their own registers alone.
 pub fn fallbacks_do_alike()
     ensures stop { (part : PartData) (one other : Kept) (bytes : List ℕ) → AreFallbacks one other → stop_in part one bytes ≡ stop_in part other bytes }
     ensures memory { (part : PartData) (one other : Kept) (bytes : List ℕ) → AreFallbacks one other → memory_in part one bytes ≡ memory_in part other bytes }
@@ -125,7 +127,8 @@ pub fn fallbacks_do_alike()
         → without_kept (state_of part one wrapped bytes) ≡ without_kept (state_of part other wrapped bytes) }
 {}
 
-/// A fallback waits for the sync word without end: bytes without it, however many, stop nothing, and startup doesn't begin.
+/// A fallback waits for the sync word without end: bytes without it, however many,
+/// stop nothing, and startup doesn't begin.
 pub fn fallbacks_wait_for_the_sync_word()
     ensures stop { (part : PartData) (kept : Kept) (bytes : List ℕ) → AreBytes bytes → is_fallback kept.kind ≡ true → HasNoSync bytes → stop_in part kept bytes ≡ None }
     ensures phase { (part : PartData) (kept : Kept) (wrapped : Bool) (bytes : List ℕ) → AreBytes bytes → is_fallback kept.kind ≡ true → HasNoSync bytes → (state_of part kept wrapped bytes).phase ≡ 0 }

@@ -80,7 +80,8 @@ fn first_of(why: Option<Stop>, refused: Option<RunFault>) -> Option<Stop>
     }
 }
 
-/// The registers of a device, its clock, what stopped it, its frames, and the words of a read that are still to be read out.
+/// The registers of a device, its clock, what stopped it, its frames, and the words
+/// of a read that are still to be read out.
 #[derive(Drop)]
 pub(crate) struct Registers {
     pub(crate) words: Words,
@@ -232,7 +233,8 @@ impl Registers {
         }
     }
 
-    /// Takes bytes before the word that they complete, up to the one at which the watchdog fires. Says how many are left.
+    /// Takes bytes before the word that they complete, up to the one at which
+    /// the watchdog fires. Says how many are left.
     #[inline(always)]
     pub(crate) fn tick(&mut self, part: &Part, count: usize) -> usize
         requires going { self.old.stop ≡ None }
@@ -267,8 +269,8 @@ impl Registers {
         0
     }
 
-    /// Takes words written to a register in which they stay, and are folded, up to a byte at which the watchdog fires. Says
-    /// how many bytes these are.
+    /// Takes words written to a register in which they stay, and are folded, up to a byte at which the watchdog fires.
+    /// Says how many bytes these are.
     fn pass_all(&mut self, part: &Part, plain: PlainNumber, bytes: &[u8]) -> usize
         requires ready { AreReady part.now self.old }
         requires whole { length bytes.now % 4 ≡ 0 }
@@ -283,8 +285,8 @@ impl Registers {
         taken
     }
 
-    /// Takes frame data or copies of a matched device at once: the words before the first that is refused or in which the
-    /// watchdog fires. Says how many bytes these are.
+    /// Takes frame data or copies of a matched device at once: the words before the first that is refused or in which
+    /// the watchdog fires. Says how many bytes these are.
     fn frame_words(&mut self, part: &Part, reg: Reg, bytes: &[u8]) -> usize
         requires ready { AreReady part.now self.old }
         requires register { TakesWords reg }
@@ -385,8 +387,8 @@ impl Registers {
         0
     }
 
-    /// Takes a run of a stream, `count` bytes of which are new, up to the byte that stops the device. Says how many of the
-    /// last bytes are left.
+    /// Takes a run of a stream, `count` bytes of which are new, up to the byte that stops the device.
+    /// Says how many of the last bytes are left.
     #[inline(always)]
     pub(crate) fn run(&mut self, part: &Part, run: Cut<'_>, count: usize) -> usize
         requires ready { AreReady part.now self.old }

@@ -150,8 +150,8 @@ impl<'r, R: Files> Files for FailingFiles<'r, R> {
     }
 }
 
-/// What an erase of the first sector and a program of its second byte answer, and the first two bytes as a read finds them
-/// then, if they are read.
+/// What an erase of the first sector and a program of its second byte answer, and the first two bytes as
+/// a read finds them then, if they are read.
 fn written<F: Flash>(flash: &mut F, name: &str) -> Option<(bool, bool, Option<[u8; 2]>)> {
     let Ok(()) = flash.attach(name) else {
         return None;

@@ -83,7 +83,8 @@ after_open f rest refusal (Err fault) =
       absences = missing_after fault f.absences;
     }
 
--- a read gave the first n bytes of the buffer and took them from the file, and gave none only at the end or with no room
+-- a read gave the first n bytes of the buffer and took them from the file, and
+-- gave none only at the end or with no room
 abbrev pub ReadGives : Option (List ℕ) → Option (List ℕ) → List ℕ → ℕ → Type 0
 ReadGives old new buf n = Consumes old new (take n buf) × (n ≡ 0 → 0 < length buf → IsAtEnd new)
 
@@ -176,7 +177,8 @@ known_flash f = record {
   moments = 0;
 }
 
--- the flash after an attach with this answer, which opened what the new one has: each fault and each absence is counted once
+-- the flash after an attach with this answer, which opened what the new one has:
+-- each fault and each absence is counted once
 abbrev pub after_opening : {F : Type 0} → RealFlash F → Result (Unit {0}) SelectFault → RealFlash F → RealFlash F
 after_opening old (Ok _) new = record old { file = new.file; extent = new.extent; refusal = new.refusal }
 after_opening old (Err fault) new =
@@ -187,8 +189,8 @@ after_opening old (Err fault) new =
       absences = missing_after fault old.absences;
     }
 
--- A write of the attached file was tried, and left it open: where the answer is Ok what was asked of the file was done, else a
--- fault of writes is counted.
+-- A write of the attached file was tried, and left it open: where the answer is Ok what was asked of the file was done,
+-- else a fault of writes is counted.
 pub record TriesWrite {F : Type 0} (asked : F → F → Type 0) (old : RealFlash F) (answer : Result (Unit {0}) FailedCall) (new : RealFlash F) : Type 0 where
   pub written : OnOk answer (WhileOpen asked old.file new.file)
   pub is_open : is_some new.file ≡ true

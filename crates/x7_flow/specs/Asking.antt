@@ -2,8 +2,8 @@
 use Rattle.std.specs.Prelude.{ℕ}
 use Rattle.x7_regs.specs.declared.command.Command.{Command}
 
--- an access loads FAR with a word, writes a command to CMD, writes a word of frame data, copies the source, reads `count` words
--- of frame data, or asks nothing of the pipeline
+-- an access loads FAR with a word, writes a command to CMD, writes a word of frame data, copies the source, reads
+-- `count` words of frame data, or asks nothing of the pipeline
 pub data Asked : Type 0 where
   Load : (word : ℕ) → Asked
   Order : (command : Command) → Asked

@@ -1,4 +1,5 @@
--- The registers that decide what a word of frame data does: MASK and the registers under it, and IDCODE (UG470, configuration registers).
+-- The registers that decide what a word of frame data does: MASK and the registers under it, and
+-- IDCODE (UG470, configuration registers).
 -- A history stands with its newest access first.
 use Rattle.std.specs.Prelude.{ℕ, ◌-◌, ◌%◌, ◌^◌, ◌==◌, ◌&&◌, ◌||◌, Bool, false, not, if◌then◌else◌, [], ◌∷◌, bit_and, bit_or}
 use Rattle.x7_words.specs.Word.{field_of}

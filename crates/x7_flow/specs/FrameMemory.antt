@@ -1,4 +1,5 @@
--- The memory of a history: zero frames, over which each access puts its frames (UG470, frame data input and multi-frame write registers).
+-- The memory of a history: zero frames, over which each access puts its frames (UG470, frame
+-- data input and multi-frame write registers).
 use Rattle.std.specs.Prelude.{ℕ, ◌&&◌, if◌then◌else◌, List, [], ◌∷◌, length, slice_index_or}
 use Rattle.x7_packets.specs.History.{History}
 use Rattle.x7_part.specs.Part.{PartData, frame_words}
@@ -18,7 +19,8 @@ abbrev pub newest_put : PartData → ℕ → List (List ℕ) → List PlanRow
 newest_put part base [] = []
 newest_put part base (frame ∷ older) = at_slot (slice_index_or (slots_from part base) (length older) End) frame []
 
--- the pairs by which the written frames of a run grow at one word more: where it completes a frame, that of the frame before it
+-- the pairs by which the written frames of a run grow at one word more: where it
+-- completes a frame, that of the frame before it
 unfoldable pub written_frames_more : PartData → ℕ → List ℕ → List PlanRow
 written_frames_more part base run = if completes part run then newest_put part base (frames_of (frame_words part) run) else []
 

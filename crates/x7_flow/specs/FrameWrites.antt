@@ -15,7 +15,8 @@ use Rattle.x7_flow.specs.Flow.{run_of, source_of}
 use Rattle.x7_flow.specs.Later.{after_load, has_mfw}
 use Rattle.x7_flow.specs.Words.{with_copies, with_frame_data}
 
--- the word of FAR and its place, the place where the words of FDRI begin, and their frames: some, and the last one, which stays in the buffer
+-- the word of FAR and its place, the place where the words of FDRI begin, and their frames: some,
+-- and the last one, which stays in the buffer
 pub record FrameWrite : Type 0 where
   pub far : ℕ
   pub far_place : ℕ
@@ -61,7 +62,8 @@ pub record MfwAfter (part : PartData) (h : History) (word : ℕ) (frames : List 
   pub wcfg : command_held h ≡ code_of command.Wcfg
   pub mfw : word % 2 ^ 5 ≡ code_of command.Mfw
 
--- words of MFWR after a FAR load: the word of FAR and its place, the place where the words of MFWR begin, the first of them and the others, and the frame that they put
+-- words of MFWR after a FAR load: the word of FAR and its place, the place where the words of MFWR begin, the first of
+-- them and the others, and the frame that they put
 pub record FrameCopies : Type 0 where
   pub far : ℕ
   pub far_place : ℕ
@@ -78,7 +80,8 @@ with_frame_copies x h = with_copies x.place (x.first ∷ x.words) (after_load x.
 abbrev pub pair_copied : PartData → FrameCopies → List PlanRow
 pair_copied part x = copied (loaded_base part x.far) (Some x.frame)
 
--- a device takes the words of MFWR after a history: it takes copies, the frame is the source, and the word of FAR an address
+-- a device takes the words of MFWR after a history: it takes copies, the frame is
+-- the source, and the word of FAR an address
 pub record TakesCopies (part : PartData) (h : History) (x : FrameCopies) : Type 0 where
   pub takes : takes_copies (settings_of part.idcode h) ≡ true
   pub mfw : has_mfw h ≡ true

@@ -1,5 +1,5 @@
--- A history that goes on from settings and a flow: what it makes of them, and the pairs that it puts, the newest first (this
--- project's choice).
+-- A history that goes on from settings and a flow: what it makes of them, and the pairs that it puts,
+-- the newest first (this project's choice).
 use Rattle.std.specs.Prelude.{◌≡◌, ℕ, Bool, true, List, [], ◌∷◌, ◌++◌, Option, None}
 use Rattle.x7_packets.specs.History.{History, Write, command_held, entry}
 use Rattle.x7_part.specs.Part.{PartData}

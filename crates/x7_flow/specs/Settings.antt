@@ -1,4 +1,5 @@
--- What decides whether an access concerns frames: whether the device is matched, MASK, CTL0 and CMD (UG470, configuration registers).
+-- What decides whether an access concerns frames: whether the device is matched, MASK, CTL0
+-- and CMD (UG470, configuration registers).
 use Rattle.std.specs.Prelude.{◌≡◌, ℕ, ◌%◌, ◌^◌, ◌==◌, ◌||◌, ◌&&◌, not, Bool, true, if◌then◌else◌, [], ◌∷◌}
 use Rattle.x7_part.specs.Part.{PartData}
 use Rattle.x7_packets.specs.History.{Access, Write, History, command_held, written}

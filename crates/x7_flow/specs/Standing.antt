@@ -1,4 +1,5 @@
--- A pipeline and a memory that stand for a history, and the words of frame data that are read out (this project's choice).
+-- A pipeline and a memory that stand for a history, and the words of frame data
+-- that are read out (this project's choice).
 use Rattle.std.specs.Prelude.{◌≡◌, ℕ, zero, suc, ◌+◌, ◌-◌, ◌<◌, ◌≤◌, false, true, List, [], ◌∷◌, Option, None, Some}
 use Rattle.x7_packets.specs.History.{Access, Entry, History, Read, Write, entry}
 use Rattle.x7_regs.specs.declared.register.Reg.{Reg}
@@ -29,7 +30,8 @@ pub record HasFlow (part : PartData) (p : PipelineData) (f : Flow) : Type 0 wher
 abbrev pub less : ℕ → Flow → Flow
 less due f = record f { given = f.given - due }
 
--- the pipeline stands for the flow of a history, of whose last read `due` words are still due, and the memory is the history's
+-- the pipeline stands for the flow of a history, of whose last read `due` words are
+-- still due, and the memory is the history's
 pub record AreFramesAfter (part : PartData) (p : PipelineData) (frames : List (List ℕ)) (h : History) (due : ℕ) : Type 0 where
   pub flow : HasFlow part p (less due (flow_of part h))
   pub memory : AreSame (frame_at part frames) (memory_of part h)

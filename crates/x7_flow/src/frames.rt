@@ -37,8 +37,8 @@ impl Model for Frames {
 }
 
 impl Frames {
-    /// The frames of a device after a reset: zeros. The call takes room for all frames of the part, and no other call takes
-    /// memory.
+    /// The frames of a device after a reset: zeros. The call takes room for all frames of
+    /// the part, and no other call takes memory.
     pub fn new(alloc: Global, part: &Part) -> Result<Frames, NoMemory>
         ensures stands { IfOk result (λ frames. FramesStandFor part.now frames [] 0) }
         ensures part { IfOk result (FramesFit part.now) }
@@ -87,8 +87,8 @@ impl Frames {
         )
     }
 
-    /// Takes words written to FDRI or MFWR on a matched device, four bytes each, up to the first that is refused. The answer is
-    /// the number of words looked at, a refused one included, and the fault.
+    /// Takes words written to FDRI or MFWR on a matched device, four bytes each, up to the first that is refused. The
+    /// answer is the number of words looked at, a refused one included, and the fault.
     pub fn write_bytes(
         &mut self,
         settings: FrameSettings,
@@ -147,8 +147,8 @@ impl Frames {
         (bytes.len() / 4, None)
     }
 
-    /// The fault of a read of frame data, before a word of it is given. Where there is none, its words are due from now on, and
-    /// `read_word` gives them.
+    /// The fault of a read of frame data, before a word of it is given. Where there is none, its words are due from now
+    /// on, and `read_word` gives them.
     pub fn fault_of_read(&self, part: &Part) -> Option<RunFault>
         ensures { (h : History) (register count place : ℕ) → ReadsData h register count → FramesStandFor part.now self.now h 0 →
             AfterRead part.now self.now h (read_entry register count place) result }

@@ -64,8 +64,8 @@ pub fn flows_go_by_accesses()
     ensures source { (part : PartData) (h : History) → source_of part h ≡ frame_taken part h }
 {}
 
-/// One access more: frames that do what it asks stand for the longer history; a read that begins changes them not, and all
-/// the words of that read are due. Frames of a part that stand for one history, with as many words due, are equal.
+/// One access more: frames that do what it asks stand for the longer history; a read that begins changes them not, and
+/// all the words of that read are due. Frames of a part that stand for one history, with as many words due, are equal.
 pub fn frames_stand_for_one_more()
     ensures one_more { (part : PartData) (old new : FramesState) (e : Entry) (h : History) →
         FramesDid part old new h e → FramesStandFor part old h 0 → FramesStandFor part new (e ∷ h) 0 }
@@ -117,7 +117,8 @@ pub fn written_frames_land_in_order()
     ensures copies { (part : PartData) (earlier : History) (x : FrameCopies) → TakesCopies part earlier x → MemoryGets part (with_frame_copies x earlier) earlier (pair_copied part x) }
 {}
 
-/// Accesses that move no frame, and a read of frame data of which words are due: it has the flow of a read without them.
+/// Accesses that move no frame, and a read of frame data of which words are
+/// due: it has the flow of a read without them.
 pub fn quiet_accesses_move_no_frame()
     ensures pairs { (part : PartData) (s : Settings) (f : Flow) (later : History) → AreQuiet later → pairs_from part s f later ≡ [] }
     ensures memory { (part : PartData) (later earlier : History) → AreQuiet later → AreSame (memory_of part (later ++ earlier)) (memory_of part earlier) }
@@ -126,7 +127,8 @@ pub fn quiet_accesses_move_no_frame()
     ensures all_due { (part : PartData) (h : History) (register count n : ℕ) → ReadsData h register count → less count (flow_read part h register count n) ≡ flow_of part h }
 {}
 
-/// A write of whole frames after a FAR load leaves the memory overridden by a plan of these frames at the slots in order.
+/// A write of whole frames after a FAR load leaves the memory overridden by a
+/// plan of these frames at the slots in order.
 /// MFW right after WCFG takes the last frame of the run, and words of MFWR keep it and the settings.
 pub fn written_frames_are_a_plan()
     ensures write { (part : PartData) (earlier : History) (x : FrameWrite) → TakesWrite part earlier x → Rises 0 (addresses_in part) →
@@ -144,7 +146,8 @@ pub fn memory_has_frames()
     ensures { (part : PartData) (h : History) → 0 < frame_words part → HasFrames part (memory_of part h) }
 {}
 
-/// Words of frame data for which there are slots: none is refused, and where they begin a run the memory gets what they land.
+/// Words of frame data for which there are slots: none is refused, and where they
+/// begin a run the memory gets what they land.
 pub fn words_have_room()
     ensures none { (part : PartData) (n : ℕ) (ws : List ℕ) (h : History) → TakesFrames part h → HasAddress part h → HasRoomFor part h ws → NoneRefused part reg.Fdri n ws h }
     ensures memory { (part : PartData) (n : ℕ) (ws : List ℕ) (h : History) → TakesFrames part h → run_of part h ≡ [] →

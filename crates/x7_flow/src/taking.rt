@@ -68,7 +68,8 @@ pub(crate) fn take(
     }
 }
 
-/// Takes words written to MFWR at once, four bytes each: the first puts the source, and each later one would put it there again.
+/// Takes words written to MFWR at once, four bytes each: the first puts the source, and
+/// each later one would put it there again.
 /// The answer is the number of words looked at, a refused one included, and the fault.
 pub(crate) fn take_copies(
     bytes: &[u8],

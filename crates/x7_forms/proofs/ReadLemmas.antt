@@ -168,7 +168,8 @@ before_before : (prefix bytes : List ℕ) (more : Result (List ℕ) Event) → p
 before_before prefix bytes (Ok more) = ap Ok (sym (append_assoc prefix bytes more))
 before_before prefix bytes (Err event) = refl
 
--- what is due for the streams that are left, after what was read, with so much room left; a mishap of a name changes nothing of it, or is the event
+-- what is due for the streams that are left, after what was read, with so much room left; a mishap of a name changes
+-- nothing of it, or is the event
 pub record RestsIn (t : Known) (names : List (List ℕ)) (limit : ℕ) (left : List (List ℕ)) (room : ℕ) (whole : List ℕ) : Type 0 where
   pub is : data_of t limit names ≡ put_before whole (data_of t room left)
   pub steady : (m : Mishap) → (data_of (with_mishap m t) limit names ≡ put_before whole (data_of (with_mishap m t) room left)) ⊎ (data_of (with_mishap m t) limit names ≡ Err (mishap_event m))

@@ -1,4 +1,5 @@
--- What ends a command before its text is whole: the reasons, each with its status, its cause and its words (this project's choice).
+-- What ends a command before its text is whole: the reasons, each with its status, its
+-- cause and its words (this project's choice).
 use Rattle.std.specs.Prelude.{ℕ, List, [], ◌++◌, Option, None, Some, codes, decimal}
 use Rattle.x7_part.specs.declared.fault.PartFault.{PartFault}
 use Rattle.x7_part.specs.declared.fault.PartFault.TheVariants as part

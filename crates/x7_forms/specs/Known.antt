@@ -1,4 +1,5 @@
--- What is known of the inputs and of a flash, and what steps over it come to: reading an input, a part file, a stream, or streams one after the other (this project's choice).
+-- What is known of the inputs and of a flash, and what steps over it come to: reading an input, a part file, a stream,
+-- or streams one after the other (this project's choice).
 use Rattle.std.specs.Prelude.{ℕ, List, [], ◌∷◌, ◌++◌, ◌-◌, Option, None, Some, Result, Ok, Err, Bool, if◌then◌else◌, drop, length, nat_lt, take}
 use Rattle.std.specs.Str.{bytes_eq}
 use Rattle.x7_header.specs.Header.{Contents}
@@ -29,7 +30,8 @@ pub record Known : Type 0 where
   pub inputs : List ℕ → Found
   pub flash : List ℕ → Option Found
 
--- a whole text, and whether what it reports stopped: a device at a fault, a scan that differed, or a boot that no attempt started
+-- a whole text, and whether what it reports stopped: a device at a fault, a scan that
+-- differed, or a boot that no attempt started
 pub record Answer : Type 0 where
   pub stopped : Bool
   pub text : List ℕ
@@ -46,7 +48,8 @@ data_by name bytes (Err header.Raw) = Ok bytes
 data_by name bytes (Err (header.Cut place)) = Err (bad_input name (input.Byte place))
 data_by name bytes (Err (header.Field place)) = Err (bad_input name (input.Byte place))
 
--- the data of a stream: the bytes after its header where it has one; a header that is cut, or that has another byte in a letter's place, is a bad input
+-- the data of a stream: the bytes after its header where it has one; a header that is cut, or that has another byte in
+-- a letter's place, is a bad input
 abbrev pub data_in : List ℕ → List ℕ → Result (List ℕ) Event
 data_in name bytes = data_by name bytes (header_at bytes)
 
@@ -58,13 +61,15 @@ within name limit bytes = if nat_lt limit (length bytes) then Err (too_large nam
 abbrev pub stream_limit : ℕ
 stream_limit = 67108864
 
--- the bytes of an input that is read whole and has no more than `limit` of them; one that fails may be over the limit before it does
+-- the bytes of an input that is read whole and has no more than `limit` of them; one that
+-- fails may be over the limit before it does
 abbrev pub taken_whole : List ℕ → ℕ → Found → Result (List ℕ) Event
 taken_whole name limit (Held bytes) = within name limit bytes
 taken_whole name limit Absent = Err (missing name)
 taken_whole name limit (Broken bytes) = and_so (within name limit bytes) (λ _. Err (reading_failed name))
 
--- the input of this name, where it is known: its bytes, if it has no more than `limit` of them, or the event of one that isn't read
+-- the input of this name, where it is known: its bytes, if it has no more than `limit` of
+-- them, or the event of one that isn't read
 abbrev pub whole_in : Known → ℕ → List ℕ → Result (List ℕ) Event
 whole_in known limit name = taken_whole name limit (known.inputs name)
 

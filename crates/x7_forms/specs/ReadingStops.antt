@@ -23,7 +23,8 @@ abbrev pub size_in : Option (List ℕ → Option (List ℕ)) → List ℕ → �
 size_in None name = 0
 size_in (Some map) name = size_of (map name)
 
--- inputs that are within a limit together: each may have what those before it leave of the limit, as far as they are known
+-- inputs that are within a limit together: each may have what those before it
+-- leave of the limit, as far as they are known
 abbrev pub limited_together : Option (List ℕ → Option (List ℕ)) → ℕ → List (List ℕ) → List Limited
 limited_together contents limit [] = []
 limited_together contents limit (name ∷ names) = limited limit name ∷ limited_together contents (limit - size_in contents name) names
@@ -32,7 +33,8 @@ limited_together contents limit (name ∷ names) = limited limit name ∷ limite
 abbrev pub IsAbout : List ℕ → Event → Type 0
 IsAbout name event = (event ≡ no_memory) ⊎ (event.concerned ≡ name)
 
--- Reading stopped at one of these inputs, which the event names: it is the last that was asked for, no more than a byte over its limit was given of it, and no more inputs were asked for than stand up to it, nor more ends of inputs read.
+-- Reading stopped at one of these inputs, which the event names: it is the last that was asked for, no more than a byte
+-- over its limit was given of it, and no more inputs were asked for than stand up to it, nor more ends of inputs read.
 pub record StopsAt (inputs : List Limited) (old now : InputsState) (event : Event) : Type 0 where
   pub before : List Limited
   pub input : Limited

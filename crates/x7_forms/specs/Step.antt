@@ -56,7 +56,8 @@ abbrev pub DueBy : {A : Type 0} → Option Known → Mishap → (Known → Resul
 DueBy None mishap Due event = Unit {0}
 DueBy (Some known) mishap Due event = Due (with_mishap mishap known) (Err event)
 
--- The event reports a mishap that came, and where the contents are known it is due over them with that mishap: it is the first event then.
+-- The event reports a mishap that came, and where the contents are known it is due over them with
+-- that mishap: it is the first event then.
 pub record IsOfMishap (A : Type 0) (known : Option Known) (Came : Mishap → Type 0) (Due : Known → Result A Event → Type 0) (event : Event) : Type 0 where
   pub mishap : Mishap
   pub came : Came mishap
@@ -79,7 +80,8 @@ abbrev pub IsDecided : {A : Type 0} → Result A Event → Type 0
 IsDecided (Ok a) = Unit {0}
 IsDecided (Err event) = DecidedBy (cause_of_event event)
 
--- what contents that are not known may come to: an event that lies in them; which name it has, and which reason, a step says by a clause of its own
+-- what contents that are not known may come to: an event that lies in them; which name it has, and which
+-- reason, a step says by a clause of its own
 abbrev pub PossibleBy : Cause → Type 0
 PossibleBy Contents = Unit {0}
 PossibleBy _ = ⊥
@@ -102,11 +104,13 @@ IsCausedBy known Came Due got = IsFromOutside known Came Due got ⊎ IsDue known
 abbrev pub IsCaused : {A : Type 0} → Option Known → (Mishap → Type 0) → (Known → Result A Event) → Result A Event → Type 0
 IsCaused known Came due got = IsCausedBy known Came (λ t result. due t ≡ result) got
 
--- whatever the flash holds, the result of a step has a cause: it is due by what the inputs held before, or by that with a mishap that came
+-- whatever the flash holds, the result of a step has a cause: it is due by what the inputs held
+-- before, or by that with a mishap that came
 abbrev pub AnswersBy : {A : Type 0} → InputStep → (Known → Result A Event → Type 0) → Result A Event → Type 0
 AnswersBy step Due got = (flash : Option (List ℕ)) → IsCausedBy (with_inputs step.before.contents flash) (CameIn step) Due got
 
--- whatever the flash holds, the result of a step has a cause: it is what the function says of the inputs before it, or of these with a mishap that came
+-- whatever the flash holds, the result of a step has a cause: it is what the function says of the inputs before it, or
+-- of these with a mishap that came
 abbrev pub AnswersAs : {A : Type 0} → InputStep → (Known → Result A Event) → Result A Event → Type 0
 AnswersAs step due got = AnswersBy step (λ known end. due known ≡ end) got
 

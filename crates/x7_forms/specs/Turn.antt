@@ -1,4 +1,5 @@
--- Inputs that are read turn by turn (this project's choice). A turn reads as many bytes as a buffer holds, and what it read is used before the next turn.
+-- Inputs that are read turn by turn (this project's choice). A turn reads as many bytes as a buffer holds, and what it
+-- read is used before the next turn.
 use Rattle.std.specs.Prelude.{◌≡◌, ◌≢◌, ◌<◌, ◌≤◌, ◌⊎◌, ◌++◌, ℕ, Bool, true, false, List, [], Some, Ok, Err, IfSome, drop, length, ◌+◌}
 use Rattle.x7_words.specs.Input.{InputsState, AtEnd, Fails, Misses, Stays, Takes, preceded}
 use Rattle.x7_header.specs.Header.{Contents, EndsInHeader, HasOtherLetterAt, HaveHeader, fixed_bytes, header_bytes, longest_header}
@@ -16,7 +17,8 @@ turn_bytes = 65536
 abbrev pub longest_beginning : ℕ
 longest_beginning = longest_header + turn_bytes
 
--- the most bytes that one turn of a stream that is played reads: no fewer than a header may have, so that the first turn judges it
+-- the most bytes that one turn of a stream that is played reads: no fewer than a header
+-- may have, so that the first turn judges it
 abbrev pub play_turn_bytes : ℕ
 play_turn_bytes = 266240
 
@@ -41,7 +43,8 @@ pub record IsAt (name bytes : List ℕ) (now : InputsState) : Type 0 where
   pub asked : IfSome now.asked (λ kept. kept ≡ name)
   pub given : now.given ≤ length bytes
 
--- No input was asked for since, and of the selected one at most `left` bytes and one more were given, and its end read once at most.
+-- No input was asked for since, and of the selected one at most `left` bytes and one more
+-- were given, and its end read once at most.
 pub record GivesFew (old : InputsState) (left : ℕ) (new : InputsState) : Type 0 where
   pub asked : new.asked ≡ old.asked
   pub selects : new.selects ≡ old.selects
@@ -53,7 +56,8 @@ pub record StandsAt (name : List ℕ) (limit : ℕ) (now : InputsState) : Type 0
   pub asked : IfSome now.asked (λ kept. kept ≡ name)
   pub given : now.given ≤ limit + 1
 
--- The open input, of which `left` bytes more are within the limit, was not read to its end: it failed before the limit was passed, or one byte over the limit was taken.
+-- The open input, of which `left` bytes more are within the limit, was not read to its end: it failed before the limit
+-- was passed, or one byte over the limit was taken.
 abbrev pub Unread : InputsState → List ℕ → InputsState → ℕ → Event → Type 0
 Unread old name new left event =
     ((event ≡ reading_failed name) × Breaks old (left + 1) new)
@@ -119,7 +123,8 @@ pub record IsBadBeginning (old new : InputsState) (name : List ℕ) (event : Eve
   -- no byte after the one at which the header is refused
   pub soon : length bytes ≤ place + 1
 
--- where the rest of an open input is known, and begins with a header that has another byte in a letter's place, that byte was not given
+-- where the rest of an open input is known, and begins with a header that has another byte in
+-- a letter's place, that byte was not given
 abbrev pub NoLetterGiven : InputsState → InputsState → Type 0
 NoLetterGiven old new = (bytes : List ℕ) (place : ℕ) → old.rest ≡ Some bytes → HasOtherLetterAt bytes place → new.given ≤ old.given + place
 

@@ -11,7 +11,8 @@ use x7_words::{Failed, Sink, write_pieces};
 /// Why an input has no reading. Lines count from 1, bytes from 0.
 #[derive(Clone, Copy, Debug, Drop, PartialEq, Eq)]
 pub enum InputFault {
-    /// The byte of a stream's header that should be a field's letter and is not, or the stream's length where it ends inside the header.
+    /// The byte of a stream's header that should be a field's letter and is not, or the
+    /// stream's length where it ends inside the header.
     Byte(u64),
     /// The first line outside the grammar.
     Line(u64),

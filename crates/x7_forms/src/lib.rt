@@ -1,5 +1,5 @@
-//! What the forms of the command `x7` stand on: their words, how inputs are read, the part of a part file, and the line that
-//! is said where there is no whole text.
+//! What the forms of the command `x7` stand on: their words, how inputs are read, the part of a part file, and the line
+//! that is said where there is no whole text.
 #![tactic(auto)]
 
 mod bad_input;

@@ -23,8 +23,8 @@ pub const TEXT_LIMIT: usize = 536_870_912;
 /// How many bytes one turn of a whole input or of a listing reads.
 pub const TURN: usize = 65_536;
 
-/// How many bytes a turn asks for, where `left` bytes are still within the limit and the buffer holds `room`: at most one
-/// byte over the limit.
+/// How many bytes a turn asks for, where `left` bytes are still within the limit and the buffer holds
+/// `room`: at most one byte over the limit.
 fn turn_len(left: usize, room: usize) -> usize
     ensures some { 0 < room → 0 < result }
     ensures within { result ≤ room }
@@ -135,8 +135,8 @@ pub fn next_turn<'w, I: Inputs>(
     })
 }
 
-/// Appends the rest of the open input, of which `limit` bytes are within the limit. Of a larger rest one byte more is read
-/// at most.
+/// Appends the rest of the open input, of which `limit` bytes are within the limit. Of a
+/// larger rest one byte more is read at most.
 fn read_rest<'w, I: Inputs>(
     inputs: &mut I,
     name: &'w str,
@@ -184,8 +184,8 @@ pub fn read_whole<'w, I: Inputs>(
     Ok(whole)
 }
 
-/// Reads the rest of the open input to its end, of which `limit` bytes are within the limit; after the last turn there is
-/// no rest.
+/// Reads the rest of the open input to its end, of which `limit` bytes are within the
+/// limit; after the last turn there is no rest.
 pub fn skip_rest<'w, I: Inputs>(
     inputs: &mut I,
     name: &'w str,

@@ -45,7 +45,8 @@ impl<'p> FrameLines<'p> {
         }
     }
 
-    /// Takes line `n`, after which nothing more may be taken where there is an error. Memory is wanting only for a good line.
+    /// Takes line `n`, after which nothing more may be taken where there is an
+    /// error. Memory is wanting only for a good line.
     pub fn take(&mut self, n: u64, line: &[u8]) -> Result<(), FramesFault>
         ensures part { self.new.part ≡ self.old.part }
         ensures taken { OnOk result (TakesLine self.old.part line.now self.old.rows self.new.rows) }

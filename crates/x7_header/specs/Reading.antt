@@ -1,4 +1,5 @@
--- Reading a header from left to right by its layout, with the first fault that is met (not in UG470: the layout that the vendor's tool writes).
+-- Reading a header from left to right by its layout, with the first fault that is met (not in UG470:
+-- the layout that the vendor's tool writes).
 use Rattle.std.specs.Prelude.{◌≡◌, ℕ, ◌+◌, ◌-◌, ◌*◌, ◌<◌, List, [], ◌∷◌, ◌++◌, length, take, drop, Result, Ok, Err, nat_le, nat_lt, nat_eq, max, ◌==◌, if◌then◌else◌}
 use Rattle.std.specs.List.{starts_with}
 use Rattle.x7_words.specs.Word.{word_of_bytes}
@@ -41,14 +42,16 @@ field_at total field bytes = do
   after ← letter_at total field.letter bytes
   content_at total field.kind after
 
--- how many bytes of the part that is being read a field of text lacks of which this is a prefix: of its letter, of its count, of its text
+-- how many bytes of the part that is being read a field of text lacks of which this is a prefix:
+-- of its letter, of its count, of its text
 abbrev pub text_lacks : List ℕ → ℕ
 text_lacks [] = 1
 text_lacks (letter ∷ []) = 2
 text_lacks (letter ∷ high ∷ []) = 1
 text_lacks (letter ∷ high ∷ low ∷ bytes) = high * 256 + low - length bytes
 
--- how many bytes of the part that is being read a field of a number lacks of which this is a prefix: of its letter, of its four bytes
+-- how many bytes of the part that is being read a field of a number lacks of which this is a
+-- prefix: of its letter, of its four bytes
 abbrev pub number_lacks : List ℕ → ℕ
 number_lacks [] = 1
 number_lacks (letter ∷ bytes) = 4 - length bytes
@@ -103,7 +106,8 @@ abbrev pub lacks_of : Kind → List ℕ → ℕ
 lacks_of Kind.Counted = text_lacks
 lacks_of Kind.Four = number_lacks
 
--- what a field lacks by what its reading gave: `lack` where it is cut, what the fields after it lack where it is whole, and 0 where its letter is wrong
+-- what a field lacks by what its reading gave: `lack` where it is cut, what the fields after it lack where it is whole,
+-- and 0 where its letter is wrong
 abbrev pub lacks_by : ℕ → Result (List ℕ × List ℕ) HeaderFault → (List ℕ → ℕ) → ℕ
 lacks_by lack (Ok field) later = later field.1
 lacks_by lack (Err (fault.Cut total)) later = lack
@@ -118,11 +122,13 @@ text_of_letter letter = record { letter = letter; kind = Kind.Counted }
 abbrev pub number_of_letter : ℕ → Field
 number_of_letter letter = record { letter = letter; kind = Kind.Four }
 
--- what the bytes lack that begin with the text of this letter: of that field, or of the fields after it where it is whole
+-- what the bytes lack that begin with the text of this letter: of that field, or
+-- of the fields after it where it is whole
 abbrev pub text_wants : ℕ → List ℕ → (List ℕ → ℕ) → ℕ
 text_wants letter bytes later = lacks_by (text_lacks bytes) (field_at (length bytes) (text_of_letter letter) bytes) later
 
--- what the bytes lack that begin with the number of this letter: of that field, or of the fields after it where it is whole
+-- what the bytes lack that begin with the number of this letter: of that field, or
+-- of the fields after it where it is whole
 abbrev pub number_wants : ℕ → List ℕ → (List ℕ → ℕ) → ℕ
 number_wants letter bytes later = lacks_by (number_lacks bytes) (field_at (length bytes) (number_of_letter letter) bytes) later
 

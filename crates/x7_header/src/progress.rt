@@ -46,7 +46,8 @@ fn after_text(bytes: &[u8], letter: u8) -> Result<&[u8], usize>
     }
 }
 
-/// Nothing where the field of a number of this letter is whole, or how many bytes it waits for: none where its letter is wrong.
+/// Nothing where the field of a number of this letter is whole, or how many bytes it
+/// waits for: none where its letter is wrong.
 fn after_number(bytes: &[u8], letter: u8) -> Result<(), usize>
     ensures waits { IfErr result (λ lack. FieldWaits (number_of_letter letter) bytes.now lack) }
     ensures lacks { MatchResult result
@@ -60,7 +61,8 @@ fn after_number(bytes: &[u8], letter: u8) -> Result<(), usize>
     }
 }
 
-/// Nothing where the fields after the fixed bytes are whole, or how many bytes they wait for: none where a letter is wrong.
+/// Nothing where the fields after the fixed bytes are whole, or how many bytes
+/// they wait for: none where a letter is wrong.
 fn after_fields(bytes: &[u8]) -> Result<(), usize>
     ensures waits { IfErr result (λ lack. LayoutWaits bytes.now lack) }
     ensures whole { IfOk result (λ _. fields_lack layout bytes.now ≡ 0) }
@@ -73,13 +75,14 @@ fn after_fields(bytes: &[u8]) -> Result<(), usize>
     after_number(rest, b'e')
 }
 
-/// How many bytes to read next of an input that begins with these, where they are the first bytes of a header: up to the
-/// end of the fixed bytes, of a letter, of a count, of a text or of the number, whichever is next.
+/// How many bytes to read next of an input that begins with these, where they are the first bytes of a header: up to
+/// the end of the fixed bytes, of a letter, of a count, of a text or of the number, whichever is next.
 pub fn wanted(bytes: &[u8]) -> usize
     ensures some { 0 < result }
     // At first the fixed bytes.
     ensures fixed { length bytes.now < fixed_size → length bytes.now + result ≡ fixed_size }
-    // With fewer bytes more the input would still end inside the header, so none is read after it, nor after a wrong letter.
+    // With fewer bytes more the input would still end inside the header, so none is
+    // read after it, nor after a wrong letter.
     ensures waits { EndsInHeader bytes.now → HeaderWaits bytes.now result }
     // All that is lacked is wanted at once.
     ensures lacks { result ≡ header_lacks bytes.now }

@@ -38,9 +38,11 @@ pub fn header_of(bytes: &[u8]) -> Result<Head<'_>, HeaderFault>
     ensures only { (x : Contents) (rest : List ℕ) → HaveHeader x → bytes.now ≡ header_bytes x ++ rest →
         IsOkAnd result (λ head. contents_of head ≡ x) }
     ensures raw { IsErrOf result HeaderFault.Raw ↔ ((rest : List ℕ) → bytes.now ≢ fixed_bytes ++ rest) }
-    // `Cut` comes, with the input's length, exactly where the input begins some header, has its fixed bytes, and ends inside it.
+    // `Cut` comes, with the input's length, exactly where the input begins some header,
+    // has its fixed bytes, and ends inside it.
     ensures cut { (place : ℕ) → IsErrOf result (HeaderFault.Cut place) ↔ (place ≡ length bytes.now) × EndsInHeader bytes.now }
-    // `Field` comes exactly where the bytes before the place begin a header, a letter is due there, and another byte stands there.
+    // `Field` comes exactly where the bytes before the place begin a header, a letter is
+    // due there, and another byte stands there.
     ensures field { (place : ℕ) → IsErrOf result (HeaderFault.Field place) ↔ HasOtherLetterAt bytes.now place }
     // Which fault it is, field by field.
     ensures exact { ReturnsAs (λ head. (contents_of head, head.size)) result (header_at bytes.now) }

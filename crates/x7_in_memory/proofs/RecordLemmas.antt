@@ -29,7 +29,8 @@ writes_of_more (s ∷ spans) span befores targets before target b t h k =
     let more = writes_of_more spans span (drop n befores) (drop n targets) before target (omega (arith, length-drop n befores)) (omega (arith, length-drop n targets)) h k in
     rw (prefix, target_prefix, rest, rest_target, more) refl
 
--- the writes of one span more, where the spans and their contents before and after are given as the lists that they become
+-- the writes of one span more, where the spans and their contents before and
+-- after are given as the lists that they become
 pub writes_of_push : (spans : List Span) (span : Span) (befores targets before target : List ℕ) (news : List Span) (newb newt : List ℕ)
     → news ≡ spans ++ span ∷ [] → newb ≡ befores ++ before → newt ≡ targets ++ target
     → length befores ≡ span_bytes spans → length targets ≡ span_bytes spans → length before ≡ length target → length target ≡ span.count

@@ -15,7 +15,8 @@ abbrev pub WithinOneOf : List PastWrite → List ℕ → List ℕ → Type 0
 WithinOneOf [] now found = ⊥
 WithinOneOf (write ∷ writes) now found = IsTorn write.place write.target (whole_before (write ∷ writes) now) found ⊎ WithinOneOf writes now found
 
--- The bytes `found` may have been found after a stop since `moment` writes were done: they are the present ones, or may have been found within a later write.
+-- The bytes `found` may have been found after a stop since `moment` writes were done: they are the present ones, or may
+-- have been found within a later write.
 -- What a flash had between two writes is among what may be found within the second.
 abbrev pub FoundSince : List PastWrite → List ℕ → ℕ → List ℕ → Type 0
 FoundSince past now moment found = (found ≡ now) ⊎ WithinOneOf (drop moment past) now found

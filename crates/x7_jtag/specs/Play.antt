@@ -1,4 +1,5 @@
--- Playing statements: their clocks, up to the first scan whose TDO differs from the wanted bits (this project's profile of SVF).
+-- Playing statements: their clocks, up to the first scan whose TDO differs from the
+-- wanted bits (this project's profile of SVF).
 use Rattle.std.specs.Prelude.{ℕ, zero, suc, ◌+◌, ◌-◌, ◌&&◌, not, Bool, true, false, if◌then◌else◌, List, [], ◌∷◌, ◌++◌, length, take, map, fold, Option, Some, None, ◌≡◌, ◌≤◌, ◌^◌}
 use Rattle.std.specs.List.{slice_get}
 use Rattle.x7_part.specs.Part.{PartData}
@@ -108,7 +109,8 @@ MakesClocks t d u e made = (part : PartData) (cs : List Clock) → TapStandsFor 
 abbrev pub FindsBy : TapState → DeviceState → (PartData → Port → Option ℕ) → Option ℕ → Type 0
 FindsBy t d sought found = (part : PartData) (cs : List Clock) → TapStandsFor part t d cs → found ≡ sought part (port_after part cs)
 
--- what holds of the clocks before the last ones, of each list of clocks that a tap and its device may have made which ends with these
+-- what holds of the clocks before the last ones, of each list of clocks that a tap and its
+-- device may have made which ends with these
 abbrev pub AfterClocks : TapState → DeviceState → List Clock → (PartData → List Clock → Type 0) → Type 0
 AfterClocks t d made Fact = (part : PartData) (cs : List Clock) → TapStandsFor part t d (cs ++ made) → Fact part cs
 
@@ -126,7 +128,8 @@ count_limit = 2 ^ 32
 abbrev pub statement_limit : ℕ
 statement_limit = 2 ^ 33
 
--- This many clocks more may come of a tap and a device that were new before others: a device takes at most a byte a clock.
+-- This many clocks more may come of a tap and a device that were new before
+-- others: a device takes at most a byte a clock.
 pub record MayClock (t : TapState) (d : DeviceState) (more : ℕ) : Type 0 where
   pub part : PartData
   pub before : List Clock

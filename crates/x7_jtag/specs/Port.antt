@@ -1,4 +1,5 @@
--- A test access port as a function of its clocks (IEEE 1149.1 and UG470, JTAG; what these leave free is this project's choice).
+-- A test access port as a function of its clocks (IEEE 1149.1 and UG470, JTAG; what
+-- these leave free is this project's choice).
 use Rattle.std.specs.Prelude.{ℕ, ◌+◌, ◌*◌, ◌/◌, ◌%◌, ◌^◌, ◌==◌, Bool, true, false, if◌then◌else◌, List, fold}
 use Rattle.x7_part.specs.Part.{PartData}
 use Rattle.x7_engine.specs.Kept.{on_the_bench}
@@ -11,7 +12,8 @@ use Rattle.x7_jtag.specs.Instruction.{instruction_of}
 use Rattle.x7_jtag.specs.Queue.{Queue, bit_shown, empty, offered, shifted_out}
 use Rattle.x7_jtag.specs.State.{Clock, next_of, test_logic_reset}
 
--- the state, the instruction, the register between TDI and TDO, how many of eight bits or clocks there were, and the queue
+-- the state, the instruction, the register between TDI and TDO, how many of eight
+-- bits or clocks there were, and the queue
 pub record Port : Type 0 where
   pub state : State
   pub instruction : Instruction

@@ -84,7 +84,8 @@ by_event reads q Program = empty
 abbrev pub queue_after : (List ℕ → List ℕ) → List QueueEvent → Queue
 queue_after reads es = fold (by_event reads) empty es
 
--- what holds of a queue: no more bits are out than were read out, at most the most bytes are held, these only while a word waits, and all are bytes
+-- what holds of a queue: no more bits are out than were read out, at most the most bytes are held, these
+-- only while a word waits, and all are bytes
 pub record Sound (reads : List ℕ → List ℕ) (q : Queue) : Type 0 where
   pub within : q.out ≤ bits_read reads q.given
   pub room : length q.held ≤ most_bytes_held

@@ -16,7 +16,8 @@ use Rattle.x7_jtag.specs.Port.{Port, port_after}
 use Rattle.x7_jtag.specs.Queue.{Queue}
 use Rattle.x7_jtag.specs.State.{Clock}
 
--- the stored values of a queue: the bytes held, the latest word taken of the device, and how many of its bits are still to go out
+-- the stored values of a queue: the bytes held, the latest word taken of the device, and
+-- how many of its bits are still to go out
 pub record QueueState : Type 0 where
   pub held : List ℕ
   pub word : ℕ
@@ -42,7 +43,8 @@ pub record TookOfGiven (part : PartData) (given bytes : List ℕ) : Type 0 where
   pub parts : given ≡ bytes ++ rest
   pub over : (rest ≡ []) ⊎ IsSome (stop_in part on_the_bench bytes)
 
--- how many of a piece's bytes count as given, by what a feed of the piece answers and how many it has: after a stop all of them
+-- how many of a piece's bytes count as given, by what a feed of the piece answers and
+-- how many it has: after a stop all of them
 abbrev pub given_by : Fed → ℕ → ℕ
 given_by (fed.ReadFull n) count = n
 given_by _ count = count

@@ -16,16 +16,16 @@ pub fn five_ones_reset()
     ensures { (s : State) (a b c d e : Bool) → state_after s (one a ∷ one b ∷ one c ∷ one d ∷ one e ∷ []) ≡ test_logic_reset }
 {}
 
-/// The device of a tap took the bytes that its port gives, or those up to its stop; the words due are those after the one
-/// whose bits go out; and its state is that of these bytes, where FAR counts the words that were taken.
+/// The device of a tap took the bytes that its port gives, or those up to its stop; the words due are those after the
+/// one whose bits go out; and its state is that of these bytes, where FAR counts the words that were taken.
 pub fn devices_take_what_is_given()
     ensures taken { OfEachPort (λ part d p. DeviceStandsFor part on_the_bench false d (bytes_taken part p)) }
     ensures due { OfEachPort (λ part d p. due_count d.registers.due ≡ port_words_due part p) }
     ensures shows { OfEachPort (λ part d p. state_with part p (frames_due d.registers.due) ≡ state_shown part p) }
 {}
 
-/// After any clocks a port has no more bits out than were read out, holds at most 64 bytes, and holds them only while a word
-/// waits.
+/// After any clocks a port has no more bits out than were read out, holds at most 64
+/// bytes, and holds them only while a word waits.
 pub fn queues_are_sound()
     ensures { (part : PartData) (cs : List Clock) → Sound (words_read_out part) (port_after part cs).queue }
 {}

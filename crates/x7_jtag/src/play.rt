@@ -116,8 +116,8 @@ fn first_of(found: Option<u32>, differs: bool, i: u32) -> Option<u32>
     }
 }
 
-/// The clocks of the first bits of a scan, byte by byte, as many whole bytes as come before the last bit, where the device
-/// takes them and no bit is wanted. Says how many bits.
+/// The clocks of the first bits of a scan, byte by byte, as many whole bytes as come before the last bit, where the
+/// device takes them and no bit is wanted. Says how many bits.
 fn shift_bytes(tap: &mut Tap, device: &mut Device, scan: &Scan<'_>) -> u32
     requires { MayClock tap.old device.old count_limit }
     ensures within { result ≤ length scan.now.tdi }
@@ -142,8 +142,8 @@ fn shift_bytes(tap: &mut Tap, device: &mut Device, scan: &Scan<'_>) -> u32
     at
 }
 
-/// Shifts the bits of a scan from this one on, with TMS 1 at the last, and finds the least of them at which TDO differs from
-/// what is wanted.
+/// Shifts the bits of a scan from this one on, with TMS 1 at the last, and finds the least of them
+/// at which TDO differs from what is wanted.
 fn shift_from(tap: &mut Tap, device: &mut Device, scan: &Scan<'_>, first: u32) -> Option<u32>
     requires ready { MayClock tap.old device.old (count_limit - first) }
     requires within { first ≤ length scan.now.tdi }
@@ -225,8 +225,8 @@ fn play_at(svf: &Svf, i: usize, tap: &mut Tap, device: &mut Device) -> Option<u3
     }
 }
 
-/// Plays statements on a new tap and a new device, up to the first scan whose TDO differs from the wanted bits, that scan
-/// included. It takes no memory.
+/// Plays statements on a new tap and a new device, up to the first scan whose TDO differs from the wanted bits, that
+/// scan included. It takes no memory.
 pub fn play_svf(svf: &Svf, tap: &mut Tap, device: &mut Device) -> Option<Differ>
     requires { AreNew tap.old device.old }
     ensures clocks { (part : PartData) → TapStandsFor part tap.old device.old [] → TapStandsFor part tap.new device.new (clocks_played svf.now result) }

@@ -162,7 +162,8 @@ bytes_short i [] = omega arith
 bytes_short i (x ∷ xs) =
     omega (arith, bytes_short (next_in_line 32 i) xs, byte_short i x, length-append (element_text 32 (codes "bytes ") hex_byte i x) (open_text 32 (codes "bytes ") hex_byte (next_in_line 32 i) xs))
 
--- the lines of a place are few bytes more than what is sure there: those of four bytes of a gap, or of a word that isn't whole, and line ends
+-- the lines of a place are few bytes more than what is sure there: those of four bytes of a gap, or
+-- of a word that isn't whole, and line ends
 place_short : (place : Place) → IsPlace place → length (place_text place) ≤ length (sure_place place) + 64
 place_short (Searching gap) is =
     let k : ℕ = length gap - 4 in
@@ -204,7 +205,8 @@ place_short (Synced gap packets tail) is =
       is.3,
     )
 
--- what a lister has listed, after the listings before, is at most so much shorter than those and the listing of its bytes
+-- what a lister has listed, after the listings before, is at most so much
+-- shorter than those and the listing of its bytes
 pub listing_held : (l : ListerState) (given before bytes : List ℕ) → ListerStandsFor l given before bytes → length before + length (listing_of bytes) ≤ length (given ++ l.text) + 64
 listing_held l given before bytes s =
     let r : Reading = reading_of bytes in

@@ -49,7 +49,8 @@ pub record AsmState : Type 0 where
 abbrev pub asm_state : List ℕ → ℕ → CheckerState → ℕ → AsmState
 asm_state out start checker count = record { out = out; start = start; checker = checker; count = count }
 
--- what lines gave: the bytes so far, where those of lines begin, and their check; and for how many bytes there is room in all
+-- what lines gave: the bytes so far, where those of lines begin, and their check;
+-- and for how many bytes there is room in all
 pub record Output : Type 0 where
   pub out : List ℕ
   pub start : ℕ
@@ -73,7 +74,8 @@ pub record IsSoundOutput (out : List ℕ) (start : ℕ) (checker : CheckerState)
 abbrev pub lines_after : Output → ℕ → AsmState
 lines_after b n = asm_state b.out b.start b.checker n
 
--- The texts are read but for those that are left: their bytes are these, those of lines from `start` on, whose check is kept.
+-- The texts are read but for those that are left: their bytes are these, those of
+-- lines from `start` on, whose check is kept.
 pub record TextsAreRead (all left : List (List ℕ)) (b : AsmState) : Type 0 where
   pub others : List (List ℕ)
   pub first : ℕ
@@ -98,7 +100,8 @@ abbrev pub Waits : Bool → List (List ℕ) → List (List ℕ) → AsmState →
 Waits true = TextsAreRead
 Waits false = Unbegun
 
--- The text begins with whole lines, none of which is a comment or the check; their bytes were appended, and the rest is left.
+-- The text begins with whole lines, none of which is a comment or the check; their
+-- bytes were appended, and the rest is left.
 pub record TakesLines (text rest old new : List ℕ) (count : ℕ) : Type 0 where
   pub lines : List Line
   pub fit : AllByRecursion FitsLine lines

@@ -1,4 +1,5 @@
--- What a text assembles to: the bytes of its lines, or its first bad line, or the first at which they pass a limit (this project's choice).
+-- What a text assembles to: the bytes of its lines, or its first bad line, or the first at which
+-- they pass a limit (this project's choice).
 use Rattle.std.specs.Prelude.{◌≡◌, ◌≢◌, ◌⊎◌, ℕ, ◌+◌, ◌-◌, ◌<◌, ◌≤◌, List, [], ◌∷◌, ◌++◌, length, map, fold, Result, Ok, Err}
 use Rattle.std.specs.List.{AllByRecursion}
 use Rattle.x7_text.specs.Lines.{split}

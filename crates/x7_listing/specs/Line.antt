@@ -10,7 +10,8 @@ use Rattle.x7_packets.specs.PacketWords.{no_op, sync_word, type1_read, type1_wri
 use Rattle.x7_text.specs.Digits.{hex_byte, hex_word}
 use Rattle.x7_text.specs.Row.{IsByteRow, IsWordRow, spaced}
 
--- a line: nothing, a comment, bytes, a header word, payload words, a command, or the check of the bytes of the lines before
+-- a line: nothing, a comment, bytes, a header word, payload words, a command, or
+-- the check of the bytes of the lines before
 pub data Line : Type 0 where
   Empty : Line
   Comment : (text : List ℕ) → Line

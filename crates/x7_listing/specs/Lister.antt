@@ -128,13 +128,15 @@ pub record HasListedJust (l : ListerState) (given before bytes : List ℕ) : Typ
   pub cut : CutterStandsFor l.cutter bytes sessions at
   pub listed : HasListed (listing_written l given) before sessions at l.cutter.mode
 
--- A lister of pieces: the texts given and its own are those of listings before, and then what is listed of these bytes; no sync word is still to be listed.
+-- A lister of pieces: the texts given and its own are those of listings before, and then what is listed of these bytes;
+-- no sync word is still to be listed.
 pub record ListerStandsFor (l : ListerState) (given before bytes : List ℕ) : Type 0 where
   pub tells : HasListedJust l given before bytes
   pub ready : l.cutter.mode ≡ Mode.Due → ⊥
 
--- A lister that takes the runs of a stream: the texts given and its own are those of listings before, and then what is listed of these
--- bytes, a sync word being due to be listed or not. Its own cutter took no byte, and the bytes of no whole word are held.
+-- A lister that takes the runs of a stream: the texts given and its own are those of listings before, and
+-- then what is listed of these bytes, a sync word being due to be listed or not. Its own cutter took no byte,
+-- and the bytes of no whole word are held.
 pub record TakerStandsFor (l : ListerState) (given before bytes : List ℕ) (due : Mode) : Type 0 where
   pub sessions : List Session
   pub at : Place
@@ -143,8 +145,8 @@ pub record TakerStandsFor (l : ListerState) (given before bytes : List ℕ) (due
   pub tail : l.synced ≡ true → l.held ≡ tail_of at
   pub cutter : CutterStandsFor l.cutter [] [] (Searching [])
 
--- The texts given and the lister's text are those of listings before and the listing of these bytes, and a new listing begins, of bytes
--- or of runs.
+-- The texts given and the lister's text are those of listings before and the listing of these bytes, and a
+-- new listing begins, of bytes or of runs.
 pub record Finished (l : ListerState) (given before bytes : List ℕ) : Type 0 where
   pub listing : List ℕ
   pub is : IsListing bytes listing

@@ -58,12 +58,14 @@ gap_written gap text = written_of false gap.line (take gap.count gap.held) text
 abbrev pub GapGoesOn : WrittenSoFar → WrittenSoFar → List ℕ → Type 0
 GapGoesOn old new more = (given start gap : List ℕ) → GapListed (given ++ old.text) start old.line old.held gap → GapListed (given ++ new.text) start new.line new.held (gap ++ more)
 
--- with this text what is left at an end is listed, whatever texts were given: what is written, and the bytes of no whole word
+-- with this text what is left at an end is listed, whatever texts were given: what
+-- is written, and the bytes of no whole word
 abbrev pub EndsWith : WrittenSoFar → List ℕ → List ℕ → Type 0
 EndsWith w kept text = (given before : List ℕ) (sessions : List Session) (place : Place)
     → HasListedAll (written_of w.synced w.line w.held (given ++ w.text)) before sessions place → kept ≡ tail_of place → given ++ text ≡ before ++ reading_text sessions place
 
--- with this text what is left at an end is listed, whatever texts were given, by a pen that holds the bytes of no whole word itself
+-- with this text what is left at an end is listed, whatever texts were given, by a pen
+-- that holds the bytes of no whole word itself
 abbrev pub EndsHeld : WrittenSoFar → List ℕ → Type 0
 EndsHeld w text = (given before : List ℕ) (sessions : List Session) (place : Place)
     → HasListedAll (written_of w.synced w.line w.held (given ++ w.text)) before sessions place → (w.synced ≡ true → w.held ≡ tail_of place)

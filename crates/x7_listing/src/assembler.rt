@@ -53,8 +53,8 @@ impl From<AllocError> for AsmFault {
 
 /// Assembles a text: the bytes of its header and lines, or its first line that is none or at which they pass the limit.
 ///
-/// The listing of a stream assembles back to the stream, unless memory runs out, which it does only at the first line or at
-/// one up to which all are good.
+/// The listing of a stream assembles back to the stream, unless memory runs out, which it does only at the first line
+/// or at one up to which all are good.
 pub fn assemble(alloc: Global, text: &[u8]) -> Result<Vec<u8>, AsmFault>
     ensures bytes { IfOk result (λ bytes. IsAsm text.now (Ok bytes.items)) }
     ensures fault { IfErr result (λ fault. (fault ≡ AsmFault.NoMemory) ⊎ IsAsm text.now (Err fault)) }

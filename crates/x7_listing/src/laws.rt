@@ -30,7 +30,8 @@ pub fn few_bytes_are_held()
         → length before + length bytes ≤ length (given ++ l.text) + 4 }
 {}
 
-/// A lister's text, after the listings before, is never more than 64 bytes behind the listing of the bytes that it took.
+/// A lister's text, after the listings before, is never more than 64 bytes
+/// behind the listing of the bytes that it took.
 pub fn little_text_is_held()
     ensures { (l : ListerState) (given before bytes : List ℕ) → ListerStandsFor l given before bytes
         → length before + length (listing_of bytes) ≤ length (given ++ l.text) + 64 }

@@ -17,7 +17,8 @@ base_line_size = 16
 abbrev pub row_line_size : ℕ
 row_line_size = 44
 
--- the bytes that the text of n bytes of rows takes at most, those of one block begun: four for each byte, a record 04 and a row's line
+-- the bytes that the text of n bytes of rows takes at most, those of one block begun: four
+-- for each byte, a record 04 and a row's line
 abbrev pub rows_room : ℕ → ℕ
 rows_room n = 4 * n + (base_line_size + row_line_size)
 

@@ -1,4 +1,5 @@
-//! The usual line, a data record of sixteen bytes: written at once, and read by a guess that is written again and compared.
+//! The usual line, a data record of sixteen bytes: written at once, and read by a
+//! guess that is written again and compared.
 ghost use Rattle.std.specs.Prelude.{◌≡◌, ◌<◌, ◌≤◌, ◌+◌, ◌%◌, ◌++◌, length, map, IsTrue, MatchOption};
 ghost use Rattle.std.specs.List.{flat_map, sum};
 ghost use Rattle.std.specs.Simd.Lanes.{Each1, chunk};

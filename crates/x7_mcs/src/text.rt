@@ -108,7 +108,8 @@ pub fn put_rows(text: &mut Vec<u8>, place: u32, bytes: &[u8])
     }
 }
 
-/// The text of a flash's bytes: a record 04 for each block of 65,536 bytes begun, data records of 16 bytes, and a record 01.
+/// The text of a flash's bytes: a record 04 for each block of 65,536 bytes begun,
+/// data records of 16 bytes, and a record 01.
 pub fn mcs_text(alloc: Global, flash: &[u8]) -> Result<Vec<u8>, NoMemory>
     requires { length flash.now ≤ flash_limit }
     ensures text { IfOk result (λ text. text.items ≡ mcs_text flash.now) }

@@ -1,4 +1,5 @@
--- Rows as their fields hold them: the words of all frames in one list, and each row's address and place in it (this project's choice).
+-- Rows as their fields hold them: the words of all frames in one list, and each row's address
+-- and place in it (this project's choice).
 use Rattle.std.specs.Prelude.{ℕ, ◌+◌, ◌≤◌, List, length, map, take, drop, All}
 use Rattle.x7_memory.specs.declared.rows.Row.{Row}
 use Rattle.x7_memory.specs.declared.rows.Rows.TheInside.{Inside}

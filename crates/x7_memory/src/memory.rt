@@ -13,7 +13,8 @@ use x7_words::NoMemory;
 /// The frames of a part, as they stand in a device.
 #[derive(Drop)]
 pub struct Memory {
-    /// The words of the frames that are stored, one after another. The first one is zeros. There is room for one a rank more.
+    /// The words of the frames that are stored, one after another. The first one is
+    /// zeros. There is room for one a rank more.
     words: Vec<u32>,
     /// By rank, the number of its frame among those that are stored: 0 for zeros, until other words are put there.
     numbers: Vec<u32>,
@@ -35,7 +36,8 @@ impl Model for Memory {
 }
 
 impl Memory {
-    /// The part's frames, all zeros. The call takes room for all of them, and writes one: the frame of zeros that all ranks share.
+    /// The part's frames, all zeros. The call takes room for all of them, and writes one:
+    /// the frame of zeros that all ranks share.
     pub fn new(alloc: Global, part: &Part) -> Result<Memory, NoMemory>
         ensures zeros { IfOk result (λ memory. memory ≡ zero_frames part.now) }
         ensures part { IfOk result (λ memory. AreFramesOf part.now memory) }

@@ -1,4 +1,5 @@
--- Where the sync word may stand: never over the seam of a gap and a dummy word, nor over that of a gap in which none begins, and never where its first byte is nowhere.
+-- Where the sync word may stand: never over the seam of a gap and a dummy word, nor over that of a gap in which none
+-- begins, and never where its first byte is nowhere.
 use Rattle.std.proofs.Common.{◌≡◌, ℕ, ◌==◌, true, false, List, [], ◌∷◌, ◌++◌, length, inl, inr, refl, ap, sym, subst, eq-eqb, ◌∙◌, append_assoc, arith, length-append, ◌≤◌, take, drop, take-append-drop, length-take-le}
 use Rattle.std.specs.List.{AllByRecursion}
 use Rattle.std.proofs.lemmas.List.{append_cancel_left}

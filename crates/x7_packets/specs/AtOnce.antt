@@ -1,4 +1,5 @@
--- What a cutter takes at once: no-ops in a row, a write of one word, a short write, and a short gap with the sync word after it (UG470, packet types).
+-- What a cutter takes at once: no-ops in a row, a write of one word, a short write, and a short gap with the sync word
+-- after it (UG470, packet types).
 use Rattle.std.specs.Prelude.{◌≡◌, ℕ, ◌+◌, ◌*◌, ◌^◌, ◌<◌, ◌≤◌, List, [], ◌++◌, length, take, drop, Some}
 use Rattle.std.specs.Borrow.{Bor}
 use Rattle.x7_words.specs.Word.{bytes_of_word}
@@ -49,8 +50,8 @@ pub record WritesOne (old new : CutterState) (rest : List ℕ) (register w : ℕ
   pub word : TakesAsOneRun between new (bytes_of_word w) (Word register w)
   pub none_kept : new.kept ≡ []
 
--- the bytes begin with a short write to a register other than CMD, of one word at least; taken, the write is its header and
--- then its words
+-- the bytes begin with a short write to a register other than CMD, of one word at least; taken,
+-- the write is its header and then its words
 pub record WritesFew (old new : CutterState) (rest : List ℕ) (register count : ℕ) : Type 0 where
   pub between : CutterState
   pub range : register < 32
@@ -63,8 +64,8 @@ pub record WritesFew (old new : CutterState) (rest : List ℕ) (register count :
   pub words : (run : Bor (List ℕ)) → run.now ≡ take (4 * count) (drop 4 rest) → TakesAsOneRun between new run.now (Body register run)
   pub none_kept : new.kept ≡ []
 
--- the bytes begin with a gap and the sync word after it; the bytes of both are taken as one run, and then the sync word is
--- given
+-- the bytes begin with a gap and the sync word after it; the bytes of both are taken as
+-- one run, and then the sync word is given
 pub record EndsGap (old new : CutterState) (rest : List ℕ) (count : ℕ) : Type 0 where
   pub between : CutterState
   pub near : count + 4 ≤ longest_short_gap

@@ -1,5 +1,5 @@
--- The packets of words and the reading of bytes found by hand: from the left, a word or a byte at a time (UG470, packet types
--- and sync word; the search at every byte is this project's choice).
+-- The packets of words and the reading of bytes found by hand: from the left, a word or a byte at a time (UG470, packet
+-- types and sync word; the search at every byte is this project's choice).
 use Rattle.std.specs.Prelude.{◌≡◌, ℕ, ◌-◌, ◌==◌, ◌&&◌, nat_lt, Bool, false, if◌then◌else◌, List, [], ◌∷◌, ◌++◌, length, take, drop, Option, None}
 use Rattle.std.specs.List.{fold}
 use Rattle.x7_words.specs.Word.{word_of_bytes}
@@ -21,7 +21,8 @@ with_word_after latest (p ∷ []) w =
     if nat_lt (length p.payload) (count_of p.step) then with_payload_word p w ∷ [] else p ∷ header_packet (latest_after latest p.step) w ∷ []
 with_word_after latest (p ∷ q ∷ ps) w = p ∷ with_word_after (latest_after latest p.step) (q ∷ ps) w
 
--- packets with one word more: where the last packet lacks payload words the word is its payload's, else it begins a packet
+-- packets with one word more: where the last packet lacks payload words the word
+-- is its payload's, else it begins a packet
 abbrev pub packets_with_word : List Packet → ℕ → List Packet
 packets_with_word = with_word_after None
 

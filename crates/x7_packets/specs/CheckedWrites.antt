@@ -1,5 +1,5 @@
--- What the running check is over: the writes since it was last cleared (UG470, cyclic redundancy check). A write to LOUT is
--- left out (this project's choice).
+-- What the running check is over: the writes since it was last cleared (UG470, cyclic redundancy check). A write to
+-- LOUT is left out (this project's choice).
 use Rattle.std.specs.Prelude.{ℕ, ◌==◌, ◌||◌, Bool, if◌then◌else◌, List, [], ◌∷◌}
 use Rattle.x7_regs.specs.Register.{number_of}
 use Rattle.x7_regs.specs.Command.{code_of}

@@ -1,5 +1,5 @@
--- What a cutter stands for: the reading of the bytes that it took, and what each run adds to the reading (this project's
--- choice).
+-- What a cutter stands for: the reading of the bytes that it took, and what each run
+-- adds to the reading (this project's choice).
 use Rattle.std.specs.Prelude.{◌≡◌, ℕ, ◌+◌, ◌*◌, ◌-◌, ◌/◌, ◌<◌, ◌≤◌, ◌==◌, List, [], ◌∷◌, ◌++◌, length, min, true, false, ◌⊎◌, take, drop, ◌↔◌, if◌then◌else◌}
 use Rattle.std.specs.List.{flat_map}
 use Rattle.x7_words.specs.Word.{bytes_of_word, words_of_bytes}
@@ -94,7 +94,8 @@ Adds (Body register bytes) sessions (Synced gap packets tail) new_sessions new =
 abbrev pub IsNotDue : Mode → Type 0
 IsNotDue mode = mode ≡ Mode.Due → ⊥
 
--- how a run and what the cutter is at before and after it go together: the sync word is due just after it came, and given at once
+-- how a run and what the cutter is at before and after it go together: the sync word is
+-- due just after it came, and given at once
 abbrev pub ChangesMode : Cut → Mode → Mode → Place → Type 0
 ChangesMode Need old new place = IsNotDue old × IsNotDue new
 ChangesMode (Skip bytes) old new (Searching gap) = Unit {0}
@@ -104,7 +105,8 @@ ChangesMode (Head w step) old new place = IsNotDue old × IsNotDue new
 ChangesMode (Word register w) old new place = IsNotDue old × IsNotDue new
 ChangesMode (Body register bytes) old new place = IsNotDue old × IsNotDue new
 
--- what a run is apart from the reading: a header's step is no payload, a register has a number below 32, and a lent slice has whole words, one where the register is CMD
+-- what a run is apart from the reading: a header's step is no payload, a register has a number below 32, and a lent
+-- slice has whole words, one where the register is CMD
 abbrev pub IsRun : Cut → Type 0
 IsRun (Head w (Payload register x)) = ⊥
 IsRun (Word register w) = register < 32
@@ -112,7 +114,8 @@ IsRun (Body register bytes) = (register < 32) × (0 < length bytes.now) × (leng
 IsRun (Skip bytes) = 0 < length bytes.now
 IsRun _ = Unit {0}
 
--- where no byte is kept, a payload's whole words that lie in the piece are lent at once, all of one packet (one word of CMD); a word whose bytes lie in two pieces comes by itself
+-- where no byte is kept, a payload's whole words that lie in the piece are lent at once, all of one packet (one word of
+-- CMD); a word whose bytes lie in two pieces comes by itself
 abbrev pub IsLent : CutterState → ℕ → Cut → Type 0
 IsLent c left (Word register w) = 0 < length c.kept
 IsLent c left (Body register bytes) = (c.kept ≡ []) × (length bytes.now ≡ 4 * min (min c.machine.due (left / 4)) (if register == number_of Cmd then 1 else left / 4))

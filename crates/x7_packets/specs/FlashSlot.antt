@@ -1,4 +1,5 @@
--- A slot of a flash's first sector, 32 bytes: a switch word, and packets that lead a device on (UG470, MultiBoot and fallback; that the first word switches a slot is this project's choice).
+-- A slot of a flash's first sector, 32 bytes: a switch word, and packets that lead a device on (UG470, MultiBoot and
+-- fallback; that the first word switches a slot is this project's choice).
 use Rattle.std.specs.Prelude.{ℕ, List, ◌++◌}
 use Rattle.std.specs.List.{flat_map}
 pub use Rattle.x7_words.specs.Flash.{sector_bytes}
@@ -12,8 +13,8 @@ use Rattle.x7_packets.specs.PacketWords.{command, no_op, type1_write}
 abbrev pub slot_count : ℕ
 slot_count = 2048
 
--- the 32 bytes of a slot with a switch word and a start address, four bytes each: a no-op, a write of the address to WBSTAR,
--- IPROG, and then DESYNC for a fallback, which ignores IPROG
+-- the 32 bytes of a slot with a switch word and a start address, four bytes each: a no-op, a write of the address to
+-- WBSTAR, IPROG, and then DESYNC for a fallback, which ignores IPROG
 abbrev pub flash_slot : List ℕ → List ℕ → List ℕ
 flash_slot switch start =
     switch ++ (bytes_of_word no_op ++ (bytes_of_word (type1_write (number_of Wbstar) 1) ++ (start ++ flat_map bytes_of_word (command Iprog ++ command Desync))))

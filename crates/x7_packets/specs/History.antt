@@ -1,5 +1,6 @@
 -- What a stream asks of the registers, and the commands that it executes (UG470, configuration registers).
--- Places, and the commands that a write to FAR executes again, are this project's choice where the guide leaves them open.
+-- Places, and the commands that a write to FAR executes again, are this project's
+-- choice where the guide leaves them open.
 use Rattle.std.specs.Prelude.{◌≡◌, ℕ, ◌+◌, ◌*◌, ◌-◌, ◌%◌, ◌^◌, ◌<◌, ◌≤◌, ◌==◌, nat_lt, ◌&&◌, ◌||◌, Bool, false, not, if◌then◌else◌, List, [], ◌∷◌, ◌++◌, length, Option, Some, None}
 use Rattle.std.specs.List.{flat_map}
 use Rattle.x7_regs.specs.Register.{number_of}
@@ -12,7 +13,8 @@ use Rattle.x7_packets.specs.Packet.{stepped}
 use Rattle.x7_packets.specs.Reading.{Place, Searching, Synced, Session, session_bytes}
 use Rattle.x7_packets.specs.ByHand.{Reading, reading_of}
 
--- what a stream asks of the registers: a word written, a read of some words, or a word in a header's place that is no header
+-- what a stream asks of the registers: a word written, a read of some words, or a
+-- word in a header's place that is no header
 pub data Access : Type 0 where
   Write : (register word : ℕ) → Access
   Read : (register count : ℕ) → Access
@@ -104,7 +106,8 @@ last_word register kept (e ∷ h) = written register e.access (last_word registe
 abbrev pub command_held : History → ℕ
 command_held h = last_word (number_of Cmd) (code_of Null) h % 2 ^ 5
 
--- the command that an access executes where CMD holds this one: a write to CMD its own, a write to FAR again the one held, save DESYNC and IPROG
+-- the command that an access executes where CMD holds this one: a write to CMD its own, a write to FAR
+-- again the one held, save DESYNC and IPROG
 abbrev pub executed_by : ℕ → Access → Option ℕ
 executed_by held (Write register w) =
     if register == number_of Cmd then Some (w % 2 ^ 5) else

@@ -6,7 +6,8 @@ use Rattle.x7_packets.specs.declared.header.Step.{Step}
 use Rattle.x7_packets.specs.declared.header.Step.TheVariants.{Open, Payload}
 use Rattle.x7_packets.specs.Packet.{Packet, EachPacket, IsPacket, IsWhole, latest_after, latest_of, words, stepped, meaning, NoneEnds, ends_session, ended}
 
--- a machine: how many payload words are due and for which register, and the register of the nearest type 1 read or write
+-- a machine: how many payload words are due and for which register, and the
+-- register of the nearest type 1 read or write
 pub record MachineState : Type 0 where
   pub due : ℕ
   pub register : ℕ

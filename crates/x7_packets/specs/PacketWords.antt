@@ -1,5 +1,6 @@
 -- The words of packets, and those that stand between packets (UG470, packet types; configuration sequence).
--- A header has its packet type in bits 31:29 and its opcode in 28:27; type 1 the register in 17:13 and the word count in 10:0, type 2 the word count in 26:0. Reserved bits are 0 here.
+-- A header has its packet type in bits 31:29 and its opcode in 28:27; type 1 the register in 17:13 and the word count
+-- in 10:0, type 2 the word count in 26:0. Reserved bits are 0 here.
 use Rattle.std.specs.Prelude.{ℕ, ◌+◌, ◌*◌, ◌^◌, List, [], ◌∷◌}
 use Rattle.x7_regs.specs.Command.{code_of}
 use Rattle.x7_regs.specs.Register.{number_of}

@@ -29,7 +29,8 @@ is_last (run.Tail bytes) = true
 is_last run.End = true
 is_last r = false
 
--- what a run adds to the reading of the bytes given before it: the tail are bytes of no whole word, and the end adds nothing
+-- what a run adds to the reading of the bytes given before it: the tail are bytes
+-- of no whole word, and the end adds nothing
 abbrev pub RunAdds : Run → List Session → Place → List Session → Place → Type 0
 RunAdds (run.Tail bytes) sessions (Searching gap) new_sessions new = ⊥
 RunAdds (run.Tail bytes) sessions (Synced gap packets tail) new_sessions new = (new_sessions ≡ sessions) × (tail ≡ []) × (new ≡ Synced gap packets bytes.now)

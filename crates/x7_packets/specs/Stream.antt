@@ -1,4 +1,5 @@
--- Packets over an input: what a reader of packets stands for, and what each run that it lends says (this project's choice).
+-- Packets over an input: what a reader of packets stands for, and what each run
+-- that it lends says (this project's choice).
 use Rattle.std.specs.Prelude.{◌≡◌, ℕ, ◌+◌, ◌^◌, ◌<◌, ◌≤◌, ◌↔◌, List, [], ◌++◌, length, take, drop, Bool, true, false, if◌then◌else◌, Option, Result, Ok, Err, OnErr, OnOk, ◌⊎◌}
 use Rattle.std.specs.Borrow.{Bor, Fml, MutBor}
 use Rattle.std.specs.Io.BufRead.{Rests}
@@ -25,7 +26,8 @@ with_tail tail (Synced gap packets old) = Synced gap packets tail
 abbrev pub not_given : PacketsState → List ℕ
 not_given p = if p.done then [] else p.cutter.kept
 
--- The reader stands for these bytes: those that its runs gave, those that its cutter keeps, and those that it has not taken.
+-- The reader stands for these bytes: those that its runs gave, those that its
+-- cutter keeps, and those that it has not taken.
 pub record PacketsStandFor (p : PacketsState) (bytes given : List ℕ) : Type 0 where
   pub sessions : List Session
   pub place : Place
@@ -100,8 +102,8 @@ pub record TookBytes (old new : PacketsState) (more : List ℕ) : Type 0 where
   pub count : new.taken ≡ old.taken + length more
   pub stands : (bytes given : List ℕ) → PacketsStandFor old bytes given → PacketsStandFor new (bytes ++ more) given × SameDue old.cutter.mode new.cutter.mode
 
--- The run was cut of all bytes in the buffer: its bytes and those left after it are the ones that were kept and left before,
--- after what was read; payload words and a gap's bytes among them are lent at once.
+-- The run was cut of all bytes in the buffer: its bytes and those left after it are the ones that were kept and left
+-- before, after what was read; payload words and a gap's bytes among them are lent at once.
 pub record LendsRun (old new : PacketsState) (more : List ℕ) (r : Run) : Type 0 where
   pub at : PacketsState
   pub reads : TookBytes old at more
@@ -125,13 +127,15 @@ pub record GivesRun (old new : PacketsState) (rest rest_now : Option (List ℕ))
   pub tells : ReadsAndGives old new more r
   pub end : is_last r ≡ true → AtEnd rest_now
 
--- a call may come: the input is selected unless an earlier call failed, it is at its end once the tail or the end was given, and the count of bytes taken can still grow
+-- a call may come: the input is selected unless an earlier call failed, it is at its end once the tail or the end was
+-- given, and the count of bytes taken can still grow
 pub record MayCall (p : PacketsState) (input : InputsState) : Type 0 where
   pub selected : p.failed ≡ false → input.selected ≡ true
   pub end : p.done ≡ true → AtEnd input.rest
   pub count : p.taken ≤ 2 ^ 63
 
--- what a call makes of the input, and of an earlier failure: the input stays one and is selected after a run; the call fails where a read failed in it or an earlier call failed, and then always
+-- what a call makes of the input, and of an earlier failure: the input stays one and is selected after a run; the call
+-- fails where a read failed in it or an earlier call failed, and then always
 pub record CallsOn {T : Type 0} (p : PacketsState) (old new : InputsState) (result : Result T Failed) : Type 0 where
   pub failed : OnErr result ((p.failed ≡ true) ⊎ Fails old new)
   pub selected : OnOk result (new.selected ≡ true)

@@ -11,8 +11,9 @@ ghost use Rattle.x7_packets.specs.Reading.{Searching, is_synced, tail_of};
 ghost use Rattle.x7_packets.specs.SyncWord.{HasNoSync, sync_bytes};
 ghost use Rattle.x7_packets.specs.Machine.{AllWhole};
 
-/// After bytes that end searching, bytes that begin with a dummy word are read as they are alone: the reading of both is
-/// one after the other, and so is their history, whose places are moved. The same holds of each prefix of the later bytes.
+/// After bytes that end searching, bytes that begin with a dummy word are read as they are alone: the
+/// reading of both is one after the other, and so is their history, whose places are moved. The same
+/// holds of each prefix of the later bytes.
 pub fn streams_append()
     ensures reading { (bytes more : List ℕ) → AreBytes (bytes ++ more) → MayFollow (reading_of bytes).place more
         → reading_of (bytes ++ more) ≡ after (reading_of bytes) (reading_of more) }
@@ -33,8 +34,8 @@ pub fn gaps_ask_nothing()
     ensures lacks { (bytes prefix more : List ℕ) (x : ℕ) → sync_bytes ≡ prefix ++ x ∷ more → AllByRecursion (λ b. (b == x) ≡ false) bytes → HasNoSync bytes }
 {}
 
-/// Bytes after a gap in which no sync word begins are read as they are alone: they ask the same, at places moved by the gap,
-/// and end in a session or not. So after two such gaps of a length the bytes, and each prefix, are alike.
+/// Bytes after a gap in which no sync word begins are read as they are alone: they ask the same, at places moved by the
+/// gap, and end in a session or not. So after two such gaps of a length the bytes, and each prefix, are alike.
 pub fn gaps_are_passed()
     ensures history { (gap more : List ℕ) → AreBytes (gap ++ more) → NoneBegins gap more → history_of (gap ++ more) ≡ moved (length gap) (history_of more) }
     ensures synced { (gap more : List ℕ) → AreBytes (gap ++ more) → NoneBegins gap more

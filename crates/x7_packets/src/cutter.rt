@@ -45,7 +45,8 @@ pub enum Cut<'p> {
     Head(u32, Step),
     /// A payload word whose bytes lie in two pieces, with its register.
     Word(u8, u32),
-    /// Payload words of one packet that lie in the piece, with their register: a positive multiple of four bytes, four for CMD.
+    /// Payload words of one packet that lie in the piece, with their register: a
+    /// positive multiple of four bytes, four for CMD.
     Body(u8, &'p [u8]),
 }
 
@@ -77,7 +78,8 @@ fn whole(kept: &[u8; 3], count: usize, missing: &[u8]) -> u32
 /// How many words a short write has at most.
 const MOST_SHORT_WORDS: u32 = 16;
 
-/// How many bytes must be left of a piece for a short write to be taken at once: those of the longest one and its header.
+/// How many bytes must be left of a piece for a short write to be taken at once:
+/// those of the longest one and its header.
 const LONGEST_SHORT_WRITE: usize = 68;
 
 /// How many bytes must be left of a piece for a short gap to be taken at once.
@@ -166,7 +168,8 @@ impl Cutter {
         let _ = &self.stage;
     }
 
-    /// Whether the bytes taken end in a session. A session begins just after its sync word, before the sync word is given.
+    /// Whether the bytes taken end in a session. A session begins just after its
+    /// sync word, before the sync word is given.
     pub fn is_synced(&self) -> bool
         ensures synced { (bytes : List ℕ) (sessions : List Session) (place : Place) → CutterStandsFor self.now bytes sessions place → result ≡ is_synced place }
     {
@@ -176,8 +179,8 @@ impl Cutter {
         }
     }
 
-    /// How many of the words that come next are no-ops of a session, one after the other; there may be more. To take each of
-    /// them, as a word in a header's place, leaves the cutter as it is, and no access is entered.
+    /// How many of the words that come next are no-ops of a session, one after the other; there may be more. To take
+    /// each of them, as a word in a header's place, leaves the cutter as it is, and no access is entered.
     #[inline(always)]
     pub fn nop_count(&self, rest: &[u8]) -> usize
         ensures within { 4 * result ≤ length rest.now }
@@ -192,8 +195,8 @@ impl Cutter {
         count_equal(rest, NO_OP)
     }
 
-    /// Takes the packet that comes next, where it lies whole in `rest` and is a write of one word, its header's reserved
-    /// bits 0. Gives its register and its word.
+    /// Takes the packet that comes next, where it lies whole in `rest` and is a write of one word, its header's
+    /// reserved bits 0. Gives its register and its word.
     #[inline(always)]
     pub fn take_write(&mut self, rest: &[u8]) -> Option<(u8, u32)>
         ensures some { IfSome result (λ write. WritesOne self.old self.new rest.now write.0 write.1) }
@@ -214,9 +217,9 @@ impl Cutter {
         Some((register, w))
     }
 
-    /// Takes the packet that comes next, where it is a short write to a register other than CMD, of one word at least, its
-    /// header's reserved bits 0, and `rest` is long enough for the longest short write. Gives its register and how many words
-    /// it has.
+    /// Takes the packet that comes next, where it is a short write to a register other than CMD, of one
+    /// word at least, its header's reserved bits 0, and `rest` is long enough for the longest short write.
+    /// Gives its register and how many words it has.
     #[inline(always)]
     pub fn take_short_write(&mut self, rest: &[u8]) -> Option<(u8, usize)>
         ensures some { IfSome result (λ write. WritesFew self.old self.new rest.now write.0 write.1) }
@@ -244,8 +247,8 @@ impl Cutter {
         Some((register, count as usize))
     }
 
-    /// Takes a gap that comes next, and gives the sync word after it, where both are a short gap's and begin in `rest`, which is
-    /// long enough to see that. Gives how many bytes of the gap stand in `rest`.
+    /// Takes a gap that comes next, and gives the sync word after it, where both are a short gap's and begin in `rest`,
+    /// which is long enough to see that. Gives how many bytes of the gap stand in `rest`.
     #[inline(always)]
     pub fn take_gap(&mut self, rest: &[u8]) -> Option<usize>
         ensures some { IfSome result (λ count. EndsGap self.old self.new rest.now count) }

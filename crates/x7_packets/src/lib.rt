@@ -1,4 +1,5 @@
-//! Packets of a configuration stream: the search for the sync word, the words of a session, and a stream cut into its parts.
+//! Packets of a configuration stream: the search for the sync word, the words of a
+//! session, and a stream cut into its parts.
 #![tactic(auto)]
 
 mod appended;

@@ -82,7 +82,8 @@ impl Machine {
         self.due == 0
     }
 
-    /// How many payload words of the open packet may be taken at once, at most `most`: one of CMD, since it may end the session.
+    /// How many payload words of the open packet may be taken at once, at most `most`:
+    /// one of CMD, since it may end the session.
     #[inline(always)]
     pub(crate) fn payload_words(&self, most: usize) -> usize
         ensures { result ≡ min (min self.now.due most) (if self.now.register == number_of Cmd then 1 else most) }

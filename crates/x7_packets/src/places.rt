@@ -75,8 +75,8 @@ fn sync_bits(bytes: &[u8], at: usize) -> u64
     top_bits(both(prefix, back))
 }
 
-/// A bit for each of the 32 places from `at` on where the sync word's first and last byte stand, the first place's the lowest
-/// bit: in most gaps none.
+/// A bit for each of the 32 places from `at` on where the sync word's first and last byte stand, the first place's the
+/// lowest bit: in most gaps none.
 #[inline(always)]
 fn end_bits(bytes: &[u8], at: usize) -> u64
     requires { at + places_reach ≤ length bytes.now }
@@ -104,7 +104,8 @@ pub(crate) fn first_of_places(bytes: &[u8], at: usize) -> Option<usize>
     Some(at + lowest(bits))
 }
 
-/// The first place where the sync word stands, none where it stands nowhere. The last 32 places may overlap those before.
+/// The first place where the sync word stands, none where it stands nowhere. The
+/// last 32 places may overlap those before.
 pub(crate) fn first_sync(bytes: &[u8]) -> Option<usize>
     requires { places_reach ≤ length bytes.now }
     ensures { IsFirst (OccursAt bytes.now sync_bytes) 0 (length bytes.now + 1) result }

@@ -9,8 +9,8 @@ use x7_words::bytes_of;
 /// How many slots fill a sector.
 pub const SLOT_COUNT: u64 = 2048;
 
-/// The slot with this switch word and this start address. A device that finds it by its switch word, the sync word, goes to
-/// the start address by IPROG; a fallback ignores IPROG, and comes to its DESYNC.
+/// The slot with this switch word and this start address. A device that finds it by its switch word, the sync word,
+/// goes to the start address by IPROG; a fallback ignores IPROG, and comes to its DESYNC.
 pub fn flash_slot(switch: [u8; 4], start: [u8; 4]) -> [u8; 32]
     ensures { result ≡ flash_slot switch start }
 {

@@ -35,8 +35,8 @@ pub enum Run<'b> {
     End,
 }
 
-/// What the last run is. The bytes that the run lends stand in the buffer; those of the tail are the ones that the cutter
-/// keeps.
+/// What the last run is. The bytes that the run lends stand in the buffer; those of the
+/// tail are the ones that the cutter keeps.
 #[derive(Clone, Copy)]
 pub(crate) enum Last {
     Skip,
@@ -136,8 +136,8 @@ impl Packets {
         self.taken
     }
 
-    /// Gives the next run. The call reads where it must, and no more once the tail or the end was given; the end is then given
-    /// again. After a failed read each call fails.
+    /// Gives the next run. The call reads where it must, and no more once the tail or the end was given; the end is
+    /// then given again. After a failed read each call fails.
     pub fn next_run<'b, I: Inputs>(&'b mut self, inputs: &mut I) -> Result<Run<'b>, Failed>
         requires selected { self.old.failed ≡ false → (I.state inputs.old).selected ≡ true }
         requires end { self.old.done ≡ true → AtEnd (I.state inputs.old).rest }

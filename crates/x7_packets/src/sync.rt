@@ -18,8 +18,8 @@ fn is_sync(bytes: [u8; 4]) -> bool
     bytes[0] == 0xAA && bytes[1] == 0x99 && bytes[2] == 0x55 && bytes[3] == 0x66
 }
 
-/// Where the sync word first stands among the first 32 bytes, if it is seen there. `None` says nothing: the search at length
-/// follows.
+/// Where the sync word first stands among the first 32 bytes, if it is seen there. `None`
+/// says nothing: the search at length follows.
 #[inline(always)]
 pub(crate) fn near_sync(bytes: &[u8]) -> Option<usize>
     requires { places_reach ≤ length bytes.now }
@@ -94,7 +94,8 @@ impl Matcher {
         found
     }
 
-    /// Takes bytes up to and with the end of the first sync word, and says how many; or takes them all, where no sync word ends in them.
+    /// Takes bytes up to and with the end of the first sync word, and says how many; or takes
+    /// them all, where no sync word ends in them.
     pub(crate) fn search(&mut self, bytes: &[u8]) -> Option<usize>
         ensures within { IfSome result (λ n. (0 < n) × (n ≤ length bytes.now)) }
         ensures found { (gap : List ℕ) → MatcherStandsFor self.old gap → HasNoSync gap → Searched gap bytes.now result self.new }
@@ -115,8 +116,8 @@ impl Matcher {
         }
     }
 
-    /// Takes bytes, one by one, up to and with the end of the first sync word, and says how many; or takes them all, where no
-    /// sync word ends in them.
+    /// Takes bytes, one by one, up to and with the end of the first sync word, and says how many; or takes them all,
+    /// where no sync word ends in them.
     fn search_bytewise(&mut self, bytes: &[u8]) -> Option<usize>
         ensures within { IfSome result (λ n. (0 < n) × (n ≤ length bytes.now)) }
         ensures found { (gap : List ℕ) → MatcherStandsFor self.old gap → HasNoSync gap → Searched gap bytes.now result self.new }

@@ -1,5 +1,5 @@
--- Frame addresses (UG470, frame address register): minor, column, row, half (0 top, 1 bottom) and block type, from bit 0 up,
--- each with the part's width.
+-- Frame addresses (UG470, frame address register): minor, column, row, half (0 top, 1 bottom) and block type, from bit
+-- 0 up, each with the part's width.
 use Rattle.std.specs.Prelude.{◌≡◌, ℕ, ◌+◌, ◌*◌, ◌^◌, ◌<◌, ◌≤◌, List, [], ◌∷◌, length, slice_index, Contains, All}
 use Rattle.x7_part.specs.Limits.{most_columns, most_minors}
 use Rattle.x7_part.specs.Part.{FieldWidths, RowData, PartData}
@@ -45,8 +45,8 @@ row_address far r = r.block * 2 ^ block_low far + r.half * 2 ^ half_low far + r.
 abbrev pub frame_address : FieldWidths → RowData → ℕ → ℕ → ℕ
 frame_address far r column minor = row_address far r + column * 2 ^ column_low far + minor
 
--- an address is that of a frame of one of the part's rows: the column has a place in the row, and the minor is below the
--- column's number of minors
+-- an address is that of a frame of one of the part's rows: the column has a place in the row, and the
+-- minor is below the column's number of minors
 abbrev pub IsAddressOf : PartData → ℕ → Type 0
 IsAddressOf part address =
     (r : RowData) × (column : ℕ) × (minor : ℕ) × Contains part.rows r × (column < length r.minors)

@@ -9,7 +9,8 @@ abbrev pub count_from : ℕ → ℕ → List ℕ
 count_from first zero = []
 count_from first (suc n) = first ∷ count_from (first + 1) n
 
--- the addresses of the row at `base`, from a column on, by the minors of these columns; the next column is `pitch` further
+-- the addresses of the row at `base`, from a column on, by the minors of these
+-- columns; the next column is `pitch` further
 abbrev pub row_addresses : ℕ → ℕ → ℕ → List ℕ → List ℕ
 row_addresses pitch base column [] = []
 row_addresses pitch base column (n ∷ minors) = count_from (base + column * pitch) n ++ row_addresses pitch base (column + 1) minors

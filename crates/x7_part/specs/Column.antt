@@ -51,8 +51,8 @@ pub record AreColumnsOf (part : PartData) (columns : List Column) : Type 0 where
   pub slots : column_slots columns ≡ slots_in part
 
 module _ (pitch base : ℕ) where
-  -- the columns of the row at `base`, from its `i`th on, after `rank` addresses and `slot` slots; the next column begins
-  -- `pitch` further
+  -- the columns of the row at `base`, from its `i`th on, after `rank` addresses and `slot`
+  -- slots; the next column begins `pitch` further
   abbrev pub row_columns : ℕ → ℕ → ℕ → List ℕ → List Column
   row_columns i rank slot [] = []
   row_columns i rank slot (n ∷ []) = record { first = base + i * pitch; count = n; pads = 2; rank = rank; slot = slot } ∷ []

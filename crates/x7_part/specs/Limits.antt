@@ -29,11 +29,12 @@ most_frame_words = 255
 abbrev pub usual_frame_words : ℕ
 usual_frame_words = 101
 
--- the most words of a part's frames and pads: 101 for each of the most frames, and for the two pads after each of the most rows
+-- the most words of a part's frames and pads: 101 for each of the most frames, and for
+-- the two pads after each of the most rows
 abbrev pub most_words : ℕ
 most_words = 13277056
 
--- the bytes of the flash that one step of WBSTAR's start address may stand for: 256 where the flash's addresses have 32 bits
--- (UG470, warm boot start address)
+-- the bytes of the flash that one step of WBSTAR's start address may stand for: 256 where the flash's addresses have 32
+-- bits (UG470, warm boot start address)
 abbrev pub IsStartUnit : ℕ → Type 0
 IsStartUnit bytes = (bytes ≡ 1) ⊎ (bytes ≡ 256)

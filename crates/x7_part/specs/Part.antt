@@ -17,8 +17,9 @@ pub record FieldWidths : Type 0 where
   pub half : ℕ
   pub block : ℕ
 
--- a part; `lock` and `matched` are the ticks that startup waits for lock and for match, `words` those of a frame, `far` the
--- fields of an address, `start_unit` the bytes that one step of WBSTAR's start address stands for, and `rows` stand in number order
+-- a part; `lock` and `matched` are the ticks that startup waits for lock and for match, `words` those of a
+-- frame, `far` the fields of an address, `start_unit` the bytes that one step of WBSTAR's start address
+-- stands for, and `rows` stand in number order
 pub record PartData : Type 0 where
   pub name : List ℕ
   pub idcode : ℕ

@@ -158,8 +158,9 @@ fn rank_in(columns: &[Column], at: usize, place: u64) -> Option<u32>
     }
 }
 
-/// The number of addresses before the frame at a place of the slots, none at a pad and past the last slot. `near` is the number of
-/// the column that is looked at first, and then of the one that begins last at or before the place; the answer doesn't hang on it.
+/// The number of addresses before the frame at a place of the slots, none at a pad and past the last slot.
+/// `near` is the number of the column that is looked at first, and then of the one that begins last at or before
+/// the place; the answer doesn't hang on it.
 pub(crate) fn rank_at(columns: &[Column], place: u64, near: &mut usize) -> Option<u32>
     requires { AreColumns columns.now }
     ensures found { IfSome result (λ r. HasFrameOf (column_addresses columns.now) (column_slots columns.now) place r) }

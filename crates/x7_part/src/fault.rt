@@ -104,7 +104,8 @@ pub enum PartFault {
     /// The row has the block type, the half and the row of an earlier one.
     #[error("same row {0}")]
     SameRow(u32),
-    /// The rows have more frames than a part may have, or more words with their pads; the number is that of their frames.
+    /// The rows have more frames than a part may have, or more words with their
+    /// pads; the number is that of their frames.
     #[error("too many frames: {0}")]
     TooMany(u32),
     /// There was no memory for the part.

@@ -215,8 +215,8 @@ impl Part {
         column::slot_of(self.table(), far)
     }
 
-    /// The rank of the frame at a slot that has `place` slots before it, none at a pad and past the last slot. `near` keeps where to
-    /// look first, 0 at the start; whatever it is, the answer is the same.
+    /// The rank of the frame at a slot that has `place` slots before it, none at a pad and past the last slot. `near`
+    /// keeps where to look first, 0 at the start; whatever it is, the answer is the same.
     pub fn rank_at(&self, place: u64, near: &mut usize) -> Option<u32>
         ensures found { IfSome result (λ r. HasFrameOf (addresses_in self.now) (slots_in self.now) place r) }
         ensures none { IfNone result ((far : ℕ) → slice_index_or (slots_in self.now) place Slot.End ≡ Slot.Frame far → ⊥) }

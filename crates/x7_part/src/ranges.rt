@@ -95,7 +95,8 @@ fn width_in(number: i64, low: u8, high: u8) -> Option<u8>
     }
 }
 
-/// The fields of these widths, none where one of them is out of its range, or where they have more than 32 bits together.
+/// The fields of these widths, none where one of them is out of its range, or
+/// where they have more than 32 bits together.
 fn fields_of(minor: i64, column: i64, row: i64, half: i64, block: i64) -> Option<Fields>
     ensures test { is_some result ≡ are_widths (minor ∷ column ∷ row ∷ half ∷ block ∷ []) }
     ensures value { IfSome result (λ far. far ≡ widths_of (minor ∷ column ∷ row ∷ half ∷ block ∷ [])) }

@@ -1,5 +1,5 @@
--- Multi-frame writes: the frame that copies take, and what a copy puts (UG470, multi-frame write register; which frame is
--- taken, and that FAR doesn't move, is this project's choice).
+-- Multi-frame writes: the frame that copies take, and what a copy puts (UG470, multi-frame write register; which frame
+-- is taken, and that FAR doesn't move, is this project's choice).
 use Rattle.std.specs.Prelude.{ℕ, Bool, true, false, ◌&&◌, if◌then◌else◌, List, [], ◌∷◌, Option, Some, None}
 use Rattle.x7_part.specs.Part.{PartData, frame_words}
 use Rattle.x7_memory.specs.Plan.{PlanRow}

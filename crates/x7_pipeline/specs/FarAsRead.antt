@@ -37,7 +37,8 @@ unfoldable pub far_at : PartData → ℕ → ℕ → ℕ
 far_at part base slot =
     if has_frame_at part base then unwrap_or (first_address (drop slot (slots_from part base))) (last_address part) else base
 
--- FAR as read, after a run from the base or `given` words of a readback: FAR stands at the slot of the newest whole frame
+-- FAR as read, after a run from the base or `given` words of a readback: FAR
+-- stands at the slot of the newest whole frame
 unfoldable pub far_of : PartData → ℕ → List ℕ → ℕ → ℕ
 far_of part base run given =
     far_at part base (max (length (frames_of (frame_words part) run)) (given / frame_words part) - 1)

@@ -16,7 +16,8 @@ use Rattle.x7_pipeline.specs.Pipeline.{PipelineData}
 use Rattle.x7_pipeline.specs.Runs.{Lands, at_slot, frames_of, onto, put_over, rest_of, slots_from}
 use Rattle.x7_pipeline.specs.Words.{RunWritten, written}
 
--- the command, the address that the run or readback began at, the words of the run (the newest first), the frame that copies take, and the count of words given
+-- the command, the address that the run or readback began at, the words of the run (the newest first), the frame that
+-- copies take, and the count of words given
 pub record Flow : Type 0 where
   pub command : Command
   pub base : ℕ

@@ -59,6 +59,7 @@ pub record IsFirstAddress (places : List Slot) (n far : ℕ) : Type 0 where
 abbrev pub HasNoAddress : List Slot → ℕ → Type 0
 HasNoAddress places n = (place : ℕ) → n ≤ place → HasNoFrame (slice_index_or places place End)
 
--- FAR stands at slot n of those from a base on: it is the first address there or after, and the part's last one where there is none
+-- FAR stands at slot n of those from a base on: it is the first address there or after,
+-- and the part's last one where there is none
 abbrev pub FarStandsAt : PartData → ℕ → ℕ → ℕ → Type 0
 FarStandsAt part base n far = IsFirstAddress (slots_from part base) n far ⊎ (HasNoAddress (slots_from part base) n × (far ≡ last_address part))

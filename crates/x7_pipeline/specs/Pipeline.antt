@@ -8,9 +8,9 @@ use Rattle.x7_memory.specs.Frames.{AreFramesOf}
 use Rattle.x7_regs.specs.declared.command.Command.{Command}
 use Rattle.x7_pipeline.specs.Runs.{slots_from}
 
--- what a pipeline stores: the number of words of a frame and of bits of an address, the command, the base, the words after the
--- run's last whole frame, the newest whole frame and the number of all, the source, the count of words given, and the slot
--- that a readback is at
+-- what a pipeline stores: the number of words of a frame and of bits of an address, the command, the base, the words
+-- after the run's last whole frame, the newest whole frame and the number of all, the source, the count of words given,
+-- and the slot that a readback is at
 pub record PipelineData : Type 0 where
   pub width : ℕ
   pub far_width : ℕ

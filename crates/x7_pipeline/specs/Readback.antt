@@ -1,5 +1,5 @@
--- Readback: the endless list of words from a base (UG470, frame data output register and readback; that the two pads of a
--- row are read as frames of zeros, and that zeros follow the last slot, is this project's choice).
+-- Readback: the endless list of words from a base (UG470, frame data output register and readback; that the two pads of
+-- a row are read as frames of zeros, and that zeros follow the last slot, is this project's choice).
 use Rattle.std.specs.Prelude.{ℕ, ◌+◌, ◌*◌, ◌/◌, ◌%◌, min, List, ◌∷◌, length, slice_index, slice_index_or, Option, Some, None}
 use Rattle.x7_part.specs.Part.{PartData, frame_words}
 use Rattle.x7_part.specs.declared.slot.Slot.{Slot}

@@ -25,7 +25,8 @@ address_at_slot End = None
 abbrev pub newest_slot : PartData → PipelineData → Slot
 newest_slot part p = if p.frame_count == 0 then Pad else slice_index_or (slots_from part p.base) (p.frame_count - 1) End
 
--- where the next word would put a frame: a word that completes a frame puts the whole frame before it, at that frame's slot
+-- where the next word would put a frame: a word that completes a frame puts the
+-- whole frame before it, at that frame's slot
 abbrev pub put_by_word : PartData → PipelineData → Option ℕ
 put_by_word part p = if length p.rest + 1 == p.width then address_at_slot (newest_slot part p) else None
 

@@ -51,9 +51,9 @@ pub fn mfw_takes_the_newest_frame()
     ensures not_under { (part : PartData) (old new : Command) (run : List ℕ) → is_mfw new ≡ false → source_after part old new run ≡ None }
 {}
 
-/// FAR as read is the base up to the first whole frame and where the base is no address. After a whole frame, or the pad
-/// frame of a readback, and `count` more it stands at slot `count` of those from the base on; past the limit of a readback
-/// it is the last address.
+/// FAR as read is the base up to the first whole frame and where the base is no address. After a whole frame, or the
+/// pad frame of a readback, and `count` more it stands at slot `count` of those from the base on; past the limit of a
+/// readback it is the last address.
 pub fn far_is_read_by_slots()
     ensures loaded { (part : PartData) (base : ℕ) → far_of part base [] 0 ≡ base }
     ensures nowhere { (part : PartData) (base : ℕ) (run : List ℕ) (given : ℕ) → has_frame_at part base ≡ false → far_of part base run given ≡ base }
@@ -93,8 +93,8 @@ pub fn pipelines_of_the_same_are_equal()
     ensures one { (part : PartData) (p q : PipelineData) → OfFlow part p (λ f. HoldsFlow part q f → p ≡ q) }
 {}
 
-/// A kept frame leads back where the memory changed at its address alone. A copy changes just the address where it puts one,
-/// and so does a word under another command than MFW.
+/// A kept frame leads back where the memory changed at its address alone. A copy changes just the address where it puts
+/// one, and so does a word under another command than MFW.
 pub fn a_kept_frame_leads_back()
     ensures back { (part : PartData) (at : Option ℕ) (old new : List (List ℕ)) → HaveChangedAt part at old new →
         AreSame (put_over (pair_at (frame_at part old) at) (frame_at part new)) (frame_at part old) }

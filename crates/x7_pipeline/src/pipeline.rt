@@ -67,8 +67,8 @@ impl Model for Pipeline {
 }
 
 impl Pipeline {
-    /// A pipeline as after a reset: no command was written, FAR is 0. The call takes room for three frames, and no other call
-    /// takes memory.
+    /// A pipeline as after a reset: no command was written, FAR is 0. The call takes room for
+    /// three frames, and no other call takes memory.
     pub fn new(alloc: Global, part: &Part) -> Result<Pipeline, NoMemory>
         ensures stands { IfOk result (λ pipeline. HoldsFlow part.now pipeline first_flow) }
         ensures part { IfOk result (IsPipelineOf part.now) }
@@ -177,8 +177,8 @@ impl Pipeline {
         Ok(())
     }
 
-    /// Writes the words of a run in order, four bytes each, the highest first, as a call of `write` for each of them up to the
-    /// first fault would. The answer is the number of words taken, a refused one included, and the fault.
+    /// Writes the words of a run in order, four bytes each, the highest first, as a call of `write` for each of them up
+    /// to the first fault would. The answer is the number of words taken, a refused one included, and the fault.
     pub fn write_bytes(
         &mut self,
         bytes: &[u8],
@@ -205,7 +205,8 @@ impl Pipeline {
         (at / 4, None)
     }
 
-    /// Writes the whole frames that come next, where none has begun, or else the next word. The answer is the number of bytes.
+    /// Writes the whole frames that come next, where none has begun, or else the next
+    /// word. The answer is the number of bytes.
     fn write_some(
         &mut self,
         bytes: &[u8],
@@ -242,8 +243,8 @@ impl Pipeline {
         self.rest.is_empty() && self.frame_count < slot_count(part, self.base)
     }
 
-    /// Writes the whole frames that come next, up to the last one that has a slot; the first one has a slot. The answer is the
-    /// number of bytes.
+    /// Writes the whole frames that come next, up to the last one that has a slot; the first one has a
+    /// slot. The answer is the number of bytes.
     fn write_frames(&mut self, bytes: &[u8], part: &Part, memory: &mut Memory) -> usize
         requires part { AreOf part.now self.old memory.old }
         requires begins { self.old.rest ≡ [] }
@@ -275,8 +276,8 @@ impl Pipeline {
         size <= left && self.frame_count < slots
     }
 
-    /// Puts the newest whole frame, and holds the next one. `first` slots stand before those from the base on, and `near` keeps
-    /// where the part looks for a slot first.
+    /// Puts the newest whole frame, and holds the next one. `first` slots stand before those from the base on, and
+    /// `near` keeps where the part looks for a slot first.
     fn write_frame(
         &mut self,
         bytes: &[u8],
@@ -307,8 +308,8 @@ impl Pipeline {
         self.frame_count == 0 && self.rest.is_empty() && !is_base(part, self.base)
     }
 
-    /// Puts the newest whole frame, where there is one and its slot is an address. `first` slots stand before those from the
-    /// base on, and `near` keeps where the part looks for a slot first.
+    /// Puts the newest whole frame, where there is one and its slot is an address. `first` slots stand before those
+    /// from the base on, and `near` keeps where the part looks for a slot first.
     fn put_held(&self, first: u64, near: &mut usize, part: &Part, memory: &mut Memory)
         requires part { AreOf part.now self.now memory.old }
         requires slot { self.now.frame_count < length (slots_from part.now self.now.base) }

@@ -51,7 +51,8 @@ pub record AreStarts (rows grouped : List PlanRow) (starts : List ℕ) : Type 0 
   pub count : length starts ≡ length rows
   pub each : (i : ℕ) (d : PlanRow) → i < length rows → IsFirst grouped (slice_index_or rows i d).words (slice_index_or starts i 0)
 
--- a plan's rows by content: equal contents stand together, and where each begins is known by its places and by the plan's rows
+-- a plan's rows by content: equal contents stand together, and where each begins is
+-- known by its places and by the plan's rows
 pub record AreByContent (rows : List PlanRow) (grouped : List Content) (places row_places : List ℕ) : Type 0 where
   pub contents : AreGrouped rows grouped
   pub firsts : AreFirsts (content_rows grouped) places

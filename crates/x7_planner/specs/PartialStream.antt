@@ -1,4 +1,5 @@
--- The stream of a partial reconfiguration: the planned frames alone, contents at three addresses or more by copies, the others in runs (this project's choice; UG470, multi-frame write register).
+-- The stream of a partial reconfiguration: the planned frames alone, contents at three addresses or more by copies, the
+-- others in runs (this project's choice; UG470, multi-frame write register).
 use Rattle.std.specs.Prelude.{◌≡◌, ℕ, ◌+◌, ◌*◌, ◌==◌, ◌&&◌, nat_le, Bool, true, false, if◌then◌else◌, List, [], ◌∷◌, ◌++◌, length, map, replicate, slice_index, slice_index_or, All, Contains, Some}
 use Rattle.std.specs.List.{flat_map}
 use Rattle.x7_part.specs.Part.{PartData, frame_words}
@@ -89,7 +90,8 @@ copy_words address = write_one Far address ++ write_one Mfwr 0
 abbrev pub frames_words : List PlanRow → List ℕ
 frames_words rows = flat_map (λ row. row.words) rows
 
--- the words of a stretch: a content at its first address, and copies of it; or frames from an address on, and a frame of zeros
+-- the words of a stretch: a content at its first address, and copies of it; or frames
+-- from an address on, and a frame of zeros
 abbrev pub stretch_words : PartData → Stretch → List ℕ
 stretch_words part (Copies words fars) =
     command Wcfg ++ (write_one Far (slice_index fars 0) ++ (frame_data (frame_words part) ++ (words ++ (command Mfw ++ flat_map copy_words fars))))

@@ -1,4 +1,5 @@
--- The stream of a readback: a frame of zeros and the frames of n slots from an address on (UG470, readback; this sequence is this project's choice).
+-- The stream of a readback: a frame of zeros and the frames of n slots from an address on (UG470, readback; this
+-- sequence is this project's choice).
 use Rattle.std.specs.Prelude.{ℕ, ◌+◌, ◌*◌, List, [], ◌∷◌, ◌++◌, replicate}
 use Rattle.x7_part.specs.Part.{PartData, frame_words}
 use Rattle.x7_regs.specs.declared.command.Command.TheVariants.{Desync, Rcfg, Rcrc}

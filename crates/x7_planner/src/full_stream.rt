@@ -204,7 +204,8 @@ impl<'p> FullStream<'p> {
         })
     }
 
-    /// Appends the next piece, of 160 frames at most, and says whether there was one; after the last there is none for good.
+    /// Appends the next piece, of 160 frames at most, and says whether there was
+    /// one; after the last there is none for good.
     /// After an error nothing was appended, and the same piece is next.
     pub fn put_next(&mut self, out: &mut Vec<u8>) -> Result<bool, NoMemory>
         ensures more { (given : List ℕ) → HasGiven self.old given → IfOk result (λ more. more ≡ true → AppendsNext self.new given out.old.items out.new.items) }
@@ -282,8 +283,8 @@ impl<'p> FullStream<'p> {
     }
 }
 
-/// The stream that writes the planned frames and zeros at all other addresses, and then starts the device. A plan has the
-/// part's width. Memory is wanting only where there is such a stream.
+/// The stream that writes the planned frames and zeros at all other addresses, and then starts the device. A plan has
+/// the part's width. Memory is wanting only where there is such a stream.
 pub fn full(alloc: Global, part: &Part, plan: &Plan) -> Result<Vec<u8>, PlanFault>
     requires width { plan.now.width ≡ frame_words part.now }
     ensures stream { IfOk result (λ bytes. bytes.items ≡ full_stream part.now plan.now) }

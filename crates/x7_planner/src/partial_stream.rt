@@ -104,8 +104,8 @@ fn partial_of(alloc: Global, part: &Part, plan: &Plan) -> Result<Vec<u8>, NoMemo
     Ok(writer.finish())
 }
 
-/// The stream that writes the planned frames alone: contents at three addresses or more by copies, the others in runs. A plan
-/// has the part's width. Memory is wanting only where there is such a stream.
+/// The stream that writes the planned frames alone: contents at three addresses or more by copies, the others in runs.
+/// A plan has the part's width. Memory is wanting only where there is such a stream.
 pub fn partial(alloc: Global, part: &Part, plan: &Plan) -> Result<Vec<u8>, PlanFault>
     requires width { plan.now.width ≡ frame_words part.now }
     ensures stream { IfOk result (λ bytes. bytes.items ≡ partial_stream part.now plan.now.rows) }

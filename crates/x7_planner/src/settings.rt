@@ -1,5 +1,5 @@
-//! The settings of startup that a full stream writes (UG470, configuration options register 0 and control register 0; their
-//! values are this project's choice).
+//! The settings of startup that a full stream writes (UG470, configuration options register 0 and control register 0;
+//! their values are this project's choice).
 
 /// The bit of COR0 by which startup looks at DONE a clock later.
 const DONE_PIPE: u32 = 1 << 25;

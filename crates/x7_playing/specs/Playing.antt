@@ -10,7 +10,8 @@ use Rattle.x7_forms.specs.Known.{reads_limit, StreamRead}
 use Rattle.x7_forms.specs.Event.{Event}
 use Rattle.x7_playing.specs.declared.player.Player.{Player}
 
--- A device was given these bytes, and took all of them, or those up to its stop; `reads` are the words read out, without those still due, within their limit.
+-- A device was given these bytes, and took all of them, or those up to its stop; `reads` are the words read out,
+-- without those still due, within their limit.
 pub record Plays (part : PartData) (bytes : List ℕ) (d : DeviceState) (reads : List ℕ) : Type 0 where
   pub taken : List ℕ
   pub left : List ℕ
@@ -91,7 +92,8 @@ pub record PlaysStream (limit left : ℕ) (Plays : List ℕ → Type 0) (Reads :
   pub plays : Plays bytes
   pub reads : Reads (Ok (record { bytes = bytes; room = left }))
 
--- The device took a prefix of the data, after which nothing changes: its state, its stop, its memory and the words read out are those of all data, and no word is due.
+-- The device took a prefix of the data, after which nothing changes: its state, its stop, its memory and the words read
+-- out are those of all data, and no word is due.
 pub record IsPlayed (part : PartData) (bytes : List ℕ) (d : DeviceState) (reads : List ℕ) : Type 0 where
   pub prefix : List ℕ
   pub stands : DeviceStandsFor part on_the_bench false d prefix

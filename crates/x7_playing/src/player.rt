@@ -14,8 +14,8 @@ const READS_LIMIT: usize = 16_777_216;
 /// How many words a device reads out before they are moved.
 const READS_ROOM: u32 = 4_096;
 
-/// Moves the words of a buffer after those that were read out before, for which there is room, and says whether they are
-/// over the limit together.
+/// Moves the words of a buffer after those that were read out before, for which there is room, and says
+/// whether they are over the limit together.
 fn gather(buffer: &mut ReadBuf, reads: &mut Vec<u32>) -> bool
     requires few { vec_len reads.old ≤ reads_limit }
     requires most { buffer.old.most ≡ Some reads_room }
@@ -35,8 +35,8 @@ fn gather(buffer: &mut ReadBuf, reads: &mut Vec<u32>) -> bool
     false
 }
 
-/// Feeds the bytes of a piece to a device, up to one that stops it, gathers the words that it reads out, and says whether
-/// all words so far are over the limit. The room for words is made before the bytes are fed that read them out.
+/// Feeds the bytes of a piece to a device, up to one that stops it, gathers the words that it reads out, and says
+/// whether all words so far are over the limit. The room for words is made before the bytes are fed that read them out.
 fn feed(
     device: &mut Device,
     buffer: &mut ReadBuf,
@@ -90,9 +90,10 @@ impl Player {
         })
     }
 
-    /// Plays the bytes of a piece, up to one that stops the device. A player that is over plays nothing and stays as it is.
-    /// After an error the device has taken some first bytes of the piece, and has the words that these read out but for those
-    /// that are still due.
+    /// Plays the bytes of a piece, up to one that stops the device. A player that
+    /// is over plays nothing and stays as it is.
+    /// After an error the device has taken some first bytes of the piece, and has the words that these
+    /// read out but for those that are still due.
     pub fn play(&mut self, piece: &[u8]) -> Result<(), NoMemory>
         requires { MayPlay self.old (length piece.now) }
         ensures ok { OnOk result (PlaysOn self.old self.new piece.now) }

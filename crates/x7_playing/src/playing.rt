@@ -15,11 +15,12 @@ use x7_forms::{Refusal, STREAM_LIMIT, Why, data_start, next_turn, open, skip_res
 use x7_part::Part;
 use x7_words::Inputs;
 
-/// How many bytes one turn of a stream that is played reads: no fewer than the longest header has, so that the first turn
-/// judges it.
+/// How many bytes one turn of a stream that is played reads: no fewer than the longest
+/// header has, so that the first turn judges it.
 const PLAY_TURN: usize = 266_240;
 
-/// Plays the rest of the open stream, of which `limit` bytes are within the limit; after the last turn there is no rest.
+/// Plays the rest of the open stream, of which `limit` bytes are within the
+/// limit; after the last turn there is no rest.
 /// The answer is how many bytes of the limit are left.
 fn play_rest<'w, I: Inputs>(
     player: &mut Player,
@@ -56,8 +57,8 @@ fn play_rest<'w, I: Inputs>(
     }
 }
 
-/// Plays the data of a stream of at most `limit` bytes, and answers how many of these are left. The limit comes before the
-/// header, so a stream with a bad one is read to its end too.
+/// Plays the data of a stream of at most `limit` bytes, and answers how many of these are left. The limit comes before
+/// the header, so a stream with a bad one is read to its end too.
 fn play_stream<'w, I: Inputs>(
     player: &mut Player,
     inputs: &mut I,
@@ -92,8 +93,8 @@ fn play_stream<'w, I: Inputs>(
     }
 }
 
-/// Plays the data of streams on a new device of the part, one after the other. The streams are within the limit together,
-/// headers included.
+/// Plays the data of streams on a new device of the part, one after the other. The streams are
+/// within the limit together, headers included.
 pub fn play_streams<'w, I: Inputs>(
     alloc: Global,
     part: &Part,

@@ -100,7 +100,8 @@ seven_whole part kept bytes stream k fits d seven =
 
 -- ---- the attempt
 
--- the attempt with this kept at this address starts, with the memory of a plan; the attempt has ignored an IPROG, or not
+-- the attempt with this kept at this address starts, with the memory of a plan;
+-- the attempt has ignored an IPROG, or not
 pub record StartsWith (part : PartData) (kept : Kept) (address : ℕ) (flash : List ℕ) (plan : PlanData) (ignored : Bool) : Type 0 where
   pub course : AttemptCourse
   pub is : IsAttemptOver part flash course

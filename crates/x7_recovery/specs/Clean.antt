@@ -1,5 +1,6 @@
--- A golden stream that clears the check before it asks anything that a slot's accesses could change (UG470, configuration registers; what may stand before
--- RCRC is this project's choice). The vendor's streams that were seen begin so, which is no promise.
+-- A golden stream that clears the check before it asks anything that a slot's accesses could change (UG470,
+-- configuration registers; what may stand before RCRC is this project's choice). The vendor's streams that were seen
+-- begin so, which is no promise.
 use Rattle.std.specs.Prelude.{◌≡◌, ℕ, List, [], ◌∷◌, None, drop}
 use Rattle.x7_words.specs.Word.{AreBytes}
 use Rattle.x7_packets.specs.History.{Entry, History, Write, entry, history_of}
@@ -23,12 +24,14 @@ pub data IsLead : History → Type 0 where
   bspi_read : (place : ℕ) (h : History) → IsLead h → IsLead (entry (Write (number_of reg.Cmd) (code_of command.BspiRead)) place ∷ h)
   shutdown : (place : ℕ) (h : History) → IsLead h → IsLead (entry (Write (number_of reg.Cmd) (code_of command.Shutdown)) place ∷ h)
 
--- a history with an RCRC before which stand only words for WBSTAR, TIMER and BSPI, and the commands NULL, BSPI_READ and SHUTDOWN
+-- a history with an RCRC before which stand only words for WBSTAR, TIMER and BSPI, and
+-- the commands NULL, BSPI_READ and SHUTDOWN
 pub data BeginsClean : History → Type 0 where
   clear : (place : ℕ) (h : History) → IsLead h → BeginsClean (entry (Write (number_of reg.Cmd) (code_of command.Rcrc)) place ∷ h)
   later : (e : Entry) (h : History) → BeginsClean h → BeginsClean (e ∷ h)
 
--- With the first sector of the flash erased the attempt at power starts with the golden stream, which begins clean, and nothing has stopped the device by then.
+-- With the first sector of the flash erased the attempt at power starts with the golden stream, which begins clean, and
+-- nothing has stopped the device by then.
 pub record StartsClean (part : PartData) (flash : List ℕ) (t : AttemptCourse) : Type 0 where
   pub starts : StartsAtPower part (with_erased flash) t
   pub going : stop_in part t.kept t.bytes ≡ None

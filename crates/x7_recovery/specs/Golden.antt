@@ -1,4 +1,5 @@
--- A golden stream of any kind, as one attempt shows it: a device starts with it where the first sector leads nowhere (UG470, MultiBoot and fallback; the layout is this project's choice).
+-- A golden stream of any kind, as one attempt shows it: a device starts with it where the first sector leads nowhere
+-- (UG470, MultiBoot and fallback; the layout is this project's choice).
 use Rattle.std.specs.Prelude.{◌≡◌, ◌≢◌, ℕ, ◌+◌, ◌<◌, ◌≤◌, List, [], ◌∷◌, ◌++◌, drop, false, length, None, slice_range}
 use Rattle.x7_words.specs.Flash.{erased_sector}
 use Rattle.x7_words.specs.Word.{AreBytes}
@@ -34,7 +35,8 @@ pub record StartsAtPower (part : PartData) (flash : List ℕ) (t : AttemptCourse
   pub address : t.address ≡ 0
   pub started : t.ending ≡ ending.Started
 
--- Two flashes whose first sector leads nowhere have the same bytes after it, up to where an attempt at power that starts over the first of them ended.
+-- Two flashes whose first sector leads nowhere have the same bytes after it, up to where an attempt at power that
+-- starts over the first of them ended.
 pub record HaveSameGolden (part : PartData) (one other : List ℕ) (t : AttemptCourse) : Type 0 where
   pub starts : StartsAtPower part one t
   pub same : slice_range other sector_bytes (length t.bytes) ≡ slice_range one sector_bytes (length t.bytes)
@@ -54,15 +56,16 @@ pub record StartsAlike (part : PartData) (t : AttemptCourse) (c : BootCourse) : 
   pub memory : memory_in part c.last.kept c.last.bytes ≡ memory_in part t.kept t.bytes
   pub registers : end_state part c.last ≡ end_state part t
 
--- the golden stream of a flash starts, at its end or before it, with the memory of its plan over zeros, and BOOTSTS shows no
--- other attempt
+-- the golden stream of a flash starts, at its end or before it, with the memory of its plan over
+-- zeros, and BOOTSTS shows no other attempt
 pub record StartsAsPlanned (u : Updating) (t : AttemptCourse) : Type 0 where
   pub golden : GoldenStarts u.part u.flash t
   pub within : length t.bytes ≤ sector_bytes + length (full_stream u.part u.golden)
   pub memory : AreSame (memory_in u.part t.kept t.bytes) (total u.part u.golden)
   pub bootsts : (end_state u.part t).bootsts ≡ boot_status_of (record { kind = Power; cause = None; ignored = false }) None
 
--- a flash that is being updated with a stream, the part that boots from it, and the attempt with which its golden stream starts
+-- a flash that is being updated with a stream, the part that boots from it, and the
+-- attempt with which its golden stream starts
 pub record UpdatingAny : Type 0 where
   pub part : PartData
   pub flash : List ℕ
@@ -74,7 +77,8 @@ pub record IsPreparedAny (u : UpdatingAny) : Type 0 where
   pub layout : HasLayout u.flash
   pub golden : GoldenStarts u.part u.flash u.golden
 
--- a boot of what was left: that of the flash before the update, or one that starts as the golden stream does, or that of the updated flash
+-- a boot of what was left: that of the flash before the update, or one that starts as the golden
+-- stream does, or that of the updated flash
 pub data BootsAlike (u : UpdatingAny) (found : List ℕ) (b : BootedState) : Type 0 where
   as_before : IsBoot u.part u.flash b → BootsAlike u found b
   golden : (boot : IsBoot u.part found b) → StartsAlike u.part u.golden (course_of b boot.last) → BootsAlike u found b

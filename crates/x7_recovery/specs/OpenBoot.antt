@@ -1,4 +1,5 @@
--- What a boot from a flash with an open slot comes to: the attempt at the update, and the fallback where that fails (UG470, MultiBoot and fallback).
+-- What a boot from a flash with an open slot comes to: the attempt at the update, and the fallback where that fails
+-- (UG470, MultiBoot and fallback).
 use Rattle.std.specs.Prelude.{◌≡◌, ℕ, Bool, true, false, List, [], ◌∷◌, ◌++◌, drop, length, None, Some}
 use Rattle.x7_packets.specs.FlashSlot.{sector_bytes}
 use Rattle.x7_part.specs.Part.{PartData}
@@ -26,12 +27,13 @@ use Rattle.x7_recovery.specs.OpenSlot.{BeginsAsImage, Opened, image_of_flash}
 
 -- ---- the attempt at the update
 
--- what an attempt at an update keeps that an IPROG of the attempt at power led to: the start address in WBSTAR, and the attempt at power, which did not fail
+-- what an attempt at an update keeps that an IPROG of the attempt at power led to: the start address in WBSTAR, and the
+-- attempt at power, which did not fail
 abbrev pub kept_at_update : ℕ → Kept
 kept_at_update start = record { wbstar = start; timer = 0; bspi = 0; kind = Iprog; before = Some (record { kind = Power; cause = None; ignored = false }) }
 
--- the attempts of a boot in which the attempt at power obeys an IPROG that leads to a place, where the next attempt ends by
--- `e`, and then more
+-- the attempts of a boot in which the attempt at power obeys an IPROG that leads to a place, where
+-- the next attempt ends by `e`, and then more
 abbrev pub through_update : ℕ → Ending → List Tried → List Tried
 through_update place e more = record { kind = Power; address = 0; ending = ending.Iprog } ∷ record { kind = Iprog; address = place; ending = e } ∷ more
 
@@ -67,7 +69,8 @@ pub record HasFullUpdate (o : Opened) (update : PlanData) : Type 0 where
   pub rest : List ℕ
   pub stands : drop o.place o.flash ≡ full_stream o.part update ++ rest
 
--- The boot starts with the update: with the memory of its plan over zeros, and BOOTSTS shows an attempt by IPROG, after one at power.
+-- The boot starts with the update: with the memory of its plan over zeros, and BOOTSTS shows
+-- an attempt by IPROG, after one at power.
 pub record StartsUpdate (o : Opened) (update : PlanData) (c : BootCourse) : Type 0 where
   pub attempts_are : c.attempts ≡ through_update o.place ending.Started []
   pub started : c.end ≡ boot_end.Started
@@ -91,14 +94,16 @@ pub record HasPlanned (o : Opened) (golden : PlanData) : Type 0 where
   pub rest : List ℕ
   pub stands : drop sector_bytes o.flash ≡ full_stream o.part golden ++ rest
 
--- The boot falls back and starts with the memory of the golden plan over zeros, and BOOTSTS shows the fallback and the update's cause.
+-- The boot falls back and starts with the memory of the golden plan over zeros, and BOOTSTS
+-- shows the fallback and the update's cause.
 pub record FallsBack (o : Opened) (golden : PlanData) (cause : Cause) (c : BootCourse) : Type 0 where
   pub attempts_are : c.attempts ≡ fell_back o.place cause
   pub started : c.end ≡ boot_end.Started
   pub memory : AreSame (memory_in o.part c.last.kept c.last.bytes) (total o.part golden)
   pub bootsts : (end_state o.part c.last).bootsts ≡ fallback_status cause
 
--- The boot falls back and starts as another attempt did: at the same byte, with the same memory, and BOOTSTS shows the fallback and the update's cause.
+-- The boot falls back and starts as another attempt did: at the same byte, with the same memory, and BOOTSTS shows the
+-- fallback and the update's cause.
 pub record FallsBackClean (o : Opened) (cause : Cause) (t : AttemptCourse) (c : BootCourse) : Type 0 where
   pub attempts_are : c.attempts ≡ fell_back o.place cause
   pub started : c.end ≡ boot_end.Started
@@ -113,7 +118,8 @@ pub record StartsAsFallback (o : Opened) (f : AttemptCourse) : Type 0 where
   pub address : f.address ≡ 0
   pub started : f.ending ≡ ending.Started
 
--- The boot falls back and starts as another fallback does: with the same bytes, memory and registers but those kept over the reset; BOOTSTS shows the fallback, and the update's cause.
+-- The boot falls back and starts as another fallback does: with the same bytes, memory and registers but those kept
+-- over the reset; BOOTSTS shows the fallback, and the update's cause.
 pub record FallsBackAlike (o : Opened) (cause : Cause) (f : AttemptCourse) (c : BootCourse) : Type 0 where
   pub attempts_are : c.attempts ≡ fell_back o.place cause
   pub started : c.end ≡ boot_end.Started
@@ -124,7 +130,8 @@ pub record FallsBackAlike (o : Opened) (cause : Cause) (f : AttemptCourse) (c : 
 
 -- ---- the boot
 
--- What a boot from a flash with an open slot comes to, by what the attempt at the update does and by what the golden stream is.
+-- What a boot from a flash with an open slot comes to, by what the attempt at the
+-- update does and by what the golden stream is.
 pub record BootsOpen (o : Opened) (c : BootCourse) : Type 0 where
   -- the second attempt is that at the update
   pub tries : TriesUpdate o c.attempts
@@ -134,20 +141,22 @@ pub record BootsOpen (o : Opened) (c : BootCourse) : Type 0 where
   pub full : (update : PlanData) → HasFullUpdate o update → StartsUpdate o update c
   -- where the update fails and CTL0 forbids a fallback, the boot stops
   pub stops : (t : AttemptCourse) (cause : Cause) → UpdateFails o t cause true → EndsAtUpdate o t boot_end.Stopped c
-  -- where the update fails and CTL0 allows a fallback, the full stream of a plan starts as golden stream, with the memory of the plan
+  -- where the update fails and CTL0 allows a fallback, the full stream of a plan starts as
+  -- golden stream, with the memory of the plan
   pub falls_back : (t : AttemptCourse) (cause : Cause) (golden : PlanData) → HasPlanned o golden → UpdateFails o t cause false → FallsBack o golden cause c
-  -- where the update fails and CTL0 allows a fallback, a golden stream of any kind that starts at power after an erased first
-  -- sector and begins clean starts as it did there
+  -- where the update fails and CTL0 allows a fallback, a golden stream of any kind that starts at power after an erased
+  -- first sector and begins clean starts as it did there
   pub falls_clean : (t : AttemptCourse) (cause : Cause) (golden : AttemptCourse) → StartsClean o.part o.flash golden → UpdateFails o t cause false → FallsBackClean o cause golden c
-  -- where the update fails and CTL0 allows a fallback, any golden stream with which some fallback over the flash starts does as
-  -- that fallback
+  -- where the update fails and CTL0 allows a fallback, any golden stream with which some fallback
+  -- over the flash starts does as that fallback
   pub falls_alike : (t : AttemptCourse) (cause : Cause) (f : AttemptCourse) → StartsAsFallback o f → UpdateFails o t cause false → FallsBackAlike o cause f c
 
 -- every boot from the flash comes to what one from a flash with an open slot does
 abbrev pub EachBootsOpen : Opened → Type 0
 EachBootsOpen o = (c : BootCourse) → IsCourse o.part o.flash c → BootsOpen o c
 
--- A flash begins with the image of a golden and an update stream for the part: both streams stand in it, and every boot from it is one from a flash with its first slot open, which leads to the update.
+-- A flash begins with the image of a golden and an update stream for the part: both streams stand in it, and every boot
+-- from it is one from a flash with its first slot open, which leads to the update.
 pub record HasStreams (part : PartData) (golden update flash : List ℕ) : Type 0 where
   pub begins : BeginsAsImage part flash (place_after_golden (length golden))
   pub has_golden : (rest : List ℕ) × (drop sector_bytes flash ≡ golden ++ rest)

@@ -1,4 +1,5 @@
--- A flash with an open slot, whichever slot that is and whatever stands after the golden stream (UG470, MultiBoot and fallback; the layout is this project's choice).
+-- A flash with an open slot, whichever slot that is and whatever stands after the golden stream (UG470, MultiBoot and
+-- fallback; the layout is this project's choice).
 use Rattle.std.specs.Prelude.{◌≡◌, ℕ, ◌*◌, ◌/◌, ◌%◌, ◌^◌, ◌<◌, ◌≤◌, List, ◌++◌, length, take, drop}
 use Rattle.x7_words.specs.Word.{AreBytes}
 use Rattle.x7_packets.specs.FlashSlot.{sector_bytes, slot_count}
@@ -7,7 +8,8 @@ use Rattle.x7_boot.specs.Boot.{start_address}
 use Rattle.x7_boot.specs.Image.{first_sector, flash_limit, open_slot}
 use Rattle.x7_update.specs.Layout.{four_at, open_switch}
 
--- One slot of the first sector is open, with the start address `start`: no sync word begins in the sector but that of the slot.
+-- One slot of the first sector is open, with the start address `start`: no sync word
+-- begins in the sector but that of the slot.
 pub record HasOpen (flash : List ℕ) (slot start : ℕ) : Type 0 where
   pub within : slot < slot_count
   pub stands : take 32 (drop (32 * slot) flash) ≡ open_slot start

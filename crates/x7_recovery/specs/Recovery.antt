@@ -1,4 +1,5 @@
--- What a device does with a flash that a power loss left in an update (UG470, MultiBoot and fallback; the layout is this project's choice).
+-- What a device does with a flash that a power loss left in an update (UG470, MultiBoot and
+-- fallback; the layout is this project's choice).
 use Rattle.std.specs.Prelude.{◌≡◌, ℕ, ◌+◌, ◌≤◌, false, List, [], ◌∷◌, ◌++◌, None, drop, length}
 use Rattle.x7_packets.specs.FlashSlot.{sector_bytes}
 use Rattle.x7_part.specs.Part.{PartData}
@@ -34,22 +35,24 @@ pub record HasGolden (part : PartData) (golden : PlanData) (flash : List ℕ) : 
   pub stands : drop sector_bytes flash ≡ full_stream part golden ++ rest
   pub ends : sector_bytes + length (full_stream part golden) ≤ update_place flash
 
--- an update is prepared: the part's numbers are in range, the plan is one for the part, and the flash has a layout with the
--- full stream of the plan
+-- an update is prepared: the part's numbers are in range, the plan is one for the part, and the flash has
+-- a layout with the full stream of the plan
 pub record IsPrepared (u : Updating) : Type 0 where
   pub is_part : IsPart u.part
   pub plan : IsPlanFor u.part u.golden
   pub layout : HasLayout u.flash
   pub golden : HasGolden u.part u.golden u.flash
 
--- The boot starts with the attempt at power: with the memory of the golden plan over zeros, and BOOTSTS shows no other attempt.
+-- The boot starts with the attempt at power: with the memory of the golden plan over
+-- zeros, and BOOTSTS shows no other attempt.
 pub record StartsGolden (part : PartData) (golden : PlanData) (c : BootCourse) : Type 0 where
   pub attempts_are : c.attempts ≡ record { kind = Power; address = 0; ending = ending.Started } ∷ []
   pub started : c.end ≡ boot_end.Started
   pub memory : AreSame (memory_in part c.last.kept c.last.bytes) (total part golden)
   pub bootsts : (end_state part c.last).bootsts ≡ boot_status_of (record { kind = Power; cause = None; ignored = false }) None
 
--- a boot of what was left: that of the flash before the update, or one that starts with the golden stream, or that of the updated flash
+-- a boot of what was left: that of the flash before the update, or one that starts with the
+-- golden stream, or that of the updated flash
 pub data BootsAs (u : Updating) (found : List ℕ) (b : BootedState) : Type 0 where
   as_before : IsBoot u.part u.flash b → BootsAs u found b
   golden : (boot : IsBoot u.part found b) → StartsGolden u.part u.golden (course_of b boot.last) → BootsAs u found b

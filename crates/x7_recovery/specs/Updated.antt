@@ -15,7 +15,8 @@ pub data AfterUpdates (flash : List ℕ) : List ℕ → Type 0 where
   none : AfterUpdates flash flash
   one_more : (before found stream : List ℕ) → AfterUpdates flash before → HasLayout before → IsAfter stream before found → AfterUpdates flash found
 
--- A flash for a part whose start address counts bytes was updated, and then with a stream; before that a golden stream of any kind started, and began clean, as one attempt shows.
+-- A flash for a part whose start address counts bytes was updated, and then with a stream; before that a golden stream
+-- of any kind started, and began clean, as one attempt shows.
 pub record IsUpdated (part : PartData) (flash found : List ℕ) (golden : AttemptCourse) : Type 0 where
   pub unit : part.start_unit ≡ 1
   pub starts : GoldenStarts part flash golden

@@ -1,5 +1,5 @@
-//! What a golden stream of any kind does after updates, where one attempt before them shows that it starts and begins clean. The
-//! functions do nothing: their contracts are the laws.
+//! What a golden stream of any kind does after updates, where one attempt before them shows that it starts and begins
+//! clean. The functions do nothing: their contracts are the laws.
 ghost use Rattle.std.specs.Prelude.{◌≡◌, ◌≤◌, List, ℕ, false, length};
 ghost use Rattle.x7_part.specs.Part.{PartData};
 ghost use Rattle.x7_regs.specs.declared.boot_status.Cause.{Cause};
@@ -19,8 +19,8 @@ pub fn updates_keep_golden_streams()
     ensures place { (flash found : List ℕ) → AfterUpdates flash found → update_place found ≡ update_place flash }
 {}
 
-/// After any number of updates and one more a boot tries the stream of the last, and where that fails and CTL0 allows it falls
-/// back to the golden stream: it starts at the byte at which it started before, with the same memory.
+/// After any number of updates and one more a boot tries the stream of the last, and where that fails and CTL0 allows
+/// it falls back to the golden stream: it starts at the byte at which it started before, with the same memory.
 pub fn updated_flashes_fall_back()
     ensures boots { (part : PartData) (flash found : List ℕ) (golden : AttemptCourse) → (u : IsUpdated part flash found golden) → EachBootsOpen (opened_by part flash found golden u) }
     ensures falls_back { (part : PartData) (flash found : List ℕ) (golden t : AttemptCourse) (cause : Cause) (c : BootCourse) → (u : IsUpdated part flash found golden)

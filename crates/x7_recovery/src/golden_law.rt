@@ -1,5 +1,5 @@
-//! What a boot makes of a golden stream of any kind, where one attempt shows that it starts. The functions do nothing: their
-//! contracts are the laws.
+//! What a boot makes of a golden stream of any kind, where one attempt shows that it starts. The functions
+//! do nothing: their contracts are the laws.
 ghost use Rattle.std.specs.Prelude.{List, ℕ};
 ghost use Rattle.x7_part.specs.Part.{PartData};
 ghost use Rattle.x7_boot.specs.Attempt.{AttemptCourse};
@@ -11,9 +11,9 @@ ghost use Rattle.x7_recovery.specs.Recovery.{IsPrepared, Updating};
 ghost use Rattle.x7_update.specs.After.{IsBetween, MayBeLeft};
 ghost use Rattle.x7_update.specs.Layout.{HasLayout};
 
-/// Where no sync word begins in the first sector, what stands there makes no difference: a golden stream with which the attempt
-/// at power over one such flash starts is started with over each that has the same bytes after the first sector, at the same
-/// byte, with the same memory and the same registers.
+/// Where no sync word begins in the first sector, what stands there makes no difference: a golden stream with which the
+/// attempt at power over one such flash starts is started with over each that has the same bytes after the first
+/// sector, at the same byte, with the same memory and the same registers.
 pub fn shut_flashes_start_alike()
     ensures { (part : PartData) (one other : List ℕ) (t : AttemptCourse) (b : BootedState) → HaveSameGolden part one other t
         → (boot : IsBoot part other b) → StartsAlike part t (course_of b boot.last) }
@@ -25,8 +25,9 @@ pub fn closed_flashes_are_shut()
     ensures between { (flash found : List ℕ) → HasLayout flash → IsBetween flash found → LeadsNowhere found }
 {}
 
-/// Of a flash whose golden stream starts where the first sector is erased, and ends at U or before it, whatever a power loss left
-/// in an update boots as the flash did before, or starts as the golden stream does, or boots as the updated flash.
+/// Of a flash whose golden stream starts where the first sector is erased, and ends at U or before it,
+/// whatever a power loss left in an update boots as the flash did before, or starts as the golden
+/// stream does, or boots as the updated flash.
 pub fn found_flashes_start()
     ensures { (u : UpdatingAny) (found : List ℕ) (b : BootedState) → IsPreparedAny u
         → MayBeLeft u.stream u.flash found → IsBoot u.part found b → BootsAlike u found b }

@@ -1,4 +1,5 @@
-//! What a boot from the image of a golden and an update stream comes to. The functions do nothing: their contracts are the laws.
+//! What a boot from the image of a golden and an update stream comes to. The functions
+//! do nothing: their contracts are the laws.
 ghost use Rattle.std.specs.Prelude.{◌≢◌, ◌≤◌, ◌++◌, List, [], ℕ, false, length};
 ghost use Rattle.x7_part.specs.Part.{PartData};
 ghost use Rattle.x7_part.specs.Ranges.{IsPart};
@@ -13,9 +14,9 @@ ghost use Rattle.x7_recovery.specs.PlannedImage.{HasImage, golden_image, place_a
 ghost use Rattle.x7_recovery.specs.Recovery.{IsPrepared, updating_image};
 ghost use Rattle.x7_update.specs.After.{MayBeLeft};
 
-/// A flash that begins with the image of a golden and an update stream has its first slot open, which leads to the update, and
-/// both streams stand in it, whatever follows: so a boot from it comes to what one from a flash with an open slot does. The
-/// golden stream may be the full stream of a plan.
+/// A flash that begins with the image of a golden and an update stream has its first slot open, which leads to the
+/// update, and both streams stand in it, whatever follows: so a boot from it comes to what one from a flash with an
+/// open slot does. The golden stream may be the full stream of a plan.
 pub fn images_boot()
     ensures boots { (part : PartData) (golden update more : List ℕ) → IsPart part → image_size (length golden) (length update) ≤ flash_limit
         → HasStreams part golden update (image_of part.start_unit golden update ++ more) }
@@ -23,9 +24,9 @@ pub fn images_boot()
         → HasPlanned (image_of_flash part (golden_image part golden update ++ more) (place_after part golden)) golden }
 {}
 
-/// The laws of this crate speak of something: there is a part with a plan and their image, which is prepared for an update,
-/// and for every part and plan an update that fails, and for their image in an update a flash that is left of the image and
-/// isn't the same.
+/// The laws of this crate speak of something: there is a part with a plan and their image, which is prepared
+/// for an update, and for every part and plan an update that fails, and for their image in an update a flash
+/// that is left of the image and isn't the same.
 pub fn premises_hold()
     ensures part { IsPart tiny }
     ensures plan { IsPlanFor tiny nothing_planned }

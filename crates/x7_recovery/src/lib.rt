@@ -1,4 +1,5 @@
-//! What a device does with the image of a golden and an update stream, and with a flash that a power loss left in an update:
+//! What a device does with the image of a golden and an update stream, and with a
+//! flash that a power loss left in an update:
 //! laws alone.
 #![tactic(auto)]
 

@@ -1,5 +1,5 @@
-//! What a boot from a flash with an open slot comes to, whatever slot that is, and whatever stands after the golden stream. The
-//! functions do nothing: their contracts are the laws.
+//! What a boot from a flash with an open slot comes to, whatever slot that is, and whatever stands after the golden
+//! stream. The functions do nothing: their contracts are the laws.
 ghost use Rattle.std.specs.Prelude.{◌≡◌, ◌<◌, ◌++◌, List, ℕ, drop, take};
 ghost use Rattle.x7_words.specs.Word.{AreBytes};
 ghost use Rattle.x7_packets.specs.FlashSlot.{sector_bytes, slot_count};
@@ -12,17 +12,18 @@ ghost use Rattle.x7_recovery.specs.Recovery.{HasGolden};
 ghost use Rattle.x7_update.specs.After.{IsAfter};
 ghost use Rattle.x7_update.specs.Layout.{HasLayout, IsOpen, update_place};
 
-/// From a flash with an open slot a boot tries the update at the place to which the slot leads; where it starts the boot ends
-/// there, and where it fails and CTL0 forbids a fallback it stops. Else it falls back, and starts with the golden stream, where
-/// that is the full stream of a plan, or one of any kind that starts at power after an erased first sector and begins clean, or
-/// one with which some fallback over this flash starts. An update that is a full stream starts with the memory of its plan.
+/// From a flash with an open slot a boot tries the update at the place to which the slot leads; where it starts the
+/// boot ends there, and where it fails and CTL0 forbids a fallback it stops. Else it falls back, and starts with the
+/// golden stream, where that is the full stream of a plan, or one of any kind that starts at power after an erased
+/// first sector and begins clean, or one with which some fallback over this flash starts. An update that is a full
+/// stream starts with the memory of its plan.
 pub fn open_slots_boot()
     ensures { (o : Opened) → IsOpened o → EachBootsOpen o }
 {}
 
-/// A flash that begins with the first sector of an image has its first slot open, whatever follows. A flash with a layout, one
-/// of whose slots begins with the sync word, has that slot open, and after an update the next; then the golden stream stands
-/// as it did, and the stream of the update at U.
+/// A flash that begins with the first sector of an image has its first slot open, whatever follows. A flash with a
+/// layout, one of whose slots begins with the sync word, has that slot open, and after an update the next; then the
+/// golden stream stands as it did, and the stream of the update at U.
 pub fn flashes_have_an_open_slot()
     ensures image { (part : PartData) (flash : List ℕ) (place : ℕ) → IsPart part → BeginsAsImage part flash place → IsOpened (image_of_flash part flash place) }
     ensures layout { (part : PartData) (flash : List ℕ) (slot : ℕ) → part.start_unit ≡ 1 → HasLayout flash → AreBytes (take sector_bytes flash) → slot < slot_count → IsOpen flash slot

@@ -1,5 +1,5 @@
--- The boot history status register (UG470, boot history status register): the low byte speaks of the present boot attempt,
--- the next of the attempt before.
+-- The boot history status register (UG470, boot history status register): the low byte speaks of the present boot
+-- attempt, the next of the attempt before.
 use Rattle.std.specs.Prelude.{ℕ, ◌+◌, ◌*◌, ◌^◌, Bool, Option, None, Some}
 use Rattle.x7_regs.specs.declared.boot_status.Attempt.{Attempt}
 use Rattle.x7_regs.specs.declared.boot_status.Cause.{Cause}

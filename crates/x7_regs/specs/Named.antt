@@ -1,4 +1,5 @@
--- The names read back: which number or code a name is that of, and where a table of names has it (this project's choice).
+-- The names read back: which number or code a name is that of, and where a table
+-- of names has it (this project's choice).
 use Rattle.std.specs.Prelude.{◌≡◌, ℕ, ◌+◌, ◌-◌, ◌*◌, ◌%◌, ◌<◌, List, length, get_or}
 use Rattle.x7_regs.specs.Register.{reg_name}
 use Rattle.x7_regs.specs.Command.{code_of, command_name_of}

@@ -95,8 +95,8 @@ pub fn put_frame(out: &mut Vec<u8>, far: u32, words: &[u32])
     put(out, b"\n");
 }
 
-/// Appends to `out` the line `frame FAR WORDS` of a frame (this project's choice): its address, and its words one after the
-/// other. Each has eight upper-case hexadecimal digits. `NoMemory` leaves the items as they were.
+/// Appends to `out` the line `frame FAR WORDS` of a frame (this project's choice): its address, and its words one after
+/// the other. Each has eight upper-case hexadecimal digits. `NoMemory` leaves the items as they were.
 pub fn frame_line(out: &mut Vec<u8>, far: u32, words: &[u32]) -> Result<(), NoMemory>
     ensures ok { OnOk result (out.new.items ≡ out.old.items ++ frame_text far words.now) }
     ensures err { OnErr result (out.new.items ≡ out.old.items) }

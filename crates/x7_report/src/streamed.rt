@@ -78,8 +78,8 @@ fn write_lines<S: Sink>(
     Ok(())
 }
 
-/// The report of a device, ready to be written: what comes before the lines of its frames, the addresses of the frames that it
-/// shows, and room for a group of their lines.
+/// The report of a device, ready to be written: what comes before the lines of its frames, the addresses of the frames
+/// that it shows, and room for a group of their lines.
 #[derive(Drop)]
 pub struct PlayText {
     stopped: bool,
@@ -103,9 +103,9 @@ impl Model for PlayText {
 }
 
 impl PlayText {
-    /// The report of a device and of the words that it read out. While words of frame data are due, FAR is that of the words
-    /// given so far. `stopped` says whether what is reported stopped: the device at a fault, or what used the device, as a scan
-    /// that differs or a boot that no attempt started.
+    /// The report of a device and of the words that it read out. While words of frame data are due, FAR is that of the
+    /// words given so far. `stopped` says whether what is reported stopped: the device at a fault, or what used the
+    /// device, as a scan that differs or a boot that no attempt started.
     pub fn new(
         alloc: Global,
         device: Device,

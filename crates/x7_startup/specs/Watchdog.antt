@@ -1,4 +1,5 @@
--- The bytes that the configuration watchdog counts, and the byte at which it fires (UG470, watchdog; the count is this project's choice).
+-- The bytes that the configuration watchdog counts, and the byte at which it fires (UG470,
+-- watchdog; the count is this project's choice).
 use Rattle.std.specs.Prelude.{◌≡◌, ◌==◌, ℕ, ◌+◌, ◌-◌, ◌*◌, ◌^◌, ◌<◌, ◌≤◌, min, Bool, true, false, not, ◌&&◌, List, [], ◌∷◌, ◌++◌, if◌then◌else◌, IsTrue, replicate}
 use Rattle.x7_words.specs.Word.{field_of}
 

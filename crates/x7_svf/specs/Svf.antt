@@ -1,4 +1,5 @@
--- What a text comes to: its statements, or the line on which the first begins that is none (this project's profile of SVF).
+-- What a text comes to: its statements, or the line on which the first begins that
+-- is none (this project's profile of SVF).
 use Rattle.std.specs.Prelude.{◌≡◌, ℕ, zero, suc, false, List, [], ◌∷◌, length, Option, Some, None, Result, Ok, Err}
 use Rattle.x7_svf.specs.Comment.{clean_text}
 use Rattle.x7_svf.specs.Token.{Token, Word, Open, Close, End, TokenOnLine, tokens}

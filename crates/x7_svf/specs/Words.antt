@@ -15,7 +15,8 @@ is_key word key = str_eq_ignore_ascii_case word key
 abbrev pub is_digit : ℕ → Bool
 is_digit c = nat_le 48 c && nat_le c 57
 
--- the number of decimal digits, leading zeros allowed, where it is within a limit; the first so many are read as `so_far`
+-- the number of decimal digits, leading zeros allowed, where it is within a
+-- limit; the first so many are read as `so_far`
 abbrev pub number_from : ℕ → ℕ → List ℕ → Option ℕ
 number_from limit so_far [] = Some so_far
 number_from limit so_far (c ∷ cs) =

@@ -76,8 +76,8 @@ fn byte_from(digits: &[u8], at: u32) -> u8
     mirror(first) * 16 + mirror(second)
 }
 
-/// The bytes of the bits of digits from this one on, a multiple of eight: those that end before the last of this many bits, and
-/// at most a piece.
+/// The bytes of the bits of digits from this one on, a multiple of eight: those that end before the
+/// last of this many bits, and at most a piece.
 fn bytes_of(digits: &[u8], count: u32, from: u32) -> ArrayVec<u8, PIECE>
     requires whole { from % 8 ≡ 0 }
     requires some { from + 8 < count }
@@ -119,7 +119,8 @@ impl<'t> Bits<'t> {
         Some(bit_in(self.digits, i))
     }
 
-    /// The bytes of the bits from this one on, a multiple of eight: those that end before the last bit, and at most a piece.
+    /// The bytes of the bits from this one on, a multiple of eight: those that end
+    /// before the last bit, and at most a piece.
     pub fn bytes_from(&self, from: u32) -> ArrayVec<u8, PIECE>
         requires whole { from % 8 ≡ 0 }
         requires some { from + 8 < length self.now }

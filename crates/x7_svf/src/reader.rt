@@ -224,7 +224,8 @@ fn said_by(source: &mut Source, key: Span) -> Option<Stored>
     words_statement(source, key)
 }
 
-/// The statement that comes next, up to its `;`. Its keyword, and the digits of a scan or the words of another, are kept.
+/// The statement that comes next, up to its `;`. Its keyword, and the digits of
+/// a scan or the words of another, are kept.
 fn statement(source: &mut Source) -> Option<Stored>
     ensures is { IsStored source.new.kept result (statement_of (tokens_before_end (tokens_left source.old))) }
     ensures reads_on { IfSome result (λ s. ReadsOn source.old source.new) }

@@ -79,8 +79,8 @@ fn statements(alloc: Global, source: &mut Source) -> Result<Vec<Stored>, SvfFaul
     Ok(out)
 }
 
-/// The statements of a text that is given up for them, or the line on which the first begins that is none. The digits of the
-/// scans stay in the text's bytes, at most 2^29. Memory is wanting only for a text that begins with a statement.
+/// The statements of a text that is given up for them, or the line on which the first begins that is none. The digits
+/// of the scans stay in the text's bytes, at most 2^29. Memory is wanting only for a text that begins with a statement.
 pub fn svf_from(alloc: Global, text: Vec<u8>) -> Result<Svf, SvfFault>
     requires { vec_len text ≤ 2 ^ 29 }
     ensures statements { IfOk result (λ svf. IsSvfOf text.items (Ok svf)) }

@@ -111,8 +111,8 @@ pub(crate) fn next(source: &mut Source) -> Option<NextToken>
     Some(first(rest))
 }
 
-/// The word or bracket of a statement that comes next, after blanks, which are passed; none where the statement, or the text,
-/// ends.
+/// The word or bracket of a statement that comes next, after blanks, which are passed;
+/// none where the statement, or the text, ends.
 pub(crate) fn next_within(source: &mut Source) -> Option<NextToken>
     ensures is { MatchOption result (tokens_before_end (tokens_left source.old) ≡ [])
         (λ t. tokens_before_end (tokens_left source.old) ≡ token_of t source.new.rest ∷ tokens_before_end (left_after source.new t)) }

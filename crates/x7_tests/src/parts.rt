@@ -69,8 +69,8 @@ fn addresses_ranks_and_slots_of_two_rows(rt: HostRuntime) -> Result<(), Fail> {
     Ok(())
 }
 
-/// What a copy of the part of the columns answers: its IDCODE and the number of its frames, two next addresses, two ranks, and
-/// the last address.
+/// What a copy of the part of the columns answers: its IDCODE and the number of its frames, two next
+/// addresses, two ranks, and the last address.
 fn copy_answers(alloc: Global) -> Option<[Option<u32>; 7]> {
     let part = part_of(alloc, COLUMNS).ok()?;
     let copy = part.copy(alloc).ok()?;

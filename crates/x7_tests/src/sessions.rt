@@ -5,7 +5,8 @@ use x7_debug::Session;
 use x7_engine::{Device, ReadBuf};
 use x7_part::{Part, part_of};
 
-/// What comes before the frame data of a write to frame 00000001: the sync word, IDCODE, WCFG, FAR, and FDRI with 202 words.
+/// What comes before the frame data of a write to frame 00000001: the sync word,
+/// IDCODE, WCFG, FAR, and FDRI with 202 words.
 #[rattlefmt::skip]
 const BEFORE: [u8; 36] = [
     0xAA, 0x99, 0x55, 0x66, 0x30, 0x01, 0x80, 0x01, 0x03, 0x62, 0xD0, 0x93, 0x30, 0x00, 0x80, 0x01, 0x00, 0x00, 0x00, 0x01, //
@@ -33,8 +34,8 @@ fn is_as_played(alloc: Global, part: &Part, device: &Device, count: usize) -> Op
     }
 }
 
-/// By how much a move back by `count` bytes raises what the session's device was fed, and whether the device is then as one that
-/// plays the stream up to there.
+/// By how much a move back by `count` bytes raises what the session's device was fed, and whether the device is then as
+/// one that plays the stream up to there.
 fn went_back(alloc: Global, part: &Part, session: &mut Session, count: u64) -> Option<(u64, bool)> {
     let fed = session.device().fed();
     session.back(count);

@@ -32,8 +32,8 @@ fn a_text_assembles_at_once(rt: HostRuntime) {
     assert!(rt; bytes.as_slice() == want.as_slice());
 }
 
-/// How many bytes the first run of an input has that gives five bytes at a time, and how many were taken of it; none without
-/// memory.
+/// How many bytes the first run of an input has that gives five bytes at a time, and how
+/// many were taken of it; none without memory.
 fn first_run(alloc: Global, stream: &[u8]) -> Option<(usize, u64)> {
     let mut inputs = MemoryInputs::new(alloc);
     inputs.put("stream", stream).ok()?;

@@ -216,8 +216,8 @@ fn statuses_by_link(rt: &HostRuntime, path: Path<'_>, link: Path<'_>) -> Option<
     statuses_of(rt, &mut file, link, folder.as_path())
 }
 
-/// The statuses of updates by a link to a file, by the link once it is removed, and of a folder, and whether the file's first
-/// free slot was opened; none where that can't be done.
+/// The statuses of updates by a link to a file, by the link once it is removed, and of a folder, and whether the file's
+/// first free slot was opened; none where that can't be done.
 fn linked(rt: &HostRuntime) -> Option<((u8, u8, u8), bool)> {
     let path = path_of(rt, "linked")?;
     let link = path_of(rt, "link")?;
@@ -243,8 +243,8 @@ fn answer_of(rt: &HostRuntime, path: Path<'_>, bytes: &[u8]) -> Option<Result<()
     Some(update(rt.alloc(), &mut file, b"new"))
 }
 
-/// What an update of a file comes to in whose place these bytes are written once it is attached, and what the file holds then;
-/// none where that can't be done.
+/// What an update of a file comes to in whose place these bytes are written once it is attached, and what the file
+/// holds then; none where that can't be done.
 fn changed(
     rt: &HostRuntime,
     kind: &str,

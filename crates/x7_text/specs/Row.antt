@@ -106,13 +106,15 @@ byte_size = 9
 abbrev pub rows_size : ℕ → ℕ
 rows_size n = 3 * n + 16
 
--- bytes were put to `bytes` lines, as text of at most this size: the open line had `in_line` bytes, and now has `next` of them
+-- bytes were put to `bytes` lines, as text of at most this size: the open line had
+-- `in_line` bytes, and now has `next` of them
 pub record PutsBytes (in_line : ℕ) (bytes : List ℕ) (old new : Vec ℕ Global) (most next : ℕ) : Type 0 where
   pub count : next ≡ in_line_after row_bytes in_line bytes
   pub below : next < row_bytes
   pub appends : Appends old new (open_bytes in_line bytes) most
 
--- words were put to `data` lines, as text of at most this size: the open line had `in_line` words, and now has `next` of them
+-- words were put to `data` lines, as text of at most this size: the open line had
+-- `in_line` words, and now has `next` of them
 pub record PutsWords (in_line : ℕ) (words : List ℕ) (old new : Vec ℕ Global) (most next : ℕ) : Type 0 where
   pub count : next ≡ in_line_after row_words in_line words
   pub below : next < row_words

@@ -98,8 +98,8 @@ fn sixteen_of(digits: &[u8; 64], at: usize) -> u8x16
     u8x16::from_slice(&digits[at..])
 }
 
-/// The `data` line of eight words, with its line end, and three bytes after it. It is stored by sixteen bytes: digits of one
-/// vector, or of two that follow each other, and then what stands between them.
+/// The `data` line of eight words, with its line end, and three bytes after it. It is stored by sixteen bytes: digits
+/// of one vector, or of two that follow each other, and then what stands between them.
 #[rattlefmt::skip]
 #[inline(always)]
 fn wide_line(bytes: &[u8; 32]) -> [u8; 80]

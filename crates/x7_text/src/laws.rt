@@ -49,8 +49,8 @@ pub fn either_case_leads_back()
     ensures bytes { (bs : List ℕ) → AreBytes bs → pairs (flat_map hex_byte bs) ≡ Some bs }
 {}
 
-/// Lines joined are the text, none holds a line end, and lines that each have their end are split into them and an empty
-/// one.
+/// Lines joined are the text, none holds a line end, and lines that each have their
+/// end are split into them and an empty one.
 pub fn lines_lead_back()
     ensures joined { (text : List ℕ) → joined_lines (split text) ≡ text }
     ensures free { (text : List ℕ) → AllByRecursion (λ line. has_no_end line ≡ true) (split text) }

@@ -7,8 +7,8 @@ use crate::lines::first_line;
 use std::alloc::Global;
 use std::marker::Model;
 
-/// What takes the lines of a text in their order, up to the first one at fault. Lines count from 1, and are given without
-/// their end.
+/// What takes the lines of a text in their order, up to the first one at fault. Lines count
+/// from 1, and are given without their end.
 pub trait TakesLines: Drop {
     /// Why a text is refused.
     type Fault: Drop;
@@ -42,8 +42,8 @@ pub trait TakesLines: Drop {
         ensures memory { (first : Self) (lines : List (List ℕ)) → n ≡ length lines + 1 → took first self.old lines
             → IfErr result (λ fault. is_want fault → wants first lines line.now) };
 
-    /// Takes the lines of a text that have their end, after `n` lines. Answers what is left of the text, and how many lines
-    /// were taken in all. After an error nothing more may be taken.
+    /// Takes the lines of a text that have their end, after `n` lines. Answers what is left of the text, and how many
+    /// lines were taken in all. After an error nothing more may be taken.
     fn put_lines<'t>(&mut self, n: u64, text: &'t [u8]) -> Result<(&'t [u8], u64), Self::Fault>
         ensures read { (first : Self) (lines : List (List ℕ)) → n ≡ length lines → n + length text.now < 2 ^ 63 → took first self.old lines
             → MatchResult result (λ left. TakesWhole (took first) lines text.now self.new left.0.now left.1) (λ fault. (more : List ℕ) → fails first fault (lines ++ split (text.now ++ more))) }
@@ -162,9 +162,9 @@ impl<T: TakesLines> LineReader<T> {
         }
     }
 
-    /// Takes the next piece of a text of fewer than 2^63 bytes, which may end inside a line. A fault is that of the whole
-    /// text, whatever follows. Where no beginning of a line is held, memory is wanting only at a line of the piece, or to
-    /// hold the beginning of a line after them.
+    /// Takes the next piece of a text of fewer than 2^63 bytes, which may end inside a line. A fault is that of the
+    /// whole text, whatever follows. Where no beginning of a line is held, memory is wanting only at a line of the
+    /// piece, or to hold the beginning of a line after them.
     pub fn feed(self, piece: &[u8]) -> Result<LineReader<T>, T::Fault>
         ensures read { (first : T) (text : List ℕ) → length (text ++ piece.now) < 2 ^ 63 → StandsFor (T.took first) self text
             → MatchResult result (λ reader. StandsFor (T.took first) reader (text ++ piece.now)) (λ fault. FailsFrom (T.fails first fault) (text ++ piece.now)) }

@@ -36,7 +36,8 @@ fn put_line_end(text: &mut Vec<u8>, full: usize, in_line: usize) -> usize
     in_line + 1
 }
 
-/// Appends a word to a `data` line of which `in_line` words stand (0 where no line is open). Gives that count afterwards.
+/// Appends a word to a `data` line of which `in_line` words stand (0 where no
+/// line is open). Gives that count afterwards.
 pub fn put_word(text: &mut Vec<u8>, in_line: usize, w: u32) -> usize
     requires open { in_line < row_words }
     requires room { HasSpareRoom text.old word_size }

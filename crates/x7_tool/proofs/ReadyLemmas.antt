@@ -27,7 +27,8 @@ use Rattle.x7_tool.specs.Play.{text_of_play}
 use Rattle.x7_tool.specs.Ready.{text_of_bytes, whole_of}
 use Rattle.x7_tool.proofs.DebugLemmas.{stream_steady}
 
--- what a last step comes to, that reads nothing: want of memory, or an end that contents decide, known or not, and that is due
+-- what a last step comes to, that reads nothing: want of memory, or an end that
+-- contents decide, known or not, and that is due
 abbrev pub EndsDue : (Result Answer Event → Type 0) → Result Answer Event → Type 0
 EndsDue Due got = (got ≡ Err no_memory) ⊎ (IsPossible got × IsDecided got × Due got)
 

@@ -12,7 +12,8 @@ use Rattle.x7_tool.specs.Outside.{Outside}
 abbrev pub most_ahead : ℕ
 most_ahead = 524288
 
--- the most bytes of a listing that are held of it: those of bytes that may yet be a sync word, or the rest of a word, and line ends
+-- the most bytes of a listing that are held of it: those of bytes that may yet be a sync
+-- word, or the rest of a word, and line ends
 abbrev pub most_held : ℕ
 most_held = 64
 
@@ -22,7 +23,8 @@ pub record HasWritten (early before after : List ℕ) : Type 0 where
   pub lists : stream_listing early ≡ Ok text
   pub written : length before + length text ≤ length after + most_held
 
--- A stream's bytes are early ones, which are listed, late ones, at most `most_ahead`, and those that are left. The bytes read, early and late, are at most `most_ahead` more than the sink got.
+-- A stream's bytes are early ones, which are listed, late ones, at most `most_ahead`, and those that are left. The
+-- bytes read, early and late, are at most `most_ahead` more than the sink got.
 pub record ReadsNear (bytes left before after : List ℕ) : Type 0 where
   pub early : List ℕ
   pub late : List ℕ
@@ -45,26 +47,30 @@ IsNear stream old new =
     (inputs : List ℕ → Option (List ℕ)) (bytes left before after : List ℕ) → old.inputs.contents ≡ Some inputs → inputs stream ≡ Some bytes → new.inputs.rest ≡ Some left
     → old.out.written ≡ Some before → new.out.written ≡ Some after → ReadsNear bytes left before after
 
--- where the stream and what the sink got are known, few bytes more were given than are listed: after a fault nothing may be known of the rest
+-- where the stream and what the sink got are known, few bytes more were given than are listed: after
+-- a fault nothing may be known of the rest
 abbrev pub IsGivenNear : List ℕ → Outside → Outside → Type 0
 IsGivenNear stream old new =
     (inputs : List ℕ → Option (List ℕ)) (bytes before after : List ℕ) → old.inputs.contents ≡ Some inputs → inputs stream ≡ Some bytes
     → old.out.written ≡ Some before → new.out.written ≡ Some after → GivesNear bytes new.inputs.given before after
 
--- where the stream and what is left of it are known, and its header is refused at a byte, no byte after that one was read
+-- where the stream and what is left of it are known, and its header is refused
+-- at a byte, no byte after that one was read
 abbrev pub IsSoon : List ℕ → Outside → Outside → Type 0
 IsSoon stream old new =
     (inputs : List ℕ → Option (List ℕ)) (bytes left : List ℕ) (place : ℕ) → old.inputs.contents ≡ Some inputs → inputs stream ≡ Some bytes → new.inputs.rest ≡ Some left → stream_listing bytes ≡ Err place
     → length bytes ≤ length left + (place + 1)
 
--- where the stream is known and made of bytes, and its header is refused at one that it has, no more are counted as given than stand before that one
+-- where the stream is known and made of bytes, and its header is refused at one that it has, no more are counted as
+-- given than stand before that one
 abbrev pub IsUnjudged : List ℕ → Outside → Outside → Type 0
 IsUnjudged stream old new =
     (inputs : List ℕ → Option (List ℕ)) (bytes : List ℕ) (place : ℕ) → old.inputs.contents ≡ Some inputs → inputs stream ≡ Some bytes → AreBytes bytes → stream_listing bytes ≡ Err place → place < length bytes
     → new.inputs.given ≤ place
 
--- by the status: where the sink failed, the stream is too large, it failed or memory is wanting, few bytes more were read or given than are listed; where a header is
--- refused, no byte after that one was read; where the stream failed, the byte at which its header would be refused was not given
+-- by the status: where the sink failed, the stream is too large, it failed or memory is wanting, few bytes more were
+-- read or given than are listed; where a header is refused, no byte after that one was read; where the stream failed,
+-- the byte at which its header would be refused was not given
 abbrev pub StaysNearBy : Status → List ℕ → Outside → Outside → Type 0
 StaysNearBy status.WriteFault stream old new = IsNear stream old new
 StaysNearBy status.TooLarge stream old new = IsNear stream old new

@@ -1,4 +1,5 @@
--- What stands between two turns: of a listing that is written, and of a text that is read while it comes (this project's choice).
+-- What stands between two turns: of a listing that is written, and of a text that is
+-- read while it comes (this project's choice).
 use Rattle.std.specs.Prelude.{◌≡◌, ◌⊎◌, ◌≤◌, ◌++◌, ℕ, List, [], Option, Result, Ok, MatchResult, length, ◌+◌}
 use Rattle.x7_words.specs.Sink.{PutsPrefix, SinkFails, SinkState, appended}
 use Rattle.x7_words.specs.Word.{AreBytes}
@@ -21,11 +22,13 @@ pub record Lists (l : ListerState) (first now : Option (List ℕ)) (bytes : List
 abbrev pub IsUnlisted : SinkState → SinkState → Event → Type 0
 IsUnlisted old new event = ((event ≡ no_memory) × (new.written ≡ old.written)) ⊎ ((event ≡ writing_failed) × SinkFails old new)
 
--- The listing stopped in a piece: whatever was listed before, and may follow, a prefix of the listing of all of it was put.
+-- The listing stopped in a piece: whatever was listed before, and may follow, a
+-- prefix of the listing of all of it was put.
 abbrev pub StopsIn : ListerState → Option (List ℕ) → List ℕ → Option (List ℕ) → Type 0
 StopsIn l old piece new = (first : Option (List ℕ)) (bytes rest : List ℕ) → Lists l first old bytes → AreBytes (bytes ++ (piece ++ rest)) → PutsPrefix first (listing_of (bytes ++ (piece ++ rest))) new
 
--- What was put after the first bytes is so far the listing of each stream that begins with these bytes: a header's line or nothing, and the listing of the data.
+-- What was put after the first bytes is so far the listing of each stream that begins with these bytes: a header's line
+-- or nothing, and the listing of the data.
 pub record ListsStream (l : ListerState) (first now : Option (List ℕ)) (bytes : List ℕ) : Type 0 where
   pub line : List ℕ
   pub sent : List ℕ

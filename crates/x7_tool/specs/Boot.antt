@@ -1,5 +1,5 @@
--- The text of a boot (this project's choice): its lines, and the report of the device, as the last attempt left it, without words
--- read out.
+-- The text of a boot (this project's choice): its lines, and the report of the device, as the last
+-- attempt left it, without words read out.
 use Rattle.std.specs.Prelude.{ℕ, List, [], ◌++◌}
 use Rattle.x7_part.specs.Part.{PartData}
 use Rattle.x7_engine.specs.Standing.{NoWordDue}

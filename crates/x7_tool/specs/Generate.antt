@@ -25,7 +25,8 @@ counted count n = map (λ i. (n + i) % 2 ^ 32) (range_with_len 0 count)
 abbrev pub row_by : ℕ → ℕ → ℕ → List PlanRow
 row_by width far n = if nat_lt n (2 ^ 31) then [] else record { far = far; words = counted width n } ∷ []
 
--- what is planned for these addresses: the first one's number is that after x, each other's that after the number before
+-- what is planned for these addresses: the first one's number is that after x,
+-- each other's that after the number before
 abbrev pub rows_after : ℕ → ℕ → List ℕ → List PlanRow
 rows_after width x [] = []
 rows_after width x (far ∷ fars) = row_by width far (next_number x) ++ rows_after width (next_number x) fars
@@ -55,7 +56,8 @@ sum_line n = codes "sum " ++ hex_word n ++ codes "\n"
 abbrev pub TookStream : PartData → List ℕ → Player → ℕ → Type 0
 TookStream part stream player size = HasPlayed part stream player × (size ≡ length stream) × (length (reads_of part on_the_bench stream) ≤ reads_limit)
 
--- what a summary says of a stream that was played: the planned frames, the bytes of the stream, and the phase and the sum of all words of a device that took it
+-- what a summary says of a stream that was played: the planned frames, the bytes of the stream, and the phase and the
+-- sum of all words of a device that took it
 pub record SummaryData : Type 0 where
   pub planned : ℕ
   pub size : ℕ
@@ -81,7 +83,8 @@ played_summary part seed planned stream =
 unfoldable pub gen_text : PartData → ℕ → List ℕ
 gen_text part seed = played_summary part seed (length (generated part seed).rows) (full_stream part (generated part seed))
 
--- the summary by what was planned: the length of the plan's full stream, phase 7, and the sum of the words of the plan over zeros
+-- the summary by what was planned: the length of the plan's full stream, phase 7, and
+-- the sum of the words of the plan over zeros
 abbrev pub planned_summary : PartData → ℕ → List ℕ
 planned_summary part seed =
     summary_text part.name seed (record {

@@ -18,7 +18,8 @@ abbrev pub HasData : Option Known → List ℕ → List ℕ → Type 0
 HasData None stream bytes = Unit {0}
 HasData (Some known) stream bytes = stream_data known stream ≡ Ok bytes
 
--- What may be found of a flash: what it held; or, of a form with a stream for it, what an update may leave with the stream's data, or with some bytes where the contents aren't known.
+-- What may be found of a flash: what it held; or, of a form with a stream for it, what an update may leave with the
+-- stream's data, or with some bytes where the contents aren't known.
 abbrev pub MayBeFound : Option Known → Option (List ℕ) → List ℕ → List ℕ → Type 0
 MayBeFound known None flash found = found ≡ flash
 MayBeFound known (Some stream) flash found = (found ≡ flash) ⊎ ((bytes : List ℕ) × HasData known stream bytes × MayBeLeft bytes flash found)
@@ -32,7 +33,8 @@ pub record UsesFlash (form : Option AskedForm) (old : Sources) (new : FlashState
 abbrev pub PowerLossMayLeave : Option AskedForm → Sources → List ℕ → Type 0
 PowerLossMayLeave form old found = IfKnown old.flash.bytes (λ all. MayBeFound (known_from old) (updated_by form) all found)
 
--- A run updates a flash with a stream, whose bytes and data are known; the flash has a layout, and its golden stream, of any kind, starts where the first sector is erased, and ends at U or before it.
+-- A run updates a flash with a stream, whose bytes and data are known; the flash has a layout, and its golden stream,
+-- of any kind, starts where the first sector is erased, and ends at U or before it.
 pub record IsUpdateOf (form : Option AskedForm) (old : Sources) (u : UpdatingAny) : Type 0 where
   pub known : Known
   pub is_known : known_from old ≡ Some known
@@ -42,18 +44,21 @@ pub record IsUpdateOf (form : Option AskedForm) (old : Sources) (u : UpdatingAny
   pub bytes : old.flash.bytes ≡ Some u.flash
   pub prepared : IsPreparedAny u
 
--- where a run is such an update and these bytes are found, each boot from them is that of the flash before it, or starts as the golden stream does, or is that of the updated flash
+-- where a run is such an update and these bytes are found, each boot from them is that of the flash before it, or
+-- starts as the golden stream does, or is that of the updated flash
 abbrev pub EachBoots : Option AskedForm → Sources → List ℕ → Type 0
 EachBoots form old found = (u : UpdatingAny) (b : BootedState) → IsUpdateOf form old u → IsBoot u.part found b → BootsAlike u found b
 
--- by the reason of an update that wasn't done: the bytes stay, but where a write or a read of the flash failed, or a byte differs
+-- by the reason of an update that wasn't done: the bytes stay, but where a write or a
+-- read of the flash failed, or a byte differs
 abbrev pub KeepsBytes : Why → FlashState → FlashState → Type 0
 KeepsBytes why.ReadFault old new = FlashFails old new ⊎ (new.bytes ≡ old.bytes)
 KeepsBytes why.WriteFault old new = Unit {0}
 KeepsBytes (why.Differs place) old new = Unit {0}
 KeepsBytes reason old new = new.bytes ≡ old.bytes
 
--- An update that is done leaves the flash as it is after one with the stream's data. One that isn't leaves its bytes, as its reason says.
+-- An update that is done leaves the flash as it is after one with the stream's data. One that
+-- isn't leaves its bytes, as its reason says.
 abbrev pub Updates : Option (List ℕ) → Outside → Outside → Result Answer Event → Type 0
 Updates None old new end = Unit {0}
 Updates (Some stream) old new (Ok answer) = (bytes : List ℕ) × HasData (known_in old) stream bytes × Becomes old.flash new.flash (IsAfter bytes)

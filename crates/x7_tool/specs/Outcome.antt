@@ -1,4 +1,5 @@
--- What a command comes to, over known inputs and a known flash: the first event in the order of the work decides (this project's choice).
+-- What a command comes to, over known inputs and a known flash: the first event in the order of
+-- the work decides (this project's choice).
 use Rattle.std.specs.Prelude.{◌≡◌, ℕ, List, [], ◌∷◌, ◌++◌, ◌||◌, Option, None, Some, is_some, Result, Ok, Err, Bool, false, if◌then◌else◌, length, nat_lt, take, ◌⊎◌, ◌<◌, ◌≤◌, map, reverse, true}
 use Rattle.x7_svf.specs.declared.fault.SvfFault.{SvfFault}
 use Rattle.x7_svf.specs.declared.fault.SvfFault.TheVariants as svf
@@ -156,7 +157,8 @@ planner_event name _ = no_memory
 abbrev pub IsUnplanned : List ℕ → PlanTexts → Event → Type 0
 IsUnplanned name texts event = (plan : PlanData) × IsPlanOf texts.part texts.text (Ok plan) × (fault : PlanFault) × IsPartialFault texts.part plan fault × (planner_event name fault ≡ event)
 
--- `plan partial PART FRAMES`: the partial stream of the plan, or the frames text's first line at fault, or that it plans nothing
+-- `plan partial PART FRAMES`: the partial stream of the plan, or the frames text's
+-- first line at fault, or that it plans nothing
 abbrev pub PlannedPartial : List ℕ → Result PlanTexts Event → Result Answer Event → Type 0
 PlannedPartial name (Err event) end = Err event ≡ end
 PlannedPartial name (Ok texts) (Ok answer) =
@@ -253,7 +255,8 @@ pub record ImageStreams : Type 0 where
 abbrev pub image_streams : Known → List ℕ → List ℕ → Result ImageStreams Event
 image_streams known golden update = and_so (stream_data known golden) (λ g. and_so (stream_data known update) (λ u. Ok (record { golden = g; update = u })))
 
--- the image of a golden and an update stream, for parts of which one step of the start address is `unit` bytes, where it is no larger than a flash may be
+-- the image of a golden and an update stream, for parts of which one step of the start address is `unit` bytes, where
+-- it is no larger than a flash may be
 abbrev pub image_by : List ℕ → ℕ → ImageStreams → Result Answer Event
 image_by name unit s =
     if nat_lt flash_limit (image_size (length s.golden) (length s.update)) then Err (bad_input name input.Image)
@@ -284,7 +287,8 @@ pub record IsBootText (part : PartData) (flash : List ℕ) (answer : Answer) : T
   pub stopped : answer.stopped ≡ has_failed end
   pub text : answer.text ≡ boot_text part (reverse (map tried (last ∷ older))) end last
 
--- the boot of a part from a flash of this name, which is no larger than a flash may be; where its bytes aren't known, of any
+-- the boot of a part from a flash of this name, which is no larger than a flash may
+-- be; where its bytes aren't known, of any
 abbrev pub FlashBoots : List ℕ → PartData → Option Found → Result Answer Event → Type 0
 FlashBoots name part None (Ok answer) = Unit {0}
 FlashBoots name part None (Err event) = event ≡ too_large name
@@ -324,7 +328,8 @@ update_event names (update_fault.NoLayout place) = bad_input names.flash (input.
 update_event names (update_fault.Differs place wrote read) = differs names.flash place
 update_event names update_fault.NoMemory = no_memory
 
--- why a flash isn't updated with a stream, by its bytes where they are known; a byte read back may be another than the one written there only where they aren't
+-- why a flash isn't updated with a stream, by its bytes where they are known; a byte read back may be another than the
+-- one written there only where they aren't
 abbrev pub IsUpdateFault : Option (List ℕ) → List ℕ → UpdateFault → Type 0
 IsUpdateFault bytes stream (update_fault.NoLayout place) = IfKnown bytes (λ flash. NoLayoutAt (length flash) flash place)
 IsUpdateFault bytes stream update_fault.TooLong = IfKnown bytes (IsTooLong stream)

@@ -73,7 +73,8 @@ FormFails form old new name = FailsAmong (names_of form) old.inputs new.inputs n
 abbrev pub FormLacks : Option AskedForm → Outside → Outside → List ℕ → Type 0
 FormLacks form old new name = LacksAmong (names_of form) old.inputs new.inputs name ⊎ FlashLacksAmong (flash_names form) old.flash new.flash name
 
--- a mishap came: an input or the flash of a name that the form gives failed, after the bytes that were given of the last input, or was missing
+-- a mishap came: an input or the flash of a name that the form gives failed, after the bytes that
+-- were given of the last input, or was missing
 abbrev pub Came : Option AskedForm → Outside → Outside → Mishap → Type 0
 Came form old new (Failing name given) = (given ≡ new.inputs.given) × FormFails form old new name
 Came form old new (Lacking name) = FormLacks form old new name
@@ -90,7 +91,8 @@ IsQuiet form old new =
 
 -- ---- the flash
 
--- A flash was read at most: its bytes stay and nothing was written, no count falls, and it was asked for no other name than this.
+-- A flash was read at most: its bytes stay and nothing was written, no count falls, and
+-- it was asked for no other name than this.
 pub record ReadsFlash (name : List ℕ) (old new : FlashState) : Type 0 where
   pub bytes : new.bytes ≡ old.bytes
   pub write_faults : new.write_faults ≡ old.write_faults

@@ -1,4 +1,5 @@
--- What a planned stream that was written does on a device at rest, and what a boot that started has been through (this project's choice).
+-- What a planned stream that was written does on a device at rest, and what a boot that started
+-- has been through (this project's choice).
 use Rattle.std.specs.Prelude.{◌≡◌, ◌<◌, ℕ, List, [], ◌++◌, false, Option, Some, Result, Ok}
 use Rattle.x7_words.specs.Word.{AreBytes}
 use Rattle.x7_part.specs.Part.{PartData}
@@ -27,7 +28,8 @@ use Rattle.x7_forms.specs.Known.{Answer, Held, Known, data_of, part_of, stream_l
 use Rattle.x7_tool.specs.Play.{report_of}
 use Rattle.x7_tool.specs.Outcome.{ImageStreams, PlanTexts, image_streams, plan_texts, svf_answer, IsBootText}
 
--- The stream of `plan full`: after any bytes at rest it leaves the plan of the frames text over zeros and ends startup, and the device is at rest again.
+-- The stream of `plan full`: after any bytes at rest it leaves the plan of the frames text over zeros and ends startup,
+-- and the device is at rest again.
 pub record PromisesFull (known : Known) (part frames stream : List ℕ) : Type 0 where
   pub texts : PlanTexts
   pub plan : PlanData
@@ -35,7 +37,8 @@ pub record PromisesFull (known : Known) (part frames stream : List ℕ) : Type 0
   pub planned : IsPlanOf texts.part texts.text (Ok plan)
   pub plays : (kept : Kept) (bytes : List ℕ) → AreBytes bytes → AtRest texts.part kept bytes → PlaysFull (resting_after texts.part kept bytes) stream plan
 
--- The stream of `plan partial`: after any bytes at rest it overrides just the frames of the plan of the frames text; the phase stays, and the device is at rest again.
+-- The stream of `plan partial`: after any bytes at rest it overrides just the frames of the plan of the frames text;
+-- the phase stays, and the device is at rest again.
 pub record PromisesPartial (known : Known) (part frames stream : List ℕ) : Type 0 where
   pub texts : PlanTexts
   pub plan : PlanData
@@ -43,13 +46,15 @@ pub record PromisesPartial (known : Known) (part frames stream : List ℕ) : Typ
   pub planned : IsPlanOf texts.part texts.text (Ok plan)
   pub plays : (kept : Kept) (bytes : List ℕ) → AreBytes bytes → AtRest texts.part kept bytes → PlaysPartial (resting_after texts.part kept bytes) stream plan
 
--- The stream of `plan read`: after any bytes at rest it reads out a frame of zeros and the frames along the slots; memory and phase stay, and the device is at rest again.
+-- The stream of `plan read`: after any bytes at rest it reads out a frame of zeros and the frames along the slots;
+-- memory and phase stay, and the device is at rest again.
 pub record PromisesRead (known : Known) (part : List ℕ) (far n : ℕ) (stream : List ℕ) : Type 0 where
   pub device : PartData
   pub read : part_of known part ≡ Ok device
   pub plays : (kept : Kept) (bytes : List ℕ) → AreBytes bytes → AtRest device kept bytes → PlaysRead (resting_after device kept bytes) stream far n
 
--- The text of `gen`: the full stream of the seed's plan, played on a new device, leaves the plan over zeros and ends startup, and the summary is that of such a play.
+-- The text of `gen`: the full stream of the seed's plan, played on a new device, leaves the plan over zeros and ends
+-- startup, and the summary is that of such a play.
 pub record PromisesSummary (known : Known) (part : List ℕ) (seed : ℕ) (text : List ℕ) : Type 0 where
   pub device : PartData
   pub read : part_of known part ≡ Ok device
@@ -65,7 +70,8 @@ pub record PromisesPlayed (known : Known) (part : List ℕ) (streams : List (Lis
   pub report : answer ≡ report_of device bytes
   pub checked : AreBytes bytes → 0 < (state_of device on_the_bench false bytes).phase → HasChecked device on_the_bench bytes
 
--- The text of `svf`: it is that of the statements of the SVF text, and startup has begun only where the bytes that the device took made their checks.
+-- The text of `svf`: it is that of the statements of the SVF text, and startup has begun only where the bytes that the
+-- device took made their checks.
 pub record PromisesPort (known : Known) (part text : List ℕ) (answer : Answer) : Type 0 where
   pub texts : PlanTexts
   pub statements : List Statement
@@ -74,13 +80,15 @@ pub record PromisesPort (known : Known) (part text : List ℕ) (answer : Answer)
   pub shows : answer ≡ svf_answer texts.part statements
   pub checked : 0 < (state_shown texts.part (port_played texts.part statements)).phase → HasChecked texts.part on_the_bench (bytes_taken texts.part (port_played texts.part statements))
 
--- The bytes of `image GOLDEN UPDATE`: a flash that begins with them has both streams, for each part whose start address counts bytes, and a boot from it tries the update, and falls back where that fails.
+-- The bytes of `image GOLDEN UPDATE`: a flash that begins with them has both streams, for each part whose start address
+-- counts bytes, and a boot from it tries the update, and falls back where that fails.
 pub record PromisesImage (known : Known) (golden update image : List ℕ) : Type 0 where
   pub streams : ImageStreams
   pub read : image_streams known golden update ≡ Ok streams
   pub boots : (device : PartData) (more : List ℕ) → IsPart device → device.start_unit ≡ 1 → HasStreams device streams.golden streams.update (image ++ more)
 
--- The bytes of `image PART GOLDEN UPDATE`: a flash that begins with them has both streams for the part, and a boot from it tries the update, and falls back where that fails.
+-- The bytes of `image PART GOLDEN UPDATE`: a flash that begins with them has both streams for the part, and a boot from
+-- it tries the update, and falls back where that fails.
 pub record PromisesImageFor (known : Known) (part golden update image : List ℕ) : Type 0 where
   pub device : PartData
   pub streams : ImageStreams
@@ -88,7 +96,8 @@ pub record PromisesImageFor (known : Known) (part golden update image : List ℕ
   pub read : image_streams known golden update ≡ Ok streams
   pub boots : (more : List ℕ) → HasStreams device streams.golden streams.update (image ++ more)
 
--- a boot from a flash of these bytes; startup has begun in its last attempt only where that made its checks, also where it didn't start
+-- a boot from a flash of these bytes; startup has begun in its last attempt only where that
+-- made its checks, also where it didn't start
 pub record StartsChecked (part : PartData) (flash : List ℕ) (answer : Answer) : Type 0 where
   pub boot : IsBootText part flash answer
   pub checked : 0 < (end_state part boot.last).phase → HasChecked part boot.last.kept boot.last.bytes
@@ -101,12 +110,15 @@ pub record HoldsOpen (known : Known) (flash : List ℕ) (part : PartData) (o : O
   pub part_is : o.part ≡ part
   pub opened : IsOpened o
 
--- the text of a boot from a flash with an open slot, which comes to what such a boot does: the update is tried, and where it fails the golden stream starts as a fallback
+-- the text of a boot from a flash with an open slot, which comes to what such a boot does: the update is tried, and
+-- where it fails the golden stream starts as a fallback
 pub record BootsFromOpen (o : Opened) (answer : Answer) : Type 0 where
   pub boot : IsBootText o.part o.flash answer
   pub comes : BootsOpen o (course_along boot.last boot.older boot.end)
 
--- The text of `boot`: over a flash whose bytes are known startup has begun in the last attempt only where that made its checks. Over one with an open slot the text reports the update's start, or the fallback and its start, where the golden stream is one that starts so.
+-- The text of `boot`: over a flash whose bytes are known startup has begun in the last attempt only where that made its
+-- checks. Over one with an open slot the text reports the update's start, or the fallback and its start, where the
+-- golden stream is one that starts so.
 pub record PromisesStart (known : Known) (part flash : List ℕ) (answer : Answer) : Type 0 where
   pub device : PartData
   pub read : part_of known part ≡ Ok device

@@ -34,11 +34,13 @@ abbrev pub Agrees : Option Known → AskedForm → Result Answer Event → Type 
 Agrees None form end = Unit {0}
 Agrees (Some known) form end = FormGives known form end
 
--- the event reports a mishap that came, and where the contents are known, the form comes to it over them with that mishap; where they aren't, the mishap is all that is said
+-- the event reports a mishap that came, and where the contents are known, the form comes to it over them with that
+-- mishap; where they aren't, the mishap is all that is said
 abbrev pub Happens : AskedForm → Outside → Outside → Event → Type 0
 Happens form old new event = IsOfMishap Answer (known_in old) (Came (Some form) old new) (λ known end. FormGives known form end) event
 
--- a byte was read that is another than the one that an update with the stream's data writes at this place of the flash, and is the first of the update or of its slot's switch word that is; with some data, where the contents aren't known
+-- a byte was read that is another than the one that an update with the stream's data writes at this place of the flash,
+-- and is the first of the update or of its slot's switch word that is; with some data, where the contents aren't known
 pub record ReadsWrongAt (known : Option Known) (stream : List ℕ) (new : FlashState) (place : ℕ) : Type 0 where
   pub bytes : List ℕ
   pub has : HasData known stream bytes
@@ -52,7 +54,8 @@ abbrev pub IsDifference : AskedForm → Outside → Outside → Event → Type 0
 IsDifference (UpdatingFlash name stream) old new event = (place : ℕ) × (event ≡ differs name place) × (old.flash.bytes ≡ None) × ReadsWrongAt (known_in old) stream new.flash place
 IsDifference _ old new event = ⊥
 
--- A write of the flash of a form failed once all else was done: the flash is within the limit, and over what is known the form comes to its end.
+-- A write of the flash of a form failed once all else was done: the flash is within the limit, and over
+-- what is known the form comes to its end.
 abbrev pub WritesLast : AskedForm → Outside → Outside → Type 0
 WritesLast form old new = WritesFail (updated_by (Some form)) old.flash new.flash × (new.flash.extent ≤ flash_limit) × Agrees (known_in old) form (Ok no_text)
 
@@ -66,7 +69,8 @@ CausedBy Break form old new event = (event ≡ writing_failed) × (SinkFails old
 CausedBy Difference form old new event = IsDifference form old new event × Agrees (known_in old) form (Err event)
 CausedBy Contents form old new event = Agrees (known_in old) form (Err event)
 
--- why a command ended so: words without a form are a wrong usage, a whole text is that of the known contents, and an event has its cause
+-- why a command ended so: words without a form are a wrong usage, a whole text is that of the
+-- known contents, and an event has its cause
 abbrev pub EndIsCaused : Option AskedForm → Outside → Outside → Result Answer Event → Type 0
 EndIsCaused None old new end = end ≡ Err usage
 EndIsCaused (Some form) old new (Ok answer) = Agrees (known_in old) form (Ok answer)
@@ -83,7 +87,8 @@ IsPrefixOf (Some known) name bytes = (rest : List ℕ) × (bytes_found (known.in
 abbrev pub PutsListing : List ℕ → SinkState → SinkState → Type 0
 PutsListing bytes old new = (text : List ℕ) × ((stream_listing bytes ≡ Ok text) × PutsSome old text new)
 
--- The bytes have a listing, and what was put is a prefix of the listing of every list of bytes that begins with them and has one.
+-- The bytes have a listing, and what was put is a prefix of the listing of every list of
+-- bytes that begins with them and has one.
 pub record ListsSoFar (bytes : List ℕ) (old new : Option (List ℕ)) : Type 0 where
   pub has : (text : List ℕ) × (stream_listing bytes ≡ Ok text)
   pub goes : (rest text : List ℕ) → AreBytes rest → stream_listing (bytes ++ rest) ≡ Ok text → PutsPrefix old text new
@@ -92,7 +97,8 @@ pub record ListsSoFar (bytes : List ℕ) (old new : Option (List ℕ)) : Type 0 
 abbrev pub ListsPrefix : List ℕ → Outside → Outside → Type 0
 ListsPrefix stream old new = (bytes : List ℕ) × (IsPrefixOf (known_in old) stream bytes × ListsSoFar bytes old.out.written new.out.written)
 
--- what `list` wrote where a reason ended it: what it had listed as it read, or nothing where the reason comes before the listing
+-- what `list` wrote where a reason ended it: what it had listed as it read, or nothing
+-- where the reason comes before the listing
 abbrev pub ListLeaves : Why → List ℕ → Outside → Outside → Type 0
 ListLeaves why.ReadFault stream old new = ListsPrefix stream old new
 ListLeaves why.TooLarge stream old new = ListsPrefix stream old new
@@ -139,18 +145,21 @@ Wrote form old new (Err event) = LeftBy (cause_of_event event) form old new even
 
 -- ---- how large a flash is
 
--- by the number of its bytes, known or not: the flash of a form is within the limit where the form's text is whole, and over it where it is too large, if no input of its name is that
+-- by the number of its bytes, known or not: the flash of a form is within the limit where the form's text is whole, and
+-- over it where it is too large, if no input of its name is that
 abbrev pub IsMeasured : Option AskedForm → FlashState → Result Answer Event → Type 0
 IsMeasured form new (Ok answer) = (name : List ℕ) → Among (flash_names form) name → new.extent ≤ flash_limit
 IsMeasured form new (Err event) = (name : List ℕ) → Among (flash_names form) name → event ≡ too_large name → (flash_limit < new.extent) ⊎ Among (names_of form) name
 
 -- ---- when a flash fails
 
--- a form has all that it needs but for its flash, which is within the limit: whatever that holds, there is a whole text over what the inputs hold
+-- a form has all that it needs but for its flash, which is within the limit: whatever that holds, there
+-- is a whole text over what the inputs hold
 abbrev pub NeedsOnlyFlash : AskedForm → InputsState → FlashState → Type 0
 NeedsOnlyFlash form old new = (new.extent ≤ flash_limit) × ((answer : Answer) × Agrees (with_inputs old.contents None) form (Ok answer))
 
--- a fault of a form's flash that is attached comes once the form needs only the flash; it may be that of an input of the same name too
+-- a fault of a form's flash that is attached comes once the form needs only the flash; it may
+-- be that of an input of the same name too
 abbrev pub FailsLast : Option AskedForm → InputsState → FlashState → Result Answer Event → Type 0
 FailsLast None old new end = Unit {0}
 FailsLast (Some form) old new (Ok answer) = Unit {0}
@@ -168,7 +177,8 @@ JudgesFlash form old new end = Unit {0}
 
 -- ---- the end of a command
 
--- how a command ended: why, what the output got, how far was read, how large the flash is, what was judged where it failed, and what an update left
+-- how a command ended: why, what the output got, how far was read, how large the flash is, what was judged where it
+-- failed, and what an update left
 pub record Ends (form : Option AskedForm) (old new : Outside) (end : Result Answer Event) : Type 0 where
   pub cause : EndIsCaused form old new end
   pub wrote : Wrote form old new end
@@ -182,7 +192,8 @@ abbrev pub EndsAs : Option AskedForm → Outside → Outside → Result Bool Eve
 EndsAs form old new (Ok stopped) = (text : List ℕ) × Ends form old new (Ok (record { stopped = stopped; text = text }))
 EndsAs form old new (Err event) = Ends form old new (Err event)
 
--- A form came to this end, but for what is said of it: how it ended, where reading stopped, what was judged where its flash can't be used, how often inputs were asked for, and that every input keeps its bytes.
+-- A form came to this end, but for what is said of it: how it ended, where reading stopped, what was judged where its
+-- flash can't be used, how often inputs were asked for, and that every input keeps its bytes.
 pub record Answered (form : AskedForm) (old new : Outside) (got : Result Bool Event) : Type 0 where
   pub ends : EndsAs (Some form) old new got
   pub stops : Stops (Some form) old.inputs new.inputs got
@@ -202,7 +213,8 @@ AnsweredListing stream old new got = (before after : Outside) → Answered (List
 abbrev pub written_by : Result Bool Refusal → Result Bool Event
 written_by result = seen (λ stopped. stopped) result
 
--- what the sink of messages got: nothing after a whole text, and else the event's line, or a prefix of it where the sink failed
+-- what the sink of messages got: nothing after a whole text, and else the event's
+-- line, or a prefix of it where the sink failed
 abbrev pub SaysEnd : SinkState → SinkState → Result Answer Event → Type 0
 SaysEnd old new (Ok answer) = new.written ≡ old.written
 SaysEnd old new (Err event) = PutsOrFails old (event_line event) new
@@ -213,7 +225,8 @@ Puts (Err event) old new got = (got ≡ Err event) × (new.written ≡ old.writt
 Puts (Ok answer) old new (Ok stopped) = (stopped ≡ answer.stopped) × PutsAll old answer.text new
 Puts (Ok answer) old new (Err event) = (event ≡ writing_failed) × SinkFails old new × PutsSome old answer.text new
 
--- a text of the form that is ready has its cause: it is what the known contents come to, or what the form names failed or was missing
+-- a text of the form that is ready has its cause: it is what the known contents come to, or
+-- what the form names failed or was missing
 abbrev pub AnswersOver : AskedForm → Outside → Outside → Result Answer Event → Type 0
 AnswersOver form old new got = IsCausedBy (known_in old) (Came (Some form) old new) (λ known end. FormGives known form end) got
 
@@ -225,14 +238,16 @@ AnswersFrom form old new got = (before after : Outside) → AnswersOver form (wi
 abbrev pub AnswersForm : AskedForm → InputsState → InputsState → Result Answer Event → Type 0
 AnswersForm form old new got = AnswersBy (step_over (names_of (Some form)) old new) (λ known end. FormGives known form end) got
 
--- A form that reads inputs alone made its text ready, or not: the text has its cause, reading stopped where an input ends the form, no more inputs were asked for than the form names, and every input keeps its bytes.
+-- A form that reads inputs alone made its text ready, or not: the text has its cause, reading stopped where an input
+-- ends the form, no more inputs were asked for than the form names, and every input keeps its bytes.
 pub record MakesReady (form : AskedForm) (old new : InputsState) (got : Result Answer Event) : Type 0 where
   pub caused : AnswersForm form old new got
   pub stops : Stops (Some form) old new got
   pub asks : AsksFew old (length (names_of (Some form))) new
   pub stays : Stays old new
 
--- A form that reads a flash too made its text ready, or not: what is said of a form that reads inputs alone, by what the flash holds too; and of the flash, how large it is, and when it may fail.
+-- A form that reads a flash too made its text ready, or not: what is said of a form that reads inputs alone, by what
+-- the flash holds too; and of the flash, how large it is, and when it may fail.
 pub record MakesReadyFrom (form : AskedForm) (old new : Sources) (got : Result Answer Event) : Type 0 where
   pub caused : AnswersFrom form old new got
   pub stops : Stops (Some form) old.inputs new.inputs got
@@ -249,7 +264,8 @@ IsUnattached name old new event = ((event ≡ missing name) × FlashLacksAmong (
 abbrev pub IsUnopened : List ℕ → FlashState → FlashState → Event → Type 0
 IsUnopened name old new event = (IsUnattached name old new event × (new.attached ≡ false)) ⊎ ((event ≡ too_large name) × (flash_limit < new.extent) × IfKnown old.bytes (λ all. flash_limit < length all))
 
--- what a boot from a flash of this name comes to: want of memory, a flash that was not attached or failed, or what its bytes give, by their number
+-- what a boot from a flash of this name comes to: want of memory, a flash that was not attached or
+-- failed, or what its bytes give, by their number
 abbrev pub FlashComes : List ℕ → PartData → FlashState → FlashState → Result Answer Event → Type 0
 FlashComes name part old new (Ok answer) = FlashBoots name part (flash_found old.bytes) (Ok answer) × (new.extent ≤ flash_limit)
 FlashComes name part old new (Err event) = (event ≡ no_memory) ⊎ (IsUnattached name old new event ⊎ (FlashBoots name part (flash_found old.bytes) (Err event) × (flash_limit < new.extent)))

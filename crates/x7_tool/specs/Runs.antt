@@ -64,7 +64,8 @@ pub record Runs (form : Option AskedForm) (old new : Outside) (s : Status) : Typ
   pub wrote : Wrote form old new end
   -- messages got nothing after a whole text, and else the event's one line, or a prefix of it where they failed
   pub said : SaysEnd old.err new.err end
-  -- by the status: how far a stream that is listed was read where the output failed, its header was refused or a fault came
+  -- by the status: how far a stream that is listed was read where the output
+  -- failed, its header was refused or a fault came
   pub near : StaysNear s form old new
   -- where all that the form needs is known and nothing failed, the end is the outcome, or want of memory
   pub outcome : (known : Known) → known_in old ≡ Some known → IsQuiet form old new → (s ≡ status.NoMemory) ⊎ IsOutcome known form end
@@ -74,9 +75,11 @@ pub record Runs (form : Option AskedForm) (old new : Outside) (s : Status) : Typ
   pub back : TextsLeadBack form old new s end
   -- a planned stream that was written does on a device at rest what was planned
   pub promise : Promise (known_in old) form end
-  -- the flash of the form is within the limit after a whole text, and over it where it is too large, whether its bytes are known or not
+  -- the flash of the form is within the limit after a whole text, and over it where it is too
+  -- large, whether its bytes are known or not
   pub measured : IsMeasured form new.flash end
-  -- a fault of a flash that is attached comes last: the flash is within the limit, and all that the form reads of inputs is good
+  -- a fault of a flash that is attached comes last: the flash is within the limit, and
+  -- all that the form reads of inputs is good
   pub last : FailsLast form old.inputs new.flash end
   -- where an input ends the command, no later one was asked for, and no more than a byte over its limit was given of it
   pub stops : Stops form old.inputs new.inputs end
@@ -88,5 +91,6 @@ pub record Runs (form : Option AskedForm) (old new : Outside) (s : Status) : Typ
   pub stays : Stays old.inputs new.inputs
   -- the flash is untouched, read or written as the form says, and was asked for no name but the form's
   pub flash : KeepsFlash (flash_use form) old.flash new.flash
-  -- an update that is done left the flash as it is after one; one that isn't left its bytes, but where a write or a read of the flash failed, or a byte differs
+  -- an update that is done left the flash as it is after one; one that isn't left its bytes, but where a write or a
+  -- read of the flash failed, or a byte differs
   pub updates : Updates (updated_by form) old new end

@@ -1,4 +1,5 @@
--- Where reading stops: which input is asked for last, how often inputs were asked for till then, and how much is given of the last (this project's choice).
+-- Where reading stops: which input is asked for last, how often inputs were asked for till then, and how much is given
+-- of the last (this project's choice).
 use Rattle.std.specs.Prelude.{◌≡◌, ℕ, List, [], ◌∷◌, Option, None, Some, Result, Ok, Err, ◌⊎◌}
 use Rattle.x7_words.specs.Input.{InputsState}
 use Rattle.x7_boot.specs.Image.{flash_limit}
@@ -38,7 +39,8 @@ StopsBy Absence form old now event = NamesItsStop form old now event
 StopsBy Contents form old now event = NamesItsStop form old now event
 StopsBy _ form old now event = Unit {0}
 
--- where an input ends a command, no later one was asked for, no earlier one twice, and no more than a byte over its limit was given of it
+-- where an input ends a command, no later one was asked for, no earlier one twice, and no more
+-- than a byte over its limit was given of it
 abbrev pub Stops : {A : Type 0} → Option AskedForm → InputsState → InputsState → Result A Event → Type 0
 Stops None old now end = Unit {0}
 Stops (Some form) old now (Ok a) = Unit {0}

@@ -151,7 +151,8 @@ fn play_all(
     Ok(size)
 }
 
-/// A new device of the part that took the full stream of a plan at its addresses. No more than a piece of the stream is held.
+/// A new device of the part that took the full stream of a plan at its addresses. No
+/// more than a piece of the stream is held.
 fn play_full(alloc: Global, part: &Part, plan: &Plan) -> Result<Played, NoMemory>
     requires width { plan.now.width ≡ frame_words part.now }
     requires addresses { AreAddressed part.now plan.now.rows }
@@ -244,8 +245,9 @@ fn summarized(
     Ok(text)
 }
 
-/// The summary of the full stream of a seed's plan, played on a new device (this project's choice): `gen NAME SEED`; `planned N`,
-/// the planned frames; `stream N`, its bytes; `phase P`; `sum W`, the sum of all words of the memory modulo 2^32.
+/// The summary of the full stream of a seed's plan, played on a new device (this project's choice):
+/// `gen NAME SEED`; `planned N`, the planned frames; `stream N`, its bytes; `phase P`; `sum W`, the
+/// sum of all words of the memory modulo 2^32.
 pub fn gen_text(alloc: Global, part: &Part, seed: u32) -> Result<Vec<u8>, NoMemory>
     ensures text { IfOk result (λ text. text.items ≡ gen_text part.now seed) }
     ensures planned { IfOk result (λ text. text.items ≡ planned_summary part.now seed) }

@@ -101,8 +101,8 @@ fn put_end<'w, O: Sink>(lister: &mut Lister, out: &mut O) -> Result<(), Refusal<
     }
 }
 
-/// `list STREAM`: the stream is read up to where its header is judged and then in turns, and what each adds to the listing is
-/// written before the next is read.
+/// `list STREAM`: the stream is read up to where its header is judged and then in turns, and what each adds to the
+/// listing is written before the next is read.
 pub(crate) fn list<'w, I: Inputs, O: Sink>(
     alloc: Global,
     inputs: &mut I,

@@ -82,8 +82,8 @@ fn either(one: bool, other: bool) -> bool
     one || other
 }
 
-/// What statements come to on a new device of the part, ready to be written: the line of what differs first, and the device's
-/// report.
+/// What statements come to on a new device of the part, ready to be written: the line of
+/// what differs first, and the device's report.
 fn played(alloc: Global, part: &Part, svf: &Svf) -> Result<PlayText, NoMemory>
     ensures { IfOk result (λ text. text_of_play text ≡ svf_answer part.now svf.now) }
 {

@@ -1,4 +1,5 @@
--- Lemmas on bytes that are read back: one that is another than the one wanted there is a byte that an update writes, and none of known bytes.
+-- Lemmas on bytes that are read back: one that is another than the one wanted there is a byte that
+-- an update writes, and none of known bytes.
 use Rattle.std.proofs.Common.{◌≡◌, ℕ, ◌+◌, ◌-◌, ◌*◌, ◌<◌, ◌≤◌, IsTrue, true, false, List, length, Option, None, Some, option_map, Result, Ok, Err, IfErr, get_or, slice_range, refl, ap, sym, subst, ◌∙◌, arith}
 use Rattle.x7_words.specs.Flash.{FlashState, IfKnown, Sees}
 use Rattle.x7_words.proofs.CountLemmas.{risen_from}

@@ -18,8 +18,8 @@ pub data ClosesTo (flash closed : List ℕ) : Type 0 where
   already : HasNoOpenSlot flash → closed ≡ flash → ClosesTo flash closed
   spends : (slot : ℕ) → slot < slot_count → IsOpen flash slot → closed ≡ switched slot spent_switch flash → ClosesTo flash closed
 
--- The flash after an update with a stream: its open slot is spent, the stream stands at U with FF after it, and the first slot
--- from which on all are free is open.
+-- The flash after an update with a stream: its open slot is spent, the stream stands at U with FF after it, and the
+-- first slot from which on all are free is open.
 pub record IsAfter (stream flash after : List ℕ) : Type 0 where
   pub closed : List ℕ
   pub closes : ClosesTo flash closed
@@ -28,8 +28,8 @@ pub record IsAfter (stream flash after : List ℕ) : Type 0 where
   pub fits : update_place flash + length stream ≤ length flash
   pub is : after ≡ switched next open_switch (with_stream (update_place flash) stream closed)
 
--- Between closing the open slot and opening the next: no slot is open, all slots lead to U still, each switch word but the open
--- slot's and the next one's stays, the golden stream stands, and from U on there may be anything.
+-- Between closing the open slot and opening the next: no slot is open, all slots lead to U still, each switch word but
+-- the open slot's and the next one's stays, the golden stream stands, and from U on there may be anything.
 pub record IsBetween (flash found : List ℕ) : Type 0 where
   pub size : length found ≡ length flash
   pub slots : (i : ℕ) → i < sector_bytes → 4 ≤ i % 32 → get_or found i 0 ≡ get_or flash i 0
@@ -37,8 +37,8 @@ pub record IsBetween (flash found : List ℕ) : Type 0 where
   pub switches : (slot : ℕ) → slot < slot_count → (IsOpen flash slot → ⊥) → (IsNextFreeSlot flash slot → ⊥) → switch_of found slot ≡ switch_of flash slot
   pub golden : (i : ℕ) → sector_bytes ≤ i → i < update_place flash → get_or found i 0 ≡ get_or flash i 0
 
--- What a power loss may leave of a flash that is being updated with a stream: itself; and of one with a layout bytes that are between, or
--- the flash after the update.
+-- What a power loss may leave of a flash that is being updated with a stream: itself; and of one with a layout bytes
+-- that are between, or the flash after the update.
 pub data MayBeLeft (stream flash found : List ℕ) : Type 0 where
   untouched : found ≡ flash → MayBeLeft stream flash found
   between : HasLayout flash → AreBytes found → IsBetween flash found → MayBeLeft stream flash found

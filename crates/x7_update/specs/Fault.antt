@@ -27,7 +27,8 @@ pub record OpensAgain (flash : List ℕ) (slot : ℕ) : Type 0 where
 abbrev pub IsGoodSlot : List ℕ → ℕ → Type 0
 IsGoodSlot flash slot = LeadsToUpdate flash slot × (OpensAgain flash slot → ⊥)
 
--- why a slot is none of a layout, and the place that shows it: the slot doesn't lead to U (where it differs), or is open as one before it is (the slot's place)
+-- why a slot is none of a layout, and the place that shows it: the slot doesn't lead to U (where it differs), or is
+-- open as one before it is (the slot's place)
 abbrev pub IsBadSlotAt : List ℕ → ℕ → ℕ → Type 0
 IsBadSlotAt flash slot place = DiffersAt flash slot place ⊎ (LeadsToUpdate flash slot × OpensAgain flash slot × (place ≡ 32 * slot))
 
@@ -37,9 +38,9 @@ pub record BeginsWell (size : ℕ) (flash : List ℕ) : Type 0 where
   pub leads : LeadsToUpdate flash 0
   pub place : CanStandAt size (update_place flash)
 
--- The place at which a flash of a size has no layout. The first of these lines that holds gives it: the size is bad (the size); the
--- first slot differs (there); U is no place for an update (where the first slot has it); a further slot is bad, the slots in their order; the last slot
--- isn't free (its place).
+-- The place at which a flash of a size has no layout. The first of these lines that holds gives it: the size is bad
+-- (the size); the first slot differs (there); U is no place for an update (where the first slot has it); a further slot
+-- is bad, the slots in their order; the last slot isn't free (its place).
 pub data NoLayoutAt (size : ℕ) (flash : List ℕ) (place : ℕ) : Type 0 where
   bad_size : (HasSize size → ⊥) → place ≡ size → NoLayoutAt size flash place
   bad_first : HasSize size → DiffersAt flash 0 place → NoLayoutAt size flash place
@@ -61,7 +62,8 @@ pub record CanTake (stream flash : List ℕ) : Type 0 where
 
 -- the cause of each refusal
 abbrev pub HasCause : List ℕ → FlashState → FlashState → UpdateFault → Type 0
--- a write failed: its count has risen, the flash's size is good, and known bytes were written only where the stream fits
+-- a write failed: its count has risen, the flash's size is good, and known
+-- bytes were written only where the stream fits
 HasCause stream old new (Failed true) = WriteFails old new × HasSize new.extent × IfKnown old.bytes (CanTake stream)
 -- a read failed: its count has risen, and the flash's size is good
 HasCause stream old new (Failed false) = FlashFails old new × HasSize new.extent
@@ -69,8 +71,9 @@ HasCause stream old new (Failed false) = FlashFails old new × HasSize new.exten
 HasCause stream old new TooLong = IfKnown old.bytes (IsTooLong stream)
 -- known bytes have no layout, as the place shows
 HasCause stream old new (NoLayout place) = IfKnown old.bytes (λ flash. NoLayoutAt (length flash) flash place)
--- The bytes aren't known. A byte that was read at the place, with no write since, is another than the one written there, and the first that is: of the stream and
--- FF after it, or of the switch word, each byte before it was read as it was written, with no write since.
+-- The bytes aren't known. A byte that was read at the place, with no write since, is another than the one written
+-- there, and the first that is: of the stream and FF after it, or of the switch word, each byte before it was read as
+-- it was written, with no write since.
 HasCause stream old new (Differs place wrote read) =
     (wrong : IsReadWrong new.extent stream place wrote read) × (old.bytes ≡ None) × IsFirstRead new wrong.from wrong.piece place read
 -- want of memory has no cause

@@ -5,7 +5,8 @@
 --     65,536    the golden stream
 --     U         the update stream, and FF after it
 --
--- A device takes the one slot whose switch word is the sync word: that slot is open. A slot of FFFFFFFF is free, any other is spent.
+-- A device takes the one slot whose switch word is the sync word: that slot is open. A slot
+-- of FFFFFFFF is free, any other is spent.
 use Rattle.std.specs.Prelude.{◌≡◌, ◌≢◌, ℕ, suc, ◌+◌, ◌-◌, ◌*◌, ◌%◌, ◌<◌, ◌≤◌, List, [], ◌∷◌, length, get_or}
 use Rattle.x7_words.specs.Flash.{flash_limit}
 use Rattle.x7_words.specs.Word.{word_of_bytes}
@@ -68,7 +69,8 @@ IsOpen flash slot = switch_of flash slot ≡ open_switch
 abbrev pub IsFree : List ℕ → ℕ → Type 0
 IsFree flash slot = switch_of flash slot ≡ free_switch
 
--- The first sector of a flash of a size is slots that all lead to one U, of which at most one is open and from some on, one at least, all are free.
+-- The first sector of a flash of a size is slots that all lead to one U, of which at most one is open and
+-- from some on, one at least, all are free.
 pub record HasSlots (size : ℕ) (flash : List ℕ) : Type 0 where
   pub place : CanStandAt size (update_place flash)
   pub leads : (slot : ℕ) → slot < slot_count → LeadsToUpdate flash slot

@@ -7,8 +7,8 @@ use Rattle.x7_update.specs.Layout.{CanStandAt, HasLayout, HasNoOpenSlot, IsNextF
 use Rattle.x7_update.specs.Writing.{SeesWanted}
 
 module _ {F : Type 0} (state : F → FlashState) where
-  -- The flash was ready, with one moment at most to come: no slot was open, and from the place on up to the end each byte had been read as it
-  -- is wanted, with no write since.
+  -- The flash was ready, with one moment at most to come: no slot was open, and from the place on up to the end each
+  -- byte had been read as it is wanted, with no write since.
   pub record WasReady (update : ℕ) (stream : List ℕ) (new : FlashState) : Type 0 where
     pub ready : F
     pub seen : SeesWanted update stream update new.extent (state ready)
@@ -26,8 +26,8 @@ module _ {F : Type 0} (state : F → FlashState) where
   abbrev pub OpensReadBack : List ℕ → FlashState → FlashState → List ℕ → List ℕ → Type 0
   OpensReadBack stream old new flash found = HasLayout flash → IsAfter stream flash found → ReadBack stream old new
 
-  -- An update with a stream that is done was read back, and then the switch word of the slot that it opened: as that of an open slot, with
-  -- no write since.
+  -- An update with a stream that is done was read back, and then the switch word of the slot that it opened: as that of
+  -- an open slot, with no write since.
   pub record AllReadBack (stream : List ℕ) (old new : FlashState) : Type 0 where
     pub before : ReadBack stream old new
     pub slot : ℕ

@@ -17,7 +17,8 @@ abbrev pub OpenAmong : List ℕ → ℕ → Option ℕ → Type 0
 OpenAmong flash count None = (slot : ℕ) → slot < count → switch_of flash slot ≢ open_switch
 OpenAmong flash count (Some slot) = (slot < count) × IsOpen flash slot
 
--- what the first `count` slots say is this: each leads to U, at most one of them is open, and from `next` on all are free
+-- what the first `count` slots say is this: each leads to U, at most one of them
+-- is open, and from `next` on all are free
 pub record SoFar (flash : List ℕ) (count : ℕ) (slots : Slots) : Type 0 where
   pub leads : (slot : ℕ) → slot < count → LeadsToUpdate flash slot
   pub once : (slot : ℕ) → slot < count → OpensAgain flash slot → ⊥
@@ -26,7 +27,8 @@ pub record SoFar (flash : List ℕ) (count : ℕ) (slots : Slots) : Type 0 where
   pub free : (slot : ℕ) → slots.next ≤ slot → slot < count → IsFree flash slot
   pub first : (slot : ℕ) → suc slot ≡ slots.next → switch_of flash slot ≢ free_switch
 
--- an update of a flash of this size goes here: the first sector is slots of a layout, with this U, this open slot or none, and this next one
+-- an update of a flash of this size goes here: the first sector is slots of a layout, with this U,
+-- this open slot or none, and this next one
 pub record Finds (size : ℕ) (flash : List ℕ) (target : UpdateTarget) : Type 0 where
   pub sized : HasSize size
   pub has : HasSlots size flash

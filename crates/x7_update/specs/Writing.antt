@@ -17,7 +17,8 @@ abbrev pub BecomesBytes : (List ℕ → List ℕ → Type 0) → Option (List �
 BecomesBytes Relates None new = new ≡ None
 BecomesBytes Relates (Some all) new = (now : List ℕ) × (new ≡ Some now) × Relates all now
 
--- a flash's bytes that were known are still known, and in this relation to what they were; bytes that weren't known still aren't
+-- a flash's bytes that were known are still known, and in this relation to what they
+-- were; bytes that weren't known still aren't
 abbrev pub Becomes : FlashState → FlashState → (List ℕ → List ℕ → Type 0) → Type 0
 Becomes old new Relates = BecomesBytes Relates old.bytes new.bytes
 
@@ -39,8 +40,8 @@ pub record OnlyUses (old new : FlashState) : Type 0 where
 abbrev pub StaysBytes : List ℕ → List ℕ → Type 0
 StaysBytes old found = AreBytes old → AreBytes found
 
--- A step that writes: at any moment the bytes are in this relation to those at its start, and bytes where these were; nothing else changed but the
--- count of write faults, which doesn't fall.
+-- A step that writes: at any moment the bytes are in this relation to those at its start, and bytes where these were;
+-- nothing else changed but the count of write faults, which doesn't fall.
 pub record Writes (old new : FlashState) (past since : ℕ → List ℕ → Type 0) (Relates : List ℕ → List ℕ → Type 0) : Type 0 where
   pub any_moment : AtAnyMoment old new past since Relates
   pub bytes : AtAnyMoment old new past since StaysBytes
@@ -105,7 +106,8 @@ wanted_at update stream place = if nat_lt (place - update) (length stream) then 
 abbrev pub HasWanted : ℕ → List ℕ → List ℕ → Type 0
 HasWanted update stream flash = (place : ℕ) → update ≤ place → place < length flash → get_or flash place 0 ≡ wanted_at update stream place
 
--- an update with a stream can be read back: the flash is attached, the stream stands at its place with FF after it, and the buffer is of a sector's size
+-- an update with a stream can be read back: the flash is attached, the stream stands at its place with FF after it, and
+-- the buffer is of a sector's size
 pub record CanReadBack (state : FlashState) (update : ℕ) (stream buffer : List ℕ) : Type 0 where
   pub attached : state.attached ≡ true
   pub size : HasSize state.extent
@@ -136,8 +138,9 @@ IsWrong update stream place buffer TooLong = ⊥
 IsWrong update stream place buffer (NoLayout at) = ⊥
 IsWrong update stream place buffer NoMemory = ⊥
 
--- A piece that an update with a stream writes in a flash of a size, from one place on up to another: the stream, and FF after it up to
--- the flash's end, from a place on at which the stream can stand and fits; or the switch word of the slot that is opened.
+-- A piece that an update with a stream writes in a flash of a size, from one place on up to another: the
+-- stream, and FF after it up to the flash's end, from a place on at which the stream can stand and fits; or
+-- the switch word of the slot that is opened.
 pub data IsWritten (size : ℕ) (stream piece : List ℕ) (from end : ℕ) : Type 0 where
   in_stream : CanStandAt size from → from + length stream ≤ size → piece ≡ stream → end ≡ size → IsWritten size stream piece from end
   in_switch : (slot : ℕ) → slot < slot_count → from ≡ 32 * slot → piece ≡ open_switch → end ≡ from + 4 → IsWritten size stream piece from end
@@ -159,8 +162,8 @@ pub record IsFirstRead (state : FlashState) (from : ℕ) (piece : List ℕ) (pla
   pub seen : IsTrue (state.seen place read)
   pub wanted : SeesWanted from piece from place state
 
--- why the end of an update with a stream fails: a read or a write failed, or a byte was read that is another than the one written, the first of its
--- piece that is; which known bytes never are
+-- why the end of an update with a stream fails: a read or a write failed, or a byte was read that is another than the
+-- one written, the first of its piece that is; which known bytes never are
 abbrev pub EndFails : List ℕ → FlashState → FlashState → UpdateFault → Type 0
 EndFails stream old new (Differs at wrote read) =
     (wrong : IsReadWrong new.extent stream at wrote read) × (old.bytes ≡ None) × IsFirstRead new wrong.from wrong.piece at read

@@ -1,4 +1,5 @@
-//! The update of a flash that may lose its power at any moment: it closes the open slot, writes the stream, and opens the next.
+//! The update of a flash that may lose its power at any moment: it closes the open
+//! slot, writes the stream, and opens the next.
 #![tactic(auto)]
 
 mod fault;

@@ -76,11 +76,11 @@ fn read_back_and_open<F: Flash>(
     verify_switch(flash, target.slots.next)
 }
 
-/// Updates a flash with a stream: the open slot is closed, the stream is written at its place with FF after it and read back,
-/// and the next slot is opened.
+/// Updates a flash with a stream: the open slot is closed, the stream is written at its place with FF after it and read
+/// back, and the next slot is opened.
 ///
-/// Power may be lost at any moment. What is found then is the flash as it was, or a flash without an open slot, whose golden
-/// stream stands, or the updated flash.
+/// Power may be lost at any moment. What is found then is the flash as it was, or a flash without an open slot, whose
+/// golden stream stands, or the updated flash.
 pub fn update<F: Flash>(alloc: Global, flash: &mut F, stream: &[u8]) -> Result<(), UpdateFault>
     requires { (F.state flash.old).attached ≡ true }
     ensures updated { OnOk result (Becomes (F.state flash.old) (F.state flash.new) (IsAfter stream.now)) }

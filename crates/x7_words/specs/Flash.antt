@@ -12,7 +12,8 @@ use Rattle.x7_words.specs.declared.input.SelectFault.TheVariants.{Missing, Faile
 abbrev pub sector_bytes : ℕ
 sector_bytes = 65536
 
--- how many bytes a sector has, as a number that unfolds only where a proof says so: else a check would count out an erased sector
+-- how many bytes a sector has, as a number that unfolds only where a proof says so: else
+-- a check would count out an erased sector
 unfoldable pub sector_size : ℕ
 sector_size = sector_bytes
 
@@ -68,7 +69,8 @@ KnowsBytes state = IfKnown state.bytes AreBytes
 abbrev pub Sees : FlashState → ℕ → List ℕ → Type 0
 Sees state place read = (i : ℕ) → i < length read → IsTrue (state.seen (place + i) (get_or read i 0))
 
--- No time passes: what may be found after a stop since some moment is what might have been found before, and nothing was written.
+-- No time passes: what may be found after a stop since some moment is what might have
+-- been found before, and nothing was written.
 pub record Unwritten (old new : FlashState) (past since : ℕ → List ℕ → Type 0) : Type 0 where
   pub write_faults : new.write_faults ≡ old.write_faults
   pub moments : new.moments ≡ old.moments
@@ -106,7 +108,8 @@ FlashFits state = (state.faults < 2 ^ 64) × (state.absences < 2 ^ 64)
 abbrev pub FlashFails : FlashState → FlashState → Type 0
 FlashFails old new = HasRisen old.faults new.faults
 
--- why a flash was not attached: its name is missing, or the flash failed; the count of absences, or of faults, has risen
+-- why a flash was not attached: its name is missing, or the flash failed; the
+-- count of absences, or of faults, has risen
 abbrev pub Unattached : FlashState → FlashState → SelectFault → Type 0
 Unattached old new Missing = HasRisen old.absences new.absences
 Unattached old new Failed = FlashFails old new
@@ -139,7 +142,8 @@ cleared place given bytes = zip_with bit_and (slice_range bytes place (place + l
 abbrev pub programmed : ℕ → List ℕ → List ℕ → List ℕ
 programmed place given bytes = replaced place (cleared place given bytes) bytes
 
--- What may be found within a write of the target at the place: each bit of its range is old or its target, and all else is old.
+-- What may be found within a write of the target at the place: each bit of its range
+-- is old or its target, and all else is old.
 -- So bytes that are written with bytes stay bytes.
 pub record IsTorn (place : ℕ) (target old found : List ℕ) : Type 0 where
   pub size : length found ≡ length old

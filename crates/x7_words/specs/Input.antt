@@ -1,5 +1,6 @@
 -- Inputs by name, where their bytes may be known or not (this project's choice).
--- The bytes of a file are not known: no clause says what a file of the system holds. Those of an input in memory are known.
+-- The bytes of a file are not known: no clause says what a file of the system
+-- holds. Those of an input in memory are known.
 use Rattle.std.specs.Prelude.{◌≡◌, ℕ, Bool, true, List, [], ◌++◌, ◌+◌, ◌≤◌, ◌<◌, ◌^◌, ◌⊎◌, length, Option, None, Some, IfSome}
 use Rattle.x7_words.specs.Count.{HasRisen}
 use Rattle.x7_words.specs.declared.input.SelectFault.{SelectFault}
@@ -84,7 +85,8 @@ pub record AsksFew (old : InputsState) (count : ℕ) (new : InputsState) : Type 
   pub selects : new.selects ≤ old.selects + count
   pub ends : new.ends ≤ old.ends + count
 
--- the bytes were taken from the selected input and are counted as given; the input stays selected and was not asked for again
+-- the bytes were taken from the selected input and are counted as given; the input
+-- stays selected and was not asked for again
 pub record Takes (old : InputsState) (bytes : List ℕ) (new : InputsState) : Type 0 where
   pub selected : new.selected ≡ true
   pub taken : old.rest ≡ preceded bytes new.rest

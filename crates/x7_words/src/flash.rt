@@ -15,8 +15,8 @@ pub const FLASH_LIMIT: u64 = 134_217_728;
 
 /// A flash: bytes at places from 0, which are read, erased and programmed once it is attached under its name.
 ///
-/// A power loss may stop a flash at any moment. Outside a write the flash's bytes are found then; within one each bit of
-/// the write's range is old or its target. A write takes one moment at most.
+/// A power loss may stop a flash at any moment. Outside a write the flash's bytes are found then; within one each bit
+/// of the write's range is old or its target. A write takes one moment at most.
 ///
 /// What was read is seen until the next write, of which no clause says that anything is seen after it.
 ///

@@ -33,8 +33,8 @@ fn answer(started: bool, at: usize, fed: Fed) -> UntilStarted
 }
 
 impl Device {
-    /// Where the next turn of a piece of `length` bytes ends at the latest, so that startup ends at the turn's last byte at the
-    /// soonest, or begins there.
+    /// Where the next turn of a piece of `length` bytes ends at the latest, so that startup ends at the turn's last
+    /// byte at the soonest, or begins there.
     fn turn_end(&self, at: usize, length: usize) -> usize
         requires { at ≤ length }
         ensures within { result ≤ length }
@@ -103,8 +103,8 @@ impl Device {
         self.registers.clock.startup.has_begun()
     }
 
-    /// Takes the bytes of a piece as `feed` does, where words read out are dropped, and none after the byte at which startup
-    /// begins. Says how many these are.
+    /// Takes the bytes of a piece as `feed` does, where words read out are dropped, and none after the byte at which
+    /// startup begins. Says how many these are.
     pub fn feed_until_begun(&mut self, piece: &[u8]) -> usize
         requires { self.old.taken + length piece.now ≤ 2 ^ 63 }
         ensures within { result ≤ length piece.now }

@@ -37,8 +37,8 @@ impl Model for Undo {
 }
 
 impl Undo {
-    /// Takes room for what is kept of a device of this part. What is kept at first is a new device, and no frame. No other call
-    /// takes memory.
+    /// Takes room for what is kept of a device of this part. What is kept at first is a new device,
+    /// and no frame. No other call takes memory.
     pub fn new(alloc: Global, part: &Part) -> Result<Undo, NoMemory>
         ensures device { IfOk result (λ u. DeviceStandsFor part.now on_the_bench false (device_kept part.now u) []) }
         ensures pair { IfOk result (λ u. u.frames.pair ≡ []) }

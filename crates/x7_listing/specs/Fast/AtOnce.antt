@@ -1,4 +1,5 @@
--- The lines of what is listed at once: no-ops in a row, short writes, and a gap with its sync word (this project's choice).
+-- The lines of what is listed at once: no-ops in a row, short writes, and a gap
+-- with its sync word (this project's choice).
 use Rattle.std.specs.Prelude.{◌≡◌, ◌==◌, Bool, not, ℕ, zero, suc, ◌+◌, List, [], ◌∷◌, ◌++◌, codes, drop, get_or, take}
 use Rattle.x7_packets.specs.PacketWords.{no_op}
 use Rattle.x7_packets.specs.declared.header.Step.{Step}
@@ -44,7 +45,8 @@ AreRowsFrom text n (row ∷ rows) = (row_text row ≡ text n) × AreRowsFrom tex
 abbrev pub bytes_differ : ℕ → ℕ → Bool
 bytes_differ a b = not (a == b)
 
--- what stands where a line has words: eight bytes for each, the first after one at place p, the others nine further each
+-- what stands where a line has words: eight bytes for each, the first after one
+-- at place p, the others nine further each
 abbrev pub words_in_row : List ℕ → ℕ → ℕ → List (List ℕ)
 words_in_row text p zero = []
 words_in_row text p (suc n) = take 8 (drop (p + 1) text) ∷ words_in_row text (p + 9) n

@@ -32,7 +32,8 @@ gap_size = 74
 
 -- ---- what stands there
 
--- after a shown text the words of a payload stand in new `data` lines, of which the last has this many words, or none where it is full
+-- after a shown text the words of a payload stand in new `data` lines, of which the last has
+-- this many words, or none where it is full
 pub record ShowsWords (payload shown all : List ℕ) (in_line : OpenWords) : Type 0 where
   pub text : all ≡ shown ++ open_data 0 (words_of_bytes payload)
   pub count : in_line.count ≡ in_line_after row_words 0 (words_of_bytes payload)

@@ -1,5 +1,5 @@
-//! The commonest lines of a listing, read with no search for the line's end. The assembler without this module gives the
-//! same, by the same contracts.
+//! The commonest lines of a listing, read with no search for the line's end. The assembler without this module gives
+//! the same, by the same contracts.
 mod line_end;
 mod quick;
 mod write_pairs;

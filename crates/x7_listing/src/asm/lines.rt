@@ -17,7 +17,8 @@ use x7_crc::Checker;
 use x7_text::TakesLines;
 use x7_words::is_same;
 
-/// Appends the bytes of a line to those of the lines before, which stand from `start` on and whose check the checker keeps.
+/// Appends the bytes of a line to those of the lines before, which stand from
+/// `start` on and whose check the checker keeps.
 /// `false`: the text is that of no line.
 fn put_checked(out: &mut Vec<u8>, start: usize, checker: &mut Checker, line: &[u8]) -> bool
     requires room { HasRoomForLine out.old }
@@ -67,8 +68,8 @@ impl AsmLines {
         }
     }
 
-    /// Appends the bytes of line `n`, which is no header's, and makes room for those of the next. Where there was room for
-    /// this one, memory is wanting only once it is read.
+    /// Appends the bytes of line `n`, which is no header's, and makes room for those of the next. Where there was room
+    /// for this one, memory is wanting only once it is read.
     fn put_one(&mut self, n: u64, line: &[u8]) -> Result<(), AsmFault>
         ensures ok { OnOk result (ReadsNext self.old self.new n line.now) }
         ensures room { OnOk result (HasLineRoom self.new) }

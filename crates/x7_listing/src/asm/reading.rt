@@ -198,7 +198,8 @@ fn put_plain(out: &mut Vec<u8>, check: u32, line: &[u8]) -> bool
     false
 }
 
-/// Appends the bytes of a line, where the bytes of the lines before have this check. `false`: the text is that of no line.
+/// Appends the bytes of a line, where the bytes of the lines before have this
+/// check. `false`: the text is that of no line.
 pub(crate) fn put_line(out: &mut Vec<u8>, check: u32, line: &[u8]) -> bool
     requires { HasRoomForLine out.old }
     ensures reads { Reads FitsLine text_of (line_bytes check) result line.now out.old.items out.new.items }

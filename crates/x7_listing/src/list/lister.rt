@@ -14,8 +14,8 @@ use std::marker::Model;
 use x7_packets::{Cut, Cutter};
 use x7_words::NoMemory;
 
-/// How much room a byte of a piece asks for: that of a call that takes it, 3 bytes of its own, and that of a call for the sync
-/// word that it may end.
+/// How much room a byte of a piece asks for: that of a call that takes it, 3 bytes of its own, and that of a call for
+/// the sync word that it may end.
 pub(crate) const BYTE_ROOM: usize = 2 * CALL_ROOM + 3;
 
 /// How much room is asked for besides: that of a call for a sync word that is due, and one call's that is left over.

@@ -76,8 +76,8 @@ fn copy_some(words: &mut Vec<u32>, from: &[u32], some: bool)
 }
 
 impl Saved {
-    /// Takes room for a pipeline of this part and a frame. What is kept at first is a new pipeline, and no frame. No other call
-    /// takes memory.
+    /// Takes room for a pipeline of this part and a frame. What is kept at first is a new pipeline,
+    /// and no frame. No other call takes memory.
     pub fn new(alloc: Global, part: &Part) -> Result<Saved, NoMemory>
         ensures pipeline { IfOk result (λ saved. HoldsFlow part.now saved.pipeline first_flow) }
         ensures pair { IfOk result (λ saved. saved.pair ≡ []) }
@@ -194,7 +194,8 @@ impl Pipeline {
         into.keep_frame(part, memory, self.next_put(part));
     }
 
-    /// Makes this pipeline the kept one, and puts the kept frame into the memory, where there is one. Every other frame stays.
+    /// Makes this pipeline the kept one, and puts the kept frame into the memory,
+    /// where there is one. Every other frame stays.
     pub fn restore(&mut self, part: &Part, memory: &mut Memory, from: &Saved)
         requires part { AreOf part.now self.old memory.old }
         requires saved { IsSavedOf part.now from.now }

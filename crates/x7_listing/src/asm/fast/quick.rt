@@ -249,8 +249,8 @@ fn put_some(out: &mut Vec<u8>, text: &[u8; LOOK]) -> Option<WholeLines>
     }
 }
 
-/// Appends the bytes of the text's first lines, as far as they are read at once, there is room for them and a further line,
-/// and their bytes are within the limit.
+/// Appends the bytes of the text's first lines, as far as they are read at once, there is room for them and a further
+/// line, and their bytes are within the limit.
 fn put_quick(out: &mut Vec<u8>, text: &[u8]) -> WholeLines
     ensures { ReadsAtOnce text.now out.old out.new result }
 {
@@ -275,8 +275,8 @@ fn put_quick(out: &mut Vec<u8>, text: &[u8]) -> WholeLines
     }
 }
 
-/// Appends the bytes of the text's first lines, as far as they are read at once. Before any line none is, since the first one
-/// may be a header's.
+/// Appends the bytes of the text's first lines, as far as they are read at once. Before any line none
+/// is, since the first one may be a header's.
 #[inline(always)]
 pub(crate) fn put_quick_after(out: &mut Vec<u8>, n: u64, text: &[u8]) -> WholeLines
     ensures reads { ReadsAtOnce text.now out.old out.new result }

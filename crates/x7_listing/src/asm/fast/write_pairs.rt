@@ -16,7 +16,8 @@ use x7_regs::Reg;
 use x7_text::{put, word_of_hex};
 use x7_words::bytes_of;
 
-/// The factor by which the first four bytes of a name give its place in a table of 64, the highest six bits of the product:
+/// The factor by which the first four bytes of a name give its place in a table of
+/// 64, the highest six bits of the product:
 /// no two registers have one place, nor two commands. `bench/name_tables.py` makes the tables.
 const SPREAD: u32 = 0x3F20_35EB;
 
@@ -29,7 +30,8 @@ static REGISTERS: [u8; 64] = [
     19, 13,  9,  0,  0,  7,  0,  0,  0, 29,  4, 15,  0, 22,  0, 20,
 ];
 
-/// The codes of the commands by the places of their names, of which a line end ends the short one. A place of no name has 0.
+/// The codes of the commands by the places of their names, of which a line end ends
+/// the short one. A place of no name has 0.
 #[rattlefmt::skip]
 static COMMANDS: [u8; 64] = [
      0,  0,  0,  0, 12,  0,  0,  0,  8,  0,  0,  0,  0, 19,  0,  0,

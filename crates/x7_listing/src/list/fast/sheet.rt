@@ -1,5 +1,5 @@
-//! A sheet of text: each piece is stored whole, as a fixed number of bytes, and the next one after what of it is text. How
-//! many bytes are text stands beside the sheet, not in it, so that it may stay in a register.
+//! A sheet of text: each piece is stored whole, as a fixed number of bytes, and the next one after what of it is text.
+//! How many bytes are text stands beside the sheet, not in it, so that it may stay in a register.
 ghost use Rattle.std.specs.Prelude.{◌≡◌, ◌≤◌, ◌+◌, ◌++◌, length, take};
 ghost use Rattle.x7_listing.specs.Fast.AtOnce.{row_text};
 

@@ -1,5 +1,5 @@
-//! Short runs, listed at once on a sheet: writes of one word and of up to sixteen, a few no-ops, and a short gap with the sync
-//! word after it.
+//! Short runs, listed at once on a sheet: writes of one word and of up to sixteen, a few no-ops, and
+//! a short gap with the sync word after it.
 ghost use Rattle.std.specs.Prelude.{◌≡◌, ℕ, ◌+◌, ◌*◌, ◌<◌, ◌≤◌, List, [], ◌∷◌, ◌++◌, IfNone, IfSome, codes, decimal, length, take, vec_len, vec_capacity};
 ghost use Rattle.x7_packets.specs.AtOnce.{EndsGap, WritesFew, WritesOne, longest_short_gap, longest_short_write, short_gap_room};
 ghost use Rattle.x7_packets.specs.Cutter.{CutterState};
@@ -193,8 +193,8 @@ fn put_bytes_and_sync(
     put_whole(sheet, end, b"\nsync\n")
 }
 
-/// What was put on a sheet: the words of the open line after it, how long the sheet's text is then, and how many bytes of the
-/// piece it was.
+/// What was put on a sheet: the words of the open line after it, how long the sheet's text is
+/// then, and how many bytes of the piece it was.
 #[derive(Clone, Copy)]
 struct Next {
     in_line: OpenWords,
@@ -367,7 +367,8 @@ pub(crate) struct Taken {
     pub(crate) size: usize,
 }
 
-/// Takes the short runs of a session that come next, one after another, and appends what they add, which is put on the sheet first.
+/// Takes the short runs of a session that come next, one after another, and appends what
+/// they add, which is put on the sheet first.
 #[inline(always)]
 pub(crate) fn take_short(
     text: &mut Vec<u8>,
