@@ -6,7 +6,7 @@ ghost use Rattle.x7_boot.specs.Image.{flash_limit};
 ghost use Rattle.x7_boot.specs.Pages.{ArePages, HasPage, HoldsFrom, IsLoaded, IsRest, KeepsPages, BlockReaches, block_pages, page_size};
 
 use crate::fault::BootFault;
-use crate::pages::{BLOCK_PAGES, PAGE, read_block};
+use crate::pages::{BLOCK_PAGES, PAGE_SIZE, read_block};
 use lru::LruCache;
 use std::alloc::{AllocError, Global};
 use std::mem;
@@ -42,7 +42,7 @@ impl PageCache {
         ensures { IfOk result (λ cache. cache.pages.entries ≡ []) }
     {
         let pages = LruCache::new(alloc, NonZeroUsize::new(KEPT_PAGES).unwrap())?;
-        let block = Vec::with_capacity(alloc, (BLOCK_PAGES * PAGE) as usize)?;
+        let block = Vec::with_capacity(alloc, (BLOCK_PAGES * PAGE_SIZE) as usize)?;
         Ok(PageCache {
             pages,
             block,
@@ -89,7 +89,7 @@ impl PageCache {
         ensures absent { (page : ℕ) → number < page → page < number + result → lookup (nat_eq page) self.now.pages.entries ≡ None }
     {
         for page in number + 1..number + BLOCK_PAGES {
-            if page * PAGE >= size || self.pages.contains(&page) {
+            if page * PAGE_SIZE >= size || self.pages.contains(&page) {
                 return page - number;
             }
         }
@@ -123,8 +123,8 @@ impl PageCache {
         ensures there { OnOk result (IsSome (lookup (nat_eq (number + index)) self.new.pages.entries)) }
         ensures block { self.new.block ≡ self.old.block }
     {
-        let start = (index * PAGE) as usize;
-        let end = (start + PAGE as usize).min(self.block.len());
+        let start = (index * PAGE_SIZE) as usize;
+        let end = (start + PAGE_SIZE as usize).min(self.block.len());
         let mut page = mem::replace(&mut self.spare, Vec::new(self.alloc));
         page.clear();
         let Ok(()) = page.extend_from_slice(&self.block[start..end]) else {
@@ -149,7 +149,7 @@ impl PageCache {
     {
         match loaded {
             Loaded::Kept => self.rest_of_page(at),
-            Loaded::Read(_) => &self.block[(at % PAGE) as usize..],
+            Loaded::Read(_) => &self.block[(at % PAGE_SIZE) as usize..],
         }
     }
 
@@ -158,8 +158,8 @@ impl PageCache {
         requires { HasPage self.now.pages.entries at }
         ensures { (known : Option (List ℕ)) (extent : ℕ) → ArePages known extent self.now.pages.entries → at < extent → IsRest known extent at result.now }
     {
-        match self.pages.peek(&(at / PAGE)) {
-            Some(page) => &page[(at % PAGE) as usize..],
+        match self.pages.peek(&(at / PAGE_SIZE)) {
+            Some(page) => &page[(at % PAGE_SIZE) as usize..],
             None => &[],
         }
     }

@@ -7,7 +7,7 @@ use crate::fault::ImageFault;
 use std::alloc::Global;
 use x7_packets::{DUMMY_WORD, SLOT_COUNT, SYNC_WORD, flash_slot};
 use x7_part::Part;
-use x7_words::{FLASH_LIMIT, NoMemory, SECTOR, bytes_of};
+use x7_words::{FLASH_LIMIT, NoMemory, SECTOR_BYTES, bytes_of};
 
 /// The first place at or after this one at which a sector begins.
 fn sector_from(place: u64) -> u64
@@ -15,7 +15,7 @@ fn sector_from(place: u64) -> u64
     ensures value { result ≡ sector_from place }
     ensures within { result ≤ flash_limit }
 {
-    (place + (SECTOR - 1)) / SECTOR * SECTOR
+    (place + (SECTOR_BYTES - 1)) / SECTOR_BYTES * SECTOR_BYTES
 }
 
 /// What the lengths of an image's streams fix.
@@ -33,10 +33,10 @@ fn places_of(golden: u64, update: u64) -> Option<Places>
     ensures found { IfSome result (λ it. (it.place ≡ place_after_golden golden) × (it.size ≡ image_size golden update) × (it.size ≤ flash_limit)) }
     ensures none { IfNone result (flash_limit < image_size golden update) }
 {
-    if golden > FLASH_LIMIT - SECTOR {
+    if golden > FLASH_LIMIT - SECTOR_BYTES {
         return None;
     }
-    let place = sector_from(SECTOR + golden).max(2 * SECTOR);
+    let place = sector_from(SECTOR_BYTES + golden).max(2 * SECTOR_BYTES);
     if update > FLASH_LIMIT - place {
         return None;
     }

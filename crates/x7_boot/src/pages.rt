@@ -8,7 +8,7 @@ use crate::fault::BootFault;
 use x7_words::Flash;
 
 /// The number of bytes of a page.
-pub(crate) const PAGE: u64 = 4_096;
+pub(crate) const PAGE_SIZE: u64 = 4_096;
 
 /// The most pages that are read at once.
 pub(crate) const BLOCK_PAGES: u64 = 16;
@@ -32,8 +32,8 @@ pub(crate) fn read_block<F: Flash>(
     ensures flash { OnlyReads (F.state flash.old) (F.state flash.new) (F.found_since flash.old) (F.found_since flash.new) }
     ensures last_fault { (F.state flash.old).faults < 2 ^ 64 → (F.state flash.new).faults < 2 ^ 64 }
 {
-    let start = number * PAGE;
-    let end = ((number + count) * PAGE).min(flash.size());
+    let start = number * PAGE_SIZE;
+    let end = ((number + count) * PAGE_SIZE).min(flash.size());
     let Ok(()) = block.resize((end - start) as usize, 0) else {
         return Err(BootFault::NoMemory);
     };

@@ -15,7 +15,7 @@ ghost use Rattle.x7_boot.specs.declared.attempt.Ending.TheVariants as ending;
 use crate::attempt::{Ending, Step, take_page};
 use crate::cache::PageCache;
 use crate::fault::BootFault;
-use crate::pages::PAGE;
+use crate::pages::PAGE_SIZE;
 use x7_engine::{Device, Kept};
 use x7_regs::Cause;
 use x7_words::Flash;
@@ -68,7 +68,7 @@ pub(crate) fn try_once<F: Flash>(
         if at >= size {
             return Ok(run_out(device));
         }
-        let loaded = pages.load(flash, at / PAGE)?;
+        let loaded = pages.load(flash, at / PAGE_SIZE)?;
         let bytes = pages.bytes_from(at, loaded);
         match take_page(device, bytes) {
             Step::Goes => at += bytes.len() as u64,

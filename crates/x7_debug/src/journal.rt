@@ -14,7 +14,7 @@ use x7_part::Part;
 use x7_words::NoMemory;
 
 /// How many records there is room for.
-pub(crate) const RECORDS: usize = 64;
+pub(crate) const RECORD_ROOM: usize = 64;
 
 /// Records of a device, the newest first.
 #[derive(Drop)]
@@ -41,10 +41,10 @@ impl Journal {
         ensures records { IfOk result (AreRecordsOf part.now) }
         ensures empty { IfOk result (λ j. j.count ≡ 0) }
     {
-        let Ok(mut records) = HeapCircularBuffer::with_capacity(alloc, RECORDS) else {
+        let Ok(mut records) = HeapCircularBuffer::with_capacity(alloc, RECORD_ROOM) else {
             return Err(NoMemory);
         };
-        for _ in 0..RECORDS {
+        for _ in 0..RECORD_ROOM {
             records.push_back(Undo::new(alloc, part)?);
         }
         Ok(Journal { records, count: 0 })
@@ -88,7 +88,7 @@ impl Journal {
         };
         device.feed_word(piece, &mut undo);
         self.records.push_front(undo);
-        self.count = (self.count + 1).min(RECORDS);
+        self.count = (self.count + 1).min(RECORD_ROOM);
     }
 
     /// Takes a device back to where its newest record was made, which is not in use from then on.

@@ -8,18 +8,18 @@ ghost use Rattle.x7_debug.specs.Moving.{ComesForward, ComesForwardRecorded, MayM
 ghost use Rattle.x7_debug.specs.Position.{last_of};
 ghost use Rattle.x7_debug.specs.Session.{StandsAtPosition, TakesPiece};
 
-use crate::journal::{Journal, RECORDS};
+use crate::journal::{Journal, RECORD_ROOM};
 use x7_engine::{Device, ON_THE_BENCH, ReadBuf};
 
 /// How many bytes a record leads back at most.
 pub(crate) const RECORD_BYTES: u64 = 4;
 
 /// How many bytes before a position records lead back to: a record's bytes for each but one, and one byte.
-pub(crate) const REACH: u64 = (RECORDS as u64 - 1) * RECORD_BYTES + 1;
+pub(crate) const REACH: u64 = (RECORD_ROOM as u64 - 1) * RECORD_BYTES + 1;
 
 /// How many bytes all records lead back over where each has four: a move forward ends with as many, so that a move back
 /// by a multiple of four bytes feeds none.
-const RECORDED: u64 = RECORDS as u64 * RECORD_BYTES;
+const RECORDED: u64 = RECORD_ROOM as u64 * RECORD_BYTES;
 
 /// Feeds a piece to a device, up to what stops it. Words read out are dropped.
 pub(crate) fn take(device: &mut Device, piece: &[u8])

@@ -8,7 +8,7 @@ ghost use Rattle.x7_forms.specs.Turn.{BeginAt, GivesFew, HeaderGoesOn, IsBeginni
 ghost use Rattle.x7_forms.specs.declared.bad_input.InputFault.TheVariants as input;
 
 use crate::bad_input::InputFault;
-use crate::read::{STREAM_LIMIT, TURN, next_turn};
+use crate::read::{STREAM_LIMIT, TURN_BYTES, next_turn};
 use crate::refusal::{Refusal, Why};
 use std::alloc::Global;
 use x7_header::{HeaderFault, header_of, wanted};
@@ -94,9 +94,9 @@ pub fn read_beginning<'w, I: Inputs>(
     ensures inputs { Stays (I.state inputs.old) (I.state inputs.new) }
 {
     let mut bytes = Vec::new(alloc);
-    let mut piece = [0u8; TURN];
+    let mut piece = [0u8; TURN_BYTES];
     loop {
-        let count = wanted(&bytes).min(TURN);
+        let count = wanted(&bytes).min(TURN_BYTES);
         let left = STREAM_LIMIT - bytes.len();
         let turn = next_turn(inputs, stream, left, &mut piece[..count])?;
         match bytes.extend_from_slice(&piece[..turn.count]) {

@@ -21,7 +21,7 @@ pub const STREAM_LIMIT: usize = 67_108_864;
 pub const TEXT_LIMIT: usize = 536_870_912;
 
 /// How many bytes one turn of a whole input or of a listing reads.
-pub const TURN: usize = 65_536;
+pub const TURN_BYTES: usize = 65_536;
 
 /// How many bytes a turn asks for, where `left` bytes are still within the limit and the buffer holds
 /// `room`: at most one byte over the limit.
@@ -149,7 +149,7 @@ fn read_rest<'w, I: Inputs>(
     ensures few { GivesFew (I.state inputs.old) limit (I.state inputs.new) }
     ensures inputs { Stays (I.state inputs.old) (I.state inputs.new) }
 {
-    let mut piece = [0u8; TURN];
+    let mut piece = [0u8; TURN_BYTES];
     let mut left = limit;
     loop {
         let turn = next_turn(inputs, name, left, &mut piece)?;

@@ -9,7 +9,7 @@ use crate::calls::Calls;
 use crate::record::Record;
 use std::alloc::Global;
 use std::marker::Model;
-use x7_words::{ERASED, Failed, Flash, NoMemory, SECTOR, SelectFault, next_count};
+use x7_words::{ERASED_BYTE, Failed, Flash, NoMemory, SECTOR_BYTES, SelectFault, next_count};
 
 /// A write that is torn: the number of its call, and the pattern of the bits that stay old.
 #[derive(Clone, Copy, Drop)]
@@ -316,16 +316,16 @@ impl Flash for MemoryFlash {
         ensures after { self.new ≡ after_write_of self.old (sector_place sector) erased_sector }
         ensures write_faults { IsLaterCount self.old.write_faults self.new.write_faults }
     {
-        self.begin_write(SECTOR as usize)?;
+        self.begin_write(SECTOR_BYTES as usize)?;
         self.target.clear();
-        let Ok(()) = self.target.resize(SECTOR as usize, ERASED) else {
+        let Ok(()) = self.target.resize(SECTOR_BYTES as usize, ERASED_BYTE) else {
             unreachable!()
         };
         let torn = self.torn();
         write_target(
             &mut self.bytes,
             &mut self.writes,
-            (sector * SECTOR) as usize,
+            (sector * SECTOR_BYTES) as usize,
             &self.target,
             torn,
         );

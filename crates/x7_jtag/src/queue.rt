@@ -13,12 +13,12 @@ use std::mem;
 use x7_engine::{Device, Fed, ON_THE_BENCH, ReadBuf};
 
 /// The most bytes that are held back.
-const HELD: usize = 64;
+const MOST_BYTES_HELD: usize = 64;
 
 /// The bytes held back while a word waits, and the bits of the latest word that are still to go out.
 #[derive(Drop)]
 pub(crate) struct Queue {
-    held: ArrayVec<u8, HELD>,
+    held: ArrayVec<u8, MOST_BYTES_HELD>,
     word: u32,
     left: u32,
 }

@@ -9,7 +9,7 @@ ghost use Rattle.x7_packets.specs.SyncWord.{sync_bytes};
 use std::simd::prelude::*;
 
 /// How many bytes 32 places of the sync word reach over.
-pub(crate) const REACH: usize = 35;
+pub(crate) const PLACES_REACH: usize = 35;
 
 /// The 32 bytes from `at` on.
 #[inline(always)]
@@ -110,7 +110,7 @@ pub(crate) fn first_sync(bytes: &[u8]) -> Option<usize>
     requires { places_reach ≤ length bytes.now }
     ensures { IsFirst (OccursAt bytes.now sync_bytes) 0 (length bytes.now + 1) result }
 {
-    let last = bytes.len() - REACH;
+    let last = bytes.len() - PLACES_REACH;
     let mut at = 0;
     while at < last {
         match first_of_places(bytes, at) {

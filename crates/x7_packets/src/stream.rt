@@ -14,7 +14,7 @@ use std::marker::Model;
 use x7_words::{Failed, Inputs, NoMemory};
 
 /// How many bytes are read at once.
-const PIECE: usize = 65_536;
+const PIECE_SIZE: usize = 65_536;
 
 /// A run of a stream.
 #[derive(Clone, Copy, Debug)]
@@ -70,7 +70,7 @@ fn buffer_of(alloc: Global, first: &[u8]) -> Result<Vec<u8>, NoMemory>
     ensures len { IfOk result (λ buffer. vec_len buffer ≡ piece_size) }
 {
     let mut buffer = Vec::from_slice(alloc, first)?;
-    buffer.resize(PIECE, 0)?;
+    buffer.resize(PIECE_SIZE, 0)?;
     Ok(buffer)
 }
 

@@ -4,7 +4,7 @@ ghost use Rattle.x7_packets.specs.AtOnce.{longest_short_gap};
 ghost use Rattle.x7_packets.specs.SyncWord.{EndsWithSync, HasNoSync, sync_bytes};
 ghost use Rattle.x7_packets.specs.Matching.{IsClear, IsFirstSync, MatcherStandsFor, Searched, places_reach};
 
-use crate::places::{REACH, first_of_places, first_sync};
+use crate::places::{PLACES_REACH, first_of_places, first_sync};
 use std::marker::Model;
 
 /// How many bytes of a piece end a sync word that began before it, at most.
@@ -100,7 +100,7 @@ impl Matcher {
         ensures within { IfSome result (λ n. (0 < n) × (n ≤ length bytes.now)) }
         ensures found { (gap : List ℕ) → MatcherStandsFor self.old gap → HasNoSync gap → Searched gap bytes.now result self.new }
     {
-        if bytes.len() < REACH {
+        if bytes.len() < PLACES_REACH {
             return self.search_bytewise(bytes);
         }
         let near = self.search_bytewise(&bytes[..SEAM]);

@@ -16,7 +16,7 @@ ghost use Rattle.x7_planner.specs.declared.full_stream.NextPiece.{NextPiece};
 use crate::address::first_foreign;
 use crate::fault::PlanFault;
 use crate::settings::{CONTROL, CONTROL_MASK, STARTUP_OPTIONS};
-use crate::writer::{OPENING, put_packets, put_words};
+use crate::writer::{OPENING_WORDS, put_packets, put_words};
 use std::alloc::Global;
 use std::marker::Model;
 use x7_crc::PieceChecker;
@@ -85,7 +85,7 @@ fn put_opening(out: &mut Vec<u8>, part: &Part) -> Result<(), NoMemory>
     ensures items { OnOk result (out.new.items ≡ out.old.items ++ bytes_of_words (full_opening part.now)) }
     ensures appends { AppendsWithin out.old out.new result opening_size }
 {
-    put_words(out, &OPENING)?;
+    put_words(out, &OPENING_WORDS)?;
     put_settings(out, part)?;
     Ok(())
 }

@@ -14,7 +14,7 @@ use crate::content::{Content, firsts_of, grouped, starts_of};
 use crate::fault::PlanFault;
 use crate::group::{others_of, put_groups};
 use crate::run::put_runs;
-use crate::writer::{OPENING, Writer};
+use crate::writer::{OPENING_WORDS, Writer};
 use std::alloc::{AllocError, Global};
 use x7_memory::Plan;
 use x7_packets::{NO_OP, command, write_one};
@@ -54,7 +54,7 @@ fn grouping_of(alloc: Global, plan: &Plan) -> Result<Grouping<'_>, AllocError>
 fn put_opening(writer: &mut Writer, part: &Part) -> Result<(), NoMemory>
     ensures { OnOk result (writer.new ≡ with_piece writer.old (Words (partial_opening part.now))) }
 {
-    writer.words(&OPENING)?;
+    writer.words(&OPENING_WORDS)?;
     writer.words(&command(Command::Rcrc))?;
     writer.words(&[NO_OP])?;
     writer.words(&write_one(Reg::Idcode, part.idcode()))?;

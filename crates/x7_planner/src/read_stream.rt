@@ -5,7 +5,7 @@ ghost use Rattle.x7_planner.specs.Fault.{CanRead, IsReadFault};
 ghost use Rattle.x7_planner.specs.declared.fault.PlanFault.{PlanFault};
 
 use crate::fault::PlanFault;
-use crate::writer::{OPENING, Writer};
+use crate::writer::{OPENING_WORDS, Writer};
 use std::alloc::Global;
 use x7_packets::{NO_OP, command, frame_read, write_one};
 use x7_part::Part;
@@ -21,7 +21,7 @@ fn read_of(alloc: Global, far: u32, words: u32) -> Result<Vec<u8>, NoMemory>
     ensures { IfOk result (λ bytes. bytes.items ≡ read_of_words far words) }
 {
     let mut writer = Writer::new(alloc, READ_WORDS)?;
-    writer.words(&OPENING)?;
+    writer.words(&OPENING_WORDS)?;
     writer.words(&command(Command::Rcrc))?;
     writer.words(&[NO_OP])?;
     writer.packets(&[

@@ -13,7 +13,7 @@ use x7_words::NoMemory;
 
 /// What each stream begins with: dummy words, the bus width pattern, the sync word and a no-op.
 #[rattlefmt::skip]
-pub(crate) const OPENING: [u32; 10] = [
+pub(crate) const OPENING_WORDS: [u32; 10] = [
     DUMMY_WORD, DUMMY_WORD, DUMMY_WORD, DUMMY_WORD, BUS_WIDTH_SYNC, BUS_WIDTH_DETECT, DUMMY_WORD, DUMMY_WORD,
     SYNC_WORD, NO_OP,
 ];

@@ -17,7 +17,7 @@ use x7_words::Inputs;
 
 /// How many bytes one turn of a stream that is played reads: no fewer than the longest
 /// header has, so that the first turn judges it.
-const PLAY_TURN: usize = 266_240;
+const PLAY_TURN_BYTES: usize = 266_240;
 
 /// Plays the rest of the open stream, of which `limit` bytes are within the
 /// limit; after the last turn there is no rest.
@@ -112,7 +112,7 @@ pub fn play_streams<'w, I: Inputs>(
     let Ok(mut player) = Player::new(alloc, part) else {
         return Err(Refusal::unnamed(Why::NoMemory));
     };
-    let Ok(mut piece) = vec![in alloc; 0u8; PLAY_TURN] else {
+    let Ok(mut piece) = vec![in alloc; 0u8; PLAY_TURN_BYTES] else {
         return Err(Refusal::unnamed(Why::NoMemory));
     };
     let mut left = STREAM_LIMIT;

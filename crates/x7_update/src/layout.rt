@@ -3,7 +3,7 @@ ghost use Rattle.std.specs.Prelude.{◌≡◌, ◌↔◌, ◌+◌, ◌≤◌, tr
 ghost use Rattle.x7_update.specs.Layout.{CanStandAt, HasSize, first_slot, four_at};
 
 use x7_packets::{SYNC_BYTES, flash_slot};
-use x7_words::{FLASH_LIMIT, SECTOR};
+use x7_words::{FLASH_LIMIT, SECTOR_BYTES};
 
 /// The sync word: a slot with it is open.
 pub(crate) const OPEN: [u8; 4] = SYNC_BYTES;
@@ -42,12 +42,12 @@ pub(crate) fn first_slot(first: &[u8]) -> [u8; 32]
 pub(crate) fn has_size(size: u64) -> bool
     ensures { (result ≡ true) ↔ HasSize size }
 {
-    size % SECTOR == 0 && 2 * SECTOR <= size && size <= FLASH_LIMIT
+    size % SECTOR_BYTES == 0 && 2 * SECTOR_BYTES <= size && size <= FLASH_LIMIT
 }
 
 /// Whether an update can stand at this place of a flash of a size.
 pub(crate) fn can_stand(place: u64, size: u64) -> bool
     ensures { (result ≡ true) ↔ CanStandAt size place }
 {
-    place % SECTOR == 0 && 2 * SECTOR <= place && place <= size
+    place % SECTOR_BYTES == 0 && 2 * SECTOR_BYTES <= place && place <= size
 }

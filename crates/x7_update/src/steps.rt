@@ -16,7 +16,7 @@ use crate::switch::{close_slot, open_slot};
 use crate::verify::{verify_stream, verify_switch};
 use crate::write::write_stream;
 use std::alloc::Global;
-use x7_words::{Failed, Flash, SECTOR};
+use x7_words::{Failed, Flash, SECTOR_BYTES};
 
 /// Closes the open slot, if there is one.
 fn close_opened<F: Flash>(flash: &mut F, target: UpdateTarget) -> Result<(), Failed>
@@ -99,7 +99,7 @@ pub fn update<F: Flash>(alloc: Global, flash: &mut F, stream: &[u8]) -> Result<(
     ensures only { OnlyUses (F.state flash.old) (F.state flash.new) }
 {
     let mut buffer = Vec::new(alloc);
-    let Ok(()) = buffer.resize(SECTOR as usize, 0) else {
+    let Ok(()) = buffer.resize(SECTOR_BYTES as usize, 0) else {
         return Err(UpdateFault::NoMemory);
     };
     let target = find_target(flash, &mut buffer)?;

@@ -7,7 +7,7 @@ ghost use Rattle.x7_update.specs.Writing.{CanReadBack, EndFails, IsWrong, ReadsW
 
 use crate::fault::UpdateFault;
 use crate::layout::OPEN;
-use x7_words::{Flash, SECTOR};
+use x7_words::{Flash, SECTOR_BYTES};
 
 /// The byte that is wanted `after` bytes after the update's place: the stream's, or FF after the stream.
 fn wanted(stream: &[u8], after: u64) -> u8
@@ -53,7 +53,7 @@ pub(crate) fn verify_stream<F: Flash>(
     ensures fault { IfErr result (EndFails stream.now (F.state flash.old) (F.state flash.new)) }
     ensures only { OnlyReads (F.state flash.old) (F.state flash.new) (F.found_since flash.old) (F.found_since flash.new) }
 {
-    for sector in update / SECTOR..flash.size() / SECTOR {
+    for sector in update / SECTOR_BYTES..flash.size() / SECTOR_BYTES {
         verify_sector(flash, sector, update, stream, buffer)?;
     }
     Ok(())
@@ -76,11 +76,11 @@ fn verify_sector<F: Flash>(
     ensures only { OnlyReads (F.state flash.old) (F.state flash.new) (F.found_since flash.old) (F.found_since flash.new) }
     ensures buffer { length buffer.new ≡ sector_bytes }
 {
-    match flash.read_at(sector * SECTOR, buffer) {
+    match flash.read_at(sector * SECTOR_BYTES, buffer) {
         Ok(()) => (),
         Err(_) => return Err(UpdateFault::Failed { writing: false }),
     }
-    compare(buffer, sector * SECTOR - update, update, stream)
+    compare(buffer, sector * SECTOR_BYTES - update, update, stream)
 }
 
 /// Reads the switch word of the slot that was opened, and compares it.

@@ -5,10 +5,10 @@ ghost use Rattle.x7_words.specs.Flash.{AsksFor, Elapses, FlashFails, FlashFits, 
 use crate::input::{Failed, SelectFault};
 
 /// How many bytes a sector has, which one erase sets to FF.
-pub const SECTOR: u64 = 65_536;
+pub const SECTOR_BYTES: u64 = 65_536;
 
 /// What an erase sets each byte to.
-pub const ERASED: u8 = 0xFF;
+pub const ERASED_BYTE: u8 = 0xFF;
 
 /// The most bytes of a flash.
 pub const FLASH_LIMIT: u64 = 134_217_728;

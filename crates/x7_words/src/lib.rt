@@ -11,7 +11,7 @@ mod word;
 
 pub use bytes::is_same;
 pub use count::{count_end, next_count};
-pub use flash::{ERASED, FLASH_LIMIT, Flash, SECTOR};
+pub use flash::{ERASED_BYTE, FLASH_LIMIT, Flash, SECTOR_BYTES};
 pub use input::{Failed, Inputs, NoMemory, SelectFault};
 pub use laws::words_are_big_endian;
 pub use sink::{Sink, write_all, write_pieces};

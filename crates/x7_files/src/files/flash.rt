@@ -11,7 +11,7 @@ use std::fs::{self, OpenFile, OpenOptions};
 use std::io::{self, ErrorKind, Read, Seek, SeekFrom, Write};
 use std::marker::Model;
 use std::rt::Files;
-use x7_words::{ERASED, Failed, Flash, SECTOR, SelectFault, next_count};
+use x7_words::{ERASED_BYTE, Failed, Flash, SECTOR_BYTES, SelectFault, next_count};
 
 /// The number of a file's bytes: where its end is. A folder is no file.
 fn extent_of<F: OpenFile + Seek>(file: &mut F) -> io::Result<u64>
@@ -83,7 +83,7 @@ fn write_from<F: Write + Seek>(file: &mut F, place: u64, bytes: &[u8]) -> io::Re
 fn erase_from<F: Write + Seek + OpenFile>(file: &mut F, place: u64) -> io::Result<()>
     ensures { OnOk result (WritesAt (file_tells F.stream_position F.contents) place erased_sector file.old file.new) }
 {
-    let ones = [ERASED; SECTOR as usize];
+    let ones = [ERASED_BYTE; SECTOR_BYTES as usize];
     write_from(file, place, &ones)?;
     file.sync_data()
 }
@@ -254,7 +254,7 @@ impl<'r, R: Files> Flash for FileFlash<'r, R> {
         let Some(file) = &mut self.file else {
             unreachable!()
         };
-        if erase_from(file, sector * SECTOR).is_ok() {
+        if erase_from(file, sector * SECTOR_BYTES).is_ok() {
             return Ok(());
         }
         self.write_faults = next_count(self.write_faults);
