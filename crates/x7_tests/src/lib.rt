@@ -6,8 +6,6 @@ mod boots;
 #[cfg(test)]
 mod faults;
 #[cfg(test)]
-mod forgetful;
-#[cfg(test)]
 mod frames;
 #[cfg(test)]
 mod parts;
@@ -27,5 +25,3 @@ mod streams;
 mod texts;
 #[cfg(test)]
 mod tiny;
-#[cfg(test)]
-mod updates;

@@ -3,7 +3,7 @@ use crate::tiny::TINY;
 use std::alloc::Global;
 use x7_engine::Device;
 use x7_part::part_of;
-use x7_tool::report;
+use x7_report::report;
 
 /// The report of a new device of the part, and of two words.
 const NEW: &[u8] =

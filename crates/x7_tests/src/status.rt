@@ -1,5 +1,5 @@
 //! The number of the status that no case comes to.
-use x7_tool::Status;
+use x7_forms::Status;
 
 #[test]
 fn want_of_memory_has_a_number(rt: HostRuntime) {

@@ -1,0 +1,52 @@
+#!/usr/bin/env python3
+"""Tests the wrong bodies that the prover must refuse, those of the gate and those of attacks/: each still fits its file."""
+import glob
+import os
+import subprocess
+import sys
+
+from casefiles import TOOLS, Tally
+
+TOP = os.path.dirname(TOOLS)
+
+
+def parts_of(edit):
+    """What an edit changes: its file, and pairs of the line that goes and the line that comes."""
+    with open(edit, encoding="utf-8") as file:
+        lines = [line.rstrip("\n").partition(": ") for line in file]
+    olds = [text for key, _, text in lines if key == "old"]
+    news = [text for key, _, text in lines if key in ("new", "new:")]
+    return next(text for key, _, text in lines if key == "file"), list(zip(olds, news, strict=True))
+
+
+def check_edit(tally, crate, edit):
+    """Each line that goes stands in the file once, and another comes."""
+    name, pairs = parts_of(edit)
+    label = os.path.relpath(edit, TOP)
+    with open(os.path.join(TOP, "crates", crate, name), encoding="utf-8") as file:
+        text = file.read()
+    tally.same(label, [(text.count(old), old == new) for old, new in pairs], [(1, False)] * max(1, len(pairs)))
+
+
+def check_words(tally):
+    """The tool takes names of crates with attacks alone."""
+    ran = subprocess.run([sys.executable, os.path.join(TOOLS, "attack"), "x7_nothing"], check=False, capture_output=True)
+    tally.same("a crate without attacks", (ran.returncode, ran.stdout, ran.stderr.startswith(b"Tries the wrong bodies")), (2, b"", True))
+
+
+def check_folder(tally, folder):
+    """A folder has at most eight edits and nothing else, and each fits its file."""
+    label = os.path.relpath(folder, TOP)
+    crate = label.split(os.sep)[1]
+    edits = sorted(glob.glob(os.path.join(folder, "*.edit")))
+    tally.same(f"{label} has edits, at most eight, and nothing else", (0 < len(edits) <= 8, len(os.listdir(folder))), (True, len(edits)))
+    for edit in edits:
+        check_edit(tally, crate, edit)
+
+
+tally = Tally()
+for place in ("crates/*/must-fail", "attacks/*"):
+    for folder in sorted(glob.glob(os.path.join(TOP, place))):
+        check_folder(tally, folder)
+check_words(tally)
+tally.end()
