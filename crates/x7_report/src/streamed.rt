@@ -1,7 +1,7 @@
 //! The report of a device, ready to be written: the lines of its frames are made as they are written, some at a time.
-ghost use Rattle.std.specs.Prelude.{◌≡◌, ◌++◌, ◌+◌, ◌*◌, ◌≤◌, length, vec_len, vec_capacity, IfOk, OnErr, OnOk};
+ghost use Rattle.std.specs.Prelude.{◌≡◌, ◌++◌, ◌*◌, ◌≤◌, length, vec_capacity, IfOk, OnErr, OnOk};
 ghost use Rattle.x7_words.specs.Sink.{Counts, PutsAll, PutsSome, SinkFails};
-ghost use Rattle.x7_text.specs.Appends.{Appends};
+ghost use Rattle.x7_text.specs.Appends.{Appends, HasSpareRoom};
 ghost use Rattle.x7_memory.specs.Frames.{AreFramesOf, frame_at};
 ghost use Rattle.x7_engine.specs.Past.{OfPast, memory_at, state_at};
 ghost use Rattle.x7_engine.specs.Standing.{NoWordDue};
@@ -29,7 +29,7 @@ const GROUP_ROOM: usize = GROUP * FRAME_LINE_ROOM;
 /// Appends the line of the frame at an address. A frame has at most 255 words.
 fn put_frame_at(text: &mut Vec<u8>, part: &Part, memory: &Memory, far: u32)
     requires memory { AreFramesOf part.now memory.now }
-    requires room { vec_len text.old + frame_line_room ≤ vec_capacity text.old }
+    requires room { HasSpareRoom text.old frame_line_room }
     ensures appends { Appends text.old text.new (frame_text_if far (frame_at part.now memory.now far)) frame_line_room }
 {
     // For the proof alone: a frame has at most 255 words.
@@ -43,7 +43,7 @@ fn put_frame_at(text: &mut Vec<u8>, part: &Part, memory: &Memory, far: u32)
 /// Appends the lines of the frames at these addresses.
 fn put_lines(text: &mut Vec<u8>, part: &Part, memory: &Memory, fars: &[u32])
     requires memory { AreFramesOf part.now memory.now }
-    requires room { vec_len text.old + frame_line_room * length fars.now ≤ vec_capacity text.old }
+    requires room { HasSpareRoom text.old (frame_line_room * length fars.now) }
     ensures appends { Appends text.old text.new (lines_text (frame_at part.now memory.now) fars.now) (frame_line_room * length fars.now) }
 {
     for far in fars {
