@@ -18,7 +18,7 @@ use Rattle.x7_packets.specs.Reading.{Place, Session}
 use Rattle.x7_packets.proofs.GrowthLemmas.{prefix_of, placed_of, placed_within, until_placed}
 use Rattle.x7_packets.proofs.HistoryLemmas.{cut_enters, kept_all, next_word_is}
 use Rattle.x7_part.specs.Part.{PartData}
-use Rattle.x7_startup.specs.Startup.{Call, Arm, Desync, DropBack, StartupProgress, NotBegun, Begun, StandsFor, cor0_of, progress_of}
+use Rattle.x7_startup.specs.Startup.{Call, Arm, Desync, DropBack, StartupProgress, NotBegun, Begun, StandsForCalls, cor0_of, progress_of}
 use Rattle.x7_startup.proofs.CallLemmas.{further, progress_arm, progress_bytes, progress_drop}
 use Rattle.x7_engine.specs.declared.fed.Fed.{Fed}
 use Rattle.x7_engine.specs.declared.kept.Kept.{Kept}
@@ -335,8 +335,8 @@ zero_on part kept wrapped d e bytes piece from to l m going s after f unbegun be
 pub unbegun : (part : PartData) (kept : Kept) (wrapped : Bool) (d : DeviceState) (bytes : List ℕ) → DeviceStandsFor part kept wrapped d bytes → is_some d.registers.clock.startup.begun ≡ false → HasNotBegun part kept bytes
 unbegun part kept wrapped d bytes s e =
     let n : ℕ = taken_of part kept bytes in
-    let stands : StandsFor part.lock part.matched d.registers.clock.startup (startup_calls (history_taken part kept bytes) n) =
-    subst (λ (k : ℕ). StandsFor part.lock part.matched d.registers.clock.startup (startup_calls (history_taken part kept bytes) k)) (sym (taken_is part kept wrapped d bytes s)) s.registers_are.clock.startup in
+    let stands : StandsForCalls part.lock part.matched d.registers.clock.startup (startup_calls (history_taken part kept bytes) n) =
+    subst (λ (k : ℕ). StandsForCalls part.lock part.matched d.registers.clock.startup (startup_calls (history_taken part kept bytes) k)) (sym (taken_is part kept wrapped d bytes s)) s.registers_are.clock.startup in
     by (startup_progress (history_taken part kept bytes) n) (ap is_some (sym stands.stores.begun_is) ∙ e)
   where
     by : (p : StartupProgress) → is_some (cor0_of p) ≡ false → p ≡ NotBegun
