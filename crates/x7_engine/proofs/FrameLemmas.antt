@@ -89,8 +89,8 @@ none_left part h (due.Same word count) e = ap (λ (n : ℕ). replicate n word) e
 none_left part h (due.Frames count) e = ap (λ (n : ℕ). words_due part h n) e
 
 -- no words are due
-pub none_due : (reads : List ℕ) (part : PartData) (h : History) (d : Due) → due_count d ≡ 0 → reads ≡ reads ++ words_left part h d
-none_due reads part h d e = sym (ap (λ (ws : List ℕ). reads ++ ws) (none_left part h d e) ∙ append-nil reads)
+pub no_word_due : (reads : List ℕ) (part : PartData) (h : History) (d : Due) → due_count d ≡ 0 → reads ≡ reads ++ words_left part h d
+no_word_due reads part h d e = sym (ap (λ (ws : List ℕ). reads ++ ws) (none_left part h d e) ∙ append-nil reads)
 
 length_from : (part : PartData) (base : ℕ) (memory : ℕ → Option (List ℕ)) (place count : ℕ) → length (words_from part base memory place count) ≡ count
 length_from part base memory place zero = refl

@@ -223,7 +223,7 @@ impl Device {
     fn pass_nops(&mut self, piece: &[u8], at: &mut usize)
         requires { MayTake self.old piece.now at.old }
         ensures turned { Turned self.old self.new piece.now at.old at.new }
-        ensures none_due { NoWordDue self.new }
+        ensures no_word_due { NoWordDue self.new }
         ensures cutter { self.new.cutter ≡ self.old.cutter }
         ensures quiet { OfPast self.old (λ p. history_of (p.bytes ++ between piece.now at.old at.new) ≡ history_of p.bytes) }
     {
@@ -257,7 +257,7 @@ impl Device {
         requires { MayTake self.old piece.now at.old }
         ensures none { result ≡ false → (self.new ≡ self.old) × (at.new ≡ at.old) }
         ensures one { IsTrue result → at.new ≡ at.old + 8 }
-        ensures none_due { NoWordDue self.new }
+        ensures no_word_due { NoWordDue self.new }
         ensures turned { IsTrue result → Turned self.old self.new piece.now at.old at.new }
     {
         if !self.registers.clock.is_idle() {

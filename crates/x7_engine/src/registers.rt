@@ -103,7 +103,7 @@ impl Registers {
     pub(crate) fn new(kept: &Kept, frames: Frames) -> Registers
         ensures stands { (part : PartData) → FramesStandFor part frames [] 0 → RegistersStandFor part kept.now (registers_in result) [] 0 }
         ensures going { result.stop ≡ None }
-        ensures none_due { result.due ≡ Due.Nothing }
+        ensures no_word_due { result.due ≡ Due.Nothing }
         ensures frames { result.frames ≡ frames }
     {
         Registers {
@@ -123,7 +123,7 @@ impl Registers {
     pub(crate) fn reset(&mut self, kept: &Kept)
         ensures stands { (part : PartData) → FramesFit part self.old.frames → RegistersStandFor part kept.now (registers_in self.new) [] 0 }
         ensures going { self.new.stop ≡ None }
-        ensures none_due { self.new.due ≡ Due.Nothing }
+        ensures no_word_due { self.new.due ≡ Due.Nothing }
         ensures frames { (part : PartData) → FramesFit part self.old.frames → FramesFit part self.new.frames }
     {
         self.words = Words::new(kept);

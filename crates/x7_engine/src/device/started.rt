@@ -112,7 +112,7 @@ impl Device {
         ensures taken { self.new.taken ≡ self.old.taken + result }
         ensures fed { fed_of self.new ≡ fed_more self.old result }
         ensures stands { TakesJust self.old self.new (take result piece.now) }
-        ensures none_due { OfPast self.old (λ p. NoWordDue self.new) }
+        ensures no_word_due { OfPast self.old (λ p. NoWordDue self.new) }
         ensures first { OfPast self.old (λ p. StaysAtZero p piece.now result) }
         ensures ends { OfPast self.old (λ p. result < length piece.now → HasStopped self.new ⊎ HasBegun self.new) }
     {

@@ -32,5 +32,5 @@ returns-clause-begins c =
     let new = c.in_ok-device.ensures.stands in
     let fits : AreBytes c.args.stream.now = all_from_places (λ b. b < 256) c.args.stream.now (λ k h. omega (arith, c.type_inv.stream k)) in
     let there : StandsAtPosition c.args.part.now c.args.stream.now c.feed_until_begun-begins.new.self c.feed_until_begun-begins.result =
-    stands_first_bytes c.args.part.now c.args.stream.now c.feed_until_begun-begins.new.self c.feed_until_begun-begins.result fits fed.within (fed.stands c.args.part.now on_the_bench false [] new) (fed.none_due c.args.part.now on_the_bench false [] new) in
+    stands_first_bytes c.args.part.now c.args.stream.now c.feed_until_begun-begins.new.self c.feed_until_begun-begins.result fits fed.within (fed.stands c.args.part.now on_the_bench false [] new) (fed.no_word_due c.args.part.now on_the_bench false [] new) in
     record { within = there.within; zero = fed.first c.args.part.now on_the_bench false [] new }

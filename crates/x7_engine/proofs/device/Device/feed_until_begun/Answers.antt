@@ -24,8 +24,8 @@ by_stop : (o : Option Stop) (P : Type 0) → is_some o ≡ true → ((why : Stop
 by_stop None P e f = absurd cc
 by_stop (Some why) P e f = f why refl
 
-pub returns-then-is_some-clause-none_due : goal.returns-then-is_some-clause-none_due
-returns-then-is_some-clause-none_due c = λ part kept wrapped bytes s.
+pub returns-then-is_some-clause-no_word_due : goal.returns-then-is_some-clause-no_word_due
+returns-then-is_some-clause-no_word_due c = λ part kept wrapped bytes s.
     by_stop c.stop.result (NoWordDue c.runs.self) (sym c.is_some.ensures ∙ c.if-is_some.true) (λ why e. (c.runs.invariant.stands part kept wrapped bytes s).at_rest why (sym c.stop.ensures ∙ e))
 
 -- the buffer is never full
@@ -36,8 +36,8 @@ none_full (suc n) b e f = absurd (subst (λ (o : Option ℕ). IsFullBy o (length
 pub returns-then-not-give-clause-stands : goal.returns-then-not-give-clause-stands
 returns-then-not-give-clause-stands c = λ part kept wrapped bytes s. (c.give.ensures.given part kept wrapped (bytes ++ take c.runs.at c.args.piece.now) (c.runs.invariant.stands part kept wrapped bytes s)).stands
 
-pub returns-then-not-give-clause-none_due : goal.returns-then-not-give-clause-none_due
-returns-then-not-give-clause-none_due c = λ part kept wrapped bytes s.
+pub returns-then-not-give-clause-no_word_due : goal.returns-then-not-give-clause-no_word_due
+returns-then-not-give-clause-no_word_due c = λ part kept wrapped bytes s.
     let given = c.give.ensures.given part kept wrapped (bytes ++ take c.runs.at c.args.piece.now) (c.runs.invariant.stands part kept wrapped bytes s) in
     none_full _ c.give.new.read (ap (λ (b : ReadBufState). b.most) given.read_is ∙ c.runs.invariant.drops part kept wrapped bytes s) c.give.ensures.full
 
