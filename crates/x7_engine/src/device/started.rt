@@ -5,9 +5,9 @@ ghost use Rattle.x7_engine.specs.UntilRead.{RoomBefore};
 ghost use Rattle.x7_engine.specs.Phases.{soonest};
 ghost use Rattle.x7_engine.specs.Standing.{HasBegun, HasStopped, NoWordDue, fed_more, fed_of};
 ghost use Rattle.x7_engine.specs.Turns.{MayTake, TookTurn};
-ghost use Rattle.x7_engine.specs.UntilStarted.{HasNotBegun, NoneStarted, says_started, taken_until};
+ghost use Rattle.x7_engine.specs.UntilStarted.{HasNotBegun, NoneBegun, NoneStarted, says_started, taken_until};
 ghost use Rattle.x7_engine.specs.declared.until_started.UntilStarted.TheVariants as until;
-ghost use Rattle.x7_engine.specs.Past.{AnswersUntilFor, OfPast, TakesJust, GivesWordsNext, later, part_until, StaysAtZero, started_at, state_at, stop_at, reads_given_at};
+ghost use Rattle.x7_engine.specs.Past.{AnswersUntilFor, OfPast, TakesJust, GivesWordsNext, later, part_until, started_at, state_at, stop_at, reads_given_at};
 
 use super::{Device, stopped};
 use crate::fed::Fed;
@@ -113,7 +113,7 @@ impl Device {
         ensures fed { fed_of self.new ≡ fed_more self.old result }
         ensures stands { TakesJust self.old self.new (take result piece.now) }
         ensures no_word_due { OfPast self.old (λ p. NoWordDue self.new) }
-        ensures first { OfPast self.old (λ p. StaysAtZero p piece.now result) }
+        ensures first { OfPast self.old (λ p. NoneBegun p.part p.kept p.bytes piece.now result) }
         ensures ends { OfPast self.old (λ p. result < length piece.now → HasStopped self.new ⊎ HasBegun self.new) }
     {
         let mut read = ReadBuf::dropping();
