@@ -6,11 +6,11 @@ ghost use Rattle.x7_text.specs.Digits.{hex_word};
 ghost use Rattle.x7_words.specs.Word.{bytes_of_word};
 ghost use Rattle.x7_part.specs.AddressOrder.{addresses_in};
 ghost use Rattle.x7_memory.specs.Frames.{AreFramesOf, frame_at};
-ghost use Rattle.x7_report.specs.Frames.{frame_text, frames_text, are_zeros, is_shown, frame_text_if, addresses_shown};
+ghost use Rattle.x7_report.specs.Frames.{frame_text, frames_text, is_shown, frame_text_if, addresses_shown};
 
 use std::alloc::Global;
 use std::simd::prelude::*;
-use x7_memory::Memory;
+use x7_memory::{Memory, are_zeros};
 use x7_part::Part;
 use x7_text::{hex_of_block, hex_of_word, make_room, put, put_number, put_text};
 use x7_words::NoMemory;
@@ -112,27 +112,6 @@ pub fn frame_line(out: &mut Vec<u8>, far: u32, words: &[u32]) -> Result<(), NoMe
     Ok(())
 }
 
-/// Whether all words are 0.
-fn are_zeros(words: &[u32]) -> bool
-    ensures { result ≡ are_zeros words.now }
-{
-    let mut any = 0;
-    for word in words {
-        any |= *word;
-    }
-    any == 0
-}
-
-/// Whether all words of a frame are 0.
-fn is_blank_frame(words: &[u32]) -> bool
-    ensures { result ≡ are_zeros words.now }
-{
-    match words.first() {
-        Some(word) if *word != 0 => false,
-        _ => are_zeros(words),
-    }
-}
-
 /// Whether the frame of a rank has a word other than 0.
 fn is_shown_at(_part: &Part, memory: &Memory, rank: u32) -> bool
     requires part { AreFramesOf _part.now memory.now }
@@ -140,7 +119,7 @@ fn is_shown_at(_part: &Part, memory: &Memory, rank: u32) -> bool
     ensures { result ≡ is_shown (frame_at _part.now memory.now (slice_index (addresses_in _part.now) rank)) }
 {
     match memory.frame_at_rank(rank) {
-        Some(words) => !is_blank_frame(words),
+        Some(words) => !are_zeros(words),
         None => false,
     }
 }
