@@ -256,7 +256,7 @@ impl Device {
     fn take_write(&mut self, piece: &[u8], at: &mut usize) -> bool
         requires { MayTake self.old piece.now at.old }
         ensures none { result ≡ false → (self.new ≡ self.old) × (at.new ≡ at.old) }
-        ensures one { IsTrue result → at.new ≡ at.old + 8 }
+        ensures eight_bytes { IsTrue result → at.new ≡ at.old + 8 }
         ensures no_word_due { NoWordDue self.new }
         ensures turned { IsTrue result → Turned self.old self.new piece.now at.old at.new }
     {

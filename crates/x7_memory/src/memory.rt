@@ -21,7 +21,7 @@ pub struct Memory {
     numbers: Vec<u32>,
     /// The number of the frames that are stored.
     stored: u32,
-    /// The words of a frame.
+    /// The number of words of a frame.
     width: usize,
 }
 

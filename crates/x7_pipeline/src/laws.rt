@@ -90,7 +90,7 @@ pub fn refused_words_change_nothing()
 
 /// Two pipelines that stand for the same are equal.
 pub fn pipelines_of_the_same_are_equal()
-    ensures one { (part : PartData) (p q : PipelineData) → OfFlow part p (λ f. HoldsFlow part q f → p ≡ q) }
+    ensures equal { (part : PartData) (p q : PipelineData) → OfFlow part p (λ f. HoldsFlow part q f → p ≡ q) }
 {}
 
 /// A kept frame leads back where the memory changed at its address alone. A copy changes just the address where it puts

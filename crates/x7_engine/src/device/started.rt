@@ -1,4 +1,4 @@
-//! Feeding up to the end of startup.
+//! Feeding up to where startup begins, or up to its end.
 ghost use Rattle.std.specs.Prelude.{◌≡◌, ◌≤◌, ◌<◌, ◌+◌, ◌-◌, ◌^◌, ◌⊎◌, false, if◌then◌else◌, length, take, is_some, IsSome, IsTrue};
 ghost use Rattle.x7_packets.specs.Cutter.{between};
 ghost use Rattle.x7_engine.specs.UntilRead.{RoomBefore};
