@@ -13,7 +13,7 @@ use Rattle.x7_part.specs.declared.fault.PartFault.{PartFault}
 use Rattle.x7_part.specs.declared.fault.PartFault.TheVariants.{Toml, Range, TooMany, NoMemory}
 use Rattle.x7_part.specs.declared.fault.PartKey.TheVariants as key
 use Rattle.x7_part.specs.Keys.{top}
-use Rattle.x7_part.specs.Limits.{least_frame_words, most_frame_words, most_rows, most_frames, most_words}
+use Rattle.x7_part.specs.Limits.{least_frame_words, most_frame_words, most_rows, most_frames, most_wait_ticks, most_words}
 use Rattle.x7_part.specs.Part.{RowData, PartData}
 use Rattle.x7_part.specs.Ranges.{IsPart}
 use Rattle.x7_part.specs.Address.{IsRow}
@@ -48,8 +48,8 @@ made t types others ranges apart frames =
     unless (is_odd v.idcode) (Range (top key.Idcode))
     ∷ unless (is_in 0 7 v.mode) (Range (top key.Mode))
     ∷ unless (is_in 0 3 v.bus_width) (Range (top key.BusWidth))
-    ∷ unless (is_in 0 65535 v.lock) (Range (top key.Lock))
-    ∷ unless (is_in 0 65535 v.matched) (Range (top key.Match))
+    ∷ unless (is_in 0 most_wait_ticks v.lock) (Range (top key.Lock))
+    ∷ unless (is_in 0 most_wait_ticks v.matched) (Range (top key.Match))
     ∷ unless (is_in least_frame_words most_frame_words v.words) (Range (top key.FrameWords))
     ∷ unless (are_widths_or_none v.far) (Range (top key.Far))
     ∷ unless (is_unit v.start_unit) (Range (top key.StartUnit))
@@ -57,8 +57,8 @@ made t types others ranges apart frames =
     let name = name_in v.name (unless_none (is_name v.name) (Range (top key.Name)) all.0) in
     let long = long_in 1 64 (length v.name) name.0 in
     let idcode = odd_in v.idcode (unless_none (is_odd v.idcode) (Range (top key.Idcode)) h.0) in
-    let lock = (in_range 0 65535 v.lock (unless_none (is_in 0 65535 v.lock) (Range (top key.Lock)) h.1.1.1.0)).1 in
-    let matched = (in_range 0 65535 v.matched (unless_none (is_in 0 65535 v.matched) (Range (top key.Match)) h.1.1.1.1.0)).1 in
+    let lock = (in_range 0 most_wait_ticks v.lock (unless_none (is_in 0 most_wait_ticks v.lock) (Range (top key.Lock)) h.1.1.1.0)).1 in
+    let matched = (in_range 0 most_wait_ticks v.matched (unless_none (is_in 0 most_wait_ticks v.matched) (Range (top key.Match)) h.1.1.1.1.0)).1 in
     let far = far_is v.far (unless_none (are_widths_or_none v.far) (Range (top key.Far)) h.1.1.1.1.1.1.0) in
     let many = long_in 1 most_rows (length v.rows) (unless_none (is_long 1 most_rows (length v.rows)) (Range (top key.Row)) all.1.1.0) in
     let count : length rows ≡ length v.rows = length-map v.rows row_by_values in
@@ -267,8 +267,8 @@ or_memory fault one due f (inr e) = inr (f e)
 
 -- the start unit is the first number out of range
 pub unit_reported : (v : TopValues) (fault : PartFault) → None ≡ unless (is_odd v.idcode) (Range (top key.Idcode)) → None ≡ unless (is_in 0 7 v.mode) (Range (top key.Mode)) →
-    None ≡ unless (is_in 0 3 v.bus_width) (Range (top key.BusWidth)) → None ≡ unless (is_in 0 65535 v.lock) (Range (top key.Lock)) →
-    None ≡ unless (is_in 0 65535 v.matched) (Range (top key.Match)) → None ≡ unless (is_in least_frame_words most_frame_words v.words) (Range (top key.FrameWords)) →
+    None ≡ unless (is_in 0 3 v.bus_width) (Range (top key.BusWidth)) → None ≡ unless (is_in 0 most_wait_ticks v.lock) (Range (top key.Lock)) →
+    None ≡ unless (is_in 0 most_wait_ticks v.matched) (Range (top key.Match)) → None ≡ unless (is_in least_frame_words most_frame_words v.words) (Range (top key.FrameWords)) →
     None ≡ unless (are_widths_or_none v.far) (Range (top key.Far)) → Some fault ≡ unless (is_unit v.start_unit) (Range (top key.StartUnit)) → Some fault ≡ number_range_fault v
 unfolding number_range_fault
 unit_reported v fault idcode mode bus_width lock matched words far unit = rw (← idcode, ← mode, ← bus_width, ← lock, ← matched, ← words, ← far, ← unit) refl

@@ -17,16 +17,17 @@ use x7_memory::Memory;
 use x7_part::Part;
 use x7_words::{Failed, NoMemory, Sink, write_all};
 
-/// How many frames' lines are written at once.
-const GROUP: usize = 128;
+/// How many lines of frames are written at once, as a group.
+const GROUP_LINES: usize = 128;
 
-/// The most bytes that the line of a frame takes: one of an address and 255 words.
+/// The most bytes that the line of a frame takes: the digits of 255 words, and 16 bytes for its name, its address, a blank
+/// and a line end.
 const FRAME_LINE_ROOM: usize = 2_056;
 
 /// The most bytes that the lines of a group take.
-const GROUP_ROOM: usize = GROUP * FRAME_LINE_ROOM;
+const GROUP_ROOM: usize = GROUP_LINES * FRAME_LINE_ROOM;
 
-/// Appends the line of the frame at an address. A frame has at most 255 words.
+/// Appends the line of the frame at an address.
 fn put_frame_at(text: &mut Vec<u8>, part: &Part, memory: &Memory, far: u32)
     requires memory { AreFramesOf part.now memory.now }
     requires room { HasSpareRoom text.old frame_line_room }
@@ -69,7 +70,7 @@ fn write_lines<S: Sink>(
 {
     let mut rest = fars;
     while rest.len() > 0 {
-        let (group, more) = rest.split_at(rest.len().min(GROUP));
+        let (group, more) = rest.split_at(rest.len().min(GROUP_LINES));
         block.clear();
         put_lines(block, part, memory, group);
         write_all(out, block)?;
