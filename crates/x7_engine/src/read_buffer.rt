@@ -25,6 +25,7 @@ impl Model for OneWord {
 }
 
 impl OneWord {
+    /// Room without a word.
     fn new() -> OneWord
         ensures { result ≡ [] }
     {
@@ -34,24 +35,28 @@ impl OneWord {
         }
     }
 
+    /// The word, or none.
     fn words(&self) -> &[u32]
         ensures { result.now ≡ self.now }
     {
         &self.words[..self.count]
     }
 
+    /// Whether there is a word.
     fn is_full(&self) -> bool
         ensures { result ≡ (length self.now == 1) }
     {
         self.count == 1
     }
 
+    /// Forgets the word.
     fn clear(&mut self)
         ensures { self.new ≡ [] }
     {
         self.count = 0;
     }
 
+    /// Has this word from now on.
     fn put(&mut self, word: u32)
         ensures { self.new ≡ word ∷ [] }
     {
